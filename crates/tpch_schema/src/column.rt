@@ -50,6 +50,7 @@ pub fn are_of_kinds(kinds: &[ColumnKind], row: &[Value]) -> bool
         ([kind, more_kinds @ ..], [value, more @ ..]) => {
             kind.admits(value) && are_of_kinds(more_kinds, more)
         }
-        _ => false,
+        ([], [_, ..]) => false,
+        ([_, ..], []) => false,
     }
 }
