@@ -1,5 +1,5 @@
 -- What it is for values and rows to be of a column's or a table's kinds.
-use Rattle.std.specs.Prelude.{ℕ, ◌^◌, ◌-◌, Bool, true, false, not, ◌&&◌, ◌==◌, nat_le, nat_lt, int_lt, List, [], ◌∷◌, length, map, slice_index_or, IsTrue, ℤ, pos, unsigned_abs}
+use Rattle.std.specs.Prelude.{◌^◌, Bool, true, false, not, ◌&&◌, ◌==◌, nat_le, nat_lt, int_lt, List, [], ◌∷◌, length, map, slice_index_or, IsTrue, ℤ, pos, unsigned_abs}
 use Rattle.std.specs.List.{All}
 use Rattle.sql_value.specs.declared.value.Value.{Value}
 use Rattle.sql_value.specs.declared.value.Value.TheVariants as value

@@ -45,12 +45,11 @@ impl ColumnKind {
 pub fn are_of_kinds(kinds: &[ColumnKind], row: &[Value]) -> bool
     ensures { result ≡ are_of_kinds kinds.now row.now }
 {
-    match (kinds, row) {
-        ([], []) => true,
-        ([kind, more_kinds @ ..], [value, more @ ..]) => {
-            kind.admits(value) && are_of_kinds(more_kinds, more)
-        }
-        ([], [_, ..]) => false,
-        ([_, ..], []) => false,
+    match kinds {
+        [] => row.is_empty(),
+        [kind, kinds @ ..] => match row {
+            [] => false,
+            [value, row @ ..] => kind.admits(value) && are_of_kinds(kinds, row),
+        },
     }
 }

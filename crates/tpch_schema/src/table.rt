@@ -52,7 +52,10 @@ impl TableName {
     pub fn from_name(name: &[u8]) -> Option<TableName>
         ensures { result ≡ table_of name.now }
     {
-        TABLES.iter().copied().find(|table| table.name().as_bytes() == name)
+        TABLES
+            .iter()
+            .copied()
+            .find(|table| table.name().as_bytes() == name)
     }
 
     /// The kinds of the table's columns, from left to right.
@@ -105,11 +108,7 @@ static REGION_KINDS: [ColumnKind; 3] = [
     ColumnKind::Text(152),
 ];
 
-static REGION_NAMES: [&str; 3] = [
-    "r_regionkey",
-    "r_name",
-    "r_comment",
-];
+static REGION_NAMES: [&str; 3] = ["r_regionkey", "r_name", "r_comment"];
 
 static NATION_KINDS: [ColumnKind; 4] = [
     ColumnKind::Key,
@@ -118,12 +117,7 @@ static NATION_KINDS: [ColumnKind; 4] = [
     ColumnKind::Text(152),
 ];
 
-static NATION_NAMES: [&str; 4] = [
-    "n_nationkey",
-    "n_name",
-    "n_regionkey",
-    "n_comment",
-];
+static NATION_NAMES: [&str; 4] = ["n_nationkey", "n_name", "n_regionkey", "n_comment"];
 
 static PART_KINDS: [ColumnKind; 9] = [
     ColumnKind::Key,
