@@ -18,7 +18,7 @@ pub value_ge : (n : ℕ) (ds : List ℕ) → n ≤ digits_value_after 10 n ds
 value_ge n [] = le_refl n
 value_ge n (d ∷ ds) = le_trans (omega arith) (value_ge (n * 10 + digit_value d) ds)
 
-value_join : (n : ℕ) (xs ys : List ℕ) → digits_value_after 10 n (xs ++ ys) ≡ digits_value_after 10 (digits_value_after 10 n xs) ys
+pub value_join : (n : ℕ) (xs ys : List ℕ) → digits_value_after 10 n (xs ++ ys) ≡ digits_value_after 10 (digits_value_after 10 n xs) ys
 value_join n [] ys = refl
 value_join n (x ∷ xs) ys = value_join (n * 10 + digit_value x) xs ys
 
@@ -43,7 +43,7 @@ whole_too_large places whole fraction e =
 pub coefficient_is : (places v u : ℕ) (whole fraction : List ℕ) → below_limit (digits_value_after 10 0 whole) ≡ Some v → below_limit (digits_value_after 10 v fraction) ≡ Some u → coefficient_of places whole fraction ≡ u * 10 ^ (places - length fraction)
 coefficient_is places v u whole fraction d e =
     ap (λ n. n * 10 ^ (places - length fraction))
-      (value_join 0 whole fraction ∙ ap (λ n. digits_value_after 10 n fraction) (limit_some _ v d) ∙ limit_some _ u e)
+    (value_join 0 whole fraction ∙ ap (λ n. digits_value_after 10 n fraction) (limit_some _ v d) ∙ limit_some _ u e)
 
 pub last_digit_pushed : (text : List ℕ) (places n : ℕ) → 0 < places → text ++ (48 + n / 10 ^ (places - 1) % 10) ∷ [] ++ last_digits (places - 1) n ≡ text ++ last_digits places n
 last_digit_pushed text zero n h = absurd (omega arith)
