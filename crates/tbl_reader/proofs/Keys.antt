@@ -1,13 +1,12 @@
 -- The set of keys beside the rows.
 use Rattle.std.proofs.Common.{◌≡◌, ℕ, ◌-◌, Bool, true, false, ◌&&◌, ◌||◌, List, [], ◌∷◌, ◌++◌, map, length, take, refl, sym, ◌∙◌, ap, arith}
 use Rattle.std.specs.Prelude.{slice_index_or}
-use Rattle.std.specs.List.{list_any, All}
+use Rattle.std.specs.List.{list_any}
 use Rattle.std.proofs.lemmas.List.Elements.{All-push}
 use Rattle.std.proofs.lemmas.List.{map-append, take-append-le, take_all, length-append}
 use Rattle.sql_value.specs.declared.value.Value.{Value}
 use Rattle.sql_value.specs.declared.value.Value.TheVariants.{Null}
 use Rattle.sql_value.specs.Value.{same_value, same_row}
-use Rattle.sql_value.specs.contracts.value.ValuePartialEq.TheImpl.{eq-value}
 use Rattle.sql_value.proofs.Identity.{same_value_is}
 use Rattle.tpch_schema.specs.declared.table.TableName.{TableName}
 use Rattle.tpch_schema.specs.declared.table.TableName.TheVariants.{Region, Nation, Part, Supplier, Partsupp, Customer, Orders, Lineitem}

@@ -1,5 +1,5 @@
 -- A line's row is of the kinds that it was read by.
-use Rattle.std.proofs.Common.{◌≡◌, ℕ, ℤ, Bool, true, false, cond, ◌&&◌, List, [], ◌∷◌, refl, ◌∙◌, ap, Option, Some, None, Result, Ok, Err}
+use Rattle.std.proofs.Common.{◌≡◌, ℕ, ℤ, Bool, true, false, cond, List, [], ◌∷◌, refl, Option, Some, None, Result, Ok, Err}
 use Rattle.std.specs.List.{before_first, after_first}
 use Rattle.ascii_text.specs.Printable.{first_unprintable}
 use Rattle.civil_date.specs.Date.{date_of}
@@ -12,7 +12,7 @@ use Rattle.tpch_schema.specs.declared.column.ColumnKind.{ColumnKind}
 use Rattle.tpch_schema.specs.declared.column.ColumnKind.TheVariants.{Key, Whole, Decimal, Date, Text}
 use Rattle.tpch_schema.specs.Kinds.{is_of_kind, are_of_kinds}
 use Rattle.tbl_reader.specs.Field.{field_value, number_field, date_field, printable_field}
-use Rattle.tbl_reader.specs.Line.{is_bar, put_first, values_of, has_fields, row_of}
+use Rattle.tbl_reader.specs.Line.{is_bar, put_first, values_of, row_of}
 
 -- what is answered only where the column can hold it
 tested : (kind : ColumnKind) (b : Bool) (v w : Value) (fault : LineFault) → b ≡ is_of_kind kind v → cond b (Ok v) (Err fault) ≡ Ok w → is_of_kind kind w ≡ true

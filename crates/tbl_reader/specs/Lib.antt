@@ -5,3 +5,5 @@ pub mod Rows
 pub mod Key
 pub mod Fault
 pub mod Lines
+pub mod Reading
+pub mod Steps

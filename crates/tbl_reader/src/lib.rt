@@ -6,4 +6,5 @@ mod field;
 mod keyed;
 mod line;
 mod lines;
+mod reader;
 

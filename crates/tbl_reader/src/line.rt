@@ -1,5 +1,5 @@
 //! One line: its fields, and the values of its row.
-ghost use Rattle.std.specs.Prelude.{◌≡◌, ◌==◌, MatchResult, length, position};
+ghost use Rattle.std.specs.Prelude.{◌≡◌, ◌==◌, ◌+◌, ◌<◌, ◌^◌, IfSome, MatchResult, length, position};
 ghost use Rattle.std.specs.List.{before_first, after_first};
 ghost use Rattle.tbl_reader.specs.Field.{Blames};
 ghost use Rattle.tbl_reader.specs.Line.{is_bar, has_fields, without_end, line_text, values_of, row_of};
@@ -80,7 +80,9 @@ fn cut_at_bar(text: &[u8]) -> (&[u8], &[u8])
 
 /// The first place of a byte.
 pub fn place_of(sought: u8, text: &[u8]) -> Option<usize>
-    ensures { result ≡ position (λ byte. byte == sought) text.now }
+    ensures value { result ≡ position (λ byte. byte == sought) text.now }
+    ensures bound { IfSome result (λ place. place < length text.now) }
+    ensures fits { IfSome result (λ place. place + 1 < 2 ^ 64) }
 {
     text.iter().position(|byte| *byte == sought)
 }

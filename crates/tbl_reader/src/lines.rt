@@ -1,5 +1,5 @@
 //! Whole lines, one after the other: their rows, and the first refusal.
-ghost use Rattle.std.specs.Prelude.{◌≡◌, ◌+◌, [], OnOk, IfErr};
+ghost use Rattle.std.specs.Prelude.{◌≡◌, ◌+◌, ◌≤◌, [], OnOk, IfErr, length};
 ghost use Rattle.tpch_schema.specs.Kinds.{RowsAreOf};
 ghost use Rattle.tbl_reader.specs.Fault.{IsFaultOf, IsRefusal};
 ghost use Rattle.tbl_reader.specs.File.{add_line, refusal};
@@ -87,6 +87,8 @@ impl Lines {
         ensures table { self.new.table ≡ self.old.table }
         ensures limit { self.new.limit ≡ self.old.limit }
         ensures ok { OnOk result (add_line self.old.table self.old.limit (Ok self.old.so_far) line.now ≡ Ok self.new.so_far) }
+        ensures bytes { OnOk result (self.new.so_far.bytes ≡ self.old.so_far.bytes + length line.now) }
+        ensures within { self.new.so_far.bytes ≤ self.new.limit }
         ensures refused { IfErr result (IsFaultOf (add_line self.old.table self.old.limit (Ok self.old.so_far) line.now)) }
     {
         let size = line.len() as u64;
