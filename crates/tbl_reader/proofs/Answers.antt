@@ -54,7 +54,7 @@ refused_more old rest piece text first refuses read = record {
   answers = λ more.
       refused_rows (lines_result old ((rest ++ piece) ++ more)) (file_rows old.table old.limit ((text ++ piece) ++ more)) first
       (ap (λ t. answer_of None (lines_result old t)) (append_assoc rest piece more) ∙ read.answers (piece ++ more)
-       ∙ ap (λ t. as_answer (file_rows old.table old.limit t)) (sym (append_assoc text piece more)))
+      ∙ ap (λ t. as_answer (file_rows old.table old.limit t)) (sym (append_assoc text piece more)))
       (refuses.results more);
 }
 
@@ -70,7 +70,7 @@ refused_again r first piece text e read = record {
   answers = λ more.
       refused_file (file_rows r.lines.table r.lines.limit ((text ++ piece) ++ more)) first
       (ap (λ f. answer_of f (lines_result r.lines (r.rest ++ (piece ++ more)))) (sym e) ∙ read.answers (piece ++ more)
-       ∙ ap (λ t. as_answer (file_rows r.lines.table r.lines.limit t)) (sym (append_assoc text piece more)));
+      ∙ ap (λ t. as_answer (file_rows r.lines.table r.lines.limit t)) (sym (append_assoc text piece more)));
 }
 
 -- and at the file's end
@@ -80,7 +80,7 @@ unfolding answer
 refused_end r (Refused first) text e read =
     refused_file (file_rows r.lines.table r.lines.limit text) first
     (ap (λ f. answer_of f (lines_result r.lines (r.rest ++ []))) (sym e) ∙ read.answers []
-     ∙ ap (λ t. as_answer (file_rows r.lines.table r.lines.limit t)) (append-nil text))
+    ∙ ap (λ t. as_answer (file_rows r.lines.table r.lines.limit t)) (append-nil text))
 refused_end r OutOfMemory text e read = tt
 
 same_answers : (r s : Result (List (List Value)) LineRefusal) → as_answer r ≡ as_answer s → r ≡ s
@@ -96,9 +96,9 @@ unfolding answer
 rows_at_end lines rest text read =
     same_answers (only_rows (lines_result lines rest)) (file_rows lines.table lines.limit text)
     (sym (as_answer_of (lines_result lines rest))
-     ∙ ap (λ t. answer_of None (lines_result lines t)) (sym (append-nil rest))
-     ∙ read.answers []
-     ∙ ap (λ t. as_answer (file_rows lines.table lines.limit t)) (append-nil text))
+    ∙ ap (λ t. answer_of None (lines_result lines t)) (sym (append-nil rest))
+    ∙ read.answers []
+    ∙ ap (λ t. as_answer (file_rows lines.table lines.limit t)) (append-nil text))
 
 -- a last line without an end
 pub last_line : (lines : LinesRead) (rest : List ℕ) → is_unended rest ≡ true → 0 < length rest
@@ -117,4 +117,5 @@ only_fault r (Refused first) e = ap only_rows e
 only_fault r OutOfMemory e = tt
 
 pub ruleset ends = (last_line, no_line, only_fault)
+
 pub ruleset answers = (started, read_more, refused_more, refused_again, refused_end, rows_at_end, unended-nil)

@@ -56,4 +56,5 @@ pub values_all : (kinds : List ColumnKind) (i : ℕ) (text : List ℕ) (vs : Lis
 values_all kinds i text vs h = rw (drop_of_length-le kinds h) (ap Ok (append-nil vs))
 
 pub ruleset cuts = (before_first-some, after_first-some, before_first-none, after_first-none)
+
 pub ruleset fields = (values_more, values_fault, values_all)

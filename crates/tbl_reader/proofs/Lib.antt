@@ -2,5 +2,6 @@ pub mod Cuts
 pub mod Keys
 pub mod Rows
 pub mod LineCuts
-pub mod Pieces
+pub mod PieceSteps
 pub mod Answers
+pub mod Joined

@@ -7,3 +7,4 @@ pub mod Fault
 pub mod Lines
 pub mod Reading
 pub mod Steps
+pub mod Pieces

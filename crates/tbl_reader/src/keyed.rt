@@ -113,7 +113,11 @@ impl KeyedRows {
         ensures rows { result.items ≡ self.rows }
         ensures kinds { RowsAreOf self.table result.items }
     {
-        let KeyedRows { table: _, rows, keys: _ } = self;
+        let KeyedRows {
+            table: _,
+            rows,
+            keys: _,
+        } = self;
         rows
     }
 

@@ -1,4 +1,7 @@
 //! The rows of a table's file, read in pieces however they are cut.
+//!
+//! A line ends at LF or at the file's end, and one CR directly before either is dropped. Its fields are parted by bars,
+//! of which one may stand behind the last field. The first bad line refuses the file.
 #![tactic(auto)]
 
 mod fault;
@@ -6,5 +9,9 @@ mod field;
 mod keyed;
 mod line;
 mod lines;
+mod pieces;
 mod reader;
 
+pub use fault::ReadFault;
+pub use pieces::read_pieces;
+pub use reader::{MOST_BYTES, TableReader};

@@ -28,11 +28,7 @@ fn without_end(text: &[u8], byte: u8) -> &[u8]
 }
 
 /// The values of a line's row: one for each of the kinds.
-pub fn row_values(
-    alloc: Global,
-    kinds: &[ColumnKind],
-    line: &[u8],
-) -> Result<Vec<Value>, LineError>
+pub fn row_values(alloc: Global, kinds: &[ColumnKind], line: &[u8]) -> Result<Vec<Value>, LineError>
     ensures { MatchResult result (λ v. row_of kinds.now line.now ≡ Ok v.items) (Blames (row_of kinds.now line.now)) }
 {
     if !has_fields(kinds.len(), line) {

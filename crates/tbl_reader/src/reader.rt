@@ -54,7 +54,7 @@ fn keep_rest(lines: &Lines, rest: &mut Vec<u8>, part: &[u8]) -> Result<(), ReadF
 }
 
 // Reads a piece: the lines that end in it, and the first part of one that does not.
-#[tactic(auto, using(crate::proofs::Pieces::pieces))]
+#[tactic(auto, using(crate::proofs::PieceSteps::pieces))]
 fn read_piece(lines: &mut Lines, rest: &mut Vec<u8>, piece: &[u8]) -> Result<(), ReadFault>
     requires unended { is_unended rest.old.items ≡ true }
     requires within { lines.old.so_far.bytes + length rest.old.items ≤ lines.old.limit }

@@ -27,9 +27,9 @@ cut_line : (rest left : List ℕ) (end : ℕ) (more : List ℕ) → is_unended r
     → cut_lines ((rest ++ left) ++ more) ≡ (rest ++ take (end + 1) left) ∷ cut_lines (drop (end + 1) left ++ more)
 cut_line rest left end more u p =
     let shape : (rest ++ left) ++ more ≡ (rest ++ p.front) ++ 10 ∷ (drop (end + 1) left ++ more) =
-        ap (λ t. (rest ++ t) ++ more) p.whole ∙ simp append_assoc in
+    ap (λ t. (rest ++ t) ++ more) p.whole ∙ simp append_assoc in
     let line : rest ++ take (end + 1) left ≡ (rest ++ p.front) ++ 10 ∷ [] =
-        ap (λ t. rest ++ t) p.line ∙ sym (append_assoc rest p.front (10 ∷ [])) in
+    ap (λ t. rest ++ t) p.line ∙ sym (append_assoc rest p.front (10 ∷ [])) in
     rw (shape, line) (cut_lines-ended (rest ++ p.front) (drop (end + 1) left ++ more) (unended-append rest p.front u p.unended))
 
 -- a line more
@@ -81,7 +81,7 @@ refused_rest now before (b ∷ text) whole same u long short = record {
       let begins : BeginsWith (b ∷ text) (cut_lines ((b ∷ text) ++ more)) = cut_lines-begins b text more u in
       let over : now.limit < now.so_far.bytes + length ((b ∷ text) ++ begins.more) = omega (arith, length-append (b ∷ text) begins.more, long) in
       let ends : add_lines now.table now.limit (Ok now.so_far) (((b ∷ text) ++ begins.more) ∷ begins.others) ≡ Err (refusal now.so_far FileTooLong) =
-          long_line now.table now.limit now.so_far ((b ∷ text) ++ begins.more) begins.others over in
+      long_line now.table now.limit now.so_far ((b ∷ text) ++ begins.more) begins.others over in
       sym (same.results more) ∙ ap (add_lines now.table now.limit (Ok now.so_far)) begins.is ∙ ends;
 }
 
