@@ -1,10 +1,9 @@
 -- Laws of LIKE by parts.
-use Rattle.std.proofs.Common.{◌≡◌, ℕ, zero, suc, ◌+◌, ◌-◌, ◌<◌, ◌≤◌, arith, refl, sym, ◌∙◌, ap, subst, List, [], ◌∷◌, ◌++◌, length, take, drop, get_or, drop-cons, add-one, zero-add, append-nil, Bool, true, false, not, ◌&&◌, ◌||◌, ◌==◌, cond, ◌⊎◌, inl, inr}
-use Rattle.std.proofs.Math.Bool.{and-true, true-and}
+use Rattle.std.proofs.Common.{◌≡◌, ℕ, zero, suc, ◌+◌, ◌-◌, ◌<◌, ◌≤◌, arith, refl, sym, ◌∙◌, ap, subst, List, [], ◌∷◌, ◌++◌, length, take, drop, get_or, drop-cons, add-one, zero-add, append-nil, Bool, true, false, not, ◌&&◌, ◌||◌, ◌==◌, ◌⊎◌, inl, inr}
+use Rattle.std.proofs.Math.Bool.{and-true}
 use Rattle.std.proofs.lemmas.List.{take-append-drop, length-drop, length-take, drop-drop, take_all}
 use Rattle.std.proofs.lemmas.Bool.{cases_lt}
-use Rattle.std.proofs.lemmas.Bool.Decides.{nat_tests}
-use Rattle.ascii_text.specs.Pattern.{some_rest, one_byte, is_empty, is_like}
+use Rattle.ascii_text.specs.Pattern.{some_rest, is_empty, is_like}
 use Rattle.ascii_text.specs.Parts.{fits, has_no_percent, IsNoFit, IsFirstFit, IsPercent}
 
 both : (a b : Bool) → (a && b) ≡ true → (a ≡ true) × (b ≡ true)

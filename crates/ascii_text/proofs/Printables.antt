@@ -1,11 +1,10 @@
 -- Parts of printable bytes.
-use Rattle.std.proofs.Common.{◌≡◌, ℕ, zero, suc, ◌+◌, ◌-◌, ◌<◌, ◌≤◌, min, arith, refl, sym, ◌∙◌, ap, List, [], ◌∷◌, length, take, drop, Bool, true, false, not, cond, Option, Some, None, ◌⊎◌, inl, inr, take_all}
-use Rattle.std.specs.Prelude.{nat_lt, position}
+use Rattle.std.proofs.Common.{◌≡◌, ℕ, zero, suc, ◌+◌, ◌-◌, min, arith, refl, sym, ◌∙◌, ap, List, [], ◌∷◌, length, take, drop, Bool, true, false, not, cond, Some, None}
+use Rattle.std.specs.Prelude.{nat_lt}
 use Rattle.std.specs.List.{prefix_len}
-use Rattle.std.proofs.lemmas.Bool.{cases_lt}
 use Rattle.std.proofs.lemmas.Bool.Decides.{nat_tests}
 use Rattle.std.proofs.lemmas.List.{drop-take, drop_min, take_min, length-take}
-use Rattle.ascii_text.specs.Printable.{is_printable, first_unprintable, AllPrintable}
+use Rattle.ascii_text.specs.Printable.{is_printable, AllPrintable}
 use Rattle.ascii_text.specs.Pattern.{places}
 
 no_place : (t : Bool) (x : ℕ) → cond t (Some x) None ≡ None → t ≡ false

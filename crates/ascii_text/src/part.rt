@@ -12,7 +12,9 @@ pub fn substring(alloc: Global, text: &Text, from: u32, count: u32) -> Result<Te
     ensures { IfOk result (λ part. part ≡ places from count text.now) }
 {
     let bytes = text.bytes();
-    let end = (from as usize + count as usize).saturating_sub(1).min(bytes.len());
+    let end = (from as usize + count as usize)
+        .saturating_sub(1)
+        .min(bytes.len());
     let start = (from as usize).saturating_sub(1).min(end);
     let part = Text::of_printable(alloc, &bytes[start..end])?;
     Ok(part)
