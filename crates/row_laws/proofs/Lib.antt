@@ -1,0 +1,9 @@
+pub mod Bags
+pub mod Lists
+pub mod Classes
+pub mod Rows
+pub mod Nodes
+pub mod OfBags
+pub mod Groups
+pub mod Domains
+pub mod Trees
