@@ -7,3 +7,6 @@ pub mod OfBags
 pub mod Groups
 pub mod Domains
 pub mod Trees
+pub mod Tables
+pub mod Alike
+pub mod Moves
