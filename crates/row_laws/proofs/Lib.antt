@@ -10,3 +10,5 @@ pub mod Trees
 pub mod Tables
 pub mod Alike
 pub mod Moves
+pub mod Values
+pub mod Cells

@@ -1,12 +1,13 @@
 -- Selections moved over joins, and sides exchanged.
 use Rattle.std.proofs.Common.{◌≡◌, ℕ, ◌+◌, ◌≤◌, List, [], ◌∷◌, ◌++◌, Bool, true, false, refl, sym, ◌∙◌, ap, arith, inl, inr, eqb}
 use Rattle.std.proofs.Math.Dec.{ltb}
-use Rattle.std.specs.Prelude.{map, min}
+use Rattle.std.specs.Prelude.{map, min, max}
 use Rattle.std.specs.List.{flat_map}
 use Rattle.std.proofs.lemmas.Bool.{cases_Bool, le-ltb, lt-ltb, ltb-false, ltb-true}
 use Rattle.row_laws.specs.Ranked.{Ranked, ranked}
 use Rattle.row_laws.specs.Bags.{on, weigh, SameBag, Each}
 use Rattle.row_laws.specs.Operators.{select, project, cross, join, pair, or_else, join_loop, outer_loop}
+use Rattle.row_laws.specs.MoveLaws.{OfLeft, OfRight}
 use Rattle.row_laws.proofs.Bags.{on-zero, weigh-on, weigh-ext, weigh-map, weigh-flat_map, weigh-swap, weigh-zero}
 use Rattle.row_laws.proofs.Lists.{weigh-ext_each}
 use Rattle.row_laws.proofs.Rows.{weigh-keep, weigh-select}
@@ -86,14 +87,6 @@ select_into_join c e ls R = record {
       (λ l. weigh-ext (both (above h c e) c l) (both h (λ z. min (c z) (e z)) l) (R l.values) (both_above h c e l))
       ∙ sym (weigh-join_loop h (λ z. min (c z) (e z)) ls R);
 }
-
--- the condition e reads the left row's columns only, and says p of them
-abbrev pub OfLeft : {V : Type 0} → (List V → ℕ) → (List V → ℕ) → Ranked V → Type 0
-OfLeft {V} e p l = (r : List V) → e (l.values ++ r) ≡ p l.values
-
--- the condition e reads the right rows' columns only, and says p of them
-abbrev pub OfRight : {V : Type 0} → (List V → ℕ) → (List V → ℕ) → (List V → List (Ranked V)) → Ranked V → Type 0
-OfRight e p R l = Each (λ r. e (l.values ++ r.values) ≡ p r.values) (R l.values)
 
 module _ {V : Type 0} (h : Ranked V → ℕ) (c e p : List V → ℕ) where
   -- the left row at its standing under p
@@ -272,3 +265,7 @@ module _ {V : Type 0} where
     where
       turned : (a b c : ℕ) → min (min a b) c ≡ min (min a c) b
       turned a b c = omega arith
+
+-- the chain
+pub and_over_or : (a b c : ℕ) → (min a (max b c) ≡ max (min a b) (min a c)) × (max a (min b c) ≡ min (max a b) (max a c))
+and_over_or a b c = (omega arith, omega arith)

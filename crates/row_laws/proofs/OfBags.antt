@@ -1,6 +1,6 @@
 -- Functions of the bag: each is made of others that are.
-use Rattle.std.proofs.Common.{◌≡◌, ℕ, ◌+◌, ◌-◌, ◌≤◌, List, [], ◌∷◌, Bool, true, false, refl, sym, ◌∙◌, ap, arith, inl, inr, length}
-use Rattle.std.specs.Prelude.{map, not}
+use Rattle.std.proofs.Common.{◌≡◌, ℕ, ◌+◌, ◌-◌, ◌≤◌, List, [], ◌∷◌, ◌++◌, Bool, true, false, refl, sym, ◌∙◌, ap, arith, inl, inr, length}
+use Rattle.std.specs.Prelude.{map, not, min, max}
 use Rattle.std.specs.List.{filter}
 use Rattle.std.proofs.lemmas.Bool.{cases_Bool, true≢false}
 use Rattle.row_laws.specs.Bags.{on, weigh, SameBag, IsIdentity, has, nub, OfBag, top, bottom}
@@ -34,7 +34,7 @@ within_bottom : {X : Type 0} (n : ℕ) (f : X → ℕ) (m : ℕ) (xs : List X) �
 within_bottom n f m [] u h = u
 within_bottom n f m (x ∷ xs) u h = let ih : weigh (λ x. m - f x) xs ≡ 0 → m ≤ bottom n f xs = within_bottom n f m xs u in omega (arith, ih)
 
-bottom_most : {X : Type 0} (n : ℕ) (f : X → ℕ) (xs : List X) → bottom n f xs ≤ n
+pub bottom_most : {X : Type 0} (n : ℕ) (f : X → ℕ) (xs : List X) → bottom n f xs ≤ n
 bottom_most n f [] = omega arith
 bottom_most n f (x ∷ xs) = let ih = bottom_most n f xs in omega (arith, ih)
 
@@ -46,6 +46,15 @@ OfBag-bottom n f = record {
       let b = within_bottom n f (bottom n f xs) ys u (sym (e.weighs (λ x. bottom n f xs - f x)) ∙ bottom_within n f (bottom n f xs) xs (omega arith)) in
       omega (arith, a, b);
 }
+
+-- of two lists behind one another
+pub top-append : {X : Type 0} (f : X → ℕ) (xs ys : List X) → top f (xs ++ ys) ≡ max (top f xs) (top f ys)
+top-append f [] ys = omega arith
+top-append f (x ∷ xs) ys = let ih = top-append f xs ys in omega (arith, ih)
+
+pub bottom-append : {X : Type 0} (n : ℕ) (f : X → ℕ) (xs ys : List X) → bottom n f (xs ++ ys) ≡ min (bottom n f xs) (bottom n f ys)
+bottom-append n f [] ys = let a = bottom_most n f ys in omega (arith, a)
+bottom-append n f (x ∷ xs) ys = let ih = bottom-append n f xs ys in omega (arith, ih)
 
 pub OfBag-weigh : {X : Type 0} (h : X → ℕ) → OfBag (weigh h)
 OfBag-weigh h = record { alike = λ xs ys e. e.weighs h }

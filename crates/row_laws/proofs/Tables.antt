@@ -21,6 +21,9 @@ sum_is h (x ∷ xs) = sum_by-cons h x xs ∙ ap (λ n. h x + n) (sum_is h xs)
 pub from_permutation : {X : Type 0} (xs ys : List X) → IsPermutation xs ys → SameBag xs ys
 from_permutation xs ys e = record { weighs = λ h. sym (sum_is h xs) ∙ sym (sum_by-IsPermutation h xs ys e) ∙ sum_is h ys }
 
+pub same_sums : {X : Type 0} (xs us : List X) → (SameBag xs us → (h : X → ℕ) → sum_by h xs ≡ sum_by h us) × (((h : X → ℕ) → sum_by h xs ≡ sum_by h us) → SameBag xs us)
+same_sums xs us = (λ e h. sum_is h xs ∙ e.weighs h ∙ sym (sum_is h us), λ e. record { weighs = λ h. sym (sum_is h xs) ∙ e h ∙ sum_is h us })
+
 pub classes_from : {R K S : Type 0} (same : K → K → Bool) (is : IsIdentity same) (key : R → K) (f : K → List R → S) (xs : List R) (ks : List K) → ((k : K) → count same k ks ≡ on (has same k (map key xs)) 1)
     → SameBag (map (λ k. f k (filter (λ x. same (key x) k) xs)) ks) (classes same key f xs)
 classes_from same is key f xs ks e =

@@ -1,7 +1,7 @@
 -- Aggregates, as functions of the list of their argument's values over a group.
-use Rattle.std.specs.Prelude.{◌≡◌, ℕ, ◌*◌, ◌-◌, ◌^◌, ◌==◌, List, [], ◌∷◌, Bool, true, false, cond, not, length, max, nat_lt}
+use Rattle.std.specs.Prelude.{◌≡◌, ℕ, ◌*◌, ◌-◌, ◌^◌, ◌==◌, List, [], ◌∷◌, Bool, true, false, cond, not, length, map, max, nat_lt}
 use Rattle.std.specs.List.{filter}
-use Rattle.row_laws.specs.Ranked.{unknown_rank, number_range_rank, true_rank}
+use Rattle.row_laws.specs.Ranked.{Ranked, unknown_rank, number_range_rank, true_rank}
 use Rattle.row_laws.specs.Bags.{weigh, bottom, nub}
 
 -- What aggregates read of a value, and how they write one.
@@ -41,14 +41,24 @@ first_of before n [] = n
 first_of before n (x ∷ []) = x
 first_of before n (x ∷ y ∷ zs) = first before x (first_of before n (y ∷ zs))
 
+-- A null is no fault, and is nothing above or below 0.
+pub record ReadsNulls {V : Type 0} (m : Reading V) : Type 0 where
+  pub no_fault : (v : V) → m.is_null v ≡ true → m.fault_rank v ≡ true_rank
+  pub none_above : (v : V) → m.is_null v ≡ true → m.above v ≡ 0
+  pub none_below : (v : V) → m.is_null v ≡ true → m.below v ≡ 0
+
 module _ {V : Type 0} (m : Reading V) where
   -- nulls are skipped
   abbrev pub not_null : List V → List V
   not_null vs = filter (λ v. not (m.is_null v)) vs
 
+  -- the rank of the least fault among the values, True's where there is none
+  abbrev pub least_fault : List V → ℕ
+  least_fault vs = bottom true_rank m.fault_rank vs
+
   -- the least fault among the values, or else v
   abbrev pub unless_fault : List V → V → V
-  unless_fault vs v = let r = bottom true_rank m.fault_rank vs in cond (nat_lt r true_rank) (m.write r) v
+  unless_fault vs v = cond (nat_lt (least_fault vs) true_rank) (m.write (least_fault vs)) v
 
   -- count(e)
   abbrev pub count_of : List V → V
@@ -82,3 +92,7 @@ module _ {V : Type 0} (m : Reading V) where
 
   abbrev pub max_of : (V → V → Bool) → List V → V
   max_of before vs = unless_fault vs (first_of (λ x y. before y x) (m.write unknown_rank) (not_null vs))
+
+-- The aggregates of a grouped query, from left to right: each is an argument, read from the row, and a function of the list of the argument's values.
+abbrev pub aggregated : {V : Type 0} → List ((List V → V) × (List V → V)) → List (Ranked V) → List V
+aggregated items ys = map (λ a. a.1 (map (λ y. a.0 y.values) ys)) items

@@ -5,3 +5,11 @@ pub mod Operators
 pub mod Domains
 pub mod Trees
 pub mod Aggregates
+pub mod BagLaws
+pub mod AlikeLaws
+pub mod LoopLaws
+pub mod DomainLaws
+pub mod TreeLaws
+pub mod ValueLaws
+pub mod MoveLaws
+pub mod Cases

@@ -1,0 +1,71 @@
+//! The node laws of unnesting, for one domain row.
+
+ghost use Rattle.std.specs.Prelude.{Bool};
+ghost use Rattle.row_laws.specs.Bags.{IsIdentity};
+ghost use Rattle.row_laws.specs.LoopLaws.{ClosedMeets, SelectMeets, ProjectMeets, JoinMeets, OuterMeets, AttachMeets, MarkMeets, SingleMeets, GroupMeets, KeyMeets, DistinctMeets};
+
+/// A node over no domain columns: its rows are the rows themselves.
+pub fn closed_meets<V>()
+    ensures { (same : V → V → Bool) → IsIdentity same → ClosedMeets same }
+{
+}
+
+/// Selection.
+pub fn select_meets<V>()
+    ensures { (same : V → V → Bool) → IsIdentity same → SelectMeets same }
+{
+}
+
+/// Projection, which keeps the domain columns.
+pub fn project_meets<V>()
+    ensures { (same : V → V → Bool) → IsIdentity same → ProjectMeets same }
+{
+}
+
+/// The inner join.
+pub fn join_meets<V>()
+    ensures { (same : V → V → Bool) → IsIdentity same → JoinMeets same }
+{
+}
+
+/// The left outer join.
+pub fn outer_meets<V>()
+    ensures { (same : V → V → Bool) → IsIdentity same → OuterMeets same }
+{
+}
+
+/// A column that is a function of the left row and of the bag of its partners.
+pub fn attach_meets<V>()
+    ensures { (same : V → V → Bool) → IsIdentity same → AttachMeets same }
+{
+}
+
+/// The mark of EXISTS and IN.
+pub fn mark_meets<V>()
+    ensures { (same : V → V → Bool) → IsIdentity same → MarkMeets same }
+{
+}
+
+/// A scalar subquery's value.
+pub fn single_meets<V>()
+    ensures { (same : V → V → Bool) → IsIdentity same → SingleMeets same }
+{
+}
+
+/// GROUP BY, which takes the domain's columns among its own.
+pub fn group_meets<V>()
+    ensures { (same : V → V → Bool) → IsIdentity same → GroupMeets same }
+{
+}
+
+/// Aggregates without GROUP BY, before the fill: groups by the domain's columns alone.
+pub fn key_meets<V>()
+    ensures { (same : V → V → Bool) → IsIdentity same → KeyMeets same }
+{
+}
+
+/// DISTINCT.
+pub fn distinct_meets<V>()
+    ensures { (same : V → V → Bool) → IsIdentity same → DistinctMeets same }
+{
+}
