@@ -12,3 +12,4 @@ pub mod Alike
 pub mod Moves
 pub mod Values
 pub mod Cells
+pub mod Local

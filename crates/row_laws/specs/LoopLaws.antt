@@ -1,8 +1,8 @@
 -- The node laws of unnesting, for one domain row d: where the inputs of a node meet the loops under d, so does the node.
-use Rattle.std.specs.Prelude.{◌≡◌, ℕ, List, [], ◌++◌, Bool, true, map, take, length}
-use Rattle.row_laws.specs.Ranked.{Ranked}
+use Rattle.std.specs.Prelude.{◌≡◌, ℕ, ◌≤◌, ◌⊎◌, List, [], ◌++◌, Bool, true, false, map, min, take, length}
+use Rattle.row_laws.specs.Ranked.{Ranked, unknown_rank}
 use Rattle.row_laws.specs.Bags.{OfBag, Each}
-use Rattle.row_laws.specs.Rows.{starts, after}
+use Rattle.row_laws.specs.Rows.{same_row, starts, after, columns}
 use Rattle.row_laws.specs.Operators.{select, project, join_node, outer_node, attach_node, mark_node, single_node, mark_of, scalar_of, join_loop, outer_loop, attach_loop, group_by, distinct}
 use Rattle.row_laws.specs.Domains.{Meets}
 
@@ -10,6 +10,15 @@ use Rattle.row_laws.specs.Domains.{Meets}
 -- Of left rows that begin otherwise nothing is asked.
 abbrev pub PartnersMeet : {V : Type 0} → (V → V → Bool) → (List V → List V) → List V → List (Ranked V) → List (Ranked V) → (List V → List (Ranked V)) → Type 0
 PartnersMeet same pick d xs ys R = Each (λ x. starts same d x.values ≡ true → Meets same (pick x.values) ys (R (pick x.values))) xs
+
+-- The node of a right side that has the domain's n values in columns bs of its own: each row stands behind these, kept where `whole` and c hold.
+abbrev pub local_node : {V : Type 0} → V → List ℕ → ℕ → (List V → ℕ) → (List V → ℕ) → List (Ranked V) → List (Ranked V)
+local_node null bs n whole c ts = select (λ r. min (whole (take n r)) (c r)) (project (λ t. columns null bs t ++ t) ts)
+
+-- SQL's d = v, given by `equal`: at identical rows it is what `whole` says of v, or both are at most Unknown, as at nulls; at others it is at most Unknown.
+pub record Equates {V : Type 0} (same : V → V → Bool) (equal : List V → List V → ℕ) (whole : List V → ℕ) (d v : List V) : Type 0 where
+  pub where_same : same_row same d v ≡ true → (equal d v ≡ whole v) ⊎ ((equal d v ≤ unknown_rank) × (whole v ≤ unknown_rank))
+  pub elsewhere : same_row same d v ≡ false → equal d v ≤ unknown_rank
 
 -- A node over no domain columns: its rows are the rows themselves.
 abbrev pub ClosedMeets : {V : Type 0} → (V → V → Bool) → Type 0
@@ -57,6 +66,12 @@ GroupMeets {V} same = (sub : List V → List V) (aggs : List (Ranked V) → List
 abbrev pub KeyMeets : {V : Type 0} → (V → V → Bool) → Type 0
 KeyMeets {V} same = (aggs : List (Ranked V) → List V) (d : List V) (xs ts : List (Ranked V)) → OfBag aggs → Meets same d xs ts
     → Meets same d (group_by same (λ x. take (length d) x) aggs xs) (group_by same (λ t. []) (λ ys. aggs (map (after d) ys)) ts)
+
+-- A right side that has the domain's values in columns bs of its own, and asks in its WHERE that they equal the domain's, needs no domain: its rows take their own values as domain columns,
+-- and the equality becomes a condition on these alone, as `is not null`.
+abbrev pub LocalMeets : {V : Type 0} → (V → V → Bool) → Type 0
+LocalMeets {V} same = (null : V) (bs : List ℕ) (whole c : List V → ℕ) (equal : List V → List V → ℕ) (d : List V) (ts : List (Ranked V)) → length bs ≡ length d → Each (λ t. Equates same equal whole d (columns null bs t.values)) ts
+    → Meets same d (local_node null bs (length d) whole c ts) (select (λ t. min (equal d (columns null bs t)) (c (d ++ t))) ts)
 
 -- DISTINCT.
 abbrev pub DistinctMeets : {V : Type 0} → (V → V → Bool) → Type 0

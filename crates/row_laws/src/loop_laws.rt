@@ -2,7 +2,7 @@
 
 ghost use Rattle.std.specs.Prelude.{Bool};
 ghost use Rattle.row_laws.specs.Bags.{IsIdentity};
-ghost use Rattle.row_laws.specs.LoopLaws.{ClosedMeets, SelectMeets, ProjectMeets, JoinMeets, OuterMeets, AttachMeets, MarkMeets, SingleMeets, GroupMeets, KeyMeets, DistinctMeets};
+ghost use Rattle.row_laws.specs.LoopLaws.{ClosedMeets, SelectMeets, ProjectMeets, JoinMeets, OuterMeets, AttachMeets, MarkMeets, SingleMeets, GroupMeets, KeyMeets, LocalMeets, DistinctMeets};
 
 /// A node over no domain columns: its rows are the rows themselves.
 pub fn closed_meets<V>()
@@ -61,6 +61,13 @@ pub fn group_meets<V>()
 /// Aggregates without GROUP BY, before the fill: groups by the domain's columns alone.
 pub fn key_meets<V>()
     ensures { (same : V → V → Bool) → IsIdentity same → KeyMeets same }
+{
+}
+
+/// A right side that has the domain's values in columns bs of its own, and asks in its WHERE that they equal the domain's, needs no domain: its rows take their own values as domain columns,
+/// and the equality becomes a condition on these alone, as `is not null`.
+pub fn local_meets<V>()
+    ensures { (same : V → V → Bool) → IsIdentity same → LocalMeets same }
 {
 }
 
