@@ -13,3 +13,4 @@ pub mod Moves
 pub mod Values
 pub mod Cells
 pub mod Local
+pub mod Pairs

@@ -152,9 +152,9 @@ module _ {V : Type 0} where
           ap (λ r. ranked r a.standing) v ∙ ap (λ t. ranked b.values t) s;
     }
 
-    pub scalar_bag : (write : ℕ → V) (fault_rank : V → ℕ) → OfBag (scalar_of write fault_rank)
-    scalar_bag write fault_rank =
-        OfBag-by_number same_ranked same_ranked_is (write unknown_rank) (λ u. value_at write fault_rank (slice_index_or u.values 0 (write unknown_rank)) u.standing) (write too_many_rows_rank)
+    pub scalar_bag : (write : ℕ → V) (fault_rank : V → ℕ) (i : ℕ) → OfBag (scalar_of write fault_rank i)
+    scalar_bag write fault_rank i =
+        OfBag-by_number same_ranked same_ranked_is (write unknown_rank) (λ u. value_at write fault_rank (slice_index_or u.values i (write unknown_rank)) u.standing) (write too_many_rows_rank)
 
 -- the aggregates of a query
 pub aggregated_bag : {V : Type 0} (items : List ((List V → V) × (List V → V))) → Each (λ a. OfBag a.1) items → OfBag (aggregated items)

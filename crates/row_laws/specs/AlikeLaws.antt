@@ -37,8 +37,8 @@ MarkNodeAlike {V} same = (pick : List V → List V) (write : ℕ → V) (c : Lis
 
 -- A scalar value.
 abbrev pub SingleNodeAlike : {V : Type 0} → (V → V → Bool) → Type 0
-SingleNodeAlike {V} same = (pick : List V → List V) (write : ℕ → V) (fault_rank : V → ℕ) (xs us ys vs : List (Ranked V)) → SameBag xs us → SameBag ys vs
-    → SameBag (single_node same pick write fault_rank xs ys) (single_node same pick write fault_rank us vs)
+SingleNodeAlike {V} same = (pick : List V → List V) (write : ℕ → V) (fault_rank : V → ℕ) (i : ℕ) (xs us ys vs : List (Ranked V)) → SameBag xs us → SameBag ys vs
+    → SameBag (single_node same pick write fault_rank i xs ys) (single_node same pick write fault_rank i us vs)
 
 -- GROUP BY, where the aggregates are functions of the bag.
 abbrev pub GroupAlike : {V : Type 0} → (V → V → Bool) → Type 0

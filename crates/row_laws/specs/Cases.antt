@@ -136,10 +136,10 @@ StandingOfAPartner = (mark_of written (λ r. true_rank) [] (ranked [] divide_by_
 
 -- A scalar subquery is null for no row, TooManyRows for two, also where they are identical, and the one row's value for one; at a fault's standing it is that fault.
 abbrev pub ScalarOfRows : Type 0
-ScalarOfRows = (scalar_of written cell_rank [] ≡ Null)
-    × (scalar_of written cell_rank (row (Number 7 ∷ []) ∷ row (Number 7 ∷ []) ∷ []) ≡ Fault too_many_rows_rank)
-    × (scalar_of written cell_rank (row (Number 7 ∷ []) ∷ []) ≡ Number 7)
-    × (scalar_of written cell_rank (ranked (Fault number_range_rank ∷ []) divide_by_zero_rank ∷ []) ≡ Fault divide_by_zero_rank)
+ScalarOfRows = (scalar_of written cell_rank 0 [] ≡ Null)
+    × (scalar_of written cell_rank 0 (row (Number 7 ∷ []) ∷ row (Number 7 ∷ []) ∷ []) ≡ Fault too_many_rows_rank)
+    × (scalar_of written cell_rank 0 (row (Number 7 ∷ []) ∷ []) ≡ Number 7)
+    × (scalar_of written cell_rank 0 (ranked (Fault number_range_rank ∷ []) divide_by_zero_rank ∷ []) ≡ Fault divide_by_zero_rank)
 
 -- A group stands at the least standing of its rows, a DISTINCT row at the greatest. A row at a fault is dropped where the condition is Unknown, and kept at the lesser fault where it is one.
 abbrev pub StandingsOfGroups : Type 0

@@ -12,4 +12,6 @@ pub mod DomainLaws
 pub mod TreeLaws
 pub mod ValueLaws
 pub mod MoveLaws
+pub mod Matched
+pub mod MatchedLaws
 pub mod Cases

@@ -54,8 +54,8 @@ MarkMeets {V} same = (pick : List V → List V) (write : ℕ → V) (c : List V 
 
 -- A scalar subquery's value.
 abbrev pub SingleMeets : {V : Type 0} → (V → V → Bool) → Type 0
-SingleMeets {V} same = (pick : List V → List V) (write : ℕ → V) (fault_rank : V → ℕ) (d : List V) (xs ys ts : List (Ranked V)) (R : List V → List (Ranked V)) → Meets same d xs ts → PartnersMeet same pick d xs ys R
-    → Meets same d (single_node same pick write fault_rank xs ys) (attach_loop (λ l us. scalar_of write fault_rank us) ts (λ l. R (pick (d ++ l))))
+SingleMeets {V} same = (pick : List V → List V) (write : ℕ → V) (fault_rank : V → ℕ) (i : ℕ) (d : List V) (xs ys ts : List (Ranked V)) (R : List V → List (Ranked V)) → Meets same d xs ts → PartnersMeet same pick d xs ys R
+    → Meets same d (single_node same pick write fault_rank i xs ys) (attach_loop (λ l us. scalar_of write fault_rank i us) ts (λ l. R (pick (d ++ l))))
 
 -- GROUP BY, which takes the domain's columns among its own.
 abbrev pub GroupMeets : {V : Type 0} → (V → V → Bool) → Type 0

@@ -57,11 +57,11 @@ by_number none one more (x ∷ y ∷ zs) = more
 abbrev pub value_at : {V : Type 0} → (ℕ → V) → (V → ℕ) → V → ℕ → V
 value_at write fault_rank v standing = let r = min standing (fault_rank v) in cond (nat_lt r true_rank) (write r) v
 
--- A scalar subquery's value: null for no row, TooManyRows for more than one, else the one row's first column.
+-- A scalar subquery's value: null for no row, TooManyRows for more than one, else the one row's column i.
 -- `fault_rank` is a fault's rank, and True's for a value that is none.
-abbrev pub scalar_of : {V : Type 0} → (ℕ → V) → (V → ℕ) → List (Ranked V) → V
-scalar_of write fault_rank us =
-    by_number (write unknown_rank) (λ u. value_at write fault_rank (slice_index_or u.values 0 (write unknown_rank)) u.standing) (write too_many_rows_rank) us
+abbrev pub scalar_of : {V : Type 0} → (ℕ → V) → (V → ℕ) → ℕ → List (Ranked V) → V
+scalar_of write fault_rank i us =
+    by_number (write unknown_rank) (λ u. value_at write fault_rank (slice_index_or u.values i (write unknown_rank)) u.standing) (write too_many_rows_rank) us
 
 module _ {V : Type 0} (same : V → V → Bool) where
   -- the right rows that begin with the values p, which match by identity
@@ -88,8 +88,8 @@ module _ {V : Type 0} (same : V → V → Bool) where
   mark_node pick write c xs ys = attach_node pick (mark_of write c) xs ys
 
   -- Each left row once with the scalar value of its partners.
-  abbrev pub single_node : (List V → List V) → (ℕ → V) → (V → ℕ) → List (Ranked V) → List (Ranked V) → List (Ranked V)
-  single_node pick write fault_rank xs ys = attach_node pick (λ x us. scalar_of write fault_rank us) xs ys
+  abbrev pub single_node : (List V → List V) → (ℕ → V) → (V → ℕ) → ℕ → List (Ranked V) → List (Ranked V) → List (Ranked V)
+  single_node pick write fault_rank i xs ys = attach_node pick (λ x us. scalar_of write fault_rank i us) xs ys
 
   -- GROUP BY: for each key the key's values and the aggregates of its rows, at the least of their standings.
   abbrev pub group_by : (List V → List V) → (List (Ranked V) → List V) → List (Ranked V) → List (Ranked V)

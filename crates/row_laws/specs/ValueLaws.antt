@@ -43,7 +43,7 @@ MarkInAnyOrder V = (write : ℕ → V) (c : List V → ℕ) (x : List V) → OfB
 
 -- A scalar subquery's value.
 abbrev pub ScalarInAnyOrder : {V : Type 0} → (V → V → Bool) → Type 0
-ScalarInAnyOrder {V} same = (write : ℕ → V) (fault_rank : V → ℕ) → OfBag (scalar_of write fault_rank)
+ScalarInAnyOrder {V} same = (write : ℕ → V) (fault_rank : V → ℕ) (i : ℕ) → OfBag (scalar_of write fault_rank i)
 
 -- A fold whose steps may be exchanged.
 abbrev pub FoldInAnyOrder : (S : Type 0) {X : Type 0} → (X → X → Bool) → Type 0

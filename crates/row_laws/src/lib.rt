@@ -7,6 +7,7 @@ pub mod alike_laws;
 pub mod bag_laws;
 pub mod domain_laws;
 pub mod loop_laws;
+pub mod matched_laws;
 pub mod move_laws;
 pub mod small_cases;
 pub mod tree_laws;
