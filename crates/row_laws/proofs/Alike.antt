@@ -1,12 +1,12 @@
 -- Each operator gives one bag for one bag.
-use Rattle.std.proofs.Common.{◌≡◌, ℕ, ◌+◌, List, [], ◌∷◌, ◌++◌, Bool, sym, ◌∙◌, ap, length}
+use Rattle.std.proofs.Common.{ℕ, ◌+◌, List, [], ◌∷◌, ◌++◌, Bool, sym, ◌∙◌, ap, length}
 use Rattle.std.specs.Prelude.{map, min}
 use Rattle.std.specs.List.{filter, flat_map}
 use Rattle.row_laws.specs.Ranked.{Ranked, ranked}
 use Rattle.row_laws.specs.Bags.{weigh, SameBag, IsIdentity, OfBag}
 use Rattle.row_laws.specs.Rows.{same_row, starts, strip, keep}
-use Rattle.row_laws.specs.Operators.{select, project, cross, join, pair, or_else, glue_at, join_node, outer_node, attach_node, join_loop, outer_loop, attach_loop, group_by, least, greatest, total, distinct, domain_node, fill}
-use Rattle.row_laws.proofs.Bags.{weigh-ext, weigh-flat_map, SameBag-map, SameBag-filter, SameBag-flat_map, SameBag-refl}
+use Rattle.row_laws.specs.Operators.{select, project, cross, pair, or_else, glue_at, join_node, outer_node, attach_node, join_loop, outer_loop, attach_loop, group_by, least, greatest, total, distinct, domain_node, fill}
+use Rattle.row_laws.proofs.Bags.{weigh-ext, weigh-flat_map, SameBag-map, SameBag-filter, SameBag-flat_map}
 use Rattle.row_laws.proofs.Classes.{SameBag-nub, SameBag-classes}
 use Rattle.row_laws.proofs.Rows.{same_row_is}
 use Rattle.row_laws.proofs.Nodes.{SameBag-or_else}

@@ -2,18 +2,18 @@
 use Rattle.std.proofs.Common.{◌≡◌, ℕ, ◌+◌, ◌≤◌, List, [], ◌∷◌, ◌++◌, Bool, true, false, refl, sym, ◌∙◌, ap, subst, arith, inl, inr, length}
 use Rattle.std.proofs.Math.Dec.{ltb}
 use Rattle.std.specs.Prelude.{not, ◌||◌, map}
-use Rattle.std.specs.List.{filter, flat_map}
+use Rattle.std.specs.List.{filter}
 use Rattle.std.proofs.lemmas.Bool.{cases_Bool, true≢false, and_parts, cases_lt, lt-ltb, or_parts, not-true}
 use Rattle.std.proofs.lemmas.List.{append_assoc, append-nil, map-id}
 use Rattle.row_laws.specs.Ranked.{Ranked, ranked}
 use Rattle.row_laws.specs.Bags.{on, weigh, SameBag, IsIdentity, has, count, nub, Each}
 use Rattle.row_laws.specs.Rows.{same_row, starts, starts_any, after, unit_row}
 use Rattle.row_laws.specs.Operators.{or_else, domain_node, fill}
-use Rattle.row_laws.specs.Domains.{values_of, under, no_two, meeting, IsDomain, Meets, Answers}
+use Rattle.row_laws.specs.Domains.{values_of, under, no_two, meeting, IsDomain, Meets}
 use Rattle.row_laws.proofs.Bags.{on-zero, weigh-ext, weigh-swap, weigh-map, weigh-filter, weigh-flat_map, weigh-zero}
 use Rattle.row_laws.proofs.Lists.{weigh-ext_each, Each-map, Each-map_back, Each-weaker, Each-nub, Each-nub_back, Each-filter_true, Each-all, Each-both, map-map}
 use Rattle.row_laws.proofs.Classes.{count-filter, has-count}
-use Rattle.row_laws.proofs.Rows.{same_row_is, starts_same, starts_through, starts_long, starts-wide, map-after_after, map-after_nil, Meets-weighs, Meets-from}
+use Rattle.row_laws.proofs.Rows.{same_row_is, starts_same, starts_through, starts_long, map-after_after, map-after_nil, Meets-weighs, Meets-from}
 use Rattle.row_laws.proofs.Nodes.{Each-or_else, map-or_else, SameBag-or_else, Follows, Follows-append, expand_meets}
 
 module _ {X : Type 0} (same : X → X → Bool) (is : IsIdentity same) (h : X → ℕ) (x : X) where

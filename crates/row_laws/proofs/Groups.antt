@@ -4,7 +4,7 @@ use Rattle.std.specs.Prelude.{map, min, max}
 use Rattle.std.specs.List.{filter}
 use Rattle.std.proofs.lemmas.List.{append_assoc, length-append, append-nil}
 use Rattle.row_laws.specs.Ranked.{Ranked, ranked}
-use Rattle.row_laws.specs.Bags.{on, weigh, SameBag, IsIdentity, nub, classes, OfBag, Each, top, bottom}
+use Rattle.row_laws.specs.Bags.{on, weigh, IsIdentity, nub, classes, OfBag, top, bottom}
 use Rattle.row_laws.specs.Rows.{same_row, starts, after}
 use Rattle.row_laws.specs.Operators.{group_by, distinct, least, greatest}
 use Rattle.row_laws.specs.Domains.{Wide, Meets}

@@ -1,11 +1,11 @@
 -- A right side that needs no domain.
-use Rattle.std.proofs.Common.{◌≡◌, ℕ, ◌≤◌, List, ◌++◌, Bool, true, false, sym, ◌∙◌, ap, arith, inl, inr, length, take, ⊎_elim}
+use Rattle.std.proofs.Common.{◌≡◌, ℕ, ◌≤◌, List, ◌++◌, Bool, false, sym, ◌∙◌, ap, arith, inl, inr, length, take, ⊎_elim}
 use Rattle.std.proofs.Math.Dec.{ltb}
-use Rattle.std.specs.Prelude.{map, min, slice_index_or}
+use Rattle.std.specs.Prelude.{min, slice_index_or}
 use Rattle.std.proofs.lemmas.Bool.{cases_Bool, le-ltb}
 use Rattle.std.proofs.lemmas.List.{length-append, length-map}
 use Rattle.row_laws.specs.Ranked.{Ranked, ranked}
-use Rattle.row_laws.specs.Bags.{on, weigh, IsIdentity, Each}
+use Rattle.row_laws.specs.Bags.{on, IsIdentity, Each}
 use Rattle.row_laws.specs.Rows.{same_row, starts, after, columns, keep}
 use Rattle.row_laws.specs.Operators.{select, project}
 use Rattle.row_laws.specs.Domains.{Meets}

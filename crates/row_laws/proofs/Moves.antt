@@ -1,5 +1,5 @@
 -- Selections moved over joins, and sides exchanged.
-use Rattle.std.proofs.Common.{◌≡◌, ℕ, ◌+◌, ◌≤◌, List, [], ◌∷◌, ◌++◌, Bool, true, false, refl, sym, ◌∙◌, ap, arith, inl, inr, eqb}
+use Rattle.std.proofs.Common.{◌≡◌, ℕ, ◌+◌, ◌≤◌, List, ◌++◌, true, false, sym, ◌∙◌, ap, arith, inl, inr, eqb}
 use Rattle.std.proofs.Math.Dec.{ltb}
 use Rattle.std.specs.Prelude.{map, min, max}
 use Rattle.std.specs.List.{flat_map}
@@ -8,7 +8,7 @@ use Rattle.row_laws.specs.Ranked.{Ranked, ranked}
 use Rattle.row_laws.specs.Bags.{on, weigh, SameBag, Each}
 use Rattle.row_laws.specs.Operators.{select, project, cross, join, pair, or_else, join_loop, outer_loop}
 use Rattle.row_laws.specs.MoveLaws.{OfLeft, OfRight}
-use Rattle.row_laws.proofs.Bags.{on-zero, weigh-on, weigh-ext, weigh-map, weigh-flat_map, weigh-swap, weigh-zero}
+use Rattle.row_laws.proofs.Bags.{on-zero, weigh-on, weigh-ext, weigh-map, weigh-flat_map, weigh-swap}
 use Rattle.row_laws.proofs.Lists.{weigh-ext_each}
 use Rattle.row_laws.proofs.Rows.{weigh-keep, weigh-select}
 use Rattle.row_laws.proofs.Nodes.{weigh-or_else, SameBag-or_else}

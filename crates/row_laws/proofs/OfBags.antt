@@ -1,6 +1,6 @@
 -- Functions of the bag: each is made of others that are.
 use Rattle.std.proofs.Common.{◌≡◌, ℕ, ◌+◌, ◌-◌, ◌≤◌, List, [], ◌∷◌, ◌++◌, Bool, true, false, refl, sym, ◌∙◌, ap, arith, inl, inr, length}
-use Rattle.std.specs.Prelude.{map, not, min, max}
+use Rattle.std.specs.Prelude.{map, min, max}
 use Rattle.std.specs.List.{filter}
 use Rattle.std.proofs.lemmas.Bool.{cases_Bool, true≢false}
 use Rattle.row_laws.specs.Bags.{on, weigh, SameBag, IsIdentity, has, nub, OfBag, top, bottom}

@@ -6,7 +6,7 @@ use Rattle.std.proofs.lemmas.List.{append-nil, length-map}
 use Rattle.row_laws.specs.Ranked.{Ranked, ranked, true_rank}
 use Rattle.row_laws.specs.Bags.{SameBag, IsIdentity, OfBag, nub, Each}
 use Rattle.row_laws.specs.Rows.{same_row, starts, after, columns, scanned, unit_row}
-use Rattle.row_laws.specs.Operators.{select, project, pair, join_node, outer_node, attach_node, join_loop, outer_loop, attach_loop, or_else, group_by, least, distinct, domain_node, fill, total}
+use Rattle.row_laws.specs.Operators.{select, project, pair, join_node, outer_node, attach_node, join_loop, outer_loop, attach_loop, or_else, group_by, least, distinct, fill, total}
 use Rattle.row_laws.specs.Domains.{values_of, under, meeting, IsDomain, Meets, Answers}
 use Rattle.row_laws.specs.Trees.{Side, Tree, side_row, side_pick, side_width, side_domain, tree_rows, node_rows}
 use Rattle.row_laws.specs.Trees.Side.{Closed, Shared, Dependent}

@@ -1,13 +1,12 @@
 -- Aggregates, marks and scalar values don't depend on the order of the rows.
-use Rattle.std.proofs.Common.{◌≡◌, ℕ, ◌+◌, ◌-◌, ◌≤◌, ◌^◌, List, [], ◌∷◌, ◌++◌, Bool, true, false, cond, refl, sym, ◌∙◌, ap, arith, inl, inr, length, Some, None}
+use Rattle.std.proofs.Common.{◌≡◌, ℕ, ◌+◌, ◌-◌, List, [], ◌∷◌, ◌++◌, Bool, true, cond, refl, sym, ◌∙◌, ap, arith, inl, inr, length, Some, None}
 use Rattle.std.proofs.Math.Dec.{ltb}
-use Rattle.std.specs.Prelude.{not, map, min, max, ◌&&◌, ◌==◌, Option, slice_index_or, nat_lt}
-use Rattle.std.specs.List.{filter}
+use Rattle.std.specs.Prelude.{not, min, ◌&&◌, ◌==◌, Option, slice_index_or, nat_lt}
 use Rattle.std.proofs.lemmas.Bool.{cases_Bool, true≢false, and_parts, eqb-true, eq-eqb, lt-ltb}
-use Rattle.row_laws.specs.Ranked.{Ranked, ranked, unknown_rank, too_many_rows_rank, number_range_rank, true_rank}
-use Rattle.row_laws.specs.Bags.{on, weigh, SameBag, IsIdentity, nub, OfBag, Each, top, bottom}
+use Rattle.row_laws.specs.Ranked.{Ranked, ranked, unknown_rank, too_many_rows_rank, true_rank}
+use Rattle.row_laws.specs.Bags.{weigh, SameBag, IsIdentity, nub, OfBag, Each, top, bottom}
 use Rattle.row_laws.specs.Rows.{same_row}
-use Rattle.row_laws.specs.Operators.{mark_of, scalar_of, value_at, by_number}
+use Rattle.row_laws.specs.Operators.{mark_of, scalar_of, value_at}
 use Rattle.row_laws.specs.Aggregates.{Reading, run, Exchanges, IsOrder, first, first_of, ReadsNulls, not_null, least_fault, aggregated, unless_fault, unless_none, unless_range, count_of, count_distinct_of, sum_of, avg_of, min_of, max_of}
 use Rattle.row_laws.specs.ValueLaws.{FaultsFirst, NullsSkipped}
 use Rattle.row_laws.proofs.Rows.{same_row_is}

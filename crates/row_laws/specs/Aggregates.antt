@@ -1,5 +1,5 @@
 -- Aggregates, as functions of the list of their argument's values over a group.
-use Rattle.std.specs.Prelude.{◌≡◌, ℕ, ◌*◌, ◌-◌, ◌^◌, ◌==◌, List, [], ◌∷◌, Bool, true, false, cond, not, length, map, max, nat_lt}
+use Rattle.std.specs.Prelude.{◌≡◌, ℕ, ◌-◌, ◌^◌, ◌==◌, List, [], ◌∷◌, Bool, true, false, cond, not, length, map, max, nat_lt}
 use Rattle.std.specs.List.{filter}
 use Rattle.row_laws.specs.Ranked.{Ranked, unknown_rank, number_range_rank, true_rank}
 use Rattle.row_laws.specs.Bags.{weigh, bottom, nub}
