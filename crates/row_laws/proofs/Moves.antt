@@ -1,10 +1,12 @@
 -- Selections moved over joins, and sides exchanged.
-use Rattle.std.proofs.Common.{◌≡◌, ℕ, ◌+◌, ◌≤◌, List, ◌++◌, true, false, sym, ◌∙◌, ap, arith, inl, inr, eqb}
+use Rattle.std.proofs.Common.{◌≡◌, ℕ, ◌+◌, ◌≤◌, List, [], ◌∷◌, ◌++◌, true, false, refl, sym, ◌∙◌, ap, arith, inl, inr, eqb}
 use Rattle.std.proofs.Math.Dec.{ltb}
 use Rattle.std.specs.Prelude.{map, min, max}
 use Rattle.std.specs.List.{flat_map}
 use Rattle.std.proofs.lemmas.Bool.{cases_Bool, le-ltb, lt-ltb, ltb-false, ltb-true}
-use Rattle.row_laws.specs.Ranked.{Ranked, ranked}
+use Rattle.std.proofs.lemmas.List.{append_assoc, append-nil}
+use Rattle.row_laws.specs.Ranked.{Ranked, ranked, true_rank}
+use Rattle.row_laws.specs.Rows.{unit_row}
 use Rattle.row_laws.specs.Bags.{on, weigh, SameBag, Each}
 use Rattle.row_laws.specs.Operators.{select, project, cross, join, pair, or_else, join_loop, outer_loop}
 use Rattle.row_laws.specs.MoveLaws.{OfLeft, OfRight}
@@ -265,6 +267,35 @@ module _ {V : Type 0} where
     where
       turned : (a b c : ℕ) → min (min a b) c ≡ min (min a c) b
       turned a b c = omega arith
+
+-- the row that FROM begins with
+pub cross_unit : {V : Type 0} (xs : List (Ranked V)) → Each (λ x. x.standing ≤ true_rank) xs → cross unit_row xs ≡ xs
+cross_unit {V} xs all = append-nil (map (λ y. ranked ([] ++ y.values) (min true_rank y.standing)) xs) ∙ go xs all
+  where
+    go : (xs : List (Ranked V)) → Each (λ x. x.standing ≤ true_rank) xs → map (λ y. ranked ([] ++ y.values) (min true_rank y.standing)) xs ≡ xs
+    go [] all = refl
+    go (x ∷ xs) all = let a = all.0 in let e : min true_rank x.standing ≡ x.standing = omega arith in rw (e, go xs all.1)
+
+-- three sides, however they are bracketed
+pub cross_assoc : {V : Type 0} (xs ys zs : List (Ranked V)) → SameBag (cross (cross xs ys) zs) (cross xs (cross ys zs))
+cross_assoc {V} xs ys zs = record {
+  weighs = λ h.
+      let left : Ranked V → Ranked V → Ranked V → ℕ = λ x y z. h (ranked ((x.values ++ y.values) ++ z.values) (min (min x.standing y.standing) z.standing)) in
+      let right : Ranked V → Ranked V → Ranked V → ℕ = λ x y z. h (ranked (x.values ++ (y.values ++ z.values)) (min x.standing (min y.standing z.standing))) in
+      weigh-cross h (cross xs ys) zs
+      ∙ weigh-cross (λ p. weigh (λ z. h (ranked (p.values ++ z.values) (min p.standing z.standing))) zs) xs ys
+      ∙ weigh-ext (λ x. weigh (λ y. weigh (left x y) zs) ys) (λ x. weigh (λ y. weigh (right x y) zs) ys) xs
+      (λ x. weigh-ext (λ y. weigh (left x y) zs) (λ y. weigh (right x y) zs) ys
+      (λ y. weigh-ext (left x y) (right x y) zs
+      (λ z. ap (λ v. h (ranked v (min (min x.standing y.standing) z.standing))) (append_assoc x.values y.values z.values)
+      ∙ ap (λ s. h (ranked (x.values ++ (y.values ++ z.values)) s)) (assoc x.standing y.standing z.standing))))
+      ∙ weigh-ext (λ x. weigh (λ y. weigh (right x y) zs) ys) (λ x. weigh (λ q. h (ranked (x.values ++ q.values) (min x.standing q.standing))) (cross ys zs)) xs
+      (λ x. sym (weigh-cross (λ q. h (ranked (x.values ++ q.values) (min x.standing q.standing))) ys zs))
+      ∙ sym (weigh-cross h xs (cross ys zs));
+}
+  where
+    assoc : (a b c : ℕ) → min (min a b) c ≡ min a (min b c)
+    assoc a b c = omega arith
 
 -- the chain
 pub and_over_or : (a b c : ℕ) → (min a (max b c) ≡ max (min a b) (min a c)) × (max a (min b c) ≡ min (max a b) (max a c))

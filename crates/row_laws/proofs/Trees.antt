@@ -6,15 +6,16 @@ use Rattle.std.proofs.lemmas.List.{append-nil, length-map}
 use Rattle.row_laws.specs.Ranked.{Ranked, ranked, true_rank}
 use Rattle.row_laws.specs.Bags.{SameBag, IsIdentity, OfBag, nub, Each}
 use Rattle.row_laws.specs.Rows.{same_row, starts, after, columns, scanned, unit_row}
-use Rattle.row_laws.specs.Operators.{select, project, pair, join_node, outer_node, attach_node, join_loop, outer_loop, attach_loop, or_else, group_by, least, distinct, fill, total}
+use Rattle.row_laws.specs.Operators.{select, project, pair, join_node, outer_node, attach_node, mark_of, scalar_of, join_loop, outer_loop, attach_loop, or_else, group_by, least, distinct, fill, total}
 use Rattle.row_laws.specs.Domains.{values_of, under, meeting, IsDomain, Meets, Answers}
 use Rattle.row_laws.specs.Trees.{Side, Tree, side_row, side_pick, side_width, side_domain, tree_rows, node_rows}
 use Rattle.row_laws.specs.Trees.Side.{Closed, Shared, Dependent}
-use Rattle.row_laws.specs.Trees.Tree.{Scan, Select, Project, Join, Outer, Attach, Group, Total, Distinct}
+use Rattle.row_laws.specs.Trees.Tree.{Scan, Select, Project, Join, Outer, Mark, Single, Group, Total, Distinct}
 use Rattle.row_laws.proofs.Lists.{Each-weaker, Each-map, Each-all, Each-both}
 use Rattle.row_laws.proofs.Rows.{starts_is, take-append, select_meets, Meets-from, Meets-weighs}
 use Rattle.row_laws.proofs.Nodes.{join_meets, outer_meets, attach_meets, project_meets}
 use Rattle.row_laws.proofs.Groups.{group_meets, key_meets, distinct_meets}
+use Rattle.row_laws.proofs.Values.{mark_bag, scalar_bag}
 use Rattle.row_laws.proofs.Domains.{domain_is, domain_alone, under_meets, domain_meets, fill_meets}
 
 scan_each : {V : Type 0} (rows : List (List V)) → flat_map (λ r. pair (λ t. true_rank) (λ x y. x ++ y) (ranked [] true_rank) r) (scanned rows) ≡ scanned rows
@@ -181,9 +182,13 @@ module _ {V : Type 0} (same : V → V → Bool) (is : IsIdentity same) (null : V
       let xs = node_rows same null tables L n ds in let es = side_domain same null side ds xs in
       outer_step same is null side nulls c n ds xs (node_rows same null tables R (side_width side n) es) (tree_rows same null tables L) (tree_rows same null tables R) dom
       (unnests L n ds dom) (unnests R (side_width side n) es (side_is same is null side n ds xs dom))
-  unnests (Attach side value bag L R) n ds dom =
+  unnests (Mark side write c L R) n ds dom =
       let xs = node_rows same null tables L n ds in let es = side_domain same null side ds xs in
-      attach_step same is null side value bag n ds xs (node_rows same null tables R (side_width side n) es) (tree_rows same null tables L) (tree_rows same null tables R) dom
+      attach_step same is null side (mark_of write c) (mark_bag write c) n ds xs (node_rows same null tables R (side_width side n) es) (tree_rows same null tables L) (tree_rows same null tables R) dom
+      (unnests L n ds dom) (unnests R (side_width side n) es (side_is same is null side n ds xs dom))
+  unnests (Single side write fault_rank i L R) n ds dom =
+      let xs = node_rows same null tables L n ds in let es = side_domain same null side ds xs in
+      attach_step same is null side (λ x us. scalar_of write fault_rank i us) (λ x. scalar_bag same is write fault_rank i) n ds xs (node_rows same null tables R (side_width side n) es) (tree_rows same null tables L) (tree_rows same null tables R) dom
       (unnests L n ds dom) (unnests R (side_width side n) es (side_is same is null side n ds xs dom))
   unnests (Group sub aggs bag T) n ds dom = group_step same is sub aggs bag n ds (node_rows same null tables T n ds) (tree_rows same null tables T) dom (unnests T n ds dom)
   unnests (Total aggs bag T) n ds dom = total_step same is aggs bag n ds (node_rows same null tables T n ds) (tree_rows same null tables T) dom (unnests T n ds dom)

@@ -3,7 +3,7 @@ use Rattle.std.specs.Prelude.{◌≡◌, ℕ, ◌+◌, List, ◌++◌, Bool, Som
 use Rattle.std.specs.List.{filter, flat_map, sum_by, IsDistinct}
 use Rattle.std.specs.List.Sorted.{IsPermutation}
 use Rattle.std.specs.Map.{lookup}
-use Rattle.row_laws.specs.Bags.{on, weigh, SameBag, has, count, classes, OfBag, top, bottom}
+use Rattle.row_laws.specs.Bags.{on, weigh, SameBag, IsIdentity, has, count, classes, OfBag, top, bottom, Each}
 
 -- Each list is the same bag as itself.
 abbrev pub BagReflexive : (X : Type 0) → Type 0

@@ -1,6 +1,7 @@
 -- What may be moved over joins when a tree is arranged anew.
-use Rattle.std.specs.Prelude.{◌≡◌, ℕ, List, ◌++◌, min, max}
-use Rattle.row_laws.specs.Ranked.{Ranked}
+use Rattle.std.specs.Prelude.{◌≡◌, ◌≤◌, ℕ, List, ◌++◌, min, max}
+use Rattle.row_laws.specs.Ranked.{Ranked, true_rank}
+use Rattle.row_laws.specs.Rows.{unit_row}
 use Rattle.row_laws.specs.Bags.{SameBag, Each}
 use Rattle.row_laws.specs.Operators.{select, project, cross, join, join_loop, outer_loop}
 
@@ -52,6 +53,14 @@ SidesExchanged V = (f : List V → List V) (xs ys : List (Ranked V)) → Each (�
 abbrev pub LastSidesExchanged : (V : Type 0) → Type 0
 LastSidesExchanged V = (f : List V → List V) (ps xs ys : List (Ranked V)) → Each (λ p. Each (λ x. Each (λ y. f ((p.values ++ y.values) ++ x.values) ≡ (p.values ++ x.values) ++ y.values) ys) xs) ps
     → SameBag (cross (cross ps xs) ys) (project f (cross (cross ps ys) xs))
+
+-- The one row of no columns, which FROM begins with, adds nothing.
+abbrev pub CrossUnit : (V : Type 0) → Type 0
+CrossUnit V = (xs : List (Ranked V)) → Each (λ x. x.standing ≤ true_rank) xs → cross unit_row xs ≡ xs
+
+-- The product of three sides, however it is bracketed.
+abbrev pub CrossAssoc : (V : Type 0) → Type 0
+CrossAssoc V = (xs ys zs : List (Ranked V)) → SameBag (cross (cross xs ys) zs) (cross xs (cross ys zs))
 
 -- AND distributes over OR on the chain, and OR over AND, so common factors may be taken out.
 abbrev pub AndOverOr : Type 0

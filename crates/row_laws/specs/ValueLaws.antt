@@ -1,7 +1,7 @@
 -- Aggregates, marks and scalar values are functions of the bag: the order of the rows doesn't matter.
 use Rattle.std.specs.Prelude.{◌≡◌, ℕ, ◌<◌, List, Bool}
 use Rattle.row_laws.specs.Ranked.{Ranked, true_rank}
-use Rattle.row_laws.specs.Bags.{OfBag, Each}
+use Rattle.row_laws.specs.Bags.{IsIdentity, OfBag, Each}
 use Rattle.row_laws.specs.Operators.{mark_of, scalar_of, least, greatest}
 use Rattle.row_laws.specs.Aggregates.{Reading, ReadsNulls, IsOrder, not_null, least_fault, count_of, count_distinct_of, sum_of, avg_of, min_of, max_of, aggregated, run, Exchanges}
 

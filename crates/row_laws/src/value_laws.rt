@@ -7,54 +7,65 @@ ghost use Rattle.row_laws.specs.ValueLaws.{StandingsInAnyOrder, CountsInAnyOrder
 /// A group's and a DISTINCT row's standing.
 pub fn standings_in_any_order<V>()
     ensures { StandingsInAnyOrder V }
-{}
+{
+}
 
 /// count(e) and count(distinct e).
 pub fn counts_in_any_order<V>()
     ensures { (same : V → V → Bool) → IsIdentity same → CountsInAnyOrder same }
-{}
+{
+}
 
 /// sum(e): exact, and NumberRange where the sum of the terms above 0, or of the others negated, passes the largest number.
 pub fn sum_in_any_order<V>()
     ensures { SumInAnyOrder V }
-{}
+{
+}
 
 /// avg(e), however the sum is divided by the number of terms and rounded.
 pub fn avg_in_any_order<V>()
     ensures { AvgInAnyOrder V }
-{}
+{
+}
 
 /// min(e) and max(e) by a total order.
 pub fn extremes_in_any_order<V>()
     ensures { (same : V → V → Bool) → IsIdentity same → ExtremesInAnyOrder same }
-{}
+{
+}
 
 /// All aggregates of a grouped query together.
 pub fn aggregates_in_any_order<V>()
     ensures { AggregatesInAnyOrder V }
-{}
+{
+}
 
 /// The mark of EXISTS and IN.
 pub fn mark_in_any_order<V>()
     ensures { MarkInAnyOrder V }
-{}
+{
+}
 
 /// A scalar subquery's value.
 pub fn scalar_in_any_order<V>()
     ensures { (same : V → V → Bool) → IsIdentity same → ScalarInAnyOrder same }
-{}
+{
+}
 
 /// A fold whose steps may be exchanged.
 pub fn fold_in_any_order<X, S>()
     ensures { (same : X → X → Bool) → IsIdentity same → FoldInAnyOrder S same }
-{}
+{
+}
 
 /// Each aggregate answers the least fault first.
 pub fn faults_first<V>()
     ensures { (same : V → V → Bool) → IsIdentity same → FaultsComeFirst same }
-{}
+{
+}
 
 /// Each aggregate skips nulls.
 pub fn nulls_skipped<V>()
     ensures { (same : V → V → Bool) → IsIdentity same → NullsAreSkipped same }
-{}
+{
+}
