@@ -76,7 +76,7 @@ module _ {V : Type 0} (same : V → V → Bool) (is : IsIdentity same) where
             rw (t, out', ih)
       ]
 
-  no_two-nub : (ks : List (List V)) → no_two same (nub (same_row same) ks) ≡ true
+  pub no_two-nub : (ks : List (List V)) → no_two same (nub (same_row same) ks) ≡ true
   no_two-nub [] = refl
   no_two-nub (k ∷ ks) =
       let N = nub (same_row same) ks in let p : List V → Bool = λ y. not (same_row same k y) in

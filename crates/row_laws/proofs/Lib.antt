@@ -14,3 +14,4 @@ pub mod Values
 pub mod Cells
 pub mod Local
 pub mod Pairs
+pub mod Orders

@@ -2,7 +2,7 @@
 use Rattle.std.specs.Prelude.{◌≡◌, ℕ, ◌-◌, ◌^◌, ◌==◌, List, [], ◌∷◌, Bool, true, false, cond, not, length, map, max, nat_lt}
 use Rattle.std.specs.List.{filter}
 use Rattle.row_laws.specs.Ranked.{Ranked, unknown_rank, number_range_rank, true_rank}
-use Rattle.row_laws.specs.Bags.{weigh, bottom, nub}
+use Rattle.row_laws.specs.Bags.{weigh, bottom, nub, Each}
 
 -- What aggregates read of a value, and how they write one.
 pub record Reading (V : Type 0) : Type 0 where
@@ -31,6 +31,11 @@ pub record IsOrder {X : Type 0} (before : X → X → Bool) : Type 0 where
   pub either : (x y : X) → before x y ≡ false → before y x ≡ true
   pub both : (x y : X) → before x y ≡ true → before y x ≡ true → x ≡ y
   pub through : (x y z : X) → before x y ≡ true → before y z ≡ true → before x z ≡ true
+
+-- no element comes before one that stands to its left
+abbrev pub InOrder : {X : Type 0} → (X → X → Bool) → List X → Type 0
+InOrder before [] = Unit {0}
+InOrder before (x ∷ xs) = Each (λ y. before x y ≡ true) xs × InOrder before xs
 
 -- the first of two by an order, and the first of a list, n where it is empty
 abbrev pub first : {X : Type 0} → (X → X → Bool) → X → X → X

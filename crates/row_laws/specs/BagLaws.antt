@@ -1,9 +1,13 @@
 -- Laws of bags, of classes, and of what a table of groups has to show.
-use Rattle.std.specs.Prelude.{◌≡◌, ℕ, ◌+◌, List, ◌++◌, Bool, Some, None, map, length, cond, min, max}
+use Rattle.std.specs.Prelude.{◌≡◌, ℕ, ◌+◌, List, ◌++◌, Bool, true, Some, None, map, length, cond, min, max}
 use Rattle.std.specs.List.{filter, flat_map, sum_by, IsDistinct}
 use Rattle.std.specs.List.Sorted.{IsPermutation}
 use Rattle.std.specs.Map.{lookup}
-use Rattle.row_laws.specs.Bags.{on, weigh, SameBag, IsIdentity, has, count, classes, OfBag, top, bottom, Each}
+use Rattle.row_laws.specs.Ranked.{Ranked}
+use Rattle.row_laws.specs.Bags.{on, weigh, SameBag, has, count, classes, OfBag, top, bottom}
+use Rattle.row_laws.specs.Rows.{same_row}
+use Rattle.row_laws.specs.Operators.{distinct}
+use Rattle.row_laws.specs.Domains.{values_of, no_two}
 
 -- Each list is the same bag as itself.
 abbrev pub BagReflexive : (X : Type 0) → Type 0
@@ -60,6 +64,10 @@ HasAlike {X} same = (xs us : List X) → (SameBag xs us → (x : X) → (has sam
 -- GROUP BY: classes of one bag are one bag, where each class is a function of the bag of its elements.
 abbrev pub ClassesAlike : (R S : Type 0) {K : Type 0} → (K → K → Bool) → Type 0
 ClassesAlike R S {K} same = (key : R → K) (f : K → List R → S) (xs us : List R) → ((k : K) → OfBag (f k)) → SameBag xs us → SameBag (classes same key f xs) (classes same key f us)
+
+-- DISTINCT leaves no two identical rows, and the same rows as were there.
+abbrev pub DistinctRows : {V : Type 0} → (V → V → Bool) → Type 0
+DistinctRows {V} same = (xs : List (Ranked V)) → (no_two same (values_of (distinct same xs)) ≡ true) × ((r : List V) → has (same_row same) r (values_of (distinct same xs)) ≡ has (same_row same) r (values_of xs))
 
 -- What a list of keys with their classes has to show: the keys are those of the elements, each once.
 abbrev pub ClassesMade : (R S : Type 0) {K : Type 0} → (K → K → Bool) → Type 0

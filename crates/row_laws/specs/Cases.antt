@@ -1,10 +1,10 @@
 -- Small cases over values that are null, a number or a fault; and wrong definitions, shown false by one case each.
-use Rattle.std.specs.Prelude.{◌≡◌, ℕ, ◌==◌, List, [], ◌∷◌, ◌++◌, Bool, true, false, cond, map, length, min, slice_index_or}
+use Rattle.std.specs.Prelude.{◌≡◌, ℕ, ◌==◌, List, [], ◌∷◌, Bool, true, false, cond, length, min, slice_index_or}
 use Rattle.row_laws.specs.Ranked.{Ranked, ranked, false_rank, unknown_rank, too_many_rows_rank, divide_by_zero_rank, number_range_rank, true_rank}
 use Rattle.row_laws.specs.Bags.{SameBag, IsIdentity, OfBag, top}
 use Rattle.row_laws.specs.Rows.{columns, scanned, unit_row}
-use Rattle.row_laws.specs.Operators.{select, join, join_node, mark_of, scalar_of, group_by, total, distinct, domain_node, fill, join_loop, outer_loop}
-use Rattle.row_laws.specs.Trees.{Tree, Side, tree_rows, node_rows}
+use Rattle.row_laws.specs.Operators.{select, join, join_node, mark_of, scalar_of, group_by, total, distinct, domain_node, fill, outer_loop}
+use Rattle.row_laws.specs.Trees.{Tree, tree_rows, node_rows}
 use Rattle.row_laws.specs.Trees.Tree.{Scan, Select, Join, Total}
 use Rattle.row_laws.specs.Trees.Side.{Dependent}
 use Rattle.row_laws.specs.TreeLaws.{Unnesting}
@@ -13,6 +13,10 @@ pub data Cell : Type 0 where
   Null : Cell
   Number : (n : ℕ) → Cell
   Fault : (rank : ℕ) → Cell
+
+-- identity of plain numbers
+abbrev pub same_number : ℕ → ℕ → Bool
+same_number a b = a == b
 
 -- identity: null is identical to null, a fault to the same fault
 abbrev pub same_cell : Cell → Cell → Bool

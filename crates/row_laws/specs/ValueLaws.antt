@@ -1,9 +1,10 @@
 -- Aggregates, marks and scalar values are functions of the bag: the order of the rows doesn't matter.
-use Rattle.std.specs.Prelude.{◌≡◌, ℕ, ◌<◌, List, Bool}
+use Rattle.std.specs.Prelude.{◌≡◌, ℕ, ◌<◌, List, Bool, map}
+use Rattle.std.specs.List.{filter}
 use Rattle.row_laws.specs.Ranked.{Ranked, true_rank}
-use Rattle.row_laws.specs.Bags.{IsIdentity, OfBag, Each}
+use Rattle.row_laws.specs.Bags.{SameBag, OfBag, Each, nub}
 use Rattle.row_laws.specs.Operators.{mark_of, scalar_of, least, greatest}
-use Rattle.row_laws.specs.Aggregates.{Reading, ReadsNulls, IsOrder, not_null, least_fault, count_of, count_distinct_of, sum_of, avg_of, min_of, max_of, aggregated, run, Exchanges}
+use Rattle.row_laws.specs.Aggregates.{Reading, ReadsNulls, IsOrder, not_null, least_fault, count_of, count_distinct_of, sum_of, avg_of, min_of, max_of, aggregated, run, Exchanges, InOrder}
 
 -- the aggregate is the least fault of the values, where a fault stands among them
 abbrev pub FaultsFirst : {V : Type 0} → Reading V → (List V → V) → Type 0
@@ -48,6 +49,30 @@ ScalarInAnyOrder {V} same = (write : ℕ → V) (fault_rank : V → ℕ) (i : �
 -- A fold whose steps may be exchanged.
 abbrev pub FoldInAnyOrder : (S : Type 0) {X : Type 0} → (X → X → Bool) → Type 0
 FoldInAnyOrder S {X} same = (step : X → S → S) (s : S) → Exchanges step → OfBag (run step s)
+
+-- A function of a function of the bag.
+abbrev pub ThenInAnyOrder : (X Y Z : Type 0) → Type 0
+ThenInAnyOrder X Y Z = (g : Y → Z) (a : List X → Y) → OfBag a → OfBag (λ xs. g (a xs))
+
+-- A function of two functions of the bag.
+abbrev pub BothInAnyOrder : (X Y Z W : Type 0) → Type 0
+BothInAnyOrder X Y Z W = (g : Y → Z → W) (a : List X → Y) (b : List X → Z) → OfBag a → OfBag b → OfBag (λ xs. g (a xs) (b xs))
+
+-- A function of the bag of images, as of an aggregate's arguments.
+abbrev pub OfImagesInAnyOrder : (X Y Z : Type 0) → Type 0
+OfImagesInAnyOrder X Y Z = (f : X → Y) (a : List Y → Z) → OfBag a → OfBag (λ xs. a (map f xs))
+
+-- A function of the bag of what a test keeps.
+abbrev pub OfKeptInAnyOrder : (X Z : Type 0) → Type 0
+OfKeptInAnyOrder X Z = (p : X → Bool) (a : List X → Z) → OfBag a → OfBag (λ xs. a (filter p xs))
+
+-- A function of the bag of distinct elements.
+abbrev pub OfDistinctInAnyOrder : (Z : Type 0) {X : Type 0} → (X → X → Bool) → Type 0
+OfDistinctInAnyOrder Z {X} same = (a : List X → Z) → OfBag a → OfBag (λ xs. a (nub same xs))
+
+-- A bag in order is one list: two lists in order by a total order that are the same bag are equal.
+abbrev pub OneListInOrder : {X : Type 0} → (X → X → Bool) → Type 0
+OneListInOrder {X} same = (before : X → X → Bool) (xs ys : List X) → IsOrder before → InOrder before xs → InOrder before ys → SameBag xs ys → xs ≡ ys
 
 -- Each aggregate answers the least fault first.
 abbrev pub FaultsComeFirst : {V : Type 0} → (V → V → Bool) → Type 0

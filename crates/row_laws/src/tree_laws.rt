@@ -10,17 +10,14 @@ ghost use Rattle.row_laws.specs.TreeLaws.{Unnesting, UnnestingRowByRow, Unnestin
 /// This holds with nulls and faults in domain columns, for domain rows without input, and for an empty ds. Rows with other domain columns may be there.
 pub fn unnesting<V>()
     ensures { (same : V → V → Bool) → IsIdentity same → Unnesting same }
-{
-}
+{}
 
 /// The same for each row of the domain by itself.
 pub fn unnesting_row_by_row<V>()
     ensures { (same : V → V → Bool) → IsIdentity same → UnnestingRowByRow same }
-{
-}
+{}
 
 /// A tree that uses nothing freely, as that of a whole query: its node over the one row of no columns has, as a bag, its rows by nested loops.
 pub fn unnesting_of_query<V>()
     ensures { (same : V → V → Bool) → IsIdentity same → UnnestingOfQuery same }
-{
-}
+{}

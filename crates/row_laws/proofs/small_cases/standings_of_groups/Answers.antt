@@ -1,4 +1,4 @@
-use Rattle.std.proofs.Common.{◌≡◌, refl, arith}
+use Rattle.std.proofs.Common.{refl}
 use Rattle.row_laws.proofs.small_cases.standings_of_groups.Goals as goal
 
 pub returns : goal.returns
