@@ -13,35 +13,35 @@ use Rattle.row_laws.specs.Domains.{values_of, no_two}
 abbrev pub BagReflexive : (X : Type 0) → Type 0
 BagReflexive X = (xs : List X) → SameBag xs xs
 
--- The same bag both ways.
+-- Where one list is the same bag as another, the other is the same bag as it.
 abbrev pub BagSymmetric : (X : Type 0) → Type 0
 BagSymmetric X = (xs ys : List X) → SameBag xs ys → SameBag ys xs
 
--- Two bags that are the same as a third are the same.
+-- Two lists that are each the same bag as a third are the same bag.
 abbrev pub BagTransitive : (X : Type 0) → Type 0
 BagTransitive X = (xs ys zs : List X) → SameBag xs ys → SameBag ys zs → SameBag xs zs
 
--- Bags that are the same, put behind one another, are the same bag.
+-- Two bags put together: one bag gives one bag.
 abbrev pub AppendAlike : (X : Type 0) → Type 0
 AppendAlike X = (xs us ys vs : List X) → SameBag xs us → SameBag ys vs → SameBag (xs ++ ys) (us ++ vs)
 
--- In either order.
+-- Two lists behind one another are the same bag in either order.
 abbrev pub AppendSwapped : (X : Type 0) → Type 0
 AppendSwapped X = (xs ys : List X) → SameBag (xs ++ ys) (ys ++ xs)
 
--- The images of one bag are one bag.
+-- The images under a function: one bag gives one bag.
 abbrev pub MapAlike : (X Y : Type 0) → Type 0
 MapAlike X Y = (f : X → Y) (xs us : List X) → SameBag xs us → SameBag (map f xs) (map f us)
 
--- What a test keeps of one bag is one bag.
+-- What a test keeps: one bag gives one bag.
 abbrev pub FilterAlike : (X : Type 0) → Type 0
 FilterAlike X = (p : X → Bool) (xs us : List X) → SameBag xs us → SameBag (filter p xs) (filter p us)
 
--- Lists that are the same bag for each element, one behind the other over one bag.
+-- Lists made of each element, behind one another: one bag gives one bag, where f and g make the same bag of each element.
 abbrev pub FlatMapAlike : (X Y : Type 0) → Type 0
 FlatMapAlike X Y = (f g : X → List Y) (xs us : List X) → ((x : X) → SameBag (f x) (g x)) → SameBag xs us → SameBag (flat_map f xs) (flat_map g us)
 
--- One bag has one number of elements.
+-- Lists that are the same bag have the same length.
 abbrev pub LengthAlike : (X : Type 0) → Type 0
 LengthAlike X = (xs us : List X) → SameBag xs us → length xs ≡ length us
 
@@ -53,7 +53,7 @@ SameSums X = (xs us : List X) → (SameBag xs us → (h : X → ℕ) → sum_by 
 abbrev pub PermutationAlike : (X : Type 0) → Type 0
 PermutationAlike X = (xs us : List X) → IsPermutation xs us → SameBag xs us
 
--- Sums, greatest and least of two lists behind one another, as partial groups are merged.
+-- The sum, the greatest and the least of two lists behind one another are the sum, the greatest and the least of theirs, as partial groups are merged.
 abbrev pub WeightsOfAppended : (X : Type 0) → Type 0
 WeightsOfAppended X = (h : X → ℕ) (n : ℕ) (xs ys : List X) → (weigh h (xs ++ ys) ≡ weigh h xs + weigh h ys) × (top h (xs ++ ys) ≡ max (top h xs) (top h ys)) × (bottom n h (xs ++ ys) ≡ min (bottom n h xs) (bottom n h ys))
 

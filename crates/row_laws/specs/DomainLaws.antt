@@ -23,35 +23,35 @@ SideIsDomain {V} same = (null : V) (side : Side) (n : ℕ) (ds xs : List (Ranked
 abbrev pub LeftRowsMet : {V : Type 0} → (V → V → Bool) → Type 0
 LeftRowsMet {V} same = (pick : List V → List V) (xs ys : List (Ranked V)) (R : List V → List (Ranked V)) → Answers same (domain_node same pick xs) ys R → Each (λ x. Meets same (pick x.values) ys (R (pick x.values))) xs
 
--- A table under a domain: the domain's rows joined with the table's.
+-- A table over a domain: the domain's rows joined with the table's.
 abbrev pub ScanAnswers : {V : Type 0} → (V → V → Bool) → Type 0
 ScanAnswers {V} same = (n : ℕ) (ds : List (Ranked V)) (rows : List (List V)) → IsDomain same n ds → Answers same ds (join_node same (λ x. []) (λ t. true_rank) ds (scanned rows)) (λ d. scanned rows)
 
--- Selection.
+-- Selection over a domain.
 abbrev pub SelectAnswers : {V : Type 0} → (V → V → Bool) → Type 0
 SelectAnswers {V} same = (c : List V → ℕ) (ds xs : List (Ranked V)) (L : List V → List (Ranked V)) → Answers same ds xs L → Answers same ds (select c xs) (λ d. select (λ t. c (d ++ t)) (L d))
 
--- Projection.
+-- Projection over a domain.
 abbrev pub ProjectAnswers : {V : Type 0} → (V → V → Bool) → Type 0
 ProjectAnswers {V} same = (f : List V → List V) (n : ℕ) (ds xs : List (Ranked V)) (L : List V → List (Ranked V)) → IsDomain same n ds → Answers same ds xs L
     → Answers same ds (project (λ x. take n x ++ f x) xs) (λ d. project (λ t. f (d ++ t)) (L d))
 
--- The inner join, with a right side that is closed, that shares the domain, or that has a domain of its own, as a lateral join has.
+-- The inner join over a domain, with a right side that is closed, that shares the domain, or that has a domain of its own, as a lateral join has.
 abbrev pub JoinAnswers : {V : Type 0} → (V → V → Bool) → Type 0
 JoinAnswers {V} same = (null : V) (side : Side) (c : List V → ℕ) (n : ℕ) (ds xs ys : List (Ranked V)) (L R : List V → List (Ranked V)) → IsDomain same n ds → Answers same ds xs L → Answers same (side_domain same null side ds xs) ys R
     → Answers same ds (join_node same (side_pick null side n) c xs ys) (λ d. join_loop (λ t. c (d ++ t)) (L d) (λ l. R (side_row null side d l)))
 
--- The left outer join likewise.
+-- The left outer join over a domain, with the same three kinds of right side.
 abbrev pub OuterAnswers : {V : Type 0} → (V → V → Bool) → Type 0
 OuterAnswers {V} same = (null : V) (side : Side) (nulls : List V) (c : List V → ℕ) (n : ℕ) (ds xs ys : List (Ranked V)) (L R : List V → List (Ranked V)) → IsDomain same n ds → Answers same ds xs L → Answers same (side_domain same null side ds xs) ys R
     → Answers same ds (outer_node same (side_pick null side n) nulls c xs ys) (λ d. outer_loop nulls (λ t. c (d ++ t)) (L d) (λ l. R (side_row null side d l)))
 
--- Marks and scalar values likewise.
+-- Marks and scalar values over a domain, with the same three kinds of right side.
 abbrev pub AttachAnswers : {V : Type 0} → (V → V → Bool) → Type 0
 AttachAnswers {V} same = (null : V) (side : Side) (value : List V → List (Ranked V) → V) → ((x : List V) → OfBag (value x)) → (n : ℕ) (ds xs ys : List (Ranked V)) (L R : List V → List (Ranked V)) → IsDomain same n ds → Answers same ds xs L → Answers same (side_domain same null side ds xs) ys R
     → Answers same ds (attach_node same (side_pick null side n) value xs ys) (λ d. attach_loop (λ l. value (d ++ l)) (L d) (λ l. R (side_row null side d l)))
 
--- GROUP BY.
+-- GROUP BY over a domain.
 abbrev pub GroupAnswers : {V : Type 0} → (V → V → Bool) → Type 0
 GroupAnswers {V} same = (sub : List V → List V) (aggs : List (Ranked V) → List V) → OfBag aggs → (n : ℕ) (ds xs : List (Ranked V)) (L : List V → List (Ranked V)) → IsDomain same n ds → Answers same ds xs L
     → Answers same ds (group_by same (λ x. take n x ++ sub x) aggs xs) (λ d. group_by same (λ t. sub (d ++ t)) (λ ys. aggs (map (after d) ys)) (L d))
@@ -65,7 +65,7 @@ abbrev pub TotalAnswers : {V : Type 0} → (V → V → Bool) → Type 0
 TotalAnswers {V} same = (aggs : List (Ranked V) → List V) → OfBag aggs → (n : ℕ) (ds xs : List (Ranked V)) (L : List V → List (Ranked V)) → IsDomain same n ds → Answers same ds xs L
     → Answers same ds (fill same (aggs []) ds (group_by same (λ x. take n x) aggs xs)) (λ d. total (λ ys. aggs (map (after d) ys)) (L d))
 
--- DISTINCT.
+-- DISTINCT over a domain.
 abbrev pub DistinctAnswers : {V : Type 0} → (V → V → Bool) → Type 0
 DistinctAnswers {V} same = (ds xs : List (Ranked V)) (L : List V → List (Ranked V)) → Answers same ds xs L → Answers same ds (distinct same xs) (λ d. distinct same (L d))
 

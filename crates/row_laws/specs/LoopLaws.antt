@@ -24,45 +24,45 @@ pub record Equates {V : Type 0} (same : V → V → Bool) (equal : List V → Li
 abbrev pub ClosedMeets : {V : Type 0} → (V → V → Bool) → Type 0
 ClosedMeets {V} same = (ys : List (Ranked V)) → Meets same [] ys ys
 
--- Selection.
+-- Selection under one domain row.
 abbrev pub SelectMeets : {V : Type 0} → (V → V → Bool) → Type 0
 SelectMeets {V} same = (c : List V → ℕ) (d : List V) (xs ts : List (Ranked V)) → Meets same d xs ts → Meets same d (select c xs) (select (λ t. c (d ++ t)) ts)
 
--- Projection, which keeps the domain columns.
+-- Projection, which keeps the domain columns, under one domain row.
 abbrev pub ProjectMeets : {V : Type 0} → (V → V → Bool) → Type 0
 ProjectMeets {V} same = (f : List V → List V) (d : List V) (xs ts : List (Ranked V)) → Meets same d xs ts → Meets same d (project (λ r. take (length d) r ++ f r) xs) (project (λ t. f (d ++ t)) ts)
 
--- The inner join.
+-- The inner join under one domain row.
 abbrev pub JoinMeets : {V : Type 0} → (V → V → Bool) → Type 0
 JoinMeets {V} same = (pick : List V → List V) (c : List V → ℕ) (d : List V) (xs ys ts : List (Ranked V)) (R : List V → List (Ranked V)) → Meets same d xs ts → PartnersMeet same pick d xs ys R
     → Meets same d (join_node same pick c xs ys) (join_loop (λ t. c (d ++ t)) ts (λ l. R (pick (d ++ l))))
 
--- The left outer join.
+-- The left outer join under one domain row.
 abbrev pub OuterMeets : {V : Type 0} → (V → V → Bool) → Type 0
 OuterMeets {V} same = (pick : List V → List V) (nulls : List V) (c : List V → ℕ) (d : List V) (xs ys ts : List (Ranked V)) (R : List V → List (Ranked V)) → Meets same d xs ts → PartnersMeet same pick d xs ys R
     → Meets same d (outer_node same pick nulls c xs ys) (outer_loop nulls (λ t. c (d ++ t)) ts (λ l. R (pick (d ++ l))))
 
--- A column that is a function of the left row and of the bag of its partners.
+-- A column that is a function of the left row and of the bag of its partners, under one domain row.
 abbrev pub AttachMeets : {V : Type 0} → (V → V → Bool) → Type 0
 AttachMeets {V} same = (pick : List V → List V) (value : List V → List (Ranked V) → V) (d : List V) (xs ys ts : List (Ranked V)) (R : List V → List (Ranked V)) → ((x : List V) → OfBag (value x)) → Meets same d xs ts → PartnersMeet same pick d xs ys R
     → Meets same d (attach_node same pick value xs ys) (attach_loop (λ l. value (d ++ l)) ts (λ l. R (pick (d ++ l))))
 
--- The mark of EXISTS and IN.
+-- The mark of EXISTS and IN under one domain row.
 abbrev pub MarkMeets : {V : Type 0} → (V → V → Bool) → Type 0
 MarkMeets {V} same = (pick : List V → List V) (write : ℕ → V) (c : List V → ℕ) (d : List V) (xs ys ts : List (Ranked V)) (R : List V → List (Ranked V)) → Meets same d xs ts → PartnersMeet same pick d xs ys R
     → Meets same d (mark_node same pick write c xs ys) (attach_loop (λ l. mark_of write c (d ++ l)) ts (λ l. R (pick (d ++ l))))
 
--- A scalar subquery's value.
+-- A scalar subquery's value under one domain row.
 abbrev pub SingleMeets : {V : Type 0} → (V → V → Bool) → Type 0
 SingleMeets {V} same = (pick : List V → List V) (write : ℕ → V) (fault_rank : V → ℕ) (i : ℕ) (d : List V) (xs ys ts : List (Ranked V)) (R : List V → List (Ranked V)) → Meets same d xs ts → PartnersMeet same pick d xs ys R
     → Meets same d (single_node same pick write fault_rank i xs ys) (attach_loop (λ l us. scalar_of write fault_rank i us) ts (λ l. R (pick (d ++ l))))
 
--- GROUP BY, which takes the domain's columns among its own.
+-- GROUP BY, which takes the domain's columns among its own, under one domain row.
 abbrev pub GroupMeets : {V : Type 0} → (V → V → Bool) → Type 0
 GroupMeets {V} same = (sub : List V → List V) (aggs : List (Ranked V) → List V) (d : List V) (xs ts : List (Ranked V)) → OfBag aggs → Meets same d xs ts
     → Meets same d (group_by same (λ x. take (length d) x ++ sub x) aggs xs) (group_by same (λ t. sub (d ++ t)) (λ ys. aggs (map (after d) ys)) ts)
 
--- Aggregates without GROUP BY, before the fill: groups by the domain's columns alone.
+-- Aggregates without GROUP BY under one domain row, before the fill: groups by the domain's columns alone.
 abbrev pub KeyMeets : {V : Type 0} → (V → V → Bool) → Type 0
 KeyMeets {V} same = (aggs : List (Ranked V) → List V) (d : List V) (xs ts : List (Ranked V)) → OfBag aggs → Meets same d xs ts
     → Meets same d (group_by same (λ x. take (length d) x) aggs xs) (group_by same (λ t. []) (λ ys. aggs (map (after d) ys)) ts)
@@ -73,6 +73,6 @@ abbrev pub LocalMeets : {V : Type 0} → (V → V → Bool) → Type 0
 LocalMeets {V} same = (null : V) (bs : List ℕ) (whole c : List V → ℕ) (equal : List V → List V → ℕ) (d : List V) (ts : List (Ranked V)) → length bs ≡ length d → Each (λ t. Equates same equal whole d (columns null bs t.values)) ts
     → Meets same d (local_node null bs (length d) whole c ts) (select (λ t. min (equal d (columns null bs t)) (c (d ++ t))) ts)
 
--- DISTINCT.
+-- DISTINCT under one domain row.
 abbrev pub DistinctMeets : {V : Type 0} → (V → V → Bool) → Type 0
 DistinctMeets {V} same = (d : List V) (xs ts : List (Ranked V)) → Meets same d xs ts → Meets same d (distinct same xs) (distinct same ts)

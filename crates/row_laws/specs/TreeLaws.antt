@@ -14,7 +14,7 @@ abbrev pub Unnesting : {V : Type 0} → (V → V → Bool) → Type 0
 Unnesting {V} same = (null : V) (tables : ℕ → List (List V)) (T : Tree V) (n : ℕ) (ds : List (Ranked V)) → IsDomain same n ds
     → SameBag (meeting same (values_of ds) (node_rows same null tables T n ds)) (under (values_of ds) (tree_rows same null tables T))
 
--- The same for each row of the domain by itself.
+-- Unnesting for each row of the domain by itself.
 abbrev pub UnnestingRowByRow : {V : Type 0} → (V → V → Bool) → Type 0
 UnnestingRowByRow {V} same = (null : V) (tables : ℕ → List (List V)) (T : Tree V) (n : ℕ) (ds : List (Ranked V)) → IsDomain same n ds
     → Answers same ds (node_rows same null tables T n ds) (tree_rows same null tables T)

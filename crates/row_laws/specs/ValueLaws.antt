@@ -14,59 +14,59 @@ FaultsFirst {V} m aggregate = (vs : List V) → least_fault m vs < true_rank →
 abbrev pub NullsSkipped : {V : Type 0} → Reading V → (List V → V) → Type 0
 NullsSkipped {V} m aggregate = (vs : List V) → aggregate (not_null m vs) ≡ aggregate vs
 
--- A group's and a DISTINCT row's standing.
+-- The standing of a group, and that of a DISTINCT row, don't depend on the order of the rows.
 abbrev pub StandingsInAnyOrder : (V : Type 0) → Type 0
 StandingsInAnyOrder V = OfBag {X = Ranked V} least × OfBag {X = Ranked V} greatest
 
--- count(e) and count(distinct e).
+-- count(e) and count(distinct e) don't depend on the order of the rows.
 abbrev pub CountsInAnyOrder : {V : Type 0} → (V → V → Bool) → Type 0
 CountsInAnyOrder {V} same = (m : Reading V) → OfBag (count_of m) × OfBag (count_distinct_of m same)
 
--- sum(e): exact, and NumberRange where the sum of the terms above 0, or of the others negated, passes the largest number.
+-- sum(e) doesn't depend on the order of the rows: it is exact, and NumberRange where the sum of the terms above 0, or of the others negated, passes the largest number.
 abbrev pub SumInAnyOrder : (V : Type 0) → Type 0
 SumInAnyOrder V = (m : Reading V) → OfBag (sum_of m)
 
--- avg(e), however the sum is divided by the number of terms and rounded.
+-- avg(e) doesn't depend on the order of the rows, however the sum is divided by the number of terms and rounded.
 abbrev pub AvgInAnyOrder : (V : Type 0) → Type 0
 AvgInAnyOrder V = (m : Reading V) (divided : ℕ → ℕ → ℕ → V) → OfBag (avg_of m divided)
 
--- min(e) and max(e) by a total order.
+-- min(e) and max(e) by a total order don't depend on the order of the rows.
 abbrev pub ExtremesInAnyOrder : {V : Type 0} → (V → V → Bool) → Type 0
 ExtremesInAnyOrder {V} same = (m : Reading V) (before : V → V → Bool) → IsOrder before → OfBag (min_of m before) × OfBag (max_of m before)
 
--- All aggregates of a grouped query together.
+-- All aggregates of a grouped query together don't depend on the order of the rows, where each of them doesn't.
 abbrev pub AggregatesInAnyOrder : (V : Type 0) → Type 0
 AggregatesInAnyOrder V = (items : List ((List V → V) × (List V → V))) → Each (λ a. OfBag a.1) items → OfBag (aggregated items)
 
--- The mark of EXISTS and IN.
+-- The mark of EXISTS and IN doesn't depend on the order of the rows.
 abbrev pub MarkInAnyOrder : (V : Type 0) → Type 0
 MarkInAnyOrder V = (write : ℕ → V) (c : List V → ℕ) (x : List V) → OfBag (mark_of write c x)
 
--- A scalar subquery's value.
+-- A scalar subquery's value doesn't depend on the order of the rows.
 abbrev pub ScalarInAnyOrder : {V : Type 0} → (V → V → Bool) → Type 0
 ScalarInAnyOrder {V} same = (write : ℕ → V) (fault_rank : V → ℕ) (i : ℕ) → OfBag (scalar_of write fault_rank i)
 
--- A fold whose steps may be exchanged.
+-- A fold whose steps may be exchanged doesn't depend on the order of the rows.
 abbrev pub FoldInAnyOrder : (S : Type 0) {X : Type 0} → (X → X → Bool) → Type 0
 FoldInAnyOrder S {X} same = (step : X → S → S) (s : S) → Exchanges step → OfBag (run step s)
 
--- A function of a function of the bag.
+-- A function of a function of the bag is a function of the bag.
 abbrev pub ThenInAnyOrder : (X Y Z : Type 0) → Type 0
 ThenInAnyOrder X Y Z = (g : Y → Z) (a : List X → Y) → OfBag a → OfBag (λ xs. g (a xs))
 
--- A function of two functions of the bag.
+-- A function of two functions of the bag is a function of the bag.
 abbrev pub BothInAnyOrder : (X Y Z W : Type 0) → Type 0
 BothInAnyOrder X Y Z W = (g : Y → Z → W) (a : List X → Y) (b : List X → Z) → OfBag a → OfBag b → OfBag (λ xs. g (a xs) (b xs))
 
--- A function of the bag of images, as of an aggregate's arguments.
+-- A function of the bag of images, as of an aggregate's arguments, is a function of the bag.
 abbrev pub OfImagesInAnyOrder : (X Y Z : Type 0) → Type 0
 OfImagesInAnyOrder X Y Z = (f : X → Y) (a : List Y → Z) → OfBag a → OfBag (λ xs. a (map f xs))
 
--- A function of the bag of what a test keeps.
+-- A function of the bag of what a test keeps is a function of the bag.
 abbrev pub OfKeptInAnyOrder : (X Z : Type 0) → Type 0
 OfKeptInAnyOrder X Z = (p : X → Bool) (a : List X → Z) → OfBag a → OfBag (λ xs. a (filter p xs))
 
--- A function of the bag of distinct elements.
+-- A function of the bag of distinct elements is a function of the bag.
 abbrev pub OfDistinctInAnyOrder : (Z : Type 0) {X : Type 0} → (X → X → Bool) → Type 0
 OfDistinctInAnyOrder Z {X} same = (a : List X → Z) → OfBag a → OfBag (λ xs. a (nub same xs))
 

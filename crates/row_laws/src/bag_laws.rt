@@ -9,42 +9,42 @@ pub fn same_bag_reflexive<X>()
     ensures { BagReflexive X }
 {}
 
-/// The same bag both ways.
+/// Where one list is the same bag as another, the other is the same bag as it.
 pub fn same_bag_symmetric<X>()
     ensures { BagSymmetric X }
 {}
 
-/// Two bags that are the same as a third are the same.
+/// Two lists that are each the same bag as a third are the same bag.
 pub fn same_bag_transitive<X>()
     ensures { BagTransitive X }
 {}
 
-/// Bags that are the same, put behind one another, are the same bag.
+/// Two bags put together: one bag gives one bag.
 pub fn append_alike<X>()
     ensures { AppendAlike X }
 {}
 
-/// In either order.
+/// Two lists behind one another are the same bag in either order.
 pub fn append_swapped<X>()
     ensures { AppendSwapped X }
 {}
 
-/// The images of one bag are one bag.
+/// The images under a function: one bag gives one bag.
 pub fn map_alike<X, Y>()
     ensures { MapAlike X Y }
 {}
 
-/// What a test keeps of one bag is one bag.
+/// What a test keeps: one bag gives one bag.
 pub fn filter_alike<X>()
     ensures { FilterAlike X }
 {}
 
-/// Lists that are the same bag for each element, one behind the other over one bag.
+/// Lists made of each element, behind one another: one bag gives one bag, where f and g make the same bag of each element.
 pub fn flat_map_alike<X, Y>()
     ensures { FlatMapAlike X Y }
 {}
 
-/// One bag has one number of elements.
+/// Lists that are the same bag have the same length.
 pub fn length_alike<X>()
     ensures { LengthAlike X }
 {}
@@ -59,7 +59,7 @@ pub fn same_bag_from_permutation<X>()
     ensures { PermutationAlike X }
 {}
 
-/// Sums, greatest and least of two lists behind one another, as partial groups are merged.
+/// The sum, the greatest and the least of two lists behind one another are the sum, the greatest and the least of theirs, as partial groups are merged.
 pub fn weights_of_appended<X>()
     ensures { WeightsOfAppended X }
 {}

@@ -24,37 +24,37 @@ pub fn left_rows_met<V>()
     ensures { (same : V → V → Bool) → IsIdentity same → LeftRowsMet same }
 {}
 
-/// A table under a domain: the domain's rows joined with the table's.
+/// A table over a domain: the domain's rows joined with the table's.
 pub fn scan_answers<V>()
     ensures { (same : V → V → Bool) → IsIdentity same → ScanAnswers same }
 {}
 
-/// Selection.
+/// Selection over a domain.
 pub fn select_answers<V>()
     ensures { (same : V → V → Bool) → IsIdentity same → SelectAnswers same }
 {}
 
-/// Projection.
+/// Projection over a domain.
 pub fn project_answers<V>()
     ensures { (same : V → V → Bool) → IsIdentity same → ProjectAnswers same }
 {}
 
-/// The inner join, with a right side that is closed, that shares the domain, or that has a domain of its own, as a lateral join has.
+/// The inner join over a domain, with a right side that is closed, that shares the domain, or that has a domain of its own, as a lateral join has.
 pub fn join_answers<V>()
     ensures { (same : V → V → Bool) → IsIdentity same → JoinAnswers same }
 {}
 
-/// The left outer join likewise.
+/// The left outer join over a domain, with the same three kinds of right side.
 pub fn outer_answers<V>()
     ensures { (same : V → V → Bool) → IsIdentity same → OuterAnswers same }
 {}
 
-/// Marks and scalar values likewise.
+/// Marks and scalar values over a domain, with the same three kinds of right side.
 pub fn attach_answers<V>()
     ensures { (same : V → V → Bool) → IsIdentity same → AttachAnswers same }
 {}
 
-/// GROUP BY.
+/// GROUP BY over a domain.
 pub fn group_answers<V>()
     ensures { (same : V → V → Bool) → IsIdentity same → GroupAnswers same }
 {}
@@ -69,7 +69,7 @@ pub fn total_answers<V>()
     ensures { (same : V → V → Bool) → IsIdentity same → TotalAnswers same }
 {}
 
-/// DISTINCT.
+/// DISTINCT over a domain.
 pub fn distinct_answers<V>()
     ensures { (same : V → V → Bool) → IsIdentity same → DistinctAnswers same }
 {}

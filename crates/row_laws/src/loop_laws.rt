@@ -9,47 +9,47 @@ pub fn closed_meets<V>()
     ensures { (same : V → V → Bool) → IsIdentity same → ClosedMeets same }
 {}
 
-/// Selection.
+/// Selection under one domain row.
 pub fn select_meets<V>()
     ensures { (same : V → V → Bool) → IsIdentity same → SelectMeets same }
 {}
 
-/// Projection, which keeps the domain columns.
+/// Projection, which keeps the domain columns, under one domain row.
 pub fn project_meets<V>()
     ensures { (same : V → V → Bool) → IsIdentity same → ProjectMeets same }
 {}
 
-/// The inner join.
+/// The inner join under one domain row.
 pub fn join_meets<V>()
     ensures { (same : V → V → Bool) → IsIdentity same → JoinMeets same }
 {}
 
-/// The left outer join.
+/// The left outer join under one domain row.
 pub fn outer_meets<V>()
     ensures { (same : V → V → Bool) → IsIdentity same → OuterMeets same }
 {}
 
-/// A column that is a function of the left row and of the bag of its partners.
+/// A column that is a function of the left row and of the bag of its partners, under one domain row.
 pub fn attach_meets<V>()
     ensures { (same : V → V → Bool) → IsIdentity same → AttachMeets same }
 {}
 
-/// The mark of EXISTS and IN.
+/// The mark of EXISTS and IN under one domain row.
 pub fn mark_meets<V>()
     ensures { (same : V → V → Bool) → IsIdentity same → MarkMeets same }
 {}
 
-/// A scalar subquery's value.
+/// A scalar subquery's value under one domain row.
 pub fn single_meets<V>()
     ensures { (same : V → V → Bool) → IsIdentity same → SingleMeets same }
 {}
 
-/// GROUP BY, which takes the domain's columns among its own.
+/// GROUP BY, which takes the domain's columns among its own, under one domain row.
 pub fn group_meets<V>()
     ensures { (same : V → V → Bool) → IsIdentity same → GroupMeets same }
 {}
 
-/// Aggregates without GROUP BY, before the fill: groups by the domain's columns alone.
+/// Aggregates without GROUP BY under one domain row, before the fill: groups by the domain's columns alone.
 pub fn key_meets<V>()
     ensures { (same : V → V → Bool) → IsIdentity same → KeyMeets same }
 {}
@@ -60,7 +60,7 @@ pub fn local_meets<V>()
     ensures { (same : V → V → Bool) → IsIdentity same → LocalMeets same }
 {}
 
-/// DISTINCT.
+/// DISTINCT under one domain row.
 pub fn distinct_meets<V>()
     ensures { (same : V → V → Bool) → IsIdentity same → DistinctMeets same }
 {}

@@ -12,7 +12,7 @@ pub fn unnesting<V>()
     ensures { (same : V → V → Bool) → IsIdentity same → Unnesting same }
 {}
 
-/// The same for each row of the domain by itself.
+/// Unnesting for each row of the domain by itself.
 pub fn unnesting_row_by_row<V>()
     ensures { (same : V → V → Bool) → IsIdentity same → UnnestingRowByRow same }
 {}
