@@ -9,6 +9,7 @@ use Rattle.row_laws.specs.Trees.Tree.{Scan, Select, Join, Total}
 use Rattle.row_laws.specs.Trees.Side.{Dependent}
 use Rattle.row_laws.specs.TreeLaws.{Unnesting}
 
+-- a value: null, a number, or the fault of a rank
 pub data Cell : Type 0 where
   Null : Cell
   Number : (n : ℕ) → Cell
