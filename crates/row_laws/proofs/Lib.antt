@@ -15,3 +15,4 @@ pub mod Cells
 pub mod Local
 pub mod Pairs
 pub mod Orders
+pub mod Sides

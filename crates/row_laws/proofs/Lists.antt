@@ -82,6 +82,10 @@ pub flat_map-ext : {X Y : Type 0} (f g : X → List Y) (xs : List X) → ((x : X
 flat_map-ext f g [] e = refl
 flat_map-ext f g (x ∷ xs) e = rw (e x, flat_map-ext f g xs e)
 
+pub flat_map-ext_each : {X Y : Type 0} (P : X → Type 0) (f g : X → List Y) (xs : List X) → Each P xs → ((x : X) → P x → f x ≡ g x) → flat_map f xs ≡ flat_map g xs
+flat_map-ext_each P f g [] all e = refl
+flat_map-ext_each P f g (x ∷ xs) all e = rw (e x all.0, flat_map-ext_each P f g xs all.1 e)
+
 pub flat_map-single : {X Y : Type 0} (f : X → Y) (xs : List X) → flat_map (λ x. f x ∷ []) xs ≡ map f xs
 flat_map-single f [] = refl
 flat_map-single f (x ∷ xs) = ap (λ l. f x ∷ l) (flat_map-single f xs)
