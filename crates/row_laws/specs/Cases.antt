@@ -153,7 +153,7 @@ StandingsOfGroups = (group_by same_cell (λ r. r) (λ ys. []) (ranked (Null ∷ 
     × (select (λ r. unknown_rank) (ranked (Null ∷ []) divide_by_zero_rank ∷ []) ≡ [])
     × (select (λ r. number_range_rank) (ranked (Null ∷ []) divide_by_zero_rank ∷ []) ≡ ranked (Null ∷ []) divide_by_zero_rank ∷ [])
 
--- left outer join .. on a = b and a = 2: the left row 1 stays, with a null.
+-- left outer join .. on a = b and a = 2: the left row with 1 stays, filled with a null.
 -- Wrong: a part of ON that reads the left side only, moved into the left side, loses it.
 abbrev pub OnOfTheLeftSide : Type 0
 OnOfTheLeftSide = (outer_loop (Null ∷ []) (λ r. min (equal (at r 0) (at r 1)) (equal (at r 0) (Number 2))) (row (Number 1 ∷ []) ∷ row (Number 2 ∷ []) ∷ []) (λ l. row (Number 1 ∷ []) ∷ row (Number 2 ∷ []) ∷ []) ≡ row (Number 1 ∷ Null ∷ []) ∷ row (Number 2 ∷ Number 2 ∷ []) ∷ [])

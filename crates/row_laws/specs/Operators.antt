@@ -111,7 +111,7 @@ module _ {V : Type 0} (same : V → V → Bool) where
 abbrev pub total : {V : Type 0} → (List (Ranked V) → List V) → List (Ranked V) → List (Ranked V)
 total aggs ts = ranked (aggs ts) (least ts) ∷ []
 
--- The same operators by nested loops: R l is the right side, taken anew under the left row l.
+-- The same operators by nested loops: R l is the right side, taken anew under a left row of the values l.
 abbrev pub join_loop : {V : Type 0} → (List V → ℕ) → List (Ranked V) → (List V → List (Ranked V)) → List (Ranked V)
 join_loop c ls R = flat_map (λ l. flat_map (λ r. pair c (λ a b. a ++ b) l r) (R l.values)) ls
 

@@ -49,7 +49,7 @@ pub fn standings_of_groups()
     ensures { StandingsOfGroups }
 {}
 
-/// left outer join .. on a = b and a = 2: the left row 1 stays, with a null.
+/// left outer join .. on a = b and a = 2: the left row with 1 stays, filled with a null.
 /// Wrong: a part of ON that reads the left side only, moved into the left side, loses it.
 pub fn on_of_the_left_side()
     ensures { OnOfTheLeftSide }
