@@ -2,6 +2,7 @@
 #![tactic(auto)]
 
 mod bag;
+pub mod laws;
 mod row;
 mod row_ref;
 mod truth;
@@ -12,3 +13,6 @@ pub use row::Row;
 pub use row_ref::{RowKey, RowRef};
 pub use truth::{Fault, Standing, Truth};
 pub use value::Value;
+
+#[cfg(test)]
+mod tests;

@@ -15,3 +15,6 @@ mod reader;
 pub use fault::ReadFault;
 pub use pieces::read_pieces;
 pub use reader::{MOST_BYTES, TableReader};
+
+#[cfg(test)]
+mod tests;
