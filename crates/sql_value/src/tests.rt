@@ -47,9 +47,11 @@ fn shares_rows(rt: HostRuntime) -> Result<(), Fail> {
 fn two_rows(alloc: Global) -> Result<Bag, Fail> {
     let mut bag = Bag::new(alloc, 2);
     let row = [text(alloc, b"abc")?, Value::Null];
+    let left = [Value::Null];
+    let right = [Value::Fault(Fault::DivideByZero)];
     bag.reserve(2)?;
     bag.push_row(&row, Standing::AtTrue)?;
-    bag.push_joined(&row[1..], &row[..1], Standing::AtFault(Fault::NumberRange))?;
+    bag.push_joined(&left, &right, Standing::AtFault(Fault::NumberRange))?;
     Ok(bag)
 }
 
@@ -92,20 +94,28 @@ fn has_rows_of_no_width(rt: HostRuntime) -> Result<(), Fail> {
     Ok(())
 }
 
+fn distinct_rows(alloc: Global, bag: &Bag) -> Result<usize, Fail> {
+    let mut keys: HashMap<RowKey<'_>, u32> = HashMap::new(alloc);
+    for i in 0..bag.len() {
+        keys.insert(RowKey::new(bag.row(i)), 1)?;
+    }
+    Ok(keys.len())
+}
+
 #[test]
 fn keys_are_found(rt: HostRuntime) -> Result<(), Fail> {
     let alloc = rt.alloc();
-    let row = [text(alloc, b"a")?, Value::Null, Value::Fault(Fault::NumberRange)];
-    let same = [text(alloc, b"a")?, Value::Null, Value::Fault(Fault::NumberRange)];
-    let mut places: HashMap<RowKey<'_>, u32> = HashMap::new(alloc);
-    places.insert(RowKey::new(&row), 7)?;
-    match places.get(&RowKey::new(&same)) {
-        Some(place) => assert_eq!(rt; *place, 7),
-        None => assert!(rt; false),
+    let mut bag = two_rows(alloc)?;
+    let more = two_rows(alloc)?;
+    if more.width() == bag.width() {
+        bag.append(more)?;
     }
+    assert_eq!(rt; bag.len(), 4);
+    assert_eq!(rt; distinct_rows(alloc, &bag)?, 2);
+    let row = [Value::Null, Value::Fault(Fault::NumberRange)];
     let mut shared: HashMap<Row, u32> = HashMap::new(alloc);
     shared.insert(Row::from_slice(alloc, &row)?, 8)?;
-    match shared.get(&Row::from_slice(alloc, &same)?) {
+    match shared.get(&Row::from_slice(alloc, &row)?) {
         Some(place) => assert_eq!(rt; *place, 8),
         None => assert!(rt; false),
     }

@@ -65,8 +65,18 @@ fn takes_empty_files(rt: HostRuntime) -> Result<(), Fail> {
     assert_eq!(rt; count(rt.alloc(), TableName::Nation, b"")?, 0);
     assert_eq!(rt; count(rt.alloc(), TableName::Region, b"0|AFRICA|")?, 1);
     assert_eq!(rt; count(rt.alloc(), TableName::Region, b"0|AFRICA||")?, 1);
-    assert_eq!(rt; count(rt.alloc(), TableName::Region, b"0|A|a|\r\n1|B|b|")?, 2);
-    assert_eq!(rt; count(rt.alloc(), TableName::Region, b"9223372036854775807|A||\n-0|B||\n")?, 2);
+    assert_eq!(rt;
+        count(rt.alloc(), TableName::Region, b"0|A|a|\r\n1|B|b|")?,
+        2
+    );
+    assert_eq!(rt;
+        count(
+            rt.alloc(),
+            TableName::Region,
+            b"9223372036854775807|A||\n-0|B||\n"
+        )?,
+        2
+    );
     Ok(())
 }
 
@@ -103,12 +113,14 @@ fn refuses_dates_and_keys(rt: HostRuntime) {
             == Some((1, LineFault::BadDate))
     );
     assert!(rt;
-        refusal(alloc, TableName::Region, b"0|A|x|\n00|B|y|")
-            == Some((2, LineFault::DuplicateKey))
+        refusal(alloc, TableName::Region, b"0|A|x|\n00|B|y|") == Some((2, LineFault::DuplicateKey))
     );
     assert!(rt;
-        refusal(alloc, TableName::Partsupp, b"1|1|1|1|a|\n1|2|1|1|a|\n2|1|1|1|a|\n1|02|1|1|a|")
-            == Some((4, LineFault::DuplicateKey))
+        refusal(
+            alloc,
+            TableName::Partsupp,
+            b"1|1|1|1|a|\n1|2|1|1|a|\n2|1|1|1|a|\n1|02|1|1|a|"
+        ) == Some((4, LineFault::DuplicateKey))
     );
 }
 
