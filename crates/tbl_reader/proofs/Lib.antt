@@ -5,3 +5,4 @@ pub mod LineCuts
 pub mod PieceSteps
 pub mod Answers
 pub mod Joined
+pub mod FileLaws

@@ -118,3 +118,7 @@ unended_none text e =
     let past : length text ≤ position_or_len (λ byte. byte == 10) text = ltb-false _ _ (none_from _ _ e) in
     let all : take (position_or_len (λ byte. byte == 10) text) text ≡ text = take_all _ text past in
     ap is_unended (sym all) ∙ front_unended text
+
+pub unended-cons : (b : ℕ) (bytes : List ℕ) → (b == 10) ≡ false → is_unended bytes ≡ true → is_unended (b ∷ bytes) ≡ true
+unfolding is_unended
+unended-cons b bytes e f = rw (e, f) refl

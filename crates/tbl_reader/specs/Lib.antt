@@ -8,3 +8,4 @@ pub mod Lines
 pub mod Reading
 pub mod Steps
 pub mod Pieces
+pub mod Laws

@@ -7,6 +7,7 @@
 mod fault;
 mod field;
 mod keyed;
+pub mod laws;
 mod line;
 mod lines;
 mod pieces;
