@@ -1,7 +1,6 @@
 -- The order of values and rows is total, and ties are the same.
-use Rattle.std.proofs.Common.{◌≡◌, ◌≢◌, List, [], refl, sym, ◌∙◌, ap, subst, Bool, true, false}
-use Rattle.std.specs.declared.cmp.Ordering.{Ordering}
-use Rattle.std.specs.declared.cmp.Ordering.TheVariants.{Less, Equal, Greater}
+use Rattle.std.proofs.Common.{◌≡◌, ◌≢◌, List, refl, ◌∙◌, ap, subst, true}
+use Rattle.std.specs.declared.cmp.Ordering.TheVariants.{Less}
 use Rattle.std.specs.Ordering.{is_eq}
 use Rattle.std.specs.Cmp.{IsTotalOrder}
 use Rattle.std.specs.Cmp.Lexicographic.{slice_cmp, lists_total, lists_ties, pointwise_decides, pointwise}

@@ -1,5 +1,5 @@
 -- What follows from the definition of a file's rows.
-use Rattle.std.proofs.Common.{◌≡◌, ℕ, zero, suc, ◌+◌, ◌-◌, ◌<◌, ◌≤◌, Bool, true, false, not, cond, ◌&&◌, ◌||◌, ◌==◌, List, [], ◌∷◌, ◌++◌, length, take, drop, get_or, refl, sym, ◌∙◌, ap, arith, add-one, length-append, Option, Some, None, Result, Ok, Err}
+use Rattle.std.proofs.Common.{◌≡◌, ℕ, zero, suc, ◌+◌, ◌-◌, ◌<◌, ◌≤◌, Bool, true, false, cond, ◌||◌, ◌==◌, List, [], ◌∷◌, ◌++◌, length, take, get_or, refl, sym, ◌∙◌, ap, arith, length-append, Result, Ok, Err}
 use Rattle.std.specs.Prelude.{nat_lt, slice_index}
 use Rattle.std.specs.List.{AllPairs, concat, list_any, onto_first}
 use Rattle.std.proofs.lemmas.Bool.{ltb-false, eqb-true}
@@ -16,7 +16,6 @@ use Rattle.tpch_schema.specs.Tables.{kinds_of}
 use Rattle.tbl_reader.specs.Line.{line_text, row_of}
 use Rattle.tbl_reader.specs.File.{Progress, progress, refusal, cut_lines, is_taken, with_new_key, with_row, add_line, add_lines, only_rows, file_rows}
 use Rattle.tbl_reader.specs.Laws.{IsLine, AreLines, AreRowsOf, IsFirstBadLine}
-use Rattle.tbl_reader.specs.Steps.{is_unended}
 use Rattle.tbl_reader.proofs.LineCuts.{unended-nil, unended-cons}
 use Rattle.tbl_reader.proofs.PieceSteps.{add_lines-refused}
 use Rattle.tbl_reader.proofs.Rows.{row_kinds}
@@ -132,9 +131,9 @@ step : (table : TableName) (limit : ℕ) (p : Progress) (line : List ℕ) (q : P
     → add_line table limit (Ok p) line ≡ Ok q → Step table limit p line q
 step table limit p line q sound e =
     let a : Added (nat_lt limit (p.bytes + length line)) p (length line) (with_new_key table p.rows (row_of (kinds_of table) (line_text line))) q =
-        added (nat_lt limit (p.bytes + length line)) p (length line) (with_new_key table p.rows (row_of (kinds_of table) (line_text line))) q e in
+    added (nat_lt limit (p.bytes + length line)) p (length line) (with_new_key table p.rows (row_of (kinds_of table) (line_text line))) q e in
     let k : (is_taken table p.rows a.row ≡ false) × (row_of (kinds_of table) (line_text line) ≡ Ok a.row) =
-        new_key table p.rows (row_of (kinds_of table) (line_text line)) a.row a.gave in
+    new_key table p.rows (row_of (kinds_of table) (line_text line)) a.row a.gave in
     let room : p.bytes + length line ≤ limit = ltb-false limit (p.bytes + length line) a.room in
     rw (← a.is)
     (record {
@@ -235,7 +234,7 @@ first_bad_from table limit p line lines first (Err other) others f sound e =
       within = omega arith;
       line =
           let at : other.line ≡ length p.rows + 1 =
-              refused_added (nat_lt limit (p.bytes + length line)) p (length line) (with_new_key table p.rows (row_of (kinds_of table) (line_text line))) other f in
+          refused_added (nat_lt limit (p.bytes + length line)) p (length line) (with_new_key table p.rows (row_of (kinds_of table) (line_text line))) other f in
           omega (arith, at, ap (λ x. x.line) same);
       good = refl;
       bad = f ∙ ap Err same;
