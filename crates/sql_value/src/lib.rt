@@ -9,8 +9,8 @@ mod truth;
 mod value;
 
 pub use bag::Bag;
-pub use row::Row;
-pub use row_ref::{RowKey, RowRef};
+pub use row::{Row, compare_rows};
+pub use row_ref::{RowKey, RowRef, gather, row_refs};
 pub use truth::{Fault, Standing, Truth};
 pub use value::Value;
 

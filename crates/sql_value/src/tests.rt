@@ -64,6 +64,11 @@ fn keeps_its_rows(rt: HostRuntime) -> Result<(), Fail> {
     assert!(rt; bag.row(0)[0] == text(alloc, b"abc")?);
     assert!(rt; bag.row(1)[0] == Value::Null);
     assert!(rt; bag.standing(1) == Standing::AtFault(Fault::NumberRange));
+    let mut refs = row_refs(alloc, &bag)?;
+    refs.pop();
+    let first = gather(alloc, 2, refs.as_slice())?;
+    assert_eq!(rt; first.len(), 1);
+    assert!(rt; compare_rows(first.row(0), bag.row(0)) == Ordering::Equal);
     Ok(())
 }
 

@@ -146,7 +146,7 @@ impl TableReader {
         })
     }
 
-    /// Reads the file's next piece. A line is refused as soon as no file that begins so could do without it.
+    /// Reads the file's next piece: the lines that end in it give rows, and a bad one among them is refused.
     pub fn feed(&mut self, piece: &[u8]) -> Result<(), ReadFault>
         ensures table { self.new.lines.table ≡ self.old.lines.table }
         ensures limit { self.new.lines.limit ≡ self.old.lines.limit }
