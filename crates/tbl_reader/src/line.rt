@@ -46,8 +46,8 @@ fn has_fields(columns: usize, line: &[u8]) -> bool
     bars + 1 == columns || bars == columns && line.ends_with(b"|")
 }
 
-#[tactic(auto, using(crate::proofs::Cuts::fields))]
 // The values of the fields that bars part.
+#[tactic(auto, using(crate::proofs::Cuts::fields))]
 fn values_of(alloc: Global, kinds: &[ColumnKind], line: &[u8]) -> Result<Vec<Value>, LineError>
     ensures { MatchResult result (λ v. values_of kinds.now line.now ≡ Ok v.items) (Blames (values_of kinds.now line.now)) }
 {
@@ -62,8 +62,8 @@ fn values_of(alloc: Global, kinds: &[ColumnKind], line: &[u8]) -> Result<Vec<Val
     Ok(values)
 }
 
-#[tactic(auto, using(crate::proofs::Cuts::cuts))]
 // The bytes before the first bar, and those behind it.
+#[tactic(auto, using(crate::proofs::Cuts::cuts))]
 fn cut_at_bar(text: &[u8]) -> (&[u8], &[u8])
     ensures field { result.0.now ≡ before_first is_bar text.now }
     ensures rest { result.1.now ≡ after_first is_bar text.now }

@@ -81,8 +81,8 @@ impl Lines {
         keyed.into_rows()
     }
 
-    #[tactic(auto, using(crate::proofs::Rows::row_kinds))]
     /// Reads one line more, which has its LF where it has one. After a fault the lines are of no use.
+    #[tactic(auto, using(crate::proofs::Rows::row_kinds))]
     pub fn add(&mut self, line: &[u8]) -> Result<(), ReadFault>
         ensures table { self.new.table ≡ self.old.table }
         ensures limit { self.new.limit ≡ self.old.limit }
