@@ -1,7 +1,7 @@
 //! A folder of files in memory, one of which may be open.
-ghost use Rattle.std.specs.Prelude.{◌≡◌, ℕ, ◌<◌, ◌≤◌, Some, None, MatchOption, IsTrue, MatchBool, IsSome, length, take, drop, ◌-◌};
+ghost use Rattle.std.specs.Prelude.{◌≡◌, ℕ, ◌<◌, ◌≤◌, Some, None, MatchOption, IsTrue, MatchBool, IsSome, length, min, take, drop, ◌-◌};
 ghost use Rattle.std.specs.Io.KnownBytes.{Consumes, IsAtEnd};
-ghost use Rattle.tpch_outside.specs.Memory.{bytes_at, folder_of, left_of};
+ghost use Rattle.tpch_outside.specs.Memory.{bytes_at, folder_of, left_of, unread};
 ghost use Rattle.tpch_outside.specs.Outside.{file_of};
 
 /// A file in memory.
@@ -58,10 +58,8 @@ fn bytes_of(files: &[MemFile], index: usize) -> &[u8]
 
 /// Copies the bytes from a place on, as far as they go in, and answers how many.
 fn fill(into: &mut [u8], bytes: &[u8], at: usize) -> usize
-    ensures bound { result ≤ length into.old }
+    ensures count { result ≡ min (length into.old) (length bytes.now - at) }
     ensures bytes { take result into.new ≡ take result (drop at bytes.now) }
-    ensures within { result ≤ length bytes.now - at }
-    ensures end { 0 < length into.old → result ≡ 0 → length bytes.now ≤ at }
 {
     if at >= bytes.len() {
         return 0;
@@ -102,7 +100,7 @@ impl MemFolder {
         requires { IsSome self.old.place }
         ensures files { self.new.files ≡ self.old.files }
         ensures open { IsSome self.new.place }
-        ensures count { result ≤ length into.old }
+        ensures count { result ≡ min (length into.old) (length (unread self.old.files.items self.old.place)) }
         ensures bytes { Consumes (left_of self.old.files.items self.old.place) (left_of self.old.files.items self.new.place) (take result into.new) }
         ensures end { 0 < length into.old → result ≡ 0 → IsAtEnd (left_of self.old.files.items self.old.place) }
     {

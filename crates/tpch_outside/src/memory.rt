@@ -1,7 +1,8 @@
 //! Files and a sink in memory, which fail at the calls that a list names.
-ghost use Rattle.std.specs.Prelude.{◌≡◌, ◌==◌, Some, None, is_some};
+ghost use Rattle.std.specs.Prelude.{◌≡◌, ◌≢◌, ◌==◌, ◌&&◌, ◌<◌, ◌≤◌, Some, None, is_some, length, min, not, true, if◌then◌else◌};
 ghost use Rattle.std.specs.List.{list_any};
-ghost use Rattle.tpch_outside.specs.Memory.{folder_of, left_of};
+ghost use Rattle.tpch_outside.specs.Memory.{TookOnly, fails, folder_of, found, given, has_file, is_failed, is_put_fault, left_of, risen_if};
+ghost use Rattle.tpch_outside.specs.Outside.{Counts, Gives, IsPutFault, Opens, Takes, risen};
 
 use crate::{Files, Got, MemFile, MemFolder, Open, Put, Sink};
 
@@ -53,7 +54,21 @@ impl Files for MemFiles {
 
     ghost misses = { λ m. m.misses };
 
-    fn open(&mut self, name: &str) -> Open {
+    fn open(&mut self, name: &str) -> Open
+        ensures held { Some (folder_of self.new.folder.files.items) ≡ Some (folder_of self.old.folder.files.items) }
+        ensures opens { Opens (Some (folder_of self.old.folder.files.items)) name.now result (left_of self.new.folder.files.items self.new.folder.place) }
+        ensures is_open { result ≡ Open.Opened → is_some self.new.folder.place ≡ true }
+        ensures faults { Counts (result ≡ Open.Failed) self.old.faults self.new.faults }
+        ensures misses { Counts (result ≡ Open.Absent) self.old.misses self.new.misses }
+
+        // It fails exactly where the list has the call's number, and each count rises by exactly what happened.
+        ensures answer { result ≡ (if fails self.old.failing.items self.old.calls then Open.Failed else found self.old.folder name.now) }
+        ensures calls { self.new.calls ≡ risen self.old.calls }
+        ensures fault_count { self.new.faults ≡ risen_if (fails self.old.failing.items self.old.calls) self.old.faults }
+        ensures miss_count { self.new.misses ≡ risen_if (not (fails self.old.failing.items self.old.calls) && not (has_file self.old.folder name.now)) self.old.misses }
+        ensures rest { (self.new.failing ≡ self.old.failing) × (self.new.folder.files ≡ self.old.folder.files) }
+        ensures place { result ≢ Open.Opened → self.new.folder.place ≡ self.old.folder.place }
+    {
         self.calls = self.calls.saturating_add(1);
         if is_named(&self.failing, self.calls) {
             self.faults = self.faults.saturating_add(1);
@@ -66,7 +81,21 @@ impl Files for MemFiles {
         Open::Absent
     }
 
-    fn next(&mut self, into: &mut [u8]) -> Got {
+    fn next(&mut self, into: &mut [u8]) -> Got
+        requires room { 0 < length into.old }
+        requires is_open { is_some self.old.folder.place ≡ true }
+        ensures held { Some (folder_of self.new.folder.files.items) ≡ Some (folder_of self.old.folder.files.items) }
+        ensures bytes { Gives (left_of self.old.folder.files.items self.old.folder.place) (left_of self.new.folder.files.items self.new.folder.place) result into.new }
+        ensures is_open { is_some self.new.folder.place ≡ true }
+        ensures faults { Counts (result ≡ Got.Failed) self.old.faults self.new.faults }
+        ensures misses { self.old.misses ≤ self.new.misses }
+
+        ensures answer { result ≡ (if fails self.old.failing.items self.old.calls then Got.Failed else given self.old.folder (length into.old)) }
+        ensures calls { self.new.calls ≡ risen self.old.calls }
+        ensures fault_count { self.new.faults ≡ risen_if (fails self.old.failing.items self.old.calls) self.old.faults }
+        ensures rest { (self.new.failing ≡ self.old.failing) × (self.new.folder.files ≡ self.old.folder.files) × (self.new.misses ≡ self.old.misses) }
+        ensures place { result ≡ Got.Failed → self.new.folder.place ≡ self.old.folder.place }
+    {
         self.calls = self.calls.saturating_add(1);
         if is_named(&self.failing, self.calls) {
             self.faults = self.faults.saturating_add(1);
@@ -113,7 +142,17 @@ impl Sink for MemSink {
 
     ghost faults = { λ m. m.faults };
 
-    fn put(&mut self, piece: &[u8]) -> Put {
+    fn put(&mut self, piece: &[u8]) -> Put
+        ensures bytes { Takes (Some self.old.bytes.items) (Some self.new.bytes.items) result piece.now }
+        ensures faults { Counts (IsPutFault result piece.now) self.old.faults self.new.faults }
+
+        // It fails exactly where the list has the call's number; else it takes the most that it may, or memory was wanted.
+        ensures failed { is_failed result ≡ fails self.old.failing.items self.old.calls }
+        ensures took { TookOnly result (min (length piece.now) self.old.most) }
+        ensures calls { self.new.calls ≡ risen self.old.calls }
+        ensures fault_count { self.new.faults ≡ risen_if (is_put_fault result piece.now) self.old.faults }
+        ensures rest { (self.new.failing ≡ self.old.failing) × (self.new.most ≡ self.old.most) }
+    {
         self.calls = self.calls.saturating_add(1);
         if is_named(&self.failing, self.calls) {
             self.faults = self.faults.saturating_add(1);

@@ -1,6 +1,7 @@
 //! Files and a sink in memory that never fail.
-ghost use Rattle.std.specs.Prelude.{◌≡◌, Some, None, is_some};
-ghost use Rattle.tpch_outside.specs.Memory.{folder_of, left_of};
+ghost use Rattle.std.specs.Prelude.{◌≡◌, ◌≢◌, ◌<◌, ◌≤◌, ◌⊎◌, Some, None, is_some, length, not, true};
+ghost use Rattle.tpch_outside.specs.Memory.{folder_of, found, given, has_file, left_of, risen_if};
+ghost use Rattle.tpch_outside.specs.Outside.{Counts, Gives, IsPutFault, Opens, Takes};
 
 use crate::{Files, Got, MemFile, MemFolder, Open, Put, Sink};
 
@@ -36,7 +37,18 @@ impl Files for SureFiles {
 
     ghost misses = { λ m. m.misses };
 
-    fn open(&mut self, name: &str) -> Open {
+    fn open(&mut self, name: &str) -> Open
+        ensures held { Some (folder_of self.new.folder.files.items) ≡ Some (folder_of self.old.folder.files.items) }
+        ensures opens { Opens (Some (folder_of self.old.folder.files.items)) name.now result (left_of self.new.folder.files.items self.new.folder.place) }
+        ensures is_open { result ≡ Open.Opened → is_some self.new.folder.place ≡ true }
+        ensures faults { Counts (result ≡ Open.Failed) 0 0 }
+        ensures misses { Counts (result ≡ Open.Absent) self.old.misses self.new.misses }
+
+        ensures answer { result ≡ found self.old.folder name.now }
+        ensures miss_count { self.new.misses ≡ risen_if (not (has_file self.old.folder name.now)) self.old.misses }
+        ensures rest { self.new.folder.files ≡ self.old.folder.files }
+        ensures place { result ≢ Open.Opened → self.new.folder.place ≡ self.old.folder.place }
+    {
         if self.folder.open_named(name) {
             return Open::Opened;
         }
@@ -44,7 +56,18 @@ impl Files for SureFiles {
         Open::Absent
     }
 
-    fn next(&mut self, into: &mut [u8]) -> Got {
+    fn next(&mut self, into: &mut [u8]) -> Got
+        requires room { 0 < length into.old }
+        requires is_open { is_some self.old.folder.place ≡ true }
+        ensures held { Some (folder_of self.new.folder.files.items) ≡ Some (folder_of self.old.folder.files.items) }
+        ensures bytes { Gives (left_of self.old.folder.files.items self.old.folder.place) (left_of self.new.folder.files.items self.new.folder.place) result into.new }
+        ensures is_open { is_some self.new.folder.place ≡ true }
+        ensures faults { Counts (result ≡ Got.Failed) 0 0 }
+        ensures misses { self.old.misses ≤ self.new.misses }
+
+        ensures answer { result ≡ given self.old.folder (length into.old) }
+        ensures rest { (self.new.folder.files ≡ self.old.folder.files) × (self.new.misses ≡ self.old.misses) }
+    {
         Got::Got(self.folder.read_on(into))
     }
 }
@@ -70,7 +93,12 @@ impl Sink for SureSink {
 
     ghost faults = { λ _. 0 };
 
-    fn put(&mut self, piece: &[u8]) -> Put {
+    fn put(&mut self, piece: &[u8]) -> Put
+        ensures bytes { Takes (Some self.old.bytes.items) (Some self.new.bytes.items) result piece.now }
+        ensures faults { Counts (IsPutFault result piece.now) 0 0 }
+
+        ensures answer { (result ≡ Put.Took (length piece.now)) ⊎ (result ≡ Put.OutOfMemory) }
+    {
         match self.bytes.extend_from_slice(piece) {
             Ok(()) => Put::Took(piece.len()),
             Err(_) => Put::OutOfMemory,
