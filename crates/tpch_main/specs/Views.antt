@@ -1,0 +1,9 @@
+-- What the code's values stand for.
+use Rattle.std.specs.Prelude.{◌≡◌, ℕ, List, ⊤}
+use Rattle.tpch_main.specs.Words.{Command}
+use Rattle.tpch_main.specs.Words.Command.{session}
+use Rattle.tpch_main.specs.declared.words.Command as code
+use Rattle.tpch_main.specs.declared.words.Command.TheVariants as word
+
+abbrev pub command_view : code.Command → Command
+command_view (word.Session folder script) = session folder.now script.now

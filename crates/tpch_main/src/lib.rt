@@ -1,0 +1,7 @@
+//! The whole of the program as one call over its words, its files and its sink. Its contract says
+//! which text it prints, by the meaning of the statement over the rows of the table.
+#![tactic(auto)]
+
+pub mod statement;
+pub mod words;
+pub mod status;
