@@ -1,3 +1,5 @@
 pub mod Words
 pub mod Script
+pub mod Region
+pub mod Answer
 pub mod Views

@@ -2,6 +2,8 @@
 //! which text it prints, by the meaning of the statement over the rows of the table.
 #![tactic(auto)]
 
+pub mod answer;
+pub mod region;
 pub mod statement;
 pub mod words;
 pub mod status;
