@@ -1,8 +1,18 @@
 -- What the code's values stand for.
-use Rattle.std.specs.Prelude.{◌≡◌, ℕ, List, ⊤}
+use Rattle.std.specs.Prelude.{◌≡◌, ℕ, List, ⊤, Option, None, Some, MatchResult}
+use Rattle.std.specs.declared.result.Result.{Result}
+use Rattle.std.specs.declared.result.Result.TheVariants.{Ok, Err}
+use Rattle.std.specs.String.{string_bytes}
+use Rattle.tpch_outside.specs.Outside.{Folder}
+use Rattle.tpch_main.specs.Inputs.{Refused, file_within}
+use Rattle.tpch_main.specs.Region.{Region}
 use Rattle.tpch_main.specs.Words.{Command}
 use Rattle.tpch_main.specs.Words.Command.{session}
-use Rattle.tpch_main.specs.Region.{Region}
+use Rattle.tpch_main.specs.declared.input.Cause.{Cause}
+use Rattle.tpch_main.specs.declared.input.Cause.TheVariants as cause
+use Rattle.tpch_main.specs.declared.input.InputError.{InputError}
+use Rattle.tpch_main.specs.declared.input.InputError.TheVariants as error
+use Rattle.tpch_main.specs.declared.input.Refusal.{Refusal}
 use Rattle.tpch_main.specs.declared.region.RegionRow.{RegionRow}
 use Rattle.tpch_main.specs.declared.words.Command as code
 use Rattle.tpch_main.specs.declared.words.Command.TheVariants as word
@@ -12,3 +22,35 @@ command_view (word.Session folder script) = session folder.now script.now
 
 abbrev pub row_view : RegionRow → Region
 row_view row = record { key = row.key; name = row.name.now; comment = row.comment.now }
+
+abbrev pub refused_view : Refusal → Refused
+refused_view refusal = record { name = string_bytes refusal.name; cause = refusal.cause }
+
+-- the error is that refusal, or memory was wanted for it
+abbrev pub Refuses : List ℕ → Cause → InputError → Type 0
+Refuses name why error.Fault = ⊥
+Refuses name why error.Memory = ⊤
+Refuses name why (error.Refused refusal) = refused_view refusal ≡ record { name = name; cause = why }
+
+-- the error is no refusal
+abbrev pub IsFaultOrMemory : InputError → Type 0
+IsFaultOrMemory error.Fault = ⊤
+IsFaultOrMemory error.Memory = ⊤
+IsFaultOrMemory (error.Refused refusal) = ⊥
+
+-- the error is that a file is absent
+abbrev pub IsAbsence : InputError → Type 0
+IsAbsence error.Fault = ⊥
+IsAbsence error.Memory = ⊥
+IsAbsence (error.Refused refusal) = refusal.cause ≡ cause.Absent
+
+-- a refusal is the one that stands for the input; a fault and want of memory say nothing of it
+abbrev pub Explains : {A : Type 0} → Result A Refused → InputError → Type 0
+Explains input error.Fault = ⊤
+Explains input error.Memory = ⊤
+Explains input (error.Refused refusal) = input ≡ Err (refused_view refusal)
+
+-- what was read of told files is the input that they hold, or the error explains why there is none
+abbrev pub Reads : {A B : Type 0} → (A → B) → Option Folder → (Folder → Result B Refused) → Result A InputError → Type 0
+Reads view None input result = ⊤
+Reads view (Some folder) input result = MatchResult result (λ read. input folder ≡ Ok (view read)) (Explains (input folder))

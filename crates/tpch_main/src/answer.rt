@@ -89,3 +89,57 @@ fn texts_text(alloc: Global, texts: &[&[u8]]) -> Result<Vec<u8>, AllocError>
     }
     Ok(all)
 }
+
+/// The numbers in ascending order.
+fn in_order(mut numbers: Vec<u64>) -> Result<Vec<u64>, AllocError>
+    ensures { IfOk result (λ v. InOrder nat_cmp numbers.items v.items) }
+{
+    numbers.sort()?;
+    Ok(numbers)
+}
+
+/// The texts in ascending order, byte by byte.
+fn texts_in_order(mut texts: Vec<&[u8]>) -> Result<Vec<&[u8]>, AllocError>
+    ensures { IfOk result (λ v. InOrder (slice_cmp nat_cmp) (map (λ text. text.now) texts.entry.items) (map (λ text. text.now) v.items)) }
+{
+    texts.sort()?;
+    Ok(texts)
+}
+
+/// The answer's text where the keys are asked for.
+fn key_answer(alloc: Global, rows: &[RegionRow<'_>], limit: u64) -> Result<Vec<u8>, AllocError>
+    ensures { IfOk result (λ v. IsAnswerText (record { column = Column.RegionKey; limit = limit }) (map row_view rows.now) v.items) }
+{
+    let numbers = in_order(keys(alloc, rows, limit)?)?;
+    let text = numbers_text(alloc, &numbers)?;
+    Ok(text)
+}
+
+/// The answer's text where the names are asked for.
+fn name_answer(alloc: Global, rows: &[RegionRow<'_>], limit: u64) -> Result<Vec<u8>, AllocError>
+    ensures { IfOk result (λ v. IsAnswerText (record { column = Column.Name; limit = limit }) (map row_view rows.now) v.items) }
+{
+    let texts = texts_in_order(names(alloc, rows, limit)?)?;
+    let text = texts_text(alloc, &texts)?;
+    Ok(text)
+}
+
+/// The answer's text where the comments are asked for.
+fn comment_answer(alloc: Global, rows: &[RegionRow<'_>], limit: u64) -> Result<Vec<u8>, AllocError>
+    ensures { IfOk result (λ v. IsAnswerText (record { column = Column.Comment; limit = limit }) (map row_view rows.now) v.items) }
+{
+    let texts = texts_in_order(comments(alloc, rows, limit)?)?;
+    let text = texts_text(alloc, &texts)?;
+    Ok(text)
+}
+
+/// The text of the statement's answer over the rows.
+pub fn answer(alloc: Global, statement: Statement, rows: &[RegionRow<'_>]) -> Result<Vec<u8>, AllocError>
+    ensures { IfOk result (λ v. IsAnswerText statement (map row_view rows.now) v.items) }
+{
+    match statement.column {
+        Column::RegionKey => key_answer(alloc, rows, statement.limit),
+        Column::Name => name_answer(alloc, rows, statement.limit),
+        Column::Comment => comment_answer(alloc, rows, statement.limit),
+    }
+}

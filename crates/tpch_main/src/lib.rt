@@ -3,6 +3,7 @@
 #![tactic(auto)]
 
 pub mod answer;
+pub mod input;
 pub mod region;
 pub mod statement;
 pub mod words;
