@@ -1,3 +1,5 @@
 mod Digits
 mod Parts
 mod Order
+mod Pieces
+mod Telling

@@ -3,6 +3,7 @@ use Rattle.std.specs.Prelude.{◌≡◌, ℕ, List, ⊤, Option, None, Some, Mat
 use Rattle.std.specs.declared.result.Result.{Result}
 use Rattle.std.specs.declared.result.Result.TheVariants.{Ok, Err}
 use Rattle.std.specs.String.{string_bytes}
+use Rattle.std.specs.Global.{Vec, Global}
 use Rattle.tpch_outside.specs.Outside.{Folder}
 use Rattle.tpch_main.specs.Inputs.{Refused, file_within}
 use Rattle.tpch_main.specs.Region.{Region}
@@ -44,13 +45,21 @@ IsAbsence error.Fault = ⊥
 IsAbsence error.Memory = ⊥
 IsAbsence (error.Refused refusal) = refusal.cause ≡ cause.Absent
 
--- a refusal is the one that stands for the input; a fault and want of memory say nothing of it
-abbrev pub Explains : {A : Type 0} → Result A Refused → InputError → Type 0
-Explains input error.Fault = ⊤
-Explains input error.Memory = ⊤
-Explains input (error.Refused refusal) = input ≡ Err (refused_view refusal)
+-- a fact of the files, where they are told
+abbrev pub Told : Option Folder → (Folder → Type 0) → Type 0
+Told None P = ⊤
+Told (Some folder) P = P folder
 
--- what was read of told files is the input that they hold, or the error explains why there is none
+-- a refusal is the one of the input that the told files hold; a fault and want of memory say nothing of it
+abbrev pub Explains : {A : Type 0} → Option Folder → (Folder → Result A Refused) → InputError → Type 0
+Explains held input error.Fault = ⊤
+Explains held input error.Memory = ⊤
+Explains held input (error.Refused refusal) = Told held (λ folder. input folder ≡ Err (refused_view refusal))
+
+-- what was read is the input that the told files hold, or the error explains why there is none
 abbrev pub Reads : {A B : Type 0} → (A → B) → Option Folder → (Folder → Result B Refused) → Result A InputError → Type 0
-Reads view None input result = ⊤
-Reads view (Some folder) input result = MatchResult result (λ read. input folder ≡ Ok (view read)) (Explains (input folder))
+Reads view held input result = MatchResult result (λ read. Told held (λ folder. input folder ≡ Ok (view read))) (Explains held input)
+
+-- the text is one that the input of the told files means, or the error explains why there is no input
+abbrev pub Answers : {A : Type 0} → (A → List ℕ → Type 0) → Option Folder → (Folder → Result A Refused) → Result (Vec ℕ) InputError → Type 0
+Answers {A} Means held input result = MatchResult result (λ text. Told held (λ folder. (read : A) × (input folder ≡ Ok read) × Means read text.items)) (Explains held input)

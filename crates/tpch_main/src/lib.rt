@@ -4,7 +4,12 @@
 
 pub mod answer;
 pub mod input;
+pub mod output;
 pub mod region;
+pub mod session;
 pub mod statement;
-pub mod words;
 pub mod status;
+pub mod top;
+pub mod words;
+
+pub use status::Status;
