@@ -1,5 +1,5 @@
 -- Numbers of few digits stay small.
-use Rattle.std.proofs.Common.{◌≡◌, ℕ, ◌+◌, ◌*◌, ◌^◌, ◌<◌, ◌≤◌, suc, sym, subst, arith, add-one}
+use Rattle.std.proofs.Common.{ℕ, ◌+◌, ◌*◌, ◌^◌, ◌<◌, ◌≤◌, arith, add-one}
 use Rattle.std.proofs.Math.Nat.{pow-le-pow_right}
 
 -- one digit more

@@ -3,3 +3,4 @@ mod Parts
 mod Order
 mod Pieces
 mod Telling
+mod Complete

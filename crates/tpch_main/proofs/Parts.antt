@@ -1,9 +1,9 @@
 -- The parts of a text between separators.
-use Rattle.std.proofs.Common.{◌≡◌, ◌==◌, ◌||◌, ℕ, ◌+◌, ◌<◌, ◌≤◌, List, [], ◌∷◌, Bool, true, false, Option, None, Some, suc, zero, refl, sym, ◌∙◌, ap, rules, arith, ◌-◌, add-one, slice_index_or, length, take, drop, position, option_map, if◌then◌else◌}
+use Rattle.std.proofs.Common.{◌≡◌, ◌==◌, ℕ, ◌+◌, ◌<◌, List, [], ◌∷◌, Bool, true, false, None, Some, suc, zero, refl, arith, ◌-◌, add-one, slice_index_or, length, take, drop, option_map, if◌then◌else◌}
 use Rattle.memchr.specs.Find.{IsFirstByte, is_byte}
 use Rattle.std.proofs.lemmas.List.{take_all, length-drop}
 use Rattle.std.specs.Option.{option_and_then}
-use Rattle.tpch_main.specs.Region.{Region, in_first, parts, row_of, rows_of}
+use Rattle.tpch_main.specs.Region.{in_first, parts, row_of, rows_of}
 
 -- a text without a separator is its one part
 pub parts_whole : (separator : ℕ) (text : List ℕ) → ((k : ℕ) → k < length text → (slice_index_or text k 0 == separator) ≡ false) → parts separator text ≡ text ∷ []

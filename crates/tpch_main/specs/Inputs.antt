@@ -1,13 +1,11 @@
 -- What the files of a command hold, and which of them is refused first.
-use Rattle.std.specs.Prelude.{◌≡◌, ℕ, ◌^◌, List, [], ◌∷◌, ◌++◌, length, ⊤, Option, None, Some, if◌then◌else◌, codes, nat_lt, MatchResult}
+use Rattle.std.specs.Prelude.{ℕ, ◌^◌, List, ◌++◌, length, Option, None, Some, if◌then◌else◌, codes, nat_lt}
 use Rattle.std.specs.declared.result.Result.{Result}
 use Rattle.std.specs.declared.result.Result.TheVariants.{Ok, Err}
 use Rattle.std.specs.Option.{ok_or}
 use Rattle.tpch_outside.specs.Outside.{Folder, file_of}
 use Rattle.tpch_main.specs.Region.{Region, region_of}
 use Rattle.tpch_main.specs.Script.{script_of}
-use Rattle.tpch_main.specs.Words.{Command}
-use Rattle.tpch_main.specs.Words.Command.{session}
 use Rattle.tpch_main.specs.declared.input.Cause.{Cause}
 use Rattle.tpch_main.specs.declared.input.Cause.TheVariants as cause
 use Rattle.tpch_main.specs.declared.statement.Statement.{Statement}

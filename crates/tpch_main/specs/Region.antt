@@ -1,5 +1,5 @@
 -- The region file: lines `K|NAME|COMMENT|`, each ended by LF, no two of which have equal keys.
-use Rattle.std.specs.Prelude.{ℕ, List, [], ◌∷◌, length, map, Option, None, Some, if◌then◌else◌, ◌&&◌, ◌==◌, nat_eq, nat_le, Bool, true, option_map}
+use Rattle.std.specs.Prelude.{ℕ, List, [], ◌∷◌, length, map, Option, None, Some, if◌then◌else◌, ◌&&◌, ◌==◌, nat_eq, nat_le, Bool, option_map}
 use Rattle.std.specs.Int.{is_in_range}
 use Rattle.std.specs.List.{list_all}
 use Rattle.std.specs.Option.{option_and_then}

@@ -1,5 +1,5 @@
 -- The one statement that a script may be: `select COL from region where r_regionkey < N;` and at most one LF.
-use Rattle.std.specs.Prelude.{ℕ, List, [], ◌∷◌, ◌++◌, length, take, drop, ◌+◌, ◌-◌, ◌*◌, Option, None, Some, if◌then◌else◌, codes, ◌&&◌, nat_le, Bool, unwrap_or, option_map}
+use Rattle.std.specs.Prelude.{ℕ, List, [], ◌∷◌, ◌++◌, length, take, drop, ◌+◌, ◌-◌, ◌*◌, Option, None, Some, if◌then◌else◌, codes, ◌&&◌, nat_le, unwrap_or, option_map}
 use Rattle.std.specs.Char.{is_ascii_digit}
 use Rattle.std.specs.List.{list_all}
 use Rattle.std.specs.Option.{option_and_then, option_or}

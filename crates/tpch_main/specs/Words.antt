@@ -1,5 +1,5 @@
 -- The words of the command line.
-use Rattle.std.specs.Prelude.{ℕ, List, [], ◌∷◌, ◌++◌, Option, None, Some, if◌then◌else◌, codes, ◌&&◌, ◌==◌, Bool, true, false, not}
+use Rattle.std.specs.Prelude.{ℕ, List, [], ◌∷◌, Option, None, Some, if◌then◌else◌, codes, ◌&&◌, ◌==◌, Bool, false, not}
 use Rattle.std.specs.Str.{bytes_eq}
 
 -- what the program is asked to do

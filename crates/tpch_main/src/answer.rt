@@ -32,7 +32,11 @@ fn names<'a>(alloc: Global, rows: &[RegionRow<'a>], limit: u64) -> Result<Vec<&'
 }
 
 /// The comments of the rows whose keys are below the limit, in the rows' order.
-fn comments<'a>(alloc: Global, rows: &[RegionRow<'a>], limit: u64) -> Result<Vec<&'a [u8]>, AllocError>
+fn comments<'a>(
+    alloc: Global,
+    rows: &[RegionRow<'a>],
+    limit: u64,
+) -> Result<Vec<&'a [u8]>, AllocError>
     ensures { IfOk result (λ v. v.items ≡ map (λ row. row.comment) (filter (λ row. nat_lt row.key limit) rows.now)) }
 {
     rows.iter()
@@ -134,7 +138,11 @@ fn comment_answer(alloc: Global, rows: &[RegionRow<'_>], limit: u64) -> Result<V
 }
 
 /// The text of the statement's answer over the rows.
-pub fn answer(alloc: Global, statement: Statement, rows: &[RegionRow<'_>]) -> Result<Vec<u8>, AllocError>
+pub fn answer(
+    alloc: Global,
+    statement: Statement,
+    rows: &[RegionRow<'_>],
+) -> Result<Vec<u8>, AllocError>
     ensures { IfOk result (λ v. IsAnswerText statement (map row_view rows.now) v.items) }
 {
     match statement.column {

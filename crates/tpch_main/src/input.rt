@@ -96,7 +96,11 @@ fn read_piece<F: Files>(files: &mut F, bytes: &mut Vec<u8>) -> Result<bool, Inpu
 }
 
 /// All bytes of the open file, or `None` where they are more than the limit.
-fn collect<F: Files>(alloc: Global, files: &mut F, limit: usize) -> Result<Option<Vec<u8>>, InputError>
+fn collect<F: Files>(
+    alloc: Global,
+    files: &mut F,
+    limit: usize,
+) -> Result<Option<Vec<u8>>, InputError>
     requires open { F.is_open files.old ≡ true }
     requires limit { limit < 2 ^ 63 }
     ensures bytes { IfOk result (λ found. MatchOption found (IsLonger (F.left files.old) limit)
@@ -121,7 +125,12 @@ fn collect<F: Files>(alloc: Global, files: &mut F, limit: usize) -> Result<Optio
 }
 
 /// All bytes of the file of that name, refused where it is absent or has more bytes than the limit.
-pub fn read_file<F: Files>(alloc: Global, files: &mut F, name: &str, limit: usize) -> Result<Vec<u8>, InputError>
+pub fn read_file<F: Files>(
+    alloc: Global,
+    files: &mut F,
+    name: &str,
+    limit: usize,
+) -> Result<Vec<u8>, InputError>
     requires { limit < 2 ^ 63 }
     ensures input { Reads vec_items (F.held files.old) (λ folder. file_within limit folder name.now) result }
     ensures held { F.held files.new ≡ F.held files.old }

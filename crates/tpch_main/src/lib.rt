@@ -2,14 +2,15 @@
 //! which text it prints, by the meaning of the statement over the rows of the table.
 #![tactic(auto)]
 
-pub mod answer;
-pub mod input;
-pub mod output;
-pub mod region;
-pub mod session;
-pub mod statement;
-pub mod status;
-pub mod top;
-pub mod words;
+mod answer;
+mod input;
+mod output;
+mod region;
+mod session;
+mod statement;
+mod status;
+mod top;
+mod words;
 
 pub use status::Status;
+pub use top::tpch;

@@ -7,9 +7,9 @@ ghost use Rattle.tpch_main.specs.Inputs.{region_in, region_name, script_in, sess
 ghost use Rattle.tpch_main.specs.Views.{Answers, IsAbsence, Reads};
 
 use crate::answer::answer;
-use crate::input::{read_file, refused, Cause, InputError};
+use crate::input::{Cause, InputError, read_file, refused};
 use crate::region::region;
-use crate::statement::{script, Statement};
+use crate::statement::{Statement, script};
 use std::alloc::{AllocError, Global};
 use tpch_outside::Files;
 
@@ -20,7 +20,11 @@ const SCRIPT_LIMIT: usize = 1_048_576;
 const TABLE_LIMIT: usize = 4_294_967_296;
 
 /// The statement of the script of that name.
-fn read_statement<F: Files>(alloc: Global, files: &mut F, name: &str) -> Result<Statement, InputError>
+fn read_statement<F: Files>(
+    alloc: Global,
+    files: &mut F,
+    name: &str,
+) -> Result<Statement, InputError>
     ensures input { Reads (λ statement. statement) (F.held files.old) (λ folder. script_in folder name.now) result }
     ensures held { F.held files.new ≡ F.held files.old }
     ensures fault { IsErrOf result InputError.Fault → Rose (F.faults files.old) (F.faults files.new) }
@@ -45,7 +49,12 @@ fn table_name(alloc: Global, folder: &str) -> Result<String, AllocError>
 }
 
 /// The text of the statement's answer over the region file of that name.
-fn answer_over<F: Files>(alloc: Global, files: &mut F, statement: Statement, name: &str) -> Result<Vec<u8>, InputError>
+fn answer_over<F: Files>(
+    alloc: Global,
+    files: &mut F,
+    statement: Statement,
+    name: &str,
+) -> Result<Vec<u8>, InputError>
     ensures answer { Answers (IsAnswerText statement) (F.held files.old) (λ folder. region_in folder name.now) result }
     ensures held { F.held files.new ≡ F.held files.old }
     ensures fault { IsErrOf result InputError.Fault → Rose (F.faults files.old) (F.faults files.new) }
@@ -62,7 +71,12 @@ fn answer_over<F: Files>(alloc: Global, files: &mut F, statement: Statement, nam
 }
 
 /// The text of a session of that script over the tables of that folder.
-pub fn session<F: Files>(alloc: Global, files: &mut F, folder: &str, script: &str) -> Result<Vec<u8>, InputError>
+pub fn session<F: Files>(
+    alloc: Global,
+    files: &mut F,
+    folder: &str,
+    script: &str,
+) -> Result<Vec<u8>, InputError>
     ensures answer { Answers (λ inputs. IsAnswerText inputs.0 inputs.1) (F.held files.old) (session_inputs folder.now script.now) result }
     ensures held { F.held files.new ≡ F.held files.old }
     ensures fault { IsErrOf result InputError.Fault → Rose (F.faults files.old) (F.faults files.new) }

@@ -1,4 +1,4 @@
-use Rattle.std.proofs.Common.{◌≡◌, ◌∙◌, ℕ, List, ap, decimal, map, refl, subst, sym}
+use Rattle.std.proofs.Common.{◌∙◌, ℕ, List, ap, decimal, map, refl, subst, sym}
 use Rattle.std.specs.Ordering.{nat_cmp}
 use Rattle.tpch_main.proofs.Order.{kept_values}
 use Rattle.tpch_main.specs.Answer.{InOrder, answer_text}

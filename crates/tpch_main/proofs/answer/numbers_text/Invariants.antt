@@ -1,6 +1,6 @@
 use Rattle.std.proofs.Common.{◌≡◌, ◌++◌, ◌∷◌, [], decimal, drop, map}
 use Rattle.std.specs.List.{flat_map}
-use Rattle.tpch_main.specs.Answer.{answer_text, escaped}
+use Rattle.tpch_main.specs.Answer.{answer_text}
 use Rattle.tpch_main.proofs.answer.numbers_text.Given as goal
 
 abbrev pub invariant-loop-number : goal.invariant-loop-number

@@ -1,4 +1,4 @@
-use Rattle.std.proofs.Common.{◌≡◌, ◌++◌, ◌∷◌, [], decimal, drop, map}
+use Rattle.std.proofs.Common.{◌≡◌, ◌++◌, ◌∷◌, [], drop, map}
 use Rattle.std.specs.List.{flat_map}
 use Rattle.tpch_main.specs.Answer.{answer_text, escaped}
 use Rattle.tpch_main.proofs.answer.texts_text.Given as goal

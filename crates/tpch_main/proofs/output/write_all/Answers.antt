@@ -1,5 +1,5 @@
-use Rattle.std.proofs.Common.{◌+◌, ◌-◌, ◌≤◌, ℕ, take, drop, length, arith, le_trans, subst}
-use Rattle.tpch_main.proofs.Pieces.{Appends-further, rest_is, further}
+use Rattle.std.proofs.Common.{le_trans}
+use Rattle.tpch_main.proofs.Pieces.{Appends-further, further}
 use Rattle.tpch_main.proofs.output.write_all.Goals as goal
 
 pub loop-at-preserved : goal.loop-at-preserved

@@ -1,4 +1,4 @@
-use Rattle.std.proofs.Common.{◌≡◌, ◌==◌, ℕ, List, map, length, ap, ◌∙◌, nat_eq, sym}
+use Rattle.std.proofs.Common.{◌≡◌, map, length, ap, ◌∙◌, nat_eq, sym}
 use Rattle.std.proofs.lemmas.Cmp.{nat_cmp_total}
 use Rattle.std.proofs.lemmas.List.{length-map}
 use Rattle.std.proofs.lemmas.Map.Views.{btree_set_len-from_list}

@@ -1,4 +1,4 @@
-use Rattle.std.proofs.Common.{◌<◌, ◌≤◌, ◌^◌, arith}
+use Rattle.std.proofs.Common.{◌<◌, arith}
 use Rattle.tpch_main.proofs.Digits.{below_18}
 use Rattle.tpch_main.proofs.statement.number.Goals as goal
 
