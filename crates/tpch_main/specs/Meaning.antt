@@ -1,5 +1,5 @@
 -- What a run of the program prints, and with which status.
-use Rattle.std.specs.Prelude.{◌≡◌, ◌≢◌, ℕ, List, ⊤, Option, None, Some, MatchResult}
+use Rattle.std.specs.Prelude.{◌≡◌, ◌⊎◌, ℕ, List, ⊤, Option, None, Some, MatchResult}
 use Rattle.std.specs.Result.{result_err}
 use Rattle.tpch_outside.specs.Outside.{Folder}
 use Rattle.tpch_main.specs.Answer.{IsAnswerText}
@@ -26,10 +26,14 @@ PrintsFrom (session dir script) folder text s = MatchResult (session_inputs dir 
     (λ inputs. IsAnswerText inputs.0 inputs.1 text × (s ≡ status.Done))
     (λ refused. (text ≡ refusal_line refused) × (s ≡ status.InputRefused))
 
+-- the statuses with which a command's text may be printed
+abbrev pub MayEnd : Command → Status → Type 0
+MayEnd (session dir script) s = (s ≡ status.Done) ⊎ (s ≡ status.InputRefused)
+
 -- what may be printed by the command, if the words are one, over the files, where they are told
 abbrev pub Prints : Option Command → Option Folder → List ℕ → Status → Type 0
 Prints None told text s = (text ≡ usage_line) × (s ≡ status.Usage)
-Prints (Some command) None text s = s ≢ status.Usage
+Prints (Some command) None text s = MayEnd command s
 Prints (Some command) (Some folder) text s = PrintsFrom command folder text s
 
 -- some text that may be printed, whatever its status

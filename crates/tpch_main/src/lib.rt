@@ -9,6 +9,8 @@ mod region;
 mod session;
 mod statement;
 mod status;
+#[cfg(test)]
+mod tests;
 mod top;
 mod words;
 

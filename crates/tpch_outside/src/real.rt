@@ -7,6 +7,7 @@ use std::io::{ErrorKind, Read, Write};
 use std::{fs, io, rt};
 
 /// Files of the machine, of which one may be open, and the two counts, both 0 at first.
+#[derive(Drop)]
 pub struct RealFiles<'r, R: rt::Files> {
     rt: &'r R,
     file: Option<R::File>,
@@ -75,6 +76,7 @@ impl<R: rt::Files> Files for RealFiles<'_, R> {
 }
 
 /// Standard output, with a count of its faults that is 0 at first.
+#[derive(Drop)]
 pub struct RealSink<'r, R: Print> {
     rt: &'r R,
     faults: u64,
