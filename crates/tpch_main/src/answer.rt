@@ -11,12 +11,19 @@ use crate::statement::{Column, Statement};
 use itoa::Buffer;
 use std::alloc::{AllocError, Global};
 
+/// Whether the row's key is below the limit.
+fn is_kept(row: &RegionRow<'_>, limit: u64) -> bool
+    ensures { result ≡ nat_lt row.now.key limit }
+{
+    row.key < limit
+}
+
 /// The keys below the limit, in the rows' order.
 fn keys(alloc: Global, rows: &[RegionRow<'_>], limit: u64) -> Result<Vec<u64>, AllocError>
     ensures { IfOk result (λ v. v.items ≡ map (λ row. row.key) (filter (λ row. nat_lt row.key limit) rows.now)) }
 {
     rows.iter()
-        .filter(|row| row.key < limit)
+        .filter(|row| is_kept(row, limit))
         .map(|row| row.key)
         .collect(alloc)
 }
@@ -26,7 +33,7 @@ fn names<'a>(alloc: Global, rows: &[RegionRow<'a>], limit: u64) -> Result<Vec<&'
     ensures { IfOk result (λ v. v.items ≡ map (λ row. row.name) (filter (λ row. nat_lt row.key limit) rows.now)) }
 {
     rows.iter()
-        .filter(|row| row.key < limit)
+        .filter(|row| is_kept(row, limit))
         .map(|row| row.name)
         .collect(alloc)
 }
@@ -40,7 +47,7 @@ fn comments<'a>(
     ensures { IfOk result (λ v. v.items ≡ map (λ row. row.comment) (filter (λ row. nat_lt row.key limit) rows.now)) }
 {
     rows.iter()
-        .filter(|row| row.key < limit)
+        .filter(|row| is_kept(row, limit))
         .map(|row| row.comment)
         .collect(alloc)
 }
