@@ -5,7 +5,7 @@ use std::alloc::AllocError;
 use std::env;
 use std::io::ErrorKind;
 use std::process::ExitCode;
-use tpch_main::{tpch, Status};
+use tpch_main::{Status, tpch};
 use tpch_outside::{OpenGate, RealFiles, RealSink};
 
 /// The words after the program's name. Words that aren't UTF-8 are as good as none.

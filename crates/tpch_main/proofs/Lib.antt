@@ -4,3 +4,6 @@ mod Order
 mod Pieces
 mod Telling
 mod Complete
+mod ScriptForm
+mod RegionForm
+mod WorkedExamples

@@ -5,3 +5,5 @@ pub mod Answer
 pub mod Inputs
 pub mod Meaning
 pub mod Views
+pub mod Laws
+pub mod Examples

@@ -4,6 +4,7 @@
 
 mod answer;
 mod input;
+pub mod laws;
 mod output;
 mod region;
 mod session;
