@@ -7,3 +7,4 @@ mod Complete
 mod ScriptForm
 mod RegionForm
 mod WorkedExamples
+mod Unique

@@ -3,6 +3,7 @@ use Rattle.std.specs.Prelude.{◌≡◌, ℕ, ◌≤◌, List, [], ◌∷◌, �
 use Rattle.std.specs.Char.{is_ascii_digit}
 use Rattle.std.specs.Int.{is_in_range}
 use Rattle.std.specs.List.{IsDistinct, flat_map, list_all}
+use Rattle.tpch_main.specs.Answer.{IsAnswerText}
 use Rattle.tpch_main.specs.Region.{Region, region_of}
 use Rattle.tpch_main.specs.Script.{script_front, script_of, value_after}
 use Rattle.tpch_main.specs.declared.statement.Statement.{Statement}
@@ -61,3 +62,7 @@ pub record IsRegionFile (bytes : List ℕ) (rows : List Region) : Type 0 where
 -- bytes are read as rows exactly where they are the region file of these rows
 abbrev pub RegionLaw : Type 0
 RegionLaw = (bytes : List ℕ) (rows : List Region) → (region_of bytes ≡ Some rows) ↔ IsRegionFile bytes rows
+
+-- two texts that are a statement's answer over the same rows are one text
+abbrev pub AnswerLaw : Type 0
+AnswerLaw = (statement : Statement) (rows : List Region) (a b : List ℕ) → IsAnswerText statement rows a → IsAnswerText statement rows b → a ≡ b
