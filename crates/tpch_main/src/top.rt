@@ -77,12 +77,12 @@ fn answer<F: Files>(
 /// A fault of reading or writing is answered only where `files` or `out` counted one, and want of
 /// memory is the one answer that no clause ties to a cause.
 pub fn tpch<R: Threads + Wait + Sync, F: Files, S: Sink, G: Gate + Sync>(
-    _rt: &R,
+    rt: &R,
     alloc: Global,
     words: &[String],
     files: &mut F,
     out: &mut S,
-    _gate: &G,
+    gate: &G,
 ) -> Status
     // On an answer the whole text was taken, with its status.
     ensures answer { IsAnswer result → ((text : List ℕ)
