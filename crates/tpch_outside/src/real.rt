@@ -1,6 +1,7 @@
 //! The real files and standard output. They tell no bytes, so nothing is promised of what a file
 //! holds or a screen shows.
-ghost use Rattle.std.specs.Prelude.{◌≡◌, None, is_some};
+ghost use Rattle.std.specs.Prelude.{◌≡◌, ◌≢◌, None, is_some};
+ghost use Rattle.tpch_outside.specs.Outside.{Counts, IsPutFault, Takes};
 
 use crate::{Files, Got, Open, Put, Sink};
 use std::io::{ErrorKind, Read, Write};
@@ -96,7 +97,13 @@ impl<R: Print> Sink for RealSink<'_, R> {
 
     ghost faults = { λ m. m.faults };
 
-    fn put(&mut self, piece: &[u8]) -> Put {
+    fn put(&mut self, piece: &[u8]) -> Put
+        ensures bytes { Takes None None result piece.now }
+        ensures faults { Counts (IsPutFault result piece.now) self.old.faults self.new.faults }
+
+        // It keeps no bytes, so it never wants memory for them.
+        ensures no_memory { result ≢ Put.OutOfMemory }
+    {
         match io::writer(self.rt).write(piece) {
             Ok(count) => {
                 if count == 0 && !piece.is_empty() {
