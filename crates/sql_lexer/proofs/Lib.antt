@@ -4,3 +4,4 @@ pub mod Fronts
 pub mod OneAnswer
 pub mod Printable
 pub mod Steps
+pub mod OneKind

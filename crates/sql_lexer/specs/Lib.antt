@@ -4,3 +4,4 @@ pub mod Forms
 pub mod Lexing
 pub mod Fronts
 pub mod Making
+pub mod Kinds

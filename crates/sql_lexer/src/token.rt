@@ -1,4 +1,7 @@
 //! Tokens and what they hold.
+ghost use Rattle.std.specs.Prelude.{◌≡◌};
+ghost use Rattle.sql_lexer.specs.Kinds as kinds;
+
 use crate::kind::Kind;
 use ascii_text::Text;
 use fixed_decimal::Scale;
@@ -21,4 +24,14 @@ pub struct Token {
     pub content: Content,
     pub start: usize,
     pub len: usize,
+}
+
+impl Token {
+    /// Whether the token is of this kind.
+    #[tactic(auto, unfolding(crate::specs::Kinds::is))]
+    pub fn is(&self, kind: Kind) -> bool
+        ensures { result ≡ kinds.is kind self.now }
+    {
+        self.kind == kind
+    }
 }
