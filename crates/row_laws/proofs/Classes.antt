@@ -84,6 +84,29 @@ module _ {X : Type 0} (same : X → X → Bool) (is : IsIdentity same) where
   SameBag-nub_filter p xs = same_from_counts (nub same (filter p xs)) (filter p (nub same xs))
       (λ x. count-nub x (filter p xs) ∙ has-filter x p xs ∙ sym (count-filter x p (nub same xs) ∙ ap (λ n. on (p x) n) (count-nub x xs)))
 
+-- Two tests that tell identical elements.
+module _ {X : Type 0} (same alike : X → X → Bool) where
+  pub tests_agree : IsIdentity same → IsIdentity alike → (x y : X) → same x y ≡ alike x y
+  tests_agree is it x y = elim (cases_Bool (same x y)) [
+    | inl t ↦ t ∙ sym (rw (is.tells x y t) (it.meets y))
+    | inr f ↦ elim (cases_Bool (alike x y)) [
+      | inl t ↦ absurd (true≢false (sym (is.meets x) ∙ subst (λ z. same x z ≡ false) (sym (it.tells x y t)) f))
+      | inr g ↦ f ∙ sym g
+    ]
+  ]
+
+  pub nub_agrees : ((x y : X) → same x y ≡ alike x y) → (xs : List X) → nub same xs ≡ nub alike xs
+  nub_agrees agree [] = refl
+  nub_agrees agree (x ∷ xs) =
+      ap (λ l. x ∷ l) (filter-agree (λ y. not (same x y)) (λ y. not (alike x y)) (nub same xs) (λ y. ap not (agree x y))
+      ∙ ap (λ l. filter (λ y. not (alike x y)) l) (nub_agrees agree xs))
+
+  pub classes_agree : {R S : Type 0} → ((x y : X) → same x y ≡ alike x y) → (key : R → X) (f : X → List R → S) (xs : List R) → classes same key f xs ≡ classes alike key f xs
+  classes_agree agree key f xs =
+      map-ext (λ k. f k (filter (λ x. same (key x) k) xs)) (λ k. f k (filter (λ x. alike (key x) k) xs)) (nub same (map key xs))
+      (λ k. ap (λ l. f k l) (filter-agree (λ x. same (key x) k) (λ x. alike (key x) k) xs (λ x. agree (key x) k)))
+      ∙ ap (λ l. map (λ k. f k (filter (λ x. alike (key x) k) xs)) l) (nub_agrees agree (map key xs))
+
 -- An injective renaming.
 pub nub-map : {X Y : Type 0} (same : X → X → Bool) (like : Y → Y → Bool) (g : X → Y) → ((a b : X) → like (g a) (g b) ≡ same a b) → (xs : List X) → nub like (map g xs) ≡ map g (nub same xs)
 nub-map same like g e [] = refl

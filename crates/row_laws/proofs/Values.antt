@@ -7,7 +7,7 @@ use Rattle.row_laws.specs.Ranked.{Ranked, ranked, unknown_rank, too_many_rows_ra
 use Rattle.row_laws.specs.Bags.{weigh, SameBag, IsIdentity, nub, OfBag, Each, top, bottom}
 use Rattle.row_laws.specs.Rows.{same_row}
 use Rattle.row_laws.specs.Operators.{mark_of, scalar_of, value_at}
-use Rattle.row_laws.specs.Aggregates.{Reading, run, Exchanges, IsOrder, first, first_of, ReadsNulls, not_null, least_fault, aggregated, unless_fault, unless_none, unless_range, count_of, count_distinct_of, sum_of, avg_of, min_of, max_of}
+use Rattle.row_laws.specs.Aggregates.{Reading, run, Exchanges, IsOrder, first, first_of, ReadsNulls, not_null, least_fault, aggregated, unless_fault, unless_none, unless_range, count_rows, count_of, count_distinct_of, sum_of, avg_of, min_of, max_of}
 use Rattle.row_laws.specs.ValueLaws.{FaultsFirst, NullsSkipped}
 use Rattle.row_laws.proofs.Rows.{same_row_is}
 use Rattle.row_laws.proofs.Lists.{filter_within}
@@ -94,6 +94,9 @@ module _ {V : Type 0} (m : Reading V) where
         let w = p.alike xs ys e in
         rw (u, d, w);
   }
+
+  pub count_rows_bag : OfBag (count_rows m)
+  count_rows_bag = OfBag-then (λ n. m.number n 0) (λ vs. length vs) OfBag-length
 
   pub count_bag : OfBag (count_of m)
   count_bag = OfBag-unless (λ vs. m.number (length (not_null m vs)) 0) (OfBag-then (λ n. m.number n 0) (λ vs. length (not_null m vs)) OfBag-terms)

@@ -65,6 +65,10 @@ module _ {V : Type 0} (m : Reading V) where
   abbrev pub unless_fault : List V → V → V
   unless_fault vs v = cond (nat_lt (least_fault vs) true_rank) (m.write (least_fault vs)) v
 
+  -- count(*): how many rows there are, whatever stands in them
+  abbrev pub count_rows : List V → V
+  count_rows vs = m.number (length vs) 0
+
   -- count(e)
   abbrev pub count_of : List V → V
   count_of vs = unless_fault vs (m.number (length (not_null vs)) 0)

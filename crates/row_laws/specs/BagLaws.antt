@@ -4,7 +4,7 @@ use Rattle.std.specs.List.{filter, flat_map, sum_by, IsDistinct}
 use Rattle.std.specs.List.Sorted.{IsPermutation}
 use Rattle.std.specs.Map.{lookup}
 use Rattle.row_laws.specs.Ranked.{Ranked}
-use Rattle.row_laws.specs.Bags.{on, weigh, SameBag, has, count, classes, OfBag, top, bottom}
+use Rattle.row_laws.specs.Bags.{on, weigh, SameBag, IsIdentity, has, count, nub, classes, OfBag, top, bottom}
 use Rattle.row_laws.specs.Rows.{same_row}
 use Rattle.row_laws.specs.Operators.{distinct}
 use Rattle.row_laws.specs.Domains.{values_of, no_two}
@@ -60,6 +60,17 @@ WeightsOfAppended X = (h : X → ℕ) (n : ℕ) (xs ys : List X) → (weigh h (x
 -- One bag has the same elements, each as often; and lists in which each element stands equally often are one bag.
 abbrev pub HasAlike : {X : Type 0} → (X → X → Bool) → Type 0
 HasAlike {X} same = (xs us : List X) → (SameBag xs us → (x : X) → (has same x xs ≡ has same x us) × (count same x xs ≡ count same x us)) × (((x : X) → count same x xs ≡ count same x us) → SameBag xs us)
+
+-- Where a test tells identical values, the test value by value tells identical rows.
+abbrev pub RowsHaveIdentity : {V : Type 0} → (V → V → Bool) → Type 0
+RowsHaveIdentity same = IsIdentity (same_row same)
+
+-- Two tests that tell identical elements say the same of any two, so identical elements once and classes are the same lists by both.
+abbrev pub IdentitiesAgree : (R S : Type 0) {K : Type 0} → (K → K → Bool) → (K → K → Bool) → Type 0
+IdentitiesAgree R S {K} same alike =
+    ((x y : K) → same x y ≡ alike x y)
+    × ((xs : List K) → nub same xs ≡ nub alike xs)
+    × ((key : R → K) (f : K → List R → S) (xs : List R) → classes same key f xs ≡ classes alike key f xs)
 
 -- GROUP BY: classes of one bag are one bag, where each class is a function of the bag of its elements.
 abbrev pub ClassesAlike : (R S : Type 0) {K : Type 0} → (K → K → Bool) → Type 0

@@ -15,3 +15,4 @@ pub mod MoveLaws
 pub mod Matched
 pub mod MatchedLaws
 pub mod Cases
+pub mod AggregateCases

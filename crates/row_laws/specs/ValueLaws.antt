@@ -2,9 +2,9 @@
 use Rattle.std.specs.Prelude.{◌≡◌, ℕ, ◌<◌, List, Bool, map}
 use Rattle.std.specs.List.{filter}
 use Rattle.row_laws.specs.Ranked.{Ranked, true_rank}
-use Rattle.row_laws.specs.Bags.{SameBag, OfBag, Each, nub}
+use Rattle.row_laws.specs.Bags.{SameBag, OfBag, Each, nub, weigh, top, bottom}
 use Rattle.row_laws.specs.Operators.{mark_of, scalar_of, least, greatest}
-use Rattle.row_laws.specs.Aggregates.{Reading, ReadsNulls, IsOrder, not_null, least_fault, count_of, count_distinct_of, sum_of, avg_of, min_of, max_of, aggregated, run, Exchanges, InOrder}
+use Rattle.row_laws.specs.Aggregates.{Reading, ReadsNulls, IsOrder, not_null, least_fault, count_rows, count_of, count_distinct_of, sum_of, avg_of, min_of, max_of, aggregated, run, Exchanges, InOrder}
 
 -- the aggregate is the least fault of the values, where a fault stands among them
 abbrev pub FaultsFirst : {V : Type 0} → Reading V → (List V → V) → Type 0
@@ -18,9 +18,13 @@ NullsSkipped {V} m aggregate = (vs : List V) → aggregate (not_null m vs) ≡ a
 abbrev pub StandingsInAnyOrder : (V : Type 0) → Type 0
 StandingsInAnyOrder V = OfBag {X = Ranked V} least × OfBag {X = Ranked V} greatest
 
--- count(e) and count(distinct e) don't depend on the order of the rows.
+-- The sum, the greatest and the least of any measure of the rows don't depend on the order of the rows.
+abbrev pub MeasuresInAnyOrder : (X : Type 0) → Type 0
+MeasuresInAnyOrder X = (h : X → ℕ) (n : ℕ) → OfBag (weigh h) × OfBag (top h) × OfBag (bottom n h)
+
+-- count(*), count(e) and count(distinct e) don't depend on the order of the rows.
 abbrev pub CountsInAnyOrder : {V : Type 0} → (V → V → Bool) → Type 0
-CountsInAnyOrder {V} same = (m : Reading V) → OfBag (count_of m) × OfBag (count_distinct_of m same)
+CountsInAnyOrder {V} same = (m : Reading V) → OfBag (count_rows m) × OfBag (count_of m) × OfBag (count_distinct_of m same)
 
 -- sum(e) doesn't depend on the order of the rows: it is exact, and NumberRange where the sum of the terms above 0, or of the others negated, passes the largest number.
 abbrev pub SumInAnyOrder : (V : Type 0) → Type 0

@@ -2,7 +2,7 @@
 
 ghost use Rattle.std.specs.Prelude.{Bool};
 ghost use Rattle.row_laws.specs.Bags.{IsIdentity};
-ghost use Rattle.row_laws.specs.BagLaws.{BagReflexive, BagSymmetric, BagTransitive, AppendAlike, AppendSwapped, MapAlike, FilterAlike, FlatMapAlike, LengthAlike, SameSums, PermutationAlike, WeightsOfAppended, HasAlike, ClassesAlike, DistinctRows, ClassesMade, EntriesMade};
+ghost use Rattle.row_laws.specs.BagLaws.{BagReflexive, BagSymmetric, BagTransitive, AppendAlike, AppendSwapped, MapAlike, FilterAlike, FlatMapAlike, LengthAlike, SameSums, PermutationAlike, WeightsOfAppended, HasAlike, RowsHaveIdentity, IdentitiesAgree, ClassesAlike, DistinctRows, ClassesMade, EntriesMade};
 
 /// Each list is the same bag as itself.
 pub fn same_bag_reflexive<X>()
@@ -67,6 +67,16 @@ pub fn weights_of_appended<X>()
 /// One bag has the same elements, each as often; and lists in which each element stands equally often are one bag.
 pub fn has_alike<X>()
     ensures { (same : X → X → Bool) → IsIdentity same → HasAlike same }
+{}
+
+/// Where a test tells identical values, the test value by value tells identical rows.
+pub fn rows_have_identity<V>()
+    ensures { (same : V → V → Bool) → IsIdentity same → RowsHaveIdentity same }
+{}
+
+/// Two tests that tell identical elements say the same of any two, so identical elements once and classes are the same lists by both.
+pub fn identities_agree<R, K, S>()
+    ensures { (same alike : K → K → Bool) → IsIdentity same → IsIdentity alike → IdentitiesAgree R S same alike }
 {}
 
 /// GROUP BY: classes of one bag are one bag, where each class is a function of the bag of its elements.

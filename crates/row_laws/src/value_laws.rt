@@ -2,14 +2,19 @@
 
 ghost use Rattle.std.specs.Prelude.{Bool};
 ghost use Rattle.row_laws.specs.Bags.{IsIdentity};
-ghost use Rattle.row_laws.specs.ValueLaws.{StandingsInAnyOrder, CountsInAnyOrder, SumInAnyOrder, AvgInAnyOrder, ExtremesInAnyOrder, AggregatesInAnyOrder, MarkInAnyOrder, ScalarInAnyOrder, FoldInAnyOrder, ThenInAnyOrder, BothInAnyOrder, OfImagesInAnyOrder, OfKeptInAnyOrder, OfDistinctInAnyOrder, OneListInOrder, FaultsComeFirst, NullsAreSkipped};
+ghost use Rattle.row_laws.specs.ValueLaws.{StandingsInAnyOrder, MeasuresInAnyOrder, CountsInAnyOrder, SumInAnyOrder, AvgInAnyOrder, ExtremesInAnyOrder, AggregatesInAnyOrder, MarkInAnyOrder, ScalarInAnyOrder, FoldInAnyOrder, ThenInAnyOrder, BothInAnyOrder, OfImagesInAnyOrder, OfKeptInAnyOrder, OfDistinctInAnyOrder, OneListInOrder, FaultsComeFirst, NullsAreSkipped};
 
 /// The standing of a group, and that of a DISTINCT row, don't depend on the order of the rows.
 pub fn standings_in_any_order<V>()
     ensures { StandingsInAnyOrder V }
 {}
 
-/// count(e) and count(distinct e) don't depend on the order of the rows.
+/// The sum, the greatest and the least of any measure of the rows don't depend on the order of the rows.
+pub fn measures_in_any_order<X>()
+    ensures { MeasuresInAnyOrder X }
+{}
+
+/// count(*), count(e) and count(distinct e) don't depend on the order of the rows.
 pub fn counts_in_any_order<V>()
     ensures { (same : V → V → Bool) → IsIdentity same → CountsInAnyOrder same }
 {}
