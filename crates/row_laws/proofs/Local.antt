@@ -5,12 +5,12 @@ use Rattle.std.specs.Prelude.{min, slice_index_or}
 use Rattle.std.proofs.lemmas.Bool.{cases_Bool, le-ltb}
 use Rattle.std.proofs.lemmas.List.{length-append, length-map}
 use Rattle.row_laws.specs.Ranked.{Ranked, ranked}
-use Rattle.row_laws.specs.Bags.{on, IsIdentity, Each}
+use Rattle.row_laws.specs.Bags.{when, IsIdentity, Each}
 use Rattle.row_laws.specs.Rows.{same_row, starts, after, columns, keep}
 use Rattle.row_laws.specs.Operators.{select, project}
 use Rattle.row_laws.specs.Domains.{Meets}
 use Rattle.row_laws.specs.LoopLaws.{local_node, Equates}
-use Rattle.row_laws.proofs.Bags.{on-zero, weigh-map}
+use Rattle.row_laws.proofs.Bags.{when-zero, weigh-map}
 use Rattle.row_laws.proofs.Lists.{weigh-ext_each, Each-map, Each-all, Each-flat_map}
 use Rattle.row_laws.proofs.Rows.{same_row_is, starts-wide, starts_same, take-append, weigh-select, Each-keep, Meets-from}
 
@@ -28,11 +28,11 @@ module _ {V : Type 0} (same : V → V → Bool) (is : IsIdentity same) where
       (Each-map W (λ t. ranked (w t.values) t.standing) ts (Each-all (λ t. length d ≤ length (w t.values)) ts (λ t. let a = wide t.values in let b = length-append (columns null bs t.values) t.values in omega (arith, a, b))))
       (λ x u. Each-keep W x.values (min x.standing (g x.values)) u))
       (λ h.
-      let k : List V → ℕ → ℕ = λ r s. on (ltb 1 s) (h (ranked r s)) in
-      weigh-select (λ x. on (starts same d x.values) (h x)) g (project w ts)
-      ∙ weigh-map (λ x. on (ltb 1 (min x.standing (g x.values))) (on (starts same d x.values) (h (ranked x.values (min x.standing (g x.values)))))) (λ t. ranked (w t.values) t.standing) ts
+      let k : List V → ℕ → ℕ = λ r s. when (ltb 1 s) (h (ranked r s)) in
+      weigh-select (λ x. when (starts same d x.values) (h x)) g (project w ts)
+      ∙ weigh-map (λ x. when (ltb 1 (min x.standing (g x.values))) (when (starts same d x.values) (h (ranked x.values (min x.standing (g x.values)))))) (λ t. ranked (w t.values) t.standing) ts
       ∙ weigh-ext_each (λ t. Equates same equal whole d (columns null bs t.values))
-      (λ t. on (ltb 1 (min t.standing (g (w t.values)))) (on (starts same d (w t.values)) (h (ranked (w t.values) (min t.standing (g (w t.values)))))))
+      (λ t. when (ltb 1 (min t.standing (g (w t.values)))) (when (starts same d (w t.values)) (h (ranked (w t.values) (min t.standing (g (w t.values)))))))
       (λ t. k (d ++ t.values) (min t.standing (eq t.values))) ts all
       (λ t q.
       let v = columns null bs t.values in let a = wide t.values in
@@ -48,12 +48,12 @@ module _ {V : Type 0} (same : V → V → Bool) (is : IsIdentity same) where
             let here : whole (take (length d) (v ++ t.values)) ≤ 1 = rw head f.1 in
             let l : ltb 1 (min t.standing (g (w t.values))) ≡ false = le-ltb 1 (min t.standing (g (w t.values))) (omega arith) in
             let r : ltb 1 (min t.standing (eq t.values)) ≡ false = le-ltb 1 (min t.standing (eq t.values)) (let z = f.0 in omega arith) in
-            ap (λ b. on b (on (starts same d (v ++ t.values)) (h (ranked (v ++ t.values) (min t.standing (g (w t.values))))))) l
-            ∙ sym (ap (λ b. on b (h (ranked (d ++ t.values) (min t.standing (eq t.values))))) r))
+            ap (λ b. when b (when (starts same d (v ++ t.values)) (h (ranked (v ++ t.values) (min t.standing (g (w t.values))))))) l
+            ∙ sym (ap (λ b. when b (h (ranked (d ++ t.values) (min t.standing (eq t.values))))) r))
             (q.where_same y)
         | inr f ↦
             let low = q.elsewhere f in
             let z : ltb 1 (min t.standing (eq t.values)) ≡ false = le-ltb 1 (min t.standing (eq t.values)) (omega arith) in
-            rw (begins, f, z) (on-zero (ltb 1 (min t.standing (g (w t.values)))))
+            rw (begins, f, z) (when-zero (ltb 1 (min t.standing (g (w t.values)))))
       ])
       ∙ sym (weigh-select (λ t. h (after d t)) eq ts))

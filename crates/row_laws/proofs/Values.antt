@@ -4,14 +4,14 @@ use Rattle.std.proofs.Math.Dec.{ltb}
 use Rattle.std.specs.Prelude.{not, min, ◌&&◌, ◌==◌, Option, slice_index_or, nat_lt}
 use Rattle.std.proofs.lemmas.Bool.{cases_Bool, true≢false, and_parts, eqb-true, eq-eqb, lt-ltb}
 use Rattle.row_laws.specs.Ranked.{Ranked, ranked, unknown_rank, too_many_rows_rank, true_rank}
-use Rattle.row_laws.specs.Bags.{weigh, SameBag, IsIdentity, nub, OfBag, Each, top, bottom}
+use Rattle.row_laws.specs.Bags.{weigh, SameBag, IsIdentity, each_once, OfBag, Each, top, bottom}
 use Rattle.row_laws.specs.Rows.{same_row}
 use Rattle.row_laws.specs.Operators.{mark_of, scalar_of, value_at}
 use Rattle.row_laws.specs.Aggregates.{Reading, run, Exchanges, IsOrder, first, first_of, ReadsNulls, not_null, least_fault, aggregated, unless_fault, unless_none, unless_range, count_rows, count_of, count_distinct_of, sum_of, avg_of, min_of, max_of}
 use Rattle.row_laws.specs.ValueLaws.{FaultsFirst, NullsSkipped}
 use Rattle.row_laws.proofs.Rows.{same_row_is}
 use Rattle.row_laws.proofs.Lists.{filter_within}
-use Rattle.row_laws.proofs.OfBags.{bottom_most, OfBag-top, OfBag-bottom, OfBag-weigh, OfBag-both, OfBag-then, OfBag-map, OfBag-filter, OfBag-length, OfBag-nub, OfBag-run, OfBag-by_number}
+use Rattle.row_laws.proofs.OfBags.{bottom_most, OfBag-top, OfBag-bottom, OfBag-weigh, OfBag-both, OfBag-then, OfBag-map, OfBag-filter, OfBag-length, OfBag-each_once, OfBag-run, OfBag-by_number}
 
 -- the first by an order, as a fold
 module _ {X : Type 0} (before : X → X → Bool) (order : IsOrder before) where
@@ -103,9 +103,9 @@ module _ {V : Type 0} (m : Reading V) where
 
   pub count_distinct_bag : (same : V → V → Bool) → IsIdentity same → OfBag (count_distinct_of m same)
   count_distinct_bag same is =
-      OfBag-unless (λ vs. m.number (length (nub same (not_null m vs))) 0)
-      (OfBag-then (λ n. m.number n 0) (λ vs. length (nub same (not_null m vs)))
-      (OfBag-filter (λ v. not (m.is_null v)) (λ vs. length (nub same vs)) (OfBag-nub same is (λ vs. length vs) OfBag-length)))
+      OfBag-unless (λ vs. m.number (length (each_once same (not_null m vs))) 0)
+      (OfBag-then (λ n. m.number n 0) (λ vs. length (each_once same (not_null m vs)))
+      (OfBag-filter (λ v. not (m.is_null v)) (λ vs. length (each_once same vs)) (OfBag-each_once same is (λ vs. length vs) OfBag-length)))
 
   abbrev difference : List V → V
   difference vs = m.number (weigh m.above vs - weigh m.below vs) (weigh m.below vs - weigh m.above vs)

@@ -2,7 +2,7 @@
 use Rattle.std.specs.Prelude.{◌≡◌, ℕ, ◌-◌, ◌^◌, ◌==◌, List, [], ◌∷◌, Bool, true, false, cond, not, length, map, max, nat_lt}
 use Rattle.std.specs.List.{filter}
 use Rattle.row_laws.specs.Ranked.{Ranked, unknown_rank, number_range_rank, true_rank}
-use Rattle.row_laws.specs.Bags.{weigh, bottom, nub, Each}
+use Rattle.row_laws.specs.Bags.{weigh, bottom, each_once, Each}
 
 -- What aggregates read of a value, and how they write one.
 pub record Reading (V : Type 0) : Type 0 where
@@ -75,7 +75,7 @@ module _ {V : Type 0} (m : Reading V) where
 
   -- count(distinct e)
   abbrev pub count_distinct_of : (V → V → Bool) → List V → V
-  count_distinct_of same vs = unless_fault vs (m.number (length (nub same (not_null vs))) 0)
+  count_distinct_of same vs = unless_fault vs (m.number (length (each_once same (not_null vs))) 0)
 
   -- null where nothing but nulls is there, else v
   abbrev pub unless_none : List V → V → V

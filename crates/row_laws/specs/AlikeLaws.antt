@@ -42,11 +42,11 @@ SingleNodeAlike {V} same = (pick : List V → List V) (write : ℕ → V) (fault
 
 -- GROUP BY, where the aggregates are functions of the bag: one bag gives one bag.
 abbrev pub GroupAlike : {V : Type 0} → (V → V → Bool) → Type 0
-GroupAlike {V} same = (key : List V → List V) (aggs : List (Ranked V) → List V) (xs us : List (Ranked V)) → OfBag aggs → SameBag xs us → SameBag (group_by same key aggs xs) (group_by same key aggs us)
+GroupAlike {V} same = (key : List V → List V) (aggregates : List (Ranked V) → List V) (xs us : List (Ranked V)) → OfBag aggregates → SameBag xs us → SameBag (group_by same key aggregates xs) (group_by same key aggregates us)
 
 -- Aggregates without GROUP BY: one bag gives one bag.
 abbrev pub TotalAlike : (V : Type 0) → Type 0
-TotalAlike V = (aggs : List (Ranked V) → List V) (xs us : List (Ranked V)) → OfBag aggs → SameBag xs us → SameBag (total aggs xs) (total aggs us)
+TotalAlike V = (aggregates : List (Ranked V) → List V) (xs us : List (Ranked V)) → OfBag aggregates → SameBag xs us → SameBag (total aggregates xs) (total aggregates us)
 
 -- DISTINCT: one bag gives one bag.
 abbrev pub DistinctAlike : {V : Type 0} → (V → V → Bool) → Type 0

@@ -4,7 +4,7 @@ use Rattle.std.specs.List.{filter, flat_map, sum_by, IsDistinct}
 use Rattle.std.specs.List.Sorted.{IsPermutation}
 use Rattle.std.specs.Map.{lookup}
 use Rattle.row_laws.specs.Ranked.{Ranked}
-use Rattle.row_laws.specs.Bags.{on, weigh, SameBag, IsIdentity, has, count, nub, classes, OfBag, top, bottom}
+use Rattle.row_laws.specs.Bags.{when, weigh, SameBag, IsIdentity, has, count, each_once, classes, OfBag, top, bottom}
 use Rattle.row_laws.specs.Rows.{same_row}
 use Rattle.row_laws.specs.Operators.{distinct}
 use Rattle.row_laws.specs.Domains.{values_of, no_two}
@@ -69,7 +69,7 @@ RowsHaveIdentity same = IsIdentity (same_row same)
 abbrev pub IdentitiesAgree : (R S : Type 0) {K : Type 0} → (K → K → Bool) → (K → K → Bool) → Type 0
 IdentitiesAgree R S {K} same alike =
     ((x y : K) → same x y ≡ alike x y)
-    × ((xs : List K) → nub same xs ≡ nub alike xs)
+    × ((xs : List K) → each_once same xs ≡ each_once alike xs)
     × ((key : R → K) (f : K → List R → S) (xs : List R) → classes same key f xs ≡ classes alike key f xs)
 
 -- GROUP BY: classes of one bag are one bag, where each class is a function of the bag of its elements.
@@ -82,7 +82,7 @@ DistinctRows {V} same = (xs : List (Ranked V)) → (no_two same (values_of (dist
 
 -- What a list of keys with their classes has to show: the keys are those of the elements, each once.
 abbrev pub ClassesMade : (R S : Type 0) {K : Type 0} → (K → K → Bool) → Type 0
-ClassesMade R S {K} same = (key : R → K) (f : K → List R → S) (xs : List R) (ks : List K) → ((k : K) → count same k ks ≡ on (has same k (map key xs)) 1)
+ClassesMade R S {K} same = (key : R → K) (f : K → List R → S) (xs : List R) (ks : List K) → ((k : K) → count same k ks ≡ when (has same k (map key xs)) 1)
     → SameBag (map (λ k. f k (filter (λ x. same (key x) k) xs)) ks) (classes same key f xs)
 
 -- What a hash table of groups has to show: its keys differ, it has for the key of each element the part that the elements with that key make, and nothing for other keys.

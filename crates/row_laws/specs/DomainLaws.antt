@@ -53,8 +53,8 @@ AttachAnswers {V} same = (null : V) (side : Side) (value : List V → List (Rank
 
 -- GROUP BY over a domain.
 abbrev pub GroupAnswers : {V : Type 0} → (V → V → Bool) → Type 0
-GroupAnswers {V} same = (sub : List V → List V) (aggs : List (Ranked V) → List V) → OfBag aggs → (n : ℕ) (ds xs : List (Ranked V)) (L : List V → List (Ranked V)) → IsDomain same n ds → Answers same ds xs L
-    → Answers same ds (group_by same (λ x. take n x ++ sub x) aggs xs) (λ d. group_by same (λ t. sub (d ++ t)) (λ ys. aggs (map (after d) ys)) (L d))
+GroupAnswers {V} same = (grouping : List V → List V) (aggregates : List (Ranked V) → List V) → OfBag aggregates → (n : ℕ) (ds xs : List (Ranked V)) (L : List V → List (Ranked V)) → IsDomain same n ds → Answers same ds xs L
+    → Answers same ds (group_by same (λ x. take n x ++ grouping x) aggregates xs) (λ d. group_by same (λ t. grouping (d ++ t)) (λ ys. aggregates (map (after d) ys)) (L d))
 
 -- The fill gives each domain row its groups, or where it has none the empty group.
 abbrev pub FillAnswers : {V : Type 0} → (V → V → Bool) → Type 0
@@ -62,8 +62,8 @@ FillAnswers {V} same = (empty : List V) (n : ℕ) (ds gs : List (Ranked V)) (G :
 
 -- Aggregates without GROUP BY: the fill over groups by the domain's columns.
 abbrev pub TotalAnswers : {V : Type 0} → (V → V → Bool) → Type 0
-TotalAnswers {V} same = (aggs : List (Ranked V) → List V) → OfBag aggs → (n : ℕ) (ds xs : List (Ranked V)) (L : List V → List (Ranked V)) → IsDomain same n ds → Answers same ds xs L
-    → Answers same ds (fill same (aggs []) ds (group_by same (λ x. take n x) aggs xs)) (λ d. total (λ ys. aggs (map (after d) ys)) (L d))
+TotalAnswers {V} same = (aggregates : List (Ranked V) → List V) → OfBag aggregates → (n : ℕ) (ds xs : List (Ranked V)) (L : List V → List (Ranked V)) → IsDomain same n ds → Answers same ds xs L
+    → Answers same ds (fill same (aggregates []) ds (group_by same (λ x. take n x) aggregates xs)) (λ d. total (λ ys. aggregates (map (after d) ys)) (L d))
 
 -- DISTINCT over a domain.
 abbrev pub DistinctAnswers : {V : Type 0} → (V → V → Bool) → Type 0

@@ -59,13 +59,13 @@ SingleMeets {V} same = (pick : List V → List V) (write : ℕ → V) (fault_ran
 
 -- GROUP BY, which takes the domain's columns among its own, under one domain row.
 abbrev pub GroupMeets : {V : Type 0} → (V → V → Bool) → Type 0
-GroupMeets {V} same = (sub : List V → List V) (aggs : List (Ranked V) → List V) (d : List V) (xs ts : List (Ranked V)) → OfBag aggs → Meets same d xs ts
-    → Meets same d (group_by same (λ x. take (length d) x ++ sub x) aggs xs) (group_by same (λ t. sub (d ++ t)) (λ ys. aggs (map (after d) ys)) ts)
+GroupMeets {V} same = (grouping : List V → List V) (aggregates : List (Ranked V) → List V) (d : List V) (xs ts : List (Ranked V)) → OfBag aggregates → Meets same d xs ts
+    → Meets same d (group_by same (λ x. take (length d) x ++ grouping x) aggregates xs) (group_by same (λ t. grouping (d ++ t)) (λ ys. aggregates (map (after d) ys)) ts)
 
 -- Aggregates without GROUP BY under one domain row, before the fill: groups by the domain's columns alone.
 abbrev pub KeyMeets : {V : Type 0} → (V → V → Bool) → Type 0
-KeyMeets {V} same = (aggs : List (Ranked V) → List V) (d : List V) (xs ts : List (Ranked V)) → OfBag aggs → Meets same d xs ts
-    → Meets same d (group_by same (λ x. take (length d) x) aggs xs) (group_by same (λ t. []) (λ ys. aggs (map (after d) ys)) ts)
+KeyMeets {V} same = (aggregates : List (Ranked V) → List V) (d : List V) (xs ts : List (Ranked V)) → OfBag aggregates → Meets same d xs ts
+    → Meets same d (group_by same (λ x. take (length d) x) aggregates xs) (group_by same (λ t. []) (λ ys. aggregates (map (after d) ys)) ts)
 
 -- A right side that has the domain's values in columns bs of its own, and asks in its WHERE that they equal the domain's, needs no domain: its rows take their own values as domain columns,
 -- and the equality becomes a condition on these alone, as `is not null`.

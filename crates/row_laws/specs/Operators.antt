@@ -2,7 +2,7 @@
 use Rattle.std.specs.Prelude.{ℕ, List, [], ◌∷◌, ◌++◌, Bool, cond, map, length, drop, min, nat_lt, slice_index_or}
 use Rattle.std.specs.List.{filter, flat_map}
 use Rattle.row_laws.specs.Ranked.{Ranked, ranked, unknown_rank, too_many_rows_rank, true_rank}
-use Rattle.row_laws.specs.Bags.{nub, classes, top, bottom}
+use Rattle.row_laws.specs.Bags.{each_once, classes, top, bottom}
 use Rattle.row_laws.specs.Rows.{same_row, starts, strip, keep}
 
 -- WHERE, HAVING: each row at the lesser of its standing and the condition c, kept where that is above Unknown.
@@ -93,7 +93,7 @@ module _ {V : Type 0} (same : V → V → Bool) where
 
   -- GROUP BY: for each key the key's values and the aggregates of its rows, at the least of their standings.
   abbrev pub group_by : (List V → List V) → (List (Ranked V) → List V) → List (Ranked V) → List (Ranked V)
-  group_by key aggs xs = classes (same_row same) (λ x. key x.values) (λ k ys. ranked (k ++ aggs ys) (least ys)) xs
+  group_by key aggregates xs = classes (same_row same) (λ x. key x.values) (λ k ys. ranked (k ++ aggregates ys) (least ys)) xs
 
   -- DISTINCT: identical rows once, at the greatest of their standings.
   abbrev pub distinct : List (Ranked V) → List (Ranked V)
@@ -101,7 +101,7 @@ module _ {V : Type 0} (same : V → V → Bool) where
 
   -- The domain of a dependent right side: the values that `pick` takes of the left rows, identical ones once, each at True.
   abbrev pub domain_node : (List V → List V) → List (Ranked V) → List (Ranked V)
-  domain_node pick xs = map (λ k. ranked k true_rank) (nub (same_row same) (map (λ x. pick x.values) xs))
+  domain_node pick xs = map (λ k. ranked k true_rank) (each_once (same_row same) (map (λ x. pick x.values) xs))
 
   -- Over groups by a domain's columns: each domain row once, with its groups, or where it has none with the empty group's aggregates at True.
   abbrev pub fill : List V → List (Ranked V) → List (Ranked V) → List (Ranked V)
@@ -109,7 +109,7 @@ module _ {V : Type 0} (same : V → V → Bool) where
 
 -- Aggregates without GROUP BY: one group of all rows, also where there are none.
 abbrev pub total : {V : Type 0} → (List (Ranked V) → List V) → List (Ranked V) → List (Ranked V)
-total aggs ts = ranked (aggs ts) (least ts) ∷ []
+total aggregates ts = ranked (aggregates ts) (least ts) ∷ []
 
 -- The same operators by nested loops: R l is the right side, taken anew under a left row of the values l.
 abbrev pub join_loop : {V : Type 0} → (List V → ℕ) → List (Ranked V) → (List V → List (Ranked V)) → List (Ranked V)

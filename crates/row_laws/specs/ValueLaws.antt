@@ -2,7 +2,7 @@
 use Rattle.std.specs.Prelude.{◌≡◌, ℕ, ◌<◌, List, Bool, map}
 use Rattle.std.specs.List.{filter}
 use Rattle.row_laws.specs.Ranked.{Ranked, true_rank}
-use Rattle.row_laws.specs.Bags.{SameBag, OfBag, Each, nub, weigh, top, bottom}
+use Rattle.row_laws.specs.Bags.{SameBag, OfBag, Each, each_once, weigh, top, bottom}
 use Rattle.row_laws.specs.Operators.{mark_of, scalar_of, least, greatest}
 use Rattle.row_laws.specs.Aggregates.{Reading, ReadsNulls, IsOrder, not_null, least_fault, count_rows, count_of, count_distinct_of, sum_of, avg_of, min_of, max_of, aggregated, run, Exchanges, InOrder}
 
@@ -72,7 +72,7 @@ OfKeptInAnyOrder X Z = (p : X → Bool) (a : List X → Z) → OfBag a → OfBag
 
 -- A function of the bag of distinct elements is a function of the bag.
 abbrev pub OfDistinctInAnyOrder : (Z : Type 0) {X : Type 0} → (X → X → Bool) → Type 0
-OfDistinctInAnyOrder Z {X} same = (a : List X → Z) → OfBag a → OfBag (λ xs. a (nub same xs))
+OfDistinctInAnyOrder Z {X} same = (a : List X → Z) → OfBag a → OfBag (λ xs. a (each_once same xs))
 
 -- A bag in order is one list: two lists in order by a total order that are the same bag are equal.
 abbrev pub OneListInOrder : {X : Type 0} → (X → X → Bool) → Type 0
