@@ -10,6 +10,9 @@ pub mod Trees
 pub mod Tables
 pub mod Alike
 pub mod Moves
+pub mod AtHand
+pub mod Projections
+pub mod Standings
 pub mod Values
 pub mod Cells
 pub mod Local

@@ -1,0 +1,68 @@
+-- Every operator leaves rows at True or at a fault, where those it takes stand so. A table's rows stand at True.
+use Rattle.std.specs.Prelude.{◌≡◌, ◌≤◌, ℕ, List, Bool}
+use Rattle.row_laws.specs.Ranked.{Ranked, too_many_rows_rank, true_rank}
+use Rattle.row_laws.specs.Bags.{Each}
+use Rattle.row_laws.specs.Operators.{select, project, cross, join, join_loop, outer_loop, attach_loop, group_by, total, distinct}
+use Rattle.row_laws.specs.Trees.{Tree, tree_rows, node_rows}
+
+-- the row stands at a fault or at True
+pub record Stands {V : Type 0} (x : Ranked V) : Type 0 where
+  pub not_dropped : too_many_rows_rank ≤ x.standing
+  pub within : x.standing ≤ true_rank
+
+-- WHERE and HAVING.
+abbrev pub SelectStands : (V : Type 0) → Type 0
+SelectStands V = (c : List V → ℕ) (xs : List (Ranked V)) → Each Stands xs → Each Stands (select c xs)
+
+-- The select list.
+abbrev pub ProjectStands : (V : Type 0) → Type 0
+ProjectStands V = (f : List V → List V) (xs : List (Ranked V)) → Each Stands xs → Each Stands (project f xs)
+
+-- All combinations.
+abbrev pub CrossStands : (V : Type 0) → Type 0
+CrossStands V = (xs ys : List (Ranked V)) → Each Stands xs → Each Stands ys → Each Stands (cross xs ys)
+
+-- The inner join, also where the right side is taken anew under each left row.
+abbrev pub JoinStands : (V : Type 0) → Type 0
+JoinStands V = (c : List V → ℕ) (ls : List (Ranked V)) (R : List V → List (Ranked V))
+    → Each Stands ls → ((l : List V) → Each Stands (R l)) → Each Stands (join_loop c ls R)
+
+-- The left outer join likewise.
+abbrev pub OuterStands : (V : Type 0) → Type 0
+OuterStands V = (nulls : List V) (c : List V → ℕ) (ls : List (Ranked V)) (R : List V → List (Ranked V))
+    → Each Stands ls → ((l : List V) → Each Stands (R l)) → Each Stands (outer_loop nulls c ls R)
+
+-- Marks and scalar values, which keep the left rows' standings.
+abbrev pub AttachStands : (V : Type 0) → Type 0
+AttachStands V = (value : List V → List (Ranked V) → V) (ls : List (Ranked V)) (R : List V → List (Ranked V))
+    → Each Stands ls → Each Stands (attach_loop value ls R)
+
+-- GROUP BY.
+abbrev pub GroupStands : {V : Type 0} → (V → V → Bool) → Type 0
+GroupStands {V} same = (key : List V → List V) (aggregates : List (Ranked V) → List V) (xs : List (Ranked V))
+    → Each Stands xs → Each Stands (group_by same key aggregates xs)
+
+-- Aggregates without GROUP BY.
+abbrev pub TotalStands : (V : Type 0) → Type 0
+TotalStands V = (aggregates : List (Ranked V) → List V) (xs : List (Ranked V)) → Each Stands xs → Each Stands (total aggregates xs)
+
+-- DISTINCT.
+abbrev pub DistinctStands : {V : Type 0} → (V → V → Bool) → Type 0
+DistinctStands {V} same = (xs : List (Ranked V)) → Each Stands xs → Each Stands (distinct same xs)
+
+-- The rows of every tree under every domain row, by nested loops.
+abbrev pub TreeStands : {V : Type 0} → (V → V → Bool) → Type 0
+TreeStands {V} same = (null : V) (tables : ℕ → List (List V)) (T : Tree V) (d : List V) → Each Stands (tree_rows same null tables T d)
+
+-- The rows of the node that a tree is lowered to, over a domain whose rows stand so.
+abbrev pub NodeStands : {V : Type 0} → (V → V → Bool) → Type 0
+NodeStands {V} same = (null : V) (tables : ℕ → List (List V)) (T : Tree V) (n : ℕ) (ds : List (Ranked V))
+    → Each Stands ds → Each Stands (node_rows same null tables T n ds)
+
+-- WHERE True keeps such rows as they are.
+abbrev pub SelectTrue : (V : Type 0) → Type 0
+SelectTrue V = (xs : List (Ranked V)) → Each Stands xs → select (λ r. true_rank) xs ≡ xs
+
+-- JOIN ON True gives all combinations of such rows.
+abbrev pub JoinTrue : (V : Type 0) → Type 0
+JoinTrue V = (xs ys : List (Ranked V)) → Each Stands xs → Each Stands ys → join (λ r. true_rank) xs ys ≡ cross xs ys
