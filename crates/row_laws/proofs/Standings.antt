@@ -8,7 +8,8 @@ use Rattle.row_laws.specs.Bags.{IsIdentity, Each, has, each_once, top, bottom}
 use Rattle.row_laws.specs.Rows.{same_row, starts, strip, after, keep, scanned}
 use Rattle.row_laws.specs.Operators.{select, project, cross, join, pair, or_else, glue_at, least, greatest, mark_of, scalar_of, join_loop, outer_loop, attach_loop, partners, join_node, outer_node, attach_node, mark_node, single_node, group_by, total, distinct, domain_node, fill}
 use Rattle.row_laws.specs.StandingLaws.{Stands}
-use Rattle.row_laws.specs.Trees.{Side, Tree, side_row, side_pick, side_width, side_domain, tree_rows, node_rows}
+use Rattle.row_laws.specs.Matched.{right_places, without, glue_matched, matches_of, inner_matched, outer_matched, attach_matched}
+use Rattle.row_laws.specs.Trees.{Tree, side_row, side_pick, side_width, side_domain, tree_rows, node_rows}
 use Rattle.row_laws.specs.Trees.Tree.{Scan, Select, Project, Join, Outer, Mark, Single, Group, Total, Distinct}
 use Rattle.row_laws.proofs.Lists.{Each-map, Each-filter, Each-weaker, Each-flat_map, Each-all, Each-each_once, flat_map-ext_each, flat_map-single}
 use Rattle.row_laws.proofs.Nodes.{Each-or_else}
@@ -145,7 +146,27 @@ module _ {V : Type 0} (same : V → V → Bool) where
       let row : Ranked V → List V = λ x. x.values ++ value x.values (map (strip (length (pick x.values))) (partners same (pick x.values) ys)) ∷ [] in
       Each-flat_map Stands Stands (λ x. ranked (row x) x.standing ∷ []) xs all (λ x p. (stands_alike x (row x) p, tt))
 
-  fill_stands : (empty : List V) (ds gs : List (Ranked V)) → Each Stands gs → Each Stands (fill same empty ds gs)
+  -- by matched columns
+  module _ (null : V) (matched : List (ℕ × ℕ)) where
+    pub inner_matched_stands : (c : List V → ℕ) (xs ys : List (Ranked V)) → Each Stands xs → Each Stands (inner_matched same null matched c xs ys)
+    inner_matched_stands c xs ys all =
+        Each-flat_map Stands Stands (λ x. flat_map (λ y. pair c (glue_matched matched) x y) (matches_of same null matched x.values ys)) xs all
+        (λ x p. pairs_stand c (glue_matched matched) x (matches_of same null matched x.values ys) p)
+
+    pub outer_matched_stands : (nulls : List V) (c : List V → ℕ) (xs ys : List (Ranked V)) → Each Stands xs → Each Stands (outer_matched same null matched nulls c xs ys)
+    outer_matched_stands nulls c xs ys all =
+        let M : Ranked V → List (Ranked V) = λ x. flat_map (λ y. pair c (glue_matched matched) x y) (matches_of same null matched x.values ys) in
+        Each-flat_map Stands Stands (λ x. or_else (M x) (ranked (x.values ++ nulls) x.standing)) xs all
+        (λ x p. Each-or_else Stands (M x) (ranked (x.values ++ nulls) x.standing)
+        (pairs_stand c (glue_matched matched) x (matches_of same null matched x.values ys) p) (stands_alike x (x.values ++ nulls) p))
+
+    pub attach_matched_stands : (value : List V → List (Ranked V) → V) (xs ys : List (Ranked V)) → Each Stands xs → Each Stands (attach_matched same null matched value xs ys)
+    attach_matched_stands value xs ys all =
+        let rest : Ranked V → Ranked V = λ y. ranked (without (right_places matched) y.values) y.standing in
+        let row : Ranked V → List V = λ x. x.values ++ value x.values (map rest (matches_of same null matched x.values ys)) ∷ [] in
+        Each-flat_map Stands Stands (λ x. ranked (row x) x.standing ∷ []) xs all (λ x p. (stands_alike x (row x) p, tt))
+
+  pub fill_stands : (empty : List V) (ds gs : List (Ranked V)) → Each Stands gs → Each Stands (fill same empty ds gs)
   fill_stands empty ds gs all =
       Each-flat_map (λ e. Unit {0}) Stands (λ e. or_else (partners same e.values gs) (ranked (e.values ++ empty) true_rank)) ds (Each-all (λ e. Unit {0}) ds (λ e. tt))
       (λ e q. Each-or_else Stands (partners same e.values gs) (ranked (e.values ++ empty) true_rank) (Each-filter Stands (λ y. starts same e.values y.values) gs all) (true_stands (e.values ++ empty)))

@@ -8,7 +8,7 @@ use Rattle.row_laws.specs.Bags.{weigh, SameBag, IsIdentity, each_once, OfBag, Ea
 use Rattle.row_laws.specs.Rows.{same_row}
 use Rattle.row_laws.specs.Operators.{mark_of, scalar_of, value_at}
 use Rattle.row_laws.specs.Aggregates.{Reading, run, Exchanges, IsOrder, first, first_of, ReadsNulls, not_null, least_fault, aggregated, unless_fault, unless_none, unless_range, count_rows, count_of, count_distinct_of, sum_of, avg_of, min_of, max_of}
-use Rattle.row_laws.specs.ValueLaws.{FaultsFirst, NullsSkipped}
+use Rattle.row_laws.specs.ValueLaws.{GivesLeastFault, SkipsNulls}
 use Rattle.row_laws.proofs.Rows.{same_row_is}
 use Rattle.row_laws.proofs.Lists.{filter_within}
 use Rattle.row_laws.proofs.OfBags.{bottom_most, OfBag-top, OfBag-bottom, OfBag-weigh, OfBag-both, OfBag-then, OfBag-map, OfBag-filter, OfBag-length, OfBag-each_once, OfBag-run, OfBag-by_number}
@@ -205,10 +205,10 @@ module _ {V : Type 0} (m : Reading V) (nulls : ReadsNulls m) where
   min_skips before vs = rw (fault_there vs, once_more vs)
 
   pub nulls_skipped : (divided : ℕ → ℕ → ℕ → V) (before same : V → V → Bool)
-      → NullsSkipped m (count_of m) × NullsSkipped m (count_distinct_of m same) × NullsSkipped m (sum_of m) × NullsSkipped m (avg_of m divided) × NullsSkipped m (min_of m before) × NullsSkipped m (max_of m before)
+      → SkipsNulls m (count_of m) × SkipsNulls m (count_distinct_of m same) × SkipsNulls m (sum_of m) × SkipsNulls m (avg_of m divided) × SkipsNulls m (min_of m before) × SkipsNulls m (max_of m before)
   nulls_skipped divided before same = (count_skips, count_distinct_skips same, sum_skips, avg_skips divided, min_skips before, min_skips (λ x y. before y x))
 
 -- the least fault first
 pub faults_first : {V : Type 0} (m : Reading V) (divided : ℕ → ℕ → ℕ → V) (before same : V → V → Bool)
-    → FaultsFirst m (count_of m) × FaultsFirst m (count_distinct_of m same) × FaultsFirst m (sum_of m) × FaultsFirst m (avg_of m divided) × FaultsFirst m (min_of m before) × FaultsFirst m (max_of m before)
+    → GivesLeastFault m (count_of m) × GivesLeastFault m (count_distinct_of m same) × GivesLeastFault m (sum_of m) × GivesLeastFault m (avg_of m divided) × GivesLeastFault m (min_of m before) × GivesLeastFault m (max_of m before)
 faults_first m divided before same = (λ vs l. rw (lt-ltb (least_fault m vs) true_rank l), λ vs l. rw (lt-ltb (least_fault m vs) true_rank l), λ vs l. rw (lt-ltb (least_fault m vs) true_rank l), λ vs l. rw (lt-ltb (least_fault m vs) true_rank l), λ vs l. rw (lt-ltb (least_fault m vs) true_rank l), λ vs l. rw (lt-ltb (least_fault m vs) true_rank l))

@@ -1,11 +1,20 @@
 -- The node laws of unnesting, for a whole domain: where the inputs of a node answer the loops over the domain, so does the node.
-use Rattle.std.specs.Prelude.{◌≡◌, ℕ, List, [], ◌++◌, Bool, true, map, take, length}
+use Rattle.std.specs.Prelude.{◌≡◌, ℕ, List, [], ◌++◌, Bool, true, map, min, take, length}
 use Rattle.row_laws.specs.Ranked.{Ranked, ranked, true_rank}
 use Rattle.row_laws.specs.Bags.{SameBag, OfBag, Each}
-use Rattle.row_laws.specs.Rows.{after, scanned, unit_row}
+use Rattle.row_laws.specs.Rows.{after, columns, scanned, unit_row}
 use Rattle.row_laws.specs.Operators.{select, project, join_node, outer_node, attach_node, join_loop, outer_loop, attach_loop, or_else, group_by, total, distinct, domain_node, fill}
 use Rattle.row_laws.specs.Domains.{under, no_two, meeting, IsDomain, Meets, Answers}
+use Rattle.row_laws.specs.LoopLaws.{local_node, Equates}
 use Rattle.row_laws.specs.Trees.{Side, side_row, side_pick, side_width, side_domain}
+
+-- The two sides of a node over the domain ds of n columns: the left node's rows xs answer the loops L over ds,
+-- and the right node's rows ys the loops R over the right side's domain.
+pub record SidesAnswer {V : Type 0} (same : V → V → Bool) (null : V) (side : Side) (n : ℕ)
+    (ds xs ys : List (Ranked V)) (L R : List V → List (Ranked V)) : Type 0 where
+  pub domain : IsDomain same n ds
+  pub left : Answers same ds xs L
+  pub right : Answers same (side_domain same null side ds xs) ys R
 
 -- The one row of no columns is a domain, which a whole query is lowered over.
 abbrev pub UnitRowIsDomain : {V : Type 0} → (V → V → Bool) → Type 0
@@ -38,17 +47,20 @@ ProjectAnswers {V} same = (f : List V → List V) (n : ℕ) (ds xs : List (Ranke
 
 -- The inner join over a domain, with a right side that is closed, that shares the domain, or that has a domain of its own, as a lateral join has.
 abbrev pub JoinAnswers : {V : Type 0} → (V → V → Bool) → Type 0
-JoinAnswers {V} same = (null : V) (side : Side) (c : List V → ℕ) (n : ℕ) (ds xs ys : List (Ranked V)) (L R : List V → List (Ranked V)) → IsDomain same n ds → Answers same ds xs L → Answers same (side_domain same null side ds xs) ys R
+JoinAnswers {V} same = (null : V) (side : Side) (c : List V → ℕ) (n : ℕ) (ds xs ys : List (Ranked V)) (L R : List V → List (Ranked V))
+    → SidesAnswer same null side n ds xs ys L R
     → Answers same ds (join_node same (side_pick null side n) c xs ys) (λ d. join_loop (λ t. c (d ++ t)) (L d) (λ l. R (side_row null side d l)))
 
 -- The left outer join over a domain, with the same three kinds of right side.
 abbrev pub OuterAnswers : {V : Type 0} → (V → V → Bool) → Type 0
-OuterAnswers {V} same = (null : V) (side : Side) (nulls : List V) (c : List V → ℕ) (n : ℕ) (ds xs ys : List (Ranked V)) (L R : List V → List (Ranked V)) → IsDomain same n ds → Answers same ds xs L → Answers same (side_domain same null side ds xs) ys R
+OuterAnswers {V} same = (null : V) (side : Side) (nulls : List V) (c : List V → ℕ) (n : ℕ) (ds xs ys : List (Ranked V)) (L R : List V → List (Ranked V))
+    → SidesAnswer same null side n ds xs ys L R
     → Answers same ds (outer_node same (side_pick null side n) nulls c xs ys) (λ d. outer_loop nulls (λ t. c (d ++ t)) (L d) (λ l. R (side_row null side d l)))
 
 -- Marks and scalar values over a domain, with the same three kinds of right side.
 abbrev pub AttachAnswers : {V : Type 0} → (V → V → Bool) → Type 0
-AttachAnswers {V} same = (null : V) (side : Side) (value : List V → List (Ranked V) → V) → ((x : List V) → OfBag (value x)) → (n : ℕ) (ds xs ys : List (Ranked V)) (L R : List V → List (Ranked V)) → IsDomain same n ds → Answers same ds xs L → Answers same (side_domain same null side ds xs) ys R
+AttachAnswers {V} same = (null : V) (side : Side) (value : List V → List (Ranked V) → V) → ((x : List V) → OfBag (value x)) → (n : ℕ) (ds xs ys : List (Ranked V)) (L R : List V → List (Ranked V))
+    → SidesAnswer same null side n ds xs ys L R
     → Answers same ds (attach_node same (side_pick null side n) value xs ys) (λ d. attach_loop (λ l. value (d ++ l)) (L d) (λ l. R (side_row null side d l)))
 
 -- GROUP BY over a domain.
@@ -64,6 +76,14 @@ FillAnswers {V} same = (empty : List V) (n : ℕ) (ds gs : List (Ranked V)) (G :
 abbrev pub TotalAnswers : {V : Type 0} → (V → V → Bool) → Type 0
 TotalAnswers {V} same = (aggregates : List (Ranked V) → List V) → OfBag aggregates → (n : ℕ) (ds xs : List (Ranked V)) (L : List V → List (Ranked V)) → IsDomain same n ds → Answers same ds xs L
     → Answers same ds (fill same (aggregates []) ds (group_by same (λ x. take n x) aggregates xs)) (λ d. total (λ ys. aggregates (map (after d) ys)) (L d))
+
+-- A right side that has the domain's values in columns bs of its own, and asks in its WHERE that they equal the domain's,
+-- needs no domain: its rows take their own values as domain columns, and the equality becomes a condition on these alone.
+abbrev pub LocalAnswers : {V : Type 0} → (V → V → Bool) → Type 0
+LocalAnswers {V} same = (null : V) (bs : List ℕ) (whole c : List V → ℕ) (equal : List V → List V → ℕ) (n : ℕ) (ds ts : List (Ranked V))
+    → IsDomain same n ds → length bs ≡ n
+    → Each (λ e. Each (λ t. Equates same equal whole e.values (columns null bs t.values)) ts) ds
+    → Answers same ds (local_node null bs n whole c ts) (λ d. select (λ t. min (equal d (columns null bs t)) (c (d ++ t))) ts)
 
 -- DISTINCT over a domain.
 abbrev pub DistinctAnswers : {V : Type 0} → (V → V → Bool) → Type 0

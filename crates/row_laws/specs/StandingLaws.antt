@@ -2,7 +2,8 @@
 use Rattle.std.specs.Prelude.{◌≡◌, ◌≤◌, ℕ, List, Bool}
 use Rattle.row_laws.specs.Ranked.{Ranked, too_many_rows_rank, true_rank}
 use Rattle.row_laws.specs.Bags.{Each}
-use Rattle.row_laws.specs.Operators.{select, project, cross, join, join_loop, outer_loop, attach_loop, group_by, total, distinct}
+use Rattle.row_laws.specs.Operators.{select, project, cross, join, join_loop, outer_loop, attach_loop, group_by, total, distinct, domain_node, fill}
+use Rattle.row_laws.specs.Matched.{inner_matched, outer_matched, attach_matched}
 use Rattle.row_laws.specs.Trees.{Tree, tree_rows, node_rows}
 
 -- the row stands at a fault or at True
@@ -49,6 +50,30 @@ TotalStands V = (aggregates : List (Ranked V) → List V) (xs : List (Ranked V))
 -- DISTINCT.
 abbrev pub DistinctStands : {V : Type 0} → (V → V → Bool) → Type 0
 DistinctStands {V} same = (xs : List (Ranked V)) → Each Stands xs → Each Stands (distinct same xs)
+
+-- The inner join by matched columns.
+abbrev pub InnerMatchedStands : {V : Type 0} → (V → V → Bool) → Type 0
+InnerMatchedStands {V} same = (null : V) (matched : List (ℕ × ℕ)) (c : List V → ℕ) (xs ys : List (Ranked V))
+    → Each Stands xs → Each Stands (inner_matched same null matched c xs ys)
+
+-- The left outer join by matched columns.
+abbrev pub OuterMatchedStands : {V : Type 0} → (V → V → Bool) → Type 0
+OuterMatchedStands {V} same = (null : V) (matched : List (ℕ × ℕ)) (nulls : List V) (c : List V → ℕ) (xs ys : List (Ranked V))
+    → Each Stands xs → Each Stands (outer_matched same null matched nulls c xs ys)
+
+-- Marks and scalar values by matched columns.
+abbrev pub AttachMatchedStands : {V : Type 0} → (V → V → Bool) → Type 0
+AttachMatchedStands {V} same =
+    (null : V) (matched : List (ℕ × ℕ)) (value : List V → List (Ranked V) → V) (xs ys : List (Ranked V))
+    → Each Stands xs → Each Stands (attach_matched same null matched value xs ys)
+
+-- A domain, whose rows stand at True.
+abbrev pub DomainNodeStands : {V : Type 0} → (V → V → Bool) → Type 0
+DomainNodeStands {V} same = (pick : List V → List V) (xs : List (Ranked V)) → Each Stands (domain_node same pick xs)
+
+-- A fill of groups that stand so.
+abbrev pub FillStands : {V : Type 0} → (V → V → Bool) → Type 0
+FillStands {V} same = (empty : List V) (ds gs : List (Ranked V)) → Each Stands gs → Each Stands (fill same empty ds gs)
 
 -- The rows of every tree under every domain row, by nested loops.
 abbrev pub TreeStands : {V : Type 0} → (V → V → Bool) → Type 0

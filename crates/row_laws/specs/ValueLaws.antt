@@ -7,12 +7,12 @@ use Rattle.row_laws.specs.Operators.{mark_of, scalar_of, least, greatest}
 use Rattle.row_laws.specs.Aggregates.{Reading, ReadsNulls, IsOrder, not_null, least_fault, count_rows, count_of, count_distinct_of, sum_of, avg_of, min_of, max_of, aggregated, run, Exchanges, InOrder}
 
 -- the aggregate is the least fault of the values, where a fault stands among them
-abbrev pub FaultsFirst : {V : Type 0} → Reading V → (List V → V) → Type 0
-FaultsFirst {V} m aggregate = (vs : List V) → least_fault m vs < true_rank → aggregate vs ≡ m.write (least_fault m vs)
+abbrev pub GivesLeastFault : {V : Type 0} → Reading V → (List V → V) → Type 0
+GivesLeastFault {V} m aggregate = (vs : List V) → least_fault m vs < true_rank → aggregate vs ≡ m.write (least_fault m vs)
 
 -- the aggregate is that of the values that aren't null
-abbrev pub NullsSkipped : {V : Type 0} → Reading V → (List V → V) → Type 0
-NullsSkipped {V} m aggregate = (vs : List V) → aggregate (not_null m vs) ≡ aggregate vs
+abbrev pub SkipsNulls : {V : Type 0} → Reading V → (List V → V) → Type 0
+SkipsNulls {V} m aggregate = (vs : List V) → aggregate (not_null m vs) ≡ aggregate vs
 
 -- The standing of a group, and that of a DISTINCT row, don't depend on the order of the rows.
 abbrev pub StandingsInAnyOrder : (V : Type 0) → Type 0
@@ -79,11 +79,11 @@ abbrev pub OneListInOrder : {X : Type 0} → (X → X → Bool) → Type 0
 OneListInOrder {X} same = (before : X → X → Bool) (xs ys : List X) → IsOrder before → InOrder before xs → InOrder before ys → SameBag xs ys → xs ≡ ys
 
 -- Each aggregate answers the least fault first.
-abbrev pub FaultsComeFirst : {V : Type 0} → (V → V → Bool) → Type 0
-FaultsComeFirst {V} same = (m : Reading V) (divided : ℕ → ℕ → ℕ → V) (before : V → V → Bool)
-    → FaultsFirst m (count_of m) × FaultsFirst m (count_distinct_of m same) × FaultsFirst m (sum_of m) × FaultsFirst m (avg_of m divided) × FaultsFirst m (min_of m before) × FaultsFirst m (max_of m before)
+abbrev pub AllGiveLeastFault : {V : Type 0} → (V → V → Bool) → Type 0
+AllGiveLeastFault {V} same = (m : Reading V) (divided : ℕ → ℕ → ℕ → V) (before : V → V → Bool)
+    → GivesLeastFault m (count_of m) × GivesLeastFault m (count_distinct_of m same) × GivesLeastFault m (sum_of m) × GivesLeastFault m (avg_of m divided) × GivesLeastFault m (min_of m before) × GivesLeastFault m (max_of m before)
 
 -- Each aggregate skips nulls.
-abbrev pub NullsAreSkipped : {V : Type 0} → (V → V → Bool) → Type 0
-NullsAreSkipped {V} same = (m : Reading V) (divided : ℕ → ℕ → ℕ → V) (before : V → V → Bool) → ReadsNulls m
-    → NullsSkipped m (count_of m) × NullsSkipped m (count_distinct_of m same) × NullsSkipped m (sum_of m) × NullsSkipped m (avg_of m divided) × NullsSkipped m (min_of m before) × NullsSkipped m (max_of m before)
+abbrev pub AllSkipNulls : {V : Type 0} → (V → V → Bool) → Type 0
+AllSkipNulls {V} same = (m : Reading V) (divided : ℕ → ℕ → ℕ → V) (before : V → V → Bool) → ReadsNulls m
+    → SkipsNulls m (count_of m) × SkipsNulls m (count_distinct_of m same) × SkipsNulls m (sum_of m) × SkipsNulls m (avg_of m divided) × SkipsNulls m (min_of m before) × SkipsNulls m (max_of m before)

@@ -2,7 +2,7 @@
 
 ghost use Rattle.std.specs.Prelude.{Bool};
 ghost use Rattle.row_laws.specs.Bags.{IsIdentity};
-ghost use Rattle.row_laws.specs.StandingLaws.{SelectStands, ProjectStands, CrossStands, JoinStands, OuterStands, AttachStands, GroupStands, TotalStands, DistinctStands, TreeStands, NodeStands, SelectTrue, JoinTrue};
+ghost use Rattle.row_laws.specs.StandingLaws.{SelectStands, ProjectStands, CrossStands, JoinStands, OuterStands, AttachStands, GroupStands, TotalStands, DistinctStands, InnerMatchedStands, OuterMatchedStands, AttachMatchedStands, DomainNodeStands, FillStands, TreeStands, NodeStands, SelectTrue, JoinTrue};
 
 /// WHERE and HAVING.
 pub fn select_stands<V>()
@@ -47,6 +47,31 @@ pub fn total_stands<V>()
 /// DISTINCT.
 pub fn distinct_stands<V>()
     ensures { (same : V → V → Bool) → IsIdentity same → DistinctStands same }
+{}
+
+/// The inner join by matched columns.
+pub fn inner_matched_stands<V>()
+    ensures { (same : V → V → Bool) → InnerMatchedStands same }
+{}
+
+/// The left outer join by matched columns.
+pub fn outer_matched_stands<V>()
+    ensures { (same : V → V → Bool) → OuterMatchedStands same }
+{}
+
+/// Marks and scalar values by matched columns.
+pub fn attach_matched_stands<V>()
+    ensures { (same : V → V → Bool) → AttachMatchedStands same }
+{}
+
+/// A domain, whose rows stand at True.
+pub fn domain_node_stands<V>()
+    ensures { (same : V → V → Bool) → DomainNodeStands same }
+{}
+
+/// A fill of groups that stand so.
+pub fn fill_stands<V>()
+    ensures { (same : V → V → Bool) → FillStands same }
 {}
 
 /// The rows of every tree under every domain row, by nested loops.

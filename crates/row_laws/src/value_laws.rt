@@ -2,7 +2,7 @@
 
 ghost use Rattle.std.specs.Prelude.{Bool};
 ghost use Rattle.row_laws.specs.Bags.{IsIdentity};
-ghost use Rattle.row_laws.specs.ValueLaws.{StandingsInAnyOrder, MeasuresInAnyOrder, CountsInAnyOrder, SumInAnyOrder, AvgInAnyOrder, ExtremesInAnyOrder, AggregatesInAnyOrder, MarkInAnyOrder, ScalarInAnyOrder, FoldInAnyOrder, ThenInAnyOrder, BothInAnyOrder, OfImagesInAnyOrder, OfKeptInAnyOrder, OfDistinctInAnyOrder, OneListInOrder, FaultsComeFirst, NullsAreSkipped};
+ghost use Rattle.row_laws.specs.ValueLaws.{StandingsInAnyOrder, MeasuresInAnyOrder, CountsInAnyOrder, SumInAnyOrder, AvgInAnyOrder, ExtremesInAnyOrder, AggregatesInAnyOrder, MarkInAnyOrder, ScalarInAnyOrder, FoldInAnyOrder, ThenInAnyOrder, BothInAnyOrder, OfImagesInAnyOrder, OfKeptInAnyOrder, OfDistinctInAnyOrder, OneListInOrder, AllGiveLeastFault, AllSkipNulls};
 
 /// The standing of a group, and that of a DISTINCT row, don't depend on the order of the rows.
 pub fn standings_in_any_order<V>()
@@ -86,10 +86,10 @@ pub fn one_list_in_order<X>()
 
 /// Each aggregate answers the least fault first.
 pub fn faults_first<V>()
-    ensures { (same : V → V → Bool) → IsIdentity same → FaultsComeFirst same }
+    ensures { (same : V → V → Bool) → IsIdentity same → AllGiveLeastFault same }
 {}
 
 /// Each aggregate skips nulls.
 pub fn nulls_skipped<V>()
-    ensures { (same : V → V → Bool) → IsIdentity same → NullsAreSkipped same }
+    ensures { (same : V → V → Bool) → IsIdentity same → AllSkipNulls same }
 {}

@@ -2,4 +2,4 @@ use Rattle.row_laws.proofs.Trees.{attach_step}
 use Rattle.row_laws.proofs.domain_laws.attach_answers.Goals as goal
 
 pub returns : goal.returns
-returns g c = λ same is. attach_step same is
+returns g c = λ same is null side value bag n ds xs ys L R s. attach_step same is null side value bag n ds xs ys L R s.domain s.left s.right
