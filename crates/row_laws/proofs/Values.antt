@@ -68,6 +68,13 @@ module _ {X : Type 0} (before : X → X → Bool) (order : IsOrder before) where
     alike = λ xs ys e. first_is n xs ∙ ap (or_given n) ((OfBag-run same is nearer nearer_exchanges None).alike xs ys e) ∙ sym (first_is n ys);
   }
 
+-- A total order tells identical values: those that come before one another.
+pub of_order : {X : Type 0} (before : X → X → Bool) → IsOrder before → IsIdentity (λ x y. before x y && before y x)
+of_order before order = record {
+  meets = λ x. elim (cases_Bool (before x x)) [ inl t ↦ rw t | inr f ↦ rw (order.either x x f) ];
+  tells = λ x y e. let p = and_parts (before x y) (before y x) e in order.both x y p.0 p.1;
+}
+
 -- an order turned round is one
 pub turned_round : {X : Type 0} (before : X → X → Bool) → IsOrder before → IsOrder (λ x y. before y x)
 turned_round before order = record {

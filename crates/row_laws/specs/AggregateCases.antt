@@ -71,7 +71,8 @@ largest = 2 ^ 127 - 1
 abbrev pub quotient : ℕ → ℕ → ℕ → Amount
 quotient a b n = Units ((a - b) / n) ((b - a) / n)
 
--- sum(e) is exact up to the largest number, above 0 and below 0. It is NumberRange where the terms above 0 pass that, or the others negated,
+-- sum(e) is exact up to the largest number, above 0 and below 0.
+-- It is NumberRange where the terms above 0 pass that, or the others negated,
 -- also where the sum of them all does not.
 abbrev pub SumAtItsEdges : Type 0
 SumAtItsEdges = (sum_of amounts (plus largest ∷ minus 1 ∷ Missing ∷ []) ≡ plus (largest - 1))

@@ -31,7 +31,8 @@ abbrev pub MarkAtHand : (V : Type 0) → Type 0
 MarkAtHand V = (write : ℕ → V) (c e : List V → ℕ) (ls : List (Ranked V)) (R : List V → List (Ranked V))
     → SameOfPairs c e ls R → attach_loop (mark_of write c) ls R ≡ attach_loop (mark_of write e) ls R
 
--- An attached column, of functions that give the same for each left row and its partners, and right sides that have the same rows under it.
+-- An attached column, of functions that give the same for each left row and its partners, and right sides that have the same
+-- rows under it.
 abbrev pub AttachAtHand : (V : Type 0) → Type 0
 AttachAtHand V = (value worth : List V → List (Ranked V) → V) (ls : List (Ranked V)) (R S : List V → List (Ranked V))
     → Each (λ l. value l.values (R l.values) ≡ worth l.values (S l.values)) ls → attach_loop value ls R ≡ attach_loop worth ls S

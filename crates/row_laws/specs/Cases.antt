@@ -1,9 +1,13 @@
 -- Small cases over values that are null, a number or a fault; and wrong definitions, shown false by one case each.
 use Rattle.std.specs.Prelude.{◌≡◌, ℕ, ◌==◌, List, [], ◌∷◌, Bool, true, false, cond, length, min, slice_index_or}
-use Rattle.row_laws.specs.Ranked.{Ranked, ranked, false_rank, unknown_rank, too_many_rows_rank, divide_by_zero_rank, number_range_rank, true_rank}
+use Rattle.row_laws.specs.Ranked.{
+  Ranked, ranked, false_rank, unknown_rank, too_many_rows_rank, divide_by_zero_rank, number_range_rank, true_rank
+}
 use Rattle.row_laws.specs.Bags.{SameBag, IsIdentity, OfBag, top}
 use Rattle.row_laws.specs.Rows.{columns, scanned, unit_row}
-use Rattle.row_laws.specs.Operators.{select, cross, join, join_node, outer_node, mark_of, scalar_of, group_by, total, distinct, domain_node, fill, outer_loop}
+use Rattle.row_laws.specs.Operators.{
+  select, cross, join, join_node, outer_node, mark_of, scalar_of, group_by, total, distinct, domain_node, fill, outer_loop
+}
 use Rattle.row_laws.specs.Trees.{Tree, tree_rows, node_rows}
 use Rattle.row_laws.specs.Trees.Tree.{Scan, Select, Join, Total}
 use Rattle.row_laws.specs.Trees.Side.{Dependent}
@@ -83,7 +87,8 @@ tables t = cond (t == 0)
 
 -- select a, (select count(*) from table_1 where b = a) from table_0, the subquery as a lateral side
 abbrev pub count_of_equals : OfBag counted → Tree Cell
-count_of_equals bag = Join (Dependent (0 ∷ [])) (λ r. true_rank) (Scan 0) (Total counted bag (Select (λ r. equal (at r 0) (at r 1)) (Scan 1)))
+count_of_equals bag = Join (Dependent (0 ∷ [])) (λ r. true_rank) (Scan 0)
+  (Total counted bag (Select (λ r. equal (at r 0) (at r 1)) (Scan 1)))
 
 -- the left rows, and the right rows in front of which the domain's column stands, of that query's plan
 abbrev pub lefts : List (Ranked Cell)
@@ -121,7 +126,8 @@ CountOfNoRows = (total counted [] ≡ row (Number 0 ∷ []) ∷ [])
     × ((bag : OfBag counted) → tree_rows same_cell Null tables (count_of_equals bag) [] ≡ answer)
     × ((bag : OfBag counted) → node_rows same_cell Null tables (count_of_equals bag) 0 unit_row ≡ answer)
     × NotSame answer
-    (join_node same_cell (columns Null (0 ∷ [])) (λ r. true_rank) lefts (group_by same_cell (columns Null (0 ∷ [])) counted (matches domain)))
+    (join_node same_cell (columns Null (0 ∷ [])) (λ r. true_rank) lefts
+      (group_by same_cell (columns Null (0 ∷ [])) counted (matches domain)))
 
 -- the counts over a domain, filled and joined back to the left rows
 abbrev pub joined_back : List (Ranked Cell) → List (Ranked Cell)
@@ -175,7 +181,8 @@ ScalarOfFaults = (scalar_of written cell_rank 0 (ranked (Number 7 ∷ []) number
     × (scalar_of written cell_rank 0 (ranked (Fault number_range_rank ∷ []) divide_by_zero_rank ∷ []) ≡ Fault divide_by_zero_rank)
     × (scalar_of written cell_rank 0 (ranked (Fault divide_by_zero_rank ∷ []) number_range_rank ∷ []) ≡ Fault divide_by_zero_rank)
 
--- A row at True stands after WHERE at its condition's fault, the least of which is kept too; where that is Unknown or False the row is dropped.
+-- A row at True stands after WHERE at its condition's fault, the least of which is kept too;
+-- where that is Unknown or False the row is dropped.
 -- A row at a fault is dropped likewise, and kept at the lesser fault where the condition is one.
 abbrev pub StandingsOfWhere : Type 0
 StandingsOfWhere = (select (λ r. divide_by_zero_rank) (row (Number 1 ∷ []) ∷ []) ≡ ranked (Number 1 ∷ []) divide_by_zero_rank ∷ [])
@@ -195,7 +202,8 @@ StandingsOfJoins =
       ≡ ranked (Number 1 ∷ Number 2 ∷ []) too_many_rows_rank ∷ [])
     × (join (λ r. unknown_rank) (row (Number 1 ∷ []) ∷ []) (row (Number 2 ∷ []) ∷ []) ≡ [])
 
--- A left row with no kept partner stands in a left outer join at its own standing, a fault's too; one with a kept partner at the lesser fault.
+-- A left row with no kept partner stands in a left outer join at its own standing, a fault's too;
+-- one with a kept partner at the lesser fault.
 abbrev pub StandingsOfOuterJoins : Type 0
 StandingsOfOuterJoins =
     (outer_loop (Null ∷ []) (λ r. false_rank) (ranked (Number 1 ∷ []) divide_by_zero_rank ∷ row (Number 2 ∷ []) ∷ [])
@@ -216,7 +224,8 @@ StandingsOfGroups =
     × (distinct same_cell (ranked (Null ∷ []) divide_by_zero_rank ∷ row (Null ∷ []) ∷ []) ≡ row (Null ∷ []) ∷ [])
     × (total counted (ranked (Null ∷ []) divide_by_zero_rank ∷ row (Null ∷ []) ∷ []) ≡ ranked (Number 2 ∷ []) divide_by_zero_rank ∷ [])
 
--- Keys that are null or the same fault are one group, and one row of a domain; two faults are two. All rows of a group count, also those at a fault.
+-- Keys that are null or the same fault are one group, and one row of a domain; two faults are two.
+-- All rows of a group count, also those at a fault.
 -- A domain row stands at True whatever its left rows do; the fill leaves groups of no domain row out.
 abbrev pub KeysOfFaults : Type 0
 KeysOfFaults =
@@ -241,7 +250,8 @@ abbrev pub faulty_answer : List (Ranked Cell)
 faulty_answer = ranked (Fault divide_by_zero_rank ∷ Number 1 ∷ []) divide_by_zero_rank ∷ row (Number 1 ∷ Number 1 ∷ []) ∷ []
 
 -- A fault in a domain's column is met by identity. select a, (select count(*) from table_1 where b = a) from table_0:
--- under the fault the comparison with the number is that fault, so one row counts, at the fault's standing; loops and nodes give the same.
+-- under the fault the comparison with the number is that fault, so one row counts, at the fault's standing;
+-- loops and nodes give the same.
 abbrev pub FaultInADomain : Type 0
 FaultInADomain = ((bag : OfBag counted) → tree_rows same_cell Null faulty_tables (count_of_equals bag) [] ≡ faulty_answer)
     × ((bag : OfBag counted) → node_rows same_cell Null faulty_tables (count_of_equals bag) 0 unit_row ≡ faulty_answer)

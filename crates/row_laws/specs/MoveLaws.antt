@@ -37,17 +37,20 @@ SelectIntoJoin V = (c e : List V → ℕ) (ls : List (Ranked V)) (R : List V →
 
 -- A selection above an inner join moves to the left side, where it reads that side's columns only.
 abbrev pub SelectBelowLeft : (V : Type 0) → Type 0
-SelectBelowLeft V = (c e p : List V → ℕ) (ls : List (Ranked V)) (R : List V → List (Ranked V)) → Each (OfLeft e p) ls
+SelectBelowLeft V = (c e p : List V → ℕ) (ls : List (Ranked V)) (R : List V → List (Ranked V))
+    → Each (OfLeft e p) ls
     → SameBag (select e (join_loop c ls R)) (join_loop c (select p ls) R)
 
 -- A selection above an inner join moves to the right side, where it reads that side's columns only.
 abbrev pub SelectBelowRight : (V : Type 0) → Type 0
-SelectBelowRight V = (c e p : List V → ℕ) (ls : List (Ranked V)) (R : List V → List (Ranked V)) → Each (OfRight e p R) ls
+SelectBelowRight V = (c e p : List V → ℕ) (ls : List (Ranked V)) (R : List V → List (Ranked V))
+    → Each (OfRight e p R) ls
     → SameBag (select e (join_loop c ls R)) (join_loop c ls (λ l. select p (R l)))
 
 -- A selection above a left outer join moves to the left side, where it reads that side's columns only.
 abbrev pub SelectBelowOuter : (V : Type 0) → Type 0
-SelectBelowOuter V = (c e p : List V → ℕ) (nulls : List V) (ls : List (Ranked V)) (R : List V → List (Ranked V)) → Each (OfLeft e p) ls
+SelectBelowOuter V = (c e p : List V → ℕ) (nulls : List V) (ls : List (Ranked V)) (R : List V → List (Ranked V))
+    → Each (OfLeft e p) ls
     → SameBag (select e (outer_loop nulls c ls R)) (outer_loop nulls c (select p ls) R)
 
 -- A selection above a mark or a scalar value moves below it, where it doesn't read the attached column.
@@ -58,7 +61,8 @@ SelectBelowAttach V = (value : List V → List (Ranked V) → V) (e p : List V �
 -- A part of a left outer join's ON moves to the right side, where it reads that side's columns only.
 -- To the left side no part may move: a small case shows it.
 abbrev pub OnBelowRight : (V : Type 0) → Type 0
-OnBelowRight V = (c e p : List V → ℕ) (ls : List (Ranked V)) (R : List V → List (Ranked V)) (nulls : List V) → Each (OfRight e p R) ls
+OnBelowRight V = (c e p : List V → ℕ) (ls : List (Ranked V)) (R : List V → List (Ranked V)) (nulls : List V)
+    → Each (OfRight e p R) ls
     → SameBag (outer_loop nulls (λ r. min (c r) (e r)) ls R) (outer_loop nulls c ls (λ l. select p (R l)))
 
 -- The sides of a product exchanged, where f puts the columns back.

@@ -7,7 +7,9 @@ ghost use Rattle.row_laws.specs.TreeLaws.{Unnesting, UnnestingRowByRow, Unnestin
 /// Let T be any dependent tree, of any depth, and ds a domain of n columns, which hold what T uses freely.
 /// Among the rows of the node that T is lowered to over ds, those whose domain columns are identical to a row of ds are, as a bag,
 /// under(ds, T): each row of ds before each row that T gives under it by nested loops, at that row's standing.
-/// This holds with nulls and faults in domain columns, for domain rows without input, and for an empty ds. Rows with other domain columns may be there.
+/// This holds with nulls and faults in domain columns, for domain rows without input, and for an empty ds.
+/// Rows with other domain columns are left out of this. They never stand in the tree's node; that they do no harm is said by the laws
+/// for each kind of node, which are about any rows that answer its sides, as those of a right side that needs no domain.
 pub fn unnesting<V>()
     ensures { (same : V → V → Bool) → IsIdentity same → Unnesting same }
 {}

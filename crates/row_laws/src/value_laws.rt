@@ -31,7 +31,7 @@ pub fn avg_in_any_order<V>()
 
 /// min(e) and max(e) by a total order don't depend on the order of the rows.
 pub fn extremes_in_any_order<V>()
-    ensures { (same : V → V → Bool) → IsIdentity same → ExtremesInAnyOrder same }
+    ensures { ExtremesInAnyOrder V }
 {}
 
 /// All aggregates of a grouped query together don't depend on the order of the rows, where each of them doesn't.
@@ -44,12 +44,12 @@ pub fn mark_in_any_order<V>()
     ensures { MarkInAnyOrder V }
 {}
 
-/// A scalar subquery's value doesn't depend on the order of the rows.
+/// A scalar subquery's value doesn't depend on the order of the rows. `same` only witnesses that the values have an identity.
 pub fn scalar_in_any_order<V>()
     ensures { (same : V → V → Bool) → IsIdentity same → ScalarInAnyOrder same }
 {}
 
-/// A fold whose steps may be exchanged doesn't depend on the order of the rows.
+/// A fold whose steps may be exchanged doesn't depend on the order of the rows. `same` only witnesses that the elements have an identity.
 pub fn fold_in_any_order<X, S>()
     ensures { (same : X → X → Bool) → IsIdentity same → FoldInAnyOrder S same }
 {}
@@ -81,15 +81,15 @@ pub fn of_distinct_in_any_order<X, Z>()
 
 /// A bag in order is one list: two lists in order by a total order that are the same bag are equal.
 pub fn one_list_in_order<X>()
-    ensures { (same : X → X → Bool) → IsIdentity same → OneListInOrder same }
+    ensures { OneListInOrder X }
 {}
 
-/// Each aggregate answers the least fault first.
+/// Every aggregate but count(*) is the least fault of the values, where a fault stands among them.
 pub fn faults_first<V>()
     ensures { (same : V → V → Bool) → IsIdentity same → AllGiveLeastFault same }
 {}
 
-/// Each aggregate skips nulls.
+/// Every aggregate but count(*) is that of the values that aren't null.
 pub fn nulls_skipped<V>()
     ensures { (same : V → V → Bool) → IsIdentity same → AllSkipNulls same }
 {}
