@@ -71,12 +71,12 @@ module _ {V : Type 0} where
       (Each-weaker Stands (λ y. Stands (ranked (x.values ++ y.values) (min x.standing y.standing))) ys
       (λ y q. let a = p.not_dropped in let b = p.within in let c = q.not_dropped in record { not_dropped = omega arith; within = omega arith }) right))
 
-  pub join_stands : (c : List V → ℕ) (ls : List (Ranked V)) (R : List V → List (Ranked V)) → Each Stands ls → ((l : List V) → Each Stands (R l)) → Each Stands (join_loop c ls R)
-  join_stands c ls R all right =
+  pub join_stands : (c : List V → ℕ) (ls : List (Ranked V)) (R : List V → List (Ranked V)) → Each Stands ls → Each Stands (join_loop c ls R)
+  join_stands c ls R all =
       Each-flat_map Stands Stands (λ l. flat_map (λ r. pair c (λ a b. a ++ b) l r) (R l.values)) ls all (λ l p. pairs_stand c (λ a b. a ++ b) l (R l.values) p)
 
-  pub outer_stands : (nulls : List V) (c : List V → ℕ) (ls : List (Ranked V)) (R : List V → List (Ranked V)) → Each Stands ls → ((l : List V) → Each Stands (R l)) → Each Stands (outer_loop nulls c ls R)
-  outer_stands nulls c ls R all right =
+  pub outer_stands : (nulls : List V) (c : List V → ℕ) (ls : List (Ranked V)) (R : List V → List (Ranked V)) → Each Stands ls → Each Stands (outer_loop nulls c ls R)
+  outer_stands nulls c ls R all =
       let M : Ranked V → List (Ranked V) = λ l. flat_map (λ r. pair c (λ a b. a ++ b) l r) (R l.values) in
       Each-flat_map Stands Stands (λ l. or_else (M l) (ranked (l.values ++ nulls) l.standing)) ls all
       (λ l p. Each-or_else Stands (M l) (ranked (l.values ++ nulls) l.standing) (pairs_stand c (λ a b. a ++ b) l (R l.values) p) (stands_alike l (l.values ++ nulls) p))
@@ -208,9 +208,9 @@ module _ {V : Type 0} (same : V → V → Bool) where
       tree_stands (Select c T) d = select_stands (λ t. c (d ++ t)) (tree_rows same null tables T d) (tree_stands T d)
       tree_stands (Project f T) d = project_stands (λ t. f (d ++ t)) (tree_rows same null tables T d) (tree_stands T d)
       tree_stands (Join side c L R) d =
-          join_stands (λ t. c (d ++ t)) (tree_rows same null tables L d) (λ l. tree_rows same null tables R (side_row null side d l)) (tree_stands L d) (λ l. tree_stands R (side_row null side d l))
+          join_stands (λ t. c (d ++ t)) (tree_rows same null tables L d) (λ l. tree_rows same null tables R (side_row null side d l)) (tree_stands L d)
       tree_stands (Outer side nulls c L R) d =
-          outer_stands nulls (λ t. c (d ++ t)) (tree_rows same null tables L d) (λ l. tree_rows same null tables R (side_row null side d l)) (tree_stands L d) (λ l. tree_stands R (side_row null side d l))
+          outer_stands nulls (λ t. c (d ++ t)) (tree_rows same null tables L d) (λ l. tree_rows same null tables R (side_row null side d l)) (tree_stands L d)
       tree_stands (Mark side write c L R) d =
           attach_stands (λ l. mark_of write c (d ++ l)) (tree_rows same null tables L d) (λ l. tree_rows same null tables R (side_row null side d l)) (tree_stands L d)
       tree_stands (Single side write fault_rank i L R) d =

@@ -21,6 +21,7 @@ same_amount (Failed f) Missing = false
 same_amount (Failed f) (Units c d) = false
 same_amount (Failed f) (Failed g) = f == g
 
+-- whether the amount is null
 abbrev pub is_missing : Amount → Bool
 is_missing Missing = true
 is_missing (Units a b) = false
@@ -32,12 +33,13 @@ amount_rank Missing = true_rank
 amount_rank (Units a b) = true_rank
 amount_rank (Failed f) = f
 
--- how far the amount lies above 0, and below 0
+-- how far the amount lies above 0
 abbrev pub above_zero : Amount → ℕ
 above_zero Missing = 0
 above_zero (Units a b) = a - b
 above_zero (Failed f) = 0
 
+-- how far the amount lies below 0
 abbrev pub below_zero : Amount → ℕ
 below_zero Missing = 0
 below_zero (Units a b) = b - a
@@ -47,6 +49,7 @@ below_zero (Failed f) = 0
 abbrev pub amount_of_rank : ℕ → Amount
 amount_of_rank r = cond (r == unknown_rank) Missing (Failed r)
 
+-- what aggregates read of an amount
 abbrev pub amounts : Reading Amount
 amounts = record {
   is_null = is_missing; fault_rank = amount_rank; above = above_zero; below = below_zero; write = amount_of_rank; number = Units
@@ -56,10 +59,11 @@ amounts = record {
 abbrev pub at_most : Amount → Amount → Bool
 at_most x y = nat_le (above_zero x + below_zero y) (above_zero y + below_zero x)
 
--- the number a above 0, and the number a below 0
+-- the number a above 0
 abbrev pub plus : ℕ → Amount
 plus a = Units a 0
 
+-- the number a below 0
 abbrev pub minus : ℕ → Amount
 minus a = Units 0 a
 

@@ -49,10 +49,11 @@ equal (Fault f) (Fault g) = min f g
 abbrev pub negated : ℕ → ℕ
 negated r = cond (r == true_rank) false_rank (cond (r == false_rank) true_rank r)
 
--- a rank as a value, and a mark's value as a condition
+-- a rank as a value
 abbrev pub written : ℕ → Cell
 written r = cond (r == true_rank) (Number 1) (cond (r == false_rank) (Number 0) (cond (r == unknown_rank) Null (Fault r)))
 
+-- a mark's value as a condition
 abbrev pub read_back : Cell → ℕ
 read_back Null = unknown_rank
 read_back (Number n) = cond (n == 0) false_rank true_rank
@@ -64,10 +65,11 @@ cell_rank Null = true_rank
 cell_rank (Number n) = true_rank
 cell_rank (Fault f) = f
 
--- the cell in column i, and a row at True
+-- the cell in column i
 abbrev pub at : List Cell → ℕ → Cell
 at r i = slice_index_or r i Null
 
+-- a row at True
 abbrev pub row : List Cell → Ranked Cell
 row cells = ranked cells true_rank
 
@@ -90,10 +92,11 @@ abbrev pub count_of_equals : OfBag counted → Tree Cell
 count_of_equals bag = Join (Dependent (0 ∷ [])) (λ r. true_rank) (Scan 0)
   (Total counted bag (Select (λ r. equal (at r 0) (at r 1)) (Scan 1)))
 
--- the left rows, and the right rows in front of which the domain's column stands, of that query's plan
+-- the left rows of that query
 abbrev pub lefts : List (Ranked Cell)
 lefts = scanned (tables 0)
 
+-- the domain of that query's plan
 abbrev pub domain : List (Ranked Cell)
 domain = domain_node same_cell (columns Null (0 ∷ [])) lefts
 

@@ -59,7 +59,8 @@ pub fn same_bag_from_permutation<X>()
     ensures { PermutationAlike X }
 {}
 
-/// The sum, the greatest and the least of two lists behind one another are the sum, the greatest and the least of theirs, as partial groups are merged.
+/// The sum, the greatest and the least of two lists behind one another are the sum, the greatest and the least of theirs, as
+/// partial groups are merged.
 pub fn weights_of_appended<X>()
     ensures { WeightsOfAppended X }
 {}
@@ -94,7 +95,8 @@ pub fn classes_made<R, K, S>()
     ensures { (same : K → K → Bool) → IsIdentity same → ClassesMade R S same }
 {}
 
-/// What a hash table of groups has to show: its keys differ, it has for the key of each element the part that the elements with that key make, and nothing for other keys.
+/// What a hash table of groups has to show:
+/// its keys differ, it has for the key of each element the part that the elements with that key make, and nothing for other keys.
 /// Then the rows made of its entries, in whatever order, are the classes.
 pub fn entries_made<R, K, A, S>()
     ensures { (same : K → K → Bool) → IsIdentity same → EntriesMade R A S same }

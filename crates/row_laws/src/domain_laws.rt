@@ -39,7 +39,8 @@ pub fn project_answers<V>()
     ensures { (same : V → V → Bool) → IsIdentity same → ProjectAnswers same }
 {}
 
-/// The inner join over a domain, with a right side that is closed, that shares the domain, or that has a domain of its own, as a lateral join has.
+/// The inner join over a domain, with a right side that is closed, that shares the domain, or that has a domain of its own,
+/// as a lateral join has.
 pub fn join_answers<V>()
     ensures { (same : V → V → Bool) → IsIdentity same → JoinAnswers same }
 {}
@@ -49,7 +50,8 @@ pub fn outer_answers<V>()
     ensures { (same : V → V → Bool) → IsIdentity same → OuterAnswers same }
 {}
 
-/// Marks and scalar values over a domain, with the same three kinds of right side.
+/// Marks and scalar values over a domain, with the same three kinds of right side. Under each domain row d a left row l gets
+/// one more column: `value` of d and l, and of the rows that the right side has under them.
 pub fn attach_answers<V>()
     ensures { (same : V → V → Bool) → IsIdentity same → AttachAnswers same }
 {}

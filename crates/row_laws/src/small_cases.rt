@@ -56,7 +56,8 @@ pub fn scalar_of_faults()
     ensures { ScalarOfFaults }
 {}
 
-/// A row at True stands after WHERE at its condition's fault, the least of which is kept too; where that is Unknown or False the row is dropped.
+/// A row at True stands after WHERE at its condition's fault, the least of which is kept too;
+/// where that is Unknown or False the row is dropped.
 /// A row at a fault is dropped likewise, and kept at the lesser fault where the condition is one.
 pub fn standings_of_where()
     ensures { StandingsOfWhere }
@@ -67,7 +68,8 @@ pub fn standings_of_joins()
     ensures { StandingsOfJoins }
 {}
 
-/// A left row with no kept partner stands in a left outer join at its own standing, a fault's too; one with a kept partner at the lesser fault.
+/// A left row with no kept partner stands in a left outer join at its own standing, a fault's too;
+/// one with a kept partner at the lesser fault.
 pub fn standings_of_outer_joins()
     ensures { StandingsOfOuterJoins }
 {}
@@ -77,14 +79,16 @@ pub fn standings_of_groups()
     ensures { StandingsOfGroups }
 {}
 
-/// Keys that are null or the same fault are one group, and one row of a domain; two faults are two. All rows of a group count, also those at a fault.
+/// Keys that are null or the same fault are one group, and one row of a domain; two faults are two.
+/// All rows of a group count, also those at a fault.
 /// A domain row stands at True whatever its left rows do; the fill leaves groups of no domain row out.
 pub fn keys_of_faults()
     ensures { KeysOfFaults }
 {}
 
 /// A fault in a domain's column is met by identity. select a, (select count(*) from table_1 where b = a) from table_0:
-/// under the fault the comparison with the number is that fault, so one row counts, at the fault's standing; loops and nodes give the same.
+/// under the fault the comparison with the number is that fault, so one row counts, at the fault's standing;
+/// loops and nodes give the same.
 pub fn fault_in_a_domain()
     ensures { FaultInADomain }
 {}
@@ -95,7 +99,8 @@ pub fn on_of_the_left_side()
     ensures { OnOfTheLeftSide }
 {}
 
-/// sum(e) is exact up to the largest number, above 0 and below 0. It is NumberRange where the terms above 0 pass that, or the others negated,
+/// sum(e) is exact up to the largest number, above 0 and below 0.
+/// It is NumberRange where the terms above 0 pass that, or the others negated,
 /// also where the sum of them all does not.
 pub fn sum_at_its_edges()
     ensures { SumAtItsEdges }

@@ -8,7 +8,7 @@ ghost use Rattle.row_laws.specs.TreeLaws.{Unnesting, UnnestingRowByRow, Unnestin
 /// Among the rows of the node that T is lowered to over ds, those whose domain columns are identical to a row of ds are, as a bag,
 /// under(ds, T): each row of ds before each row that T gives under it by nested loops, at that row's standing.
 /// This holds with nulls and faults in domain columns, for domain rows without input, and for an empty ds.
-/// Rows with other domain columns are left out of this. They never stand in the tree's node; that they do no harm is said by the laws
+/// Rows with other domain columns are left out of this. They never stand in `node_rows`; that they do no harm is said by the laws
 /// for each kind of node, which are about any rows that answer its sides, as those of a right side that needs no domain.
 pub fn unnesting<V>()
     ensures { (same : V → V → Bool) → IsIdentity same → Unnesting same }
@@ -19,7 +19,8 @@ pub fn unnesting_row_by_row<V>()
     ensures { (same : V → V → Bool) → IsIdentity same → UnnestingRowByRow same }
 {}
 
-/// A tree that uses nothing freely, as that of a whole query: its node over the one row of no columns has, as a bag, its rows by nested loops.
+/// A tree that uses nothing freely, as that of a whole query:
+/// its node over the one row of no columns has, as a bag, its rows by nested loops.
 pub fn unnesting_of_query<V>()
     ensures { (same : V → V → Bool) → IsIdentity same → UnnestingOfQuery same }
 {}

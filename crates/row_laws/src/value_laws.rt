@@ -19,7 +19,8 @@ pub fn counts_in_any_order<V>()
     ensures { (same : V → V → Bool) → IsIdentity same → CountsInAnyOrder same }
 {}
 
-/// sum(e) doesn't depend on the order of the rows: it is exact, and NumberRange where the sum of the terms above 0, or of the others negated, passes the largest number.
+/// sum(e) doesn't depend on the order of the rows:
+/// it is exact, and NumberRange where the sum of the terms above 0, or of the others negated, passes the largest number.
 pub fn sum_in_any_order<V>()
     ensures { SumInAnyOrder V }
 {}
