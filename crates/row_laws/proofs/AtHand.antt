@@ -1,11 +1,11 @@
 -- Equal on the rows at hand.
-use Rattle.std.proofs.Common.{◌≡◌, ℕ, List, [], ◌∷◌, ◌++◌, refl, ap, inl, inr}
-use Rattle.std.specs.Prelude.{min, max, nat_lt}
+use Rattle.std.proofs.Common.{◌≡◌, ℕ, List, [], ◌∷◌, ◌++◌, refl, inl, inr}
+use Rattle.std.specs.Prelude.{min, nat_lt}
 use Rattle.std.specs.List.{flat_map}
 use Rattle.std.proofs.lemmas.Bool.{cases_Bool}
-use Rattle.row_laws.specs.Ranked.{Ranked, ranked, unknown_rank}
+use Rattle.row_laws.specs.Ranked.{Ranked, unknown_rank}
 use Rattle.row_laws.specs.Bags.{Each, top}
-use Rattle.row_laws.specs.Operators.{select, project, pair, or_else, mark_of, join_loop, outer_loop, attach_loop}
+use Rattle.row_laws.specs.Operators.{select, project, pair, mark_of, join_loop, outer_loop, attach_loop}
 use Rattle.row_laws.specs.MoveLaws.{OfLeft}
 use Rattle.row_laws.specs.AtHandLaws.{SameOfPairs}
 

@@ -1,12 +1,12 @@
 -- Every operator leaves rows at True or at a fault.
 use Rattle.std.proofs.Common.{◌≡◌, ℕ, ◌≤◌, List, [], ◌∷◌, ◌++◌, Bool, true, refl, sym, ◌∙◌, arith, inl, inr, length, take}
-use Rattle.std.specs.Prelude.{map, min, max, nat_lt}
+use Rattle.std.specs.Prelude.{map, min, nat_lt}
 use Rattle.std.specs.List.{filter, flat_map}
 use Rattle.std.proofs.lemmas.Bool.{cases_Bool, lt-ltb, ltb-true, true≢false}
 use Rattle.row_laws.specs.Ranked.{Ranked, ranked, unknown_rank, true_rank}
 use Rattle.row_laws.specs.Bags.{IsIdentity, Each, has, each_once, top, bottom}
 use Rattle.row_laws.specs.Rows.{same_row, starts, strip, after, keep, scanned}
-use Rattle.row_laws.specs.Operators.{select, project, cross, join, pair, or_else, glue_at, least, greatest, mark_of, scalar_of, join_loop, outer_loop, attach_loop, partners, join_node, outer_node, attach_node, mark_node, single_node, group_by, total, distinct, domain_node, fill}
+use Rattle.row_laws.specs.Operators.{select, project, cross, join, pair, or_else, glue_at, least, greatest, mark_of, scalar_of, join_loop, outer_loop, attach_loop, partners, join_node, outer_node, attach_node, group_by, total, distinct, domain_node, fill}
 use Rattle.row_laws.specs.StandingLaws.{Stands}
 use Rattle.row_laws.specs.Matched.{right_places, without, glue_matched, matches_of, inner_matched, outer_matched, attach_matched}
 use Rattle.row_laws.specs.Trees.{Tree, side_row, side_pick, side_width, side_domain, tree_rows, node_rows}
@@ -29,9 +29,11 @@ top_below m f (x ∷ xs) all = let ih = top_below m f xs all.1 in let a = all.0 
 -- each element of a list stands there
 each_has : {X : Type 0} (same : X → X → Bool) → IsIdentity same → (xs : List X) → Each (λ x. has same x xs ≡ true) xs
 each_has same is [] = tt
-each_has same is (x ∷ xs) =
-    (rw (is.meets x), Each-weaker (λ y. has same y xs ≡ true) (λ y. has same y (x ∷ xs) ≡ true) xs
-    (λ y t. elim (cases_Bool (same y x)) [ inl u ↦ rw u | inr f ↦ rw f t ]) (each_has same is xs))
+each_has same is (x ∷ xs) = (
+  rw (is.meets x),
+  Each-weaker (λ y. has same y xs ≡ true) (λ y. has same y (x ∷ xs) ≡ true) xs
+      (λ y t. elim (cases_Bool (same y x)) [ inl u ↦ rw u | inr f ↦ rw f t ]) (each_has same is xs),
+)
 
 module _ {V : Type 0} where
   keep_stands : (r : List V) (s : ℕ) → s ≤ true_rank → Each Stands (keep r s)

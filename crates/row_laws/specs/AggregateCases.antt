@@ -1,5 +1,5 @@
 -- Small cases of the aggregates, over amounts that are null, a whole number or a fault.
-use Rattle.std.specs.Prelude.{◌≡◌, ℕ, ◌+◌, ◌-◌, ◌^◌, ◌==◌, ◌/◌, List, [], ◌∷◌, Bool, true, false, cond, ◌&&◌, nat_le}
+use Rattle.std.specs.Prelude.{◌≡◌, ℕ, ◌+◌, ◌-◌, ◌^◌, ◌==◌, ◌/◌, [], ◌∷◌, Bool, true, false, cond, ◌&&◌, nat_le}
 use Rattle.row_laws.specs.Ranked.{unknown_rank, divide_by_zero_rank, number_range_rank, true_rank}
 use Rattle.row_laws.specs.Aggregates.{Reading, count_rows, count_of, count_distinct_of, sum_of, avg_of, min_of, max_of}
 
@@ -52,7 +52,12 @@ amount_of_rank r = cond (r == unknown_rank) Missing (Failed r)
 -- what aggregates read of an amount
 abbrev pub amounts : Reading Amount
 amounts = record {
-  is_null = is_missing; fault_rank = amount_rank; above = above_zero; below = below_zero; write = amount_of_rank; number = Units
+  is_null = is_missing;
+  fault_rank = amount_rank;
+  above = above_zero;
+  below = below_zero;
+  write = amount_of_rank;
+  number = Units;
 }
 
 -- the order of numbers: x - y is at most 0

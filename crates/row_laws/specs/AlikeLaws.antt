@@ -3,8 +3,22 @@ use Rattle.std.specs.Prelude.{ℕ, List, Bool}
 use Rattle.row_laws.specs.Ranked.{Ranked}
 use Rattle.row_laws.specs.Bags.{SameBag, OfBag}
 use Rattle.row_laws.specs.Operators.{
-  select, project, cross, join_node, outer_node, attach_node, mark_node, single_node, join_loop, outer_loop, attach_loop,
-  group_by, total, distinct, domain_node, fill
+  select,
+  project,
+  cross,
+  join_node,
+  outer_node,
+  attach_node,
+  mark_node,
+  single_node,
+  join_loop,
+  outer_loop,
+  attach_loop,
+  group_by,
+  total,
+  distinct,
+  domain_node,
+  fill,
 }
 
 -- WHERE and HAVING: one bag gives one bag.

@@ -61,13 +61,13 @@ PermutationAlike X = (xs us : List X) → IsPermutation xs us → SameBag xs us
 abbrev pub WeightsOfAppended : (X : Type 0) → Type 0
 WeightsOfAppended X = (h : X → ℕ) (n : ℕ) (xs ys : List X)
     → (weigh h (xs ++ ys) ≡ weigh h xs + weigh h ys) × (top h (xs ++ ys) ≡ max (top h xs) (top h ys))
-      × (bottom n h (xs ++ ys) ≡ min (bottom n h xs) (bottom n h ys))
+    × (bottom n h (xs ++ ys) ≡ min (bottom n h xs) (bottom n h ys))
 
 -- One bag has the same elements, each as often; and lists in which each element stands equally often are one bag.
 abbrev pub HasAlike : {X : Type 0} → (X → X → Bool) → Type 0
 HasAlike {X} same = (xs us : List X)
     → (SameBag xs us → (x : X) → (has same x xs ≡ has same x us) × (count same x xs ≡ count same x us))
-      × (((x : X) → count same x xs ≡ count same x us) → SameBag xs us)
+    × (((x : X) → count same x xs ≡ count same x us) → SameBag xs us)
 
 -- Where a test tells identical values, the test value by value tells identical rows.
 abbrev pub RowsHaveIdentity : {V : Type 0} → (V → V → Bool) → Type 0
@@ -90,7 +90,7 @@ ClassesAlike R S {K} same = (key : R → K) (f : K → List R → S) (xs us : Li
 abbrev pub DistinctRows : {V : Type 0} → (V → V → Bool) → Type 0
 DistinctRows {V} same = (xs : List (Ranked V))
     → (no_two same (values_of (distinct same xs)) ≡ true)
-      × ((r : List V) → has (same_row same) r (values_of (distinct same xs)) ≡ has (same_row same) r (values_of xs))
+    × ((r : List V) → has (same_row same) r (values_of (distinct same xs)) ≡ has (same_row same) r (values_of xs))
 
 -- What a list of keys with their classes has to show: the keys are those of the elements, each once.
 abbrev pub ClassesMade : (R S : Type 0) {K : Type 0} → (K → K → Bool) → Type 0

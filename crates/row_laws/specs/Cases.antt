@@ -1,12 +1,31 @@
 -- Small cases over values that are null, a number or a fault; and wrong definitions, shown false by one case each.
 use Rattle.std.specs.Prelude.{◌≡◌, ℕ, ◌==◌, List, [], ◌∷◌, Bool, true, false, cond, length, min, slice_index_or}
 use Rattle.row_laws.specs.Ranked.{
-  Ranked, ranked, false_rank, unknown_rank, too_many_rows_rank, divide_by_zero_rank, number_range_rank, true_rank
+  Ranked,
+  ranked,
+  false_rank,
+  unknown_rank,
+  too_many_rows_rank,
+  divide_by_zero_rank,
+  number_range_rank,
+  true_rank,
 }
 use Rattle.row_laws.specs.Bags.{SameBag, IsIdentity, OfBag, top}
 use Rattle.row_laws.specs.Rows.{columns, scanned, unit_row}
 use Rattle.row_laws.specs.Operators.{
-  select, cross, join, join_node, outer_node, mark_of, scalar_of, group_by, total, distinct, domain_node, fill, outer_loop
+  select,
+  cross,
+  join,
+  join_node,
+  outer_node,
+  mark_of,
+  scalar_of,
+  group_by,
+  total,
+  distinct,
+  domain_node,
+  fill,
+  outer_loop,
 }
 use Rattle.row_laws.specs.Trees.{Tree, tree_rows, node_rows}
 use Rattle.row_laws.specs.Trees.Tree.{Scan, Select, Join, Total}
@@ -90,7 +109,7 @@ tables t = cond (t == 0)
 -- select a, (select count(*) from table_1 where b = a) from table_0, the subquery as a lateral side
 abbrev pub count_of_equals : OfBag counted → Tree Cell
 count_of_equals bag = Join (Dependent (0 ∷ [])) (λ r. true_rank) (Scan 0)
-  (Total counted bag (Select (λ r. equal (at r 0) (at r 1)) (Scan 1)))
+    (Total counted bag (Select (λ r. equal (at r 0) (at r 1)) (Scan 1)))
 
 -- the left rows of that query
 abbrev pub lefts : List (Ranked Cell)
@@ -117,7 +136,7 @@ CellsHaveIdentity = IsIdentity same_cell × OfBag counted × Unnesting same_cell
 abbrev pub NullBinding : Type 0
 NullBinding =
     (join_node same_cell (columns Null (0 ∷ [])) (λ r. true_rank) (row (Null ∷ []) ∷ []) (row (Null ∷ Number 7 ∷ []) ∷ [])
-      ≡ row (Null ∷ Number 7 ∷ []) ∷ [])
+    ≡ row (Null ∷ Number 7 ∷ []) ∷ [])
     × (join (λ r. equal (at r 0) (at r 1)) (row (Null ∷ []) ∷ []) (row (Null ∷ Number 7 ∷ []) ∷ []) ≡ [])
     × NotSame (join_node same_cell (columns Null (0 ∷ [])) (λ r. true_rank) (row (Null ∷ []) ∷ []) (row (Null ∷ Number 7 ∷ []) ∷ []))
     (join (λ r. equal (at r 0) (at r 1)) (row (Null ∷ []) ∷ []) (row (Null ∷ Number 7 ∷ []) ∷ []))
@@ -130,7 +149,7 @@ CountOfNoRows = (total counted [] ≡ row (Number 0 ∷ []) ∷ [])
     × ((bag : OfBag counted) → node_rows same_cell Null tables (count_of_equals bag) 0 unit_row ≡ answer)
     × NotSame answer
     (join_node same_cell (columns Null (0 ∷ [])) (λ r. true_rank) lefts
-      (group_by same_cell (columns Null (0 ∷ [])) counted (matches domain)))
+    (group_by same_cell (columns Null (0 ∷ [])) counted (matches domain)))
 
 -- the counts over a domain, filled and joined back to the left rows
 abbrev pub joined_back : List (Ranked Cell) → List (Ranked Cell)
@@ -166,9 +185,9 @@ StandingOfAPartner = (mark_of written (λ r. true_rank) [] (ranked [] divide_by_
 abbrev pub MarkOfFaultsAndNulls : Type 0
 MarkOfFaultsAndNulls =
     (mark_of written (λ r. equal (at r 0) (at r 1)) (Number 1 ∷ [])
-      (row (Fault divide_by_zero_rank ∷ []) ∷ row (Number 2 ∷ []) ∷ row (Null ∷ []) ∷ []) ≡ Fault divide_by_zero_rank)
+    (row (Fault divide_by_zero_rank ∷ []) ∷ row (Number 2 ∷ []) ∷ row (Null ∷ []) ∷ []) ≡ Fault divide_by_zero_rank)
     × (mark_of written (λ r. equal (at r 0) (at r 1)) (Number 1 ∷ [])
-      (row (Fault divide_by_zero_rank ∷ []) ∷ row (Number 1 ∷ []) ∷ row (Null ∷ []) ∷ []) ≡ Number 1)
+    (row (Fault divide_by_zero_rank ∷ []) ∷ row (Number 1 ∷ []) ∷ row (Null ∷ []) ∷ []) ≡ Number 1)
 
 -- A scalar subquery is null for no row, TooManyRows for two, also where they are identical, and the one row's value for one.
 abbrev pub ScalarOfRows : Type 0
@@ -200,9 +219,9 @@ StandingsOfWhere = (select (λ r. divide_by_zero_rank) (row (Number 1 ∷ []) �
 abbrev pub StandingsOfJoins : Type 0
 StandingsOfJoins =
     (cross (ranked (Number 1 ∷ []) number_range_rank ∷ []) (ranked (Number 2 ∷ []) divide_by_zero_rank ∷ [])
-      ≡ ranked (Number 1 ∷ Number 2 ∷ []) divide_by_zero_rank ∷ [])
+    ≡ ranked (Number 1 ∷ Number 2 ∷ []) divide_by_zero_rank ∷ [])
     × (join (λ r. too_many_rows_rank) (ranked (Number 1 ∷ []) number_range_rank ∷ []) (ranked (Number 2 ∷ []) divide_by_zero_rank ∷ [])
-      ≡ ranked (Number 1 ∷ Number 2 ∷ []) too_many_rows_rank ∷ [])
+    ≡ ranked (Number 1 ∷ Number 2 ∷ []) too_many_rows_rank ∷ [])
     × (join (λ r. unknown_rank) (row (Number 1 ∷ []) ∷ []) (row (Number 2 ∷ []) ∷ []) ≡ [])
 
 -- A left row with no kept partner stands in a left outer join at its own standing, a fault's too;
@@ -210,20 +229,20 @@ StandingsOfJoins =
 abbrev pub StandingsOfOuterJoins : Type 0
 StandingsOfOuterJoins =
     (outer_loop (Null ∷ []) (λ r. false_rank) (ranked (Number 1 ∷ []) divide_by_zero_rank ∷ row (Number 2 ∷ []) ∷ [])
-      (λ l. row (Number 7 ∷ []) ∷ row (Number 8 ∷ []) ∷ [])
-      ≡ ranked (Number 1 ∷ Null ∷ []) divide_by_zero_rank ∷ row (Number 2 ∷ Null ∷ []) ∷ [])
+    (λ l. row (Number 7 ∷ []) ∷ row (Number 8 ∷ []) ∷ [])
+    ≡ ranked (Number 1 ∷ Null ∷ []) divide_by_zero_rank ∷ row (Number 2 ∷ Null ∷ []) ∷ [])
     × (outer_loop (Null ∷ []) (λ r. number_range_rank) (row (Number 1 ∷ []) ∷ []) (λ l. ranked (Number 7 ∷ []) divide_by_zero_rank ∷ [])
-      ≡ ranked (Number 1 ∷ Number 7 ∷ []) divide_by_zero_rank ∷ [])
+    ≡ ranked (Number 1 ∷ Number 7 ∷ []) divide_by_zero_rank ∷ [])
     × (outer_node same_cell (λ x. x) (Null ∷ []) (λ r. true_rank)
-      (ranked (Null ∷ []) too_many_rows_rank ∷ row (Fault divide_by_zero_rank ∷ []) ∷ [])
-      (row (Fault divide_by_zero_rank ∷ Number 7 ∷ []) ∷ row (Fault number_range_rank ∷ Number 8 ∷ []) ∷ [])
-      ≡ ranked (Null ∷ Null ∷ []) too_many_rows_rank ∷ row (Fault divide_by_zero_rank ∷ Number 7 ∷ []) ∷ [])
+    (ranked (Null ∷ []) too_many_rows_rank ∷ row (Fault divide_by_zero_rank ∷ []) ∷ [])
+    (row (Fault divide_by_zero_rank ∷ Number 7 ∷ []) ∷ row (Fault number_range_rank ∷ Number 8 ∷ []) ∷ [])
+    ≡ ranked (Null ∷ Null ∷ []) too_many_rows_rank ∷ row (Fault divide_by_zero_rank ∷ Number 7 ∷ []) ∷ [])
 
 -- A group stands at the least standing of its rows, a DISTINCT row at the greatest.
 abbrev pub StandingsOfGroups : Type 0
 StandingsOfGroups =
     (group_by same_cell (λ r. r) (λ ys. []) (ranked (Null ∷ []) divide_by_zero_rank ∷ row (Null ∷ []) ∷ [])
-      ≡ ranked (Null ∷ []) divide_by_zero_rank ∷ [])
+    ≡ ranked (Null ∷ []) divide_by_zero_rank ∷ [])
     × (distinct same_cell (ranked (Null ∷ []) divide_by_zero_rank ∷ row (Null ∷ []) ∷ []) ≡ row (Null ∷ []) ∷ [])
     × (total counted (ranked (Null ∷ []) divide_by_zero_rank ∷ row (Null ∷ []) ∷ []) ≡ ranked (Number 2 ∷ []) divide_by_zero_rank ∷ [])
 
@@ -233,16 +252,16 @@ StandingsOfGroups =
 abbrev pub KeysOfFaults : Type 0
 KeysOfFaults =
     (group_by same_cell (λ r. at r 0 ∷ []) counted
-      (row (Null ∷ []) ∷ ranked (Fault divide_by_zero_rank ∷ []) number_range_rank ∷ ranked (Null ∷ []) too_many_rows_rank
-        ∷ row (Fault divide_by_zero_rank ∷ []) ∷ row (Fault number_range_rank ∷ []) ∷ [])
-      ≡ ranked (Null ∷ Number 2 ∷ []) too_many_rows_rank ∷ ranked (Fault divide_by_zero_rank ∷ Number 2 ∷ []) number_range_rank
-        ∷ row (Fault number_range_rank ∷ Number 1 ∷ []) ∷ [])
+    (row (Null ∷ []) ∷ ranked (Fault divide_by_zero_rank ∷ []) number_range_rank ∷ ranked (Null ∷ []) too_many_rows_rank
+    ∷ row (Fault divide_by_zero_rank ∷ []) ∷ row (Fault number_range_rank ∷ []) ∷ [])
+    ≡ ranked (Null ∷ Number 2 ∷ []) too_many_rows_rank ∷ ranked (Fault divide_by_zero_rank ∷ Number 2 ∷ []) number_range_rank
+    ∷ row (Fault number_range_rank ∷ Number 1 ∷ []) ∷ [])
     × (domain_node same_cell (λ r. r)
-      (ranked (Null ∷ []) divide_by_zero_rank ∷ row (Null ∷ []) ∷ ranked (Fault divide_by_zero_rank ∷ []) divide_by_zero_rank ∷ [])
-      ≡ row (Null ∷ []) ∷ row (Fault divide_by_zero_rank ∷ []) ∷ [])
+    (ranked (Null ∷ []) divide_by_zero_rank ∷ row (Null ∷ []) ∷ ranked (Fault divide_by_zero_rank ∷ []) divide_by_zero_rank ∷ [])
+    ≡ row (Null ∷ []) ∷ row (Fault divide_by_zero_rank ∷ []) ∷ [])
     × (fill same_cell (Number 0 ∷ []) (row (Null ∷ []) ∷ row (Fault divide_by_zero_rank ∷ []) ∷ [])
-      (ranked (Fault divide_by_zero_rank ∷ Number 2 ∷ []) number_range_rank ∷ row (Number 9 ∷ Number 1 ∷ []) ∷ [])
-      ≡ row (Null ∷ Number 0 ∷ []) ∷ ranked (Fault divide_by_zero_rank ∷ Number 2 ∷ []) number_range_rank ∷ [])
+    (ranked (Fault divide_by_zero_rank ∷ Number 2 ∷ []) number_range_rank ∷ row (Number 9 ∷ Number 1 ∷ []) ∷ [])
+    ≡ row (Null ∷ Number 0 ∷ []) ∷ ranked (Fault divide_by_zero_rank ∷ Number 2 ∷ []) number_range_rank ∷ [])
 
 -- Table 0 has a fault and a number, table 1 a number and a null.
 abbrev pub faulty_tables : ℕ → List (List Cell)
@@ -268,6 +287,6 @@ one_and_two = row (Number 1 ∷ []) ∷ row (Number 2 ∷ []) ∷ []
 abbrev pub OnOfTheLeftSide : Type 0
 OnOfTheLeftSide =
     (outer_loop (Null ∷ []) (λ r. min (equal (at r 0) (at r 1)) (equal (at r 0) (Number 2))) one_and_two (λ l. one_and_two)
-      ≡ row (Number 1 ∷ Null ∷ []) ∷ row (Number 2 ∷ Number 2 ∷ []) ∷ [])
+    ≡ row (Number 1 ∷ Null ∷ []) ∷ row (Number 2 ∷ Number 2 ∷ []) ∷ [])
     × NotSame (outer_loop (Null ∷ []) (λ r. min (equal (at r 0) (at r 1)) (equal (at r 0) (Number 2))) one_and_two (λ l. one_and_two))
     (outer_loop (Null ∷ []) (λ r. equal (at r 0) (at r 1)) (select (λ l. equal (at l 0) (Number 2)) one_and_two) (λ l. one_and_two))

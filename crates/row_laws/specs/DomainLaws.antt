@@ -4,8 +4,20 @@ use Rattle.row_laws.specs.Ranked.{Ranked, ranked, true_rank}
 use Rattle.row_laws.specs.Bags.{SameBag, OfBag, Each}
 use Rattle.row_laws.specs.Rows.{after, columns, scanned, unit_row}
 use Rattle.row_laws.specs.Operators.{
-  select, project, join_node, outer_node, attach_node, join_loop, outer_loop, attach_loop, or_else, group_by, total, distinct,
-  domain_node, fill
+  select,
+  project,
+  join_node,
+  outer_node,
+  attach_node,
+  join_loop,
+  outer_loop,
+  attach_loop,
+  or_else,
+  group_by,
+  total,
+  distinct,
+  domain_node,
+  fill,
 }
 use Rattle.row_laws.specs.Domains.{under, no_two, meeting, IsDomain, Meets, Answers}
 use Rattle.row_laws.specs.LoopLaws.{local_node, Equates}
@@ -65,7 +77,7 @@ abbrev pub JoinAnswers : {V : Type 0} → (V → V → Bool) → Type 0
 JoinAnswers {V} same = (null : V) (side : Side) (c : List V → ℕ) (n : ℕ) (ds xs ys : List (Ranked V)) (L R : List V → List (Ranked V))
     → SidesAnswer same null side n ds xs ys L R
     → Answers same ds (join_node same (side_pick null side n) c xs ys)
-      (λ d. join_loop (λ t. c (d ++ t)) (L d) (λ l. R (side_row null side d l)))
+    (λ d. join_loop (λ t. c (d ++ t)) (L d) (λ l. R (side_row null side d l)))
 
 -- The left outer join over a domain, with the same three kinds of right side.
 abbrev pub OuterAnswers : {V : Type 0} → (V → V → Bool) → Type 0
@@ -73,7 +85,7 @@ OuterAnswers {V} same =
     (null : V) (side : Side) (nulls : List V) (c : List V → ℕ) (n : ℕ) (ds xs ys : List (Ranked V)) (L R : List V → List (Ranked V))
     → SidesAnswer same null side n ds xs ys L R
     → Answers same ds (outer_node same (side_pick null side n) nulls c xs ys)
-      (λ d. outer_loop nulls (λ t. c (d ++ t)) (L d) (λ l. R (side_row null side d l)))
+    (λ d. outer_loop nulls (λ t. c (d ++ t)) (L d) (λ l. R (side_row null side d l)))
 
 -- Marks and scalar values over a domain, with the same three kinds of right side. Under each domain row d a left row l gets
 -- one more column: `value` of d and l, and of the rows that the right side has under them.
@@ -82,7 +94,7 @@ AttachAnswers {V} same = (null : V) (side : Side) (value : List V → List (Rank
     (ds xs ys : List (Ranked V)) (L R : List V → List (Ranked V))
     → ((x : List V) → OfBag (value x)) → SidesAnswer same null side n ds xs ys L R
     → Answers same ds (attach_node same (side_pick null side n) value xs ys)
-      (λ d. attach_loop (λ l. value (d ++ l)) (L d) (λ l. R (side_row null side d l)))
+    (λ d. attach_loop (λ l. value (d ++ l)) (L d) (λ l. R (side_row null side d l)))
 
 -- GROUP BY over a domain.
 abbrev pub GroupAnswers : {V : Type 0} → (V → V → Bool) → Type 0
@@ -90,7 +102,7 @@ GroupAnswers {V} same = (grouping : List V → List V) (aggregates : List (Ranke
     (ds xs : List (Ranked V)) (L : List V → List (Ranked V))
     → OfBag aggregates → IsDomain same n ds → Answers same ds xs L
     → Answers same ds (group_by same (λ x. take n x ++ grouping x) aggregates xs)
-      (λ d. group_by same (λ t. grouping (d ++ t)) (λ ys. aggregates (map (after d) ys)) (L d))
+    (λ d. group_by same (λ t. grouping (d ++ t)) (λ ys. aggregates (map (after d) ys)) (L d))
 
 -- The fill gives each domain row its groups, or where it has none the empty group.
 abbrev pub FillAnswers : {V : Type 0} → (V → V → Bool) → Type 0
@@ -103,7 +115,7 @@ abbrev pub TotalAnswers : {V : Type 0} → (V → V → Bool) → Type 0
 TotalAnswers {V} same = (aggregates : List (Ranked V) → List V) (n : ℕ) (ds xs : List (Ranked V)) (L : List V → List (Ranked V))
     → OfBag aggregates → IsDomain same n ds → Answers same ds xs L
     → Answers same ds (fill same (aggregates []) ds (group_by same (λ x. take n x) aggregates xs))
-      (λ d. total (λ ys. aggregates (map (after d) ys)) (L d))
+    (λ d. total (λ ys. aggregates (map (after d) ys)) (L d))
 
 -- A right side that has the domain's values in columns bs of its own, and asks in its WHERE that they equal the domain's,
 -- needs no domain: its rows take their own values as domain columns, and the equality becomes a condition on these alone.

@@ -4,8 +4,20 @@ use Rattle.row_laws.specs.Ranked.{Ranked, unknown_rank}
 use Rattle.row_laws.specs.Bags.{OfBag, Each}
 use Rattle.row_laws.specs.Rows.{same_row, starts, after, columns}
 use Rattle.row_laws.specs.Operators.{
-  select, project, join_node, outer_node, attach_node, mark_node, single_node, mark_of, scalar_of, join_loop, outer_loop,
-  attach_loop, group_by, distinct
+  select,
+  project,
+  join_node,
+  outer_node,
+  attach_node,
+  mark_node,
+  single_node,
+  mark_of,
+  scalar_of,
+  join_loop,
+  outer_loop,
+  attach_loop,
+  group_by,
+  distinct,
 }
 use Rattle.row_laws.specs.Domains.{Meets}
 
@@ -76,14 +88,14 @@ SingleMeets {V} same =
     (R : List V → List (Ranked V))
     → Meets same d xs ts → PartnersMeet same pick d xs ys R
     → Meets same d (single_node same pick write fault_rank i xs ys)
-      (attach_loop (λ l us. scalar_of write fault_rank i us) ts (λ l. R (pick (d ++ l))))
+    (attach_loop (λ l us. scalar_of write fault_rank i us) ts (λ l. R (pick (d ++ l))))
 
 -- GROUP BY, which takes the domain's columns among its own, under one domain row.
 abbrev pub GroupMeets : {V : Type 0} → (V → V → Bool) → Type 0
 GroupMeets {V} same = (grouping : List V → List V) (aggregates : List (Ranked V) → List V) (d : List V) (xs ts : List (Ranked V))
     → OfBag aggregates → Meets same d xs ts
     → Meets same d (group_by same (λ x. take (length d) x ++ grouping x) aggregates xs)
-      (group_by same (λ t. grouping (d ++ t)) (λ ys. aggregates (map (after d) ys)) ts)
+    (group_by same (λ t. grouping (d ++ t)) (λ ys. aggregates (map (after d) ys)) ts)
 
 -- Aggregates without GROUP BY under one domain row, before the fill: groups by the domain's columns alone.
 abbrev pub KeyMeets : {V : Type 0} → (V → V → Bool) → Type 0

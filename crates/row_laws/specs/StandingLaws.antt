@@ -3,7 +3,18 @@ use Rattle.std.specs.Prelude.{◌≡◌, ◌≤◌, ℕ, List, Bool}
 use Rattle.row_laws.specs.Ranked.{Ranked, too_many_rows_rank, true_rank}
 use Rattle.row_laws.specs.Bags.{Each}
 use Rattle.row_laws.specs.Operators.{
-  select, project, cross, join, join_loop, outer_loop, attach_loop, group_by, total, distinct, domain_node, fill
+  select,
+  project,
+  cross,
+  join,
+  join_loop,
+  outer_loop,
+  attach_loop,
+  group_by,
+  total,
+  distinct,
+  domain_node,
+  fill,
 }
 use Rattle.row_laws.specs.Matched.{inner_matched, outer_matched, attach_matched}
 use Rattle.row_laws.specs.Trees.{Tree, tree_rows, node_rows}

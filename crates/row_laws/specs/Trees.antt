@@ -4,8 +4,22 @@ use Rattle.row_laws.specs.Ranked.{Ranked, true_rank}
 use Rattle.row_laws.specs.Bags.{OfBag}
 use Rattle.row_laws.specs.Rows.{after, columns, scanned, unit_row}
 use Rattle.row_laws.specs.Operators.{
-  select, project, join_node, outer_node, mark_node, single_node, mark_of, scalar_of, join_loop, outer_loop, attach_loop,
-  group_by, distinct, domain_node, fill, total
+  select,
+  project,
+  join_node,
+  outer_node,
+  mark_node,
+  single_node,
+  mark_of,
+  scalar_of,
+  join_loop,
+  outer_loop,
+  attach_loop,
+  group_by,
+  distinct,
+  domain_node,
+  fill,
+  total,
 }
 
 -- What a right side reads of what stands to its left: nothing;

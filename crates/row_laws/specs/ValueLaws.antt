@@ -5,8 +5,22 @@ use Rattle.row_laws.specs.Ranked.{Ranked, true_rank}
 use Rattle.row_laws.specs.Bags.{SameBag, OfBag, Each, each_once, weigh, top, bottom}
 use Rattle.row_laws.specs.Operators.{mark_of, scalar_of, least, greatest}
 use Rattle.row_laws.specs.Aggregates.{
-  Reading, ReadsNulls, IsOrder, not_null, least_fault, count_rows, count_of, count_distinct_of, sum_of, avg_of, min_of, max_of,
-  aggregated, run, Exchanges, InOrder
+  Reading,
+  ReadsNulls,
+  IsOrder,
+  not_null,
+  least_fault,
+  count_rows,
+  count_of,
+  count_distinct_of,
+  sum_of,
+  avg_of,
+  min_of,
+  max_of,
+  aggregated,
+  run,
+  Exchanges,
+  InOrder,
 }
 
 -- this one aggregate is the least fault of the values, where a fault stands among them
