@@ -13,6 +13,7 @@ pub mod Moves
 pub mod AtHand
 pub mod Projections
 pub mod Standings
+pub mod Begins
 pub mod Values
 pub mod Cells
 pub mod Local
