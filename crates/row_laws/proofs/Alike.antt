@@ -7,7 +7,7 @@ use Rattle.row_laws.specs.Bags.{weigh, SameBag, IsIdentity, OfBag}
 use Rattle.row_laws.specs.Rows.{same_row, starts, strip, keep}
 use Rattle.row_laws.specs.Operators.{select, project, cross, pair, or_else, glue_at, join_node, outer_node, attach_node, join_loop, outer_loop, attach_loop, group_by, least, greatest, total, distinct, domain_node, fill}
 use Rattle.row_laws.proofs.Bags.{weigh-ext, weigh-flat_map, SameBag-map, SameBag-filter, SameBag-flat_map}
-use Rattle.row_laws.proofs.Classes.{SameBag-nub, SameBag-classes}
+use Rattle.row_laws.proofs.Classes.{SameBag-each_once, SameBag-classes}
 use Rattle.row_laws.proofs.Rows.{same_row_is}
 use Rattle.row_laws.proofs.Nodes.{SameBag-or_else}
 use Rattle.row_laws.proofs.OfBags.{OfBag-top, OfBag-bottom}
@@ -55,8 +55,8 @@ module _ {V : Type 0} where
   pub greatest_bag : OfBag {X = Ranked V} greatest
   greatest_bag = OfBag-top (λ x. x.standing)
 
-  pub total_alike : (aggs : List (Ranked V) → List V) (xs us : List (Ranked V)) → OfBag aggs → SameBag xs us → SameBag (total aggs xs) (total aggs us)
-  total_alike aggs xs us bag e = record { weighs = λ h. rw (bag.alike xs us e, least_bag.alike xs us e) }
+  pub total_alike : (aggregates : List (Ranked V) → List V) (xs us : List (Ranked V)) → OfBag aggregates → SameBag xs us → SameBag (total aggregates xs) (total aggregates us)
+  total_alike aggregates xs us bag e = record { weighs = λ h. rw (bag.alike xs us e, least_bag.alike xs us e) }
 
 module _ {V : Type 0} (same : V → V → Bool) (is : IsIdentity same) where
   module _ (pick : List V → List V) (c : List V → ℕ) where
@@ -88,11 +88,11 @@ module _ {V : Type 0} (same : V → V → Bool) (is : IsIdentity same) where
       (λ e. SameBag-or_else (filter (λ g. starts same e.values g.values) gs) (filter (λ g. starts same e.values g.values) hs) (ranked (e.values ++ empty) 5) (SameBag-filter (λ g. starts same e.values g.values) f)) e
 
   pub domain_alike : (pick : List V → List V) (xs us : List (Ranked V)) → SameBag xs us → SameBag (domain_node same pick xs) (domain_node same pick us)
-  domain_alike pick xs us e = SameBag-map (λ k. ranked k 5) (SameBag-nub (same_row same) (same_row_is same is) (SameBag-map (λ x. pick x.values) e))
+  domain_alike pick xs us e = SameBag-map (λ k. ranked k 5) (SameBag-each_once (same_row same) (same_row_is same is) (SameBag-map (λ x. pick x.values) e))
 
-  pub group_alike : (key : List V → List V) (aggs : List (Ranked V) → List V) (xs us : List (Ranked V)) → OfBag aggs → SameBag xs us → SameBag (group_by same key aggs xs) (group_by same key aggs us)
-  group_alike key aggs xs us bag e =
-      SameBag-classes (same_row same) (same_row_is same is) (λ x. key x.values) (λ k ys. ranked (k ++ aggs ys) (least ys))
+  pub group_alike : (key : List V → List V) (aggregates : List (Ranked V) → List V) (xs us : List (Ranked V)) → OfBag aggregates → SameBag xs us → SameBag (group_by same key aggregates xs) (group_by same key aggregates us)
+  group_alike key aggregates xs us bag e =
+      SameBag-classes (same_row same) (same_row_is same is) (λ x. key x.values) (λ k ys. ranked (k ++ aggregates ys) (least ys))
       (λ k. record { alike = λ gs hs f. rw (bag.alike gs hs f, least_bag.alike gs hs f) }) e
 
   pub distinct_alike : (xs us : List (Ranked V)) → SameBag xs us → SameBag (distinct same xs) (distinct same us)

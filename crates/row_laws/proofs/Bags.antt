@@ -2,7 +2,7 @@
 use Rattle.std.proofs.Common.{◌≡◌, ℕ, ◌+◌, List, [], ◌∷◌, ◌++◌, Bool, true, false, cond, refl, sym, ◌∙◌, ap, arith, zero-add}
 use Rattle.std.specs.Prelude.{map}
 use Rattle.std.specs.List.{filter, flat_map}
-use Rattle.row_laws.specs.Bags.{on, weigh, SameBag}
+use Rattle.row_laws.specs.Bags.{when, weigh, SameBag}
 
 pub weigh-append : {X : Type 0} (h : X → ℕ) (xs ys : List X) → weigh h (xs ++ ys) ≡ weigh h xs + weigh h ys
 weigh-append h [] ys = sym (zero-add (weigh h ys))
@@ -16,10 +16,10 @@ pub weigh-map : {X Y : Type 0} (h : Y → ℕ) (f : X → Y) (xs : List X) → w
 weigh-map h f [] = refl
 weigh-map h f (x ∷ xs) = ap (λ n. h (f x) + n) (weigh-map h f xs)
 
-pub weigh-filter : {X : Type 0} (h : X → ℕ) (p : X → Bool) (xs : List X) → weigh h (filter p xs) ≡ weigh (λ x. on (p x) (h x)) xs
+pub weigh-filter : {X : Type 0} (h : X → ℕ) (p : X → Bool) (xs : List X) → weigh h (filter p xs) ≡ weigh (λ x. when (p x) (h x)) xs
 weigh-filter h p [] = refl
 weigh-filter h p (x ∷ xs) =
-    elim (p x) as (λ b. weigh h (cond b (x ∷ filter p xs) (filter p xs)) ≡ on b (h x) + weigh (λ x. on (p x) (h x)) xs)
+    elim (p x) as (λ b. weigh h (cond b (x ∷ filter p xs) (filter p xs)) ≡ when b (h x) + weigh (λ x. when (p x) (h x)) xs)
     [ true ↦ ap (λ n. h x + n) (weigh-filter h p xs) | false ↦ weigh-filter h p xs ∙ sym (zero-add _) ]
 
 pub weigh-flat_map : {X Y : Type 0} (h : Y → ℕ) (f : X → List Y) (xs : List X) → weigh h (flat_map f xs) ≡ weigh (λ x. weigh h (f x)) xs
@@ -39,21 +39,21 @@ weigh-swap f [] ys = sym (weigh-zero ys)
 weigh-swap f (x ∷ xs) ys =
     omega (arith, weigh-swap f xs ys, weigh-add (λ y. f x y) (λ y. weigh (λ x. f x y) xs) ys)
 
-pub on-zero : (b : Bool) → on b 0 ≡ 0
-on-zero true = refl
-on-zero false = refl
+pub when-zero : (b : Bool) → when b 0 ≡ 0
+when-zero true = refl
+when-zero false = refl
 
-pub weigh-on : {X : Type 0} (b : Bool) (h : X → ℕ) (xs : List X) → weigh (λ x. on b (h x)) xs ≡ on b (weigh h xs)
-weigh-on true h xs = refl
-weigh-on false h xs = weigh-zero xs
+pub weigh-when : {X : Type 0} (b : Bool) (h : X → ℕ) (xs : List X) → weigh (λ x. when b (h x)) xs ≡ when b (weigh h xs)
+weigh-when true h xs = refl
+weigh-when false h xs = weigh-zero xs
 
-pub on-cong : (b : Bool) (n m : ℕ) → (b ≡ true → n ≡ m) → on b n ≡ on b m
-on-cong true n m e = e refl
-on-cong false n m e = refl
+pub when-cong : (b : Bool) (n m : ℕ) → (b ≡ true → n ≡ m) → when b n ≡ when b m
+when-cong true n m e = e refl
+when-cong false n m e = refl
 
-pub on-swap : (a b : Bool) (n : ℕ) → on a (on b n) ≡ on b (on a n)
-on-swap true b n = refl
-on-swap false b n = sym (on-zero b)
+pub when-swap : (a b : Bool) (n : ℕ) → when a (when b n) ≡ when b (when a n)
+when-swap true b n = refl
+when-swap false b n = sym (when-zero b)
 
 -- bags
 pub SameBag-refl : {X : Type 0} (xs : List X) → SameBag xs xs
@@ -75,7 +75,7 @@ pub SameBag-map : {X Y : Type 0} (f : X → Y) {xs ys : List X} → SameBag xs y
 SameBag-map f {xs} {ys} e = record { weighs = λ h. weigh-map h f xs ∙ e.weighs (λ x. h (f x)) ∙ sym (weigh-map h f ys) }
 
 pub SameBag-filter : {X : Type 0} (p : X → Bool) {xs ys : List X} → SameBag xs ys → SameBag (filter p xs) (filter p ys)
-SameBag-filter p {xs} {ys} e = record { weighs = λ h. weigh-filter h p xs ∙ e.weighs (λ x. on (p x) (h x)) ∙ sym (weigh-filter h p ys) }
+SameBag-filter p {xs} {ys} e = record { weighs = λ h. weigh-filter h p xs ∙ e.weighs (λ x. when (p x) (h x)) ∙ sym (weigh-filter h p ys) }
 
 pub SameBag-flat_map : {X Y : Type 0} (f : X → List Y) {xs ys : List X} → SameBag xs ys → SameBag (flat_map f xs) (flat_map f ys)
 SameBag-flat_map f {xs} {ys} e = record { weighs = λ h. weigh-flat_map h f xs ∙ e.weighs (λ x. weigh h (f x)) ∙ sym (weigh-flat_map h f ys) }

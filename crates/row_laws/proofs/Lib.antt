@@ -10,6 +10,10 @@ pub mod Trees
 pub mod Tables
 pub mod Alike
 pub mod Moves
+pub mod AtHand
+pub mod Projections
+pub mod Standings
+pub mod Begins
 pub mod Values
 pub mod Cells
 pub mod Local

@@ -4,7 +4,7 @@ use Rattle.std.specs.Prelude.{not, map}
 use Rattle.std.specs.List.{filter, flat_map}
 use Rattle.std.proofs.lemmas.Bool.{cases_Bool, true≢false}
 use Rattle.std.proofs.lemmas.List.{map-append}
-use Rattle.row_laws.specs.Bags.{weigh, IsIdentity, nub, Each}
+use Rattle.row_laws.specs.Bags.{weigh, IsIdentity, each_once, Each}
 
 -- the weights need to agree at the elements only
 pub weigh-ext_each : {X : Type 0} (P : X → Type 0) (h g : X → ℕ) (xs : List X) → Each P xs → ((x : X) → P x → h x ≡ g x) → weigh h xs ≡ weigh g xs
@@ -33,9 +33,9 @@ pub Each-weaker : {X : Type 0} (P Q : X → Type 0) (xs : List X) → ((x : X) �
 Each-weaker P Q [] e all = tt
 Each-weaker P Q (x ∷ xs) e all = (e x all.0, Each-weaker P Q xs e all.1)
 
-pub Each-nub : {X : Type 0} (P : X → Type 0) (same : X → X → Bool) (xs : List X) → Each P xs → Each P (nub same xs)
-Each-nub P same [] all = tt
-Each-nub P same (x ∷ xs) all = (all.0, Each-filter P (λ y. not (same x y)) (nub same xs) (Each-nub P same xs all.1))
+pub Each-each_once : {X : Type 0} (P : X → Type 0) (same : X → X → Bool) (xs : List X) → Each P xs → Each P (each_once same xs)
+Each-each_once P same [] all = tt
+Each-each_once P same (x ∷ xs) all = (all.0, Each-filter P (λ y. not (same x y)) (each_once same xs) (Each-each_once P same xs all.1))
 
 pub map-map : {X Y Z : Type 0} (g : Y → Z) (f : X → Y) (xs : List X) → map g (map f xs) ≡ map (λ x. g (f x)) xs
 map-map g f [] = refl
@@ -98,10 +98,10 @@ pub Each-filter_true : {X : Type 0} (p : X → Bool) (xs : List X) → Each (λ 
 Each-filter_true p [] = tt
 Each-filter_true p (x ∷ xs) = elim (cases_Bool (p x)) [ inl t ↦ rw t (t, Each-filter_true p xs) | inr f ↦ rw f (Each-filter_true p xs) ]
 
--- what of a nub is, is of the list
-pub Each-nub_back : {X : Type 0} (same : X → X → Bool) (is : IsIdentity same) (P : X → Type 0) (xs : List X) → Each P (nub same xs) → Each P xs
-Each-nub_back {X} same is P [] all = tt
-Each-nub_back {X} same is P (x ∷ xs) all = (all.0, Each-nub_back same is P xs (back x (nub same xs) all.0 all.1))
+-- what of a each_once is, is of the list
+pub Each-each_once_back : {X : Type 0} (same : X → X → Bool) (is : IsIdentity same) (P : X → Type 0) (xs : List X) → Each P (each_once same xs) → Each P xs
+Each-each_once_back {X} same is P [] all = tt
+Each-each_once_back {X} same is P (x ∷ xs) all = (all.0, Each-each_once_back same is P xs (back x (each_once same xs) all.0 all.1))
   where
     back : (x : X) (ys : List X) → P x → Each P (filter (λ y. not (same x y)) ys) → Each P ys
     back x [] p all = tt

@@ -7,20 +7,20 @@ use Rattle.std.proofs.lemmas.Bool.{cases_Bool, le-ltb, lt-ltb, ltb-false, ltb-tr
 use Rattle.std.proofs.lemmas.List.{append_assoc, append-nil}
 use Rattle.row_laws.specs.Ranked.{Ranked, ranked, true_rank}
 use Rattle.row_laws.specs.Rows.{unit_row}
-use Rattle.row_laws.specs.Bags.{on, weigh, SameBag, Each}
+use Rattle.row_laws.specs.Bags.{when, weigh, SameBag, Each}
 use Rattle.row_laws.specs.Operators.{select, project, cross, join, pair, or_else, join_loop, outer_loop}
 use Rattle.row_laws.specs.MoveLaws.{OfLeft, OfRight}
-use Rattle.row_laws.proofs.Bags.{on-zero, weigh-on, weigh-ext, weigh-map, weigh-flat_map, weigh-swap}
+use Rattle.row_laws.proofs.Bags.{when-zero, weigh-when, weigh-ext, weigh-map, weigh-flat_map, weigh-swap}
 use Rattle.row_laws.proofs.Lists.{weigh-ext_each}
 use Rattle.row_laws.proofs.Rows.{weigh-keep, weigh-select}
 use Rattle.row_laws.proofs.Nodes.{weigh-or_else, SameBag-or_else}
 
 -- the weight of a row where it is kept at the standing s
 abbrev kept : {V : Type 0} → (Ranked V → ℕ) → List V → ℕ → ℕ
-kept h r s = on (ltb 1 s) (h (ranked r s))
+kept h r s = when (ltb 1 s) (h (ranked r s))
 
 -- what is kept at s is kept at what s is below
-kept_under : (a s n : ℕ) → s ≤ a → on (ltb 1 a) (on (ltb 1 s) n) ≡ on (ltb 1 s) n
+kept_under : (a s n : ℕ) → s ≤ a → when (ltb 1 a) (when (ltb 1 s) n) ≡ when (ltb 1 s) n
 kept_under a s n h = elim (cases_Bool (ltb 1 a)) [
   | inl t ↦ rw t
   | inr f ↦ let l = ltb-false 1 a f in let z : ltb 1 s ≡ false = le-ltb 1 s (omega arith) in rw (f, z)
@@ -31,7 +31,7 @@ select_twice c e xs = record {
   weighs = λ h.
       weigh-select h e (select c xs)
       ∙ weigh-select (λ x. kept h x.values (min x.standing (e x.values))) c xs
-      ∙ weigh-ext (λ x. on (ltb 1 (min x.standing (c x.values))) (kept h x.values (min (min x.standing (c x.values)) (e x.values)))) (λ x. kept h x.values (min x.standing (min (c x.values) (e x.values)))) xs
+      ∙ weigh-ext (λ x. when (ltb 1 (min x.standing (c x.values))) (kept h x.values (min (min x.standing (c x.values)) (e x.values)))) (λ x. kept h x.values (min x.standing (min (c x.values) (e x.values)))) xs
       (λ x. let s = min (min x.standing (c x.values)) (e x.values) in
       kept_under (min x.standing (c x.values)) s (h (ranked x.values s)) (omega arith) ∙ ap (kept h x.values) (assoc x.standing (c x.values) (e x.values)))
       ∙ sym (weigh-select h (λ r. min (c r) (e r)) xs);
@@ -95,7 +95,7 @@ module _ {V : Type 0} (h : Ranked V → ℕ) (c e p : List V → ℕ) where
   abbrev left_under : Ranked V → Ranked V
   left_under l = ranked l.values (min l.standing (p l.values))
 
-  left_both : (l r : Ranked V) → e (l.values ++ r.values) ≡ p l.values → both h (λ z. min (c z) (e z)) l r ≡ on (ltb 1 (min l.standing (p l.values))) (both h c (left_under l) r)
+  left_both : (l r : Ranked V) → e (l.values ++ r.values) ≡ p l.values → both h (λ z. min (c z) (e z)) l r ≡ when (ltb 1 (min l.standing (p l.values))) (both h c (left_under l) r)
   left_both l r q =
       let z = l.values ++ r.values in let s = min (min (min l.standing (p l.values)) r.standing) (c z) in
       ap (λ n. kept h z (min (min l.standing r.standing) (min (c z) n))) q
@@ -105,14 +105,14 @@ module _ {V : Type 0} (h : Ranked V → ℕ) (c e p : List V → ℕ) where
       moved : (a b c p : ℕ) → min (min a b) (min c p) ≡ min (min (min a p) b) c
       moved a b c p = omega arith
 
-  left_pairs : (l : Ranked V) (us : List (Ranked V)) → OfLeft e p l → weigh (both h (λ z. min (c z) (e z)) l) us ≡ on (ltb 1 (min l.standing (p l.values))) (weigh (both h c (left_under l)) us)
+  left_pairs : (l : Ranked V) (us : List (Ranked V)) → OfLeft e p l → weigh (both h (λ z. min (c z) (e z)) l) us ≡ when (ltb 1 (min l.standing (p l.values))) (weigh (both h c (left_under l)) us)
   left_pairs l us q =
-      weigh-ext (both h (λ z. min (c z) (e z)) l) (λ r. on (ltb 1 (min l.standing (p l.values))) (both h c (left_under l) r)) us (λ r. left_both l r (q r.values))
-      ∙ weigh-on (ltb 1 (min l.standing (p l.values))) (both h c (left_under l)) us
+      weigh-ext (both h (λ z. min (c z) (e z)) l) (λ r. when (ltb 1 (min l.standing (p l.values))) (both h c (left_under l) r)) us (λ r. left_both l r (q r.values))
+      ∙ weigh-when (ltb 1 (min l.standing (p l.values))) (both h c (left_under l)) us
 
   right_pairs : (l : Ranked V) (us : List (Ranked V)) → Each (λ r. e (l.values ++ r.values) ≡ p r.values) us → weigh (both h (λ z. min (c z) (e z)) l) us ≡ weigh (both h c l) (select p us)
   right_pairs l us all =
-      weigh-ext_each (λ r. e (l.values ++ r.values) ≡ p r.values) (both h (λ z. min (c z) (e z)) l) (λ r. on (ltb 1 (min r.standing (p r.values))) (both h c l (ranked r.values (min r.standing (p r.values))))) us all
+      weigh-ext_each (λ r. e (l.values ++ r.values) ≡ p r.values) (both h (λ z. min (c z) (e z)) l) (λ r. when (ltb 1 (min r.standing (p r.values))) (both h c l (ranked r.values (min r.standing (p r.values))))) us all
       (λ r q.
       let z = l.values ++ r.values in let s = min (min l.standing (min r.standing (p r.values))) (c z) in
       ap (λ n. kept h z (min (min l.standing r.standing) (min (c z) n))) q
@@ -129,7 +129,7 @@ module _ {V : Type 0} (c e p : List V → ℕ) (ls : List (Ranked V)) (R : List 
     weighs = λ h.
         (select_into_join c e ls R).weighs h
         ∙ weigh-join_loop h (λ z. min (c z) (e z)) ls R
-        ∙ weigh-ext_each (OfLeft e p) (λ l. weigh (both h (λ z. min (c z) (e z)) l) (R l.values)) (λ l. on (ltb 1 (min l.standing (p l.values))) (weigh (both h c (left_under h c e p l)) (R l.values))) ls all
+        ∙ weigh-ext_each (OfLeft e p) (λ l. weigh (both h (λ z. min (c z) (e z)) l) (R l.values)) (λ l. when (ltb 1 (min l.standing (p l.values))) (weigh (both h c (left_under h c e p l)) (R l.values))) ls all
         (λ l q. left_pairs h c e p l (R l.values) q)
         ∙ sym (weigh-select (λ l. weigh (both h c l) (R l.values)) p ls)
         ∙ sym (weigh-join_loop h c (select p ls) R);
@@ -170,7 +170,7 @@ still a b c p t =
 module _ {V : Type 0} (c e p : List V → ℕ) (nulls : List V) where
   outer_row : (h : Ranked V → ℕ) (l : Ranked V) (us : List (Ranked V)) → OfLeft e p l
       → weigh (above h c e) (or_else (flat_map (λ r. pair c (λ a b. a ++ b) l r) us) (ranked (l.values ++ nulls) l.standing))
-      ≡ on (ltb 1 (min l.standing (p l.values))) (weigh h (or_else (flat_map (λ r. pair c (λ a b. a ++ b) (left_under h c e p l) r) us) (ranked (l.values ++ nulls) (min l.standing (p l.values)))))
+      ≡ when (ltb 1 (min l.standing (p l.values))) (weigh h (or_else (flat_map (λ r. pair c (λ a b. a ++ b) (left_under h c e p l) r) us) (ranked (l.values ++ nulls) (min l.standing (p l.values)))))
   outer_row h l us q =
       let B = ltb 1 (min l.standing (p l.values)) in
       let H = above h c e in
@@ -179,24 +179,24 @@ module _ {V : Type 0} (c e p : List V → ℕ) (nulls : List V) where
       let N = flat_map (λ r. pair c (λ a b. a ++ b) k r) us in
       let z = ranked (l.values ++ nulls) l.standing in
       let y = ranked (l.values ++ nulls) (min l.standing (p l.values)) in
-      let pairs : weigh H M ≡ on B (weigh h N) =
-      weigh-pairs H c l us ∙ weigh-ext (both H c l) (both h (λ z. min (c z) (e z)) l) us (both_above h c e l) ∙ left_pairs h c e p l us q ∙ ap (on B) (sym (weigh-pairs h c k us)) in
-      let one : H z ≡ on B (h y) = ap (λ n. kept h (l.values ++ nulls) (min l.standing n)) (q nulls) in
+      let pairs : weigh H M ≡ when B (weigh h N) =
+      weigh-pairs H c l us ∙ weigh-ext (both H c l) (both h (λ z. min (c z) (e z)) l) us (both_above h c e l) ∙ left_pairs h c e p l us q ∙ ap (when B) (sym (weigh-pairs h c k us)) in
+      let one : H z ≡ when B (h y) = ap (λ n. kept h (l.values ++ nulls) (min l.standing n)) (q nulls) in
       elim (cases_Bool B) [
         | inl t ↦
             let same_number : weigh (λ x. 1) M ≡ weigh (λ x. 1) N =
             weigh-pairs (λ x. 1) c l us
-            ∙ weigh-ext (both (λ x. 1) c l) (both (λ x. 1) c k) us (λ r. ap (λ b. on b 1) (still l.standing r.standing (c (l.values ++ r.values)) (p l.values) t))
+            ∙ weigh-ext (both (λ x. 1) c l) (both (λ x. 1) c k) us (λ r. ap (λ b. when b 1) (still l.standing r.standing (c (l.values ++ r.values)) (p l.values) t))
             ∙ sym (weigh-pairs (λ x. 1) c k us) in
-            weigh-or_else H M z ∙ ap (λ n. n + on (eqb (weigh (λ x. 1) M) 0) (H z)) (pairs ∙ ap (λ b. on b (weigh h N)) t)
-            ∙ ap (λ n. weigh h N + on (eqb (weigh (λ x. 1) M) 0) n) (one ∙ ap (λ b. on b (h y)) t)
-            ∙ ap (λ n. weigh h N + on (eqb n 0) (h y)) same_number
-            ∙ sym (weigh-or_else h N y) ∙ sym (ap (λ b. on b (weigh h (or_else N y))) t)
+            weigh-or_else H M z ∙ ap (λ n. n + when (eqb (weigh (λ x. 1) M) 0) (H z)) (pairs ∙ ap (λ b. when b (weigh h N)) t)
+            ∙ ap (λ n. weigh h N + when (eqb (weigh (λ x. 1) M) 0) n) (one ∙ ap (λ b. when b (h y)) t)
+            ∙ ap (λ n. weigh h N + when (eqb n 0) (h y)) same_number
+            ∙ sym (weigh-or_else h N y) ∙ sym (ap (λ b. when b (weigh h (or_else N y))) t)
         | inr f ↦
-            weigh-or_else H M z ∙ ap (λ n. n + on (eqb (weigh (λ x. 1) M) 0) (H z)) (pairs ∙ ap (λ b. on b (weigh h N)) f)
-            ∙ ap (λ n. 0 + on (eqb (weigh (λ x. 1) M) 0) n) (one ∙ ap (λ b. on b (h y)) f)
-            ∙ ap (λ n. 0 + n) (on-zero (eqb (weigh (λ x. 1) M) 0))
-            ∙ sym (ap (λ b. on b (weigh h (or_else N y))) f)
+            weigh-or_else H M z ∙ ap (λ n. n + when (eqb (weigh (λ x. 1) M) 0) (H z)) (pairs ∙ ap (λ b. when b (weigh h N)) f)
+            ∙ ap (λ n. 0 + when (eqb (weigh (λ x. 1) M) 0) n) (one ∙ ap (λ b. when b (h y)) f)
+            ∙ ap (λ n. 0 + n) (when-zero (eqb (weigh (λ x. 1) M) 0))
+            ∙ sym (ap (λ b. when b (weigh h (or_else N y))) f)
       ]
 
   pub select_below_outer : (ls : List (Ranked V)) (R : List V → List (Ranked V)) → Each (OfLeft e p) ls → SameBag (select e (outer_loop nulls c ls R)) (outer_loop nulls c (select p ls) R)
@@ -205,7 +205,7 @@ module _ {V : Type 0} (c e p : List V → ℕ) (nulls : List V) where
         let row : Ranked V → List (Ranked V) = λ l. or_else (flat_map (λ r. pair c (λ a b. a ++ b) l r) (R l.values)) (ranked (l.values ++ nulls) l.standing) in
         weigh-select h e (outer_loop nulls c ls R)
         ∙ weigh-flat_map (above h c e) row ls
-        ∙ weigh-ext_each (OfLeft e p) (λ l. weigh (above h c e) (row l)) (λ l. on (ltb 1 (min l.standing (p l.values))) (weigh h (row (left_under h c e p l)))) ls all
+        ∙ weigh-ext_each (OfLeft e p) (λ l. weigh (above h c e) (row l)) (λ l. when (ltb 1 (min l.standing (p l.values))) (weigh h (row (left_under h c e p l)))) ls all
         (λ l q. outer_row h l (R l.values) q)
         ∙ sym (weigh-select (λ l. weigh h (row l)) p ls)
         ∙ sym (weigh-flat_map h row (select p ls));

@@ -6,11 +6,11 @@ use Rattle.std.specs.List.{filter, flat_map}
 use Rattle.std.proofs.lemmas.Bool.{ne_eqb}
 use Rattle.std.proofs.lemmas.List.{append_assoc, length-append}
 use Rattle.row_laws.specs.Ranked.{Ranked, ranked}
-use Rattle.row_laws.specs.Bags.{on, weigh, SameBag, IsIdentity, OfBag, Each}
+use Rattle.row_laws.specs.Bags.{when, weigh, SameBag, IsIdentity, OfBag, Each}
 use Rattle.row_laws.specs.Rows.{starts, after, strip, keep}
 use Rattle.row_laws.specs.Operators.{project, pair, or_else, glue_at, join_node, outer_node, attach_node, join_loop, outer_loop, attach_loop}
 use Rattle.row_laws.specs.Domains.{Meets}
-use Rattle.row_laws.proofs.Bags.{on-cong, weigh-on, weigh-ext, weigh-map, weigh-flat_map, SameBag-map, SameBag-flat_map, SameBag-refl}
+use Rattle.row_laws.proofs.Bags.{when-cong, weigh-when, weigh-ext, weigh-map, weigh-flat_map, SameBag-map, SameBag-flat_map, SameBag-refl}
 use Rattle.row_laws.proofs.Lists.{weigh-ext_each, Each-weaker, Each-all, Each-both, Each-flat_map, flat_map-map, map-flat_map, flat_map-ext, flat_map-single}
 use Rattle.row_laws.proofs.Rows.{starts-wide, starts-take, take-append, drop-append, wide-take, Meets-weighs, Meets-from, Each-keep}
 
@@ -25,14 +25,14 @@ map-keep d r s = elim (ltb 1 s) as (λ b. cond b (ranked (d ++ r) s ∷ []) [] �
 glued : {V : Type 0} (pick : List V → List V) (d l r : List V) → glue_at pick (d ++ l) (pick (d ++ l) ++ r) ≡ d ++ (l ++ r)
 glued pick d l r = ap (λ s. (d ++ l) ++ s) (drop-append (pick (d ++ l)) r) ∙ append_assoc d l r
 
-pub weigh-or_else : {V : Type 0} (h : Ranked V → ℕ) (zs : List (Ranked V)) (z : Ranked V) → weigh h (or_else zs z) ≡ weigh h zs + on (eqb (weigh (λ y. 1) zs) 0) (h z)
+pub weigh-or_else : {V : Type 0} (h : Ranked V → ℕ) (zs : List (Ranked V)) (z : Ranked V) → weigh h (or_else zs z) ≡ weigh h zs + when (eqb (weigh (λ y. 1) zs) 0) (h z)
 weigh-or_else h [] z = omega arith
 weigh-or_else h (y ∷ ys) z = let e : eqb (1 + weigh (λ y. 1) ys) 0 ≡ false = ne_eqb (1 + weigh (λ y. 1) ys) 0 (λ e. omega arith) in rw e (omega arith)
 
 pub SameBag-or_else : {V : Type 0} (zs ws : List (Ranked V)) (z : Ranked V) → SameBag zs ws → SameBag (or_else zs z) (or_else ws z)
 SameBag-or_else zs ws z e = record {
   weighs = λ h.
-      weigh-or_else h zs z ∙ ap (λ n. n + on (eqb (weigh (λ y. 1) zs) 0) (h z)) (e.weighs h) ∙ ap (λ n. weigh h ws + on (eqb n 0) (h z)) (e.weighs (λ y. 1))
+      weigh-or_else h zs z ∙ ap (λ n. n + when (eqb (weigh (λ y. 1) zs) 0) (h z)) (e.weighs h) ∙ ap (λ n. weigh h ws + when (eqb n 0) (h z)) (e.weighs (λ y. 1))
       ∙ sym (weigh-or_else h ws z);
 }
 
@@ -48,10 +48,10 @@ module _ {V : Type 0} (same : V → V → Bool) (is : IsIdentity same) where
   pub Follows-append : (d : List V) (x : Ranked V) (s : List V) (n : ℕ) → length d ≤ length x.values → Follows same d x (ranked (x.values ++ s) n)
   Follows-append d x s n w = record { like = starts-wide same is d x.values s w; wide = simp length-append (omega arith) }
 
-  weigh-follows : (h : Ranked V → ℕ) (d : List V) (x : Ranked V) (zs : List (Ranked V)) → Each (Follows same d x) zs → weigh (λ z. on (starts same d z.values) (h z)) zs ≡ on (starts same d x.values) (weigh h zs)
+  weigh-follows : (h : Ranked V → ℕ) (d : List V) (x : Ranked V) (zs : List (Ranked V)) → Each (Follows same d x) zs → weigh (λ z. when (starts same d z.values) (h z)) zs ≡ when (starts same d x.values) (weigh h zs)
   weigh-follows h d x zs all =
-      weigh-ext_each (Follows same d x) (λ z. on (starts same d z.values) (h z)) (λ z. on (starts same d x.values) (h z)) zs all (λ z f. ap (λ b. on b (h z)) f.like)
-      ∙ weigh-on (starts same d x.values) h zs
+      weigh-ext_each (Follows same d x) (λ z. when (starts same d z.values) (h z)) (λ z. when (starts same d x.values) (h z)) zs all (λ z f. ap (λ b. when b (h z)) f.like)
+      ∙ weigh-when (starts same d x.values) h zs
 
   -- What is made of each row alone. B is made by the node, B' is the same bag where the right side's rows are known, and T is made by nested loops.
   pub expand_meets : (d : List V) (xs ts : List (Ranked V)) (B B' T : Ranked V → List (Ranked V)) → Meets same d xs ts
@@ -63,9 +63,9 @@ module _ {V : Type 0} (same : V → V → Bool) (is : IsIdentity same) where
       Meets-from same is d (flat_map B xs) (flat_map T ts)
       (Each-flat_map P (λ z. length d ≤ length z.values) B xs all (λ x p. Each-weaker (Follows same d x) (λ z. length d ≤ length z.values) (B x) (λ z f. f.wide) p.0))
       (λ h.
-      weigh-flat_map (λ z. on (starts same d z.values) (h z)) B xs
-      ∙ weigh-ext_each P (λ x. weigh (λ z. on (starts same d z.values) (h z)) (B x)) (λ x. on (starts same d x.values) (weigh h (B' x))) xs all
-      (λ x p. weigh-follows h d x (B x) p.0 ∙ on-cong (starts same d x.values) (weigh h (B x)) (weigh h (B' x)) (λ t. (p.1 t).weighs h))
+      weigh-flat_map (λ z. when (starts same d z.values) (h z)) B xs
+      ∙ weigh-ext_each P (λ x. weigh (λ z. when (starts same d z.values) (h z)) (B x)) (λ x. when (starts same d x.values) (weigh h (B' x))) xs all
+      (λ x p. weigh-follows h d x (B x) p.0 ∙ when-cong (starts same d x.values) (weigh h (B x)) (weigh h (B' x)) (λ t. (p.1 t).weighs h))
       ∙ Meets-weighs same is m (λ x. weigh h (B' x))
       ∙ weigh-ext (λ l. weigh h (B' (after d l))) (λ l. weigh (λ t. h (after d t)) (T l)) ts (λ l. ap (λ zs. weigh h zs) (e l) ∙ weigh-map h (after d) (T l))
       ∙ sym (weigh-flat_map (λ t. h (after d t)) T ts))

@@ -3,11 +3,11 @@ use Rattle.std.proofs.Common.{◌≡◌, ℕ, ◌+◌, ◌-◌, ◌≤◌, List,
 use Rattle.std.specs.Prelude.{map, min, max}
 use Rattle.std.specs.List.{filter}
 use Rattle.std.proofs.lemmas.Bool.{cases_Bool, true≢false}
-use Rattle.row_laws.specs.Bags.{on, weigh, SameBag, IsIdentity, has, nub, OfBag, top, bottom}
+use Rattle.row_laws.specs.Bags.{when, weigh, SameBag, IsIdentity, has, each_once, OfBag, top, bottom}
 use Rattle.row_laws.specs.Operators.{by_number}
 use Rattle.row_laws.specs.Aggregates.{run, Exchanges}
 use Rattle.row_laws.proofs.Bags.{SameBag-map, SameBag-filter}
-use Rattle.row_laws.proofs.Classes.{without, weigh-without, has-SameBag, SameBag-nub}
+use Rattle.row_laws.proofs.Classes.{without, weigh-without, has-SameBag, SameBag-each_once}
 
 -- how far the elements stand above m, all together, is nothing where the greatest is at most m, and the other way round
 top_within : {X : Type 0} (f : X → ℕ) (m : ℕ) (xs : List X) → top f xs ≤ m → weigh (λ x. f x - m) xs ≡ 0
@@ -83,8 +83,8 @@ length-weigh (x ∷ xs) = let ih = length-weigh xs in omega (arith, ih)
 pub OfBag-length : {X : Type 0} → OfBag {X = X} (λ xs. length xs)
 OfBag-length = record { alike = λ xs ys e. length-weigh xs ∙ e.weighs (λ x. 1) ∙ sym (length-weigh ys) }
 
-pub OfBag-nub : {X Z : Type 0} (same : X → X → Bool) (is : IsIdentity same) (a : List X → Z) → OfBag a → OfBag (λ xs. a (nub same xs))
-OfBag-nub same is a q = record { alike = λ xs ys e. q.alike (nub same xs) (nub same ys) (SameBag-nub same is e) }
+pub OfBag-each_once : {X Z : Type 0} (same : X → X → Bool) (is : IsIdentity same) (a : List X → Z) → OfBag a → OfBag (λ xs. a (each_once same xs))
+OfBag-each_once same is a q = record { alike = λ xs ys e. q.alike (each_once same xs) (each_once same ys) (SameBag-each_once same is e) }
 
 -- a fold whose steps may be exchanged, over values with identity
 module _ {X S : Type 0} (same : X → X → Bool) (is : IsIdentity same) (step : X → S → S) (ex : Exchanges step) (s : S) where
@@ -115,9 +115,9 @@ OfBag-by_number {X} {Y} same is none one more = record { alike = go }
     go [] [] e = refl
     go [] (y ∷ ys) e = let a = e.weighs (λ z. 1) in absurd (omega arith)
     go (x ∷ []) [] e = let a = e.weighs (λ z. 1) in absurd (omega arith)
-    go (x ∷ []) (y ∷ []) e = let a = e.weighs (λ z. on (same x z) 1) in elim (cases_Bool (same x y)) [
+    go (x ∷ []) (y ∷ []) e = let a = e.weighs (λ z. when (same x z) 1) in elim (cases_Bool (same x y)) [
       | inl t ↦ ap one (is.tells x y t)
-      | inr f ↦ let m = is.meets x in let b : on true 1 + 0 ≡ on false 1 + 0 = rw (m, f) at a in absurd (omega arith)
+      | inr f ↦ let m = is.meets x in let b : when true 1 + 0 ≡ when false 1 + 0 = rw (m, f) at a in absurd (omega arith)
     ]
     go (x ∷ []) (y ∷ z ∷ zs) e = let a = e.weighs (λ z. 1) in absurd (omega arith)
     go (x ∷ u ∷ us) [] e = let a = e.weighs (λ z. 1) in absurd (omega arith)

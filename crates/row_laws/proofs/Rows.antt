@@ -5,11 +5,11 @@ use Rattle.std.specs.Prelude.{◌&&◌, min, map}
 use Rattle.std.proofs.lemmas.Bool.{true≢false, and_parts}
 use Rattle.std.proofs.lemmas.List.{append_assoc, length-append, length-take-le}
 use Rattle.row_laws.specs.Ranked.{Ranked, ranked}
-use Rattle.row_laws.specs.Bags.{on, weigh, IsIdentity, Each}
+use Rattle.row_laws.specs.Bags.{when, weigh, IsIdentity, Each}
 use Rattle.row_laws.specs.Rows.{same_row, starts, after, keep}
 use Rattle.row_laws.specs.Domains.{Wide, Meets}
 use Rattle.row_laws.specs.Operators.{select}
-use Rattle.row_laws.proofs.Bags.{on-swap, weigh-ext, weigh-map, weigh-filter, weigh-flat_map}
+use Rattle.row_laws.proofs.Bags.{when-swap, weigh-ext, weigh-map, weigh-filter, weigh-flat_map}
 use Rattle.row_laws.proofs.Lists.{Each-flat_map}
 
 pub drop-append : {V : Type 0} (d t : List V) → drop (length d) (d ++ t) ≡ t
@@ -31,12 +31,12 @@ pub map-after_nil : {V : Type 0} (xs : List (Ranked V)) → map (after []) xs �
 map-after_nil [] = refl
 map-after_nil (x ∷ xs) = ap (λ l. x ∷ l) (map-after_nil xs)
 
-pub weigh-keep : {V : Type 0} (h : Ranked V → ℕ) (r : List V) (s : ℕ) → weigh h (keep r s) ≡ on (ltb 1 s) (h (ranked r s))
-weigh-keep h r s = elim (ltb 1 s) as (λ b. weigh h (cond b (ranked r s ∷ []) []) ≡ on b (h (ranked r s))) [ true ↦ omega arith | false ↦ refl ]
+pub weigh-keep : {V : Type 0} (h : Ranked V → ℕ) (r : List V) (s : ℕ) → weigh h (keep r s) ≡ when (ltb 1 s) (h (ranked r s))
+weigh-keep h r s = elim (ltb 1 s) as (λ b. weigh h (cond b (ranked r s ∷ []) []) ≡ when b (h (ranked r s))) [ true ↦ omega arith | false ↦ refl ]
 
-pub weigh-select : {V : Type 0} (h : Ranked V → ℕ) (c : List V → ℕ) (xs : List (Ranked V)) → weigh h (select c xs) ≡ weigh (λ x. on (ltb 1 (min x.standing (c x.values))) (h (ranked x.values (min x.standing (c x.values))))) xs
+pub weigh-select : {V : Type 0} (h : Ranked V → ℕ) (c : List V → ℕ) (xs : List (Ranked V)) → weigh h (select c xs) ≡ weigh (λ x. when (ltb 1 (min x.standing (c x.values))) (h (ranked x.values (min x.standing (c x.values))))) xs
 weigh-select h c xs = weigh-flat_map h (λ x. keep x.values (min x.standing (c x.values))) xs
-    ∙ weigh-ext (λ x. weigh h (keep x.values (min x.standing (c x.values)))) (λ x. on (ltb 1 (min x.standing (c x.values))) (h (ranked x.values (min x.standing (c x.values))))) xs
+    ∙ weigh-ext (λ x. weigh h (keep x.values (min x.standing (c x.values)))) (λ x. when (ltb 1 (min x.standing (c x.values))) (h (ranked x.values (min x.standing (c x.values))))) xs
     (λ x. weigh-keep h x.values (min x.standing (c x.values)))
 
 pub Each-keep : {V : Type 0} (Q : Ranked V → Type 0) (r : List V) (s : ℕ) → Q (ranked r s) → Each Q (keep r s)
@@ -99,10 +99,10 @@ module _ {V : Type 0} (same : V → V → Bool) (is : IsIdentity same) where
   same_row-behind (x ∷ d) a b = rw (is.meets x, same_row-behind d a b)
 
   -- `Meets` by weights, both ways
-  pub Meets-weighs : {d : List V} {xs ts : List (Ranked V)} → Meets same d xs ts → (h : Ranked V → ℕ) → weigh (λ x. on (starts same d x.values) (h x)) xs ≡ weigh (λ t. h (after d t)) ts
+  pub Meets-weighs : {d : List V} {xs ts : List (Ranked V)} → Meets same d xs ts → (h : Ranked V → ℕ) → weigh (λ x. when (starts same d x.values) (h x)) xs ≡ weigh (λ t. h (after d t)) ts
   Meets-weighs {d} {xs} {ts} m h = sym (weigh-filter h (λ x. starts same d x.values) xs) ∙ m.same_bag.weighs h ∙ weigh-map h (after d) ts
 
-  pub Meets-from : (d : List V) (xs ts : List (Ranked V)) → Wide (length d) xs → ((h : Ranked V → ℕ) → weigh (λ x. on (starts same d x.values) (h x)) xs ≡ weigh (λ t. h (after d t)) ts) → Meets same d xs ts
+  pub Meets-from : (d : List V) (xs ts : List (Ranked V)) → Wide (length d) xs → ((h : Ranked V → ℕ) → weigh (λ x. when (starts same d x.values) (h x)) xs ≡ weigh (λ t. h (after d t)) ts) → Meets same d xs ts
   Meets-from d xs ts w e = record { wide = w; same_bag = record { weighs = λ h. weigh-filter h (λ x. starts same d x.values) xs ∙ e h ∙ sym (weigh-map h (after d) ts) } }
 
   -- selection
@@ -111,9 +111,9 @@ module _ {V : Type 0} (same : V → V → Bool) (is : IsIdentity same) where
       (Each-flat_map (λ x. length d ≤ length x.values) (λ x. length d ≤ length x.values) (λ x. keep x.values (min x.standing (c x.values))) xs m.wide
       (λ x w. Each-keep (λ x. length d ≤ length x.values) x.values (min x.standing (c x.values)) w))
       (λ h.
-      let k : Ranked V → ℕ = λ x. on (ltb 1 (min x.standing (c x.values))) (h (ranked x.values (min x.standing (c x.values)))) in
-      weigh-select (λ x. on (starts same d x.values) (h x)) c xs
-      ∙ weigh-ext (λ x. on (ltb 1 (min x.standing (c x.values))) (on (starts same d x.values) (h (ranked x.values (min x.standing (c x.values)))))) (λ x. on (starts same d x.values) (k x)) xs
-      (λ x. on-swap (ltb 1 (min x.standing (c x.values))) (starts same d x.values) (h (ranked x.values (min x.standing (c x.values)))))
+      let k : Ranked V → ℕ = λ x. when (ltb 1 (min x.standing (c x.values))) (h (ranked x.values (min x.standing (c x.values)))) in
+      weigh-select (λ x. when (starts same d x.values) (h x)) c xs
+      ∙ weigh-ext (λ x. when (ltb 1 (min x.standing (c x.values))) (when (starts same d x.values) (h (ranked x.values (min x.standing (c x.values)))))) (λ x. when (starts same d x.values) (k x)) xs
+      (λ x. when-swap (ltb 1 (min x.standing (c x.values))) (starts same d x.values) (h (ranked x.values (min x.standing (c x.values)))))
       ∙ Meets-weighs m k
       ∙ sym (weigh-select (λ t. h (after d t)) (λ t. c (d ++ t)) ts))

@@ -4,7 +4,7 @@ use Rattle.std.specs.Prelude.{not, map, slice_index_or}
 use Rattle.std.specs.List.{filter, flat_map}
 use Rattle.std.proofs.lemmas.List.{append-nil, length-map}
 use Rattle.row_laws.specs.Ranked.{Ranked, ranked, true_rank}
-use Rattle.row_laws.specs.Bags.{SameBag, IsIdentity, OfBag, nub, Each}
+use Rattle.row_laws.specs.Bags.{SameBag, IsIdentity, OfBag, each_once, Each}
 use Rattle.row_laws.specs.Rows.{same_row, starts, after, columns, scanned, unit_row}
 use Rattle.row_laws.specs.Operators.{select, project, pair, join_node, outer_node, attach_node, mark_of, scalar_of, join_loop, outer_loop, attach_loop, or_else, group_by, least, distinct, fill, total}
 use Rattle.row_laws.specs.Domains.{values_of, under, meeting, IsDomain, Meets, Answers}
@@ -43,15 +43,15 @@ module _ {V : Type 0} (same : V → V → Bool) (is : IsIdentity same) where
   pub closed_meets : (ys : List (Ranked V)) → Meets same [] ys ys
   closed_meets ys = Meets-from same is [] ys ys (Each-all (λ y. 0 ≤ length y.values) ys (λ y. omega arith)) (λ h. refl)
 
-  nub_const : {X : Type 0} (t : X) (ts : List X) → nub (same_row same) (map (λ x. []) (t ∷ ts)) ≡ [] ∷ []
-  nub_const t [] = refl
-  nub_const t (u ∷ us) = ap (λ l. [] ∷ filter (λ y. not (same_row same [] y)) l) (nub_const u us)
+  each_once_const : {X : Type 0} (t : X) (ts : List X) → each_once (same_row same) (map (λ x. []) (t ∷ ts)) ≡ [] ∷ []
+  each_once_const t [] = refl
+  each_once_const t (u ∷ us) = ap (λ l. [] ∷ filter (λ y. not (same_row same [] y)) l) (each_once_const u us)
 
   -- one group by no columns, or the empty one, is the group of all rows
   pub total_is : (A : List (Ranked V) → List V) (ts : List (Ranked V)) → or_else (group_by same (λ t. []) A ts) (ranked (A []) true_rank) ≡ total A ts
   total_is A [] = refl
   total_is A (t ∷ ts) =
-      ap (λ l. or_else (map (λ k. ranked (k ++ A (filter (λ x. same_row same [] k) (t ∷ ts))) (least (filter (λ x. same_row same [] k) (t ∷ ts)))) l) (ranked (A []) true_rank)) (nub_const t ts)
+      ap (λ l. or_else (map (λ k. ranked (k ++ A (filter (λ x. same_row same [] k) (t ∷ ts))) (least (filter (λ x. same_row same [] k) (t ∷ ts)))) l) (ranked (A []) true_rank)) (each_once_const t ts)
       ∙ ap (λ l. ranked (A l) (least l) ∷ []) (keeps_all (t ∷ ts))
 
   pub scan_step : (n : ℕ) (ds : List (Ranked V)) (rows : List (List V)) → IsDomain same n ds
@@ -88,22 +88,22 @@ module _ {V : Type 0} (same : V → V → Bool) (is : IsIdentity same) where
       widened n ds xs L (λ k e. Meets same e.values (project (λ x. take k x ++ f x) xs) (project (λ t. f (e.values ++ t)) (L e.values))) dom all
       (λ e m. project_meets same is f e.values xs (L e.values) m)
 
-  pub group_step : (sub : List V → List V) (aggs : List (Ranked V) → List V) → OfBag aggs → (n : ℕ) (ds xs : List (Ranked V)) (L : List V → List (Ranked V)) → IsDomain same n ds → Answers same ds xs L
-      → Answers same ds (group_by same (λ x. take n x ++ sub x) aggs xs) (λ d. group_by same (λ t. sub (d ++ t)) (λ ys. aggs (map (after d) ys)) (L d))
-  group_step sub aggs bag n ds xs L dom all =
-      widened n ds xs L (λ k e. Meets same e.values (group_by same (λ x. take k x ++ sub x) aggs xs) (group_by same (λ t. sub (e.values ++ t)) (λ ys. aggs (map (after e.values) ys)) (L e.values))) dom all
-      (λ e m. group_meets same is sub aggs e.values xs (L e.values) bag m)
+  pub group_step : (grouping : List V → List V) (aggregates : List (Ranked V) → List V) → OfBag aggregates → (n : ℕ) (ds xs : List (Ranked V)) (L : List V → List (Ranked V)) → IsDomain same n ds → Answers same ds xs L
+      → Answers same ds (group_by same (λ x. take n x ++ grouping x) aggregates xs) (λ d. group_by same (λ t. grouping (d ++ t)) (λ ys. aggregates (map (after d) ys)) (L d))
+  group_step grouping aggregates bag n ds xs L dom all =
+      widened n ds xs L (λ k e. Meets same e.values (group_by same (λ x. take k x ++ grouping x) aggregates xs) (group_by same (λ t. grouping (e.values ++ t)) (λ ys. aggregates (map (after e.values) ys)) (L e.values))) dom all
+      (λ e m. group_meets same is grouping aggregates e.values xs (L e.values) bag m)
 
-  pub total_step : (aggs : List (Ranked V) → List V) → OfBag aggs → (n : ℕ) (ds xs : List (Ranked V)) (L : List V → List (Ranked V)) → IsDomain same n ds → Answers same ds xs L
-      → Answers same ds (fill same (aggs []) ds (group_by same (λ x. take n x) aggs xs)) (λ d. total (λ ys. aggs (map (after d) ys)) (L d))
-  total_step aggs bag n ds xs L dom all =
-      let gs = group_by same (λ x. take n x) aggs xs in
-      let G : List V → List (Ranked V) = λ d. group_by same (λ t. []) (λ ys. aggs (map (after d) ys)) (L d) in
-      let groups : Answers same ds gs G = widened n ds xs L (λ k e. Meets same e.values (group_by same (λ x. take k x) aggs xs) (G e.values)) dom all
-      (λ e m. key_meets same is aggs e.values xs (L e.values) bag m) in
-      Each-weaker (λ e. Meets same e.values (fill same (aggs []) ds gs) (or_else (G e.values) (ranked (aggs []) true_rank))) (λ e. Meets same e.values (fill same (aggs []) ds gs) (total (λ ys. aggs (map (after e.values) ys)) (L e.values))) ds
-      (λ e m. subst (λ us. Meets same e.values (fill same (aggs []) ds gs) us) (total_is (λ ys. aggs (map (after e.values) ys)) (L e.values)) m)
-      (fill_meets same is (aggs []) n ds gs G dom groups)
+  pub total_step : (aggregates : List (Ranked V) → List V) → OfBag aggregates → (n : ℕ) (ds xs : List (Ranked V)) (L : List V → List (Ranked V)) → IsDomain same n ds → Answers same ds xs L
+      → Answers same ds (fill same (aggregates []) ds (group_by same (λ x. take n x) aggregates xs)) (λ d. total (λ ys. aggregates (map (after d) ys)) (L d))
+  total_step aggregates bag n ds xs L dom all =
+      let gs = group_by same (λ x. take n x) aggregates xs in
+      let G : List V → List (Ranked V) = λ d. group_by same (λ t. []) (λ ys. aggregates (map (after d) ys)) (L d) in
+      let groups : Answers same ds gs G = widened n ds xs L (λ k e. Meets same e.values (group_by same (λ x. take k x) aggregates xs) (G e.values)) dom all
+      (λ e m. key_meets same is aggregates e.values xs (L e.values) bag m) in
+      Each-weaker (λ e. Meets same e.values (fill same (aggregates []) ds gs) (or_else (G e.values) (ranked (aggregates []) true_rank))) (λ e. Meets same e.values (fill same (aggregates []) ds gs) (total (λ ys. aggregates (map (after e.values) ys)) (L e.values))) ds
+      (λ e m. subst (λ us. Meets same e.values (fill same (aggregates []) ds gs) us) (total_is (λ ys. aggregates (map (after e.values) ys)) (L e.values)) m)
+      (fill_meets same is (aggregates []) n ds gs G dom groups)
 
   -- The right side: for the left rows that meet a domain row, what their partners meet.
   module _ (null : V) where
@@ -190,8 +190,8 @@ module _ {V : Type 0} (same : V → V → Bool) (is : IsIdentity same) (null : V
       let xs = node_rows same null tables L n ds in let es = side_domain same null side ds xs in
       attach_step same is null side (λ x us. scalar_of write fault_rank i us) (λ x. scalar_bag same is write fault_rank i) n ds xs (node_rows same null tables R (side_width side n) es) (tree_rows same null tables L) (tree_rows same null tables R) dom
       (unnests L n ds dom) (unnests R (side_width side n) es (side_is same is null side n ds xs dom))
-  unnests (Group sub aggs bag T) n ds dom = group_step same is sub aggs bag n ds (node_rows same null tables T n ds) (tree_rows same null tables T) dom (unnests T n ds dom)
-  unnests (Total aggs bag T) n ds dom = total_step same is aggs bag n ds (node_rows same null tables T n ds) (tree_rows same null tables T) dom (unnests T n ds dom)
+  unnests (Group grouping aggregates bag T) n ds dom = group_step same is grouping aggregates bag n ds (node_rows same null tables T n ds) (tree_rows same null tables T) dom (unnests T n ds dom)
+  unnests (Total aggregates bag T) n ds dom = total_step same is aggregates bag n ds (node_rows same null tables T n ds) (tree_rows same null tables T) dom (unnests T n ds dom)
   unnests (Distinct T) n ds dom = distinct_step same is ds (node_rows same null tables T n ds) (tree_rows same null tables T) (unnests T n ds dom)
 
   -- the theorem

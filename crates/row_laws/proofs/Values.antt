@@ -4,14 +4,14 @@ use Rattle.std.proofs.Math.Dec.{ltb}
 use Rattle.std.specs.Prelude.{not, min, ◌&&◌, ◌==◌, Option, slice_index_or, nat_lt}
 use Rattle.std.proofs.lemmas.Bool.{cases_Bool, true≢false, and_parts, eqb-true, eq-eqb, lt-ltb}
 use Rattle.row_laws.specs.Ranked.{Ranked, ranked, unknown_rank, too_many_rows_rank, true_rank}
-use Rattle.row_laws.specs.Bags.{weigh, SameBag, IsIdentity, nub, OfBag, Each, top, bottom}
+use Rattle.row_laws.specs.Bags.{weigh, SameBag, IsIdentity, each_once, OfBag, Each, top, bottom}
 use Rattle.row_laws.specs.Rows.{same_row}
 use Rattle.row_laws.specs.Operators.{mark_of, scalar_of, value_at}
-use Rattle.row_laws.specs.Aggregates.{Reading, run, Exchanges, IsOrder, first, first_of, ReadsNulls, not_null, least_fault, aggregated, unless_fault, unless_none, unless_range, count_of, count_distinct_of, sum_of, avg_of, min_of, max_of}
-use Rattle.row_laws.specs.ValueLaws.{FaultsFirst, NullsSkipped}
+use Rattle.row_laws.specs.Aggregates.{Reading, run, Exchanges, IsOrder, first, first_of, ReadsNulls, not_null, least_fault, aggregated, unless_fault, unless_none, unless_range, count_rows, count_of, count_distinct_of, sum_of, avg_of, min_of, max_of}
+use Rattle.row_laws.specs.ValueLaws.{GivesLeastFault, SkipsNulls}
 use Rattle.row_laws.proofs.Rows.{same_row_is}
 use Rattle.row_laws.proofs.Lists.{filter_within}
-use Rattle.row_laws.proofs.OfBags.{bottom_most, OfBag-top, OfBag-bottom, OfBag-weigh, OfBag-both, OfBag-then, OfBag-map, OfBag-filter, OfBag-length, OfBag-nub, OfBag-run, OfBag-by_number}
+use Rattle.row_laws.proofs.OfBags.{bottom_most, OfBag-top, OfBag-bottom, OfBag-weigh, OfBag-both, OfBag-then, OfBag-map, OfBag-filter, OfBag-length, OfBag-each_once, OfBag-run, OfBag-by_number}
 
 -- the first by an order, as a fold
 module _ {X : Type 0} (before : X → X → Bool) (order : IsOrder before) where
@@ -68,6 +68,13 @@ module _ {X : Type 0} (before : X → X → Bool) (order : IsOrder before) where
     alike = λ xs ys e. first_is n xs ∙ ap (or_given n) ((OfBag-run same is nearer nearer_exchanges None).alike xs ys e) ∙ sym (first_is n ys);
   }
 
+-- A total order tells identical values: those that come before one another.
+pub of_order : {X : Type 0} (before : X → X → Bool) → IsOrder before → IsIdentity (λ x y. before x y && before y x)
+of_order before order = record {
+  meets = λ x. elim (cases_Bool (before x x)) [ inl t ↦ rw t | inr f ↦ rw (order.either x x f) ];
+  tells = λ x y e. let p = and_parts (before x y) (before y x) e in order.both x y p.0 p.1;
+}
+
 -- an order turned round is one
 pub turned_round : {X : Type 0} (before : X → X → Bool) → IsOrder before → IsOrder (λ x y. before y x)
 turned_round before order = record {
@@ -95,14 +102,17 @@ module _ {V : Type 0} (m : Reading V) where
         rw (u, d, w);
   }
 
+  pub count_rows_bag : OfBag (count_rows m)
+  count_rows_bag = OfBag-then (λ n. m.number n 0) (λ vs. length vs) OfBag-length
+
   pub count_bag : OfBag (count_of m)
   count_bag = OfBag-unless (λ vs. m.number (length (not_null m vs)) 0) (OfBag-then (λ n. m.number n 0) (λ vs. length (not_null m vs)) OfBag-terms)
 
   pub count_distinct_bag : (same : V → V → Bool) → IsIdentity same → OfBag (count_distinct_of m same)
   count_distinct_bag same is =
-      OfBag-unless (λ vs. m.number (length (nub same (not_null m vs))) 0)
-      (OfBag-then (λ n. m.number n 0) (λ vs. length (nub same (not_null m vs)))
-      (OfBag-filter (λ v. not (m.is_null v)) (λ vs. length (nub same vs)) (OfBag-nub same is (λ vs. length vs) OfBag-length)))
+      OfBag-unless (λ vs. m.number (length (each_once same (not_null m vs))) 0)
+      (OfBag-then (λ n. m.number n 0) (λ vs. length (each_once same (not_null m vs)))
+      (OfBag-filter (λ v. not (m.is_null v)) (λ vs. length (each_once same vs)) (OfBag-each_once same is (λ vs. length vs) OfBag-length)))
 
   abbrev difference : List V → V
   difference vs = m.number (weigh m.above vs - weigh m.below vs) (weigh m.below vs - weigh m.above vs)
@@ -202,10 +212,10 @@ module _ {V : Type 0} (m : Reading V) (nulls : ReadsNulls m) where
   min_skips before vs = rw (fault_there vs, once_more vs)
 
   pub nulls_skipped : (divided : ℕ → ℕ → ℕ → V) (before same : V → V → Bool)
-      → NullsSkipped m (count_of m) × NullsSkipped m (count_distinct_of m same) × NullsSkipped m (sum_of m) × NullsSkipped m (avg_of m divided) × NullsSkipped m (min_of m before) × NullsSkipped m (max_of m before)
+      → SkipsNulls m (count_of m) × SkipsNulls m (count_distinct_of m same) × SkipsNulls m (sum_of m) × SkipsNulls m (avg_of m divided) × SkipsNulls m (min_of m before) × SkipsNulls m (max_of m before)
   nulls_skipped divided before same = (count_skips, count_distinct_skips same, sum_skips, avg_skips divided, min_skips before, min_skips (λ x y. before y x))
 
 -- the least fault first
 pub faults_first : {V : Type 0} (m : Reading V) (divided : ℕ → ℕ → ℕ → V) (before same : V → V → Bool)
-    → FaultsFirst m (count_of m) × FaultsFirst m (count_distinct_of m same) × FaultsFirst m (sum_of m) × FaultsFirst m (avg_of m divided) × FaultsFirst m (min_of m before) × FaultsFirst m (max_of m before)
+    → GivesLeastFault m (count_of m) × GivesLeastFault m (count_distinct_of m same) × GivesLeastFault m (sum_of m) × GivesLeastFault m (avg_of m divided) × GivesLeastFault m (min_of m before) × GivesLeastFault m (max_of m before)
 faults_first m divided before same = (λ vs l. rw (lt-ltb (least_fault m vs) true_rank l), λ vs l. rw (lt-ltb (least_fault m vs) true_rank l), λ vs l. rw (lt-ltb (least_fault m vs) true_rank l), λ vs l. rw (lt-ltb (least_fault m vs) true_rank l), λ vs l. rw (lt-ltb (least_fault m vs) true_rank l), λ vs l. rw (lt-ltb (least_fault m vs) true_rank l))

@@ -2,7 +2,7 @@
 use Rattle.std.specs.Prelude.{◌≡◌, ℕ, ◌-◌, ◌^◌, ◌==◌, List, [], ◌∷◌, Bool, true, false, cond, not, length, map, max, nat_lt}
 use Rattle.std.specs.List.{filter}
 use Rattle.row_laws.specs.Ranked.{Ranked, unknown_rank, number_range_rank, true_rank}
-use Rattle.row_laws.specs.Bags.{weigh, bottom, nub, Each}
+use Rattle.row_laws.specs.Bags.{weigh, bottom, each_once, Each}
 
 -- What aggregates read of a value, and how they write one.
 pub record Reading (V : Type 0) : Type 0 where
@@ -18,11 +18,12 @@ pub record Reading (V : Type 0) : Type 0 where
   -- the number a - b
   pub number : ℕ → ℕ → V
 
--- a fold whose steps may be exchanged gives the same in any order
+-- a fold from the right: the step of each element, beginning at s behind the last
 abbrev pub run : {X S : Type 0} → (X → S → S) → S → List X → S
 run step s [] = s
 run step s (x ∷ xs) = step x (run step s xs)
 
+-- Two steps of a fold may be exchanged; so it gives the same in any order.
 pub record Exchanges {X S : Type 0} (step : X → S → S) : Type 0 where
   pub steps : (x y : X) (s : S) → step x (step y s) ≡ step y (step x s)
 
@@ -37,10 +38,11 @@ abbrev pub InOrder : {X : Type 0} → (X → X → Bool) → List X → Type 0
 InOrder before [] = Unit {0}
 InOrder before (x ∷ xs) = Each (λ y. before x y ≡ true) xs × InOrder before xs
 
--- the first of two by an order, and the first of a list, n where it is empty
+-- the first of two by an order
 abbrev pub first : {X : Type 0} → (X → X → Bool) → X → X → X
 first before x y = cond (before x y) x y
 
+-- the first of a list by an order, n where it is empty
 abbrev pub first_of : {X : Type 0} → (X → X → Bool) → X → List X → X
 first_of before n [] = n
 first_of before n (x ∷ []) = x
@@ -65,13 +67,17 @@ module _ {V : Type 0} (m : Reading V) where
   abbrev pub unless_fault : List V → V → V
   unless_fault vs v = cond (nat_lt (least_fault vs) true_rank) (m.write (least_fault vs)) v
 
+  -- count(*): how many rows there are, whatever stands in them
+  abbrev pub count_rows : List V → V
+  count_rows vs = m.number (length vs) 0
+
   -- count(e)
   abbrev pub count_of : List V → V
   count_of vs = unless_fault vs (m.number (length (not_null vs)) 0)
 
   -- count(distinct e)
   abbrev pub count_distinct_of : (V → V → Bool) → List V → V
-  count_distinct_of same vs = unless_fault vs (m.number (length (nub same (not_null vs))) 0)
+  count_distinct_of same vs = unless_fault vs (m.number (length (each_once same (not_null vs))) 0)
 
   -- null where nothing but nulls is there, else v
   abbrev pub unless_none : List V → V → V
@@ -89,15 +95,18 @@ module _ {V : Type 0} (m : Reading V) where
 
   -- avg(e): the sum divided by the number of terms; `divided a b n` is (a - b) / n rescaled and rounded, or its fault
   abbrev pub avg_of : (ℕ → ℕ → ℕ → V) → List V → V
-  avg_of divided vs = unless_fault vs (unless_none vs (unless_range vs (divided (weigh m.above vs) (weigh m.below vs) (length (not_null vs)))))
+  avg_of divided vs =
+      unless_fault vs (unless_none vs (unless_range vs (divided (weigh m.above vs) (weigh m.below vs) (length (not_null vs)))))
 
-  -- min(e) by `before`, max(e) by the order turned round
+  -- min(e): the first by `before` of the values that aren't null, null for none
   abbrev pub min_of : (V → V → Bool) → List V → V
   min_of before vs = unless_fault vs (first_of before (m.write unknown_rank) (not_null vs))
 
+  -- max(e): the same by the order turned round
   abbrev pub max_of : (V → V → Bool) → List V → V
   max_of before vs = unless_fault vs (first_of (λ x y. before y x) (m.write unknown_rank) (not_null vs))
 
--- The aggregates of a grouped query, from left to right: each is an argument, read from the row, and a function of the list of the argument's values.
+-- The aggregates of a grouped query, from left to right:
+-- each is an argument, read from the row, and a function of the list of the argument's values.
 abbrev pub aggregated : {V : Type 0} → List ((List V → V) × (List V → V)) → List (Ranked V) → List V
 aggregated items ys = map (λ a. a.1 (map (λ y. a.0 y.values) ys)) items

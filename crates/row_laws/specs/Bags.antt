@@ -3,9 +3,9 @@ use Rattle.std.specs.Prelude.{◌≡◌, ℕ, ◌+◌, List, [], ◌∷◌, Bool
 use Rattle.std.specs.List.{filter}
 
 -- n where the test holds, else nothing
-abbrev pub on : Bool → ℕ → ℕ
-on true n = n
-on false n = 0
+abbrev pub when : Bool → ℕ → ℕ
+when true n = n
+when false n = 0
 
 -- the weights of the elements, added up
 abbrev pub weigh : {X : Type 0} → (X → ℕ) → List X → ℕ
@@ -28,16 +28,16 @@ has same x (y ∷ ys) = same x y || has same x ys
 
 -- how often x stands in the list
 abbrev pub count : {X : Type 0} → (X → X → Bool) → X → List X → ℕ
-count same x xs = weigh (λ y. on (same x y) 1) xs
+count same x xs = weigh (λ y. when (same x y) 1) xs
 
 -- identical elements once, in the order of their first places
-abbrev pub nub : {X : Type 0} → (X → X → Bool) → List X → List X
-nub same [] = []
-nub same (x ∷ xs) = x ∷ filter (λ y. not (same x y)) (nub same xs)
+abbrev pub each_once : {X : Type 0} → (X → X → Bool) → List X → List X
+each_once same [] = []
+each_once same (x ∷ xs) = x ∷ filter (λ y. not (same x y)) (each_once same xs)
 
 -- GROUP BY: for each key that is there, once, f of the key and of the elements that have it, in the order of the keys' first places.
 abbrev pub classes : {R K S : Type 0} → (K → K → Bool) → (R → K) → (K → List R → S) → List R → List S
-classes same key f xs = map (λ k. f k (filter (λ x. same (key x) k) xs)) (nub same (map key xs))
+classes same key f xs = map (λ k. f k (filter (λ x. same (key x) k) xs)) (each_once same (map key xs))
 
 -- P of each element
 abbrev pub Each : {X : Type 0} → (X → Type 0) → List X → Type 0

@@ -12,6 +12,9 @@ pub mod DomainLaws
 pub mod TreeLaws
 pub mod ValueLaws
 pub mod MoveLaws
+pub mod AtHandLaws
+pub mod StandingLaws
 pub mod Matched
 pub mod MatchedLaws
 pub mod Cases
+pub mod AggregateCases

@@ -3,7 +3,7 @@ use Rattle.std.specs.Prelude.{◌≡◌, ◌≤◌, ℕ, List, ◌++◌, min, ma
 use Rattle.row_laws.specs.Ranked.{Ranked, true_rank}
 use Rattle.row_laws.specs.Rows.{unit_row}
 use Rattle.row_laws.specs.Bags.{SameBag, Each}
-use Rattle.row_laws.specs.Operators.{select, project, cross, join, join_loop, outer_loop}
+use Rattle.row_laws.specs.Operators.{select, project, cross, join, join_loop, outer_loop, attach_loop}
 
 -- the condition e reads the columns of the left row l only, and says p of them
 abbrev pub OfLeft : {V : Type 0} → (List V → ℕ) → (List V → ℕ) → Ranked V → Type 0
@@ -17,9 +17,14 @@ OfRight e p R l = Each (λ r. e (l.values ++ r.values) ≡ p r.values) (R l.valu
 abbrev pub SelectTwice : (V : Type 0) → Type 0
 SelectTwice V = (c e : List V → ℕ) (xs : List (Ranked V)) → SameBag (select e (select c xs)) (select (λ r. min (c r) (e r)) xs)
 
+-- Two projections are one.
+abbrev pub ProjectTwice : (V : Type 0) → Type 0
+ProjectTwice V = (f g : List V → List V) (xs : List (Ranked V)) → project g (project f xs) ≡ project (λ r. g (f r)) xs
+
 -- A selection above a projection is one below it that reads the projected row.
 abbrev pub SelectThroughProject : (V : Type 0) → Type 0
-SelectThroughProject V = (c : List V → ℕ) (f : List V → List V) (xs : List (Ranked V)) → SameBag (select c (project f xs)) (project f (select (λ r. c (f r)) xs))
+SelectThroughProject V = (c : List V → ℕ) (f : List V → List V) (xs : List (Ranked V))
+    → SameBag (select c (project f xs)) (project f (select (λ r. c (f r)) xs))
 
 -- JOIN ON is the selection of all combinations.
 abbrev pub JoinIsSelectedCross : (V : Type 0) → Type 0
@@ -27,32 +32,62 @@ JoinIsSelectedCross V = (c : List V → ℕ) (xs ys : List (Ranked V)) → SameB
 
 -- A selection above an inner join is part of its condition, also where the right side is taken anew under each left row.
 abbrev pub SelectIntoJoin : (V : Type 0) → Type 0
-SelectIntoJoin V = (c e : List V → ℕ) (ls : List (Ranked V)) (R : List V → List (Ranked V)) → SameBag (select e (join_loop c ls R)) (join_loop (λ r. min (c r) (e r)) ls R)
+SelectIntoJoin V = (c e : List V → ℕ) (ls : List (Ranked V)) (R : List V → List (Ranked V))
+    → SameBag (select e (join_loop c ls R)) (join_loop (λ r. min (c r) (e r)) ls R)
 
 -- A selection above an inner join moves to the left side, where it reads that side's columns only.
 abbrev pub SelectBelowLeft : (V : Type 0) → Type 0
-SelectBelowLeft V = (c e p : List V → ℕ) (ls : List (Ranked V)) (R : List V → List (Ranked V)) → Each (OfLeft e p) ls → SameBag (select e (join_loop c ls R)) (join_loop c (select p ls) R)
+SelectBelowLeft V = (c e p : List V → ℕ) (ls : List (Ranked V)) (R : List V → List (Ranked V))
+    → Each (OfLeft e p) ls
+    → SameBag (select e (join_loop c ls R)) (join_loop c (select p ls) R)
 
 -- A selection above an inner join moves to the right side, where it reads that side's columns only.
 abbrev pub SelectBelowRight : (V : Type 0) → Type 0
-SelectBelowRight V = (c e p : List V → ℕ) (ls : List (Ranked V)) (R : List V → List (Ranked V)) → Each (OfRight e p R) ls → SameBag (select e (join_loop c ls R)) (join_loop c ls (λ l. select p (R l)))
+SelectBelowRight V = (c e p : List V → ℕ) (ls : List (Ranked V)) (R : List V → List (Ranked V))
+    → Each (OfRight e p R) ls
+    → SameBag (select e (join_loop c ls R)) (join_loop c ls (λ l. select p (R l)))
 
 -- A selection above a left outer join moves to the left side, where it reads that side's columns only.
 abbrev pub SelectBelowOuter : (V : Type 0) → Type 0
-SelectBelowOuter V = (c e p : List V → ℕ) (nulls : List V) (ls : List (Ranked V)) (R : List V → List (Ranked V)) → Each (OfLeft e p) ls → SameBag (select e (outer_loop nulls c ls R)) (outer_loop nulls c (select p ls) R)
+SelectBelowOuter V = (c e p : List V → ℕ) (nulls : List V) (ls : List (Ranked V)) (R : List V → List (Ranked V))
+    → Each (OfLeft e p) ls
+    → SameBag (select e (outer_loop nulls c ls R)) (outer_loop nulls c (select p ls) R)
 
--- A part of a left outer join's ON moves to the right side, where it reads that side's columns only. To the left side no part may move: a small case shows it.
+-- A selection above a mark or a scalar value moves below it, where it doesn't read the attached column.
+abbrev pub SelectBelowAttach : (V : Type 0) → Type 0
+SelectBelowAttach V = (value : List V → List (Ranked V) → V) (e p : List V → ℕ) (ls : List (Ranked V)) (R : List V → List (Ranked V))
+    → Each (OfLeft e p) ls → select e (attach_loop value ls R) ≡ attach_loop value (select p ls) R
+
+-- A part of a left outer join's ON moves to the right side, where it reads that side's columns only.
+-- To the left side no part may move: a small case shows it.
 abbrev pub OnBelowRight : (V : Type 0) → Type 0
-OnBelowRight V = (c e p : List V → ℕ) (ls : List (Ranked V)) (R : List V → List (Ranked V)) (nulls : List V) → Each (OfRight e p R) ls → SameBag (outer_loop nulls (λ r. min (c r) (e r)) ls R) (outer_loop nulls c ls (λ l. select p (R l)))
+OnBelowRight V = (c e p : List V → ℕ) (ls : List (Ranked V)) (R : List V → List (Ranked V)) (nulls : List V)
+    → Each (OfRight e p R) ls
+    → SameBag (outer_loop nulls (λ r. min (c r) (e r)) ls R) (outer_loop nulls c ls (λ l. select p (R l)))
 
 -- The sides of a product exchanged, where f puts the columns back.
 abbrev pub SidesExchanged : (V : Type 0) → Type 0
-SidesExchanged V = (f : List V → List V) (xs ys : List (Ranked V)) → Each (λ x. Each (λ y. f (y.values ++ x.values) ≡ x.values ++ y.values) ys) xs → SameBag (cross xs ys) (project f (cross ys xs))
+SidesExchanged V = (f : List V → List V) (xs ys : List (Ranked V))
+    → Each (λ x. Each (λ y. f (y.values ++ x.values) ≡ x.values ++ y.values) ys) xs
+    → SameBag (cross xs ys) (project f (cross ys xs))
 
 -- The last two sides of a product of three exchanged; so items of FROM may be joined in any order.
 abbrev pub LastSidesExchanged : (V : Type 0) → Type 0
-LastSidesExchanged V = (f : List V → List V) (ps xs ys : List (Ranked V)) → Each (λ p. Each (λ x. Each (λ y. f ((p.values ++ y.values) ++ x.values) ≡ (p.values ++ x.values) ++ y.values) ys) xs) ps
+LastSidesExchanged V = (f : List V → List V) (ps xs ys : List (Ranked V))
+    → Each (λ p. Each (λ x. Each (λ y. f ((p.values ++ y.values) ++ x.values) ≡ (p.values ++ x.values) ++ y.values) ys) xs) ps
     → SameBag (cross (cross ps xs) ys) (project f (cross (cross ps ys) xs))
+
+-- A projection of a product's left side is one above the product, where g does to the combined row what f does to its left part.
+abbrev pub ProjectOutOfLeft : (V : Type 0) → Type 0
+ProjectOutOfLeft V = (f g : List V → List V) (xs ys : List (Ranked V))
+    → Each (λ x. Each (λ y. g (x.values ++ y.values) ≡ f x.values ++ y.values) ys) xs
+    → cross (project f xs) ys ≡ project g (cross xs ys)
+
+-- A projection of a product's right side is one above the product, where g does to the combined row what f does to its right part.
+abbrev pub ProjectOutOfRight : (V : Type 0) → Type 0
+ProjectOutOfRight V = (f g : List V → List V) (xs ys : List (Ranked V))
+    → Each (λ x. Each (λ y. g (x.values ++ y.values) ≡ x.values ++ f y.values) ys) xs
+    → cross xs (project f ys) ≡ project g (cross xs ys)
 
 -- The one row of no columns, which FROM begins with, adds nothing.
 abbrev pub CrossUnit : (V : Type 0) → Type 0

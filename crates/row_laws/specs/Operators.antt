@@ -2,7 +2,7 @@
 use Rattle.std.specs.Prelude.{ℕ, List, [], ◌∷◌, ◌++◌, Bool, cond, map, length, drop, min, nat_lt, slice_index_or}
 use Rattle.std.specs.List.{filter, flat_map}
 use Rattle.row_laws.specs.Ranked.{Ranked, ranked, unknown_rank, too_many_rows_rank, true_rank}
-use Rattle.row_laws.specs.Bags.{nub, classes, top, bottom}
+use Rattle.row_laws.specs.Bags.{each_once, classes, top, bottom}
 use Rattle.row_laws.specs.Rows.{same_row, starts, strip, keep}
 
 -- WHERE, HAVING: each row at the lesser of its standing and the condition c, kept where that is above Unknown.
@@ -61,7 +61,9 @@ value_at write fault_rank v standing = let r = min standing (fault_rank v) in co
 -- `fault_rank` is a fault's rank, and True's for a value that is none.
 abbrev pub scalar_of : {V : Type 0} → (ℕ → V) → (V → ℕ) → ℕ → List (Ranked V) → V
 scalar_of write fault_rank i us =
-    by_number (write unknown_rank) (λ u. value_at write fault_rank (slice_index_or u.values i (write unknown_rank)) u.standing) (write too_many_rows_rank) us
+    by_number (write unknown_rank)
+    (λ u. value_at write fault_rank (slice_index_or u.values i (write unknown_rank)) u.standing)
+    (write too_many_rows_rank) us
 
 module _ {V : Type 0} (same : V → V → Bool) where
   -- the right rows that begin with the values p, which match by identity
@@ -76,12 +78,18 @@ module _ {V : Type 0} (same : V → V → Bool) where
   -- The left outer join likewise; a left row with no kept partner stands there once with these nulls, at its own standing.
   abbrev pub outer_node : (List V → List V) → List V → (List V → ℕ) → List (Ranked V) → List (Ranked V) → List (Ranked V)
   outer_node pick nulls c xs ys =
-      flat_map (λ x. or_else (flat_map (λ y. pair c (glue_at pick) x y) (partners (pick x.values) ys)) (ranked (x.values ++ nulls) x.standing)) xs
+      flat_map
+      (λ x. or_else (flat_map (λ y. pair c (glue_at pick) x y) (partners (pick x.values) ys)) (ranked (x.values ++ nulls) x.standing))
+      xs
 
   -- Each left row once, with one more column: `value` of the row and of its partners without the matched columns.
   abbrev pub attach_node : (List V → List V) → (List V → List (Ranked V) → V) → List (Ranked V) → List (Ranked V) → List (Ranked V)
   attach_node pick value xs ys =
-      flat_map (λ x. ranked (x.values ++ value x.values (map (strip (length (pick x.values))) (partners (pick x.values) ys)) ∷ []) x.standing ∷ []) xs
+      flat_map
+      (λ x.
+      let us = map (strip (length (pick x.values))) (partners (pick x.values) ys) in
+      ranked (x.values ++ value x.values us ∷ []) x.standing ∷ [])
+      xs
 
   -- Each left row once with its mark.
   abbrev pub mark_node : (List V → List V) → (ℕ → V) → (List V → ℕ) → List (Ranked V) → List (Ranked V) → List (Ranked V)
@@ -93,7 +101,7 @@ module _ {V : Type 0} (same : V → V → Bool) where
 
   -- GROUP BY: for each key the key's values and the aggregates of its rows, at the least of their standings.
   abbrev pub group_by : (List V → List V) → (List (Ranked V) → List V) → List (Ranked V) → List (Ranked V)
-  group_by key aggs xs = classes (same_row same) (λ x. key x.values) (λ k ys. ranked (k ++ aggs ys) (least ys)) xs
+  group_by key aggregates xs = classes (same_row same) (λ x. key x.values) (λ k ys. ranked (k ++ aggregates ys) (least ys)) xs
 
   -- DISTINCT: identical rows once, at the greatest of their standings.
   abbrev pub distinct : List (Ranked V) → List (Ranked V)
@@ -101,22 +109,27 @@ module _ {V : Type 0} (same : V → V → Bool) where
 
   -- The domain of a dependent right side: the values that `pick` takes of the left rows, identical ones once, each at True.
   abbrev pub domain_node : (List V → List V) → List (Ranked V) → List (Ranked V)
-  domain_node pick xs = map (λ k. ranked k true_rank) (nub (same_row same) (map (λ x. pick x.values) xs))
+  domain_node pick xs = map (λ k. ranked k true_rank) (each_once (same_row same) (map (λ x. pick x.values) xs))
 
-  -- Over groups by a domain's columns: each domain row once, with its groups, or where it has none with the empty group's aggregates at True.
+  -- Over groups by a domain's columns:
+  -- each domain row once, with its groups, or where it has none with the empty group's aggregates at True.
   abbrev pub fill : List V → List (Ranked V) → List (Ranked V) → List (Ranked V)
   fill empty ds gs = flat_map (λ e. or_else (partners e.values gs) (ranked (e.values ++ empty) true_rank)) ds
 
 -- Aggregates without GROUP BY: one group of all rows, also where there are none.
 abbrev pub total : {V : Type 0} → (List (Ranked V) → List V) → List (Ranked V) → List (Ranked V)
-total aggs ts = ranked (aggs ts) (least ts) ∷ []
+total aggregates ts = ranked (aggregates ts) (least ts) ∷ []
 
 -- The same operators by nested loops: R l is the right side, taken anew under a left row of the values l.
+-- The inner join.
 abbrev pub join_loop : {V : Type 0} → (List V → ℕ) → List (Ranked V) → (List V → List (Ranked V)) → List (Ranked V)
 join_loop c ls R = flat_map (λ l. flat_map (λ r. pair c (λ a b. a ++ b) l r) (R l.values)) ls
 
+-- The left outer join; a left row with no kept partner stands there once with these nulls, at its own standing.
 abbrev pub outer_loop : {V : Type 0} → List V → (List V → ℕ) → List (Ranked V) → (List V → List (Ranked V)) → List (Ranked V)
-outer_loop nulls c ls R = flat_map (λ l. or_else (flat_map (λ r. pair c (λ a b. a ++ b) l r) (R l.values)) (ranked (l.values ++ nulls) l.standing)) ls
+outer_loop nulls c ls R =
+    flat_map (λ l. or_else (flat_map (λ r. pair c (λ a b. a ++ b) l r) (R l.values)) (ranked (l.values ++ nulls) l.standing)) ls
 
+-- Each left row once, with one more column: `value` of the row and of the right side's rows under it.
 abbrev pub attach_loop : {V : Type 0} → (List V → List (Ranked V) → V) → List (Ranked V) → (List V → List (Ranked V)) → List (Ranked V)
 attach_loop value ls R = flat_map (λ l. ranked (l.values ++ value l.values (R l.values) ∷ []) l.standing ∷ []) ls

@@ -26,13 +26,16 @@ pub record Ranked (V : Type 0) : Type 0 where
   pub values : List V
   pub standing : ℕ
 
+-- the row of these values, at the rank of its standing
 abbrev pub ranked : {V : Type 0} → List V → ℕ → Ranked V
 ranked values standing = record { values = values; standing = standing }
 
--- Rows of one width, as a bag keeps them: how many values a row has, and the rows in their order.
+-- What a bag of rows shows: a width, and its rows in their order. That each row has as many values as the width says is not part of this
+-- record: who makes one shows it.
 pub record Relation (V : Type 0) : Type 0 where
   pub width : ℕ
   pub rows : List (Ranked V)
 
+-- the relation of this width and these rows
 abbrev pub relation : {V : Type 0} → ℕ → List (Ranked V) → Relation V
 relation width rows = record { width = width; rows = rows }

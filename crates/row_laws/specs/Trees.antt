@@ -3,9 +3,27 @@ use Rattle.std.specs.Prelude.{ℕ, List, [], ◌++◌, Bool, map, length, take}
 use Rattle.row_laws.specs.Ranked.{Ranked, true_rank}
 use Rattle.row_laws.specs.Bags.{OfBag}
 use Rattle.row_laws.specs.Rows.{after, columns, scanned, unit_row}
-use Rattle.row_laws.specs.Operators.{select, project, join_node, outer_node, mark_node, single_node, mark_of, scalar_of, join_loop, outer_loop, attach_loop, group_by, distinct, domain_node, fill, total}
+use Rattle.row_laws.specs.Operators.{
+  select,
+  project,
+  join_node,
+  outer_node,
+  mark_node,
+  single_node,
+  mark_of,
+  scalar_of,
+  join_loop,
+  outer_loop,
+  attach_loop,
+  group_by,
+  distinct,
+  domain_node,
+  fill,
+  total,
+}
 
--- What a right side reads of what stands to its left: nothing; the columns of the domain that its left side has too; or these columns of the domain row and the left row.
+-- What a right side reads of what stands to its left: nothing;
+-- the columns of the domain that its left side has too; or these columns of the domain row and the left row.
 pub data Side : Type 0 where
   Closed : Side
   Shared : Side
@@ -22,8 +40,8 @@ pub data Tree (V : Type 0) : Type 0 where
   Outer : (side : Side) (nulls : List V) (c : List V → ℕ) → Tree V → Tree V → Tree V
   Mark : (side : Side) (write : ℕ → V) (c : List V → ℕ) → Tree V → Tree V → Tree V
   Single : (side : Side) (write : ℕ → V) (fault_rank : V → ℕ) (i : ℕ) → Tree V → Tree V → Tree V
-  Group : (sub : List V → List V) (aggs : List (Ranked V) → List V) → OfBag aggs → Tree V → Tree V
-  Total : (aggs : List (Ranked V) → List V) → OfBag aggs → Tree V → Tree V
+  Group : (grouping : List V → List V) (aggregates : List (Ranked V) → List V) → OfBag aggregates → Tree V → Tree V
+  Total : (aggregates : List (Ranked V) → List V) → OfBag aggregates → Tree V → Tree V
   Distinct : Tree V → Tree V
 
 module _ {V : Type 0} (null : V) where
@@ -59,12 +77,17 @@ module _ {V : Type 0} (same : V → V → Bool) (null : V) (tables : ℕ → Lis
   tree_rows (Scan table) d = scanned (tables table)
   tree_rows (Select c T) d = select (λ t. c (d ++ t)) (tree_rows T d)
   tree_rows (Project f T) d = project (λ t. f (d ++ t)) (tree_rows T d)
-  tree_rows (Join side c L R) d = join_loop (λ t. c (d ++ t)) (tree_rows L d) (λ l. tree_rows R (side_row null side d l))
-  tree_rows (Outer side nulls c L R) d = outer_loop nulls (λ t. c (d ++ t)) (tree_rows L d) (λ l. tree_rows R (side_row null side d l))
-  tree_rows (Mark side write c L R) d = attach_loop (λ l. mark_of write c (d ++ l)) (tree_rows L d) (λ l. tree_rows R (side_row null side d l))
-  tree_rows (Single side write fault_rank i L R) d = attach_loop (λ l us. scalar_of write fault_rank i us) (tree_rows L d) (λ l. tree_rows R (side_row null side d l))
-  tree_rows (Group sub aggs bag T) d = group_by same (λ t. sub (d ++ t)) (λ ys. aggs (map (after d) ys)) (tree_rows T d)
-  tree_rows (Total aggs bag T) d = total (λ ys. aggs (map (after d) ys)) (tree_rows T d)
+  tree_rows (Join side c L R) d =
+      join_loop (λ t. c (d ++ t)) (tree_rows L d) (λ l. tree_rows R (side_row null side d l))
+  tree_rows (Outer side nulls c L R) d =
+      outer_loop nulls (λ t. c (d ++ t)) (tree_rows L d) (λ l. tree_rows R (side_row null side d l))
+  tree_rows (Mark side write c L R) d =
+      attach_loop (λ l. mark_of write c (d ++ l)) (tree_rows L d) (λ l. tree_rows R (side_row null side d l))
+  tree_rows (Single side write fault_rank i L R) d =
+      attach_loop (λ l us. scalar_of write fault_rank i us) (tree_rows L d) (λ l. tree_rows R (side_row null side d l))
+  tree_rows (Group grouping aggregates bag T) d =
+      group_by same (λ t. grouping (d ++ t)) (λ ys. aggregates (map (after d) ys)) (tree_rows T d)
+  tree_rows (Total aggregates bag T) d = total (λ ys. aggregates (map (after d) ys)) (tree_rows T d)
   tree_rows (Distinct T) d = distinct same (tree_rows T d)
 
   -- The rows of the node that the tree is lowered to over the domain ds of n columns: no operator takes anything anew.
@@ -73,13 +96,17 @@ module _ {V : Type 0} (same : V → V → Bool) (null : V) (tables : ℕ → Lis
   node_rows (Select c T) n ds = select c (node_rows T n ds)
   node_rows (Project f T) n ds = project (λ x. take n x ++ f x) (node_rows T n ds)
   node_rows (Join side c L R) n ds =
-      let xs = node_rows L n ds in join_node same (side_pick null side n) c xs (node_rows R (side_width side n) (side_domain same null side ds xs))
+      let xs = node_rows L n ds in
+      join_node same (side_pick null side n) c xs (node_rows R (side_width side n) (side_domain same null side ds xs))
   node_rows (Outer side nulls c L R) n ds =
-      let xs = node_rows L n ds in outer_node same (side_pick null side n) nulls c xs (node_rows R (side_width side n) (side_domain same null side ds xs))
+      let xs = node_rows L n ds in
+      outer_node same (side_pick null side n) nulls c xs (node_rows R (side_width side n) (side_domain same null side ds xs))
   node_rows (Mark side write c L R) n ds =
-      let xs = node_rows L n ds in mark_node same (side_pick null side n) write c xs (node_rows R (side_width side n) (side_domain same null side ds xs))
+      let xs = node_rows L n ds in
+      mark_node same (side_pick null side n) write c xs (node_rows R (side_width side n) (side_domain same null side ds xs))
   node_rows (Single side write fault_rank i L R) n ds =
-      let xs = node_rows L n ds in single_node same (side_pick null side n) write fault_rank i xs (node_rows R (side_width side n) (side_domain same null side ds xs))
-  node_rows (Group sub aggs bag T) n ds = group_by same (λ x. take n x ++ sub x) aggs (node_rows T n ds)
-  node_rows (Total aggs bag T) n ds = fill same (aggs []) ds (group_by same (λ x. take n x) aggs (node_rows T n ds))
+      let xs = node_rows L n ds in
+      single_node same (side_pick null side n) write fault_rank i xs (node_rows R (side_width side n) (side_domain same null side ds xs))
+  node_rows (Group grouping aggregates bag T) n ds = group_by same (λ x. take n x ++ grouping x) aggregates (node_rows T n ds)
+  node_rows (Total aggregates bag T) n ds = fill same (aggregates []) ds (group_by same (λ x. take n x) aggregates (node_rows T n ds))
   node_rows (Distinct T) n ds = distinct same (node_rows T n ds)

@@ -39,7 +39,7 @@ pub fn mark_node_alike<V>()
     ensures { (same : V → V → Bool) → IsIdentity same → MarkNodeAlike same }
 {}
 
-/// A scalar value: one bag gives one bag.
+/// A scalar value: one bag gives one bag. Besides matching partners, `same` witnesses that the values have an identity.
 pub fn single_node_alike<V>()
     ensures { (same : V → V → Bool) → IsIdentity same → SingleNodeAlike same }
 {}

@@ -2,7 +2,7 @@
 
 ghost use Rattle.std.specs.Prelude.{Bool};
 ghost use Rattle.row_laws.specs.Bags.{IsIdentity};
-ghost use Rattle.row_laws.specs.BagLaws.{BagReflexive, BagSymmetric, BagTransitive, AppendAlike, AppendSwapped, MapAlike, FilterAlike, FlatMapAlike, LengthAlike, SameSums, PermutationAlike, WeightsOfAppended, HasAlike, ClassesAlike, DistinctRows, ClassesMade, EntriesMade};
+ghost use Rattle.row_laws.specs.BagLaws.{BagReflexive, BagSymmetric, BagTransitive, AppendAlike, AppendSwapped, MapAlike, FilterAlike, FlatMapAlike, LengthAlike, SameSums, PermutationAlike, WeightsOfAppended, HasAlike, RowsHaveIdentity, IdentitiesAgree, ClassesAlike, DistinctRows, ClassesMade, EntriesMade};
 
 /// Each list is the same bag as itself.
 pub fn same_bag_reflexive<X>()
@@ -59,7 +59,8 @@ pub fn same_bag_from_permutation<X>()
     ensures { PermutationAlike X }
 {}
 
-/// The sum, the greatest and the least of two lists behind one another are the sum, the greatest and the least of theirs, as partial groups are merged.
+/// The sum, the greatest and the least of two lists behind one another are the sum, the greatest and the least of theirs, as
+/// partial groups are merged.
 pub fn weights_of_appended<X>()
     ensures { WeightsOfAppended X }
 {}
@@ -67,6 +68,16 @@ pub fn weights_of_appended<X>()
 /// One bag has the same elements, each as often; and lists in which each element stands equally often are one bag.
 pub fn has_alike<X>()
     ensures { (same : X → X → Bool) → IsIdentity same → HasAlike same }
+{}
+
+/// Where a test tells identical values, the test value by value tells identical rows.
+pub fn rows_have_identity<V>()
+    ensures { (same : V → V → Bool) → IsIdentity same → RowsHaveIdentity same }
+{}
+
+/// Two tests that tell identical elements say the same of any two, so identical elements once and classes are the same lists by both.
+pub fn identities_agree<R, K, S>()
+    ensures { (same alike : K → K → Bool) → IsIdentity same → IsIdentity alike → IdentitiesAgree R S same alike }
 {}
 
 /// GROUP BY: classes of one bag are one bag, where each class is a function of the bag of its elements.
@@ -84,7 +95,8 @@ pub fn classes_made<R, K, S>()
     ensures { (same : K → K → Bool) → IsIdentity same → ClassesMade R S same }
 {}
 
-/// What a hash table of groups has to show: its keys differ, it has for the key of each element the part that the elements with that key make, and nothing for other keys.
+/// What a hash table of groups has to show:
+/// its keys differ, it has for the key of each element the part that the elements with that key make, and nothing for other keys.
 /// Then the rows made of its entries, in whatever order, are the classes.
 pub fn entries_made<R, K, A, S>()
     ensures { (same : K → K → Bool) → IsIdentity same → EntriesMade R A S same }

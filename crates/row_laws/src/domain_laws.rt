@@ -2,7 +2,7 @@
 
 ghost use Rattle.std.specs.Prelude.{Bool};
 ghost use Rattle.row_laws.specs.Bags.{IsIdentity};
-ghost use Rattle.row_laws.specs.DomainLaws.{UnitRowIsDomain, DomainNodeIsDomain, SideIsDomain, LeftRowsMet, ScanAnswers, SelectAnswers, ProjectAnswers, JoinAnswers, OuterAnswers, AttachAnswers, GroupAnswers, FillAnswers, TotalAnswers, DistinctAnswers, UnderMeets};
+ghost use Rattle.row_laws.specs.DomainLaws.{UnitRowIsDomain, DomainNodeIsDomain, SideIsDomain, LeftRowsMet, ScanAnswers, SelectAnswers, ProjectAnswers, JoinAnswers, OuterAnswers, AttachAnswers, GroupAnswers, FillAnswers, TotalAnswers, LocalAnswers, DistinctAnswers, UnderMeets};
 
 /// The one row of no columns is a domain, which a whole query is lowered over.
 pub fn unit_row_is_domain<V>()
@@ -39,7 +39,8 @@ pub fn project_answers<V>()
     ensures { (same : V → V → Bool) → IsIdentity same → ProjectAnswers same }
 {}
 
-/// The inner join over a domain, with a right side that is closed, that shares the domain, or that has a domain of its own, as a lateral join has.
+/// The inner join over a domain, with a right side that is closed, that shares the domain, or that has a domain of its own,
+/// as a lateral join has.
 pub fn join_answers<V>()
     ensures { (same : V → V → Bool) → IsIdentity same → JoinAnswers same }
 {}
@@ -49,7 +50,8 @@ pub fn outer_answers<V>()
     ensures { (same : V → V → Bool) → IsIdentity same → OuterAnswers same }
 {}
 
-/// Marks and scalar values over a domain, with the same three kinds of right side.
+/// Marks and scalar values over a domain, with the same three kinds of right side. Under each domain row d a left row l gets
+/// one more column: `value` of d and l, and of the rows that the right side has under them.
 pub fn attach_answers<V>()
     ensures { (same : V → V → Bool) → IsIdentity same → AttachAnswers same }
 {}
@@ -67,6 +69,12 @@ pub fn fill_answers<V>()
 /// Aggregates without GROUP BY: the fill over groups by the domain's columns.
 pub fn total_answers<V>()
     ensures { (same : V → V → Bool) → IsIdentity same → TotalAnswers same }
+{}
+
+/// A right side that has the domain's values in columns bs of its own, and asks in its WHERE that they equal the domain's,
+/// needs no domain: its rows take their own values as domain columns, and the equality becomes a condition on these alone.
+pub fn local_answers<V>()
+    ensures { (same : V → V → Bool) → IsIdentity same → LocalAnswers same }
 {}
 
 /// DISTINCT over a domain.

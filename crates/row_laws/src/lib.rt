@@ -4,11 +4,13 @@
 #![tactic(auto)]
 
 pub mod alike_laws;
+pub mod at_hand_laws;
 pub mod bag_laws;
 pub mod domain_laws;
 pub mod loop_laws;
 pub mod matched_laws;
 pub mod move_laws;
 pub mod small_cases;
+pub mod standing_laws;
 pub mod tree_laws;
 pub mod value_laws;

@@ -54,8 +54,9 @@ pub fn key_meets<V>()
     ensures { (same : V → V → Bool) → IsIdentity same → KeyMeets same }
 {}
 
-/// A right side that has the domain's values in columns bs of its own, and asks in its WHERE that they equal the domain's, needs no domain: its rows take their own values as domain columns,
-/// and the equality becomes a condition on these alone, as `is not null`.
+/// A right side that has the domain's values in columns bs of its own, and asks in its WHERE that they equal the domain's,
+/// needs no domain: its rows take their own values as domain columns, and the equality becomes a condition on these alone,
+/// as `is not null`.
 pub fn local_meets<V>()
     ensures { (same : V → V → Bool) → IsIdentity same → LocalMeets same }
 {}

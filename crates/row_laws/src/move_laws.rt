@@ -1,10 +1,15 @@
 //! What may be moved over joins.
 
-ghost use Rattle.row_laws.specs.MoveLaws.{SelectTwice, SelectThroughProject, JoinIsSelectedCross, SelectIntoJoin, SelectBelowLeft, SelectBelowRight, SelectBelowOuter, OnBelowRight, SidesExchanged, LastSidesExchanged, CrossUnit, CrossAssoc, AndOverOr};
+ghost use Rattle.row_laws.specs.MoveLaws.{SelectTwice, ProjectTwice, SelectThroughProject, JoinIsSelectedCross, SelectIntoJoin, SelectBelowLeft, SelectBelowRight, SelectBelowOuter, SelectBelowAttach, OnBelowRight, SidesExchanged, LastSidesExchanged, ProjectOutOfLeft, ProjectOutOfRight, CrossUnit, CrossAssoc, AndOverOr};
 
 /// Two selections are one, under the AND of their conditions.
 pub fn select_twice<V>()
     ensures { SelectTwice V }
+{}
+
+/// Two projections are one.
+pub fn project_twice<V>()
+    ensures { ProjectTwice V }
 {}
 
 /// A selection above a projection is one below it that reads the projected row.
@@ -37,7 +42,13 @@ pub fn select_below_outer<V>()
     ensures { SelectBelowOuter V }
 {}
 
-/// A part of a left outer join's ON moves to the right side, where it reads that side's columns only. To the left side no part may move: a small case shows it.
+/// A selection above a mark or a scalar value moves below it, where it doesn't read the attached column.
+pub fn select_below_attach<V>()
+    ensures { SelectBelowAttach V }
+{}
+
+/// A part of a left outer join's ON moves to the right side, where it reads that side's columns only.
+/// To the left side no part may move: a small case shows it.
 pub fn on_below_right<V>()
     ensures { OnBelowRight V }
 {}
@@ -50,6 +61,16 @@ pub fn sides_exchanged<V>()
 /// The last two sides of a product of three exchanged; so items of FROM may be joined in any order.
 pub fn last_sides_exchanged<V>()
     ensures { LastSidesExchanged V }
+{}
+
+/// A projection of a product's left side is one above the product, where g does to the combined row what f does to its left part.
+pub fn project_out_of_left<V>()
+    ensures { ProjectOutOfLeft V }
+{}
+
+/// A projection of a product's right side is one above the product, where g does to the combined row what f does to its right part.
+pub fn project_out_of_right<V>()
+    ensures { ProjectOutOfRight V }
 {}
 
 /// The one row of no columns, which FROM begins with, adds nothing.

@@ -2,19 +2,25 @@
 
 ghost use Rattle.std.specs.Prelude.{Bool};
 ghost use Rattle.row_laws.specs.Bags.{IsIdentity};
-ghost use Rattle.row_laws.specs.ValueLaws.{StandingsInAnyOrder, CountsInAnyOrder, SumInAnyOrder, AvgInAnyOrder, ExtremesInAnyOrder, AggregatesInAnyOrder, MarkInAnyOrder, ScalarInAnyOrder, FoldInAnyOrder, ThenInAnyOrder, BothInAnyOrder, OfImagesInAnyOrder, OfKeptInAnyOrder, OfDistinctInAnyOrder, OneListInOrder, FaultsComeFirst, NullsAreSkipped};
+ghost use Rattle.row_laws.specs.ValueLaws.{StandingsInAnyOrder, MeasuresInAnyOrder, CountsInAnyOrder, SumInAnyOrder, AvgInAnyOrder, ExtremesInAnyOrder, AggregatesInAnyOrder, MarkInAnyOrder, ScalarInAnyOrder, FoldInAnyOrder, ThenInAnyOrder, BothInAnyOrder, OfImagesInAnyOrder, OfKeptInAnyOrder, OfDistinctInAnyOrder, OneListInOrder, AllGiveLeastFault, AllSkipNulls};
 
 /// The standing of a group, and that of a DISTINCT row, don't depend on the order of the rows.
 pub fn standings_in_any_order<V>()
     ensures { StandingsInAnyOrder V }
 {}
 
-/// count(e) and count(distinct e) don't depend on the order of the rows.
+/// The sum, the greatest and the least of any measure of the rows don't depend on the order of the rows.
+pub fn measures_in_any_order<X>()
+    ensures { MeasuresInAnyOrder X }
+{}
+
+/// count(*), count(e) and count(distinct e) don't depend on the order of the rows.
 pub fn counts_in_any_order<V>()
     ensures { (same : V → V → Bool) → IsIdentity same → CountsInAnyOrder same }
 {}
 
-/// sum(e) doesn't depend on the order of the rows: it is exact, and NumberRange where the sum of the terms above 0, or of the others negated, passes the largest number.
+/// sum(e) doesn't depend on the order of the rows:
+/// it is exact, and NumberRange where the sum of the terms above 0, or of the others negated, passes the largest number.
 pub fn sum_in_any_order<V>()
     ensures { SumInAnyOrder V }
 {}
@@ -26,7 +32,7 @@ pub fn avg_in_any_order<V>()
 
 /// min(e) and max(e) by a total order don't depend on the order of the rows.
 pub fn extremes_in_any_order<V>()
-    ensures { (same : V → V → Bool) → IsIdentity same → ExtremesInAnyOrder same }
+    ensures { ExtremesInAnyOrder V }
 {}
 
 /// All aggregates of a grouped query together don't depend on the order of the rows, where each of them doesn't.
@@ -39,12 +45,12 @@ pub fn mark_in_any_order<V>()
     ensures { MarkInAnyOrder V }
 {}
 
-/// A scalar subquery's value doesn't depend on the order of the rows.
+/// A scalar subquery's value doesn't depend on the order of the rows. `same` only witnesses that the values have an identity.
 pub fn scalar_in_any_order<V>()
     ensures { (same : V → V → Bool) → IsIdentity same → ScalarInAnyOrder same }
 {}
 
-/// A fold whose steps may be exchanged doesn't depend on the order of the rows.
+/// A fold whose steps may be exchanged doesn't depend on the order of the rows. `same` only witnesses that the elements have an identity.
 pub fn fold_in_any_order<X, S>()
     ensures { (same : X → X → Bool) → IsIdentity same → FoldInAnyOrder S same }
 {}
@@ -76,15 +82,15 @@ pub fn of_distinct_in_any_order<X, Z>()
 
 /// A bag in order is one list: two lists in order by a total order that are the same bag are equal.
 pub fn one_list_in_order<X>()
-    ensures { (same : X → X → Bool) → IsIdentity same → OneListInOrder same }
+    ensures { OneListInOrder X }
 {}
 
-/// Each aggregate answers the least fault first.
+/// Every aggregate but count(*) is the least fault of the values, where a fault stands among them.
 pub fn faults_first<V>()
-    ensures { (same : V → V → Bool) → IsIdentity same → FaultsComeFirst same }
+    ensures { (same : V → V → Bool) → IsIdentity same → AllGiveLeastFault same }
 {}
 
-/// Each aggregate skips nulls.
+/// Every aggregate but count(*) is that of the values that aren't null.
 pub fn nulls_skipped<V>()
-    ensures { (same : V → V → Bool) → IsIdentity same → NullsAreSkipped same }
+    ensures { (same : V → V → Bool) → IsIdentity same → AllSkipNulls same }
 {}
