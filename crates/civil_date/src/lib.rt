@@ -5,7 +5,10 @@ ghost use Rattle.std.specs.Prelude.{◌≡◌, ◌/◌, ◌%◌, ◌≤◌, ◌<
 ghost use Rattle.std.specs.Option.{ok_or};
 ghost use Rattle.civil_date.specs.Date.{is_date, date_of, day_of, number_of};
 
+mod moved;
+
 use jiff::civil::Date;
+pub use moved::{Interval, IntervalUnit};
 use std::marker::Model;
 
 /// Why a date is refused.
@@ -114,3 +117,6 @@ fn day_of(year: Option<u16>, month: Option<u16>, day: Option<u16>) -> Option<Civ
     let number = 10_000 * u32::from(year) + 100 * u32::from(month) + u32::from(day);
     Some(CivilDate { number })
 }
+
+#[cfg(test)]
+mod tests;

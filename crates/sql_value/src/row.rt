@@ -69,7 +69,7 @@ pub(crate) fn put_clones(to: &mut Vec<Value>, more: &[Value]) -> Result<(), Allo
 }
 
 /// The order of two rows by all their columns, from left to right, each as [`Value::order`] has it.
-pub fn order(left: &[Value], right: &[Value]) -> Ordering
+pub fn compare_rows(left: &[Value], right: &[Value]) -> Ordering
     ensures { result ≡ row_cmp left.now right.now }
 {
     left.cmp(&right)

@@ -1,10 +1,13 @@
 //! Rows of a bag where they lie, for picking, sorting and hashing without a copy.
-ghost use Rattle.std.specs.Prelude.{◌≡◌};
+ghost use Rattle.std.specs.Prelude.{◌≡◌, IfOk, length};
+ghost use Rattle.std.specs.List.{All};
 ghost use Rattle.row_laws.specs.Ranked.{ranked};
 ghost use Rattle.sql_value.specs.Truth.{standing_rank};
 
+use crate::bag::Bag;
 use crate::truth::Standing;
 use crate::value::Value;
+use std::alloc::{AllocError, Global};
 use std::hash::{Hash, Hasher};
 use std::marker::Model;
 
@@ -46,6 +49,31 @@ impl<'a> RowRef<'a> {
     {
         self.standing
     }
+}
+
+/// All rows of a bag where they lie, in order.
+pub fn row_refs(alloc: Global, bag: &Bag) -> Result<Vec<RowRef<'_>>, AllocError>
+    ensures rows { IfOk result (λ refs. refs.items ≡ bag.now.rows) }
+    ensures width { IfOk result (λ refs. All (λ row. length row.values ≡ bag.now.width) refs.items) }
+{
+    let mut refs = Vec::with_capacity(alloc, bag.len())?;
+    for i in 0..bag.len() {
+        refs.push(RowRef::new(bag.row(i), bag.standing(i)))?;
+    }
+    Ok(refs)
+}
+
+/// A bag of clones of the rows, in their order.
+pub fn gather(alloc: Global, width: usize, refs: &[RowRef<'_>]) -> Result<Bag, AllocError>
+    requires { All (λ row. length row.values ≡ width) refs.now }
+    ensures rows { IfOk result (λ bag. bag.rows ≡ refs.now) }
+    ensures width { IfOk result (λ bag. bag.width ≡ width) }
+{
+    let mut bag = Bag::new(alloc, width);
+    for row in refs {
+        bag.push_row(row.values(), row.standing())?;
+    }
+    Ok(bag)
 }
 
 /// Borrowed values as the key of a map or a set. Equality and hash are those of identity.

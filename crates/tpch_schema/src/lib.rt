@@ -7,3 +7,6 @@ mod table;
 pub use column::{ColumnKind, are_of_kinds};
 pub use refusals::{LineFault, LineRefusal};
 pub use table::{TABLES, TableName};
+
+#[cfg(test)]
+mod tests;

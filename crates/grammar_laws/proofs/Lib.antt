@@ -1,0 +1,10 @@
+pub mod Sound
+pub mod Chains
+pub mod Stable
+pub mod Complete
+pub mod Loop
+pub mod Lift
+pub mod Lawful
+pub mod Scripts
+pub mod Verdict
+pub mod OneMeaning

@@ -1,0 +1,73 @@
+-- Reading from left to right: the value or the first refusal, and the tokens after the value or from the refused one on.
+use Rattle.std.specs.Prelude.{◌≡◌, ℕ, zero, suc, ◌==◌, Bool, false, if◌then◌else◌, List, [], ◌∷◌, length, Result, Ok, Err}
+use Rattle.grammar_laws.specs.declared.refusal.Refusal.{Refusal}
+use Rattle.grammar_laws.specs.declared.refusal.Refusal.TheVariants.{Unexpected, TooDeep, TooWide}
+use Rattle.grammar_laws.specs.declared.refusal.Stop.{Stop}
+use Rattle.grammar_laws.specs.declared.refusal.Stop.TheVariants as stops
+
+abbrev pub Outcome : Type 0 → Type 0 → Type 0
+Outcome T A = Result A Refusal × List T
+
+abbrev pub Reading : Type 0 → Type 0 → Type 0
+Reading T A = List T → Outcome T A
+
+abbrev pub and_then : {T A B : Type 0} → Outcome T A → (A → Reading T B) → Outcome T B
+and_then (Ok a, ts) f = f a ts
+and_then (Err r, ts) f = (Err r, ts)
+
+abbrev pub starts : {T : Type 0} → (T → Bool) → List T → Bool
+starts test [] = false
+starts test (t ∷ ts) = test t
+
+abbrev pub one : {T : Type 0} → (T → Bool) → Reading T T
+one test [] = (Err Unexpected, [])
+one test (t ∷ ts) = if test t then (Ok t, ts) else (Err Unexpected, t ∷ ts)
+
+abbrev pub allow : {T : Type 0} → ℕ → T → Reading T T
+allow zero t ts = (Err TooDeep, t ∷ ts)
+allow (suc room) t ts = (Ok t, ts)
+
+abbrev pub opens : {T : Type 0} → ℕ → (T → Bool) → Reading T T
+opens room test [] = (Err Unexpected, [])
+opens room test (t ∷ ts) = if test t then allow room t ts else (Err Unexpected, t ∷ ts)
+
+abbrev pub nothing : {T A : Type 0} → A → Reading T A
+nothing a ts = (Ok a, ts)
+
+abbrev pub never : {T A : Type 0} → Reading T A
+never ts = (Err Unexpected, ts)
+
+abbrev pub both : {T A B C : Type 0} → (A → B → C) → Reading T A → Reading T B → Reading T C
+both f p q ts = and_then (p ts) (λ a us. and_then (q us) (λ b vs. (Ok (f a b), vs)))
+
+abbrev pub mapped : {T A B : Type 0} → (A → B) → Reading T A → Reading T B
+mapped f p ts = and_then (p ts) (λ a us. (Ok (f a), us))
+
+abbrev pub either : {T A : Type 0} → (T → Bool) → Reading T A → Reading T A → Reading T A
+either test p q ts = if starts test ts then p ts else q ts
+
+-- an element that is one too many: refused at its first token, for what it is refused there or as one too many
+abbrev pub crowded : {T A : Type 0} → List T → Outcome T A → Outcome T A
+crowded ts (Ok a, us) = (Err TooWide, ts)
+crowded ts (Err r, us) = if length us == length ts then (Err r, ts) else (Err TooWide, ts)
+
+abbrev pub crowd : {T A : Type 0} → Reading T A → Reading T A
+crowd p ts = crowded ts (p ts)
+
+-- elements, each behind what joins it to those before, which begins with a token that passes the test
+unfoldable pub links : {T A B D : Type 0} → (T → Bool) → Reading T D → (D → A → B) → Reading T A → ℕ → Reading T (List B)
+links test join link p zero = either test (both (λ b bs. b ∷ bs) (both link join (crowd p)) (nothing [])) (nothing [])
+links test join link p (suc room) = either test (both (λ b bs. b ∷ bs) (both link join p) (links test join link p room)) (nothing [])
+
+abbrev pub chained : {T A B C D : Type 0} → ℕ → (A → List B → C) → (T → Bool) → Reading T D → (D → A → B) → Reading T A → Reading T C
+chained width whole test join link p = both whole p (links test join link p width)
+
+-- ---- what a function that reads ensures: the outcome, unless memory runs out
+
+abbrev pub Reads : {T A : Type 0} → Outcome T A → Result A Stop → List T → Type 0
+Reads outcome (Ok a) rest = outcome ≡ (Ok a, rest)
+Reads outcome (Err stops.OutOfMemory) rest = Unit {0}
+Reads outcome (Err (stops.Refused r)) rest = outcome ≡ (Err r, rest)
+
+abbrev pub is_err : {A : Type 0} → Stop → Result A Stop
+is_err e = Err e

@@ -1,0 +1,6 @@
+//! Laws of grammars that are read from left to right by one token of look-ahead.
+#![tactic(auto)]
+
+mod refusal;
+
+pub use refusal::{Refusal, Stop};

@@ -1,0 +1,37 @@
+//! Tokens and what they hold.
+ghost use Rattle.std.specs.Prelude.{◌≡◌};
+ghost use Rattle.sql_lexer.specs.Kinds as kinds;
+
+use crate::kind::Kind;
+use ascii_text::Text;
+use fixed_decimal::Scale;
+
+/// What a token holds beside its kind.
+#[derive(Drop)]
+pub enum Content {
+    /// A symbol or a reserved word.
+    Nothing,
+    /// A name in lower case, or a text without its quotes.
+    Text(Text),
+    /// A number's coefficient and how many of its digits stand after the point.
+    Number(i128, Scale),
+}
+
+/// A token: its kind, its content, and its bytes in the script, `len` of them from byte `start` on.
+#[derive(Drop)]
+pub struct Token {
+    pub kind: Kind,
+    pub content: Content,
+    pub start: usize,
+    pub len: usize,
+}
+
+impl Token {
+    /// Whether the token is of this kind.
+    #[tactic(auto, unfolding(crate::specs::Kinds::is))]
+    pub fn is(&self, kind: Kind) -> bool
+        ensures { result ≡ kinds.is kind self.now }
+    {
+        self.kind == kind
+    }
+}
