@@ -1,3 +1,4 @@
+pub mod Cases
 pub mod Parts
 pub mod Pattern
 pub mod Printable

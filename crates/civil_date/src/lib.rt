@@ -5,9 +5,11 @@ ghost use Rattle.std.specs.Prelude.{◌≡◌, ◌/◌, ◌%◌, ◌≤◌, ◌<
 ghost use Rattle.std.specs.Option.{ok_or};
 ghost use Rattle.civil_date.specs.Date.{is_date, date_of, day_of, number_of};
 
+mod laws;
 mod moved;
 
 use jiff::civil::Date;
+pub use laws::cases;
 pub use moved::{Interval, IntervalUnit};
 use std::marker::Model;
 

@@ -1,6 +1,7 @@
 //! Laws of the definitions that the contracts cite. Each function does nothing: its contract is
 //! the law.
 ghost use Rattle.fixed_decimal.specs.Laws.{ReadsBack, RoundsToNearest, PutIsOneTermMore, MergeIsBothLists, TotalIsTheSum};
+ghost use Rattle.fixed_decimal.specs.Cases.{Thirds, ZeroDivisor, SumPastTheEnd, AcrossScales, SumsAtTheEnd, AverageOfThree, Spelled};
 
 /// What `write_decimal` wrote at a scale, `read_decimal` reads at it as the same coefficient.
 pub fn written_is_read()
@@ -17,4 +18,15 @@ pub fn tally_of_terms()
     ensures put { PutIsOneTermMore }
     ensures merge { MergeIsBothLists }
     ensures total { TotalIsTheSum }
+{}
+
+/// Small cases of the definitions, computed.
+pub fn cases()
+    ensures thirds { Thirds }
+    ensures zero { ZeroDivisor }
+    ensures past { SumPastTheEnd }
+    ensures scales { AcrossScales }
+    ensures sums { SumsAtTheEnd }
+    ensures average { AverageOfThree }
+    ensures spelled { Spelled }
 {}
