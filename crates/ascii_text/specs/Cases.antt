@@ -1,5 +1,5 @@
 -- Small cases, computed.
-use Rattle.std.specs.Prelude.{◌≡◌, ℕ, true, false, codes, [], Some, None}
+use Rattle.std.specs.Prelude.{◌≡◌, true, false, codes, [], Some, None}
 use Rattle.ascii_text.specs.Printable.{first_unprintable}
 use Rattle.ascii_text.specs.Pattern.{is_like, places}
 

@@ -20,6 +20,7 @@ fn makes_texts(rt: HostRuntime) -> Result<(), Fail> {
     let made = text(alloc, b"AFRICA ~")?;
     assert!(rt; made.bytes() == b"AFRICA ~".as_slice());
     assert!(rt; made.clone()? == made);
+    assert!(rt; Text::of_printable(alloc, b"AFRICA ~")? == made);
     assert!(rt; matches!(Text::new(alloc, b"a\x1fb\x7f"), Err(TextFault::BadText(1))));
     assert!(rt; matches!(Text::new(alloc, b"a\x7f"), Err(TextFault::BadText(1))));
     assert!(rt; text(alloc, b"AB")? < text(alloc, b"B")?);

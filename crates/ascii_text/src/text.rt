@@ -19,6 +19,7 @@ use std::sync::ArcSlice;
 pub enum TextFault {
     /// The first byte outside 0x20 to 0x7E stands at this place, counted from 0.
     BadText(usize),
+    /// Memory was wanted.
     OutOfMemory,
 }
 

@@ -1,5 +1,5 @@
 -- Small cases, computed.
-use Rattle.std.specs.Prelude.{◌≡◌, ℕ, pos, negsuc, Ok, Err, Some, None, codes}
+use Rattle.std.specs.Prelude.{◌≡◌, pos, negsuc, Ok, Err, Some, None, codes}
 use Rattle.civil_date.specs.declared.DateFault.TheVariants.{DateRange}
 use Rattle.civil_date.specs.declared.moved.IntervalUnit.TheVariants.{Day, Month, Year}
 use Rattle.civil_date.specs.Date.{date_of}

@@ -11,15 +11,20 @@ use jiff::civil::{Date, date};
 /// The unit of an interval.
 #[derive(Clone, Copy, Debug, PartialEq, Eq, PartialOrd, Ord, Hash)]
 pub enum IntervalUnit {
+    /// Days of the calendar.
     Day,
+    /// Months of the calendar, of 28 to 31 days.
     Month,
+    /// Twelve months.
     Year,
 }
 
 /// So many days, months or years, backward where the count is negative.
 #[derive(Clone, Copy, Debug, PartialEq, Eq, PartialOrd, Ord, Hash)]
 pub struct Interval {
+    /// How many, backward where it is negative.
     pub count: i32,
+    /// Of what.
     pub unit: IntervalUnit,
 }
 

@@ -1,5 +1,5 @@
 -- Small cases, computed.
-use Rattle.std.specs.Prelude.{◌≡◌, ℕ, ◌-◌, ◌^◌, ℤ, pos, negsuc, Ok, Err, List, [], ◌∷◌, codes}
+use Rattle.std.specs.Prelude.{◌≡◌, ℕ, ◌-◌, ◌^◌, pos, negsuc, Ok, Err, [], ◌∷◌, codes}
 use Rattle.std.specs.declared.cmp.Ordering.TheVariants.{Equal, Less}
 use Rattle.fixed_decimal.specs.declared.arithmetic.NumberFault.TheVariants.{NumberRange, DivideByZero}
 use Rattle.fixed_decimal.specs.declared.read.Spelling.TheVariants.{NotANumber, TooWide}

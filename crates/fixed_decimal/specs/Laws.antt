@@ -1,6 +1,6 @@
 -- What the definitions of decimals amount to.
-use Rattle.std.specs.Prelude.{◌≡◌, ℕ, ◌+◌, ◌*◌, ◌≤◌, ◌<◌, true, ℤ, pos, ◌-ℤ◌, Ok, List, [], ◌∷◌, ◌++◌}
-use Rattle.fixed_decimal.specs.Decimal.{fits, nearest_of}
+use Rattle.std.specs.Prelude.{◌≡◌, ℕ, ◌+◌, ◌*◌, ◌≤◌, ◌<◌, true, ◌^◌, ℤ, pos, ◌-ℤ◌, ◌*ℤ◌, Ok, List, [], ◌∷◌, ◌++◌}
+use Rattle.fixed_decimal.specs.Decimal.{fits, rescaled, nearest_of}
 use Rattle.fixed_decimal.specs.Written.{decimal_read, decimal_written}
 use Rattle.fixed_decimal.specs.Tally.{sums_of, with_term, joined, added}
 
@@ -8,7 +8,11 @@ use Rattle.fixed_decimal.specs.Tally.{sums_of, with_term, joined, added}
 abbrev pub ReadsBack : Type 0
 ReadsBack = (c : ℤ) (places : ℕ) → fits c ≡ true → places ≤ 18 → decimal_read (decimal_written c places) places ≡ Ok c
 
--- the rounded quotient q of m by n lies within half a unit of m / n: q - 1/2 ≤ m / n < q + 1/2, so a half goes up
+-- a number rescaled has the same value: x / 10^t is c / 10^s
+abbrev pub RescalingKeepsTheValue : Type 0
+RescalingKeepsTheValue = (c x : ℤ) (s t : ℕ) → s ≤ t → rescaled c s t ≡ Ok x → x *ℤ pos (10 ^ s) ≡ c *ℤ pos (10 ^ t)
+
+-- the rounded quotient q of two sizes m and n lies within half a unit of m / n: q - 1/2 ≤ m / n < q + 1/2, so a half goes up
 abbrev pub RoundsToNearest : Type 0
 RoundsToNearest = (m n : ℕ) → 0 < n → (2 * nearest_of m n * n ≤ 2 * m + n) × (2 * m + n < 2 * nearest_of m n * n + 2 * n)
 

@@ -10,6 +10,7 @@ use crate::power::signed_power;
 pub enum NumberFault {
     /// A coefficient leaves the signed 128-bit range.
     NumberRange,
+    /// The divisor is 0.
     DivideByZero,
 }
 

@@ -1,6 +1,6 @@
 //! Laws of the definitions that the contracts cite. Each function does nothing: its contract is
 //! the law.
-ghost use Rattle.fixed_decimal.specs.Laws.{ReadsBack, RoundsToNearest, PutIsOneTermMore, MergeIsBothLists, TotalIsTheSum};
+ghost use Rattle.fixed_decimal.specs.Laws.{ReadsBack, RescalingKeepsTheValue, RoundsToNearest, PutIsOneTermMore, MergeIsBothLists, TotalIsTheSum};
 ghost use Rattle.fixed_decimal.specs.Cases.{Thirds, ZeroDivisor, SumPastTheEnd, AcrossScales, SumsAtTheEnd, AverageOfThree, Spelled};
 
 /// What `write_decimal` wrote at a scale, `read_decimal` reads at it as the same coefficient.
@@ -8,9 +8,12 @@ pub fn written_is_read()
     ensures { ReadsBack }
 {}
 
-/// A quotient is the nearest whole number, a half away from zero.
-pub fn quotient_is_nearest()
-    ensures { RoundsToNearest }
+/// Numbers are rescaled without a change of their values. A quotient's size is the whole number
+/// nearest to the quotient of the sizes, a half upwards; its sign is that of the exact quotient, so
+/// a half goes away from zero.
+pub fn arithmetic_by_value()
+    ensures rescale { RescalingKeepsTheValue }
+    ensures quotient { RoundsToNearest }
 {}
 
 /// A tally counts and adds the terms of a list, however they came.
