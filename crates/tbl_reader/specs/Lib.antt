@@ -9,3 +9,4 @@ pub mod Reading
 pub mod Steps
 pub mod Pieces
 pub mod Laws
+pub mod Cases

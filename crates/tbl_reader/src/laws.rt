@@ -1,4 +1,5 @@
 //! Laws of the definition of a file's rows. Each function has an empty body: its contract is the law.
+ghost use Rattle.tbl_reader.specs.Cases.{Lines, Rows, Refusals, Limits};
 ghost use Rattle.tbl_reader.specs.Laws.{LinesGiveText, RowsAreSound, FirstBadLineCounts};
 
 /// The lines of a text, one behind the other, are the text, and a line has no LF but at its end.
@@ -15,4 +16,12 @@ pub fn rows_are_sound()
 /// A refusal is that of a bad line before which each line gave a row.
 pub fn first_bad_line_counts()
     ensures { FirstBadLineCounts }
+{}
+
+/// Small files, computed.
+pub fn cases()
+    ensures lines { Lines }
+    ensures rows { Rows }
+    ensures refusals { Refusals }
+    ensures limits { Limits }
 {}
