@@ -1,9 +1,11 @@
 //! Scalar expressions over one row: their value, their truth with faults, and what can be read off them.
 #![tactic(auto)]
 
+mod columns;
 mod evaluate;
 mod expr;
 mod operate;
 
+pub use columns::rename;
 pub use evaluate::{eval, eval_slice, truth, truth_slice};
 pub use expr::{Arithmetic, Branch, Comparison, DatePart, Expr};
