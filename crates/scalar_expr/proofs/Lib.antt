@@ -1,3 +1,5 @@
 pub mod Loops
 pub mod Opened
 pub mod Renames
+pub mod Induction
+pub mod Uses

@@ -1,3 +1,4 @@
 pub mod Meaning
 pub mod Operators
 pub mod Rename
+pub mod Used

@@ -5,7 +5,9 @@ mod columns;
 mod evaluate;
 mod expr;
 mod operate;
+mod used;
 
 pub use columns::rename;
 pub use evaluate::{eval, eval_slice, truth, truth_slice};
 pub use expr::{Arithmetic, Branch, Comparison, DatePart, Expr};
+pub use used::{used_columns, used_columns_decide};
