@@ -3,3 +3,4 @@ pub mod Opened
 pub mod Renames
 pub mod Induction
 pub mod Uses
+pub mod Typed

@@ -1,4 +1,5 @@
 pub mod Meaning
 pub mod Operators
 pub mod Rename
+pub mod Typing
 pub mod Used

@@ -4,10 +4,12 @@
 mod columns;
 mod evaluate;
 mod expr;
+mod kind;
 mod operate;
 mod used;
 
 pub use columns::rename;
 pub use evaluate::{eval, eval_slice, truth, truth_slice};
 pub use expr::{Arithmetic, Branch, Comparison, DatePart, Expr};
+pub use kind::{Kind, well_typed_gives_its_kind};
 pub use used::{used_columns, used_columns_decide};
