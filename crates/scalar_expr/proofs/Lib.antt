@@ -4,3 +4,4 @@ pub mod Renames
 pub mod Induction
 pub mod Uses
 pub mod Typed
+pub mod LawProofs

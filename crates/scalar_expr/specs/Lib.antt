@@ -1,3 +1,5 @@
+pub mod Cases
+pub mod Laws
 pub mod Meaning
 pub mod Operators
 pub mod Rename
