@@ -309,7 +309,7 @@ branch_typed when gives w g ks row r =
     ap (λ s. some_fits s (branch_value b row)) (branch_sort_is b ks)
     ∙ ap (some_fits (if is_condition when ks then sort_of gives ks else Unfit)) (branch_is b row)
     ∙ tested_branch (is_condition when ks) (sort_of gives ks) (decided (truth when row) (value gives row))
-      (decided_typed (sort_of gives ks) (truth when row) (value gives row) (g ks row r))
+    (decided_typed (sort_of gives ks) (truth when row) (value gives row) (g ks row r))
 
 all_typed : (x : Expr) → IsTyped x
 unfolding sort_of

@@ -5,7 +5,8 @@ ghost use Rattle.scalar_expr.specs.Meaning.{value, truth, values, truths, least,
 
 use crate::expr::{Branch, Comparison, Expr};
 use crate::operate::{
-    at_scale, compared, computed, extracted, liked, negative, null_test, part_of, truth_of_mark,
+    at_scale, compared, computed, extracted, is_false, is_true, liked, negative, null_test,
+    part_of, truth_of_mark,
 };
 use sql_value::{Row, Standing, Truth, Value};
 use std::alloc::{AllocError, Global};
@@ -182,7 +183,7 @@ fn least(alloc: Global, es: &[Expr], row: &[Value]) -> Result<Truth, AllocError>
     let mut least = Truth::Stands(Standing::AtTrue);
     for e in es {
         least = least.and(truth_slice(alloc, e, row)?);
-        if let Truth::False = least {
+        if is_false(least) {
             return Ok(least);
         }
     }
@@ -197,7 +198,7 @@ fn greatest(alloc: Global, es: &[Expr], row: &[Value]) -> Result<Truth, AllocErr
     let mut greatest = Truth::False;
     for e in es {
         greatest = greatest.or(truth_slice(alloc, e, row)?);
-        if let Truth::Stands(Standing::AtTrue) = greatest {
+        if is_true(greatest) {
             return Ok(greatest);
         }
     }
@@ -213,7 +214,7 @@ fn equal_to_any(alloc: Global, x: &Value, es: &[Expr], row: &[Value]) -> Result<
     for e in es {
         let y = operand(alloc, e, row)?;
         greatest = greatest.or(compared(Comparison::Equal, x, &y));
-        if let Truth::Stands(Standing::AtTrue) = greatest {
+        if is_true(greatest) {
             return Ok(greatest);
         }
     }

@@ -16,3 +16,6 @@ pub use kind::{Kind, well_typed_gives_its_kind};
 pub use laws::{chains_of_comparisons, mark_is_read, small_cases};
 pub use operate::mark_of;
 pub use used::{used_columns, used_columns_decide};
+
+#[cfg(test)]
+mod tests;

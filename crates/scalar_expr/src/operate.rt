@@ -1,5 +1,5 @@
 //! What operators make of the values of their operands.
-ghost use Rattle.std.specs.Prelude.{◌≡◌, IfOk};
+ghost use Rattle.std.specs.Prelude.{◌≡◌, ◌↔◌, IfOk, IsTrue};
 ghost use Rattle.std.specs.Cow.{cow_value};
 ghost use Rattle.scalar_expr.specs.Operators.{number_or_fault, computed, negative, at_scale, extracted, part_of, product, arithmetic, holds, compared, liked, null_test, truth_of, mark_of, truth_of_mark};
 
@@ -126,6 +126,20 @@ fn truth_of(is_true: bool) -> Truth
     } else {
         Truth::False
     }
+}
+
+/// Whether a truth is the least of all.
+pub fn is_false(truth: Truth) -> bool
+    ensures { IsTrue result ↔ (truth ≡ Truth.False) }
+{
+    matches!(truth, Truth::False)
+}
+
+/// Whether a truth is the greatest of all.
+pub fn is_true(truth: Truth) -> bool
+    ensures { IsTrue result ↔ (truth ≡ Truth.Stands Standing.AtTrue) }
+{
+    matches!(truth, Truth::Stands(Standing::AtTrue))
 }
 
 fn fault_truth(fault: Fault) -> Truth
