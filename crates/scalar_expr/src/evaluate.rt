@@ -1,5 +1,5 @@
 //! Evaluation over one row. Values are read where they lie: only a made text takes memory.
-ghost use Rattle.std.specs.Prelude.{◌≡◌, IfOk, option_map, slice_index_or};
+ghost use Rattle.std.specs.Prelude.{◌≡◌, IfOk, IfSome, option_map, slice_index_or};
 ghost use Rattle.std.specs.Cow.{cow_value};
 ghost use Rattle.scalar_expr.specs.Meaning.{value, truth, values, truths, least, greatest, in_list, chosen};
 
@@ -83,6 +83,19 @@ fn operand<'a>(alloc: Global, e: &'a Expr, row: &'a [Value]) -> Result<Cow<'a, V
     }
 }
 
+// The value of a column or a literal, where it lies: what most comparisons ask for, without a result to be moved.
+#[inline]
+#[tactic(auto, using(crate::proofs::Opened::value_Column, crate::proofs::Opened::value_Literal))]
+fn at_hand<'a>(e: &'a Expr, row: &'a [Value]) -> Option<&'a Value>
+    ensures { IfSome result (λ v. v.now ≡ value e.now row.now) }
+{
+    match e {
+        Expr::Column(place) => row.get(*place as usize),
+        Expr::Literal(v) => Some(v),
+        _ => None,
+    }
+}
+
 // The value at a place of the row; null past its end.
 fn column<'a>(place: u32, row: &'a [Value]) -> Cow<'a, Value>
     ensures { cow_value result ≡ slice_index_or row.now place Value.Null }
@@ -125,6 +138,9 @@ pub fn truth_slice(alloc: Global, e: &Expr, row: &[Value]) -> Result<Truth, Allo
 {
     match e {
         Expr::Compare(comparison, a, b) => {
+            if let (Some(x), Some(y)) = (at_hand(a.get(), row), at_hand(b.get(), row)) {
+                return Ok(compared(*comparison, x, y));
+            }
             let x = operand(alloc, a.get(), row)?;
             let y = operand(alloc, b.get(), row)?;
             Ok(compared(*comparison, &x, &y))
