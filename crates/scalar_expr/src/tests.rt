@@ -81,10 +81,16 @@ fn truth_of(alloc: Global, e: Expr) -> Result<Truth, Fail> {
 }
 
 #[test]
-fn computes_numbers(rt: HostRuntime) -> Result<(), Fail> {
+fn reads_columns(rt: HostRuntime) -> Result<(), Fail> {
     let alloc = rt.alloc();
     assert!(rt; value_of(alloc, Expr::Column(0))? == whole(3));
     assert!(rt; value_of(alloc, Expr::Column(9))? == Value::Null);
+    Ok(())
+}
+
+#[test]
+fn multiplies_and_divides(rt: HostRuntime) -> Result<(), Fail> {
+    let alloc = rt.alloc();
     let quotient = arithmetic(alloc, Arithmetic::Divide, number(2), number(3))?;
     assert!(rt; value_of(alloc, quotient)? == Value::Number(Scale::new(6), 666_667));
     let product = arithmetic(
@@ -94,6 +100,12 @@ fn computes_numbers(rt: HostRuntime) -> Result<(), Fail> {
         Expr::Column(1),
     )?;
     assert!(rt; value_of(alloc, product)? == Value::Number(Scale::new(4), 22_500));
+    Ok(())
+}
+
+#[test]
+fn adds_and_subtracts(rt: HostRuntime) -> Result<(), Fail> {
+    let alloc = rt.alloc();
     let sum = arithmetic(alloc, Arithmetic::Add, number(i128::MAX), number(1))?;
     assert!(rt; value_of(alloc, sum)? == Value::Fault(Fault::NumberRange));
     let difference = arithmetic(alloc, Arithmetic::Subtract, Expr::Column(4), number(1))?;
@@ -115,11 +127,9 @@ fn takes_parts(rt: HostRuntime) -> Result<(), Fail> {
 
 // case when <when> then 1 else <the decimal column> end
 fn case(alloc: Global, when: Expr) -> Result<Expr, Fail> {
+    let gives = number(1);
     let mut branches = Items::new(alloc);
-    branches.push(Branch {
-        when,
-        gives: number(1),
-    })?;
+    branches.push(Branch { when, gives })?;
     let other = boxed(alloc, Expr::Column(1))?;
     Ok(Expr::Case(Scale::new(2), branches, other))
 }
@@ -127,46 +137,101 @@ fn case(alloc: Global, when: Expr) -> Result<Expr, Fail> {
 #[test]
 fn decides_cases(rt: HostRuntime) -> Result<(), Fail> {
     let alloc = rt.alloc();
-    let here = compare(alloc, Comparison::Equal, Expr::Column(0), number(3))?;
-    let first = case(alloc, here)?;
-    assert!(rt; value_of(alloc, first)? == Value::Number(Scale::new(2), 100));
-    let there = compare(alloc, Comparison::Equal, Expr::Column(0), number(4))?;
-    let other = case(alloc, there)?;
+    let here = case(alloc, one_is(alloc, 1)?)?;
+    assert!(rt; value_of(alloc, here)? == Value::Number(Scale::new(2), 100));
+    let other = case(alloc, one_is(alloc, 0)?)?;
     assert!(rt; value_of(alloc, other)? == Value::Number(Scale::new(2), 150));
     let fault = case(alloc, zero_divides(alloc)?)?;
     assert!(rt; value_of(alloc, fault)? == Value::Fault(Fault::DivideByZero));
     Ok(())
 }
 
+// 1 = n
+fn one_is(alloc: Global, n: i128) -> Result<Expr, Fail> {
+    compare(alloc, Comparison::Equal, number(1), number(n))
+}
+
+// 1 = 0 and 1 / 0 = 1
+fn never_and_fault(alloc: Global) -> Result<Expr, Fail> {
+    let never = one_is(alloc, 0)?;
+    let fault = zero_divides(alloc)?;
+    let both = two(alloc, never, fault)?;
+    Ok(Expr::All(both))
+}
+
+// 1 / 0 = 1 or 1 = 1
+fn fault_or_always(alloc: Global) -> Result<Expr, Fail> {
+    let fault = zero_divides(alloc)?;
+    let always = one_is(alloc, 1)?;
+    let either = two(alloc, fault, always)?;
+    Ok(Expr::Any(either))
+}
+
+// the first column > 2 and (1 / 0 = 1 or 1 = 1)
+fn kept_rows(alloc: Global) -> Result<Expr, Fail> {
+    let above = compare(alloc, Comparison::Greater, Expr::Column(0), number(2))?;
+    let either = fault_or_always(alloc)?;
+    let both = two(alloc, above, either)?;
+    Ok(Expr::All(both))
+}
+
+// not 1 / 0 = 1
+fn denied_fault(alloc: Global) -> Result<Expr, Fail> {
+    let fault = zero_divides(alloc)?;
+    let fault = boxed(alloc, fault)?;
+    Ok(Expr::Not(fault))
+}
+
 #[test]
-fn chains_conditions(rt: HostRuntime) -> Result<(), Fail> {
+fn ands_conditions(rt: HostRuntime) -> Result<(), Fail> {
+    let alloc = rt.alloc();
+    assert!(rt; truth_of(alloc, never_and_fault(alloc)?)? == Truth::False);
+    assert!(rt; truth_of(alloc, kept_rows(alloc)?)? == YES);
+    Ok(())
+}
+
+#[test]
+fn keeps_faults(rt: HostRuntime) -> Result<(), Fail> {
     let alloc = rt.alloc();
     assert!(rt; truth_of(alloc, zero_divides(alloc)?)? == ZERO_DIVIDES);
-    let never = compare(alloc, Comparison::Equal, number(1), number(0))?;
-    let both = Expr::All(two(alloc, never, zero_divides(alloc)?)?);
-    assert!(rt; truth_of(alloc, both)? == Truth::False);
-    let above = compare(alloc, Comparison::Greater, Expr::Column(0), number(2))?;
-    let always = compare(alloc, Comparison::Equal, number(1), number(1))?;
-    let either = Expr::Any(two(alloc, zero_divides(alloc)?, always)?);
-    let kept = Expr::All(two(alloc, above, either)?);
-    assert!(rt; truth_of(alloc, kept)? == YES);
-    let denied = Expr::Not(boxed(alloc, zero_divides(alloc)?)?);
-    assert!(rt; truth_of(alloc, denied)? == ZERO_DIVIDES);
+    assert!(rt; truth_of(alloc, denied_fault(alloc)?)? == ZERO_DIVIDES);
+    Ok(())
+}
+
+// the first column between 3 and the second one
+fn between_columns(alloc: Global) -> Result<Expr, Fail> {
+    let e = boxed(alloc, Expr::Column(0))?;
+    let low = boxed(alloc, number(3))?;
+    let high = boxed(alloc, Expr::Column(1))?;
+    Ok(Expr::Between(e, low, high))
+}
+
+// the third column like '_A%'
+fn like_pattern(alloc: Global) -> Result<Expr, Fail> {
+    let e = boxed(alloc, Expr::Column(2))?;
+    let pattern = text(alloc, b"_A%")?;
+    Ok(Expr::Like(e, pattern))
+}
+
+// the first column in (9, null)
+fn in_nulls(alloc: Global) -> Result<Expr, Fail> {
+    let e = boxed(alloc, Expr::Column(0))?;
+    let list = two(alloc, number(9), Expr::Column(4))?;
+    Ok(Expr::InList(e, list))
+}
+
+#[test]
+fn compares_values(rt: HostRuntime) -> Result<(), Fail> {
+    let alloc = rt.alloc();
+    assert!(rt; truth_of(alloc, between_columns(alloc)?)? == Truth::False);
+    assert!(rt; truth_of(alloc, like_pattern(alloc)?)? == YES);
+    assert!(rt; truth_of(alloc, in_nulls(alloc)?)? == Truth::Unknown);
     Ok(())
 }
 
 #[test]
 fn tests_values(rt: HostRuntime) -> Result<(), Fail> {
     let alloc = rt.alloc();
-    let low = boxed(alloc, number(3))?;
-    let high = boxed(alloc, Expr::Column(1))?;
-    let between = Expr::Between(boxed(alloc, Expr::Column(0))?, low, high);
-    assert!(rt; truth_of(alloc, between)? == Truth::False);
-    let like = Expr::Like(boxed(alloc, Expr::Column(2))?, text(alloc, b"_A%")?);
-    assert!(rt; truth_of(alloc, like)? == YES);
-    let list = two(alloc, number(9), Expr::Column(4))?;
-    let among = Expr::InList(boxed(alloc, Expr::Column(0))?, list);
-    assert!(rt; truth_of(alloc, among)? == Truth::Unknown);
     let null = Expr::IsNull(boxed(alloc, Expr::Column(4))?);
     assert!(rt; truth_of(alloc, null)? == YES);
     let mark = Expr::Holds(boxed(alloc, Expr::Literal(mark_of(Truth::False)))?);
@@ -175,18 +240,34 @@ fn tests_values(rt: HostRuntime) -> Result<(), Fail> {
     Ok(())
 }
 
+// the second column + the first
+fn sum_of_columns(alloc: Global) -> Result<Expr, Fail> {
+    arithmetic(alloc, Arithmetic::Add, Expr::Column(1), Expr::Column(0))
+}
+
+#[test]
+fn lists_columns(rt: HostRuntime) -> Result<(), Fail> {
+    let alloc = rt.alloc();
+    let sum = sum_of_columns(alloc)?;
+    assert!(rt; used_columns(alloc, &sum)?.as_slice() == [1, 0].as_slice());
+    Ok(())
+}
+
 #[test]
 fn renames_columns(rt: HostRuntime) -> Result<(), Fail> {
     let alloc = rt.alloc();
-    let sum = arithmetic(alloc, Arithmetic::Add, Expr::Column(1), Expr::Column(0))?;
-    let columns = used_columns(alloc, &sum)?;
-    assert!(rt; columns.as_slice() == [1, 0].as_slice());
-    let renamed = rename(alloc, &sum, &[1, 0])?;
-    assert!(rt; used_columns(alloc, &renamed)?.as_slice() == [0, 1].as_slice());
     let row = row(alloc)?;
-    assert!(rt; eval_slice(alloc, &renamed, row.values())? == Value::Number(Scale::new(2), 450));
+    let sum = sum_of_columns(alloc)?;
+    let renamed = rename(alloc, &sum, &[0, 0])?;
+    assert!(rt; eval_slice(alloc, &renamed, row.values())? == whole(6));
+    Ok(())
+}
+
+#[test]
+fn renames_an_absent_column(rt: HostRuntime) -> Result<(), Fail> {
+    let alloc = rt.alloc();
+    let row = row(alloc)?;
     let absent = rename(alloc, &Expr::Column(2), &[])?;
-    assert!(rt; eval(alloc, &absent, &row)? == Value::Null);
     let is_null = Expr::IsNull(boxed(alloc, absent)?);
     assert!(rt; truth_slice(alloc, &is_null, row.values())? == YES);
     Ok(())
