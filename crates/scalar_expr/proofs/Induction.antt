@@ -1,12 +1,12 @@
 -- Induction over expressions: one step for each node.
-use Rattle.std.proofs.Common.{◌≡◌, ℕ, List, map, sym, subst}
+use Rattle.std.proofs.Common.{ℕ, List, map, sym, subst}
 use Rattle.sql_value.specs.declared.value.Value.{Value}
 use Rattle.scalar_expr.specs.declared.expr.Arithmetic.{Arithmetic}
 use Rattle.scalar_expr.specs.declared.expr.Branch.{Branch, roll-Branch}
 use Rattle.scalar_expr.specs.declared.expr.Comparison.{Comparison}
 use Rattle.scalar_expr.specs.declared.expr.DatePart.{DatePart}
 use Rattle.scalar_expr.specs.declared.expr.Expr.{Expr, Expr-F, roll-Expr}
-use Rattle.scalar_expr.specs.declared.expr.Expr.TheFolds.{ind-Expr, map-Expr, map-Branch}
+use Rattle.scalar_expr.specs.declared.expr.Expr.TheFolds.{ind-Expr, map-Expr}
 use Rattle.scalar_expr.specs.declared.expr.Expr.TheOpen as f
 use Rattle.scalar_expr.specs.declared.expr.Expr.TheVariants as e
 

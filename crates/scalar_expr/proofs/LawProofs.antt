@@ -1,5 +1,5 @@
 -- Laws of values and truth, and small cases.
-use Rattle.std.proofs.Common.{◌≡◌, List, [], ◌∷◌, map, refl, ap, sym, ◌∙◌, fold}
+use Rattle.std.proofs.Common.{◌≡◌, List, [], ◌∷◌, map, refl, ap, sym, ◌∙◌}
 use Rattle.ascii_text.specs.Pattern.{is_like, some_rest}
 use Rattle.fixed_decimal.specs.Decimal.{rescaled, sum_of, difference_of, quotient_of}
 use Rattle.sql_value.specs.Truth.{lesser}
@@ -10,7 +10,7 @@ use Rattle.sql_value.specs.declared.truth.Truth.TheVariants.{False, Unknown, Sta
 use Rattle.sql_value.specs.declared.value.Value.{Value}
 use Rattle.scalar_expr.specs.Cases.{Arithmetics, Comparisons, Conditions, Cases, Parts}
 use Rattle.scalar_expr.specs.Laws.{MarkIsRead, BetweenIsAnd, InListIsOr}
-use Rattle.scalar_expr.specs.Meaning.{value, truth, values, truths, least, greatest, in_list}
+use Rattle.scalar_expr.specs.Meaning.{value, truth, values, truths, greatest}
 use Rattle.scalar_expr.specs.Operators.{compared}
 use Rattle.scalar_expr.specs.declared.expr.Comparison.TheVariants.{Equal, LessOrEqual, GreaterOrEqual}
 use Rattle.scalar_expr.specs.declared.expr.Expr.{Expr}

@@ -1,5 +1,5 @@
 -- The loops over conditions, list values and branches.
-use Rattle.std.proofs.Common.{◌≡◌, ℕ, ◌+◌, ◌<◌, ◌≤◌, List, [], ◌∷◌, map, fold, drop, length, get_or, refl, ap, sym, ◌∙◌, arith, Option, Some, None, ◌⊎◌, inl, inr}
+use Rattle.std.proofs.Common.{◌≡◌, ℕ, ◌+◌, ◌<◌, ◌≤◌, List, [], ◌∷◌, map, fold, drop, length, get_or, refl, ap, sym, ◌∙◌, Option, Some, None, ◌⊎◌, inl, inr}
 use Rattle.std.proofs.lemmas.List.{drop_more, drop_all}
 use Rattle.sql_value.specs.Truth.{lesser, greater}
 use Rattle.sql_value.specs.declared.truth.Fault.{Fault}

@@ -1,5 +1,5 @@
 -- The definitions at each node, as a match of the code sees it.
-use Rattle.std.proofs.Common.{◌≡◌, ℕ, List, [], ◌∷◌, map, refl, ap, ◌∙◌, unwrap_or, Option, slice_index_or}
+use Rattle.std.proofs.Common.{◌≡◌, ℕ, List, [], ◌∷◌, map, refl, ap, ◌∙◌, unwrap_or, slice_index_or}
 use Rattle.sql_value.specs.Truth.{negated}
 use Rattle.sql_value.specs.declared.truth.Truth.{Truth}
 use Rattle.sql_value.specs.declared.truth.Truth.TheVariants.{Unknown}
@@ -12,7 +12,7 @@ use Rattle.scalar_expr.specs.declared.expr.DatePart.{DatePart}
 use Rattle.scalar_expr.specs.declared.expr.Expr.{Expr, Expr-F, out-Expr}
 use Rattle.scalar_expr.specs.declared.expr.Expr.TheVariants as e
 use Rattle.scalar_expr.specs.declared.expr.Expr.TheFolds.{fold_out-Expr, fold_out-Branch, map-Expr}
-use Rattle.scalar_expr.specs.Meaning.{Meaning, BranchMeaning, expr_step, branch_step, value_step, truth_step, meaning, branch_value, value, truth, values, truths, chosen, decided, first_decided, least, greatest, in_list}
+use Rattle.scalar_expr.specs.Meaning.{Meaning, BranchMeaning, expr_step, branch_step, value_step, truth_step, meaning, branch_value, value, truth, values, truths, chosen, decided, least, greatest, in_list}
 use Rattle.scalar_expr.specs.Operators.{at_scale, negative, computed, extracted, part_of, compared, between, liked, null_test, truth_of_mark}
 
 -- a node with the meanings of its parts in their place

@@ -10,7 +10,7 @@ use Rattle.scalar_expr.specs.declared.expr.Comparison.{Comparison}
 use Rattle.scalar_expr.specs.declared.expr.DatePart.{DatePart}
 use Rattle.scalar_expr.specs.declared.expr.Expr.{Expr}
 use Rattle.scalar_expr.specs.declared.expr.Expr.TheVariants as e
-use Rattle.scalar_expr.specs.Meaning.{value, truth, values, truths, chosen, branch_value, first_decided, first_of, decided, least, greatest, in_list}
+use Rattle.scalar_expr.specs.Meaning.{value, truth, values, truths, chosen, branch_value, first_of, decided, least, greatest, in_list}
 use Rattle.scalar_expr.specs.Operators.{at_scale, negative, computed, extracted, part_of, compared, between, liked, null_test, truth_of_mark}
 use Rattle.scalar_expr.specs.Rename.{gathered, IsRenamed, AreRenamed, BranchesRenamed}
 use Rattle.scalar_expr.proofs.Opened.{branch_is, value_Literal, truth_Literal, value_Negative, truth_Negative, value_Arithmetic, truth_Arithmetic, value_Case, truth_Case, value_Extract, truth_Extract, value_Substring, truth_Substring, value_Compare, truth_Compare, value_Between, truth_Between, value_Like, truth_Like, value_InList, truth_InList, value_IsNull, truth_IsNull, value_Not, truth_Not, value_All, truth_All, value_Any, truth_Any, value_Holds, truth_Holds, value_Column, truth_Column}
@@ -187,6 +187,3 @@ column_absent m i h = record {
       ∙ sym (value_Column i (gathered m row));
   truth = λ row. truth_Literal Null row ∙ sym (truth_Column i (gathered m row));
 }
-
--- for each node
-pub ruleset renamed = (renamed_Literal, renamed_Negative, renamed_Arithmetic, renamed_Case, renamed_Extract, renamed_Substring, renamed_Compare, renamed_Between, renamed_Like, renamed_InList, renamed_IsNull, renamed_Not, renamed_All, renamed_Any, renamed_Holds)

@@ -1,7 +1,7 @@
 -- A well-typed expression gives values of its kind.
-use Rattle.std.proofs.Common.{◌≡◌, ℕ, ◌+◌, max, zero, suc, List, [], ◌∷◌, map, Bool, true, false, ◌&&◌, ◌==◌, nat_le, if◌then◌else◌, refl, ap, sym, subst, ◌∙◌, Option, Some, None, unwrap_or, ℤ, Result, Ok, Err, slice_index_or, slice_get}
+use Rattle.std.proofs.Common.{◌≡◌, ℕ, ◌+◌, max, zero, suc, List, [], ◌∷◌, map, Bool, true, false, ◌==◌, nat_le, if◌then◌else◌, refl, ap, sym, subst, ◌∙◌, Option, Some, None, unwrap_or, ℤ, Result, Ok, Err, slice_index_or, slice_get}
 use Rattle.std.specs.Cmp.{first_so, second_so}
-use Rattle.std.specs.Prelude.{option_map, IsTrue}
+use Rattle.std.specs.Prelude.{option_map}
 use Rattle.std.proofs.lemmas.Bool.Decides.{Decides-eqb}
 use Rattle.fixed_decimal.specs.Decimal.{rescaled, sum_of, difference_of, product_of, quotient_of, quotient_scale}
 use Rattle.fixed_decimal.specs.declared.arithmetic.NumberFault.{NumberFault}
@@ -16,7 +16,6 @@ use Rattle.sql_value.specs.declared.value.Value.TheVariants.{Null, Fault as Fail
 use Rattle.scalar_expr.specs.declared.expr.Arithmetic.{Arithmetic}
 use Rattle.scalar_expr.specs.declared.expr.Arithmetic.TheVariants.{Add, Subtract, Multiply, Divide}
 use Rattle.scalar_expr.specs.declared.expr.Branch.{Branch}
-use Rattle.scalar_expr.specs.declared.expr.Comparison.{Comparison}
 use Rattle.scalar_expr.specs.declared.expr.DatePart.{DatePart}
 use Rattle.scalar_expr.specs.declared.expr.Expr.{Expr, Expr-F, out-Expr}
 use Rattle.scalar_expr.specs.declared.expr.Expr.TheFolds.{fold_out-Expr, fold_out-Branch, map-Expr}
@@ -24,9 +23,9 @@ use Rattle.scalar_expr.specs.declared.expr.Expr.TheVariants as e
 use Rattle.scalar_expr.specs.declared.kind.Kind.{Kind}
 use Rattle.scalar_expr.specs.declared.kind.Kind.TheVariants as kind
 use Rattle.scalar_expr.specs.Meaning.{value, truth, chosen, branch_value, decided, first_of}
-use Rattle.scalar_expr.specs.Operators.{number_or_fault, product, arithmetic, computed, negative, at_scale, extracted, part_of, date_part}
-use Rattle.scalar_expr.specs.Typing.{same_kind, is_of_kind, row_is_of, Sort, Unfit, Nulls, Of, column_sort, literal_sort, negative_sort, result_sort, arithmetic_sort, extract_sort, substring_sort, scaled_sort, both_sorts, all_sorts, branches_sorts, case_sort, sort_gives, sort_of, is_condition, typing, branch_sort, Typing, BranchTyping, typing_step, branch_sort_step, sort_step, WellTypedGivesItsKind}
-use Rattle.scalar_expr.proofs.Induction.{Exprs, Branches, exprs, branches, Steps, induction}
+use Rattle.scalar_expr.specs.Operators.{number_or_fault, arithmetic, computed, negative, at_scale, extracted, part_of}
+use Rattle.scalar_expr.specs.Typing.{same_kind, is_of_kind, row_is_of, Sort, Unfit, Nulls, Of, column_sort, literal_sort, negative_sort, result_sort, arithmetic_sort, extract_sort, substring_sort, scaled_sort, both_sorts, all_sorts, branches_sorts, sort_gives, sort_of, is_condition, typing, branch_sort, Typing, BranchTyping, typing_step, branch_sort_step, sort_step, WellTypedGivesItsKind}
+use Rattle.scalar_expr.proofs.Induction.{Branches, exprs, branches, induction}
 use Rattle.scalar_expr.proofs.Opened.{branch_is, value_Column, value_Literal, value_Negative, value_Arithmetic, value_Case, value_Extract, value_Substring, value_Compare, value_Between, value_Like, value_InList, value_IsNull, value_Not, value_All, value_Any, value_Holds}
 
 -- a value that an expression of the sort can have

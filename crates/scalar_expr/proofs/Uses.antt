@@ -14,7 +14,7 @@ use Rattle.scalar_expr.specs.Meaning.{value, truth, values, truths, chosen, bran
 use Rattle.scalar_expr.specs.Operators.{at_scale, negative, computed, extracted, part_of, compared, between, liked, null_test, truth_of_mark}
 use Rattle.scalar_expr.specs.Rename.{gathered}
 use Rattle.scalar_expr.specs.Used.{one_list, used_step, branch_used_step, used, branch_used, all_used, branches_used, SameAt, UsedColumnsDecide}
-use Rattle.scalar_expr.proofs.Induction.{Exprs, Branches, exprs, branches, Steps, induction}
+use Rattle.scalar_expr.proofs.Induction.{Exprs, Branches, exprs, branches, induction}
 use Rattle.scalar_expr.proofs.Opened.{branch_is, value_Column, truth_Column, value_Literal, truth_Literal, value_Negative, truth_Negative, value_Arithmetic, truth_Arithmetic, value_Case, truth_Case, value_Extract, truth_Extract, value_Substring, truth_Substring, value_Compare, truth_Compare, value_Between, truth_Between, value_Like, truth_Like, value_InList, truth_InList, value_IsNull, truth_IsNull, value_Not, truth_Not, value_All, truth_All, value_Any, truth_Any, value_Holds, truth_Holds}
 
 abbrev used_at : Expr-F Expr Branch → List ℕ

@@ -1,5 +1,5 @@
 -- Small cases of the definitions.
-use Rattle.std.specs.Prelude.{◌≡◌, ℕ, ◌^◌, ◌-◌, List, [], ◌∷◌, pos, negsuc, ℤ, unwrap_or, Some, None}
+use Rattle.std.specs.Prelude.{◌≡◌, ℕ, ◌^◌, ◌-◌, [], ◌∷◌, pos, negsuc, unwrap_or, Some, None}
 use Rattle.sql_value.specs.Truth.{negated}
 use Rattle.sql_value.specs.declared.truth.Fault.TheVariants.{TooManyRows, DivideByZero, NumberRange}
 use Rattle.sql_value.specs.declared.truth.Standing.TheVariants.{AtTrue}

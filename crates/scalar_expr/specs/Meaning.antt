@@ -1,6 +1,6 @@
 -- The value and the truth of an expression over a row. A condition's value is null, and the truth of any other expression
 -- is Unknown.
-use Rattle.std.specs.Prelude.{ℕ, List, [], ◌∷◌, map, fold, Option, Some, None, unwrap_or, slice_index_or}
+use Rattle.std.specs.Prelude.{List, [], ◌∷◌, map, fold, Option, Some, None, unwrap_or, slice_index_or}
 use Rattle.sql_value.specs.declared.truth.Standing.TheVariants.{AtFault, AtTrue}
 use Rattle.sql_value.specs.declared.truth.Truth.{Truth}
 use Rattle.sql_value.specs.declared.truth.Truth.TheVariants.{False, Unknown, Stands}

@@ -10,7 +10,6 @@ use Rattle.fixed_decimal.specs.declared.arithmetic.NumberFault.{NumberFault}
 use Rattle.fixed_decimal.specs.declared.arithmetic.NumberFault.TheVariants as decimal
 use Rattle.sql_value.specs.declared.truth.Fault.{Fault}
 use Rattle.sql_value.specs.declared.truth.Fault.TheVariants.{DivideByZero, NumberRange}
-use Rattle.sql_value.specs.declared.truth.Standing.{Standing}
 use Rattle.sql_value.specs.declared.truth.Standing.TheVariants.{AtFault, AtTrue}
 use Rattle.sql_value.specs.declared.truth.Truth.{Truth}
 use Rattle.sql_value.specs.declared.truth.Truth.TheVariants.{False, Unknown, Stands}

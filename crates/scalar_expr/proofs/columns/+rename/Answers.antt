@@ -1,4 +1,4 @@
-use Rattle.std.proofs.Common.{rules, arith}
+use Rattle.std.proofs.Common.{rules}
 use Rattle.scalar_expr.proofs.Renames.{renamed_Literal, renamed_Negative, renamed_Arithmetic, renamed_Case, renamed_Extract, renamed_Substring, renamed_Compare, renamed_Between, renamed_Like, renamed_InList, renamed_IsNull, renamed_Not, renamed_All, renamed_Any, renamed_Holds, none_renamed, no_branches_renamed, more_renamed, more_branches}
 use Rattle.scalar_expr.proofs.columns.+rename.Goals as goal
 
