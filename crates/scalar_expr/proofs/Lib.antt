@@ -1,0 +1,7 @@
+pub mod Loops
+pub mod Opened
+pub mod Renames
+pub mod Induction
+pub mod Uses
+pub mod Typed
+pub mod LawProofs

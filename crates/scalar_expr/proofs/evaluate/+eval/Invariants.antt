@@ -1,0 +1,18 @@
+use Rattle.std.proofs.Common.{◌≡◌, drop, fold, map}
+use Rattle.sql_value.specs.Truth.{lesser, greater}
+use Rattle.scalar_expr.specs.declared.expr.Comparison.TheVariants.{Equal}
+use Rattle.scalar_expr.specs.Meaning.{least, greatest, in_list, values, truths, chosen}
+use Rattle.scalar_expr.specs.Operators.{compared}
+use Rattle.scalar_expr.proofs.evaluate.+eval.Given as goal
+
+abbrev pub invariant-chosen-loop-branch : goal.invariant-chosen-loop-branch
+invariant-chosen-loop-branch l = chosen (drop l.branch-index l.branches) l.row ≡ chosen l.branches l.row
+
+abbrev pub invariant-least-loop-e : goal.invariant-least-loop-e
+invariant-least-loop-e l = fold lesser l.least (truths (drop l.e-index l.es) l.row) ≡ least (truths l.es l.row)
+
+abbrev pub invariant-greatest-loop-e : goal.invariant-greatest-loop-e
+invariant-greatest-loop-e l = fold greater l.greatest (truths (drop l.e-index l.es) l.row) ≡ greatest (truths l.es l.row)
+
+abbrev pub invariant-equal_to_any-loop-e : goal.invariant-equal_to_any-loop-e
+invariant-equal_to_any-loop-e l = fold greater l.greatest (map (compared Equal l.x) (values (drop l.e-index l.es) l.row)) ≡ in_list l.x (values l.es l.row)

@@ -1,0 +1,75 @@
+-- Small cases of the definitions.
+use Rattle.std.specs.Prelude.{◌≡◌, ℕ, ◌^◌, ◌-◌, [], ◌∷◌, pos, negsuc, unwrap_or, Some, None}
+use Rattle.sql_value.specs.Truth.{negated}
+use Rattle.sql_value.specs.declared.truth.Fault.TheVariants.{TooManyRows, DivideByZero, NumberRange}
+use Rattle.sql_value.specs.declared.truth.Standing.TheVariants.{AtTrue}
+use Rattle.sql_value.specs.declared.truth.Truth.{Truth}
+use Rattle.sql_value.specs.declared.truth.Truth.TheVariants.{False, Unknown, Stands}
+use Rattle.sql_value.specs.declared.value.Value.{Value}
+use Rattle.sql_value.specs.declared.value.Value.TheVariants.{Null, Fault as Failed, Number, Text, Date}
+use Rattle.scalar_expr.specs.declared.expr.Arithmetic.TheVariants.{Add, Subtract, Multiply, Divide}
+use Rattle.scalar_expr.specs.declared.expr.Comparison.TheVariants.{Equal, Less}
+use Rattle.scalar_expr.specs.declared.expr.DatePart.TheVariants.{Year, Month, Day}
+use Rattle.scalar_expr.specs.Meaning.{least, greatest, in_list, decided, first_of}
+use Rattle.scalar_expr.specs.Operators.{computed, negative, at_scale, extracted, part_of, compared, between, liked, null_test, fault_truth, truth_of_mark}
+
+abbrev whole : ℕ → Value
+whole n = Number 0 (pos n)
+
+abbrev true_truth : Truth
+true_truth = Stands AtTrue
+
+-- 2 / 3, -2 / 3, 1 / 0; 1.5 + 2, 1.5 * 2.25; past 2^127 - 1; null before a fault, and the least fault
+abbrev pub Arithmetics : Type 0
+Arithmetics = (computed Divide (whole 2) (whole 3) ≡ Number 6 (pos 666667))
+    × (computed Divide (Number 0 (negsuc 1)) (whole 3) ≡ Number 6 (negsuc 666666))
+    × (computed Divide (whole 1) (whole 0) ≡ Failed DivideByZero)
+    × (computed Add (Number 1 (pos 15)) (whole 2) ≡ Number 1 (pos 35))
+    × (computed Multiply (Number 1 (pos 15)) (Number 2 (pos 225)) ≡ Number 3 (pos 3375))
+    × (computed Add (whole (2 ^ 127 - 1)) (whole 1) ≡ Failed NumberRange)
+    × (negative (Number 0 (negsuc (2 ^ 127 - 1))) ≡ Failed NumberRange)
+    × (computed Add Null (Failed DivideByZero) ≡ Null)
+    × (computed Subtract (Failed NumberRange) (Failed DivideByZero) ≡ Failed DivideByZero)
+
+-- across scales by the values; a null; a fault
+abbrev pub Comparisons : Type 0
+Comparisons = (compared Equal (whole 1) (Number 2 (pos 100)) ≡ true_truth)
+    × (compared Less (Number 2 (pos 150)) (whole 2) ≡ true_truth)
+    × (compared Equal Null (Failed DivideByZero) ≡ Unknown)
+    × (compared Equal (computed Divide (whole 1) (whole 0)) (whole 1) ≡ fault_truth DivideByZero)
+    × (between (whole 7) (whole 5) (whole 7) ≡ true_truth)
+    × (between (whole 8) (whole 5) (whole 7) ≡ False)
+    × (between (whole 8) Null (whole 7) ≡ False)
+
+-- 1 = 0 and 1 / 0 = 1; 1 / 0 = 1 or 1 = 1; Unknown and False; NOT; IN with a null; IS NULL
+abbrev pub Conditions : Type 0
+Conditions = (least (False ∷ fault_truth DivideByZero ∷ []) ≡ False)
+    × (greatest (fault_truth DivideByZero ∷ true_truth ∷ []) ≡ true_truth)
+    × (least (Unknown ∷ False ∷ []) ≡ False)
+    × (least (fault_truth NumberRange ∷ fault_truth TooManyRows ∷ true_truth ∷ []) ≡ fault_truth TooManyRows)
+    × (negated Unknown ≡ Unknown)
+    × (negated (fault_truth DivideByZero) ≡ fault_truth DivideByZero)
+    × (in_list (whole 3) (whole 9 ∷ Null ∷ []) ≡ Unknown)
+    × (in_list (whole 9) (whole 9 ∷ Null ∷ []) ≡ true_truth)
+    × (null_test Null ≡ true_truth)
+    × (null_test (whole 0) ≡ False)
+    × (null_test (Failed DivideByZero) ≡ fault_truth DivideByZero)
+
+-- a branch at True, at a fault, and one that does not decide; a number at CASE's scale
+abbrev pub Cases : Type 0
+Cases = (first_of (decided Unknown (whole 1)) (decided true_truth (whole 2)) ≡ Some (whole 2))
+    × (first_of (decided (fault_truth DivideByZero) (whole 1)) (decided true_truth (whole 2)) ≡ Some (Failed DivideByZero))
+    × (unwrap_or (first_of (decided False (whole 1)) None) Null ≡ Null)
+    × (at_scale 2 (whole 1) ≡ Number 2 (pos 100))
+    × (at_scale 2 (whole (2 ^ 127 - 1)) ≡ Failed NumberRange)
+
+-- the parts of 1996-02-29; substring('MAIL' from 2 for 2); 'MAIL' like '_A%'; marks
+abbrev pub Parts : Type 0
+Parts = (extracted Year (Date 19960229) ≡ whole 1996)
+    × (extracted Month (Date 19960229) ≡ whole 2)
+    × (extracted Day (Date 19960229) ≡ whole 29)
+    × (part_of 2 2 (Text (77 ∷ 65 ∷ 73 ∷ 76 ∷ [])) ≡ Text (65 ∷ 73 ∷ []))
+    × (liked (95 ∷ 65 ∷ 37 ∷ []) (Text (77 ∷ 65 ∷ 73 ∷ 76 ∷ [])) ≡ true_truth)
+    × (liked (37 ∷ []) Null ≡ Unknown)
+    × (truth_of_mark (whole 0) ≡ False)
+    × (truth_of_mark Null ≡ Unknown)

@@ -1,0 +1,7 @@
+pub mod Cases
+pub mod Laws
+pub mod Meaning
+pub mod Operators
+pub mod Rename
+pub mod Typing
+pub mod Used

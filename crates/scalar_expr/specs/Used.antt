@@ -1,0 +1,59 @@
+-- The columns that an expression uses.
+use Rattle.std.specs.Prelude.{◌≡◌, ℕ, List, [], ◌∷◌, ◌++◌, map}
+use Rattle.sql_value.specs.declared.value.Value.{Value}
+use Rattle.scalar_expr.specs.declared.expr.Branch.{Branch}
+use Rattle.scalar_expr.specs.declared.expr.Expr.{Expr, Expr-F}
+use Rattle.scalar_expr.specs.declared.expr.Expr.TheOpen.{Branch-F, Column, Literal, Negative, Arithmetic, Case, Extract, Substring, Compare, Between, Like, InList, IsNull, Not, All, Any, Holds}
+use Rattle.scalar_expr.specs.declared.expr.Expr.TheFolds.{fold-Expr, fold-Branch}
+use Rattle.scalar_expr.specs.Meaning.{value, truth}
+use Rattle.scalar_expr.specs.Rename.{gathered}
+
+-- the lists, one behind the other
+abbrev pub one_list : List (List ℕ) → List ℕ
+one_list [] = []
+one_list (places ∷ more) = places ++ one_list more
+
+-- the places that a node uses, from those that its parts use, from left to right
+abbrev pub used_step : Expr-F (List ℕ) (List ℕ) → List ℕ
+used_step (Column place) = place ∷ []
+used_step (Literal v) = []
+used_step (Negative e) = e
+used_step (Arithmetic operator a b) = a ++ b
+used_step (Case scale branches other) = one_list branches ++ other
+used_step (Extract part e) = e
+used_step (Substring e from count) = e
+used_step (Compare comparison a b) = a ++ b
+used_step (Between e low high) = e ++ low ++ high
+used_step (Like e pattern) = e
+used_step (InList e es) = e ++ one_list es
+used_step (IsNull e) = e
+used_step (Not e) = e
+used_step (All es) = one_list es
+used_step (Any es) = one_list es
+used_step (Holds e) = e
+
+abbrev pub branch_used_step : Branch-F (List ℕ) (List ℕ) → List ℕ
+branch_used_step b = b.when ++ b.gives
+
+-- the places of the columns that an expression uses, once for each use
+unfoldable pub used : Expr → List ℕ
+used = fold-Expr (List ℕ) (List ℕ) used_step branch_used_step
+
+unfoldable pub branch_used : Branch → List ℕ
+branch_used = fold-Branch (List ℕ) (List ℕ) used_step branch_used_step
+
+-- the same of lists
+unfoldable pub all_used : List Expr → List ℕ
+all_used es = one_list (map used es)
+
+unfoldable pub branches_used : List Branch → List ℕ
+branches_used bs = one_list (map branch_used bs)
+
+-- two rows have the same values at these places
+abbrev pub SameAt : List ℕ → List Value → List Value → Type 0
+SameAt places row other = gathered places row ≡ gathered places other
+
+-- Over rows with the same values at the columns that an expression uses, it means the same.
+abbrev pub UsedColumnsDecide : Type 0
+UsedColumnsDecide = (e : Expr) (row other : List Value) → SameAt (used e) row other
+    → (value e row ≡ value e other) × (truth e row ≡ truth e other)

@@ -1,0 +1,238 @@
+//! Evaluation over one row. Values are read where they lie: only a made text takes memory.
+ghost use Rattle.std.specs.Prelude.{◌≡◌, IfOk, IfSome, option_map, slice_index_or};
+ghost use Rattle.std.specs.Cow.{cow_value};
+ghost use Rattle.scalar_expr.specs.Meaning.{value, truth, values, truths, least, greatest, in_list, chosen};
+
+use crate::expr::{Branch, Comparison, Expr};
+use crate::operate::{
+    at_scale, compared, computed, extracted, is_false, is_true, liked, negative, null_test,
+    part_of, truth_of_mark,
+};
+use sql_value::{Row, Standing, Truth, Value};
+use std::alloc::{AllocError, Global};
+use std::borrow::Cow;
+
+/// The value of an expression over a row.
+pub fn eval(alloc: Global, e: &Expr, row: &Row) -> Result<Value, AllocError>
+    ensures { IfOk result (λ v. v ≡ value e.now row.now) }
+{
+    let v = eval_slice(alloc, e, row.values())?;
+    Ok(v)
+}
+
+/// The truth of a condition over a row.
+pub fn truth(alloc: Global, e: &Expr, row: &Row) -> Result<Truth, AllocError>
+    ensures { IfOk result (λ t. t ≡ truth e.now row.now) }
+{
+    let t = truth_slice(alloc, e, row.values())?;
+    Ok(t)
+}
+
+/// The value of an expression over a row's values.
+pub fn eval_slice(alloc: Global, e: &Expr, row: &[Value]) -> Result<Value, AllocError>
+    ensures { IfOk result (λ v. v ≡ value e.now row.now) }
+{
+    let v = operand(alloc, e, row)?;
+    let v = v.into_owned()?;
+    Ok(v)
+}
+
+// The value where it lies, or a made one.
+#[cycle(eval)]
+#[tactic(auto, using(crate::proofs::Opened::values_opened))]
+fn operand<'a>(alloc: Global, e: &'a Expr, row: &'a [Value]) -> Result<Cow<'a, Value>, AllocError>
+    ensures { IfOk result (λ v. cow_value v ≡ value e.now row.now) }
+{
+    match e {
+        Expr::Column(place) => Ok(column(*place, row)),
+        Expr::Literal(v) => Ok(Cow::Borrowed(v)),
+        Expr::Negative(e) => {
+            let x = operand(alloc, e.get(), row)?;
+            Ok(Cow::Owned(negative(&x)))
+        }
+        Expr::Arithmetic(operator, a, b) => {
+            let x = operand(alloc, a.get(), row)?;
+            let y = operand(alloc, b.get(), row)?;
+            Ok(Cow::Owned(computed(*operator, &x, &y)))
+        }
+        Expr::Case(scale, branches, other) => match chosen(alloc, branches.as_slice(), row)? {
+            Some(v) => Ok(at_scale(*scale, v)),
+            None => {
+                let v = operand(alloc, other.get(), row)?;
+                Ok(at_scale(*scale, v))
+            }
+        },
+        Expr::Extract(part, e) => {
+            let x = operand(alloc, e.get(), row)?;
+            Ok(Cow::Owned(extracted(*part, &x)))
+        }
+        Expr::Substring(e, from, count) => {
+            let x = operand(alloc, e.get(), row)?;
+            let part = part_of(alloc, &x, *from, *count)?;
+            Ok(Cow::Owned(part))
+        }
+        Expr::Compare(_, _, _)
+        | Expr::Between(_, _, _)
+        | Expr::Like(_, _)
+        | Expr::InList(_, _)
+        | Expr::IsNull(_)
+        | Expr::Not(_)
+        | Expr::All(_)
+        | Expr::Any(_)
+        | Expr::Holds(_) => Ok(Cow::Owned(Value::Null)),
+    }
+}
+
+// The value of a column or a literal, where it lies: what most comparisons ask for, without a result to be moved.
+#[inline]
+#[tactic(auto, using(crate::proofs::Opened::value_Column, crate::proofs::Opened::value_Literal))]
+fn at_hand<'a>(e: &'a Expr, row: &'a [Value]) -> Option<&'a Value>
+    ensures { IfSome result (λ v. v.now ≡ value e.now row.now) }
+{
+    match e {
+        Expr::Column(place) => row.get(*place as usize),
+        Expr::Literal(v) => Some(v),
+        _ => None,
+    }
+}
+
+// The value at a place of the row; null past its end.
+fn column<'a>(place: u32, row: &'a [Value]) -> Cow<'a, Value>
+    ensures { cow_value result ≡ slice_index_or row.now place Value.Null }
+{
+    match row.get(place as usize) {
+        Some(v) => Cow::Borrowed(v),
+        None => Cow::Owned(Value::Null),
+    }
+}
+
+// What the first branch that decides gives.
+#[cycle(eval)]
+fn chosen<'a>(
+    alloc: Global,
+    branches: &'a [Branch],
+    row: &'a [Value],
+) -> Result<Option<Cow<'a, Value>>, AllocError>
+    ensures { IfOk result (λ v. option_map cow_value v ≡ chosen branches.now row.now) }
+{
+    for branch in branches {
+        match truth_slice(alloc, &branch.when, row)? {
+            Truth::Stands(Standing::AtTrue) => {
+                let v = operand(alloc, &branch.gives, row)?;
+                return Ok(Some(v));
+            }
+            Truth::Stands(Standing::AtFault(fault)) => {
+                return Ok(Some(Cow::Owned(Value::Fault(fault))));
+            }
+            Truth::False | Truth::Unknown => {}
+        }
+    }
+    Ok(None)
+}
+
+/// The truth of a condition over a row's values.
+#[cycle(eval)]
+#[tactic(auto, using(crate::proofs::Opened::truths_opened))]
+pub fn truth_slice(alloc: Global, e: &Expr, row: &[Value]) -> Result<Truth, AllocError>
+    ensures { IfOk result (λ t. t ≡ truth e.now row.now) }
+{
+    match e {
+        Expr::Compare(comparison, a, b) => {
+            if let (Some(x), Some(y)) = (at_hand(a.get(), row), at_hand(b.get(), row)) {
+                return Ok(compared(*comparison, x, y));
+            }
+            let x = operand(alloc, a.get(), row)?;
+            let y = operand(alloc, b.get(), row)?;
+            Ok(compared(*comparison, &x, &y))
+        }
+        Expr::Between(e, low, high) => {
+            let x = operand(alloc, e.get(), row)?;
+            let low = operand(alloc, low.get(), row)?;
+            let high = operand(alloc, high.get(), row)?;
+            let above = compared(Comparison::GreaterOrEqual, &x, &low);
+            Ok(above.and(compared(Comparison::LessOrEqual, &x, &high)))
+        }
+        Expr::Like(e, pattern) => {
+            let x = operand(alloc, e.get(), row)?;
+            Ok(liked(&x, pattern))
+        }
+        Expr::InList(e, es) => {
+            let x = operand(alloc, e.get(), row)?;
+            let t = equal_to_any(alloc, &x, es.as_slice(), row)?;
+            Ok(t)
+        }
+        Expr::IsNull(e) => {
+            let x = operand(alloc, e.get(), row)?;
+            Ok(null_test(&x))
+        }
+        Expr::Not(e) => {
+            let t = truth_slice(alloc, e.get(), row)?;
+            Ok(t.negated())
+        }
+        Expr::All(es) => {
+            let t = least(alloc, es.as_slice(), row)?;
+            Ok(t)
+        }
+        Expr::Any(es) => {
+            let t = greatest(alloc, es.as_slice(), row)?;
+            Ok(t)
+        }
+        Expr::Holds(e) => {
+            let x = operand(alloc, e.get(), row)?;
+            Ok(truth_of_mark(&x))
+        }
+        Expr::Column(_)
+        | Expr::Literal(_)
+        | Expr::Negative(_)
+        | Expr::Arithmetic(_, _, _)
+        | Expr::Case(_, _, _)
+        | Expr::Extract(_, _)
+        | Expr::Substring(_, _, _) => Ok(Truth::Unknown),
+    }
+}
+
+// AND. Nothing is less than False.
+#[cycle(eval)]
+fn least(alloc: Global, es: &[Expr], row: &[Value]) -> Result<Truth, AllocError>
+    ensures { IfOk result (λ t. t ≡ least (truths es.now row.now)) }
+{
+    let mut least = Truth::Stands(Standing::AtTrue);
+    for e in es {
+        least = least.and(truth_slice(alloc, e, row)?);
+        if is_false(least) {
+            return Ok(least);
+        }
+    }
+    Ok(least)
+}
+
+// OR. Nothing is greater than True.
+#[cycle(eval)]
+fn greatest(alloc: Global, es: &[Expr], row: &[Value]) -> Result<Truth, AllocError>
+    ensures { IfOk result (λ t. t ≡ greatest (truths es.now row.now)) }
+{
+    let mut greatest = Truth::False;
+    for e in es {
+        greatest = greatest.or(truth_slice(alloc, e, row)?);
+        if is_true(greatest) {
+            return Ok(greatest);
+        }
+    }
+    Ok(greatest)
+}
+
+// The OR of the equalities of a value with those of a list.
+#[cycle(eval)]
+fn equal_to_any(alloc: Global, x: &Value, es: &[Expr], row: &[Value]) -> Result<Truth, AllocError>
+    ensures { IfOk result (λ t. t ≡ in_list x.now (values es.now row.now)) }
+{
+    let mut greatest = Truth::False;
+    for e in es {
+        let y = operand(alloc, e, row)?;
+        greatest = greatest.or(compared(Comparison::Equal, x, &y));
+        if is_true(greatest) {
+            return Ok(greatest);
+        }
+    }
+    Ok(greatest)
+}

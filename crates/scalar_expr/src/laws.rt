@@ -1,0 +1,23 @@
+//! Laws of the definitions that the contracts cite. Each function does nothing: its contract is the law.
+ghost use Rattle.scalar_expr.specs.Laws.{MarkIsRead, InListIsOr, BetweenIsAnd};
+ghost use Rattle.scalar_expr.specs.Cases.{Arithmetics, Comparisons, Conditions, Cases, Parts};
+
+/// A truth that was written as a mark is read as the same truth.
+pub fn mark_is_read()
+    ensures { MarkIsRead }
+{}
+
+/// BETWEEN is the AND of two comparisons, and an IN list the OR of equalities.
+pub fn chains_of_comparisons()
+    ensures between { BetweenIsAnd }
+    ensures in_list { InListIsOr }
+{}
+
+/// Small cases, computed.
+pub fn small_cases()
+    ensures arithmetic { Arithmetics }
+    ensures comparisons { Comparisons }
+    ensures conditions { Conditions }
+    ensures cases { Cases }
+    ensures parts { Parts }
+{}

@@ -1,0 +1,21 @@
+//! Scalar expressions over one row: their value, their truth with faults, and what can be read off them.
+#![tactic(auto)]
+
+mod columns;
+mod evaluate;
+mod expr;
+mod kind;
+mod laws;
+mod operate;
+mod used;
+
+pub use columns::rename;
+pub use evaluate::{eval, eval_slice, truth, truth_slice};
+pub use expr::{Arithmetic, Branch, Comparison, DatePart, Expr};
+pub use kind::{Kind, well_typed_gives_its_kind};
+pub use laws::{chains_of_comparisons, mark_is_read, small_cases};
+pub use operate::mark_of;
+pub use used::{used_columns, used_columns_decide};
+
+#[cfg(test)]
+mod tests;

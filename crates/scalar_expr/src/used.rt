@@ -1,0 +1,90 @@
+//! The columns that an expression uses.
+ghost use Rattle.std.specs.Prelude.{◌≡◌, ◌++◌, IfOk, OnOk};
+ghost use Rattle.scalar_expr.specs.Used.{used, all_used, branches_used, UsedColumnsDecide};
+
+use crate::expr::{Branch, Expr};
+use std::alloc::{AllocError, Global};
+
+/// The columns that an expression uses, from left to right, once for each use.
+pub fn used_columns(alloc: Global, e: &Expr) -> Result<Vec<u32>, AllocError>
+    ensures { IfOk result (λ columns. columns.items ≡ used e.now) }
+{
+    let mut columns = Vec::new(alloc);
+    put_used(e, &mut columns)?;
+    Ok(columns)
+}
+
+#[cycle(used)]
+#[tactic(auto, using(crate::proofs::Uses::used_opened))]
+fn put_used(e: &Expr, columns: &mut Vec<u32>) -> Result<(), AllocError>
+    ensures { OnOk result (columns.new.items ≡ columns.old.items ++ used e.now) }
+{
+    match e {
+        Expr::Column(place) => {
+            columns.push(*place)?;
+            Ok(())
+        }
+        Expr::Literal(_) => Ok(()),
+        Expr::Negative(e)
+        | Expr::Extract(_, e)
+        | Expr::Substring(e, _, _)
+        | Expr::Like(e, _)
+        | Expr::IsNull(e)
+        | Expr::Not(e)
+        | Expr::Holds(e) => {
+            put_used(e.get(), columns)?;
+            Ok(())
+        }
+        Expr::Arithmetic(_, a, b) | Expr::Compare(_, a, b) => {
+            put_used(a.get(), columns)?;
+            put_used(b.get(), columns)?;
+            Ok(())
+        }
+        Expr::Between(e, low, high) => {
+            put_used(e.get(), columns)?;
+            put_used(low.get(), columns)?;
+            put_used(high.get(), columns)?;
+            Ok(())
+        }
+        Expr::Case(_, branches, other) => {
+            put_branches_used(branches.as_slice(), columns)?;
+            put_used(other.get(), columns)?;
+            Ok(())
+        }
+        Expr::InList(e, es) => {
+            put_used(e.get(), columns)?;
+            put_all_used(es.as_slice(), columns)?;
+            Ok(())
+        }
+        Expr::All(es) | Expr::Any(es) => {
+            put_all_used(es.as_slice(), columns)?;
+            Ok(())
+        }
+    }
+}
+
+#[cycle(used)]
+fn put_all_used(es: &[Expr], columns: &mut Vec<u32>) -> Result<(), AllocError>
+    ensures { OnOk result (columns.new.items ≡ columns.old.items ++ all_used es.now) }
+{
+    for e in es {
+        put_used(e, columns)?;
+    }
+    Ok(())
+}
+
+#[cycle(used)]
+fn put_branches_used(branches: &[Branch], columns: &mut Vec<u32>) -> Result<(), AllocError>
+    ensures { OnOk result (columns.new.items ≡ columns.old.items ++ branches_used branches.now) }
+{
+    for branch in branches {
+        put_used(&branch.when, columns)?;
+        put_used(&branch.gives, columns)?;
+    }
+    Ok(())
+}
+
+/// A law: over rows with the same values at the columns that an expression uses, it has the same value and truth.
+pub fn used_columns_decide()
+    ensures { UsedColumnsDecide }
+{}
