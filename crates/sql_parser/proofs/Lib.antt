@@ -1,0 +1,4 @@
+pub mod Samples
+pub mod LineLaws
+pub mod LiftLaws
+pub mod Levels

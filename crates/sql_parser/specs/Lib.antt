@@ -1,0 +1,5 @@
+pub mod Kinds
+pub mod Values
+pub mod Grammar
+pub mod Readings
+pub mod Script
