@@ -2,4 +2,5 @@ pub mod Kinds
 pub mod Values
 pub mod Grammar
 pub mod Readings
+pub mod Reads
 pub mod Script

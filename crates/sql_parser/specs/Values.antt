@@ -1,5 +1,7 @@
 -- What the parts of a line make together.
 use Rattle.std.specs.Prelude.{◌≡◌, ℕ, zero, suc, ◌≤◌, Bool, true, false, not, ◌&&◌, ◌||◌, if◌then◌else◌, nat_lt, nat_le, ◌==◌, ℤ, pos, negsuc, List, [], ◌∷◌, length, Option, Some, None}
+use Rattle.std.specs.List.{list_all}
+use Rattle.std.specs.Char.{is_ascii_digit}
 use Rattle.sql_lexer.specs.declared.kind.Kind.{Kind}
 use Rattle.sql_lexer.specs.declared.kind.Kind.TheVariants as k
 use Rattle.sql_lexer.specs.declared.token.Token.{Token}
@@ -84,8 +86,7 @@ abbrev pub is_count : Token → Bool
 is_count token = is k.Number token && (is_whole token.content && nat_le (count_of token) 999999999)
 
 abbrev pub all_digits : List ℕ → Bool
-all_digits [] = true
-all_digits (b ∷ bs) = (nat_le 48 b && nat_le b 57) && all_digits bs
+all_digits bytes = list_all is_ascii_digit bytes
 
 -- a text of one to six digits
 abbrev pub is_digits : Token → Bool
