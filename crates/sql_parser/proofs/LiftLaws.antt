@@ -34,6 +34,7 @@ use Rattle.sql_ast.specs.declared.query.Statement.{Statement}
 use Rattle.sql_ast.specs.declared.query.Statement.TheVariants as statements
 use Rattle.sql_parser.specs.declared.test.Test.{Test}
 use Rattle.sql_parser.specs.declared.test.Test.TheVariants as t
+use Rattle.sql_parser.specs.declared.queries.Filters.{Filters}
 use Rattle.sql_lexer.specs.Kinds.{is}
 use Rattle.grammar_laws.specs.Lines.{Part, One, Opens, Empty, Never, Then, Or, Map, less, Links, Chain}
 use Rattle.grammar_laws.specs.Kinds.{among}
@@ -43,9 +44,9 @@ use Rattle.grammar_laws.specs.Lifting.{Lifts}
 use Rattle.grammar_laws.proofs.Lift.{Lifts-one, Lifts-or, Lifts-map, Lifts-then, Lifts-empty, Lifts-list, Lifts-level, Below, below, always}
 use Rattle.grammar_laws.proofs.Lawful.{Line, Deeper, line_nonempty, line_kind, line_then, line_then_tail}
 use Rattle.sql_parser.specs.Kinds.{kinds}
-use Rattle.sql_parser.specs.Values.{Name, text_of, count_of, number, text, is_count, is_digits, first, second, pair, cons, constant, after_word, after_point, column, negative, negation, factor, term, product, sum, all_of, any_of, arm, case_of, date, interval, extract, substring, distinct_count, between, like, in_list, is_null, is_not_null, denied, tested, item, distinct, plain_selection, condition, query, order_key, statement}
-use Rattle.sql_parser.specs.Grammar.{NameLine, Literal, Number, Digits, SpanWord, ColumnTail, ColumnLine, MultiplyWord, AddWord, Product, Sum, Conjunction, Whole, ExprList, ArmLine, Arms, ElseTail, CaseBody, CaseLine, DateText, DateLine, Precision, IntervalLine, ExtractInside, ExtractLine, Places, SubstringInside, SubstringLine, CountInside, CountLine, AggregateWord, AggregateLine, Call, Leaf, UnaryLine, ComparisonWord, CompareLine, NullLine, BetweenLine, LikeLine, InLine, DenyTest, TestTail, Predicate, PartLine, Alias, ItemLine, Selection, SelectLine, FromItemLine, FromLine, WhereTail, GroupTail, HavingTail, Filters, QueryLine, Direction, KeyLine, OrderTail, RowsOnly, LimitTail, StatementLine, EndedLine}
-use Rattle.sql_parser.proofs.LineLaws.{law-NameLine, law-Literal, law-Number, law-Digits, law-SpanWord, law-ColumnTail, law-ColumnLine, law-MultiplyWord, law-AddWord, law-Product, law-Sum, law-Conjunction, law-Whole, law-ExprList, law-ArmLine, law-Arms, law-ElseTail, law-CaseBody, law-CaseLine, law-DateText, law-DateLine, law-Precision, law-IntervalLine, law-ExtractInside, law-ExtractLine, law-Places, law-SubstringInside, law-SubstringLine, law-CountInside, law-CountLine, law-AggregateWord, law-AggregateLine, law-Call, law-Leaf, law-UnaryLine, law-ComparisonWord, law-CompareLine, law-NullLine, law-BetweenLine, law-LikeLine, law-InLine, law-DenyTest, law-TestTail, law-Predicate, law-PartLine, law-Alias, law-ItemLine, law-Selection, law-SelectLine, law-FromItemLine, law-FromLine, law-WhereTail, law-GroupTail, law-HavingTail, law-Filters, law-QueryLine, law-Direction, law-KeyLine, law-OrderTail, law-RowsOnly, law-LimitTail, law-StatementLine, law-EndedLine}
+use Rattle.sql_parser.specs.Values.{Name, text_of, count_of, number, text, is_count, is_digits, first, second, pair, cons, constant, after_word, after_point, column, negative, negation, factor, term, product, sum, all_of, any_of, arm, case_of, date, interval, extract, substring, distinct_count, between, like, in_list, is_null, is_not_null, denied, tested, item, distinct, plain_selection, condition, filters, query, order_key, statement}
+use Rattle.sql_parser.specs.Grammar.{NameLine, Literal, Number, Digits, SpanWord, ColumnTail, ColumnLine, MultiplyWord, AddWord, Product, Sum, Conjunction, Whole, ExprList, ArmLine, Arms, ElseTail, CaseBody, CaseLine, DateText, DateLine, Precision, IntervalLine, ExtractInside, ExtractLine, Places, SubstringInside, SubstringLine, CountInside, CountLine, AggregateWord, AggregateLine, Call, Leaf, UnaryLine, ComparisonWord, CompareLine, NullLine, BetweenLine, LikeLine, InLine, DenyTest, TestTail, Predicate, PartLine, Alias, ItemLine, Selection, SelectLine, FromItemLine, FromLine, WhereTail, GroupTail, HavingTail, FiltersTail, QueryLine, Direction, KeyLine, OrderTail, RowsOnly, LimitTail, StatementLine, EndedLine}
+use Rattle.sql_parser.proofs.LineLaws.{law-NameLine, law-Literal, law-Number, law-Digits, law-SpanWord, law-ColumnTail, law-ColumnLine, law-MultiplyWord, law-AddWord, law-Product, law-Sum, law-Conjunction, law-Whole, law-ExprList, law-ArmLine, law-Arms, law-ElseTail, law-CaseBody, law-CaseLine, law-DateText, law-DateLine, law-Precision, law-IntervalLine, law-ExtractInside, law-ExtractLine, law-Places, law-SubstringInside, law-SubstringLine, law-CountInside, law-CountLine, law-AggregateWord, law-AggregateLine, law-Call, law-Leaf, law-UnaryLine, law-ComparisonWord, law-CompareLine, law-NullLine, law-BetweenLine, law-LikeLine, law-InLine, law-DenyTest, law-TestTail, law-Predicate, law-PartLine, law-Alias, law-ItemLine, law-Selection, law-SelectLine, law-FromItemLine, law-FromLine, law-WhereTail, law-GroupTail, law-HavingTail, law-FiltersTail, law-QueryLine, law-Direction, law-KeyLine, law-OrderTail, law-RowsOnly, law-LimitTail, law-StatementLine, law-EndedLine}
 
 pub lift-NameLine : (n : ℕ) → Lifts n NameLine NameLine
 lift-NameLine n = Lifts-map n text_of (Lifts-one n (is k.Name))
@@ -209,11 +210,11 @@ lift-GroupTail n many le wide = Lifts-or n (Lifts-then n second (Lifts-then n se
 pub lift-HavingTail : {P S : Type 0} {G_part H_part : List (Mark Token) → Expr → Type 0} {r_part : List Token → Outcome Token Expr} (n : ℕ) → (many : ℕ) → n ≤ many → (wide : ℕ) (law_part : Line kinds P S (k.Not ∷ k.Minus ∷ k.OpenParen ∷ k.Case ∷ k.Extract ∷ k.Substring ∷ k.Count ∷ k.Sum ∷ k.Avg ∷ k.Min ∷ k.Max ∷ k.Number ∷ k.Text ∷ k.Date ∷ k.Interval ∷ k.Name ∷ []) (k.OpenParen ∷ k.Point ∷ k.Star ∷ k.Slash ∷ k.Plus ∷ k.Minus ∷ k.Equal ∷ k.NotEqual ∷ k.Less ∷ k.LessOrEqual ∷ k.Greater ∷ k.GreaterOrEqual ∷ k.Is ∷ k.Not ∷ k.Between ∷ k.Like ∷ k.In ∷ []) G_part r_part) (lift_part : Lifts n G_part H_part) → Lifts n (HavingTail wide G_part) (HavingTail many H_part)
 lift-HavingTail n many le wide law_part lift_part = Lifts-or n (Lifts-then n condition (Lifts-one n (is k.Having)) (lift-Whole n many le wide law_part lift_part)) (Lifts-empty n clause.Absent)
 
-pub lift-Filters : {P S : Type 0} {G_part H_part : List (Mark Token) → Expr → Type 0} {r_part : List Token → Outcome Token Expr} (n : ℕ) → (many : ℕ) → n ≤ many → (wide : ℕ) (law_part : Line kinds P S (k.Not ∷ k.Minus ∷ k.OpenParen ∷ k.Case ∷ k.Extract ∷ k.Substring ∷ k.Count ∷ k.Sum ∷ k.Avg ∷ k.Min ∷ k.Max ∷ k.Number ∷ k.Text ∷ k.Date ∷ k.Interval ∷ k.Name ∷ []) (k.OpenParen ∷ k.Point ∷ k.Star ∷ k.Slash ∷ k.Plus ∷ k.Minus ∷ k.Equal ∷ k.NotEqual ∷ k.Less ∷ k.LessOrEqual ∷ k.Greater ∷ k.GreaterOrEqual ∷ k.Is ∷ k.Not ∷ k.Between ∷ k.Like ∷ k.In ∷ []) G_part r_part) (lift_part : Lifts n G_part H_part) → Lifts n (Filters wide G_part) (Filters many H_part)
-lift-Filters n many le wide law_part lift_part = Lifts-then n pair (lift-WhereTail n many le wide law_part lift_part) (Lifts-then n pair (lift-GroupTail n many le wide) (lift-HavingTail n many le wide law_part lift_part))
+pub lift-FiltersTail : {P S : Type 0} {G_part H_part : List (Mark Token) → Expr → Type 0} {r_part : List Token → Outcome Token Expr} (n : ℕ) → (many : ℕ) → n ≤ many → (wide : ℕ) (law_part : Line kinds P S (k.Not ∷ k.Minus ∷ k.OpenParen ∷ k.Case ∷ k.Extract ∷ k.Substring ∷ k.Count ∷ k.Sum ∷ k.Avg ∷ k.Min ∷ k.Max ∷ k.Number ∷ k.Text ∷ k.Date ∷ k.Interval ∷ k.Name ∷ []) (k.OpenParen ∷ k.Point ∷ k.Star ∷ k.Slash ∷ k.Plus ∷ k.Minus ∷ k.Equal ∷ k.NotEqual ∷ k.Less ∷ k.LessOrEqual ∷ k.Greater ∷ k.GreaterOrEqual ∷ k.Is ∷ k.Not ∷ k.Between ∷ k.Like ∷ k.In ∷ []) G_part r_part) (lift_part : Lifts n G_part H_part) → Lifts n (FiltersTail wide G_part) (FiltersTail many H_part)
+lift-FiltersTail n many le wide law_part lift_part = Lifts-then n filters (lift-WhereTail n many le wide law_part lift_part) (Lifts-then n pair (lift-GroupTail n many le wide) (lift-HavingTail n many le wide law_part lift_part))
 
 pub lift-QueryLine : {P S : Type 0} {G_part H_part : List (Mark Token) → Expr → Type 0} {r_part : List Token → Outcome Token Expr} (n : ℕ) → (many : ℕ) → n ≤ many → (wide : ℕ) (law_part : Line kinds P S (k.Not ∷ k.Minus ∷ k.OpenParen ∷ k.Case ∷ k.Extract ∷ k.Substring ∷ k.Count ∷ k.Sum ∷ k.Avg ∷ k.Min ∷ k.Max ∷ k.Number ∷ k.Text ∷ k.Date ∷ k.Interval ∷ k.Name ∷ []) (k.OpenParen ∷ k.Point ∷ k.Star ∷ k.Slash ∷ k.Plus ∷ k.Minus ∷ k.Equal ∷ k.NotEqual ∷ k.Less ∷ k.LessOrEqual ∷ k.Greater ∷ k.GreaterOrEqual ∷ k.Is ∷ k.Not ∷ k.Between ∷ k.Like ∷ k.In ∷ []) G_part r_part) (lift_part : Lifts n G_part H_part) → Lifts n (QueryLine wide G_part) (QueryLine many H_part)
-lift-QueryLine n many le wide law_part lift_part = Lifts-then n query (lift-SelectLine n many le wide law_part lift_part) (Lifts-then n pair (lift-FromLine n many le wide) (lift-Filters n many le wide law_part lift_part))
+lift-QueryLine n many le wide law_part lift_part = Lifts-then n query (lift-SelectLine n many le wide law_part lift_part) (Lifts-then n pair (lift-FromLine n many le wide) (lift-FiltersTail n many le wide law_part lift_part))
 
 pub lift-Direction : (n : ℕ) → Lifts n Direction Direction
 lift-Direction n = Lifts-or n (Lifts-map n (constant false) (Lifts-one n (is k.Asc))) (Lifts-or n (Lifts-map n (constant true) (Lifts-one n (is k.Desc))) (Lifts-empty n false))

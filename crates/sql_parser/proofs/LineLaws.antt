@@ -34,6 +34,7 @@ use Rattle.sql_ast.specs.declared.query.Statement.{Statement}
 use Rattle.sql_ast.specs.declared.query.Statement.TheVariants as statements
 use Rattle.sql_parser.specs.declared.test.Test.{Test}
 use Rattle.sql_parser.specs.declared.test.Test.TheVariants as t
+use Rattle.sql_parser.specs.declared.queries.Filters.{Filters}
 use Rattle.sql_lexer.specs.Kinds.{is}
 use Rattle.grammar_laws.specs.Lines.{Part, One, Opens, Empty, Never, Then, Or, Map, less, Links, Chain}
 use Rattle.grammar_laws.specs.Kinds.{among}
@@ -41,8 +42,8 @@ use Rattle.grammar_laws.specs.Marks.{Mark}
 use Rattle.grammar_laws.specs.Readings.{Outcome, Reading, one, opens, nothing, never, both, mapped, either, links}
 use Rattle.grammar_laws.proofs.Lawful.{Line, Tail, Deeper, is_among, line_kind, line_one, line_then, line_then_tail, tail_then, line_map, tail_map, tail_empty, line_or, tail_or, line_opens, tail_links, tail_repeats, line_nonempty}
 use Rattle.sql_parser.specs.Kinds.{kinds}
-use Rattle.sql_parser.specs.Values.{Name, text_of, count_of, number, text, is_count, is_digits, first, second, pair, cons, constant, after_word, after_point, column, negative, negation, factor, term, product, sum, all_of, any_of, arm, case_of, date, interval, extract, substring, distinct_count, between, like, in_list, is_null, is_not_null, denied, tested, item, distinct, plain_selection, condition, query, order_key, statement}
-use Rattle.sql_parser.specs.Grammar.{NameLine, Literal, Number, Digits, SpanWord, ColumnTail, ColumnLine, MultiplyWord, AddWord, Product, Sum, Conjunction, Whole, ExprList, ArmLine, Arms, ElseTail, CaseBody, CaseLine, DateText, DateLine, Precision, IntervalLine, ExtractInside, ExtractLine, Places, SubstringInside, SubstringLine, CountInside, CountLine, AggregateWord, AggregateLine, Call, Leaf, UnaryLine, ComparisonWord, CompareLine, NullLine, BetweenLine, LikeLine, InLine, DenyTest, TestTail, Predicate, PartLine, Alias, ItemLine, Selection, SelectLine, FromItemLine, FromLine, WhereTail, GroupTail, HavingTail, Filters, QueryLine, Direction, KeyLine, OrderTail, RowsOnly, LimitTail, StatementLine, EndedLine}
+use Rattle.sql_parser.specs.Values.{Name, text_of, count_of, number, text, is_count, is_digits, first, second, pair, cons, constant, after_word, after_point, column, negative, negation, factor, term, product, sum, all_of, any_of, arm, case_of, date, interval, extract, substring, distinct_count, between, like, in_list, is_null, is_not_null, denied, tested, item, distinct, plain_selection, condition, filters, query, order_key, statement}
+use Rattle.sql_parser.specs.Grammar.{NameLine, Literal, Number, Digits, SpanWord, ColumnTail, ColumnLine, MultiplyWord, AddWord, Product, Sum, Conjunction, Whole, ExprList, ArmLine, Arms, ElseTail, CaseBody, CaseLine, DateText, DateLine, Precision, IntervalLine, ExtractInside, ExtractLine, Places, SubstringInside, SubstringLine, CountInside, CountLine, AggregateWord, AggregateLine, Call, Leaf, UnaryLine, ComparisonWord, CompareLine, NullLine, BetweenLine, LikeLine, InLine, DenyTest, TestTail, Predicate, PartLine, Alias, ItemLine, Selection, SelectLine, FromItemLine, FromLine, WhereTail, GroupTail, HavingTail, FiltersTail, QueryLine, Direction, KeyLine, OrderTail, RowsOnly, LimitTail, StatementLine, EndedLine}
 use Rattle.sql_parser.specs.Readings.{read_name, read_literal, read_number, read_digits, read_span, read_column_tail, read_column, read_multiply, read_add, read_product, read_sum, read_conjunction, read_whole, read_expr_list, read_arm, read_arms, read_else, read_case_body, read_case, read_date_text, read_date, read_precision, read_interval, read_extract_inside, read_extract, read_places, read_substring_inside, read_substring, read_count_inside, read_count, read_aggregate_word, read_aggregate, read_call, read_leaf, read_unary_line, read_comparison, read_compare, read_null, read_between, read_like, read_in, read_deny_test, read_test, read_predicate, read_part_line, read_alias, read_item, read_selection, read_select, read_from_item, read_from, read_where, read_group, read_having, read_filters, read_query, read_direction, read_order_key, read_order, read_rows_only, read_limit, read_statement, read_ended}
 use Rattle.sql_parser.proofs.Samples.{line_count, line_digits}
 
@@ -262,13 +263,13 @@ pub law-HavingTail : {P S : Type 0} {G_part : List (Mark Token) → Expr → Typ
 unfolding read_having
 law-HavingTail wide law_part = tail_or {first = k.Having ∷ []} {on = k.Having ∷ k.OpenParen ∷ k.Point ∷ k.Star ∷ k.Slash ∷ k.Plus ∷ k.Minus ∷ k.Equal ∷ k.NotEqual ∷ k.Less ∷ k.LessOrEqual ∷ k.Greater ∷ k.GreaterOrEqual ∷ k.Is ∷ k.Not ∷ k.Between ∷ k.Like ∷ k.In ∷ k.And ∷ k.Or ∷ []} (is k.Having) (is_among kinds k.Having) (line_then condition (line_kind kinds k.Having) (law-Whole wide law_part) refl) (tail_empty clause.Absent) refl refl refl refl refl refl
 
-pub law-Filters : {P S : Type 0} {G_part : List (Mark Token) → Expr → Type 0} {r_part : List Token → Outcome Token Expr} (wide : ℕ) (law_part : Line kinds P S (k.Not ∷ k.Minus ∷ k.OpenParen ∷ k.Case ∷ k.Extract ∷ k.Substring ∷ k.Count ∷ k.Sum ∷ k.Avg ∷ k.Min ∷ k.Max ∷ k.Number ∷ k.Text ∷ k.Date ∷ k.Interval ∷ k.Name ∷ []) (k.OpenParen ∷ k.Point ∷ k.Star ∷ k.Slash ∷ k.Plus ∷ k.Minus ∷ k.Equal ∷ k.NotEqual ∷ k.Less ∷ k.LessOrEqual ∷ k.Greater ∷ k.GreaterOrEqual ∷ k.Is ∷ k.Not ∷ k.Between ∷ k.Like ∷ k.In ∷ []) G_part r_part) → Tail kinds P S (k.Where ∷ k.Group ∷ k.Having ∷ []) (k.Where ∷ k.OpenParen ∷ k.Point ∷ k.Star ∷ k.Slash ∷ k.Plus ∷ k.Minus ∷ k.Equal ∷ k.NotEqual ∷ k.Less ∷ k.LessOrEqual ∷ k.Greater ∷ k.GreaterOrEqual ∷ k.Is ∷ k.Not ∷ k.Between ∷ k.Like ∷ k.In ∷ k.And ∷ k.Or ∷ k.Group ∷ k.Comma ∷ k.Having ∷ []) (Filters wide G_part) (read_filters wide r_part)
+pub law-FiltersTail : {P S : Type 0} {G_part : List (Mark Token) → Expr → Type 0} {r_part : List Token → Outcome Token Expr} (wide : ℕ) (law_part : Line kinds P S (k.Not ∷ k.Minus ∷ k.OpenParen ∷ k.Case ∷ k.Extract ∷ k.Substring ∷ k.Count ∷ k.Sum ∷ k.Avg ∷ k.Min ∷ k.Max ∷ k.Number ∷ k.Text ∷ k.Date ∷ k.Interval ∷ k.Name ∷ []) (k.OpenParen ∷ k.Point ∷ k.Star ∷ k.Slash ∷ k.Plus ∷ k.Minus ∷ k.Equal ∷ k.NotEqual ∷ k.Less ∷ k.LessOrEqual ∷ k.Greater ∷ k.GreaterOrEqual ∷ k.Is ∷ k.Not ∷ k.Between ∷ k.Like ∷ k.In ∷ []) G_part r_part) → Tail kinds P S (k.Where ∷ k.Group ∷ k.Having ∷ []) (k.Where ∷ k.OpenParen ∷ k.Point ∷ k.Star ∷ k.Slash ∷ k.Plus ∷ k.Minus ∷ k.Equal ∷ k.NotEqual ∷ k.Less ∷ k.LessOrEqual ∷ k.Greater ∷ k.GreaterOrEqual ∷ k.Is ∷ k.Not ∷ k.Between ∷ k.Like ∷ k.In ∷ k.And ∷ k.Or ∷ k.Group ∷ k.Comma ∷ k.Having ∷ []) (FiltersTail wide G_part) (read_filters wide r_part)
 unfolding read_filters
-law-Filters wide law_part = tail_then {first = k.Where ∷ k.Group ∷ k.Having ∷ []} {on = k.Where ∷ k.OpenParen ∷ k.Point ∷ k.Star ∷ k.Slash ∷ k.Plus ∷ k.Minus ∷ k.Equal ∷ k.NotEqual ∷ k.Less ∷ k.LessOrEqual ∷ k.Greater ∷ k.GreaterOrEqual ∷ k.Is ∷ k.Not ∷ k.Between ∷ k.Like ∷ k.In ∷ k.And ∷ k.Or ∷ k.Group ∷ k.Comma ∷ k.Having ∷ []} pair (law-WhereTail wide law_part) (tail_then {first = k.Group ∷ k.Having ∷ []} {on = k.Group ∷ k.Point ∷ k.Comma ∷ k.Having ∷ k.OpenParen ∷ k.Star ∷ k.Slash ∷ k.Plus ∷ k.Minus ∷ k.Equal ∷ k.NotEqual ∷ k.Less ∷ k.LessOrEqual ∷ k.Greater ∷ k.GreaterOrEqual ∷ k.Is ∷ k.Not ∷ k.Between ∷ k.Like ∷ k.In ∷ k.And ∷ k.Or ∷ []} pair (law-GroupTail wide) (law-HavingTail wide law_part) refl refl refl refl refl) refl refl refl refl refl
+law-FiltersTail wide law_part = tail_then {first = k.Where ∷ k.Group ∷ k.Having ∷ []} {on = k.Where ∷ k.OpenParen ∷ k.Point ∷ k.Star ∷ k.Slash ∷ k.Plus ∷ k.Minus ∷ k.Equal ∷ k.NotEqual ∷ k.Less ∷ k.LessOrEqual ∷ k.Greater ∷ k.GreaterOrEqual ∷ k.Is ∷ k.Not ∷ k.Between ∷ k.Like ∷ k.In ∷ k.And ∷ k.Or ∷ k.Group ∷ k.Comma ∷ k.Having ∷ []} filters (law-WhereTail wide law_part) (tail_then {first = k.Group ∷ k.Having ∷ []} {on = k.Group ∷ k.Point ∷ k.Comma ∷ k.Having ∷ k.OpenParen ∷ k.Star ∷ k.Slash ∷ k.Plus ∷ k.Minus ∷ k.Equal ∷ k.NotEqual ∷ k.Less ∷ k.LessOrEqual ∷ k.Greater ∷ k.GreaterOrEqual ∷ k.Is ∷ k.Not ∷ k.Between ∷ k.Like ∷ k.In ∷ k.And ∷ k.Or ∷ []} pair (law-GroupTail wide) (law-HavingTail wide law_part) refl refl refl refl refl) refl refl refl refl refl
 
 pub law-QueryLine : {P S : Type 0} {G_part : List (Mark Token) → Expr → Type 0} {r_part : List Token → Outcome Token Expr} (wide : ℕ) (law_part : Line kinds P S (k.Not ∷ k.Minus ∷ k.OpenParen ∷ k.Case ∷ k.Extract ∷ k.Substring ∷ k.Count ∷ k.Sum ∷ k.Avg ∷ k.Min ∷ k.Max ∷ k.Number ∷ k.Text ∷ k.Date ∷ k.Interval ∷ k.Name ∷ []) (k.OpenParen ∷ k.Point ∷ k.Star ∷ k.Slash ∷ k.Plus ∷ k.Minus ∷ k.Equal ∷ k.NotEqual ∷ k.Less ∷ k.LessOrEqual ∷ k.Greater ∷ k.GreaterOrEqual ∷ k.Is ∷ k.Not ∷ k.Between ∷ k.Like ∷ k.In ∷ []) G_part r_part) → Line kinds P S (k.Select ∷ []) (k.As ∷ k.Name ∷ k.Comma ∷ k.Where ∷ k.OpenParen ∷ k.Point ∷ k.Star ∷ k.Slash ∷ k.Plus ∷ k.Minus ∷ k.Equal ∷ k.NotEqual ∷ k.Less ∷ k.LessOrEqual ∷ k.Greater ∷ k.GreaterOrEqual ∷ k.Is ∷ k.Not ∷ k.Between ∷ k.Like ∷ k.In ∷ k.And ∷ k.Or ∷ k.Group ∷ k.Having ∷ []) (QueryLine wide G_part) (read_query wide r_part)
 unfolding read_query
-law-QueryLine wide law_part = line_then query (law-SelectLine wide law_part) (line_then_tail {on = k.As ∷ k.Name ∷ k.Comma ∷ k.Where ∷ k.OpenParen ∷ k.Point ∷ k.Star ∷ k.Slash ∷ k.Plus ∷ k.Minus ∷ k.Equal ∷ k.NotEqual ∷ k.Less ∷ k.LessOrEqual ∷ k.Greater ∷ k.GreaterOrEqual ∷ k.Is ∷ k.Not ∷ k.Between ∷ k.Like ∷ k.In ∷ k.And ∷ k.Or ∷ k.Group ∷ k.Having ∷ []} pair (law-FromLine wide) (law-Filters wide law_part) refl refl refl) refl
+law-QueryLine wide law_part = line_then query (law-SelectLine wide law_part) (line_then_tail {on = k.As ∷ k.Name ∷ k.Comma ∷ k.Where ∷ k.OpenParen ∷ k.Point ∷ k.Star ∷ k.Slash ∷ k.Plus ∷ k.Minus ∷ k.Equal ∷ k.NotEqual ∷ k.Less ∷ k.LessOrEqual ∷ k.Greater ∷ k.GreaterOrEqual ∷ k.Is ∷ k.Not ∷ k.Between ∷ k.Like ∷ k.In ∷ k.And ∷ k.Or ∷ k.Group ∷ k.Having ∷ []} pair (law-FromLine wide) (law-FiltersTail wide law_part) refl refl refl) refl
 
 pub law-Direction : {P S : Type 0} → Tail kinds P S (k.Asc ∷ k.Desc ∷ []) (k.Asc ∷ k.Desc ∷ []) Direction read_direction
 unfolding read_direction

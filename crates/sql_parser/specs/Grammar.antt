@@ -35,9 +35,10 @@ use Rattle.sql_ast.specs.declared.query.Statement.{Statement}
 use Rattle.sql_ast.specs.declared.query.Statement.TheVariants as statements
 use Rattle.sql_parser.specs.declared.test.Test.{Test}
 use Rattle.sql_parser.specs.declared.test.Test.TheVariants as t
+use Rattle.sql_parser.specs.declared.queries.Filters.{Filters}
 use Rattle.sql_lexer.specs.Kinds.{is}
 use Rattle.grammar_laws.specs.Lines.{Part, One, Opens, Empty, Never, Then, Or, Map, less, Links, Chain}
-use Rattle.sql_parser.specs.Values.{Name, text_of, count_of, number, text, is_count, is_digits, first, second, pair, cons, constant, after_word, after_point, column, negative, negation, factor, term, product, sum, all_of, any_of, arm, case_of, date, interval, extract, substring, distinct_count, between, like, in_list, is_null, is_not_null, denied, tested, item, distinct, plain_selection, condition, query, order_key, statement}
+use Rattle.sql_parser.specs.Values.{Name, text_of, count_of, number, text, is_count, is_digits, first, second, pair, cons, constant, after_word, after_point, column, negative, negation, factor, term, product, sum, all_of, any_of, arm, case_of, date, interval, extract, substring, distinct_count, between, like, in_list, is_null, is_not_null, denied, tested, item, distinct, plain_selection, condition, filters, query, order_key, statement}
 
 -- a name
 abbrev pub NameLine : Part Token Name
@@ -245,12 +246,12 @@ GroupTail wide = Or (Then second (Then second (One (is k.Group)) (One (is k.By))
 abbrev pub HavingTail : ℕ → Part Token Expr → Part Token Clause
 HavingTail wide part = Or (Then condition (One (is k.Having)) (Whole wide part)) (Empty clause.Absent)
 
-abbrev pub Filters : ℕ → Part Token Expr → Part Token (Clause × (List Column × Clause))
-Filters wide part = Then pair (WhereTail wide part) (Then pair (GroupTail wide) (HavingTail wide part))
+abbrev pub FiltersTail : ℕ → Part Token Expr → Part Token Filters
+FiltersTail wide part = Then filters (WhereTail wide part) (Then pair (GroupTail wide) (HavingTail wide part))
 
 -- select .. from .. [where ..] [group by ..] [having ..]
 abbrev pub QueryLine : ℕ → Part Token Expr → Part Token Query
-QueryLine wide part = Then query (SelectLine wide part) (Then pair (FromLine wide) (Filters wide part))
+QueryLine wide part = Then query (SelectLine wide part) (Then pair (FromLine wide) (FiltersTail wide part))
 
 -- [asc|desc]
 abbrev pub Direction : Part Token Bool

@@ -3,4 +3,5 @@ pub mod Values
 pub mod Grammar
 pub mod Readings
 pub mod Reads
+pub mod Faults
 pub mod Script

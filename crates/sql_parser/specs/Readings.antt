@@ -34,11 +34,12 @@ use Rattle.sql_ast.specs.declared.query.Statement.{Statement}
 use Rattle.sql_ast.specs.declared.query.Statement.TheVariants as statements
 use Rattle.sql_parser.specs.declared.test.Test.{Test}
 use Rattle.sql_parser.specs.declared.test.Test.TheVariants as t
+use Rattle.sql_parser.specs.declared.queries.Filters.{Filters}
 use Rattle.sql_lexer.specs.Kinds.{is}
 use Rattle.grammar_laws.specs.Kinds.{among}
 use Rattle.grammar_laws.specs.Readings.{Outcome, Reading, one, opens, nothing, never, both, mapped, either, links}
 use Rattle.sql_parser.specs.Kinds.{kinds}
-use Rattle.sql_parser.specs.Values.{Name, text_of, count_of, number, text, is_count, is_digits, first, second, pair, cons, constant, after_word, after_point, column, negative, negation, factor, term, product, sum, all_of, any_of, arm, case_of, date, interval, extract, substring, distinct_count, between, like, in_list, is_null, is_not_null, denied, tested, item, distinct, plain_selection, condition, query, order_key, statement}
+use Rattle.sql_parser.specs.Values.{Name, text_of, count_of, number, text, is_count, is_digits, first, second, pair, cons, constant, after_word, after_point, column, negative, negation, factor, term, product, sum, all_of, any_of, arm, case_of, date, interval, extract, substring, distinct_count, between, like, in_list, is_null, is_not_null, denied, tested, item, distinct, plain_selection, condition, filters, query, order_key, statement}
 
 unfoldable pub read_name : Reading Token Name
 read_name = mapped text_of (one (is k.Name))
@@ -202,8 +203,8 @@ read_group wide = either (is k.Group) (both second (both second (one (is k.Group
 unfoldable pub read_having : ℕ → Reading Token Expr → Reading Token Clause
 read_having wide part = either (is k.Having) (both condition (one (is k.Having)) (read_whole wide part)) (nothing clause.Absent)
 
-unfoldable pub read_filters : ℕ → Reading Token Expr → Reading Token (Clause × (List Column × Clause))
-read_filters wide part = both pair (read_where wide part) (both pair (read_group wide) (read_having wide part))
+unfoldable pub read_filters : ℕ → Reading Token Expr → Reading Token Filters
+read_filters wide part = both filters (read_where wide part) (both pair (read_group wide) (read_having wide part))
 
 unfoldable pub read_query : ℕ → Reading Token Expr → Reading Token Query
 read_query wide part = both query (read_select wide part) (both pair (read_from wide) (read_filters wide part))

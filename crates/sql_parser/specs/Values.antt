@@ -36,6 +36,7 @@ use Rattle.sql_ast.specs.declared.query.Statement.{Statement}
 use Rattle.sql_ast.specs.declared.query.Statement.TheVariants as statements
 use Rattle.sql_parser.specs.declared.test.Test.{Test}
 use Rattle.sql_parser.specs.declared.test.Test.TheVariants as t
+use Rattle.sql_parser.specs.declared.queries.Filters.{Filters}
 use Rattle.sql_lexer.specs.Kinds.{is}
 
 -- a name in lower case, or a text, as its bytes
@@ -228,8 +229,11 @@ plain_selection s = (false, s)
 abbrev pub condition : Token → Expr → Clause
 condition word x = clause.Condition x
 
-abbrev pub query : Bool × Selected → List FromItem × (Clause × (List Column × Clause)) → Query
-query s f = record { is_distinct = s.0; selected = s.1; from = f.0; condition = f.1.0; group = f.1.1.0; having = f.1.1.1; order = []; limit = None }
+abbrev pub filters : Clause → List Column × Clause → Filters
+filters c g = record { condition = c; group = g.0; having = g.1 }
+
+abbrev pub query : Bool × Selected → List FromItem × Filters → Query
+query s f = record { is_distinct = s.0; selected = s.1; from = f.0; condition = f.1.condition; group = f.1.group; having = f.1.having; order = []; limit = None }
 
 abbrev pub order_key : Name → Bool → OrderKey
 order_key column is_descending = record { column = column; is_descending = is_descending }
