@@ -236,4 +236,3 @@ lift-StatementLine n many le wide law_part lift_part = Lifts-then n statement (l
 
 pub lift-EndedLine : {P S : Type 0} {G_part H_part : List (Mark Token) → Expr → Type 0} {r_part : List Token → Outcome Token Expr} (n : ℕ) → (many : ℕ) → n ≤ many → (wide : ℕ) (law_part : Line kinds P S (k.Not ∷ k.Minus ∷ k.OpenParen ∷ k.Case ∷ k.Extract ∷ k.Substring ∷ k.Count ∷ k.Sum ∷ k.Avg ∷ k.Min ∷ k.Max ∷ k.Number ∷ k.Text ∷ k.Date ∷ k.Interval ∷ k.Name ∷ []) (k.OpenParen ∷ k.Point ∷ k.Star ∷ k.Slash ∷ k.Plus ∷ k.Minus ∷ k.Equal ∷ k.NotEqual ∷ k.Less ∷ k.LessOrEqual ∷ k.Greater ∷ k.GreaterOrEqual ∷ k.Is ∷ k.Not ∷ k.Between ∷ k.Like ∷ k.In ∷ []) G_part r_part) (lift_part : Lifts n G_part H_part) → Lifts n (EndedLine wide G_part) (EndedLine many H_part)
 lift-EndedLine n many le wide law_part lift_part = Lifts-then n first (lift-StatementLine n many le wide law_part lift_part) (Lifts-one n (is k.Semicolon))
-

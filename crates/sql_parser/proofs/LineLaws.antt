@@ -298,4 +298,3 @@ law-StatementLine wide law_part = line_then_tail {on = k.As ∷ k.Name ∷ k.Com
 pub law-EndedLine : {P S : Type 0} {G_part : List (Mark Token) → Expr → Type 0} {r_part : List Token → Outcome Token Expr} (wide : ℕ) (law_part : Line kinds P S (k.Not ∷ k.Minus ∷ k.OpenParen ∷ k.Case ∷ k.Extract ∷ k.Substring ∷ k.Count ∷ k.Sum ∷ k.Avg ∷ k.Min ∷ k.Max ∷ k.Number ∷ k.Text ∷ k.Date ∷ k.Interval ∷ k.Name ∷ []) (k.OpenParen ∷ k.Point ∷ k.Star ∷ k.Slash ∷ k.Plus ∷ k.Minus ∷ k.Equal ∷ k.NotEqual ∷ k.Less ∷ k.LessOrEqual ∷ k.Greater ∷ k.GreaterOrEqual ∷ k.Is ∷ k.Not ∷ k.Between ∷ k.Like ∷ k.In ∷ []) G_part r_part) → Line kinds P S (k.Select ∷ []) ([]) (EndedLine wide G_part) (read_ended wide r_part)
 unfolding read_ended
 law-EndedLine wide law_part = line_then first (law-StatementLine wide law_part) (line_kind kinds k.Semicolon) refl
-

@@ -1,6 +1,7 @@
 //! The statements of a script, read by descent.
 #![tactic(auto)]
 
+mod conditions;
 mod expr;
 mod fault;
 mod parser;
@@ -14,3 +15,6 @@ pub use fault::{ParseFault, ScriptFault, ScriptRefusal};
 pub use queries::Filters;
 pub use scripts::{MAX_SCRIPT, one_meaning, parse_script, read_script};
 pub use test::Test;
+
+#[cfg(test)]
+mod tests;

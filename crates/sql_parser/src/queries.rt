@@ -9,9 +9,7 @@ ghost use Rattle.sql_parser.specs.Values as values;
 
 use crate::parser::{MAX_MORE, Parser};
 use grammar_laws::Stop;
-use sql_ast::{
-    Clause, Column, FromItem, Item, Name, OrderKey, Query, Selected, Statement,
-};
+use sql_ast::{Clause, Column, FromItem, Item, Name, OrderKey, Query, Selected, Statement};
 use sql_lexer::Kind;
 use sqlite_items::{Boxed, Items};
 use std::alloc::Global;
@@ -24,7 +22,12 @@ pub struct Filters {
     pub having: Clause,
 }
 
-fn query_of(selected: (bool, Selected), from: Items<FromItem>, filters: Filters, none: Items<OrderKey>) -> Query
+fn query_of(
+    selected: (bool, Selected),
+    from: Items<FromItem>,
+    filters: Filters,
+    none: Items<OrderKey>,
+) -> Query
     requires { none ≡ [] }
     ensures { result ≡ values.query selected (from, filters) }
 {

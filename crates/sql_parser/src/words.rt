@@ -48,13 +48,7 @@ fn count_of(token: &Token) -> u64
     ensures { result ≡ values.count_of token.now }
 {
     match &token.content {
-        Content::Number(value, _) => {
-            if *value < 0 {
-                0
-            } else {
-                *value as u64
-            }
-        }
+        Content::Number(value, _) => { if *value < 0 { 0 } else { *value as u64 } }
         Content::Nothing => 0,
         Content::Text(_) => 0,
     }
@@ -291,7 +285,7 @@ impl<'a> Parser<'a> {
         if self.starts(Kind::OpenParen) {
             self.opens(room, Kind::OpenParen)?;
             self.number()?;
-            self.one(Kind::CloseParen)?;
+            let _close = self.one(Kind::CloseParen)?;
         }
         Ok(())
     }

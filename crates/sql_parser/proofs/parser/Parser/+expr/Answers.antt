@@ -128,4 +128,3 @@ unfolding read_count
 count-returns-in_err-one-2 t c =
     let p = err_from_is_err_and c.from_residual-in_err-one-2.result c.from_residual-in_err-one-2.ensures.1 in
     rw (p.1, p.2) (call_fails c.args.room k.Count (read_count_inside 1023) _ _ _ _ _ _ _ _ c.in_ok-one.ensures c.in_ok-opens.ensures c.in_ok-inner.ensures _ c.in_err-one-2.ensures)
-

@@ -141,4 +141,3 @@ invariant-more_arms-more l = with_front l.found (links (is k.When) (nothing (tt 
 
 abbrev pub decreases-more_arms-more : goal.decreases-more_arms-more
 decreases-more_arms-more l = l.width
-

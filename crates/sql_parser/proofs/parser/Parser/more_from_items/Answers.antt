@@ -24,4 +24,3 @@ pub returns-in_err-element : goal.returns-in_err-element
 returns-in_err-element c =
     let p = err_from_is_err_and c.from_residual-in_err-element.result c.from_residual-in_err-element.ensures.1 in
     rw (p.1, p.2) (fails_reads (is k.Comma) (one (is k.Comma)) values.second readings.read_from_item _ c.more.found c.more.width c.more.self.rest.now c.more.invariant (sym c.starts.ensures ∙ c.more-test.true) (omega arith) _ _ c.in_ok-one.ensures _ _ (c.in_err-element.ensures))
-
