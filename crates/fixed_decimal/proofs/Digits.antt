@@ -1,5 +1,5 @@
 -- Steps along digits.
-use Rattle.std.proofs.Common.{◌≡◌, ℕ, zero, suc, ◌+◌, ◌*◌, ◌^◌, ◌<◌, ◌≤◌, arith, refl, sym, ◌∙◌, ap, add-one, List, [], ◌∷◌, length, drop, get_or, drop-cons, Bool, true, false, ◌&&◌, le_trans, le_refl, ◌++◌, ◌-◌, ◌/◌, ◌%◌, append_assoc, sub-one, Option, Some, None}
+use Rattle.std.proofs.Common.{◌≡◌, ℕ, zero, suc, ◌+◌, ◌*◌, ◌^◌, ◌<◌, ◌≤◌, arith, refl, ◌∙◌, ap, add-one, List, [], ◌∷◌, length, drop, get_or, drop-cons, ◌&&◌, le_trans, le_refl, ◌++◌, ◌-◌, ◌/◌, ◌%◌, append_assoc, sub-one, Some, None}
 use Rattle.std.proofs.Math.Nat.{le-mul_of_pos_right}
 use Rattle.std.proofs.lemmas.Bool.Decides.{nat_tests}
 use Rattle.fixed_decimal.specs.Written.{below_limit, coefficient_of, last_digits}

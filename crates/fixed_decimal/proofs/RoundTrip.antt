@@ -1,7 +1,7 @@
 -- What is written is read again.
-use Rattle.std.proofs.Common.{◌≡◌, ℕ, zero, suc, ◌+◌, ◌-◌, ◌*◌, ◌/◌, ◌%◌, ◌^◌, ◌<◌, ◌≤◌, arith, refl, sym, ◌∙◌, ap, subst, List, [], ◌∷◌, ◌++◌, length, take, drop, Bool, true, false, ◌&&◌, ◌==◌, ℤ, pos, negsuc, neg_ℤ, Option, Some, None, Ok, cond, add-one, zero-add, mul-one, mul_comm, add_assoc, not, position}
+use Rattle.std.proofs.Common.{◌≡◌, ℕ, zero, suc, ◌+◌, ◌-◌, ◌*◌, ◌/◌, ◌%◌, ◌^◌, ◌<◌, ◌≤◌, arith, refl, sym, ◌∙◌, ap, List, [], ◌∷◌, ◌++◌, length, drop, Bool, true, false, ◌&&◌, ◌==◌, ℤ, pos, negsuc, Some, None, Ok, zero-add, mul-one, mul_comm, not, position}
 use Rattle.std.specs.Str.{all_ascii_digits}
-use Rattle.std.specs.Str.Parse.{digits_value, digits_value_after, IsNumeral}
+use Rattle.std.specs.Str.Parse.{digits_value, digits_value_after}
 use Rattle.std.specs.Fmt.{decimal}
 use Rattle.std.specs.List.{prefix_len}
 use Rattle.std.specs.Prelude.{nat_lt, nat_le}
@@ -57,13 +57,13 @@ before_point (d ∷ ds) rest h =
 no_point : (ds : List ℕ) → all_ascii_digits ds ≡ true → position (λ byte. byte == 46) ds ≡ None
 no_point ds h =
     let here : prefix_len (λ x. not (x == 46)) ds ≡ length ds =
-        ap (prefix_len (λ x. not (x == 46))) (sym (append-nil ds)) ∙ before_point ds [] h ∙ add-zero (length ds) in
+    ap (prefix_len (λ x. not (x == 46))) (sym (append-nil ds)) ∙ before_point ds [] h ∙ add-zero (length ds) in
     rw (here, not_less (length ds))
 
 first_point : (ds rest : List ℕ) → all_ascii_digits ds ≡ true → position (λ byte. byte == 46) (ds ++ 46 ∷ rest) ≡ Some (length ds)
 first_point ds rest h =
     let here : prefix_len (λ x. not (x == 46)) (ds ++ 46 ∷ rest) ≡ length ds =
-        before_point ds (46 ∷ rest) h ∙ add-zero (length ds) in
+    before_point ds (46 ∷ rest) h ∙ add-zero (length ds) in
     rw (here, length-append ds (46 ∷ rest), less_more (length ds) (length rest))
 
 length-last_digits : (places n : ℕ) → length (last_digits places n) ≡ places
@@ -133,8 +133,8 @@ size_back n (suc places) h =
     let digits : all_ascii_digits (decimal w) ≡ true = decimal_digits w wide in
     ap (read_parts (suc places) (decimal w ++ 46 ∷ ls)) (first_point (decimal w) ls digits)
     ∙ parted (suc places) (decimal w) ls (digits_test (decimal w) (decimal_some w wide) digits)
-        (digits_test ls (omega (arith, length-last_digits (suc places) n)) (last_digits_digits (suc places) n))
-        (omega (arith, length-last_digits (suc places) n))
+    (digits_test ls (omega (arith, length-last_digits (suc places) n)) (last_digits_digits (suc places) n))
+    (omega (arith, length-last_digits (suc places) n))
     ∙ ap Some (coefficient_back (suc places) n h)
 
 no_minus : (ds rest : List ℕ) → all_ascii_digits ds ≡ true → 0 < length ds → (get_or (ds ++ rest) 0 0 == 45) ≡ false

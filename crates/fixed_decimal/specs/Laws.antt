@@ -1,9 +1,8 @@
 -- What the definitions of decimals amount to.
-use Rattle.std.specs.Prelude.{◌≡◌, ℕ, ◌+◌, ◌-◌, ◌*◌, ◌≤◌, ◌<◌, Bool, true, ℤ, pos, ◌-ℤ◌, Result, Ok, List, [], ◌∷◌, ◌++◌}
-use Rattle.fixed_decimal.specs.declared.arithmetic.NumberFault.{NumberFault}
+use Rattle.std.specs.Prelude.{◌≡◌, ℕ, ◌+◌, ◌*◌, ◌≤◌, ◌<◌, true, ℤ, pos, ◌-ℤ◌, Ok, List, [], ◌∷◌, ◌++◌}
 use Rattle.fixed_decimal.specs.Decimal.{fits, nearest_of}
 use Rattle.fixed_decimal.specs.Written.{decimal_read, decimal_written}
-use Rattle.fixed_decimal.specs.Tally.{Sums, sums_of, with_term, joined, total_of, added}
+use Rattle.fixed_decimal.specs.Tally.{sums_of, with_term, joined, added}
 
 -- what is written at a scale is read again at it
 abbrev pub ReadsBack : Type 0

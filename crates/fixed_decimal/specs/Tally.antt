@@ -1,5 +1,5 @@
 -- Sums of many terms, and their averages.
-use Rattle.std.specs.Prelude.{◌≡◌, ℕ, zero, suc, ◌+◌, ◌-◌, ◌^◌, min, Bool, ◌&&◌, Option, Some, None, ℤ, pos, negsuc, ◌+ℤ◌, ◌-ℤ◌, Result, Ok, Err, nat_lt, if◌then◌else◌, List, [], ◌∷◌, ◌++◌}
+use Rattle.std.specs.Prelude.{ℕ, ◌+◌, ◌^◌, min, Bool, ◌&&◌, Option, Some, None, ℤ, pos, negsuc, ◌+ℤ◌, ◌-ℤ◌, Result, Ok, Err, nat_lt, if◌then◌else◌, List, [], ◌∷◌}
 use Rattle.fixed_decimal.specs.declared.arithmetic.NumberFault.{NumberFault}
 use Rattle.fixed_decimal.specs.declared.arithmetic.NumberFault.TheVariants.{NumberRange}
 use Rattle.fixed_decimal.specs.Decimal.{in_range, rescaled, nearest, ◌>>=◌}

@@ -1,0 +1,17 @@
+pub mod Ranked
+pub mod Bags
+pub mod Rows
+pub mod Operators
+pub mod Domains
+pub mod Trees
+pub mod Aggregates
+pub mod BagLaws
+pub mod AlikeLaws
+pub mod LoopLaws
+pub mod DomainLaws
+pub mod TreeLaws
+pub mod ValueLaws
+pub mod MoveLaws
+pub mod Matched
+pub mod MatchedLaws
+pub mod Cases

@@ -1,0 +1,67 @@
+-- What may be moved over joins when a tree is arranged anew.
+use Rattle.std.specs.Prelude.{◌≡◌, ◌≤◌, ℕ, List, ◌++◌, min, max}
+use Rattle.row_laws.specs.Ranked.{Ranked, true_rank}
+use Rattle.row_laws.specs.Rows.{unit_row}
+use Rattle.row_laws.specs.Bags.{SameBag, Each}
+use Rattle.row_laws.specs.Operators.{select, project, cross, join, join_loop, outer_loop}
+
+-- the condition e reads the columns of the left row l only, and says p of them
+abbrev pub OfLeft : {V : Type 0} → (List V → ℕ) → (List V → ℕ) → Ranked V → Type 0
+OfLeft {V} e p l = (r : List V) → e (l.values ++ r) ≡ p l.values
+
+-- the condition e reads the columns of the right rows under l only, and says p of them
+abbrev pub OfRight : {V : Type 0} → (List V → ℕ) → (List V → ℕ) → (List V → List (Ranked V)) → Ranked V → Type 0
+OfRight e p R l = Each (λ r. e (l.values ++ r.values) ≡ p r.values) (R l.values)
+
+-- Two selections are one, under the AND of their conditions.
+abbrev pub SelectTwice : (V : Type 0) → Type 0
+SelectTwice V = (c e : List V → ℕ) (xs : List (Ranked V)) → SameBag (select e (select c xs)) (select (λ r. min (c r) (e r)) xs)
+
+-- A selection above a projection is one below it that reads the projected row.
+abbrev pub SelectThroughProject : (V : Type 0) → Type 0
+SelectThroughProject V = (c : List V → ℕ) (f : List V → List V) (xs : List (Ranked V)) → SameBag (select c (project f xs)) (project f (select (λ r. c (f r)) xs))
+
+-- JOIN ON is the selection of all combinations.
+abbrev pub JoinIsSelectedCross : (V : Type 0) → Type 0
+JoinIsSelectedCross V = (c : List V → ℕ) (xs ys : List (Ranked V)) → SameBag (join c xs ys) (select c (cross xs ys))
+
+-- A selection above an inner join is part of its condition, also where the right side is taken anew under each left row.
+abbrev pub SelectIntoJoin : (V : Type 0) → Type 0
+SelectIntoJoin V = (c e : List V → ℕ) (ls : List (Ranked V)) (R : List V → List (Ranked V)) → SameBag (select e (join_loop c ls R)) (join_loop (λ r. min (c r) (e r)) ls R)
+
+-- A selection above an inner join moves to the left side, where it reads that side's columns only.
+abbrev pub SelectBelowLeft : (V : Type 0) → Type 0
+SelectBelowLeft V = (c e p : List V → ℕ) (ls : List (Ranked V)) (R : List V → List (Ranked V)) → Each (OfLeft e p) ls → SameBag (select e (join_loop c ls R)) (join_loop c (select p ls) R)
+
+-- A selection above an inner join moves to the right side, where it reads that side's columns only.
+abbrev pub SelectBelowRight : (V : Type 0) → Type 0
+SelectBelowRight V = (c e p : List V → ℕ) (ls : List (Ranked V)) (R : List V → List (Ranked V)) → Each (OfRight e p R) ls → SameBag (select e (join_loop c ls R)) (join_loop c ls (λ l. select p (R l)))
+
+-- A selection above a left outer join moves to the left side, where it reads that side's columns only.
+abbrev pub SelectBelowOuter : (V : Type 0) → Type 0
+SelectBelowOuter V = (c e p : List V → ℕ) (nulls : List V) (ls : List (Ranked V)) (R : List V → List (Ranked V)) → Each (OfLeft e p) ls → SameBag (select e (outer_loop nulls c ls R)) (outer_loop nulls c (select p ls) R)
+
+-- A part of a left outer join's ON moves to the right side, where it reads that side's columns only. To the left side no part may move: a small case shows it.
+abbrev pub OnBelowRight : (V : Type 0) → Type 0
+OnBelowRight V = (c e p : List V → ℕ) (ls : List (Ranked V)) (R : List V → List (Ranked V)) (nulls : List V) → Each (OfRight e p R) ls → SameBag (outer_loop nulls (λ r. min (c r) (e r)) ls R) (outer_loop nulls c ls (λ l. select p (R l)))
+
+-- The sides of a product exchanged, where f puts the columns back.
+abbrev pub SidesExchanged : (V : Type 0) → Type 0
+SidesExchanged V = (f : List V → List V) (xs ys : List (Ranked V)) → Each (λ x. Each (λ y. f (y.values ++ x.values) ≡ x.values ++ y.values) ys) xs → SameBag (cross xs ys) (project f (cross ys xs))
+
+-- The last two sides of a product of three exchanged; so items of FROM may be joined in any order.
+abbrev pub LastSidesExchanged : (V : Type 0) → Type 0
+LastSidesExchanged V = (f : List V → List V) (ps xs ys : List (Ranked V)) → Each (λ p. Each (λ x. Each (λ y. f ((p.values ++ y.values) ++ x.values) ≡ (p.values ++ x.values) ++ y.values) ys) xs) ps
+    → SameBag (cross (cross ps xs) ys) (project f (cross (cross ps ys) xs))
+
+-- The one row of no columns, which FROM begins with, adds nothing.
+abbrev pub CrossUnit : (V : Type 0) → Type 0
+CrossUnit V = (xs : List (Ranked V)) → Each (λ x. x.standing ≤ true_rank) xs → cross unit_row xs ≡ xs
+
+-- The product of three sides, however it is bracketed.
+abbrev pub CrossAssoc : (V : Type 0) → Type 0
+CrossAssoc V = (xs ys zs : List (Ranked V)) → SameBag (cross (cross xs ys) zs) (cross xs (cross ys zs))
+
+-- AND distributes over OR on the chain, and OR over AND, so common factors may be taken out.
+abbrev pub AndOverOr : Type 0
+AndOverOr = (a b c : ℕ) → (min a (max b c) ≡ max (min a b) (min a c)) × (max a (min b c) ≡ min (max a b) (max a c))

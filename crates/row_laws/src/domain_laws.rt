@@ -1,0 +1,80 @@
+//! The node laws of unnesting, for a whole domain.
+
+ghost use Rattle.std.specs.Prelude.{Bool};
+ghost use Rattle.row_laws.specs.Bags.{IsIdentity};
+ghost use Rattle.row_laws.specs.DomainLaws.{UnitRowIsDomain, DomainNodeIsDomain, SideIsDomain, LeftRowsMet, ScanAnswers, SelectAnswers, ProjectAnswers, JoinAnswers, OuterAnswers, AttachAnswers, GroupAnswers, FillAnswers, TotalAnswers, DistinctAnswers, UnderMeets};
+
+/// The one row of no columns is a domain, which a whole query is lowered over.
+pub fn unit_row_is_domain<V>()
+    ensures { (same : V → V → Bool) → IsIdentity same → UnitRowIsDomain same }
+{}
+
+/// The domain node of rows of which `pick` takes n values is a domain: no two of its rows are identical.
+pub fn domain_node_is_domain<V>()
+    ensures { (same : V → V → Bool) → IsIdentity same → DomainNodeIsDomain same }
+{}
+
+/// A right side's domain is one: of no columns, the left's, or columns computed from the left rows.
+pub fn side_is_domain<V>()
+    ensures { (same : V → V → Bool) → IsIdentity same → SideIsDomain same }
+{}
+
+/// No left row is missed: what the right side meets under each row of the domain node, it meets under what `pick` takes of each left row.
+pub fn left_rows_met<V>()
+    ensures { (same : V → V → Bool) → IsIdentity same → LeftRowsMet same }
+{}
+
+/// A table over a domain: the domain's rows joined with the table's.
+pub fn scan_answers<V>()
+    ensures { (same : V → V → Bool) → IsIdentity same → ScanAnswers same }
+{}
+
+/// Selection over a domain.
+pub fn select_answers<V>()
+    ensures { (same : V → V → Bool) → IsIdentity same → SelectAnswers same }
+{}
+
+/// Projection over a domain.
+pub fn project_answers<V>()
+    ensures { (same : V → V → Bool) → IsIdentity same → ProjectAnswers same }
+{}
+
+/// The inner join over a domain, with a right side that is closed, that shares the domain, or that has a domain of its own, as a lateral join has.
+pub fn join_answers<V>()
+    ensures { (same : V → V → Bool) → IsIdentity same → JoinAnswers same }
+{}
+
+/// The left outer join over a domain, with the same three kinds of right side.
+pub fn outer_answers<V>()
+    ensures { (same : V → V → Bool) → IsIdentity same → OuterAnswers same }
+{}
+
+/// Marks and scalar values over a domain, with the same three kinds of right side.
+pub fn attach_answers<V>()
+    ensures { (same : V → V → Bool) → IsIdentity same → AttachAnswers same }
+{}
+
+/// GROUP BY over a domain.
+pub fn group_answers<V>()
+    ensures { (same : V → V → Bool) → IsIdentity same → GroupAnswers same }
+{}
+
+/// The fill gives each domain row its groups, or where it has none the empty group.
+pub fn fill_answers<V>()
+    ensures { (same : V → V → Bool) → IsIdentity same → FillAnswers same }
+{}
+
+/// Aggregates without GROUP BY: the fill over groups by the domain's columns.
+pub fn total_answers<V>()
+    ensures { (same : V → V → Bool) → IsIdentity same → TotalAnswers same }
+{}
+
+/// DISTINCT over a domain.
+pub fn distinct_answers<V>()
+    ensures { (same : V → V → Bool) → IsIdentity same → DistinctAnswers same }
+{}
+
+/// From each row of a domain to the whole domain.
+pub fn under_meets<V>()
+    ensures { (same : V → V → Bool) → IsIdentity same → UnderMeets same }
+{}

@@ -1,0 +1,4 @@
+pub mod Flat
+pub mod Identity
+pub mod Orders
+pub mod Ranks

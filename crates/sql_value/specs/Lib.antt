@@ -1,0 +1,4 @@
+pub mod Truth
+pub mod Value
+pub mod Flat
+pub mod Laws

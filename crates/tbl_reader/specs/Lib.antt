@@ -1,0 +1,11 @@
+pub mod Field
+pub mod Line
+pub mod File
+pub mod Rows
+pub mod Key
+pub mod Fault
+pub mod Lines
+pub mod Reading
+pub mod Steps
+pub mod Pieces
+pub mod Laws

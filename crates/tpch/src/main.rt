@@ -1,0 +1,32 @@
+//! The program: its words, the machine's files and standard output, given to `tpch_main`.
+#![tactic(auto)]
+
+use std::alloc::AllocError;
+use std::env;
+use std::io::ErrorKind;
+use std::process::ExitCode;
+use tpch_main::{Status, tpch};
+use tpch_outside::{OpenGate, RealFiles, RealSink};
+
+/// The words after the program's name. Words that aren't UTF-8 are as good as none.
+fn words(rt: &HostRuntime) -> Result<Vec<String>, AllocError> {
+    match env::args(rt) {
+        Ok(args) => args.skip(1).collect(rt.alloc()),
+        Err(error) => {
+            if error.kind() == ErrorKind::OutOfMemory {
+                return Err(AllocError);
+            }
+            Ok(Vec::new(rt.alloc()))
+        }
+    }
+}
+
+fn main(rt: HostRuntime) -> ExitCode {
+    let Ok(words) = words(&rt) else {
+        return ExitCode::from(Status::OutOfMemory as u8);
+    };
+    let mut files = RealFiles::new(&rt);
+    let mut out = RealSink::new(&rt);
+    let status = tpch(&rt, rt.alloc(), &words, &mut files, &mut out, &OpenGate);
+    ExitCode::from(status as u8)
+}

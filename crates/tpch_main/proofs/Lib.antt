@@ -1,0 +1,10 @@
+mod Digits
+mod Parts
+mod Order
+mod Pieces
+mod Telling
+mod Complete
+mod ScriptForm
+mod RegionForm
+mod WorkedExamples
+mod Unique

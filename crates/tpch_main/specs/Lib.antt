@@ -1,0 +1,9 @@
+pub mod Words
+pub mod Script
+pub mod Region
+pub mod Answer
+pub mod Inputs
+pub mod Meaning
+pub mod Views
+pub mod Laws
+pub mod Examples

@@ -1,0 +1,57 @@
+-- What a run of the program prints, and with which status.
+use Rattle.std.specs.Prelude.{◌≡◌, ◌⊎◌, ℕ, List, ⊤, Option, None, Some, MatchResult}
+use Rattle.std.specs.Result.{result_err}
+use Rattle.tpch_outside.specs.Outside.{Folder}
+use Rattle.tpch_main.specs.Answer.{IsAnswerText}
+use Rattle.tpch_main.specs.Inputs.{Refused, refusal_line, session_inputs}
+use Rattle.tpch_main.specs.Words.{Command, usage_line}
+use Rattle.tpch_main.specs.Words.Command.{session}
+use Rattle.tpch_main.specs.declared.input.Cause.TheVariants as cause
+use Rattle.tpch_main.specs.declared.status.Status.{Status}
+use Rattle.tpch_main.specs.declared.status.Status.TheVariants as status
+
+-- the statuses with which a text was printed whole
+abbrev pub IsAnswer : Status → Type 0
+IsAnswer status.Done = ⊤
+IsAnswer status.SomeRefused = ⊤
+IsAnswer status.Usage = ⊤
+IsAnswer status.InputRefused = ⊤
+IsAnswer status.ReadFault = ⊥
+IsAnswer status.WriteFault = ⊥
+IsAnswer status.OutOfMemory = ⊥
+
+-- what a command prints over told files: its answer, or the line of the first refused input
+abbrev pub PrintsFrom : Command → Folder → List ℕ → Status → Type 0
+PrintsFrom (session dir script) folder text s = MatchResult (session_inputs dir script folder)
+    (λ inputs. IsAnswerText inputs.0 inputs.1 text × (s ≡ status.Done))
+    (λ refused. (text ≡ refusal_line refused) × (s ≡ status.InputRefused))
+
+-- the statuses with which a command's text may be printed
+abbrev pub MayEnd : Command → Status → Type 0
+MayEnd (session dir script) s = (s ≡ status.Done) ⊎ (s ≡ status.InputRefused)
+
+-- what may be printed by the command, if the words are one, over the files, where they are told
+abbrev pub Prints : Option Command → Option Folder → List ℕ → Status → Type 0
+Prints None told text s = (text ≡ usage_line) × (s ≡ status.Usage)
+Prints (Some command) None text s = MayEnd command s
+Prints (Some command) (Some folder) text s = PrintsFrom command folder text s
+
+-- some text that may be printed, whatever its status
+abbrev pub MayPrint : Option Command → Option Folder → List ℕ → Type 0
+MayPrint command told text = (s : Status) × Prints command told text s
+
+-- the first refused input, if there is one
+abbrev pub first_refused : Command → Folder → Option Refused
+first_refused (session dir script) folder = result_err (session_inputs dir script folder)
+
+-- the first refused input is an absent file
+abbrev pub IsAbsentInput : Option Command → Option Folder → Type 0
+IsAbsentInput None told = ⊥
+IsAbsentInput (Some command) None = ⊥
+IsAbsentInput (Some command) (Some folder) = (name : List ℕ) × (first_refused command folder ≡ Some (record { name = name; cause = cause.Absent }))
+
+-- the words are a command, and each file that it names is told, is there and is of its form
+abbrev pub IsAccepted : Option Command → Option Folder → Type 0
+IsAccepted None told = ⊥
+IsAccepted (Some command) None = ⊥
+IsAccepted (Some command) (Some folder) = first_refused command folder ≡ None

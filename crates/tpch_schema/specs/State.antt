@@ -1,0 +1,38 @@
+-- The state of the database: the rows of the eight tables, each table's in order.
+use Rattle.std.specs.Prelude.{List}
+use Rattle.sql_value.specs.declared.value.Value.{Value}
+use Rattle.tpch_schema.specs.declared.table.TableName.{TableName}
+use Rattle.tpch_schema.specs.declared.table.TableName.TheVariants.{Region, Nation, Part, Supplier, Partsupp, Customer, Orders, Lineitem}
+
+-- the rows of each table
+pub record State : Type 0 where
+  pub region : List (List Value)
+  pub nation : List (List Value)
+  pub part : List (List Value)
+  pub supplier : List (List Value)
+  pub partsupp : List (List Value)
+  pub customer : List (List Value)
+  pub orders : List (List Value)
+  pub lineitem : List (List Value)
+
+-- the rows of a table in a state
+abbrev pub table_rows : State → TableName → List (List Value)
+table_rows state Region = state.region
+table_rows state Nation = state.nation
+table_rows state Part = state.part
+table_rows state Supplier = state.supplier
+table_rows state Partsupp = state.partsupp
+table_rows state Customer = state.customer
+table_rows state Orders = state.orders
+table_rows state Lineitem = state.lineitem
+
+-- the state with other rows in one table
+abbrev pub with_rows : State → TableName → List (List Value) → State
+with_rows state Region rows = record state { region = rows }
+with_rows state Nation rows = record state { nation = rows }
+with_rows state Part rows = record state { part = rows }
+with_rows state Supplier rows = record state { supplier = rows }
+with_rows state Partsupp rows = record state { partsupp = rows }
+with_rows state Customer rows = record state { customer = rows }
+with_rows state Orders rows = record state { orders = rows }
+with_rows state Lineitem rows = record state { lineitem = rows }
