@@ -1,5 +1,5 @@
 -- Parentheses behind a word: what fails at the closing one.
-use Rattle.std.proofs.Common.{◌≡◌, ℕ, zero, suc, ◌-◌, Bool, true, false, cond, List, [], ◌∷◌, Result, Ok, Err, refl, sym, ap, subst, ◌∙◌, arith}
+use Rattle.std.proofs.Common.{◌≡◌, ℕ, zero, suc, ◌-◌, Bool, true, false, cond, List, [], ◌∷◌, Result, Ok, Err, refl, ap, ◌∙◌, arith}
 use Rattle.grammar_laws.specs.declared.Refusal.{Refusal}
 use Rattle.grammar_laws.specs.declared.Refusal.TheVariants.{Unexpected, TooDeep}
 use Rattle.grammar_laws.specs.declared.Stop.{Stop}

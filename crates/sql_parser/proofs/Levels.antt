@@ -1,5 +1,5 @@
 -- All levels of the parts that lead back to themselves, and the laws of a statement.
-use Rattle.std.proofs.Common.{◌≡◌, ℕ, zero, suc, ◌≤◌, Bool, List, [], ◌∷◌, ◌++◌, length, Option, Err, refl, ap, arith, inl, inr}
+use Rattle.std.proofs.Common.{◌≡◌, ℕ, zero, suc, ◌≤◌, List, [], ◌∷◌, length, Err, refl, arith, inr}
 use Rattle.sql_lexer.specs.declared.kind.Kind.{Kind}
 use Rattle.sql_lexer.specs.declared.kind.Kind.TheVariants as k
 use Rattle.sql_lexer.specs.declared.token.Token.{Token}
@@ -8,20 +8,20 @@ use Rattle.sql_ast.specs.declared.query.Statement.{Statement}
 use Rattle.sql_parser.specs.declared.test.Test.TheVariants as t
 use Rattle.grammar_laws.specs.declared.Refusal.TheVariants.{Unexpected}
 use Rattle.grammar_laws.specs.Marks.{Mark}
-use Rattle.grammar_laws.specs.Lines.{Part, Never, less, Links, none}
-use Rattle.grammar_laws.specs.Readings.{Outcome, Reading, never}
+use Rattle.grammar_laws.specs.Lines.{Never, less, Links, none}
+use Rattle.grammar_laws.specs.Readings.{Outcome, never}
 use Rattle.grammar_laws.specs.Laws.{Sample, Stable, IsReadBy}
 use Rattle.grammar_laws.specs.Lifting.{Lifts}
 use Rattle.grammar_laws.specs.Scripts.{IsScript}
 use Rattle.grammar_laws.proofs.Stable.{Stable-fixed}
 use Rattle.grammar_laws.proofs.Complete.{Complete-narrower}
-use Rattle.grammar_laws.proofs.Lift.{Below, below, Lifts-never, always}
+use Rattle.grammar_laws.proofs.Lift.{Below, Lifts-never, always}
 use Rattle.grammar_laws.proofs.Lawful.{Line, Deeper, Sample-then, Sample-right, line_never, line_nothing, line_nonempty, ends_nil}
 use Rattle.grammar_laws.proofs.OneMeaning.{one_meaning}
 use Rattle.sql_parser.specs.Kinds.{kinds}
 use Rattle.sql_parser.specs.Values.{product, sum, tested}
-use Rattle.sql_parser.specs.Grammar.{UnaryLine, PartLine, Product, Sum, TestTail, EndedLine, Unary, NotPart, Ended}
-use Rattle.sql_parser.specs.Readings.{read_unary_line, read_part_line, read_ended, unary_at, part_at, inner_unary, inner_part, ended_at}
+use Rattle.sql_parser.specs.Grammar.{UnaryLine, PartLine, TestTail, Unary, NotPart, Ended}
+use Rattle.sql_parser.specs.Readings.{read_unary_line, read_part_line, unary_at, part_at, inner_unary, inner_part, ended_at}
 use Rattle.sql_parser.proofs.LineLaws.{law-Leaf, law-UnaryLine, law-PartLine, law-EndedLine}
 use Rattle.sql_parser.proofs.LiftLaws.{lift-UnaryLine, lift-PartLine, lift-EndedLine}
 

@@ -1,52 +1,28 @@
 -- Each line of the grammar with larger limits: its texts are the same, and pass none of them.
-use Rattle.std.proofs.Common.{◌≡◌, ℕ, zero, suc, ◌≤◌, Bool, true, false, not, ◌&&◌, ◌||◌, refl, arith, List, [], ◌∷◌, length, Option, Some, None}
-use Rattle.sql_lexer.specs.declared.kind.Kind.{Kind}
+use Rattle.std.proofs.Common.{ℕ, ◌≤◌, true, false, arith, List, [], ◌∷◌, Some, None}
 use Rattle.sql_lexer.specs.declared.kind.Kind.TheVariants as k
 use Rattle.sql_lexer.specs.declared.token.Token.{Token}
-use Rattle.sql_lexer.specs.declared.token.Content.{Content}
-use Rattle.sql_lexer.specs.declared.token.Content.TheVariants as content
 use Rattle.sql_ast.specs.declared.expr.Expr.{Expr}
 use Rattle.sql_ast.specs.declared.expr.Expr.TheVariants as e
-use Rattle.sql_ast.specs.declared.expr.Term.{Term, roll-Term}
-use Rattle.sql_ast.specs.declared.expr.Factor.{Factor, roll-Factor}
-use Rattle.sql_ast.specs.declared.expr.Arm.{Arm, roll-Arm}
-use Rattle.sql_ast.specs.declared.expr.Column.{Column}
-use Rattle.sql_ast.specs.declared.expr.Comparison.{Comparison}
 use Rattle.sql_ast.specs.declared.expr.Comparison.TheVariants as comparison
-use Rattle.sql_ast.specs.declared.expr.Span.{Span}
 use Rattle.sql_ast.specs.declared.expr.Span.TheVariants as span
-use Rattle.sql_ast.specs.declared.expr.Aggregate.{Aggregate}
 use Rattle.sql_ast.specs.declared.expr.Aggregate.TheVariants as aggregate
-use Rattle.sql_ast.specs.declared.expr.Adding.{Adding}
 use Rattle.sql_ast.specs.declared.expr.Adding.TheVariants as adding
-use Rattle.sql_ast.specs.declared.expr.Multiplying.{Multiplying}
 use Rattle.sql_ast.specs.declared.expr.Multiplying.TheVariants as multiplying
-use Rattle.sql_ast.specs.declared.query.Item.{Item}
-use Rattle.sql_ast.specs.declared.query.Selected.{Selected}
 use Rattle.sql_ast.specs.declared.query.Selected.TheVariants as selected
-use Rattle.sql_ast.specs.declared.query.FromItem.{FromItem}
 use Rattle.sql_ast.specs.declared.query.FromItem.TheVariants as from_item
-use Rattle.sql_ast.specs.declared.query.Clause.{Clause}
 use Rattle.sql_ast.specs.declared.query.Clause.TheVariants as clause
-use Rattle.sql_ast.specs.declared.query.OrderKey.{OrderKey}
-use Rattle.sql_ast.specs.declared.query.Query.{Query}
-use Rattle.sql_ast.specs.declared.query.Statement.{Statement}
-use Rattle.sql_ast.specs.declared.query.Statement.TheVariants as statements
-use Rattle.sql_parser.specs.declared.test.Test.{Test}
 use Rattle.sql_parser.specs.declared.test.Test.TheVariants as t
-use Rattle.sql_parser.specs.declared.queries.Filters.{Filters}
 use Rattle.sql_lexer.specs.Kinds.{is}
-use Rattle.grammar_laws.specs.Lines.{Part, One, Opens, Empty, Never, Then, Or, Map, less, Links, Chain}
-use Rattle.grammar_laws.specs.Kinds.{among}
 use Rattle.grammar_laws.specs.Marks.{Mark}
 use Rattle.grammar_laws.specs.Readings.{Outcome}
 use Rattle.grammar_laws.specs.Lifting.{Lifts}
 use Rattle.grammar_laws.proofs.Lift.{Lifts-one, Lifts-or, Lifts-map, Lifts-then, Lifts-empty, Lifts-list, Lifts-level, Below, below, always}
-use Rattle.grammar_laws.proofs.Lawful.{Line, Deeper, line_nonempty, line_kind, line_then, line_then_tail}
+use Rattle.grammar_laws.proofs.Lawful.{Line, Deeper, line_nonempty}
 use Rattle.sql_parser.specs.Kinds.{kinds}
-use Rattle.sql_parser.specs.Values.{Name, text_of, count_of, number, text, is_count, is_digits, first, second, pair, cons, constant, after_word, after_point, column, negative, negation, factor, term, product, sum, all_of, any_of, arm, case_of, date, interval, extract, substring, distinct_count, between, like, in_list, is_null, is_not_null, denied, tested, item, distinct, plain_selection, condition, filters, query, order_key, statement}
+use Rattle.sql_parser.specs.Values.{text_of, count_of, number, text, is_count, is_digits, first, second, pair, cons, constant, after_word, after_point, column, negative, negation, factor, term, product, sum, all_of, any_of, arm, case_of, date, interval, extract, substring, distinct_count, between, like, in_list, is_null, is_not_null, denied, tested, item, distinct, plain_selection, condition, filters, query, order_key, statement}
 use Rattle.sql_parser.specs.Grammar.{NameLine, Literal, Number, Digits, SpanWord, ColumnTail, ColumnLine, MultiplyWord, AddWord, Product, Sum, Conjunction, Whole, ExprList, ArmLine, Arms, ElseTail, CaseBody, CaseLine, DateText, DateLine, Precision, IntervalLine, ExtractInside, ExtractLine, Places, SubstringInside, SubstringLine, CountInside, CountLine, AggregateWord, AggregateLine, Call, Leaf, UnaryLine, ComparisonWord, CompareLine, NullLine, BetweenLine, LikeLine, InLine, DenyTest, TestTail, Predicate, PartLine, Alias, ItemLine, Selection, SelectLine, FromItemLine, FromLine, WhereTail, GroupTail, HavingTail, FiltersTail, QueryLine, Direction, KeyLine, OrderTail, RowsOnly, LimitTail, StatementLine, EndedLine}
-use Rattle.sql_parser.proofs.LineLaws.{law-NameLine, law-Literal, law-Number, law-Digits, law-SpanWord, law-ColumnTail, law-ColumnLine, law-MultiplyWord, law-AddWord, law-Product, law-Sum, law-Conjunction, law-Whole, law-ExprList, law-ArmLine, law-Arms, law-ElseTail, law-CaseBody, law-CaseLine, law-DateText, law-DateLine, law-Precision, law-IntervalLine, law-ExtractInside, law-ExtractLine, law-Places, law-SubstringInside, law-SubstringLine, law-CountInside, law-CountLine, law-AggregateWord, law-AggregateLine, law-Call, law-Leaf, law-UnaryLine, law-ComparisonWord, law-CompareLine, law-NullLine, law-BetweenLine, law-LikeLine, law-InLine, law-DenyTest, law-TestTail, law-Predicate, law-PartLine, law-Alias, law-ItemLine, law-Selection, law-SelectLine, law-FromItemLine, law-FromLine, law-WhereTail, law-GroupTail, law-HavingTail, law-FiltersTail, law-QueryLine, law-Direction, law-KeyLine, law-OrderTail, law-RowsOnly, law-LimitTail, law-StatementLine, law-EndedLine}
+use Rattle.sql_parser.proofs.LineLaws.{law-ColumnLine, law-Product, law-Conjunction, law-Whole, law-ArmLine, law-ItemLine, law-FromItemLine, law-KeyLine}
 
 pub lift-NameLine : (n : ℕ) → Lifts n NameLine NameLine
 lift-NameLine n = Lifts-map n text_of (Lifts-one n (is k.Name))

@@ -1,48 +1,25 @@
 -- The law of each line of the grammar: what begins it, what may not come after it, and that its reading is right.
-use Rattle.std.proofs.Common.{◌≡◌, ℕ, zero, suc, ◌≤◌, Bool, true, false, not, ◌&&◌, ◌||◌, refl, List, [], ◌∷◌, length, Option, Some, None}
-use Rattle.sql_lexer.specs.declared.kind.Kind.{Kind}
+use Rattle.std.proofs.Common.{ℕ, true, false, refl, List, [], ◌∷◌, Some, None}
 use Rattle.sql_lexer.specs.declared.kind.Kind.TheVariants as k
 use Rattle.sql_lexer.specs.declared.token.Token.{Token}
-use Rattle.sql_lexer.specs.declared.token.Content.{Content}
-use Rattle.sql_lexer.specs.declared.token.Content.TheVariants as content
 use Rattle.sql_ast.specs.declared.expr.Expr.{Expr}
 use Rattle.sql_ast.specs.declared.expr.Expr.TheVariants as e
-use Rattle.sql_ast.specs.declared.expr.Term.{Term, roll-Term}
-use Rattle.sql_ast.specs.declared.expr.Factor.{Factor, roll-Factor}
-use Rattle.sql_ast.specs.declared.expr.Arm.{Arm, roll-Arm}
-use Rattle.sql_ast.specs.declared.expr.Column.{Column}
-use Rattle.sql_ast.specs.declared.expr.Comparison.{Comparison}
 use Rattle.sql_ast.specs.declared.expr.Comparison.TheVariants as comparison
-use Rattle.sql_ast.specs.declared.expr.Span.{Span}
 use Rattle.sql_ast.specs.declared.expr.Span.TheVariants as span
-use Rattle.sql_ast.specs.declared.expr.Aggregate.{Aggregate}
 use Rattle.sql_ast.specs.declared.expr.Aggregate.TheVariants as aggregate
-use Rattle.sql_ast.specs.declared.expr.Adding.{Adding}
 use Rattle.sql_ast.specs.declared.expr.Adding.TheVariants as adding
-use Rattle.sql_ast.specs.declared.expr.Multiplying.{Multiplying}
 use Rattle.sql_ast.specs.declared.expr.Multiplying.TheVariants as multiplying
-use Rattle.sql_ast.specs.declared.query.Item.{Item}
-use Rattle.sql_ast.specs.declared.query.Selected.{Selected}
 use Rattle.sql_ast.specs.declared.query.Selected.TheVariants as selected
-use Rattle.sql_ast.specs.declared.query.FromItem.{FromItem}
 use Rattle.sql_ast.specs.declared.query.FromItem.TheVariants as from_item
-use Rattle.sql_ast.specs.declared.query.Clause.{Clause}
 use Rattle.sql_ast.specs.declared.query.Clause.TheVariants as clause
-use Rattle.sql_ast.specs.declared.query.OrderKey.{OrderKey}
-use Rattle.sql_ast.specs.declared.query.Query.{Query}
-use Rattle.sql_ast.specs.declared.query.Statement.{Statement}
-use Rattle.sql_ast.specs.declared.query.Statement.TheVariants as statements
-use Rattle.sql_parser.specs.declared.test.Test.{Test}
 use Rattle.sql_parser.specs.declared.test.Test.TheVariants as t
-use Rattle.sql_parser.specs.declared.queries.Filters.{Filters}
 use Rattle.sql_lexer.specs.Kinds.{is}
-use Rattle.grammar_laws.specs.Lines.{Part, One, Opens, Empty, Never, Then, Or, Map, less, Links, Chain}
 use Rattle.grammar_laws.specs.Kinds.{among}
 use Rattle.grammar_laws.specs.Marks.{Mark}
-use Rattle.grammar_laws.specs.Readings.{Outcome, Reading, one, opens, nothing, never, both, mapped, either, links}
-use Rattle.grammar_laws.proofs.Lawful.{Line, Tail, Deeper, is_among, line_kind, line_one, line_then, line_then_tail, tail_then, line_map, tail_map, tail_empty, line_or, tail_or, line_opens, tail_links, tail_repeats, line_nonempty}
+use Rattle.grammar_laws.specs.Readings.{Outcome}
+use Rattle.grammar_laws.proofs.Lawful.{Line, Tail, Deeper, is_among, line_kind, line_then, line_then_tail, tail_then, line_map, tail_empty, line_or, tail_or, line_opens, tail_links, tail_repeats}
 use Rattle.sql_parser.specs.Kinds.{kinds}
-use Rattle.sql_parser.specs.Values.{Name, text_of, count_of, number, text, is_count, is_digits, first, second, pair, cons, constant, after_word, after_point, column, negative, negation, factor, term, product, sum, all_of, any_of, arm, case_of, date, interval, extract, substring, distinct_count, between, like, in_list, is_null, is_not_null, denied, tested, item, distinct, plain_selection, condition, filters, query, order_key, statement}
+use Rattle.sql_parser.specs.Values.{text_of, count_of, number, text, first, second, pair, cons, constant, after_word, after_point, column, negative, negation, factor, term, product, sum, all_of, any_of, arm, case_of, date, interval, extract, substring, distinct_count, between, like, in_list, is_null, is_not_null, denied, tested, item, distinct, plain_selection, condition, filters, query, order_key, statement}
 use Rattle.sql_parser.specs.Grammar.{NameLine, Literal, Number, Digits, SpanWord, ColumnTail, ColumnLine, MultiplyWord, AddWord, Product, Sum, Conjunction, Whole, ExprList, ArmLine, Arms, ElseTail, CaseBody, CaseLine, DateText, DateLine, Precision, IntervalLine, ExtractInside, ExtractLine, Places, SubstringInside, SubstringLine, CountInside, CountLine, AggregateWord, AggregateLine, Call, Leaf, UnaryLine, ComparisonWord, CompareLine, NullLine, BetweenLine, LikeLine, InLine, DenyTest, TestTail, Predicate, PartLine, Alias, ItemLine, Selection, SelectLine, FromItemLine, FromLine, WhereTail, GroupTail, HavingTail, FiltersTail, QueryLine, Direction, KeyLine, OrderTail, RowsOnly, LimitTail, StatementLine, EndedLine}
 use Rattle.sql_parser.specs.Readings.{read_name, read_literal, read_number, read_digits, read_span, read_column_tail, read_column, read_multiply, read_add, read_product, read_sum, read_conjunction, read_whole, read_expr_list, read_arm, read_arms, read_else, read_case_body, read_case, read_date_text, read_date, read_precision, read_interval, read_extract_inside, read_extract, read_places, read_substring_inside, read_substring, read_count_inside, read_count, read_aggregate_word, read_aggregate, read_call, read_leaf, read_unary_line, read_comparison, read_compare, read_null, read_between, read_like, read_in, read_deny_test, read_test, read_predicate, read_part_line, read_alias, read_item, read_selection, read_select, read_from_item, read_from, read_where, read_group, read_having, read_filters, read_query, read_direction, read_order_key, read_order, read_rows_only, read_limit, read_statement, read_ended}
 use Rattle.sql_parser.proofs.Samples.{line_count, line_digits}

@@ -1,5 +1,5 @@
 -- Tokens that pass a test of more than their kind.
-use Rattle.std.proofs.Common.{◌≡◌, Bool, true, false, ◌||◌, ◌&&◌, List, [], ◌∷◌, refl, pos}
+use Rattle.std.proofs.Common.{◌≡◌, Bool, true, false, ◌||◌, ◌&&◌, [], ◌∷◌, refl, pos}
 use Rattle.sql_lexer.specs.declared.kind.Kind.{Kind}
 use Rattle.sql_lexer.specs.declared.kind.Kind.TheVariants as k
 use Rattle.sql_lexer.specs.declared.token.Token.{Token}
@@ -7,7 +7,6 @@ use Rattle.sql_lexer.specs.declared.token.Content.TheVariants as content
 use Rattle.sql_lexer.specs.Kinds.{is}
 use Rattle.grammar_laws.specs.Lines.{One}
 use Rattle.grammar_laws.specs.Marks.{plain}
-use Rattle.grammar_laws.specs.Laws.{Sample}
 use Rattle.grammar_laws.specs.Readings.{one}
 use Rattle.grammar_laws.proofs.Lawful.{Line, line_one}
 use Rattle.sql_parser.specs.Kinds.{kinds}

@@ -1,5 +1,5 @@
 -- Scripts from their bytes: one statement list, or one refusal.
-use Rattle.std.proofs.Common.{◌≡◌, ℕ, ◌<◌, ◌≤◌, List, [], ◌∷◌, length, Result, Ok, Err, refl, sym, ap, subst, ◌∙◌, arith}
+use Rattle.std.proofs.Common.{◌≡◌, ℕ, ◌<◌, ◌≤◌, List, length, Result, Err, sym, subst, ◌∙◌, arith}
 use Rattle.grammar_laws.specs.declared.Refusal.{Refusal}
 use Rattle.grammar_laws.specs.Scripts.{IsScript, IsRead, IsFirst}
 use Rattle.sql_lexer.specs.declared.token.Token.{Token}

@@ -1,15 +1,10 @@
 -- Reading the grammar's lines from left to right, a definition for each.
-use Rattle.std.specs.Prelude.{◌≡◌, ℕ, zero, suc, ◌≤◌, Bool, true, false, not, ◌&&◌, ◌||◌, if◌then◌else◌, nat_lt, nat_le, ◌==◌, ℤ, pos, negsuc, List, [], ◌∷◌, length, Option, Some, None}
-use Rattle.sql_lexer.specs.declared.kind.Kind.{Kind}
+use Rattle.std.specs.Prelude.{ℕ, zero, suc, Bool, true, false, List, [], ◌∷◌, Option, Some, None}
 use Rattle.sql_lexer.specs.declared.kind.Kind.TheVariants as k
 use Rattle.sql_lexer.specs.declared.token.Token.{Token}
-use Rattle.sql_lexer.specs.declared.token.Content.{Content}
-use Rattle.sql_lexer.specs.declared.token.Content.TheVariants as content
 use Rattle.sql_ast.specs.declared.expr.Expr.{Expr}
 use Rattle.sql_ast.specs.declared.expr.Expr.TheVariants as e
-use Rattle.sql_ast.specs.declared.expr.Term.{Term, roll-Term}
-use Rattle.sql_ast.specs.declared.expr.Factor.{Factor, roll-Factor}
-use Rattle.sql_ast.specs.declared.expr.Arm.{Arm, roll-Arm}
+use Rattle.sql_ast.specs.declared.expr.Arm.{Arm}
 use Rattle.sql_ast.specs.declared.expr.Column.{Column}
 use Rattle.sql_ast.specs.declared.expr.Comparison.{Comparison}
 use Rattle.sql_ast.specs.declared.expr.Comparison.TheVariants as comparison
@@ -31,13 +26,12 @@ use Rattle.sql_ast.specs.declared.query.Clause.TheVariants as clause
 use Rattle.sql_ast.specs.declared.query.OrderKey.{OrderKey}
 use Rattle.sql_ast.specs.declared.query.Query.{Query}
 use Rattle.sql_ast.specs.declared.query.Statement.{Statement}
-use Rattle.sql_ast.specs.declared.query.Statement.TheVariants as statements
 use Rattle.sql_parser.specs.declared.test.Test.{Test}
 use Rattle.sql_parser.specs.declared.test.Test.TheVariants as t
 use Rattle.sql_parser.specs.declared.queries.Filters.{Filters}
 use Rattle.sql_lexer.specs.Kinds.{is}
 use Rattle.grammar_laws.specs.Kinds.{among}
-use Rattle.grammar_laws.specs.Readings.{Outcome, Reading, one, opens, nothing, never, both, mapped, either, links}
+use Rattle.grammar_laws.specs.Readings.{Reading, one, opens, nothing, never, both, mapped, either, links}
 use Rattle.sql_parser.specs.Kinds.{kinds}
 use Rattle.sql_parser.specs.Values.{Name, text_of, count_of, number, text, is_count, is_digits, first, second, pair, cons, constant, after_word, after_point, column, negative, negation, factor, term, product, sum, all_of, any_of, arm, case_of, date, interval, extract, substring, distinct_count, between, like, in_list, is_null, is_not_null, denied, tested, item, distinct, plain_selection, condition, filters, query, order_key, statement}
 

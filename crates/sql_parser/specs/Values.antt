@@ -1,8 +1,7 @@
 -- What the parts of a line make together.
-use Rattle.std.specs.Prelude.{◌≡◌, ℕ, zero, suc, ◌≤◌, Bool, true, false, not, ◌&&◌, ◌||◌, if◌then◌else◌, nat_lt, nat_le, ◌==◌, ℤ, pos, negsuc, List, [], ◌∷◌, length, Option, Some, None}
+use Rattle.std.specs.Prelude.{ℕ, Bool, true, false, not, ◌&&◌, nat_le, ◌==◌, ℤ, pos, negsuc, List, [], ◌∷◌, length, Option, Some, None}
 use Rattle.std.specs.List.{list_all}
 use Rattle.std.specs.Char.{is_ascii_digit}
-use Rattle.sql_lexer.specs.declared.kind.Kind.{Kind}
 use Rattle.sql_lexer.specs.declared.kind.Kind.TheVariants as k
 use Rattle.sql_lexer.specs.declared.token.Token.{Token}
 use Rattle.sql_lexer.specs.declared.token.Content.{Content}
@@ -13,21 +12,12 @@ use Rattle.sql_ast.specs.declared.expr.Term.{Term, roll-Term}
 use Rattle.sql_ast.specs.declared.expr.Factor.{Factor, roll-Factor}
 use Rattle.sql_ast.specs.declared.expr.Arm.{Arm, roll-Arm}
 use Rattle.sql_ast.specs.declared.expr.Column.{Column}
-use Rattle.sql_ast.specs.declared.expr.Comparison.{Comparison}
-use Rattle.sql_ast.specs.declared.expr.Comparison.TheVariants as comparison
 use Rattle.sql_ast.specs.declared.expr.Span.{Span}
-use Rattle.sql_ast.specs.declared.expr.Span.TheVariants as span
-use Rattle.sql_ast.specs.declared.expr.Aggregate.{Aggregate}
-use Rattle.sql_ast.specs.declared.expr.Aggregate.TheVariants as aggregate
 use Rattle.sql_ast.specs.declared.expr.Adding.{Adding}
-use Rattle.sql_ast.specs.declared.expr.Adding.TheVariants as adding
 use Rattle.sql_ast.specs.declared.expr.Multiplying.{Multiplying}
-use Rattle.sql_ast.specs.declared.expr.Multiplying.TheVariants as multiplying
 use Rattle.sql_ast.specs.declared.query.Item.{Item}
 use Rattle.sql_ast.specs.declared.query.Selected.{Selected}
-use Rattle.sql_ast.specs.declared.query.Selected.TheVariants as selected
 use Rattle.sql_ast.specs.declared.query.FromItem.{FromItem}
-use Rattle.sql_ast.specs.declared.query.FromItem.TheVariants as from_item
 use Rattle.sql_ast.specs.declared.query.Clause.{Clause}
 use Rattle.sql_ast.specs.declared.query.Clause.TheVariants as clause
 use Rattle.sql_ast.specs.declared.query.OrderKey.{OrderKey}

@@ -1,4 +1,4 @@
-use Rattle.std.proofs.Common.{◌≡◌, ◌∙◌, ◌-◌, ℕ, subst, Err, sym, ap, length, ◌+◌, true, false, arith, rules}
+use Rattle.std.proofs.Common.{◌≡◌, ◌-◌, ℕ, subst, Err, ap, length, arith}
 use Rattle.std.proofs.lemmas.List.{length-append}
 use Rattle.grammar_laws.specs.declared.Refusal.{Refusal}
 use Rattle.grammar_laws.specs.Scripts.{IsFirst, statements}

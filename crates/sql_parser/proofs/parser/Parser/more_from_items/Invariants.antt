@@ -1,10 +1,8 @@
-use Rattle.std.proofs.Common.{◌≡◌, ◌+◌, ◌*◌, ◌∷◌, []}
-use Rattle.grammar_laws.specs.Kinds.{among}
-use Rattle.grammar_laws.specs.Readings.{links, mapped, nothing, one}
+use Rattle.std.proofs.Common.{◌≡◌, ◌∷◌}
+use Rattle.grammar_laws.specs.Readings.{links, mapped, one}
 use Rattle.grammar_laws.proofs.Loop.{with_front}
 use Rattle.sql_lexer.specs.Kinds.{is}
 use Rattle.sql_lexer.specs.declared.kind.Kind.TheVariants as k
-use Rattle.sql_parser.specs.Kinds.{kinds}
 use Rattle.sql_parser.specs.Readings as readings
 use Rattle.sql_parser.specs.Readings.{part_at, unary_at}
 use Rattle.sql_parser.specs.Values as values

@@ -1,11 +1,9 @@
-use Rattle.std.proofs.Common.{◌≡◌, ◌∙◌, sym, ap, refl, true, false, arith, rules, ◌<◌, ◌-◌, ◌++◌, ◌∷◌, []}
+use Rattle.std.proofs.Common.{◌∙◌, sym, arith}
 use Rattle.std.proofs.lemmas.Result.{err_from_is_err_and}
-use Rattle.grammar_laws.specs.Kinds.{among}
-use Rattle.grammar_laws.specs.Readings.{nothing, one}
+use Rattle.grammar_laws.specs.Readings.{one}
 use Rattle.grammar_laws.proofs.Loop.{loop_ends, loop_goes_on, full_reads, fails_reads}
 use Rattle.sql_lexer.specs.Kinds.{is}
 use Rattle.sql_lexer.specs.declared.kind.Kind.TheVariants as k
-use Rattle.sql_parser.specs.Kinds.{kinds}
 use Rattle.sql_parser.specs.Readings as readings
 use Rattle.sql_parser.specs.Readings.{part_at, unary_at}
 use Rattle.sql_parser.specs.Values as values
