@@ -54,6 +54,7 @@ Digits = Map text_of (One is_digits)
 abbrev pub SpanWord : Part Token Span
 SpanWord = Or (Map (constant span.Year) (One (is k.Year))) (Or (Map (constant span.Month) (One (is k.Month))) (Map (constant span.Day) (One (is k.Day))))
 
+-- ["." name]
 abbrev pub ColumnTail : Part Token (Option Name)
 ColumnTail = Or (Then after_point (One (is k.Point)) NameLine) (Empty None)
 
@@ -93,6 +94,7 @@ ExprList wide part = Then cons (Whole wide part) (Links (One (is k.Comma)) secon
 abbrev pub ArmLine : ℕ → Part Token Expr → Part Token Arm
 ArmLine wide part = Then arm (Then second (One (is k.When)) (Whole wide part)) (Then second (One (is k.Then)) (Whole wide part))
 
+-- when e then e {when e then e}
 abbrev pub Arms : ℕ → Part Token Expr → Part Token (List Arm)
 Arms wide part = Then cons (ArmLine wide part) (Links (Empty (tt {0})) second (ArmLine wide part) wide)
 
@@ -108,6 +110,7 @@ CaseBody wide part = Then case_of (Arms wide part) (ElseTail wide part)
 abbrev pub CaseLine : ℕ → ℕ → Part Token Expr → Part Token Expr
 CaseLine wide room part = Then second (Opens room (is k.Case)) (Then first (CaseBody wide part) (One (is k.End)))
 
+-- T | "(" T ")"
 abbrev pub DateText : ℕ → Part Token Name
 DateText room = Or (Then second (Opens room (is k.OpenParen)) (Then first Literal (One (is k.CloseParen)))) Literal
 
@@ -123,6 +126,7 @@ Precision room = Or (Map (constant (tt {0})) (Then second (Opens room (is k.Open
 abbrev pub IntervalLine : ℕ → Part Token Expr
 IntervalLine room = Then interval (Then second (One (is k.Interval)) Digits) (Then first SpanWord (Precision room))
 
+-- (year|month|day) from e
 abbrev pub ExtractInside : ℕ → Part Token Expr → Part Token Expr
 ExtractInside wide part = Then extract SpanWord (Then second (One (is k.From)) (Whole wide part))
 
@@ -130,9 +134,11 @@ ExtractInside wide part = Then extract SpanWord (Then second (One (is k.From)) (
 abbrev pub ExtractLine : ℕ → ℕ → Part Token Expr → Part Token Expr
 ExtractLine wide room part = Then second (One (is k.Extract)) (Then second (Opens room (is k.OpenParen)) (Then first (ExtractInside wide part) (One (is k.CloseParen))))
 
+-- from N for N
 abbrev pub Places : Part Token (ℕ × ℕ)
 Places = Then pair (Then second (One (is k.From)) Number) (Then second (One (is k.For)) Number)
 
+-- e from N for N
 abbrev pub SubstringInside : ℕ → Part Token Expr → Part Token Expr
 SubstringInside wide part = Then substring (Whole wide part) Places
 
@@ -156,9 +162,11 @@ AggregateWord = Or (Map (constant aggregate.Sum) (One (is k.Sum))) (Or (Map (con
 abbrev pub AggregateLine : ℕ → ℕ → Part Token Expr → Part Token Expr
 AggregateLine wide room part = Then e.Aggregate AggregateWord (Then second (Opens room (is k.OpenParen)) (Then first (Whole wide part) (One (is k.CloseParen))))
 
+-- extract, substring, count or an aggregate
 abbrev pub Call : ℕ → ℕ → Part Token Expr → Part Token Expr
 Call wide room part = Or (ExtractLine wide room part) (Or (SubstringLine wide room part) (Or (CountLine wide room part) (AggregateLine wide room part)))
 
+-- what holds no expression: a number, a text, a date, an interval or a column
 abbrev pub Leaf : ℕ → Part Token Expr
 Leaf room = Or (Map number (One (is k.Number))) (Or (Map text (One (is k.Text))) (Or (DateLine room) (Or (IntervalLine room) (Map e.Column ColumnLine))))
 
@@ -170,6 +178,7 @@ UnaryLine wide room inner part = Or (Then negative (Opens room (is k.Minus)) inn
 abbrev pub ComparisonWord : Part Token Comparison
 ComparisonWord = Or (Map (constant comparison.Equal) (One (is k.Equal))) (Or (Map (constant comparison.NotEqual) (One (is k.NotEqual))) (Or (Map (constant comparison.Less) (One (is k.Less))) (Or (Map (constant comparison.LessOrEqual) (One (is k.LessOrEqual))) (Or (Map (constant comparison.Greater) (One (is k.Greater))) (Map (constant comparison.GreaterOrEqual) (One (is k.GreaterOrEqual)))))))
 
+-- (= | <> | < | <= | > | >=) sum
 abbrev pub CompareLine : ℕ → Part Token Expr → Part Token Test
 CompareLine wide unary = Then t.Compare ComparisonWord (Sum wide unary)
 
@@ -193,6 +202,7 @@ InLine wide room part = Then in_list (One (is k.In)) (Then second (Opens room (i
 abbrev pub DenyTest : ℕ → ℕ → Part Token Expr → Part Token Expr → Part Token Test
 DenyTest wide room unary part = Or (BetweenLine wide unary) (Or LikeLine (InLine wide room part))
 
+-- [a comparison | is [not] null | [not] between .. | [not] like .. | [not] in ..]
 abbrev pub TestTail : ℕ → ℕ → Part Token Expr → Part Token Expr → Part Token Test
 TestTail wide room unary part = Or (CompareLine wide unary) (Or NullLine (Or (Then denied (One (is k.Not)) (DenyTest wide room unary part)) (Or (DenyTest wide room unary part) (Empty t.Holds))))
 
@@ -240,6 +250,7 @@ GroupTail wide = Or (Then second (Then second (One (is k.Group)) (One (is k.By))
 abbrev pub HavingTail : ℕ → Part Token Expr → Part Token Clause
 HavingTail wide part = Or (Then condition (One (is k.Having)) (Whole wide part)) (Empty clause.Absent)
 
+-- [where ..] [group by ..] [having ..]
 abbrev pub FiltersTail : ℕ → Part Token Expr → Part Token Filters
 FiltersTail wide part = Then filters (WhereTail wide part) (Then pair (GroupTail wide) (HavingTail wide part))
 
@@ -259,6 +270,7 @@ KeyLine = Then order_key NameLine Direction
 abbrev pub OrderTail : ℕ → Part Token (List OrderKey)
 OrderTail wide = Or (Then second (Then second (One (is k.Order)) (One (is k.By))) (Then cons KeyLine (Links (One (is k.Comma)) second KeyLine wide))) (Empty [])
 
+-- rows only
 abbrev pub RowsOnly : Part Token Token
 RowsOnly = Then second (One (is k.Rows)) (One (is k.Only))
 
