@@ -2,7 +2,7 @@
 -- where none of the kinds that go on with it comes next. Each way to make a line of smaller ones is one law.
 use Rattle.std.proofs.Common.{◌≡◌, ℕ, zero, suc, Bool, true, false, not, ◌||◌, ◌&&◌, List, [], ◌∷◌, ◌++◌, ◌⊎◌, Ok, refl, sym, ap, subst, ◌∙◌, inl, inr}
 use Rattle.grammar_laws.specs.Marks.{Mark, tokens, plain, opening, element, or_wide}
-use Rattle.grammar_laws.specs.Lines.{One, Opens, Empty, Then, Or, Map, Element, Links, none}
+use Rattle.grammar_laws.specs.Lines.{One, Opens, Empty, Then, Or, Map, Element, Links, none, Never}
 use Rattle.grammar_laws.specs.Readings.{Outcome, starts, one, opens, nothing, never, both, mapped, either, links}
 use Rattle.grammar_laws.specs.Kinds.{Kinds, among, differs, apart, has, within}
 use Rattle.grammar_laws.specs.Laws.{Sound, Sample, Stable, Complete, NonEmpty}
@@ -145,16 +145,16 @@ abbrev pub Deeper : ℕ → Type 0
 Deeper zero = ⊥
 Deeper (suc room) = Unit {0}
 
-Sample-then : {T A B C : Type 0} {G : List (Mark T) → A → Type 0} {H : List (Mark T) → B → Type 0} (f : A → B → C) → Sample G → Sample H → Sample (Then f G H)
+pub Sample-then : {T A B C : Type 0} {G : List (Mark T) → A → Type 0} {H : List (Mark T) → B → Type 0} (f : A → B → C) → Sample G → Sample H → Sample (Then f G H)
 Sample-then f s t = record { marks = s.marks ++ t.marks; value = f s.value t.value; part = record { front = s.marks; back = t.marks; a = s.value; b = t.value; first = s.part; second = t.part; text = refl; value = refl } }
 
-Sample-map : {T A B : Type 0} {G : List (Mark T) → A → Type 0} (f : A → B) → Sample G → Sample (Map f G)
+pub Sample-map : {T A B : Type 0} {G : List (Mark T) → A → Type 0} (f : A → B) → Sample G → Sample (Map f G)
 Sample-map f s = record { marks = s.marks; value = f s.value; part = record { a = s.value; part = s.part; value = refl } }
 
 Sample-left : {T A : Type 0} {G H : List (Mark T) → A → Type 0} → Sample G → Sample (Or G H)
 Sample-left s = record { marks = s.marks; value = s.value; part = inl s.part }
 
-Sample-right : {T A : Type 0} {G H : List (Mark T) → A → Type 0} → Sample H → Sample (Or G H)
+pub Sample-right : {T A : Type 0} {G H : List (Mark T) → A → Type 0} → Sample H → Sample (Or G H)
 Sample-right s = record { marks = s.marks; value = s.value; part = inr s.part }
 
 Sample-opens : {T : Type 0} (room : ℕ) (test : T → Bool) → Sample (One test) → Sample (Opens room test)
@@ -384,3 +384,13 @@ module _ {T K : Type 0} (c : Kinds T K) {P S : Type 0} where
   -- one token of this kind
   pub line_kind : (k : K) → Line c P S (k ∷ []) [] (One (c.is k)) (one (c.is k))
   line_kind k = line_one (c.is k) (λ t h. or_left (c.is k t) false h) (record { marks = plain (c.token k) ∷ []; value = c.token k; part = (c.token_is k, refl) })
+
+-- what is nothing at all is read rightly by anything
+pub line_nothing : {T K : Type 0} {c : Kinds T K} {P : Type 0} {A : Type 0} {p : List T → Outcome T A} {first on : List K} → Stable p → Line c P ⊥ first on Never p
+line_nothing s = record {
+  heads = λ ms a g. absurd g;
+  sample = λ x. absurd x;
+  sound = λ x. absurd x;
+  stable = s;
+  complete = λ x. record { at = λ ms a rest g e. absurd g };
+}

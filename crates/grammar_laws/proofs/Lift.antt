@@ -2,7 +2,7 @@
 use Rattle.std.proofs.Common.{◌≡◌, ℕ, zero, suc, ◌+◌, ◌≤◌, Bool, List, [], ◌∷◌, ◌++◌, length, refl, sym, ap, ◌∙◌, arith, inl, inr}
 use Rattle.std.proofs.lemmas.List.{length-append}
 use Rattle.grammar_laws.specs.Marks.{Mark, tokens, plain, opening, element}
-use Rattle.grammar_laws.specs.Lines.{One, Opens, Empty, Then, Or, Map, less, Links, none, more}
+use Rattle.grammar_laws.specs.Lines.{One, Opens, Empty, Then, Or, Map, less, Links, none, more, Never}
 use Rattle.grammar_laws.specs.Lifting.{AllPlain, Lifted, Lifts}
 use Rattle.grammar_laws.proofs.Sound.{tokens-append}
 use Rattle.grammar_laws.specs.Laws.{NonEmpty}
@@ -129,3 +129,10 @@ module _ {T : Type 0} where
   pub Lifts-level : {B C : Type 0} {H H' : List (Mark T) → B → Type 0} (n room : ℕ) (test : T → Bool) (f : T → B → C) → Below n H H' → Lifts n (Then f (Opens room test) H) (Then f (Opens n test) H')
   Lifts-level zero room test f b = Lifts-closed room test f
   Lifts-level (suc n) room test f b = Lifts-opens n room test f b
+
+  pub always : {B : Type 0} {H H' : List (Mark T) → B → Type 0} (n : ℕ) → ((m : ℕ) → Lifts m H H') → Below n H H'
+  always zero f = tt
+  always (suc n) f = f n
+
+  pub Lifts-never : {A : Type 0} {H : List (Mark T) → A → Type 0} (n : ℕ) → Lifts n (Never {T = T} {A = A}) H
+  Lifts-never n = record { at = λ ms a g le. absurd g }

@@ -63,6 +63,10 @@ module _ {T : Type 0} where
         let whole : with_front front (links test join link p 0 ts) ≡ out (Err r) vs = rw (some, h, g) refl in
         sym (ap (λ (x : ℕ). with_front front (links test join link p x ts)) (sym full) ∙ so_far) ∙ whole
 
+    pub joins_reads : starts test ts ≡ true → (e : Stop) (us : List T) → Reads (join ts) (is_err {A = D} e) us → Reads total (is_err {A = List B} e) us
+    joins_reads some stops.OutOfMemory us g = tt
+    joins_reads some (stops.Refused r) us g = loop_joins some r us g
+
     -- the same, of what a function returned
     pub full_reads : starts test ts ≡ true → room ≡ 0 → (j : D) (us : List T) → join ts ≡ out (Ok j) us → (e : Stop) (vs : List T) → Reads (crowded us (p us)) (is_err {A = A} e) vs → Reads total (is_err {A = List B} e) vs
     full_reads some full j us h stops.OutOfMemory vs g = tt

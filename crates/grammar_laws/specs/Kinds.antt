@@ -1,5 +1,6 @@
 -- Tokens by their kinds: what a part of a grammar begins with, and what may not come after it.
 use Rattle.std.specs.Prelude.{◌≡◌, Bool, true, false, not, ◌||◌, ◌&&◌, List, [], ◌∷◌}
+use Rattle.std.specs.List.{list_any}
 
 -- a test for tokens of each kind, and a test for equal kinds
 pub record Kinds (T K : Type 0) : Type 0 where
@@ -15,8 +16,7 @@ pub record Kinds (T K : Type 0) : Type 0 where
 
 -- a token of one of these kinds
 abbrev pub among : {T K : Type 0} → Kinds T K → List K → T → Bool
-among c [] t = false
-among c (k ∷ ks) t = c.is k t || among c ks t
+among c ks t = list_any (λ k. c.is k t) ks
 
 -- the kind is none of these
 abbrev pub differs : {T K : Type 0} → Kinds T K → K → List K → Bool

@@ -1,6 +1,6 @@
 -- A token has one kind.
-use Rattle.std.proofs.Common.{◌≡◌, Bool, true, false, refl, sym, ap, subst, ◌∙◌, rules}
-use denote.Enum.Bare.{sameb, same_true, true_same}
+use Rattle.std.proofs.Common.{◌≡◌, true, refl, sym, subst, ◌∙◌, rules}
+use denote.Enum.Bare.{same_true, true_same}
 use Rattle.sql_lexer.specs.contracts.kind.Kind.{the_type}
 use Rattle.sql_lexer.specs.declared.kind.Kind.{Kind}
 use Rattle.sql_lexer.specs.declared.token.Token.{Token}

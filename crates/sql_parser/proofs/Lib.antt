@@ -1,0 +1,7 @@
+pub mod Samples
+pub mod LineLaws
+pub mod LiftLaws
+pub mod Levels
+pub mod Unfold
+pub mod Calls
+pub mod Whole

@@ -1,0 +1,18 @@
+-- Refusals of bytes and of tokens as refusals of a script.
+use Rattle.grammar_laws.specs.declared.Refusal.{Refusal}
+use Rattle.grammar_laws.specs.declared.Refusal.TheVariants as refusal
+use Rattle.sql_lexer.specs.declared.fault.LexRefusal.{LexRefusal}
+use Rattle.sql_lexer.specs.declared.fault.LexRefusal.TheVariants as lex
+use Rattle.sql_parser.specs.declared.fault.ScriptRefusal.{ScriptRefusal}
+use Rattle.sql_parser.specs.declared.fault.ScriptRefusal.TheVariants as script
+
+abbrev pub of_lexer : LexRefusal → ScriptRefusal
+of_lexer lex.BadByte = script.BadByte
+of_lexer lex.OpenText = script.OpenText
+of_lexer lex.NumberTooWide = script.NumberTooWide
+of_lexer lex.ScaleTooWide = script.ScaleTooWide
+
+abbrev pub of_parser : Refusal → ScriptRefusal
+of_parser refusal.Unexpected = script.Unexpected
+of_parser refusal.TooDeep = script.TooDeep
+of_parser refusal.TooWide = script.TooWide

@@ -1,0 +1,7 @@
+pub mod Kinds
+pub mod Values
+pub mod Grammar
+pub mod Readings
+pub mod Reads
+pub mod Faults
+pub mod Script

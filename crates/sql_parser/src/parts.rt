@@ -1,0 +1,155 @@
+//! What the parts of an expression make together.
+ghost use Rattle.std.specs.Prelude.{◌≡◌, IfOk};
+ghost use Rattle.sql_ast.specs.declared.expr.Expr.TheVariants as e;
+ghost use Rattle.sql_parser.specs.Values as values;
+
+use crate::test::Test;
+use sql_ast::{Adding, Arm, Comparison, Expr, Factor, Multiplying, Term};
+use sqlite_items::{Boxed, Items};
+use std::alloc::{AllocError, Global};
+
+pub(crate) fn factor(operator: Multiplying, value: Expr) -> Factor
+    ensures { result ≡ values.factor operator value }
+{
+    Factor { operator, value }
+}
+
+pub(crate) fn term(operator: Adding, value: Expr) -> Term
+    ensures { result ≡ values.term operator value }
+{
+    Term { operator, value }
+}
+
+pub(crate) fn arm_of(condition: Expr, value: Expr) -> Arm
+    ensures { result ≡ values.arm condition value }
+{
+    Arm { condition, value }
+}
+
+pub(crate) fn product(alloc: Global, first: Expr, others: Items<Factor>) -> Result<Expr, AllocError>
+    ensures { IfOk result (λ x. x ≡ values.product first others) }
+{
+    if others.is_empty() {
+        Ok(first)
+    } else {
+        Ok(Expr::Product(Boxed::new(alloc, first)?, others))
+    }
+}
+
+pub(crate) fn sum(alloc: Global, first: Expr, others: Items<Term>) -> Result<Expr, AllocError>
+    ensures { IfOk result (λ x. x ≡ values.sum first others) }
+{
+    if others.is_empty() {
+        Ok(first)
+    } else {
+        Ok(Expr::Sum(Boxed::new(alloc, first)?, others))
+    }
+}
+
+pub(crate) fn all_of(alloc: Global, first: Expr, others: Items<Expr>) -> Result<Expr, AllocError>
+    ensures { IfOk result (λ x. x ≡ values.all_of first others) }
+{
+    if others.is_empty() {
+        Ok(first)
+    } else {
+        Ok(Expr::And(Boxed::new(alloc, first)?, others))
+    }
+}
+
+pub(crate) fn any_of(alloc: Global, first: Expr, others: Items<Expr>) -> Result<Expr, AllocError>
+    ensures { IfOk result (λ x. x ≡ values.any_of first others) }
+{
+    if others.is_empty() {
+        Ok(first)
+    } else {
+        Ok(Expr::Or(Boxed::new(alloc, first)?, others))
+    }
+}
+
+pub(crate) fn case_of(
+    alloc: Global,
+    arms: Items<Arm>,
+    otherwise: Option<Expr>,
+) -> Result<Expr, AllocError>
+    ensures { IfOk result (λ x. x ≡ values.case_of arms otherwise) }
+{
+    match otherwise {
+        None => Ok(Expr::Case(arms)),
+        Some(value) => Ok(Expr::CaseElse(arms, Boxed::new(alloc, value)?)),
+    }
+}
+
+/// The denial of a test that a NOT may stand before.
+pub(crate) fn opposite(test: Test) -> Test
+    ensures { result ≡ values.opposite test }
+{
+    match test {
+        Test::Holds => Test::Holds,
+        Test::Compare(comparison, value) => Test::Compare(comparison, value),
+        Test::IsNull(is_denied) => Test::IsNull(!is_denied),
+        Test::Between(is_denied, low, high) => Test::Between(!is_denied, low, high),
+        Test::Like(is_denied, pattern) => Test::Like(!is_denied, pattern),
+        Test::InList(is_denied, list) => Test::InList(!is_denied, list),
+    }
+}
+
+fn deny(alloc: Global, is_denied: bool, value: Expr) -> Result<Expr, AllocError>
+    ensures { IfOk result (λ x. x ≡ values.deny is_denied value) }
+{
+    if is_denied {
+        Ok(Expr::Not(Boxed::new(alloc, value)?))
+    } else {
+        Ok(value)
+    }
+}
+
+fn compared(
+    alloc: Global,
+    value: Expr,
+    comparison: Comparison,
+    other: Expr,
+) -> Result<Expr, AllocError>
+    ensures { IfOk result (λ x. x ≡ e.Compare comparison value other) }
+{
+    let value = Boxed::new(alloc, value)?;
+    let other = Boxed::new(alloc, other)?;
+    Ok(Expr::Compare(comparison, value, other))
+}
+
+fn within(
+    alloc: Global,
+    is_denied: bool,
+    value: Expr,
+    low: Expr,
+    high: Expr,
+) -> Result<Expr, AllocError>
+    ensures { IfOk result (λ x. x ≡ values.deny is_denied (e.Between value low high)) }
+{
+    let value = Boxed::new(alloc, value)?;
+    let low = Boxed::new(alloc, low)?;
+    let high = Boxed::new(alloc, high)?;
+    deny(alloc, is_denied, Expr::Between(value, low, high))
+}
+
+/// The condition that a test of a value is.
+pub(crate) fn tested(alloc: Global, value: Expr, test: Test) -> Result<Expr, AllocError>
+    ensures { IfOk result (λ x. x ≡ values.tested value test) }
+{
+    match test {
+        Test::Holds => Ok(value),
+        Test::Compare(comparison, other) => compared(alloc, value, comparison, other),
+        Test::IsNull(is_denied) => {
+            let value = Boxed::new(alloc, value)?;
+            deny(alloc, is_denied, Expr::IsNull(value))
+        }
+        Test::Between(is_denied, low, high) => within(alloc, is_denied, value, low, high),
+        Test::Like(is_denied, pattern) => {
+            let value = Boxed::new(alloc, value)?;
+            deny(alloc, is_denied, Expr::Like(value, pattern))
+        }
+        Test::InList(is_denied, list) => {
+            let value = Boxed::new(alloc, value)?;
+            deny(alloc, is_denied, Expr::InList(value, list))
+        }
+    }
+}

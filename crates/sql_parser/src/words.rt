@@ -1,0 +1,338 @@
+//! Names, numbers and words: the parts of a line that hold no expression.
+ghost use Rattle.std.specs.Prelude.{◌≡◌, true, IfOk};
+ghost use Rattle.grammar_laws.specs.Readings.{Reads};
+ghost use Rattle.sql_parser.specs.Values as values;
+ghost use Rattle.sql_parser.specs.Readings as readings;
+
+use crate::parser::Parser;
+use ascii_text::Text;
+use fixed_decimal::Scale;
+use grammar_laws::{Refusal, Stop};
+use sql_ast::{Adding, Aggregate, Column, Comparison, Expr, Multiplying, Name, Span};
+use sql_lexer::{Content, Kind, Token};
+use std::alloc::{AllocError, Global};
+
+/// The most that a number in the place of a count may be.
+const MAX_COUNT: i128 = 999_999_999;
+
+/// The token's name or text.
+fn text_of(alloc: Global, token: &Token) -> Result<Text, AllocError>
+    ensures { IfOk result (λ text. text ≡ values.text_of token.now) }
+{
+    match &token.content {
+        Content::Text(text) => text.clone(),
+        Content::Nothing => Text::of_printable(alloc, b""),
+        Content::Number(_, _) => Text::of_printable(alloc, b""),
+    }
+}
+
+/// Whether the token is a number without a point of at most 999999999.
+fn is_count(token: &Token) -> bool
+    ensures { result ≡ values.is_count token.now }
+{
+    if !token.is(Kind::Number) {
+        return false;
+    }
+    match &token.content {
+        Content::Number(value, places) => {
+            places.places() == 0 && (*value < 0 || *value <= MAX_COUNT)
+        }
+        Content::Nothing => false,
+        Content::Text(_) => false,
+    }
+}
+
+/// The number that such a token writes.
+fn count_of(token: &Token) -> u64
+    requires { values.is_count token.now ≡ true }
+    ensures { result ≡ values.count_of token.now }
+{
+    match &token.content {
+        Content::Number(value, _) => { if *value < 0 { 0 } else { *value as u64 } }
+        Content::Nothing => 0,
+        Content::Text(_) => 0,
+    }
+}
+
+fn are_digits(bytes: &[u8]) -> bool
+    ensures { result ≡ values.all_digits bytes.now }
+{
+    bytes.iter().all(|b| b.is_ascii_digit())
+}
+
+/// Whether the token is a text of one to six digits.
+fn is_digits(token: &Token) -> bool
+    ensures { result ≡ values.is_digits token.now }
+{
+    if !token.is(Kind::Text) {
+        return false;
+    }
+    match &token.content {
+        Content::Text(text) => {
+            let bytes = text.bytes();
+            1 <= bytes.len() && bytes.len() <= 6 && are_digits(bytes)
+        }
+        Content::Nothing => false,
+        Content::Number(_, _) => false,
+    }
+}
+
+/// The token as a number.
+fn number_of(token: &Token) -> Expr
+    ensures { result ≡ values.number token.now }
+{
+    match &token.content {
+        Content::Number(value, places) => Expr::Number(*value, *places),
+        Content::Nothing => Expr::Number(0, Scale::new(0)),
+        Content::Text(_) => Expr::Number(0, Scale::new(0)),
+    }
+}
+
+/// A name alone is the column's, one before a point is its FROM item's.
+fn column_of(first: Name, tail: Option<Name>) -> Column
+    ensures { result ≡ values.column first tail }
+{
+    match tail {
+        None => Column {
+            item: None,
+            name: first,
+        },
+        Some(name) => Column {
+            item: Some(first),
+            name,
+        },
+    }
+}
+
+impl<'a> Parser<'a> {
+    #[tactic(auto, unfolding(crate::specs::Readings::read_name))]
+    pub(crate) fn name(&mut self, alloc: Global) -> Result<Name, Stop>
+        ensures { Reads (readings.read_name self.old.rest.now) result self.new.rest.now }
+    {
+        let token = self.one(Kind::Name)?;
+        Ok(text_of(alloc, token)?)
+    }
+
+    #[tactic(auto, unfolding(crate::specs::Readings::read_literal))]
+    pub(crate) fn literal(&mut self, alloc: Global) -> Result<Name, Stop>
+        ensures { Reads (readings.read_literal self.old.rest.now) result self.new.rest.now }
+    {
+        let token = self.one(Kind::Text)?;
+        Ok(text_of(alloc, token)?)
+    }
+
+    #[tactic(auto, unfolding(crate::specs::Readings::read_number))]
+    pub(crate) fn number(&mut self) -> Result<u64, Stop>
+        ensures { Reads (readings.read_number self.old.rest.now) result self.new.rest.now }
+    {
+        match self.rest {
+            [token, rest @ ..] if is_count(token) => {
+                self.rest = rest;
+                Ok(count_of(token))
+            }
+            _ => Err(Stop::Refused(Refusal::Unexpected)),
+        }
+    }
+
+    #[tactic(auto, unfolding(crate::specs::Readings::read_digits))]
+    fn digits(&mut self, alloc: Global) -> Result<Name, Stop>
+        ensures { Reads (readings.read_digits self.old.rest.now) result self.new.rest.now }
+    {
+        match self.rest {
+            [token, rest @ ..] if is_digits(token) => {
+                self.rest = rest;
+                Ok(text_of(alloc, token)?)
+            }
+            _ => Err(Stop::Refused(Refusal::Unexpected)),
+        }
+    }
+
+    #[tactic(auto, unfolding(crate::specs::Readings::read_span))]
+    pub(crate) fn span(&mut self) -> Result<Span, Stop>
+        ensures { Reads (readings.read_span self.old.rest.now) result self.new.rest.now }
+    {
+        if self.starts(Kind::Year) {
+            self.one(Kind::Year)?;
+            return Ok(Span::Year);
+        }
+        if self.starts(Kind::Month) {
+            self.one(Kind::Month)?;
+            return Ok(Span::Month);
+        }
+        self.one(Kind::Day)?;
+        Ok(Span::Day)
+    }
+
+    #[tactic(auto, unfolding(crate::specs::Readings::read_multiply))]
+    pub(crate) fn multiply(&mut self) -> Result<Multiplying, Stop>
+        ensures { Reads (readings.read_multiply self.old.rest.now) result self.new.rest.now }
+    {
+        if self.starts(Kind::Star) {
+            self.one(Kind::Star)?;
+            return Ok(Multiplying::Times);
+        }
+        self.one(Kind::Slash)?;
+        Ok(Multiplying::Divide)
+    }
+
+    #[tactic(auto, unfolding(crate::specs::Readings::read_add))]
+    pub(crate) fn add(&mut self) -> Result<Adding, Stop>
+        ensures { Reads (readings.read_add self.old.rest.now) result self.new.rest.now }
+    {
+        if self.starts(Kind::Plus) {
+            self.one(Kind::Plus)?;
+            return Ok(Adding::Plus);
+        }
+        self.one(Kind::Minus)?;
+        Ok(Adding::Minus)
+    }
+
+    #[tactic(auto, unfolding(crate::specs::Readings::read_comparison))]
+    pub(crate) fn comparison(&mut self) -> Result<Comparison, Stop>
+        ensures { Reads (readings.read_comparison self.old.rest.now) result self.new.rest.now }
+    {
+        if self.starts(Kind::Equal) {
+            self.one(Kind::Equal)?;
+            return Ok(Comparison::Equal);
+        }
+        if self.starts(Kind::NotEqual) {
+            self.one(Kind::NotEqual)?;
+            return Ok(Comparison::NotEqual);
+        }
+        if self.starts(Kind::Less) {
+            self.one(Kind::Less)?;
+            return Ok(Comparison::Less);
+        }
+        if self.starts(Kind::LessOrEqual) {
+            self.one(Kind::LessOrEqual)?;
+            return Ok(Comparison::LessOrEqual);
+        }
+        if self.starts(Kind::Greater) {
+            self.one(Kind::Greater)?;
+            return Ok(Comparison::Greater);
+        }
+        self.one(Kind::GreaterOrEqual)?;
+        Ok(Comparison::GreaterOrEqual)
+    }
+
+    #[tactic(auto, unfolding(crate::specs::Readings::read_aggregate_word))]
+    pub(crate) fn aggregate_word(&mut self) -> Result<Aggregate, Stop>
+        ensures { Reads (readings.read_aggregate_word self.old.rest.now) result self.new.rest.now }
+    {
+        if self.starts(Kind::Sum) {
+            self.one(Kind::Sum)?;
+            return Ok(Aggregate::Sum);
+        }
+        if self.starts(Kind::Avg) {
+            self.one(Kind::Avg)?;
+            return Ok(Aggregate::Avg);
+        }
+        if self.starts(Kind::Min) {
+            self.one(Kind::Min)?;
+            return Ok(Aggregate::Min);
+        }
+        self.one(Kind::Max)?;
+        Ok(Aggregate::Max)
+    }
+
+    #[tactic(auto, unfolding(crate::specs::Readings::read_column_tail))]
+    fn column_tail(&mut self, alloc: Global) -> Result<Option<Name>, Stop>
+        ensures { Reads (readings.read_column_tail self.old.rest.now) result self.new.rest.now }
+    {
+        if self.starts(Kind::Point) {
+            self.one(Kind::Point)?;
+            let name = self.name(alloc)?;
+            return Ok(Some(name));
+        }
+        Ok(None)
+    }
+
+    #[tactic(auto, unfolding(crate::specs::Readings::read_column))]
+    pub(crate) fn column(&mut self, alloc: Global) -> Result<Column, Stop>
+        ensures { Reads (readings.read_column self.old.rest.now) result self.new.rest.now }
+    {
+        let first = self.name(alloc)?;
+        let tail = self.column_tail(alloc)?;
+        Ok(column_of(first, tail))
+    }
+
+    #[tactic(auto, unfolding(crate::specs::Readings::read_date_text))]
+    fn date_text(&mut self, alloc: Global, room: usize) -> Result<Name, Stop>
+        ensures { Reads (readings.read_date_text room self.old.rest.now) result self.new.rest.now }
+    {
+        if self.starts(Kind::OpenParen) {
+            self.opens(room, Kind::OpenParen)?;
+            let text = self.literal(alloc)?;
+            self.one(Kind::CloseParen)?;
+            return Ok(text);
+        }
+        self.literal(alloc)
+    }
+
+    #[tactic(auto, unfolding(crate::specs::Readings::read_date))]
+    fn date(&mut self, alloc: Global, room: usize) -> Result<Expr, Stop>
+        ensures { Reads (readings.read_date room self.old.rest.now) result self.new.rest.now }
+    {
+        self.one(Kind::Date)?;
+        let text = self.date_text(alloc, room)?;
+        Ok(Expr::Date(text))
+    }
+
+    #[tactic(auto, unfolding(crate::specs::Readings::read_precision))]
+    fn precision(&mut self, room: usize) -> Result<(), Stop>
+        ensures { Reads (readings.read_precision room self.old.rest.now) result self.new.rest.now }
+    {
+        if self.starts(Kind::OpenParen) {
+            self.opens(room, Kind::OpenParen)?;
+            self.number()?;
+            let _close = self.one(Kind::CloseParen)?;
+        }
+        Ok(())
+    }
+
+    #[tactic(auto, unfolding(crate::specs::Readings::read_interval))]
+    fn interval(&mut self, alloc: Global, room: usize) -> Result<Expr, Stop>
+        ensures { Reads (readings.read_interval room self.old.rest.now) result self.new.rest.now }
+    {
+        self.one(Kind::Interval)?;
+        let digits = self.digits(alloc)?;
+        let unit = self.span()?;
+        self.precision(room)?;
+        Ok(Expr::Interval(digits, unit))
+    }
+
+    #[tactic(auto, unfolding(crate::specs::Readings::read_places))]
+    pub(crate) fn places(&mut self) -> Result<(u64, u64), Stop>
+        ensures { Reads (readings.read_places self.old.rest.now) result self.new.rest.now }
+    {
+        self.one(Kind::From)?;
+        let first = self.number()?;
+        self.one(Kind::For)?;
+        let count = self.number()?;
+        Ok((first, count))
+    }
+
+    /// What holds no expression.
+    #[tactic(auto, unfolding(crate::specs::Readings::read_leaf))]
+    pub(crate) fn leaf(&mut self, alloc: Global, room: usize) -> Result<Expr, Stop>
+        ensures { Reads (readings.read_leaf room self.old.rest.now) result self.new.rest.now }
+    {
+        if self.starts(Kind::Number) {
+            let token = self.one(Kind::Number)?;
+            return Ok(number_of(token));
+        }
+        if self.starts(Kind::Text) {
+            let token = self.one(Kind::Text)?;
+            let text = text_of(alloc, token)?;
+            return Ok(Expr::Text(text));
+        }
+        if self.starts(Kind::Date) {
+            return self.date(alloc, room);
+        }
+        if self.starts(Kind::Interval) {
+            return self.interval(alloc, room);
+        }
+        let column = self.column(alloc)?;
+        Ok(Expr::Column(column))
+    }
+}
