@@ -8,7 +8,7 @@ use Rattle.sql_value.specs.declared.truth.Standing.TheVariants.{AtFault, AtTrue}
 use Rattle.sql_value.specs.declared.truth.Truth.{Truth}
 use Rattle.sql_value.specs.declared.truth.Truth.TheVariants.{False, Unknown, Stands}
 use Rattle.sql_value.specs.declared.value.Value.{Value}
-use Rattle.scalar_expr.specs.Cases.{Arithmetics, Comparisons, Conditions, Cases, Parts}
+use Rattle.scalar_expr.specs.Cases.{Arithmetics, Comparisons, Conditions, Cases, Parts, MoreArithmetics, MoreComparisons, MoreConditions, Typings}
 use Rattle.scalar_expr.specs.Laws.{MarkIsRead, BetweenIsAnd, InListIsOr}
 use Rattle.scalar_expr.specs.Meaning.{value, truth, values, truths, greatest}
 use Rattle.scalar_expr.specs.Operators.{compared}
@@ -68,3 +68,17 @@ cases = (refl, refl, refl, refl, refl)
 pub parts : Parts
 unfolding is_like some_rest
 parts = (refl, refl, refl, refl, refl, refl, refl, refl)
+
+pub more_arithmetics : MoreArithmetics
+unfolding rescaled sum_of difference_of quotient_of
+more_arithmetics = (refl, refl, refl, refl, refl)
+
+pub more_comparisons : MoreComparisons
+more_comparisons = (refl, refl, refl, refl, refl, refl, refl)
+
+pub more_conditions : MoreConditions
+unfolding is_like some_rest
+more_conditions = (refl, refl, refl, refl, refl, refl, refl, refl, refl)
+
+pub typings : Typings
+typings = (refl, refl, refl, refl, refl, refl, refl, refl, refl, refl, refl, refl)

@@ -1,5 +1,5 @@
 -- Small cases of the definitions.
-use Rattle.std.specs.Prelude.{◌≡◌, ℕ, ◌^◌, ◌-◌, [], ◌∷◌, pos, negsuc, unwrap_or, Some, None}
+use Rattle.std.specs.Prelude.{◌≡◌, ℕ, ◌^◌, ◌-◌, [], ◌∷◌, pos, negsuc, unwrap_or, Some, None, true, false}
 use Rattle.sql_value.specs.Truth.{negated}
 use Rattle.sql_value.specs.declared.truth.Fault.TheVariants.{TooManyRows, DivideByZero, NumberRange}
 use Rattle.sql_value.specs.declared.truth.Standing.TheVariants.{AtTrue}
@@ -8,8 +8,11 @@ use Rattle.sql_value.specs.declared.truth.Truth.TheVariants.{False, Unknown, Sta
 use Rattle.sql_value.specs.declared.value.Value.{Value}
 use Rattle.sql_value.specs.declared.value.Value.TheVariants.{Null, Fault as Failed, Number, Text, Date}
 use Rattle.scalar_expr.specs.declared.expr.Arithmetic.TheVariants.{Add, Subtract, Multiply, Divide}
-use Rattle.scalar_expr.specs.declared.expr.Comparison.TheVariants.{Equal, Less}
+use Rattle.scalar_expr.specs.declared.expr.Comparison.TheVariants.{Equal, NotEqual, Less, LessOrEqual, Greater, GreaterOrEqual}
 use Rattle.scalar_expr.specs.declared.expr.DatePart.TheVariants.{Year, Month, Day}
+use Rattle.scalar_expr.specs.declared.kind.Kind.TheVariants as kind
+use Rattle.scalar_expr.specs.Typing.{arithmetic_sort, case_sort, comparable, is_of_kind}
+use Rattle.scalar_expr.specs.Typing.Sort.{Unfit, Nulls, Of}
 use Rattle.scalar_expr.specs.Meaning.{least, greatest, in_list, decided, first_of}
 use Rattle.scalar_expr.specs.Operators.{computed, negative, at_scale, extracted, part_of, compared, between, liked, null_test, fault_truth, truth_of_mark}
 
@@ -73,3 +76,48 @@ Parts = (extracted Year (Date 19960229) ≡ whole 1996)
     × (liked (37 ∷ []) Null ≡ Unknown)
     × (truth_of_mark (whole 0) ≡ False)
     × (truth_of_mark Null ≡ Unknown)
+
+-- 1.5 - 2; a quotient of a scale past 6; a product past 18 places; a text is no number; no value at a lower scale
+abbrev pub MoreArithmetics : Type 0
+MoreArithmetics = (computed Subtract (Number 1 (pos 15)) (whole 2) ≡ Number 1 (negsuc 4))
+    × (computed Divide (Number 8 (pos 100000000)) (whole 3) ≡ Number 8 (pos 33333333))
+    × (computed Multiply (Number 10 (pos 1)) (Number 9 (pos 1)) ≡ Null)
+    × (computed Add (Text (49 ∷ [])) (whole 1) ≡ Null)
+    × (at_scale 0 (Number 2 (pos 100)) ≡ Null)
+
+-- texts byte by byte without padding; dates; two kinds do not compare; each comparison
+abbrev pub MoreComparisons : Type 0
+MoreComparisons = (compared Less (Text (97 ∷ [])) (Text (97 ∷ 98 ∷ [])) ≡ true_truth)
+    × (compared Less (Date 19960102) (Date 19960103) ≡ true_truth)
+    × (compared Equal (Text (49 ∷ [])) (whole 1) ≡ Unknown)
+    × (compared NotEqual (whole 1) (whole 2) ≡ true_truth)
+    × (compared LessOrEqual (whole 2) (whole 2) ≡ true_truth)
+    × (compared Greater (whole 2) (whole 2) ≡ False)
+    × (compared GreaterOrEqual (whole 2) (whole 2) ≡ true_truth)
+
+-- OR of two faults is the greater; chains of nothing; NOT of True and of False
+abbrev pub MoreConditions : Type 0
+MoreConditions = (greatest (fault_truth TooManyRows ∷ fault_truth NumberRange ∷ Unknown ∷ []) ≡ fault_truth NumberRange)
+    × (least [] ≡ true_truth)
+    × (greatest [] ≡ False)
+    × (in_list (whole 1) [] ≡ False)
+    × (negated true_truth ≡ False)
+    × (negated False ≡ true_truth)
+    × (liked (37 ∷ []) (Failed DivideByZero) ≡ fault_truth DivideByZero)
+    × (extracted Year (Failed DivideByZero) ≡ Failed DivideByZero)
+    × (part_of 1 1 (Failed NumberRange) ≡ Failed NumberRange)
+
+-- the kinds of a product, a quotient, a CASE; what does not fit
+abbrev pub Typings : Type 0
+Typings = (arithmetic_sort Multiply (Of (kind.Number 2)) (Of (kind.Number 2)) ≡ Of (kind.Number 4))
+    × (arithmetic_sort Multiply (Of (kind.Number 10)) (Of (kind.Number 9)) ≡ Unfit)
+    × (arithmetic_sort Divide (Of (kind.Number 2)) (Of (kind.Number 2)) ≡ Of (kind.Number 6))
+    × (arithmetic_sort Add (Of (kind.Number 0)) (Of (kind.Number 2)) ≡ Of (kind.Number 2))
+    × (arithmetic_sort Add (Of (kind.Number 0)) (Of kind.Text) ≡ Unfit)
+    × (case_sort 2 (Of (kind.Number 0) ∷ []) (Of (kind.Number 2)) ≡ Of (kind.Number 2))
+    × (case_sort 0 (Of kind.Text ∷ []) Nulls ≡ Of kind.Text)
+    × (case_sort 0 (Of kind.Text ∷ []) (Of (kind.Number 0)) ≡ Unfit)
+    × (comparable (Of (kind.Number 0)) (Of (kind.Number 2)) ≡ true)
+    × (comparable (Of kind.Text) (Of (kind.Number 0)) ≡ false)
+    × (is_of_kind (kind.Number 2) (whole 1) ≡ false)
+    × (is_of_kind (kind.Number 2) Null ≡ true)

@@ -23,12 +23,6 @@ use Rattle.scalar_expr.specs.declared.expr.Comparison.TheVariants.{Equal, NotEqu
 use Rattle.scalar_expr.specs.declared.expr.DatePart.{DatePart}
 use Rattle.scalar_expr.specs.declared.expr.DatePart.TheVariants.{Year, Month, Day}
 
--- one operand: null, else the fault, else what the operator gives
-abbrev pub on_one : {A : Type 0} → A → (Fault → A) → (Value → A) → Value → A
-on_one null failed f Null = null
-on_one null failed f (Failed a) = failed a
-on_one null failed f x = f x
-
 -- two operands: null, else the least fault, else what the operator gives
 abbrev pub on_two : {A : Type 0} → A → (Fault → A) → (Value → Value → A) → Value → Value → A
 on_two null failed f Null y = null

@@ -1,6 +1,6 @@
 //! Laws of the definitions that the contracts cite. Each function does nothing: its contract is the law.
 ghost use Rattle.scalar_expr.specs.Laws.{MarkIsRead, InListIsOr, BetweenIsAnd};
-ghost use Rattle.scalar_expr.specs.Cases.{Arithmetics, Comparisons, Conditions, Cases, Parts};
+ghost use Rattle.scalar_expr.specs.Cases.{Arithmetics, Comparisons, Conditions, Cases, Parts, MoreArithmetics, MoreComparisons, MoreConditions, Typings};
 
 /// A truth that was written as a mark is read as the same truth.
 pub fn mark_is_read()
@@ -20,4 +20,12 @@ pub fn small_cases()
     ensures conditions { Conditions }
     ensures cases { Cases }
     ensures parts { Parts }
+{}
+
+/// More small cases, computed: the ends of the operators, and kinds.
+pub fn more_cases()
+    ensures arithmetic { MoreArithmetics }
+    ensures comparisons { MoreComparisons }
+    ensures conditions { MoreConditions }
+    ensures typings { Typings }
 {}
