@@ -1,0 +1,4 @@
+pub mod CalendarDays
+pub mod Ring
+pub mod Steps
+pub mod Words

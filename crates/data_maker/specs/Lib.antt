@@ -1,0 +1,4 @@
+pub mod Choices
+pub mod Fields
+pub mod Lines
+pub mod Texts

@@ -1,0 +1,196 @@
+//! The lines counted, and whole lines of each table as another program works them out from the formulas.
+use super::{NamedText, make};
+use std::test::Fail;
+
+/// How many lines the text of that index has.
+fn line_count(texts: &[NamedText], index: usize) -> usize {
+    match texts.get(index) {
+        Some(text) => text.bytes.iter().filter(|byte| **byte == b'\n').count(),
+        None => 0,
+    }
+}
+
+/// Whether the text of that index has the name, and its bytes hold the line behind an LF or at their front.
+fn has_line(texts: &[NamedText], index: usize, name: &str, place: usize, line: &str) -> bool {
+    let Some(text) = texts.get(index) else {
+        return false;
+    };
+    let found = text.bytes.split(|byte| *byte == b'\n').nth(place);
+    text.name.as_bytes() == name.as_bytes() && found == Some(line.as_bytes())
+}
+
+#[test]
+fn counts_lines(rt: HostRuntime) -> Result<(), Fail> {
+    let one = make(rt.alloc(), 1)?;
+    let ten = make(rt.alloc(), 10)?;
+    assert_eq!(rt; one.len(), 11);
+    assert_eq!(rt; ten.len(), 11);
+    let of_one = [5, 25, 20, 10, 80, 15, 30, 75, 3, 7, 3];
+    let of_ten = [5, 25, 200, 100, 800, 150, 300, 750, 30, 75, 30];
+    for index in 0..11 {
+        assert_eq!(rt; line_count(&one, index), of_one[index]);
+        assert_eq!(rt; line_count(&ten, index), of_ten[index]);
+    }
+    Ok(())
+}
+
+#[test]
+fn writes_lasting_tables(rt: HostRuntime) -> Result<(), Fail> {
+    let texts = make(rt.alloc(), 1)?;
+    assert!(rt; has_line(&texts, 0, "region.tbl", 4, "4|MIDDLE EAST||"));
+    assert!(rt; has_line(&texts, 1, "nation.tbl", 24, "24|UNITED STATES|1||"));
+    assert!(rt;
+        has_line(
+            &texts,
+            2,
+            "part.tbl",
+            0,
+            "1|pink red|Manufacturer#2|Brand#25|PROMO ANODIZED COPPER|23|SM PKG|900.01||"
+        )
+    );
+    assert!(rt;
+        has_line(
+            &texts,
+            2,
+            "part.tbl",
+            19,
+            "20|pink blue|Manufacturer#4|Brand#42|SMALL PLATED NICKEL|35|MED PKG|900.20||"
+        )
+    );
+    assert!(rt;
+        has_line(
+            &texts,
+            3,
+            "supplier.tbl",
+            0,
+            "1|Supplier#000000001|A1|23|33-100-200-3000|3692.07|ok|"
+        )
+    );
+    assert!(rt;
+        has_line(
+            &texts,
+            3,
+            "supplier.tbl",
+            6,
+            "7|Supplier#000000007|A7|22|32-100-200-3000|9736.81|Customer Complaints|"
+        )
+    );
+    assert!(rt; has_line(&texts, 4, "partsupp.tbl", 0, "1|2|3976|312.63||"));
+    assert!(rt; has_line(&texts, 4, "partsupp.tbl", 36, "10|1|5671|166.98||"));
+    assert!(rt; has_line(&texts, 4, "partsupp.tbl", 37, "10|3|6704|20.35||"));
+    assert!(rt; has_line(&texts, 4, "partsupp.tbl", 44, "12|3|616|807.45||"));
+    assert!(rt;
+        has_line(
+            &texts,
+            5,
+            "customer.tbl",
+            14,
+            "15|Customer#000000015|A15|24|34-100-200-3000|409.34|BUILDING||"
+        )
+    );
+    Ok(())
+}
+
+#[test]
+fn writes_orders(rt: HostRuntime) -> Result<(), Fail> {
+    let texts = make(rt.alloc(), 1)?;
+    assert!(rt;
+        has_line(
+            &texts,
+            6,
+            "orders.tbl",
+            0,
+            "1|2|P|104720.54|1998-06-10|1-URGENT|Clerk#000000010|0|plain|"
+        )
+    );
+    assert!(rt;
+        has_line(
+            &texts,
+            6,
+            "orders.tbl",
+            14,
+            "15|14|O|46415.66|1996-05-21|3-MEDIUM|Clerk#000000001|0|special requests|"
+        )
+    );
+    assert!(rt;
+        has_line(
+            &texts,
+            7,
+            "lineitem.tbl",
+            0,
+            "1|18|9|1|15.00|13502.70|0.07|0.01|A|F|1998-06-13|1998-07-10|1998-07-05|DELIVER IN PERSON|SHIP||"
+        )
+    );
+    assert!(rt;
+        has_line(
+            &texts,
+            7,
+            "lineitem.tbl",
+            14,
+            "6|4|7|3|30.00|27001.20|0.01|0.05|A|O|1997-03-01|1997-01-01|1997-03-09|COLLECT COD|TRUCK||"
+        )
+    );
+    assert!(rt;
+        has_line(
+            &texts,
+            8,
+            "orders.tbl.u1",
+            2,
+            "33|14|F|67322.04|1995-11-27|1-URGENT|Clerk#000000010|0|plain|"
+        )
+    );
+    assert!(rt;
+        has_line(
+            &texts,
+            9,
+            "lineitem.tbl.u1",
+            6,
+            "33|5|10|2|21.00|18901.05|0.00|0.06|N|F|1996-02-08|1995-12-31|1996-02-17|NONE|SHIP||"
+        )
+    );
+    assert!(rt; has_line(&texts, 10, "delete.1", 2, "3|"));
+    Ok(())
+}
+
+#[test]
+fn writes_ten_times_as_much(rt: HostRuntime) -> Result<(), Fail> {
+    let texts = make(rt.alloc(), 10)?;
+    assert!(rt;
+        has_line(
+            &texts,
+            2,
+            "part.tbl",
+            199,
+            "200|green navy|Manufacturer#1|Brand#14|LARGE BRUSHED STEEL|7|WRAP CASE|902.00||"
+        )
+    );
+    assert!(rt; has_line(&texts, 4, "partsupp.tbl", 799, "200|61|1819|262.57||"));
+    assert!(rt;
+        has_line(
+            &texts,
+            3,
+            "supplier.tbl",
+            99,
+            "100|Supplier#000000100|A100|5|15-100-200-3000|1791.14|ok|"
+        )
+    );
+    assert!(rt;
+        has_line(
+            &texts,
+            6,
+            "orders.tbl",
+            299,
+            "300|100|P|69851.15|1996-09-03|2-HIGH|Clerk#000000001|0|special requests|"
+        )
+    );
+    assert!(rt;
+        has_line(
+            &texts,
+            7,
+            "lineitem.tbl",
+            749,
+            "300|49|90|1|15.00|13507.35|0.04|0.05|A|F|1996-12-22|1996-10-30|1997-01-14|NONE|TRUCK||"
+        )
+    );
+    Ok(())
+}
