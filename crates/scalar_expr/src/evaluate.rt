@@ -122,7 +122,7 @@ fn chosen<'a>(
                 return Ok(Some(v));
             }
             Truth::Stands(Standing::AtFault(fault)) => {
-                return Ok(Some(Cow::Owned(Value::Fault(fault))));
+                return Ok(None);
             }
             Truth::False | Truth::Unknown => {}
         }

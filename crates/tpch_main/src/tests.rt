@@ -235,6 +235,36 @@ fn ends_at_a_reading_fault(rt: HostRuntime) -> Result<(), Fail> {
     Ok(())
 }
 
+// The script and the table are opened once each and read to their ends, and nothing else is called: a
+// seventh call would fail, and a script that is refused leaves the table unopened.
+#[test]
+fn opens_no_other_file(rt: HostRuntime) -> Result<(), Fail> {
+    let alloc = rt.alloc();
+    let table = [("s", SCRIPT), ("d/region.tbl", REGIONS)];
+    let files = files_of(alloc, &table, &[7])?;
+    expect_run(
+        &rt,
+        alloc,
+        &["session", "d", "s"],
+        files,
+        sink(alloc),
+        Status::Done,
+        "[1] version 0 rows 2\nAFRICA\nAMERICA\n",
+    )?;
+    let table = [("s", "select"), ("d/region.tbl", REGIONS)];
+    let files = files_of(alloc, &table, &[4])?;
+    expect_run(
+        &rt,
+        alloc,
+        &["session", "d", "s"],
+        files,
+        sink(alloc),
+        Status::InputRefused,
+        "input refused s not built\n",
+    )?;
+    Ok(())
+}
+
 #[test]
 fn ends_at_a_writing_fault(rt: HostRuntime) -> Result<(), Fail> {
     let alloc = rt.alloc();
