@@ -122,7 +122,7 @@ fn chosen<'a>(
                 return Ok(Some(v));
             }
             Truth::Stands(Standing::AtFault(fault)) => {
-                return Ok(None);
+                return Ok(Some(Cow::Owned(Value::Fault(fault))));
             }
             Truth::False | Truth::Unknown => {}
         }

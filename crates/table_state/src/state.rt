@@ -1,0 +1,81 @@
+//! The type `State`.
+ghost use Rattle.std.specs.Prelude.{◌≡◌, length, map};
+ghost use Rattle.std.specs.Vec.{vec_items};
+ghost use Rattle.tpch_schema.specs.Kinds.{RowsAreOf};
+ghost use Rattle.tpch_schema.specs.State.{table_rows};
+ghost use Rattle.table_state.specs.Lists.{IsOfKinds, place_of, state_of};
+
+use sql_value::Row;
+use std::marker::Model;
+use tpch_schema::TableName;
+
+/// The rows of the eight tables, each of its table's kinds. Two rows of a table may have the same primary key.
+#[derive(Drop)]
+pub struct State {
+    /// One list of rows for each table, in the schema's order.
+    tables: Vec<Vec<Row>>,
+}
+
+impl Model for State {
+    ghost use Rattle.std.specs.Prelude.{◌≡◌, length, map};
+    ghost use Rattle.std.specs.Vec.{vec_items};
+    ghost use Rattle.tpch_schema.specs.State.{State as Tables};
+    ghost use Rattle.table_state.specs.Lists.{IsOfKinds, state_of};
+
+    ghost Value = { Tables };
+
+    ghost view = { λ s. state_of (map vec_items s.tables.items) };
+
+    ghost invariant = { λ s. (length s.tables.items ≡ 8) × IsOfKinds (state_of (map vec_items s.tables.items)) };
+}
+
+/// The table's place in the schema's order, counted from 0.
+fn place(table: TableName) -> usize
+    ensures { result ≡ place_of table }
+{
+    match table {
+        TableName::Region => 0,
+        TableName::Nation => 1,
+        TableName::Part => 2,
+        TableName::Supplier => 3,
+        TableName::Partsupp => 4,
+        TableName::Customer => 5,
+        TableName::Orders => 6,
+        TableName::Lineitem => 7,
+    }
+}
+
+/// The rows of the table among eight lists in the schema's order.
+fn rows_of(tables: &[Vec<Row>], table: TableName) -> &[Row]
+    requires { length tables.now ≡ 8 }
+    ensures { result.now ≡ table_rows (state_of (map vec_items tables.now)) table }
+{
+    tables[place(table)].as_slice()
+}
+
+impl State {
+    /// The state of these eight lists, which stand in the schema's order and whose rows are of their tables' kinds.
+    /// They are moved into it, and no memory is taken.
+    pub fn new(tables: Vec<Vec<Row>>) -> State
+        requires eight { length tables.items ≡ 8 }
+        requires kinds { IsOfKinds (state_of (map vec_items tables.items)) }
+        ensures { result ≡ state_of (map vec_items tables.items) }
+    {
+        State { tables }
+    }
+
+    /// How many rows the table has.
+    pub fn count(&self, table: TableName) -> u64
+        ensures { result ≡ length (table_rows self.now table) }
+    {
+        self.rows(table).len() as u64
+    }
+
+    /// The table's rows in order, of which nothing is copied.
+    pub fn rows(&self, table: TableName) -> &[Row]
+        ensures rows { result.now ≡ table_rows self.now table }
+        ensures kinds { RowsAreOf table result.now }
+    {
+        rows_of(&self.tables, table)
+    }
+}
