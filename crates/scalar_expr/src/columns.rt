@@ -90,7 +90,7 @@ fn rename_column(place: u32, columns: &[u32]) -> Expr
     ensures { IsRenamed columns.now (Column place) result }
 {
     if (place as usize) < columns.len() {
-        Expr::Column(place)
+        Expr::Column(columns[place as usize])
     } else {
         Expr::Literal(Value::Null)
     }
