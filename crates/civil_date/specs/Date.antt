@@ -19,12 +19,12 @@ abbrev pub is_date : ℕ → Bool
 is_date n = is_day (n / 10000) (n / 100 % 100) (n % 100)
 
 -- the number that digits spell
-abbrev pub digits_value : List ℕ → ℕ
-digits_value = fold (λ n digit. 10 * n + (digit - 48)) 0
+abbrev pub spelled_number : List ℕ → ℕ
+spelled_number = fold (λ n digit. 10 * n + (digit - 48)) 0
 
 -- the number that a text spells, if it is all digits
 abbrev pub number_of : List ℕ → Option ℕ
-number_of text = if list_all is_ascii_digit text then Some (digits_value text) else None
+number_of text = if list_all is_ascii_digit text then Some (spelled_number text) else None
 
 -- the number of a day, if the calendar has it
 abbrev pub day_of : Option ℕ → Option ℕ → Option ℕ → Option ℕ

@@ -1,5 +1,6 @@
 -- What it is for values and rows to be of a column's or a table's kinds.
-use Rattle.std.specs.Prelude.{◌^◌, Bool, true, false, not, ◌&&◌, ◌==◌, nat_le, nat_lt, int_lt, List, [], ◌∷◌, length, map, slice_index_or, IsTrue, ℤ, pos, unsigned_abs}
+use Rattle.std.specs.Prelude.{◌^◌, Bool, true, false, not, ◌&&◌, ◌==◌, nat_le, nat_lt, int_lt, List, length, map, slice_index_or, IsTrue, ℤ, pos, unsigned_abs}
+use Rattle.std.specs.Cmp.Lexicographic.{pointwise}
 use Rattle.std.specs.List.{All}
 use Rattle.sql_value.specs.declared.value.Value.{Value}
 use Rattle.sql_value.specs.declared.value.Value.TheVariants as value
@@ -23,9 +24,7 @@ is_of_kind kind v = false
 
 -- a row has a value for each of the kinds, of that kind
 abbrev pub are_of_kinds : List ColumnKind → List Value → Bool
-are_of_kinds [] [] = true
-are_of_kinds (kind ∷ kinds) (v ∷ vs) = is_of_kind kind v && are_of_kinds kinds vs
-are_of_kinds kinds vs = false
+are_of_kinds = pointwise is_of_kind
 
 -- a row is of a table's kinds
 abbrev pub RowIsOf : TableName → List Value → Type 0

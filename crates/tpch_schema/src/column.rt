@@ -42,14 +42,17 @@ impl ColumnKind {
 }
 
 /// Whether a row is of these kinds: it has a value for each, of that kind.
+#[tactic(auto, using(crate::proofs::Pairs::pairs))]
 pub fn are_of_kinds(kinds: &[ColumnKind], row: &[Value]) -> bool
     ensures { result ≡ are_of_kinds kinds.now row.now }
 {
-    match kinds {
-        [] => row.is_empty(),
-        [kind, kinds @ ..] => match row {
-            [] => false,
-            [value, row @ ..] => kind.admits(value) && are_of_kinds(kinds, row),
-        },
+    if kinds.len() != row.len() {
+        return false;
     }
+    for (i, value) in row.iter().enumerate() {
+        if !kinds[i].admits(value) {
+            return false;
+        }
+    }
+    true
 }
