@@ -5,4 +5,8 @@ pub mod LineCuts
 pub mod PieceSteps
 pub mod Answers
 pub mod Joined
+pub mod WholeLines
+pub mod LineFaults
+pub mod FieldCuts
+pub mod FieldLaws
 pub mod FileLaws

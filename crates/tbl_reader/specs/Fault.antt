@@ -4,11 +4,6 @@ use Rattle.refusals.specs.declared.line.LineRefusal.{LineRefusal}
 use Rattle.tbl_reader.specs.declared.fault.ReadFault.{ReadFault}
 use Rattle.tbl_reader.specs.declared.fault.ReadFault.TheVariants.{Refused, OutOfMemory}
 
--- the fault is that refusal, or memory was wanted
-abbrev pub IsRefusal : LineRefusal → ReadFault → Type 0
-IsRefusal first (Refused refusal) = refusal ≡ first
-IsRefusal first OutOfMemory = ⊤
-
 -- the fault is the refusal that stands there, or memory was wanted
 abbrev pub IsFaultOf : {A : Type 0} → Result A LineRefusal → ReadFault → Type 0
 IsFaultOf r (Refused refusal) = r ≡ Err refusal

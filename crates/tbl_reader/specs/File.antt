@@ -26,6 +26,10 @@ abbrev pub with_new_key : TableName → List (List Value) → Result (List Value
 with_new_key table rows (Ok row) = if is_taken table rows row then Err DuplicateKey else Ok row
 with_new_key table rows (Err fault) = Err fault
 
+-- the row that a line's fields say in a table, or what is wrong with them
+abbrev pub line_row : TableName → List ℕ → Result (List Value) LineFault
+line_row table line = row_of (kinds_of table) (line_text line)
+
 -- what the lines so far gave: their rows, and how many bytes they have
 pub record Progress : Type 0 where
   pub rows : List (List Value)
@@ -48,7 +52,7 @@ abbrev pub add_line : TableName → ℕ → Result Progress LineRefusal → List
 add_line table limit (Err first) line = Err first
 add_line table limit (Ok so_far) line =
     if nat_lt limit (so_far.bytes + length line) then Err (refusal so_far FileTooLong)
-    else with_row so_far (length line) (with_new_key table so_far.rows (row_of (kinds_of table) (line_text line)))
+    else with_row so_far (length line) (with_new_key table so_far.rows (line_row table line))
 
 -- what lines give behind those so far
 abbrev pub add_lines : TableName → ℕ → Result Progress LineRefusal → List (List ℕ) → Result Progress LineRefusal

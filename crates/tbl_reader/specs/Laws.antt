@@ -1,12 +1,13 @@
 -- Laws of the lines and rows of a file.
-use Rattle.std.specs.Prelude.{◌≡◌, ℕ, ◌+◌, ◌-◌, ◌<◌, ◌≤◌, true, false, List, [], ◌∷◌, length, take, Ok, Err, slice_index, slice_index_or, ⊤}
+use Rattle.std.specs.Prelude.{◌≡◌, ◌≢◌, ◌↔◌, ℕ, ◌+◌, ◌-◌, ◌<◌, ◌≤◌, true, List, [], ◌∷◌, ◌++◌, length, take, map, Ok, Err, Contains, slice_index, ⊤}
 use Rattle.std.specs.List.{AllPairs, concat}
+use Rattle.refusals.specs.declared.line.LineFault.{LineFault}
+use Rattle.refusals.specs.declared.line.LineFault.TheVariants.{DuplicateKey, FileTooLong}
 use Rattle.refusals.specs.declared.line.LineRefusal.{LineRefusal}
 use Rattle.sql_value.specs.declared.value.Value.{Value}
-use Rattle.sql_value.specs.Value.{same_row}
 use Rattle.tpch_schema.specs.declared.table.TableName.{TableName}
 use Rattle.tpch_schema.specs.Kinds.{RowsAreOf, key_of}
-use Rattle.tbl_reader.specs.File.{Progress, progress, cut_lines, add_line, add_lines, file_rows}
+use Rattle.tbl_reader.specs.File.{cut_lines, line_row, file_rows}
 use Rattle.tbl_reader.specs.Steps.{is_unended}
 
 -- a line is not empty, and has no LF but as its last byte
@@ -24,28 +25,41 @@ AreLines (line ∷ lines) =
 abbrev pub LinesGiveText : Type 0
 LinesGiveText = (text : List ℕ) → (concat (cut_lines text) ≡ text) × AreLines (cut_lines text)
 
--- the rows of a table's file: of the table's kinds, no two with the same key, one for each line, of a text within the limit
-pub record AreRowsOf (table : TableName) (limit : ℕ) (text : List ℕ) (rows : List (List Value)) : Type 0 where
-  pub kinds : RowsAreOf table rows
-  pub keys : AllPairs (λ earlier later. same_row (key_of table later) (key_of table earlier) ≡ false) rows
-  pub lines : length rows ≡ length (cut_lines text)
-  pub bytes : length text ≤ limit
+-- the rows of lines: each line's fields say its row, no two rows have one key, and the lines are within the limit
+pub record AreRowsOf (table : TableName) (limit : ℕ) (lines : List (List ℕ)) (rows : List (List Value)) : Type 0 where
+  pub fields : map (line_row table) lines ≡ map Ok rows
+  pub keys : AllPairs ◌≢◌ (map (key_of table) rows)
+  pub bytes : length (concat lines) ≤ limit
 
-abbrev pub RowsAreSound : Type 0
-RowsAreSound =
-    (table : TableName) (limit : ℕ) (text : List ℕ) (rows : List (List Value)) → file_rows table limit text ≡ Ok rows
-    → AreRowsOf table limit text rows
+-- a file gives rows exactly where they are those of its lines
+abbrev pub RowsAreThoseOfTheLines : Type 0
+RowsAreThoseOfTheLines =
+    (table : TableName) (limit : ℕ) (text : List ℕ) (rows : List (List Value))
+    → (file_rows table limit text ≡ Ok rows) ↔ AreRowsOf table limit (cut_lines text) rows
 
--- the refusal is that of a line before which all lines gave rows
-pub record IsFirstBadLine (table : TableName) (limit : ℕ) (text : List ℕ) (first : LineRefusal) : Type 0 where
-  pub before : ℕ
-  pub so_far : Progress
-  pub within : before < length (cut_lines text)
-  pub line : first.line ≡ before + 1
-  pub good : add_lines table limit (Ok (progress [] 0)) (take before (cut_lines text)) ≡ Ok so_far
-  pub bad : add_line table limit (Ok so_far) (slice_index_or (cut_lines text) before []) ≡ Err first
+-- what is wrong with a line behind earlier ones of these rows: it reaches past the limit, an earlier row has its key, or
+-- its fields say no row
+abbrev pub IsWrong : TableName → ℕ → List (List ℕ) → List (List Value) → List ℕ → LineFault → Type 0
+IsWrong table limit earlier rows line FileTooLong = limit < length (concat earlier) + length line
+IsWrong table limit earlier rows line DuplicateKey =
+    (length (concat earlier) + length line ≤ limit)
+    × (row : List Value) × (line_row table line ≡ Ok row) × Contains (map (key_of table) rows) (key_of table row)
+IsWrong table limit earlier rows line fault =
+    (length (concat earlier) + length line ≤ limit) × (line_row table line ≡ Err fault)
 
+-- the refusal is that of the first line that can't be a row: the lines before it have rows
+pub record IsFirstBadLine (table : TableName) (limit : ℕ) (lines : List (List ℕ)) (first : LineRefusal) : Type 0 where
+  pub earlier : List (List ℕ)
+  pub line : List ℕ
+  pub later : List (List ℕ)
+  pub rows : List (List Value)
+  pub cut : lines ≡ earlier ++ line ∷ later
+  pub number : first.line ≡ length earlier + 1
+  pub good : AreRowsOf table limit earlier rows
+  pub bad : IsWrong table limit earlier rows line first.fault
+
+-- a file is refused exactly at its first bad line
 abbrev pub FirstBadLineCounts : Type 0
 FirstBadLineCounts =
-    (table : TableName) (limit : ℕ) (text : List ℕ) (first : LineRefusal) → file_rows table limit text ≡ Err first
-    → IsFirstBadLine table limit text first
+    (table : TableName) (limit : ℕ) (text : List ℕ) (first : LineRefusal)
+    → (file_rows table limit text ≡ Err first) ↔ IsFirstBadLine table limit (cut_lines text) first

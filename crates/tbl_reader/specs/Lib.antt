@@ -9,4 +9,5 @@ pub mod Reading
 pub mod Steps
 pub mod Pieces
 pub mod Laws
+pub mod LineLaws
 pub mod Cases

@@ -8,5 +8,5 @@ pub record TableRows : Type 0 where
   pub table : TableName
   pub rows : List (List Value)
 
-abbrev pub table_rows : TableName → List (List Value) → TableRows
-table_rows table rows = record { table = table; rows = rows }
+abbrev pub rows_in_table : TableName → List (List Value) → TableRows
+rows_in_table table rows = record { table = table; rows = rows }

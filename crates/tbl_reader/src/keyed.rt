@@ -1,5 +1,5 @@
 //! The rows of a table with their primary keys, no two of them identical.
-ghost use Rattle.std.specs.Prelude.{◌≡◌, ◌++◌, ◌∷◌, [], not, length, IfOk, OnErr, if◌then◌else◌, slice_index_or};
+ghost use Rattle.std.specs.Prelude.{◌≡◌, ◌+◌, ◌++◌, ◌∷◌, [], not, length, IfOk, OnErr, if◌then◌else◌, slice_index_or};
 ghost use Rattle.sql_value.specs.declared.value.Value.TheVariants.{Null};
 ghost use Rattle.tpch_schema.specs.Kinds.{RowIsOf, RowsAreOf};
 ghost use Rattle.std.specs.List.{list_any};
@@ -67,7 +67,7 @@ pub struct KeyedRows {
 }
 
 impl Model for KeyedRows {
-    ghost use Rattle.tbl_reader.specs.Rows.{TableRows, table_rows};
+    ghost use Rattle.tbl_reader.specs.Rows.{TableRows, rows_in_table};
 
     ghost Value = { TableRows };
 
@@ -75,7 +75,7 @@ impl Model for KeyedRows {
     ghost use Rattle.tpch_schema.specs.Kinds.{RowsAreOf};
     ghost use Rattle.tbl_reader.specs.Key.{row_key};
 
-    ghost view = { λ r. table_rows r.table r.rows.items };
+    ghost view = { λ r. rows_in_table r.table r.rows.items };
 
     ghost invariant = { λ r. (r.keys.keys ≡ map (row_key r.table) r.rows.items) × RowsAreOf r.table r.rows.items };
 }
@@ -101,11 +101,11 @@ impl KeyedRows {
         self.table
     }
 
-    /// How many rows there are.
-    pub fn len(&self) -> usize
-        ensures { result ≡ length self.now.rows }
+    /// The number, from 1, of the row that comes next. It is in range, since the rows lie in memory.
+    pub fn next_number(&self) -> u64
+        ensures { result ≡ length self.now.rows + 1 }
     {
-        self.rows.len()
+        self.rows.as_slice().len() as u64 + 1
     }
 
     /// The rows in order.

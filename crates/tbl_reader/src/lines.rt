@@ -1,7 +1,7 @@
 //! Whole lines, one after the other: their rows, and the first refusal.
 ghost use Rattle.std.specs.Prelude.{◌≡◌, ◌+◌, ◌≤◌, [], OnOk, IfErr, length};
 ghost use Rattle.tpch_schema.specs.Kinds.{RowsAreOf};
-ghost use Rattle.tbl_reader.specs.Fault.{IsFaultOf, IsRefusal};
+ghost use Rattle.tbl_reader.specs.Fault.{IsFaultOf};
 ghost use Rattle.tbl_reader.specs.File.{add_line, refusal};
 
 use crate::fault::ReadFault;
@@ -58,12 +58,12 @@ impl Lines {
     }
 
     /// The refusal of the line behind those so far.
-    pub fn refusal(&self, fault: LineFault) -> ReadFault
-        ensures { IsRefusal (refusal self.now.so_far fault) result }
+    pub fn refusal(&self, fault: LineFault) -> LineRefusal
+        ensures { result ≡ refusal self.now.so_far fault }
     {
-        match (self.keyed.len() as u64).checked_add(1) {
-            Some(line) => ReadFault::Refused(LineRefusal { line, fault }),
-            None => ReadFault::OutOfMemory,
+        LineRefusal {
+            line: self.keyed.next_number(),
+            fault,
         }
     }
 
@@ -93,17 +93,17 @@ impl Lines {
     {
         let size = line.len() as u64;
         if size > self.room() {
-            return Err(self.refusal(LineFault::FileTooLong));
+            return Err(ReadFault::Refused(self.refusal(LineFault::FileTooLong)));
         }
         let kinds = self.keyed.table().kinds();
         let values = match row_values(self.alloc, kinds, line_text(line)) {
             Ok(values) => values,
-            Err(LineError::Bad(fault)) => return Err(self.refusal(fault)),
+            Err(LineError::Bad(fault)) => return Err(ReadFault::Refused(self.refusal(fault))),
             Err(LineError::OutOfMemory) => return Err(ReadFault::OutOfMemory),
         };
         let added = self.keyed.push(values)?;
         if !added {
-            return Err(self.refusal(LineFault::DuplicateKey));
+            return Err(ReadFault::Refused(self.refusal(LineFault::DuplicateKey)));
         }
         self.bytes += size;
         Ok(())

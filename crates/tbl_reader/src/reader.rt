@@ -47,7 +47,7 @@ fn keep_rest(lines: &Lines, rest: &mut Vec<u8>, part: &[u8]) -> Result<(), ReadF
     ensures refused { IfErr result (IsTooLong lines.now (rest.old.items ++ part.now)) }
 {
     if part.len() as u64 > lines.room() - rest.len() as u64 {
-        return Err(lines.refusal(LineFault::FileTooLong));
+        return Err(ReadFault::Refused(lines.refusal(LineFault::FileTooLong)));
     }
     rest.extend_from_slice(part)?;
     Ok(())
@@ -163,6 +163,7 @@ impl TableReader {
         ensures going { OnOk result (self.new.fault ≡ None) }
         ensures stopped { IfErr result (λ fault. self.new.fault ≡ Some fault) }
         ensures again { (fault : ReadFault) → self.old.fault ≡ Some fault → result ≡ Err fault }
+        ensures kept { (fault : ReadFault) → self.old.fault ≡ Some fault → self.new ≡ self.old }
     {
         if let Some(fault) = self.fault {
             return Err(fault);

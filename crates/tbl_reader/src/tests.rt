@@ -10,11 +10,15 @@ use tpch_schema::{LineFault, LineRefusal, TableName};
 const LINEITEM: &[u8] =
     b"9|1|1|1|1.00|5.00|0.00|-0.5|N|O|1996-02-01|1996-02-02|1996-02-29|NONE|MAIL|w|";
 
-fn refusal(alloc: Global, table: TableName, text: &[u8]) -> Option<(u64, LineFault)> {
-    match read_pieces(alloc, table, &[text]) {
+fn refusal_of(alloc: Global, table: TableName, pieces: &[&[u8]]) -> Option<(u64, LineFault)> {
+    match read_pieces(alloc, table, pieces) {
         Err(ReadFault::Refused(LineRefusal { line, fault })) => Some((line, fault)),
         _ => None,
     }
+}
+
+fn refusal(alloc: Global, table: TableName, text: &[u8]) -> Option<(u64, LineFault)> {
+    refusal_of(alloc, table, &[text])
 }
 
 fn count(alloc: Global, table: TableName, text: &[u8]) -> Result<usize, ReadFault> {
@@ -156,9 +160,20 @@ fn are_same(left: &[Row], right: &[Row]) -> bool {
 fn is_cut_anywhere(rt: HostRuntime) -> Result<(), Fail> {
     let text = b"0|AFRICA|a|\r\n1|AMERICA||\n2|A|b\r";
     let whole = read_pieces(rt.alloc(), TableName::Region, &[text])?;
-    for at in 0..text.len() {
+    for at in 0..text.len() + 1 {
         let cut = read_pieces(rt.alloc(), TableName::Region, &[&text[..at], &text[at..]])?;
         assert!(rt; are_same(cut.as_slice(), whole.as_slice()));
     }
     Ok(())
+}
+
+#[test]
+fn refuses_however_cut(rt: HostRuntime) {
+    let text = b"0|AFRICA|a|\r\n1|AMERICA||\n00|ASIA|b|\nx";
+    for at in 0..text.len() + 1 {
+        let pieces = [&text[..at], &text[at..]];
+        assert!(rt;
+            refusal_of(rt.alloc(), TableName::Region, &pieces) == Some((3, LineFault::DuplicateKey))
+        );
+    }
 }

@@ -1,4 +1,4 @@
-use Rattle.tbl_reader.proofs.FileLaws.{concat-cut_lines, are_lines}
+use Rattle.tbl_reader.proofs.WholeLines.{concat-cut_lines, are_lines}
 use Rattle.tbl_reader.proofs.laws.lines_give_text.Goals as goal
 
 pub returns : goal.returns

@@ -1,0 +1,54 @@
+-- Laws of the fields of a line.
+use Rattle.std.specs.Prelude.{◌≡◌, ◌↔◌, ◌⊎◌, ℕ, ◌<◌, Bool, false, List, [], ◌∷◌, ◌++◌, length, map, All, Result, Ok, Err}
+use Rattle.std.specs.List.{join_with_byte, list_any, zip}
+use Rattle.refusals.specs.declared.line.LineFault.{LineFault}
+use Rattle.refusals.specs.declared.line.LineFault.TheVariants.{FieldCount}
+use Rattle.sql_value.specs.declared.value.Value.{Value}
+use Rattle.tpch_schema.specs.declared.column.ColumnKind.{ColumnKind}
+use Rattle.tbl_reader.specs.Field.{field_value}
+use Rattle.tbl_reader.specs.Line.{is_bar, row_of}
+
+-- as many fields as a line must have: none has a bar, bars part them, and one more may stand behind the last
+pub record AreFieldsOf (columns : ℕ) (line : List ℕ) (fields : List (List ℕ)) : Type 0 where
+  pub as_many : length fields ≡ columns
+  pub no_bar : All (λ field. list_any is_bar field ≡ false) fields
+  pub parted : (line ≡ join_with_byte 124 fields) ⊎ (line ≡ join_with_byte 124 fields ++ 124 ∷ [])
+
+-- what a field says in its column
+abbrev pub said : ColumnKind × List ℕ → Result Value LineFault
+said column = field_value column.0 column.1
+
+-- the values of a line: each field says its own
+pub record AreValuesOf (kinds : List ColumnKind) (line : List ℕ) (values : List Value) : Type 0 where
+  pub fields : List (List ℕ)
+  pub parted : AreFieldsOf (length kinds) line fields
+  pub said : map said (zip kinds fields) ≡ map Ok values
+
+-- a line gives a row exactly where its fields say it
+abbrev pub RowsSayTheirFields : Type 0
+RowsSayTheirFields =
+    (kinds : List ColumnKind) (line : List ℕ) (values : List Value) → 0 < length kinds
+    → (row_of kinds line ≡ Ok values) ↔ AreValuesOf kinds line values
+
+-- the fault is that of the first field from the left that says no value
+pub record IsFirstBadField (kinds : List ColumnKind) (line : List ℕ) (fault : LineFault) : Type 0 where
+  pub fields : List (List ℕ)
+  pub parted : AreFieldsOf (length kinds) line fields
+  pub earlier : List (ColumnKind × List ℕ)
+  pub column : ColumnKind × List ℕ
+  pub later : List (ColumnKind × List ℕ)
+  pub values : List Value
+  pub cut : zip kinds fields ≡ earlier ++ column ∷ later
+  pub good : map said earlier ≡ map Ok values
+  pub bad : said column ≡ Err fault
+
+-- what is wrong with a line: it has not as many fields, or a field says no value
+abbrev pub IsBadLine : List ColumnKind → List ℕ → LineFault → Type 0
+IsBadLine kinds line FieldCount = (fields : List (List ℕ)) → ¬ AreFieldsOf (length kinds) line fields
+IsBadLine kinds line fault = IsFirstBadField kinds line fault
+
+-- a line is refused exactly so
+abbrev pub FirstBadFieldCounts : Type 0
+FirstBadFieldCounts =
+    (kinds : List ColumnKind) (line : List ℕ) (fault : LineFault) → 0 < length kinds
+    → (row_of kinds line ≡ Err fault) ↔ IsBadLine kinds line fault
