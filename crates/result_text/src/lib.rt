@@ -2,6 +2,7 @@
 #![tactic(auto)]
 
 mod head;
+mod number;
 mod rows;
 
 pub use head::header;

@@ -1,10 +1,9 @@
 //! The rows of an answer.
 ghost use Rattle.std.specs.Prelude.{◌≡◌, ◌++◌, IfOk, OnOk, IsTrue};
-ghost use Rattle.fixed_decimal.specs.Written.{last_digits};
 ghost use Rattle.result_text.specs.Answer.{answer_text, barred, columns_written, date_written, escaped, has_no_fault, is_no_fault, rows_have_no_fault, value_written};
 
+use crate::number::{push_decimal, push_last_digits};
 use civil_date::CivilDate;
-use fixed_decimal::write_decimal;
 use sql_value::{Row, Value};
 use std::alloc::{AllocError, Global};
 
@@ -21,39 +20,25 @@ fn push_escaped(text: &mut Vec<u8>, plain: &[u8]) -> Result<(), AllocError>
     Ok(())
 }
 
-/// Appends the last two digits of a number.
-fn push_two_digits(text: &mut Vec<u8>, number: u32) -> Result<(), AllocError>
-    ensures { OnOk result (text.new.items ≡ text.old.items ++ last_digits 2 number) }
-{
-    text.push(b'0' + (number / 10 % 10) as u8)?;
-    text.push(b'0' + (number % 10) as u8)?;
-    Ok(())
-}
-
 /// Appends a date as YYYY-MM-DD.
 fn push_date(text: &mut Vec<u8>, date: CivilDate) -> Result<(), AllocError>
     ensures { OnOk result (text.new.items ≡ text.old.items ++ date_written date) }
 {
-    push_two_digits(text, date.year() / 100)?;
-    push_two_digits(text, date.year())?;
+    push_last_digits(text, date.year() as u64, 4)?;
     text.push(b'-')?;
-    push_two_digits(text, date.month())?;
+    push_last_digits(text, date.month() as u64, 2)?;
     text.push(b'-')?;
-    push_two_digits(text, date.day())?;
-    Ok(())
+    push_last_digits(text, date.day() as u64, 2)
 }
 
 /// Appends a value, which is no fault.
-fn push_value(alloc: Global, text: &mut Vec<u8>, value: &Value) -> Result<(), AllocError>
+fn push_value(text: &mut Vec<u8>, value: &Value) -> Result<(), AllocError>
     requires { IsTrue (is_no_fault value.now) }
     ensures { OnOk result (text.new.items ≡ text.old.items ++ value_written value.now) }
 {
     match value {
         Value::Fault(_) => Ok(()),
-        Value::Number(scale, coefficient) => {
-            let written = write_decimal(alloc, *coefficient, *scale)?;
-            text.extend_from_slice(&written)
-        }
+        Value::Number(scale, coefficient) => push_decimal(text, *coefficient, *scale),
         Value::Text(plain) => push_escaped(text, plain.bytes()),
         Value::Date(date) => push_date(text, *date),
         Value::Null => text.extend_from_slice(b"\\N"),
@@ -61,27 +46,27 @@ fn push_value(alloc: Global, text: &mut Vec<u8>, value: &Value) -> Result<(), Al
 }
 
 /// Appends values with a bar before each.
-fn push_barred(alloc: Global, text: &mut Vec<u8>, values: &[Value]) -> Result<(), AllocError>
+fn push_barred(text: &mut Vec<u8>, values: &[Value]) -> Result<(), AllocError>
     requires { IsTrue (has_no_fault values.now) }
     ensures { OnOk result (text.new.items ≡ text.old.items ++ barred values.now) }
 {
     for value in values {
         text.push(b'|')?;
-        push_value(alloc, text, value)?;
+        push_value(text, value)?;
     }
     Ok(())
 }
 
 /// Appends the values of a row with a bar between two.
-fn push_columns(alloc: Global, text: &mut Vec<u8>, values: &[Value]) -> Result<(), AllocError>
+fn push_columns(text: &mut Vec<u8>, values: &[Value]) -> Result<(), AllocError>
     requires { IsTrue (has_no_fault values.now) }
     ensures { OnOk result (text.new.items ≡ text.old.items ++ columns_written values.now) }
 {
     let [first, others @ ..] = values else {
         return Ok(());
     };
-    push_value(alloc, text, first)?;
-    push_barred(alloc, text, others)
+    push_value(text, first)?;
+    push_barred(text, others)
 }
 
 /// The rows of an answer, in order: each with bars between its columns and LF at its end. A number has all its scale's
@@ -92,7 +77,7 @@ pub fn answer_text(alloc: Global, rows: &[Row]) -> Result<Vec<u8>, AllocError>
 {
     let mut text = Vec::new(alloc);
     for row in rows {
-        push_columns(alloc, &mut text, row.values())?;
+        push_columns(&mut text, row.values())?;
         text.push(b'\n')?;
     }
     Ok(text)

@@ -14,11 +14,30 @@ fn writes_headers(rt: HostRuntime) -> Result<(), Fail> {
 }
 
 #[test]
-fn writes_numbers(rt: HostRuntime) -> Result<(), Fail> {
+fn writes_amounts(rt: HostRuntime) -> Result<(), Fail> {
     let alloc = rt.alloc();
-    let row = Row::new(vec![in alloc; Value::Number(Scale::new(2), -50)]?)?;
-    let text = answer_text(alloc, &[row])?;
-    assert!(rt; text.as_slice() == b"-0.50\n".as_slice());
+    let cents = Scale::new(2);
+    let amounts = vec![in alloc;
+        Value::Number(cents, 0),
+        Value::Number(cents, -50),
+        Value::Number(cents, -100),
+        Value::Number(cents, 7),
+    ]?;
+    let text = answer_text(alloc, &[Row::new(amounts)?])?;
+    assert!(rt; text.as_slice() == b"0.00|-0.50|-1.00|0.07\n".as_slice());
+    Ok(())
+}
+
+#[test]
+fn writes_numbers_of_any_size(rt: HostRuntime) -> Result<(), Fail> {
+    let alloc = rt.alloc();
+    let whole = Row::new(vec![in alloc; Value::Number(Scale::WHOLE, i128::MAX)]?)?;
+    let least = Row::new(vec![in alloc; Value::Number(Scale::new(18), i128::MIN)]?)?;
+    let text = answer_text(alloc, &[whole, least])?;
+    assert!(rt;
+        text.as_slice()
+            == b"170141183460469231731687303715884105727\n-170141183460469231731.687303715884105728\n".as_slice()
+    );
     Ok(())
 }
 
