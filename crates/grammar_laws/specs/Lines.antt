@@ -56,7 +56,3 @@ pub data Links {T A B D : Type 0} (J : List (Mark T) → D → Type 0) (link : D
   none : {room : ℕ} → Links J link G room [] []
   more : {room : ℕ} (js ms ns : List (Mark T)) (d : D) (a : A) (bs : List B) → J js d → G ms a → Links J link G (less room) ns bs
       → Links J link G room (js ++ (element room ms ++ ns)) (link d a ∷ bs)
-
--- one element and at most so many more
-abbrev pub Chain : {T A B C D : Type 0} → ℕ → (A → List B → C) → Part T D → (D → A → B) → Part T A → Part T C
-Chain width whole J link G = Then whole G (Links J link G width)

@@ -59,9 +59,6 @@ unfoldable pub links : {T A B D : Type 0} → (T → Bool) → Reading T D → (
 links test join link p zero = either test (both (λ b bs. b ∷ bs) (both link join (crowd p)) (nothing [])) (nothing [])
 links test join link p (suc room) = either test (both (λ b bs. b ∷ bs) (both link join p) (links test join link p room)) (nothing [])
 
-abbrev pub chained : {T A B C D : Type 0} → ℕ → (A → List B → C) → (T → Bool) → Reading T D → (D → A → B) → Reading T A → Reading T C
-chained width whole test join link p = both whole p (links test join link p width)
-
 -- ---- what a function that reads ensures: the outcome, unless memory runs out
 
 abbrev pub Reads : {T A : Type 0} → Outcome T A → Result A Stop → List T → Type 0

@@ -9,18 +9,26 @@ pub type Name = Text;
 /// A column's name, and the name of its FROM item where one stands before it.
 #[derive(Drop)]
 pub struct Column {
+    /// The FROM item's name or alias.
     pub item: Option<Name>,
+    /// The column's name.
     pub name: Name,
 }
 
 /// How two values are compared.
 #[derive(Clone, Copy, Debug, PartialEq, Eq)]
 pub enum Comparison {
+    /// `=`.
     Equal,
+    /// `<>`.
     NotEqual,
+    /// `<`.
     Less,
+    /// `<=`.
     LessOrEqual,
+    /// `>`.
     Greater,
+    /// `>=`.
     GreaterOrEqual,
 }
 
@@ -41,15 +49,21 @@ pub enum Aggregate {
     Max,
 }
 
+/// How a term joins those before it.
 #[derive(Clone, Copy, Debug, PartialEq, Eq)]
 pub enum Adding {
+    /// `+`.
     Plus,
+    /// `-`.
     Minus,
 }
 
+/// How a factor joins those before it.
 #[derive(Clone, Copy, Debug, PartialEq, Eq)]
 pub enum Multiplying {
+    /// `*`.
     Times,
+    /// `/`.
     Divide,
 }
 
@@ -59,24 +73,31 @@ pub enum Multiplying {
 pub enum Expr {
     /// A number's coefficient and how many of its digits stand after the point.
     Number(i128, Scale),
+    /// A text without its quotes.
     Text(Text),
     /// A date's text, not read yet.
     Date(Text),
     /// An interval's one to six digits, and its unit.
     Interval(Text, Span),
+    /// A column by its name.
     Column(Column),
+    /// What stands behind a minus sign.
     Negative(Boxed<Expr>),
     /// The first term, and at least one more.
     Sum(Boxed<Expr>, Items<Term>),
     /// The first factor, and at least one more.
     Product(Boxed<Expr>, Items<Factor>),
+    /// The left side and the right side.
     Compare(Comparison, Boxed<Expr>, Boxed<Expr>),
+    /// What may be null.
     IsNull(Boxed<Expr>),
     /// The value, the least and the greatest that it may be.
     Between(Boxed<Expr>, Boxed<Expr>, Boxed<Expr>),
     /// The value and the pattern.
     Like(Boxed<Expr>, Text),
+    /// The value, and at least one that it may equal.
     InList(Boxed<Expr>, Items<Expr>),
+    /// The condition that is denied.
     Not(Boxed<Expr>),
     /// The first condition, and at least one more.
     And(Boxed<Expr>, Items<Expr>),
@@ -86,15 +107,17 @@ pub enum Expr {
     Case(Items<Arm>),
     /// At least one arm, and what stands behind ELSE.
     CaseElse(Items<Arm>, Boxed<Expr>),
+    /// The part, and the date that it is taken from.
     Extract(Span, Boxed<Expr>),
-    /// The text, the first place from 1 on, and how many bytes.
-    Substring(Boxed<Expr>, u64, u64),
+    /// The text, the first place counted from 1, and how many bytes; both numbers are at most 999999999.
+    Substring(Boxed<Expr>, u32, u32),
     /// `count(*)`.
     CountRows,
     /// `count(e)`.
     Count(Boxed<Expr>),
     /// `count(distinct e)`.
     CountDistinct(Boxed<Expr>),
+    /// The function and its argument.
     Aggregate(Aggregate, Boxed<Expr>),
 }
 
@@ -102,7 +125,9 @@ pub enum Expr {
 #[cycle(tree)]
 #[derive(Drop)]
 pub struct Term {
+    /// Whether it is added or taken away.
     pub operator: Adding,
+    /// What is.
     pub value: Expr,
 }
 
@@ -110,7 +135,9 @@ pub struct Term {
 #[cycle(tree)]
 #[derive(Drop)]
 pub struct Factor {
+    /// Whether it multiplies or divides.
     pub operator: Multiplying,
+    /// What does.
     pub value: Expr,
 }
 
@@ -118,6 +145,8 @@ pub struct Factor {
 #[cycle(tree)]
 #[derive(Drop)]
 pub struct Arm {
+    /// What stands behind WHEN.
     pub condition: Expr,
+    /// What stands behind THEN.
     pub value: Expr,
 }

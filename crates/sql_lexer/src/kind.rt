@@ -2,27 +2,44 @@
 ghost use Rattle.std.specs.Prelude.{◌≡◌, List, ℕ};
 ghost use Rattle.sql_lexer.specs.Words.{spelling_of, reserved_kind};
 
-/// What a token is. A reserved word has a kind of its own, as each symbol has.
+/// What a token is. A reserved word has a kind of its own, named as the word is spelled, as each symbol has.
 #[derive(Clone, Copy, Debug, PartialEq, Eq)]
 pub enum Kind {
     /// A word that is not reserved.
     Name,
+    /// `9`, `9.9` or `.9`.
     Number,
+    /// Bytes between quotes.
     Text,
+    /// `(`.
     OpenParen,
+    /// `)`.
     CloseParen,
+    /// `,`.
     Comma,
+    /// `;`.
     Semicolon,
+    /// `.`.
     Point,
+    /// `*`.
     Star,
+    /// `+`.
     Plus,
+    /// `-`.
     Minus,
+    /// `/`.
     Slash,
+    /// `=`.
     Equal,
+    /// `<>`.
     NotEqual,
+    /// `<`.
     Less,
+    /// `<=`.
     LessOrEqual,
+    /// `>`.
     Greater,
+    /// `>=`.
     GreaterOrEqual,
     All,
     And,

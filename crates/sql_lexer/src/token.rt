@@ -20,9 +20,13 @@ pub enum Content {
 /// A token: its kind, its content, and its bytes in the script, `len` of them from byte `start` on.
 #[derive(Drop)]
 pub struct Token {
+    /// A name, a number, a text, a symbol or a reserved word.
     pub kind: Kind,
+    /// What its bytes mean beside that.
     pub content: Content,
+    /// The place of its first byte in the script, counted from 0.
     pub start: usize,
+    /// How many bytes it has.
     pub len: usize,
 }
 

@@ -1,7 +1,5 @@
 -- All levels of the parts that lead back to themselves, and the laws of a statement.
 use Rattle.std.proofs.Common.{◌≡◌, ℕ, zero, suc, ◌≤◌, List, [], ◌∷◌, length, Err, refl, arith, inr}
-use Rattle.sql_lexer.specs.declared.kind.Kind.{Kind}
-use Rattle.sql_lexer.specs.declared.kind.Kind.TheVariants as k
 use Rattle.sql_lexer.specs.declared.token.Token.{Token}
 use Rattle.sql_ast.specs.declared.expr.Expr.{Expr}
 use Rattle.sql_ast.specs.declared.query.Statement.{Statement}
@@ -22,20 +20,9 @@ use Rattle.sql_parser.specs.Kinds.{kinds}
 use Rattle.sql_parser.specs.Values.{product, sum, tested}
 use Rattle.sql_parser.specs.Grammar.{UnaryLine, PartLine, TestTail, Unary, NotPart, Ended}
 use Rattle.sql_parser.specs.Readings.{read_unary_line, read_part_line, unary_at, part_at, inner_unary, inner_part, ended_at}
+use Rattle.sql_parser.proofs.KindLists.{leaf_first, unary_first, part_first, on_unary, on_part}
 use Rattle.sql_parser.proofs.LineLaws.{law-Leaf, law-UnaryLine, law-PartLine, law-EndedLine}
 use Rattle.sql_parser.proofs.LiftLaws.{lift-UnaryLine, lift-PartLine, lift-EndedLine}
-
-abbrev pub first_unary : List Kind
-first_unary = k.Minus ∷ k.OpenParen ∷ k.Case ∷ k.Extract ∷ k.Substring ∷ k.Count ∷ k.Sum ∷ k.Avg ∷ k.Min ∷ k.Max ∷ k.Number ∷ k.Text ∷ k.Date ∷ k.Interval ∷ k.Name ∷ []
-
-abbrev pub on_unary : List Kind
-on_unary = k.OpenParen ∷ k.Point ∷ []
-
-abbrev pub first_part : List Kind
-first_part = k.Not ∷ k.Minus ∷ k.OpenParen ∷ k.Case ∷ k.Extract ∷ k.Substring ∷ k.Count ∷ k.Sum ∷ k.Avg ∷ k.Min ∷ k.Max ∷ k.Number ∷ k.Text ∷ k.Date ∷ k.Interval ∷ k.Name ∷ []
-
-abbrev pub on_part : List Kind
-on_part = k.OpenParen ∷ k.Point ∷ k.Star ∷ k.Slash ∷ k.Plus ∷ k.Minus ∷ k.Equal ∷ k.NotEqual ∷ k.Less ∷ k.LessOrEqual ∷ k.Greater ∷ k.GreaterOrEqual ∷ k.Is ∷ k.Not ∷ k.Between ∷ k.Like ∷ k.In ∷ []
 
 -- a text may nest deeper than there is room for
 abbrev pub Higher : ℕ → ℕ → Type 0
@@ -51,7 +38,7 @@ higher (suc room) = higher room
 
 Sample-unary_line : (wide room : ℕ) (U N : List (Mark Token) → Expr → Type 0) → Sample (UnaryLine wide room U N)
 Sample-unary_line wide room U N =
-    let leaf : Line kinds (Unit {0}) (Unit {0}) (k.Number ∷ k.Text ∷ k.Date ∷ k.Interval ∷ k.Name ∷ []) (k.OpenParen ∷ k.Point ∷ []) _ _ = law-Leaf room in
+    let leaf : Line kinds (Unit {0}) (Unit {0}) leaf_first on_unary _ _ = law-Leaf room in
     Sample-right (Sample-right (Sample-right (Sample-right (leaf.sample tt))))
 
 no_links : {A B C : Type 0} {J : List (Mark Token) → C → Type 0} {link : C → A → B} {G : List (Mark Token) → A → Type 0} (room : ℕ) → Sample (Links J link G room)
@@ -78,8 +65,8 @@ Sample-part (suc h) wide room =
 -- ---- levels
 
 pub record Parts (P S : Type 0) (U N : List (Mark Token) → Expr → Type 0) (u n : List Token → Outcome Token Expr) : Type 0 where
-  pub unary : Line kinds P S first_unary on_unary U u
-  pub part : Line kinds P S first_part on_part N n
+  pub unary : Line kinds P S unary_first on_unary U u
+  pub part : Line kinds P S part_first on_part N n
 
 -- one level, from the level further in
 Parts-of : {P S : Type 0} {U N : List (Mark Token) → Expr → Type 0} {u n : List Token → Outcome Token Expr} (wide room : ℕ) → Parts (Deeper room) S U N u n

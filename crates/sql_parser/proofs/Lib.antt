@@ -1,4 +1,5 @@
 pub mod Samples
+pub mod KindLists
 pub mod LineLaws
 pub mod LiftLaws
 pub mod Levels

@@ -43,9 +43,15 @@ content_text (content.Number value places) = []
 abbrev pub text_of : Token → Name
 text_of token = content_text token.content
 
+-- a number that is not negative; 0 for one that is
 abbrev pub magnitude : ℤ → ℕ
 magnitude (pos n) = n
 magnitude (negsuc n) = 0
+
+-- from 0 to 999999999
+abbrev pub is_small : ℤ → Bool
+is_small (pos n) = nat_le n 999999999
+is_small (negsuc n) = false
 
 abbrev pub content_count : Content → ℕ
 content_count content.Nothing = 0
@@ -66,15 +72,14 @@ number token = content_number token.content
 abbrev pub text : Token → Expr
 text token = e.Text (text_of token)
 
--- a number without a point
-abbrev pub is_whole : Content → Bool
-is_whole content.Nothing = false
-is_whole (content.Text bytes) = false
-is_whole (content.Number value places) = places == 0
+abbrev pub is_small_whole : Content → Bool
+is_small_whole content.Nothing = false
+is_small_whole (content.Text bytes) = false
+is_small_whole (content.Number value places) = places == 0 && is_small value
 
--- a number without a point of at most 999999999
+-- a number without a point, from 0 to 999999999
 abbrev pub is_count : Token → Bool
-is_count token = is k.Number token && (is_whole token.content && nat_le (count_of token) 999999999)
+is_count token = is k.Number token && is_small_whole token.content
 
 abbrev pub all_digits : List ℕ → Bool
 all_digits bytes = list_all is_ascii_digit bytes

@@ -84,6 +84,7 @@ impl<'a> Parser<'a> {
         self.in_list(alloc, room)
     }
 
+    /// `between sum and sum`.
     #[cycle(expr)]
     #[tactic(auto, unfolding(crate::specs::Readings::read_between))]
     fn between(&mut self, alloc: Global, room: usize) -> Result<Test, Stop>
@@ -96,6 +97,7 @@ impl<'a> Parser<'a> {
         Ok(Test::Between(false, low, high))
     }
 
+    /// `in "(" e {"," e} ")"`.
     #[cycle(expr)]
     #[tactic(auto, unfolding(crate::specs::Readings::read_in))]
     fn in_list(&mut self, alloc: Global, room: usize) -> Result<Test, Stop>
@@ -133,6 +135,7 @@ impl<'a> Parser<'a> {
         Ok(all_of(alloc, first, others)?)
     }
 
+    /// `{and not-part}`.
     #[cycle(expr)]
     fn conjuncts(&mut self, alloc: Global, room: usize) -> Result<Items<Expr>, Stop>
         ensures { Reads (links (is k.And) (one (is k.And)) values.second (part_at 1023 room) 1023 self.old.rest.now) result self.new.rest.now }
@@ -163,6 +166,7 @@ impl<'a> Parser<'a> {
         Ok(any_of(alloc, first, others)?)
     }
 
+    /// `{or and-part}`.
     #[cycle(expr)]
     fn disjuncts(&mut self, alloc: Global, room: usize) -> Result<Items<Expr>, Stop>
         ensures { Reads (links (is k.Or) (one (is k.Or)) values.second (readings.read_conjunction 1023 (part_at 1023 room)) 1023 self.old.rest.now) result self.new.rest.now }
@@ -192,6 +196,7 @@ impl<'a> Parser<'a> {
         self.more_exprs(alloc, room, first)
     }
 
+    /// The list, of which the first expression is read.
     #[cycle(expr)]
     fn more_exprs(&mut self, alloc: Global, room: usize, first: Expr) -> Result<Items<Expr>, Stop>
         ensures { Reads (mapped (λ xs. first ∷ xs) (links (is k.Comma) (one (is k.Comma)) values.second (readings.read_whole 1023 (part_at 1023 room)) 1023) self.old.rest.now) result self.new.rest.now }
@@ -212,6 +217,7 @@ impl<'a> Parser<'a> {
         Ok(found)
     }
 
+    /// `is [not] null`.
     #[tactic(auto, unfolding(crate::specs::Readings::read_null))]
     fn null(&mut self) -> Result<Test, Stop>
         ensures { Reads (readings.read_null self.old.rest.now) result self.new.rest.now }
@@ -226,6 +232,7 @@ impl<'a> Parser<'a> {
         Ok(Test::IsNull(false))
     }
 
+    /// `like T`.
     #[tactic(auto, unfolding(crate::specs::Readings::read_like))]
     fn like(&mut self, alloc: Global) -> Result<Test, Stop>
         ensures { Reads (readings.read_like self.old.rest.now) result self.new.rest.now }

@@ -75,6 +75,7 @@ impl<'a> Parser<'a> {
         Ok(case_of(alloc, arms, otherwise)?)
     }
 
+    /// `[else e]`.
     #[cycle(expr)]
     #[tactic(auto, unfolding(crate::specs::Readings::read_else))]
     fn otherwise(&mut self, alloc: Global, room: usize) -> Result<Option<Expr>, Stop>
@@ -88,6 +89,7 @@ impl<'a> Parser<'a> {
         Ok(None)
     }
 
+    /// `when e then e {when e then e}`.
     #[cycle(expr)]
     #[tactic(auto, unfolding(crate::specs::Readings::read_arms))]
     fn arms(&mut self, alloc: Global, room: usize) -> Result<Items<Arm>, Stop>
@@ -97,6 +99,7 @@ impl<'a> Parser<'a> {
         self.more_arms(alloc, room, first)
     }
 
+    /// The arms, of which the first is read.
     #[cycle(expr)]
     fn more_arms(&mut self, alloc: Global, room: usize, first: Arm) -> Result<Items<Arm>, Stop>
         ensures { Reads (mapped (λ xs. first ∷ xs) (links (is k.When) (nothing (tt {0})) values.second (readings.read_arm 1023 (part_at 1023 room)) 1023) self.old.rest.now) result self.new.rest.now }
@@ -147,6 +150,7 @@ impl<'a> Parser<'a> {
         self.aggregate(alloc, room)
     }
 
+    /// `extract "(" .. ")"`.
     #[cycle(expr)]
     #[tactic(auto, unfolding(crate::specs::Readings::read_extract))]
     fn extract(&mut self, alloc: Global, room: usize) -> Result<Expr, Stop>
@@ -159,6 +163,7 @@ impl<'a> Parser<'a> {
         Ok(inner)
     }
 
+    /// `substring "(" .. ")"`.
     #[cycle(expr)]
     #[tactic(auto, unfolding(crate::specs::Readings::read_substring))]
     fn substring(&mut self, alloc: Global, room: usize) -> Result<Expr, Stop>
@@ -171,6 +176,7 @@ impl<'a> Parser<'a> {
         Ok(inner)
     }
 
+    /// `count "(" .. ")"`.
     #[cycle(expr)]
     #[tactic(auto, unfolding(crate::specs::Readings::read_count))]
     fn count(&mut self, alloc: Global, room: usize) -> Result<Expr, Stop>
@@ -196,6 +202,7 @@ impl<'a> Parser<'a> {
         Ok(Expr::Aggregate(function, Boxed::new(alloc, inner)?))
     }
 
+    /// `(year|month|day) from e`.
     #[cycle(expr)]
     #[tactic(auto, unfolding(crate::specs::Readings::read_extract_inside))]
     fn extract_inside(&mut self, alloc: Global, room: usize) -> Result<Expr, Stop>
@@ -207,6 +214,7 @@ impl<'a> Parser<'a> {
         Ok(Expr::Extract(part, Boxed::new(alloc, inner)?))
     }
 
+    /// `e from N for N`.
     #[cycle(expr)]
     #[tactic(auto, unfolding(crate::specs::Readings::read_substring_inside))]
     fn substring_inside(&mut self, alloc: Global, room: usize) -> Result<Expr, Stop>
@@ -217,6 +225,7 @@ impl<'a> Parser<'a> {
         Ok(Expr::Substring(inner, first, count))
     }
 
+    /// `"*" | [distinct] e`.
     #[cycle(expr)]
     #[tactic(auto, unfolding(crate::specs::Readings::read_count_inside))]
     fn count_inside(&mut self, alloc: Global, room: usize) -> Result<Expr, Stop>
@@ -246,6 +255,7 @@ impl<'a> Parser<'a> {
         Ok(product(alloc, first, others)?)
     }
 
+    /// `{(*|/) unary}`.
     #[cycle(expr)]
     fn factors(&mut self, alloc: Global, room: usize) -> Result<Items<Factor>, Stop>
         ensures { Reads (links (among kinds (k.Star ∷ k.Slash ∷ [])) readings.read_multiply values.factor (unary_at 1023 room) 1023 self.old.rest.now) result self.new.rest.now }
@@ -276,6 +286,7 @@ impl<'a> Parser<'a> {
         Ok(sum(alloc, first, others)?)
     }
 
+    /// `{(+|-) product}`.
     #[cycle(expr)]
     fn terms(&mut self, alloc: Global, room: usize) -> Result<Items<Term>, Stop>
         ensures { Reads (links (among kinds (k.Plus ∷ k.Minus ∷ [])) readings.read_add values.term (readings.read_product 1023 (unary_at 1023 room)) 1023 self.old.rest.now) result self.new.rest.now }

@@ -8,24 +8,28 @@ use sql_ast::{Adding, Arm, Comparison, Expr, Factor, Multiplying, Term};
 use sqlite_items::{Boxed, Items};
 use std::alloc::{AllocError, Global};
 
+/// A factor with what joins it to those before.
 pub(crate) fn factor(operator: Multiplying, value: Expr) -> Factor
     ensures { result ≡ values.factor operator value }
 {
     Factor { operator, value }
 }
 
+/// A term with what joins it to those before.
 pub(crate) fn term(operator: Adding, value: Expr) -> Term
     ensures { result ≡ values.term operator value }
 {
     Term { operator, value }
 }
 
+/// `when condition then value`.
 pub(crate) fn arm_of(condition: Expr, value: Expr) -> Arm
     ensures { result ≡ values.arm condition value }
 {
     Arm { condition, value }
 }
 
+/// The product of factors; the first alone where there is no other.
 pub(crate) fn product(alloc: Global, first: Expr, others: Items<Factor>) -> Result<Expr, AllocError>
     ensures { IfOk result (λ x. x ≡ values.product first others) }
 {
@@ -36,6 +40,7 @@ pub(crate) fn product(alloc: Global, first: Expr, others: Items<Factor>) -> Resu
     }
 }
 
+/// The sum of terms; the first alone where there is no other.
 pub(crate) fn sum(alloc: Global, first: Expr, others: Items<Term>) -> Result<Expr, AllocError>
     ensures { IfOk result (λ x. x ≡ values.sum first others) }
 {
@@ -46,6 +51,7 @@ pub(crate) fn sum(alloc: Global, first: Expr, others: Items<Term>) -> Result<Exp
     }
 }
 
+/// The conditions joined by AND; the first alone where there is no other.
 pub(crate) fn all_of(alloc: Global, first: Expr, others: Items<Expr>) -> Result<Expr, AllocError>
     ensures { IfOk result (λ x. x ≡ values.all_of first others) }
 {
@@ -56,6 +62,7 @@ pub(crate) fn all_of(alloc: Global, first: Expr, others: Items<Expr>) -> Result<
     }
 }
 
+/// The conditions joined by OR; the first alone where there is no other.
 pub(crate) fn any_of(alloc: Global, first: Expr, others: Items<Expr>) -> Result<Expr, AllocError>
     ensures { IfOk result (λ x. x ≡ values.any_of first others) }
 {
@@ -66,6 +73,7 @@ pub(crate) fn any_of(alloc: Global, first: Expr, others: Items<Expr>) -> Result<
     }
 }
 
+/// A CASE, with ELSE or without.
 pub(crate) fn case_of(
     alloc: Global,
     arms: Items<Arm>,
@@ -93,6 +101,7 @@ pub(crate) fn opposite(test: Test) -> Test
     }
 }
 
+/// The condition, denied or not.
 fn deny(alloc: Global, is_denied: bool, value: Expr) -> Result<Expr, AllocError>
     ensures { IfOk result (λ x. x ≡ values.deny is_denied value) }
 {
@@ -103,6 +112,7 @@ fn deny(alloc: Global, is_denied: bool, value: Expr) -> Result<Expr, AllocError>
     }
 }
 
+/// A comparison of two values.
 fn compared(
     alloc: Global,
     value: Expr,
@@ -116,6 +126,7 @@ fn compared(
     Ok(Expr::Compare(comparison, value, other))
 }
 
+/// A BETWEEN, denied or not.
 fn within(
     alloc: Global,
     is_denied: bool,

@@ -17,11 +17,15 @@ use std::alloc::Global;
 /// What stands behind FROM.
 #[derive(Drop)]
 pub struct Filters {
+    /// WHERE.
     pub condition: Clause,
+    /// The columns of GROUP BY; none where it is absent.
     pub group: Items<Column>,
+    /// HAVING.
     pub having: Clause,
 }
 
+/// The query of its select list, FROM and filters, without order and row limit.
 fn query_of(
     selected: (bool, Selected),
     from: Items<FromItem>,
@@ -44,7 +48,7 @@ fn query_of(
 }
 
 /// The query with its order and row limit.
-fn ordered(query: Query, order: Items<OrderKey>, limit: Option<u64>) -> Statement
+fn ordered(query: Query, order: Items<OrderKey>, limit: Option<u32>) -> Statement
     ensures { result ≡ values.statement query (order, limit) }
 {
     let mut query = query;
@@ -54,6 +58,7 @@ fn ordered(query: Query, order: Items<OrderKey>, limit: Option<u64>) -> Statemen
 }
 
 impl<'a> Parser<'a> {
+    /// `[[as] name]`.
     #[tactic(auto, unfolding(crate::specs::Readings::read_alias))]
     fn alias(&mut self, alloc: Global) -> Result<Option<Name>, Stop>
         ensures { Reads (readings.read_alias self.old.rest.now) result self.new.rest.now }
@@ -70,6 +75,7 @@ impl<'a> Parser<'a> {
         Ok(None)
     }
 
+    /// `e [[as] name]`.
     #[tactic(auto, unfolding(crate::specs::Readings::read_item))]
     fn item(&mut self, alloc: Global, room: usize) -> Result<Item, Stop>
         ensures { Reads (readings.read_item 1023 (part_at 1023 room) self.old.rest.now) result self.new.rest.now }
@@ -79,6 +85,7 @@ impl<'a> Parser<'a> {
         Ok(Item { value, alias })
     }
 
+    /// `item {"," item}`.
     fn items(&mut self, alloc: Global, room: usize) -> Result<Items<Item>, Stop>
         ensures { Reads (both values.cons (readings.read_item 1023 (part_at 1023 room)) (links (is k.Comma) (one (is k.Comma)) values.second (readings.read_item 1023 (part_at 1023 room)) 1023) self.old.rest.now) result self.new.rest.now }
     {
@@ -86,6 +93,7 @@ impl<'a> Parser<'a> {
         self.more_items(alloc, room, first)
     }
 
+    /// The items, of which the first is read.
     fn more_items(&mut self, alloc: Global, room: usize, first: Item) -> Result<Items<Item>, Stop>
         ensures { Reads (mapped (λ xs. first ∷ xs) (links (is k.Comma) (one (is k.Comma)) values.second (readings.read_item 1023 (part_at 1023 room)) 1023) self.old.rest.now) result self.new.rest.now }
     {
@@ -105,6 +113,7 @@ impl<'a> Parser<'a> {
         Ok(found)
     }
 
+    /// `"*" | item {"," item}`.
     #[tactic(auto, unfolding(crate::specs::Readings::read_selection))]
     fn selection(&mut self, alloc: Global, room: usize) -> Result<Selected, Stop>
         ensures { Reads (readings.read_selection 1023 (part_at 1023 room) self.old.rest.now) result self.new.rest.now }
@@ -117,6 +126,7 @@ impl<'a> Parser<'a> {
         Ok(Selected::Items(items))
     }
 
+    /// `select [distinct] ..`.
     #[tactic(auto, unfolding(crate::specs::Readings::read_select))]
     fn select(&mut self, alloc: Global, room: usize) -> Result<(bool, Selected), Stop>
         ensures { Reads (readings.read_select 1023 (part_at 1023 room) self.old.rest.now) result self.new.rest.now }
@@ -131,6 +141,7 @@ impl<'a> Parser<'a> {
         Ok((false, selected))
     }
 
+    /// `name [[as] name]`.
     #[tactic(auto, unfolding(crate::specs::Readings::read_from_item))]
     fn from_item(&mut self, alloc: Global) -> Result<FromItem, Stop>
         ensures { Reads (readings.read_from_item self.old.rest.now) result self.new.rest.now }
@@ -140,6 +151,7 @@ impl<'a> Parser<'a> {
         Ok(FromItem::Table(name, alias))
     }
 
+    /// `from table {"," table}`.
     #[tactic(auto, unfolding(crate::specs::Readings::read_from))]
     fn from_items(&mut self, alloc: Global) -> Result<Items<FromItem>, Stop>
         ensures { Reads (readings.read_from 1023 self.old.rest.now) result self.new.rest.now }
@@ -149,6 +161,7 @@ impl<'a> Parser<'a> {
         self.more_from_items(alloc, first)
     }
 
+    /// The tables, of which the first is read.
     fn more_from_items(&mut self, alloc: Global, first: FromItem) -> Result<Items<FromItem>, Stop>
         ensures { Reads (mapped (λ xs. first ∷ xs) (links (is k.Comma) (one (is k.Comma)) values.second readings.read_from_item 1023) self.old.rest.now) result self.new.rest.now }
     {
@@ -168,6 +181,7 @@ impl<'a> Parser<'a> {
         Ok(found)
     }
 
+    /// `[where e]`.
     #[tactic(auto, unfolding(crate::specs::Readings::read_where))]
     fn condition(&mut self, alloc: Global, room: usize) -> Result<Clause, Stop>
         ensures { Reads (readings.read_where 1023 (part_at 1023 room) self.old.rest.now) result self.new.rest.now }
@@ -180,6 +194,7 @@ impl<'a> Parser<'a> {
         Ok(Clause::Absent)
     }
 
+    /// `[having e]`.
     #[tactic(auto, unfolding(crate::specs::Readings::read_having))]
     fn having(&mut self, alloc: Global, room: usize) -> Result<Clause, Stop>
         ensures { Reads (readings.read_having 1023 (part_at 1023 room) self.old.rest.now) result self.new.rest.now }
@@ -192,6 +207,7 @@ impl<'a> Parser<'a> {
         Ok(Clause::Absent)
     }
 
+    /// `[group by column {"," column}]`.
     #[tactic(auto, unfolding(crate::specs::Readings::read_group))]
     fn group(&mut self, alloc: Global) -> Result<Items<Column>, Stop>
         ensures { Reads (readings.read_group 1023 self.old.rest.now) result self.new.rest.now }
@@ -205,6 +221,7 @@ impl<'a> Parser<'a> {
         Ok(Items::new(alloc))
     }
 
+    /// The columns, of which the first is read.
     fn more_columns(&mut self, alloc: Global, first: Column) -> Result<Items<Column>, Stop>
         ensures { Reads (mapped (λ xs. first ∷ xs) (links (is k.Comma) (one (is k.Comma)) values.second readings.read_column 1023) self.old.rest.now) result self.new.rest.now }
     {
@@ -224,6 +241,7 @@ impl<'a> Parser<'a> {
         Ok(found)
     }
 
+    /// `[where e] [group by ..] [having e]`.
     #[tactic(auto, unfolding(crate::specs::Readings::read_filters))]
     fn filters(&mut self, alloc: Global, room: usize) -> Result<Filters, Stop>
         ensures { Reads (readings.read_filters 1023 (part_at 1023 room) self.old.rest.now) result self.new.rest.now }
@@ -238,6 +256,7 @@ impl<'a> Parser<'a> {
         })
     }
 
+    /// `select .. from .. [where ..] [group by ..] [having ..]`.
     #[tactic(auto, unfolding(crate::specs::Readings::read_query))]
     pub(crate) fn query(&mut self, alloc: Global, room: usize) -> Result<Query, Stop>
         ensures { Reads (readings.read_query 1023 (part_at 1023 room) self.old.rest.now) result self.new.rest.now }
@@ -248,6 +267,7 @@ impl<'a> Parser<'a> {
         Ok(query_of(selected, from, filters, Items::new(alloc)))
     }
 
+    /// `[asc|desc]`; whether it descends.
     #[tactic(auto, unfolding(crate::specs::Readings::read_direction))]
     fn direction(&mut self) -> Result<bool, Stop>
         ensures { Reads (readings.read_direction self.old.rest.now) result self.new.rest.now }
@@ -263,6 +283,7 @@ impl<'a> Parser<'a> {
         Ok(false)
     }
 
+    /// `name [asc|desc]`.
     #[tactic(auto, unfolding(crate::specs::Readings::read_order_key))]
     fn order_key(&mut self, alloc: Global) -> Result<OrderKey, Stop>
         ensures { Reads (readings.read_order_key self.old.rest.now) result self.new.rest.now }
@@ -275,6 +296,7 @@ impl<'a> Parser<'a> {
         })
     }
 
+    /// `[order by ..]`.
     #[tactic(auto, unfolding(crate::specs::Readings::read_order))]
     fn order(&mut self, alloc: Global) -> Result<Items<OrderKey>, Stop>
         ensures { Reads (readings.read_order 1023 self.old.rest.now) result self.new.rest.now }
@@ -288,6 +310,7 @@ impl<'a> Parser<'a> {
         Ok(Items::new(alloc))
     }
 
+    /// The keys, of which the first is read.
     fn more_order_keys(&mut self, alloc: Global, first: OrderKey) -> Result<Items<OrderKey>, Stop>
         ensures { Reads (mapped (λ xs. first ∷ xs) (links (is k.Comma) (one (is k.Comma)) values.second readings.read_order_key 1023) self.old.rest.now) result self.new.rest.now }
     {
@@ -307,8 +330,9 @@ impl<'a> Parser<'a> {
         Ok(found)
     }
 
+    /// `[limit N | fetch first N rows only]`.
     #[tactic(auto, unfolding(crate::specs::Readings::read_limit, crate::specs::Readings::read_rows_only))]
-    fn limit(&mut self) -> Result<Option<u64>, Stop>
+    fn limit(&mut self) -> Result<Option<u32>, Stop>
         ensures { Reads (readings.read_limit self.old.rest.now) result self.new.rest.now }
     {
         if self.starts(Kind::Limit) {
@@ -327,6 +351,7 @@ impl<'a> Parser<'a> {
         Ok(None)
     }
 
+    /// `query [order by ..] [limit ..]`.
     #[tactic(auto, unfolding(crate::specs::Readings::read_statement))]
     fn statement(&mut self, alloc: Global, room: usize) -> Result<Statement, Stop>
         ensures { Reads (readings.read_statement 1023 (part_at 1023 room) self.old.rest.now) result self.new.rest.now }
@@ -337,6 +362,7 @@ impl<'a> Parser<'a> {
         Ok(ordered(query, order, limit))
     }
 
+    /// `statement ";"`.
     #[tactic(auto, unfolding(crate::specs::Readings::read_ended))]
     pub(crate) fn ended_statement(&mut self, alloc: Global, room: usize) -> Result<Statement, Stop>
         ensures { Reads (ended_at 1023 room self.old.rest.now) result self.new.rest.now }

@@ -20,6 +20,7 @@ use std::alloc::Global;
 pub const MAX_SCRIPT: usize = 1048576;
 
 impl<'a> Parser<'a> {
+    /// `{statement ";"}`, to the end of the tokens.
     fn script(&mut self, alloc: Global) -> Result<Items<Statement>, Stop>
         ensures { Reads (scripts.statements (ended_at 1023 64) (length self.old.rest.now) self.old.rest.now) result self.new.rest.now }
     {

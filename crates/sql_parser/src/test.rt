@@ -8,9 +8,14 @@ use sqlite_items::Items;
 pub enum Test {
     /// Nothing.
     Holds,
+    /// A comparison with its right side.
     Compare(Comparison, Expr),
+    /// `is null`.
     IsNull(bool),
+    /// `between`, with the least and the greatest that the sum may be.
     Between(bool, Expr, Expr),
+    /// `like`, with its pattern.
     Like(bool, Text),
+    /// `in`, with the list.
     InList(bool, Items<Expr>),
 }

@@ -26,7 +26,14 @@ fn text_of(alloc: Global, token: &Token) -> Result<Text, AllocError>
     }
 }
 
-/// Whether the token is a number without a point of at most 999999999.
+/// Whether a number may stand in the place of a count.
+fn is_small(value: i128) -> bool
+    ensures { result ≡ values.is_small value }
+{
+    0 <= value && value <= MAX_COUNT
+}
+
+/// Whether the token is a number without a point, from 0 to 999999999.
 fn is_count(token: &Token) -> bool
     ensures { result ≡ values.is_count token.now }
 {
@@ -34,26 +41,25 @@ fn is_count(token: &Token) -> bool
         return false;
     }
     match &token.content {
-        Content::Number(value, places) => {
-            places.places() == 0 && (*value < 0 || *value <= MAX_COUNT)
-        }
+        Content::Number(value, places) => places.places() == 0 && is_small(*value),
         Content::Nothing => false,
         Content::Text(_) => false,
     }
 }
 
 /// The number that such a token writes.
-fn count_of(token: &Token) -> u64
+fn count_of(token: &Token) -> u32
     requires { values.is_count token.now ≡ true }
     ensures { result ≡ values.count_of token.now }
 {
     match &token.content {
-        Content::Number(value, _) => { if *value < 0 { 0 } else { *value as u64 } }
+        Content::Number(value, _) => *value as u32,
         Content::Nothing => 0,
         Content::Text(_) => 0,
     }
 }
 
+/// Whether there are digits only.
 fn are_digits(bytes: &[u8]) -> bool
     ensures { result ≡ values.all_digits bytes.now }
 {
@@ -105,6 +111,7 @@ fn column_of(first: Name, tail: Option<Name>) -> Column
 }
 
 impl<'a> Parser<'a> {
+    /// A name.
     #[tactic(auto, unfolding(crate::specs::Readings::read_name))]
     pub(crate) fn name(&mut self, alloc: Global) -> Result<Name, Stop>
         ensures { Reads (readings.read_name self.old.rest.now) result self.new.rest.now }
@@ -113,6 +120,7 @@ impl<'a> Parser<'a> {
         Ok(text_of(alloc, token)?)
     }
 
+    /// A text.
     #[tactic(auto, unfolding(crate::specs::Readings::read_literal))]
     pub(crate) fn literal(&mut self, alloc: Global) -> Result<Name, Stop>
         ensures { Reads (readings.read_literal self.old.rest.now) result self.new.rest.now }
@@ -121,8 +129,9 @@ impl<'a> Parser<'a> {
         Ok(text_of(alloc, token)?)
     }
 
+    /// A number without a point of at most 999999999.
     #[tactic(auto, unfolding(crate::specs::Readings::read_number))]
-    pub(crate) fn number(&mut self) -> Result<u64, Stop>
+    pub(crate) fn number(&mut self) -> Result<u32, Stop>
         ensures { Reads (readings.read_number self.old.rest.now) result self.new.rest.now }
     {
         match self.rest {
@@ -134,6 +143,7 @@ impl<'a> Parser<'a> {
         }
     }
 
+    /// A text of one to six digits.
     #[tactic(auto, unfolding(crate::specs::Readings::read_digits))]
     fn digits(&mut self, alloc: Global) -> Result<Name, Stop>
         ensures { Reads (readings.read_digits self.old.rest.now) result self.new.rest.now }
@@ -147,6 +157,7 @@ impl<'a> Parser<'a> {
         }
     }
 
+    /// `year`, `month` or `day`.
     #[tactic(auto, unfolding(crate::specs::Readings::read_span))]
     pub(crate) fn span(&mut self) -> Result<Span, Stop>
         ensures { Reads (readings.read_span self.old.rest.now) result self.new.rest.now }
@@ -163,6 +174,7 @@ impl<'a> Parser<'a> {
         Ok(Span::Day)
     }
 
+    /// `*` or `/`.
     #[tactic(auto, unfolding(crate::specs::Readings::read_multiply))]
     pub(crate) fn multiply(&mut self) -> Result<Multiplying, Stop>
         ensures { Reads (readings.read_multiply self.old.rest.now) result self.new.rest.now }
@@ -175,6 +187,7 @@ impl<'a> Parser<'a> {
         Ok(Multiplying::Divide)
     }
 
+    /// `+` or `-`.
     #[tactic(auto, unfolding(crate::specs::Readings::read_add))]
     pub(crate) fn add(&mut self) -> Result<Adding, Stop>
         ensures { Reads (readings.read_add self.old.rest.now) result self.new.rest.now }
@@ -187,6 +200,7 @@ impl<'a> Parser<'a> {
         Ok(Adding::Minus)
     }
 
+    /// `=`, `<>`, `<`, `<=`, `>` or `>=`.
     #[tactic(auto, unfolding(crate::specs::Readings::read_comparison))]
     pub(crate) fn comparison(&mut self) -> Result<Comparison, Stop>
         ensures { Reads (readings.read_comparison self.old.rest.now) result self.new.rest.now }
@@ -215,6 +229,7 @@ impl<'a> Parser<'a> {
         Ok(Comparison::GreaterOrEqual)
     }
 
+    /// `sum`, `avg`, `min` or `max`.
     #[tactic(auto, unfolding(crate::specs::Readings::read_aggregate_word))]
     pub(crate) fn aggregate_word(&mut self) -> Result<Aggregate, Stop>
         ensures { Reads (readings.read_aggregate_word self.old.rest.now) result self.new.rest.now }
@@ -235,6 +250,7 @@ impl<'a> Parser<'a> {
         Ok(Aggregate::Max)
     }
 
+    /// `["." name]`.
     #[tactic(auto, unfolding(crate::specs::Readings::read_column_tail))]
     fn column_tail(&mut self, alloc: Global) -> Result<Option<Name>, Stop>
         ensures { Reads (readings.read_column_tail self.old.rest.now) result self.new.rest.now }
@@ -247,6 +263,7 @@ impl<'a> Parser<'a> {
         Ok(None)
     }
 
+    /// `name ["." name]`.
     #[tactic(auto, unfolding(crate::specs::Readings::read_column))]
     pub(crate) fn column(&mut self, alloc: Global) -> Result<Column, Stop>
         ensures { Reads (readings.read_column self.old.rest.now) result self.new.rest.now }
@@ -256,6 +273,7 @@ impl<'a> Parser<'a> {
         Ok(column_of(first, tail))
     }
 
+    /// `T | "(" T ")"`.
     #[tactic(auto, unfolding(crate::specs::Readings::read_date_text))]
     fn date_text(&mut self, alloc: Global, room: usize) -> Result<Name, Stop>
         ensures { Reads (readings.read_date_text room self.old.rest.now) result self.new.rest.now }
@@ -269,6 +287,7 @@ impl<'a> Parser<'a> {
         self.literal(alloc)
     }
 
+    /// `date T | date "(" T ")"`.
     #[tactic(auto, unfolding(crate::specs::Readings::read_date))]
     fn date(&mut self, alloc: Global, room: usize) -> Result<Expr, Stop>
         ensures { Reads (readings.read_date room self.old.rest.now) result self.new.rest.now }
@@ -278,6 +297,7 @@ impl<'a> Parser<'a> {
         Ok(Expr::Date(text))
     }
 
+    /// `["(" N ")"]`, which means nothing.
     #[tactic(auto, unfolding(crate::specs::Readings::read_precision))]
     fn precision(&mut self, room: usize) -> Result<(), Stop>
         ensures { Reads (readings.read_precision room self.old.rest.now) result self.new.rest.now }
@@ -285,11 +305,12 @@ impl<'a> Parser<'a> {
         if self.starts(Kind::OpenParen) {
             self.opens(room, Kind::OpenParen)?;
             self.number()?;
-            let _close = self.one(Kind::CloseParen)?;
+            self.one(Kind::CloseParen)?;
         }
         Ok(())
     }
 
+    /// `interval T (day|month|year) ["(" N ")"]`, the text of one to six digits.
     #[tactic(auto, unfolding(crate::specs::Readings::read_interval))]
     fn interval(&mut self, alloc: Global, room: usize) -> Result<Expr, Stop>
         ensures { Reads (readings.read_interval room self.old.rest.now) result self.new.rest.now }
@@ -301,8 +322,9 @@ impl<'a> Parser<'a> {
         Ok(Expr::Interval(digits, unit))
     }
 
+    /// `from N for N`.
     #[tactic(auto, unfolding(crate::specs::Readings::read_places))]
-    pub(crate) fn places(&mut self) -> Result<(u64, u64), Stop>
+    pub(crate) fn places(&mut self) -> Result<(u32, u32), Stop>
         ensures { Reads (readings.read_places self.old.rest.now) result self.new.rest.now }
     {
         self.one(Kind::From)?;
