@@ -1,5 +1,5 @@
 -- Each line of the grammar with larger limits: its texts are the same, and pass none of them.
-use Rattle.std.proofs.Common.{ℕ, ◌≤◌, true, false, arith, List, [], ◌∷◌, Some, None}
+use Rattle.std.proofs.Common.{ℕ, ◌≤◌, true, false, arith, [], Some, None}
 use Rattle.sql_lexer.specs.declared.kind.Kind.TheVariants as k
 use Rattle.sql_lexer.specs.declared.token.Token.{Token}
 use Rattle.sql_ast.specs.declared.expr.Expr.{Expr}

@@ -1,5 +1,5 @@
 -- The law of each line of the grammar: what begins it, what may not come after it, and that its reading is right.
-use Rattle.std.proofs.Common.{ℕ, true, false, refl, List, [], ◌∷◌, Some, None}
+use Rattle.std.proofs.Common.{ℕ, true, false, refl, [], ◌∷◌, Some, None}
 use Rattle.sql_lexer.specs.declared.kind.Kind.TheVariants as k
 use Rattle.sql_lexer.specs.declared.token.Token.{Token}
 use Rattle.sql_ast.specs.declared.expr.Expr.{Expr}

@@ -1,6 +1,9 @@
 //! Scripts with their trees or refusals, by the rules of the dialect.
 use super::*;
+use fixed_decimal::Scale;
+use grammar_laws::Refusal;
 use sql_ast::{Clause, Comparison, Expr, FromItem, Query, Selected, Statement};
+use sql_lexer::{Content, LexFault, Token, lex};
 use sqlite_items::Items;
 use std::alloc::{AllocError, Global};
 use std::test::Fail;
@@ -212,15 +215,62 @@ fn refusals(rt: HostRuntime) -> Result<(), Fail> {
     Ok(())
 }
 
+/// The tokens of a query with this number as its row limit, made by hand where no script can write it.
+fn limited(alloc: Global, coefficient: i128) -> Result<Vec<Token>, LexFault> {
+    let mut tokens = lex(alloc, b"select a from b limit 1;")?;
+    if let Some(token) = tokens.get_mut(5) {
+        token.content = Content::Number(coefficient, Scale::new(0));
+    }
+    Ok(tokens)
+}
+
+/// Whether the tokens are unexpected from their sixth on.
+fn is_unexpected_limit(alloc: Global, tokens: &[Token]) -> bool {
+    match parse_script(alloc, tokens) {
+        Err(ParseFault::Refused(Refusal::Unexpected, place)) => place == 5,
+        _ => false,
+    }
+}
+
 #[test]
-fn limits(rt: HostRuntime) -> Result<(), Fail> {
+fn row_limits(rt: HostRuntime) -> Result<(), Fail> {
+    let alloc = rt.alloc();
+    let found = parse_script(alloc, &limited(alloc, 999_999_999)?)?;
+    match found.as_slice() {
+        [Statement::Query(query)] => assert!(rt; query.limit == Some(999_999_999)),
+        _ => assert!(rt; false),
+    }
+    assert!(rt; is_unexpected_limit(alloc, &limited(alloc, 1_000_000_000)?));
+    assert!(rt; is_unexpected_limit(alloc, &limited(alloc, -1)?));
+    Ok(())
+}
+
+#[test]
+fn levels(rt: HostRuntime) -> Result<(), Fail> {
     let alloc = rt.alloc();
     assert!(rt; has_statements(alloc, &nested(alloc, 64)?, 1));
     assert!(rt; is_refused(alloc, &nested(alloc, 65)?, ScriptRefusal::TooDeep, 71));
+    // The 1025th element of a list on the 64th level opens the 65th: the depth counts.
+    let start = repeated(alloc, b"select ", b"(", b"", 63, b"a in (")?;
+    let both = repeated(alloc, &start, b"1,", b"", 1024, b"(1));")?;
+    assert!(rt; is_refused(alloc, &both, ScriptRefusal::TooDeep, 2124));
+    Ok(())
+}
+
+#[test]
+fn widths(rt: HostRuntime) -> Result<(), Fail> {
+    let alloc = rt.alloc();
     let most = repeated(alloc, b"select ", b"1", b",", 1024, b" from region;")?;
     assert!(rt; has_statements(alloc, &most, 1));
     let more = repeated(alloc, b"select ", b"1", b",", 1025, b" from region;")?;
     assert!(rt; is_refused(alloc, &more, ScriptRefusal::TooWide, 2055));
+    let sums = repeated(alloc, b"select ", b"1", b"+", 1025, b" from region;")?;
+    assert!(rt; is_refused(alloc, &sums, ScriptRefusal::TooWide, 2055));
+    let start = b"select a from b where c in (";
+    let most = repeated(alloc, start, b"1", b",", 1024, b");")?;
+    assert!(rt; has_statements(alloc, &most, 1));
+    let more = repeated(alloc, start, b"1", b",", 1025, b");")?;
+    assert!(rt; is_refused(alloc, &more, ScriptRefusal::TooWide, 2076));
     let arms = repeated(
         alloc,
         b"select case ",
@@ -230,6 +280,12 @@ fn limits(rt: HostRuntime) -> Result<(), Fail> {
         b" end from c;",
     )?;
     assert!(rt; is_refused(alloc, &arms, ScriptRefusal::TooWide, 14348));
+    Ok(())
+}
+
+#[test]
+fn lengths(rt: HostRuntime) -> Result<(), Fail> {
+    let alloc = rt.alloc();
     let longest = repeated(alloc, b"", b" ", b"", MAX_SCRIPT, b"")?;
     assert!(rt; has_statements(alloc, &longest, 0));
     let longer = repeated(alloc, b"'", b" ", b"", MAX_SCRIPT, b"")?;
