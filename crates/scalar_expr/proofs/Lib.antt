@@ -1,7 +1,10 @@
+pub mod Induction
+pub mod LawProofs
 pub mod Loops
 pub mod Opened
+pub mod Renamed
+pub mod RenamedKinds
+pub mod RenamedUses
 pub mod Renames
-pub mod Induction
-pub mod Uses
 pub mod Typed
-pub mod LawProofs
+pub mod Uses

@@ -12,9 +12,10 @@ use Rattle.sql_value.specs.declared.value.Value.TheVariants.{Fault as Failed}
 use Rattle.scalar_expr.specs.declared.expr.Branch.{Branch}
 use Rattle.scalar_expr.specs.declared.expr.Comparison.TheVariants.{Equal}
 use Rattle.scalar_expr.specs.declared.expr.Expr.{Expr}
-use Rattle.scalar_expr.specs.Meaning.{value, truth, values, truths, chosen, decided, first_of}
-use Rattle.scalar_expr.specs.Operators.{compared}
-use Rattle.scalar_expr.proofs.Opened.{branch_is}
+use Rattle.scalar_expr.specs.declared.expr.Operation.{Operation}
+use Rattle.scalar_expr.specs.Meaning.{value, truth, values, truths, chosen, decided, first_of, operated}
+use Rattle.scalar_expr.specs.Operators.{computed, compared}
+use Rattle.scalar_expr.proofs.Opened.{branch_is, operation_is}
 
 -- the list from a place on
 front : {X : Type 0} (xs : List X) (i : ℕ) (x : X) → i < length xs → x ≡ get_or xs i x → drop i xs ≡ x ∷ drop (i + 1) xs
@@ -144,3 +145,17 @@ chosen_on bs i row b t total lt is e h inv =
 pub chosen_end : (bs : List Branch) (i : ℕ) (row : List Value) (total : Option Value) → length bs ≤ i → chosen (drop i bs) row ≡ total → None ≡ total
 unfolding chosen
 chosen_end bs i row total h inv = sym (ap (λ l. chosen l row) (drop_all i bs h)) ∙ inv
+
+-- a chain of operations
+
+pub operated_more : (os : List Operation) (i : ℕ) (row : List Value) (x y x' total v w : Value) (o : Operation) → i < length os → o ≡ get_or os i o
+    → y ≡ value o.operand row → v ≡ x → w ≡ y → x' ≡ computed o.operator v w → operated x (drop i os) row ≡ total → operated x' (drop (i + 1) os) row ≡ total
+unfolding operated
+operated_more os i row x y x' total v w o lt is by left right new inv =
+    ap (λ z. operated z (drop (i + 1) os) row)
+    (new ∙ ap (λ z. computed o.operator z w) left ∙ ap (computed o.operator x) (right ∙ by) ∙ sym (operation_is o x row))
+    ∙ sym (ap (λ l. operated x l row) (front os i o lt is)) ∙ inv
+
+pub operated_end : (os : List Operation) (i : ℕ) (row : List Value) (x total : Value) → length os ≤ i → operated x (drop i os) row ≡ total → x ≡ total
+unfolding operated
+operated_end os i row x total h inv = sym (ap (λ l. operated x l row) (drop_all i os h)) ∙ inv

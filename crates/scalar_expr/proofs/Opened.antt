@@ -5,29 +5,33 @@ use Rattle.sql_value.specs.declared.truth.Truth.{Truth}
 use Rattle.sql_value.specs.declared.truth.Truth.TheVariants.{Unknown}
 use Rattle.sql_value.specs.declared.value.Value.{Value}
 use Rattle.sql_value.specs.declared.value.Value.TheVariants.{Null}
-use Rattle.scalar_expr.specs.declared.expr.Arithmetic.{Arithmetic}
 use Rattle.scalar_expr.specs.declared.expr.Branch.{Branch}
 use Rattle.scalar_expr.specs.declared.expr.Comparison.{Comparison}
 use Rattle.scalar_expr.specs.declared.expr.DatePart.{DatePart}
 use Rattle.scalar_expr.specs.declared.expr.Expr.{Expr, Expr-F, out-Expr}
 use Rattle.scalar_expr.specs.declared.expr.Expr.TheVariants as e
-use Rattle.scalar_expr.specs.declared.expr.Expr.TheFolds.{fold_out-Expr, fold_out-Branch, map-Expr}
-use Rattle.scalar_expr.specs.Meaning.{Meaning, BranchMeaning, expr_step, branch_step, value_step, truth_step, meaning, branch_value, value, truth, values, truths, chosen, decided, least, greatest, in_list}
+use Rattle.scalar_expr.specs.declared.expr.Expr.TheFolds.{fold_out-Expr, fold_out-Branch, fold_out-Operation, map-Expr}
+use Rattle.scalar_expr.specs.declared.expr.Operation.{Operation}
+use Rattle.scalar_expr.specs.Meaning.{Meaning, BranchMeaning, OperationMeaning, expr_step, branch_step, operation_step, value_step, truth_step, meaning, branch_value, operation_value, operated, value, truth, values, truths, chosen, decided, least, greatest, in_list}
 use Rattle.scalar_expr.specs.Operators.{at_scale, negative, computed, extracted, part_of, compared, between, liked, null_test, truth_of_mark}
 
 -- a node with the meanings of its parts in their place
-abbrev with_meanings : Expr-F Expr Branch → Expr-F Meaning BranchMeaning
-with_meanings = map-Expr Expr Branch Meaning BranchMeaning meaning branch_value
+abbrev pub with_meanings : Expr-F Expr Branch Operation → Expr-F Meaning BranchMeaning OperationMeaning
+with_meanings = map-Expr Expr Branch Operation Meaning BranchMeaning OperationMeaning meaning branch_value operation_value
 
-abbrev value_at : Expr-F Expr Branch → List Value → Value
+abbrev value_at : Expr-F Expr Branch Operation → List Value → Value
 value_at x = value_step (with_meanings x)
 
-abbrev truth_at : Expr-F Expr Branch → List Value → Truth
+abbrev truth_at : Expr-F Expr Branch Operation → List Value → Truth
 truth_at x = truth_step (with_meanings x)
 
 meaning_is : (e : Expr) → meaning e ≡ expr_step (with_meanings (out-Expr e))
-unfolding meaning branch_value
-meaning_is = fold_out-Expr Meaning BranchMeaning expr_step branch_step
+unfolding meaning branch_value operation_value
+meaning_is = fold_out-Expr Meaning BranchMeaning OperationMeaning expr_step branch_step operation_step
+
+-- the meaning at a node
+pub meaning_at : (e : Expr) (x : Expr-F Expr Branch Operation) → out-Expr e ≡ x → meaning e ≡ expr_step (with_meanings x)
+meaning_at e x is = meaning_is e ∙ ap (λ n. expr_step (with_meanings n)) is
 
 value_is : (e : Expr) (row : List Value) → value e row ≡ value_at (out-Expr e) row
 unfolding value
@@ -38,8 +42,12 @@ unfolding truth
 truth_is e row = ap (λ (m : Meaning). m.truth row) (meaning_is e)
 
 pub branch_is : (b : Branch) (row : List Value) → branch_value b row ≡ decided (truth b.when row) (value b.gives row)
-unfolding meaning branch_value value truth
-branch_is b row = ap (λ (m : BranchMeaning). m row) (fold_out-Branch Meaning BranchMeaning expr_step branch_step b)
+unfolding meaning branch_value operation_value value truth
+branch_is b row = ap (λ (m : BranchMeaning). m row) (fold_out-Branch Meaning BranchMeaning OperationMeaning expr_step branch_step operation_step b)
+
+pub operation_is : (o : Operation) (x : Value) (row : List Value) → operation_value o x row ≡ computed o.operator x (value o.operand row)
+unfolding meaning branch_value operation_value value
+operation_is o x row = ap (λ (m : OperationMeaning). m x row) (fold_out-Operation Meaning BranchMeaning OperationMeaning expr_step branch_step operation_step o)
 
 values_listed : (es : List Expr) (row : List Value) → map (λ (m : Meaning). m.value row) (map meaning es) ≡ values es row
 unfolding values value
@@ -70,12 +78,12 @@ value_Negative a row = value_is (e.Negative a) row ∙ ap (λ x. value_at x row)
 pub truth_Negative : (a : Expr) (row : List Value) → truth (e.Negative a) row ≡ Unknown
 truth_Negative a row = truth_is (e.Negative a) row ∙ ap (λ x. truth_at x row) (e.outs-Negative a)
 
-pub value_Arithmetic : (operator : Arithmetic) (a b : Expr) (row : List Value) → value (e.Arithmetic operator a b) row ≡ computed operator (value a row) (value b row)
-unfolding value
-value_Arithmetic operator a b row = value_is (e.Arithmetic operator a b) row ∙ ap (λ x. value_at x row) (e.outs-Arithmetic operator a b)
+pub value_Arithmetic : (first : Expr) (operations : List Operation) (row : List Value) → value (e.Arithmetic first operations) row ≡ operated (value first row) operations row
+unfolding value operated
+value_Arithmetic first operations row = value_is (e.Arithmetic first operations) row ∙ ap (λ x. value_at x row) (e.outs-Arithmetic first operations)
 
-pub truth_Arithmetic : (operator : Arithmetic) (a b : Expr) (row : List Value) → truth (e.Arithmetic operator a b) row ≡ Unknown
-truth_Arithmetic operator a b row = truth_is (e.Arithmetic operator a b) row ∙ ap (λ x. truth_at x row) (e.outs-Arithmetic operator a b)
+pub truth_Arithmetic : (first : Expr) (operations : List Operation) (row : List Value) → truth (e.Arithmetic first operations) row ≡ Unknown
+truth_Arithmetic first operations row = truth_is (e.Arithmetic first operations) row ∙ ap (λ x. truth_at x row) (e.outs-Arithmetic first operations)
 
 pub value_Case : (scale : ℕ) (branches : List Branch) (other : Expr) (row : List Value) → value (e.Case scale branches other) row ≡ at_scale scale (unwrap_or (chosen branches row) (value other row))
 unfolding value truth chosen

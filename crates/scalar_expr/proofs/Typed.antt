@@ -18,15 +18,16 @@ use Rattle.scalar_expr.specs.declared.expr.Arithmetic.TheVariants.{Add, Subtract
 use Rattle.scalar_expr.specs.declared.expr.Branch.{Branch}
 use Rattle.scalar_expr.specs.declared.expr.DatePart.{DatePart}
 use Rattle.scalar_expr.specs.declared.expr.Expr.{Expr, Expr-F, out-Expr}
-use Rattle.scalar_expr.specs.declared.expr.Expr.TheFolds.{fold_out-Expr, fold_out-Branch, map-Expr}
+use Rattle.scalar_expr.specs.declared.expr.Expr.TheFolds.{fold_out-Expr, fold_out-Branch, fold_out-Operation, map-Expr}
 use Rattle.scalar_expr.specs.declared.expr.Expr.TheVariants as e
+use Rattle.scalar_expr.specs.declared.expr.Operation.{Operation}
 use Rattle.scalar_expr.specs.declared.kind.Kind.{Kind}
 use Rattle.scalar_expr.specs.declared.kind.Kind.TheVariants as kind
-use Rattle.scalar_expr.specs.Meaning.{value, truth, chosen, branch_value, decided, first_of}
+use Rattle.scalar_expr.specs.Meaning.{value, truth, chosen, branch_value, operation_value, operated, decided, first_of}
 use Rattle.scalar_expr.specs.Operators.{number_or_fault, arithmetic, computed, negative, at_scale, extracted, part_of}
-use Rattle.scalar_expr.specs.Typing.{same_kind, is_of_kind, row_is_of, Sort, Unfit, Nulls, Of, column_sort, literal_sort, negative_sort, result_sort, arithmetic_sort, extract_sort, substring_sort, scaled_sort, both_sorts, all_sorts, branches_sorts, sort_gives, sort_of, is_condition, typing, branch_sort, Typing, BranchTyping, typing_step, branch_sort_step, sort_step, WellTypedGivesItsKind}
-use Rattle.scalar_expr.proofs.Induction.{Branches, exprs, branches, induction}
-use Rattle.scalar_expr.proofs.Opened.{branch_is, value_Column, value_Literal, value_Negative, value_Arithmetic, value_Case, value_Extract, value_Substring, value_Compare, value_Between, value_Like, value_InList, value_IsNull, value_Not, value_All, value_Any, value_Holds}
+use Rattle.scalar_expr.specs.Typing.{same_kind, is_of_kind, row_is_of, Sort, Unfit, Nulls, Of, column_sort, literal_sort, negative_sort, result_sort, arithmetic_sort, extract_sort, substring_sort, scaled_sort, both_sorts, all_sorts, branches_sorts, sort_in_turn, sort_gives, sort_of, is_condition, typing, branch_sort, operation_sort, Typing, BranchTyping, OperationTyping, typing_step, branch_sort_step, operation_sort_step, sort_step, condition_step, WellTypedGivesItsKind}
+use Rattle.scalar_expr.proofs.Induction.{Branches, Operations, exprs, branches, operations, induction}
+use Rattle.scalar_expr.proofs.Opened.{branch_is, operation_is, value_Column, value_Literal, value_Negative, value_Arithmetic, value_Case, value_Extract, value_Substring, value_Compare, value_Between, value_Like, value_InList, value_IsNull, value_Not, value_All, value_Any, value_Holds}
 
 -- a value that an expression of the sort can have
 abbrev fits : Sort → Value → Bool
@@ -265,20 +266,36 @@ tested_branch false x (Some v) h = unfit v
 
 -- ---- the sorts of nodes
 
-abbrev sort_at : Expr-F Expr Branch → List Kind → Sort
-sort_at x = sort_step (map-Expr Expr Branch Typing BranchTyping typing branch_sort x)
+-- a node with the typings of its parts in their place
+abbrev pub with_typings : Expr-F Expr Branch Operation → Expr-F Typing BranchTyping OperationTyping
+with_typings = map-Expr Expr Branch Operation Typing BranchTyping OperationTyping typing branch_sort operation_sort
 
-typing_is : (e : Expr) → typing e ≡ typing_step (map-Expr Expr Branch Typing BranchTyping typing branch_sort (out-Expr e))
-unfolding typing branch_sort
-typing_is = fold_out-Expr Typing BranchTyping typing_step branch_sort_step
+abbrev sort_at : Expr-F Expr Branch Operation → List Kind → Sort
+sort_at x = sort_step (with_typings x)
+
+pub typing_is : (e : Expr) → typing e ≡ typing_step (with_typings (out-Expr e))
+unfolding typing branch_sort operation_sort
+typing_is = fold_out-Expr Typing BranchTyping OperationTyping typing_step branch_sort_step operation_sort_step
 
 sort_is : (e : Expr) (ks : List Kind) → sort_of e ks ≡ sort_at (out-Expr e) ks
 unfolding sort_of
 sort_is e ks = ap (λ (t : Typing). t.sort ks) (typing_is e)
 
-branch_sort_is : (b : Branch) (ks : List Kind) → branch_sort b ks ≡ (if is_condition b.when ks then sort_of b.gives ks else Unfit)
-unfolding typing branch_sort is_condition sort_of
-branch_sort_is b ks = ap (λ (t : BranchTyping). t ks) (fold_out-Branch Typing BranchTyping typing_step branch_sort_step b)
+-- the sort and the test at a node
+pub sort_at_node : (e : Expr) (x : Expr-F Expr Branch Operation) (ks : List Kind) → out-Expr e ≡ x → sort_of e ks ≡ sort_step (with_typings x) ks
+sort_at_node e x ks is = sort_is e ks ∙ ap (λ n. sort_at n ks) is
+
+pub test_at_node : (e : Expr) (x : Expr-F Expr Branch Operation) (ks : List Kind) → out-Expr e ≡ x → is_condition e ks ≡ condition_step (with_typings x) ks
+unfolding is_condition
+test_at_node e x ks is = ap (λ (t : Typing). t.is_condition ks) (typing_is e) ∙ ap (λ n. condition_step (with_typings n) ks) is
+
+pub branch_sort_is : (b : Branch) (ks : List Kind) → branch_sort b ks ≡ (if is_condition b.when ks then sort_of b.gives ks else Unfit)
+unfolding typing branch_sort operation_sort is_condition sort_of
+branch_sort_is b ks = ap (λ (t : BranchTyping). t ks) (fold_out-Branch Typing BranchTyping OperationTyping typing_step branch_sort_step operation_sort_step b)
+
+pub operation_sort_is : (o : Operation) (x : Sort) (ks : List Kind) → operation_sort o x ks ≡ arithmetic_sort o.operator x (sort_of o.operand ks)
+unfolding typing branch_sort operation_sort sort_of
+operation_sort_is o x ks = ap (λ (t : OperationTyping). t x ks) (fold_out-Operation Typing BranchTyping OperationTyping typing_step branch_sort_step operation_sort_step o)
 
 -- ---- the induction
 
@@ -287,6 +304,10 @@ IsTyped x = (ks : List Kind) (row : List Value) → row_is_of ks row ≡ true �
 
 abbrev BranchTyped : Branch → Type 0
 BranchTyped b = (ks : List Kind) (row : List Value) → row_is_of ks row ≡ true → some_fits (branch_sort b ks) (branch_value b row) ≡ true
+
+abbrev OperationTyped : Operation → Type 0
+OperationTyped o = (x : Sort) (v : Value) (ks : List Kind) (row : List Value) → row_is_of ks row ≡ true → fits x v ≡ true
+    → fits (operation_sort o x ks) (operation_value o v row) ≡ true
 
 -- from what the sort and the value are
 by_parts : (x y : Sort) (v w : Value) → x ≡ y → v ≡ w → fits y w ≡ true → fits x v ≡ true
@@ -302,6 +323,17 @@ branches_typed scale (b ∷ bs) ks row r =
     (scaled_some scale (branch_sort b.0 ks) (branch_value b.0 row) (b.1 ks row r))
     (branches_typed scale bs ks row r)
 
+operations_typed : (os : Operations OperationTyped) (x : Sort) (v : Value) (ks : List Kind) (row : List Value) → row_is_of ks row ≡ true → fits x v ≡ true
+    → fits (sort_in_turn x (map operation_sort (operations {R = OperationTyped} os)) ks) (operated v (operations {R = OperationTyped} os) row) ≡ true
+unfolding operated
+operations_typed [] x v ks row r h = h
+operations_typed (o ∷ os) x v ks row r h = operations_typed os (operation_sort o.0 x ks) (operation_value o.0 v row) ks row r (o.1 x v ks row r h)
+
+operation_typed : (operator : Arithmetic) (operand : Expr) → IsTyped operand → OperationTyped (record { operator = operator; operand = operand })
+operation_typed operator operand d x v ks row r h =
+    let o : Operation = record { operator = operator; operand = operand } in
+    by_parts _ _ _ _ (operation_sort_is o x ks) (operation_is o v row) (arithmetic_typed operator x (sort_of operand ks) v (value operand row) h (d ks row r))
+
 branch_typed : (when gives : Expr) → IsTyped when → IsTyped gives → BranchTyped (record { when = when; gives = gives })
 branch_typed when gives w g ks row r =
     let b : Branch = record { when = when; gives = gives } in
@@ -312,14 +344,14 @@ branch_typed when gives w g ks row r =
 
 all_typed : (x : Expr) → IsTyped x
 unfolding sort_of
-all_typed = induction IsTyped BranchTyped (record {
-  column = λ place ks row r. by_parts _ _ _ _ (sort_is (e.Column place) ks ∙ ap (λ n. sort_at n ks) (e.outs-Column place)) (value_Column place row) (column_typed ks row place r);
-  literal = λ v ks row r. by_parts _ _ _ _ (sort_is (e.Literal v) ks ∙ ap (λ n. sort_at n ks) (e.outs-Literal v)) (value_Literal v row) (literal_typed v);
-  negative = λ a h ks row r. by_parts _ _ _ _ (sort_is (e.Negative a) ks ∙ ap (λ n. sort_at n ks) (e.outs-Negative a)) (value_Negative a row) (negative_typed (sort_of a ks) (value a row) (h ks row r));
-  arithmetic = λ operator a h b k ks row r. by_parts _ _ _ _ (sort_is (e.Arithmetic operator a b) ks ∙ ap (λ n. sort_at n ks) (e.outs-Arithmetic operator a b)) (value_Arithmetic operator a b row) (arithmetic_typed operator (sort_of a ks) (sort_of b ks) (value a row) (value b row) (h ks row r) (k ks row r));
-  case = λ scale bs a h ks row r. by_parts _ _ _ _ (sort_is (e.Case scale (branches {Q = BranchTyped} bs) a) ks ∙ ap (λ n. sort_at n ks) (e.outs-Case scale (branches {Q = BranchTyped} bs) a)) (value_Case scale (branches {Q = BranchTyped} bs) a row) (case_typed scale (all_sorts (map (scaled_sort scale) (branches_sorts (map branch_sort (branches {Q = BranchTyped} bs)) ks))) (sort_of a ks) (chosen (branches {Q = BranchTyped} bs) row) (value a row) (branches_typed scale bs ks row r) (h ks row r));
-  extract = λ part a h ks row r. by_parts _ _ _ _ (sort_is (e.Extract part a) ks ∙ ap (λ n. sort_at n ks) (e.outs-Extract part a)) (value_Extract part a row) (extract_typed part (sort_of a ks) (value a row) (h ks row r));
-  substring = λ a h from count ks row r. by_parts _ _ _ _ (sort_is (e.Substring a from count) ks ∙ ap (λ n. sort_at n ks) (e.outs-Substring a from count)) (value_Substring a from count row) (substring_typed from count (sort_of a ks) (value a row) (h ks row r));
+all_typed = induction IsTyped BranchTyped OperationTyped (record {
+  column = λ place ks row r. by_parts _ _ _ _ (sort_at_node (e.Column place) _ ks (e.outs-Column place)) (value_Column place row) (column_typed ks row place r);
+  literal = λ v ks row r. by_parts _ _ _ _ (sort_at_node (e.Literal v) _ ks (e.outs-Literal v)) (value_Literal v row) (literal_typed v);
+  negative = λ a h ks row r. by_parts _ _ _ _ (sort_at_node (e.Negative a) _ ks (e.outs-Negative a)) (value_Negative a row) (negative_typed (sort_of a ks) (value a row) (h ks row r));
+  arithmetic = λ a h os ks row r. by_parts _ _ _ _ (sort_at_node (e.Arithmetic a (operations {R = OperationTyped} os)) _ ks (e.outs-Arithmetic a (operations {R = OperationTyped} os))) (value_Arithmetic a (operations {R = OperationTyped} os) row) (operations_typed os (sort_of a ks) (value a row) ks row r (h ks row r));
+  case = λ scale bs a h ks row r. by_parts _ _ _ _ (sort_at_node (e.Case scale (branches {Q = BranchTyped} bs) a) _ ks (e.outs-Case scale (branches {Q = BranchTyped} bs) a)) (value_Case scale (branches {Q = BranchTyped} bs) a row) (case_typed scale (all_sorts (map (scaled_sort scale) (branches_sorts (map branch_sort (branches {Q = BranchTyped} bs)) ks))) (sort_of a ks) (chosen (branches {Q = BranchTyped} bs) row) (value a row) (branches_typed scale bs ks row r) (h ks row r));
+  extract = λ part a h ks row r. by_parts _ _ _ _ (sort_at_node (e.Extract part a) _ ks (e.outs-Extract part a)) (value_Extract part a row) (extract_typed part (sort_of a ks) (value a row) (h ks row r));
+  substring = λ a h from count ks row r. by_parts _ _ _ _ (sort_at_node (e.Substring a from count) _ ks (e.outs-Substring a from count)) (value_Substring a from count row) (substring_typed from count (sort_of a ks) (value a row) (h ks row r));
   compare = λ comparison a h b k ks row r. ap (fits (sort_of (e.Compare comparison a b) ks)) (value_Compare comparison a b row) ∙ fits_null (sort_of (e.Compare comparison a b) ks);
   between = λ a h b k d l ks row r. ap (fits (sort_of (e.Between a b d) ks)) (value_Between a b d row) ∙ fits_null (sort_of (e.Between a b d) ks);
   like = λ a h pattern ks row r. ap (fits (sort_of (e.Like a pattern) ks)) (value_Like a pattern row) ∙ fits_null (sort_of (e.Like a pattern) ks);
@@ -330,6 +362,7 @@ all_typed = induction IsTyped BranchTyped (record {
   any = λ es ks row r. ap (fits (sort_of (e.Any (exprs {P = IsTyped} es)) ks)) (value_Any (exprs {P = IsTyped} es) row) ∙ fits_null (sort_of (e.Any (exprs {P = IsTyped} es)) ks);
   holds = λ a h ks row r. ap (fits (sort_of (e.Holds a) ks)) (value_Holds a row) ∙ fits_null (sort_of (e.Holds a) ks);
   branch = branch_typed;
+  operation = operation_typed;
 })
 
 same_kind_back : (j k : Kind) → same_kind j k ≡ true → same_kind k j ≡ true

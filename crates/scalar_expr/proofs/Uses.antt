@@ -8,25 +8,30 @@ use Rattle.scalar_expr.specs.declared.expr.Branch.{Branch}
 use Rattle.scalar_expr.specs.declared.expr.Comparison.{Comparison}
 use Rattle.scalar_expr.specs.declared.expr.DatePart.{DatePart}
 use Rattle.scalar_expr.specs.declared.expr.Expr.{Expr, Expr-F, out-Expr}
-use Rattle.scalar_expr.specs.declared.expr.Expr.TheFolds.{fold_out-Expr, fold_out-Branch, map-Expr}
+use Rattle.scalar_expr.specs.declared.expr.Expr.TheFolds.{fold_out-Expr, fold_out-Branch, fold_out-Operation, map-Expr}
 use Rattle.scalar_expr.specs.declared.expr.Expr.TheVariants as e
-use Rattle.scalar_expr.specs.Meaning.{value, truth, values, truths, chosen, branch_value, first_of, decided, least, greatest, in_list}
+use Rattle.scalar_expr.specs.declared.expr.Operation.{Operation}
+use Rattle.scalar_expr.specs.Meaning.{value, truth, values, truths, chosen, branch_value, operation_value, operated, first_of, decided, least, greatest, in_list}
 use Rattle.scalar_expr.specs.Operators.{at_scale, negative, computed, extracted, part_of, compared, between, liked, null_test, truth_of_mark}
 use Rattle.scalar_expr.specs.Rename.{gathered}
-use Rattle.scalar_expr.specs.Used.{one_list, used_step, branch_used_step, used, branch_used, all_used, branches_used, SameAt, UsedColumnsDecide}
-use Rattle.scalar_expr.proofs.Induction.{Exprs, Branches, exprs, branches, induction}
-use Rattle.scalar_expr.proofs.Opened.{branch_is, value_Column, truth_Column, value_Literal, truth_Literal, value_Negative, truth_Negative, value_Arithmetic, truth_Arithmetic, value_Case, truth_Case, value_Extract, truth_Extract, value_Substring, truth_Substring, value_Compare, truth_Compare, value_Between, truth_Between, value_Like, truth_Like, value_InList, truth_InList, value_IsNull, truth_IsNull, value_Not, truth_Not, value_All, truth_All, value_Any, truth_Any, value_Holds, truth_Holds}
+use Rattle.scalar_expr.specs.Used.{one_list, used_step, branch_used_step, operation_used_step, used, branch_used, operation_used, all_used, branches_used, operations_used, SameAt, UsedColumnsDecide}
+use Rattle.scalar_expr.proofs.Induction.{Exprs, Branches, Operations, exprs, branches, operations, induction}
+use Rattle.scalar_expr.proofs.Opened.{branch_is, operation_is, value_Column, truth_Column, value_Literal, truth_Literal, value_Negative, truth_Negative, value_Arithmetic, truth_Arithmetic, value_Case, truth_Case, value_Extract, truth_Extract, value_Substring, truth_Substring, value_Compare, truth_Compare, value_Between, truth_Between, value_Like, truth_Like, value_InList, truth_InList, value_IsNull, truth_IsNull, value_Not, truth_Not, value_All, truth_All, value_Any, truth_Any, value_Holds, truth_Holds}
 
-abbrev used_at : Expr-F Expr Branch → List ℕ
-used_at x = used_step (map-Expr Expr Branch (List ℕ) (List ℕ) used branch_used x)
+abbrev used_at : Expr-F Expr Branch Operation → List ℕ
+used_at x = used_step (map-Expr Expr Branch Operation (List ℕ) (List ℕ) (List ℕ) used branch_used operation_used x)
 
 used_is : (e : Expr) → used e ≡ used_at (out-Expr e)
-unfolding used branch_used
-used_is = fold_out-Expr (List ℕ) (List ℕ) used_step branch_used_step
+unfolding used branch_used operation_used
+used_is = fold_out-Expr (List ℕ) (List ℕ) (List ℕ) used_step branch_used_step operation_used_step
 
 pub branch_used_is : (b : Branch) → branch_used b ≡ used b.when ++ used b.gives
-unfolding used branch_used
-branch_used_is = fold_out-Branch (List ℕ) (List ℕ) used_step branch_used_step
+unfolding used branch_used operation_used
+branch_used_is = fold_out-Branch (List ℕ) (List ℕ) (List ℕ) used_step branch_used_step operation_used_step
+
+pub operation_used_is : (o : Operation) → operation_used o ≡ used o.operand
+unfolding used branch_used operation_used
+operation_used_is = fold_out-Operation (List ℕ) (List ℕ) (List ℕ) used_step branch_used_step operation_used_step
 
 pub used_Column : (place : ℕ) → used (e.Column place) ≡ place ∷ []
 used_Column place = used_is (e.Column place) ∙ ap used_at (e.outs-Column place)
@@ -37,8 +42,9 @@ used_Literal v = used_is (e.Literal v) ∙ ap used_at (e.outs-Literal v)
 pub used_Negative : (a : Expr) → used (e.Negative a) ≡ used a
 used_Negative a = used_is (e.Negative a) ∙ ap used_at (e.outs-Negative a)
 
-pub used_Arithmetic : (operator : Arithmetic) (a : Expr) (b : Expr) → used (e.Arithmetic operator a b) ≡ used a ++ used b
-used_Arithmetic operator a b = used_is (e.Arithmetic operator a b) ∙ ap used_at (e.outs-Arithmetic operator a b)
+pub used_Arithmetic : (a : Expr) (os : List Operation) → used (e.Arithmetic a os) ≡ used a ++ operations_used os
+unfolding operations_used
+used_Arithmetic a os = used_is (e.Arithmetic a os) ∙ ap used_at (e.outs-Arithmetic a os)
 
 pub used_Case : (scale : ℕ) (bs : List Branch) (a : Expr) → used (e.Case scale bs a) ≡ branches_used bs ++ used a
 unfolding branches_used
@@ -94,6 +100,10 @@ branches_used-push : (bs : List Branch) (b : Branch) → branches_used (bs ++ b 
 unfolding branches_used
 branches_used-push bs b = ap one_list (map-append branch_used bs (b ∷ [])) ∙ one_list-push (map branch_used bs) (branch_used b)
 
+operations_used-push : (os : List Operation) (o : Operation) → operations_used (os ++ o ∷ []) ≡ operations_used os ++ operation_used o
+unfolding operations_used
+operations_used-push os o = ap one_list (map-append operation_used os (o ∷ [])) ∙ one_list-push (map operation_used os) (operation_used o)
+
 -- the steps of the loops
 pub no_uses : (start : List ℕ) → start ≡ start ++ all_used []
 unfolding all_used
@@ -102,6 +112,10 @@ no_uses start = sym (append-nil start)
 pub no_branch_uses : (start : List ℕ) → start ≡ start ++ branches_used []
 unfolding branches_used
 no_branch_uses start = sym (append-nil start)
+
+pub no_operation_uses : (start : List ℕ) → start ≡ start ++ operations_used []
+unfolding operations_used
+no_operation_uses start = sym (append-nil start)
 
 pub more_used : (start now next : List ℕ) (es : List Expr) (i : ℕ) (x : Expr) → i < length es → x ≡ get_or es i x
     → now ≡ start ++ all_used (take i es) → next ≡ now ++ used x → next ≡ start ++ all_used (take (i + 1) es)
@@ -118,6 +132,14 @@ more_branches_used start now next last bs i b lt is before new newer =
     ∙ append_assoc start (branches_used (take i bs)) (branch_used b)
     ∙ ap (λ l. start ++ l) (sym (branches_used-push (take i bs) b))
     ∙ ap (λ l. start ++ branches_used l) (sym (take_more bs i b lt ∙ ap (λ y. take i bs ++ y ∷ []) (sym is)))
+
+pub more_operations_used : (start now next : List ℕ) (os : List Operation) (i : ℕ) (o : Operation) → i < length os → o ≡ get_or os i o
+    → now ≡ start ++ operations_used (take i os) → next ≡ now ++ used o.operand → next ≡ start ++ operations_used (take (i + 1) os)
+more_operations_used start now next os i o lt is before new =
+    new ∙ ap (λ l. now ++ l) (sym (operation_used_is o)) ∙ ap (λ l. l ++ operation_used o) before
+    ∙ append_assoc start (operations_used (take i os)) (operation_used o)
+    ∙ ap (λ l. start ++ l) (sym (operations_used-push (take i os) o))
+    ∙ ap (λ l. start ++ operations_used l) (sym (take_more os i o lt ∙ ap (λ y. take i os ++ y ∷ []) (sym is)))
 
 -- ---- rows with the same values at some places
 
@@ -151,6 +173,9 @@ Decides x = (row other : List Value) → SameAt (used x) row other → Same x ro
 abbrev BranchDecides : Branch → Type 0
 BranchDecides b = (row other : List Value) → SameAt (branch_used b) row other → branch_value b row ≡ branch_value b other
 
+abbrev OperationDecides : Operation → Type 0
+OperationDecides o = (x : Value) (row other : List Value) → SameAt (operation_used o) row other → operation_value o x row ≡ operation_value o x other
+
 same_values : (xs : Exprs Decides) (row other : List Value) → SameAt (all_used (exprs {P = Decides} xs)) row other → values (exprs {P = Decides} xs) row ≡ values (exprs {P = Decides} xs) other
 unfolding all_used values
 same_values [] row other h = refl
@@ -173,6 +198,21 @@ same_chosen [] row other h = refl
 same_chosen (b ∷ bs) row other h =
     ap (λ o. first_of o (chosen (branches {Q = BranchDecides} bs) row)) (b.1 row other (left_part (branch_used b.0) (branches_used (branches {Q = BranchDecides} bs)) row other h))
     ∙ ap (first_of (branch_value b.0 other)) (same_chosen bs row other (right_part (branch_used b.0) (branches_used (branches {Q = BranchDecides} bs)) row other h))
+
+same_operated : (x : Value) (os : Operations OperationDecides) (row other : List Value) → SameAt (operations_used (operations {R = OperationDecides} os)) row other
+    → operated x (operations {R = OperationDecides} os) row ≡ operated x (operations {R = OperationDecides} os) other
+unfolding operations_used operated
+same_operated x [] row other h = refl
+same_operated x (o ∷ os) row other h =
+    let rest = operations {R = OperationDecides} os in
+    ap (λ y. operated y rest row) (o.1 x row other (left_part (operation_used o.0) (operations_used rest) row other h))
+    ∙ same_operated (operation_value o.0 x other) os row other (right_part (operation_used o.0) (operations_used rest) row other h)
+
+same_operation : (operator : Arithmetic) (operand : Expr) → Decides operand → OperationDecides (record { operator = operator; operand = operand })
+same_operation operator operand d x row other h =
+    let o : Operation = record { operator = operator; operand = operand } in
+    let all : SameAt (used operand) row other = subst (λ u. SameAt u row other) (operation_used_is o) h in
+    operation_is o x row ∙ ap (λ v. computed operator x v) (d row other all).value ∙ sym (operation_is o x other)
 
 same_branch : (when gives : Expr) → Decides when → Decides gives → BranchDecides (record { when = when; gives = gives })
 same_branch when gives w g row other h =
@@ -197,14 +237,15 @@ same_Negative a ha row other h =
       truth = truth_Negative a row ∙ sym (truth_Negative a other);
     }
 
-same_Arithmetic : (operator : Arithmetic) → (a : Expr) → Decides a → (b : Expr) → Decides b → Decides (e.Arithmetic operator a b)
-same_Arithmetic operator a ha b hb row other h =
-    let all : SameAt (used a ++ used b) row other = subst (λ u. SameAt u row other) (used_Arithmetic operator a b) h in
-    let p1 : SameAt (used b) row other = right_part (used a) (used b) row other all in
-    let q1 : SameAt (used a) row other = left_part (used a) (used b) row other all in
+same_Arithmetic : (a : Expr) → Decides a → (os : Operations OperationDecides) → Decides (e.Arithmetic a (operations {R = OperationDecides} os))
+same_Arithmetic a ha os row other h =
+    let list = operations {R = OperationDecides} os in
+    let all : SameAt (used a ++ operations_used list) row other = subst (λ u. SameAt u row other) (used_Arithmetic a list) h in
+    let p1 : SameAt (operations_used list) row other = right_part (used a) (operations_used list) row other all in
+    let q1 : SameAt (used a) row other = left_part (used a) (operations_used list) row other all in
     record {
-      value = value_Arithmetic operator a b row ∙ ap (λ x. computed operator x (value b row)) (ha row other q1).value ∙ ap (λ x. computed operator (value a other) x) (hb row other p1).value ∙ sym (value_Arithmetic operator a b other);
-      truth = truth_Arithmetic operator a b row ∙ sym (truth_Arithmetic operator a b other);
+      value = value_Arithmetic a list row ∙ ap (λ x. operated x list row) (ha row other q1).value ∙ same_operated (value a other) os row other p1 ∙ sym (value_Arithmetic a list other);
+      truth = truth_Arithmetic a list row ∙ sym (truth_Arithmetic a list other);
     }
 
 same_Case : (scale : ℕ) → (xs : Branches BranchDecides) → (a : Expr) → Decides a → Decides (e.Case scale (branches {Q = BranchDecides} xs) a)
@@ -314,7 +355,7 @@ same_Holds a ha row other h =
     }
 
 all_decide : (x : Expr) → Decides x
-all_decide = induction Decides BranchDecides (record {
+all_decide = induction Decides BranchDecides OperationDecides (record {
   column = same_Column;
   literal = same_Literal;
   negative = same_Negative;
@@ -332,6 +373,7 @@ all_decide = induction Decides BranchDecides (record {
   any = same_Any;
   holds = same_Holds;
   branch = same_branch;
+  operation = same_operation;
 })
 
 pub used_columns_decide_lem : UsedColumnsDecide

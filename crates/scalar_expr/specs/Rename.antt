@@ -1,10 +1,36 @@
 -- Expressions over other columns.
-use Rattle.std.specs.Prelude.{◌≡◌, ℕ, List, map, slice_index_or}
+use Rattle.std.specs.Prelude.{◌≡◌, ℕ, List, map, Option, Some, None, IsTrue, slice_get, slice_index_or}
 use Rattle.sql_value.specs.declared.value.Value.{Value}
 use Rattle.sql_value.specs.declared.value.Value.TheVariants.{Null}
-use Rattle.scalar_expr.specs.declared.expr.Branch.{Branch}
-use Rattle.scalar_expr.specs.declared.expr.Expr.{Expr}
-use Rattle.scalar_expr.specs.Meaning.{value, truth, values, truths, chosen}
+use Rattle.scalar_expr.specs.declared.expr.Branch.{Branch, roll-Branch}
+use Rattle.scalar_expr.specs.declared.expr.Expr.{Expr, Expr-F, roll-Expr}
+use Rattle.scalar_expr.specs.declared.expr.Expr.TheFolds.{fold-Expr, fold-Branch, fold-Operation}
+use Rattle.scalar_expr.specs.declared.expr.Expr.TheOpen.{Column}
+use Rattle.scalar_expr.specs.declared.expr.Expr.TheVariants as e
+use Rattle.scalar_expr.specs.declared.expr.Operation.{Operation, roll-Operation}
+use Rattle.scalar_expr.specs.declared.kind.Kind.{Kind}
+use Rattle.scalar_expr.specs.Meaning.{value, truth}
+use Rattle.scalar_expr.specs.Typing.{gives, is_condition}
+
+-- a column of that place; null where there is none
+abbrev pub column_or_null : Option ℕ → Expr
+column_or_null (Some place) = e.Column place
+column_or_null None = e.Literal Null
+
+-- a node with other columns: only a column changes
+abbrev pub renamed_step : List ℕ → Expr-F Expr Branch Operation → Expr
+renamed_step columns (Column i) = column_or_null (slice_get columns i)
+renamed_step columns node = roll-Expr node
+
+-- the expression with the column columns[i] in the place of each column i, and null where columns has no such place
+unfoldable pub renamed : List ℕ → Expr → Expr
+renamed columns = fold-Expr Expr Branch Operation (renamed_step columns) roll-Branch roll-Operation
+
+unfoldable pub renamed_branch : List ℕ → Branch → Branch
+renamed_branch columns = fold-Branch Expr Branch Operation (renamed_step columns) roll-Branch roll-Operation
+
+unfoldable pub renamed_operation : List ℕ → Operation → Operation
+renamed_operation columns = fold-Operation Expr Branch Operation (renamed_step columns) roll-Branch roll-Operation
 
 -- the row of these columns of a row; null where it has none
 unfoldable pub gathered : List ℕ → List Value → List Value
@@ -15,11 +41,11 @@ pub record IsRenamed (columns : List ℕ) (old new : Expr) : Type 0 where
   pub value : (row : List Value) → value new row ≡ value old (gathered columns row)
   pub truth : (row : List Value) → truth new row ≡ truth old (gathered columns row)
 
--- the same of the expressions of two lists, one by one
-pub record AreRenamed (columns : List ℕ) (old new : List Expr) : Type 0 where
-  pub values : (row : List Value) → values new row ≡ values old (gathered columns row)
-  pub truths : (row : List Value) → truths new row ≡ truths old (gathered columns row)
+-- these columns are there, and of these kinds
+abbrev pub ColumnsAre : List ℕ → List Kind → List Kind → Type 0
+ColumnsAre columns kinds these = map (slice_get kinds) columns ≡ map Some these
 
--- the same of the branches of two CASEs
-pub record BranchesRenamed (columns : List ℕ) (old new : List Branch) : Type 0 where
-  pub chosen : (row : List Value) → chosen new row ≡ chosen old (gathered columns row)
+-- over rows of some kinds, new is well typed where old is over rows of the kinds of these columns, and gives that kind
+pub record KeepsKinds (columns : List ℕ) (old new : Expr) : Type 0 where
+  pub gives : (kinds these : List Kind) (k : Kind) → ColumnsAre columns kinds these → IsTrue (gives old these k) → IsTrue (gives new kinds k)
+  pub is_condition : (kinds these : List Kind) → ColumnsAre columns kinds these → IsTrue (is_condition old these) → IsTrue (is_condition new kinds)

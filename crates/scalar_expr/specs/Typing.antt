@@ -1,5 +1,5 @@
 -- Well-typed expressions: what kind of values each gives over rows of these kinds.
-use Rattle.std.specs.Prelude.{ℕ, ◌+◌, max, nat_le, Bool, true, false, ◌&&◌, ◌==◌, if◌then◌else◌, List, [], ◌∷◌, map, Option, Some, None, slice_get, IsTrue}
+use Rattle.std.specs.Prelude.{ℕ, ◌+◌, max, nat_le, Bool, true, false, ◌&&◌, ◌==◌, if◌then◌else◌, List, [], ◌∷◌, map, fold, Option, Some, None, slice_get, IsTrue}
 use Rattle.std.specs.List.{list_all}
 use Rattle.fixed_decimal.specs.Decimal.{quotient_scale}
 use Rattle.sql_value.specs.declared.value.Value.{Value}
@@ -9,7 +9,8 @@ use Rattle.scalar_expr.specs.declared.expr.Arithmetic.TheVariants.{Add, Subtract
 use Rattle.scalar_expr.specs.declared.expr.Branch.{Branch}
 use Rattle.scalar_expr.specs.declared.expr.Expr.{Expr, Expr-F}
 use Rattle.scalar_expr.specs.declared.expr.Expr.TheOpen as node
-use Rattle.scalar_expr.specs.declared.expr.Expr.TheFolds.{fold-Expr, fold-Branch}
+use Rattle.scalar_expr.specs.declared.expr.Expr.TheFolds.{fold-Expr, fold-Branch, fold-Operation}
+use Rattle.scalar_expr.specs.declared.expr.Operation.{Operation}
 use Rattle.scalar_expr.specs.declared.kind.Kind.{Kind}
 use Rattle.scalar_expr.specs.declared.kind.Kind.TheVariants.{Number, Text, Date}
 use Rattle.scalar_expr.specs.Meaning.{value}
@@ -119,8 +120,19 @@ pub record Typing : Type 0 where
 abbrev pub BranchTyping : Type 0
 BranchTyping = List Kind → Sort
 
-abbrev pub branch_sort_step : node.Branch-F Typing BranchTyping → BranchTyping
+-- what an operation makes of the sort on its left
+abbrev pub OperationTyping : Type 0
+OperationTyping = Sort → List Kind → Sort
+
+abbrev pub branch_sort_step : node.Branch-F Typing BranchTyping OperationTyping → BranchTyping
 branch_sort_step b ks = if b.when.is_condition ks then b.gives.sort ks else Unfit
+
+abbrev pub operation_sort_step : node.Operation-F Typing BranchTyping OperationTyping → OperationTyping
+operation_sort_step o x ks = arithmetic_sort o.operator x (o.operand.sort ks)
+
+-- the operations on a sort, from left to right
+abbrev pub sort_in_turn : Sort → List OperationTyping → List Kind → Sort
+sort_in_turn x operations ks = fold (λ y (o : OperationTyping). o y ks) x operations
 
 abbrev pub branches_sorts : List BranchTyping → List Kind → List Sort
 branches_sorts [] ks = []
@@ -129,17 +141,17 @@ branches_sorts (b ∷ bs) ks = b ks ∷ branches_sorts bs ks
 abbrev pub case_sort : ℕ → List Sort → Sort → Sort
 case_sort scale branches other = both_sorts (all_sorts (map (scaled_sort scale) branches)) (scaled_sort scale other)
 
-abbrev pub sort_step : Expr-F Typing BranchTyping → List Kind → Sort
+abbrev pub sort_step : Expr-F Typing BranchTyping OperationTyping → List Kind → Sort
 sort_step (node.Column place) ks = column_sort (slice_get ks place)
 sort_step (node.Literal v) ks = literal_sort v
 sort_step (node.Negative e) ks = negative_sort (e.sort ks)
-sort_step (node.Arithmetic operator a b) ks = arithmetic_sort operator (a.sort ks) (b.sort ks)
+sort_step (node.Arithmetic first operations) ks = sort_in_turn (first.sort ks) operations ks
 sort_step (node.Case scale branches other) ks = case_sort scale (branches_sorts branches ks) (other.sort ks)
 sort_step (node.Extract part e) ks = extract_sort (e.sort ks)
 sort_step (node.Substring e from count) ks = substring_sort (e.sort ks)
 sort_step condition ks = Unfit
 
-abbrev pub condition_step : Expr-F Typing BranchTyping → List Kind → Bool
+abbrev pub condition_step : Expr-F Typing BranchTyping OperationTyping → List Kind → Bool
 condition_step (node.Compare comparison a b) ks = comparable (a.sort ks) (b.sort ks)
 condition_step (node.Between e low high) ks = comparable (e.sort ks) (low.sort ks) && comparable (e.sort ks) (high.sort ks)
 condition_step (node.Like e pattern) ks = is_text (e.sort ks)
@@ -151,14 +163,17 @@ condition_step (node.Any es) ks = list_all (λ (x : Typing). x.is_condition ks) 
 condition_step (node.Holds e) ks = is_number (e.sort ks)
 condition_step e ks = false
 
-abbrev pub typing_step : Expr-F Typing BranchTyping → Typing
+abbrev pub typing_step : Expr-F Typing BranchTyping OperationTyping → Typing
 typing_step e = record { sort = sort_step e; is_condition = condition_step e }
 
 unfoldable pub typing : Expr → Typing
-typing = fold-Expr Typing BranchTyping typing_step branch_sort_step
+typing = fold-Expr Typing BranchTyping OperationTyping typing_step branch_sort_step operation_sort_step
 
 unfoldable pub branch_sort : Branch → List Kind → Sort
-branch_sort = fold-Branch Typing BranchTyping typing_step branch_sort_step
+branch_sort = fold-Branch Typing BranchTyping OperationTyping typing_step branch_sort_step operation_sort_step
+
+unfoldable pub operation_sort : Operation → Sort → List Kind → Sort
+operation_sort = fold-Operation Typing BranchTyping OperationTyping typing_step branch_sort_step operation_sort_step
 
 -- what the values of an expression can be over rows of these kinds
 unfoldable pub sort_of : Expr → List Kind → Sort

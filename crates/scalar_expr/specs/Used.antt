@@ -3,8 +3,9 @@ use Rattle.std.specs.Prelude.{◌≡◌, ℕ, List, [], ◌∷◌, ◌++◌, map
 use Rattle.sql_value.specs.declared.value.Value.{Value}
 use Rattle.scalar_expr.specs.declared.expr.Branch.{Branch}
 use Rattle.scalar_expr.specs.declared.expr.Expr.{Expr, Expr-F}
-use Rattle.scalar_expr.specs.declared.expr.Expr.TheOpen.{Branch-F, Column, Literal, Negative, Arithmetic, Case, Extract, Substring, Compare, Between, Like, InList, IsNull, Not, All, Any, Holds}
-use Rattle.scalar_expr.specs.declared.expr.Expr.TheFolds.{fold-Expr, fold-Branch}
+use Rattle.scalar_expr.specs.declared.expr.Expr.TheOpen.{Branch-F, Operation-F, Column, Literal, Negative, Arithmetic, Case, Extract, Substring, Compare, Between, Like, InList, IsNull, Not, All, Any, Holds}
+use Rattle.scalar_expr.specs.declared.expr.Expr.TheFolds.{fold-Expr, fold-Branch, fold-Operation}
+use Rattle.scalar_expr.specs.declared.expr.Operation.{Operation}
 use Rattle.scalar_expr.specs.Meaning.{value, truth}
 use Rattle.scalar_expr.specs.Rename.{gathered}
 
@@ -14,11 +15,11 @@ one_list [] = []
 one_list (places ∷ more) = places ++ one_list more
 
 -- the places that a node uses, from those that its parts use, from left to right
-abbrev pub used_step : Expr-F (List ℕ) (List ℕ) → List ℕ
+abbrev pub used_step : Expr-F (List ℕ) (List ℕ) (List ℕ) → List ℕ
 used_step (Column place) = place ∷ []
 used_step (Literal v) = []
 used_step (Negative e) = e
-used_step (Arithmetic operator a b) = a ++ b
+used_step (Arithmetic first operations) = first ++ one_list operations
 used_step (Case scale branches other) = one_list branches ++ other
 used_step (Extract part e) = e
 used_step (Substring e from count) = e
@@ -32,15 +33,21 @@ used_step (All es) = one_list es
 used_step (Any es) = one_list es
 used_step (Holds e) = e
 
-abbrev pub branch_used_step : Branch-F (List ℕ) (List ℕ) → List ℕ
+abbrev pub branch_used_step : Branch-F (List ℕ) (List ℕ) (List ℕ) → List ℕ
 branch_used_step b = b.when ++ b.gives
+
+abbrev pub operation_used_step : Operation-F (List ℕ) (List ℕ) (List ℕ) → List ℕ
+operation_used_step o = o.operand
 
 -- the places of the columns that an expression uses, once for each use
 unfoldable pub used : Expr → List ℕ
-used = fold-Expr (List ℕ) (List ℕ) used_step branch_used_step
+used = fold-Expr (List ℕ) (List ℕ) (List ℕ) used_step branch_used_step operation_used_step
 
 unfoldable pub branch_used : Branch → List ℕ
-branch_used = fold-Branch (List ℕ) (List ℕ) used_step branch_used_step
+branch_used = fold-Branch (List ℕ) (List ℕ) (List ℕ) used_step branch_used_step operation_used_step
+
+unfoldable pub operation_used : Operation → List ℕ
+operation_used = fold-Operation (List ℕ) (List ℕ) (List ℕ) used_step branch_used_step operation_used_step
 
 -- the same of lists
 unfoldable pub all_used : List Expr → List ℕ
@@ -48,6 +55,9 @@ all_used es = one_list (map used es)
 
 unfoldable pub branches_used : List Branch → List ℕ
 branches_used bs = one_list (map branch_used bs)
+
+unfoldable pub operations_used : List Operation → List ℕ
+operations_used operations = one_list (map operation_used operations)
 
 -- two rows have the same values at these places
 abbrev pub SameAt : List ℕ → List Value → List Value → Type 0

@@ -1,135 +1,136 @@
 //! Expressions over other columns.
-ghost use Rattle.std.specs.Prelude.{◌≡◌, IfOk};
-ghost use Rattle.scalar_expr.specs.Rename.{IsRenamed, AreRenamed, BranchesRenamed};
+ghost use Rattle.std.specs.Prelude.{◌≡◌, map, slice_get, IfOk};
+ghost use Rattle.std.specs.List.{filter_map};
+ghost use Rattle.scalar_expr.specs.Rename.{renamed, renamed_branch, renamed_operation, IsRenamed, KeepsKinds};
+ghost use Rattle.scalar_expr.specs.Used.{used};
 ghost use Rattle.scalar_expr.specs.declared.expr.Expr.TheVariants.{Column};
 
-use crate::expr::{Branch, Expr};
+use crate::expr::{Branch, Expr, Operation};
 use sql_value::Value;
-use sqlite_items::{Boxed, Items};
+use sqlite_items::{Boxed, Items, at};
 use std::alloc::{AllocError, Global};
 
 /// The expression that reads the column `columns[i]` where `e` reads the column i, and null where `columns` has no such
-/// place: over any row it means what `e` means over the row of these columns.
-#[cycle(rename)]
+/// place: over any row it means what `e` means over the row of these columns, is typed as `e` is over that row, and
+/// uses of `columns` what `e` names.
 pub fn rename(alloc: Global, e: &Expr, columns: &[u32]) -> Result<Expr, AllocError>
-    ensures { IfOk result (λ renamed. IsRenamed columns.now e.now renamed) }
+    ensures tree { IfOk result (λ new. new ≡ renamed columns.now e.now) }
+    ensures meaning { IfOk result (IsRenamed columns.now e.now) }
+    ensures kinds { IfOk result (KeepsKinds columns.now e.now) }
+    ensures used { IfOk result (λ new. used new ≡ filter_map (slice_get columns.now) (used e.now)) }
+{
+    let new = renamed(alloc, e, columns)?;
+    Ok(new)
+}
+
+#[cycle(rename)]
+#[tactic(auto, using(crate::proofs::Renamed::renamed_opened))]
+fn renamed(alloc: Global, e: &Expr, columns: &[u32]) -> Result<Expr, AllocError>
+    ensures { IfOk result (λ new. new ≡ renamed columns.now e.now) }
 {
     match e {
-        Expr::Column(place) => Ok(rename_column(*place, columns)),
-        Expr::Literal(v) => {
-            let v = v.clone()?;
-            Ok(Expr::Literal(v))
-        }
-        Expr::Negative(e) => {
-            let e = rename_boxed(alloc, e.get(), columns)?;
-            Ok(Expr::Negative(e))
-        }
-        Expr::Arithmetic(operator, a, b) => {
-            let a = rename_boxed(alloc, a.get(), columns)?;
-            let b = rename_boxed(alloc, b.get(), columns)?;
-            Ok(Expr::Arithmetic(*operator, a, b))
-        }
-        Expr::Case(scale, branches, other) => {
-            let branches = rename_branches(alloc, branches.as_slice(), columns)?;
-            let other = rename_boxed(alloc, other.get(), columns)?;
-            Ok(Expr::Case(*scale, branches, other))
-        }
-        Expr::Extract(part, e) => {
-            let e = rename_boxed(alloc, e.get(), columns)?;
-            Ok(Expr::Extract(*part, e))
-        }
+        Expr::Column(place) => Ok(renamed_column(*place, columns)),
+        Expr::Literal(v) => Ok(Expr::Literal(v.clone()?)),
+        Expr::Negative(e) => Ok(Expr::Negative(boxed(alloc, e, columns)?)),
+        Expr::Arithmetic(first, operations) => Ok(Expr::Arithmetic(
+            boxed(alloc, first, columns)?,
+            renamed_operations(alloc, operations.as_slice(), columns)?,
+        )),
+        Expr::Case(scale, branches, other) => Ok(Expr::Case(
+            *scale,
+            renamed_branches(alloc, branches.as_slice(), columns)?,
+            boxed(alloc, other, columns)?,
+        )),
+        Expr::Extract(part, e) => Ok(Expr::Extract(*part, boxed(alloc, e, columns)?)),
         Expr::Substring(e, from, count) => {
-            let e = rename_boxed(alloc, e.get(), columns)?;
-            Ok(Expr::Substring(e, *from, *count))
+            Ok(Expr::Substring(boxed(alloc, e, columns)?, *from, *count))
         }
-        Expr::Compare(comparison, a, b) => {
-            let a = rename_boxed(alloc, a.get(), columns)?;
-            let b = rename_boxed(alloc, b.get(), columns)?;
-            Ok(Expr::Compare(*comparison, a, b))
-        }
-        Expr::Between(e, low, high) => {
-            let e = rename_boxed(alloc, e.get(), columns)?;
-            let low = rename_boxed(alloc, low.get(), columns)?;
-            let high = rename_boxed(alloc, high.get(), columns)?;
-            Ok(Expr::Between(e, low, high))
-        }
-        Expr::Like(e, pattern) => {
-            let e = rename_boxed(alloc, e.get(), columns)?;
-            let pattern = pattern.clone()?;
-            Ok(Expr::Like(e, pattern))
-        }
-        Expr::InList(e, es) => {
-            let e = rename_boxed(alloc, e.get(), columns)?;
-            let es = rename_all(alloc, es.as_slice(), columns)?;
-            Ok(Expr::InList(e, es))
-        }
-        Expr::IsNull(e) => {
-            let e = rename_boxed(alloc, e.get(), columns)?;
-            Ok(Expr::IsNull(e))
-        }
-        Expr::Not(e) => {
-            let e = rename_boxed(alloc, e.get(), columns)?;
-            Ok(Expr::Not(e))
-        }
-        Expr::All(es) => {
-            let es = rename_all(alloc, es.as_slice(), columns)?;
-            Ok(Expr::All(es))
-        }
-        Expr::Any(es) => {
-            let es = rename_all(alloc, es.as_slice(), columns)?;
-            Ok(Expr::Any(es))
-        }
-        Expr::Holds(e) => {
-            let e = rename_boxed(alloc, e.get(), columns)?;
-            Ok(Expr::Holds(e))
-        }
+        Expr::Compare(comparison, a, b) => Ok(Expr::Compare(
+            *comparison,
+            boxed(alloc, a, columns)?,
+            boxed(alloc, b, columns)?,
+        )),
+        Expr::Between(e, low, high) => Ok(Expr::Between(
+            boxed(alloc, e, columns)?,
+            boxed(alloc, low, columns)?,
+            boxed(alloc, high, columns)?,
+        )),
+        Expr::Like(e, pattern) => Ok(Expr::Like(boxed(alloc, e, columns)?, pattern.clone()?)),
+        Expr::InList(e, es) => Ok(Expr::InList(
+            boxed(alloc, e, columns)?,
+            renamed_all(alloc, es.as_slice(), columns)?,
+        )),
+        Expr::IsNull(e) => Ok(Expr::IsNull(boxed(alloc, e, columns)?)),
+        Expr::Not(e) => Ok(Expr::Not(boxed(alloc, e, columns)?)),
+        Expr::All(es) => Ok(Expr::All(renamed_all(alloc, es.as_slice(), columns)?)),
+        Expr::Any(es) => Ok(Expr::Any(renamed_all(alloc, es.as_slice(), columns)?)),
+        Expr::Holds(e) => Ok(Expr::Holds(boxed(alloc, e, columns)?)),
     }
 }
 
-fn rename_column(place: u32, columns: &[u32]) -> Expr
-    ensures { IsRenamed columns.now (Column place) result }
+#[tactic(auto, using(crate::proofs::Renamed::renamed_opened))]
+fn renamed_column(place: u32, columns: &[u32]) -> Expr
+    ensures { result ≡ renamed columns.now (Column place) }
 {
-    if (place as usize) < columns.len() {
-        Expr::Column(columns[place as usize])
-    } else {
-        Expr::Literal(Value::Null)
+    match at(columns, place as usize) {
+        Some(place) => Expr::Column(*place),
+        None => Expr::Literal(Value::Null),
     }
 }
 
 #[cycle(rename)]
-fn rename_boxed(alloc: Global, e: &Expr, columns: &[u32]) -> Result<Boxed<Expr>, AllocError>
-    ensures { IfOk result (λ renamed. IsRenamed columns.now e.now renamed) }
+fn boxed(alloc: Global, e: &Boxed<Expr>, columns: &[u32]) -> Result<Boxed<Expr>, AllocError>
+    ensures { IfOk result (λ new. new ≡ renamed columns.now e.now) }
 {
-    let renamed = rename(alloc, e, columns)?;
-    let renamed = Boxed::new(alloc, renamed)?;
-    Ok(renamed)
+    let new = renamed(alloc, e.get(), columns)?;
+    let new = Boxed::new(alloc, new)?;
+    Ok(new)
 }
 
 #[cycle(rename)]
-fn rename_all(alloc: Global, es: &[Expr], columns: &[u32]) -> Result<Items<Expr>, AllocError>
-    ensures { IfOk result (λ renamed. AreRenamed columns.now es.now renamed) }
+fn renamed_all(alloc: Global, es: &[Expr], columns: &[u32]) -> Result<Items<Expr>, AllocError>
+    ensures { IfOk result (λ new. new ≡ map (renamed columns.now) es.now) }
 {
     let mut all = Items::new(alloc);
     for e in es {
-        let renamed = rename(alloc, e, columns)?;
-        all.push(renamed)?;
+        let new = renamed(alloc, e, columns)?;
+        all.push(new)?;
     }
     Ok(all)
 }
 
 #[cycle(rename)]
-fn rename_branches(
+#[tactic(auto, using(crate::proofs::Renamed::renamed_branch_is))]
+fn renamed_branches(
     alloc: Global,
     branches: &[Branch],
     columns: &[u32],
 ) -> Result<Items<Branch>, AllocError>
-    ensures { IfOk result (λ renamed. BranchesRenamed columns.now branches.now renamed) }
+    ensures { IfOk result (λ new. new ≡ map (renamed_branch columns.now) branches.now) }
 {
     let mut all = Items::new(alloc);
     for branch in branches {
-        let when = rename(alloc, &branch.when, columns)?;
-        let gives = rename(alloc, &branch.gives, columns)?;
+        let when = renamed(alloc, &branch.when, columns)?;
+        let gives = renamed(alloc, &branch.gives, columns)?;
         all.push(Branch { when, gives })?;
+    }
+    Ok(all)
+}
+
+#[cycle(rename)]
+#[tactic(auto, using(crate::proofs::Renamed::renamed_operation_is))]
+fn renamed_operations(
+    alloc: Global,
+    operations: &[Operation],
+    columns: &[u32],
+) -> Result<Items<Operation>, AllocError>
+    ensures { IfOk result (λ new. new ≡ map (renamed_operation columns.now) operations.now) }
+{
+    let mut all = Items::new(alloc);
+    for operation in operations {
+        let operator = operation.operator;
+        let operand = renamed(alloc, &operation.operand, columns)?;
+        all.push(Operation { operator, operand })?;
     }
     Ok(all)
 }

@@ -1,12 +1,12 @@
 //! Evaluation over one row. Values are read where they lie: only a made text takes memory.
 ghost use Rattle.std.specs.Prelude.{◌≡◌, IfOk, IfSome, option_map, slice_index_or};
 ghost use Rattle.std.specs.Cow.{cow_value};
-ghost use Rattle.scalar_expr.specs.Meaning.{value, truth, values, truths, least, greatest, in_list, chosen};
+ghost use Rattle.scalar_expr.specs.Meaning.{value, truth, values, truths, least, greatest, in_list, chosen, operated};
 
-use crate::expr::{Branch, Comparison, Expr};
+use crate::expr::{Branch, Comparison, Expr, Operation};
 use crate::operate::{
-    at_scale, compared, computed, extracted, is_false, is_true, liked, negative, null_test,
-    part_of, truth_of_mark,
+    at_scale, between, compared, computed, extracted, is_false, is_true, liked, negative,
+    null_test, part_of, truth_of_mark,
 };
 use sql_value::{Row, Standing, Truth, Value};
 use std::alloc::{AllocError, Global};
@@ -39,8 +39,23 @@ pub fn eval_slice(alloc: Global, e: &Expr, row: &[Value]) -> Result<Value, Alloc
 
 // The value where it lies, or a made one.
 #[cycle(eval)]
-#[tactic(auto, using(crate::proofs::Opened::values_opened))]
+#[inline]
 fn operand<'a>(alloc: Global, e: &'a Expr, row: &'a [Value]) -> Result<Cow<'a, Value>, AllocError>
+    ensures { IfOk result (λ v. cow_value v ≡ value e.now row.now) }
+{
+    match at_hand(e, row) {
+        Some(v) => Ok(Cow::Borrowed(v)),
+        None => {
+            let v = made(alloc, e, row)?;
+            Ok(v)
+        }
+    }
+}
+
+// The same of any node. A chain and a CASE give a value where it lies if that is what they come to.
+#[cycle(eval)]
+#[tactic(auto, using(crate::proofs::Opened::values_opened))]
+fn made<'a>(alloc: Global, e: &'a Expr, row: &'a [Value]) -> Result<Cow<'a, Value>, AllocError>
     ensures { IfOk result (λ v. cow_value v ≡ value e.now row.now) }
 {
     match e {
@@ -50,10 +65,10 @@ fn operand<'a>(alloc: Global, e: &'a Expr, row: &'a [Value]) -> Result<Cow<'a, V
             let x = operand(alloc, e.get(), row)?;
             Ok(Cow::Owned(negative(&x)))
         }
-        Expr::Arithmetic(operator, a, b) => {
-            let x = operand(alloc, a.get(), row)?;
-            let y = operand(alloc, b.get(), row)?;
-            Ok(Cow::Owned(computed(*operator, &x, &y)))
+        Expr::Arithmetic(first, operations) => {
+            let x = operand(alloc, first.get(), row)?;
+            let v = operated(alloc, x, operations.as_slice(), row)?;
+            Ok(v)
         }
         Expr::Case(scale, branches, other) => match chosen(alloc, branches.as_slice(), row)? {
             Some(v) => Ok(at_scale(*scale, v)),
@@ -106,6 +121,24 @@ fn column<'a>(place: u32, row: &'a [Value]) -> Cow<'a, Value>
     }
 }
 
+// What the operations make of a value, from left to right.
+#[cycle(eval)]
+fn operated<'a>(
+    alloc: Global,
+    first: Cow<'a, Value>,
+    operations: &'a [Operation],
+    row: &'a [Value],
+) -> Result<Cow<'a, Value>, AllocError>
+    ensures { IfOk result (λ v. cow_value v ≡ operated (cow_value first.entry) operations.now row.now) }
+{
+    let mut x = first;
+    for operation in operations {
+        let y = operand(alloc, &operation.operand, row)?;
+        x = Cow::Owned(computed(operation.operator, &x, &y));
+    }
+    Ok(x)
+}
+
 // What the first branch that decides gives.
 #[cycle(eval)]
 fn chosen<'a>(
@@ -138,9 +171,6 @@ pub fn truth_slice(alloc: Global, e: &Expr, row: &[Value]) -> Result<Truth, Allo
 {
     match e {
         Expr::Compare(comparison, a, b) => {
-            if let (Some(x), Some(y)) = (at_hand(a.get(), row), at_hand(b.get(), row)) {
-                return Ok(compared(*comparison, x, y));
-            }
             let x = operand(alloc, a.get(), row)?;
             let y = operand(alloc, b.get(), row)?;
             Ok(compared(*comparison, &x, &y))
@@ -149,8 +179,7 @@ pub fn truth_slice(alloc: Global, e: &Expr, row: &[Value]) -> Result<Truth, Allo
             let x = operand(alloc, e.get(), row)?;
             let low = operand(alloc, low.get(), row)?;
             let high = operand(alloc, high.get(), row)?;
-            let above = compared(Comparison::GreaterOrEqual, &x, &low);
-            Ok(above.and(compared(Comparison::LessOrEqual, &x, &high)))
+            Ok(between(&x, &low, &high))
         }
         Expr::Like(e, pattern) => {
             let x = operand(alloc, e.get(), row)?;
@@ -184,7 +213,7 @@ pub fn truth_slice(alloc: Global, e: &Expr, row: &[Value]) -> Result<Truth, Allo
         Expr::Column(_)
         | Expr::Literal(_)
         | Expr::Negative(_)
-        | Expr::Arithmetic(_, _, _)
+        | Expr::Arithmetic(_, _)
         | Expr::Case(_, _, _)
         | Expr::Extract(_, _)
         | Expr::Substring(_, _, _) => Ok(Truth::Unknown),

@@ -41,7 +41,9 @@ pub enum Expr {
     Literal(Value),
     /// Minus.
     Negative(Boxed<Expr>),
-    Arithmetic(Arithmetic, Boxed<Expr>, Boxed<Expr>),
+    /// The first operand, and the operations on it from left to right. A chain is one node, so that the height of an
+    /// expression does not grow with the length of its chains.
+    Arithmetic(Boxed<Expr>, Items<Operation>),
     /// CASE: its branches, and what stands behind ELSE. Its numbers are of this scale, the largest of its branches'.
     Case(Scale, Items<Branch>, Boxed<Expr>),
     Extract(DatePart, Boxed<Expr>),
@@ -69,4 +71,12 @@ pub enum Expr {
 pub struct Branch {
     pub when: Expr,
     pub gives: Expr,
+}
+
+/// What is done to the value on its left: `+ operand`, `- operand`, `* operand` or `/ operand`.
+#[cycle(expr)]
+#[derive(Drop)]
+pub struct Operation {
+    pub operator: Arithmetic,
+    pub operand: Expr,
 }

@@ -1,7 +1,7 @@
 //! What operators make of the values of their operands.
 ghost use Rattle.std.specs.Prelude.{◌≡◌, ◌↔◌, IfOk, IsTrue};
 ghost use Rattle.std.specs.Cow.{cow_value};
-ghost use Rattle.scalar_expr.specs.Operators.{number_or_fault, computed, negative, at_scale, extracted, part_of, product, arithmetic, holds, compared, liked, null_test, truth_of, mark_of, truth_of_mark};
+ghost use Rattle.scalar_expr.specs.Operators.{number_or_fault, computed, negative, at_scale, extracted, part_of, product, arithmetic, holds, compared, between, liked, null_test, truth_of, mark_of, truth_of_mark};
 
 use crate::expr::{Arithmetic, Comparison, DatePart};
 use ascii_text::{Text, like, substring};
@@ -174,6 +174,14 @@ pub fn compared(comparison: Comparison, x: &Value, y: &Value) -> Truth
         (Value::Date(a), Value::Date(b)) => holds(comparison, a.cmp(b)),
         _ => Truth::Unknown,
     }
+}
+
+/// Whether a value is no less than the least that it may be, and no greater than the greatest.
+pub fn between(x: &Value, least: &Value, greatest: &Value) -> Truth
+    ensures { result ≡ between x.now least.now greatest.now }
+{
+    let above = compared(Comparison::GreaterOrEqual, x, least);
+    above.and(compared(Comparison::LessOrEqual, x, greatest))
 }
 
 /// LIKE.

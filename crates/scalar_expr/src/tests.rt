@@ -30,10 +30,13 @@ fn boxed(alloc: Global, e: Expr) -> Result<Boxed<Expr>, Fail> {
     Ok(e)
 }
 
+// a and one operation on it
 fn arithmetic(alloc: Global, operator: Arithmetic, a: Expr, b: Expr) -> Result<Expr, Fail> {
-    let a = boxed(alloc, a)?;
-    let b = boxed(alloc, b)?;
-    Ok(Expr::Arithmetic(operator, a, b))
+    let mut operations = Items::new(alloc);
+    let operand = b;
+    operations.push(Operation { operator, operand })?;
+    let first = boxed(alloc, a)?;
+    Ok(Expr::Arithmetic(first, operations))
 }
 
 fn compare(alloc: Global, comparison: Comparison, a: Expr, b: Expr) -> Result<Expr, Fail> {

@@ -1,8 +1,8 @@
 //! The columns that an expression uses.
 ghost use Rattle.std.specs.Prelude.{◌≡◌, ◌++◌, IfOk, OnOk};
-ghost use Rattle.scalar_expr.specs.Used.{used, all_used, branches_used, UsedColumnsDecide};
+ghost use Rattle.scalar_expr.specs.Used.{used, all_used, branches_used, operations_used, UsedColumnsDecide};
 
-use crate::expr::{Branch, Expr};
+use crate::expr::{Branch, Expr, Operation};
 use std::alloc::{AllocError, Global};
 
 /// The columns that an expression uses, from left to right, once for each use.
@@ -35,7 +35,12 @@ fn put_used(e: &Expr, columns: &mut Vec<u32>) -> Result<(), AllocError>
             put_used(e.get(), columns)?;
             Ok(())
         }
-        Expr::Arithmetic(_, a, b) | Expr::Compare(_, a, b) => {
+        Expr::Arithmetic(first, operations) => {
+            put_used(first.get(), columns)?;
+            put_operations_used(operations.as_slice(), columns)?;
+            Ok(())
+        }
+        Expr::Compare(_, a, b) => {
             put_used(a.get(), columns)?;
             put_used(b.get(), columns)?;
             Ok(())
@@ -80,6 +85,16 @@ fn put_branches_used(branches: &[Branch], columns: &mut Vec<u32>) -> Result<(), 
     for branch in branches {
         put_used(&branch.when, columns)?;
         put_used(&branch.gives, columns)?;
+    }
+    Ok(())
+}
+
+#[cycle(used)]
+fn put_operations_used(operations: &[Operation], columns: &mut Vec<u32>) -> Result<(), AllocError>
+    ensures { OnOk result (columns.new.items ≡ columns.old.items ++ operations_used operations.now) }
+{
+    for operation in operations {
+        put_used(&operation.operand, columns)?;
     }
     Ok(())
 }

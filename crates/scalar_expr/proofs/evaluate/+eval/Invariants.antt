@@ -1,9 +1,13 @@
 use Rattle.std.proofs.Common.{◌≡◌, drop, fold, map}
+use Rattle.std.specs.Cow.{cow_value}
 use Rattle.sql_value.specs.Truth.{lesser, greater}
 use Rattle.scalar_expr.specs.declared.expr.Comparison.TheVariants.{Equal}
-use Rattle.scalar_expr.specs.Meaning.{least, greatest, in_list, values, truths, chosen}
+use Rattle.scalar_expr.specs.Meaning.{least, greatest, in_list, values, truths, chosen, operated}
 use Rattle.scalar_expr.specs.Operators.{compared}
 use Rattle.scalar_expr.proofs.evaluate.+eval.Given as goal
+
+abbrev pub invariant-operated-loop-operation : goal.invariant-operated-loop-operation
+invariant-operated-loop-operation l = operated (cow_value l.x) (drop l.operation-index l.operations) l.row ≡ operated (cow_value l.fn.first) l.operations l.row
 
 abbrev pub invariant-chosen-loop-branch : goal.invariant-chosen-loop-branch
 invariant-chosen-loop-branch l = chosen (drop l.branch-index l.branches) l.row ≡ chosen l.branches l.row
