@@ -5,10 +5,10 @@ use Rattle.std.specs.Result.{result_err}
 use Rattle.std.specs.declared.result.Result.{Result}
 use Rattle.std.specs.declared.result.Result.TheVariants.{Ok, Err}
 use Rattle.tpch_outside.specs.Outside.{Folder}
-use Rattle.tpch_main.specs.Inputs.{Refused, session_inputs}
+use Rattle.tpch_main.specs.Inputs.{Refused, session_inputs, state_in}
 use Rattle.tpch_main.specs.Meaning.{IsAccepted, IsAnswer, Prints}
 use Rattle.tpch_main.specs.Words.{Command}
-use Rattle.tpch_main.specs.Words.Command.{session}
+use Rattle.tpch_main.specs.Words.Command.{check, session}
 use Rattle.tpch_main.specs.declared.status.Status.{Status}
 use Rattle.tpch_main.specs.declared.status.Status.TheVariants as status
 
@@ -24,6 +24,7 @@ read_whole P Q s (Err refused) prints accepted = absurd (elim_some refused accep
 pub accepted_done : (command : Command) (held : Option Folder) (text : List ℕ) (s : Status) → Prints (Some command) held text s → IsAccepted (Some command) held → s ≡ status.Done
 accepted_done command None text s prints accepted = absurd accepted
 accepted_done (session dir script) (Some folder) text s prints accepted = read_whole _ _ s (session_inputs dir script folder) prints accepted
+accepted_done (check dir) (Some folder) text s prints accepted = read_whole _ _ s (state_in dir folder) prints accepted
 
 -- so the run ends with it
 pub completed : (s result : Status) → s ≡ status.Done → (IsAnswer result → result ≡ s) → result ≢ status.WriteFault → result ≢ status.ReadFault → result ≢ status.OutOfMemory → (result ≡ status.Done) ⊎ (result ≡ status.SomeRefused)

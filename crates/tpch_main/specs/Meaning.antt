@@ -3,9 +3,10 @@ use Rattle.std.specs.Prelude.{◌≡◌, ◌⊎◌, ℕ, List, ⊤, Option, None
 use Rattle.std.specs.Result.{result_err}
 use Rattle.tpch_outside.specs.Outside.{Folder}
 use Rattle.tpch_main.specs.Answer.{IsAnswerText}
-use Rattle.tpch_main.specs.Inputs.{Refused, refusal_line, session_inputs}
+use Rattle.tpch_main.specs.Counts.{counts_text}
+use Rattle.tpch_main.specs.Inputs.{Refused, refusal_line, session_inputs, state_in}
 use Rattle.tpch_main.specs.Words.{Command, usage_line}
-use Rattle.tpch_main.specs.Words.Command.{session}
+use Rattle.tpch_main.specs.Words.Command.{check, session}
 use Rattle.tpch_main.specs.declared.input.Cause.TheVariants as cause
 use Rattle.tpch_main.specs.declared.status.Status.{Status}
 use Rattle.tpch_main.specs.declared.status.Status.TheVariants as status
@@ -23,12 +24,15 @@ IsAnswer status.OutOfMemory = ⊥
 -- what a command prints over told files: its answer, or the line of the first refused input
 abbrev pub PrintsFrom : Command → Folder → List ℕ → Status → Type 0
 PrintsFrom (session dir script) folder text s = MatchResult (session_inputs dir script folder)
-    (λ inputs. IsAnswerText inputs.0 inputs.1 text × (s ≡ status.Done))
+    (λ inputs. IsAnswerText inputs.0 inputs.1.region text × (s ≡ status.Done))
+    (λ refused. (text ≡ refusal_line refused) × (s ≡ status.InputRefused))
+PrintsFrom (check dir) folder text s = MatchResult (state_in dir folder)
+    (λ state. (text ≡ counts_text state) × (s ≡ status.Done))
     (λ refused. (text ≡ refusal_line refused) × (s ≡ status.InputRefused))
 
 -- the statuses with which a command's text may be printed
 abbrev pub MayEnd : Command → Status → Type 0
-MayEnd (session dir script) s = (s ≡ status.Done) ⊎ (s ≡ status.InputRefused)
+MayEnd command s = (s ≡ status.Done) ⊎ (s ≡ status.InputRefused)
 
 -- what may be printed by the command, if the words are one, over the files, where they are told
 abbrev pub Prints : Option Command → Option Folder → List ℕ → Status → Type 0
@@ -43,6 +47,7 @@ MayPrint command told text = (s : Status) × Prints command told text s
 -- the first refused input, if there is one
 abbrev pub first_refused : Command → Folder → Option Refused
 first_refused (session dir script) folder = result_err (session_inputs dir script folder)
+first_refused (check dir) folder = result_err (state_in dir folder)
 
 -- the first refused input is an absent file
 abbrev pub IsAbsentInput : Option Command → Option Folder → Type 0

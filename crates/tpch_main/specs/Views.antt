@@ -6,23 +6,19 @@ use Rattle.std.specs.String.{string_bytes}
 use Rattle.std.specs.Global.{Vec}
 use Rattle.tpch_outside.specs.Outside.{Folder}
 use Rattle.tpch_main.specs.Inputs.{Refused}
-use Rattle.tpch_main.specs.Region.{Region}
 use Rattle.tpch_main.specs.Words.{Command}
-use Rattle.tpch_main.specs.Words.Command.{session}
+use Rattle.tpch_main.specs.Words.Command.{check, session}
 use Rattle.tpch_main.specs.declared.input.Cause.{Cause}
 use Rattle.tpch_main.specs.declared.input.Cause.TheVariants as cause
 use Rattle.tpch_main.specs.declared.input.InputError.{InputError}
 use Rattle.tpch_main.specs.declared.input.InputError.TheVariants as error
 use Rattle.tpch_main.specs.declared.input.Refusal.{Refusal}
-use Rattle.tpch_main.specs.declared.region.RegionRow.{RegionRow}
 use Rattle.tpch_main.specs.declared.words.Command as code
 use Rattle.tpch_main.specs.declared.words.Command.TheVariants as word
 
 abbrev pub command_view : code.Command → Command
 command_view (word.Session folder script) = session folder.now script.now
-
-abbrev pub row_view : RegionRow → Region
-row_view row = record { key = row.key; name = row.name.now; comment = row.comment.now }
+command_view (word.Check folder) = check folder.now
 
 abbrev pub refused_view : Refusal → Refused
 refused_view refusal = record { name = string_bytes refusal.name; cause = refusal.cause }

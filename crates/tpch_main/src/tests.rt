@@ -11,6 +11,17 @@ const REGIONS: &str = "0|AFRICA|a|\n1|AMERICA|b|\n2|ASIA|c|\n3|EUROPE|d|\n4|MIDD
 
 const SCRIPT: &str = "select r_name from region where r_regionkey < 2;";
 
+const TABLES: [&str; 8] = [
+    "d/region.tbl",
+    "d/nation.tbl",
+    "d/part.tbl",
+    "d/supplier.tbl",
+    "d/partsupp.tbl",
+    "d/customer.tbl",
+    "d/orders.tbl",
+    "d/lineitem.tbl",
+];
+
 const USAGE: &str =
     "usage: tpch session DIR SCRIPT, throughput DIR JOB, explain SCRIPT, check DIR, trial N\n";
 
@@ -60,7 +71,40 @@ fn sink(alloc: Global) -> MemSink {
     MemSink::new(Vec::new(alloc), usize::MAX, Vec::new(alloc))
 }
 
-/// Runs a session of the script over a folder whose region file has that text.
+/// The files of a folder `d` that has the eight tables, all of them empty but for those given, and a script `s`.
+fn folder_of<'a>(
+    alloc: Global,
+    script: &'a str,
+    tables: &[(&'a str, &'a str)],
+    failing: &[u64],
+) -> Result<MemFiles, AllocError> {
+    let mut files = vec![in alloc; ("s", script)]?;
+    for (name, text) in tables {
+        files.push((*name, *text))?;
+    }
+    for name in TABLES {
+        if !tables.iter().any(|(given, _)| *given == name) {
+            files.push((name, ""))?;
+        }
+    }
+    files_of(alloc, &files, failing)
+}
+
+/// Runs the words over the eight tables, all of them empty but for those given.
+fn expect_over<R: Threads + Wait + Sync + Abort>(
+    rt: &R,
+    alloc: Global,
+    words: &[&str],
+    script: &str,
+    tables: &[(&str, &str)],
+    status: Status,
+    text: &str,
+) -> Result<(), AllocError> {
+    let files = folder_of(alloc, script, tables, &[])?;
+    expect_run(rt, alloc, words, files, sink(alloc), status, text)
+}
+
+/// Runs a session of the script over tables of which only region has rows.
 fn expect_session<R: Threads + Wait + Sync + Abort>(
     rt: &R,
     alloc: Global,
@@ -69,13 +113,33 @@ fn expect_session<R: Threads + Wait + Sync + Abort>(
     status: Status,
     text: &str,
 ) -> Result<(), AllocError> {
-    let files = files_of(alloc, &[("s", script), ("d/region.tbl", regions)], &[])?;
-    expect_run(
+    let words = ["session", "d", "s"];
+    expect_over(
         rt,
         alloc,
-        &["session", "d", "s"],
-        files,
-        sink(alloc),
+        &words,
+        script,
+        &[("d/region.tbl", regions)],
+        status,
+        text,
+    )
+}
+
+/// Checks tables of which only region has rows.
+fn expect_check<R: Threads + Wait + Sync + Abort>(
+    rt: &R,
+    alloc: Global,
+    regions: &str,
+    status: Status,
+    text: &str,
+) -> Result<(), AllocError> {
+    let words = ["check", "d"];
+    expect_over(
+        rt,
+        alloc,
+        &words,
+        SCRIPT,
+        &[("d/region.tbl", regions)],
         status,
         text,
     )
@@ -145,48 +209,117 @@ fn refuses_scripts(rt: HostRuntime) -> Result<(), Fail> {
 }
 
 #[test]
-fn refuses_region_files(rt: HostRuntime) -> Result<(), Fail> {
-    for regions in [
-        "0|AFRICA|a|",
-        "0|AFRICA|a\n",
-        "0|AFRICA|a||\n",
-        "|AFRICA|a|\n",
-        "0|AFRICA|a|\r\n",
-        "0|ABCDEFGHIJKLMNOPQRSTUVWXYZ|a|\n",
-        "0|A|x|\n00|B|y|\n",
+fn counts_rows(rt: HostRuntime) -> Result<(), Fail> {
+    for (regions, text) in [
+        ("0|AFRICA|", "region rows 1\n"),
+        ("0|AFRICA||", "region rows 1\n"),
+        ("0|AFRICA|a|\r\n1|AMERICA|b|", "region rows 2\n"),
+        ("", "region rows 0\n"),
     ] {
-        let text = "input refused d/region.tbl not built\n";
+        let mut all = String::from_str(rt.alloc(), text)?;
+        all.push_str("nation rows 0\npart rows 0\nsupplier rows 0\npartsupp rows 0\n")?;
+        all.push_str("customer rows 0\norders rows 0\nlineitem rows 0\n")?;
+        expect_check(&rt, rt.alloc(), regions, Status::Done, all.as_str())?;
+    }
+    Ok(())
+}
+
+#[test]
+fn counts_customers(rt: HostRuntime) -> Result<(), Fail> {
+    let customers = [("d/customer.tbl", "1|C1|a|0|p|-0.5|B|c|")];
+    let text = "region rows 0\nnation rows 0\npart rows 0\nsupplier rows 0\npartsupp rows 0\n\
+        customer rows 1\norders rows 0\nlineitem rows 0\n";
+    expect_over(
+        &rt,
+        rt.alloc(),
+        &["check", "d"],
+        SCRIPT,
+        &customers,
+        Status::Done,
+        text,
+    )?;
+    Ok(())
+}
+
+#[test]
+fn refuses_lines(rt: HostRuntime) -> Result<(), Fail> {
+    for (regions, text) in [
+        (
+            "0|AFRICA",
+            "input refused d/region.tbl line 1 1 FieldCount\n",
+        ),
+        (
+            "0|AFRICA|a|\n1|AM",
+            "input refused d/region.tbl line 2 1 FieldCount\n",
+        ),
+        (
+            "0|A|x|\n00|B|y|\n",
+            "input refused d/region.tbl line 2 7 DuplicateKey\n",
+        ),
+        ("x|A|y|", "input refused d/region.tbl line 1 2 BadNumber\n"),
+        (
+            "9223372036854775808|A|y|",
+            "input refused d/region.tbl line 1 3 NumberTooWide\n",
+        ),
+    ] {
+        expect_check(&rt, rt.alloc(), regions, Status::InputRefused, text)?;
         expect_session(&rt, rt.alloc(), SCRIPT, regions, Status::InputRefused, text)?;
     }
     Ok(())
 }
 
 #[test]
+fn refuses_the_first_bad_table(rt: HostRuntime) -> Result<(), Fail> {
+    let tables = [
+        ("d/region.tbl", REGIONS),
+        ("d/orders.tbl", "1|"),
+        ("d/part.tbl", "\n"),
+    ];
+    let text = "input refused d/part.tbl line 1 1 FieldCount\n";
+    let words = ["session", "d", "s"];
+    expect_over(
+        &rt,
+        rt.alloc(),
+        &words,
+        SCRIPT,
+        &tables,
+        Status::InputRefused,
+        text,
+    )?;
+    Ok(())
+}
+
+#[test]
 fn refuses_absent_files(rt: HostRuntime) -> Result<(), Fail> {
     let alloc = rt.alloc();
-    let words = ["session", "d", "s"];
-    let files = files_of(alloc, &[("s", SCRIPT)], &[])?;
-    let text = "input refused d/region.tbl absent\n";
-    expect_run(
-        &rt,
-        alloc,
-        &words,
-        files,
-        sink(alloc),
-        Status::InputRefused,
-        text,
-    )?;
-    let files = files_of(alloc, &[("d/region.tbl", REGIONS)], &[])?;
-    let text = "input refused s absent\n";
-    expect_run(
-        &rt,
-        alloc,
-        &words,
-        files,
-        sink(alloc),
-        Status::InputRefused,
-        text,
-    )?;
+    for (words, files, text) in [
+        (
+            ["session", "d", "s"].as_slice(),
+            [("s", SCRIPT), ("d/region.tbl", REGIONS)],
+            "input refused d/nation.tbl absent\n",
+        ),
+        (
+            ["session", "d", "s"].as_slice(),
+            [("t", SCRIPT), ("d/region.tbl", "0")],
+            "input refused s absent\n",
+        ),
+        (
+            ["check", "d"].as_slice(),
+            [("d/region.tbl", REGIONS), ("d/nation.tbl", "")],
+            "input refused d/part.tbl absent\n",
+        ),
+    ] {
+        let files = files_of(alloc, &files, &[])?;
+        expect_run(
+            &rt,
+            alloc,
+            words,
+            files,
+            sink(alloc),
+            Status::InputRefused,
+            text,
+        )?;
+    }
     Ok(())
 }
 
@@ -219,9 +352,8 @@ fn refuses_words(rt: HostRuntime) -> Result<(), Fail> {
 #[test]
 fn ends_at_a_reading_fault(rt: HostRuntime) -> Result<(), Fail> {
     let alloc = rt.alloc();
-    for call in 1..7 {
-        let table = [("s", SCRIPT), ("d/region.tbl", REGIONS)];
-        let files = files_of(alloc, &table, &[call])?;
+    for call in 1..21 {
+        let files = folder_of(alloc, SCRIPT, &[("d/region.tbl", REGIONS)], &[call])?;
         expect_run(
             &rt,
             alloc,
@@ -235,33 +367,40 @@ fn ends_at_a_reading_fault(rt: HostRuntime) -> Result<(), Fail> {
     Ok(())
 }
 
-// The script and the table are opened once each and read to their ends, and nothing else is called: a
-// seventh call would fail, and a script that is refused leaves the table unopened.
+// The script and the tables are opened once each and read to their ends, and nothing else is called: of a script and a
+// region with bytes three calls each, of seven empty tables two each, so that a 21st would fail. An input that is
+// refused leaves those behind it unopened.
 #[test]
 fn opens_no_other_file(rt: HostRuntime) -> Result<(), Fail> {
     let alloc = rt.alloc();
-    let table = [("s", SCRIPT), ("d/region.tbl", REGIONS)];
-    let files = files_of(alloc, &table, &[7])?;
-    expect_run(
-        &rt,
-        alloc,
-        &["session", "d", "s"],
-        files,
-        sink(alloc),
-        Status::Done,
-        "[1] version 0 rows 2\nAFRICA\nAMERICA\n",
-    )?;
-    let table = [("s", "select"), ("d/region.tbl", REGIONS)];
-    let files = files_of(alloc, &table, &[4])?;
-    expect_run(
-        &rt,
-        alloc,
-        &["session", "d", "s"],
-        files,
-        sink(alloc),
-        Status::InputRefused,
-        "input refused s not built\n",
-    )?;
+    for (script, regions, next_call, status, text) in [
+        (
+            SCRIPT,
+            REGIONS,
+            21,
+            Status::Done,
+            "[1] version 0 rows 2\nAFRICA\nAMERICA\n",
+        ),
+        (
+            "select",
+            REGIONS,
+            4,
+            Status::InputRefused,
+            "input refused s not built\n",
+        ),
+        (
+            SCRIPT,
+            "0",
+            7,
+            Status::InputRefused,
+            "input refused d/region.tbl line 1 1 FieldCount\n",
+        ),
+    ] {
+        let tables = [("d/region.tbl", regions)];
+        let files = folder_of(alloc, script, &tables, &[next_call])?;
+        let words = ["session", "d", "s"];
+        expect_run(&rt, alloc, &words, files, sink(alloc), status, text)?;
+    }
     Ok(())
 }
 
@@ -269,7 +408,7 @@ fn opens_no_other_file(rt: HostRuntime) -> Result<(), Fail> {
 fn ends_at_a_writing_fault(rt: HostRuntime) -> Result<(), Fail> {
     let alloc = rt.alloc();
     let words = ["session", "d", "s"];
-    let table = [("s", SCRIPT), ("d/region.tbl", REGIONS)];
+    let table = [("d/region.tbl", REGIONS)];
     for (most, failing, status, text) in [
         (5, 2, Status::WriteFault, "[1] v"),
         (0, 2, Status::WriteFault, ""),
@@ -285,7 +424,7 @@ fn ends_at_a_writing_fault(rt: HostRuntime) -> Result<(), Fail> {
             &rt,
             alloc,
             &words,
-            files_of(alloc, &table, &[])?,
+            folder_of(alloc, SCRIPT, &table, &[])?,
             out,
             status,
             text,

@@ -6,7 +6,7 @@ ghost use Rattle.tpch_outside.specs.Outside.{AppendsPart, Rose};
 ghost use Rattle.tpch_main.specs.Meaning.{IsAbsentInput, IsAccepted, IsAnswer, MayPrint, Prints};
 ghost use Rattle.tpch_main.specs.Views.{command_view};
 ghost use Rattle.tpch_main.specs.Words.{command_of};
-ghost use Rattle.tpch_main.specs.Words.Command.{session};
+ghost use Rattle.tpch_main.specs.Words.Command.{check, session};
 
 use crate::Status;
 use crate::input::{InputError, line};
@@ -47,6 +47,32 @@ fn print_session<F: Files>(
     }
 }
 
+/// The text and the status of a check, refused or not.
+fn print_check<F: Files>(
+    alloc: Global,
+    files: &mut F,
+    folder: &str,
+) -> Result<(Vec<u8>, Status), Stop>
+    ensures prints { IfOk result (λ printed. IsAnswer printed.1
+        × Prints (Some (check folder.now)) (F.held files.old) printed.0.items printed.1) }
+    ensures held { F.held files.new ≡ F.held files.old }
+    ensures fault { IsErrOf result Stop.Fault → Rose (F.faults files.old) (F.faults files.new) }
+    ensures absent { IfOk result (λ printed. IsAbsentInput (Some (check folder.now)) (F.held files.old)
+        → Rose (F.misses files.old) (F.misses files.new)) }
+    ensures faults { F.faults files.old ≤ F.faults files.new }
+    ensures misses { F.misses files.old ≤ F.misses files.new }
+{
+    match crate::check::check(alloc, files, folder) {
+        Ok(text) => Ok((text, Status::Done)),
+        Err(InputError::Refused(refusal)) => {
+            let text = line(alloc, &refusal)?;
+            Ok((text, Status::InputRefused))
+        }
+        Err(InputError::Fault) => Err(Stop::Fault),
+        Err(InputError::Memory) => Err(Stop::Memory),
+    }
+}
+
 /// The text and the status of a command.
 fn answer<F: Files>(
     alloc: Global,
@@ -64,6 +90,7 @@ fn answer<F: Files>(
 {
     match command {
         Command::Session { folder, script } => print_session(alloc, files, folder, script),
+        Command::Check { folder } => print_check(alloc, files, folder),
     }
 }
 
