@@ -1,8 +1,8 @@
 mod Digits
-mod Order
 mod Pieces
 mod Telling
 mod Complete
+mod Texts
 mod ScriptForm
 mod WorkedExamples
 mod Unique

@@ -6,6 +6,7 @@ use Rattle.std.specs.List.Sorted.{IsSorted}
 use Rattle.sql_value.specs.Value.{value_cmp}
 use Rattle.sql_value.specs.declared.value.Value.{Value}
 use Rattle.sql_value.specs.declared.value.Value.TheVariants as value
+use Rattle.tbl_reader.specs.File.{file_rows}
 use Rattle.tpch_main.specs.Answer.{IsAnswerText}
 use Rattle.tpch_main.specs.Examples.{Examples, names_below_two, three_regions}
 
@@ -20,6 +21,7 @@ pub answered : IsAnswerText names_below_two three_regions (codes "[1] version 0 
 answered = (two_names, record { same = IsPermutation-reverse (value.Text (codes "AMERICA") ∷ value.Text (codes "AFRICA") ∷ []); ascending = ascending }, rw (decimal_digit 1 (omega arith), decimal_digit 0 (omega arith), decimal_digit 2 (omega arith)))
 
 pub examples : Examples
+unfolding file_rows
 examples = record {
   command = refl;
   no_script = refl;
@@ -29,7 +31,11 @@ examples = record {
   line = refl;
   unended = refl;
   two_lines = refl;
-  refused = rw (decimal_digit 2 (omega arith), decimal_digit 7 (omega arith)) refl;
-  named = refl;
+  script_first = refl;
+  region_first = refl;
+  line_refused = refl;
+  absent_line = refl;
+  bad_line = rw (decimal_digit 2 (omega arith), decimal_digit 7 (omega arith)) refl;
+  counted = rw (decimal_digit 3 (omega arith), decimal_digit 0 (omega arith)) refl;
   answer = answered;
 }

@@ -15,7 +15,7 @@ use Rattle.tpch_main.specs.declared.statement.Statement.{Statement}
 abbrev pub value_at : ℕ → List Value → Value
 value_at place row = slice_index_or row place value.Null
 
--- a whole number below that
+-- a key, which is a number of scale 0, below that
 abbrev pub is_below : ℕ → Value → Bool
 is_below limit (value.Number scale c) = int_lt c (pos limit)
 is_below limit v = false

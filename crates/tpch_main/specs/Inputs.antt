@@ -26,6 +26,7 @@ pub record Refused : Type 0 where
 abbrev pub script_limit : ℕ
 script_limit = 1_048_576
 
+-- the bytes of a file, refused where there is none or where they are more than that
 abbrev pub within : ℕ → List ℕ → Option (List ℕ) → Result (List ℕ) Refused
 within limit name None = Err (record { name = name; cause = cause.Absent })
 within limit name (Some bytes) = if nat_lt limit (length bytes) then Err (record { name = name; cause = cause.NotBuilt }) else Ok bytes
@@ -83,11 +84,12 @@ session_inputs dir script folder = and_then (script_in folder script) (λ statem
 abbrev pub line_text : LineRefusal → List ℕ
 line_text first = codes " line " ++ decimal first.line ++ codes " " ++ decimal (line_fault_number first.fault) ++ codes " " ++ line_fault_name first.fault ++ codes "\n"
 
--- the line for a refused input
+-- why an input is refused, as it is printed behind the input's name
 abbrev pub cause_text : Cause → List ℕ
 cause_text cause.Absent = codes " absent\n"
 cause_text cause.NotBuilt = codes " not built\n"
 cause_text (cause.Line first) = line_text first
 
+-- the line for a refused input
 abbrev pub refusal_line : Refused → List ℕ
 refusal_line refused = codes "input refused " ++ refused.name ++ cause_text refused.cause

@@ -1,4 +1,5 @@
 pub mod Words
+pub mod Status
 pub mod Script
 pub mod Answer
 pub mod Counts

@@ -80,7 +80,7 @@ fn rows_of(alloc: Global, values: &[Value]) -> Result<Vec<Row>, AllocError>
 }
 
 /// The header line and the values, each in a row of its own.
-fn text_of(alloc: Global, values: &[Value]) -> Result<Vec<u8>, AllocError>
+fn values_text(alloc: Global, values: &[Value]) -> Result<Vec<u8>, AllocError>
     requires { All (λ v. IsTrue (is_no_fault v)) values.now }
     ensures { IfOk result (λ text. text.items ≡ values_text values.now) }
 {
@@ -92,12 +92,16 @@ fn text_of(alloc: Global, values: &[Value]) -> Result<Vec<u8>, AllocError>
 }
 
 /// The text of the statement's answer over the rows of region.
-pub fn answer(alloc: Global, statement: Statement, rows: &[Row]) -> Result<Vec<u8>, AllocError>
+pub fn statement_text(
+    alloc: Global,
+    statement: Statement,
+    rows: &[Row],
+) -> Result<Vec<u8>, AllocError>
     requires { RowsAreOf Region rows.now }
     ensures { IfOk result (λ v. IsAnswerText statement rows.now v.items) }
 {
     let found = values(alloc, statement, rows)?;
     let sorted = in_order(found)?;
-    let text = text_of(alloc, &sorted)?;
+    let text = values_text(alloc, &sorted)?;
     Ok(text)
 }

@@ -45,7 +45,11 @@ fn counts_text(alloc: Global, state: &State) -> Result<Vec<u8>, AllocError>
 }
 
 /// The text of the counts of the folder's tables.
-pub fn check<F: Files>(alloc: Global, files: &mut F, folder: &str) -> Result<Vec<u8>, InputError>
+pub fn check_text<F: Files>(
+    alloc: Global,
+    files: &mut F,
+    folder: &str,
+) -> Result<Vec<u8>, InputError>
     ensures answer { Answers (λ state text. text ≡ counts_text state) (F.held files.old) (state_in folder.now) result }
     ensures held { F.held files.new ≡ F.held files.old }
     ensures fault { IsErrOf result InputError.Fault → Rose (F.faults files.old) (F.faults files.new) }

@@ -20,16 +20,18 @@ const PIECE: usize = 16_384;
 pub enum Cause {
     /// There is no file of that name.
     Absent,
-    /// The file is not of its form.
+    /// The script is not of its form, or too long.
     NotBuilt,
-    /// A line of a table's file is bad.
+    /// This is the first bad line of a table's file.
     Line(LineRefusal),
 }
 
 /// An input that is refused.
 #[derive(Drop)]
 pub struct Refusal {
+    /// The name by which it was opened.
     pub name: String,
+    /// Why it is refused.
     pub cause: Cause,
 }
 

@@ -5,7 +5,7 @@ ghost use Rattle.tpch_main.specs.Answer.{IsAnswerText};
 ghost use Rattle.tpch_main.specs.Inputs.{script_in, session_inputs};
 ghost use Rattle.tpch_main.specs.Views.{Answers, IsAbsence, Reads};
 
-use crate::answer::answer;
+use crate::answer::statement_text;
 use crate::input::{Cause, InputError, read_file, refused};
 use crate::statement::{Statement, script};
 use crate::tables::read_state;
@@ -37,7 +37,7 @@ fn read_statement<F: Files>(
 }
 
 /// The text of a session of that script over the tables of that folder.
-pub fn session<F: Files>(
+pub fn session_text<F: Files>(
     alloc: Global,
     files: &mut F,
     folder: &str,
@@ -52,6 +52,6 @@ pub fn session<F: Files>(
 {
     let statement = read_statement(alloc, files, script)?;
     let state = read_state(alloc, files, folder)?;
-    let text = answer(alloc, statement, state.rows(TableName::Region))?;
+    let text = statement_text(alloc, statement, state.rows(TableName::Region))?;
     Ok(text)
 }

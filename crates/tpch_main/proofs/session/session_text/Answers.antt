@@ -5,7 +5,7 @@ use Rattle.tpch_main.proofs.Telling.{told_answer, told_both}
 use Rattle.tpch_main.specs.Answer.{IsAnswerText}
 use Rattle.tpch_main.specs.Inputs.{script_in, session_inputs, state_in}
 use Rattle.tpch_main.specs.declared.statement.Statement.{Statement}
-use Rattle.tpch_main.proofs.session.session.Goals as goal
+use Rattle.tpch_main.proofs.session.session_text.Goals as goal
 
 pub returns-clause-answer : goal.returns-clause-answer
 returns-clause-answer g c =
