@@ -23,10 +23,10 @@ fn words(rt: &HostRuntime) -> Result<Vec<String>, AllocError> {
 
 fn main(rt: HostRuntime) -> ExitCode {
     let Ok(words) = words(&rt) else {
-        return ExitCode::from(Status::OutOfMemory as u8);
+        return ExitCode::from(Status::OutOfMemory.number());
     };
     let mut files = RealFiles::new(&rt);
     let mut out = RealSink::new(&rt);
     let status = tpch(&rt, rt.alloc(), &words, &mut files, &mut out, &OpenGate);
-    ExitCode::from(status as u8)
+    ExitCode::from(status.number())
 }

@@ -1,21 +1,21 @@
 -- What a command's text says of the run; an accepted command is answered, where nothing but memory stands in its way.
-use Rattle.std.proofs.Common.{◌≡◌, ◌≢◌, ◌∙◌, ◌⊎◌, ℕ, List, Option, None, Some, MatchResult, inl, inr, refl, subst, sym}
+use Rattle.std.proofs.Common.{◌≡◌, ◌≢◌, ◌∙◌, ◌⊎◌, ℕ, List, Option, None, Some, inl, inr, refl, subst, sym}
 use Rattle.std.specs.Io.KnownBytes.{Appends}
 use Rattle.std.specs.Result.{result_err}
 use Rattle.std.specs.declared.result.Result.{Result}
 use Rattle.std.specs.declared.result.Result.TheVariants.{Ok, Err}
 use Rattle.tpch_outside.specs.Outside.{Folder}
-use Rattle.tpch_main.specs.Inputs.{Refused, session_inputs}
-use Rattle.tpch_main.specs.Meaning.{IsAccepted, IsAnswer, Prints}
+use Rattle.tpch_main.specs.Inputs.{Refused, session_inputs, state_in}
+use Rattle.tpch_main.specs.Meaning.{IsAccepted, IsAnswer, Prints, PrintsOf}
 use Rattle.tpch_main.specs.Words.{Command}
-use Rattle.tpch_main.specs.Words.Command.{session}
+use Rattle.tpch_main.specs.Words.Command.{check, session}
 use Rattle.tpch_main.specs.declared.status.Status.{Status}
 use Rattle.tpch_main.specs.declared.status.Status.TheVariants as status
 
 -- inputs of which none is refused are there
-read_whole : {A : Type 0} → (P : A → Type 0) (Q : Refused → Type 0) (s : Status) (inputs : Result A Refused) → MatchResult inputs (λ read. P read × (s ≡ status.Done)) Q → result_err inputs ≡ None → s ≡ status.Done
-read_whole P Q s (Ok read) prints accepted = prints.1
-read_whole P Q s (Err refused) prints accepted = absurd (elim_some refused accepted)
+read_whole : {A : Type 0} → (Means : A → List ℕ → Type 0) (inputs : Result A Refused) (text : List ℕ) (s : Status) → PrintsOf Means inputs text s → result_err inputs ≡ None → s ≡ status.Done
+read_whole Means (Ok read) text s prints accepted = prints.1
+read_whole Means (Err refused) text s prints accepted = absurd (elim_some refused accepted)
   where
     elim_some : (r : Refused) → Some r ≡ None → ⊥
     elim_some r e = cc
@@ -23,7 +23,8 @@ read_whole P Q s (Err refused) prints accepted = absurd (elim_some refused accep
 -- what an accepted command prints, it prints with the status of an answer
 pub accepted_done : (command : Command) (held : Option Folder) (text : List ℕ) (s : Status) → Prints (Some command) held text s → IsAccepted (Some command) held → s ≡ status.Done
 accepted_done command None text s prints accepted = absurd accepted
-accepted_done (session dir script) (Some folder) text s prints accepted = read_whole _ _ s (session_inputs dir script folder) prints accepted
+accepted_done (session dir script) (Some folder) text s prints accepted = read_whole _ (session_inputs dir script folder) text s prints accepted
+accepted_done (check dir) (Some folder) text s prints accepted = read_whole _ (state_in dir folder) text s prints accepted
 
 -- so the run ends with it
 pub completed : (s result : Status) → s ≡ status.Done → (IsAnswer result → result ≡ s) → result ≢ status.WriteFault → result ≢ status.ReadFault → result ≢ status.OutOfMemory → (result ≡ status.Done) ⊎ (result ≡ status.SomeRefused)

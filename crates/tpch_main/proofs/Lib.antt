@@ -1,10 +1,12 @@
 mod Digits
-mod Parts
-mod Order
 mod Pieces
 mod Telling
 mod Complete
+mod Texts
 mod ScriptForm
-mod RegionForm
 mod WorkedExamples
 mod Unique
+mod Fronts
+mod Lists
+mod Shown
+mod Fed

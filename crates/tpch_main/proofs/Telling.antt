@@ -3,14 +3,11 @@ use Rattle.std.proofs.Common.{◌≡◌, ◌∙◌, ℕ, List, Option, None, Som
 use Rattle.std.specs.declared.result.Result.{Result}
 use Rattle.std.specs.declared.result.Result.TheVariants.{Ok, Err}
 use Rattle.tpch_outside.specs.Outside.{Folder}
-use Rattle.tpch_main.specs.Answer.{IsAnswerText}
-use Rattle.tpch_main.specs.Inputs.{Refused, and_then, region_in, region_name, script_in, session_inputs}
-use Rattle.tpch_main.specs.Region.{Region}
+use Rattle.tpch_main.specs.Inputs.{Refused, and_then}
 use Rattle.tpch_main.specs.Views.{Explains, Refuses, Told, refused_view}
 use Rattle.tpch_main.specs.declared.input.Cause.{Cause}
 use Rattle.tpch_main.specs.declared.input.InputError.{InputError}
 use Rattle.tpch_main.specs.declared.input.InputError.TheVariants as error
-use Rattle.tpch_main.specs.declared.statement.Statement.{Statement}
 
 -- a fact that follows from another one of any files
 pub told_map : (held : Option Folder) (P Q : Folder → Type 0) → ((folder : Folder) → P folder → Q folder) → Told held P → Told held Q
@@ -33,29 +30,30 @@ refusal_explains held input name why error.Memory refuses told = tt
 refusal_explains held input name why (error.Refused refusal) refuses told =
     told_map held (λ folder. input folder ≡ Err (record { name = name; cause = why })) (λ folder. input folder ≡ Err (refused_view refusal)) (λ folder is. is ∙ ap Err (sym refuses)) told
 
--- the answer over a table of told files
-abbrev pub IsAnswered : Statement → List ℕ → List ℕ → Folder → Type 0
-IsAnswered statement name text folder = (rows : List Region) × (region_in folder name ≡ Ok rows) × IsAnswerText statement rows text
-
--- a session's answer from its script and the answer over its table
-pub session_answered : (held later : Option Folder) (dir script name : List ℕ) (statement : Statement) (text : List ℕ) → later ≡ held → name ≡ region_name dir
-    → Told held (λ folder. script_in folder script ≡ Ok statement) → Told later (IsAnswered statement name text)
-    → Told held (λ folder. (inputs : Statement × List Region) × (session_inputs dir script folder ≡ Ok inputs) × IsAnswerText inputs.0 inputs.1 text)
-session_answered held later dir script name statement text same named read answer = joined held read (subst (λ (k : Option Folder). Told k (IsAnswered statement (region_name dir) text)) same (subst (λ (n : List ℕ). Told later (IsAnswered statement n text)) named answer))
+-- what is read of one input and then of the next
+pub told_both : {A B C : Type 0} → (held later : Option Folder) (first : Folder → Result A Refused) (second : Folder → Result B Refused) (make : A → B → C) (a : A) (b : B) → later ≡ held
+    → Told held (λ folder. first folder ≡ Ok a) → Told later (λ folder. second folder ≡ Ok b)
+    → Told held (λ folder. and_then (first folder) (λ x. and_then (second folder) (λ y. Ok (make x y))) ≡ Ok (make a b))
+told_both held later first second make a b same one two = at held one (subst (λ (k : Option Folder). Told k (λ folder. second folder ≡ Ok b)) same two)
   where
-    joined : (h : Option Folder) → Told h (λ folder. script_in folder script ≡ Ok statement) → Told h (IsAnswered statement (region_name dir) text)
-        → Told h (λ folder. (inputs : Statement × List Region) × (session_inputs dir script folder ≡ Ok inputs) × IsAnswerText inputs.0 inputs.1 text)
-    joined None read answer = tt
-    joined (Some folder) read (rows, is, means) = ((statement, rows), (rw (read, is)), means)
+    at : (h : Option Folder) → Told h (λ folder. first folder ≡ Ok a) → Told h (λ folder. second folder ≡ Ok b) → Told h (λ folder. and_then (first folder) (λ x. and_then (second folder) (λ y. Ok (make x y))) ≡ Ok (make a b))
+    at None one two = tt
+    at (Some folder) one two = rw (one, two)
 
--- and its refusal from that of its table
-pub session_refused : (held later : Option Folder) (dir script name : List ℕ) (statement : Statement) (made : InputError) → later ≡ held → name ≡ region_name dir
-    → Told held (λ folder. script_in folder script ≡ Ok statement) → Explains later (λ folder. region_in folder name) made
-    → Explains held (session_inputs dir script) made
-session_refused held later dir script name statement error.Fault same named read region = tt
-session_refused held later dir script name statement error.Memory same named read region = tt
-session_refused held later dir script name statement (error.Refused refusal) same named read region = joined held read (subst (λ (k : Option Folder). Told k (λ folder. region_in folder (region_name dir) ≡ Err (refused_view refusal))) same (subst (λ (n : List ℕ). Told later (λ folder. region_in folder n ≡ Err (refused_view refusal))) named region))
+-- the second one's error explains the lack of both
+pub both_refused : {A B C : Type 0} → (held later : Option Folder) (first : Folder → Result A Refused) (second : Folder → Result B Refused) (make : A → B → C) (a : A) (made : InputError) → later ≡ held
+    → Told held (λ folder. first folder ≡ Ok a) → Explains later second made
+    → Explains held (λ folder. and_then (first folder) (λ x. and_then (second folder) (λ y. Ok (make x y)))) made
+both_refused held later first second make a error.Fault same one two = tt
+both_refused held later first second make a error.Memory same one two = tt
+both_refused held later first second make a (error.Refused refusal) same one two = at held one (subst (λ (k : Option Folder). Told k (λ folder. second folder ≡ Err (refused_view refusal))) same two)
   where
-    joined : (h : Option Folder) → Told h (λ folder. script_in folder script ≡ Ok statement) → Told h (λ folder. region_in folder (region_name dir) ≡ Err (refused_view refusal)) → Told h (λ folder. session_inputs dir script folder ≡ Err (refused_view refusal))
-    joined None read region = tt
-    joined (Some folder) read region = rw (read, region)
+    at : (h : Option Folder) → Told h (λ folder. first folder ≡ Ok a) → Told h (λ folder. second folder ≡ Err (refused_view refusal)) → Told h (λ folder. and_then (first folder) (λ x. and_then (second folder) (λ y. Ok (make x y))) ≡ Err (refused_view refusal))
+    at None one two = tt
+    at (Some folder) one two = rw (one, two)
+
+-- an input that was read answers by what it means
+pub told_answer : {A : Type 0} → (Means : A → List ℕ → Type 0) (held : Option Folder) (input : Folder → Result A Refused) (read : A) (text : List ℕ) → Told held (λ folder. input folder ≡ Ok read) → Means read text
+    → Told held (λ folder. (r : A) × (input folder ≡ Ok r) × Means r text)
+told_answer Means None input read text told means = tt
+told_answer Means (Some folder) input read text told means = (read, told, means)

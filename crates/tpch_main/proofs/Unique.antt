@@ -1,24 +1,19 @@
 -- The same values in ascending order are one list, so an answer has one text.
-use Rattle.std.proofs.Common.{◌≡◌, ◌∙◌, ◌==◌, ℕ, ◌+◌, ◌<◌, List, [], ◌∷◌, Bool, true, false, add-one, ap, arith, cond, decimal, length, map, refl, slice_index_or, suc, sym}
-use Rattle.std.proofs.lemmas.Bool.Decides.{nat_tests}
-use Rattle.std.proofs.lemmas.Cmp.{lists_total, nat_cmp_total}
+use Rattle.std.proofs.Common.{◌≡◌, ◌∙◌, ℕ, ◌+◌, ◌<◌, List, [], ◌∷◌, Bool, true, false, add-one, ap, arith, cond, length, refl, slice_index_or, suc, sym}
 use Rattle.std.proofs.lemmas.List.MinMax.{ranks_by}
 use Rattle.std.proofs.lemmas.List.Sorted.{sorted_far, sum_by-IsPermutation}
 use Rattle.std.proofs.lemmas.List.Sums.{sum_by-cons}
-use Rattle.std.proofs.lemmas.Map.Text.{is_eq-slice_cmp}
-use Rattle.std.proofs.lemmas.Slice.Eq.{bytes_eq-Decides}
-use Rattle.std.specs.Cmp.{IsStrictWeakOrder, IsTotalOrder, unsigned_ties}
-use Rattle.std.specs.Cmp.Lexicographic.{slice_cmp}
+use Rattle.std.specs.Cmp.{IsStrictWeakOrder, IsTotalOrder}
 use Rattle.std.specs.List.{sum_by}
 use Rattle.std.specs.List.Sorted.{IsSortedBy}
-use Rattle.std.specs.Ordering.{is_eq, is_lt, nat_cmp, ordering_reverse}
+use Rattle.std.specs.Ordering.{is_lt, ordering_reverse}
 use Rattle.std.specs.declared.cmp.Ordering.{Ordering}
 use Rattle.std.specs.declared.cmp.Ordering.TheVariants.{Less, Equal, Greater}
-use Rattle.tpch_main.specs.Answer.{InOrder, PrintsColumn, PrintsNumbers, PrintsTexts, answer_text, escaped, kept}
+use Rattle.sql_value.proofs.Orders.{row_ties, value_total}
+use Rattle.sql_value.specs.Value.{value_cmp}
+use Rattle.sql_value.specs.declared.value.Value.{Value}
+use Rattle.tpch_main.specs.Answer.{InOrder, asked, values_text}
 use Rattle.tpch_main.specs.Laws.{AnswerLaw}
-use Rattle.tpch_main.specs.Region.{Region}
-use Rattle.tpch_main.specs.declared.statement.Column.{Column}
-use Rattle.tpch_main.specs.declared.statement.Column.TheVariants as column
 
 -- 1 where an element is less than x
 abbrev pub below : {X : Type 0} → (X → X → Bool) → X → X → ℕ
@@ -73,25 +68,12 @@ alike_equal cmp total tells x y up down = tells x y (at (cmp x y) (cmp y x) (tot
 pub in_order_once : {X : Type 0} → (cmp : X → X → Ordering) → IsTotalOrder cmp → ((x y : X) → cmp x y ≡ Equal → x ≡ y) → (values xs ys : List X) → InOrder cmp values xs → InOrder cmp values ys → xs ≡ ys
 in_order_once cmp total tells values xs ys a b = one_order (λ x y. is_lt (cmp x y)) (ranks_by total (λ x. x)) (alike_equal cmp total tells) xs ys a.ascending b.ascending (λ f. sum_by-IsPermutation f values xs a.same ∙ sym (sum_by-IsPermutation f values ys b.same))
 
-pub numbers_tell : (x y : ℕ) → nat_cmp x y ≡ Equal → x ≡ y
-numbers_tell x y e =
-    let same : (x == y) ≡ true = unsigned_ties x y ∙ ap is_eq e in
-    grind (arith, nat_tests, same)
-
-pub texts_tell : (x y : List ℕ) → slice_cmp nat_cmp x y ≡ Equal → x ≡ y
-texts_tell x y e = (bytes_eq-Decides x y).0 (sym (is_eq-slice_cmp x y) ∙ ap is_eq e)
-
--- the rows printed of a column are the same lines
-pub numbers_once : (numbers : List ℕ) (a b : List (List ℕ)) → PrintsNumbers numbers a → PrintsNumbers numbers b → a ≡ b
-numbers_once numbers a b (xs, up, is) (ys, down, as_well) = is ∙ ap (map decimal) (in_order_once nat_cmp nat_cmp_total numbers_tell numbers xs ys up down) ∙ sym as_well
-
-pub texts_once : (texts : List (List ℕ)) (a b : List (List ℕ)) → PrintsTexts texts a → PrintsTexts texts b → a ≡ b
-texts_once texts a b (xs, up, is) (ys, down, as_well) = is ∙ ap (map escaped) (in_order_once (slice_cmp nat_cmp) (lists_total nat_cmp_total) texts_tell texts xs ys up down) ∙ sym as_well
-
-pub column_once : (c : Column) (rows : List Region) (a b : List (List ℕ)) → PrintsColumn c rows a → PrintsColumn c rows b → a ≡ b
-column_once column.RegionKey rows a b = numbers_once (map (λ row. row.key) rows) a b
-column_once column.Name rows a b = texts_once (map (λ row. row.name) rows) a b
-column_once column.Comment rows a b = texts_once (map (λ row. row.comment) rows) a b
+-- values that tie are the same
+pub values_tell : (x y : Value) → value_cmp x y ≡ Equal → x ≡ y
+values_tell x y e = head_of (row_ties (x ∷ []) (y ∷ []) (rw e refl))
+  where
+    head_of : (x ∷ []) ≡ (y ∷ []) → x ≡ y
+    head_of same = cc
 
 pub answer_law : AnswerLaw
-answer_law statement rows a b (xs, up, is) (ys, down, as_well) = is ∙ ap answer_text (column_once statement.column (kept statement rows) xs ys up down) ∙ sym as_well
+answer_law statement rows a b (xs, up, is) (ys, down, as_well) = is ∙ ap values_text (in_order_once value_cmp value_total values_tell (asked statement rows) xs ys up down) ∙ sym as_well

@@ -1,35 +1,66 @@
 -- Some values of the definitions, worked out by hand.
-use Rattle.std.specs.Prelude.{◌≡◌, List, [], ◌∷◌, None, Some, codes}
-use Rattle.tpch_main.specs.Answer.{IsAnswerText, escaped}
-use Rattle.tpch_main.specs.Region.{Region, region_of}
+use Rattle.std.specs.Prelude.{◌≡◌, ℕ, ℤ, pos, List, [], ◌∷◌, None, Some, Result, Err, codes}
+use Rattle.refusals.specs.declared.line.LineFault.TheVariants.{DuplicateKey}
+use Rattle.sql_value.specs.declared.value.Value.{Value}
+use Rattle.sql_value.specs.declared.value.Value.TheVariants as value
+use Rattle.tpch_schema.specs.State.{State}
+use Rattle.tpch_main.specs.Answer.{IsAnswerText}
+use Rattle.tpch_main.specs.Counts.{counts_text}
+use Rattle.tpch_main.specs.Inputs.{Refused, refusal_line, session_inputs, state_in}
 use Rattle.tpch_main.specs.Script.{script_of}
 use Rattle.tpch_main.specs.Words.{command_of}
-use Rattle.tpch_main.specs.Words.Command.{session}
+use Rattle.tpch_main.specs.Words.Command.{check, session}
+use Rattle.tpch_main.specs.declared.input.Cause.{Cause}
+use Rattle.tpch_main.specs.declared.input.Cause.TheVariants as cause
 use Rattle.tpch_main.specs.declared.statement.Column.TheVariants as column
 use Rattle.tpch_main.specs.declared.statement.Statement.{Statement}
 
+-- the names of the regions whose key is below 2
 abbrev pub names_below_two : Statement
 names_below_two = record { column = column.Name; limit = 2 }
 
-abbrev pub three_regions : List Region
-three_regions = record { key = 0; name = codes "AFRICA"; comment = codes "a" } ∷ record { key = 1; name = codes "AMERICA"; comment = codes "b" } ∷ record { key = 2; name = codes "ASIA"; comment = [] } ∷ []
+-- a row of region
+abbrev pub region_row : ℤ → List ℕ → List ℕ → List Value
+region_row key name comment = value.Number 0 key ∷ value.Text name ∷ value.Text comment ∷ []
+
+-- three rows, whose names stand in descending order
+abbrev pub three_regions : List (List Value)
+three_regions = region_row (pos 2) (codes "ASIA") [] ∷ region_row (pos 1) (codes "AMERICA") (codes "b") ∷ region_row (pos 0) (codes "AFRICA") (codes "a") ∷ []
+
+-- a state of these regions alone
+abbrev pub regions_only : State
+regions_only = record { region = three_regions; nation = []; part = []; supplier = []; partsupp = []; customer = []; orders = []; lineitem = [] }
+
+-- a file of no rows, and one whose second line has the key of its first
+abbrev pub no_region : List ℕ × List ℕ
+no_region = (codes "d/region.tbl", [])
+
+abbrev pub bad_nation : List ℕ × List ℕ
+bad_nation = (codes "d/nation.tbl", codes "1|A|0|x|\n01|B|0|y|\n")
+
+-- the input of that name is refused
+abbrev pub refused : {A : Type 0} → List ℕ → Cause → Result A Refused
+refused name why = Err (record { name = name; cause = why })
 
 pub record Examples : Type 0 where
-  -- words are a command where they are three of the right kind
+  -- words are a command where they are of the right kind and number
   pub command : command_of (codes "session" ∷ codes "d" ∷ codes "s" ∷ []) ≡ Some (session (codes "d") (codes "s"))
   pub no_script : command_of (codes "session" ∷ codes "d" ∷ []) ≡ None
   pub option : command_of (codes "session" ∷ codes "-d" ∷ codes "s" ∷ []) ≡ None
+  pub counts : command_of (codes "check" ∷ codes "d" ∷ []) ≡ Some (check (codes "d"))
   -- a script is a statement with its semicolon, and with one LF behind it or none
   pub script : script_of (codes "select r_name from region where r_regionkey < 2;") ≡ Some names_below_two
   pub line : script_of (codes "select r_name from region where r_regionkey < 002;\n") ≡ Some names_below_two
   pub unended : script_of (codes "select r_name from region where r_regionkey < 2") ≡ None
   pub two_lines : script_of (codes "select r_name from region where r_regionkey < 2;\n\n") ≡ None
-  -- a region file has its rows, in its order
-  pub regions : region_of (codes "0|AFRICA|a|\n01|AMERICA|b|\n2|ASIA||\n") ≡ Some three_regions
-  pub empty : region_of [] ≡ Some []
-  pub cut_off : region_of (codes "0|AFRICA|a|\n1|AMERICA|b|") ≡ None
-  pub equal_keys : region_of (codes "0|A|x|\n00|B|y|\n") ≡ None
-  pub field_more : region_of (codes "0|A|x||\n") ≡ None
+  -- the first refused input counts: the script comes before the tables, region before nation
+  pub script_first : session_inputs (codes "d") (codes "s") [] ≡ refused (codes "s") cause.Absent
+  pub region_first : state_in (codes "d") (bad_nation ∷ []) ≡ refused (codes "d/region.tbl") cause.Absent
+  pub line_refused : state_in (codes "d") (bad_nation ∷ no_region ∷ []) ≡ refused (codes "d/nation.tbl") (cause.Line (record { line = 2; fault = DuplicateKey }))
+  -- and is printed with its name, and a bad line with its place
+  pub absent_line : refusal_line (record { name = codes "d/region.tbl"; cause = cause.Absent }) ≡ codes "input refused d/region.tbl absent\n"
+  pub bad_line : refusal_line (record { name = codes "d/nation.tbl"; cause = cause.Line (record { line = 2; fault = DuplicateKey }) }) ≡ codes "input refused d/nation.tbl line 2 7 DuplicateKey\n"
+  -- each table's rows are counted, in the schema's order
+  pub counted : counts_text regions_only ≡ codes "region rows 3\nnation rows 0\npart rows 0\nsupplier rows 0\npartsupp rows 0\ncustomer rows 0\norders rows 0\nlineitem rows 0\n"
   -- an answer has its header line and its rows
   pub answer : IsAnswerText names_below_two three_regions (codes "[1] version 0 rows 2\nAFRICA\nAMERICA\n")
-  pub backslash : escaped (codes "a\\b|c") ≡ codes "a\\\\b\\|c"

@@ -1,10 +1,17 @@
 -- What the files of a command hold, and which of them is refused first.
-use Rattle.std.specs.Prelude.{ℕ, ◌^◌, List, ◌++◌, length, Option, None, Some, if◌then◌else◌, codes, nat_lt}
+use Rattle.std.specs.Prelude.{ℕ, List, [], ◌∷◌, ◌++◌, length, Option, None, Some, if◌then◌else◌, codes, decimal, nat_lt}
 use Rattle.std.specs.declared.result.Result.{Result}
 use Rattle.std.specs.declared.result.Result.TheVariants.{Ok, Err}
 use Rattle.std.specs.Option.{ok_or}
+use Rattle.refusals.specs.Line.{line_fault_name, line_fault_number}
+use Rattle.refusals.specs.declared.line.LineRefusal.{LineRefusal}
+use Rattle.sql_value.specs.declared.value.Value.{Value}
+use Rattle.table_state.specs.Lists.{state_of}
+use Rattle.tbl_reader.specs.File.{file_rows, most_bytes}
 use Rattle.tpch_outside.specs.Outside.{Folder, file_of}
-use Rattle.tpch_main.specs.Region.{Region, region_of}
+use Rattle.tpch_schema.specs.State.{State}
+use Rattle.tpch_schema.specs.Tables.{all_tables, table_name}
+use Rattle.tpch_schema.specs.declared.table.TableName.{TableName}
 use Rattle.tpch_main.specs.Script.{script_of}
 use Rattle.tpch_main.specs.declared.input.Cause.{Cause}
 use Rattle.tpch_main.specs.declared.input.Cause.TheVariants as cause
@@ -15,13 +22,11 @@ pub record Refused : Type 0 where
   pub name : List ℕ
   pub cause : Cause
 
--- the most bytes of a script and of a table's file
+-- the most bytes of a script
 abbrev pub script_limit : ℕ
 script_limit = 1_048_576
 
-abbrev pub table_limit : ℕ
-table_limit = 2 ^ 32
-
+-- the bytes of a file, refused where there is none or where they are more than that
 abbrev pub within : ℕ → List ℕ → Option (List ℕ) → Result (List ℕ) Refused
 within limit name None = Err (record { name = name; cause = cause.Absent })
 within limit name (Some bytes) = if nat_lt limit (length bytes) then Err (record { name = name; cause = cause.NotBuilt }) else Ok bytes
@@ -43,22 +48,48 @@ and_then (Err refused) further = Err refused
 abbrev pub script_in : Folder → List ℕ → Result Statement Refused
 script_in folder name = and_then (file_within script_limit folder name) (λ bytes. built name (script_of bytes))
 
--- the name of the region file of a folder
-abbrev pub region_name : List ℕ → List ℕ
-region_name dir = dir ++ codes "/region.tbl"
+-- the rows that were read of a table's file, which its first bad line refuses
+abbrev pub unless_refused : {A : Type 0} → List ℕ → Result A LineRefusal → Result A Refused
+unless_refused name (Ok rows) = Ok rows
+unless_refused name (Err first) = Err (record { name = name; cause = cause.Line first })
 
--- the rows of the region file of that name
-abbrev pub region_in : Folder → List ℕ → Result (List Region) Refused
-region_in folder name = and_then (file_within table_limit folder name) (λ bytes. built name (region_of bytes))
+-- the rows of a table's file, if it is there
+abbrev pub rows_in : TableName → List ℕ → Option (List ℕ) → Result (List (List Value)) Refused
+rows_in table name None = Err (record { name = name; cause = cause.Absent })
+rows_in table name (Some bytes) = unless_refused name (file_rows table most_bytes bytes)
 
--- the inputs of a session in their reading order: the script, then the region file
-abbrev pub session_inputs : List ℕ → List ℕ → Folder → Result (Statement × List Region) Refused
-session_inputs dir script folder = and_then (script_in folder script) (λ statement. and_then (region_in folder (region_name dir)) (λ rows. Ok (statement, rows)))
+-- the name of a table's file in a folder
+abbrev pub table_file : List ℕ → TableName → List ℕ
+table_file dir table = dir ++ codes "/" ++ table_name table ++ codes ".tbl"
 
--- the line for a refused input
+-- the rows of a table in a folder
+abbrev pub table_in : List ℕ → TableName → Folder → Result (List (List Value)) Refused
+table_in dir table folder = rows_in table (table_file dir table) (file_of folder (table_file dir table))
+
+-- the rows of each of the tables; the first one that is refused counts
+abbrev pub lists_in : List ℕ → List TableName → Folder → Result (List (List (List Value))) Refused
+lists_in dir [] folder = Ok []
+lists_in dir (table ∷ tables) folder =
+    and_then (table_in dir table folder) (λ rows. and_then (lists_in dir tables folder) (λ lists. Ok (rows ∷ lists)))
+
+-- the rows of all eight tables, which are read in the schema's order
+abbrev pub state_in : List ℕ → Folder → Result State Refused
+state_in dir folder = and_then (lists_in dir all_tables folder) (λ lists. Ok (state_of lists))
+
+-- the inputs of a session in their reading order: the script, then the tables
+abbrev pub session_inputs : List ℕ → List ℕ → Folder → Result (Statement × State) Refused
+session_inputs dir script folder = and_then (script_in folder script) (λ statement. and_then (state_in dir folder) (λ state. Ok (statement, state)))
+
+-- a line's number, its fault's number and its fault's name
+abbrev pub line_text : LineRefusal → List ℕ
+line_text first = codes " line " ++ decimal first.line ++ codes " " ++ decimal (line_fault_number first.fault) ++ codes " " ++ line_fault_name first.fault ++ codes "\n"
+
+-- why an input is refused, as it is printed behind the input's name
 abbrev pub cause_text : Cause → List ℕ
 cause_text cause.Absent = codes " absent\n"
 cause_text cause.NotBuilt = codes " not built\n"
+cause_text (cause.Line first) = line_text first
 
+-- the line for a refused input
 abbrev pub refusal_line : Refused → List ℕ
 refusal_line refused = codes "input refused " ++ refused.name ++ cause_text refused.cause

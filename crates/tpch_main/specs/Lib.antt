@@ -1,9 +1,12 @@
 pub mod Words
+pub mod Status
 pub mod Script
-pub mod Region
 pub mod Answer
+pub mod Counts
 pub mod Inputs
 pub mod Meaning
 pub mod Views
 pub mod Laws
 pub mod Examples
+pub mod Front
+pub mod Lists

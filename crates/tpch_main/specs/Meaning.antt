@@ -1,11 +1,14 @@
 -- What a run of the program prints, and with which status.
-use Rattle.std.specs.Prelude.{◌≡◌, ◌⊎◌, ℕ, List, ⊤, Option, None, Some, MatchResult}
+use Rattle.std.specs.Prelude.{◌≡◌, ◌⊎◌, ℕ, List, ⊤, Option, None, Some}
 use Rattle.std.specs.Result.{result_err}
+use Rattle.std.specs.declared.result.Result.{Result}
+use Rattle.std.specs.declared.result.Result.TheVariants.{Ok, Err}
 use Rattle.tpch_outside.specs.Outside.{Folder}
 use Rattle.tpch_main.specs.Answer.{IsAnswerText}
-use Rattle.tpch_main.specs.Inputs.{Refused, refusal_line, session_inputs}
+use Rattle.tpch_main.specs.Counts.{counts_text}
+use Rattle.tpch_main.specs.Inputs.{Refused, refusal_line, session_inputs, state_in}
 use Rattle.tpch_main.specs.Words.{Command, usage_line}
-use Rattle.tpch_main.specs.Words.Command.{session}
+use Rattle.tpch_main.specs.Words.Command.{check, session}
 use Rattle.tpch_main.specs.declared.input.Cause.TheVariants as cause
 use Rattle.tpch_main.specs.declared.status.Status.{Status}
 use Rattle.tpch_main.specs.declared.status.Status.TheVariants as status
@@ -20,15 +23,19 @@ IsAnswer status.ReadFault = ⊥
 IsAnswer status.WriteFault = ⊥
 IsAnswer status.OutOfMemory = ⊥
 
--- what a command prints over told files: its answer, or the line of the first refused input
+-- what is printed of inputs: what they mean, or the line of the first refused one
+abbrev pub PrintsOf : {A : Type 0} → (A → List ℕ → Type 0) → Result A Refused → List ℕ → Status → Type 0
+PrintsOf Means (Ok inputs) text s = Means inputs text × (s ≡ status.Done)
+PrintsOf Means (Err refused) text s = (text ≡ refusal_line refused) × (s ≡ status.InputRefused)
+
+-- what a command prints over told files: a session the answer over region, a check the counts
 abbrev pub PrintsFrom : Command → Folder → List ℕ → Status → Type 0
-PrintsFrom (session dir script) folder text s = MatchResult (session_inputs dir script folder)
-    (λ inputs. IsAnswerText inputs.0 inputs.1 text × (s ≡ status.Done))
-    (λ refused. (text ≡ refusal_line refused) × (s ≡ status.InputRefused))
+PrintsFrom (session dir script) folder text s = PrintsOf (λ inputs. IsAnswerText inputs.0 inputs.1.region) (session_inputs dir script folder) text s
+PrintsFrom (check dir) folder text s = PrintsOf (λ state counts. counts ≡ counts_text state) (state_in dir folder) text s
 
 -- the statuses with which a command's text may be printed
 abbrev pub MayEnd : Command → Status → Type 0
-MayEnd (session dir script) s = (s ≡ status.Done) ⊎ (s ≡ status.InputRefused)
+MayEnd command s = (s ≡ status.Done) ⊎ (s ≡ status.InputRefused)
 
 -- what may be printed by the command, if the words are one, over the files, where they are told
 abbrev pub Prints : Option Command → Option Folder → List ℕ → Status → Type 0
@@ -43,6 +50,7 @@ MayPrint command told text = (s : Status) × Prints command told text s
 -- the first refused input, if there is one
 abbrev pub first_refused : Command → Folder → Option Refused
 first_refused (session dir script) folder = result_err (session_inputs dir script folder)
+first_refused (check dir) folder = result_err (state_in dir folder)
 
 -- the first refused input is an absent file
 abbrev pub IsAbsentInput : Option Command → Option Folder → Type 0

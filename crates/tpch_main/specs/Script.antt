@@ -25,6 +25,7 @@ after front text = if bytes_eq (take (length front) text) front then Some (drop 
 abbrev pub before : List ℕ → List ℕ → Option (List ℕ)
 before end text = if bytes_eq (drop (length text - length end) text) end then Some (take (length text - length end) text) else None
 
+-- a column's name
 abbrev pub column_name : Column → List ℕ
 column_name column.RegionKey = codes "r_regionkey"
 column_name column.Name = codes "r_name"

@@ -6,24 +6,24 @@ use Rattle.std.specs.String.{string_bytes}
 use Rattle.std.specs.Global.{Vec}
 use Rattle.tpch_outside.specs.Outside.{Folder}
 use Rattle.tpch_main.specs.Inputs.{Refused}
-use Rattle.tpch_main.specs.Region.{Region}
+use Rattle.tpch_main.specs.Meaning.{Prints, first_refused}
 use Rattle.tpch_main.specs.Words.{Command}
-use Rattle.tpch_main.specs.Words.Command.{session}
+use Rattle.tpch_main.specs.Words.Command.{check, session}
 use Rattle.tpch_main.specs.declared.input.Cause.{Cause}
 use Rattle.tpch_main.specs.declared.input.Cause.TheVariants as cause
 use Rattle.tpch_main.specs.declared.input.InputError.{InputError}
 use Rattle.tpch_main.specs.declared.input.InputError.TheVariants as error
 use Rattle.tpch_main.specs.declared.input.Refusal.{Refusal}
-use Rattle.tpch_main.specs.declared.region.RegionRow.{RegionRow}
+use Rattle.tpch_main.specs.declared.status.Status.TheVariants as status
 use Rattle.tpch_main.specs.declared.words.Command as code
 use Rattle.tpch_main.specs.declared.words.Command.TheVariants as word
 
+-- the command that the words were read as
 abbrev pub command_view : code.Command → Command
 command_view (word.Session folder script) = session folder.now script.now
+command_view (word.Check folder) = check folder.now
 
-abbrev pub row_view : RegionRow → Region
-row_view row = record { key = row.key; name = row.name.now; comment = row.comment.now }
-
+-- the refused input with its name as bytes
 abbrev pub refused_view : Refusal → Refused
 refused_view refusal = record { name = string_bytes refusal.name; cause = refusal.cause }
 
@@ -63,3 +63,10 @@ Reads view held input result = MatchResult result (λ read. Told held (λ folder
 -- the text is one that the input of the told files means, or the error explains why there is no input
 abbrev pub Answers : {A : Type 0} → (A → List ℕ → Type 0) → Option Folder → (Folder → Result A Refused) → Result (Vec ℕ) InputError → Type 0
 Answers {A} Means held input result = MatchResult result (λ text. Told held (λ folder. (read : A) × (input folder ≡ Ok read) × Means read text.items)) (Explains held input)
+
+-- the text is the command's, or the error explains why it has none: its first refused input
+abbrev pub IsTextOf : Command → Option Folder → Result (Vec ℕ) InputError → Type 0
+IsTextOf command held (Ok text) = Prints (Some command) held text.items status.Done
+IsTextOf command held (Err error.Fault) = ⊤
+IsTextOf command held (Err error.Memory) = ⊤
+IsTextOf command held (Err (error.Refused refusal)) = Told held (λ folder. first_refused command folder ≡ Some (refused_view refusal))

@@ -1,160 +1,107 @@
-//! The statement's answer over the rows of the table, and its text.
-ghost use Rattle.std.specs.Prelude.{◌≡◌, ℕ, List, ◌∷◌, ◌++◌, [], IfOk, OnOk, codes, decimal, length, map, nat_lt};
-ghost use Rattle.std.specs.Cmp.Lexicographic.{slice_cmp};
-ghost use Rattle.std.specs.List.{filter};
-ghost use Rattle.std.specs.Ordering.{nat_cmp};
-ghost use Rattle.tpch_main.specs.Answer.{InOrder, IsAnswerText, answer_text, escaped, header, kept};
-ghost use Rattle.tpch_main.specs.Views.{row_view};
+//! The statement's answer over the rows of region, and its text.
+ghost use Rattle.std.specs.Prelude.{◌≡◌, IfOk, IsTrue, map};
+ghost use Rattle.std.specs.List.{All};
+ghost use Rattle.result_text.specs.Answer.{is_no_fault};
+ghost use Rattle.sql_value.specs.Value.{value_cmp};
+ghost use Rattle.tpch_schema.specs.Kinds.{RowsAreOf};
+ghost use Rattle.tpch_schema.specs.declared.table.TableName.TheVariants.{Region};
+ghost use Rattle.tpch_main.specs.Answer.{InOrder, IsAnswerText, alone, asked, is_below, place_of, value_at, values_text};
 
-use crate::region::RegionRow;
 use crate::statement::{Column, Statement};
-use itoa::Buffer;
+use result_text::{answer_text, header};
+use sql_value::{Row, Value};
 use std::alloc::{AllocError, Global};
 
-/// Whether the row's key is below the limit.
-fn is_kept(row: &RegionRow<'_>, limit: u64) -> bool
-    ensures { result ≡ nat_lt row.now.key limit }
+/// The column's place in a row, counted from 0.
+fn place(column: Column) -> usize
+    ensures { result ≡ place_of column }
 {
-    row.key < limit
-}
-
-/// The keys below the limit, in the rows' order.
-fn keys(alloc: Global, rows: &[RegionRow<'_>], limit: u64) -> Result<Vec<u64>, AllocError>
-    ensures { IfOk result (λ v. v.items ≡ map (λ row. row.key) (filter (λ row. nat_lt row.key limit) rows.now)) }
-{
-    rows.iter()
-        .filter(|row| is_kept(row, limit))
-        .map(|row| row.key)
-        .collect(alloc)
-}
-
-/// The names of the rows whose keys are below the limit, in the rows' order.
-fn names<'a>(alloc: Global, rows: &[RegionRow<'a>], limit: u64) -> Result<Vec<&'a [u8]>, AllocError>
-    ensures { IfOk result (λ v. v.items ≡ map (λ row. row.name) (filter (λ row. nat_lt row.key limit) rows.now)) }
-{
-    rows.iter()
-        .filter(|row| is_kept(row, limit))
-        .map(|row| row.name)
-        .collect(alloc)
-}
-
-/// The comments of the rows whose keys are below the limit, in the rows' order.
-fn comments<'a>(
-    alloc: Global,
-    rows: &[RegionRow<'a>],
-    limit: u64,
-) -> Result<Vec<&'a [u8]>, AllocError>
-    ensures { IfOk result (λ v. v.items ≡ map (λ row. row.comment) (filter (λ row. nat_lt row.key limit) rows.now)) }
-{
-    rows.iter()
-        .filter(|row| is_kept(row, limit))
-        .map(|row| row.comment)
-        .collect(alloc)
-}
-
-/// The line before so many rows.
-fn head_line(alloc: Global, count: usize) -> Result<Vec<u8>, AllocError>
-    ensures { IfOk result (λ v. v.items ≡ header count) }
-{
-    let mut buffer = Buffer::new();
-    let mut text = Vec::from_slice(alloc, b"[1] version 0 rows ")?;
-    text.extend_from_slice(buffer.format(count).as_bytes())?;
-    text.push(b'\n')?;
-    Ok(text)
-}
-
-/// The answer's text of these numbers.
-fn numbers_text(alloc: Global, numbers: &[u64]) -> Result<Vec<u8>, AllocError>
-    ensures { IfOk result (λ v. v.items ≡ answer_text (map decimal numbers.now)) }
-{
-    let mut buffer = Buffer::new();
-    let mut text = head_line(alloc, numbers.len())?;
-    for number in numbers {
-        text.extend_from_slice(buffer.format(*number).as_bytes())?;
-        text.push(b'\n')?;
+    match column {
+        Column::RegionKey => 0,
+        Column::Name => 1,
+        Column::Comment => 2,
     }
-    Ok(text)
 }
 
-/// Appends a text with a backslash before each bar and each backslash.
-fn push_escaped(text: &mut Vec<u8>, plain: &[u8]) -> Result<(), AllocError>
-    ensures { OnOk result (text.new.items ≡ text.old.items ++ escaped plain.now) }
+/// The row's value at a place, null where it has none.
+fn value_at(row: &[Value], place: usize) -> Result<Value, AllocError>
+    ensures { IfOk result (λ v. v ≡ value_at place row.now) }
 {
-    for byte in plain {
-        if *byte == b'\\' || *byte == b'|' {
-            text.push(b'\\')?;
+    match row.get(place) {
+        Some(value) => value.clone(),
+        None => Ok(Value::Null),
+    }
+}
+
+/// Whether the row's key, its first value, is below the limit.
+fn is_kept(row: &[Value], limit: u64) -> bool
+    ensures { result ≡ is_below limit (value_at 0 row.now) }
+{
+    match row {
+        [Value::Number(_, key), ..] => *key < limit as i128,
+        _ => false,
+    }
+}
+
+/// The values that the statement asks for, in the rows' order.
+fn values(alloc: Global, statement: Statement, rows: &[Row]) -> Result<Vec<Value>, AllocError>
+    ensures { IfOk result (λ v. v.items ≡ asked statement rows.now) }
+{
+    let place = place(statement.column);
+    let mut found = Vec::new(alloc);
+    for row in rows {
+        if is_kept(row.values(), statement.limit) {
+            let value = value_at(row.values(), place)?;
+            found.push(value)?;
         }
-        text.push(*byte)?;
     }
-    Ok(())
+    Ok(found)
 }
 
-/// The answer's text of these texts.
-fn texts_text(alloc: Global, texts: &[&[u8]]) -> Result<Vec<u8>, AllocError>
-    ensures { IfOk result (λ v. v.items ≡ answer_text (map (λ text. escaped text.now) texts.now)) }
+/// The values in ascending order.
+fn in_order(mut values: Vec<Value>) -> Result<Vec<Value>, AllocError>
+    ensures { IfOk result (λ v. InOrder value_cmp values.items v.items) }
 {
-    let mut all = head_line(alloc, texts.len())?;
-    for text in texts {
-        push_escaped(&mut all, text)?;
-        all.push(b'\n')?;
+    values.sort()?;
+    Ok(values)
+}
+
+/// Each value in a row of its own.
+fn rows_of(alloc: Global, values: &[Value]) -> Result<Vec<Row>, AllocError>
+    ensures { IfOk result (λ rows. rows.items ≡ map alone values.now) }
+{
+    let mut rows = Vec::with_capacity(alloc, values.len())?;
+    for value in values {
+        let value = value.clone()?;
+        let row = Row::new(vec![in alloc; value]?)?;
+        rows.push(row)?;
     }
-    Ok(all)
+    Ok(rows)
 }
 
-/// The numbers in ascending order.
-fn in_order(mut numbers: Vec<u64>) -> Result<Vec<u64>, AllocError>
-    ensures { IfOk result (λ v. InOrder nat_cmp numbers.items v.items) }
+/// The header line and the values, each in a row of its own.
+fn values_text(alloc: Global, values: &[Value]) -> Result<Vec<u8>, AllocError>
+    requires { All (λ v. IsTrue (is_no_fault v)) values.now }
+    ensures { IfOk result (λ text. text.items ≡ values_text values.now) }
 {
-    numbers.sort()?;
-    Ok(numbers)
-}
-
-/// The texts in ascending order, byte by byte.
-fn texts_in_order(mut texts: Vec<&[u8]>) -> Result<Vec<&[u8]>, AllocError>
-    ensures { IfOk result (λ v. InOrder (slice_cmp nat_cmp) (map (λ text. text.now) texts.entry.items) (map (λ text. text.now) v.items)) }
-{
-    texts.sort()?;
-    Ok(texts)
-}
-
-/// The answer's text where the keys are asked for.
-fn key_answer(alloc: Global, rows: &[RegionRow<'_>], limit: u64) -> Result<Vec<u8>, AllocError>
-    ensures { IfOk result (λ v. IsAnswerText (record { column = Column.RegionKey; limit = limit }) (map row_view rows.now) v.items) }
-{
-    let numbers = in_order(keys(alloc, rows, limit)?)?;
-    let text = numbers_text(alloc, &numbers)?;
+    let mut text = header(alloc, 1, 0, values.len() as u64)?;
+    let rows = rows_of(alloc, values)?;
+    let answer = answer_text(alloc, &rows)?;
+    text.extend_from_slice(&answer)?;
     Ok(text)
 }
 
-/// The answer's text where the names are asked for.
-fn name_answer(alloc: Global, rows: &[RegionRow<'_>], limit: u64) -> Result<Vec<u8>, AllocError>
-    ensures { IfOk result (λ v. IsAnswerText (record { column = Column.Name; limit = limit }) (map row_view rows.now) v.items) }
-{
-    let texts = texts_in_order(names(alloc, rows, limit)?)?;
-    let text = texts_text(alloc, &texts)?;
-    Ok(text)
-}
-
-/// The answer's text where the comments are asked for.
-fn comment_answer(alloc: Global, rows: &[RegionRow<'_>], limit: u64) -> Result<Vec<u8>, AllocError>
-    ensures { IfOk result (λ v. IsAnswerText (record { column = Column.Comment; limit = limit }) (map row_view rows.now) v.items) }
-{
-    let texts = texts_in_order(comments(alloc, rows, limit)?)?;
-    let text = texts_text(alloc, &texts)?;
-    Ok(text)
-}
-
-/// The text of the statement's answer over the rows.
-pub fn answer(
+/// The text of the statement's answer over the rows of region.
+pub fn statement_text(
     alloc: Global,
     statement: Statement,
-    rows: &[RegionRow<'_>],
+    rows: &[Row],
 ) -> Result<Vec<u8>, AllocError>
-    ensures { IfOk result (λ v. IsAnswerText statement (map row_view rows.now) v.items) }
+    requires { RowsAreOf Region rows.now }
+    ensures { IfOk result (λ v. IsAnswerText statement rows.now v.items) }
 {
-    match statement.column {
-        Column::RegionKey => key_answer(alloc, rows, statement.limit),
-        Column::Name => name_answer(alloc, rows, statement.limit),
-        Column::Comment => comment_answer(alloc, rows, statement.limit),
-    }
+    let found = values(alloc, statement, rows)?;
+    let sorted = in_order(found)?;
+    let text = values_text(alloc, &sorted)?;
+    Ok(text)
 }

@@ -1,13 +1,16 @@
 //! Reading the files that a command names.
-ghost use Rattle.std.specs.Prelude.{◌≡◌, ℕ, ◌<◌, ◌≤◌, ◌^◌, List, ◌++◌, IfErr, IfOk, IsErrOf, MatchOption, length, true, false};
+ghost use Rattle.std.specs.Prelude.{◌≡◌, ℕ, ◌<◌, ◌≤◌, ◌^◌, List, ◌++◌, IfErr, IfOk, IsErrOf, MatchOption, OnOk, length, true, false};
 ghost use Rattle.std.specs.Io.KnownBytes.{Consumes, IsAtEnd};
 ghost use Rattle.std.specs.Vec.{vec_items};
 ghost use Rattle.tpch_outside.specs.Outside.{IsAll, IsLonger, Rose};
-ghost use Rattle.tpch_main.specs.Inputs.{file_within, refusal_line};
+ghost use Rattle.tpch_main.specs.Front.{IsFrontOf};
+ghost use Rattle.tpch_main.specs.Inputs.{file_within, line_text, refusal_line};
 ghost use Rattle.tpch_main.specs.Views.{IsAbsence, IsFaultOrMemory, Reads, Refuses, refused_view};
 
-use std::alloc::{AllocError, Global};
+use itoa::Buffer;
+use std::alloc::{AllocError, AllocFailed, Global};
 use tpch_outside::{Files, Got, Open};
+use tpch_schema::LineRefusal;
 
 /// The most bytes that one call reads.
 const PIECE: usize = 16_384;
@@ -17,14 +20,18 @@ const PIECE: usize = 16_384;
 pub enum Cause {
     /// There is no file of that name.
     Absent,
-    /// The file is not of its form.
+    /// The script is not of its form, or too long.
     NotBuilt,
+    /// This is the first bad line of a table's file.
+    Line(LineRefusal),
 }
 
 /// An input that is refused.
 #[derive(Drop)]
 pub struct Refusal {
+    /// The name by which it was opened.
     pub name: String,
+    /// Why it is refused.
     pub cause: Cause,
 }
 
@@ -49,6 +56,16 @@ impl From<AllocError> for InputError {
     }
 }
 
+impl<T: Drop> From<AllocFailed<T>> for InputError {
+    ghost use Rattle.tpch_main.specs.declared.input.InputError.TheVariants.{Memory};
+
+    ghost from_gives = { λ _ e. e ≡ Memory };
+
+    fn from(_: AllocFailed<T>) -> Self {
+        InputError::Memory
+    }
+}
+
 /// The refusal of the input of that name, or the want of memory for it.
 pub fn refused(alloc: Global, name: &str, cause: Cause) -> InputError
     ensures { Refuses name.now cause result }
@@ -68,8 +85,24 @@ pub fn line(alloc: Global, refusal: &Refusal) -> Result<Vec<u8>, AllocError>
     match refusal.cause {
         Cause::Absent => line.extend_from_slice(b" absent\n")?,
         Cause::NotBuilt => line.extend_from_slice(b" not built\n")?,
+        Cause::Line(first) => push_line(&mut line, first)?,
     }
     Ok(line)
+}
+
+/// Appends the place and the fault of a bad line.
+fn push_line(line: &mut Vec<u8>, first: LineRefusal) -> Result<(), AllocError>
+    ensures { OnOk result (line.new.items ≡ line.old.items ++ line_text first) }
+{
+    let mut buffer = Buffer::new();
+    line.extend_from_slice(b" line ")?;
+    line.extend_from_slice(buffer.format(first.line).as_bytes())?;
+    line.push(b' ')?;
+    line.extend_from_slice(buffer.format(first.fault.number()).as_bytes())?;
+    line.push(b' ')?;
+    line.extend_from_slice(first.fault.name().as_bytes())?;
+    line.push(b'\n')?;
+    Ok(())
 }
 
 /// Reads one piece more of the open file, and answers whether it is at its end.
@@ -95,6 +128,26 @@ fn read_piece<F: Files>(files: &mut F, bytes: &mut Vec<u8>) -> Result<bool, Inpu
     }
 }
 
+/// The bytes of the open file: all of them, or more than the limit from its front.
+pub fn front<F: Files>(alloc: Global, files: &mut F, limit: usize) -> Result<Vec<u8>, InputError>
+    requires open { F.is_open files.old ≡ true }
+    requires limit { limit < 2 ^ 63 }
+    ensures bytes { IfOk result (λ v. IsFrontOf limit (F.left files.old) v.items) }
+    ensures held { F.held files.new ≡ F.held files.old }
+    ensures fault { IsErrOf result InputError.Fault → Rose (F.faults files.old) (F.faults files.new) }
+    ensures other { IfErr result IsFaultOrMemory }
+    ensures faults { F.faults files.old ≤ F.faults files.new }
+    ensures misses { F.misses files.old ≤ F.misses files.new }
+{
+    let mut bytes = Vec::new(alloc);
+    while bytes.len() <= limit {
+        if read_piece(files, &mut bytes)? {
+            return Ok(bytes);
+        }
+    }
+    Ok(bytes)
+}
+
 /// All bytes of the open file, or `None` where they are more than the limit.
 fn collect<F: Files>(
     alloc: Global,
@@ -111,17 +164,11 @@ fn collect<F: Files>(
     ensures faults { F.faults files.old ≤ F.faults files.new }
     ensures misses { F.misses files.old ≤ F.misses files.new }
 {
-    let mut bytes = Vec::new(alloc);
-    while bytes.len() <= limit {
-        if read_piece(files, &mut bytes)? {
-            return Ok(if bytes.len() <= limit {
-                Some(bytes)
-            } else {
-                None
-            });
-        }
+    let bytes = front(alloc, files, limit)?;
+    if bytes.len() > limit {
+        return Ok(None);
     }
-    Ok(None)
+    Ok(Some(bytes))
 }
 
 /// All bytes of the file of that name, refused where it is absent or has more bytes than the limit.

@@ -1,18 +1,12 @@
 //! Laws of the definitions that the top call's promise stands on, each the contract of a function
 //! that does nothing: what is read of a file is just what its form says in its own words.
 ghost use Rattle.tpch_main.specs.Examples.{Examples};
-ghost use Rattle.tpch_main.specs.Laws.{AnswerLaw, RegionLaw, ScriptLaw};
+ghost use Rattle.tpch_main.specs.Laws.{AnswerLaw, ScriptLaw};
 
 /// A text is read as a statement exactly where it is that statement: the fixed words around the
 /// column's name, 1 to 18 digits that write its number, a semicolon and at most one LF.
 pub fn scripts_are_read_by_their_form()
     ensures { ScriptLaw }
-{}
-
-/// Bytes are read as rows exactly where they are these rows' lines in their order, each ended by LF,
-/// with no two keys equal.
-pub fn region_files_are_read_by_their_form()
-    ensures { RegionLaw }
 {}
 
 /// A statement has one answer over given rows: two texts that are its answer are one text.

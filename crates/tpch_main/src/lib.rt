@@ -3,13 +3,14 @@
 #![tactic(auto)]
 
 mod answer;
+mod check;
 mod input;
 pub mod laws;
 mod output;
-mod region;
 mod session;
 mod statement;
 mod status;
+mod tables;
 #[cfg(test)]
 mod tests;
 mod top;

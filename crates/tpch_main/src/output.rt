@@ -63,7 +63,7 @@ fn write_all<S: Sink>(out: &mut S, text: &[u8]) -> Result<(), Stop>
 }
 
 /// Writes the text, and answers its status or why it wasn't taken whole.
-pub fn told<S: Sink>(out: &mut S, text: &[u8], status: Status) -> Status
+pub fn write_text<S: Sink>(out: &mut S, text: &[u8], status: Status) -> Status
     requires { IsAnswer status }
     ensures whole { IsAnswer result → (result ≡ status) × Appends (S.taken out.old) (S.taken out.new) text.now }
     ensures part { AppendsPart (S.taken out.old) (S.taken out.new) text.now }

@@ -5,15 +5,20 @@ ghost use Rattle.tpch_main.specs.Script.{limit_of, number_of, script_front, scri
 /// The column that is asked for.
 #[derive(Clone, Copy, Debug, PartialEq, Eq)]
 pub enum Column {
+    /// `r_regionkey`
     RegionKey,
+    /// `r_name`
     Name,
+    /// `r_comment`
     Comment,
 }
 
 /// `select COLUMN from region where r_regionkey < LIMIT;`
 #[derive(Clone, Copy, Debug, PartialEq, Eq)]
 pub struct Statement {
+    /// The column that is asked for.
     pub column: Column,
+    /// Rows are kept whose key is below it.
     pub limit: u64,
 }
 

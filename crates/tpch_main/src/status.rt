@@ -1,6 +1,8 @@
 //! How a run ends.
+ghost use Rattle.std.specs.Prelude.{◌≡◌};
+ghost use Rattle.tpch_main.specs.Status.{status_number};
 
-/// How a run ends. Its number, from 0, is the program's exit status.
+/// How a run ends.
 #[derive(Clone, Copy, Debug, PartialEq, Eq)]
 pub enum Status {
     /// All was read and written, and nothing was refused.
@@ -17,4 +19,21 @@ pub enum Status {
     WriteFault,
     /// Memory was wanted; nothing, or a part of the text from its front, was written.
     OutOfMemory,
+}
+
+impl Status {
+    /// The program's exit status.
+    pub fn number(self) -> u8
+        ensures { result ≡ status_number self }
+    {
+        match self {
+            Status::Done => 0,
+            Status::SomeRefused => 1,
+            Status::Usage => 2,
+            Status::InputRefused => 3,
+            Status::ReadFault => 4,
+            Status::WriteFault => 5,
+            Status::OutOfMemory => 6,
+        }
+    }
 }

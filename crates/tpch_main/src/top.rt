@@ -1,16 +1,17 @@
 //! The top call.
-ghost use Rattle.std.specs.Prelude.{◌≡◌, ◌≢◌, ◌≤◌, ◌⊎◌, ℕ, List, Some, IfOk, IsErrOf, map};
+ghost use Rattle.std.specs.Prelude.{◌≡◌, ◌≢◌, ◌≤◌, ◌⊎◌, ℕ, List, Some, IfErr, IfOk, IsErrOf, map};
 ghost use Rattle.std.specs.Io.KnownBytes.{Appends, Keeps};
 ghost use Rattle.std.specs.String.{string_bytes};
 ghost use Rattle.tpch_outside.specs.Outside.{AppendsPart, Rose};
 ghost use Rattle.tpch_main.specs.Meaning.{IsAbsentInput, IsAccepted, IsAnswer, MayPrint, Prints};
-ghost use Rattle.tpch_main.specs.Views.{command_view};
+ghost use Rattle.tpch_main.specs.Views.{IsAbsence, IsTextOf, command_view};
 ghost use Rattle.tpch_main.specs.Words.{command_of};
-ghost use Rattle.tpch_main.specs.Words.Command.{session};
 
 use crate::Status;
+use crate::check::check_text;
 use crate::input::{InputError, line};
-use crate::output::{Stop, told};
+use crate::output::{Stop, write_text};
+use crate::session::session_text;
 use crate::words::{Command, read_words};
 use std::alloc::Global;
 use std::sync::Wait;
@@ -20,35 +21,27 @@ use tpch_outside::{Files, Gate, Sink};
 static USAGE: &[u8] =
     b"usage: tpch session DIR SCRIPT, throughput DIR JOB, explain SCRIPT, check DIR, trial N\n";
 
-/// The text and the status of a session, refused or not.
-fn print_session<F: Files>(
+/// The text of a command over its files.
+fn command_text<F: Files>(
     alloc: Global,
     files: &mut F,
-    folder: &str,
-    script: &str,
-) -> Result<(Vec<u8>, Status), Stop>
-    ensures prints { IfOk result (λ printed. IsAnswer printed.1
-        × Prints (Some (session folder.now script.now)) (F.held files.old) printed.0.items printed.1) }
+    command: &Command<'_>,
+) -> Result<Vec<u8>, InputError>
+    ensures text { IsTextOf (command_view command.now) (F.held files.old) result }
     ensures held { F.held files.new ≡ F.held files.old }
-    ensures fault { IsErrOf result Stop.Fault → Rose (F.faults files.old) (F.faults files.new) }
-    ensures absent { IfOk result (λ printed. IsAbsentInput (Some (session folder.now script.now)) (F.held files.old)
-        → Rose (F.misses files.old) (F.misses files.new)) }
+    ensures fault { IsErrOf result InputError.Fault → Rose (F.faults files.old) (F.faults files.new) }
+    ensures absent { IfErr result (λ e. IsAbsence e → Rose (F.misses files.old) (F.misses files.new)) }
     ensures faults { F.faults files.old ≤ F.faults files.new }
     ensures misses { F.misses files.old ≤ F.misses files.new }
 {
-    match crate::session::session(alloc, files, folder, script) {
-        Ok(text) => Ok((text, Status::Done)),
-        Err(InputError::Refused(refusal)) => {
-            let text = line(alloc, &refusal)?;
-            Ok((text, Status::InputRefused))
-        }
-        Err(InputError::Fault) => Err(Stop::Fault),
-        Err(InputError::Memory) => Err(Stop::Memory),
+    match command {
+        Command::Session { folder, script } => session_text(alloc, files, folder, script),
+        Command::Check { folder } => check_text(alloc, files, folder),
     }
 }
 
-/// The text and the status of a command.
-fn answer<F: Files>(
+/// What a command prints, and its status: its text, or the line of its first refused input.
+fn printed<F: Files>(
     alloc: Global,
     files: &mut F,
     command: &Command<'_>,
@@ -62,8 +55,14 @@ fn answer<F: Files>(
     ensures faults { F.faults files.old ≤ F.faults files.new }
     ensures misses { F.misses files.old ≤ F.misses files.new }
 {
-    match command {
-        Command::Session { folder, script } => print_session(alloc, files, folder, script),
+    match command_text(alloc, files, command) {
+        Ok(text) => Ok((text, Status::Done)),
+        Err(InputError::Refused(refusal)) => {
+            let text = line(alloc, &refusal)?;
+            Ok((text, Status::InputRefused))
+        }
+        Err(InputError::Fault) => Err(Stop::Fault),
+        Err(InputError::Memory) => Err(Stop::Memory),
     }
 }
 
@@ -113,10 +112,10 @@ pub fn tpch<R: Threads + Wait + Sync, F: Files, S: Sink, G: Gate + Sync>(
         × (S.faults out.old ≤ S.faults out.new) }
 {
     let Some(command) = read_words(words) else {
-        return told(out, USAGE, Status::Usage);
+        return write_text(out, USAGE, Status::Usage);
     };
-    match answer(alloc, files, &command) {
-        Ok((text, status)) => told(out, text.as_slice(), status),
+    match printed(alloc, files, &command) {
+        Ok((text, status)) => write_text(out, text.as_slice(), status),
         Err(Stop::Fault) => Status::ReadFault,
         Err(Stop::Memory) => Status::OutOfMemory,
     }

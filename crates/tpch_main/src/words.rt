@@ -9,6 +9,8 @@ ghost use Rattle.tpch_main.specs.Views.{command_view};
 pub enum Command<'a> {
     /// The script's statement over the tables of the folder.
     Session { folder: &'a str, script: &'a str },
+    /// How many rows the tables of the folder have.
+    Check { folder: &'a str },
 }
 
 /// Whether the word begins with a minus.
@@ -22,12 +24,21 @@ fn is_option(word: &str) -> bool
 pub fn read_words(words: &[String]) -> Option<Command<'_>>
     ensures { option_map command_view result ≡ command_of (map string_bytes words.now) }
 {
-    let [name, folder, script] = words else {
-        return None;
-    };
-    let (folder, script) = (folder.as_str(), script.as_str());
-    if name.as_str() != "session" || is_option(folder) || is_option(script) {
-        return None;
+    match words {
+        [name, folder, script] => {
+            let (folder, script) = (folder.as_str(), script.as_str());
+            if name.as_str() != "session" || is_option(folder) || is_option(script) {
+                return None;
+            }
+            Some(Command::Session { folder, script })
+        }
+        [name, folder] => {
+            let folder = folder.as_str();
+            if name.as_str() != "check" || is_option(folder) {
+                return None;
+            }
+            Some(Command::Check { folder })
+        }
+        _ => None,
     }
-    Some(Command::Session { folder, script })
 }

@@ -1,0 +1,116 @@
+//! Reading the eight tables of a folder.
+ghost use Rattle.std.specs.Prelude.{◌≡◌, ℕ, ◌<◌, ◌≤◌, List, [], ◌++◌, IfErr, IfOk, IsErrOf, MatchResult, length, map, slice_index_or};
+ghost use Rattle.std.specs.String.{string_bytes};
+ghost use Rattle.std.specs.Vec.{vec_items};
+ghost use Rattle.table_state.specs.Lists.{IsOfKinds, state_of};
+ghost use Rattle.tbl_reader.specs.Fault.{IsFaultOf};
+ghost use Rattle.tbl_reader.specs.File.{file_rows, most_bytes};
+ghost use Rattle.tpch_outside.specs.Outside.{Rose};
+ghost use Rattle.tpch_schema.specs.Kinds.{RowsAreOf};
+ghost use Rattle.tpch_schema.specs.Tables.{all_tables};
+ghost use Rattle.tpch_main.specs.Front.{IsFront};
+ghost use Rattle.tpch_main.specs.Lists.{AreOf};
+ghost use Rattle.tpch_main.specs.Inputs.{lists_in, state_in, table_file, table_in};
+ghost use Rattle.tpch_main.specs.Views.{IsAbsence, Reads};
+
+use crate::input::{Cause, InputError, front, refused};
+use sql_value::Row;
+use std::alloc::{AllocError, Global};
+use table_state::State;
+use tbl_reader::{ReadFault, TableReader};
+use tpch_outside::{Files, Open};
+use tpch_schema::{TABLES, TableName};
+
+/// The most bytes of a table's file.
+const TABLE_LIMIT: usize = 4_294_967_296;
+
+/// The name of a table's file in a folder.
+fn file_name(alloc: Global, folder: &str, table: TableName) -> Result<String, AllocError>
+    ensures { IfOk result (λ name. string_bytes name ≡ table_file folder.now table) }
+{
+    let mut name = String::from_str(alloc, folder)?;
+    name.push_str("/")?;
+    name.push_str(table.name())?;
+    name.push_str(".tbl")?;
+    Ok(name)
+}
+
+/// The rows of a table's file of which these bytes are the front.
+fn rows_of(alloc: Global, table: TableName, bytes: &[u8]) -> Result<Vec<Row>, ReadFault>
+    ensures rows { (text : List ℕ) → IsFront most_bytes text bytes.now
+        → MatchResult result (λ rows. file_rows table most_bytes text ≡ Ok rows.items) (IsFaultOf (file_rows table most_bytes text)) }
+    ensures kinds { IfOk result (λ rows. RowsAreOf table rows.items) }
+{
+    let mut reader = TableReader::new(alloc, table)?;
+    match reader.feed(bytes) {
+        Ok(()) => reader.finish(),
+        Err(fault) => Err(fault),
+    }
+}
+
+/// The rows of the table in the folder.
+fn read_table<F: Files>(
+    alloc: Global,
+    files: &mut F,
+    folder: &str,
+    table: TableName,
+) -> Result<Vec<Row>, InputError>
+    ensures input { Reads vec_items (F.held files.old) (table_in folder.now table) result }
+    ensures kinds { IfOk result (λ rows. RowsAreOf table rows.items) }
+    ensures held { F.held files.new ≡ F.held files.old }
+    ensures fault { IsErrOf result InputError.Fault → Rose (F.faults files.old) (F.faults files.new) }
+    ensures absent { IfErr result (λ e. IsAbsence e → Rose (F.misses files.old) (F.misses files.new)) }
+    ensures faults { F.faults files.old ≤ F.faults files.new }
+    ensures misses { F.misses files.old ≤ F.misses files.new }
+{
+    let name = file_name(alloc, folder, table)?;
+    match files.open(&name) {
+        Open::Failed => Err(InputError::Fault),
+        Open::Absent => Err(refused(alloc, &name, Cause::Absent)),
+        Open::Opened => {
+            let bytes = front(alloc, files, TABLE_LIMIT)?;
+            match rows_of(alloc, table, &bytes) {
+                Ok(rows) => Ok(rows),
+                Err(ReadFault::Refused(first)) => Err(refused(alloc, &name, Cause::Line(first))),
+                Err(ReadFault::OutOfMemory) => Err(InputError::Memory),
+            }
+        }
+    }
+}
+
+/// The rows of each of the tables in the folder.
+fn read_tables<F: Files>(
+    alloc: Global,
+    files: &mut F,
+    folder: &str,
+    names: &[TableName],
+) -> Result<Vec<Vec<Row>>, InputError>
+    ensures input { Reads (λ tables. map vec_items tables.items) (F.held files.old) (lists_in folder.now names.now) result }
+    ensures length { IfOk result (λ tables. length tables.items ≡ length names.now) }
+    ensures kinds { IfOk result (λ tables. AreOf names.now (map vec_items tables.items)) }
+    ensures held { F.held files.new ≡ F.held files.old }
+    ensures fault { IsErrOf result InputError.Fault → Rose (F.faults files.old) (F.faults files.new) }
+    ensures absent { IfErr result (λ e. IsAbsence e → Rose (F.misses files.old) (F.misses files.new)) }
+    ensures faults { F.faults files.old ≤ F.faults files.new }
+    ensures misses { F.misses files.old ≤ F.misses files.new }
+{
+    let mut tables = Vec::new(alloc);
+    for name in names {
+        let rows = read_table(alloc, files, folder, *name)?;
+        tables.push(rows)?;
+    }
+    Ok(tables)
+}
+
+/// The tables of the folder.
+pub fn read_state<F: Files>(alloc: Global, files: &mut F, folder: &str) -> Result<State, InputError>
+    ensures input { Reads (λ state. state) (F.held files.old) (state_in folder.now) result }
+    ensures held { F.held files.new ≡ F.held files.old }
+    ensures fault { IsErrOf result InputError.Fault → Rose (F.faults files.old) (F.faults files.new) }
+    ensures absent { IfErr result (λ e. IsAbsence e → Rose (F.misses files.old) (F.misses files.new)) }
+    ensures faults { F.faults files.old ≤ F.faults files.new }
+    ensures misses { F.misses files.old ≤ F.misses files.new }
+{
+    let tables = read_tables(alloc, files, folder, &TABLES)?;
+    Ok(State::new(tables))
+}
