@@ -1,3 +1,10 @@
+mod WordsRead
+mod WordsExamples
+mod WordsGiven
+mod WordsWalk
+mod WordsTop
+mod WordsMeaning
+mod WordsLaw
 mod Digits
 mod Pieces
 mod Telling

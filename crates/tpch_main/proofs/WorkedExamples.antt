@@ -23,10 +23,6 @@ answered = (two_names, record { same = IsPermutation-reverse (value.Text (codes 
 pub examples : Examples
 unfolding file_rows
 examples = record {
-  command = refl;
-  no_script = refl;
-  option = refl;
-  counts = refl;
   script = refl;
   line = refl;
   unended = refl;

@@ -8,8 +8,6 @@ use Rattle.tpch_main.specs.Answer.{IsAnswerText}
 use Rattle.tpch_main.specs.Counts.{counts_text}
 use Rattle.tpch_main.specs.Inputs.{Refused, refusal_line, session_inputs, state_in}
 use Rattle.tpch_main.specs.Script.{script_of}
-use Rattle.tpch_main.specs.Words.{command_of}
-use Rattle.tpch_main.specs.Words.Command.{check, session}
 use Rattle.tpch_main.specs.declared.input.Cause.{Cause}
 use Rattle.tpch_main.specs.declared.input.Cause.TheVariants as cause
 use Rattle.tpch_main.specs.declared.statement.Column.TheVariants as column
@@ -43,11 +41,6 @@ abbrev pub refused : {A : Type 0} → List ℕ → Cause → Result A Refused
 refused name why = Err (record { name = name; cause = why })
 
 pub record Examples : Type 0 where
-  -- words are a command where they are of the right kind and number
-  pub command : command_of (codes "session" ∷ codes "d" ∷ codes "s" ∷ []) ≡ Some (session (codes "d") (codes "s"))
-  pub no_script : command_of (codes "session" ∷ codes "d" ∷ []) ≡ None
-  pub option : command_of (codes "session" ∷ codes "-d" ∷ codes "s" ∷ []) ≡ None
-  pub counts : command_of (codes "check" ∷ codes "d" ∷ []) ≡ Some (check (codes "d"))
   -- a script is a statement with its semicolon, and with one LF behind it or none
   pub script : script_of (codes "select r_name from region where r_regionkey < 2;") ≡ Some names_below_two
   pub line : script_of (codes "select r_name from region where r_regionkey < 002;\n") ≡ Some names_below_two

@@ -1,5 +1,7 @@
+pub mod Subcommands
 pub mod Words
 pub mod Status
+pub mod WordLaws
 pub mod Script
 pub mod Answer
 pub mod Counts

@@ -14,6 +14,7 @@ mod tables;
 #[cfg(test)]
 mod tests;
 mod top;
+pub mod word_laws;
 mod words;
 
 pub use status::Status;

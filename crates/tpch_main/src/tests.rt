@@ -2,6 +2,7 @@
 mod outside;
 mod sessions;
 mod tables;
+mod words;
 
 use crate::{Status, tpch};
 use std::alloc::{AllocError, Global};

@@ -111,7 +111,10 @@ pub fn tpch<R: Threads + Wait + Sync, F: Files, S: Sink, G: Gate + Sync>(
     ensures counts { (F.faults files.old ≤ F.faults files.new) × (F.misses files.old ≤ F.misses files.new)
         × (S.faults out.old ≤ S.faults out.new) }
 {
-    let Some(command) = read_words(words) else {
+    let Ok(read) = read_words(alloc, words) else {
+        return Status::OutOfMemory;
+    };
+    let Some(command) = read else {
         return write_text(out, USAGE, Status::Usage);
     };
     match printed(alloc, files, &command) {

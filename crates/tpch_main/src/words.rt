@@ -1,8 +1,17 @@
-//! The words of the command line.
-ghost use Rattle.std.specs.Prelude.{◌≡◌, Option, Some, map, option_map};
+//! The words of the command line, as clap reads them.
+ghost use Rattle.std.specs.Prelude.{◌≡◌, IfOk, map, option_map};
+ghost use Rattle.std.specs.Option.{option_and_then};
 ghost use Rattle.std.specs.String.{string_bytes};
-ghost use Rattle.tpch_main.specs.Words.{command_of, starts_with_minus};
+ghost use Rattle.clap.specs.Words.{first_of, found_of, rows_of, subcommand_rows_of};
+ghost use Rattle.tpch_main.specs.Words.{command_in, command_of};
 ghost use Rattle.tpch_main.specs.Views.{command_view};
+
+mod subcommands;
+
+use clap::ArgMatches;
+use clap::error::ErrorKind;
+use std::alloc::{AllocError, Global};
+use subcommands::program;
 
 /// What the words ask for.
 #[derive(Clone, Copy, Debug)]
@@ -13,32 +22,48 @@ pub enum Command<'a> {
     Check { folder: &'a str },
 }
 
-/// Whether the word begins with a minus.
-fn is_option(word: &str) -> bool
-    ensures { result ≡ starts_with_minus word.now }
+/// The value of an argument.
+fn value<'a>(found: &ArgMatches<'a>, name: &str) -> Option<&'a str>
+    ensures { option_map (λ text. text.now) result ≡ first_of name.now (rows_of (found_of found.now)) }
 {
-    matches!(word.as_bytes(), [b'-', ..])
+    found.get_str(name)
 }
 
-/// The command that the words are, if they are one.
-pub fn read_words(words: &[String]) -> Option<Command<'_>>
-    ensures { option_map command_view result ≡ command_of (map string_bytes words.now) }
+/// The command of a subcommand's name and of what clap found for its arguments.
+fn command_in<'a>(name: &str, found: &ArgMatches<'a>) -> Option<Command<'a>>
+    ensures { option_map command_view result ≡ command_in (name.now, rows_of (found_of found.now)) }
 {
-    match words {
-        [name, folder, script] => {
-            let (folder, script) = (folder.as_str(), script.as_str());
-            if name.as_str() != "session" || is_option(folder) || is_option(script) {
-                return None;
-            }
+    match name {
+        "session" => {
+            let folder = value(found, "DIR")?;
+            let script = value(found, "SCRIPT")?;
             Some(Command::Session { folder, script })
         }
-        [name, folder] => {
-            let folder = folder.as_str();
-            if name.as_str() != "check" || is_option(folder) {
-                return None;
-            }
+        "check" => {
+            let folder = value(found, "DIR")?;
             Some(Command::Check { folder })
         }
         _ => None,
+    }
+}
+
+/// The command that clap found.
+fn command_found<'a>(found: &ArgMatches<'a>) -> Option<Command<'a>>
+    ensures { option_map command_view result ≡ option_and_then command_in (subcommand_rows_of found.now) }
+{
+    let (name, found) = found.subcommand()?;
+    command_in(name, found)
+}
+
+/// The command that the words are, if they are one; clap's own texts are left out.
+pub fn read_words<'a>(alloc: Global, words: &'a [String]) -> Result<Option<Command<'a>>, AllocError>
+    ensures { IfOk result (λ read. option_map command_view read ≡ command_of (map string_bytes words.entry.now)) }
+{
+    match program(alloc)?.try_get_matches_from(words) {
+        Ok(found) => Ok(command_found(&found)),
+        Err(error) => match error.kind() {
+            ErrorKind::OutOfMemory => Err(AllocError),
+            _ => Ok(None),
+        },
     }
 }

@@ -36,32 +36,6 @@ fn refuses_absent_files(rt: HostRuntime) -> Result<(), Fail> {
 }
 
 #[test]
-fn refuses_words(rt: HostRuntime) -> Result<(), Fail> {
-    let alloc = rt.alloc();
-    let files = files_of(alloc, &[], &[])?;
-    expect_run(
-        &rt,
-        alloc,
-        &["session", "d"],
-        files,
-        sink(alloc),
-        Status::Usage,
-        USAGE,
-    )?;
-    let files = files_of(alloc, &[], &[])?;
-    expect_run(
-        &rt,
-        alloc,
-        &["session", "-d", "s"],
-        files,
-        sink(alloc),
-        Status::Usage,
-        USAGE,
-    )?;
-    Ok(())
-}
-
-#[test]
 fn ends_at_a_reading_fault(rt: HostRuntime) -> Result<(), Fail> {
     let alloc = rt.alloc();
     for call in 1..21 {

@@ -7,28 +7,28 @@ use Rattle.tpch_main.specs.Words.{Command, command_of, usage_line}
 use Rattle.tpch_main.specs.declared.status.Status.TheVariants as status
 use Rattle.tpch_main.proofs.top.tpch.Goals as goal
 
-pub returns-in-Ok-clause-answer : goal.returns-in-Ok-clause-answer
-returns-in-Ok-clause-answer g c =
+pub returns-in-Ok-answer-clause-answer : goal.returns-in-Ok-answer-clause-answer
+returns-in-Ok-answer-clause-answer g c =
     let is : command_of (map string_bytes c.args.words.now) ≡ Some (command_view c.in-Some.command) = search rules in
     answered (command_of (map string_bytes c.args.words.now)) (command_view c.in-Some.command) (g.F.Files.held c.args.files.now) c.in-Ok.text.items c.as_slice.result.now c.in-Ok.status c.write_text-in-Ok.result (g.S.Sink.taken c.args.out.now) (g.S.Sink.taken c.write_text-in-Ok.new.out)
     is c.in-Ok.ensures.prints.1 c.as_slice.ensures.value c.write_text-in-Ok.ensures.whole
 
-pub returns-in-Ok-clause-complete : goal.returns-in-Ok-clause-complete
-returns-in-Ok-clause-complete g c =
+pub returns-in-Ok-answer-clause-complete : goal.returns-in-Ok-answer-clause-complete
+returns-in-Ok-answer-clause-complete g c =
     let is : command_of (map string_bytes c.args.words.now) ≡ Some (command_view c.in-Some.command) = search rules in
     let held = g.F.Files.held c.args.files.now in
     λ accepted no_read no_write no_memory.
     let done = accepted_done (command_view c.in-Some.command) held c.in-Ok.text.items c.in-Ok.status c.in-Ok.ensures.prints.1 (subst (λ (k : Option Command). IsAccepted k held) is accepted) in
     completed c.in-Ok.status c.write_text-in-Ok.result done (λ answer. (c.write_text-in-Ok.ensures.whole answer).0) (λ written. no_write (c.write_text-in-Ok.ensures.fault written)) c.write_text-in-Ok.ensures.other no_memory
 
-pub returns-in_default-clause-write : goal.returns-in_default-clause-write
-returns-in_default-clause-write g c =
+pub returns-in_default-read-clause-write : goal.returns-in_default-read-clause-write
+returns-in_default-read-clause-write g c =
     let none : command_of (map string_bytes c.args.words.now) ≡ None = search rules in
     let may = subst (λ (k : Option Command). MayPrint k (g.F.Files.held c.args.files.now) usage_line) (sym none) (status.Usage, (refl, refl)) in
     λ e. (c.write_text.ensures.fault e, (usage_line, may, c.write_text.ensures.part))
 
-pub returns-in_default-clause-memory : goal.returns-in_default-clause-memory
-returns-in_default-clause-memory g c =
+pub returns-in_default-read-clause-memory : goal.returns-in_default-read-clause-memory
+returns-in_default-read-clause-memory g c =
     let none : command_of (map string_bytes c.args.words.now) ≡ None = search rules in
     let may = subst (λ (k : Option Command). MayPrint k (g.F.Files.held c.args.files.now) usage_line) (sym none) (status.Usage, (refl, refl)) in
     λ e. inr (usage_line, may, c.write_text.ensures.part)

@@ -1,0 +1,75 @@
+-- What words mean, by the values that are given.
+use Rattle.std.proofs.Common.{◌≡◌, ◌∙◌, List, [], ◌∷◌, Option, None, Some, IsSome, false, true≢false, ap, ap₂, codes, cond, refl, sym}
+use Rattle.std.specs.Option.{option_and_then}
+use Rattle.clap.proofs.OnLiterals.{clap_on_literals}
+use Rattle.clap.specs.Faults.{fault_of, level_fault, walk_fault}
+use Rattle.clap.specs.Kinds.{Kinds, or_else}
+use Rattle.clap.specs.Simple.{Shape, subcommand_of}
+use Rattle.clap.specs.Walk.{Held, Row, Text, finished, is_empty, nothing_held, rows_after}
+use Rattle.tpch_main.proofs.WordsGiven.{given, or_else_some, values_fault, values_held}
+use Rattle.tpch_main.proofs.WordsTop.{check_faults, check_placed, check_rows, end_fault, leaf, session_faults, session_placed, session_rows, start}
+use Rattle.tpch_main.proofs.WordsWalk.{Walks, WalksAs, walks}
+use Rattle.tpch_main.specs.Subcommands.{program_app}
+use Rattle.tpch_main.specs.WordLaws.{command_with}
+use Rattle.tpch_main.specs.Words.{Command, command_in, command_of}
+
+-- the words are that command, and where clap finds no fault they are one
+pub record Means (words : List Text) (command : Option Command) : Type 0 where
+  pub is : command_of words ≡ command
+  pub accepted : fault_of program_app words ≡ [] → IsSome command
+
+pub refused_means : (words : List Text) (command : Option Command) → is_empty (fault_of program_app words) ≡ false → command ≡ None → Means words command
+refused_means words command fault none = record {
+  is = ap (λ b. cond b (option_and_then command_in (subcommand_of program_app words)) None) fault ∙ sym none;
+  accepted = λ empty. absurd (true≢false (sym (ap is_empty empty) ∙ fault));
+}
+
+taken_means : (words : List Text) (command : Command) → fault_of program_app words ≡ [] → option_and_then command_in (subcommand_of program_app words) ≡ Some command → Means words (Some command)
+taken_means words command none found = record {
+  is = ap (λ ks. cond (is_empty ks) (option_and_then command_in (subcommand_of program_app words)) None) none ∙ found;
+  accepted = λ empty. refl;
+}
+
+-- ---- a subcommand, by its values
+
+-- the faults of a subcommand's words are those of the values
+by_values : (s : Shape) (words values : List Text) → Walks s [] start words (values_fault s nothing_held 1 values) (values_held s.rules nothing_held 1 values)
+    → level_fault s [] nothing_held words false [] ≡ or_else (values_fault s nothing_held 1 values) (end_fault s (values_held s.rules nothing_held 1 values))
+by_values s words values walk = ap₂ (λ (ks : Kinds) (h : Held). or_else ks (end_fault s h)) walk.fault walk.held
+
+-- and so are the rows
+rows_by_values : (s : Shape) (words values : List Text) → Walks s [] start words (values_fault s nothing_held 1 values) (values_held s.rules nothing_held 1 values)
+    → rows_after s.rules [] words ≡ finished s.rules (values_held s.rules nothing_held 1 values)
+rows_by_values s words values walk = ap (finished s.rules) walk.held
+
+session_values : (words values : List Text) → WalksAs (leaf (codes "session")) nothing_held 1 words (Some values) → Means (codes "session" ∷ words) (command_with (codes "session") values)
+unfolding clap_on_literals
+session_values words [] walk = refused_means _ _ (ap is_empty (session_faults words ∙ by_values (leaf (codes "session")) words [] walk)) refl
+session_values words (folder ∷ []) walk = refused_means _ _ (ap is_empty (session_faults words ∙ by_values (leaf (codes "session")) words (folder ∷ []) walk)) refl
+session_values words (folder ∷ script ∷ []) walk =
+    taken_means _ _ (session_faults words ∙ by_values (leaf (codes "session")) words (folder ∷ script ∷ []) walk)
+    (ap (option_and_then command_in) (session_rows words) ∙ ap (λ (rows : List Row). command_in (codes "session", rows)) (rows_by_values (leaf (codes "session")) words (folder ∷ script ∷ []) walk))
+session_values words (folder ∷ script ∷ more ∷ others) walk = refused_means _ _ (ap is_empty (session_faults words ∙ by_values (leaf (codes "session")) words (folder ∷ script ∷ more ∷ others) walk)) refl
+
+pub session_means : (words : List Text) → Means (codes "session" ∷ words) (option_and_then (command_with (codes "session")) (given words))
+session_means words = by (given words) (walks (leaf (codes "session")) session_placed words nothing_held 1 refl)
+  where
+    by : (values : Option (List Text)) → WalksAs (leaf (codes "session")) nothing_held 1 words values → Means (codes "session" ∷ words) (option_and_then (command_with (codes "session")) values)
+    by None fault = refused_means _ _ (ap is_empty (session_faults words) ∙ or_else_some (walk_fault (leaf (codes "session")) [] start words) _ fault) refl
+    by (Some values) walk = session_values words values walk
+
+check_values : (words values : List Text) → WalksAs (leaf (codes "check")) nothing_held 1 words (Some values) → Means (codes "check" ∷ words) (command_with (codes "check") values)
+unfolding clap_on_literals
+check_values words [] walk = refused_means _ _ (ap is_empty (check_faults words ∙ by_values (leaf (codes "check")) words [] walk)) refl
+check_values words (folder ∷ []) walk =
+    taken_means _ _ (check_faults words ∙ by_values (leaf (codes "check")) words (folder ∷ []) walk)
+    (ap (option_and_then command_in) (check_rows words) ∙ ap (λ (rows : List Row). command_in (codes "check", rows)) (rows_by_values (leaf (codes "check")) words (folder ∷ []) walk))
+check_values words (folder ∷ more ∷ []) walk = refused_means _ _ (ap is_empty (check_faults words ∙ by_values (leaf (codes "check")) words (folder ∷ more ∷ []) walk)) refl
+check_values words (folder ∷ more ∷ again ∷ others) walk = refused_means _ _ (ap is_empty (check_faults words ∙ by_values (leaf (codes "check")) words (folder ∷ more ∷ again ∷ others) walk)) refl
+
+pub check_means : (words : List Text) → Means (codes "check" ∷ words) (option_and_then (command_with (codes "check")) (given words))
+check_means words = by (given words) (walks (leaf (codes "check")) check_placed words nothing_held 1 refl)
+  where
+    by : (values : Option (List Text)) → WalksAs (leaf (codes "check")) nothing_held 1 words values → Means (codes "check" ∷ words) (option_and_then (command_with (codes "check")) values)
+    by None fault = refused_means _ _ (ap is_empty (check_faults words) ∙ or_else_some (walk_fault (leaf (codes "check")) [] start words) _ fault) refl
+    by (Some values) walk = check_values words values walk

@@ -1,0 +1,24 @@
+-- The program's subcommands as clap is told of them. An `App` is what clap reads of a command, and a `Rule` what it reads of an argument.
+use Rattle.std.specs.Prelude.{ℕ, List, true, codes}
+use Rattle.clap.specs.Simple.{on_top}
+use Rattle.clap.specs.Words.{App, Rule, new_app, new_rule, with_rule, with_subcommand}
+
+-- an argument that has to be there, and is known by its place among the words
+abbrev pub wanted : List ℕ → Rule
+wanted name = record (new_rule name) { required = true }
+
+-- `session DIR SCRIPT`
+abbrev pub session_app : App
+session_app = with_rule (with_rule (new_app (codes "session")) (wanted (codes "DIR"))) (wanted (codes "SCRIPT"))
+
+-- `check DIR`
+abbrev pub check_app : App
+check_app = with_rule (new_app (codes "check")) (wanted (codes "DIR"))
+
+-- the program, whose words begin with the name of a subcommand
+abbrev pub bare_app : App
+bare_app = on_top (λ s. record s { no_binary_name = true; subcommand_required = true }) (new_app (codes "tpch"))
+
+-- the program with its subcommands
+abbrev pub program_app : App
+program_app = with_subcommand (with_subcommand bare_app session_app.top) check_app.top
