@@ -51,6 +51,7 @@ command_by_values (name ∷ words) = option_and_then (command_with name) (values
 abbrev pub ValuesLaw : Type 0
 ValuesLaw = (words : List Text) → All IsUtf8 words → command_of words ≡ command_by_values words
 
+-- lists of words that were worked out by hand
 pub record WordExamples : Type 0 where
   -- a subcommand with just its values
   pub session_read : command_of (codes "session" ∷ codes "d" ∷ codes "s" ∷ []) ≡ Some (session (codes "d") (codes "s"))
