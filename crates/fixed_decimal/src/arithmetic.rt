@@ -33,11 +33,14 @@ fn times(a: i128, b: i128) -> Result<i128, NumberFault>
 }
 
 /// The coefficient at a scale that is no less; NumberRange where it leaves 128 bits.
-#[tactic(auto, unfolding(crate::specs::Decimal::rescaled))]
+#[tactic(auto, unfolding(crate::specs::Decimal::rescaled), using(crate::proofs::Powers::same_scale))]
 pub fn rescale(a: i128, from: Scale, to: Scale) -> Result<i128, NumberFault>
     requires { from ≤ to }
     ensures { result ≡ rescaled a from to }
 {
+    if from == to {
+        return Ok(a);
+    }
     times(a, signed_power(to.places() - from.places()))
 }
 

@@ -1,3 +1,4 @@
+pub mod ExampleProofs
 pub mod Induction
 pub mod LawProofs
 pub mod Loops

@@ -16,10 +16,10 @@ use Rattle.scalar_expr.specs.Typing.Sort.{Unfit, Nulls, Of}
 use Rattle.scalar_expr.specs.Meaning.{least, greatest, in_list, decided, first_of}
 use Rattle.scalar_expr.specs.Operators.{computed, negative, at_scale, extracted, part_of, compared, between, liked, null_test, fault_truth, truth_of_mark}
 
-abbrev whole : ℕ → Value
+abbrev pub whole : ℕ → Value
 whole n = Number 0 (pos n)
 
-abbrev true_truth : Truth
+abbrev pub true_truth : Truth
 true_truth = Stands AtTrue
 
 -- 2 / 3, -2 / 3, 1 / 0; 1.5 + 2, 1.5 * 2.25; past 2^127 - 1; null before a fault, and the least fault

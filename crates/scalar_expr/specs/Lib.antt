@@ -1,4 +1,5 @@
 pub mod Cases
+pub mod Examples
 pub mod Laws
 pub mod Meaning
 pub mod Operators

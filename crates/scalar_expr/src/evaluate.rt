@@ -52,53 +52,7 @@ fn operand<'a>(alloc: Global, e: &'a Expr, row: &'a [Value]) -> Result<Cow<'a, V
     }
 }
 
-// The same of any node. A chain and a CASE give a value where it lies if that is what they come to.
-#[cycle(eval)]
-#[tactic(auto, using(crate::proofs::Opened::values_opened))]
-fn made<'a>(alloc: Global, e: &'a Expr, row: &'a [Value]) -> Result<Cow<'a, Value>, AllocError>
-    ensures { IfOk result (λ v. cow_value v ≡ value e.now row.now) }
-{
-    match e {
-        Expr::Column(place) => Ok(column(*place, row)),
-        Expr::Literal(v) => Ok(Cow::Borrowed(v)),
-        Expr::Negative(e) => {
-            let x = operand(alloc, e.get(), row)?;
-            Ok(Cow::Owned(negative(&x)))
-        }
-        Expr::Arithmetic(first, operations) => {
-            let x = operand(alloc, first.get(), row)?;
-            let v = operated(alloc, x, operations.as_slice(), row)?;
-            Ok(v)
-        }
-        Expr::Case(scale, branches, other) => match chosen(alloc, branches.as_slice(), row)? {
-            Some(v) => Ok(at_scale(*scale, v)),
-            None => {
-                let v = operand(alloc, other.get(), row)?;
-                Ok(at_scale(*scale, v))
-            }
-        },
-        Expr::Extract(part, e) => {
-            let x = operand(alloc, e.get(), row)?;
-            Ok(Cow::Owned(extracted(*part, &x)))
-        }
-        Expr::Substring(e, from, count) => {
-            let x = operand(alloc, e.get(), row)?;
-            let part = part_of(alloc, &x, *from, *count)?;
-            Ok(Cow::Owned(part))
-        }
-        Expr::Compare(_, _, _)
-        | Expr::Between(_, _, _)
-        | Expr::Like(_, _)
-        | Expr::InList(_, _)
-        | Expr::IsNull(_)
-        | Expr::Not(_)
-        | Expr::All(_)
-        | Expr::Any(_)
-        | Expr::Holds(_) => Ok(Cow::Owned(Value::Null)),
-    }
-}
-
-// The value of a column or a literal, where it lies: what most comparisons ask for, without a result to be moved.
+// The value of a column or a literal, where it lies: what most nodes ask for, without a result to be moved.
 #[inline]
 #[tactic(auto, using(crate::proofs::Opened::value_Column, crate::proofs::Opened::value_Literal))]
 fn at_hand<'a>(e: &'a Expr, row: &'a [Value]) -> Option<&'a Value>
@@ -118,6 +72,43 @@ fn column<'a>(place: u32, row: &'a [Value]) -> Cow<'a, Value>
     match row.get(place as usize) {
         Some(v) => Cow::Borrowed(v),
         None => Cow::Owned(Value::Null),
+    }
+}
+
+// The value of any node.
+#[cycle(eval)]
+#[tactic(auto, using(crate::proofs::Opened::values_opened))]
+fn made<'a>(alloc: Global, e: &'a Expr, row: &'a [Value]) -> Result<Cow<'a, Value>, AllocError>
+    ensures { IfOk result (λ v. cow_value v ≡ value e.now row.now) }
+{
+    match e {
+        Expr::Column(place) => Ok(column(*place, row)),
+        Expr::Literal(v) => Ok(Cow::Borrowed(v)),
+        Expr::Negative(e) => Ok(Cow::Owned(negative(&*operand(alloc, e.get(), row)?))),
+        Expr::Arithmetic(first, operations) => {
+            let x = operand(alloc, first.get(), row)?;
+            operated(alloc, x, operations.as_slice(), row)
+        }
+        Expr::Case(scale, branches, other) => match chosen(alloc, branches.as_slice(), row)? {
+            Some(v) => Ok(at_scale(*scale, v)),
+            None => Ok(at_scale(*scale, operand(alloc, other.get(), row)?)),
+        },
+        Expr::Extract(part, e) => {
+            Ok(Cow::Owned(extracted(*part, &*operand(alloc, e.get(), row)?)))
+        }
+        Expr::Substring(e, from, count) => {
+            let x = operand(alloc, e.get(), row)?;
+            Ok(Cow::Owned(part_of(alloc, &x, *from, *count)?))
+        }
+        Expr::Compare(_, _, _)
+        | Expr::Between(_, _, _)
+        | Expr::Like(_, _)
+        | Expr::InList(_, _)
+        | Expr::IsNull(_)
+        | Expr::Not(_)
+        | Expr::All(_)
+        | Expr::Any(_)
+        | Expr::Holds(_) => Ok(Cow::Owned(Value::Null)),
     }
 }
 
@@ -165,8 +156,45 @@ fn chosen<'a>(
 
 /// The truth of a condition over a row's values.
 #[cycle(eval)]
-#[tactic(auto, using(crate::proofs::Opened::truths_opened))]
 pub fn truth_slice(alloc: Global, e: &Expr, row: &[Value]) -> Result<Truth, AllocError>
+    ensures { IfOk result (λ t. t ≡ truth e.now row.now) }
+{
+    match truth_at_hand(e, row) {
+        Some(t) => Ok(t),
+        None => tested(alloc, e, row),
+    }
+}
+
+// The truth of a test of columns and literals: what most conditions are made of.
+#[tactic(auto, using(crate::proofs::Opened::truths_opened))]
+fn truth_at_hand(e: &Expr, row: &[Value]) -> Option<Truth>
+    ensures { IfSome result (λ t. t ≡ truth e.now row.now) }
+{
+    match e {
+        Expr::Compare(comparison, a, b) => {
+            let x = at_hand(a.get(), row)?;
+            let y = at_hand(b.get(), row)?;
+            Some(compared(*comparison, x, y))
+        }
+        Expr::Between(e, low, high) => {
+            let x = at_hand(e.get(), row)?;
+            let low = at_hand(low.get(), row)?;
+            let high = at_hand(high.get(), row)?;
+            Some(between(x, low, high))
+        }
+        Expr::Like(e, pattern) => {
+            let x = at_hand(e.get(), row)?;
+            Some(liked(x, pattern))
+        }
+        _ => None,
+    }
+}
+
+// The truth of any node. A function of its own, so that a test at hand does not pay at entry for these locals.
+#[cycle(eval)]
+#[inline(never)]
+#[tactic(auto, using(crate::proofs::Opened::truths_opened))]
+fn tested(alloc: Global, e: &Expr, row: &[Value]) -> Result<Truth, AllocError>
     ensures { IfOk result (λ t. t ≡ truth e.now row.now) }
 {
     match e {
@@ -181,35 +209,16 @@ pub fn truth_slice(alloc: Global, e: &Expr, row: &[Value]) -> Result<Truth, Allo
             let high = operand(alloc, high.get(), row)?;
             Ok(between(&x, &low, &high))
         }
-        Expr::Like(e, pattern) => {
-            let x = operand(alloc, e.get(), row)?;
-            Ok(liked(&x, pattern))
-        }
+        Expr::Like(e, pattern) => Ok(liked(&*operand(alloc, e.get(), row)?, pattern)),
         Expr::InList(e, es) => {
             let x = operand(alloc, e.get(), row)?;
-            let t = equal_to_any(alloc, &x, es.as_slice(), row)?;
-            Ok(t)
+            equal_to_any(alloc, &x, es.as_slice(), row)
         }
-        Expr::IsNull(e) => {
-            let x = operand(alloc, e.get(), row)?;
-            Ok(null_test(&x))
-        }
-        Expr::Not(e) => {
-            let t = truth_slice(alloc, e.get(), row)?;
-            Ok(t.negated())
-        }
-        Expr::All(es) => {
-            let t = least(alloc, es.as_slice(), row)?;
-            Ok(t)
-        }
-        Expr::Any(es) => {
-            let t = greatest(alloc, es.as_slice(), row)?;
-            Ok(t)
-        }
-        Expr::Holds(e) => {
-            let x = operand(alloc, e.get(), row)?;
-            Ok(truth_of_mark(&x))
-        }
+        Expr::IsNull(e) => Ok(null_test(&*operand(alloc, e.get(), row)?)),
+        Expr::Not(e) => Ok(truth_slice(alloc, e.get(), row)?.negated()),
+        Expr::All(es) => least(alloc, es.as_slice(), row),
+        Expr::Any(es) => greatest(alloc, es.as_slice(), row),
+        Expr::Holds(e) => Ok(truth_of_mark(&*operand(alloc, e.get(), row)?)),
         Expr::Column(_)
         | Expr::Literal(_)
         | Expr::Negative(_)

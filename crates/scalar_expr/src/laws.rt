@@ -1,5 +1,6 @@
 //! Laws of the definitions that the contracts cite. Each function does nothing: its contract is the law.
 ghost use Rattle.scalar_expr.specs.Laws.{MarkIsRead, InListIsOr, BetweenIsAnd};
+ghost use Rattle.scalar_expr.specs.Examples.{WorkedNumbers, WorkedValues, WorkedConditions, WorkedTests};
 ghost use Rattle.scalar_expr.specs.Cases.{Arithmetics, Comparisons, Conditions, Cases, Parts, MoreArithmetics, MoreComparisons, MoreConditions, Typings};
 
 /// A truth that was written as a mark is read as the same truth.
@@ -28,4 +29,12 @@ pub fn more_cases()
     ensures comparisons { MoreComparisons }
     ensures conditions { MoreConditions }
     ensures typings { Typings }
+{}
+
+/// Expressions worked out by hand, at least one for each node.
+pub fn worked_examples()
+    ensures numbers { WorkedNumbers }
+    ensures values { WorkedValues }
+    ensures conditions { WorkedConditions }
+    ensures tests { WorkedTests }
 {}
