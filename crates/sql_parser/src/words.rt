@@ -302,11 +302,12 @@ impl<'a> Parser<'a> {
     fn precision(&mut self, room: usize) -> Result<(), Stop>
         ensures { Reads (readings.read_precision room self.old.rest.now) result self.new.rest.now }
     {
-        if self.starts(Kind::OpenParen) {
-            self.opens(room, Kind::OpenParen)?;
-            self.number()?;
-            self.one(Kind::CloseParen)?;
+        if !self.starts(Kind::OpenParen) {
+            return Ok(());
         }
+        self.opens(room, Kind::OpenParen)?;
+        self.number()?;
+        self.one(Kind::CloseParen)?;
         Ok(())
     }
 
