@@ -17,12 +17,12 @@ use crate::input::{Cause, InputError, front, refused};
 use sql_value::Row;
 use std::alloc::{AllocError, Global};
 use table_state::State;
-use tbl_reader::{ReadFault, TableReader};
+use tbl_reader::{MOST_BYTES, ReadFault, TableReader};
 use tpch_outside::{Files, Open};
 use tpch_schema::{TABLES, TableName};
 
 /// The most bytes of a table's file.
-const TABLE_LIMIT: usize = 4_294_967_296;
+const TABLE_LIMIT: usize = MOST_BYTES as usize;
 
 /// The name of a table's file in a folder.
 fn file_name(alloc: Global, folder: &str, table: TableName) -> Result<String, AllocError>

@@ -129,23 +129,3 @@ fn expect_session<R: Threads + Wait + Sync + Abort>(
         text,
     )
 }
-
-/// Checks tables of which only region has rows.
-fn expect_check<R: Threads + Wait + Sync + Abort>(
-    rt: &R,
-    alloc: Global,
-    regions: &str,
-    status: Status,
-    text: &str,
-) -> Result<(), AllocError> {
-    let words = ["check", "d"];
-    expect_over(
-        rt,
-        alloc,
-        &words,
-        SCRIPT,
-        &[("d/region.tbl", regions)],
-        status,
-        text,
-    )
-}

@@ -1,93 +1,90 @@
 //! Checks, and tables that are refused.
 use super::*;
 
+/// Runs both commands over a table of these lines, which is refused so.
+fn expect_refused<R: Threads + Wait + Sync + Abort>(
+    rt: &R,
+    alloc: Global,
+    table: &str,
+    lines: &str,
+    refusal: &str,
+) -> Result<(), AllocError> {
+    let name = format!(in alloc; "d/{table}.tbl")?;
+    let text = format!(in alloc; "input refused {name} {refusal}\n")?;
+    let tables = [(name.as_str(), lines)];
+    let status = Status::InputRefused;
+    expect_over(rt, alloc, &["check", "d"], SCRIPT, &tables, status, &text)?;
+    let words = ["session", "d", "s"];
+    expect_over(rt, alloc, &words, SCRIPT, &tables, status, &text)
+}
+
 #[test]
 fn counts_rows(rt: HostRuntime) -> Result<(), Fail> {
-    for (regions, text) in [
-        ("0|AFRICA|", "region rows 1\n"),
-        ("0|AFRICA||", "region rows 1\n"),
-        ("0|AFRICA|a|\r\n1|AMERICA|b|", "region rows 2\n"),
-        ("", "region rows 0\n"),
+    for (regions, count) in [
+        ("0|AFRICA|", 1),
+        ("0|AFRICA||", 1),
+        ("0|AFRICA|a|\r\n1|AMERICA|b|", 2),
+        ("", 0),
     ] {
-        let mut all = String::from_str(rt.alloc(), text)?;
-        all.push_str("nation rows 0\npart rows 0\nsupplier rows 0\npartsupp rows 0\n")?;
-        all.push_str("customer rows 0\norders rows 0\nlineitem rows 0\n")?;
-        expect_check(&rt, rt.alloc(), regions, Status::Done, all.as_str())?;
+        let text = format!(in rt.alloc();
+            "region rows {count}\nnation rows 0\npart rows 0\nsupplier rows 0\npartsupp rows 0\n\
+            customer rows 0\norders rows 0\nlineitem rows 0\n"
+        )?;
+        let tables = [("d/region.tbl", regions)];
+        let words = ["check", "d"];
+        expect_over(
+            &rt,
+            rt.alloc(),
+            &words,
+            SCRIPT,
+            &tables,
+            Status::Done,
+            &text,
+        )?;
     }
     Ok(())
 }
 
 #[test]
 fn counts_customers(rt: HostRuntime) -> Result<(), Fail> {
-    let customers = [("d/customer.tbl", "1|C1|a|0|p|-0.5|B|c|")];
+    let tables = [("d/customer.tbl", "1|C1|a|0|p|-0.5|B|c|")];
     let text = "region rows 0\nnation rows 0\npart rows 0\nsupplier rows 0\npartsupp rows 0\n\
         customer rows 1\norders rows 0\nlineitem rows 0\n";
-    expect_over(
-        &rt,
-        rt.alloc(),
-        &["check", "d"],
-        SCRIPT,
-        &customers,
-        Status::Done,
-        text,
-    )?;
+    let words = ["check", "d"];
+    expect_over(&rt, rt.alloc(), &words, SCRIPT, &tables, Status::Done, text)?;
     Ok(())
 }
 
 #[test]
 fn refuses_lines(rt: HostRuntime) -> Result<(), Fail> {
-    for (table, lines, text) in [
+    for (table, lines, refusal) in [
+        ("region", "0|AFRICA", "line 1 1 FieldCount"),
+        ("region", "0|AFRICA|a|\n1|AM", "line 2 1 FieldCount"),
+        ("region", "x|A|y|", "line 1 2 BadNumber"),
         (
-            "d/region.tbl",
-            "0|AFRICA",
-            "input refused d/region.tbl line 1 1 FieldCount\n",
-        ),
-        (
-            "d/region.tbl",
-            "0|AFRICA|a|\n1|AM",
-            "input refused d/region.tbl line 2 1 FieldCount\n",
-        ),
-        (
-            "d/region.tbl",
-            "x|A|y|",
-            "input refused d/region.tbl line 1 2 BadNumber\n",
-        ),
-        (
-            "d/region.tbl",
+            "region",
             "9223372036854775808|A|y|",
-            "input refused d/region.tbl line 1 3 NumberTooWide\n",
+            "line 1 3 NumberTooWide",
         ),
         (
-            "d/orders.tbl",
+            "orders",
             "7|1|O|10.00|1996-02-29|1-URGENT|K|0|x|\n8|1|F|20.00|1995-02-29|5-LOW|K|0|y|\n",
-            "input refused d/orders.tbl line 2 4 BadDate\n",
+            "line 2 4 BadDate",
         ),
+        ("customer", "1|C\t1|a|0|p|0.00|B|c|\n", "line 1 5 BadText"),
         (
-            "d/customer.tbl",
-            "1|C\t1|a|0|p|0.00|B|c|\n",
-            "input refused d/customer.tbl line 1 5 BadText\n",
-        ),
-        (
-            "d/nation.tbl",
+            "nation",
             "0|abcdefghijklmnopqrstuvwxy|0|c|\n1|abcdefghijklmnopqrstuvwxyz|0|d|\n",
-            "input refused d/nation.tbl line 2 6 TextTooLong\n",
+            "line 2 6 TextTooLong",
         ),
+        ("region", "0|A|x|\n00|B|y|\n", "line 2 7 DuplicateKey"),
         (
-            "d/region.tbl",
-            "0|A|x|\n00|B|y|\n",
-            "input refused d/region.tbl line 2 7 DuplicateKey\n",
-        ),
-        (
-            "d/partsupp.tbl",
+            "partsupp",
             "1|2|3|4.00|a|\n1|3|3|4.00|a|\n2|2|3|4.00|a|\n1|2|5|6.00|b|\n",
-            "input refused d/partsupp.tbl line 4 7 DuplicateKey\n",
+            "line 4 7 DuplicateKey",
         ),
     ] {
-        let tables = [(table, lines)];
-        for words in [["check", "d"].as_slice(), ["session", "d", "s"].as_slice()] {
-            let status = Status::InputRefused;
-            expect_over(&rt, rt.alloc(), words, SCRIPT, &tables, status, text)?;
-        }
+        expect_refused(&rt, rt.alloc(), table, lines, refusal)?;
     }
     Ok(())
 }
@@ -101,14 +98,7 @@ fn refuses_the_first_bad_table(rt: HostRuntime) -> Result<(), Fail> {
     ];
     let text = "input refused d/part.tbl line 1 1 FieldCount\n";
     let words = ["session", "d", "s"];
-    expect_over(
-        &rt,
-        rt.alloc(),
-        &words,
-        SCRIPT,
-        &tables,
-        Status::InputRefused,
-        text,
-    )?;
+    let status = Status::InputRefused;
+    expect_over(&rt, rt.alloc(), &words, SCRIPT, &tables, status, text)?;
     Ok(())
 }
