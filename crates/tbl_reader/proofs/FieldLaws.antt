@@ -7,7 +7,7 @@ use Rattle.sql_value.specs.declared.value.Value.{Value}
 use Rattle.tpch_schema.specs.declared.column.ColumnKind.{ColumnKind}
 use Rattle.tbl_reader.specs.Field.{field_value}
 use Rattle.tbl_reader.specs.Line.{is_bar, has_fields, put_first, values_of, row_of}
-use Rattle.tbl_reader.specs.LineLaws.{AreFieldsOf, said, AreValuesOf, IsFirstBadField, IsBadLine}
+use Rattle.tbl_reader.specs.LineLaws.{AreFieldsOf, value_said, AreValuesOf, IsFirstBadField, IsBadLine}
 use Rattle.tbl_reader.proofs.LineFaults.{IsOfField, values_fault_of}
 use Rattle.tbl_reader.proofs.FieldCuts.{cuts, Cut, fields_are_cuts, cuts_are_fields}
 
@@ -16,7 +16,7 @@ use Rattle.tbl_reader.proofs.FieldCuts.{cuts, Cut, fields_are_cuts, cuts_are_fie
 -- what the fields of columns say, up to the first fault
 abbrev all_said : List (ColumnKind × List ℕ) → Result (List Value) LineFault
 all_said [] = Ok []
-all_said (column ∷ columns) = put_first (said column) (all_said columns)
+all_said (column ∷ columns) = put_first (value_said column) (all_said columns)
 
 values_are : (kinds : List ColumnKind) (text : List ℕ) → values_of kinds text ≡ all_said (zip kinds (cuts (length kinds) text))
 values_are [] text = refl
@@ -34,19 +34,19 @@ put (Ok v) (Ok vs) values e = record { value = v; others = vs; first = refl; res
 put (Ok v) (Err fault) values e = cc
 put (Err fault) s values e = cc
 
-each_said : (columns : List (ColumnKind × List ℕ)) (values : List Value) → all_said columns ≡ Ok values → map said columns ≡ map Ok values
+each_said : (columns : List (ColumnKind × List ℕ)) (values : List Value) → all_said columns ≡ Ok values → map value_said columns ≡ map Ok values
 each_said [] values e = let same : [] ≡ values = cc in rw (← same) refl
 each_said (column ∷ columns) values e =
-    let p : Put (said column) (all_said columns) values = put (said column) (all_said columns) values e in
+    let p : Put (value_said column) (all_said columns) values = put (value_said column) (all_said columns) values e in
     rw (← p.is) (λ i. p.first i ∷ each_said columns p.others p.rest i)
 
-said_each : (columns : List (ColumnKind × List ℕ)) (values : List Value) → map said columns ≡ map Ok values → all_said columns ≡ Ok values
+said_each : (columns : List (ColumnKind × List ℕ)) (values : List Value) → map value_said columns ≡ map Ok values → all_said columns ≡ Ok values
 said_each [] [] e = refl
 said_each [] (v ∷ vs) e = cc
 said_each (column ∷ columns) [] e = cc
 said_each (column ∷ columns) (v ∷ vs) e =
-    let here : said column ≡ Ok v = cc in
-    let others : map said columns ≡ map Ok vs = cc in
+    let here : value_said column ≡ Ok v = cc in
+    let others : map value_said columns ≡ map Ok vs = cc in
     rw (here, said_each columns vs others) refl
 
 record FirstBad (columns : List (ColumnKind × List ℕ)) (fault : LineFault) : Type 0 where
@@ -55,14 +55,14 @@ record FirstBad (columns : List (ColumnKind × List ℕ)) (fault : LineFault) : 
   later : List (ColumnKind × List ℕ)
   values : List Value
   cut : columns ≡ earlier ++ column ∷ later
-  good : map said earlier ≡ map Ok values
-  bad : said column ≡ Err fault
+  good : map value_said earlier ≡ map Ok values
+  bad : value_said column ≡ Err fault
 
 behind : (v : Value) (s : Result (List Value) LineFault) (fault : LineFault) → put_first (Ok v) s ≡ Err fault → s ≡ Err fault
 behind v (Ok vs) fault e = cc
 behind v (Err other) fault e = let same : other ≡ fault = cc in ap Err same
 
-bad_at : (column : ColumnKind × List ℕ) (columns : List (ColumnKind × List ℕ)) (fault : LineFault) (r : Result Value LineFault) → said column ≡ r
+bad_at : (column : ColumnKind × List ℕ) (columns : List (ColumnKind × List ℕ)) (fault : LineFault) (r : Result Value LineFault) → value_said column ≡ r
     → (all_said columns ≡ Err fault → FirstBad columns fault) → put_first r (all_said columns) ≡ Err fault → FirstBad (column ∷ columns) fault
 bad_at column columns fault (Err other) is others e =
     let same : other ≡ fault = cc in
@@ -89,15 +89,15 @@ bad_at column columns fault (Ok v) is others e =
 
 first_bad : (columns : List (ColumnKind × List ℕ)) (fault : LineFault) → all_said columns ≡ Err fault → FirstBad columns fault
 first_bad [] fault e = cc
-first_bad (column ∷ columns) fault e = bad_at column columns fault (said column) refl (first_bad columns fault) e
+first_bad (column ∷ columns) fault e = bad_at column columns fault (value_said column) refl (first_bad columns fault) e
 
 bad_said : (earlier : List (ColumnKind × List ℕ)) (column : ColumnKind × List ℕ) (later : List (ColumnKind × List ℕ)) (values : List Value) (fault : LineFault)
-    → map said earlier ≡ map Ok values → said column ≡ Err fault → all_said (earlier ++ column ∷ later) ≡ Err fault
+    → map value_said earlier ≡ map Ok values → value_said column ≡ Err fault → all_said (earlier ++ column ∷ later) ≡ Err fault
 bad_said [] column later values fault good bad = rw bad refl
 bad_said (other ∷ earlier) column later [] fault good bad = cc
 bad_said (other ∷ earlier) column later (v ∷ values) fault good bad =
-    let here : said other ≡ Ok v = cc in
-    let others : map said earlier ≡ map Ok values = cc in
+    let here : value_said other ≡ Ok v = cc in
+    let others : map value_said earlier ≡ map Ok values = cc in
     rw (here, bad_said earlier column later values fault others bad) refl
 
 -- the row of a line
@@ -119,7 +119,7 @@ module _ (kinds : List ColumnKind) (line : List ℕ) (some : 0 < length kinds) w
   pub values_to : (values : List Value) → AreValuesOf kinds line values → row_of kinds line ≡ Ok values
   values_to values are =
       let c : Cut (length kinds) line are.fields = fields_are_cuts (length kinds) line are.fields some are.parted in
-      rw c.has (values_are kinds line ∙ said_each (zip kinds (cuts (length kinds) line)) values (ap (λ fields. map said (zip kinds fields)) (sym c.are) ∙ are.said))
+      rw c.has (values_are kinds line ∙ said_each (zip kinds (cuts (length kinds) line)) values (ap (λ fields. map value_said (zip kinds fields)) (sym c.are) ∙ are.said))
 
   no_fields : (fields : List (List ℕ)) → has_fields (length kinds) line ≡ false → AreFieldsOf (length kinds) line fields → ⊥
   no_fields fields e are = let yes : has_fields (length kinds) line ≡ true = (fields_are_cuts (length kinds) line fields some are).has in cc

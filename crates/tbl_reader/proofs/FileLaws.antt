@@ -1,7 +1,7 @@
 -- The rows of a file are those of its lines, and its refusal is that of the first bad line.
 use Rattle.std.proofs.Common.{◌≡◌, ◌≢◌, ℕ, zero, suc, ◌+◌, ◌<◌, ◌≤◌, Bool, true, false, cond, ◌||◌, List, [], ◌∷◌, ◌++◌, length, map, get_or, refl, sym, ◌∙◌, ap, arith, length-append, append_assoc, zero-add, Result, Ok, Err}
 use Rattle.std.specs.Prelude.{nat_lt, Contains}
-use Rattle.std.specs.List.{AllPairs, concat, list_any}
+use Rattle.std.specs.List.{AllPairs, concat}
 use Rattle.std.proofs.lemmas.Bool.{ltb-true, ltb-false, lt-ltb, le-ltb}
 use Rattle.std.proofs.lemmas.List.{append-nil, length-map, map-append, get_or_append_left}
 use Rattle.std.proofs.lemmas.List.Folds.{concat-append}
@@ -22,7 +22,6 @@ use Rattle.tbl_reader.specs.File.{Progress, progress, refusal, cut_lines, line_r
 use Rattle.tbl_reader.specs.Laws.{AreRowsOf, IsWrong, IsFirstBadLine}
 use Rattle.tbl_reader.proofs.PieceSteps.{add_lines-refused}
 use Rattle.tbl_reader.proofs.LineFaults.{IsOfLine, row_faults}
-use Rattle.tbl_reader.proofs.WholeLines.{concat-cut_lines}
 
 -- keys
 

@@ -6,7 +6,7 @@ use Rattle.refusals.specs.declared.line.LineFault.TheVariants.{DuplicateKey, Fil
 use Rattle.refusals.specs.declared.line.LineRefusal.{LineRefusal}
 use Rattle.sql_value.specs.declared.value.Value.{Value}
 use Rattle.tpch_schema.specs.declared.table.TableName.{TableName}
-use Rattle.tpch_schema.specs.Kinds.{RowsAreOf, key_of}
+use Rattle.tpch_schema.specs.Kinds.{key_of}
 use Rattle.tbl_reader.specs.File.{cut_lines, line_row, file_rows}
 use Rattle.tbl_reader.specs.Steps.{is_unended}
 

@@ -1,5 +1,5 @@
 -- Laws of the fields of a line.
-use Rattle.std.specs.Prelude.{◌≡◌, ◌↔◌, ◌⊎◌, ℕ, ◌<◌, Bool, false, List, [], ◌∷◌, ◌++◌, length, map, All, Result, Ok, Err}
+use Rattle.std.specs.Prelude.{◌≡◌, ◌↔◌, ◌⊎◌, ℕ, ◌<◌, false, List, [], ◌∷◌, ◌++◌, length, map, All, Result, Ok, Err}
 use Rattle.std.specs.List.{join_with_byte, list_any, zip}
 use Rattle.refusals.specs.declared.line.LineFault.{LineFault}
 use Rattle.refusals.specs.declared.line.LineFault.TheVariants.{FieldCount}
@@ -15,14 +15,14 @@ pub record AreFieldsOf (columns : ℕ) (line : List ℕ) (fields : List (List �
   pub parted : (line ≡ join_with_byte 124 fields) ⊎ (line ≡ join_with_byte 124 fields ++ 124 ∷ [])
 
 -- what a field says in its column
-abbrev pub said : ColumnKind × List ℕ → Result Value LineFault
-said column = field_value column.0 column.1
+abbrev pub value_said : ColumnKind × List ℕ → Result Value LineFault
+value_said column = field_value column.0 column.1
 
 -- the values of a line: each field says its own
 pub record AreValuesOf (kinds : List ColumnKind) (line : List ℕ) (values : List Value) : Type 0 where
   pub fields : List (List ℕ)
   pub parted : AreFieldsOf (length kinds) line fields
-  pub said : map said (zip kinds fields) ≡ map Ok values
+  pub said : map value_said (zip kinds fields) ≡ map Ok values
 
 -- a line gives a row exactly where its fields say it
 abbrev pub RowsSayTheirFields : Type 0
@@ -39,8 +39,8 @@ pub record IsFirstBadField (kinds : List ColumnKind) (line : List ℕ) (fault : 
   pub later : List (ColumnKind × List ℕ)
   pub values : List Value
   pub cut : zip kinds fields ≡ earlier ++ column ∷ later
-  pub good : map said earlier ≡ map Ok values
-  pub bad : said column ≡ Err fault
+  pub good : map value_said earlier ≡ map Ok values
+  pub bad : value_said column ≡ Err fault
 
 -- what is wrong with a line: it has not as many fields, or a field says no value
 abbrev pub IsBadLine : List ColumnKind → List ℕ → LineFault → Type 0

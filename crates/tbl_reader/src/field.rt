@@ -84,6 +84,7 @@ fn text_value(alloc: Global, kind: ColumnKind, field: &[u8]) -> Result<Value, Li
 {
     match Text::new(alloc, field) {
         Ok(text) => {
+            // A text's bytes are printable, which this call tells.
             let _bytes = text.bytes();
             let value = Value::Text(text);
             if kind.admits(&value) {
