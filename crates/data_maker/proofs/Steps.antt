@@ -1,6 +1,9 @@
 -- How lines and digits are made one by one.
 use Rattle.std.proofs.Common.{◌≡◌, ℕ, suc, ◌+◌, ◌-◌, ◌/◌, ◌%◌, ◌<◌, List, [], ◌∷◌, ◌++◌, arith, refl, ap, sym, ◌∙◌, append_assoc, append-nil}
+use Rattle.std.proofs.Math.Nat.{div-one}
+use Rattle.std.specs.Fmt.{decimal}
 use Rattle.std.specs.List.{flat_map, range_with_len}
+use Rattle.fixed_decimal.specs.Written.{last_digits, size_written}
 use Rattle.data_maker.specs.Fields.{digits}
 use Rattle.data_maker.specs.Lines.{lines}
 
@@ -21,6 +24,18 @@ digits_suc places number = refl
 digits_zero : (number : ℕ) → digits 0 number ≡ []
 unfolding digits
 digits_zero number = refl
+
+-- two digits from the lowest are the two from the highest
+two_digits : (n : ℕ) → digits 2 n ≡ last_digits 2 n
+unfolding digits
+two_digits n = rw (div-one n) refl
+
+-- an amount in hundredths: its whole part, the point, two digits
+pub hundredths_pushed : (text : List ℕ) (n : ℕ) → text ++ decimal (n / 100) ++ 46 ∷ [] ++ digits 2 n ≡ text ++ size_written n 2
+hundredths_pushed text n =
+    ap (λ ds. text ++ decimal (n / 100) ++ 46 ∷ [] ++ ds) (two_digits n)
+    ∙ append_assoc (text ++ decimal (n / 100)) (46 ∷ []) (last_digits 2 n)
+    ∙ append_assoc text (decimal (n / 100)) (46 ∷ last_digits 2 n)
 
 -- no digit is still to come
 pub no_digits : (text : List ℕ) (places number : ℕ) → places ≡ 0 → text ≡ text ++ digits places number

@@ -24,6 +24,7 @@ labelled label key = label ++ digits 9 key
 abbrev pub money : ℤ → List ℕ
 money hundredths = decimal_written hundredths 2
 
+-- the address of somebody with that key
 abbrev pub address : ℕ → List ℕ
 address key = codes "A" ++ decimal key
 

@@ -12,9 +12,11 @@ fields texts = flat_map field texts
 unfoldable pub lines : (ℕ → List ℕ) → ℕ → ℕ → List ℕ
 lines line first end = flat_map line (range_with_len first (end - first))
 
+-- the line of a region: key, name, no comment
 unfoldable pub region_line : ℕ → List ℕ
 region_line k = fields (decimal k ∷ word regions k ∷ [] ∷ []) ++ 10 ∷ []
 
+-- the line of a nation: key, name, its region's key, no comment
 unfoldable pub nation_line : ℕ → List ℕ
 nation_line k = fields (decimal k ∷ word nations k ∷ decimal (region_of k) ∷ [] ∷ []) ++ 10 ∷ []
 
@@ -26,16 +28,20 @@ balance n column k = money (pos (draw n column k 1100000) -ℤ pos 99999)
 unfoldable pub residence : ℕ → ℕ → ℕ → List ℕ
 residence n column k = fields (address k ∷ decimal (draw n column k 25) ∷ phone (draw n column k 25) ∷ [])
 
+-- every seventh supplier has complaints
 unfoldable pub supplier_comment : ℕ → List ℕ
 supplier_comment k = if k % 7 == 0 then codes "Customer Complaints" else codes "ok"
 
+-- the last fields of a supplier's line
 unfoldable pub supplier_tail : ℕ → ℕ → List ℕ
 supplier_tail n k = fields (balance n 2 k ∷ supplier_comment k ∷ [])
 
+-- the line of a supplier: key, name, address, nation, phone number, balance, comment
 unfoldable pub supplier_line : ℕ → ℕ → List ℕ
 supplier_line n k =
     fields (decimal k ∷ labelled (codes "Supplier#") k ∷ []) ++ residence n 1 k ++ supplier_tail n k ++ 10 ∷ []
 
+-- a part's name: two colours
 unfoldable pub part_name : ℕ → ℕ → List ℕ
 part_name n k = word colours (draw n 3 k 8) ++ 32 ∷ word colours (draw n 4 k 8)
 
@@ -43,6 +49,7 @@ part_name n k = word colours (draw n 3 k 8) ++ 32 ∷ word colours (draw n 4 k 8
 abbrev pub maker_of : ℕ → ℕ → ℕ
 maker_of n k = 1 + draw n 5 k 5
 
+-- a part's maker, by a digit
 unfoldable pub manufacturer : ℕ → ℕ → List ℕ
 manufacturer n k = codes "Manufacturer#" ++ decimal (maker_of n k)
 
@@ -50,23 +57,28 @@ manufacturer n k = codes "Manufacturer#" ++ decimal (maker_of n k)
 unfoldable pub brand : ℕ → ℕ → List ℕ
 brand n k = codes "Brand#" ++ decimal (maker_of n k) ++ decimal (1 + draw n 6 k 5)
 
+-- a part's type: three words
 unfoldable pub part_type : ℕ → ℕ → List ℕ
 part_type n k = word type_sizes (draw n 7 k 6) ++ 32 ∷ word type_finishes (draw n 8 k 5) ++ 32 ∷ word type_metals (draw n 9 k 5)
 
+-- a part's container: two words
 unfoldable pub part_container : ℕ → ℕ → List ℕ
 part_container n k = word container_sizes (draw n 11 k 5) ++ 32 ∷ word container_kinds (draw n 12 k 8)
 
--- in hundredths
+-- a part's retail price, in hundredths
 abbrev pub retail_price : ℕ → ℕ
 retail_price part = 90000 + part
 
+-- the first fields of a part's line: key, name, maker, brand
 unfoldable pub part_head : ℕ → ℕ → List ℕ
 part_head n k = fields (decimal k ∷ part_name n k ∷ manufacturer n k ∷ brand n k ∷ [])
 
+-- the others: type, size, container, price, no comment
 unfoldable pub part_tail : ℕ → ℕ → List ℕ
 part_tail n k =
     fields (part_type n k ∷ decimal (1 + draw n 10 k 50) ∷ part_container n k ∷ money (pos (retail_price k)) ∷ [] ∷ [])
 
+-- the line of a part
 unfoldable pub part_line : ℕ → ℕ → List ℕ
 part_line n k = part_head n k ++ part_tail n k ++ 10 ∷ []
 
@@ -91,9 +103,11 @@ by_supplier n k = put_in_order n k 0 (put_in_order n k 1 (put_in_order n k 2 (3 
 unfoldable pub partsupp_lines : ℕ → ℕ → List ℕ
 partsupp_lines n k = flat_map (partsupp_line n k) (by_supplier n k)
 
+-- the last fields of a customer's line: balance, market segment, no comment
 unfoldable pub customer_tail : ℕ → ℕ → List ℕ
 customer_tail n k = fields (balance n 16 k ∷ word market_segments (draw n 17 k 5) ∷ [] ∷ [])
 
+-- the line of a customer: key, name, address, nation, phone number, and the last fields
 unfoldable pub customer_line : ℕ → ℕ → List ℕ
 customer_line n k =
     fields (decimal k ∷ labelled (codes "Customer#") k ∷ []) ++ residence n 15 k ++ customer_tail n k ++ 10 ∷ []
@@ -102,18 +116,22 @@ customer_line n k =
 unfoldable pub order_day : ℕ → ℕ → ℕ
 order_day n k = draw n 21 k 2406
 
+-- every fifth order has special requests
 unfoldable pub order_comment : ℕ → List ℕ
 order_comment k = if k % 5 == 0 then codes "special requests" else codes "plain"
 
+-- the first fields of an order's line: key, customer, status, price
 unfoldable pub order_head : ℕ → ℕ → List ℕ
 order_head n k =
     fields (decimal k ∷ decimal (not_third (1 + draw n 18 k (15 * n))) ∷ word order_statuses (draw n 19 k 3)
     ∷ money (pos (100000 + draw n 20 k 40000000)) ∷ [])
 
+-- the last fields of an order's line: priority, clerk, shipping priority 0, comment
 unfoldable pub order_tail : ℕ → ℕ → List ℕ
 order_tail n k =
     fields (word order_priorities (draw n 22 k 5) ∷ labelled (codes "Clerk#") (1 + draw n 23 k 10) ∷ decimal 0 ∷ order_comment k ∷ [])
 
+-- the line of an order: the first fields, the date, the last fields
 unfoldable pub order_line : ℕ → ℕ → List ℕ
 order_line n k = order_head n k ++ fields (date_text (order_day n k) ∷ []) ++ order_tail n k ++ 10 ∷ []
 
@@ -121,13 +139,16 @@ order_line n k = order_head n k ++ fields (date_text (order_day n k) ∷ []) ++ 
 unfoldable pub line_part : ℕ → ℕ → ℕ
 line_part n x = 1 + draw n 24 x (20 * n)
 
+-- the quantity of the line that is drawn by x
 unfoldable pub line_quantity : ℕ → ℕ → ℕ
 line_quantity n x = 1 + draw n 26 x 50
 
+-- a line's keys: order, part, supplier, its number within the order
 unfoldable pub lineitem_keys : ℕ → ℕ → ℕ → ℕ → List ℕ
 lineitem_keys n k j x =
     fields (decimal k ∷ decimal (line_part n x) ∷ decimal (supplier_of n (line_part n x) (draw n 25 x 4)) ∷ decimal j ∷ [])
 
+-- a line's amounts: quantity, price, discount, tax
 unfoldable pub lineitem_amounts : ℕ → ℕ → List ℕ
 lineitem_amounts n x =
     fields (money (pos (100 * line_quantity n x)) ∷ money (pos (line_quantity n x * retail_price (line_part n x)))
@@ -137,14 +158,17 @@ lineitem_amounts n x =
 unfoldable pub ship_day : ℕ → ℕ → ℕ → ℕ
 ship_day n k x = order_day n k + 1 + draw n 31 x 121
 
+-- a line's dates: shipping, commitment, receipt
 unfoldable pub lineitem_dates : ℕ → ℕ → ℕ → List ℕ
 lineitem_dates n k x =
     fields (date_text (ship_day n k x) ∷ date_text (order_day n k + 30 + draw n 32 x 61)
     ∷ date_text (ship_day n k x + 1 + draw n 33 x 30) ∷ [])
 
+-- a line's return flag and status
 unfoldable pub lineitem_statuses : ℕ → ℕ → List ℕ
 lineitem_statuses n x = fields (word return_flags (draw n 29 x 3) ∷ word line_statuses (draw n 30 x 2) ∷ [])
 
+-- a line's shipping: instruction, mode, and no comment
 unfoldable pub lineitem_shipping : ℕ → ℕ → List ℕ
 lineitem_shipping n x = fields (word ship_instructions (draw n 34 x 4) ∷ word ship_modes (draw n 35 x 7) ∷ [] ∷ [])
 
@@ -162,5 +186,6 @@ lineitem_line n k j =
 unfoldable pub order_lineitems : ℕ → ℕ → List ℕ
 order_lineitems n k = lines (lineitem_line n k) 1 (2 + k % 4)
 
+-- the line that deletes an order: its key
 unfoldable pub delete_line : ℕ → List ℕ
 delete_line k = fields (decimal k ∷ []) ++ 10 ∷ []

@@ -31,17 +31,12 @@ fn push_segment(text: &mut Vec<u8>, number: u64, key: u64) -> Result<(), AllocEr
 
 /// Appends the last fields of a customer.
 #[tactic(auto, unfolding(crate::specs::Lines::customer_tail))]
-fn push_customer_tail(
-    alloc: Global,
-    text: &mut Vec<u8>,
-    number: u64,
-    key: u64,
-) -> Result<(), AllocError>
+fn push_customer_tail(text: &mut Vec<u8>, number: u64, key: u64) -> Result<(), AllocError>
     requires number { (1 ≤ number) × (number ≤ 1000) }
     requires key { key < 2 ^ 16 }
     ensures { OnOk result (text.new.items ≡ text.old.items ++ customer_tail number key) }
 {
-    push_balance(alloc, text, number, 16, key)?;
+    push_balance(text, number, 16, key)?;
     push_segment(text, number, key)?;
     push_word(text, "")?;
     Ok(())
@@ -49,7 +44,7 @@ fn push_customer_tail(
 
 /// Appends a customer's line.
 #[tactic(auto, unfolding(crate::specs::Lines::customer_line))]
-fn push_customer(alloc: Global, text: &mut Vec<u8>, number: u64, key: u64) -> Result<(), AllocError>
+fn push_customer(text: &mut Vec<u8>, number: u64, key: u64) -> Result<(), AllocError>
     requires number { (1 ≤ number) × (number ≤ 1000) }
     requires key { key < 2 ^ 16 }
     ensures { OnOk result (text.new.items ≡ text.old.items ++ customer_line number key) }
@@ -57,7 +52,7 @@ fn push_customer(alloc: Global, text: &mut Vec<u8>, number: u64, key: u64) -> Re
     push_number(text, key)?;
     push_labelled(text, "Customer#", key)?;
     push_residence(text, number, 15, key)?;
-    push_customer_tail(alloc, text, number, key)?;
+    push_customer_tail(text, number, key)?;
     end_line(text)?;
     Ok(())
 }
@@ -69,7 +64,7 @@ pub fn customer_text(alloc: Global, number: u64) -> Result<Vec<u8>, AllocError>
 {
     let mut text = Vec::new(alloc);
     for key in 1..15 * number + 1 {
-        push_customer(alloc, &mut text, number, key)?;
+        push_customer(&mut text, number, key)?;
     }
     Ok(text)
 }

@@ -1,12 +1,12 @@
 //! Fields appended to a text, each with the bar that ends it.
 ghost use Rattle.std.specs.Prelude.{◌≡◌, ◌<◌, ◌≤◌, ◌^◌, ◌++◌, ◌∷◌, [], ◌-ℤ◌, pos, OnOk, codes, decimal};
+ghost use Rattle.fixed_decimal.specs.Written.{size_written};
 ghost use Rattle.data_maker.specs.Fields.{address, digits, field, labelled, money, phone};
 ghost use Rattle.data_maker.specs.Lines.{balance, fields, residence};
 
 use crate::draw::draw;
-use fixed_decimal::{Scale, write_decimal};
 use itoa::Buffer;
-use std::alloc::{AllocError, Global};
+use std::alloc::AllocError;
 
 /// Ends the field.
 #[tactic(auto)]
@@ -85,13 +85,26 @@ pub fn push_labelled(text: &mut Vec<u8>, label: &str, key: u64) -> Result<(), Al
     Ok(())
 }
 
+/// Appends an amount of so many hundredths, without a sign or a bar.
+#[tactic(auto, using(crate::proofs::Steps::hundredths_pushed))]
+fn push_hundredths(text: &mut Vec<u8>, hundredths: u64) -> Result<(), AllocError>
+    ensures { OnOk result (text.new.items ≡ text.old.items ++ size_written hundredths 2) }
+{
+    push_digits_of(text, hundredths / 100)?;
+    text.push(b'.')?;
+    push_digits(text, 2, hundredths)?;
+    Ok(())
+}
+
 /// Appends a field of an amount in hundredths.
 #[tactic(auto, unfolding(crate::specs::Fields::field))]
-pub fn push_money(alloc: Global, text: &mut Vec<u8>, hundredths: i128) -> Result<(), AllocError>
+pub fn push_money(text: &mut Vec<u8>, hundredths: i64) -> Result<(), AllocError>
     ensures { OnOk result (text.new.items ≡ text.old.items ++ field (money hundredths)) }
 {
-    let amount = write_decimal(alloc, hundredths, Scale::new(2))?;
-    text.extend_from_slice(amount.as_slice())?;
+    if hundredths < 0 {
+        text.push(b'-')?;
+    }
+    push_hundredths(text, hundredths.unsigned_abs())?;
     push_bar(text)?;
     Ok(())
 }
@@ -142,7 +155,6 @@ pub fn push_residence(
 /// Appends the field of the balance of an account, drawn for that column.
 #[tactic(auto, unfolding(crate::specs::Lines::balance))]
 pub fn push_balance(
-    alloc: Global,
     text: &mut Vec<u8>,
     number: u64,
     column: u64,
@@ -154,6 +166,6 @@ pub fn push_balance(
     ensures { OnOk result (text.new.items ≡ text.old.items ++ field (balance number column key)) }
 {
     let drawn = draw(number, column, key, 1_100_000);
-    push_money(alloc, text, drawn as i128 - 99_999)?;
+    push_money(text, drawn as i64 - 99_999)?;
     Ok(())
 }

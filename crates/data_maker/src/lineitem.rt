@@ -69,22 +69,17 @@ fn push_keys(
 
 /// Appends the fields of a line's amounts.
 #[tactic(auto, unfolding(crate::specs::Lines::lineitem_amounts))]
-fn push_amounts(
-    alloc: Global,
-    text: &mut Vec<u8>,
-    number: u64,
-    place: u64,
-) -> Result<(), AllocError>
+fn push_amounts(text: &mut Vec<u8>, number: u64, place: u64) -> Result<(), AllocError>
     requires number { (1 ≤ number) × (number ≤ 1000) }
     requires place { place < 2 ^ 19 }
     ensures { OnOk result (text.new.items ≡ text.old.items ++ lineitem_amounts number place) }
 {
     let quantity = line_quantity(number, place);
     let price = retail_price(line_part(number, place));
-    push_money(alloc, text, (100 * quantity) as i128)?;
-    push_money(alloc, text, (quantity * price) as i128)?;
-    push_money(alloc, text, draw(number, 27, place, 11) as i128)?;
-    push_money(alloc, text, draw(number, 28, place, 9) as i128)?;
+    push_money(text, (100 * quantity) as i64)?;
+    push_money(text, (quantity * price) as i64)?;
+    push_money(text, draw(number, 27, place, 11) as i64)?;
+    push_money(text, draw(number, 28, place, 9) as i64)?;
     Ok(())
 }
 
@@ -217,13 +212,7 @@ fn push_shipping(text: &mut Vec<u8>, number: u64, place: u64) -> Result<(), Allo
 
 /// Appends one line of an order.
 #[tactic(auto, unfolding(crate::specs::Lines::lineitem_line))]
-fn push_lineitem(
-    alloc: Global,
-    text: &mut Vec<u8>,
-    number: u64,
-    key: u64,
-    line: u64,
-) -> Result<(), AllocError>
+fn push_lineitem(text: &mut Vec<u8>, number: u64, key: u64, line: u64) -> Result<(), AllocError>
     requires number { (1 ≤ number) × (number ≤ 1000) }
     requires key { key < 2 ^ 16 }
     requires line { line < 2 ^ 16 }
@@ -231,7 +220,7 @@ fn push_lineitem(
 {
     let place = 4 * key + line;
     push_keys(text, number, key, line, place)?;
-    push_amounts(alloc, text, number, place)?;
+    push_amounts(text, number, place)?;
     push_statuses(text, number, place)?;
     push_dates(text, number, key, place)?;
     push_shipping(text, number, place)?;
@@ -240,18 +229,13 @@ fn push_lineitem(
 }
 
 /// Appends the lines of an order.
-fn push_order_lineitems(
-    alloc: Global,
-    text: &mut Vec<u8>,
-    number: u64,
-    key: u64,
-) -> Result<(), AllocError>
+fn push_order_lineitems(text: &mut Vec<u8>, number: u64, key: u64) -> Result<(), AllocError>
     requires number { (1 ≤ number) × (number ≤ 1000) }
     requires key { key < 2 ^ 16 }
     ensures { OnOk result (text.new.items ≡ text.old.items ++ order_lineitems number key) }
 {
     for line in 1..2 + key % 4 {
-        push_lineitem(alloc, text, number, key, line)?;
+        push_lineitem(text, number, key, line)?;
     }
     Ok(())
 }
@@ -269,7 +253,7 @@ pub fn lineitem_text(
 {
     let mut text = Vec::new(alloc);
     for key in first..end {
-        push_order_lineitems(alloc, &mut text, number, key)?;
+        push_order_lineitems(&mut text, number, key)?;
     }
     Ok(text)
 }

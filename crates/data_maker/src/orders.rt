@@ -71,7 +71,7 @@ fn push_priority(text: &mut Vec<u8>, number: u64, key: u64) -> Result<(), AllocE
 
 /// Appends the fields of an order up to its price.
 #[tactic(auto, unfolding(crate::specs::Lines::order_head))]
-fn push_head(alloc: Global, text: &mut Vec<u8>, number: u64, key: u64) -> Result<(), AllocError>
+fn push_head(text: &mut Vec<u8>, number: u64, key: u64) -> Result<(), AllocError>
     requires number { (1 ≤ number) × (number ≤ 1000) }
     requires key { key < 2 ^ 16 }
     ensures { OnOk result (text.new.items ≡ text.old.items ++ order_head number key) }
@@ -79,11 +79,7 @@ fn push_head(alloc: Global, text: &mut Vec<u8>, number: u64, key: u64) -> Result
     push_number(text, key)?;
     push_number(text, not_third(1 + draw(number, 18, key, 15 * number)))?;
     push_status(text, number, key)?;
-    push_money(
-        alloc,
-        text,
-        (100_000 + draw(number, 20, key, 40_000_000)) as i128,
-    )?;
+    push_money(text, (100_000 + draw(number, 20, key, 40_000_000)) as i64)?;
     Ok(())
 }
 
@@ -103,12 +99,12 @@ fn push_order_tail(text: &mut Vec<u8>, number: u64, key: u64) -> Result<(), Allo
 
 /// Appends an order's line.
 #[tactic(auto, unfolding(crate::specs::Lines::order_line))]
-fn push_order(alloc: Global, text: &mut Vec<u8>, number: u64, key: u64) -> Result<(), AllocError>
+fn push_order(text: &mut Vec<u8>, number: u64, key: u64) -> Result<(), AllocError>
     requires number { (1 ≤ number) × (number ≤ 1000) }
     requires key { key < 2 ^ 16 }
     ensures { OnOk result (text.new.items ≡ text.old.items ++ order_line number key) }
 {
-    push_head(alloc, text, number, key)?;
+    push_head(text, number, key)?;
     push_date(text, order_day(number, key))?;
     push_order_tail(text, number, key)?;
     end_line(text)?;
@@ -123,7 +119,7 @@ pub fn order_text(alloc: Global, number: u64, first: u64, end: u64) -> Result<Ve
 {
     let mut text = Vec::new(alloc);
     for key in first..end {
-        push_order(alloc, &mut text, number, key)?;
+        push_order(&mut text, number, key)?;
     }
     Ok(text)
 }

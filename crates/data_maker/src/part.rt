@@ -178,12 +178,7 @@ fn push_part_head(text: &mut Vec<u8>, number: u64, key: u64) -> Result<(), Alloc
 
 /// Appends the fields of a part from its type on.
 #[tactic(auto, unfolding(crate::specs::Lines::part_tail))]
-fn push_part_tail(
-    alloc: Global,
-    text: &mut Vec<u8>,
-    number: u64,
-    key: u64,
-) -> Result<(), AllocError>
+fn push_part_tail(text: &mut Vec<u8>, number: u64, key: u64) -> Result<(), AllocError>
     requires number { (1 ≤ number) × (number ≤ 1000) }
     requires key { key < 2 ^ 16 }
     ensures { OnOk result (text.new.items ≡ text.old.items ++ part_tail number key) }
@@ -191,25 +186,20 @@ fn push_part_tail(
     push_type(text, number, key)?;
     push_number(text, 1 + draw(number, 10, key, 50))?;
     push_container(text, number, key)?;
-    push_money(alloc, text, retail_price(key) as i128)?;
+    push_money(text, retail_price(key) as i64)?;
     push_word(text, "")?;
     Ok(())
 }
 
 /// Appends a part's line.
 #[tactic(auto, unfolding(crate::specs::Lines::part_line))]
-fn push_part_line(
-    alloc: Global,
-    text: &mut Vec<u8>,
-    number: u64,
-    key: u64,
-) -> Result<(), AllocError>
+fn push_part_line(text: &mut Vec<u8>, number: u64, key: u64) -> Result<(), AllocError>
     requires number { (1 ≤ number) × (number ≤ 1000) }
     requires key { key < 2 ^ 16 }
     ensures { OnOk result (text.new.items ≡ text.old.items ++ part_line number key) }
 {
     push_part_head(text, number, key)?;
-    push_part_tail(alloc, text, number, key)?;
+    push_part_tail(text, number, key)?;
     end_line(text)?;
     Ok(())
 }
@@ -221,7 +211,7 @@ pub fn part_text(alloc: Global, number: u64) -> Result<Vec<u8>, AllocError>
 {
     let mut text = Vec::new(alloc);
     for key in 1..20 * number + 1 {
-        push_part_line(alloc, &mut text, number, key)?;
+        push_part_line(&mut text, number, key)?;
     }
     Ok(text)
 }

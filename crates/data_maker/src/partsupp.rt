@@ -29,13 +29,7 @@ fn by_supplier(number: u64, part: u64) -> (u64, u64, u64, u64)
 
 /// Appends the line of a part with the supplier at one of its places.
 #[tactic(auto, unfolding(crate::specs::Lines::partsupp_line))]
-fn push_partsupp(
-    alloc: Global,
-    text: &mut Vec<u8>,
-    number: u64,
-    key: u64,
-    place: u64,
-) -> Result<(), AllocError>
+fn push_partsupp(text: &mut Vec<u8>, number: u64, key: u64, place: u64) -> Result<(), AllocError>
     requires number { (1 ≤ number) × (number ≤ 1000) }
     requires key { key < 2 ^ 16 }
     requires place { place < 4 }
@@ -45,28 +39,23 @@ fn push_partsupp(
     push_number(text, key)?;
     push_number(text, supplier_of(number, key, place))?;
     push_number(text, 1 + draw(number, 13, pair, 9_999))?;
-    push_money(alloc, text, (100 + draw(number, 14, pair, 99_901)) as i128)?;
+    push_money(text, (100 + draw(number, 14, pair, 99_901)) as i64)?;
     push_word(text, "")?;
     end_line(text)?;
     Ok(())
 }
 
 /// Appends the lines of a part, by ascending supplier.
-fn push_partsupps(
-    alloc: Global,
-    text: &mut Vec<u8>,
-    number: u64,
-    key: u64,
-) -> Result<(), AllocError>
+fn push_partsupps(text: &mut Vec<u8>, number: u64, key: u64) -> Result<(), AllocError>
     requires number { (1 ≤ number) × (number ≤ 1000) }
     requires key { key < 2 ^ 16 }
     ensures { OnOk result (text.new.items ≡ text.old.items ++ partsupp_lines number key) }
 {
     let (first, second, third, fourth) = by_supplier(number, key);
-    push_partsupp(alloc, text, number, key, first)?;
-    push_partsupp(alloc, text, number, key, second)?;
-    push_partsupp(alloc, text, number, key, third)?;
-    push_partsupp(alloc, text, number, key, fourth)?;
+    push_partsupp(text, number, key, first)?;
+    push_partsupp(text, number, key, second)?;
+    push_partsupp(text, number, key, third)?;
+    push_partsupp(text, number, key, fourth)?;
     Ok(())
 }
 
@@ -77,7 +66,7 @@ pub fn partsupp_text(alloc: Global, number: u64) -> Result<Vec<u8>, AllocError>
 {
     let mut text = Vec::new(alloc);
     for key in 1..20 * number + 1 {
-        push_partsupps(alloc, &mut text, number, key)?;
+        push_partsupps(&mut text, number, key)?;
     }
     Ok(text)
 }

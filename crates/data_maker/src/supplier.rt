@@ -22,24 +22,19 @@ fn supplier_comment(key: u64) -> &'static str
 
 /// Appends the last fields of a supplier.
 #[tactic(auto, unfolding(crate::specs::Lines::supplier_tail))]
-fn push_supplier_tail(
-    alloc: Global,
-    text: &mut Vec<u8>,
-    number: u64,
-    key: u64,
-) -> Result<(), AllocError>
+fn push_supplier_tail(text: &mut Vec<u8>, number: u64, key: u64) -> Result<(), AllocError>
     requires number { (1 ≤ number) × (number ≤ 1000) }
     requires key { key < 2 ^ 16 }
     ensures { OnOk result (text.new.items ≡ text.old.items ++ supplier_tail number key) }
 {
-    push_balance(alloc, text, number, 2, key)?;
+    push_balance(text, number, 2, key)?;
     push_word(text, supplier_comment(key))?;
     Ok(())
 }
 
 /// Appends a supplier's line.
 #[tactic(auto, unfolding(crate::specs::Lines::supplier_line))]
-fn push_supplier(alloc: Global, text: &mut Vec<u8>, number: u64, key: u64) -> Result<(), AllocError>
+fn push_supplier(text: &mut Vec<u8>, number: u64, key: u64) -> Result<(), AllocError>
     requires number { (1 ≤ number) × (number ≤ 1000) }
     requires key { key < 2 ^ 16 }
     ensures { OnOk result (text.new.items ≡ text.old.items ++ supplier_line number key) }
@@ -47,7 +42,7 @@ fn push_supplier(alloc: Global, text: &mut Vec<u8>, number: u64, key: u64) -> Re
     push_number(text, key)?;
     push_labelled(text, "Supplier#", key)?;
     push_residence(text, number, 1, key)?;
-    push_supplier_tail(alloc, text, number, key)?;
+    push_supplier_tail(text, number, key)?;
     end_line(text)?;
     Ok(())
 }
@@ -59,7 +54,7 @@ pub fn supplier_text(alloc: Global, number: u64) -> Result<Vec<u8>, AllocError>
 {
     let mut text = Vec::new(alloc);
     for key in 1..10 * number + 1 {
-        push_supplier(alloc, &mut text, number, key)?;
+        push_supplier(&mut text, number, key)?;
     }
     Ok(text)
 }

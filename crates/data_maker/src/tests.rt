@@ -10,7 +10,7 @@ fn line_count(texts: &[NamedText], index: usize) -> usize {
     }
 }
 
-/// Whether the text of that index has the name, and its bytes hold the line behind an LF or at their front.
+/// Whether the text of that index has the name, and at the place among its lines, from 0, that line.
 fn has_line(texts: &[NamedText], index: usize, name: &str, place: usize, line: &str) -> bool {
     let Some(text) = texts.get(index) else {
         return false;
@@ -192,5 +192,39 @@ fn writes_ten_times_as_much(rt: HostRuntime) -> Result<(), Fail> {
             "300|49|90|1|15.00|13507.35|0.04|0.05|A|F|1996-12-22|1996-10-30|1997-01-14|NONE|TRUCK||"
         )
     );
+    assert!(rt;
+        has_line(
+            &texts,
+            5,
+            "customer.tbl",
+            2,
+            "3|Customer#000000003|A3|5|15-100-200-3000|-680.11|BUILDING||"
+        )
+    );
+    Ok(())
+}
+
+#[test]
+fn writes_ten_times_the_refresh_set(rt: HostRuntime) -> Result<(), Fail> {
+    let texts = make(rt.alloc(), 10)?;
+    assert!(rt;
+        has_line(
+            &texts,
+            8,
+            "orders.tbl.u1",
+            29,
+            "330|101|P|160619.18|1993-11-03|5-LOW|Clerk#000000003|0|special requests|"
+        )
+    );
+    assert!(rt;
+        has_line(
+            &texts,
+            9,
+            "lineitem.tbl.u1",
+            74,
+            "330|191|92|3|8.00|7215.28|0.03|0.04|R|F|1993-11-13|1993-12-17|1993-12-08|DELIVER IN PERSON|TRUCK||"
+        )
+    );
+    assert!(rt; has_line(&texts, 10, "delete.1", 29, "30|"));
     Ok(())
 }
