@@ -3,6 +3,7 @@ mod Pieces
 mod Telling
 mod Complete
 mod Texts
+mod ReadingOrder
 mod ScriptForm
 mod WorkedExamples
 mod Unique
