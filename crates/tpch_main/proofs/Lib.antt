@@ -10,6 +10,7 @@ mod Pieces
 mod Telling
 mod Complete
 mod Texts
+mod ReadingOrder
 mod ScriptForm
 mod WorkedExamples
 mod Unique

@@ -1,8 +1,12 @@
--- The form of a script in its own words, and the laws that the definition by which it is read says just that, and that answers are unique.
-use Rattle.std.specs.Prelude.{◌≡◌, ℕ, ◌≤◌, List, [], ◌++◌, Some, ◌↔◌, ◌⊎◌, codes, length, true}
+-- What the definitions say in other words: the form of a script, that answers are unique, and which input is refused first.
+use Rattle.std.specs.Prelude.{◌≡◌, ℕ, ◌≤◌, List, [], ◌∷◌, ◌++◌, Some, Err, IsOk, ◌↔◌, ◌⊎◌, codes, length, true}
 use Rattle.std.specs.Char.{is_ascii_digit}
-use Rattle.std.specs.List.{list_all}
+use Rattle.std.specs.List.{All, list_all}
+use Rattle.tpch_outside.specs.Outside.{Folder}
+use Rattle.tpch_schema.specs.Tables.{all_tables}
+use Rattle.tpch_schema.specs.declared.table.TableName.{TableName}
 use Rattle.tpch_main.specs.Answer.{IsAnswerText}
+use Rattle.tpch_main.specs.Inputs.{Refused, script_in, session_inputs, state_in, table_in}
 use Rattle.sql_value.specs.declared.value.Value.{Value}
 use Rattle.tpch_main.specs.Script.{script_front, script_of, value_after}
 use Rattle.tpch_main.specs.declared.statement.Statement.{Statement}
@@ -29,3 +33,20 @@ ScriptLaw = (text : List ℕ) (statement : Statement) → (script_of text ≡ So
 -- two texts that are a statement's answer over the same rows are one text
 abbrev pub AnswerLaw : Type 0
 AnswerLaw = (statement : Statement) (rows : List (List Value)) (a b : List ℕ) → IsAnswerText statement rows a → IsAnswerText statement rows b → a ≡ b
+
+-- one of the tables is refused so, and those before it are there and of their form
+pub record IsFirstBadTable (dir : List ℕ) (folder : Folder) (tables : List TableName) (refused : Refused) : Type 0 where
+  pub before : List TableName
+  pub table : TableName
+  pub behind : List TableName
+  pub among : tables ≡ before ++ table ∷ behind
+  pub good : All (λ t. IsOk (table_in dir t folder)) before
+  pub bad : table_in dir table folder ≡ Err refused
+
+-- the tables of a folder are refused exactly as the first bad one of them is, in the schema's order
+abbrev pub TablesOrderLaw : Type 0
+TablesOrderLaw = (dir : List ℕ) (folder : Folder) (refused : Refused) → (state_in dir folder ≡ Err refused) ↔ IsFirstBadTable dir folder all_tables refused
+
+-- a session's inputs are refused exactly as its script is, or, where that is good, as its tables are
+abbrev pub SessionOrderLaw : Type 0
+SessionOrderLaw = (dir script : List ℕ) (folder : Folder) (refused : Refused) → (session_inputs dir script folder ≡ Err refused) ↔ ((script_in folder script ≡ Err refused) ⊎ (IsOk (script_in folder script) × (state_in dir folder ≡ Err refused)))

@@ -1,7 +1,7 @@
 //! Laws of the definitions that the top call's promise stands on, each the contract of a function
 //! that does nothing: what is read of a file is just what its form says in its own words.
 ghost use Rattle.tpch_main.specs.Examples.{Examples};
-ghost use Rattle.tpch_main.specs.Laws.{AnswerLaw, ScriptLaw};
+ghost use Rattle.tpch_main.specs.Laws.{AnswerLaw, ScriptLaw, SessionOrderLaw, TablesOrderLaw};
 
 /// A text is read as a statement exactly where it is that statement: the fixed words around the
 /// column's name, 1 to 18 digits that write its number, a semicolon and at most one LF.
@@ -12,6 +12,13 @@ pub fn scripts_are_read_by_their_form()
 /// A statement has one answer over given rows: two texts that are its answer are one text.
 pub fn answers_are_unique()
     ensures { AnswerLaw }
+{}
+
+/// The first bad input is the one that is refused: of the tables the first in the schema's order before which all are
+/// good, and of a session the script before the tables.
+pub fn first_bad_input_is_refused()
+    ensures tables { TablesOrderLaw }
+    ensures session { SessionOrderLaw }
 {}
 
 /// The definitions have the values that were worked out by hand.
