@@ -1,4 +1,4 @@
-//! Words that are no command, files that are absent, and calls of files and sink that fail.
+//! Files that are absent, which calls files get, and calls of files and sink that fail.
 use super::*;
 
 #[test]
@@ -38,54 +38,51 @@ fn refuses_absent_files(rt: HostRuntime) -> Result<(), Fail> {
 #[test]
 fn ends_at_a_reading_fault(rt: HostRuntime) -> Result<(), Fail> {
     let alloc = rt.alloc();
+    let status = Status::ReadFault;
     for call in 1..21 {
         let files = folder_of(alloc, SCRIPT, &[("d/region.tbl", REGIONS)], &[call])?;
-        expect_run(
-            &rt,
-            alloc,
-            &["session", "d", "s"],
-            files,
-            sink(alloc),
-            Status::ReadFault,
-            "",
-        )?;
+        let words = ["session", "d", "s"];
+        expect_run(&rt, alloc, &words, files, sink(alloc), status, "")?;
+    }
+    for call in 1..18 {
+        let files = folder_of(alloc, SCRIPT, &[("d/region.tbl", REGIONS)], &[call])?;
+        expect_run(&rt, alloc, &["check", "d"], files, sink(alloc), status, "")?;
     }
     Ok(())
 }
 
+/// Runs the words over the files, and compares how many calls these got.
+fn expect_calls<R: Threads + Wait + Sync + Abort>(
+    rt: &R,
+    alloc: Global,
+    words: &[&str],
+    mut files: MemFiles,
+    calls: u64,
+) -> Result<(), AllocError> {
+    let words = words_of(alloc, words)?;
+    let mut out = sink(alloc);
+    let _status = tpch(rt, alloc, &words, &mut files, &mut out, &OpenGate);
+    assert_eq!(rt; files.calls, calls);
+    Ok(())
+}
+
 // The script and the tables are opened once each and read to their ends, and nothing else is called: of a script and a
-// region with bytes three calls each, of seven empty tables two each, so that a 21st would fail. An input that is
-// refused leaves those behind it unopened.
+// region with bytes three calls each, of seven empty tables two each. An input that is refused leaves those behind it
+// unopened.
 #[test]
 fn opens_no_other_file(rt: HostRuntime) -> Result<(), Fail> {
     let alloc = rt.alloc();
-    for (script, regions, next_call, status, text) in [
-        (
-            SCRIPT,
-            REGIONS,
-            21,
-            Status::Done,
-            "[1] version 0 rows 2\nAFRICA\nAMERICA\n",
-        ),
-        (
-            "select",
-            REGIONS,
-            4,
-            Status::InputRefused,
-            "input refused s not built\n",
-        ),
-        (
-            SCRIPT,
-            "0",
-            7,
-            Status::InputRefused,
-            "input refused d/region.tbl line 1 1 FieldCount\n",
-        ),
+    let session = ["session", "d", "s"].as_slice();
+    let check = ["check", "d"].as_slice();
+    for (words, script, regions, calls) in [
+        (session, SCRIPT, REGIONS, 20),
+        (session, "select", REGIONS, 3),
+        (session, SCRIPT, "0", 6),
+        (check, SCRIPT, REGIONS, 17),
+        (check, SCRIPT, "0", 3),
     ] {
-        let tables = [("d/region.tbl", regions)];
-        let files = folder_of(alloc, script, &tables, &[next_call])?;
-        let words = ["session", "d", "s"];
-        expect_run(&rt, alloc, &words, files, sink(alloc), status, text)?;
+        let files = folder_of(alloc, script, &[("d/region.tbl", regions)], &[])?;
+        expect_calls(&rt, alloc, words, files, calls)?;
     }
     Ok(())
 }

@@ -45,6 +45,23 @@ fn counts_rows(rt: HostRuntime) -> Result<(), Fail> {
     Ok(())
 }
 
+// A file that is read in more pieces than one, with lines across their ends.
+#[test]
+fn counts_rows_of_a_long_table(rt: HostRuntime) -> Result<(), Fail> {
+    let alloc = rt.alloc();
+    let mut regions = String::new(alloc);
+    for key in 0..2000 {
+        let line = format!(in alloc; "{key}|REGION {key}|as long as it is|\n")?;
+        regions.push_str(&line)?;
+    }
+    let tables = [("d/region.tbl", regions.as_str())];
+    let text = "region rows 2000\nnation rows 0\npart rows 0\nsupplier rows 0\npartsupp rows 0\n\
+        customer rows 0\norders rows 0\nlineitem rows 0\n";
+    let words = ["check", "d"];
+    expect_over(&rt, alloc, &words, SCRIPT, &tables, Status::Done, text)?;
+    Ok(())
+}
+
 #[test]
 fn counts_customers(rt: HostRuntime) -> Result<(), Fail> {
     let tables = [("d/customer.tbl", "1|C1|a|0|p|-0.5|B|c|")];
