@@ -1,5 +1,6 @@
 pub mod ExampleProofs
 pub mod Induction
+pub mod KnownProofs
 pub mod LawProofs
 pub mod Loops
 pub mod Opened

@@ -30,7 +30,7 @@ use Rattle.scalar_expr.proofs.Induction.{Branches, Operations, exprs, branches, 
 use Rattle.scalar_expr.proofs.Opened.{branch_is, operation_is, value_Column, value_Literal, value_Negative, value_Arithmetic, value_Case, value_Extract, value_Substring, value_Compare, value_Between, value_Like, value_InList, value_IsNull, value_Not, value_All, value_Any, value_Holds}
 
 -- a value that an expression of the sort can have
-abbrev fits : Sort → Value → Bool
+abbrev pub fits : Sort → Value → Bool
 fits s Null = true
 fits s (Failed f) = true
 fits Unfit v = true
@@ -125,7 +125,7 @@ both_numbers operator s t (Number r a) (Date x) h k = cc
 both_numbers operator s t (Text x) w h k = cc
 both_numbers operator s t (Date x) w h k = cc
 
-arithmetic_typed : (operator : Arithmetic) (x y : Sort) (v w : Value) → fits x v ≡ true → fits y w ≡ true
+pub arithmetic_typed : (operator : Arithmetic) (x y : Sort) (v w : Value) → fits x v ≡ true → fits y w ≡ true
     → fits (arithmetic_sort operator x y) (computed operator v w) ≡ true
 arithmetic_typed operator (Of (kind.Number s)) (Of (kind.Number t)) v w h k = both_numbers operator s t v w h k
 arithmetic_typed operator (Of (kind.Number s)) (Of kind.Text) v w h k = unfit (computed operator v w)
@@ -224,7 +224,7 @@ both_right (Of j) Nulls v h = nulls_only (Of j) v h
 both_right (Of j) (Of k) v h = kinds_right (same_kind j k) j k v refl h
 
 -- what is there fits
-abbrev some_fits : Sort → Option Value → Bool
+abbrev pub some_fits : Sort → Option Value → Bool
 some_fits x None = true
 some_fits x (Some v) = fits x v
 
@@ -299,7 +299,7 @@ operation_sort_is o x ks = ap (λ (t : OperationTyping). t x ks) (fold_out-Opera
 
 -- ---- the induction
 
-abbrev IsTyped : Expr → Type 0
+abbrev pub IsTyped : Expr → Type 0
 IsTyped x = (ks : List Kind) (row : List Value) → row_is_of ks row ≡ true → fits (sort_of x ks) (value x row) ≡ true
 
 abbrev BranchTyped : Branch → Type 0
@@ -342,7 +342,7 @@ branch_typed when gives w g ks row r =
     ∙ tested_branch (is_condition when ks) (sort_of gives ks) (decided (truth when row) (value gives row))
     (decided_typed (sort_of gives ks) (truth when row) (value gives row) (g ks row r))
 
-all_typed : (x : Expr) → IsTyped x
+pub all_typed : (x : Expr) → IsTyped x
 unfolding sort_of
 all_typed = induction IsTyped BranchTyped OperationTyped (record {
   column = λ place ks row r. by_parts _ _ _ _ (sort_at_node (e.Column place) _ ks (e.outs-Column place)) (value_Column place row) (column_typed ks row place r);

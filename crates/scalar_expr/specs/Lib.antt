@@ -1,5 +1,6 @@
 pub mod Cases
 pub mod Examples
+pub mod Known
 pub mod Laws
 pub mod Meaning
 pub mod Operators

@@ -96,6 +96,9 @@ fn multiplies_and_divides(rt: HostRuntime) -> Result<(), Fail> {
     let alloc = rt.alloc();
     let quotient = arithmetic(alloc, Arithmetic::Divide, number(2), number(3))?;
     assert!(rt; value_of(alloc, quotient)? == Value::Number(Scale::new(6), 666_667));
+    let minus_two = Expr::Negative(boxed(alloc, number(2))?);
+    let quotient = arithmetic(alloc, Arithmetic::Divide, minus_two, number(3))?;
+    assert!(rt; value_of(alloc, quotient)? == Value::Number(Scale::new(6), -666_667));
     let product = arithmetic(
         alloc,
         Arithmetic::Multiply,
@@ -115,6 +118,32 @@ fn adds_and_subtracts(rt: HostRuntime) -> Result<(), Fail> {
     assert!(rt; value_of(alloc, difference)? == Value::Null);
     let negative = Expr::Negative(boxed(alloc, Expr::Column(1))?);
     assert!(rt; value_of(alloc, negative)? == Value::Number(Scale::new(2), -150));
+    Ok(())
+}
+
+// n chains of m ones, one inside another
+fn nested_chains(alloc: Global, n: u32, m: u32) -> Result<Expr, Fail> {
+    let mut e = number(1);
+    for _ in 0..n {
+        let first = boxed(alloc, e)?;
+        let mut operations = Items::new(alloc);
+        for _ in 0..m {
+            operations.push(Operation {
+                operator: Arithmetic::Add,
+                operand: number(1),
+            })?;
+        }
+        e = Expr::Arithmetic(first, operations);
+    }
+    Ok(e)
+}
+
+// As deep as 64 levels of parentheses round chains of 1024 elements can nest them.
+#[test]
+fn adds_long_chains(rt: HostRuntime) -> Result<(), Fail> {
+    let alloc = rt.alloc();
+    let sum = nested_chains(alloc, 64, 1023)?;
+    assert!(rt; value_of(alloc, sum)? == whole(64 * 1023 + 1));
     Ok(())
 }
 
@@ -189,7 +218,18 @@ fn denied_fault(alloc: Global) -> Result<Expr, Fail> {
 fn ands_conditions(rt: HostRuntime) -> Result<(), Fail> {
     let alloc = rt.alloc();
     assert!(rt; truth_of(alloc, never_and_fault(alloc)?)? == Truth::False);
-    assert!(rt; truth_of(alloc, kept_rows(alloc)?)? == YES);
+    Ok(())
+}
+
+// Of the rows with the keys 0 to 4, those of 3 and 4 are kept.
+#[test]
+fn keeps_rows(rt: HostRuntime) -> Result<(), Fail> {
+    let alloc = rt.alloc();
+    let condition = kept_rows(alloc)?;
+    for (key, want) in [(0, Truth::False), (2, Truth::False), (3, YES), (4, YES)] {
+        let row = [whole(key)];
+        assert!(rt; truth_slice(alloc, &condition, &row)? == want);
+    }
     Ok(())
 }
 

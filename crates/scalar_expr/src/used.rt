@@ -31,40 +31,29 @@ fn put_used(e: &Expr, columns: &mut Vec<u32>) -> Result<(), AllocError>
         | Expr::Like(e, _)
         | Expr::IsNull(e)
         | Expr::Not(e)
-        | Expr::Holds(e) => {
-            put_used(e.get(), columns)?;
-            Ok(())
-        }
+        | Expr::Holds(e) => put_used(e.get(), columns),
         Expr::Arithmetic(first, operations) => {
             put_used(first.get(), columns)?;
-            put_operations_used(operations.as_slice(), columns)?;
-            Ok(())
+            put_operations_used(operations.as_slice(), columns)
         }
         Expr::Compare(_, a, b) => {
             put_used(a.get(), columns)?;
-            put_used(b.get(), columns)?;
-            Ok(())
+            put_used(b.get(), columns)
         }
         Expr::Between(e, low, high) => {
             put_used(e.get(), columns)?;
             put_used(low.get(), columns)?;
-            put_used(high.get(), columns)?;
-            Ok(())
+            put_used(high.get(), columns)
         }
         Expr::Case(_, branches, other) => {
             put_branches_used(branches.as_slice(), columns)?;
-            put_used(other.get(), columns)?;
-            Ok(())
+            put_used(other.get(), columns)
         }
         Expr::InList(e, es) => {
             put_used(e.get(), columns)?;
-            put_all_used(es.as_slice(), columns)?;
-            Ok(())
+            put_all_used(es.as_slice(), columns)
         }
-        Expr::All(es) | Expr::Any(es) => {
-            put_all_used(es.as_slice(), columns)?;
-            Ok(())
-        }
+        Expr::All(es) | Expr::Any(es) => put_all_used(es.as_slice(), columns),
     }
 }
 
