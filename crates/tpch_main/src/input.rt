@@ -77,7 +77,7 @@ pub fn refused(alloc: Global, name: &str, cause: Cause) -> InputError
 }
 
 /// The line for a refused input.
-pub fn line(alloc: Global, refusal: &Refusal) -> Result<Vec<u8>, AllocError>
+pub fn refusal_line(alloc: Global, refusal: &Refusal) -> Result<Vec<u8>, AllocError>
     ensures { IfOk result (λ v. v.items ≡ refusal_line (refused_view refusal.now)) }
 {
     let mut line = Vec::from_slice(alloc, b"input refused ")?;

@@ -1,5 +1,6 @@
 //! Laws of the definitions that the top call's promise stands on, each the contract of a function
-//! that does nothing: what is read of a file is just what its form says in its own words.
+//! that does nothing: a script is read by its form, answers are unique, and the first bad input is
+//! the one that is refused.
 ghost use Rattle.tpch_main.specs.Examples.{Examples};
 ghost use Rattle.tpch_main.specs.Laws.{AnswerLaw, ScriptLaw, SessionOrderLaw, TablesOrderLaw};
 

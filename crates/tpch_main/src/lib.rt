@@ -1,5 +1,6 @@
 //! The whole of the program as one call over its words, its files and its sink. Its contract says
-//! which text it prints, by the meaning of the statement over the rows of the table.
+//! which text it prints: the answer of a script's statement over the rows of its table, the counts
+//! of the eight tables, or the line of the first refused input.
 #![tactic(auto)]
 
 mod answer;

@@ -9,7 +9,7 @@ ghost use Rattle.tpch_main.specs.Words.{command_of};
 
 use crate::Status;
 use crate::check::check_text;
-use crate::input::{InputError, line};
+use crate::input::{InputError, refusal_line};
 use crate::output::{Stop, write_text};
 use crate::session::session_text;
 use crate::words::{Command, read_words};
@@ -58,7 +58,7 @@ fn printed<F: Files>(
     match command_text(alloc, files, command) {
         Ok(text) => Ok((text, Status::Done)),
         Err(InputError::Refused(refusal)) => {
-            let text = line(alloc, &refusal)?;
+            let text = refusal_line(alloc, &refusal)?;
             Ok((text, Status::InputRefused))
         }
         Err(InputError::Fault) => Err(Stop::Fault),
