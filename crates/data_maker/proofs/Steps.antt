@@ -1,10 +1,6 @@
 -- How lines and digits are made one by one.
 use Rattle.std.proofs.Common.{◌≡◌, ℕ, suc, ◌+◌, ◌-◌, ◌/◌, ◌%◌, ◌<◌, List, [], ◌∷◌, ◌++◌, arith, refl, ap, sym, ◌∙◌, append_assoc, append-nil}
-use Rattle.std.proofs.Math.Nat.{div-one}
-use Rattle.std.specs.Fmt.{decimal}
 use Rattle.std.specs.List.{flat_map, range_with_len}
-use Rattle.fixed_decimal.specs.Written.{last_digits, size_written}
-use Rattle.data_maker.specs.Fields.{digits}
 use Rattle.data_maker.specs.Lines.{lines}
 
 pub lines_none : (line : ℕ → List ℕ) (end : ℕ) → lines line end end ≡ []
@@ -16,41 +12,6 @@ unfolding lines
 lines_more line first end h =
     let more : end - first ≡ suc (end - (first + 1)) = omega arith in
     ap (λ n. flat_map line (range_with_len first n)) more
-
-digits_suc : (places number : ℕ) → digits (suc places) number ≡ digits places (number / 10) ++ (48 + number % 10) ∷ []
-unfolding digits
-digits_suc places number = refl
-
-digits_zero : (number : ℕ) → digits 0 number ≡ []
-unfolding digits
-digits_zero number = refl
-
--- two digits from the lowest are the two from the highest
-two_digits : (n : ℕ) → digits 2 n ≡ last_digits 2 n
-unfolding digits
-two_digits n = rw (div-one n) refl
-
--- an amount in hundredths: its whole part, the point, two digits
-pub hundredths_pushed : (text : List ℕ) (n : ℕ) → text ++ decimal (n / 100) ++ 46 ∷ [] ++ digits 2 n ≡ text ++ size_written n 2
-hundredths_pushed text n =
-    ap (λ ds. text ++ decimal (n / 100) ++ 46 ∷ [] ++ ds) (two_digits n)
-    ∙ append_assoc (text ++ decimal (n / 100)) (46 ∷ []) (last_digits 2 n)
-    ∙ append_assoc text (decimal (n / 100)) (46 ∷ last_digits 2 n)
-
--- no digit is still to come
-pub no_digits : (text : List ℕ) (places number : ℕ) → places ≡ 0 → text ≡ text ++ digits places number
-no_digits text places number h =
-    sym (append-nil text) ∙ ap (λ t. text ++ t) (sym (digits_zero number)) ∙ ap (λ n. text ++ digits n number) (sym h)
-
--- the last digit behind the others
-pub digit_pushed : (places number : ℕ) (before middle after : List ℕ) → 0 < places → middle ≡ before ++ digits (places - 1) (number / 10) → after ≡ middle ++ (48 + number % 10) ∷ [] → after ≡ before ++ digits places number
-digit_pushed places number before middle after h e f =
-    let more : suc (places - 1) ≡ places = omega arith in
-    f
-    ∙ ap (λ t. t ++ (48 + number % 10) ∷ []) e
-    ∙ append_assoc before (digits (places - 1) (number / 10)) ((48 + number % 10) ∷ [])
-    ∙ ap (λ t. before ++ t) (sym (digits_suc (places - 1) number))
-    ∙ ap (λ n. before ++ digits n number) more
 
 -- a text more behind those that were added
 pub text_added : (start before after added : List (List ℕ × List ℕ)) (name text bytes : List ℕ) → before ≡ start ++ added → after ≡ before ++ (name, text) ∷ [] → text ≡ bytes → after ≡ start ++ (added ++ (name, bytes) ∷ [])

@@ -1,7 +1,7 @@
 -- What the fields of a line are made of. n is the number that the data is made for.
 use Rattle.std.specs.Prelude.{ℕ, zero, suc, ◌+◌, ◌-◌, ◌*◌, ◌/◌, ◌%◌, ◌^◌, ◌==◌, if◌then◌else◌, List, [], ◌∷◌, ◌++◌, codes, decimal, ℤ, pos}
 use Rattle.civil_date.specs.Move.{Day, day_at, days_moved}
-use Rattle.fixed_decimal.specs.Written.{decimal_written}
+use Rattle.fixed_decimal.specs.Written.{decimal_written, last_digits}
 
 -- a value below count that looks random, for a column and a key
 unfoldable pub draw : ℕ → ℕ → ℕ → ℕ → ℕ
@@ -11,14 +11,9 @@ draw n column key count = (key * 2654435761 + column * 40503 + n * 97) % 2 ^ 32 
 unfoldable pub field : List ℕ → List ℕ
 field text = text ++ 124 ∷ []
 
--- so many digits of a number from its lowest, the highest of them first
-unfoldable pub digits : ℕ → ℕ → List ℕ
-digits zero number = []
-digits (suc places) number = digits places (number / 10) ++ (48 + number % 10) ∷ []
-
 -- a label and the key in nine digits
 abbrev pub labelled : List ℕ → ℕ → List ℕ
-labelled label key = label ++ digits 9 key
+labelled label key = label ++ last_digits 9 key
 
 -- an amount in hundredths, with two digits after the point
 abbrev pub money : ℤ → List ℕ
@@ -34,7 +29,7 @@ phone nation = decimal (10 + nation) ++ codes "-100-200-3000"
 
 -- a day as YYYY-MM-DD
 unfoldable pub day_text : Day → List ℕ
-day_text d = digits 4 d.year ++ 45 ∷ digits 2 d.month ++ 45 ∷ digits 2 d.day
+day_text d = last_digits 4 d.year ++ 45 ∷ last_digits 2 d.month ++ 45 ∷ last_digits 2 d.day
 
 -- the day so many days after 1992-01-01
 unfoldable pub date_text : ℕ → List ℕ

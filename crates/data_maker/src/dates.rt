@@ -3,8 +3,9 @@ ghost use Rattle.std.specs.Prelude.{◌≡◌, ◌≤◌, ◌++◌, pos, OnOk};
 ghost use Rattle.civil_date.specs.Move.{day_at, day_of_date, days_moved, in_years};
 ghost use Rattle.data_maker.specs.Fields.{date_text, day_text, field};
 
-use crate::fields::{push_bar, push_digits};
+use crate::fields::push_bar;
 use civil_date::{CivilDate, DateFault, Interval, IntervalUnit};
+use fixed_decimal::push_last_digits;
 use std::alloc::AllocError;
 
 /// 1992-01-01.
@@ -53,11 +54,11 @@ fn day_after_first(days: u64) -> CivilDate
 fn push_day(text: &mut Vec<u8>, day: CivilDate) -> Result<(), AllocError>
     ensures { OnOk result (text.new.items ≡ text.old.items ++ field (day_text (day_of_date day))) }
 {
-    push_digits(text, 4, day.year() as u64)?;
+    push_last_digits(text, day.year() as u64, 4)?;
     text.push(b'-')?;
-    push_digits(text, 2, day.month() as u64)?;
+    push_last_digits(text, day.month() as u64, 2)?;
     text.push(b'-')?;
-    push_digits(text, 2, day.day() as u64)?;
+    push_last_digits(text, day.day() as u64, 2)?;
     push_bar(text)?;
     Ok(())
 }

@@ -1,10 +1,10 @@
 //! Fields appended to a text, each with the bar that ends it.
 ghost use Rattle.std.specs.Prelude.{◌≡◌, ◌<◌, ◌≤◌, ◌^◌, ◌++◌, ◌∷◌, [], ◌-ℤ◌, pos, OnOk, codes, decimal};
-ghost use Rattle.fixed_decimal.specs.Written.{size_written};
-ghost use Rattle.data_maker.specs.Fields.{address, digits, field, labelled, money, phone};
+ghost use Rattle.data_maker.specs.Fields.{address, field, labelled, money, phone};
 ghost use Rattle.data_maker.specs.Lines.{balance, fields, residence};
 
 use crate::draw::draw;
+use fixed_decimal::{Scale, push_decimal, push_last_digits};
 use itoa::Buffer;
 use std::alloc::AllocError;
 
@@ -42,18 +42,6 @@ pub fn push_digits_of(text: &mut Vec<u8>, number: u64) -> Result<(), AllocError>
     Ok(())
 }
 
-/// Appends so many of the number's last digits, without a bar.
-pub fn push_digits(text: &mut Vec<u8>, places: u32, number: u64) -> Result<(), AllocError>
-    ensures { OnOk result (text.new.items ≡ text.old.items ++ digits places number) }
-{
-    if places == 0 {
-        return Ok(());
-    }
-    push_digits(text, places - 1, number / 10)?;
-    text.push(b'0' + (number % 10) as u8)?;
-    Ok(())
-}
-
 /// Appends a field of that word.
 #[tactic(auto, unfolding(crate::specs::Fields::field))]
 pub fn push_word(text: &mut Vec<u8>, word: &str) -> Result<(), AllocError>
@@ -80,19 +68,8 @@ pub fn push_labelled(text: &mut Vec<u8>, label: &str, key: u64) -> Result<(), Al
     ensures { OnOk result (text.new.items ≡ text.old.items ++ field (labelled label.now key)) }
 {
     push_part(text, label)?;
-    push_digits(text, 9, key)?;
+    push_last_digits(text, key, 9)?;
     push_bar(text)?;
-    Ok(())
-}
-
-/// Appends an amount of so many hundredths, without a sign or a bar.
-#[tactic(auto, using(crate::proofs::Steps::hundredths_pushed))]
-fn push_hundredths(text: &mut Vec<u8>, hundredths: u64) -> Result<(), AllocError>
-    ensures { OnOk result (text.new.items ≡ text.old.items ++ size_written hundredths 2) }
-{
-    push_digits_of(text, hundredths / 100)?;
-    text.push(b'.')?;
-    push_digits(text, 2, hundredths)?;
     Ok(())
 }
 
@@ -101,10 +78,7 @@ fn push_hundredths(text: &mut Vec<u8>, hundredths: u64) -> Result<(), AllocError
 pub fn push_money(text: &mut Vec<u8>, hundredths: i64) -> Result<(), AllocError>
     ensures { OnOk result (text.new.items ≡ text.old.items ++ field (money hundredths)) }
 {
-    if hundredths < 0 {
-        text.push(b'-')?;
-    }
-    push_hundredths(text, hundredths.unsigned_abs())?;
+    push_decimal(text, hundredths as i128, Scale::new(2))?;
     push_bar(text)?;
     Ok(())
 }

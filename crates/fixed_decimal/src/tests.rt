@@ -96,6 +96,18 @@ fn writes(rt: HostRuntime) -> Result<(), Fail> {
 }
 
 #[test]
+fn appends(rt: HostRuntime) -> Result<(), Fail> {
+    let mut text = Vec::from_slice(rt.alloc(), b"a ")?;
+    push_decimal(&mut text, -50, Scale::new(2))?;
+    text.push(b' ')?;
+    push_last_digits(&mut text, 1995, 2)?;
+    push_last_digits(&mut text, 7, 3)?;
+    push_last_digits(&mut text, 7, 0)?;
+    assert!(rt; text.as_slice() == b"a -0.50 95007".as_slice());
+    Ok(())
+}
+
+#[test]
 fn totals(rt: HostRuntime) {
     let cents = Scale::new(2);
     let mut three = Tally::new();

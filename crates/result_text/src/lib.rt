@@ -2,7 +2,6 @@
 #![tactic(auto)]
 
 mod head;
-mod number;
 mod rows;
 
 pub use head::header;

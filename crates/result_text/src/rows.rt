@@ -2,8 +2,8 @@
 ghost use Rattle.std.specs.Prelude.{◌≡◌, ◌++◌, IfOk, OnOk, IsTrue};
 ghost use Rattle.result_text.specs.Answer.{answer_text, barred, columns_written, date_written, escaped, has_no_fault, is_no_fault, rows_have_no_fault, value_written};
 
-use crate::number::{push_decimal, push_last_digits};
 use civil_date::CivilDate;
+use fixed_decimal::{push_decimal, push_last_digits};
 use sql_value::{Row, Value};
 use std::alloc::{AllocError, Global};
 
