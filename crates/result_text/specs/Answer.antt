@@ -36,9 +36,13 @@ abbrev pub columns_written : List Value → List ℕ
 columns_written [] = []
 columns_written (first ∷ others) = value_written first ++ barred others
 
--- rows, each ended by LF
+-- a row, ended by LF
+abbrev pub row_written : List Value → List ℕ
+row_written row = columns_written row ++ 10 ∷ []
+
+-- rows, one behind the other
 abbrev pub answer_text : List (List Value) → List ℕ
-answer_text rows = flat_map (λ row. columns_written row ++ 10 ∷ []) rows
+answer_text rows = flat_map row_written rows
 
 -- the value can be printed
 abbrev pub is_no_fault : Value → Bool

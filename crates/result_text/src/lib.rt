@@ -2,10 +2,11 @@
 #![tactic(auto)]
 
 mod head;
+pub mod laws;
 mod rows;
 
 pub use head::header;
-pub use rows::answer_text;
+pub use rows::{answer_text, push_row};
 
 #[cfg(test)]
 mod tests;

@@ -1,6 +1,6 @@
 //! The rows of an answer.
 ghost use Rattle.std.specs.Prelude.{◌≡◌, ◌++◌, IfOk, OnOk, IsTrue};
-ghost use Rattle.result_text.specs.Answer.{answer_text, barred, columns_written, date_written, escaped, has_no_fault, is_no_fault, rows_have_no_fault, value_written};
+ghost use Rattle.result_text.specs.Answer.{answer_text, barred, columns_written, date_written, escaped, has_no_fault, is_no_fault, row_written, rows_have_no_fault, value_written};
 
 use civil_date::CivilDate;
 use fixed_decimal::{push_decimal, push_last_digits};
@@ -69,16 +69,26 @@ fn push_columns(text: &mut Vec<u8>, values: &[Value]) -> Result<(), AllocError>
     push_barred(text, others)
 }
 
-/// The rows of an answer, in order: each with bars between its columns and LF at its end. A number has all its scale's
-/// digits, a date is YYYY-MM-DD, null is `\N`, and in a text a backslash stands before each bar and each backslash.
+/// Appends a row of an answer: bars between its columns and LF at its end. A number has all its scale's digits, a date is
+/// YYYY-MM-DD, null is `\N`, and in a text a backslash stands before each bar and each backslash. Where memory is wanted,
+/// a part of the row may stand there.
+pub fn push_row(text: &mut Vec<u8>, values: &[Value]) -> Result<(), AllocError>
+    requires { IsTrue (has_no_fault values.now) }
+    ensures { OnOk result (text.new.items ≡ text.old.items ++ row_written values.now) }
+{
+    push_columns(text, values)?;
+    text.push(b'\n')?;
+    Ok(())
+}
+
+/// The rows of an answer, in order, each as `push_row` appends it.
 pub fn answer_text(alloc: Global, rows: &[Row]) -> Result<Vec<u8>, AllocError>
     requires { IsTrue (rows_have_no_fault rows.now) }
     ensures { IfOk result (λ text. text.items ≡ answer_text rows.now) }
 {
     let mut text = Vec::new(alloc);
     for row in rows {
-        push_columns(&mut text, row.values())?;
-        text.push(b'\n')?;
+        push_row(&mut text, row.values())?;
     }
     Ok(text)
 }

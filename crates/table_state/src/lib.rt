@@ -3,6 +3,7 @@
 //! The lists lie behind methods, so that a state may keep them otherwise one day.
 #![tactic(auto)]
 
+pub mod laws;
 mod state;
 
 pub use state::State;

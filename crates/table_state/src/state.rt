@@ -46,7 +46,7 @@ fn place(table: TableName) -> usize
 }
 
 /// The rows of the table among eight lists in the schema's order.
-fn rows_of(tables: &[Vec<Row>], table: TableName) -> &[Row]
+fn table_rows(tables: &[Vec<Row>], table: TableName) -> &[Row]
     requires { length tables.now ≡ 8 }
     ensures { result.now ≡ table_rows (state_of (map vec_items tables.now)) table }
 {
@@ -76,6 +76,6 @@ impl State {
         ensures rows { result.now ≡ table_rows self.now table }
         ensures kinds { RowsAreOf table result.now }
     {
-        rows_of(&self.tables, table)
+        table_rows(&self.tables, table)
     }
 }

@@ -11,6 +11,7 @@ mod Telling
 mod Complete
 mod Texts
 mod ReadingOrder
+mod Accepted
 mod ScriptForm
 mod WorkedExamples
 mod Unique

@@ -63,7 +63,7 @@ pub tables_law : TablesOrderLaw
 tables_law dir folder refused = (λ e. first_bad dir folder all_tables refused (still_refused state_of (lists_in dir all_tables folder) refused e), state_refused dir folder refused)
 
 -- a session's inputs, from its script and its tables
-abbrev both_of : Result Statement Refused → Result State Refused → Result (Statement × State) Refused
+abbrev pub both_of : Result Statement Refused → Result State Refused → Result (Statement × State) Refused
 both_of script tables = and_then script (λ statement. and_then tables (λ state. Ok (statement, state)))
 
 -- a session's inputs: the script is refused, or it is good and the tables are refused

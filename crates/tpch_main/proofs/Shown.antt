@@ -1,10 +1,10 @@
 -- Values of tables are no faults.
-use Rattle.std.proofs.Common.{◌≡◌, ℕ, ◌&&◌, Bool, true, false, List, [], ◌∷◌, IsTrue, arith, map, refl, suc, zero}
+use Rattle.std.proofs.Common.{◌≡◌, ℕ, ◌&&◌, Bool, true, false, List, [], ◌∷◌, IsTrue, arith, refl, suc, zero}
 use Rattle.std.proofs.lemmas.List.Elements.{All-filter, All-map}
 use Rattle.std.proofs.lemmas.List.Sorted.{All-permutation}
 use Rattle.std.specs.List.{All}
 use Rattle.std.specs.List.Sorted.{IsPermutation}
-use Rattle.result_text.specs.Answer.{is_no_fault, rows_have_no_fault}
+use Rattle.result_text.specs.Answer.{has_no_fault, is_no_fault}
 use Rattle.sql_value.specs.declared.value.Value.{Value}
 use Rattle.sql_value.specs.declared.value.Value.TheVariants as value
 use Rattle.tpch_schema.specs.Kinds.{RowsAreOf, are_of_kinds, is_of_kind}
@@ -12,13 +12,13 @@ use Rattle.tpch_schema.specs.Tables.{kinds_of}
 use Rattle.tpch_schema.specs.declared.column.ColumnKind.{ColumnKind}
 use Rattle.tpch_schema.specs.declared.column.ColumnKind.TheVariants as kind
 use Rattle.tpch_schema.specs.declared.table.TableName.{TableName}
-use Rattle.tpch_main.specs.Answer.{alone, asked, is_below, kept, place_of, value_at}
+use Rattle.tpch_main.specs.Answer.{asked, is_below, kept, place_of, value_at}
 use Rattle.tpch_main.specs.declared.statement.Statement.{Statement}
 
--- values that are no faults stay so in rows of their own
-pub alone_shown : (vs : List Value) → All (λ v. IsTrue (is_no_fault v)) vs → IsTrue (rows_have_no_fault (map alone vs))
-alone_shown [] shown = refl
-alone_shown (v ∷ vs) shown = rw (shown 0 v (omega arith), alone_shown vs (λ k d inside. shown (suc k) d (omega arith))) refl
+-- values none of which is a fault have no fault among them
+pub all_shown : (vs : List Value) → All (λ v. IsTrue (is_no_fault v)) vs → IsTrue (has_no_fault vs)
+all_shown [] shown = refl
+all_shown (v ∷ vs) shown = rw (shown 0 v (omega arith), all_shown vs (λ k d inside. shown (suc k) d (omega arith))) refl
 
 both_true : (a b : Bool) → a && b ≡ true → (a ≡ true) × (b ≡ true)
 both_true true b h = (refl, h)
@@ -45,9 +45,9 @@ kinds_shown (k ∷ ks) (v ∷ vs) zero h = value_shown k v (both_true (is_of_kin
 kinds_shown (k ∷ ks) (v ∷ vs) (suc place) h = kinds_shown ks vs place (both_true (is_of_kind k v) (are_of_kinds ks vs) h).1
 
 -- what a statement asks for of a table has no fault, in whatever order
-pub asked_shown : (table : TableName) (statement : Statement) (rows : List (List Value)) (sorted : List Value) → RowsAreOf table rows → IsPermutation (asked statement rows) sorted → All (λ v. IsTrue (is_no_fault v)) sorted
+pub asked_shown : (table : TableName) (statement : Statement) (rows : List (List Value)) (sorted : List Value) → RowsAreOf table rows → IsPermutation (asked statement rows) sorted → IsTrue (has_no_fault sorted)
 asked_shown table statement rows sorted kinds same =
-    All-permutation (λ v. IsTrue (is_no_fault v)) (asked statement rows) sorted same
+    all_shown sorted (All-permutation (λ v. IsTrue (is_no_fault v)) (asked statement rows) sorted same
     (All-map (λ v. IsTrue (is_no_fault v)) (value_at (place_of statement.column)) (kept statement rows)
     (All-filter (λ row. is_below statement.limit (value_at 0 row)) (λ row. IsTrue (is_no_fault (value_at (place_of statement.column) row))) rows
-    (λ k d inside. kinds_shown (kinds_of table) _ (place_of statement.column) (kinds k d inside))))
+    (λ k d inside. kinds_shown (kinds_of table) _ (place_of statement.column) (kinds k d inside)))))

@@ -1,8 +1,9 @@
 -- Some values of the definitions, worked out by hand.
-use Rattle.std.specs.Prelude.{◌≡◌, ℕ, ℤ, pos, List, [], ◌∷◌, None, Some, Result, Err, codes}
+use Rattle.std.specs.Prelude.{◌≡◌, ℕ, ℤ, pos, List, [], ◌∷◌, ◌++◌, None, Some, Result, Err, Ok, codes, map}
 use Rattle.refusals.specs.declared.line.LineFault.TheVariants.{DuplicateKey}
 use Rattle.sql_value.specs.declared.value.Value.{Value}
 use Rattle.sql_value.specs.declared.value.Value.TheVariants as value
+use Rattle.tpch_outside.specs.Outside.{Folder}
 use Rattle.tpch_schema.specs.State.{State}
 use Rattle.tpch_main.specs.Answer.{IsAnswerText}
 use Rattle.tpch_main.specs.Counts.{counts_text}
@@ -36,6 +37,20 @@ no_region = (codes "d/region.tbl", [])
 abbrev pub bad_nation : List ℕ × List ℕ
 bad_nation = (codes "d/nation.tbl", codes "1|A|0|x|\n01|B|0|y|\n")
 
+-- eight files, of which region's has the three regions above and the others have no rows
+abbrev pub empty_table : List ℕ → List ℕ × List ℕ
+empty_table name = (codes "d/" ++ name ++ codes ".tbl", [])
+
+abbrev pub good_region : List ℕ × List ℕ
+good_region = (codes "d/region.tbl", codes "2|ASIA||\n1|AMERICA|b|\n0|AFRICA|a|\n")
+
+abbrev pub good_folder : Folder
+good_folder = good_region ∷ map empty_table (codes "nation" ∷ codes "part" ∷ codes "supplier" ∷ codes "partsupp" ∷ codes "customer" ∷ codes "orders" ∷ codes "lineitem" ∷ [])
+
+-- and a script
+abbrev pub good_script : List ℕ × List ℕ
+good_script = (codes "s", codes "select r_name from region where r_regionkey < 2;")
+
 -- the input of that name is refused
 abbrev pub refused : {A : Type 0} → List ℕ → Cause → Result A Refused
 refused name why = Err (record { name = name; cause = why })
@@ -50,7 +65,11 @@ pub record Examples : Type 0 where
   pub script_first : session_inputs (codes "d") (codes "s") [] ≡ refused (codes "s") cause.Absent
   pub region_first : state_in (codes "d") (bad_nation ∷ []) ≡ refused (codes "d/region.tbl") cause.Absent
   pub line_refused : state_in (codes "d") (bad_nation ∷ no_region ∷ []) ≡ refused (codes "d/nation.tbl") (cause.Line (record { line = 2; fault = DuplicateKey }))
-  -- and is printed with its name, and a bad line with its place
+  -- good inputs are accepted, with the rows of their files
+  pub accepted : state_in (codes "d") good_folder ≡ Ok regions_only
+  pub both_accepted : session_inputs (codes "d") (codes "s") (good_script ∷ good_folder) ≡ Ok (names_below_two, regions_only)
+  pub one_missing : state_in (codes "d") (good_region ∷ []) ≡ refused (codes "d/nation.tbl") cause.Absent
+  -- and a refused one is printed with its name, and a bad line with its place
   pub absent_line : refusal_line (record { name = codes "d/region.tbl"; cause = cause.Absent }) ≡ codes "input refused d/region.tbl absent\n"
   pub bad_line : refusal_line (record { name = codes "d/nation.tbl"; cause = cause.Line (record { line = 2; fault = DuplicateKey }) }) ≡ codes "input refused d/nation.tbl line 2 7 DuplicateKey\n"
   -- each table's rows are counted, in the schema's order

@@ -1,8 +1,9 @@
--- What the definitions say in other words: the form of a script, that answers are unique, and which input is refused first.
-use Rattle.std.specs.Prelude.{◌≡◌, ℕ, ◌≤◌, List, [], ◌∷◌, ◌++◌, Some, Err, IsOk, ◌↔◌, ◌⊎◌, codes, length, true}
+-- What the definitions say in other words: the form of a script, that answers are unique, which inputs are accepted, and which is refused first.
+use Rattle.std.specs.Prelude.{◌≡◌, ℕ, ◌≤◌, List, [], ◌∷◌, ◌++◌, Some, Err, Ok, IsOk, ◌↔◌, ◌⊎◌, codes, length, true}
 use Rattle.std.specs.Char.{is_ascii_digit}
 use Rattle.std.specs.List.{All, list_all}
 use Rattle.tpch_outside.specs.Outside.{Folder}
+use Rattle.tpch_schema.specs.State.{State, table_rows}
 use Rattle.tpch_schema.specs.Tables.{all_tables}
 use Rattle.tpch_schema.specs.declared.table.TableName.{TableName}
 use Rattle.tpch_main.specs.Answer.{IsAnswerText}
@@ -46,6 +47,14 @@ pub record IsFirstBadTable (dir : List ℕ) (folder : Folder) (tables : List Tab
 -- the tables of a folder are refused exactly as the first bad one of them is, in the schema's order
 abbrev pub TablesOrderLaw : Type 0
 TablesOrderLaw = (dir : List ℕ) (folder : Folder) (refused : Refused) → (state_in dir folder ≡ Err refused) ↔ IsFirstBadTable dir folder all_tables refused
+
+-- the tables of a folder are that state exactly where each table has that state's rows
+abbrev pub TablesAcceptedLaw : Type 0
+TablesAcceptedLaw = (dir : List ℕ) (folder : Folder) (state : State) → (state_in dir folder ≡ Ok state) ↔ ((table : TableName) → table_in dir table folder ≡ Ok (table_rows state table))
+
+-- a session's inputs are a statement and a state exactly where its script is that statement and its tables are that state
+abbrev pub SessionAcceptedLaw : Type 0
+SessionAcceptedLaw = (dir script : List ℕ) (folder : Folder) (statement : Statement) (state : State) → (session_inputs dir script folder ≡ Ok (statement, state)) ↔ ((script_in folder script ≡ Ok statement) × (state_in dir folder ≡ Ok state))
 
 -- a session's inputs are refused exactly as its script is, or, where that is good, as its tables are
 abbrev pub SessionOrderLaw : Type 0

@@ -1,16 +1,16 @@
 //! The statement's answer over the rows of region, and its text.
-ghost use Rattle.std.specs.Prelude.{◌≡◌, IfOk, IsTrue, map};
-ghost use Rattle.std.specs.List.{All};
-ghost use Rattle.result_text.specs.Answer.{is_no_fault};
+ghost use Rattle.std.specs.Prelude.{◌≡◌, IfOk, IsTrue};
+ghost use Rattle.result_text.specs.Answer.{has_no_fault};
 ghost use Rattle.sql_value.specs.Value.{value_cmp};
 ghost use Rattle.tpch_schema.specs.Kinds.{RowsAreOf};
 ghost use Rattle.tpch_schema.specs.declared.table.TableName.TheVariants.{Region};
-ghost use Rattle.tpch_main.specs.Answer.{InOrder, IsAnswerText, alone, asked, is_below, place_of, value_at, values_text};
+ghost use Rattle.tpch_main.specs.Answer.{InOrder, IsAnswerText, asked, is_below, place_of, value_at, values_text};
 
 use crate::statement::{Column, Statement};
-use result_text::{answer_text, header};
+use result_text::{header, push_row};
 use sql_value::{Row, Value};
 use std::alloc::{AllocError, Global};
+use std::slice;
 
 /// The column's place in a row, counted from 0.
 fn place(column: Column) -> usize
@@ -66,28 +66,15 @@ fn in_order(mut values: Vec<Value>) -> Result<Vec<Value>, AllocError>
     Ok(values)
 }
 
-/// Each value in a row of its own.
-fn rows_of(alloc: Global, values: &[Value]) -> Result<Vec<Row>, AllocError>
-    ensures { IfOk result (λ rows. rows.items ≡ map alone values.now) }
-{
-    let mut rows = Vec::with_capacity(alloc, values.len())?;
-    for value in values {
-        let value = value.clone()?;
-        let row = Row::new(vec![in alloc; value]?)?;
-        rows.push(row)?;
-    }
-    Ok(rows)
-}
-
 /// The header line and the values, each in a row of its own.
 fn values_text(alloc: Global, values: &[Value]) -> Result<Vec<u8>, AllocError>
-    requires { All (λ v. IsTrue (is_no_fault v)) values.now }
+    requires { IsTrue (has_no_fault values.now) }
     ensures { IfOk result (λ text. text.items ≡ values_text values.now) }
 {
     let mut text = header(alloc, 1, 0, values.len() as u64)?;
-    let rows = rows_of(alloc, values)?;
-    let answer = answer_text(alloc, &rows)?;
-    text.extend_from_slice(&answer)?;
+    for value in values {
+        push_row(&mut text, slice::from_ref(value))?;
+    }
     Ok(text)
 }
 

@@ -23,7 +23,7 @@ pub struct Statement {
 }
 
 /// The script's bytes before its number.
-fn front(column: Column) -> &'static [u8]
+fn script_front(column: Column) -> &'static [u8]
     ensures { result.now ≡ script_front column }
 {
     match column {
@@ -62,7 +62,7 @@ fn limit(text: &[u8]) -> Option<u64>
 fn with_column(column: Column, text: &[u8]) -> Option<Statement>
     ensures { result ≡ statement_of column text.now }
 {
-    let limit = limit(text.strip_prefix(front(column))?)?;
+    let limit = limit(text.strip_prefix(script_front(column))?)?;
     Some(Statement { column, limit })
 }
 

@@ -36,7 +36,7 @@ fn file_name(alloc: Global, folder: &str, table: TableName) -> Result<String, Al
 }
 
 /// The rows of a table's file of which these bytes are the front.
-fn rows_of(alloc: Global, table: TableName, bytes: &[u8]) -> Result<Vec<Row>, ReadFault>
+fn rows_from(alloc: Global, table: TableName, bytes: &[u8]) -> Result<Vec<Row>, ReadFault>
     ensures rows { (text : List ℕ) → IsFront most_bytes text bytes.now
         → MatchResult result (λ rows. file_rows table most_bytes text ≡ Ok rows.items) (IsFaultOf (file_rows table most_bytes text)) }
     ensures kinds { IfOk result (λ rows. RowsAreOf table rows.items) }
@@ -69,7 +69,7 @@ fn read_table<F: Files>(
         Open::Absent => Err(refused(alloc, &name, Cause::Absent)),
         Open::Opened => {
             let bytes = front(alloc, files, TABLE_LIMIT)?;
-            match rows_of(alloc, table, &bytes) {
+            match rows_from(alloc, table, &bytes) {
                 Ok(rows) => Ok(rows),
                 Err(ReadFault::Refused(first)) => Err(refused(alloc, &name, Cause::Line(first))),
                 Err(ReadFault::OutOfMemory) => Err(InputError::Memory),

@@ -1,7 +1,6 @@
 use Rattle.std.proofs.Common.{List, IsTrue, subst, sym}
-use Rattle.std.specs.List.{All}
 use Rattle.std.specs.List.Sorted.{IsPermutation}
-use Rattle.result_text.specs.Answer.{is_no_fault}
+use Rattle.result_text.specs.Answer.{has_no_fault}
 use Rattle.sql_value.specs.declared.value.Value.{Value}
 use Rattle.tpch_schema.specs.declared.table.TableName.TheVariants.{Region}
 use Rattle.tpch_main.proofs.Shown.{asked_shown}
@@ -10,5 +9,5 @@ use Rattle.tpch_main.proofs.answer.statement_text.Goals as goal
 pub values_text-requires : goal.values_text-requires
 values_text-requires c =
     let same = subst (λ (found : List Value). IsPermutation found c.in_ok-sorted.sorted.items) c.in_ok-found.ensures c.in_ok-sorted.ensures.same in
-    subst (λ (values : List Value). All (λ v. IsTrue (is_no_fault v)) values) (sym c.deref.ensures.value)
+    subst (λ (values : List Value). IsTrue (has_no_fault values)) (sym c.deref.ensures.value)
     (asked_shown Region c.args.statement c.args.rows.now c.in_ok-sorted.sorted.items c.requires same)

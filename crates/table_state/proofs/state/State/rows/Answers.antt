@@ -9,5 +9,5 @@ use Rattle.table_state.proofs.state.State.rows.Goals as goal
 
 pub returns-clause-kinds : goal.returns-clause-kinds
 returns-clause-kinds c =
-    let is = c.rows_of.ensures ∙ ap (λ (lists : List (Vec (List Value))). table_rows (state_of (map vec_items lists)) c.args.table) c.deref.ensures.value in
+    let is = c.table_rows.ensures ∙ ap (λ (lists : List (Vec (List Value))). table_rows (state_of (map vec_items lists)) c.args.table) c.deref.ensures.value in
     subst (λ (rows : List (List Value)). RowsAreOf c.args.table rows) (sym is) (c.self.invariant.1 c.args.table)

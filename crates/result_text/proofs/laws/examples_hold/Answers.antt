@@ -1,0 +1,20 @@
+use Rattle.std.proofs.Common.{arith, refl}
+use Rattle.std.proofs.lemmas.Fmt.{decimal_digit}
+use Rattle.result_text.proofs.laws.examples_hold.Goals as goal
+
+pub returns : goal.returns
+returns c = record {
+  first = rw (decimal_digit 1 (omega arith), decimal_digit 0 (omega arith), decimal_digit 2 (omega arith)) refl;
+  minus_half = rw (decimal_digit 0 (omega arith)) refl;
+  zero = rw (decimal_digit 0 (omega arith)) refl;
+  small = rw (decimal_digit 0 (omega arith)) refl;
+  third = rw (decimal_digit 0 (omega arith)) refl;
+  whole = rw (decimal_digit 7 (omega arith)) refl;
+  date = refl;
+  null = refl;
+  escaped = refl;
+  null_in_a_text = refl;
+  empty = refl;
+  rows = refl;
+  none = refl;
+}
