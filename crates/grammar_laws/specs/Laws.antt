@@ -42,6 +42,7 @@ pub record Stops {T A : Type 0} (G : List (Mark T) → A → Type 0) (ts : List 
   pub begins : Begins G (front ++ shown r rest)
   pub there : IsThere r rest
 
+-- A value read has a text of the grammar before the rest; a refusal stands behind tokens that begin one.
 abbrev pub Meets : {T A : Type 0} → (List (Mark T) → A → Type 0) → List T → Outcome T A → Type 0
 Meets G ts (Ok a, rest) = Takes G ts a rest
 Meets G ts (Err r, rest) = Stops G ts r rest
@@ -62,6 +63,7 @@ pub record Stable {T A : Type 0} (p : List T → Outcome T A) : Type 0 where
   pub ends : (ts : List T) (r : Result A Refusal) (us : List T) → p ts ≡ (r, us) → (front : List T) × (ts ≡ front ++ us)
   pub same : (front : List T) (x : T) (u v : List T) (r : Result A Refusal) → p (front ++ x ∷ u) ≡ (r, x ∷ u) → p (front ++ x ∷ v) ≡ (r, x ∷ v)
 
+-- the limit as a refusal at these tokens, where one is passed; else the outcome
 abbrev pub passing : {T A : Type 0} → Option Limit → List T → Outcome T A → Outcome T A
 passing None ts o = o
 passing (Some l) ts o = (Err (refusal_of l), ts)

@@ -2,6 +2,7 @@
 use Rattle.std.specs.Prelude.{◌≡◌, ℕ, zero, suc, Bool, true, List, [], ◌∷◌, ◌++◌, ◌⊎◌}
 use Rattle.grammar_laws.specs.Marks.{Mark, plain, opening, element}
 
+-- A part of the grammar, or all of it: it says which marked tokens spell which values.
 abbrev pub Part : Type 0 → Type 0 → Type 1
 Part T A = List (Mark T) → A → Type 0
 
@@ -13,6 +14,7 @@ One test ms t = (test t ≡ true) × (ms ≡ plain t ∷ [])
 abbrev pub Opens : {T : Type 0} → ℕ → (T → Bool) → Part T T
 Opens room test ms t = (test t ≡ true) × (ms ≡ opening room t ∷ [])
 
+-- no token, which means this value
 abbrev pub Empty : {T A : Type 0} → A → Part T A
 Empty a ms b = (ms ≡ []) × (b ≡ a)
 
@@ -31,6 +33,7 @@ pub record Then {T A B C : Type 0} (f : A → B → C) (G : List (Mark T) → A 
   pub text : ms ≡ front ++ back
   pub value : c ≡ f a b
 
+-- what one part or the other spells
 abbrev pub Or : {T A : Type 0} → Part T A → Part T A → Part T A
 Or G H ms a = G ms a ⊎ H ms a
 

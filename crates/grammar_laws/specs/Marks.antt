@@ -3,22 +3,27 @@ use Rattle.std.specs.Prelude.{ℕ, zero, suc, List, [], ◌∷◌, Option, Some,
 use Rattle.grammar_laws.specs.declared.refusal.Refusal.{Refusal}
 use Rattle.grammar_laws.specs.declared.refusal.Refusal.TheVariants.{TooDeep, TooWide}
 
+-- The limits that a token may pass: `deep` opens a level too many, `wide` begins an element too many.
 pub data Limit : Type 0 where
   deep : Limit
   wide : Limit
 
+-- a passed limit as a refusal
 abbrev pub refusal_of : Limit → Refusal
 refusal_of deep = TooDeep
 refusal_of wide = TooWide
 
+-- A token, and the limit that it passes at its place, if it passes one.
 pub record Mark (T : Type 0) : Type 0 where
   pub token : T
   pub passes : Option Limit
 
+-- the tokens without their marks
 abbrev pub tokens : {T : Type 0} → List (Mark T) → List T
 tokens [] = []
 tokens (m ∷ ms) = m.token ∷ tokens ms
 
+-- the token passes no limit
 abbrev pub plain : {T : Type 0} → T → Mark T
 plain t = record { token = t; passes = None }
 

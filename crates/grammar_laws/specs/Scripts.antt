@@ -22,6 +22,7 @@ pub record Spells {T S : Type 0} (G : ℕ → List (Mark T) → S → Type 0) (t
   pub script : Script G height ss ms
   pub text : tokens ms ≡ ts
 
+-- These tokens are a script with these statements.
 pub record IsScript {T S : Type 0} (G : ℕ → List (Mark T) → S → Type 0) (ts : List T) (ss : List S) : Type 0 where
   pub marks : List (Mark T)
   pub spells : Spells G ts marks ss

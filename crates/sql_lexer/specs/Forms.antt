@@ -29,6 +29,7 @@ abbrev pub ends_number : List ℕ → Bool
 ends_number [] = true
 ends_number (b ∷ bs) = (is_ascii_digit b && ends_number bs) || (b == 46 && are_digits bs)
 
+-- digits, then perhaps a point and at least one digit; or a point and at least one digit
 abbrev pub is_number : List ℕ → Bool
 is_number [] = false
 is_number (b ∷ bs) = (is_ascii_digit b && ends_number bs) || (b == 46 && are_digits bs)
@@ -65,6 +66,7 @@ long_symbol b c =
     else (if b == 62 && c == 61 then Some k.GreaterOrEqual
     else None))
 
+-- the symbol that these bytes are, all of them
 abbrev pub symbol_of : List ℕ → Option Kind
 symbol_of [] = None
 symbol_of (b ∷ []) = symbol b
@@ -80,6 +82,7 @@ IsToken form.Text [] = ⊥
 IsToken form.Text (b ∷ bs) = (b ≡ 39) × (ends_text false bs ≡ true)
 IsToken (form.Symbol kind) bs = symbol_of bs ≡ Some kind
 
+-- a quote comes next
 abbrev pub starts_quote : List ℕ → Bool
 starts_quote [] = false
 starts_quote (b ∷ bs) = b == 39
@@ -132,12 +135,14 @@ abbrev pub word_made : Option Kind → List ℕ → Kind × Content
 word_made (Some kind) word = (kind, content.Nothing)
 word_made None word = (k.Name, content.Text word)
 
+-- a number with so many digits after the point: more than 18 of them are refused first, then a value of 2^127 or more
 abbrev pub number_made : ℕ → ℕ → Result (Kind × Content) (LexRefusal × ℕ)
 number_made value places =
     if nat_lt 18 places then Err (ScaleTooWide, 0)
     else (if nat_lt value (2 ^ 127) then Ok (k.Number, content.Number (pos value) places)
     else Err (NumberTooWide, 0))
 
+-- a text without its quotes; refused at its first byte that no text may have, if there is one
 abbrev pub text_made : Option ℕ → List ℕ → Result (Kind × Content) (LexRefusal × ℕ)
 text_made (Some place) bytes = Err (BadByte, place)
 text_made None bytes = Ok (k.Text, content.Text (unquoted false (drop 1 bytes)))

@@ -26,15 +26,18 @@ abbrev pub number_len : List ℕ → ℕ
 number_len [] = 0
 number_len (b ∷ bs) = if is_ascii_digit b then 1 + number_len bs else fraction_len (b ∷ bs)
 
+-- the symbol of two bytes, or else the one of one byte
 abbrev pub longer : Option Kind → Option Kind → Option (Form × ℕ)
 longer (Some kind) o = Some (form.Symbol kind, 2)
 longer None (Some kind) = Some (form.Symbol kind, 1)
 longer None None = None
 
+-- the longest symbol at the front, whose first byte is b
 abbrev pub symbol_front : ℕ → List ℕ → Option (Form × ℕ)
 symbol_front b [] = longer None (symbol b)
 symbol_front b (c ∷ cs) = longer (long_symbol b c) (symbol b)
 
+-- a text, of one byte more than come after its opening quote
 abbrev pub text_front : Option ℕ → Option (Form × ℕ)
 text_front None = None
 text_front (Some n) = Some (form.Text, suc n)

@@ -22,6 +22,7 @@ abbrev pub gap_len : List ℕ → ℕ
 gap_len [] = 0
 gap_len (b ∷ bs) = if is_blank b then 1 else (if is_comment (b ∷ bs) then prefix_len (λ x. not (x == 10)) (b ∷ bs) else 0)
 
+-- a letter or an underscore comes next
 abbrev pub starts_letter : List ℕ → Bool
 starts_letter [] = false
 starts_letter (b ∷ bs) = is_letter b
