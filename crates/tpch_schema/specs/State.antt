@@ -25,14 +25,3 @@ table_rows state Partsupp = state.partsupp
 table_rows state Customer = state.customer
 table_rows state Orders = state.orders
 table_rows state Lineitem = state.lineitem
-
--- the state with other rows in one table
-abbrev pub with_rows : State → TableName → List (List Value) → State
-with_rows state Region rows = record state { region = rows }
-with_rows state Nation rows = record state { nation = rows }
-with_rows state Part rows = record state { part = rows }
-with_rows state Supplier rows = record state { supplier = rows }
-with_rows state Partsupp rows = record state { partsupp = rows }
-with_rows state Customer rows = record state { customer = rows }
-with_rows state Orders rows = record state { orders = rows }
-with_rows state Lineitem rows = record state { lineitem = rows }

@@ -9,13 +9,21 @@ use crate::column::ColumnKind;
 /// One of the eight tables.
 #[derive(Clone, Copy, Debug, PartialEq, Eq, PartialOrd, Ord, Hash)]
 pub enum TableName {
+    /// The regions of the world.
     Region,
+    /// The nations, each of a region.
     Nation,
+    /// The parts that are sold.
     Part,
+    /// Who supplies parts.
     Supplier,
+    /// Which supplier has which part, how many and at what cost.
     Partsupp,
+    /// Who orders.
     Customer,
+    /// The orders, each of a customer.
     Orders,
+    /// The lines of the orders, each of a part and its supplier.
     Lineitem,
 }
 
