@@ -1,348 +1,30 @@
 -- Over rows without nulls a well-typed expression is not null, and a well-typed condition not Unknown.
-use Rattle.std.proofs.Common.{◌≡◌, ℕ, ◌+◌, zero, suc, List, [], ◌∷◌, map, fold, Bool, true, false, not, ◌&&◌, ◌||◌, ◌==◌, nat_le, if◌then◌else◌, refl, ap, sym, ◌∙◌, ◌≢◌, Option, Some, None, unwrap_or, ℤ, pos, Result, Ok, Err, slice_index_or, slice_get}
+use Rattle.std.proofs.Common.{◌≡◌, ℕ, List, [], ◌∷◌, map, Bool, true, false, not, ◌&&◌, ◌||◌, if◌then◌else◌, refl, ap, sym, ◌∙◌, ◌≢◌, Option, Some, None, unwrap_or}
 use Rattle.std.specs.Cmp.{first_so, second_so}
 use Rattle.std.specs.List.{list_all}
-use Rattle.std.specs.Ordering.{int_eq, nat_cmp}
-use Rattle.std.specs.Prelude.{option_map}
-use Rattle.std.proofs.lemmas.Bool.Decides.{Decides-eqb}
-use Rattle.ascii_text.specs.Pattern.{is_like}
-use Rattle.fixed_decimal.specs.declared.arithmetic.NumberFault.{NumberFault}
-use Rattle.fixed_decimal.specs.declared.arithmetic.NumberFault.TheVariants as decimal
-use Rattle.sql_value.specs.Truth.{lesser, greater, negated, truth_rank}
-use Rattle.sql_value.specs.declared.truth.Fault.{Fault}
 use Rattle.sql_value.specs.declared.truth.Standing.TheVariants.{AtFault, AtTrue}
 use Rattle.sql_value.specs.declared.truth.Truth.{Truth}
 use Rattle.sql_value.specs.declared.truth.Truth.TheVariants.{False, Unknown, Stands}
 use Rattle.sql_value.specs.declared.value.Value.{Value}
-use Rattle.sql_value.specs.declared.value.Value.TheVariants.{Null, Fault as Failed, Number, Text, Date}
+use Rattle.sql_value.specs.declared.value.Value.TheVariants.{Null}
 use Rattle.scalar_expr.specs.declared.expr.Arithmetic.{Arithmetic}
-use Rattle.scalar_expr.specs.declared.expr.Arithmetic.TheVariants.{Add, Subtract, Multiply, Divide}
 use Rattle.scalar_expr.specs.declared.expr.Branch.{Branch}
-use Rattle.scalar_expr.specs.declared.expr.Comparison.{Comparison}
 use Rattle.scalar_expr.specs.declared.expr.Comparison.TheVariants.{Equal, LessOrEqual, GreaterOrEqual}
-use Rattle.scalar_expr.specs.declared.expr.DatePart.{DatePart}
 use Rattle.scalar_expr.specs.declared.expr.Expr.{Expr, Expr-F, out-Expr}
 use Rattle.scalar_expr.specs.declared.expr.Expr.TheFolds.{fold_out-Expr, fold_out-Branch, fold_out-Operation, map-Expr}
 use Rattle.scalar_expr.specs.declared.expr.Expr.TheOpen as f
 use Rattle.scalar_expr.specs.declared.expr.Expr.TheVariants as e
 use Rattle.scalar_expr.specs.declared.expr.Operation.{Operation}
 use Rattle.scalar_expr.specs.declared.kind.Kind.{Kind}
-use Rattle.scalar_expr.specs.declared.kind.Kind.TheVariants as kind
 use Rattle.scalar_expr.specs.Known.{is_known, some_null, null_step, branch_null_step, operation_null_step, has_null, branch_has_null, operation_has_null, ConditionsGiveNoKind, NullsComeFromNulls}
-use Rattle.scalar_expr.specs.Meaning.{value, truth, values, truths, chosen, branch_value, operation_value, operated, decided, first_of, least, greatest, in_list}
-use Rattle.scalar_expr.specs.Operators.{number_or_fault, arithmetic, computed, negative, at_scale, extracted, part_of, truth_of, holds, compared, between, liked, null_test, truth_of_mark}
-use Rattle.scalar_expr.specs.Typing.{is_of_kind, row_is_of, Sort, Unfit, Nulls, Of, column_sort, negative_sort, result_sort, arithmetic_sort, extract_sort, substring_sort, scaled_sort, both_sorts, all_sorts, branches_sorts, sort_in_turn, comparable, is_text, is_number, is_fit, sort_gives, sort_of, is_condition, typing, branch_sort, operation_sort, Typing, BranchTyping, OperationTyping, sort_step, condition_step}
+use Rattle.scalar_expr.specs.Meaning.{value, truth, values, truths, chosen, branch_value, operation_value, operated, decided, first_of, in_list}
+use Rattle.scalar_expr.specs.Operators.{arithmetic, negative, at_scale, holds, compared, between}
+use Rattle.scalar_expr.specs.Typing.{row_is_of, Sort, Unfit, Nulls, Of, negative_sort, arithmetic_sort, extract_sort, substring_sort, scaled_sort, all_sorts, branches_sorts, sort_in_turn, comparable, is_fit, sort_gives, sort_of, is_condition, typing, branch_sort, operation_sort, Typing, BranchTyping, OperationTyping, sort_step, condition_step}
 use Rattle.scalar_expr.proofs.Induction.{Exprs, Branches, Operations, exprs, branches, operations, induction}
 use Rattle.scalar_expr.proofs.Opened.{branch_is, operation_is, value_Column, value_Literal, value_Negative, value_Arithmetic, value_Case, value_Extract, value_Substring, truth_Compare, truth_Between, truth_Like, truth_InList, truth_IsNull, truth_Not, truth_All, truth_Any, truth_Holds}
 use Rattle.scalar_expr.proofs.Typed.{fits, all_typed, with_typings, sort_at_node, test_at_node, branch_sort_is, operation_sort_is, arithmetic_typed}
-
--- ---- values
-
-or_left : (a b : Bool) → (a || b) ≡ false → a ≡ false
-or_left false b h = refl
-or_left true b h = cc
-
-or_right : (a b : Bool) → (a || b) ≡ false → b ≡ false
-or_right false b h = h
-or_right true b h = cc
-
-number_known : (s : ℕ) (r : Result ℤ NumberFault) → is_known (number_or_fault s r) ≡ true
-number_known s (Ok c) = refl
-number_known s (Err decimal.NumberRange) = refl
-number_known s (Err decimal.DivideByZero) = refl
-
-test_known : (b : Bool) (k : Kind) (s : ℕ) (r : Result ℤ NumberFault) → is_fit (if b then Of k else Unfit) ≡ true → is_known (if b then number_or_fault s r else Null) ≡ true
-test_known true k s r h = number_known s r
-test_known false k s r h = cc
-
-result_known : (operator : Arithmetic) (s t : ℕ) (a b : ℤ) → is_fit (result_sort operator s t) ≡ true → is_known (arithmetic operator s a t b) ≡ true
-result_known Add s t a b h = number_known _ _
-result_known Subtract s t a b h = number_known _ _
-result_known Multiply s t a b h = test_known (nat_le (s + t) 18) (kind.Number (s + t)) (s + t) _ h
-result_known Divide s t a b h = number_known _ _
-
-negative_known : (x : Sort) (v : Value) → fits x v ≡ true → is_known v ≡ true → is_fit (negative_sort x) ≡ true → is_known (negative v) ≡ true
-negative_known (Of (kind.Number s)) Null h k g = cc
-negative_known (Of (kind.Number s)) (Failed a) h k g = refl
-negative_known (Of (kind.Number s)) (Number t c) h k g = number_known t _
-negative_known (Of (kind.Number s)) (Text t) h k g = cc
-negative_known (Of (kind.Number s)) (Date d) h k g = cc
-negative_known (Of kind.Text) v h k g = cc
-negative_known (Of kind.Date) v h k g = cc
-negative_known Nulls v h k g = cc
-negative_known Unfit v h k g = cc
-
-both_numbers : (operator : Arithmetic) (s t : ℕ) (v w : Value) → fits (Of (kind.Number s)) v ≡ true → fits (Of (kind.Number t)) w ≡ true → is_known v ≡ true → is_known w ≡ true
-    → is_fit (result_sort operator s t) ≡ true → is_known (computed operator v w) ≡ true
-both_numbers operator s t Null w h k a b g = cc
-both_numbers operator s t (Failed x) Null h k a b g = cc
-both_numbers operator s t (Failed x) (Failed y) h k a b g = refl
-both_numbers operator s t (Failed x) (Number u c) h k a b g = refl
-both_numbers operator s t (Failed x) (Text y) h k a b g = refl
-both_numbers operator s t (Failed x) (Date y) h k a b g = refl
-both_numbers operator s t (Number r c) Null h k a b g = cc
-both_numbers operator s t (Number r c) (Failed y) h k a b g = refl
-both_numbers operator s t (Number r c) (Number u d) h k a b g =
-    let left : s ≡ r = (Decides-eqb s r).0 h in
-    let right : t ≡ u = (Decides-eqb t u).0 k in
-    let fit : is_fit (result_sort operator r u) ≡ true = ap (λ z. is_fit (result_sort operator z u)) (sym left) ∙ ap (λ z. is_fit (result_sort operator s z)) (sym right) ∙ g in
-    result_known operator r u c d fit
-both_numbers operator s t (Number r c) (Text y) h k a b g = cc
-both_numbers operator s t (Number r c) (Date y) h k a b g = cc
-both_numbers operator s t (Text x) w h k a b g = cc
-both_numbers operator s t (Date x) w h k a b g = cc
-
-arithmetic_known : (operator : Arithmetic) (x y : Sort) (v w : Value) → fits x v ≡ true → fits y w ≡ true → is_known v ≡ true → is_known w ≡ true
-    → is_fit (arithmetic_sort operator x y) ≡ true → is_known (computed operator v w) ≡ true
-arithmetic_known operator (Of (kind.Number s)) (Of (kind.Number t)) v w h k a b g = both_numbers operator s t v w h k a b g
-arithmetic_known operator (Of (kind.Number s)) (Of kind.Text) v w h k a b g = cc
-arithmetic_known operator (Of (kind.Number s)) (Of kind.Date) v w h k a b g = cc
-arithmetic_known operator (Of (kind.Number s)) Nulls v w h k a b g = cc
-arithmetic_known operator (Of (kind.Number s)) Unfit v w h k a b g = cc
-arithmetic_known operator (Of kind.Text) y v w h k a b g = cc
-arithmetic_known operator (Of kind.Date) y v w h k a b g = cc
-arithmetic_known operator Nulls y v w h k a b g = cc
-arithmetic_known operator Unfit y v w h k a b g = cc
-
-left_fits : (operator : Arithmetic) (x y : Sort) → is_fit (arithmetic_sort operator x y) ≡ true → is_fit x ≡ true
-left_fits operator Unfit y h = cc
-left_fits operator Nulls y h = refl
-left_fits operator (Of k) y h = refl
-
-right_fits : (operator : Arithmetic) (x y : Sort) → is_fit (arithmetic_sort operator x y) ≡ true → is_fit y ≡ true
-right_fits operator x Nulls h = refl
-right_fits operator x (Of k) h = refl
-right_fits operator Unfit Unfit h = cc
-right_fits operator Nulls Unfit h = cc
-right_fits operator (Of (kind.Number s)) Unfit h = cc
-right_fits operator (Of kind.Text) Unfit h = cc
-right_fits operator (Of kind.Date) Unfit h = cc
-
-extract_known : (part : DatePart) (x : Sort) (v : Value) → fits x v ≡ true → is_known v ≡ true → is_fit (extract_sort x) ≡ true → is_known (extracted part v) ≡ true
-extract_known part (Of kind.Date) Null h k g = cc
-extract_known part (Of kind.Date) (Failed a) h k g = refl
-extract_known part (Of kind.Date) (Date d) h k g = refl
-extract_known part (Of kind.Date) (Number s c) h k g = cc
-extract_known part (Of kind.Date) (Text t) h k g = cc
-extract_known part (Of kind.Text) v h k g = cc
-extract_known part (Of (kind.Number s)) v h k g = cc
-extract_known part Nulls v h k g = cc
-extract_known part Unfit v h k g = cc
-
-substring_known : (from count : ℕ) (x : Sort) (v : Value) → fits x v ≡ true → is_known v ≡ true → is_fit (substring_sort x) ≡ true → is_known (part_of from count v) ≡ true
-substring_known from count (Of kind.Text) Null h k g = cc
-substring_known from count (Of kind.Text) (Failed a) h k g = refl
-substring_known from count (Of kind.Text) (Text t) h k g = refl
-substring_known from count (Of kind.Text) (Number s c) h k g = cc
-substring_known from count (Of kind.Text) (Date d) h k g = cc
-substring_known from count (Of kind.Date) v h k g = cc
-substring_known from count (Of (kind.Number s)) v h k g = cc
-substring_known from count Nulls v h k g = cc
-substring_known from count Unfit v h k g = cc
-
-scaled_known : (scale : ℕ) (x : Sort) (v : Value) → fits x v ≡ true → is_known v ≡ true → is_fit (scaled_sort scale x) ≡ true → is_known (at_scale scale v) ≡ true
-scaled_known scale x Null h k g = cc
-scaled_known scale x (Failed a) h k g = refl
-scaled_known scale x (Text t) h k g = refl
-scaled_known scale x (Date d) h k g = refl
-scaled_known scale Unfit (Number s c) h k g = cc
-scaled_known scale Nulls (Number s c) h k g = cc
-scaled_known scale (Of kind.Text) (Number s c) h k g = cc
-scaled_known scale (Of kind.Date) (Number s c) h k g = cc
-scaled_known scale (Of (kind.Number r)) (Number s c) h k g =
-    let is : r ≡ s = (Decides-eqb r s).0 h in
-    test_known (nat_le s scale) (kind.Number scale) scale _ (ap (λ z. is_fit (scaled_sort scale (Of (kind.Number z)))) (sym is) ∙ g)
-
--- an operand of a sort that fits, where what is made of an unfit one does not
-inside_fits : (g : Sort → Sort) → g Unfit ≡ Unfit → (x : Sort) → is_fit (g x) ≡ true → is_fit x ≡ true
-inside_fits g none Unfit h = let no : false ≡ true = ap is_fit (sym none) ∙ h in cc
-inside_fits g none Nulls h = refl
-inside_fits g none (Of k) h = refl
-
-first_fits : (x y : Sort) → is_fit (both_sorts x y) ≡ true → is_fit x ≡ true
-first_fits Unfit y h = cc
-first_fits Nulls y h = refl
-first_fits (Of k) y h = refl
-
-second_fits : (x y : Sort) → is_fit (both_sorts x y) ≡ true → is_fit y ≡ true
-second_fits Unfit y h = cc
-second_fits Nulls y h = h
-second_fits (Of k) Unfit h = cc
-second_fits (Of k) Nulls h = refl
-second_fits (Of k) (Of j) h = refl
-
-column_known : (ks : List Kind) (row : List Value) (i : ℕ) → row_is_of ks row ≡ true → list_all is_known row ≡ true → is_fit (column_sort (slice_get ks i)) ≡ true
-    → is_known (slice_index_or row i Null) ≡ true
-column_known [] row i r k g = cc
-column_known (j ∷ ks) [] i r k g = cc
-column_known (j ∷ ks) (v ∷ vs) zero r k g = first_so (is_known v) (list_all is_known vs) k
-column_known (j ∷ ks) (v ∷ vs) (suc i) r k g =
-    column_known ks vs i (second_so (is_of_kind j v) (row_is_of ks vs) r) (second_so (is_known v) (list_all is_known vs) k) g
-
-literal_known : (v : Value) → not (is_known v) ≡ false → is_known v ≡ true
-literal_known Null h = cc
-literal_known (Failed a) h = refl
-literal_known (Number s c) h = refl
-literal_known (Text t) h = refl
-literal_known (Date d) h = refl
-
--- ---- truths
-
-abbrev is_decided : Truth → Bool
-is_decided Unknown = false
-is_decided t = true
-
-test_decided : (b : Bool) → is_decided (truth_of b) ≡ true
-test_decided true = refl
-test_decided false = refl
-
-chosen_decided : (b : Bool) (t u : Truth) → is_decided t ≡ true → is_decided u ≡ true → is_decided (if b then t else u) ≡ true
-chosen_decided true t u h k = h
-chosen_decided false t u h k = k
-
-lesser_decided : (t u : Truth) → is_decided t ≡ true → is_decided u ≡ true → is_decided (lesser t u) ≡ true
-lesser_decided t u h k = chosen_decided (nat_le (truth_rank t) (truth_rank u)) t u h k
-
-greater_decided : (t u : Truth) → is_decided t ≡ true → is_decided u ≡ true → is_decided (greater t u) ≡ true
-greater_decided t u h k = chosen_decided (nat_le (truth_rank t) (truth_rank u)) u t k h
-
-negated_decided : (t : Truth) → is_decided t ≡ true → is_decided (negated t) ≡ true
-negated_decided False h = refl
-negated_decided Unknown h = cc
-negated_decided (Stands (AtFault a)) h = refl
-negated_decided (Stands AtTrue) h = refl
-
-least_decided : (ts : List Truth) (t : Truth) → is_decided t ≡ true → list_all is_decided ts ≡ true → is_decided (fold lesser t ts) ≡ true
-least_decided [] t h k = h
-least_decided (u ∷ ts) t h k =
-    least_decided ts (lesser t u) (lesser_decided t u h (first_so (is_decided u) (list_all is_decided ts) k)) (second_so (is_decided u) (list_all is_decided ts) k)
-
-greatest_decided : (ts : List Truth) (t : Truth) → is_decided t ≡ true → list_all is_decided ts ≡ true → is_decided (fold greater t ts) ≡ true
-greatest_decided [] t h k = h
-greatest_decided (u ∷ ts) t h k =
-    greatest_decided ts (greater t u) (greater_decided t u h (first_so (is_decided u) (list_all is_decided ts) k)) (second_so (is_decided u) (list_all is_decided ts) k)
-
--- two values of one kind
-numbers_decided : (c : Comparison) (s t : ℕ) (v w : Value) → fits (Of (kind.Number s)) v ≡ true → fits (Of (kind.Number t)) w ≡ true → is_known v ≡ true → is_known w ≡ true
-    → is_decided (compared c v w) ≡ true
-numbers_decided c s t Null w h k a b = cc
-numbers_decided c s t (Failed x) Null h k a b = cc
-numbers_decided c s t (Failed x) (Failed y) h k a b = refl
-numbers_decided c s t (Failed x) (Number u d) h k a b = refl
-numbers_decided c s t (Failed x) (Text y) h k a b = refl
-numbers_decided c s t (Failed x) (Date y) h k a b = refl
-numbers_decided c s t (Number r n) Null h k a b = cc
-numbers_decided c s t (Number r n) (Failed y) h k a b = refl
-numbers_decided c s t (Number r n) (Number u d) h k a b = test_decided _
-numbers_decided c s t (Number r n) (Text y) h k a b = cc
-numbers_decided c s t (Number r n) (Date y) h k a b = cc
-numbers_decided c s t (Text x) w h k a b = cc
-numbers_decided c s t (Date x) w h k a b = cc
-
-texts_decided : (c : Comparison) (v w : Value) → fits (Of kind.Text) v ≡ true → fits (Of kind.Text) w ≡ true → is_known v ≡ true → is_known w ≡ true
-    → is_decided (compared c v w) ≡ true
-texts_decided c Null w h k a b = cc
-texts_decided c (Failed x) Null h k a b = cc
-texts_decided c (Failed x) (Failed y) h k a b = refl
-texts_decided c (Failed x) (Number u d) h k a b = refl
-texts_decided c (Failed x) (Text y) h k a b = refl
-texts_decided c (Failed x) (Date y) h k a b = refl
-texts_decided c (Text x) Null h k a b = cc
-texts_decided c (Text x) (Failed y) h k a b = refl
-texts_decided c (Text x) (Text y) h k a b = test_decided _
-texts_decided c (Text x) (Number u d) h k a b = cc
-texts_decided c (Text x) (Date y) h k a b = cc
-texts_decided c (Number r n) w h k a b = cc
-texts_decided c (Date x) w h k a b = cc
-
-dates_decided : (c : Comparison) (v w : Value) → fits (Of kind.Date) v ≡ true → fits (Of kind.Date) w ≡ true → is_known v ≡ true → is_known w ≡ true
-    → is_decided (compared c v w) ≡ true
-dates_decided c Null w h k a b = cc
-dates_decided c (Failed x) Null h k a b = cc
-dates_decided c (Failed x) (Failed y) h k a b = refl
-dates_decided c (Failed x) (Number u d) h k a b = refl
-dates_decided c (Failed x) (Text y) h k a b = refl
-dates_decided c (Failed x) (Date y) h k a b = refl
-dates_decided c (Date x) Null h k a b = cc
-dates_decided c (Date x) (Failed y) h k a b = refl
-dates_decided c (Date x) (Date y) h k a b = test_decided _
-dates_decided c (Date x) (Number u d) h k a b = cc
-dates_decided c (Date x) (Text y) h k a b = cc
-dates_decided c (Number r n) w h k a b = cc
-dates_decided c (Text x) w h k a b = cc
-
-compared_decided : (c : Comparison) (x y : Sort) (v w : Value) → fits x v ≡ true → fits y w ≡ true → is_known v ≡ true → is_known w ≡ true → comparable x y ≡ true
-    → is_decided (compared c v w) ≡ true
-compared_decided c (Of (kind.Number s)) (Of (kind.Number t)) v w h k a b g = numbers_decided c s t v w h k a b
-compared_decided c (Of kind.Text) (Of kind.Text) v w h k a b g = texts_decided c v w h k a b
-compared_decided c (Of kind.Date) (Of kind.Date) v w h k a b g = dates_decided c v w h k a b
-compared_decided c (Of (kind.Number s)) (Of kind.Text) v w h k a b g = cc
-compared_decided c (Of (kind.Number s)) (Of kind.Date) v w h k a b g = cc
-compared_decided c (Of (kind.Number s)) Nulls v w h k a b g = cc
-compared_decided c (Of (kind.Number s)) Unfit v w h k a b g = cc
-compared_decided c (Of kind.Text) (Of (kind.Number t)) v w h k a b g = cc
-compared_decided c (Of kind.Text) (Of kind.Date) v w h k a b g = cc
-compared_decided c (Of kind.Text) Nulls v w h k a b g = cc
-compared_decided c (Of kind.Text) Unfit v w h k a b g = cc
-compared_decided c (Of kind.Date) (Of (kind.Number t)) v w h k a b g = cc
-compared_decided c (Of kind.Date) (Of kind.Text) v w h k a b g = cc
-compared_decided c (Of kind.Date) Nulls v w h k a b g = cc
-compared_decided c (Of kind.Date) Unfit v w h k a b g = cc
-compared_decided c Nulls y v w h k a b g = cc
-compared_decided c Unfit y v w h k a b g = cc
-
-comparable_left : (x y : Sort) → comparable x y ≡ true → is_fit x ≡ true
-comparable_left Unfit y h = cc
-comparable_left Nulls y h = refl
-comparable_left (Of k) y h = refl
-
-comparable_right : (x y : Sort) → comparable x y ≡ true → is_fit y ≡ true
-comparable_right x Nulls h = refl
-comparable_right x (Of k) h = refl
-comparable_right Unfit Unfit h = cc
-comparable_right Nulls Unfit h = cc
-comparable_right (Of (kind.Number s)) Unfit h = cc
-comparable_right (Of kind.Text) Unfit h = cc
-comparable_right (Of kind.Date) Unfit h = cc
-
-liked_decided : (pattern : List ℕ) (x : Sort) (v : Value) → fits x v ≡ true → is_known v ≡ true → is_text x ≡ true → is_decided (liked pattern v) ≡ true
-liked_decided pattern (Of kind.Text) Null h k g = cc
-liked_decided pattern (Of kind.Text) (Failed a) h k g = refl
-liked_decided pattern (Of kind.Text) (Text t) h k g = test_decided (is_like pattern t)
-liked_decided pattern (Of kind.Text) (Number s c) h k g = cc
-liked_decided pattern (Of kind.Text) (Date d) h k g = cc
-liked_decided pattern (Of kind.Date) v h k g = cc
-liked_decided pattern (Of (kind.Number s)) v h k g = cc
-liked_decided pattern Nulls v h k g = cc
-liked_decided pattern Unfit v h k g = cc
-
-text_fits : (x : Sort) → is_text x ≡ true → is_fit x ≡ true
-text_fits Unfit h = cc
-text_fits Nulls h = refl
-text_fits (Of k) h = refl
-
-mark_decided : (x : Sort) (v : Value) → fits x v ≡ true → is_known v ≡ true → is_number x ≡ true → is_decided (truth_of_mark v) ≡ true
-mark_decided (Of (kind.Number s)) Null h k g = cc
-mark_decided (Of (kind.Number s)) (Failed a) h k g = refl
-mark_decided (Of (kind.Number s)) (Number t c) h k g = test_decided _
-mark_decided (Of (kind.Number s)) (Text t) h k g = cc
-mark_decided (Of (kind.Number s)) (Date d) h k g = cc
-mark_decided (Of kind.Text) v h k g = cc
-mark_decided (Of kind.Date) v h k g = cc
-mark_decided Nulls v h k g = cc
-mark_decided Unfit v h k g = cc
-
-number_fits : (x : Sort) → is_number x ≡ true → is_fit x ≡ true
-number_fits Unfit h = cc
-number_fits Nulls h = refl
-number_fits (Of k) h = refl
-
-null_test_decided : (v : Value) → is_decided (null_test v) ≡ true
-null_test_decided Null = refl
-null_test_decided (Failed a) = refl
-null_test_decided (Number s c) = refl
-null_test_decided (Text t) = refl
-null_test_decided (Date d) = refl
+use Rattle.scalar_expr.proofs.KnownTruths.{is_decided, lesser_decided, negated_decided, least_decided, greatest_decided, compared_decided, comparable_left, comparable_right, liked_decided, text_fits, mark_decided, number_fits, null_test_decided}
+use Rattle.scalar_expr.proofs.KnownValues.{or_left, or_right, negative_known, arithmetic_known, left_fits, right_fits, extract_known, substring_known, scaled_known, inside_fits, first_fits, second_fits, column_known, literal_known}
 
 -- ---- nulls written in a node
 
@@ -537,7 +219,8 @@ all_known ks row r there = induction (Known ks row) (BranchKnown ks row) (Operat
   in_list = λ a h es. let list = exprs {P = Known ks row} es in
       truth_node ks row _ (f.InList a list) _ (e.outs-InList a list) (truth_InList a list row)
       (λ n g. greatest_decided (map (compared Equal (value a row)) (values list row)) False refl
-      (equals_decided ks row r (sort_of a ks) (value a row) (all_typed a ks row r) es (or_right (has_null a) (some_null (map has_null list)) n) (h.value (or_left (has_null a) (some_null (map has_null list)) n)) g)) refl;
+      (equals_decided ks row r (sort_of a ks) (value a row) (all_typed a ks row r) es (or_right (has_null a) (some_null (map has_null list)) n) (h.value (or_left (has_null a) (some_null (map has_null list)) n))
+      (second_so (is_fit (sort_of a ks)) (list_all (λ (y : Typing). comparable (sort_of a ks) (y.sort ks)) (map typing list)) g))) refl;
   is_null = λ a h. truth_node ks row _ (f.IsNull a) _ (e.outs-IsNull a) (truth_IsNull a row) (λ n g. null_test_decided (value a row)) refl;
   not = λ a h. truth_node ks row _ (f.Not a) _ (e.outs-Not a) (truth_Not a row) (λ n g. negated_decided (truth a row) (h.truth n g)) refl;
   all = λ es. let list = exprs {P = Known ks row} es in

@@ -216,7 +216,8 @@ all_kept m ks these there = induction (Kept m ks these) (BranchKept m ks these) 
       (both_tests _ _ _ _ (kept_comparable _ _ _ _ h.sort k.sort) (kept_comparable _ _ _ _ h.sort l.sort));
   like = λ a h pattern. by_node m ks these _ _ (f.Like a pattern) (f.Like (renamed m a) pattern) (renamed_Like m a pattern) (e.outs-Like a pattern) (e.outs-Like _ pattern) tt (strict_test is_text refl _ _ h.sort);
   in_list = λ a h es. by_node m ks these _ _ (f.InList a (exprs {P = Kept m ks these} es)) (f.InList (renamed m a) (map (renamed m) (exprs {P = Kept m ks these} es)))
-      (renamed_InList m a (exprs {P = Kept m ks these} es)) (e.outs-InList a (exprs {P = Kept m ks these} es)) (e.outs-InList _ _) tt (all_comparable m ks these (sort_of a these) (sort_of (renamed m a) ks) h.sort es);
+      (renamed_InList m a (exprs {P = Kept m ks these} es)) (e.outs-InList a (exprs {P = Kept m ks these} es)) (e.outs-InList _ _) tt
+      (both_tests _ _ _ _ (strict_test is_fit refl _ _ h.sort) (all_comparable m ks these (sort_of a these) (sort_of (renamed m a) ks) h.sort es));
   is_null = λ a h. by_node m ks these _ _ (f.IsNull a) (f.IsNull (renamed m a)) (renamed_IsNull m a) (e.outs-IsNull a) (e.outs-IsNull _) tt (strict_test is_fit refl _ _ h.sort);
   not = λ a h. by_node m ks these _ _ (f.Not a) (f.Not (renamed m a)) (renamed_Not m a) (e.outs-Not a) (e.outs-Not _) tt h.test;
   all = λ es. by_node m ks these _ _ (f.All (exprs {P = Kept m ks these} es)) (f.All (map (renamed m) (exprs {P = Kept m ks these} es))) (renamed_All m (exprs {P = Kept m ks these} es)) (e.outs-All (exprs {P = Kept m ks these} es)) (e.outs-All _) tt (all_tests m ks these es);

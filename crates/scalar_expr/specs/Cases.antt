@@ -16,9 +16,11 @@ use Rattle.scalar_expr.specs.Typing.Sort.{Unfit, Nulls, Of}
 use Rattle.scalar_expr.specs.Meaning.{least, greatest, in_list, decided, first_of}
 use Rattle.scalar_expr.specs.Operators.{computed, negative, at_scale, extracted, part_of, compared, between, liked, null_test, fault_truth, truth_of_mark}
 
+-- a whole number as a value
 abbrev pub whole : ℕ → Value
 whole n = Number 0 (pos n)
 
+-- True, as a truth
 abbrev pub true_truth : Truth
 true_truth = Stands AtTrue
 

@@ -15,12 +15,15 @@ use Rattle.scalar_expr.specs.Cases.{whole, true_truth}
 use Rattle.scalar_expr.specs.Meaning.{value, truth}
 use Rattle.scalar_expr.specs.Operators.{fault_truth}
 
+-- a whole number, written
 abbrev pub number : ℕ → Expr
 number n = e.Literal (whole n)
 
+-- null, written
 abbrev pub null : Expr
 null = e.Literal Null
 
+-- an operator with its right operand
 abbrev pub by : Arithmetic → Expr → Operation
 by operator operand = record { operator = operator; operand = operand }
 

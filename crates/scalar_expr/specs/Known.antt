@@ -13,10 +13,12 @@ use Rattle.scalar_expr.specs.declared.kind.Kind.{Kind}
 use Rattle.scalar_expr.specs.Meaning.{value, truth}
 use Rattle.scalar_expr.specs.Typing.{gives, is_condition, row_is_of}
 
+-- a value other than null
 abbrev pub is_known : Value → Bool
 is_known Null = false
 is_known v = true
 
+-- one of them has a null
 abbrev pub some_null : List Bool → Bool
 some_null = list_any (λ b. b)
 
@@ -39,9 +41,11 @@ null_step (All es) = some_null es
 null_step (Any es) = some_null es
 null_step (Holds e) = e
 
+-- whether null stands in the condition of a branch or in what it gives
 abbrev pub branch_null_step : Branch-F Bool Bool Bool → Bool
 branch_null_step b = b.when || b.gives
 
+-- whether null stands in an operand
 abbrev pub operation_null_step : Operation-F Bool Bool Bool → Bool
 operation_null_step o = o.operand
 
@@ -49,9 +53,11 @@ operation_null_step o = o.operand
 unfoldable pub has_null : Expr → Bool
 has_null = fold-Expr Bool Bool Bool null_step branch_null_step operation_null_step
 
+-- the same of a branch
 unfoldable pub branch_has_null : Branch → Bool
 branch_has_null = fold-Branch Bool Bool Bool null_step branch_null_step operation_null_step
 
+-- the same of an operation
 unfoldable pub operation_has_null : Operation → Bool
 operation_has_null = fold-Operation Bool Bool Bool null_step branch_null_step operation_null_step
 

@@ -34,9 +34,11 @@ decided (Stands AtTrue) v = Some v
 decided (Stands (AtFault f)) v = Some (Failed f)
 decided t v = None
 
+-- a branch, from the truth of its condition and the value of what it gives
 abbrev pub branch_step : Branch-F Meaning BranchMeaning OperationMeaning → BranchMeaning
 branch_step b row = decided (b.when.truth row) (b.gives.value row)
 
+-- an operation, from the value of its operand
 abbrev pub operation_step : Operation-F Meaning BranchMeaning OperationMeaning → OperationMeaning
 operation_step o x row = computed o.operator x (o.operand.value row)
 
@@ -90,9 +92,11 @@ truth_step (Any es) row = greatest (map (λ (m : Meaning). m.truth row) es)
 truth_step (Holds e) row = truth_of_mark (e.value row)
 truth_step e row = Unknown
 
+-- a node, from the meanings of its parts
 abbrev pub expr_step : Expr-F Meaning BranchMeaning OperationMeaning → Meaning
 expr_step e = record { value = value_step e; truth = truth_step e }
 
+-- a whole expression, node by node from its leaves
 unfoldable pub meaning : Expr → Meaning
 meaning = fold-Expr Meaning BranchMeaning OperationMeaning expr_step branch_step operation_step
 
@@ -112,9 +116,11 @@ value e row = (meaning e).value row
 unfoldable pub truth : Expr → List Value → Truth
 truth e row = (meaning e).truth row
 
+-- the value of each of them over a row
 unfoldable pub values : List Expr → List Value → List Value
 values es row = map (λ e. value e row) es
 
+-- the truth of each of them over a row
 unfoldable pub truths : List Expr → List Value → List Truth
 truths es row = map (λ e. truth e row) es
 

@@ -51,6 +51,7 @@ arithmetic Subtract s a t b = number_or_fault (max s t) (difference_of a s b t)
 arithmetic Multiply s a t b = product s a t b
 arithmetic Divide s a t b = number_or_fault (quotient_scale s) (quotient_of a s b t)
 
+-- what is computed of two numbers; null of values that are not both numbers
 abbrev pub on_numbers : (ℕ → ℤ → ℕ → ℤ → Value) → Value → Value → Value
 on_numbers f (Number s a) (Number t b) = f s a t b
 on_numbers f x y = Null
@@ -88,9 +89,11 @@ part_of from count (Failed f) = Failed f
 part_of from count (Text t) = Text (places from count t)
 part_of from count x = Null
 
+-- True where a test passes, else False
 abbrev pub truth_of : Bool → Truth
 truth_of b = if b then Stands AtTrue else False
 
+-- a fault as a truth
 abbrev pub fault_truth : Fault → Truth
 fault_truth f = Stands (AtFault f)
 

@@ -26,9 +26,11 @@ renamed_step columns node = roll-Expr node
 unfoldable pub renamed : List ℕ → Expr → Expr
 renamed columns = fold-Expr Expr Branch Operation (renamed_step columns) roll-Branch roll-Operation
 
+-- the same of a branch
 unfoldable pub renamed_branch : List ℕ → Branch → Branch
 renamed_branch columns = fold-Branch Expr Branch Operation (renamed_step columns) roll-Branch roll-Operation
 
+-- the same of an operation
 unfoldable pub renamed_operation : List ℕ → Operation → Operation
 renamed_operation columns = fold-Operation Expr Branch Operation (renamed_step columns) roll-Branch roll-Operation
 

@@ -33,9 +33,11 @@ used_step (All es) = one_list es
 used_step (Any es) = one_list es
 used_step (Holds e) = e
 
+-- the places that a branch uses: its condition's, then those of what it gives
 abbrev pub branch_used_step : Branch-F (List ℕ) (List ℕ) (List ℕ) → List ℕ
 branch_used_step b = b.when ++ b.gives
 
+-- the places that an operation uses: its operand's
 abbrev pub operation_used_step : Operation-F (List ℕ) (List ℕ) (List ℕ) → List ℕ
 operation_used_step o = o.operand
 
@@ -43,19 +45,23 @@ operation_used_step o = o.operand
 unfoldable pub used : Expr → List ℕ
 used = fold-Expr (List ℕ) (List ℕ) (List ℕ) used_step branch_used_step operation_used_step
 
+-- the same of a branch
 unfoldable pub branch_used : Branch → List ℕ
 branch_used = fold-Branch (List ℕ) (List ℕ) (List ℕ) used_step branch_used_step operation_used_step
 
+-- the same of an operation
 unfoldable pub operation_used : Operation → List ℕ
 operation_used = fold-Operation (List ℕ) (List ℕ) (List ℕ) used_step branch_used_step operation_used_step
 
--- the same of lists
+-- the same of expressions, one behind the other
 unfoldable pub all_used : List Expr → List ℕ
 all_used es = one_list (map used es)
 
+-- the same of branches
 unfoldable pub branches_used : List Branch → List ℕ
 branches_used bs = one_list (map branch_used bs)
 
+-- the same of operations
 unfoldable pub operations_used : List Operation → List ℕ
 operations_used operations = one_list (map operation_used operations)
 

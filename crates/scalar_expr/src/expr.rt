@@ -7,28 +7,41 @@ use sqlite_items::{Boxed, Items};
 /// What is computed of two numbers.
 #[derive(Clone, Copy, Debug, PartialEq, Eq)]
 pub enum Arithmetic {
+    /// The sum, of the larger scale.
     Add,
+    /// The difference, of the larger scale.
     Subtract,
+    /// The product, of both scales added up.
     Multiply,
+    /// The quotient, of the larger of 6 and the dividend's scale.
     Divide,
 }
 
 /// How two values of one kind are compared.
 #[derive(Clone, Copy, Debug, PartialEq, Eq)]
 pub enum Comparison {
+    /// `=`
     Equal,
+    /// `<>`
     NotEqual,
+    /// `<`
     Less,
+    /// `<=`
     LessOrEqual,
+    /// `>`
     Greater,
+    /// `>=`
     GreaterOrEqual,
 }
 
 /// A part of a date.
 #[derive(Clone, Copy, Debug, PartialEq, Eq)]
 pub enum DatePart {
+    /// The year, from 1 to 9999.
     Year,
+    /// The month, from 1 to 12.
     Month,
+    /// The day of the month, from 1.
     Day,
 }
 
@@ -36,32 +49,39 @@ pub enum DatePart {
 #[cycle(expr)]
 #[derive(Drop)]
 pub enum Expr {
-    /// The value at a place of the row.
+    /// The value at a place of the row; null where the row has no such place.
     Column(u32),
+    /// A written value, or one that binding has worked out, as a moved date.
     Literal(Value),
-    /// Minus.
+    /// Minus, of a number.
     Negative(Boxed<Expr>),
     /// The first operand, and the operations on it from left to right. A chain is one node, so that the height of an
     /// expression does not grow with the length of its chains.
     Arithmetic(Boxed<Expr>, Items<Operation>),
-    /// CASE: its branches, and what stands behind ELSE. Its numbers are of this scale, the largest of its branches'.
+    /// CASE: its branches, and what stands behind ELSE, which is null where there is none. Its numbers are of this scale,
+    /// the largest of its branches'. The first condition that is True or a fault decides.
     Case(Scale, Items<Branch>, Boxed<Expr>),
+    /// A part of a date, as a whole number.
     Extract(DatePart, Boxed<Expr>),
-    /// The text, the first place from 1 on, and how many bytes.
+    /// A part of a text: the text, the first place from 1 on, and how many bytes.
     Substring(Boxed<Expr>, u32, u32),
+    /// Two values compared: numbers by their values whatever their scales, texts byte by byte.
     Compare(Comparison, Boxed<Expr>, Boxed<Expr>),
-    /// The value, the least and the greatest that it may be.
+    /// The value, the least and the greatest that it may be: the AND of two comparisons.
     Between(Boxed<Expr>, Boxed<Expr>, Boxed<Expr>),
-    /// The value and the pattern.
+    /// The value and the pattern, in which `_` stands for one byte and `%` for any bytes.
     Like(Boxed<Expr>, Text),
+    /// The value and the list: the OR of its equalities.
     InList(Boxed<Expr>, Items<Expr>),
+    /// True of null; of a fault that fault.
     IsNull(Boxed<Expr>),
+    /// NOT: exchanges True and False, and leaves the rest.
     Not(Boxed<Expr>),
     /// AND; True of no conditions.
     All(Items<Expr>),
     /// OR; False of no conditions.
     Any(Items<Expr>),
-    /// The truth that a mark stands for.
+    /// The truth that a mark stands for: 1 for True, 0 for False, null for Unknown, and a fault.
     Holds(Boxed<Expr>),
 }
 
@@ -69,7 +89,9 @@ pub enum Expr {
 #[cycle(expr)]
 #[derive(Drop)]
 pub struct Branch {
+    /// The condition.
     pub when: Expr,
+    /// What the branch gives where the condition is True.
     pub gives: Expr,
 }
 
@@ -77,6 +99,8 @@ pub struct Branch {
 #[cycle(expr)]
 #[derive(Drop)]
 pub struct Operation {
+    /// The operator.
     pub operator: Arithmetic,
+    /// The operand on its right.
     pub operand: Expr,
 }

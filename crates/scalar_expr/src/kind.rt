@@ -9,7 +9,9 @@ use fixed_decimal::Scale;
 pub enum Kind {
     /// Numbers of one scale.
     Number(Scale),
+    /// Texts of whatever length.
     Text,
+    /// Dates.
     Date,
 }
 
