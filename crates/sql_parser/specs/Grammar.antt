@@ -288,10 +288,12 @@ EndedLine wide part = Then first (StatementLine wide part) (One (is k.Semicolon)
 
 -- The two parts that lead back to themselves. Of the three numbers, the first is how high the text nests.
 unfoldable mutual
+  -- what `UnaryLine` says; one level further in, the same of a text that nests one less high
   pub Unary : ℕ → ℕ → ℕ → Part Token Expr
   Unary zero wide room = UnaryLine wide room Never Never
   Unary (suc h) wide room = UnaryLine wide room (Unary h wide (less room)) (NotPart h wide (less room))
 
+  -- what `PartLine` says; one level further in, the same of a text that nests one less high
   pub NotPart : ℕ → ℕ → ℕ → Part Token Expr
   NotPart zero wide room = PartLine wide room (UnaryLine wide room Never Never) Never
   NotPart (suc h) wide room = PartLine wide room (UnaryLine wide room (Unary h wide (less room)) (NotPart h wide (less room))) (NotPart h wide (less room))

@@ -35,200 +35,266 @@ use Rattle.grammar_laws.specs.Readings.{Reading, one, opens, nothing, never, bot
 use Rattle.sql_parser.specs.Kinds.{kinds}
 use Rattle.sql_parser.specs.Values.{Name, text_of, count_of, number, text, is_count, is_digits, first, second, pair, cons, constant, after_word, after_point, column, negative, negation, factor, term, product, sum, all_of, any_of, arm, case_of, date, interval, extract, substring, distinct_count, between, like, in_list, is_null, is_not_null, denied, tested, item, distinct, plain_selection, condition, filters, query, order_key, statement}
 
+-- a name
 unfoldable pub read_name : Reading Token Name
 read_name = mapped text_of (one (is k.Name))
 
+-- a text
 unfoldable pub read_literal : Reading Token Name
 read_literal = mapped text_of (one (is k.Text))
 
+-- a number without a point of at most 999999999
 unfoldable pub read_number : Reading Token ℕ
 read_number = mapped count_of (one is_count)
 
+-- a text of one to six digits
 unfoldable pub read_digits : Reading Token Name
 read_digits = mapped text_of (one is_digits)
 
+-- year, month or day
 unfoldable pub read_span : Reading Token Span
 read_span = either (is k.Year) (mapped (constant span.Year) (one (is k.Year))) (either (is k.Month) (mapped (constant span.Month) (one (is k.Month))) (mapped (constant span.Day) (one (is k.Day))))
 
+-- a point and a name, where a point comes next
 unfoldable pub read_column_tail : Reading Token (Option Name)
 read_column_tail = either (is k.Point) (both after_point (one (is k.Point)) read_name) (nothing None)
 
+-- a name, and perhaps a second one behind a point
 unfoldable pub read_column : Reading Token Column
 read_column = both column read_name read_column_tail
 
+-- * or /
 unfoldable pub read_multiply : Reading Token Multiplying
 read_multiply = either (is k.Star) (mapped (constant multiplying.Times) (one (is k.Star))) (mapped (constant multiplying.Divide) (one (is k.Slash)))
 
+-- + or -
 unfoldable pub read_add : Reading Token Adding
 read_add = either (is k.Plus) (mapped (constant adding.Plus) (one (is k.Plus))) (mapped (constant adding.Minus) (one (is k.Minus)))
 
+-- a unary part, then one more behind each * or /
 unfoldable pub read_product : ℕ → Reading Token Expr → Reading Token Expr
 read_product wide unary = both product unary (links (among kinds (k.Star ∷ k.Slash ∷ [])) read_multiply factor unary wide)
 
+-- a product, then one more behind each + or -
 unfoldable pub read_sum : ℕ → Reading Token Expr → Reading Token Expr
 read_sum wide unary = both sum (read_product wide unary) (links (among kinds (k.Plus ∷ k.Minus ∷ [])) read_add term (read_product wide unary) wide)
 
+-- a not-part, then one more behind each AND
 unfoldable pub read_conjunction : ℕ → Reading Token Expr → Reading Token Expr
 read_conjunction wide part = both all_of part (links (is k.And) (one (is k.And)) second part wide)
 
+-- an and-part, then one more behind each OR: a whole expression
 unfoldable pub read_whole : ℕ → Reading Token Expr → Reading Token Expr
 read_whole wide part = both any_of (read_conjunction wide part) (links (is k.Or) (one (is k.Or)) second (read_conjunction wide part) wide)
 
+-- an expression, then one more behind each comma
 unfoldable pub read_expr_list : ℕ → Reading Token Expr → Reading Token (List Expr)
 read_expr_list wide part = both cons (read_whole wide part) (links (is k.Comma) (one (is k.Comma)) second (read_whole wide part) wide)
 
+-- WHEN e THEN e
 unfoldable pub read_arm : ℕ → Reading Token Expr → Reading Token Arm
 read_arm wide part = both arm (both second (one (is k.When)) (read_whole wide part)) (both second (one (is k.Then)) (read_whole wide part))
 
+-- an arm, then one more for each WHEN that comes next
 unfoldable pub read_arms : ℕ → Reading Token Expr → Reading Token (List Arm)
 read_arms wide part = both cons (read_arm wide part) (links (is k.When) (nothing (tt {0})) second (read_arm wide part) wide)
 
+-- ELSE and an expression, where ELSE comes next
 unfoldable pub read_else : ℕ → Reading Token Expr → Reading Token (Option Expr)
 read_else wide part = either (is k.Else) (both after_word (one (is k.Else)) (read_whole wide part)) (nothing None)
 
+-- the arms of a CASE, then perhaps an ELSE
 unfoldable pub read_case_body : ℕ → Reading Token Expr → Reading Token Expr
 read_case_body wide part = both case_of (read_arms wide part) (read_else wide part)
 
+-- CASE, which opens a level, its body one level further in, END
 unfoldable pub read_case : ℕ → ℕ → Reading Token Expr → Reading Token Expr
 read_case wide room part = both second (opens room (is k.Case)) (both first (read_case_body wide part) (one (is k.End)))
 
+-- a text, or one between parentheses where such comes next
 unfoldable pub read_date_text : ℕ → Reading Token Name
 read_date_text room = either (is k.OpenParen) (both second (opens room (is k.OpenParen)) (both first read_literal (one (is k.CloseParen)))) read_literal
 
+-- DATE and its text
 unfoldable pub read_date : ℕ → Reading Token Expr
 read_date room = both date (one (is k.Date)) (read_date_text room)
 
+-- a number between parentheses, where such comes next; it means nothing
 unfoldable pub read_precision : ℕ → Reading Token (Unit {0})
 read_precision room = either (is k.OpenParen) (mapped (constant (tt {0})) (both second (opens room (is k.OpenParen)) (both first read_number (one (is k.CloseParen))))) (nothing (tt {0}))
 
+-- INTERVAL, a text of digits, a unit, perhaps a number between parentheses
 unfoldable pub read_interval : ℕ → Reading Token Expr
 read_interval room = both interval (both second (one (is k.Interval)) read_digits) (both first read_span (read_precision room))
 
+-- year, month or day, FROM, an expression
 unfoldable pub read_extract_inside : ℕ → Reading Token Expr → Reading Token Expr
 read_extract_inside wide part = both extract read_span (both second (one (is k.From)) (read_whole wide part))
 
+-- EXTRACT and, between parentheses, what it takes from what
 unfoldable pub read_extract : ℕ → ℕ → Reading Token Expr → Reading Token Expr
 read_extract wide room part = both second (one (is k.Extract)) (both second (opens room (is k.OpenParen)) (both first (read_extract_inside wide part) (one (is k.CloseParen))))
 
+-- FROM N FOR N
 unfoldable pub read_places : Reading Token (ℕ × ℕ)
 read_places = both pair (both second (one (is k.From)) read_number) (both second (one (is k.For)) read_number)
 
+-- an expression, then FROM N FOR N
 unfoldable pub read_substring_inside : ℕ → Reading Token Expr → Reading Token Expr
 read_substring_inside wide part = both substring (read_whole wide part) read_places
 
+-- SUBSTRING and, between parentheses, which part of what
 unfoldable pub read_substring : ℕ → ℕ → Reading Token Expr → Reading Token Expr
 read_substring wide room part = both second (one (is k.Substring)) (both second (opens room (is k.OpenParen)) (both first (read_substring_inside wide part) (one (is k.CloseParen))))
 
+-- a star, or DISTINCT and an expression, or an expression
 unfoldable pub read_count_inside : ℕ → Reading Token Expr → Reading Token Expr
 read_count_inside wide part = either (is k.Star) (mapped (constant e.CountRows) (one (is k.Star))) (either (is k.Distinct) (both distinct_count (one (is k.Distinct)) (read_whole wide part)) (mapped e.Count (read_whole wide part)))
 
+-- COUNT and, between parentheses, what it counts
 unfoldable pub read_count : ℕ → ℕ → Reading Token Expr → Reading Token Expr
 read_count wide room part = both second (one (is k.Count)) (both second (opens room (is k.OpenParen)) (both first (read_count_inside wide part) (one (is k.CloseParen))))
 
+-- SUM, AVG, MIN or MAX
 unfoldable pub read_aggregate_word : Reading Token Aggregate
 read_aggregate_word = either (is k.Sum) (mapped (constant aggregate.Sum) (one (is k.Sum))) (either (is k.Avg) (mapped (constant aggregate.Avg) (one (is k.Avg))) (either (is k.Min) (mapped (constant aggregate.Min) (one (is k.Min))) (mapped (constant aggregate.Max) (one (is k.Max)))))
 
+-- such a word and, between parentheses, an expression
 unfoldable pub read_aggregate : ℕ → ℕ → Reading Token Expr → Reading Token Expr
 read_aggregate wide room part = both e.Aggregate read_aggregate_word (both second (opens room (is k.OpenParen)) (both first (read_whole wide part) (one (is k.CloseParen))))
 
+-- EXTRACT, SUBSTRING, COUNT or an aggregate, told by the next token
 unfoldable pub read_call : ℕ → ℕ → Reading Token Expr → Reading Token Expr
 read_call wide room part = either (is k.Extract) (read_extract wide room part) (either (is k.Substring) (read_substring wide room part) (either (is k.Count) (read_count wide room part) (read_aggregate wide room part)))
 
+-- a number, a text, a date, an interval or a column, told by the next token
 unfoldable pub read_leaf : ℕ → Reading Token Expr
 read_leaf room = either (is k.Number) (mapped number (one (is k.Number))) (either (is k.Text) (mapped text (one (is k.Text))) (either (is k.Date) (read_date room) (either (is k.Interval) (read_interval room) (mapped e.Column read_column))))
 
+-- A minus and a unary part, parentheses around an expression, a CASE, a call or a leaf, told by the next token.
+-- The first two and what a CASE or a call holds are read one level further in.
 unfoldable pub read_unary_line : ℕ → ℕ → Reading Token Expr → Reading Token Expr → Reading Token Expr
 read_unary_line wide room inner part = either (is k.Minus) (both negative (opens room (is k.Minus)) inner) (either (is k.OpenParen) (both second (opens room (is k.OpenParen)) (both first (read_whole wide part) (one (is k.CloseParen)))) (either (is k.Case) (read_case wide room part) (either (among kinds (k.Extract ∷ k.Substring ∷ k.Count ∷ k.Sum ∷ k.Avg ∷ k.Min ∷ k.Max ∷ [])) (read_call wide room part) (read_leaf room))))
 
+-- =, <>, <, <=, > or >=
 unfoldable pub read_comparison : Reading Token Comparison
 read_comparison = either (is k.Equal) (mapped (constant comparison.Equal) (one (is k.Equal))) (either (is k.NotEqual) (mapped (constant comparison.NotEqual) (one (is k.NotEqual))) (either (is k.Less) (mapped (constant comparison.Less) (one (is k.Less))) (either (is k.LessOrEqual) (mapped (constant comparison.LessOrEqual) (one (is k.LessOrEqual))) (either (is k.Greater) (mapped (constant comparison.Greater) (one (is k.Greater))) (mapped (constant comparison.GreaterOrEqual) (one (is k.GreaterOrEqual)))))))
 
+-- a comparison and a sum
 unfoldable pub read_compare : ℕ → Reading Token Expr → Reading Token Test
 read_compare wide unary = both t.Compare read_comparison (read_sum wide unary)
 
+-- IS NULL or IS NOT NULL
 unfoldable pub read_null : Reading Token Test
 read_null = both second (one (is k.Is)) (either (is k.Not) (both is_not_null (one (is k.Not)) (one (is k.Null))) (mapped is_null (one (is k.Null))))
 
+-- BETWEEN, a sum, AND, a sum
 unfoldable pub read_between : ℕ → Reading Token Expr → Reading Token Test
 read_between wide unary = both second (one (is k.Between)) (both between (read_sum wide unary) (both second (one (is k.And)) (read_sum wide unary)))
 
+-- LIKE and a text
 unfoldable pub read_like : Reading Token Test
 read_like = both like (one (is k.Like)) read_literal
 
+-- IN and, between parentheses, a list of expressions
 unfoldable pub read_in : ℕ → ℕ → Reading Token Expr → Reading Token Test
 read_in wide room part = both in_list (one (is k.In)) (both second (opens room (is k.OpenParen)) (both first (read_expr_list wide part) (one (is k.CloseParen))))
 
+-- what NOT may stand before: BETWEEN, LIKE or IN, told by the next token
 unfoldable pub read_deny_test : ℕ → ℕ → Reading Token Expr → Reading Token Expr → Reading Token Test
 read_deny_test wide room unary part = either (is k.Between) (read_between wide unary) (either (is k.Like) read_like (read_in wide room part))
 
+-- what is asked of a sum, told by the next token; nothing, where none of these comes next
 unfoldable pub read_test : ℕ → ℕ → Reading Token Expr → Reading Token Expr → Reading Token Test
 read_test wide room unary part = either (among kinds (k.Equal ∷ k.NotEqual ∷ k.Less ∷ k.LessOrEqual ∷ k.Greater ∷ k.GreaterOrEqual ∷ [])) (read_compare wide unary) (either (is k.Is) read_null (either (is k.Not) (both denied (one (is k.Not)) (read_deny_test wide room unary part)) (either (among kinds (k.Between ∷ k.Like ∷ k.In ∷ [])) (read_deny_test wide room unary part) (nothing t.Holds))))
 
+-- a sum and what is asked of it
 unfoldable pub read_predicate : ℕ → ℕ → Reading Token Expr → Reading Token Expr → Reading Token Expr
 read_predicate wide room unary part = both tested (read_sum wide unary) (read_test wide room unary part)
 
+-- NOT, which opens a level, and a not-part one level further in; else a predicate
 unfoldable pub read_part_line : ℕ → ℕ → Reading Token Expr → Reading Token Expr → Reading Token Expr
 read_part_line wide room unary part = either (is k.Not) (both negation (opens room (is k.Not)) part) (read_predicate wide room unary part)
 
+-- AS and a name, or a name, or nothing, told by the next token
 unfoldable pub read_alias : Reading Token (Option Name)
 read_alias = either (is k.As) (both after_word (one (is k.As)) read_name) (either (is k.Name) (mapped Some read_name) (nothing None))
 
+-- an expression and perhaps its alias
 unfoldable pub read_item : ℕ → Reading Token Expr → Reading Token Item
 read_item wide part = both item (read_whole wide part) read_alias
 
+-- a star, or items with commas between them
 unfoldable pub read_selection : ℕ → Reading Token Expr → Reading Token Selected
 read_selection wide part = either (is k.Star) (mapped (constant selected.All) (one (is k.Star))) (mapped selected.Items (both cons (read_item wide part) (links (is k.Comma) (one (is k.Comma)) second (read_item wide part) wide)))
 
+-- SELECT, perhaps DISTINCT, and what is selected
 unfoldable pub read_select : ℕ → Reading Token Expr → Reading Token (Bool × Selected)
 read_select wide part = both second (one (is k.Select)) (either (is k.Distinct) (both distinct (one (is k.Distinct)) (read_selection wide part)) (mapped plain_selection (read_selection wide part)))
 
+-- a table and perhaps its alias
 unfoldable pub read_from_item : Reading Token FromItem
 read_from_item = both from_item.Table read_name read_alias
 
+-- FROM and tables with commas between them
 unfoldable pub read_from : ℕ → Reading Token (List FromItem)
 read_from wide = both second (one (is k.From)) (both cons read_from_item (links (is k.Comma) (one (is k.Comma)) second read_from_item wide))
 
+-- WHERE and an expression, where WHERE comes next
 unfoldable pub read_where : ℕ → Reading Token Expr → Reading Token Clause
 read_where wide part = either (is k.Where) (both condition (one (is k.Where)) (read_whole wide part)) (nothing clause.Absent)
 
+-- GROUP BY and columns with commas between them, where GROUP comes next
 unfoldable pub read_group : ℕ → Reading Token (List Column)
 read_group wide = either (is k.Group) (both second (both second (one (is k.Group)) (one (is k.By))) (both cons read_column (links (is k.Comma) (one (is k.Comma)) second read_column wide))) (nothing [])
 
+-- HAVING and an expression, where HAVING comes next
 unfoldable pub read_having : ℕ → Reading Token Expr → Reading Token Clause
 read_having wide part = either (is k.Having) (both condition (one (is k.Having)) (read_whole wide part)) (nothing clause.Absent)
 
+-- perhaps WHERE, then perhaps GROUP BY, then perhaps HAVING
 unfoldable pub read_filters : ℕ → Reading Token Expr → Reading Token Filters
 read_filters wide part = both filters (read_where wide part) (both pair (read_group wide) (read_having wide part))
 
+-- SELECT, FROM and the clauses behind it
 unfoldable pub read_query : ℕ → Reading Token Expr → Reading Token Query
 read_query wide part = both query (read_select wide part) (both pair (read_from wide) (read_filters wide part))
 
+-- ASC or DESC or nothing, which is ascending
 unfoldable pub read_direction : Reading Token Bool
 read_direction = either (is k.Asc) (mapped (constant false) (one (is k.Asc))) (either (is k.Desc) (mapped (constant true) (one (is k.Desc))) (nothing false))
 
+-- a name and perhaps its direction
 unfoldable pub read_order_key : Reading Token OrderKey
 read_order_key = both order_key read_name read_direction
 
+-- ORDER BY and keys with commas between them, where ORDER comes next
 unfoldable pub read_order : ℕ → Reading Token (List OrderKey)
 read_order wide = either (is k.Order) (both second (both second (one (is k.Order)) (one (is k.By))) (both cons read_order_key (links (is k.Comma) (one (is k.Comma)) second read_order_key wide))) (nothing [])
 
+-- ROWS ONLY
 unfoldable pub read_rows_only : Reading Token Token
 read_rows_only = both second (one (is k.Rows)) (one (is k.Only))
 
+-- LIMIT N, or FETCH FIRST N ROWS ONLY, or nothing, told by the next token
 unfoldable pub read_limit : Reading Token (Option ℕ)
 read_limit = either (is k.Limit) (both after_word (one (is k.Limit)) read_number) (either (is k.Fetch) (both after_word (both second (one (is k.Fetch)) (one (is k.First))) (both first read_number read_rows_only)) (nothing None))
 
+-- a query, its order and its row limit
 unfoldable pub read_statement : ℕ → Reading Token Expr → Reading Token Statement
 read_statement wide part = both statement (read_query wide part) (both pair (read_order wide) read_limit)
 
+-- a statement and its semicolon
 unfoldable pub read_ended : ℕ → Reading Token Expr → Reading Token Statement
 read_ended wide part = both first (read_statement wide part) (one (is k.Semicolon))
 
 unfoldable mutual
+  -- a unary part, where so many levels may still be opened; with no room, nothing is read further in
   pub unary_at : ℕ → ℕ → Reading Token Expr
   unary_at wide zero = read_unary_line wide zero never never
   unary_at wide (suc room) = read_unary_line wide (suc room) (unary_at wide room) (part_at wide room)
 
+  -- a not-part, likewise
   pub part_at : ℕ → ℕ → Reading Token Expr
   part_at wide zero = read_part_line wide zero (read_unary_line wide zero never never) never
   part_at wide (suc room) = read_part_line wide (suc room) (read_unary_line wide (suc room) (unary_at wide room) (part_at wide room)) (part_at wide room)
@@ -238,9 +304,11 @@ abbrev pub inner_unary : ℕ → ℕ → Reading Token Expr
 inner_unary wide zero = never
 inner_unary wide (suc room) = unary_at wide room
 
+-- likewise a not-part
 abbrev pub inner_part : ℕ → ℕ → Reading Token Expr
 inner_part wide zero = never
 inner_part wide (suc room) = part_at wide room
 
+-- a statement with its semicolon, where so many levels may be opened
 abbrev pub ended_at : ℕ → ℕ → Reading Token Statement
 ended_at wide room = read_ended wide (part_at wide room)

@@ -23,6 +23,7 @@ OneMeaning = (ts : List Token) (ss us : List Statement) → IsScript Sql ts ss �
 abbrev pub max_script : ℕ
 max_script = 1048576
 
+-- the first byte of a token, or the end where there is no token
 abbrev pub start_or : ℕ → Option Token → ℕ
 start_or end None = end
 start_or end (Some token) = token.start

@@ -35,11 +35,13 @@ Name = List ℕ
 
 -- ---- what a token holds
 
+-- the bytes of a name or a text; none of anything else
 abbrev pub content_text : Content → Name
 content_text content.Nothing = []
 content_text (content.Text bytes) = bytes
 content_text (content.Number value places) = []
 
+-- what a name or a text says
 abbrev pub text_of : Token → Name
 text_of token = content_text token.content
 
@@ -53,25 +55,31 @@ abbrev pub is_small : ℤ → Bool
 is_small (pos n) = nat_le n 999999999
 is_small (negsuc n) = false
 
+-- a number, read without its point; 0 of anything else
 abbrev pub content_count : Content → ℕ
 content_count content.Nothing = 0
 content_count (content.Text bytes) = 0
 content_count (content.Number value places) = magnitude value
 
+-- how many a number token counts
 abbrev pub count_of : Token → ℕ
 count_of token = content_count token.content
 
+-- a number with its digits after the point; 0 of anything else
 abbrev pub content_number : Content → Expr
 content_number content.Nothing = e.Number (pos 0) 0
 content_number (content.Text bytes) = e.Number (pos 0) 0
 content_number (content.Number value places) = e.Number value places
 
+-- a number token as an expression
 abbrev pub number : Token → Expr
 number token = content_number token.content
 
+-- a text token as an expression
 abbrev pub text : Token → Expr
 text token = e.Text (text_of token)
 
+-- a number without a point, from 0 to 999999999
 abbrev pub is_small_whole : Content → Bool
 is_small_whole content.Nothing = false
 is_small_whole (content.Text bytes) = false
@@ -81,6 +89,7 @@ is_small_whole (content.Number value places) = places == 0 && is_small value
 abbrev pub is_count : Token → Bool
 is_count token = is k.Number token && is_small_whole token.content
 
+-- digits only
 abbrev pub all_digits : List ℕ → Bool
 all_digits bytes = list_all is_ascii_digit bytes
 
@@ -90,15 +99,19 @@ is_digits token = is k.Text token && ((nat_le 1 (length (text_of token)) && nat_
 
 -- ---- of two values
 
+-- the first of two values
 abbrev pub first : {A B : Type 0} → A → B → A
 first a b = a
 
+-- the second of two values
 abbrev pub second : {A B : Type 0} → A → B → B
 second a b = b
 
+-- both values
 abbrev pub pair : {A B : Type 0} → A → B → A × B
 pair a b = (a, b)
 
+-- a value before the others
 abbrev pub cons : {A : Type 0} → A → List A → List A
 cons a others = a ∷ others
 
@@ -106,9 +119,11 @@ cons a others = a ∷ others
 abbrev pub constant : {A B : Type 0} → A → B → A
 constant a b = a
 
+-- the value behind a word
 abbrev pub after_word : {A B : Type 0} → A → B → Option B
 after_word word b = Some b
 
+-- the name behind a point
 abbrev pub after_point : Token → Name → Option Name
 after_point point name = Some name
 
@@ -119,15 +134,19 @@ abbrev pub column : Name → Option Name → Column
 column name None = record { item = None; name = name }
 column item (Some name) = record { item = Some item; name = name }
 
+-- a minus sign before a value
 abbrev pub negative : Token → Expr → Expr
 negative minus x = e.Negative x
 
+-- NOT before a condition
 abbrev pub negation : Token → Expr → Expr
 negation word x = e.Not x
 
+-- a factor behind `*` or `/`
 abbrev pub factor : Multiplying → Expr → Factor
 factor operator x = roll-Factor (record { operator = operator; value = x })
 
+-- a term behind `+` or `-`
 abbrev pub term : Adding → Expr → Term
 term operator x = roll-Term (record { operator = operator; value = x })
 
@@ -136,57 +155,73 @@ abbrev pub product : Expr → List Factor → Expr
 product x [] = x
 product x (y ∷ ys) = e.Product x (y ∷ ys)
 
+-- likewise for terms
 abbrev pub sum : Expr → List Term → Expr
 sum x [] = x
 sum x (y ∷ ys) = e.Sum x (y ∷ ys)
 
+-- likewise for conditions joined by AND
 abbrev pub all_of : Expr → List Expr → Expr
 all_of x [] = x
 all_of x (y ∷ ys) = e.And x (y ∷ ys)
 
+-- likewise for conditions joined by OR
 abbrev pub any_of : Expr → List Expr → Expr
 any_of x [] = x
 any_of x (y ∷ ys) = e.Or x (y ∷ ys)
 
+-- WHEN this condition THEN this value
 abbrev pub arm : Expr → Expr → Arm
 arm condition value = roll-Arm (record { condition = condition; value = value })
 
+-- a CASE, with ELSE where a value stands behind it
 abbrev pub case_of : List Arm → Option Expr → Expr
 case_of arms None = e.Case arms
 case_of arms (Some x) = e.CaseElse arms x
 
+-- DATE and its text, not read yet
 abbrev pub date : Token → Name → Expr
 date word bytes = e.Date bytes
 
+-- so many of a unit
 abbrev pub interval : Name → Span → Expr
 interval digits unit = e.Interval digits unit
 
+-- a part of a date
 abbrev pub extract : Span → Expr → Expr
 extract part x = e.Extract part x
 
+-- part of a text: from which place on, and how many
 abbrev pub substring : Expr → ℕ × ℕ → Expr
 substring x places = e.Substring x places.0 places.1
 
+-- how many different values
 abbrev pub distinct_count : Token → Expr → Expr
 distinct_count word x = e.CountDistinct x
 
 -- ---- tests
 
+-- between these two, not denied
 abbrev pub between : Expr → Expr → Test
 between low high = t.Between false low high
 
+-- like this pattern, not denied
 abbrev pub like : Token → Name → Test
 like word pattern = t.Like false pattern
 
+-- equal to one of these, not denied
 abbrev pub in_list : Token → List Expr → Test
 in_list word list = t.InList false list
 
+-- `is null`
 abbrev pub is_null : Token → Test
 is_null word = t.IsNull false
 
+-- `is not null`
 abbrev pub is_not_null : Token → Token → Test
 is_not_null word null = t.IsNull true
 
+-- the test denied: true becomes false in its flag, and back
 abbrev pub opposite : Test → Test
 opposite t.Holds = t.Holds
 opposite (t.Compare c x) = t.Compare c x
@@ -195,13 +230,16 @@ opposite (t.Between b low high) = t.Between (not b) low high
 opposite (t.Like b pattern) = t.Like (not b) pattern
 opposite (t.InList b list) = t.InList (not b) list
 
+-- the test behind a NOT
 abbrev pub denied : Token → Test → Test
 denied word test = opposite test
 
+-- the condition, or its NOT
 abbrev pub deny : Bool → Expr → Expr
 deny true x = e.Not x
 deny false x = x
 
+-- what is asked of a value, as one condition; a denied test is NOT of the test itself
 abbrev pub tested : Expr → Test → Expr
 tested x t.Holds = x
 tested x (t.Compare c y) = e.Compare c x y
@@ -212,26 +250,34 @@ tested x (t.InList b list) = deny b (e.InList x list)
 
 -- ---- queries
 
+-- a selected expression and its alias
 abbrev pub item : Expr → Option Name → Item
 item x alias = record { value = x; alias = alias }
 
+-- what is selected, behind DISTINCT
 abbrev pub distinct : Token → Selected → Bool × Selected
 distinct word s = (true, s)
 
+-- what is selected, without DISTINCT
 abbrev pub plain_selection : Selected → Bool × Selected
 plain_selection s = (false, s)
 
+-- WHERE or HAVING with its condition
 abbrev pub condition : Token → Expr → Clause
 condition word x = clause.Condition x
 
+-- WHERE, GROUP BY and HAVING together
 abbrev pub filters : Clause → List Column × Clause → Filters
 filters c g = record { condition = c; group = g.0; having = g.1 }
 
+-- a query of its clauses, with no order and no row limit yet
 abbrev pub query : Bool × Selected → List FromItem × Filters → Query
 query s f = record { is_distinct = s.0; selected = s.1; from = f.0; condition = f.1.condition; group = f.1.group; having = f.1.having; order = []; limit = None }
 
+-- an output column to order by, and whether it descends
 abbrev pub order_key : Name → Bool → OrderKey
 order_key column is_descending = record { column = column; is_descending = is_descending }
 
+-- the query with its order and its row limit
 abbrev pub statement : Query → List OrderKey × Option ℕ → Statement
 statement q o = statements.Query (record q { order = o.0; limit = o.1 })
