@@ -12,6 +12,7 @@ use Rattle.tbl_reader.specs.File.{cut_lines, file_rows, most_bytes}
 abbrev pub refused : ℕ → LineFault → Result (List (List Value)) LineRefusal
 refused line fault = Err (record { line = line; fault = fault })
 
+-- a row of region
 abbrev pub region : ℕ → List ℕ → List ℕ → List Value
 region key name comment = Number 0 (pos key) ∷ Text name ∷ Text comment ∷ []
 
@@ -30,7 +31,8 @@ Rows =
     × (file_rows Region most_bytes (codes "0|A|a|" ++ 13 ∷ 10 ∷ codes "001|B|b" ++ 13 ∷ []) ≡ Ok (region 0 (codes "A") (codes "a") ∷ region 1 (codes "B") (codes "b") ∷ []))
     × (file_rows Region most_bytes [] ≡ Ok [])
 
--- the first bad line decides; in a line the number of fields, then the fields from the left, then the key
+-- the first bad line decides; in a line the number of fields, then the fields from the left, then the key; of two CR before
+-- the LF one stays, and is no byte of a text
 abbrev pub Refusals : Type 0
 Refusals =
     (file_rows Region most_bytes (codes "0|AFRICA") ≡ refused 1 FieldCount)
@@ -39,6 +41,7 @@ Refusals =
     × (file_rows Region most_bytes (codes "9223372036854775808|A|y|") ≡ refused 1 NumberTooWide)
     × (file_rows Region most_bytes (codes "-1|" ++ 9 ∷ codes "|y|") ≡ refused 1 NumberTooWide)
     × (file_rows Region most_bytes (codes "0|abcdefghijklmnopqrstuvwxy" ++ 127 ∷ codes "|y|") ≡ refused 1 BadText)
+    × (file_rows Region most_bytes (codes "0|A|a" ++ 13 ∷ 13 ∷ 10 ∷ []) ≡ refused 1 BadText)
     × (file_rows Region most_bytes (codes "0|abcdefghijklmnopqrstuvwxyz|y|") ≡ refused 1 TextTooLong)
     × (file_rows Region most_bytes (codes "0|A|x|" ++ 10 ∷ codes "00|B|y|") ≡ refused 2 DuplicateKey)
     × (file_rows Orders most_bytes (codes "1|1|O|1.00|1900-02-29|1|K|0|x|") ≡ refused 1 BadDate)

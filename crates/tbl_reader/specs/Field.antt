@@ -31,6 +31,7 @@ abbrev pub printable_field : ColumnKind → List ℕ → Option ℕ → Result V
 printable_field kind text (Some place) = Err BadText
 printable_field kind text None = if is_of_kind kind (value.Text text) then Ok (value.Text text) else Err TextTooLong
 
+-- the text that a field is: BadText comes before TextTooLong
 abbrev pub text_field : ColumnKind → List ℕ → Result Value LineFault
 text_field kind text = printable_field kind text (first_unprintable text)
 

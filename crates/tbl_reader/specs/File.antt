@@ -35,6 +35,7 @@ pub record Progress : Type 0 where
   pub rows : List (List Value)
   pub bytes : ℕ
 
+-- these rows, of lines of so many bytes
 abbrev pub progress : List (List Value) → ℕ → Progress
 progress rows bytes = record { rows = rows; bytes = bytes }
 
@@ -58,6 +59,7 @@ add_line table limit (Ok so_far) line =
 abbrev pub add_lines : TableName → ℕ → Result Progress LineRefusal → List (List ℕ) → Result Progress LineRefusal
 add_lines table limit = fold (add_line table limit)
 
+-- the rows alone, or the first refusal
 abbrev pub only_rows : Result Progress LineRefusal → Result (List (List Value)) LineRefusal
 only_rows (Ok so_far) = Ok so_far.rows
 only_rows (Err first) = Err first

@@ -15,6 +15,7 @@ without_end byte text = if ends_with nat_eq text (byte ∷ []) then take (length
 abbrev pub line_text : List ℕ → List ℕ
 line_text line = without_end 13 (without_end 10 line)
 
+-- the byte of a bar
 abbrev pub is_bar : ℕ → Bool
 is_bar byte = byte == 124
 

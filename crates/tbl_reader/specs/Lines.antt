@@ -10,5 +10,6 @@ pub record LinesRead : Type 0 where
   pub limit : ℕ
   pub so_far : Progress
 
+-- a table, its limit, and these rows of lines of so many bytes
 abbrev pub lines_read : TableName → ℕ → List (List Value) → ℕ → LinesRead
 lines_read table limit rows bytes = record { table = table; limit = limit; so_far = progress rows bytes }

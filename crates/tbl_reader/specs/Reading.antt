@@ -14,6 +14,7 @@ pub record Reading : Type 0 where
   pub rest : List ℕ
   pub fault : Option ReadFault
 
+-- the reader of these parts
 abbrev pub reading : LinesRead → List ℕ → Option ReadFault → Reading
 reading lines rest fault = record { lines = lines; rest = rest; fault = fault }
 

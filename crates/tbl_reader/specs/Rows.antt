@@ -8,5 +8,6 @@ pub record TableRows : Type 0 where
   pub table : TableName
   pub rows : List (List Value)
 
+-- these rows of a table
 abbrev pub rows_in_table : TableName → List (List Value) → TableRows
 rows_in_table table rows = record { table = table; rows = rows }

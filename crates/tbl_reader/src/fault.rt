@@ -7,7 +7,9 @@ use tpch_schema::LineRefusal;
 /// Why a file gives no rows: its first bad line, or want of memory.
 #[derive(Clone, Copy, Debug, PartialEq, Eq)]
 pub enum ReadFault {
+    /// The first bad line, and what is wrong with it.
     Refused(LineRefusal),
+    /// Memory was wanted.
     OutOfMemory,
 }
 

@@ -14,7 +14,9 @@ use tpch_schema::{ColumnKind, LineFault};
 /// Why a field or a line gives nothing: it is bad, or memory is wanted.
 #[derive(Clone, Copy, Debug, PartialEq, Eq)]
 pub enum LineError {
+    /// What is wrong with it.
     Bad(LineFault),
+    /// Memory was wanted.
     OutOfMemory,
 }
 

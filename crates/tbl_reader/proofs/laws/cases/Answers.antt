@@ -11,7 +11,7 @@ returns-clause-rows c = (refl, refl, refl, refl)
 
 pub returns-clause-refusals : goal.returns-clause-refusals
 unfolding file_rows
-returns-clause-refusals c = (refl, refl, refl, refl, refl, refl, refl, refl, refl)
+returns-clause-refusals c = (refl, refl, refl, refl, refl, refl, refl, refl, refl, refl)
 
 pub returns-clause-limits : goal.returns-clause-limits
 unfolding file_rows
