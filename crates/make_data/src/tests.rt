@@ -1,15 +1,17 @@
-//! Runs over a target in memory, with the files and lines that they must leave.
+//! Runs over a target in memory, with the files and lines that they must leave, and the machine's own files once.
 ghost use Rattle.std.specs.Prelude.{◌≡◌, Some, [], ◌∷◌, ◌++◌, IsErrOf, OnErr, OnOk, map};
 ghost use Rattle.std.specs.String.{string_bytes};
 ghost use Rattle.tpch_outside.specs.Outside.{Counts};
 ghost use Rattle.data_maker.specs.Texts.{named};
 ghost use Rattle.make_data.specs.Target.{Grows};
 
+use crate::machine::Machine;
 use crate::run::make_data;
 use crate::status::Status;
 use crate::target::{Target, TargetError};
 use data_maker::NamedText;
 use std::alloc::{AllocError, Global};
+use std::fs;
 use std::test::Fail;
 
 /// A target that keeps what it is given, and fails at one call.
@@ -164,5 +166,22 @@ fn stops_at_a_fault(rt: HostRuntime) -> Result<(), Fail> {
     let mut closed = Memory::new(alloc, 0);
     assert_eq!(rt; make_data(alloc, &[], &mut closed), Status::WriteFault);
     assert!(rt; closed.printed.is_empty());
+    Ok(())
+}
+
+#[test]
+fn writes_to_the_machine(rt: HostRuntime) -> Result<(), Fail> {
+    let path = "make_data_test";
+    let mut machine = Machine::new(&rt);
+    assert_eq!(rt; machine.write_file(path, b"a longer text"), Ok(()));
+    assert_eq!(rt; machine.write_file(path, b"a text"), Ok(()));
+    assert_eq!(rt; fs::read(&rt, path)?.as_slice(), b"a text".as_slice());
+    fs::remove_file(&rt, path)?;
+    let absent = "no folder of this name/file";
+    assert_eq!(rt;
+        machine.write_file(absent, b"a text"),
+        Err(TargetError::Fault)
+    );
+    assert_eq!(rt; machine.print("a line\n"), Ok(()));
     Ok(())
 }
