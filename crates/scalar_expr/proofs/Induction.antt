@@ -5,7 +5,7 @@ use Rattle.scalar_expr.specs.declared.expr.Arithmetic.{Arithmetic}
 use Rattle.scalar_expr.specs.declared.expr.Branch.{Branch, roll-Branch}
 use Rattle.scalar_expr.specs.declared.expr.Comparison.{Comparison}
 use Rattle.scalar_expr.specs.declared.expr.DatePart.{DatePart}
-use Rattle.scalar_expr.specs.declared.expr.Expr.{Expr, Expr-F, roll-Expr}
+use Rattle.scalar_expr.specs.declared.expr.Expr.{Expr, roll-Expr}
 use Rattle.scalar_expr.specs.declared.expr.Expr.TheFolds.{ind-Expr, map-Expr}
 use Rattle.scalar_expr.specs.declared.expr.Expr.TheOpen as f
 use Rattle.scalar_expr.specs.declared.expr.Expr.TheVariants as e

@@ -1,9 +1,7 @@
 -- An expression over other columns is typed as the old one over the row of these columns.
-use Rattle.std.proofs.Common.{◌≡◌, ℕ, List, [], ◌∷◌, map, Bool, true, false, ◌&&◌, if◌then◌else◌, refl, ap, sym, subst, ◌∙◌, zero, suc, Option, Some, None, slice_get}
+use Rattle.std.proofs.Common.{◌≡◌, ℕ, List, [], ◌∷◌, map, Bool, true, false, ◌&&◌, if◌then◌else◌, refl, ap, sym, subst, ◌∙◌, zero, suc, Option, Some, slice_get}
 use Rattle.std.specs.Cmp.{first_so, second_so}
 use Rattle.std.specs.List.{list_all}
-use Rattle.sql_value.specs.declared.value.Value.{Value}
-use Rattle.sql_value.specs.declared.value.Value.TheVariants.{Null}
 use Rattle.scalar_expr.specs.declared.expr.Arithmetic.{Arithmetic}
 use Rattle.scalar_expr.specs.declared.expr.Branch.{Branch}
 use Rattle.scalar_expr.specs.declared.expr.Expr.{Expr, Expr-F, out-Expr}
@@ -13,7 +11,7 @@ use Rattle.scalar_expr.specs.declared.expr.Operation.{Operation}
 use Rattle.scalar_expr.specs.declared.kind.Kind.{Kind}
 use Rattle.scalar_expr.specs.declared.kind.Kind.TheVariants as kind
 use Rattle.scalar_expr.specs.Rename.{column_or_null, renamed, renamed_branch, renamed_operation, ColumnsAre, KeepsKinds}
-use Rattle.scalar_expr.specs.Typing.{Sort, Unfit, Nulls, Of, column_sort, negative_sort, arithmetic_sort, extract_sort, substring_sort, scaled_sort, both_sorts, all_sorts, branches_sorts, sort_in_turn, case_sort, comparable, is_text, is_number, is_fit, same_kind, sort_gives, sort_of, is_condition, literal_sort, sort_step, condition_step, typing, branch_sort, operation_sort, Typing}
+use Rattle.scalar_expr.specs.Typing.{Sort, Unfit, Nulls, Of, column_sort, negative_sort, arithmetic_sort, extract_sort, substring_sort, scaled_sort, both_sorts, all_sorts, branches_sorts, sort_in_turn, comparable, is_text, is_number, is_fit, sort_gives, sort_of, is_condition, literal_sort, sort_step, condition_step, typing, branch_sort, operation_sort, Typing}
 use Rattle.scalar_expr.proofs.Induction.{Exprs, Branches, Operations, exprs, branches, operations, induction}
 use Rattle.scalar_expr.proofs.Renamed.{renamed_branch_is, renamed_operation_is, renamed_Column, renamed_Literal, renamed_Negative, renamed_Arithmetic, renamed_Case, renamed_Extract, renamed_Substring, renamed_Compare, renamed_Between, renamed_Like, renamed_InList, renamed_IsNull, renamed_Not, renamed_All, renamed_Any, renamed_Holds}
 use Rattle.scalar_expr.proofs.Typed.{with_typings, sort_at_node, test_at_node, branch_sort_is, operation_sort_is}

@@ -1,8 +1,7 @@
 -- The columns that an expression over other columns uses.
-use Rattle.std.proofs.Common.{◌≡◌, ℕ, List, [], ◌∷◌, ◌++◌, map, refl, ap, sym, ◌∙◌, zero, suc, Option, Some, None, slice_get}
+use Rattle.std.proofs.Common.{◌≡◌, ℕ, List, [], ◌∷◌, ◌++◌, map, refl, ap, sym, ◌∙◌, Option, Some, None, slice_get}
 use Rattle.std.specs.List.{filter_map, cons_option}
 use Rattle.std.proofs.lemmas.List.Elements.{filter_map-append}
-use Rattle.sql_value.specs.declared.value.Value.{Value}
 use Rattle.sql_value.specs.declared.value.Value.TheVariants.{Null}
 use Rattle.scalar_expr.specs.declared.expr.Arithmetic.{Arithmetic}
 use Rattle.scalar_expr.specs.declared.expr.Branch.{Branch}

@@ -7,7 +7,7 @@ use Rattle.sql_value.specs.declared.value.Value.TheVariants.{Null, Fault as Fail
 use Rattle.scalar_expr.specs.declared.expr.Arithmetic.{Arithmetic}
 use Rattle.scalar_expr.specs.declared.expr.Arithmetic.TheVariants.{Add, Subtract, Divide}
 use Rattle.scalar_expr.specs.declared.expr.Comparison.TheVariants.{Equal, Greater}
-use Rattle.scalar_expr.specs.declared.expr.DatePart.TheVariants.{Year, Month, Day}
+use Rattle.scalar_expr.specs.declared.expr.DatePart.TheVariants.{Month}
 use Rattle.scalar_expr.specs.declared.expr.Expr.{Expr}
 use Rattle.scalar_expr.specs.declared.expr.Expr.TheVariants as e
 use Rattle.scalar_expr.specs.declared.expr.Operation.{Operation}

@@ -1,6 +1,5 @@
 -- The order of a state's lists is the schema's.
-use Rattle.std.proofs.Common.{List, [], ◌∷◌, arith, refl}
-use Rattle.sql_value.specs.declared.value.Value.{Value}
+use Rattle.std.proofs.Common.{[], ◌∷◌, arith, refl}
 use Rattle.tpch_schema.specs.declared.table.TableName.TheVariants.{Region, Nation, Part, Supplier, Partsupp, Customer, Orders, Lineitem}
 use Rattle.table_state.specs.Laws.{ListsLaw, PlaceLaw}
 
