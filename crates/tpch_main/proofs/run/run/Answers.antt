@@ -5,7 +5,7 @@ use Rattle.tpch_main.specs.Meaning.{IsAccepted, MayPrint}
 use Rattle.tpch_main.specs.Views.{command_view}
 use Rattle.tpch_main.specs.Words.{Command, command_of, usage_line}
 use Rattle.tpch_main.specs.declared.status.Status.TheVariants as status
-use Rattle.tpch_main.proofs.top.tpch.Goals as goal
+use Rattle.tpch_main.proofs.run.run.Goals as goal
 
 pub returns-in-Ok-printed-clause-answer : goal.returns-in-Ok-printed-clause-answer
 returns-in-Ok-printed-clause-answer g c =

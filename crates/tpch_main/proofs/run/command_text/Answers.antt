@@ -2,7 +2,7 @@ use Rattle.std.proofs.Common.{subst, sym}
 use Rattle.tpch_main.proofs.Texts.{check_is, session_is}
 use Rattle.tpch_main.specs.Views.{IsTextOf, command_view}
 use Rattle.tpch_main.specs.declared.words.Command.{Command}
-use Rattle.tpch_main.proofs.top.command_text.Goals as goal
+use Rattle.tpch_main.proofs.run.command_text.Goals as goal
 
 pub returns-in-Session-clause-text : goal.returns-in-Session-clause-text
 returns-in-Session-clause-text g c =
