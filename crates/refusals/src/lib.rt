@@ -4,6 +4,8 @@
 //! Each kind of refusal has a file of its own.
 #![tactic(auto)]
 
+mod bind;
 mod line;
 
+pub use bind::BindRefusal;
 pub use line::{LineFault, LineRefusal};
