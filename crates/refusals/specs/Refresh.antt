@@ -7,15 +7,9 @@ use Rattle.refusals.specs.declared.refresh.Cause.TheVariants.{OrderExists, Order
 
 -- what stands before the set's number in the name of a refresh file
 abbrev pub file_prefix : RefreshFile → List ℕ
-file_prefix (Orders set) = codes "orders.tbl.u"
-file_prefix (Lineitem set) = codes "lineitem.tbl.u"
-file_prefix (Delete set) = codes "delete."
-
--- the number of the set that a refresh file is of
-abbrev pub set_number : RefreshFile → ℕ
-set_number (Orders set) = set
-set_number (Lineitem set) = set
-set_number (Delete set) = set
+file_prefix Orders = codes "orders.tbl.u"
+file_prefix Lineitem = codes "lineitem.tbl.u"
+file_prefix Delete = codes "delete."
 
 -- the number of a refresh's cause
 abbrev pub cause_number : Cause → ℕ
@@ -25,7 +19,7 @@ cause_number (LineTwice key line) = 3
 cause_number (StrayLine key) = 4
 cause_number (UnknownOrder key) = 5
 cause_number (KeyTwice key) = 6
-cause_number (Malformed file refusal) = 7
+cause_number (Malformed file set refusal) = 7
 cause_number (LineExists key line) = 8
 
 -- the name of a refresh's cause
@@ -36,5 +30,5 @@ cause_name (LineTwice key line) = codes "LineTwice"
 cause_name (StrayLine key) = codes "StrayLine"
 cause_name (UnknownOrder key) = codes "UnknownOrder"
 cause_name (KeyTwice key) = codes "KeyTwice"
-cause_name (Malformed file refusal) = codes "Malformed"
+cause_name (Malformed file set refusal) = codes "Malformed"
 cause_name (LineExists key line) = codes "LineExists"

@@ -1,38 +1,29 @@
 //! Refusals of a refresh.
 ghost use Rattle.std.specs.Prelude.{◌≡◌, ◌≤◌};
-ghost use Rattle.refusals.specs.Refresh.{cause_name, cause_number, file_prefix, set_number};
+ghost use Rattle.refusals.specs.Refresh.{cause_name, cause_number, file_prefix};
 
 use crate::line::LineRefusal;
 
-/// A file of a refresh set, with the set's number.
-#[derive(Clone, Copy, Debug, PartialEq, Eq, Hash)]
+/// One of the three files of a refresh set.
+#[derive(Clone, Copy, Debug, PartialEq, Eq, PartialOrd, Ord, Hash)]
 pub enum RefreshFile {
     /// The orders that the set inserts.
-    Orders(u32),
+    Orders,
     /// The lineitems that the set inserts.
-    Lineitem(u32),
+    Lineitem,
     /// The keys of the orders that the set deletes.
-    Delete(u32),
+    Delete,
 }
 
 impl RefreshFile {
-    /// What stands before the set's number in the file's name.
+    /// What stands before the set's number in the file's name. Nothing follows the number.
     pub fn prefix(self) -> &'static str
         ensures { result.now ≡ file_prefix self }
     {
         match self {
-            RefreshFile::Orders(_) => "orders.tbl.u",
-            RefreshFile::Lineitem(_) => "lineitem.tbl.u",
-            RefreshFile::Delete(_) => "delete.",
-        }
-    }
-
-    /// The set's number, which ends the file's name.
-    pub fn set(self) -> u32
-        ensures { result ≡ set_number self }
-    {
-        match self {
-            RefreshFile::Orders(set) | RefreshFile::Lineitem(set) | RefreshFile::Delete(set) => set,
+            RefreshFile::Orders => "orders.tbl.u",
+            RefreshFile::Lineitem => "lineitem.tbl.u",
+            RefreshFile::Delete => "delete.",
         }
     }
 }
@@ -52,8 +43,8 @@ pub enum Cause {
     UnknownOrder(i64),
     /// This key stands earlier in the file of keys to be deleted.
     KeyTwice(i64),
-    /// A line of a file of the refresh is bad.
-    Malformed(RefreshFile, LineRefusal),
+    /// A line of this file of the set of this number is bad.
+    Malformed(RefreshFile, u32, LineRefusal),
     /// The state has a lineitem with this order's key and line number.
     LineExists(i64, i64),
 }
@@ -71,7 +62,7 @@ impl Cause {
             Cause::StrayLine(_) => 4,
             Cause::UnknownOrder(_) => 5,
             Cause::KeyTwice(_) => 6,
-            Cause::Malformed(_, _) => 7,
+            Cause::Malformed(_, _, _) => 7,
             Cause::LineExists(_, _) => 8,
         }
     }
@@ -87,7 +78,7 @@ impl Cause {
             Cause::StrayLine(_) => "StrayLine",
             Cause::UnknownOrder(_) => "UnknownOrder",
             Cause::KeyTwice(_) => "KeyTwice",
-            Cause::Malformed(_, _) => "Malformed",
+            Cause::Malformed(_, _, _) => "Malformed",
             Cause::LineExists(_, _) => "LineExists",
         }
     }
