@@ -7,7 +7,7 @@ use Rattle.sql_value.specs.declared.value.Value.TheVariants.{Null}
 use Rattle.scalar_expr.specs.Meaning.{value}
 use Rattle.algebra.specs.declared.aggregate.Aggregate.{Aggregate}
 use Rattle.algebra.specs.declared.aggregate.Aggregate.TheVariants.{CountRows, Of}
-use Rattle.algebra.specs.Values.{reading, aggregate_of}
+use Rattle.aggregates.specs.Values.{reading, aggregate_of}
 
 -- an aggregate: its argument, read from a row, and what it makes of the list of the argument's values
 abbrev pub argument_and_function : Aggregate → (List Value → Value) × (List Value → Value)

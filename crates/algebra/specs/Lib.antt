@@ -1,4 +1,4 @@
 pub mod Aggregates
 pub mod Plans
+pub mod Ranks
 pub mod Trees
-pub mod Values

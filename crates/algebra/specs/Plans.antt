@@ -15,7 +15,8 @@ use Rattle.tpch_schema.specs.Tables.{kinds_of}
 use Rattle.algebra.specs.declared.aggregate.Aggregate.{Aggregate}
 use Rattle.algebra.specs.declared.node.Node.{Node}
 use Rattle.algebra.specs.declared.node.Node.TheVariants.{Scan, Domain, Select, Project, Join, Outer, Mark, Single, Group, Fill, Distinct}
-use Rattle.algebra.specs.Values.{rank_of, written, value_rank}
+use Rattle.aggregates.specs.Values.{written, value_rank}
+use Rattle.algebra.specs.Ranks.{rank_of}
 use Rattle.algebra.specs.Aggregates.{aggregates_of}
 use Rattle.algebra.specs.Trees.{Database}
 

@@ -20,7 +20,8 @@ use Rattle.algebra.specs.declared.tree.DepTree.TheFolds.{fold-DepTree}
 use Rattle.algebra.specs.declared.tree.DepTree.TheOpen.{Scan, Select, Project, Join, Outer, Mark, Single, Group, Distinct}
 use Rattle.algebra.specs.declared.tree.Side.{Side}
 use Rattle.algebra.specs.declared.tree.Side.TheVariants.{Closed, Shared, Dependent}
-use Rattle.algebra.specs.Values.{rank_of, written, value_rank}
+use Rattle.aggregates.specs.Values.{written, value_rank}
+use Rattle.algebra.specs.Ranks.{rank_of}
 use Rattle.algebra.specs.Aggregates.{aggregates_of}
 
 -- the rows of each table

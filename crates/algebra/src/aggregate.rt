@@ -2,28 +2,12 @@
 ghost use Rattle.std.specs.Prelude.{◌≡◌, [], IfOk};
 ghost use Rattle.algebra.specs.Aggregates.{aggregates_of, value_of_none};
 
+use aggregates::AggregateFunction;
 use fixed_decimal::Scale;
 use scalar_expr::Expr;
 use sql_value::Value;
 use sqlite_items::{Boxed, Items};
 use std::alloc::{AllocError, Global};
-
-/// What is computed of an argument's values over a group. Nulls are skipped; a fault among them gives the least one.
-#[derive(Clone, Copy, Debug, PartialEq, Eq)]
-pub enum AggregateFunction {
-    /// How many values there are.
-    Count,
-    /// How many values there are, identical ones once.
-    CountDistinct,
-    /// Their sum, of the argument's scale.
-    Sum,
-    /// Their average, of four places more than the argument's, 18 at most.
-    Avg,
-    /// The first of them in ascending order.
-    Min,
-    /// The last of them in ascending order.
-    Max,
-}
 
 /// An aggregate of a group's rows.
 #[derive(Drop)]
@@ -54,10 +38,7 @@ impl Aggregate {
 }
 
 /// The aggregates of no rows: a count is 0, any other one null.
-pub fn values_of_none(
-    alloc: Global,
-    aggregates: &[Aggregate],
-) -> Result<Items<Value>, AllocError>
+pub fn values_of_none(alloc: Global, aggregates: &[Aggregate]) -> Result<Items<Value>, AllocError>
     ensures { IfOk result (λ values. values ≡ aggregates_of aggregates.now []) }
 {
     let mut values = Items::new(alloc);

@@ -33,9 +33,7 @@ fn copied(alloc: Global, e: &Expr) -> Result<Expr, AllocError>
             boxed(alloc, other)?,
         )),
         Expr::Extract(part, e) => Ok(Expr::Extract(*part, boxed(alloc, e)?)),
-        Expr::Substring(e, from, count) => {
-            Ok(Expr::Substring(boxed(alloc, e)?, *from, *count))
-        }
+        Expr::Substring(e, from, count) => { Ok(Expr::Substring(boxed(alloc, e)?, *from, *count)) }
         Expr::Compare(comparison, a, b) => {
             Ok(Expr::Compare(*comparison, boxed(alloc, a)?, boxed(alloc, b)?))
         }

@@ -8,7 +8,7 @@ mod plan;
 mod steps;
 mod tree;
 
-pub use aggregate::{Aggregate, AggregateFunction, values_of_none};
+pub use aggregate::{Aggregate, values_of_none};
 pub use copy::{copy_aggregates, copy_expr, copy_exprs};
 pub use node::{Node, NodeId};
 pub use plan::{Builder, FlatPlan, SortKey};
