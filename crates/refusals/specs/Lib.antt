@@ -1,2 +1,4 @@
 pub mod Bind
 pub mod Line
+pub mod Refresh
+pub mod Statement

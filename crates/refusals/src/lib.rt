@@ -6,6 +6,10 @@
 
 mod bind;
 mod line;
+mod refresh;
+mod statement;
 
 pub use bind::BindRefusal;
 pub use line::{LineFault, LineRefusal};
+pub use refresh::{Cause, RefreshFile};
+pub use statement::{FaultKind, Refusal, TemplateRefusal};

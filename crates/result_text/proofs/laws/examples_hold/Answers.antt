@@ -2,8 +2,8 @@ use Rattle.std.proofs.Common.{arith, refl}
 use Rattle.std.proofs.lemmas.Fmt.{decimal_digit}
 use Rattle.result_text.proofs.laws.examples_hold.Goals as goal
 
-pub returns : goal.returns
-returns c = record {
+pub returns-clause-answers : goal.returns-clause-answers
+returns-clause-answers c = record {
   first = rw (decimal_digit 1 (omega arith), decimal_digit 0 (omega arith), decimal_digit 2 (omega arith)) refl;
   minus_half = rw (decimal_digit 0 (omega arith)) refl;
   zero = rw (decimal_digit 0 (omega arith)) refl;
@@ -17,4 +17,23 @@ returns c = record {
   empty = refl;
   rows = refl;
   none = refl;
+}
+
+pub returns-clause-lines : goal.returns-clause-lines
+returns-clause-lines c = record {
+  done = rw (decimal_digit 1 (omega arith), decimal_digit 0 (omega arith)) refl;
+  accepted = ?;
+  bind = ?;
+  view = ?;
+  template = ?;
+  fault = ?;
+  place = ?;
+  order = ?;
+  twice = ?;
+  stray = ?;
+  key = ?;
+  line = ?;
+  malformed = ?;
+  orders = ?;
+  lineitem = ?;
 }
