@@ -11,7 +11,7 @@ use Rattle.sql_value.specs.Value.{value_cmp, row_cmp}
 use Rattle.tpch_schema.specs.State.{State}
 use Rattle.nested_query.specs.declared.query.BoundOrderKey.{BoundOrderKey}
 use Rattle.nested_query.specs.declared.query.BoundQuery.{BoundQuery}
-use Rattle.nested_query.specs.Values.{written, value_rank}
+use Rattle.aggregates.specs.Values.{written, value_rank}
 use Rattle.nested_query.specs.Meaning.{rows}
 
 -- the rank of a row's least fault, in its standing or in a column; True's where there is none

@@ -1,4 +1,3 @@
-pub mod Values
 pub mod Meaning
 pub mod Answer
 pub mod Reads

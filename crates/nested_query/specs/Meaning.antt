@@ -17,10 +17,10 @@ use Rattle.nested_query.specs.declared.query.BoundAggregate.{BoundAggregate}
 use Rattle.nested_query.specs.declared.query.BoundBlock.{BoundBlock}
 use Rattle.nested_query.specs.declared.query.BoundExpr.{BoundExpr}
 use Rattle.nested_query.specs.declared.query.BoundSource.{BoundSource}
-use Rattle.nested_query.specs.declared.query.Input.{Input, Input-F}
-use Rattle.nested_query.specs.declared.query.Input.TheOpen as node
-use Rattle.nested_query.specs.declared.query.Input.TheFolds.{fold-Input, fold-BoundExpr, fold-BoundAggregate, fold-BoundSource, fold-BoundBlock}
-use Rattle.nested_query.specs.Values.{written, value_rank, reading, aggregate_of}
+use Rattle.nested_query.specs.declared.query.Input.{Input}
+use Rattle.nested_query.specs.declared.query.BoundAggregate.TheOpen as node
+use Rattle.nested_query.specs.declared.query.BoundAggregate.TheFolds.{fold-Input, fold-BoundExpr, fold-BoundAggregate, fold-BoundSource, fold-BoundBlock}
+use Rattle.aggregates.specs.Values.{written, value_rank, reading, aggregate_of}
 
 -- the rows of the queries around an expression, the innermost first
 abbrev pub Env : Type 0
@@ -73,26 +73,26 @@ groups [] aggregates rows = total aggregates rows
 groups (k ∷ ks) aggregates rows = group_by same_value (columns Null (k ∷ ks)) aggregates rows
 
 -- each input
-abbrev pub input_step : node.Input-F InputMeaning ExprMeaning AggregateMeaning RowsMeaning RowsMeaning → InputMeaning
+abbrev pub input_step : node.Input-F AggregateMeaning RowsMeaning RowsMeaning InputMeaning ExprMeaning → InputMeaning
 input_step (node.Column level place) env = column env level place
 input_step (node.Exists q) env = exists_mark (q env)
 input_step (node.In e q) env = in_mark (e.value env) (q env)
 input_step (node.Scalar q) env = single_value (q env)
 
 -- an expression: over the row of its inputs
-abbrev pub expr_step : node.BoundExpr-F InputMeaning ExprMeaning AggregateMeaning RowsMeaning RowsMeaning → ExprMeaning
+abbrev pub expr_step : node.BoundExpr-F AggregateMeaning RowsMeaning RowsMeaning InputMeaning ExprMeaning → ExprMeaning
 expr_step e = record {
   value = λ env. value e.expr (map (λ (i : InputMeaning). i env) e.inputs);
   truth = λ env. truth e.expr (map (λ (i : InputMeaning). i env) e.inputs);
 }
 
 -- an aggregate: of its argument over each row, put before the rows around
-abbrev pub aggregate_step : node.BoundAggregate-F InputMeaning ExprMeaning AggregateMeaning RowsMeaning RowsMeaning → AggregateMeaning
+abbrev pub aggregate_step : node.BoundAggregate-F AggregateMeaning RowsMeaning RowsMeaning InputMeaning ExprMeaning → AggregateMeaning
 aggregate_step node.CountRows env = (λ r. Null, count_rows (reading 0))
 aggregate_step (node.Of function scale argument) env = (λ r. argument.value (r ∷ env), aggregate_of function scale)
 
 -- the rows of a source: a derived table and a view see no row around them
-abbrev pub source_step : State → node.BoundSource-F InputMeaning ExprMeaning AggregateMeaning RowsMeaning RowsMeaning → RowsMeaning
+abbrev pub source_step : State → node.BoundSource-F AggregateMeaning RowsMeaning RowsMeaning InputMeaning ExprMeaning → RowsMeaning
 source_step state (node.Table t) env = scanned (table_rows state t)
 source_step state (node.Derived q) env = q []
 source_step state (node.Cross a b) env = cross (a env) (b env)
@@ -100,7 +100,7 @@ source_step state (node.Inner a b on) env = join_loop (holds_for on env) (a env)
 source_step state (node.Outer a b width on) env = outer_loop (replicate width Null) (holds_for on env) (a env) (λ l. b env)
 
 -- the rows of a query: FROM, WHERE, groups with their aggregates, HAVING, the select list; DISTINCT
-abbrev pub block_step : node.BoundBlock-F InputMeaning ExprMeaning AggregateMeaning RowsMeaning RowsMeaning → RowsMeaning
+abbrev pub block_step : node.BoundBlock-F AggregateMeaning RowsMeaning RowsMeaning InputMeaning ExprMeaning → RowsMeaning
 block_step (node.Plain from condition list) env = project (listed list env) (select (holds_for condition env) (from env))
 block_step (node.Grouped from condition keys aggregates having list) env =
     let there = select (holds_for condition env) (from env) in
@@ -110,20 +110,20 @@ block_step (node.Distinct q) env = distinct same_value (q env)
 
 -- an input in a state, node by node from the leaves of its tree
 unfoldable pub input_meaning : State → Input → InputMeaning
-input_meaning state = fold-Input InputMeaning ExprMeaning AggregateMeaning RowsMeaning RowsMeaning input_step expr_step aggregate_step (source_step state) block_step
+input_meaning state = fold-Input AggregateMeaning RowsMeaning RowsMeaning InputMeaning ExprMeaning aggregate_step block_step (source_step state) input_step expr_step
 
 -- the same of an expression
 unfoldable pub expr_meaning : State → BoundExpr → ExprMeaning
-expr_meaning state = fold-BoundExpr InputMeaning ExprMeaning AggregateMeaning RowsMeaning RowsMeaning input_step expr_step aggregate_step (source_step state) block_step
+expr_meaning state = fold-BoundExpr AggregateMeaning RowsMeaning RowsMeaning InputMeaning ExprMeaning aggregate_step block_step (source_step state) input_step expr_step
 
 -- the same of an aggregate
 unfoldable pub aggregate_meaning : State → BoundAggregate → AggregateMeaning
-aggregate_meaning state = fold-BoundAggregate InputMeaning ExprMeaning AggregateMeaning RowsMeaning RowsMeaning input_step expr_step aggregate_step (source_step state) block_step
+aggregate_meaning state = fold-BoundAggregate AggregateMeaning RowsMeaning RowsMeaning InputMeaning ExprMeaning aggregate_step block_step (source_step state) input_step expr_step
 
 -- the rows of a source
 unfoldable pub source_rows : BoundSource → Env → State → List (Ranked Value)
-source_rows s env state = fold-BoundSource InputMeaning ExprMeaning AggregateMeaning RowsMeaning RowsMeaning input_step expr_step aggregate_step (source_step state) block_step s env
+source_rows s env state = fold-BoundSource AggregateMeaning RowsMeaning RowsMeaning InputMeaning ExprMeaning aggregate_step block_step (source_step state) input_step expr_step s env
 
 -- the rows of a query under the rows around it
 unfoldable pub rows : BoundBlock → Env → State → List (Ranked Value)
-rows q env state = fold-BoundBlock InputMeaning ExprMeaning AggregateMeaning RowsMeaning RowsMeaning input_step expr_step aggregate_step (source_step state) block_step q env
+rows q env state = fold-BoundBlock AggregateMeaning RowsMeaning RowsMeaning InputMeaning ExprMeaning aggregate_step block_step (source_step state) input_step expr_step q env

@@ -5,12 +5,8 @@ use Rattle.row_laws.specs.Bags.{weigh}
 use Rattle.tpch_schema.specs.declared.table.TableName.{TableName}
 use Rattle.tpch_schema.specs.State.{State, table_rows}
 use Rattle.nested_query.specs.declared.query.BoundBlock.{BoundBlock}
-use Rattle.nested_query.specs.declared.query.BoundExpr.{BoundExpr}
-use Rattle.nested_query.specs.declared.query.BoundSource.{BoundSource}
-use Rattle.nested_query.specs.declared.query.BoundAggregate.{BoundAggregate}
-use Rattle.nested_query.specs.declared.query.Input.{Input, Input-F}
-use Rattle.nested_query.specs.declared.query.Input.TheOpen as node
-use Rattle.nested_query.specs.declared.query.Input.TheFolds.{fold-Input, fold-BoundExpr, fold-BoundAggregate, fold-BoundSource, fold-BoundBlock}
+use Rattle.nested_query.specs.declared.query.BoundAggregate.TheOpen as node
+use Rattle.nested_query.specs.declared.query.BoundAggregate.TheFolds.{fold-BoundBlock}
 
 -- the tables that stand in a part of a query
 abbrev pub Tables : Type 0
@@ -53,7 +49,7 @@ block_tables (node.Distinct q) = q
 
 -- the tables that stand in a query, its subqueries, derived tables and each use of a view, each as often as it does
 unfoldable pub tables : BoundBlock → List TableName
-tables = fold-BoundBlock Tables Tables Tables Tables Tables input_tables expr_tables aggregate_tables source_tables block_tables
+tables = fold-BoundBlock Tables Tables Tables Tables Tables aggregate_tables block_tables source_tables input_tables expr_tables
 
 -- how many rows a query reads in a state: of each table that stands in it all rows, once for each time it does
 unfoldable pub reads : BoundBlock → State → ℕ

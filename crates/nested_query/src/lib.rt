@@ -4,6 +4,5 @@
 mod query;
 
 pub use query::{
-    AggregateFunction, BoundAggregate, BoundBlock, BoundExpr, BoundOrderKey, BoundQuery,
-    BoundSource, Input,
+    BoundAggregate, BoundBlock, BoundExpr, BoundOrderKey, BoundQuery, BoundSource, Input,
 };

@@ -1,25 +1,9 @@
 //! Queries whose names are bound: a column is so many levels out and at a place of that query's row.
+use aggregates::AggregateFunction;
 use fixed_decimal::Scale;
 use scalar_expr::Expr;
 use sqlite_items::{Boxed, Items};
 use tpch_schema::TableName;
-
-/// What is computed of an argument's values over a group.
-#[derive(Clone, Copy, Debug, PartialEq, Eq)]
-pub enum AggregateFunction {
-    /// How many values are not null.
-    Count,
-    /// How many values are not null, identical ones once.
-    CountDistinct,
-    /// Their sum, of the argument's scale.
-    Sum,
-    /// Their average, of four places more than the argument's, 18 at most.
-    Avg,
-    /// The first of them in ascending order.
-    Min,
-    /// The last of them in ascending order.
-    Max,
-}
 
 /// What an expression reads.
 #[cycle(query)]
