@@ -8,6 +8,7 @@ mod dates;
 mod draw;
 mod fields;
 mod lineitem;
+mod number;
 mod orders;
 mod part;
 mod partsupp;
@@ -16,6 +17,7 @@ mod supplier;
 mod text;
 mod texts;
 
+pub use number::DataNumber;
 pub use text::NamedText;
 pub use texts::make;
 

@@ -10,17 +10,17 @@ use std::alloc::AllocError;
 pub enum TargetError {
     /// Writing failed.
     Fault,
-    /// Memory was wanted.
-    Memory,
+    /// Memory ran out.
+    OutOfMemory,
 }
 
 impl From<AllocError> for TargetError {
-    ghost use Rattle.make_data.specs.declared.target.TargetError.TheVariants.{Memory};
+    ghost use Rattle.make_data.specs.declared.target.TargetError.TheVariants.{OutOfMemory};
 
-    ghost from_gives = { λ _ e. e ≡ Memory };
+    ghost from_gives = { λ _ e. e ≡ OutOfMemory };
 
     fn from(_: AllocError) -> Self {
-        TargetError::Memory
+        TargetError::OutOfMemory
     }
 }
 
@@ -28,10 +28,10 @@ impl From<AllocError> for TargetError {
 ///
 /// A fault comes only where the count of faults rose, or stands at its last value, 2^64 - 1. The count never falls.
 pub trait Target {
-    /// The files that were written whole so far, in their order, where they are told.
+    /// The files that were written whole so far, in their order, where they are known.
     ghost files: { Self → Option Written };
 
-    /// What was printed so far, where it is told.
+    /// What was printed so far, where it is known.
     ghost printed: { Self → Option (List ℕ) };
 
     /// How many calls failed.

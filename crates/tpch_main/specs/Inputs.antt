@@ -84,7 +84,7 @@ session_inputs dir script folder = and_then (script_in folder script) (λ statem
 abbrev pub line_text : LineRefusal → List ℕ
 line_text first = codes " line " ++ decimal first.line ++ codes " " ++ decimal (line_fault_number first.fault) ++ codes " " ++ line_fault_name first.fault ++ codes "\n"
 
--- why an input is refused, as it is printed behind the input's name
+-- why an input is refused, as it is printed after the input's name
 abbrev pub fault_text : InputFault → List ℕ
 fault_text fault.Absent = codes " absent\n"
 fault_text fault.NotBuilt = codes " not built\n"

@@ -67,7 +67,7 @@ fn expect_calls<R: Threads + Wait + Sync + Abort>(
 }
 
 // The script and the tables are opened once each and read to their ends, and nothing else is called: of a script and a
-// region with bytes three calls each, of seven empty tables two each. An input that is refused leaves those behind it
+// region with bytes three calls each, of seven empty tables two each. An input that is refused leaves those after it
 // unopened.
 #[test]
 fn opens_no_other_file(rt: HostRuntime) -> Result<(), Fail> {
