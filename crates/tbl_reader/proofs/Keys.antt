@@ -1,10 +1,10 @@
 -- The keys of rows, and what is kept of them.
-use Rattle.std.proofs.Common.{◌≡◌, ℕ, zero, suc, ◌+◌, ◌<◌, Bool, true, false, not, cond, ◌&&◌, ◌||◌, ◌==◌, ℤ, pos, int_lt, int_le, List, [], ◌∷◌, ◌++◌, map, length, take, get_or, refl, sym, ◌∙◌, ap, arith, Decides}
+use Rattle.std.proofs.Common.{◌≡◌, ℕ, zero, suc, ◌+◌, ◌<◌, Bool, true, false, not, cond, ◌&&◌, ◌||◌, ◌==◌, ℤ, pos, int_lt, int_le, List, [], ◌∷◌, ◌++◌, map, length, take, get_or, refl, sym, ◌∙◌, ap, arith, Decides, Option, Some, None}
 use Rattle.std.specs.Cmp.Lexicographic.{pointwise}
 use Rattle.std.specs.Ordering.{int_eq}
 use Rattle.std.specs.Prelude.{slice_index_or}
 use Rattle.std.specs.List.{All, list_any}
-use Rattle.std.proofs.lemmas.Bool.{and_parts, and_from, cases_Bool}
+use Rattle.std.proofs.lemmas.Bool.{and_parts, and_from}
 use Rattle.std.proofs.lemmas.Bool.Decides.{Decides-int_eq, Decides-eqb}
 use Rattle.std.proofs.lemmas.Int.{ints}
 use Rattle.std.proofs.lemmas.List.{map-append, take_more}
@@ -12,7 +12,7 @@ use Rattle.std.proofs.lemmas.List.Elements.{All-push, All-head, All-tail}
 use Rattle.std.proofs.lemmas.List.Folds.{list_any-append, list_any_none}
 use Rattle.sql_value.specs.declared.value.Value.{Value}
 use Rattle.sql_value.specs.declared.value.Value.TheVariants as value
-use Rattle.sql_value.specs.Value.{same_value, same_row}
+use Rattle.sql_value.specs.Value.{same_row}
 use Rattle.refusals.specs.declared.refresh.RefreshFile.TheVariants as refresh
 use Rattle.tpch_schema.specs.declared.column.ColumnKind.TheVariants.{Key as KeyKind, Whole}
 use Rattle.tpch_schema.specs.declared.file.DataFile.{DataFile}
@@ -22,7 +22,8 @@ use Rattle.tpch_schema.specs.Kinds.{is_of_kind, is_narrow}
 use Rattle.tpch_schema.specs.LineForm.{LineColumn, LineForm, never_null, can_hold, fits, RowsFit, file_form, key_of}
 use Rattle.tbl_reader.specs.declared.key.Key.{Key}
 use Rattle.tbl_reader.specs.contracts.key.KeyPartialEq.TheImpl.{eq-value as eq-key}
-use Rattle.tbl_reader.specs.Key.{key_number, row_key, same_key, is_above, SameKeys}
+use Rattle.tbl_reader.specs.declared.key.Keys.TheVariants.{Ascending}
+use Rattle.tbl_reader.specs.Key.{key_number, row_key, same_key, is_above, comes_after, SameKeys, AreKeys}
 use Rattle.tbl_reader.specs.File.{is_taken}
 
 -- two keys
@@ -144,7 +145,19 @@ pub noted : (set keys new : List Key) (key : Key) (added : Bool) → SameKeys se
     → SameKeys new (cond added (keys ++ key ∷ []) keys)
 noted set keys new key added same made = rw made (noted_by set keys key added same)
 
-pub ruleset sets = (told, noted, new_above, below_more, new_first, below_first)
+-- the last key, if there is one
+
+pub new_after : (last : Option Key) (key : Key) (keys : List Key) → AreKeys (Ascending last) keys → comes_after key last ≡ true
+    → true ≡ not (list_any (same_key key) keys)
+new_after None key keys none above = new_first key keys none
+new_after (Some last) key keys below above = new_above last key keys below above
+
+pub below_after : (last : Option Key) (key : Key) (keys : List Key) → AreKeys (Ascending last) keys → comes_after key last ≡ true
+    → AreKeys (Ascending (Some key)) (keys ++ key ∷ [])
+below_after None key keys none above = below_first key keys none
+below_after (Some last) key keys below above = below_more last key keys below above
+
+pub ruleset sets = (told, noted, new_after, below_after)
 
 -- the keys of rows that fit
 
@@ -156,8 +169,8 @@ narrow_number s c e n = let zero_scale : s ≡ 0 = (Decides-eqb s 0).0 e in rw (
 
 key_kind : (v : Value) → is_of_kind KeyKind v ≡ true → IsKeyNumber v
 key_kind (value.Number s c) e =
-    let p : ((s == 0) ≡ true) × ((not (int_lt c (pos 0)) && is_narrow c) ≡ true) = and_parts _ _ e in
-    narrow_number s c p.0 (and_parts _ _ p.1).1
+    let p : (((s == 0) && not (int_lt c (pos 0))) ≡ true) × (is_narrow c ≡ true) = and_parts _ _ e in
+    narrow_number s c (and_parts _ _ p.0).0 p.1
 key_kind v e = cc
 
 whole_kind : (v : Value) → is_of_kind Whole v ≡ true → IsKeyNumber v

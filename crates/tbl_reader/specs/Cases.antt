@@ -8,7 +8,7 @@ use Rattle.sql_value.specs.declared.value.Value.TheVariants.{Null, Number, Text}
 use Rattle.refusals.specs.declared.refresh.RefreshFile.TheVariants.{Orders as RefreshOrders, Delete}
 use Rattle.tpch_schema.specs.declared.column.ColumnKind.TheVariants.{Key, Text as TextKind}
 use Rattle.tpch_schema.specs.declared.table.TableName.TheVariants.{Region, Orders}
-use Rattle.tpch_schema.specs.LineForm.{LineColumn, LineForm, table_form, refresh_form}
+use Rattle.tpch_schema.specs.LineForm.{LineForm, table_form, refresh_form}
 use Rattle.tbl_reader.specs.File.{cut_lines, file_rows, most_bytes}
 
 -- a refusal of a line, counted from 1

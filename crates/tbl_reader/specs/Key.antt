@@ -1,5 +1,5 @@
 -- The keys of rows as pairs of numbers, and what is kept of them.
-use Rattle.std.specs.Prelude.{◌≡◌, ℤ, pos, Bool, false, ◌&&◌, ◌||◌, int_lt, int_le, List, [], slice_index_or, Some, None, ⊤, if◌then◌else◌}
+use Rattle.std.specs.Prelude.{◌≡◌, ℤ, pos, Bool, true, false, ◌&&◌, ◌||◌, int_lt, int_le, List, [], slice_index_or, Option, Some, None, ⊤, if◌then◌else◌}
 use Rattle.std.specs.List.{All, list_any}
 use Rattle.std.specs.Ordering.{int_eq}
 use Rattle.sql_value.specs.declared.value.Value.{Value}
@@ -29,6 +29,11 @@ same_key k l = int_eq k.first l.first && int_eq k.second l.second
 -- one key is above another, by the first numbers, or by the second ones where it isn't below by the first
 abbrev pub is_above : Key → Key → Bool
 is_above k l = int_lt l.first k.first || (int_le l.first k.first && int_lt l.second k.second)
+
+-- a key is above the last one, if there is one
+abbrev pub comes_after : Key → Option Key → Bool
+comes_after k None = true
+comes_after k (Some last) = is_above k last
 
 -- two lists have the same keys, however often
 pub record SameKeys (some others : List Key) : Type 0 where

@@ -1,9 +1,10 @@
 //! Which keys the rows so far have.
-ghost use Rattle.std.specs.Prelude.{◌≡◌, ◌++◌, ◌∷◌, [], not, map, length, IfOk, OnErr, if◌then◌else◌, slice_index_or};
+ghost use Rattle.std.specs.Prelude.{◌≡◌, ◌++◌, ◌∷◌, [], ◌&&◌, true, IsTrue, not, map, length, IfOk, OnErr, if◌then◌else◌, slice_index_or};
 ghost use Rattle.sql_value.specs.declared.value.Value.TheVariants.{Null};
 ghost use Rattle.std.specs.List.{list_any};
-ghost use Rattle.tpch_schema.specs.LineForm.{file_form};
-ghost use Rattle.tbl_reader.specs.Key.{key_number, row_key, is_above, same_key, SameKeys, AreKeys};
+ghost use Rattle.tpch_schema.specs.LineForm.{file_form, fits, RowsFit};
+ghost use Rattle.tbl_reader.specs.File.{is_taken};
+ghost use Rattle.tbl_reader.specs.Key.{key_number, row_key, is_above, comes_after, same_key, SameKeys, AreKeys};
 
 use indexmap::IndexSet;
 use sql_value::{Row, Value};
@@ -20,7 +21,7 @@ pub struct Key {
 
 impl Key {
     // The key of a row of a file.
-    pub fn of(file: DataFile, row: &[Value]) -> Key
+    fn of(file: DataFile, row: &[Value]) -> Key
         ensures { result ≡ row_key (file_form file) row.now }
     {
         let places = file.key_columns();
@@ -30,7 +31,17 @@ impl Key {
         }
     }
 
-    // Whether this key comes after the other: by the first numbers, then by the second ones.
+    // Whether this key is above the last one, if there is one.
+    fn comes_after(&self, last: Option<Key>) -> bool
+        ensures { result ≡ comes_after self.now last }
+    {
+        match last {
+            Some(last) => self.is_above(&last),
+            None => true,
+        }
+    }
+
+    // Whether this key is above the other: by the first numbers, or by the second ones where it isn't below.
     fn is_above(&self, other: &Key) -> bool
         ensures { result ≡ is_above self.now other.now }
     {
@@ -56,7 +67,8 @@ fn key_number(value: &Value) -> i64
     ensures { result ≡ key_number value.now }
 {
     match value {
-        Value::Number(_, coefficient) if coefficient.unsigned_abs() < 1 << 63 => *coefficient as i64,
+        Value::Number(_, coefficient) if coefficient.unsigned_abs() < 1 << 63 =>
+            *coefficient as i64,
         _ => 0,
     }
 }
@@ -96,8 +108,9 @@ fn keys_of_rows(alloc: Global, file: DataFile, rows: &[Row]) -> Result<IndexSet<
     Ok(set)
 }
 
-/// Notes the key of one row more, unless one of these rows has it; whether none has.
-pub fn note_key(
+// Notes the key of one row more, unless one of these rows has it; whether none has.
+#[tactic(auto, using(crate::proofs::Keys::sets))]
+fn note_key(
     alloc: Global,
     keys: &mut Keys,
     file: DataFile,
@@ -111,7 +124,7 @@ pub fn note_key(
 {
     match keys {
         Keys::Ascending(last) => {
-            if last.is_none_or(|last| key.is_above(&last)) {
+            if key.comes_after(*last) {
                 *last = Some(key);
                 return Ok(true);
             }
@@ -122,5 +135,29 @@ pub fn note_key(
     let mut set = keys_of_rows(alloc, file, rows)?;
     let new = insert_key(&mut set, key)?;
     *keys = Keys::Hashed(set);
+    Ok(new)
+}
+
+/// Notes the key of one row more, where keys must differ and none of these rows has it; whether the row may be put
+/// after them.
+#[tactic(auto, using(crate::proofs::Keys::keyed))]
+pub fn note_row(
+    alloc: Global,
+    keys: &mut Keys,
+    file: DataFile,
+    rows: &[Row],
+    row: &[Value],
+) -> Result<bool, AllocError>
+    requires keys { (file_form file).unique ≡ true → AreKeys keys.old (map (row_key (file_form file)) rows.now) }
+    requires rows { RowsFit (file_form file) rows.now }
+    requires row { IsTrue (fits (file_form file) row.now) }
+    ensures new { IfOk result (λ new. new ≡ not ((file_form file).unique && is_taken (file_form file) rows.now row.now)) }
+    ensures noted { IfOk result (λ new. (file_form file).unique ≡ true → AreKeys keys.new (map (row_key (file_form file)) (if new then rows.now ++ row.now ∷ [] else rows.now))) }
+    ensures err { OnErr result ((file_form file).unique ≡ true → AreKeys keys.new (map (row_key (file_form file)) rows.now)) }
+{
+    if !file.refuses_duplicates() {
+        return Ok(true);
+    }
+    let new = note_key(alloc, keys, file, rows, Key::of(file, row))?;
     Ok(new)
 }

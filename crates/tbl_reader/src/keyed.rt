@@ -3,7 +3,7 @@ ghost use Rattle.std.specs.Prelude.{◌≡◌, ◌+◌, ◌++◌, ◌∷◌, [],
 ghost use Rattle.tpch_schema.specs.LineForm.{file_form, fits, RowsFit};
 ghost use Rattle.tbl_reader.specs.File.{is_taken};
 
-use crate::key::{Key, Keys, note_key};
+use crate::key::{Keys, note_row};
 use sql_value::{Row, Value};
 use std::alloc::{AllocError, Global};
 use std::marker::Model;
@@ -83,18 +83,23 @@ impl KeyedRows {
         ensures rows { IfOk result (λ added. self.new.rows ≡ (if added then self.old.rows ++ values.items ∷ [] else self.old.rows)) }
         ensures err { OnErr result (self.new.rows ≡ self.old.rows) }
     {
-        if self.file.refuses_duplicates() {
-            let key = Key::of(self.file, values.as_slice());
-            if !note_key(self.alloc, &mut self.keys, self.file, self.rows.as_slice(), key)? {
-                return Ok(false);
+        let new = note_row(
+            self.alloc,
+            &mut self.keys,
+            self.file,
+            self.rows.as_slice(),
+            values.as_slice(),
+        )?;
+        if !new {
+            return Ok(false);
+        }
+        match put_row(&mut self.rows, values) {
+            Ok(()) => Ok(true),
+            Err(error) => {
+                self.keys = Keys::Lost;
+                Err(error)
             }
         }
-        let done = put_row(&mut self.rows, values);
-        if done.is_err() {
-            self.keys = Keys::Lost;
-        }
-        done?;
-        Ok(true)
     }
 }
 

@@ -161,7 +161,11 @@ fn is_cut_anywhere(rt: HostRuntime) -> Result<(), Fail> {
     let text = b"0|AFRICA|a|\r\n1|AMERICA||\n2|A|b\r";
     let whole = read_pieces(rt.alloc(), DataFile::Table(TableName::Region), &[text])?;
     for at in 0..text.len() + 1 {
-        let cut = read_pieces(rt.alloc(), DataFile::Table(TableName::Region), &[&text[..at], &text[at..]])?;
+        let cut = read_pieces(
+            rt.alloc(),
+            DataFile::Table(TableName::Region),
+            &[&text[..at], &text[at..]],
+        )?;
         assert!(rt; are_same(cut.as_slice(), whole.as_slice()));
     }
     Ok(())
@@ -190,7 +194,7 @@ fn reads_refresh_files(rt: HostRuntime) -> Result<(), Fail> {
     let mut keys = RefreshReader::with_limit(alloc, RefreshFile::Delete, 5)?;
     assert!(rt; keys.feed(b"7|\n7") == Ok(()));
     let bad = TableError::Refused(LineRefusal {
-        line: 2,
+        line: 3,
         fault: LineFault::FileTooLong,
     });
     assert!(rt; keys.feed(b"\n\n") == Err(bad));
