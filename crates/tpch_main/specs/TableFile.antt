@@ -8,7 +8,6 @@ use Rattle.sql_value.specs.declared.value.Value.{Value}
 use Rattle.tbl_reader.specs.declared.error.TableError.{TableError}
 use Rattle.tbl_reader.specs.declared.error.TableError.TheVariants as table_error
 use Rattle.tbl_reader.specs.File.{file_rows}
-use Rattle.tbl_reader.specs.Reading.{RefusesAll}
 use Rattle.tpch_schema.specs.LineForm.{LineForm}
 use Rattle.tpch_schema.specs.declared.table.TableName.{TableName}
 use Rattle.tpch_main.specs.Inputs.{BadInput, rows_in, rows_or_refusal}
@@ -32,7 +31,7 @@ IsRefusalOf input (error.Refused refusal) = input ≡ Err (refused_view refusal)
 abbrev pub IsRead : Result (List (List Value)) BadInput → Result (Vec (List Value)) InputError → Type 0
 IsRead input result = MatchResult result (λ rows. input ≡ Ok rows.items) (IsRefusalOf input)
 
--- each file of that name that begins with the text is refused so, or the error is no fault of reading and says nothing of the file
+-- the error is the refusal of each file of that name that begins with the text
 abbrev pub RefusesFront : List ℕ → LineForm → ℕ → List ℕ → InputError → Type 0
 RefusesFront name form limit text e = (more : List ℕ) → IsRefusalOf (rows_or_refusal name (file_rows form limit (text ++ more))) e
 
@@ -44,3 +43,9 @@ EndsAs name form limit text result = IsRead (rows_or_refusal name (file_rows for
 abbrev pub IsRowsOf : TableName → List ℕ → Option (List ℕ) → Result (Vec (List Value)) InputError → Type 0
 IsRowsOf table name None result = ⊤
 IsRowsOf table name (Some text) result = IsRead (rows_in table name (Some text)) result
+
+-- the error is a refused line, or memory ran out
+abbrev pub IsLineError : InputError → Type 0
+IsLineError (error.Unread read.Fault) = ⊥
+IsLineError (error.Unread read.OutOfMemory) = ⊤
+IsLineError (error.Refused refusal) = (first : LineRefusal) × (refusal.fault ≡ fault.Line first)

@@ -2,11 +2,10 @@
 ghost use Rattle.std.specs.Prelude.{◌≡◌, ℕ, ◌+◌, ◌<◌, ◌≤◌, ◌++◌, List, IfErr, IfOk, OnOk, length, take, true};
 ghost use Rattle.std.specs.Io.KnownBytes.{Consumes, IsAtEnd};
 ghost use Rattle.tpch_schema.specs.Kinds.{RowsAreOf};
-ghost use Rattle.tpch_schema.specs.LineForm.{columns_of, table_form};
-ghost use Rattle.tbl_reader.specs.File.{most_bytes};
+ghost use Rattle.tpch_schema.specs.LineForm.{columns_of};
 ghost use Rattle.tbl_reader.specs.Reading.{HasRead, bytes_fed};
 ghost use Rattle.tpch_main.specs.FilesAfter.{FilesAfterInput, FilesAfterRead};
-ghost use Rattle.tpch_main.specs.TableFile.{EndsAs, IsRowsOf, RefusesFront, RefusesTable};
+ghost use Rattle.tpch_main.specs.TableFile.{EndsAs, IsLineError, IsRowsOf, RefusesFront, RefusesTable};
 
 use crate::input_error::{InputError, InputFault, ReadError, refused};
 use sql_value::Row;
@@ -45,12 +44,7 @@ fn next_piece<F: Files>(files: &mut F, piece: &mut [u8]) -> Result<usize, ReadEr
 }
 
 /// Feeds a piece to the reader of the file of that name.
-fn feed(
-    alloc: Global,
-    name: &str,
-    reader: &mut TableReader,
-    piece: &[u8],
-) -> Result<(), InputError>
+fn feed(alloc: Global, name: &str, reader: &mut TableReader, piece: &[u8]) -> Result<(), InputError>
     ensures form { reader.new.lines.form ≡ reader.old.lines.form }
     ensures limit { reader.new.lines.limit ≡ reader.old.lines.limit }
     ensures read { OnOk result ((text : List ℕ) → HasRead text reader.old → HasRead (text ++ piece.now) reader.new) }
@@ -58,6 +52,7 @@ fn feed(
     ensures within { OnOk result (bytes_fed reader.new ≤ reader.new.lines.limit) }
     ensures refused { IfErr result (λ e. (text : List ℕ) → HasRead text reader.old
         → RefusesFront name.now reader.old.lines.form reader.old.lines.limit (text ++ piece.now) e) }
+    ensures other { IfErr result IsLineError }
 {
     match reader.feed(piece) {
         Ok(()) => Ok(()),
@@ -71,6 +66,7 @@ fn finish(alloc: Global, name: &str, reader: TableReader) -> Result<Vec<Row>, In
         → EndsAs name.now reader.lines.form reader.lines.limit text result }
     ensures kinds { (table : TableName) → reader.lines.form.columns ≡ columns_of table
         → IfOk result (λ rows. RowsAreOf table rows.items) }
+    ensures other { IfErr result IsLineError }
 {
     match reader.finish() {
         Ok(rows) => Ok(rows),
