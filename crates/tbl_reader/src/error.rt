@@ -4,31 +4,31 @@ ghost use Rattle.std.specs.Prelude.{◌≡◌};
 use std::alloc::{AllocError, AllocFailed};
 use tpch_schema::LineRefusal;
 
-/// Why a file gives no rows: its first bad line, or want of memory.
+/// Why a file gives no rows: its first bad line, or that memory ran out.
 #[derive(Clone, Copy, Debug, PartialEq, Eq)]
-pub enum ReadFault {
+pub enum TableError {
     /// The first bad line, and what is wrong with it.
     Refused(LineRefusal),
-    /// Memory was wanted.
+    /// Memory ran out.
     OutOfMemory,
 }
 
-impl From<AllocError> for ReadFault {
-    ghost use Rattle.tbl_reader.specs.declared.fault.ReadFault.TheVariants.{OutOfMemory};
+impl From<AllocError> for TableError {
+    ghost use Rattle.tbl_reader.specs.declared.error.TableError.TheVariants.{OutOfMemory};
 
     ghost from_gives = { λ _ e. e ≡ OutOfMemory };
 
     fn from(_: AllocError) -> Self {
-        ReadFault::OutOfMemory
+        TableError::OutOfMemory
     }
 }
 
-impl<T: Drop> From<AllocFailed<T>> for ReadFault {
-    ghost use Rattle.tbl_reader.specs.declared.fault.ReadFault.TheVariants.{OutOfMemory};
+impl<T: Drop> From<AllocFailed<T>> for TableError {
+    ghost use Rattle.tbl_reader.specs.declared.error.TableError.TheVariants.{OutOfMemory};
 
     ghost from_gives = { λ _ e. e ≡ OutOfMemory };
 
     fn from(_: AllocFailed<T>) -> Self {
-        ReadFault::OutOfMemory
+        TableError::OutOfMemory
     }
 }
