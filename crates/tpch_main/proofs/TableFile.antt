@@ -1,6 +1,6 @@
 -- What is read of a table's file, from its pieces.
-use Rattle.std.proofs.Common.{◌≡◌, ◌∙◌, ℕ, ◌≤◌, List, [], ◌++◌, Option, None, Some, IsSome, ap, append_assoc, refl, subst, sym}
-use Rattle.std.proofs.lemmas.List.{append-nil}
+use Rattle.std.proofs.Common.{◌≡◌, ◌∙◌, ℕ, ◌≤◌, List, [], ◌++◌, Option, None, Some, IsSome, ◌+◌, ◌-◌, ◌<◌, ap, append_assoc, arith, length, refl, subst, sym, take, true≢false}
+use Rattle.std.proofs.lemmas.List.{append-nil, length-take-le}
 use Rattle.std.specs.Global.{Vec}
 use Rattle.std.specs.Vec.{vec_items}
 use Rattle.std.specs.Io.KnownBytes.{Consumes, IsAtEnd}
@@ -90,7 +90,7 @@ pub table_read : (table : TableName) (dir name : List ℕ) (held : Option Folder
 table_read table dir name None left (Ok rows) is opens read = tt
 table_read table dir name None left (Err (error.Unread why)) is opens read = tt
 table_read table dir name None left (Err (error.Refused refusal)) is opens read = tt
-table_read table dir name (Some folder) None result is (there, same) read = absurd (subst IsSome (sym same) there)
+table_read table dir name (Some folder) None result is (there, same) read = absurd (true≢false (sym (subst (λ (found : Option (List ℕ)). IsSome found) (sym same) there)))
 table_read table dir name (Some folder) (Some text) result is (there, same) read = at result read
   where
     input : rows_in table name (Some text) ≡ table_in dir table folder
@@ -100,3 +100,19 @@ table_read table dir name (Some folder) (Some text) result is (there, same) read
     at (Ok rows) means = sym input ∙ means
     at (Err (error.Unread why)) means = tt
     at (Err (error.Refused refusal)) means = sym input ∙ means
+
+-- nothing was read yet
+pub none_read : (left : Option (List ℕ)) → Consumes left left []
+none_read None = tt
+none_read (Some text) = refl
+
+-- one piece more was read
+pub read_further : (left middle later : Option (List ℕ)) (so_far piece : List ℕ) → Consumes left middle so_far → Consumes middle later piece → Consumes left later (so_far ++ piece)
+read_further None middle later so_far piece read next = tt
+read_further (Some text) None later so_far piece read next = absurd read
+read_further (Some text) (Some rest) None so_far piece read next = absurd next
+read_further (Some text) (Some rest) (Some last) so_far piece read next = read ∙ ap (λ more. so_far ++ more) next ∙ sym (append_assoc so_far piece last)
+
+-- fewer bytes may still come after a piece that has some
+pub fewer_left : (limit old new count : ℕ) (piece : List ℕ) → count ≤ length piece → 0 < count → new ≡ old + length (take count piece) → new ≤ limit → limit - new < limit - old
+fewer_left limit old new count piece inside some fed within = omega (arith, length-take-le count piece inside)

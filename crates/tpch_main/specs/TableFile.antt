@@ -1,5 +1,5 @@
 -- What is read of a table's file, and which of its refusals that is.
-use Rattle.std.specs.Prelude.{◌≡◌, ℕ, List, ⊤, Option, None, Some, MatchResult}
+use Rattle.std.specs.Prelude.{◌≡◌, ℕ, List, ◌++◌, ⊤, Option, None, Some, MatchResult}
 use Rattle.std.specs.declared.result.Result.{Result}
 use Rattle.std.specs.declared.result.Result.TheVariants.{Err, Ok}
 use Rattle.std.specs.Global.{Vec}
