@@ -65,7 +65,7 @@ return_flags = codes "R" ∷ codes "A" ∷ codes "N" ∷ []
 abbrev pub line_statuses : List (List ℕ)
 line_statuses = codes "O" ∷ codes "F" ∷ []
 
--- a line's instruction for its shipping
+-- what a line's shipping is told
 abbrev pub ship_instructions : List (List ℕ)
 ship_instructions = codes "DELIVER IN PERSON" ∷ codes "COLLECT COD" ∷ codes "NONE" ∷ codes "TAKE BACK RETURN" ∷ []
 

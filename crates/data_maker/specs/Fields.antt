@@ -12,8 +12,8 @@ unfoldable pub field : List ℕ → List ℕ
 field text = text ++ 124 ∷ []
 
 -- a label and the key in nine digits
-abbrev pub labelled_key : List ℕ → ℕ → List ℕ
-labelled_key label key = label ++ last_digits 9 key
+abbrev pub labelled : List ℕ → ℕ → List ℕ
+labelled label key = label ++ last_digits 9 key
 
 -- an amount in hundredths, with two digits after the point
 abbrev pub money : ℤ → List ℕ
@@ -31,7 +31,7 @@ phone nation = decimal (10 + nation) ++ codes "-100-200-3000"
 unfoldable pub day_text : Day → List ℕ
 day_text d = last_digits 4 d.year ++ 45 ∷ last_digits 2 d.month ++ 45 ∷ last_digits 2 d.day
 
--- the day that many days after 1992-01-01
+-- the day so many days after 1992-01-01
 unfoldable pub date_text : ℕ → List ℕ
 date_text days = day_text (days_moved (day_at 1992 1 1) (pos days))
 

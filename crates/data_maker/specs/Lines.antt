@@ -2,9 +2,9 @@
 use Rattle.std.specs.Prelude.{ℕ, ◌+◌, ◌-◌, ◌*◌, ◌%◌, ◌==◌, nat_lt, if◌then◌else◌, List, [], ◌∷◌, ◌++◌, codes, decimal, pos, ◌-ℤ◌}
 use Rattle.std.specs.List.{flat_map, range_with_len}
 use Rattle.data_maker.specs.Choices.{word, regions, nations, region_of, colours, type_sizes, type_finishes, type_metals, container_sizes, container_kinds, market_segments, order_statuses, order_priorities, return_flags, line_statuses, ship_instructions, ship_modes}
-use Rattle.data_maker.specs.Fields.{draw, field, labelled_key, money, address, phone, date_text, supplier_of, not_third}
+use Rattle.data_maker.specs.Fields.{draw, field, labelled, money, address, phone, date_text, supplier_of, not_third}
 
--- fields, one after the other
+-- fields one behind another
 abbrev pub fields : List (List ℕ) → List ℕ
 fields texts = flat_map field texts
 
@@ -39,7 +39,7 @@ supplier_tail n k = fields (balance n 2 k ∷ supplier_comment k ∷ [])
 -- the line of a supplier: key, name, address, nation, phone number, balance, comment
 unfoldable pub supplier_line : ℕ → ℕ → List ℕ
 supplier_line n k =
-    fields (decimal k ∷ labelled_key (codes "Supplier#") k ∷ []) ++ residence n 1 k ++ supplier_tail n k ++ 10 ∷ []
+    fields (decimal k ∷ labelled (codes "Supplier#") k ∷ []) ++ residence n 1 k ++ supplier_tail n k ++ 10 ∷ []
 
 -- a part's name: two colours
 unfoldable pub part_name : ℕ → ℕ → List ℕ
@@ -110,7 +110,7 @@ customer_tail n k = fields (balance n 16 k ∷ word market_segments (draw n 17 k
 -- the line of a customer: key, name, address, nation, phone number, and the last fields
 unfoldable pub customer_line : ℕ → ℕ → List ℕ
 customer_line n k =
-    fields (decimal k ∷ labelled_key (codes "Customer#") k ∷ []) ++ residence n 15 k ++ customer_tail n k ++ 10 ∷ []
+    fields (decimal k ∷ labelled (codes "Customer#") k ∷ []) ++ residence n 15 k ++ customer_tail n k ++ 10 ∷ []
 
 -- the days from 1992-01-01 to the order
 unfoldable pub order_day : ℕ → ℕ → ℕ
@@ -129,7 +129,7 @@ order_head n k =
 -- the last fields of an order's line: priority, clerk, shipping priority 0, comment
 unfoldable pub order_tail : ℕ → ℕ → List ℕ
 order_tail n k =
-    fields (word order_priorities (draw n 22 k 5) ∷ labelled_key (codes "Clerk#") (1 + draw n 23 k 10) ∷ decimal 0 ∷ order_comment k ∷ [])
+    fields (word order_priorities (draw n 22 k 5) ∷ labelled (codes "Clerk#") (1 + draw n 23 k 10) ∷ decimal 0 ∷ order_comment k ∷ [])
 
 -- the line of an order: the first fields, the date, the last fields
 unfoldable pub order_line : ℕ → ℕ → List ℕ

@@ -5,8 +5,8 @@ use Rattle.data_maker.specs.declared.text.NamedText.{NamedText}
 use Rattle.data_maker.specs.Lines.{lines, region_line, nation_line, part_line, supplier_line, partsupp_lines, customer_line, order_line, order_lineitems, delete_line}
 
 -- the tables that refreshes leave as they are
-unfoldable pub lasting_tables : ℕ → List (List ℕ × List ℕ)
-lasting_tables n =
+unfoldable pub lasting : ℕ → List (List ℕ × List ℕ)
+lasting n =
     (codes "region.tbl", lines region_line 0 5)
     ∷ (codes "nation.tbl", lines nation_line 0 25)
     ∷ (codes "part.tbl", lines (part_line n) 1 (20 * n + 1))
@@ -16,13 +16,13 @@ lasting_tables n =
     ∷ []
 
 -- the tables of the orders
-unfoldable pub order_tables : ℕ → List (List ℕ × List ℕ)
-order_tables n =
+unfoldable pub ordered : ℕ → List (List ℕ × List ℕ)
+ordered n =
     (codes "orders.tbl", lines (order_line n) 1 (30 * n + 1))
     ∷ (codes "lineitem.tbl", lines (order_lineitems n) 1 (30 * n + 1))
     ∷ []
 
--- set 1: orders after those of the table with their lineitems, and the keys of the first orders
+-- set 1: orders behind those of the table with their lineitems, and the keys of the first orders
 unfoldable pub refresh_set : ℕ → List (List ℕ × List ℕ)
 refresh_set n =
     (codes "orders.tbl.u1", lines (order_line n) (30 * n + 1) (33 * n + 1))
@@ -30,10 +30,10 @@ refresh_set n =
     ∷ (codes "delete.1", lines delete_line 1 (3 * n + 1))
     ∷ []
 
--- all eleven texts, each after its name
-unfoldable pub made_texts : ℕ → List (List ℕ × List ℕ)
-made_texts n = lasting_tables n ++ order_tables n ++ refresh_set n
+-- all eleven texts, each behind its name
+unfoldable pub made : ℕ → List (List ℕ × List ℕ)
+made n = lasting n ++ ordered n ++ refresh_set n
 
 -- named texts, each as its name and its bytes
-unfoldable pub names_and_bytes : List NamedText → List (List ℕ × List ℕ)
-names_and_bytes texts = map (λ t. (string_bytes t.name, t.bytes.items)) texts
+unfoldable pub named : List NamedText → List (List ℕ × List ℕ)
+named texts = map (λ t. (string_bytes t.name, t.bytes.items)) texts

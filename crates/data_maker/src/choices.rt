@@ -86,7 +86,7 @@ pub static RETURN_FLAGS: [&str; 3] = ["R", "A", "N"];
 /// A line's statuses.
 pub static LINE_STATUSES: [&str; 2] = ["O", "F"];
 
-/// A line's instruction for its shipping.
+/// What a line's shipping is told.
 pub static SHIP_INSTRUCTIONS: [&str; 4] = [
     "DELIVER IN PERSON",
     "COLLECT COD",

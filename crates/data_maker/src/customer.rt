@@ -9,7 +9,6 @@ use crate::draw::draw;
 use crate::fields::{
     end_line, push_balance, push_labelled, push_number, push_residence, push_word,
 };
-use crate::number::DataNumber;
 use std::alloc::{AllocError, Global};
 
 /// The market segment at a place of their list.
@@ -21,7 +20,8 @@ fn market_segment(place: u64) -> &'static str
 }
 
 /// Appends the field of a customer's market segment.
-fn push_segment(text: &mut Vec<u8>, number: DataNumber, key: u64) -> Result<(), AllocError>
+fn push_segment(text: &mut Vec<u8>, number: u64, key: u64) -> Result<(), AllocError>
+    requires number { (1 ≤ number) × (number ≤ 1000) }
     requires key { key < 2 ^ 16 }
     ensures { OnOk result (text.new.items ≡ text.old.items ++ field (word market_segments (draw number 17 key 5))) }
 {
@@ -31,7 +31,8 @@ fn push_segment(text: &mut Vec<u8>, number: DataNumber, key: u64) -> Result<(), 
 
 /// Appends the last fields of a customer.
 #[tactic(auto, unfolding(crate::specs::Lines::customer_tail))]
-fn push_customer_tail(text: &mut Vec<u8>, number: DataNumber, key: u64) -> Result<(), AllocError>
+fn push_customer_tail(text: &mut Vec<u8>, number: u64, key: u64) -> Result<(), AllocError>
+    requires number { (1 ≤ number) × (number ≤ 1000) }
     requires key { key < 2 ^ 16 }
     ensures { OnOk result (text.new.items ≡ text.old.items ++ customer_tail number key) }
 {
@@ -43,7 +44,8 @@ fn push_customer_tail(text: &mut Vec<u8>, number: DataNumber, key: u64) -> Resul
 
 /// Appends a customer's line.
 #[tactic(auto, unfolding(crate::specs::Lines::customer_line))]
-fn push_customer(text: &mut Vec<u8>, number: DataNumber, key: u64) -> Result<(), AllocError>
+fn push_customer(text: &mut Vec<u8>, number: u64, key: u64) -> Result<(), AllocError>
+    requires number { (1 ≤ number) × (number ≤ 1000) }
     requires key { key < 2 ^ 16 }
     ensures { OnOk result (text.new.items ≡ text.old.items ++ customer_line number key) }
 {
@@ -56,11 +58,12 @@ fn push_customer(text: &mut Vec<u8>, number: DataNumber, key: u64) -> Result<(),
 }
 
 /// The text of the customers.
-pub fn customer_text(alloc: Global, number: DataNumber) -> Result<Vec<u8>, AllocError>
+pub fn customer_text(alloc: Global, number: u64) -> Result<Vec<u8>, AllocError>
+    requires { (1 ≤ number) × (number ≤ 1000) }
     ensures { IfOk result (λ text. text.items ≡ lines (customer_line number) 1 (15 * number + 1)) }
 {
     let mut text = Vec::new(alloc);
-    for key in 1..15 * number.get() + 1 {
+    for key in 1..15 * number + 1 {
         push_customer(&mut text, number, key)?;
     }
     Ok(text)

@@ -1,28 +1,28 @@
-use crate::number::DataNumber;
 //! Values that look random, and numbers made of them.
 ghost use Rattle.std.specs.Prelude.{◌≡◌, ◌<◌, ◌≤◌, ◌^◌, ◌*◌, ◌+◌};
 ghost use Rattle.data_maker.specs.Fields.{draw, supplier_of, not_third};
 
 /// A value below `count` for a column and a key of the data of that number.
 #[tactic(auto, unfolding(crate::specs::Fields::draw))]
-pub fn draw(number: DataNumber, column: u64, key: u64, count: u64) -> u64
+pub fn draw(number: u64, column: u64, key: u64, count: u64) -> u64
+    requires number { number ≤ 1000 }
     requires column { column < 100 }
     requires key { key < 2 ^ 20 }
     requires count { 0 < count }
     ensures value { result ≡ draw number column key count }
     ensures below { result < count }
 {
-    (key * 2_654_435_761 + column * 40_503 + number.get() * 97) % 4_294_967_296 / 256 % count
+    (key * 2_654_435_761 + column * 40_503 + number * 97) % 4_294_967_296 / 256 % count
 }
 
 /// The supplier of a part at one of its four places, from 0.
 #[tactic(auto, unfolding(crate::specs::Fields::supplier_of))]
-pub fn supplier_of(number: DataNumber, part: u64, place: u64) -> u64
+pub fn supplier_of(number: u64, part: u64, place: u64) -> u64
+    requires number { (1 ≤ number) × (number ≤ 1000) }
     requires part { part < 2 ^ 20 }
     requires place { place < 4 }
     ensures { result ≡ supplier_of number part place }
 {
-    let number = number.get();
     1 + (part + 2 * number * place) % (10 * number)
 }
 

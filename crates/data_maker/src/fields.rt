@@ -1,10 +1,9 @@
 //! Fields appended to a text, each with the bar that ends it.
 ghost use Rattle.std.specs.Prelude.{◌≡◌, ◌<◌, ◌≤◌, ◌^◌, ◌++◌, ◌∷◌, [], ◌-ℤ◌, pos, OnOk, codes, decimal};
-ghost use Rattle.data_maker.specs.Fields.{address, field, labelled_key, money, phone};
+ghost use Rattle.data_maker.specs.Fields.{address, field, labelled, money, phone};
 ghost use Rattle.data_maker.specs.Lines.{balance, fields, residence};
 
 use crate::draw::draw;
-use crate::number::DataNumber;
 use fixed_decimal::{Scale, push_decimal, push_last_digits};
 use itoa::Buffer;
 use std::alloc::AllocError;
@@ -35,11 +34,11 @@ pub fn push_part(text: &mut Vec<u8>, word: &str) -> Result<(), AllocError>
 }
 
 /// Appends a number's digits, without a bar.
-pub fn push_digits_of(text: &mut Vec<u8>, value: u64) -> Result<(), AllocError>
-    ensures { OnOk result (text.new.items ≡ text.old.items ++ decimal value) }
+pub fn push_digits_of(text: &mut Vec<u8>, number: u64) -> Result<(), AllocError>
+    ensures { OnOk result (text.new.items ≡ text.old.items ++ decimal number) }
 {
     let mut buffer = Buffer::new();
-    text.extend_from_slice(buffer.format(value).as_bytes())?;
+    text.extend_from_slice(buffer.format(number).as_bytes())?;
     Ok(())
 }
 
@@ -55,10 +54,10 @@ pub fn push_word(text: &mut Vec<u8>, word: &str) -> Result<(), AllocError>
 
 /// Appends a field of that number.
 #[tactic(auto, unfolding(crate::specs::Fields::field))]
-pub fn push_number(text: &mut Vec<u8>, value: u64) -> Result<(), AllocError>
-    ensures { OnOk result (text.new.items ≡ text.old.items ++ field (decimal value)) }
+pub fn push_number(text: &mut Vec<u8>, number: u64) -> Result<(), AllocError>
+    ensures { OnOk result (text.new.items ≡ text.old.items ++ field (decimal number)) }
 {
-    push_digits_of(text, value)?;
+    push_digits_of(text, number)?;
     push_bar(text)?;
     Ok(())
 }
@@ -66,7 +65,7 @@ pub fn push_number(text: &mut Vec<u8>, value: u64) -> Result<(), AllocError>
 /// Appends a field of a label and a key in nine digits.
 #[tactic(auto, unfolding(crate::specs::Fields::field))]
 pub fn push_labelled(text: &mut Vec<u8>, label: &str, key: u64) -> Result<(), AllocError>
-    ensures { OnOk result (text.new.items ≡ text.old.items ++ field (labelled_key label.now key)) }
+    ensures { OnOk result (text.new.items ≡ text.old.items ++ field (labelled label.now key)) }
 {
     push_part(text, label)?;
     push_last_digits(text, key, 9)?;
@@ -111,10 +110,11 @@ fn push_phone(text: &mut Vec<u8>, nation: u64) -> Result<(), AllocError>
 #[tactic(auto, unfolding(crate::specs::Lines::residence))]
 pub fn push_residence(
     text: &mut Vec<u8>,
-    number: DataNumber,
+    number: u64,
     column: u64,
     key: u64,
 ) -> Result<(), AllocError>
+    requires number { number ≤ 1000 }
     requires column { column < 100 }
     requires key { key < 2 ^ 20 }
     ensures { OnOk result (text.new.items ≡ text.old.items ++ residence number column key) }
@@ -130,10 +130,11 @@ pub fn push_residence(
 #[tactic(auto, unfolding(crate::specs::Lines::balance))]
 pub fn push_balance(
     text: &mut Vec<u8>,
-    number: DataNumber,
+    number: u64,
     column: u64,
     key: u64,
 ) -> Result<(), AllocError>
+    requires number { number ≤ 1000 }
     requires column { column < 100 }
     requires key { key < 2 ^ 20 }
     ensures { OnOk result (text.new.items ≡ text.old.items ++ field (balance number column key)) }

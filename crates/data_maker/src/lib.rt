@@ -8,7 +8,6 @@ mod dates;
 mod draw;
 mod fields;
 mod lineitem;
-mod number;
 mod orders;
 mod part;
 mod partsupp;
@@ -17,7 +16,6 @@ mod supplier;
 mod text;
 mod texts;
 
-pub use number::DataNumber;
 pub use text::NamedText;
 pub use texts::make;
 

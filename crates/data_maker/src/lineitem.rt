@@ -20,24 +20,25 @@ use crate::choices::{LINE_STATUSES, RETURN_FLAGS, SHIP_INSTRUCTIONS, SHIP_MODES,
 use crate::dates::push_date;
 use crate::draw::{draw, supplier_of};
 use crate::fields::{end_line, push_money, push_number, push_word};
-use crate::number::DataNumber;
 use crate::orders::order_day;
 use crate::part::retail_price;
 use std::alloc::{AllocError, Global};
 
 /// The part of a line.
 #[tactic(auto, unfolding(crate::specs::Lines::line_part))]
-fn line_part(number: DataNumber, place: u64) -> u64
+fn line_part(number: u64, place: u64) -> u64
+    requires number { (1 ≤ number) × (number ≤ 1000) }
     requires place { place < 2 ^ 19 }
     ensures value { result ≡ line_part number place }
     ensures below { result < 2 ^ 15 }
 {
-    1 + draw(number, 24, place, 20 * number.get())
+    1 + draw(number, 24, place, 20 * number)
 }
 
 /// The quantity of a line.
 #[tactic(auto, unfolding(crate::specs::Lines::line_quantity))]
-fn line_quantity(number: DataNumber, place: u64) -> u64
+fn line_quantity(number: u64, place: u64) -> u64
+    requires number { (1 ≤ number) × (number ≤ 1000) }
     requires place { place < 2 ^ 19 }
     ensures value { result ≡ line_quantity number place }
     ensures below { result ≤ 50 }
@@ -49,11 +50,12 @@ fn line_quantity(number: DataNumber, place: u64) -> u64
 #[tactic(auto, unfolding(crate::specs::Lines::lineitem_keys))]
 fn push_keys(
     text: &mut Vec<u8>,
-    number: DataNumber,
+    number: u64,
     key: u64,
     line: u64,
     place: u64,
 ) -> Result<(), AllocError>
+    requires number { (1 ≤ number) × (number ≤ 1000) }
     requires place { place < 2 ^ 19 }
     ensures { OnOk result (text.new.items ≡ text.old.items ++ lineitem_keys number key line place) }
 {
@@ -67,7 +69,8 @@ fn push_keys(
 
 /// Appends the fields of a line's amounts.
 #[tactic(auto, unfolding(crate::specs::Lines::lineitem_amounts))]
-fn push_amounts(text: &mut Vec<u8>, number: DataNumber, place: u64) -> Result<(), AllocError>
+fn push_amounts(text: &mut Vec<u8>, number: u64, place: u64) -> Result<(), AllocError>
+    requires number { (1 ≤ number) × (number ≤ 1000) }
     requires place { place < 2 ^ 19 }
     ensures { OnOk result (text.new.items ≡ text.old.items ++ lineitem_amounts number place) }
 {
@@ -89,7 +92,8 @@ fn return_flag(place: u64) -> &'static str
 }
 
 /// Appends the field of a line's return flag.
-fn push_flag(text: &mut Vec<u8>, number: DataNumber, place: u64) -> Result<(), AllocError>
+fn push_flag(text: &mut Vec<u8>, number: u64, place: u64) -> Result<(), AllocError>
+    requires number { (1 ≤ number) × (number ≤ 1000) }
     requires place { place < 2 ^ 19 }
     ensures { OnOk result (text.new.items ≡ text.old.items ++ field (word return_flags (draw number 29 place 3))) }
 {
@@ -106,7 +110,8 @@ fn line_status(place: u64) -> &'static str
 }
 
 /// Appends the field of a line's status.
-fn push_status(text: &mut Vec<u8>, number: DataNumber, place: u64) -> Result<(), AllocError>
+fn push_status(text: &mut Vec<u8>, number: u64, place: u64) -> Result<(), AllocError>
+    requires number { (1 ≤ number) × (number ≤ 1000) }
     requires place { place < 2 ^ 19 }
     ensures { OnOk result (text.new.items ≡ text.old.items ++ field (word line_statuses (draw number 30 place 2))) }
 {
@@ -116,7 +121,8 @@ fn push_status(text: &mut Vec<u8>, number: DataNumber, place: u64) -> Result<(),
 
 /// Appends the fields of a line's flag and status.
 #[tactic(auto, unfolding(crate::specs::Lines::lineitem_statuses))]
-fn push_statuses(text: &mut Vec<u8>, number: DataNumber, place: u64) -> Result<(), AllocError>
+fn push_statuses(text: &mut Vec<u8>, number: u64, place: u64) -> Result<(), AllocError>
+    requires number { (1 ≤ number) × (number ≤ 1000) }
     requires place { place < 2 ^ 19 }
     ensures { OnOk result (text.new.items ≡ text.old.items ++ lineitem_statuses number place) }
 {
@@ -127,8 +133,9 @@ fn push_statuses(text: &mut Vec<u8>, number: DataNumber, place: u64) -> Result<(
 
 /// The days from the first one to the line's shipping.
 #[tactic(auto, unfolding(crate::specs::Lines::ship_day))]
-fn ship_day(number: DataNumber, key: u64, place: u64) -> u64
+fn ship_day(number: u64, key: u64, place: u64) -> u64
     requires key { key < 2 ^ 16 }
+    requires number { (1 ≤ number) × (number ≤ 1000) }
     requires place { place < 2 ^ 19 }
     ensures value { result ≡ ship_day number key place }
     ensures below { result < 2527 }
@@ -138,13 +145,9 @@ fn ship_day(number: DataNumber, key: u64, place: u64) -> u64
 
 /// Appends the fields of a line's dates.
 #[tactic(auto, unfolding(crate::specs::Lines::lineitem_dates))]
-fn push_dates(
-    text: &mut Vec<u8>,
-    number: DataNumber,
-    key: u64,
-    place: u64,
-) -> Result<(), AllocError>
+fn push_dates(text: &mut Vec<u8>, number: u64, key: u64, place: u64) -> Result<(), AllocError>
     requires key { key < 2 ^ 16 }
+    requires number { (1 ≤ number) × (number ≤ 1000) }
     requires place { place < 2 ^ 19 }
     ensures { OnOk result (text.new.items ≡ text.old.items ++ lineitem_dates number key place) }
 {
@@ -167,7 +170,8 @@ fn ship_instruction(place: u64) -> &'static str
 }
 
 /// Appends the field of a line's instruction.
-fn push_instruction(text: &mut Vec<u8>, number: DataNumber, place: u64) -> Result<(), AllocError>
+fn push_instruction(text: &mut Vec<u8>, number: u64, place: u64) -> Result<(), AllocError>
+    requires number { (1 ≤ number) × (number ≤ 1000) }
     requires place { place < 2 ^ 19 }
     ensures { OnOk result (text.new.items ≡ text.old.items ++ field (word ship_instructions (draw number 34 place 4))) }
 {
@@ -184,7 +188,8 @@ fn ship_mode(place: u64) -> &'static str
 }
 
 /// Appends the field of a line's mode.
-fn push_mode(text: &mut Vec<u8>, number: DataNumber, place: u64) -> Result<(), AllocError>
+fn push_mode(text: &mut Vec<u8>, number: u64, place: u64) -> Result<(), AllocError>
+    requires number { (1 ≤ number) × (number ≤ 1000) }
     requires place { place < 2 ^ 19 }
     ensures { OnOk result (text.new.items ≡ text.old.items ++ field (word ship_modes (draw number 35 place 7))) }
 {
@@ -194,7 +199,8 @@ fn push_mode(text: &mut Vec<u8>, number: DataNumber, place: u64) -> Result<(), A
 
 /// Appends the fields of a line's shipping, and its empty comment.
 #[tactic(auto, unfolding(crate::specs::Lines::lineitem_shipping))]
-fn push_shipping(text: &mut Vec<u8>, number: DataNumber, place: u64) -> Result<(), AllocError>
+fn push_shipping(text: &mut Vec<u8>, number: u64, place: u64) -> Result<(), AllocError>
+    requires number { (1 ≤ number) × (number ≤ 1000) }
     requires place { place < 2 ^ 19 }
     ensures { OnOk result (text.new.items ≡ text.old.items ++ lineitem_shipping number place) }
 {
@@ -206,12 +212,8 @@ fn push_shipping(text: &mut Vec<u8>, number: DataNumber, place: u64) -> Result<(
 
 /// Appends one line of an order.
 #[tactic(auto, unfolding(crate::specs::Lines::lineitem_line))]
-fn push_lineitem(
-    text: &mut Vec<u8>,
-    number: DataNumber,
-    key: u64,
-    line: u64,
-) -> Result<(), AllocError>
+fn push_lineitem(text: &mut Vec<u8>, number: u64, key: u64, line: u64) -> Result<(), AllocError>
+    requires number { (1 ≤ number) × (number ≤ 1000) }
     requires key { key < 2 ^ 16 }
     requires line { line < 2 ^ 16 }
     ensures { OnOk result (text.new.items ≡ text.old.items ++ lineitem_line number key line) }
@@ -227,7 +229,8 @@ fn push_lineitem(
 }
 
 /// Appends the lines of an order.
-fn push_order_lineitems(text: &mut Vec<u8>, number: DataNumber, key: u64) -> Result<(), AllocError>
+fn push_order_lineitems(text: &mut Vec<u8>, number: u64, key: u64) -> Result<(), AllocError>
+    requires number { (1 ≤ number) × (number ≤ 1000) }
     requires key { key < 2 ^ 16 }
     ensures { OnOk result (text.new.items ≡ text.old.items ++ order_lineitems number key) }
 {
@@ -240,10 +243,11 @@ fn push_order_lineitems(text: &mut Vec<u8>, number: DataNumber, key: u64) -> Res
 /// The text of the lines of the orders from the first key to the one before the end.
 pub fn lineitem_text(
     alloc: Global,
-    number: DataNumber,
+    number: u64,
     first: u64,
     end: u64,
 ) -> Result<Vec<u8>, AllocError>
+    requires number { (1 ≤ number) × (number ≤ 1000) }
     requires keys { (first ≤ end) × (end ≤ 2 ^ 16) }
     ensures { IfOk result (λ text. text.items ≡ lines (order_lineitems number) first end) }
 {

@@ -8,12 +8,12 @@ use crate::choices::{ORDER_PRIORITIES, ORDER_STATUSES, word};
 use crate::dates::push_date;
 use crate::draw::{draw, not_third};
 use crate::fields::{end_line, push_labelled, push_money, push_number, push_word};
-use crate::number::DataNumber;
 use std::alloc::{AllocError, Global};
 
 /// The days from the first one to the order.
 #[tactic(auto, unfolding(crate::specs::Lines::order_day))]
-pub fn order_day(number: DataNumber, key: u64) -> u64
+pub fn order_day(number: u64, key: u64) -> u64
+    requires number { (1 ≤ number) × (number ≤ 1000) }
     requires key { key < 2 ^ 16 }
     ensures value { result ≡ order_day number key }
     ensures below { result < 2406 }
@@ -42,7 +42,8 @@ fn order_status(place: u64) -> &'static str
 }
 
 /// Appends the field of an order's status.
-fn push_status(text: &mut Vec<u8>, number: DataNumber, key: u64) -> Result<(), AllocError>
+fn push_status(text: &mut Vec<u8>, number: u64, key: u64) -> Result<(), AllocError>
+    requires number { (1 ≤ number) × (number ≤ 1000) }
     requires key { key < 2 ^ 16 }
     ensures { OnOk result (text.new.items ≡ text.old.items ++ field (word order_statuses (draw number 19 key 3))) }
 {
@@ -59,7 +60,8 @@ fn order_priority(place: u64) -> &'static str
 }
 
 /// Appends the field of an order's priority.
-fn push_priority(text: &mut Vec<u8>, number: DataNumber, key: u64) -> Result<(), AllocError>
+fn push_priority(text: &mut Vec<u8>, number: u64, key: u64) -> Result<(), AllocError>
+    requires number { (1 ≤ number) × (number ≤ 1000) }
     requires key { key < 2 ^ 16 }
     ensures { OnOk result (text.new.items ≡ text.old.items ++ field (word order_priorities (draw number 22 key 5))) }
 {
@@ -69,15 +71,13 @@ fn push_priority(text: &mut Vec<u8>, number: DataNumber, key: u64) -> Result<(),
 
 /// Appends the fields of an order up to its price.
 #[tactic(auto, unfolding(crate::specs::Lines::order_head))]
-fn push_head(text: &mut Vec<u8>, number: DataNumber, key: u64) -> Result<(), AllocError>
+fn push_head(text: &mut Vec<u8>, number: u64, key: u64) -> Result<(), AllocError>
+    requires number { (1 ≤ number) × (number ≤ 1000) }
     requires key { key < 2 ^ 16 }
     ensures { OnOk result (text.new.items ≡ text.old.items ++ order_head number key) }
 {
     push_number(text, key)?;
-    push_number(
-        text,
-        not_third(1 + draw(number, 18, key, 15 * number.get())),
-    )?;
+    push_number(text, not_third(1 + draw(number, 18, key, 15 * number)))?;
     push_status(text, number, key)?;
     push_money(text, (100_000 + draw(number, 20, key, 40_000_000)) as i64)?;
     Ok(())
@@ -85,7 +85,8 @@ fn push_head(text: &mut Vec<u8>, number: DataNumber, key: u64) -> Result<(), All
 
 /// Appends the last fields of an order.
 #[tactic(auto, unfolding(crate::specs::Lines::order_tail))]
-fn push_order_tail(text: &mut Vec<u8>, number: DataNumber, key: u64) -> Result<(), AllocError>
+fn push_order_tail(text: &mut Vec<u8>, number: u64, key: u64) -> Result<(), AllocError>
+    requires number { (1 ≤ number) × (number ≤ 1000) }
     requires key { key < 2 ^ 16 }
     ensures { OnOk result (text.new.items ≡ text.old.items ++ order_tail number key) }
 {
@@ -98,7 +99,8 @@ fn push_order_tail(text: &mut Vec<u8>, number: DataNumber, key: u64) -> Result<(
 
 /// Appends an order's line.
 #[tactic(auto, unfolding(crate::specs::Lines::order_line))]
-fn push_order(text: &mut Vec<u8>, number: DataNumber, key: u64) -> Result<(), AllocError>
+fn push_order(text: &mut Vec<u8>, number: u64, key: u64) -> Result<(), AllocError>
+    requires number { (1 ≤ number) × (number ≤ 1000) }
     requires key { key < 2 ^ 16 }
     ensures { OnOk result (text.new.items ≡ text.old.items ++ order_line number key) }
 {
@@ -110,12 +112,8 @@ fn push_order(text: &mut Vec<u8>, number: DataNumber, key: u64) -> Result<(), Al
 }
 
 /// The text of the orders from the first key to the one before the end.
-pub fn order_text(
-    alloc: Global,
-    number: DataNumber,
-    first: u64,
-    end: u64,
-) -> Result<Vec<u8>, AllocError>
+pub fn order_text(alloc: Global, number: u64, first: u64, end: u64) -> Result<Vec<u8>, AllocError>
+    requires number { (1 ≤ number) × (number ≤ 1000) }
     requires keys { (first ≤ end) × (end ≤ 2 ^ 16) }
     ensures { IfOk result (λ text. text.items ≡ lines (order_line number) first end) }
 {

@@ -29,7 +29,6 @@ use crate::choices::{
 };
 use crate::draw::draw;
 use crate::fields::{end_line, push_digits_of, push_money, push_number, push_part, push_word};
-use crate::number::DataNumber;
 use std::alloc::{AllocError, Global};
 
 /// The colour at a place of their list.
@@ -82,7 +81,8 @@ fn container_kind(place: u64) -> &'static str
 
 /// Appends the field of a part's name: two colours.
 #[tactic(auto, unfolding(crate::specs::Lines::part_name, crate::specs::Fields::field))]
-fn push_name(text: &mut Vec<u8>, number: DataNumber, key: u64) -> Result<(), AllocError>
+fn push_name(text: &mut Vec<u8>, number: u64, key: u64) -> Result<(), AllocError>
+    requires number { (1 ≤ number) × (number ≤ 1000) }
     requires key { key < 2 ^ 16 }
     ensures { OnOk result (text.new.items ≡ text.old.items ++ field (part_name number key)) }
 {
@@ -93,7 +93,8 @@ fn push_name(text: &mut Vec<u8>, number: DataNumber, key: u64) -> Result<(), All
 }
 
 /// The digit of a part's maker, from 1 to 5.
-fn maker_of(number: DataNumber, key: u64) -> u64
+fn maker_of(number: u64, key: u64) -> u64
+    requires number { (1 ≤ number) × (number ≤ 1000) }
     requires key { key < 2 ^ 16 }
     ensures { result ≡ maker_of number key }
 {
@@ -102,7 +103,8 @@ fn maker_of(number: DataNumber, key: u64) -> u64
 
 /// Appends the field of a part's manufacturer.
 #[tactic(auto, unfolding(crate::specs::Lines::manufacturer, crate::specs::Fields::field))]
-fn push_manufacturer(text: &mut Vec<u8>, number: DataNumber, key: u64) -> Result<(), AllocError>
+fn push_manufacturer(text: &mut Vec<u8>, number: u64, key: u64) -> Result<(), AllocError>
+    requires number { (1 ≤ number) × (number ≤ 1000) }
     requires key { key < 2 ^ 16 }
     ensures { OnOk result (text.new.items ≡ text.old.items ++ field (manufacturer number key)) }
 {
@@ -113,7 +115,8 @@ fn push_manufacturer(text: &mut Vec<u8>, number: DataNumber, key: u64) -> Result
 
 /// Appends the field of a part's brand.
 #[tactic(auto, unfolding(crate::specs::Lines::brand, crate::specs::Fields::field))]
-fn push_brand(text: &mut Vec<u8>, number: DataNumber, key: u64) -> Result<(), AllocError>
+fn push_brand(text: &mut Vec<u8>, number: u64, key: u64) -> Result<(), AllocError>
+    requires number { (1 ≤ number) × (number ≤ 1000) }
     requires key { key < 2 ^ 16 }
     ensures { OnOk result (text.new.items ≡ text.old.items ++ field (brand number key)) }
 {
@@ -125,7 +128,8 @@ fn push_brand(text: &mut Vec<u8>, number: DataNumber, key: u64) -> Result<(), Al
 
 /// Appends the field of a part's type: three words.
 #[tactic(auto, unfolding(crate::specs::Lines::part_type, crate::specs::Fields::field))]
-fn push_type(text: &mut Vec<u8>, number: DataNumber, key: u64) -> Result<(), AllocError>
+fn push_type(text: &mut Vec<u8>, number: u64, key: u64) -> Result<(), AllocError>
+    requires number { (1 ≤ number) × (number ≤ 1000) }
     requires key { key < 2 ^ 16 }
     ensures { OnOk result (text.new.items ≡ text.old.items ++ field (part_type number key)) }
 {
@@ -139,7 +143,8 @@ fn push_type(text: &mut Vec<u8>, number: DataNumber, key: u64) -> Result<(), All
 
 /// Appends the field of a part's container: two words.
 #[tactic(auto, unfolding(crate::specs::Lines::part_container, crate::specs::Fields::field))]
-fn push_container(text: &mut Vec<u8>, number: DataNumber, key: u64) -> Result<(), AllocError>
+fn push_container(text: &mut Vec<u8>, number: u64, key: u64) -> Result<(), AllocError>
+    requires number { (1 ≤ number) × (number ≤ 1000) }
     requires key { key < 2 ^ 16 }
     ensures { OnOk result (text.new.items ≡ text.old.items ++ field (part_container number key)) }
 {
@@ -159,7 +164,8 @@ pub fn retail_price(part: u64) -> u64
 
 /// Appends the fields of a part up to its brand.
 #[tactic(auto, unfolding(crate::specs::Lines::part_head))]
-fn push_part_head(text: &mut Vec<u8>, number: DataNumber, key: u64) -> Result<(), AllocError>
+fn push_part_head(text: &mut Vec<u8>, number: u64, key: u64) -> Result<(), AllocError>
+    requires number { (1 ≤ number) × (number ≤ 1000) }
     requires key { key < 2 ^ 16 }
     ensures { OnOk result (text.new.items ≡ text.old.items ++ part_head number key) }
 {
@@ -172,7 +178,8 @@ fn push_part_head(text: &mut Vec<u8>, number: DataNumber, key: u64) -> Result<()
 
 /// Appends the fields of a part from its type on.
 #[tactic(auto, unfolding(crate::specs::Lines::part_tail))]
-fn push_part_tail(text: &mut Vec<u8>, number: DataNumber, key: u64) -> Result<(), AllocError>
+fn push_part_tail(text: &mut Vec<u8>, number: u64, key: u64) -> Result<(), AllocError>
+    requires number { (1 ≤ number) × (number ≤ 1000) }
     requires key { key < 2 ^ 16 }
     ensures { OnOk result (text.new.items ≡ text.old.items ++ part_tail number key) }
 {
@@ -186,7 +193,8 @@ fn push_part_tail(text: &mut Vec<u8>, number: DataNumber, key: u64) -> Result<()
 
 /// Appends a part's line.
 #[tactic(auto, unfolding(crate::specs::Lines::part_line))]
-fn push_part_line(text: &mut Vec<u8>, number: DataNumber, key: u64) -> Result<(), AllocError>
+fn push_part_line(text: &mut Vec<u8>, number: u64, key: u64) -> Result<(), AllocError>
+    requires number { (1 ≤ number) × (number ≤ 1000) }
     requires key { key < 2 ^ 16 }
     ensures { OnOk result (text.new.items ≡ text.old.items ++ part_line number key) }
 {
@@ -197,11 +205,12 @@ fn push_part_line(text: &mut Vec<u8>, number: DataNumber, key: u64) -> Result<()
 }
 
 /// The text of the parts.
-pub fn part_text(alloc: Global, number: DataNumber) -> Result<Vec<u8>, AllocError>
+pub fn part_text(alloc: Global, number: u64) -> Result<Vec<u8>, AllocError>
+    requires { (1 ≤ number) × (number ≤ 1000) }
     ensures { IfOk result (λ text. text.items ≡ lines (part_line number) 1 (20 * number + 1)) }
 {
     let mut text = Vec::new(alloc);
-    for key in 1..20 * number.get() + 1 {
+    for key in 1..20 * number + 1 {
         push_part_line(&mut text, number, key)?;
     }
     Ok(text)

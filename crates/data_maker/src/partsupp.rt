@@ -4,18 +4,17 @@ ghost use Rattle.data_maker.specs.Lines.{by_supplier, lines, partsupp_line, part
 
 use crate::draw::{draw, supplier_of};
 use crate::fields::{end_line, push_money, push_number, push_word};
-use crate::number::DataNumber;
 use std::alloc::{AllocError, Global};
 
 /// The places of a part's four suppliers, by ascending supplier. The suppliers stand a fifth of the ring of all
-/// suppliers apart, so the lowest is the first one past the ring's end.
+/// suppliers apart, so the lowest is the first one behind the ring's end.
 #[tactic(auto, using(crate::proofs::Ring::none_behind, crate::proofs::Ring::one_behind, crate::proofs::Ring::two_behind, crate::proofs::Ring::three_behind))]
-fn by_supplier(number: DataNumber, part: u64) -> (u64, u64, u64, u64)
+fn by_supplier(number: u64, part: u64) -> (u64, u64, u64, u64)
+    requires number { (1 ≤ number) × (number ≤ 1000) }
     requires part { part < 2 ^ 16 }
     ensures order { result.0 ∷ result.1 ∷ result.2 ∷ result.3 ∷ [] ≡ by_supplier number part }
     ensures below { (result.0 < 4) × (result.1 < 4) × (result.2 < 4) × (result.3 < 4) }
 {
-    let number = number.get();
     let start = part % (10 * number);
     if start < 4 * number {
         (0, 1, 2, 3)
@@ -30,12 +29,8 @@ fn by_supplier(number: DataNumber, part: u64) -> (u64, u64, u64, u64)
 
 /// Appends the line of a part with the supplier at one of its places.
 #[tactic(auto, unfolding(crate::specs::Lines::partsupp_line))]
-fn push_partsupp(
-    text: &mut Vec<u8>,
-    number: DataNumber,
-    key: u64,
-    place: u64,
-) -> Result<(), AllocError>
+fn push_partsupp(text: &mut Vec<u8>, number: u64, key: u64, place: u64) -> Result<(), AllocError>
+    requires number { (1 ≤ number) × (number ≤ 1000) }
     requires key { key < 2 ^ 16 }
     requires place { place < 4 }
     ensures { OnOk result (text.new.items ≡ text.old.items ++ partsupp_line number key place) }
@@ -51,7 +46,8 @@ fn push_partsupp(
 }
 
 /// Appends the lines of a part, by ascending supplier.
-fn push_partsupps(text: &mut Vec<u8>, number: DataNumber, key: u64) -> Result<(), AllocError>
+fn push_partsupps(text: &mut Vec<u8>, number: u64, key: u64) -> Result<(), AllocError>
+    requires number { (1 ≤ number) × (number ≤ 1000) }
     requires key { key < 2 ^ 16 }
     ensures { OnOk result (text.new.items ≡ text.old.items ++ partsupp_lines number key) }
 {
@@ -64,11 +60,12 @@ fn push_partsupps(text: &mut Vec<u8>, number: DataNumber, key: u64) -> Result<()
 }
 
 /// The text of the parts with their suppliers.
-pub fn partsupp_text(alloc: Global, number: DataNumber) -> Result<Vec<u8>, AllocError>
+pub fn partsupp_text(alloc: Global, number: u64) -> Result<Vec<u8>, AllocError>
+    requires { (1 ≤ number) × (number ≤ 1000) }
     ensures { IfOk result (λ text. text.items ≡ lines (partsupp_lines number) 1 (20 * number + 1)) }
 {
     let mut text = Vec::new(alloc);
-    for key in 1..20 * number.get() + 1 {
+    for key in 1..20 * number + 1 {
         push_partsupps(&mut text, number, key)?;
     }
     Ok(text)

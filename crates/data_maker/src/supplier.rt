@@ -6,7 +6,6 @@ ghost use Rattle.data_maker.specs.Lines.{lines, supplier_comment, supplier_line,
 use crate::fields::{
     end_line, push_balance, push_labelled, push_number, push_residence, push_word,
 };
-use crate::number::DataNumber;
 use std::alloc::{AllocError, Global};
 
 /// What is said of a supplier.
@@ -23,7 +22,8 @@ fn supplier_comment(key: u64) -> &'static str
 
 /// Appends the last fields of a supplier.
 #[tactic(auto, unfolding(crate::specs::Lines::supplier_tail))]
-fn push_supplier_tail(text: &mut Vec<u8>, number: DataNumber, key: u64) -> Result<(), AllocError>
+fn push_supplier_tail(text: &mut Vec<u8>, number: u64, key: u64) -> Result<(), AllocError>
+    requires number { (1 ≤ number) × (number ≤ 1000) }
     requires key { key < 2 ^ 16 }
     ensures { OnOk result (text.new.items ≡ text.old.items ++ supplier_tail number key) }
 {
@@ -34,7 +34,8 @@ fn push_supplier_tail(text: &mut Vec<u8>, number: DataNumber, key: u64) -> Resul
 
 /// Appends a supplier's line.
 #[tactic(auto, unfolding(crate::specs::Lines::supplier_line))]
-fn push_supplier(text: &mut Vec<u8>, number: DataNumber, key: u64) -> Result<(), AllocError>
+fn push_supplier(text: &mut Vec<u8>, number: u64, key: u64) -> Result<(), AllocError>
+    requires number { (1 ≤ number) × (number ≤ 1000) }
     requires key { key < 2 ^ 16 }
     ensures { OnOk result (text.new.items ≡ text.old.items ++ supplier_line number key) }
 {
@@ -47,11 +48,12 @@ fn push_supplier(text: &mut Vec<u8>, number: DataNumber, key: u64) -> Result<(),
 }
 
 /// The text of the suppliers.
-pub fn supplier_text(alloc: Global, number: DataNumber) -> Result<Vec<u8>, AllocError>
+pub fn supplier_text(alloc: Global, number: u64) -> Result<Vec<u8>, AllocError>
+    requires { (1 ≤ number) × (number ≤ 1000) }
     ensures { IfOk result (λ text. text.items ≡ lines (supplier_line number) 1 (10 * number + 1)) }
 {
     let mut text = Vec::new(alloc);
-    for key in 1..10 * number.get() + 1 {
+    for key in 1..10 * number + 1 {
         push_supplier(&mut text, number, key)?;
     }
     Ok(text)

@@ -1,5 +1,5 @@
 //! The lines counted, and whole lines of each table as another program works them out from the formulas.
-use super::{DataNumber, NamedText, make};
+use super::{NamedText, make};
 use std::test::Fail;
 
 /// How many lines the text of that index has.
@@ -21,8 +21,8 @@ fn has_line(texts: &[NamedText], index: usize, name: &str, place: usize, line: &
 
 #[test]
 fn counts_lines(rt: HostRuntime) -> Result<(), Fail> {
-    let one = make(rt.alloc(), DataNumber::new(1))?;
-    let ten = make(rt.alloc(), DataNumber::new(10))?;
+    let one = make(rt.alloc(), 1)?;
+    let ten = make(rt.alloc(), 10)?;
     assert_eq!(rt; one.len(), 11);
     assert_eq!(rt; ten.len(), 11);
     let of_one = [5, 25, 20, 10, 80, 15, 30, 75, 3, 7, 3];
@@ -36,7 +36,7 @@ fn counts_lines(rt: HostRuntime) -> Result<(), Fail> {
 
 #[test]
 fn writes_lasting_tables(rt: HostRuntime) -> Result<(), Fail> {
-    let texts = make(rt.alloc(), DataNumber::new(1))?;
+    let texts = make(rt.alloc(), 1)?;
     assert!(rt; has_line(&texts, 0, "region.tbl", 4, "4|MIDDLE EAST||"));
     assert!(rt; has_line(&texts, 1, "nation.tbl", 24, "24|UNITED STATES|1||"));
     assert!(rt;
@@ -93,7 +93,7 @@ fn writes_lasting_tables(rt: HostRuntime) -> Result<(), Fail> {
 
 #[test]
 fn writes_orders(rt: HostRuntime) -> Result<(), Fail> {
-    let texts = make(rt.alloc(), DataNumber::new(1))?;
+    let texts = make(rt.alloc(), 1)?;
     assert!(rt;
         has_line(
             &texts,
@@ -154,7 +154,7 @@ fn writes_orders(rt: HostRuntime) -> Result<(), Fail> {
 
 #[test]
 fn writes_ten_times_as_much(rt: HostRuntime) -> Result<(), Fail> {
-    let texts = make(rt.alloc(), DataNumber::new(10))?;
+    let texts = make(rt.alloc(), 10)?;
     assert!(rt;
         has_line(
             &texts,
@@ -206,7 +206,7 @@ fn writes_ten_times_as_much(rt: HostRuntime) -> Result<(), Fail> {
 
 #[test]
 fn writes_ten_times_the_refresh_set(rt: HostRuntime) -> Result<(), Fail> {
-    let texts = make(rt.alloc(), DataNumber::new(10))?;
+    let texts = make(rt.alloc(), 10)?;
     assert!(rt;
         has_line(
             &texts,

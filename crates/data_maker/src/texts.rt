@@ -1,10 +1,9 @@
 //! The eleven texts.
 ghost use Rattle.std.specs.Prelude.{◌≡◌, ◌≤◌, ◌++◌, ◌∷◌, [], OnOk, IfOk};
-ghost use Rattle.data_maker.specs.Texts.{lasting_tables, made_texts, names_and_bytes, order_tables, refresh_set};
+ghost use Rattle.data_maker.specs.Texts.{lasting, made, named, ordered, refresh_set};
 
 use crate::customer::customer_text;
 use crate::lineitem::lineitem_text;
-use crate::number::DataNumber;
 use crate::orders::{delete_text, order_text};
 use crate::part::part_text;
 use crate::partsupp::partsupp_text;
@@ -14,14 +13,14 @@ use crate::text::NamedText;
 use std::alloc::{AllocError, Global};
 
 /// Adds a text under a name.
-#[tactic(auto, unfolding(crate::specs::Texts::names_and_bytes))]
+#[tactic(auto, unfolding(crate::specs::Texts::named))]
 fn add(
     alloc: Global,
     texts: &mut Vec<NamedText>,
     name: &str,
     bytes: Vec<u8>,
 ) -> Result<(), AllocError>
-    ensures { OnOk result (names_and_bytes texts.new.items ≡ names_and_bytes texts.old.items ++ (name.now, bytes.items) ∷ []) }
+    ensures { OnOk result (named texts.new.items ≡ named texts.old.items ++ (name.now, bytes.items) ∷ []) }
 {
     let name = String::from_str(alloc, name)?;
     texts.push(NamedText { name, bytes })?;
@@ -29,13 +28,10 @@ fn add(
 }
 
 /// Adds the tables that have parts, suppliers and customers, and those of places.
-#[tactic(auto, unfolding(crate::specs::Texts::lasting_tables))]
-fn add_lasting(
-    alloc: Global,
-    texts: &mut Vec<NamedText>,
-    number: DataNumber,
-) -> Result<(), AllocError>
-    ensures { OnOk result (names_and_bytes texts.new.items ≡ names_and_bytes texts.old.items ++ lasting_tables number) }
+#[tactic(auto, unfolding(crate::specs::Texts::lasting))]
+fn add_lasting(alloc: Global, texts: &mut Vec<NamedText>, number: u64) -> Result<(), AllocError>
+    requires { (1 ≤ number) × (number ≤ 1000) }
+    ensures { OnOk result (named texts.new.items ≡ named texts.old.items ++ lasting number) }
 {
     add(alloc, texts, "region.tbl", region_text(alloc)?)?;
     add(alloc, texts, "nation.tbl", nation_text(alloc)?)?;
@@ -47,15 +43,12 @@ fn add_lasting(
 }
 
 /// Adds the tables of orders and lineitems.
-#[tactic(auto, unfolding(crate::specs::Texts::order_tables))]
-fn add_orders(
-    alloc: Global,
-    texts: &mut Vec<NamedText>,
-    number: DataNumber,
-) -> Result<(), AllocError>
-    ensures { OnOk result (names_and_bytes texts.new.items ≡ names_and_bytes texts.old.items ++ order_tables number) }
+#[tactic(auto, unfolding(crate::specs::Texts::ordered))]
+fn add_orders(alloc: Global, texts: &mut Vec<NamedText>, number: u64) -> Result<(), AllocError>
+    requires { (1 ≤ number) × (number ≤ 1000) }
+    ensures { OnOk result (named texts.new.items ≡ named texts.old.items ++ ordered number) }
 {
-    let end = 30 * number.get() + 1;
+    let end = 30 * number + 1;
     add(
         alloc,
         texts,
@@ -73,15 +66,12 @@ fn add_orders(
 
 /// Adds the files of the refresh set.
 #[tactic(auto, unfolding(crate::specs::Texts::refresh_set))]
-fn add_refresh_set(
-    alloc: Global,
-    texts: &mut Vec<NamedText>,
-    number: DataNumber,
-) -> Result<(), AllocError>
-    ensures { OnOk result (names_and_bytes texts.new.items ≡ names_and_bytes texts.old.items ++ refresh_set number) }
+fn add_refresh_set(alloc: Global, texts: &mut Vec<NamedText>, number: u64) -> Result<(), AllocError>
+    requires { (1 ≤ number) × (number ≤ 1000) }
+    ensures { OnOk result (named texts.new.items ≡ named texts.old.items ++ refresh_set number) }
 {
-    let first = 30 * number.get() + 1;
-    let end = 33 * number.get() + 1;
+    let first = 30 * number + 1;
+    let end = 33 * number + 1;
     add(
         alloc,
         texts,
@@ -98,17 +88,18 @@ fn add_refresh_set(
         alloc,
         texts,
         "delete.1",
-        delete_text(alloc, 3 * number.get() + 1)?,
+        delete_text(alloc, 3 * number + 1)?,
     )?;
     Ok(())
 }
 
-/// The data for the number: the files of the eight tables in the schema's order, then those of refresh
+/// The data for a number from 1 to 1000: the files of the eight tables in the schema's order, then those of refresh
 /// set 1, the same bytes at each call. Its size goes up with the number: orders are 30 times the number, and the
-/// set's 3 times. The only error is that memory runs out.
-#[tactic(auto, unfolding(crate::specs::Texts::made_texts, crate::specs::Texts::names_and_bytes))]
-pub fn make(alloc: Global, number: DataNumber) -> Result<Vec<NamedText>, AllocError>
-    ensures { IfOk result (λ texts. names_and_bytes texts.items ≡ made_texts number) }
+/// set's 3 times. The only error is want of memory.
+#[tactic(auto, unfolding(crate::specs::Texts::made, crate::specs::Texts::named))]
+pub fn make(alloc: Global, number: u64) -> Result<Vec<NamedText>, AllocError>
+    requires { (1 ≤ number) × (number ≤ 1000) }
+    ensures { IfOk result (λ texts. named texts.items ≡ made number) }
 {
     let mut texts = Vec::new(alloc);
     add_lasting(alloc, &mut texts, number)?;

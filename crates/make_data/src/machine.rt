@@ -22,12 +22,12 @@ impl<'r, R: rt::Files + Print> Machine<'r, R> {
         Machine { rt, faults: 0 }
     }
 
-    /// Counts the error, unless memory ran out.
+    /// Counts the error, unless memory was wanted.
     fn counted(&mut self, error: io::Error) -> TargetError
         ensures { Counts (result ≡ TargetError.Fault) self.old.faults self.new.faults }
     {
         if error.kind() == ErrorKind::OutOfMemory {
-            return TargetError::OutOfMemory;
+            return TargetError::Memory;
         }
         self.faults = self.faults.saturating_add(1);
         TargetError::Fault

@@ -19,7 +19,7 @@ use std::process::ExitCode;
 #[cfg(test)]
 mod tests;
 
-/// The words after the program's name. None where a word isn't UTF-8.
+/// The words after the program's name. Words that aren't UTF-8 are as good as none.
 fn given_words(rt: &HostRuntime) -> Result<Vec<String>, AllocError> {
     match env::args(rt) {
         Ok(args) => args.skip(1).collect(rt.alloc()),

@@ -2,14 +2,14 @@
 ghost use Rattle.std.specs.Prelude.{◌≡◌, ◌≢◌, ℕ, ◌≤◌, List, [], ◌∷◌, ◌++◌, IfOk, IsErrOf, OnOk, map};
 ghost use Rattle.std.specs.String.{string_bytes};
 ghost use Rattle.tpch_outside.specs.Outside.{Rose};
-ghost use Rattle.data_maker.specs.Texts.{made_texts, names_and_bytes};
+ghost use Rattle.data_maker.specs.Texts.{made, named};
 ghost use Rattle.make_data.specs.Target.{Grows, GrowsInPart, IsSilent, WritesAll, WritesFirst, files_in};
 ghost use Rattle.make_data.specs.Words.{AsksNothing, usage_line};
 
 use crate::status::Status;
 use crate::target::{Target, TargetError};
 use crate::words::read_words;
-use data_maker::{DataNumber, NamedText, make};
+use data_maker::{NamedText, make};
 use std::alloc::{AllocError, Global};
 
 /// The line for words that ask for no data.
@@ -32,8 +32,8 @@ fn write_texts<T: Target>(
     folder: &str,
     texts: &[NamedText],
 ) -> Result<(), TargetError>
-    ensures whole { OnOk result (Grows (T.files target.old) (T.files target.new) (files_in folder.now (names_and_bytes texts.now))) }
-    ensures part { GrowsInPart (T.files target.old) (T.files target.new) (files_in folder.now (names_and_bytes texts.now)) }
+    ensures whole { OnOk result (Grows (T.files target.old) (T.files target.new) (files_in folder.now (named texts.now))) }
+    ensures part { GrowsInPart (T.files target.old) (T.files target.new) (files_in folder.now (named texts.now)) }
     ensures printed { Grows (T.printed target.old) (T.printed target.new) [] }
     ensures fault { IsErrOf result TargetError.Fault → Rose (T.faults target.old) (T.faults target.new) }
     ensures later { T.faults target.old ≤ T.faults target.new }
@@ -46,9 +46,10 @@ fn write_texts<T: Target>(
 }
 
 /// Makes the data of the number, and writes it into the folder.
-fn write_data<T: Target>(alloc: Global, target: &mut T, number: DataNumber, folder: &str) -> Status
-    ensures done { result ≡ Status.Done → Grows (T.files target.old) (T.files target.new) (files_in folder.now (made_texts number)) }
-    ensures part { GrowsInPart (T.files target.old) (T.files target.new) (files_in folder.now (made_texts number)) }
+fn write_data<T: Target>(alloc: Global, target: &mut T, number: u64, folder: &str) -> Status
+    requires { (1 ≤ number) × (number ≤ 1000) }
+    ensures done { result ≡ Status.Done → Grows (T.files target.old) (T.files target.new) (files_in folder.now (made number)) }
+    ensures part { GrowsInPart (T.files target.old) (T.files target.new) (files_in folder.now (made number)) }
     ensures printed { Grows (T.printed target.old) (T.printed target.new) [] }
     ensures fault { result ≡ Status.WriteFault → Rose (T.faults target.old) (T.faults target.new) }
     ensures later { T.faults target.old ≤ T.faults target.new }
@@ -60,7 +61,7 @@ fn write_data<T: Target>(alloc: Global, target: &mut T, number: DataNumber, fold
     match write_texts(alloc, target, folder, &texts) {
         Ok(()) => Status::Done,
         Err(TargetError::Fault) => Status::WriteFault,
-        Err(TargetError::OutOfMemory) => Status::OutOfMemory,
+        Err(TargetError::Memory) => Status::OutOfMemory,
     }
 }
 
@@ -75,13 +76,13 @@ fn print_usage<T: Target>(target: &mut T) -> Status
     match target.print(USAGE) {
         Ok(()) => Status::Usage,
         Err(TargetError::Fault) => Status::WriteFault,
-        Err(TargetError::OutOfMemory) => Status::OutOfMemory,
+        Err(TargetError::Memory) => Status::OutOfMemory,
     }
 }
 
 /// Writes the data that the words ask for, file by file, or prints the usage line where they ask for none.
 ///
-/// No clause says when memory runs out. After that, and after a fault, the first files may be
+/// Want of memory is the one answer that no clause ties to a cause. After it, and after a fault, the first files may be
 /// written, each whole, and the next one in part.
 pub fn make_data<T: Target>(alloc: Global, words: &[String], target: &mut T) -> Status
     ensures done { result ≡ Status.Done → WritesAll (map string_bytes words.now) (T.files target.old) (T.files target.new) }

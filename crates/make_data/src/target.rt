@@ -10,17 +10,17 @@ use std::alloc::AllocError;
 pub enum TargetError {
     /// Writing failed.
     Fault,
-    /// Memory ran out.
-    OutOfMemory,
+    /// Memory was wanted.
+    Memory,
 }
 
 impl From<AllocError> for TargetError {
-    ghost use Rattle.make_data.specs.declared.target.TargetError.TheVariants.{OutOfMemory};
+    ghost use Rattle.make_data.specs.declared.target.TargetError.TheVariants.{Memory};
 
-    ghost from_gives = { λ _ e. e ≡ OutOfMemory };
+    ghost from_gives = { λ _ e. e ≡ Memory };
 
     fn from(_: AllocError) -> Self {
-        TargetError::OutOfMemory
+        TargetError::Memory
     }
 }
 
@@ -28,10 +28,10 @@ impl From<AllocError> for TargetError {
 ///
 /// A fault comes only where the count of faults rose, or stands at its last value, 2^64 - 1. The count never falls.
 pub trait Target {
-    /// The files that were written whole so far, in their order, where they are known.
+    /// The files that were written whole so far, in their order, where they are told.
     ghost files: { Self → Option Written };
 
-    /// What was printed so far, where it is known.
+    /// What was printed so far, where it is told.
     ghost printed: { Self → Option (List ℕ) };
 
     /// How many calls failed.

@@ -2,7 +2,7 @@
 ghost use Rattle.std.specs.Prelude.{◌≡◌, Some, [], ◌∷◌, ◌++◌, IsErrOf, OnErr, OnOk, map};
 ghost use Rattle.std.specs.String.{string_bytes};
 ghost use Rattle.tpch_outside.specs.Outside.{Counts};
-ghost use Rattle.data_maker.specs.Texts.{names_and_bytes};
+ghost use Rattle.data_maker.specs.Texts.{named};
 ghost use Rattle.make_data.specs.Target.{Grows};
 
 use crate::machine::Machine;
@@ -27,7 +27,7 @@ struct Memory {
 }
 
 impl Memory {
-    /// A target with nothing written, which fails at the call after that many.
+    /// A target with nothing written, which fails at the call behind so many.
     fn new(alloc: Global, calls_left: u64) -> Memory {
         Memory {
             alloc,
@@ -55,9 +55,9 @@ impl Memory {
     }
 
     /// Keeps the file.
-    #[tactic(auto, unfolding(data_maker::specs::Texts::names_and_bytes))]
+    #[tactic(auto, unfolding(data_maker::specs::Texts::named))]
     fn keep(&mut self, path: &str, bytes: &[u8]) -> Result<(), AllocError>
-        ensures kept { OnOk result (names_and_bytes self.new.files.items ≡ names_and_bytes self.old.files.items ++ (path.now, bytes.now) ∷ []) }
+        ensures kept { OnOk result (named self.new.files.items ≡ named self.old.files.items ++ (path.now, bytes.now) ∷ []) }
         ensures before { OnErr result (self.new.files.items ≡ self.old.files.items) }
         ensures printed { self.new.printed ≡ self.old.printed }
         ensures faults { self.new.faults ≡ self.old.faults }
@@ -70,7 +70,7 @@ impl Memory {
 }
 
 impl Target for Memory {
-    ghost files = { λ m. Some (names_and_bytes m.files.items) };
+    ghost files = { λ m. Some (named m.files.items) };
 
     ghost printed = { λ m. Some m.printed.items };
 

@@ -3,20 +3,19 @@ ghost use Rattle.std.specs.Prelude.{◌≡◌, ℕ, MatchOption, map};
 ghost use Rattle.std.specs.String.{string_bytes};
 ghost use Rattle.make_data.specs.Words.{Asks, AsksNothing, IsNumber};
 
-use data_maker::DataNumber;
 use itoa::Buffer;
 
 /// What the words ask for.
-#[derive(Clone, Copy)]
+#[derive(Clone, Copy, Debug)]
 pub struct Request<'w> {
-    /// The number that data is made for.
-    pub number: DataNumber,
+    /// The number that data is made for, from 1 to 1000.
+    pub number: u64,
     /// The folder that it is written into.
     pub folder: &'w str,
 }
 
 /// The number from 1 to 1000 that a word writes in decimal digits, without a sign or a leading zero.
-fn number_of(word: &str) -> Option<DataNumber>
+fn number_of(word: &str) -> Option<u64>
     ensures { MatchOption result ((n : ℕ) → ¬ IsNumber word.now n) (λ n. IsNumber word.now n) }
 {
     let Ok(number) = word.parse::<u64>() else {
@@ -25,7 +24,7 @@ fn number_of(word: &str) -> Option<DataNumber>
     let mut buffer = Buffer::new();
     let is_plain = buffer.format(number).as_bytes() == word.as_bytes();
     if is_plain && 1 <= number && number <= 1000 {
-        return Some(DataNumber::new(number));
+        return Some(number);
     }
     None
 }

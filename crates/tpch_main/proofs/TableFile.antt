@@ -1,8 +1,7 @@
 -- What is read of a table's file, from its pieces.
-use Rattle.std.proofs.Common.{◌≡◌, ◌∙◌, ℕ, ◌≤◌, List, [], ◌++◌, Option, None, Some, IsSome, ◌+◌, ◌-◌, ◌<◌, ap, append_assoc, arith, length, refl, subst, sym, take, true≢false}
+use Rattle.std.proofs.Common.{◌≡◌, ◌∙◌, ℕ, ◌≤◌, List, [], ◌++◌, Option, None, Some, ◌+◌, ◌-◌, ◌<◌, ap, append_assoc, arith, length, refl, subst, sym, take}
 use Rattle.std.proofs.lemmas.List.{append-nil, length-take-le}
 use Rattle.std.specs.Global.{Vec}
-use Rattle.std.specs.Vec.{vec_items}
 use Rattle.std.specs.Io.KnownBytes.{Consumes, IsAtEnd}
 use Rattle.std.specs.declared.result.Result.{Result}
 use Rattle.std.specs.declared.result.Result.TheVariants.{Err, Ok}
@@ -13,17 +12,14 @@ use Rattle.tbl_reader.specs.File.{file_rows, most_bytes}
 use Rattle.tbl_reader.specs.Reading.{RefusesAll}
 use Rattle.tbl_reader.specs.declared.error.TableError.{TableError}
 use Rattle.tbl_reader.specs.declared.error.TableError.TheVariants as table_error
-use Rattle.tpch_outside.specs.Outside.{Folder, Opens, file_of}
-use Rattle.tpch_outside.specs.declared.files.Open.TheVariants as opening
 use Rattle.tpch_schema.specs.LineForm.{LineForm, table_form}
 use Rattle.tpch_schema.specs.declared.table.TableName.{TableName}
-use Rattle.tpch_main.specs.Inputs.{BadInput, rows_in, rows_or_refusal, table_file, table_in}
+use Rattle.tpch_main.specs.Inputs.{BadInput, rows_or_refusal}
 use Rattle.tpch_main.specs.TableFile.{EndsAs, IsLineError, IsRead, IsRefusalOf, IsRowsOf, RefusesFront, RefusesTable}
-use Rattle.tpch_main.specs.Views.{IsAbsence, Reads, Refuses, refused_view}
+use Rattle.tpch_main.specs.Views.{refused_view}
 use Rattle.tpch_main.specs.declared.input_error.InputError.{InputError}
 use Rattle.tpch_main.specs.declared.input_error.InputError.TheVariants as error
 use Rattle.tpch_main.specs.declared.input_error.InputFault.TheVariants as fault
-use Rattle.tpch_main.specs.declared.input_error.ReadError.{ReadError}
 use Rattle.tpch_main.specs.declared.input_error.ReadError.TheVariants as read
 
 -- a refusal of a table's file is one of a line, or memory ran out
@@ -46,11 +42,6 @@ front_refusal name form limit text (table_error.Refused first) made refuses all 
     table_refusal name (file_rows form limit (text ++ more)) (table_error.Refused first) made refuses ((all first refl).answers more)
 front_refusal name form limit text table_error.OutOfMemory made refuses all more =
     table_refusal name (file_rows form limit (text ++ more)) table_error.OutOfMemory made refuses tt
-
--- a file that could not be read
-pub unread_rows : (table : TableName) (name : List ℕ) (left : Option (List ℕ)) (why : ReadError) → IsRowsOf table name left (Err (error.Unread why))
-unread_rows table name None why = tt
-unread_rows table name (Some text) why = tt
 
 -- the bytes that were left, read to their end, and what they give
 pub ended_rows : (table : TableName) (name : List ℕ) (form : LineForm) (limit : ℕ) (left middle later : Option (List ℕ)) (so_far : List ℕ) (result : Result (Vec (List Value)) InputError)
@@ -75,31 +66,6 @@ refused_rows table name form limit (Some text) (Some rest) (Some last) so_far pi
     let all : text ≡ (so_far ++ piece) ++ last = read ∙ ap (λ more. so_far ++ more) next ∙ sym (append_assoc so_far piece last) in
     subst (λ (bytes : List ℕ). IsRefusalOf (rows_or_refusal name (file_rows (table_form table) most_bytes bytes)) made) (sym all)
     (rw (same_form, same_limit) at (refuses last))
-
--- a refused line is neither a failure nor an absence
-pub no_fault : (made : InputError) → IsLineError made → made ≡ error.Unread read.Fault → ⊥
-no_fault made line is = subst IsLineError is line
-
-pub no_absence : (made : InputError) → IsLineError made → IsAbsence made → ⊥
-no_absence (error.Unread why) line absent = absent
-no_absence (error.Refused refusal) (first, is) absent = let wrong : fault.Line first ≡ fault.Absent = sym is ∙ absent in cc
-
--- the rows of an open table's file are those of the table in the folder
-pub table_read : (table : TableName) (dir name : List ℕ) (held : Option Folder) (left : Option (List ℕ)) (result : Result (Vec (List Value)) InputError)
-    → name ≡ table_file dir table → Opens held name opening.Opened left → IsRowsOf table name left result → Reads vec_items held (table_in dir table) result
-table_read table dir name None left (Ok rows) is opens read = tt
-table_read table dir name None left (Err (error.Unread why)) is opens read = tt
-table_read table dir name None left (Err (error.Refused refusal)) is opens read = tt
-table_read table dir name (Some folder) None result is (there, same) read = absurd (true≢false (sym (subst (λ (found : Option (List ℕ)). IsSome found) (sym same) there)))
-table_read table dir name (Some folder) (Some text) result is (there, same) read = at result read
-  where
-    input : rows_in table name (Some text) ≡ table_in dir table folder
-    input = ap (rows_in table name) same ∙ ap (λ (n : List ℕ). rows_in table n (file_of folder n)) is
-
-    at : (r : Result (Vec (List Value)) InputError) → IsRowsOf table name (Some text) r → Reads vec_items (Some folder) (table_in dir table) r
-    at (Ok rows) means = sym input ∙ means
-    at (Err (error.Unread why)) means = tt
-    at (Err (error.Refused refusal)) means = sym input ∙ means
 
 -- nothing was read yet
 pub none_read : (left : Option (List ℕ)) → Consumes left left []

@@ -2,14 +2,14 @@ use Rattle.std.proofs.Common.{ℕ, ◌+◌, ◌*◌, List, [], ◌∷◌}
 use Rattle.std.specs.Prelude.{codes}
 use Rattle.data_maker.proofs.Steps.{none_added, text_added}
 use Rattle.data_maker.specs.Lines.{lines, customer_line, nation_line, part_line, partsupp_lines, region_line, supplier_line}
-use Rattle.data_maker.specs.Texts.{lasting_tables, names_and_bytes}
+use Rattle.data_maker.specs.Texts.{lasting, named}
 use Rattle.data_maker.proofs.texts.add_lasting.Goals as goal
 
 pub returns : goal.returns
-unfolding lasting_tables
+unfolding lasting
 returns c =
     let n = c.args.number in
-    let start = names_and_bytes c.args.texts.now.items in
+    let start = named c.args.texts.now.items in
     let region : List ℕ × List ℕ = (codes "region.tbl", lines region_line 0 5) in
     let with_region = text_added start _ _ ([]) (codes "region.tbl") _ (lines region_line 0 5) (none_added start) c.in_ok-add.ensures c.in_ok-region_text.ensures in
     let nation : List ℕ × List ℕ = (codes "nation.tbl", lines nation_line 0 25) in

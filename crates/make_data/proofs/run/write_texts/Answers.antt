@@ -1,10 +1,10 @@
 use Rattle.std.proofs.Common.{◌∷◌, ◌++◌, ◌∙◌, ap, le_refl, le_trans}
-use Rattle.data_maker.specs.Texts.{names_and_bytes}
+use Rattle.data_maker.specs.Texts.{named}
 use Rattle.make_data.proofs.Growth.{file_written, grows_none, grows_still, in_part}
 use Rattle.make_data.proofs.run.write_texts.Goals as goal
 
 pub loop-text-init : goal.loop-text-init
-unfolding names_and_bytes
+unfolding named
 loop-text-init g c = record { whole = grows_none _; printed = grows_none _; later = le_refl _ }
 
 pub returns-in_err-path-clause-part : goal.returns-in_err-path-clause-part
