@@ -1,0 +1,4 @@
+pub mod CodeLists
+pub mod ColumnLists
+pub mod StandingLists
+pub mod TextLists
