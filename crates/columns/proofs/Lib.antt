@@ -1,4 +1,9 @@
+pub mod BatchRows
 pub mod CodeLists
 pub mod ColumnLists
+pub mod Kept
+pub mod RowLists
+pub mod SegmentLists
 pub mod StandingLists
+pub mod TableLists
 pub mod TextLists

@@ -1,6 +1,9 @@
+pub mod Batches
 pub mod Fields
 pub mod Lists
 pub mod Numbers
+pub mod Selections
 pub mod Shown
 pub mod Standings
+pub mod Tables
 pub mod Texts

@@ -7,7 +7,7 @@ ghost use Rattle.columns.specs.Numbers.{small_number};
 ghost use Rattle.columns.specs.Shown.{shown, kept_values};
 
 use crate::dictionary::Dictionary;
-use crate::form::{Form, form_at, form_len, gather, stored};
+use crate::form::{Form, form_at, form_len, form_number, gather, stored};
 use civil_date::CivilDate;
 use fixed_decimal::Scale;
 use sql_value::Value;
@@ -150,18 +150,11 @@ impl Column {
     }
 
     /// The number at a place, where it is one of 64 bits.
-    #[tactic(auto, using(crate::proofs::ColumnLists::numbers))]
     pub fn number(&self, i: usize) -> Option<i64>
         requires { i < length self.now }
         ensures { result ≡ small_number (slice_index_or self.now i Null) }
     {
-        match self.form() {
-            Form::Numbers(_, numbers) => Some(numbers[i]),
-            Form::Values(values) => small_number(&values[i]),
-            Form::Dates(_) => None,
-            Form::Texts(_) => None,
-            Form::Coded(_) => None,
-        }
+        form_number(self.form(), i)
     }
 
     /// The values at these places, in their order.
@@ -189,16 +182,6 @@ impl Column {
                 })
             }
         }
-    }
-}
-
-// The number of a value, where it is one of 64 bits.
-fn small_number(value: &Value) -> Option<i64>
-    ensures { result ≡ small_number value.now }
-{
-    match value {
-        Value::Number(_, coefficient) => i64::try_from(*coefficient).ok(),
-        _ => None,
     }
 }
 

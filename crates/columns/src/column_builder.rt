@@ -1,14 +1,15 @@
 //! A column that grows.
-ghost use Rattle.std.specs.Prelude.{◌≡◌, ◌<◌, ◌≤◌, ◌++◌, ◌∷◌, [], IfOk, IfSome, OnOk, OnErr, length, take, if◌then◌else◌, map, true};
+ghost use Rattle.std.specs.Prelude.{◌≡◌, ◌<◌, ◌≤◌, ◌++◌, ◌∷◌, [], IfOk, IfSome, OnOk, OnErr, length, take, if◌then◌else◌, map, true, slice_index_or};
 ghost use Rattle.ascii_text.specs.Printable.{AllPrintable};
-ghost use Rattle.sql_value.specs.declared.value.Value.TheVariants.{Number, Date as DateOf, Text as TextOf};
+ghost use Rattle.sql_value.specs.declared.value.Value.TheVariants.{Null, Number, Date as DateOf, Text as TextOf};
+ghost use Rattle.columns.specs.Numbers.{small_number};
 ghost use Rattle.columns.specs.Shown.{shown};
 ghost use Rattle.columns.specs.Fields.{field_value, IsPrintableField};
 
 use crate::codes::Codes;
 use crate::column::{Column, stored_column};
 use crate::field::{Field, field_of, value_of};
-use crate::form::{Form, form_at, form_len, truncate, widened};
+use crate::form::{Form, form_at, form_len, form_number, truncate, widened};
 use crate::texts::Texts;
 use civil_date::CivilDate;
 use fixed_decimal::Scale;
@@ -38,6 +39,7 @@ pub struct ColumnBuilder {
 impl Model for ColumnBuilder {
     ghost use Rattle.std.specs.Prelude.{List};
     ghost use Rattle.sql_value.specs.declared.value.Value.{Value as Datum};
+    ghost use Rattle.columns.specs.Numbers.{small_number};
     ghost use Rattle.columns.specs.Shown.{shown};
 
     ghost Value = { List Datum };
@@ -65,6 +67,14 @@ impl ColumnBuilder {
         ensures { result ≡ length self.now }
     {
         form_len(&self.form)
+    }
+
+    // The number at a place, where it is one of 64 bits.
+    pub(crate) fn number(&self, i: usize) -> Option<i64>
+        requires { i < length self.now }
+        ensures { result ≡ small_number (slice_index_or self.now i Null) }
+    {
+        form_number(&self.form, i)
     }
 
     // One field more, if this form holds it.

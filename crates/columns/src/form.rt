@@ -2,6 +2,7 @@
 ghost use Rattle.std.specs.Prelude.{◌≡◌, ◌<◌, ◌≤◌, ◌++◌, ◌∷◌, [], IfOk, IfSome, OnErr, length, take, slice_index_or, map};
 ghost use Rattle.sql_value.specs.declared.value.Value.TheVariants.{Null, Number, Date as DateOf, Text as TextOf};
 ghost use Rattle.columns.specs.Lists.{gathered, AreBelow};
+ghost use Rattle.columns.specs.Numbers.{small_number};
 ghost use Rattle.columns.specs.Shown.{shown};
 
 use crate::codes::Codes;
@@ -52,6 +53,31 @@ pub(crate) fn form_at(alloc: Global, form: &Form, i: usize) -> Result<Value, All
             Ok(Value::Text(text))
         }
         Form::Values(values) => values[i].clone(),
+    }
+}
+
+/// The number at a place, where it is one of 64 bits.
+#[tactic(auto, using(crate::proofs::ColumnLists::numbers))]
+pub(crate) fn form_number(form: &Form, i: usize) -> Option<i64>
+    requires { i < length (shown form.now) }
+    ensures { result ≡ small_number (slice_index_or (shown form.now) i Null) }
+{
+    match form {
+        Form::Numbers(_, numbers) => Some(numbers[i]),
+        Form::Values(values) => small_number(&values[i]),
+        Form::Dates(_) => None,
+        Form::Texts(_) => None,
+        Form::Coded(_) => None,
+    }
+}
+
+// The number of a value, where it is one of 64 bits.
+fn small_number(value: &Value) -> Option<i64>
+    ensures { result ≡ small_number value.now }
+{
+    match value {
+        Value::Number(_, coefficient) => i64::try_from(*coefficient).ok(),
+        _ => None,
     }
 }
 

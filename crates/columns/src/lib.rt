@@ -1,6 +1,8 @@
 //! Columns of values, batches of rows kept column by column, and the rows of a table as shared batches.
 #![tactic(auto)]
 
+mod batch;
+mod batch_builder;
 mod codes;
 mod column;
 mod column_builder;
@@ -8,10 +10,18 @@ mod dictionary;
 mod field;
 mod form;
 mod places;
+mod rows;
+mod rows_builder;
+mod segment;
 mod standings;
 mod texts;
 
+pub use batch::Batch;
+pub use batch_builder::BatchBuilder;
 pub use column::Column;
 pub use column_builder::{ColumnBuilder, ColumnForm};
 pub use dictionary::{DICTIONARY_TEXTS, Dictionary};
 pub use field::Field;
+pub use rows::Rows;
+pub use rows_builder::RowsBuilder;
+pub use segment::{SEGMENT_ROWS, Segment};

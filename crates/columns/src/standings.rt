@@ -123,6 +123,14 @@ impl Standings {
         Ok(())
     }
 
+    /// The first n alone.
+    pub(crate) fn truncate(&mut self, n: usize)
+        requires { n ≤ length self.old }
+        ensures { self.new ≡ take n self.old }
+    {
+        truncate(&mut self.counted, n);
+    }
+
     /// The standings at these places.
     pub(crate) fn gather(&self, alloc: Global, places: &[u32]) -> Result<Standings, AllocError>
         requires { AreBelow (length self.now) places.now }
@@ -148,6 +156,18 @@ impl Standings {
                 Ok(Standings::each(standings))
             }
         }
+    }
+}
+
+// The first n alone.
+#[tactic(auto, using(crate::proofs::StandingLists::standings), unfolding(crate::specs::Standings::standings_of))]
+fn truncate(counted: &mut Counted, n: usize)
+    requires { n ≤ length (standings_of counted.old) }
+    ensures { standings_of counted.new ≡ take n (standings_of counted.old) }
+{
+    match counted {
+        Counted::AllTrue(count) => *count = n,
+        Counted::Each(standings) => standings.truncate(n),
     }
 }
 
