@@ -184,6 +184,17 @@ relation_made old cs new ss picked places o h e f =
     ap (λ x. column_relation x picked) e ∙ ap (column_relation (map (λ c. gathered Null c places) cs)) f in
     (w, ap (λ r. r.rows) n ∙ relation-gathered cs ss places b ∙ sym (ap (λ r. gathered (ranked [] true_rank) r.rows places) o))
 
+-- the same of lists that are known by equations
+pub long_pushed : (cs new : List (List Value)) (vs : List Value) (ss more : List Standing) (s : Standing) → AreLong (length ss) cs → length vs ≡ length cs
+    → new ≡ put_row cs vs → more ≡ ss ++ s ∷ [] → AreLong (length more) new
+long_pushed cs new vs ss more s a e f g = rw (f, g) (long_to (length ss) (length (ss ++ s ∷ [])) cs vs a e (length_push ss s))
+
+pub relation_pushed : (old : Relation Value) (cs new : List (List Value)) (vs : List Value) (ss more : List Standing) (s : Standing) → old ≡ column_relation cs ss → AreLong (length ss) cs
+    → length vs ≡ old.width → new ≡ put_row cs vs → more ≡ ss ++ s ∷ []
+    → (column_relation new more).rows ≡ old.rows ++ ranked vs (standing_rank s) ∷ []
+relation_pushed old cs new vs ss more s o a e f g =
+    rw (f, g) (relation-push cs vs ss s a (e ∙ ap (λ r. r.width) o ∙ relation-width cs ss)) ∙ ap (λ r. r.rows ++ ranked vs (standing_rank s) ∷ []) (sym o)
+
 -- the standings before the last one
 pub without_last : (ss : List Standing) (s : Standing) (n : ℕ) → n ≡ length ss → take n (ss ++ s ∷ []) ≡ ss
 without_last ss s n e = rw e (take-append_seam ss (s ∷ []))
@@ -191,4 +202,4 @@ without_last ss s n e = rw e (take-append_seam ss (s ∷ []))
 pub cleared : (cs : List (List Value)) (ss : List Standing) → All (λ c. c ≡ []) cs → AreLong (length (take 0 ss)) cs
 cleared cs ss h = long_nil cs h
 
-pub ruleset batches = (without_last, cleared, length-put_row, long_to, long_nil, relation-nil, relation-width, relation-length, relation-push, relation-values, relation-standing, long_read, cell_at, long_below, long_holds, relation-column, long_gathered, relation-gathered)
+pub ruleset batches = (long_pushed, relation_pushed, without_last, cleared, length-put_row, long_to, long_nil, relation-nil, relation-width, relation-length, relation-push, relation-values, relation-standing, long_read, cell_at, long_below, long_holds, relation-column, long_gathered, relation-gathered)

@@ -1,6 +1,8 @@
+pub mod BagLists
 pub mod BatchRows
 pub mod CodeLists
 pub mod ColumnLists
+pub mod FieldLists
 pub mod Kept
 pub mod RowLists
 pub mod SegmentLists

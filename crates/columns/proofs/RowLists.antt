@@ -1,7 +1,7 @@
 -- Lemmas on lists, one after the other.
-use Rattle.std.proofs.Common.{◌≡◌, ℕ, suc, zero, ◌+◌, ◌-◌, ◌*◌, ◌<◌, ◌≤◌, List, [], ◌∷◌, ◌++◌, refl, sym, ap, ◌∙◌, arith, length, get_or, take, drop, append_assoc, length-append}
+use Rattle.std.proofs.Common.{◌≡◌, ℕ, suc, zero, ◌+◌, ◌-◌, ◌*◌, ◌<◌, ◌≤◌, List, [], ◌∷◌, ◌++◌, refl, sym, ap, ◌∙◌, subst, arith, length, get_or, take, drop, append_assoc, length-append}
 use Rattle.std.specs.List.{All}
-use Rattle.std.proofs.lemmas.List.{append-nil, get_or_append_left, get_or-append_right}
+use Rattle.std.proofs.lemmas.List.{append-nil, get_or_append_left, get_or-append_right, get_or_default, take_all}
 use Rattle.columns.specs.Lists.{one_list}
 
 pub one_list-push : {A : Type 0} (xss : List (List A)) (xs : List A) → one_list (xss ++ xs ∷ []) ≡ one_list xss ++ xs
@@ -29,7 +29,7 @@ one_list-at (xs ∷ xss) d (suc k) i left h e l =
 pub length-one_list-more : {A : Type 0} (xss : List (List A)) (k : ℕ) → k < length xss
     → length (one_list (take (k + 1) xss)) ≡ length (one_list (take k xss)) + length (get_or xss k [])
 length-one_list-more [] k h = absurd (omega (arith, h))
-length-one_list-more (xs ∷ xss) zero h = ap length (append-nil xs)
+length-one_list-more (xs ∷ xss) zero h = let a : length (xs ++ []) ≡ length xs = ap length (append-nil xs) in omega (arith, a)
 length-one_list-more (xs ∷ xss) (suc k) h =
     let n : suc k + 1 ≡ suc (k + 1) = omega arith in
     let a : length (xs ++ one_list (take (k + 1) xss)) ≡ length xs + length (one_list (take (k + 1) xss)) = length-append xs _ in
@@ -53,4 +53,21 @@ length-full (xs ∷ xss) h =
     let a : length (xs ++ one_list xss) ≡ length xs + length (one_list xss) = length-append xs (one_list xss) in
     omega (arith, l, m, a)
 
-pub ruleset rows = (one_list-push, length-append)
+-- the row that a walk over the segments comes to
+pub row_found : {A : Type 0} (seen : List A) (xss : List (List A)) (d : A) (k i left : ℕ) (xs : List A) → seen ≡ one_list xss → k < length xss → i ≡ length (one_list (take k xss)) + left
+    → left < length xs → xs ≡ get_or xss k xs → get_or seen i d ≡ get_or xs left d
+row_found seen xss d k i left xs s h e l x =
+    let y : xs ≡ get_or xss k [] = x ∙ get_or_default xss k xs [] h in
+    ap (λ zs. get_or zs i d) s ∙ one_list-at xss d k i left h e (subst (λ zs. left < length zs) y l) ∙ ap (λ zs. get_or zs left d) (sym y)
+
+-- a walk's step past a segment, and its end
+pub row_passed : {A : Type 0} (xss : List (List A)) (k i left : ℕ) (xs : List A) → k < length xss → i ≡ length (one_list (take k xss)) + left
+    → length xs ≤ left → xs ≡ get_or xss k xs → i ≡ length (one_list (take (k + 1) xss)) + (left - length xs)
+row_passed xss k i left xs h e l x =
+    let n : length (get_or xss k []) ≡ length xs = ap length (sym (x ∙ get_or_default xss k xs [] h)) in
+    omega (arith, length-one_list-more xss k h, n, e, l)
+
+pub row_within : {A : Type 0} (xss : List (List A)) (i left : ℕ) → i ≡ length (one_list (take (length xss) xss)) + left → length (one_list xss) ≤ i
+row_within xss i left e = let t : take (length xss) xss ≡ xss = take_all (length xss) xss (omega arith) in omega (arith, e, ap (λ ys. length (one_list ys)) t)
+
+pub ruleset rows = (one_list-more, one_list-push, length-append)

@@ -1,12 +1,16 @@
 -- Lemmas on the rows of a table under way.
-use Rattle.std.proofs.Common.{◌≡◌, ℕ, suc, zero, ◌+◌, ◌-◌, ◌*◌, ◌/◌, ◌%◌, ◌^◌, ◌<◌, ◌≤◌, List, [], ◌∷◌, ◌++◌, refl, sym, ap, ◌∙◌, subst, arith, length, get_or, take, map, append_assoc, length-append}
+use Rattle.std.proofs.Common.{◌≡◌, ℕ, suc, zero, ◌+◌, ◌-◌, ◌*◌, ◌/◌, ◌%◌, ◌^◌, ◌<◌, ◌≤◌, List, [], ◌∷◌, ◌++◌, refl, sym, ap, ◌∙◌, subst, arith, length, get_or, take, map, append_assoc, length-append, Option, ℤ}
 use Rattle.std.specs.List.{All}
-use Rattle.std.proofs.lemmas.List.{append-nil, get_or_append_left, get_or-append_right, length-map, map-append, get_or-map, length-take-le, length_push}
+use Rattle.std.proofs.lemmas.List.{append-nil, get_or_append_left, get_or-append_right, length-map, map-append, get_or-map, length-take-le, length_push, nil_from_length, get_or_default}
 use Rattle.std.proofs.lemmas.List.Elements.{All-push, All-take}
 use Rattle.row_laws.specs.Ranked.{Ranked, ranked, Relation, true_rank}
 use Rattle.sql_value.specs.declared.value.Value.{Value}
 use Rattle.columns.specs.Lists.{one_list}
+use Rattle.sql_value.specs.declared.value.Value.TheVariants.{Null}
 use Rattle.columns.specs.Batches.{row_at}
+use Rattle.columns.specs.Fields.{field_value}
+use Rattle.columns.specs.declared.field.Field.{Field}
+use Rattle.columns.specs.Numbers.{small_number}
 use Rattle.columns.specs.Tables.{Table, table_under_way, AreFull, IsOpen, IsStored, plain_rows}
 use Rattle.columns.proofs.RowLists.{one_list-push, one_list-at, length-full}
 
@@ -26,6 +30,12 @@ pub table-length : (full : List (List (List Value))) (rest : Relation Value) →
 unfolding table_under_way
 table-length full rest f =
     length-append (one_list full) (plain_rows rest.rows) ∙ rw (length-full full f.each, length-map rest.rows (λ r. r.values)) refl
+
+pub full-length : (full : List (List (List Value))) → AreFull full → length full * 4096 ≡ length (one_list full)
+full-length full f = sym (length-full full f.each)
+
+pub no_rest : (xs : List (List Value)) (rows : List (Ranked Value)) → length rows ≡ 0 → xs ≡ xs ++ plain_rows rows
+no_rest xs rows e = sym (append-nil xs) ∙ ap (λ rs. xs ++ plain_rows rs) (sym (nil_from_length rows e))
 
 pub table-push : (full : List (List (List Value))) (rest new : Relation Value) (row : List Value) (n : ℕ) → new.rows ≡ rest.rows ++ ranked row n ∷ []
     → (table_under_way full new).rows ≡ (table_under_way full rest).rows ++ row ∷ []
@@ -70,6 +80,11 @@ open-push batch new row o h w e l = record {
   wide = subst (λ n. All (λ r. length r.values ≡ n) new.rows) (sym w) (subst (All (λ r. length r.values ≡ batch.width)) (sym e) (All-push (λ r. length r.values ≡ batch.width) batch.rows (ranked row true_rank) o.wide l));
 }
 
+-- as many fields as values
+pub fields-open : (batch new : Relation Value) (row : List Field) → IsOpen batch → length batch.rows < 4096 → new.width ≡ batch.width
+    → new.rows ≡ batch.rows ++ ranked (map field_value row) true_rank ∷ [] → length row ≡ batch.width → IsOpen new
+fields-open batch new row o h w e l = open-push batch new (map field_value row) o h w e (length-map row field_value ∙ l)
+
 pub open-same : (batch new : Relation Value) → IsOpen batch → new.width ≡ batch.width → new.rows ≡ batch.rows → IsOpen new
 open-same batch new o w e = record {
   most = rw e o.most;
@@ -103,4 +118,24 @@ row-open full rest i left f e h l =
     ∙ ap (λ n. get_or (plain_rows rest.rows) n []) (sym e)
     ∙ get_or-map (λ r. r.values) rest.rows left (ranked [] true_rank) [] l
 
-pub ruleset tables = (table-width, table-rows, table-nil, table-length, table-push, table-same, table-closed, full-nil, full-push, open-nil, open-push, open-same, stored-open)
+-- the number of a row
+pub number_full : (table : Table) (full : List (List (List Value))) (rest : Relation Value) (i j : ℕ) (segment : List (List Value)) (r : Option ℤ) → table ≡ table_under_way full rest → AreFull full
+    → i / 4096 < length full → segment ≡ get_or full (i / 4096) segment → r ≡ small_number (get_or (get_or segment (i % 4096) []) j Null)
+    → r ≡ small_number (get_or (get_or table.rows i []) j Null)
+number_full table full rest i j segment r t f h s e =
+    e ∙ ap (λ row. small_number (get_or row j Null))
+    (ap (λ x. get_or x (i % 4096) []) (s ∙ get_or_default full (i / 4096) segment [] h)
+    ∙ sym (row-full full rest i (i / 4096) (i % 4096) f refl refl h)
+    ∙ ap (λ x. get_or x.rows i []) (sym t))
+
+pub number_rest : (table : Table) (full : List (List (List Value))) (rest : Relation Value) (i j left : ℕ) (r : Option ℤ) → table ≡ table_under_way full rest → AreFull full
+    → length full ≤ i / 4096 → i < length table.rows → left ≡ i - length full * 4096 → r ≡ small_number (get_or (row_at rest.rows left).values j Null)
+    → r ≡ small_number (get_or (get_or table.rows i []) j Null)
+number_rest table full rest i j left r t f h l m e =
+    let n : length table.rows ≡ length full * 4096 + length rest.rows = ap (λ x. length x.rows) t ∙ table-length full rest f in
+    let o : length full * 4096 ≤ i = omega (arith, h) in
+    e ∙ ap (λ row. small_number (get_or row j Null))
+    (sym (row-open full rest i left f m o (omega (arith, l, n, m, o)))
+    ∙ ap (λ x. get_or x.rows i []) (sym t))
+
+pub ruleset tables = (fields-open, full-length, no_rest, table-width, table-rows, table-nil, table-length, table-push, table-same, table-closed, full-nil, full-push, open-nil, open-push, open-same, stored-open)

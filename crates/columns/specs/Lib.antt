@@ -1,3 +1,4 @@
+pub mod Bags
 pub mod Batches
 pub mod Fields
 pub mod Lists

@@ -88,14 +88,17 @@ impl BatchBuilder {
     {
         let before = self.standings.len();
         self.standings.push(alloc, standing)?;
-        let done = put_row(alloc, &mut self.columns, row);
-        if done.is_err() {
-            self.standings.truncate(before);
+        match put_row(alloc, &mut self.columns, row) {
+            Ok(()) => Ok(()),
+            Err(error) => {
+                self.standings.truncate(before);
+                Err(error)
+            }
         }
-        done
     }
 
     /// One row more at True.
+    #[tactic(auto, using(crate::proofs::BatchRows::batches, crate::proofs::FieldLists::fields_length))]
     pub fn push_fields(&mut self, alloc: Global, row: &[Field<'_>]) -> Result<(), AllocError>
         requires long { length row.now ≡ self.old.width }
         requires printable { All IsPrintableField row.now }
@@ -105,11 +108,13 @@ impl BatchBuilder {
     {
         let before = self.standings.len();
         self.standings.push(alloc, Standing::AtTrue)?;
-        let done = put_fields(alloc, &mut self.columns, row);
-        if done.is_err() {
-            self.standings.truncate(before);
+        match put_fields(alloc, &mut self.columns, row) {
+            Ok(()) => Ok(()),
+            Err(error) => {
+                self.standings.truncate(before);
+                Err(error)
+            }
         }
-        done
     }
 
     /// The rows as a batch of stored columns, which take no more room than the values do.

@@ -84,8 +84,9 @@ impl Rows {
         requires { i < length self.now }
         ensures { IfOk result (λ row. row.items ≡ slice_index_or self.now i []) }
     {
+        let segments = self.segments.as_slice();
         let mut left = i;
-        for segment in &self.segments {
+        for segment in segments {
             if left < segment.len() {
                 return segment.row(alloc, left);
             }
@@ -98,8 +99,9 @@ impl Rows {
     pub fn to_rows(&self, alloc: Global) -> Result<Vec<Row>, AllocError>
         ensures { IfOk result (λ rows. rows.items ≡ self.now) }
     {
+        let segments = self.segments.as_slice();
         let mut rows = Vec::with_capacity(alloc, self.count)?;
-        for segment in &self.segments {
+        for segment in segments {
             segment.put_rows(alloc, &mut rows)?;
         }
         Ok(rows)

@@ -1,10 +1,11 @@
 //! The rows of a table as they are read.
 ghost use Rattle.std.specs.Prelude.{◌≡◌, ◌<◌, ◌++◌, ◌∷◌, ◌^◌, [], IfOk, OnOk, OnErr, length, map, slice_index_or};
 ghost use Rattle.std.specs.List.{All};
+ghost use Rattle.row_laws.specs.Ranked.{ranked, true_rank};
 ghost use Rattle.sql_value.specs.declared.value.Value.TheVariants.{Null};
 ghost use Rattle.columns.specs.Fields.{field_value, IsPrintableField};
 ghost use Rattle.columns.specs.Numbers.{small_number};
-ghost use Rattle.columns.specs.Tables.{table_under_way, AreFull, IsOpen};
+ghost use Rattle.columns.specs.Tables.{table_under_way, AreFull, IsOpen, plain_rows};
 
 use crate::batch_builder::BatchBuilder;
 use crate::column_builder::ColumnForm;
@@ -86,7 +87,7 @@ impl RowsBuilder {
         ensures err { OnErr result (self.new.rows ≡ self.old.rows) }
     {
         close_full(alloc, &mut self.full, &mut self.rest)?;
-        self.rest.push_fields(alloc, row)
+        push_open(alloc, &mut self.rest, row)
     }
 
     /// The rows.
@@ -95,12 +96,26 @@ impl RowsBuilder {
     {
         let RowsBuilder { full, rest } = self;
         let count = full.len() * SEGMENT_ROWS;
-        let mut rows = Rows::from_segments(full, count);
-        if rest.len() > 0 {
-            let last = Segment::new(alloc, rest.finish(alloc)?)?;
-            rows.push(last)?;
-        }
-        Ok(rows)
+        let rows = Rows::from_segments(full, count);
+        with_rest(alloc, rows, &rest)
+    }
+}
+
+// One row more after the full segments, if there is room.
+#[tactic(auto, using(crate::proofs::TableLists::tables))]
+fn push_open(alloc: Global, rest: &mut BatchBuilder, row: &[Field<'_>]) -> Result<(), AllocError>
+    requires rest { IsOpen rest.old }
+    requires room { length rest.old.rows < 4096 }
+    requires long { length row.now ≡ rest.old.width }
+    requires printable { All IsPrintableField row.now }
+    ensures rest { IsOpen rest.new }
+    ensures width { rest.new.width ≡ rest.old.width }
+    ensures ok { OnOk result (rest.new.rows ≡ rest.old.rows ++ ranked (map field_value row.now) true_rank ∷ []) }
+    ensures err { OnErr result (rest.new.rows ≡ rest.old.rows) }
+{
+    match rest.push_fields(alloc, row) {
+        Ok(()) => Ok(()),
+        Err(error) => Err(error),
     }
 }
 
@@ -128,4 +143,18 @@ fn close_full(
     full.push(segment)?;
     rest.clear();
     Ok(())
+}
+
+// The rows, and after them those that no full segment has.
+#[tactic(auto, using(crate::proofs::TableLists::tables))]
+fn with_rest(alloc: Global, mut rows: Rows, rest: &BatchBuilder) -> Result<Rows, AllocError>
+    requires { IsOpen rest.now }
+    ensures { IfOk result (λ r. r ≡ rows ++ plain_rows rest.now.rows) }
+{
+    if rest.len() == 0 {
+        return Ok(rows);
+    }
+    let last = Segment::new(alloc, rest.finish(alloc)?)?;
+    rows.push(last)?;
+    Ok(rows)
 }
