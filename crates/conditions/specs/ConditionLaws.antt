@@ -7,11 +7,11 @@ use Rattle.sql_value.specs.declared.truth.Truth.TheVariants.{False, Unknown, Sta
 use Rattle.sql_value.specs.declared.value.Value.{Value}
 use Rattle.sql_value.specs.declared.value.Value.TheVariants.{Fault as Failed, Date}
 use Rattle.sql_value.specs.Truth.{lesser, greater, negated}
-use Rattle.scalar_expr.specs.declared.expr.Comparison.TheVariants.{Equal}
+use Rattle.operators.specs.declared.operator.Comparison.TheVariants.{Equal}
 use Rattle.scalar_expr.specs.declared.expr.Expr.{Expr}
 use Rattle.scalar_expr.specs.declared.expr.Expr.TheVariants as e
 use Rattle.scalar_expr.specs.Meaning.{truth}
-use Rattle.scalar_expr.specs.Operators.{compared}
+use Rattle.operators.specs.Operators.{compared}
 use Rattle.conditions.specs.Ranks.{rank_of}
 
 -- An AND within an AND is one AND.

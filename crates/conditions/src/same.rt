@@ -37,7 +37,7 @@ pub fn is_same(a: &Expr, b: &Expr) -> bool
         (Expr::Not(x), Expr::Not(u)) => same_boxed(x, u),
         (Expr::All(es), Expr::All(fs)) => same_all(es.as_slice(), fs.as_slice()),
         (Expr::Any(es), Expr::Any(fs)) => same_all(es.as_slice(), fs.as_slice()),
-        (Expr::Holds(x), Expr::Holds(u)) => same_boxed(x, u),
+        (Expr::IsMarked(x), Expr::IsMarked(u)) => same_boxed(x, u),
         _ => false,
     }
 }
