@@ -2,6 +2,8 @@ pub mod Arms
 pub mod Both
 pub mod Columns
 pub mod Fills
+pub mod Groups
 pub mod Grown
 pub mod Sides
+pub mod Whole
 pub mod Wide

@@ -34,6 +34,10 @@ pub record Unnests (before after : List Node) (T : DepTree) (domain : DomainData
       → let D = values_of (domain_rows db before domain.rows) in
       SameBag (meeting same_value D (plan_rows db after id)) (under D (tree_rows T db))
 
+-- A tree that uses nothing freely, as that of a whole query: its node over the one row of no columns has, as a bag, its rows by nested loops.
+pub record Answered (after : List Node) (T : DepTree) (domain : DomainData) (id : ℕ) : Type 0 where
+  pub rows : domain.rows ≡ One → (db : Database) → SameBag (plan_rows db after id) (tree_rows T db [])
+
 -- the plan grew, and the node `id` is its last
 pub record KeepsNodes (before after : List Node) (id : ℕ) : Type 0 where
   pub more : List Node

@@ -3,8 +3,8 @@
 
 mod domain;
 mod lists;
-//mod lowering;
+mod lowering;
 mod put;
 
 pub use domain::{Domain, DomainRows, Note};
-//pub use lowering::lower;
+pub use lowering::lower;
