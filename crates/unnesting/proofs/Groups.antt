@@ -79,7 +79,7 @@ group_width n by aggregates = let a = length-append (range_with_len 0 n) by in l
 -- over the one row
 group_alone : (before old new : List Node) (m : TreeMeaning) (domain : DomainData) (rows id : ℕ) (by : List ℕ) (aggregates : List Aggregate) → domain.rows ≡ One
     → Lowers before old m domain rows → IsPut old new (node.Group rows by aggregates) id → Lowers before new (tree_step (f.Group m by aggregates)) domain id
-unfolding plan_rows plan_width
+unfolding aggregates_under plan_rows plan_width
 group_alone before old new m domain rows id by aggregates e l p =
     puts before old new m.scans m.domains (tree_step (f.Group m by aggregates)) domain id (node.Group rows by aggregates) l.plan p (append-nil m.scans) (omega arith)
     (let z = ap domain_width e in omega (arith, z))
@@ -89,7 +89,6 @@ group_alone before old new m domain rows id by aggregates e l p =
   where
     go : (db : Database) (by : List ℕ) → IsDomain same_value 0 unit_row → Answers same_value unit_row (plan_rows db old rows) (m.rows db)
         → Answers same_value unit_row (groups by aggregates (plan_rows db old rows)) (λ d. groups_under by aggregates d (m.rows db d))
-    unfolding aggregates_under
     go db [] dom a = total_alone same_value value_identity (aggregates_of aggregates) (plan_rows db old rows) (m.rows db) (aggregates_bag aggregates) a
     go db (c ∷ cs) dom a = some_groups c cs aggregates 0 unit_row (plan_rows db old rows) (m.rows db) dom a
 

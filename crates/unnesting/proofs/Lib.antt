@@ -5,5 +5,6 @@ pub mod Fills
 pub mod Groups
 pub mod Grown
 pub mod Sides
+pub mod Steps
 pub mod Whole
 pub mod Wide
