@@ -2,10 +2,14 @@
 //! and a chain of one element is that element.
 #![tactic(auto)]
 
-mod expr;
-mod query;
+mod statement;
+mod tree;
+mod words;
 
-pub use expr::{
-    Adding, Aggregate, Arm, Column, Comparison, Expr, Factor, Multiplying, Name, Span, Term,
+pub use statement::{OrderKey, Query, RefreshKind, Statement, TemplateValue};
+pub use tree::{
+    Arm, Block, Clause, Expr, Factor, FromItem, Item, Join, Joined, Selected, Term,
 };
-pub use query::{Clause, FromItem, Item, OrderKey, Query, Selected, Statement};
+pub use words::{
+    Adding, Aggregate, Column, Comparison, JoinKind, Multiplying, Name, Span,
+};

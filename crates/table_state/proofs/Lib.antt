@@ -1,1 +1,4 @@
+pub mod Found
 mod Order
+pub mod Sales
+pub mod VersionSteps

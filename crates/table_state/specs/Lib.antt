@@ -1,2 +1,10 @@
-pub mod Lists
+pub mod Applied
+pub mod Cases
+pub mod Form
+pub mod Found
+pub mod Keys
 pub mod Laws
+pub mod Lists
+pub mod Refresh
+pub mod VersionLaws
+pub mod Versions

@@ -1,0 +1,59 @@
+//! Statements.
+use crate::tree::Block;
+use crate::words::Name;
+use ascii_text::Text;
+use fixed_decimal::Scale;
+use sqlite_items::Items;
+
+/// An output column by which an answer is ordered.
+#[derive(Drop)]
+pub struct OrderKey {
+    /// The output column's name.
+    pub column: Name,
+    /// Whether DESC stands after it.
+    pub is_descending: bool,
+}
+
+/// A query that is a statement: with order and row limit, which no inner query has.
+#[derive(Drop)]
+pub struct Query {
+    /// The query from SELECT to HAVING.
+    pub block: Block,
+    /// The keys of ORDER BY; none where it is absent.
+    pub order: Items<OrderKey>,
+    /// How many rows the answer has at most, itself at most 999999999; nothing where no limit stands.
+    pub limit: Option<u32>,
+}
+
+/// What a refresh does.
+#[derive(Clone, Copy, Debug, PartialEq, Eq)]
+pub enum RefreshKind {
+    /// Adds the rows of a set's files.
+    Insert,
+    /// Removes the orders of a set's keys.
+    Delete,
+}
+
+/// A value that is put into a template.
+#[derive(Drop)]
+pub enum TemplateValue {
+    /// A text without its quotes.
+    Text(Text),
+    /// A number's coefficient, at or above 0, and how many of its digits stand after the point.
+    Number(i128, Scale),
+}
+
+/// A statement of a script.
+#[derive(Drop)]
+pub enum Statement {
+    /// A query with its order and row limit.
+    Query(Query),
+    /// `create view`: its name, the names of its columns, none where no list stands, and its query.
+    CreateView(Name, Items<Name>, Block),
+    /// `drop view`, and its name.
+    DropView(Name),
+    /// `refresh`: what it does, and the number of its set, at most 999999999.
+    Refresh(RefreshKind, u32),
+    /// `run`: the number of a template, at most 999999999, and the values for its places.
+    Run(u32, Items<TemplateValue>),
+}

@@ -1,0 +1,75 @@
+//! Names, and what operators and words say.
+use ascii_text::Text;
+
+/// A name, in lower case.
+pub type Name = Text;
+
+/// A column's name, and the name of its FROM item where one stands before it.
+#[derive(Drop)]
+pub struct Column {
+    /// The FROM item's name or alias.
+    pub item: Option<Name>,
+    /// The column's name.
+    pub name: Name,
+}
+
+/// How two values are compared.
+#[derive(Clone, Copy, Debug, PartialEq, Eq)]
+pub enum Comparison {
+    /// `=`.
+    Equal,
+    /// `<>`.
+    NotEqual,
+    /// `<`.
+    Less,
+    /// `<=`.
+    LessOrEqual,
+    /// `>`.
+    Greater,
+    /// `>=`.
+    GreaterOrEqual,
+}
+
+/// A part of a date, and the unit of an interval.
+#[derive(Clone, Copy, Debug, PartialEq, Eq)]
+pub enum Span {
+    Year,
+    Month,
+    Day,
+}
+
+/// What an aggregate computes of its argument's values.
+#[derive(Clone, Copy, Debug, PartialEq, Eq)]
+pub enum Aggregate {
+    Sum,
+    Avg,
+    Min,
+    Max,
+}
+
+/// How a term joins those before it.
+#[derive(Clone, Copy, Debug, PartialEq, Eq)]
+pub enum Adding {
+    /// `+`.
+    Plus,
+    /// `-`.
+    Minus,
+}
+
+/// How a factor joins those before it.
+#[derive(Clone, Copy, Debug, PartialEq, Eq)]
+pub enum Multiplying {
+    /// `*`.
+    Times,
+    /// `/`.
+    Divide,
+}
+
+/// Which rows a join keeps.
+#[derive(Clone, Copy, Debug, PartialEq, Eq)]
+pub enum JoinKind {
+    /// `join` or `inner join`: pairs of rows alone.
+    Inner,
+    /// `left join` or `left outer join`: also rows of the left side without a partner.
+    LeftOuter,
+}
