@@ -1,6 +1,5 @@
 -- The order of values as a test.
 use Rattle.std.proofs.Common.{◌≡◌, ◌≢◌, ℕ, ◌<◌, Bool, true, false, refl, sym, ◌∙◌, ap, arith, zero, suc}
-use Rattle.std.specs.Prelude.{List, not, ◌∷◌, []}
 use Rattle.std.specs.declared.cmp.Ordering.{Ordering}
 use Rattle.std.specs.declared.cmp.Ordering.TheVariants.{Less, Equal, Greater}
 use Rattle.std.specs.Ordering.{is_le, is_gt, is_eq, ordering_reverse}
@@ -13,7 +12,9 @@ use Rattle.sql_value.specs.declared.value.Value.{Value}
 use Rattle.sql_value.specs.declared.value.Value.TheVariants.{Fault as Failed}
 use Rattle.sql_value.specs.Truth.{fault_rank}
 use Rattle.sql_value.specs.Value.{value_cmp}
-use Rattle.sql_value.proofs.Orders.{value_total, row_ties}
+use Rattle.sql_value.specs.contracts.value.ValueOrd.TheImpl.Laws.{matches_eq-law}
+use Rattle.sql_value.proofs.Identity.{value_eq_decides}
+use Rattle.sql_value.proofs.Orders.{value_total, value_cmp_is}
 use Rattle.aggregates.specs.Values.{written, value_rank, is_before}
 
 le_from_gt : (r : Ordering) → is_gt r ≡ false → is_le r ≡ true
@@ -36,12 +37,9 @@ both_le Less e f = absurd (true≢false (sym f))
 both_le Equal e f = refl
 both_le Greater e f = absurd (true≢false (sym e))
 
--- values that tie are the same, as rows of one column
+-- values that tie are the same
 value_ties : (x y : Value) → is_eq (value_cmp x y) ≡ true → x ≡ y
-value_ties x y e = let same : x ∷ [] ≡ y ∷ [] = row_ties (x ∷ []) (y ∷ []) (one_column (value_cmp x y) e) in cc
-  where
-    one_column : (r : Ordering) → is_eq r ≡ true → is_eq r ≡ true
-    one_column r e = e
+value_ties x y e = (value_eq_decides x y).0 (matches_eq-law x y ∙ ap is_eq (value_cmp_is x y) ∙ e)
 
 pub before_order : IsOrder is_before
 before_order = record {

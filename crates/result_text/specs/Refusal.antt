@@ -17,6 +17,10 @@ use Rattle.refusals.specs.declared.statement.TemplateRefusal.TheVariants.{NoSuch
 abbrev pub key_written : ℤ → List ℕ
 key_written key = codes " " ++ decimal_written key 0
 
+-- the key of a lineitem's order and its line number
+abbrev pub line_written : ℤ → ℤ → List ℕ
+line_written key line = key_written key ++ key_written line
+
 -- a number and the name that goes with it, each after a space
 abbrev pub tagged : ℕ → List ℕ → List ℕ
 tagged number name = codes " " ++ decimal number ++ codes " " ++ name
@@ -35,12 +39,12 @@ malformed_written file set refusal =
 abbrev pub cause_arguments : Cause → List ℕ
 cause_arguments (OrderExists key) = key_written key
 cause_arguments (OrderTwice key) = key_written key
-cause_arguments (LineTwice key line) = key_written key ++ key_written line
+cause_arguments (LineTwice key line) = line_written key line
 cause_arguments (StrayLine key) = key_written key
 cause_arguments (UnknownOrder key) = key_written key
 cause_arguments (KeyTwice key) = key_written key
 cause_arguments (Malformed file set refusal) = malformed_written file set refusal
-cause_arguments (LineExists key line) = key_written key ++ key_written line
+cause_arguments (LineExists key line) = line_written key line
 
 -- the arguments of a template's refusal
 abbrev pub template_arguments : TemplateRefusal → List ℕ

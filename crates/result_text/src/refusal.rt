@@ -1,6 +1,6 @@
 //! Refusals as lines say them.
 ghost use Rattle.std.specs.Prelude.{◌≡◌, ◌++◌, OnOk};
-ghost use Rattle.result_text.specs.Refusal.{arguments, cause_arguments, file_name, key_written, malformed_written, refusal_written, tagged, template_arguments};
+ghost use Rattle.result_text.specs.Refusal.{arguments, cause_arguments, file_name, key_written, line_written, malformed_written, refusal_written, tagged, template_arguments};
 
 use fixed_decimal::{Scale, push_decimal};
 use itoa::Buffer;
@@ -13,6 +13,14 @@ fn push_key(text: &mut Vec<u8>, key: i64) -> Result<(), AllocError>
 {
     text.push(b' ')?;
     push_decimal(text, key as i128, Scale::WHOLE)
+}
+
+/// Appends the key of a lineitem's order and its line number, a space before each.
+fn push_line(text: &mut Vec<u8>, key: i64, line: i64) -> Result<(), AllocError>
+    ensures { OnOk result (text.new.items ≡ text.old.items ++ line_written key line) }
+{
+    push_key(text, key)?;
+    push_key(text, line)
 }
 
 /// Appends a space, a number, a space and the name that goes with it.
@@ -57,15 +65,13 @@ fn push_cause(text: &mut Vec<u8>, cause: Cause) -> Result<(), AllocError>
     ensures { OnOk result (text.new.items ≡ text.old.items ++ cause_arguments cause) }
 {
     match cause {
-        Cause::OrderExists(key)
-        | Cause::OrderTwice(key)
-        | Cause::StrayLine(key)
-        | Cause::UnknownOrder(key)
-        | Cause::KeyTwice(key) => push_key(text, key),
-        Cause::LineTwice(key, line) | Cause::LineExists(key, line) => {
-            push_key(text, key)?;
-            push_key(text, line)
-        }
+        Cause::OrderExists(key) => push_key(text, key),
+        Cause::OrderTwice(key) => push_key(text, key),
+        Cause::LineTwice(key, line) => push_line(text, key, line),
+        Cause::StrayLine(key) => push_key(text, key),
+        Cause::UnknownOrder(key) => push_key(text, key),
+        Cause::KeyTwice(key) => push_key(text, key),
+        Cause::LineExists(key, line) => push_line(text, key, line),
         Cause::Malformed(file, set, refusal) => push_malformed(text, file, set, refusal),
     }
 }

@@ -1,5 +1,6 @@
 use Rattle.std.proofs.Common.{arith, refl}
 use Rattle.std.proofs.lemmas.Fmt.{decimal_digit}
+use Rattle.std.specs.Fmt.{digits}
 use Rattle.result_text.proofs.laws.examples_hold.Goals as goal
 
 pub returns-clause-answers : goal.returns-clause-answers
@@ -20,20 +21,21 @@ returns-clause-answers c = record {
 }
 
 pub returns-clause-lines : goal.returns-clause-lines
+unfolding digits
 returns-clause-lines c = record {
-  done = rw (decimal_digit 1 (omega arith), decimal_digit 0 (omega arith)) refl;
-  accepted = ?;
-  bind = ?;
-  view = ?;
-  template = ?;
-  fault = ?;
-  place = ?;
-  order = ?;
-  twice = ?;
-  stray = ?;
-  key = ?;
-  line = ?;
-  malformed = ?;
-  orders = ?;
-  lineitem = ?;
+  done = refl;
+  accepted = refl;
+  bind = refl;
+  view = refl;
+  template = refl;
+  fault = refl;
+  place = refl;
+  order = refl;
+  twice = refl;
+  stray = refl;
+  key = refl;
+  line = refl;
+  malformed = refl;
+  orders = refl;
+  lineitem = refl;
 }
