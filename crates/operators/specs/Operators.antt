@@ -16,12 +16,12 @@ use Rattle.sql_value.specs.declared.truth.Truth.TheVariants.{False, Unknown, Sta
 use Rattle.sql_value.specs.declared.value.Value.{Value}
 use Rattle.sql_value.specs.declared.value.Value.TheVariants.{Null, Fault as Failed, Number, Text, Date}
 use Rattle.sql_value.specs.Truth.{least_fault, lesser}
-use Rattle.scalar_expr.specs.declared.expr.Arithmetic.{Arithmetic}
-use Rattle.scalar_expr.specs.declared.expr.Arithmetic.TheVariants.{Add, Subtract, Multiply, Divide}
-use Rattle.scalar_expr.specs.declared.expr.Comparison.{Comparison}
-use Rattle.scalar_expr.specs.declared.expr.Comparison.TheVariants.{Equal, NotEqual, Less, LessOrEqual, Greater, GreaterOrEqual}
-use Rattle.scalar_expr.specs.declared.expr.DatePart.{DatePart}
-use Rattle.scalar_expr.specs.declared.expr.DatePart.TheVariants.{Year, Month, Day}
+use Rattle.operators.specs.declared.operator.Arithmetic.{Arithmetic}
+use Rattle.operators.specs.declared.operator.Arithmetic.TheVariants.{Add, Subtract, Multiply, Divide}
+use Rattle.operators.specs.declared.operator.Comparison.{Comparison}
+use Rattle.operators.specs.declared.operator.Comparison.TheVariants.{Equal, NotEqual, Less, LessOrEqual, Greater, GreaterOrEqual}
+use Rattle.operators.specs.declared.operator.DatePart.{DatePart}
+use Rattle.operators.specs.declared.operator.DatePart.TheVariants.{Year, Month, Day}
 
 -- two operands: null, else the least fault, else what the operator gives
 abbrev pub on_two : {A : Type 0} → A → (Fault → A) → (Value → Value → A) → Value → Value → A

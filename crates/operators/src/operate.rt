@@ -1,13 +1,13 @@
 //! What operators make of the values of their operands.
 ghost use Rattle.std.specs.Prelude.{◌≡◌, ◌↔◌, IfOk, IsTrue};
 ghost use Rattle.std.specs.Cow.{cow_value};
-ghost use Rattle.scalar_expr.specs.Operators.{number_or_fault, computed, negative, at_scale, extracted, part_of, product, arithmetic, holds, compared, between, liked, null_test, truth_of, mark_of, truth_of_mark};
+ghost use Rattle.operators.specs.Operators.{number_or_fault, computed, negative, at_scale, extracted, part_of, product, arithmetic, holds, compared, between, liked, null_test, truth_of, mark_of, truth_of_mark};
 
-use crate::expr::{Arithmetic, Comparison, DatePart};
+use crate::operator::{Arithmetic, Comparison, DatePart};
 use ascii_text::{Text, like, substring};
 use fixed_decimal::{NumberFault, Scale, add, compare, mul, quotient, rescale, sub};
 use sql_value::{Fault, Standing, Truth, Value};
-use std::alloc::{AllocError, Global};
+use std::alloc::AllocError;
 use std::borrow::Cow;
 use std::cmp::Ordering;
 
@@ -105,20 +105,21 @@ pub fn extracted(part: DatePart, x: &Value) -> Value
 }
 
 /// The bytes of places `from` to `from + count - 1` of a text.
-pub fn part_of(alloc: Global, x: &Value, from: u32, count: u32) -> Result<Value, AllocError>
+pub fn part_of(x: &Value, from: u32, count: u32) -> Result<Value, AllocError>
     ensures { IfOk result (λ v. v ≡ part_of from count x.now) }
 {
     match x {
         Value::Fault(fault) => Ok(Value::Fault(*fault)),
         Value::Text(text) => {
-            let part = substring(alloc, text, from, count)?;
+            let part = substring(text, from, count)?;
             Ok(Value::Text(part))
         }
         _ => Ok(Value::Null),
     }
 }
 
-fn truth_of(is_true: bool) -> Truth
+/// True where a test passes, else False.
+pub fn truth_of(is_true: bool) -> Truth
     ensures { result ≡ truth_of is_true }
 {
     if is_true {
@@ -142,13 +143,15 @@ pub fn is_true(truth: Truth) -> bool
     matches!(truth, Truth::Stands(Standing::AtTrue))
 }
 
-fn fault_truth(fault: Fault) -> Truth
+/// A fault as a truth.
+pub fn fault_truth(fault: Fault) -> Truth
     ensures { result ≡ Truth.Stands (Standing.AtFault fault) }
 {
     Truth::Stands(Standing::AtFault(fault))
 }
 
-fn holds(comparison: Comparison, order: Ordering) -> Truth
+/// The truth of a comparison of two values in this order.
+pub fn holds(comparison: Comparison, order: Ordering) -> Truth
     ensures { result ≡ truth_of (holds comparison order) }
 {
     truth_of(match comparison {
