@@ -5,8 +5,8 @@ use Rattle.fixed_decimal.specs.Tally.{average_scale}
 use Rattle.aggregates.specs.declared.function.AggregateFunction.{AggregateFunction}
 use Rattle.aggregates.specs.declared.function.AggregateFunction.TheVariants.{Count, CountDistinct, Sum, Avg, Min, Max}
 use Rattle.refusals.specs.declared.bind.BindRefusal.TheVariants.{TypeMismatch, ScaleTooWide}
-use Rattle.scalar_expr.specs.declared.expr.Arithmetic.{Arithmetic}
-use Rattle.scalar_expr.specs.declared.expr.Arithmetic.TheVariants.{Add, Subtract, Multiply, Divide}
+use Rattle.operators.specs.declared.operator.Arithmetic.{Arithmetic}
+use Rattle.operators.specs.declared.operator.Arithmetic.TheVariants.{Add, Subtract, Multiply, Divide}
 use Rattle.scalar_expr.specs.declared.kind.Kind.{Kind}
 use Rattle.scalar_expr.specs.declared.kind.Kind.TheVariants.{Number, Text, Date}
 use Rattle.sql_binder.specs.declared.collected.BoundKind.{BoundKind}
@@ -59,11 +59,15 @@ abbrev pub scale_of : Kind → ℕ
 scale_of (Number s) = s
 scale_of k = 0
 
--- the scale of a sum, a difference, a product, which is ScaleTooWide past 18, and a quotient
+-- a product has the sum of the scales, which is ScaleTooWide past 18
+abbrev pub product_kind : ℕ → ℕ → Checked Kind
+product_kind s t = if nat_le (s + t) 18 then Ok (Number (s + t)) else Err ScaleTooWide
+
+-- a sum and a difference have the larger scale, a quotient the larger of the dividend's and 6
 abbrev pub result_kind : Arithmetic → ℕ → ℕ → Checked Kind
 result_kind Add s t = Ok (Number (max s t))
 result_kind Subtract s t = Ok (Number (max s t))
-result_kind Multiply s t = if nat_le (s + t) 18 then Ok (Number (s + t)) else Err ScaleTooWide
+result_kind Multiply s t = product_kind s t
 result_kind Divide s t = Ok (Number (quotient_scale s))
 
 -- what an operator gives of two operands, which have to be numbers
@@ -88,15 +92,28 @@ abbrev pub common_kind : List BoundKind → Checked Kind
 common_kind [] = Err TypeMismatch
 common_kind (k ∷ ks) = and_then (value_kind k) (λ j. common_from j ks)
 
--- what an aggregate gives of its argument: a count of values; a sum and an average of numbers; an extreme of values
+-- a sum is of numbers, and of their scale
+abbrev pub sum_kind : Kind → Checked Kind
+sum_kind (Number s) = Ok (Number s)
+sum_kind k = Err TypeMismatch
+
+-- an average is of numbers, and has four places more, 18 at most
+abbrev pub average_kind : Kind → Checked Kind
+average_kind (Number s) = Ok (Number (average_scale s))
+average_kind k = Err TypeMismatch
+
+-- a count is a whole number, an extreme is of the kind of its values
+abbrev pub function_kind : AggregateFunction → Kind → Checked Kind
+function_kind Count k = Ok (Number 0)
+function_kind CountDistinct k = Ok (Number 0)
+function_kind Sum k = sum_kind k
+function_kind Avg k = average_kind k
+function_kind Min k = Ok k
+function_kind Max k = Ok k
+
+-- what an aggregate gives of its argument, which has to be a value
 abbrev pub aggregate_kind : AggregateFunction → BoundKind → Checked Kind
-aggregate_kind Count (Value k) = Ok (Number 0)
-aggregate_kind CountDistinct (Value k) = Ok (Number 0)
-aggregate_kind Sum (Value (Number s)) = Ok (Number s)
-aggregate_kind Avg (Value (Number s)) = Ok (Number (average_scale s))
-aggregate_kind Min (Value k) = Ok k
-aggregate_kind Max (Value k) = Ok k
-aggregate_kind function k = Err TypeMismatch
+aggregate_kind function k = and_then (value_kind k) (function_kind function)
 
 -- the scale of an aggregate's argument; 0 of what is no number
 abbrev pub argument_scale : BoundKind → ℕ

@@ -1,5 +1,5 @@
 -- The steps of binding that go into no part of the tree: columns, aggregates, subqueries, FROM items, select lists.
-use Rattle.std.specs.Prelude.{ℕ, ◌+◌, ◌-◌, Bool, true, false, ◌||◌, ◌==◌, List, [], ◌∷◌, ◌++◌, length, map, drop, Option, Some, None, unwrap_or, is_some, Ok, Err, if◌then◌else◌, nat_lt}
+use Rattle.std.specs.Prelude.{ℕ, ◌+◌, ◌-◌, Bool, true, false, ◌&&◌, ◌||◌, ◌==◌, List, [], ◌∷◌, ◌++◌, length, map, drop, Option, Some, None, unwrap_or, is_some, Ok, Err, if◌then◌else◌, nat_lt}
 use Rattle.std.specs.List.{list_any}
 use Rattle.std.specs.Str.{bytes_eq}
 use Rattle.aggregates.specs.declared.function.AggregateFunction.{AggregateFunction}
@@ -131,7 +131,7 @@ function_of named.Max = function.Max
 
 -- a mark, read as a condition
 abbrev pub mark : ℕ → Typed
-mark k = typed (e.Holds (e.Column k)) Condition
+mark k = typed (e.IsMarked (e.Column k)) Condition
 
 -- in ON and in an aggregate's argument a subquery is SubqueryPlace
 unfoldable pub allowed : Sight → Binding (Unit {0})

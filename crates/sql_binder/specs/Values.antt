@@ -7,13 +7,13 @@ use Rattle.civil_date.specs.declared.DateFault.{DateFault}
 use Rattle.civil_date.specs.declared.moved.IntervalUnit.{IntervalUnit}
 use Rattle.civil_date.specs.declared.moved.IntervalUnit.TheVariants as unit
 use Rattle.refusals.specs.declared.bind.BindRefusal.TheVariants.{TypeMismatch, IntervalOnColumn, BadDate, DateRange}
-use Rattle.scalar_expr.specs.declared.expr.Arithmetic.{Arithmetic}
-use Rattle.scalar_expr.specs.declared.expr.Arithmetic.TheVariants.{Add, Subtract, Multiply, Divide}
+use Rattle.operators.specs.declared.operator.Arithmetic.{Arithmetic}
+use Rattle.operators.specs.declared.operator.Arithmetic.TheVariants.{Add, Subtract, Multiply, Divide}
 use Rattle.scalar_expr.specs.declared.expr.Branch.{Branch}
-use Rattle.scalar_expr.specs.declared.expr.Comparison.{Comparison}
-use Rattle.scalar_expr.specs.declared.expr.Comparison.TheVariants.{Equal, NotEqual, Less, LessOrEqual, Greater, GreaterOrEqual}
-use Rattle.scalar_expr.specs.declared.expr.DatePart.{DatePart}
-use Rattle.scalar_expr.specs.declared.expr.DatePart.TheVariants.{Year, Month, Day}
+use Rattle.operators.specs.declared.operator.Comparison.{Comparison}
+use Rattle.operators.specs.declared.operator.Comparison.TheVariants.{Equal, NotEqual, Less, LessOrEqual, Greater, GreaterOrEqual}
+use Rattle.operators.specs.declared.operator.DatePart.{DatePart}
+use Rattle.operators.specs.declared.operator.DatePart.TheVariants.{Year, Month, Day}
 use Rattle.scalar_expr.specs.declared.expr.Expr.{Expr}
 use Rattle.scalar_expr.specs.declared.expr.Expr.TheVariants as e
 use Rattle.scalar_expr.specs.declared.expr.Operation.{Operation}
@@ -205,16 +205,16 @@ branches (w ∷ whens) [] = []
 branches (w ∷ whens) (g ∷ gives) = record { when = w; gives = g } ∷ branches whens gives
 
 -- conditions, the kinds of all branches, the branches, and ELSE
-unfoldable pub chosen : Operands → List BoundKind → Operands → Expr → Checked Typed
+unfoldable pub chosen : Operands → List BoundKind → List Expr → Expr → Checked Typed
 chosen whens kinds gives other =
     if list_all is_condition whens.kinds
-    then and_then (common_kind kinds) (λ k. Ok (typed (e.Case (scale_of k) (branches whens.values gives.values) other) (Value k)))
+    then and_then (common_kind kinds) (λ k. Ok (typed (e.Case (scale_of k) (branches whens.values gives) other) (Value k)))
     else Err TypeMismatch
 
 -- without ELSE
 unfoldable pub case_of : Operands → Operands → Checked Typed
-case_of whens gives = chosen whens gives.kinds gives (e.Literal value.Null)
+case_of whens gives = chosen whens gives.kinds gives.values (e.Literal value.Null)
 
 -- with ELSE
 unfoldable pub case_else_of : Operands → Operands → Typed → Checked Typed
-case_else_of whens gives other = chosen whens (gives.kinds ++ other.kind ∷ []) gives other.value
+case_else_of whens gives other = chosen whens (gives.kinds ++ other.kind ∷ []) gives.values other.value

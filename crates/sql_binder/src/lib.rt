@@ -1,9 +1,12 @@
 //! Names of a query bound to columns: a bound query, or the first refusal.
 #![tactic(auto)]
 
+mod chain;
 mod collected;
 mod fault;
+mod kinds;
 mod scope;
+mod values;
 mod view;
 
 pub use fault::BindFault;
