@@ -1,12 +1,12 @@
 -- What it is to bind a query: one case for each node of its tree, from the meanings of the node's parts.
 -- Within a case the steps stand in their order, and the first refusal counts.
-use Rattle.std.specs.Prelude.{ℕ, Bool, true, false, ◌||◌, List, [], ◌∷◌, ◌++◌, length, map, drop, Option, Some, None, option_map, unwrap_or, is_some, Ok, Err, if◌then◌else◌, nat_lt}
+use Rattle.std.specs.Prelude.{ℕ, Bool, true, false, not, ◌||◌, ◌==◌, List, [], ◌∷◌, ◌++◌, length, map, drop, Option, Some, None, unwrap_or, Ok, Err, if◌then◌else◌}
 use Rattle.std.specs.List.{list_any}
 use Rattle.aggregates.specs.declared.function.AggregateFunction.TheVariants.{Count, CountDistinct}
 use Rattle.nested_query.specs.declared.query.BoundAggregate.TheVariants.{CountRows}
 use Rattle.nested_query.specs.declared.query.BoundExpr.{BoundExpr}
 use Rattle.nested_query.specs.declared.query.BoundQuery.{BoundQuery}
-use Rattle.nested_query.specs.declared.query.BoundSource.TheVariants as source
+use Rattle.nested_query.specs.declared.query.BoundSource.{BoundSource}
 use Rattle.refusals.specs.declared.bind.BindRefusal.TheVariants.{IntervalOnColumn}
 use Rattle.scalar_expr.specs.declared.expr.Expr.TheVariants as e
 use Rattle.scalar_expr.specs.declared.kind.Kind.TheVariants as kind
@@ -26,6 +26,7 @@ use Rattle.sql_ast.specs.declared.tree.Selected.{Selected}
 use Rattle.sql_ast.specs.declared.tree.Term.{Term}
 use Rattle.sql_ast.specs.declared.words.Adding.{Adding}
 use Rattle.sql_ast.specs.declared.words.Column.{Column}
+use Rattle.sql_ast.specs.declared.words.JoinKind.{JoinKind}
 use Rattle.sql_ast.specs.declared.words.Span.{Span}
 use Rattle.sql_value.specs.declared.value.Value.TheVariants as value
 use Rattle.sql_binder.specs.declared.collected.BoundKind.TheVariants.{Value}
@@ -38,12 +39,13 @@ use Rattle.sql_binder.specs.declared.collected.Operands.{Operands}
 use Rattle.sql_binder.specs.declared.collected.Part.{Part}
 use Rattle.sql_binder.specs.declared.collected.Shown.{Shown}
 use Rattle.sql_binder.specs.declared.collected.Typed.{Typed}
+use Rattle.sql_binder.specs.declared.from.Joining.{Joining}
 use Rattle.sql_binder.specs.declared.scope.ScopeColumn.{ScopeColumn}
 use Rattle.sql_binder.specs.declared.view.View.{View}
 use Rattle.sql_binder.specs.Steps.{Name, Checked, and_then, Binding, ◌>>=◌, pure, refuse, lift, alone, apart, counted}
 use Rattle.sql_binder.specs.Names.{Sight}
 use Rattle.sql_binder.specs.Values.{typed, date_literal, negative, compared, null_test, between, liked, in_list, denied, extracted, substring, begun, operated, adding_of, multiplying_of, shifted, ended, first_condition, next_condition, all_of, any_of, no_operands, with_operand, case_of, case_else_of}
-use Rattle.sql_binder.specs.Parts.{column, inside, within_on, hiding, outermost, among_rows, grouped, aggregated, function_of, existing, containing, only_value, named_item, unused, item_rows, distinct_names, renamed_headers, listed_headers, columns_so_far, crossed, first_rows, joined_rows, present, no_condition, holding, shown_part, nothing_shown, star, keys_of, plain, closing, once_each, order_of}
+use Rattle.sql_binder.specs.Parts.{column, inside, within_on, hiding, outermost, among_rows, grouped, aggregated, function_of, existing, containing, only_value, table_rows, named_rows, distinct_names, renamed_headers, columns_so_far, crossed, first_rows, joining, joined_rows, present, no_condition, holding, shown_part, nothing_shown, star, keys_of, plain, closing, once_each, order_of}
 
 -- ---- what each kind of node means
 
@@ -102,8 +104,8 @@ abbrev pub conditions_from : Sight → Conditions → List Meaning → Binding C
 conditions_from sight done [] = pure done
 conditions_from sight done (m ∷ ms) = m.binds sight >>= (λ a. lift (next_condition done a) >>= (λ d. conditions_from sight d ms))
 
-unfoldable pub conditions : Sight → Conditions → List Meaning → Binding Conditions
-conditions sight first rest = conditions_from sight first rest
+unfoldable pub conditions : Sight → Typed → List Meaning → Binding Conditions
+conditions sight first rest = conditions_from sight (first_condition first) rest
 
 -- operands of a list or a CASE, which are tested once all are bound
 abbrev pub operands_from : Sight → Operands → List Meaning → Binding Operands
@@ -114,20 +116,28 @@ unfoldable pub operands : Sight → List Meaning → Binding Operands
 operands sight ms = operands_from sight no_operands ms
 
 -- a chain of operations, each on what stands to its left
-abbrev pub chain_from : Sight → Chain → List ChainMeaning → Binding Chain
-chain_from sight done [] = pure done
+abbrev pub chain_from : Sight → Chain → List ChainMeaning → Binding Typed
+chain_from sight done [] = pure (ended done)
 chain_from sight done (m ∷ ms) = m.adds sight done >>= (λ d. chain_from sight d ms)
 
-unfoldable pub chain : Sight → Chain → List ChainMeaning → Binding Chain
-chain sight first rest = chain_from sight first rest
+unfoldable pub chain : Sight → Typed → List ChainMeaning → Binding Typed
+chain sight first rest = chain_from sight (begun first) rest
 
 -- the conditions of a CASE's arms
+abbrev pub conditions_of_arms : Sight → Operands → List ArmMeaning → Binding Operands
+conditions_of_arms sight done [] = pure done
+conditions_of_arms sight done (a ∷ arms) = a.condition.binds sight >>= (λ x. conditions_of_arms sight (with_operand done x) arms)
+
 unfoldable pub arm_conditions : Sight → List ArmMeaning → Binding Operands
-arm_conditions sight arms = operands sight (map (λ (a : ArmMeaning). a.condition) arms)
+arm_conditions sight arms = conditions_of_arms sight no_operands arms
 
 -- the branches of a CASE's arms
+abbrev pub values_of_arms : Sight → Operands → List ArmMeaning → Binding Operands
+values_of_arms sight done [] = pure done
+values_of_arms sight done (a ∷ arms) = a.value.binds sight >>= (λ x. values_of_arms sight (with_operand done x) arms)
+
 unfoldable pub arm_values : Sight → List ArmMeaning → Binding Operands
-arm_values sight arms = operands sight (map (λ (a : ArmMeaning). a.value) arms)
+arm_values sight arms = values_of_arms sight no_operands arms
 
 -- a term: an interval moves the date literal before it
 abbrev pub term_by : Option (Name × Span) → Adding → Meaning → Sight → Chain → Binding Chain
@@ -143,8 +153,8 @@ module _ (sight : Sight) where
   binds_step (Expr-F.Interval t s) = refuse IntervalOnColumn
   binds_step (Expr-F.Column name) = column sight name
   binds_step (Expr-F.Negative a) = a.binds sight >>= (λ x. lift (negative x))
-  binds_step (Expr-F.Sum a terms) = a.binds sight >>= (λ x. chain sight (begun x) terms >>= (λ c. pure (ended c)))
-  binds_step (Expr-F.Product a factors) = a.binds sight >>= (λ x. chain sight (begun x) factors >>= (λ c. pure (ended c)))
+  binds_step (Expr-F.Sum a terms) = a.binds sight >>= (λ x. chain sight x terms)
+  binds_step (Expr-F.Product a factors) = a.binds sight >>= (λ x. chain sight x factors)
   binds_step (Expr-F.Compare c a b) = do
     x ← a.binds sight
     y ← b.binds sight
@@ -167,8 +177,8 @@ module _ (sight : Sight) where
   binds_step (Expr-F.Exists q) = q sight >>= existing sight
   binds_step (Expr-F.Scalar q) = q sight >>= only_value sight
   binds_step (Expr-F.Not a) = a.binds sight >>= (λ x. lift (denied x))
-  binds_step (Expr-F.And a rest) = a.binds sight >>= (λ x. conditions sight (first_condition x) rest >>= (λ c. lift (all_of c)))
-  binds_step (Expr-F.Or a rest) = a.binds sight >>= (λ x. conditions sight (first_condition x) rest >>= (λ c. lift (any_of c)))
+  binds_step (Expr-F.And a rest) = a.binds sight >>= (λ x. conditions sight x rest >>= (λ c. lift (all_of c)))
+  binds_step (Expr-F.Or a rest) = a.binds sight >>= (λ x. conditions sight x rest >>= (λ c. lift (any_of c)))
   binds_step (Expr-F.Case arms) = do
     whens ← arm_conditions sight arms
     gives ← arm_values sight arms
@@ -221,10 +231,14 @@ aggregates_step (Expr-F.CountDistinct a) = true
 aggregates_step (Expr-F.Aggregate f a) = true
 aggregates_step x = false
 
+-- the name of what has none, which no query can write
+abbrev pub no_name : Name
+no_name = []
+
 -- a column gives its name to an output column, any other expression none
 abbrev pub name_step : Expr-F ClauseMeaning Meaning FromItemMeaning SelectedMeaning ArmMeaning BlockMeaning ChainMeaning ItemMeaning JoinMeaning JoinedMeaning ChainMeaning → Name
 name_step (Expr-F.Column c) = c.name
-name_step x = []
+name_step x = no_name
 
 -- an interval's digits and unit
 abbrev pub interval_step : Expr-F ClauseMeaning Meaning FromItemMeaning SelectedMeaning ArmMeaning BlockMeaning ChainMeaning ItemMeaning JoinMeaning JoinedMeaning ChainMeaning → Option (Name × Span)
@@ -268,28 +282,23 @@ clause_step (Clause-F.Condition m) = Some m
 
 -- an item of FROM: a table or a view by its name; a derived table
 abbrev pub from_item_step : FromItem-F ClauseMeaning Meaning FromItemMeaning SelectedMeaning ArmMeaning BlockMeaning ChainMeaning ItemMeaning JoinMeaning JoinedMeaning ChainMeaning → FromItemMeaning
-from_item_step (FromItem-F.Table name alias) sight left = do
-  found ← lift (named_item name sight.views)
-  _ ← counted found.items
-  _ ← lift (unused left (unwrap_or alias name))
-  pure (item_rows found.source (unwrap_or alias name) found.headers)
+from_item_step (FromItem-F.Table name alias) sight left = table_rows sight name (unwrap_or alias name) left
 from_item_step (FromItem-F.Derived q alias names) sight left = do
   _ ← counted 1
   t ← q (hiding sight left)
-  _ ← lift (unused left alias)
-  headers ← lift (listed_headers names t.headers)
-  pure (item_rows (source.Derived t.block) alias headers)
+  lift (named_rows t alias names left)
 
 -- ON, over the rows of its own join
 unfoldable pub on_condition : Sight → List ScopeColumn → Meaning → Binding BoundExpr
 on_condition sight columns m = alone (m.binds (within_on sight columns)) >>= (λ p. lift (holding p))
 
+-- ON, over the columns of its chain so far
+unfoldable pub on_joining : ℕ → Sight → JoinKind → Joining → Meaning → Binding FromRows
+on_joining start sight k j m = on_condition sight (drop start j.columns) m >>= (λ on. pure (joined_rows k j on))
+
 -- a join: its item, then ON, which sees the items of its chain so far and no comma's before
 abbrev pub join_step : Join-F ClauseMeaning Meaning FromItemMeaning SelectedMeaning ArmMeaning BlockMeaning ChainMeaning ItemMeaning JoinMeaning JoinedMeaning ChainMeaning → JoinMeaning
-join_step j start sight done = do
-  o ← j.item sight done.columns
-  on ← on_condition sight (drop start (done.columns ++ o.columns)) j.condition
-  pure (joined_rows j.kind done o on)
+join_step j start sight done = j.item sight done.columns >>= (λ o. on_joining start sight j.kind (joining done o) j.condition)
 
 -- the joins of a chain from left to right
 abbrev pub joins_from : ℕ → Sight → FromRows → List JoinMeaning → Binding FromRows
@@ -299,12 +308,13 @@ joins_from start sight done (j ∷ js) = j start sight done >>= (λ d. joins_fro
 unfoldable pub joins : ℕ → Sight → FromRows → List JoinMeaning → Binding FromRows
 joins start sight first rest = joins_from start sight first rest
 
+-- the joins of a chain, then what stands before its comma
+unfoldable pub chained : ℕ → Sight → Option BoundSource × FromRows → List JoinMeaning → Binding FromRows
+chained start sight first js = joins start sight first.1 js >>= (λ chain. pure (crossed first.0 chain))
+
 -- what stands between commas
 abbrev pub joined_step : Joined-F ClauseMeaning Meaning FromItemMeaning SelectedMeaning ArmMeaning BlockMeaning ChainMeaning ItemMeaning JoinMeaning JoinedMeaning ChainMeaning → JoinedMeaning
-joined_step j sight done = do
-  o ← j.first sight (columns_so_far done)
-  chain ← joins (length (columns_so_far done)) sight (first_rows (columns_so_far done) o) j.joins
-  pure (crossed done chain)
+joined_step j sight done = j.first sight (columns_so_far done) >>= (λ o. chained (length (columns_so_far done)) sight (first_rows done o) j.joins)
 
 -- a FROM list from left to right
 abbrev pub from_list_after : Sight → Option FromRows → List JoinedMeaning → Binding FromRows
@@ -345,14 +355,23 @@ select sight columns keys items = select_in (inside sight columns keys) keys col
 
 -- ---- queries
 
+-- whether an aggregate stands in one of the items
+abbrev pub any_in_items : List ItemMeaning → Bool
+any_in_items = list_any (λ (m : ItemMeaning). m.aggregates)
+
 -- whether an aggregate stands in a select list
 abbrev pub items_aggregate : SelectedMeaning → Bool
 items_aggregate None = false
-items_aggregate (Some items) = list_any (λ (m : ItemMeaning). m.aggregates) items
+items_aggregate (Some items) = any_in_items items
+
+-- whether a clause is there
+abbrev pub is_there : ClauseMeaning → Bool
+is_there None = false
+is_there (Some m) = true
 
 -- a query with GROUP BY, HAVING, or an aggregate in its select list
 unfoldable pub is_grouped : Block-F ClauseMeaning Meaning FromItemMeaning SelectedMeaning ArmMeaning BlockMeaning ChainMeaning ItemMeaning JoinMeaning JoinedMeaning ChainMeaning → Bool
-is_grouped q = nat_lt 0 (length q.group) || is_some q.having || items_aggregate q.selected
+is_grouped q = not (length q.group == 0) || is_there q.having || items_aggregate q.selected
 
 -- FROM, then WHERE
 unfoldable pub from_where : Sight → List JoinedMeaning → ClauseMeaning → Binding (FromRows × BoundExpr)
@@ -368,29 +387,28 @@ over_rows sight from kept items = do
   pure (plain from kept shown)
 
 -- the select list, then HAVING
-unfoldable pub group_lists : Sight → List ScopeColumn → List ℕ → SelectedMeaning → ClauseMeaning → Binding (Shown × BoundExpr)
+unfoldable pub group_lists : Sight → List ScopeColumn → Option (List ℕ) → SelectedMeaning → ClauseMeaning → Binding (Shown × BoundExpr)
 group_lists sight columns keys items m = do
-  shown ← select sight columns (Some keys) items
-  having ← condition sight columns (Some keys) m
+  shown ← select sight columns keys items
+  having ← condition sight columns keys m
   pure (shown, having)
 
 -- a query with groups: GROUP BY, the select list, HAVING
 unfoldable pub over_groups : Sight → FromRows → BoundExpr → List Column → SelectedMeaning → ClauseMeaning → Binding BoundTable
 over_groups sight from kept group items m = do
   keys ← lift (keys_of from.columns group)
-  lists ← group_lists sight from.columns keys items m
+  lists ← group_lists sight from.columns (Some keys) items m
   closing from kept keys lists.0 lists.1
 
 -- FROM, WHERE, GROUP BY, select list, HAVING
-abbrev pub body : Block-F ClauseMeaning Meaning FromItemMeaning SelectedMeaning ArmMeaning BlockMeaning ChainMeaning ItemMeaning JoinMeaning JoinedMeaning ChainMeaning → BlockMeaning
-body q sight = do
-  p ← from_where sight q.from q.condition
-  t ← (if is_grouped q then over_groups sight p.0 p.1 q.group q.selected q.having else over_rows sight p.0 p.1 q.selected)
-  pure (once_each q.is_distinct t)
+abbrev pub clauses : Block-F ClauseMeaning Meaning FromItemMeaning SelectedMeaning ArmMeaning BlockMeaning ChainMeaning ItemMeaning JoinMeaning JoinedMeaning ChainMeaning → BlockMeaning
+clauses q sight = from_where sight q.from q.condition >>= (λ p. if is_grouped q
+then over_groups sight p.0 p.1 q.group q.selected q.having
+else over_rows sight p.0 p.1 q.selected)
 
--- a query, with aggregates of its own
+-- a query, with aggregates of its own, then DISTINCT
 abbrev pub block_step : Block-F ClauseMeaning Meaning FromItemMeaning SelectedMeaning ArmMeaning BlockMeaning ChainMeaning ItemMeaning JoinMeaning JoinedMeaning ChainMeaning → BlockMeaning
-block_step q sight = apart (body q sight)
+block_step q sight = apart (clauses q sight) >>= (λ t. pure (once_each q.is_distinct t))
 
 -- ---- whole trees
 
@@ -449,8 +467,8 @@ opened_block q = record {
   having = clause_meaning (out-Block q).having;
 }
 
-unfoldable pub body_of : Block → BlockMeaning
-body_of q = body (opened_block q)
+unfoldable pub clauses_of : Block → BlockMeaning
+clauses_of q = clauses (opened_block q)
 
 unfoldable pub is_grouped_block : Block → Bool
 is_grouped_block q = is_grouped (opened_block q)
@@ -465,16 +483,20 @@ start = record { items = 0; inputs = []; aggregates = [] }
 abbrev pub bound_table : Block → List View → Checked (BoundTable × Collected)
 bound_table q views = block_meaning q (outermost views) start
 
+-- a query that stands by itself, and how many FROM items it has
+abbrev pub counted_table : Block → List View → Checked (BoundTable × ℕ)
+counted_table q views = and_then (bound_table q views) (λ r. Ok (r.0, r.1.items))
+
 -- a query that is a statement: its parts, then ORDER BY
 unfoldable pub bound_query : Query → List View → Checked BoundQuery
 bound_query q views =
-    and_then (bound_table q.block views)
+    and_then (counted_table q.block views)
     (λ r. and_then (order_of r.0.headers q.order) (λ keys. Ok (record { block = r.0.block; order = keys; limit = q.limit })))
 
 -- a view: equal names of its column list, its query, the list's length
 unfoldable pub bound_view : Name → List Name → Block → List View → Checked View
 bound_view name names q views =
     and_then (distinct_names names)
-    (λ distinct. and_then (bound_table q views)
+    (λ distinct. and_then (counted_table q views)
     (λ r. and_then (renamed_headers names r.0.headers)
-    (λ headers. Ok (record { name = name; columns = headers; block = r.0.block; items = r.1.items }))))
+    (λ headers. Ok (record { name = name; columns = headers; block = r.0.block; items = r.1 }))))

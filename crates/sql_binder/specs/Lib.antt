@@ -4,3 +4,4 @@ pub mod Kinds
 pub mod Values
 pub mod Parts
 pub mod Binding
+pub mod Laws

@@ -14,7 +14,7 @@ use Rattle.nested_query.specs.declared.query.BoundSource.{BoundSource}
 use Rattle.nested_query.specs.declared.query.BoundSource.TheVariants as source
 use Rattle.nested_query.specs.declared.query.Input.{Input}
 use Rattle.nested_query.specs.declared.query.Input.TheVariants as input
-use Rattle.nested_query.specs.Typing.{column_kinds}
+use Rattle.nested_query.specs.Typing.{kind_of_column}
 use Rattle.refusals.specs.declared.bind.BindRefusal.TheVariants.{UnknownTable, UnknownColumn, AmbiguousColumn, DuplicateAlias, TypeMismatch, NestedAggregate, OuterAggregate, SubqueryColumns, SubqueryPlace}
 use Rattle.scalar_expr.specs.declared.expr.Expr.TheVariants as e
 use Rattle.scalar_expr.specs.declared.kind.Kind.{Kind}
@@ -26,7 +26,8 @@ use Rattle.sql_ast.specs.declared.words.Column.{Column}
 use Rattle.sql_ast.specs.declared.words.JoinKind.{JoinKind}
 use Rattle.sql_ast.specs.declared.words.JoinKind.TheVariants.{Inner, LeftOuter}
 use Rattle.tpch_schema.specs.declared.table.TableName.{TableName}
-use Rattle.tpch_schema.specs.Tables.{table_of, column_names_of}
+use Rattle.tpch_schema.specs.declared.column.ColumnKind.{ColumnKind}
+use Rattle.tpch_schema.specs.Tables.{table_of, column_names_of, kinds_of}
 use Rattle.sql_binder.specs.declared.collected.BoundKind.{BoundKind}
 use Rattle.sql_binder.specs.declared.collected.BoundKind.TheVariants.{Value, Condition}
 use Rattle.sql_binder.specs.declared.collected.BoundTable.{BoundTable}
@@ -34,6 +35,8 @@ use Rattle.sql_binder.specs.declared.collected.FromRows.{FromRows}
 use Rattle.sql_binder.specs.declared.collected.Part.{Part}
 use Rattle.sql_binder.specs.declared.collected.Shown.{Shown}
 use Rattle.sql_binder.specs.declared.collected.Typed.{Typed}
+use Rattle.sql_binder.specs.declared.from.Joining.{Joining}
+use Rattle.sql_binder.specs.declared.from.NamedItem.{NamedItem}
 use Rattle.sql_binder.specs.declared.scope.Place.{Place}
 use Rattle.sql_binder.specs.declared.scope.ScopeColumn.{ScopeColumn}
 use Rattle.sql_binder.specs.declared.view.Header.{Header}
@@ -134,8 +137,8 @@ abbrev pub mark : ℕ → Typed
 mark k = typed (e.IsMarked (e.Column k)) Condition
 
 -- in ON and in an aggregate's argument a subquery is SubqueryPlace
-unfoldable pub allowed : Sight → Binding (Unit {0})
-allowed sight = if sight.takes_subqueries then pure tt else refuse SubqueryPlace
+abbrev pub place_of : Sight → Checked (Unit {0})
+place_of sight = if sight.takes_subqueries then Ok tt else Err SubqueryPlace
 
 -- the kind of the only column: else SubqueryColumns
 abbrev pub single : List Header → Checked Kind
@@ -149,66 +152,69 @@ member left headers = and_then (single headers) (λ k. where_fit (fits left (Val
 
 unfoldable pub existing : Sight → BoundTable → Binding Typed
 existing sight t = do
-  _ ← allowed sight
+  _ ← lift (place_of sight)
   k ← input (input.Exists t.block)
   pure (mark k)
 
 unfoldable pub containing : Sight → Part → BoundTable → Binding Typed
 containing sight left t = do
   _ ← lift (member left.kind t.headers)
-  _ ← allowed sight
+  _ ← lift (place_of sight)
   k ← input (input.In left.expr t.block)
   pure (mark k)
 
 unfoldable pub only_value : Sight → BoundTable → Binding Typed
 only_value sight t = do
   kind ← lift (single t.headers)
-  _ ← allowed sight
+  _ ← lift (place_of sight)
   k ← input (input.Scalar t.block)
   pure (typed (e.Column k) (Value kind))
 
 -- ---- FROM
 
+-- a column of a table
+abbrev pub schema_header : Name → ColumnKind → Header
+schema_header name k = record { name = name; kind = kind_of_column k }
+
 -- names with kinds
-abbrev pub headers_of : List Name → List Kind → List Header
-headers_of [] kinds = []
-headers_of (n ∷ names) [] = []
-headers_of (n ∷ names) (k ∷ kinds) = record { name = n; kind = k } ∷ headers_of names kinds
+abbrev pub schema_headers : List Name → List ColumnKind → List Header
+schema_headers [] kinds = []
+schema_headers (n ∷ names) [] = []
+schema_headers (n ∷ names) (k ∷ kinds) = schema_header n k ∷ schema_headers names kinds
 
 -- the columns of a table
 unfoldable pub table_headers : TableName → List Header
-table_headers t = headers_of (column_names_of t) (column_kinds t)
-
--- the view of that name
-abbrev pub view_named : Name → List View → Checked View
-view_named name [] = Err UnknownTable
-view_named name (v ∷ views) = if bytes_eq v.name name then Ok v else view_named name views
-
--- what a FROM name stands for: its rows, its columns, and how many FROM items the use of it counts
-pub record Named : Type 0 where
-  pub source : BoundSource
-  pub headers : List Header
-  pub items : ℕ
+table_headers t = schema_headers (column_names_of t) (kinds_of t)
 
 -- a table
-abbrev pub table_item : TableName → Named
+abbrev pub table_item : TableName → NamedItem
 table_item t = record { source = source.Table t; headers = table_headers t; items = 1 }
 
 -- a view: itself and the items of its query
-abbrev pub view_item : View → Named
+abbrev pub view_item : View → NamedItem
 view_item v = record { source = source.Derived v.block; headers = v.columns; items = v.items + 1 }
 
--- a table of the schema, else a view
-abbrev pub named_by : Option TableName → Name → List View → Checked Named
-named_by (Some t) name views = Ok (table_item t)
-named_by None name views = and_then (view_named name views) (λ v. Ok (view_item v))
+-- the view of that name
+abbrev pub view_named : Name → List View → Checked NamedItem
+view_named name [] = Err UnknownTable
+view_named name (v ∷ views) = if bytes_eq v.name name then Ok (view_item v) else view_named name views
 
-unfoldable pub named_item : Name → List View → Checked Named
+-- a table of the schema, else a view
+abbrev pub named_by : Option TableName → Name → List View → Checked NamedItem
+named_by (Some t) name views = Ok (table_item t)
+named_by None name views = view_named name views
+
+-- what a FROM name stands for
+unfoldable pub named_item : Name → List View → Checked NamedItem
 named_item name views = named_by (table_of name) name views
+
+-- an item to the left has that name
+abbrev pub is_item : List ScopeColumn → Name → Bool
+is_item left alias = list_any (λ (c : ScopeColumn). bytes_eq c.item alias) left
 
 -- no item to the left has that name: else DuplicateAlias
 unfoldable pub unused : List ScopeColumn → Name → Checked (Unit {0})
-unused left alias = if list_any (λ (c : ScopeColumn). bytes_eq c.item alias) left then Err DuplicateAlias else Ok tt
+unused left alias = if is_item left alias then Err DuplicateAlias else Ok tt
 
 -- a column of an item of FROM
 unfoldable pub column_of : Name → Header → ScopeColumn
@@ -218,10 +224,18 @@ column_of item h = record { item = item; name = h.name; kind = h.kind }
 abbrev pub item_rows : BoundSource → Name → List Header → FromRows
 item_rows s alias headers = record { source = s; columns = map (column_of alias) headers }
 
+-- a derived table or a view with its columns
+abbrev pub derived_rows : BoundBlock → Name → List Header → FromRows
+derived_rows q alias headers = item_rows (source.Derived q) alias headers
+
+-- a name stands in a list
+abbrev pub stands_in : Name → List Name → Bool
+stands_in name names = list_any (λ m. bytes_eq m name) names
+
 -- two names of a list are equal
 abbrev pub has_twice : List Name → Bool
 has_twice [] = false
-has_twice (n ∷ names) = list_any (λ m. bytes_eq m n) names || has_twice names
+has_twice (n ∷ names) = stands_in n names || has_twice names
 
 -- columns under other names
 abbrev pub under_names : List Name → List Header → List Header
@@ -243,28 +257,47 @@ distinct_names names = if has_twice names then Err DuplicateAlias else Ok tt
 unfoldable pub listed_headers : List Name → List Header → Checked (List Header)
 listed_headers names headers = and_then (distinct_names names) (λ done. renamed_headers names headers)
 
+-- a table or a view as an item of FROM: UnknownTable, TooManyTables, DuplicateAlias in this order
+unfoldable pub table_rows : Sight → Name → Name → List ScopeColumn → Binding FromRows
+table_rows sight name alias left = do
+  found ← lift (named_item name sight.views)
+  _ ← counted found.items
+  _ ← lift (unused left alias)
+  pure (item_rows found.source alias found.headers)
+
+-- a derived table as an item of FROM, once its query is bound: its alias, then its column list
+unfoldable pub named_rows : BoundTable → Name → List Name → List ScopeColumn → Checked FromRows
+named_rows t alias names left =
+    and_then (unused left alias)
+    (λ free. and_then (listed_headers names t.headers) (λ headers. Ok (derived_rows t.block alias headers)))
+
 -- the columns so far
 abbrev pub columns_so_far : Option FromRows → List ScopeColumn
 columns_so_far None = []
 columns_so_far (Some f) = f.columns
 
--- what stands after a comma, with what stands before it
-unfoldable pub crossed : Option FromRows → FromRows → FromRows
-crossed None f = f
-crossed (Some done) f = record { source = source.Cross done.source f.source; columns = f.columns }
+-- what stands before a comma, and the first item after it: its rows alone, with the columns of all so far
+unfoldable pub first_rows : Option FromRows → FromRows → Option BoundSource × FromRows
+first_rows None o = (None, o)
+first_rows (Some f) o = (Some f.source, record { source = o.source; columns = f.columns ++ o.columns })
 
--- the first item of what stands between commas: its rows alone, with the columns of all so far
-unfoldable pub first_rows : List ScopeColumn → FromRows → FromRows
-first_rows left o = record { source = o.source; columns = left ++ o.columns }
+-- what stands after a comma, with what stands before it
+unfoldable pub crossed : Option BoundSource → FromRows → FromRows
+crossed None f = f
+crossed (Some left) f = record { source = source.Cross left f.source; columns = f.columns }
+
+-- an item that is to be joined to those before it: its number of columns, and the columns of all so far
+unfoldable pub joining : FromRows → FromRows → Joining
+joining done o = record { left = done.source; right = o.source; width = length o.columns; columns = done.columns ++ o.columns }
 
 -- a join's rows
-abbrev pub join_source : JoinKind → BoundSource → BoundSource → ℕ → BoundExpr → BoundSource
-join_source Inner a b width on = source.Inner a b on
-join_source LeftOuter a b width on = source.Outer a b width on
+abbrev pub join_source : JoinKind → Joining → BoundExpr → BoundSource
+join_source Inner j on = source.Inner j.left j.right on
+join_source LeftOuter j on = source.Outer j.left j.right j.width on
 
--- an item joined to those before it
-unfoldable pub joined_rows : JoinKind → FromRows → FromRows → BoundExpr → FromRows
-joined_rows k done o on = record { source = join_source k done.source o.source (length o.columns) on; columns = done.columns ++ o.columns }
+-- a join
+unfoldable pub joined_rows : JoinKind → Joining → BoundExpr → FromRows
+joined_rows k j on = record { source = join_source k j on; columns = j.columns }
 
 -- a FROM list of no items, which no script has, is UnknownTable
 unfoldable pub present : Option FromRows → Checked FromRows

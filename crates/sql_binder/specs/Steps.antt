@@ -1,5 +1,5 @@
 -- Steps of binding: each goes on with what is collected so far, or refuses.
-use Rattle.std.specs.Prelude.{ℕ, ◌+◌, ◌≡◌, List, [], ◌∷◌, ◌++◌, length, Option, Some, None, Result, Ok, Err, if◌then◌else◌, nat_le}
+use Rattle.std.specs.Prelude.{ℕ, ◌+◌, ◌≡◌, List, [], ◌∷◌, ◌++◌, length, Result, Ok, Err, if◌then◌else◌, nat_le}
 use Rattle.nested_query.specs.declared.query.BoundAggregate.{BoundAggregate}
 use Rattle.nested_query.specs.declared.query.Input.{Input}
 use Rattle.refusals.specs.declared.bind.BindRefusal.{BindRefusal}

@@ -113,16 +113,14 @@ impl Collected {
 
     /// Counts FROM items.
     #[tactic(auto, unfolding(crate::specs::Steps::counted))]
-    pub fn counted(&mut self, items: u32) -> Result<(), BindFault>
+    pub fn counted(&mut self, items: u64) -> Result<(), BindFault>
         ensures { Binds (counted items self.old) result self.new }
     {
-        match self.items.checked_add(items) {
-            Some(all) if all <= 32 => {
-                self.items = all;
-                Ok(())
-            }
-            _ => Err(BindFault::Refused(BindRefusal::TooManyTables)),
+        if items > 32 || self.items > 32 - items as u32 {
+            return Err(BindFault::Refused(BindRefusal::TooManyTables));
         }
+        self.items += items as u32;
+        Ok(())
     }
 
     /// Puts inputs in the place of those that are there.
