@@ -2,3 +2,4 @@ pub mod Meaning
 pub mod Answer
 pub mod Reads
 pub mod Typing
+pub mod Examples

@@ -3,6 +3,7 @@
 
 mod copy;
 mod kinds;
+pub mod laws;
 mod query;
 
 pub use copy::copy_block;
