@@ -11,3 +11,4 @@ pub mod FieldCuts
 pub mod FieldLaws
 pub mod FileLaws
 pub mod Readers
+pub mod Held
