@@ -1,2 +1,4 @@
+pub mod Found
 mod Order
-mod VersionSteps
+pub mod Sales
+pub mod VersionSteps

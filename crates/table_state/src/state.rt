@@ -4,6 +4,7 @@ ghost use Rattle.std.specs.Vec.{vec_items};
 ghost use Rattle.tpch_schema.specs.Kinds.{RowsAreOf};
 ghost use Rattle.tpch_schema.specs.State.{table_rows};
 ghost use Rattle.table_state.specs.Lists.{IsOfKinds, place_of, state_of};
+ghost use Rattle.table_state.specs.Refresh.{with_sales};
 
 use sql_value::Row;
 use std::marker::Model;
@@ -77,5 +78,15 @@ impl State {
         ensures kinds { RowsAreOf table result.now }
     {
         table_rows(&self.tables, table)
+    }
+
+    /// Puts these rows in place of those of orders and lineitem.
+    pub(crate) fn replace_sales(&mut self, orders: Vec<Row>, lineitems: Vec<Row>)
+        requires orders { RowsAreOf TableName.Orders orders.items }
+        requires lineitems { RowsAreOf TableName.Lineitem lineitems.items }
+        ensures { self.new ≡ with_sales self.old orders.items lineitems.items }
+    {
+        self.tables[6] = orders;
+        self.tables[7] = lineitems;
     }
 }
