@@ -12,3 +12,4 @@ pub mod FieldLaws
 pub mod FileLaws
 pub mod Readers
 pub mod Held
+pub mod PlainNumbers

@@ -9,6 +9,7 @@ ghost use Rattle.tpch_schema.specs.declared.column.ColumnKind.TheVariants.{Text 
 ghost use Rattle.tpch_schema.specs.Kinds.{is_of_kind};
 ghost use Rattle.tbl_reader.specs.Field.{kind_field, number_field, text_field, date_field};
 
+use crate::plain::plain_number;
 use civil_date::CivilDate;
 use columns::Field;
 use fixed_decimal::{Scale, Spelling, read_decimal};
@@ -20,6 +21,9 @@ pub fn read_field(kind: ColumnKind, bytes: &[u8]) -> Result<Field<'_>, LineFault
     ensures value { MatchResult result (λ f. kind_field kind bytes.now ≡ Ok (field_value f)) (λ fault. kind_field kind bytes.now ≡ Err fault) }
     ensures printable { IfOk result IsPrintableField }
 {
+    if let Some(field) = plain_number(kind, bytes) {
+        return Ok(field);
+    }
     match kind {
         ColumnKind::Key | ColumnKind::Whole => read_number(kind, Scale::new(0), bytes),
         ColumnKind::Decimal => read_number(kind, Scale::new(2), bytes),
