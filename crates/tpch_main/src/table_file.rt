@@ -69,7 +69,11 @@ fn finish(alloc: Global, name: &str, reader: TableReader) -> Result<Vec<Row>, In
     ensures other { IfErr result IsLineError }
 {
     match reader.finish() {
-        Ok(rows) => Ok(rows),
+        Ok(rows) => {
+            // A state holds rows so far, and not columns.
+            let rows = rows.to_rows(alloc)?;
+            Ok(rows)
+        }
         Err(error) => Err(table_refused(alloc, name, error)),
     }
 }
