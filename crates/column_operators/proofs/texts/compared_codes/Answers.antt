@@ -1,0 +1,5 @@
+use Rattle.column_operators.proofs.CodedTexts.{by_code_is, by_codes_are, table_below}
+use Rattle.column_operators.proofs.texts.compared_codes.Goals as goal
+
+pub returns : goal.returns
+returns c = ?
