@@ -55,16 +55,16 @@ fn computed_numbers(
     requires { length a.now ≡ length b.now }
     ensures { IfOk result (λ r. IfSome r (λ c. c ≡ zip_with (computed operator) a.now b.now)) }
 {
-    let Some((s, xs)) = a.as_numbers() else {
+    let Some(left) = a.as_numbers() else {
         return Ok(None);
     };
-    let Some((t, ys)) = b.as_numbers() else {
+    let Some(right) = b.as_numbers() else {
         return Ok(None);
     };
-    if !is_exact(operator, s, t) {
+    if !is_exact(operator, left.0, right.0) {
         return Ok(None);
     }
-    exact_column(alloc, operator, s, xs, t, ys)
+    exact_column(alloc, operator, left.0, left.1, right.0, right.1)
 }
 
 // The same at numbers of scales at which the operator is taken at coefficients.

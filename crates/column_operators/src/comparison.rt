@@ -55,6 +55,7 @@ fn compared_values(
 }
 
 // The same for columns that keep numbers.
+#[tactic(auto, using(crate::proofs::Zips::numbers_zip))]
 fn compared_numbers(
     alloc: Global,
     comparison: Comparison,
@@ -64,13 +65,13 @@ fn compared_numbers(
     requires { length a.now ≡ length b.now }
     ensures { IfOk result (λ r. IfSome r (λ v. v.items ≡ zip_with (compared comparison) a.now b.now)) }
 {
-    let Some((s, xs)) = a.as_numbers() else {
+    let Some(left) = a.as_numbers() else {
         return Ok(None);
     };
-    let Some((t, ys)) = b.as_numbers() else {
+    let Some(right) = b.as_numbers() else {
         return Ok(None);
     };
-    let truths = numbers(alloc, comparison, s, xs, t, ys)?;
+    let truths = numbers(alloc, comparison, left.0, left.1, right.0, right.1)?;
     Ok(Some(truths))
 }
 
@@ -110,6 +111,7 @@ fn compared_number(comparison: Comparison, s: Scale, x: &i64, t: Scale, y: &i64)
 }
 
 // The same for columns that keep dates.
+#[tactic(auto, using(crate::proofs::Zips::dates_zip))]
 fn compared_dates(
     alloc: Global,
     comparison: Comparison,

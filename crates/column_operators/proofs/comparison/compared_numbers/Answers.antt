@@ -4,6 +4,5 @@ use Rattle.column_operators.proofs.comparison.compared_numbers.Goals as goal
 
 pub returns : goal.returns
 returns c =
-    let e = rw c.in-Some.is at c.as_numbers.ensures in
-    let g = rw c.in-Some-as_numbers.is at c.as_numbers-2.ensures in
-    rw (e, g) (c.in_ok-truths.ensures ∙ numbers_zip c.args.comparison c.in-Some.s c.in-Some-as_numbers.t c.in-Some.xs.now c.in-Some-as_numbers.ys.now)
+    rw (c.in-Some.ensures, c.in-Some-as_numbers.ensures)
+    (c.in_ok-truths.ensures ∙ numbers_zip c.args.comparison c.in-Some.left.0 c.in-Some-as_numbers.right.0 c.in-Some.left.1.now c.in-Some-as_numbers.right.1.now)
