@@ -1,9 +1,11 @@
 //! Operators that make a column of one or more, row by row.
 ghost use Rattle.std.specs.Prelude.{◌≡◌, IfOk, length, map};
+ghost use Rattle.sql_value.specs.declared.value.Value.TheVariants.{Number, Date as DateOf};
 ghost use Rattle.operators.specs.Operators.{negative, extracted, part_of, at_scale};
 ghost use Rattle.column_operators.specs.Choices.{choice};
 ghost use Rattle.column_operators.specs.Zips.{zip_three};
 
+use civil_date::CivilDate;
 use columns::Column;
 use fixed_decimal::Scale;
 use operators::{DatePart, at_scale, extracted, negative, part_of};
@@ -27,12 +29,41 @@ pub fn negative_column(alloc: Global, a: &Column) -> Result<Column, AllocError>
 pub fn extracted_column(alloc: Global, part: DatePart, a: &Column) -> Result<Column, AllocError>
     ensures { IfOk result (λ c. c ≡ map (extracted part) a.now) }
 {
+    match a.as_dates() {
+        Some(dates) => {
+            let numbers = date_parts(alloc, part, dates)?;
+            Ok(Column::from_numbers(Scale::WHOLE, numbers))
+        }
+        None => extracted_values(alloc, part, a),
+    }
+}
+
+// The same, value by value.
+fn extracted_values(alloc: Global, part: DatePart, a: &Column) -> Result<Column, AllocError>
+    ensures { IfOk result (λ c. c ≡ map (extracted part) a.now) }
+{
     let mut values = Vec::with_capacity(alloc, a.len())?;
     for i in 0..a.len() {
         let x = a.at(alloc, i)?;
         values.push(extracted(part, &x))?;
     }
     Ok(Column::from_values(values))
+}
+
+// The same of dates.
+fn date_parts(alloc: Global, part: DatePart, dates: &[CivilDate]) -> Result<Vec<i64>, AllocError>
+    ensures { IfOk result (λ v. map (Number 0) v.items ≡ map (extracted part) (map DateOf dates.now)) }
+{
+    let mut numbers = Vec::with_capacity(alloc, dates.len())?;
+    for date in dates {
+        let number = match part {
+            DatePart::Year => date.year(),
+            DatePart::Month => date.month(),
+            DatePart::Day => date.day(),
+        };
+        numbers.push(i64::from(number))?;
+    }
+    Ok(numbers)
 }
 
 /// The bytes of places `from` to `from + count - 1` of texts, row by row.
