@@ -34,8 +34,8 @@ use Rattle.algebra.specs.declared.node.Node.TheVariants as node
 use Rattle.algebra.specs.declared.tree.DepTree.TheOpen as f
 use Rattle.algebra.specs.declared.tree.Side.{Side}
 use Rattle.algebra.specs.Aggregates.{aggregates_of}
-use Rattle.algebra.specs.Ranks.{rank_of}
-use Rattle.algebra.specs.Trees.{Database, TreeMeaning, tree_step, side_of, own_domains, right_row, says, listed, mark_under, scalar_at, keys_under, aggregates_under}
+use Rattle.conditions.specs.Ranks.{rank_of, says}
+use Rattle.algebra.specs.Trees.{Database, TreeMeaning, tree_step, side_of, own_domains, right_row, listed, mark_under, scalar_at, keys_under, aggregates_under}
 use Rattle.algebra.specs.Plans.{groups, made_from, node_rows, node_width, plan_rows, plan_width, scan_of, is_domain}
 use Rattle.algebra.proofs.NoRows.{aggregates_bag}
 use Rattle.unnesting.specs.declared.domain.Domain.{Domain as DomainData}

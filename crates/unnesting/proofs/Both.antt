@@ -22,8 +22,8 @@ use Rattle.algebra.specs.declared.node.Node.{Node}
 use Rattle.algebra.specs.declared.node.Node.TheVariants as node
 use Rattle.algebra.specs.declared.tree.DepTree.TheOpen as f
 use Rattle.algebra.specs.declared.tree.Side.{Side}
-use Rattle.algebra.specs.Ranks.{rank_of}
-use Rattle.algebra.specs.Trees.{Database, TreeMeaning, tree_step, side_of, own_domains, right_row, says, mark_under, scalar_at}
+use Rattle.conditions.specs.Ranks.{rank_of, says}
+use Rattle.algebra.specs.Trees.{Database, TreeMeaning, tree_step, side_of, own_domains, right_row, mark_under, scalar_at}
 use Rattle.algebra.specs.Plans.{node_rows, node_width, plan_rows, plan_width, made_from}
 use Rattle.unnesting.specs.declared.domain.Domain.{Domain as DomainData}
 use Rattle.unnesting.specs.declared.domain.DomainRows.{DomainRows}
