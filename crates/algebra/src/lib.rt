@@ -14,3 +14,6 @@ pub use node::{Node, NodeId};
 pub use plan::{Builder, FlatPlan};
 pub use steps::Steps;
 pub use tree::{DepTree, Side, width};
+
+#[cfg(test)]
+mod tests;
