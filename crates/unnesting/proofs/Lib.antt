@@ -8,4 +8,3 @@ pub mod Sides
 pub mod Steps
 pub mod Whole
 pub mod Wide
-pub mod WorkedProofs

@@ -1,3 +1,2 @@
 pub mod Domains
 pub mod Lowerings
-pub mod WorkedRows
