@@ -1,4 +1,4 @@
 pub mod Found
-mod Order
+pub mod Order
 pub mod Sales
 pub mod VersionSteps

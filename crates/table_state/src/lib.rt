@@ -13,7 +13,7 @@ mod state;
 
 pub use applied::{RefreshError, apply};
 pub use refresh::Refresh;
-pub use state::State;
+pub use state::{State, place};
 
 #[cfg(test)]
 mod tests;

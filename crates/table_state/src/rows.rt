@@ -115,7 +115,7 @@ pub(crate) fn rows_without(
 }
 
 /// Appends shares of rows.
-fn push_rows(to: &mut Vec<Row>, rows: &[Row]) -> Result<(), AllocError>
+pub(crate) fn push_rows(to: &mut Vec<Row>, rows: &[Row]) -> Result<(), AllocError>
     ensures { OnOk result (to.new.items ≡ to.old.items ++ rows.now) }
 {
     for row in rows {
