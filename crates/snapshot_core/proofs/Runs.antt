@@ -7,8 +7,8 @@ use Rattle.tpch_schema.specs.State.{State}
 use Rattle.table_state.specs.Refresh.{Change}
 use Rattle.table_state.specs.Versions.{accepted}
 use Rattle.table_state.proofs.VersionSteps.{accepted-rises}
-use Rattle.snapshot_core.specs.declared.step.Step.{Step}
-use Rattle.snapshot_core.specs.declared.step.Step.TheVariants.{Begin, Again, Scan, Publish, Compact, Finish, Learn}
+use Rattle.snapshot_core.specs.declared.steps.Step.{Step}
+use Rattle.snapshot_core.specs.declared.steps.Step.TheVariants.{Begin, Again, Scan, Publish, Compact, Finish, Learn}
 use Rattle.snapshot_core.specs.Laws.{NotesLaw, PinsRiseLaw, PublishedLaw, ScanLaw, next_pin, pin_of, pinning, seen_of}
 use Rattle.snapshot_core.specs.Machine.{SessionState, World, begun, begun_again, changed_in, finished, finished_scan, happens, is_cut, learnt, new_session, pinned, published, rows_in, run, scanned_at, session_in, session_of, start, with_session}
 use Rattle.snapshot_core.proofs.Pieces.{scanned_keeps, session_scan_is}

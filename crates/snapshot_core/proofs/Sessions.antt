@@ -12,8 +12,8 @@ use Rattle.table_state.specs.Refresh.{Change}
 use Rattle.table_state.specs.Versions.{accepted, version_state}
 use Rattle.table_state.proofs.Order.{place_law}
 use Rattle.table_state.proofs.VersionSteps.{accepted-rises}
-use Rattle.snapshot_core.specs.declared.step.Step.{Step}
-use Rattle.snapshot_core.specs.declared.step.Step.TheVariants.{Begin, Again, Scan, Publish, Compact, Finish, Learn}
+use Rattle.snapshot_core.specs.declared.steps.Step.{Step}
+use Rattle.snapshot_core.specs.declared.steps.Step.TheVariants.{Begin, Again, Scan, Publish, Compact, Finish, Learn}
 use Rattle.snapshot_core.specs.Machine.{ScannedPiece, SessionState, World, begun, begun_again, changed_in, finished, finished_scan, happens, is_cut, joined, learnt, lengths_of, new_session, piece_of, piece_rows, pieces_of, pinned, published, rows_in, run, scan_from, scanned_at, session_in, session_of, session_scan, start, total, with_session}
 
 -- a list after a write: a place has what it had, or it is the place that was written
