@@ -1,15 +1,14 @@
 -- What the machine keeps stays kept.
-use Rattle.std.proofs.Common.{◌≡◌, ℕ, zero, suc, ◌+◌, ◌-◌, ◌<◌, ◌≤◌, Bool, true, false, cond, List, [], ◌∷◌, ◌++◌, length, get_or, set, max, Option, Some, None, refl, sym, ap, subst, ◌∙◌, arith, inl, inr, length-append}
-use Rattle.std.specs.Prelude.{IfSome, nat_le, nat_lt, slice_get, slice_index_or, slice_set}
-use Rattle.std.specs.List.{All}
+use Rattle.std.proofs.Common.{◌≡◌, ℕ, zero, suc, ◌+◌, ◌<◌, ◌≤◌, Bool, true, false, cond, List, [], ◌∷◌, ◌++◌, length, get_or, set, Option, Some, None, refl, sym, ap, ◌∙◌, arith, inl, inr, length-append}
+use Rattle.std.specs.Prelude.{IfSome, slice_get, slice_index_or}
 use Rattle.std.proofs.lemmas.Bool.{cases_lt}
 use Rattle.std.proofs.lemmas.Option.{slice_get_within}
 use Rattle.tpch_schema.specs.State.{State}
-use Rattle.table_state.specs.Refresh.{Change, after, cause_of, changed, unless_cause}
+use Rattle.table_state.specs.Refresh.{Change, changed}
 use Rattle.table_state.specs.Versions.{accepted, is_accepted, tried, version_state}
-use Rattle.table_state.proofs.VersionSteps.{accepted-more, accepted-rises, state-more}
+use Rattle.table_state.proofs.VersionSteps.{accepted-more, state-more}
 use Rattle.snapshot_core.specs.Kept.{IsBelow, IsKept, IsTried}
-use Rattle.snapshot_core.specs.Machine.{SessionState, World, begun_again, changed_in, happens, is_cut, new_session, pinned, published, session_in, session_of, with_session}
+use Rattle.snapshot_core.specs.Machine.{SessionState, World, changed_in, new_session, published}
 
 -- a list that is written past its end stays
 pub written_past : {A : Type 0} (xs : List A) (place : ℕ) (x : A) → length xs ≤ place → set xs place x ≡ xs

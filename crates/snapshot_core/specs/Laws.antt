@@ -1,5 +1,5 @@
 -- What holds of the machine after any list of steps.
-use Rattle.std.specs.Prelude.{◌≡◌, ℕ, ◌<◌, ◌≤◌, Bool, true, List, ◌∷◌, ◌++◌, [], Option, Some, if◌then◌else◌}
+use Rattle.std.specs.Prelude.{◌≡◌, ℕ, ◌<◌, ◌≤◌, Bool, true, List, Option, Some, if◌then◌else◌}
 use Rattle.sql_value.specs.declared.value.Value.{Value}
 use Rattle.tpch_schema.specs.declared.table.TableName.{TableName}
 use Rattle.tpch_schema.specs.State.{State, table_rows}
