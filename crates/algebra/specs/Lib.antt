@@ -1,3 +1,4 @@
 pub mod Aggregates
+pub mod Pieces
 pub mod Plans
 pub mod Trees
