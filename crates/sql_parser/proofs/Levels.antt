@@ -1,10 +1,10 @@
 -- All levels of the parts that lead back to themselves, and the laws of a statement.
 use Rattle.std.proofs.Common.{◌≡◌, ℕ, zero, suc, ◌≤◌, List, [], length, Err, refl, arith, inr}
 use Rattle.sql_lexer.specs.declared.token.Token.{Token}
-use Rattle.sql_ast.specs.declared.expr.Expr.{Expr}
-use Rattle.sql_ast.specs.declared.query.Statement.{Statement}
+use Rattle.sql_ast.specs.declared.tree.Expr.{Expr}
+use Rattle.sql_ast.specs.declared.statement.Statement.{Statement}
 use Rattle.sql_parser.specs.declared.test.Test.TheVariants as t
-use Rattle.grammar_laws.specs.declared.Refusal.TheVariants.{Unexpected}
+use Rattle.grammar_laws.specs.declared.SyntaxFault.TheVariants.{Unexpected}
 use Rattle.grammar_laws.specs.Marks.{Mark}
 use Rattle.grammar_laws.specs.Lines.{Never, less, Links, none}
 use Rattle.grammar_laws.specs.Readings.{Outcome, never}

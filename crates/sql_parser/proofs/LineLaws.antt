@@ -2,16 +2,16 @@
 use Rattle.std.proofs.Common.{ℕ, true, false, refl, [], ◌∷◌, Some, None}
 use Rattle.sql_lexer.specs.declared.kind.Kind.TheVariants as k
 use Rattle.sql_lexer.specs.declared.token.Token.{Token}
-use Rattle.sql_ast.specs.declared.expr.Expr.{Expr}
-use Rattle.sql_ast.specs.declared.expr.Expr.TheVariants as e
-use Rattle.sql_ast.specs.declared.expr.Comparison.TheVariants as comparison
-use Rattle.sql_ast.specs.declared.expr.Span.TheVariants as span
-use Rattle.sql_ast.specs.declared.expr.Aggregate.TheVariants as aggregate
-use Rattle.sql_ast.specs.declared.expr.Adding.TheVariants as adding
-use Rattle.sql_ast.specs.declared.expr.Multiplying.TheVariants as multiplying
-use Rattle.sql_ast.specs.declared.query.Selected.TheVariants as selected
-use Rattle.sql_ast.specs.declared.query.FromItem.TheVariants as from_item
-use Rattle.sql_ast.specs.declared.query.Clause.TheVariants as clause
+use Rattle.sql_ast.specs.declared.tree.Expr.{Expr}
+use Rattle.sql_ast.specs.declared.tree.Expr.TheVariants as e
+use Rattle.sql_ast.specs.declared.words.Comparison.TheVariants as comparison
+use Rattle.sql_ast.specs.declared.words.Span.TheVariants as span
+use Rattle.sql_ast.specs.declared.words.Aggregate.TheVariants as aggregate
+use Rattle.sql_ast.specs.declared.words.Adding.TheVariants as adding
+use Rattle.sql_ast.specs.declared.words.Multiplying.TheVariants as multiplying
+use Rattle.sql_ast.specs.declared.tree.Selected.TheVariants as selected
+use Rattle.sql_ast.specs.declared.tree.FromItem.TheVariants as from_item
+use Rattle.sql_ast.specs.declared.tree.Clause.TheVariants as clause
 use Rattle.sql_parser.specs.declared.test.Test.TheVariants as t
 use Rattle.sql_lexer.specs.Kinds.{is}
 use Rattle.grammar_laws.specs.Kinds.{among}

@@ -1,7 +1,7 @@
 //! Scripts with their trees or refusals, by the rules of the dialect.
 use super::*;
 use fixed_decimal::Scale;
-use grammar_laws::Refusal;
+use grammar_laws::SyntaxFault;
 use sql_ast::{Clause, Comparison, Expr, FromItem, Query, Selected, Statement};
 use sql_lexer::{Content, LexFault, Token, lex};
 use sqlite_items::Items;
@@ -227,7 +227,7 @@ fn limited(alloc: Global, coefficient: i128) -> Result<Vec<Token>, LexFault> {
 /// Whether the tokens are unexpected from their sixth on.
 fn is_unexpected_limit(alloc: Global, tokens: &[Token]) -> bool {
     match parse_script(alloc, tokens) {
-        Err(ParseFault::Refused(Refusal::Unexpected, place)) => place == 5,
+        Err(ParseFault::Refused(SyntaxFault::Unexpected, place)) => place == 5,
         _ => false,
     }
 }

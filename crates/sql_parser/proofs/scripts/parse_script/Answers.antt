@@ -1,6 +1,6 @@
 use Rattle.std.proofs.Common.{◌≡◌, ◌-◌, ℕ, subst, Err, ap, length, arith}
 use Rattle.std.proofs.lemmas.List.{length-append}
-use Rattle.grammar_laws.specs.declared.Refusal.{Refusal}
+use Rattle.grammar_laws.specs.declared.SyntaxFault.{SyntaxFault}
 use Rattle.grammar_laws.specs.Scripts.{IsFirst, statements}
 use Rattle.grammar_laws.proofs.Stable.{out}
 use Rattle.grammar_laws.proofs.Scripts.{Stable-script}
@@ -26,4 +26,4 @@ returns-in-Err-Refused-clause-refused c = λ r n h.
     let first = refusal_is_first (Ended 1023 64) (ended_at 1023 64) (is_read 1023 64) c.args.tokens.now _ _ e in
     let kind : c.in-Err-Refused.refusal ≡ r = cc in
     let place : length c.args.tokens.now - length c.script.new.self.rest.now ≡ n = cc in
-    subst (λ (m : ℕ). IsFirst Sql r c.args.tokens.now m) place (subst (λ (q : Refusal). IsFirst Sql q c.args.tokens.now (length c.args.tokens.now - length c.script.new.self.rest.now)) kind first)
+    subst (λ (m : ℕ). IsFirst Sql r c.args.tokens.now m) place (subst (λ (q : SyntaxFault). IsFirst Sql q c.args.tokens.now (length c.args.tokens.now - length c.script.new.self.rest.now)) kind first)
