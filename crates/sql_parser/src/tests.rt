@@ -56,7 +56,7 @@ fn nested(alloc: Global, count: usize) -> Result<Vec<u8>, AllocError> {
 
 /// Whether the query selects `r_name` alone, from `region` alone, and nothing else.
 fn is_names_of_regions(query: &Query) -> bool {
-    let is_selected = match &query.selected {
+    let is_selected = match &query.block.selected {
         Selected::Items(items) => match items.as_slice() {
             [item] => match &item.value {
                 Expr::Column(column) => {
@@ -70,8 +70,13 @@ fn is_names_of_regions(query: &Query) -> bool {
         },
         Selected::All => false,
     };
-    let is_from = match query.from.as_slice() {
-        [FromItem::Table(name, None)] => name.bytes() == b"region".as_slice(),
+    let is_from = match query.block.from.as_slice() {
+        [joined] => match &joined.first {
+            FromItem::Table(name, None) => {
+                name.bytes() == b"region".as_slice() && joined.joins.is_empty()
+            }
+            _ => false,
+        },
         _ => false,
     };
     is_selected && is_from && query.limit.is_none() && query.order.is_empty()
@@ -101,7 +106,7 @@ fn trees(rt: HostRuntime) -> Result<(), Fail> {
     match found.as_slice() {
         [Statement::Query(query)] => {
             assert!(rt; is_names_of_regions(query));
-            assert!(rt; is_below_two(&query.condition));
+            assert!(rt; is_below_two(&query.block.condition));
         }
         _ => assert!(rt; false),
     }
@@ -201,7 +206,7 @@ fn refusals(rt: HostRuntime) -> Result<(), Fail> {
             alloc,
             b"select a from b where exists (1);",
             ScriptRefusal::Unexpected,
-            22
+            30
         )
     );
     assert!(rt;
@@ -209,7 +214,7 @@ fn refusals(rt: HostRuntime) -> Result<(), Fail> {
             alloc,
             b"select a from b, (c) d;",
             ScriptRefusal::Unexpected,
-            17
+            18
         )
     );
     Ok(())
