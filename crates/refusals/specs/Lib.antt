@@ -1,1 +1,4 @@
+pub mod Bind
 pub mod Line
+pub mod Refresh
+pub mod Statement

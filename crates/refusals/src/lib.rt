@@ -4,6 +4,12 @@
 //! Each kind of refusal has a file of its own.
 #![tactic(auto)]
 
+mod bind;
 mod line;
+mod refresh;
+mod statement;
 
+pub use bind::BindRefusal;
 pub use line::{LineFault, LineRefusal};
+pub use refresh::{Cause, RefreshFile};
+pub use statement::{FaultKind, Refusal, TemplateRefusal};

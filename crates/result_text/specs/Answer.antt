@@ -4,11 +4,11 @@ use Rattle.std.specs.List.{flat_map, list_all}
 use Rattle.fixed_decimal.specs.Written.{decimal_written, last_digits}
 use Rattle.sql_value.specs.declared.value.Value.{Value}
 use Rattle.sql_value.specs.declared.value.Value.TheVariants.{Fault, Number, Text, Date, Null}
+use Rattle.result_text.specs.Lines.{line_start}
 
 -- the line before an answer: the statement's number, the version over which it was asked, and how many rows follow
 abbrev pub header : ℕ → ℕ → ℕ → List ℕ
-header statement version rows =
-    codes "[" ++ decimal statement ++ codes "] version " ++ decimal version ++ codes " rows " ++ decimal rows ++ codes "\n"
+header statement version rows = line_start statement version ++ codes " rows " ++ decimal rows ++ codes "\n"
 
 -- a text as it is printed: a backslash stands before each bar and each backslash
 abbrev pub escaped : List ℕ → List ℕ

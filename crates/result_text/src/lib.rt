@@ -1,11 +1,13 @@
-//! The texts that the program prints: the line before an answer, and an answer's rows.
+//! The texts that the program prints: the lines of statements, and an answer's rows.
 #![tactic(auto)]
 
 mod head;
 pub mod laws;
+mod refusal;
 mod rows;
 
-pub use head::header;
+pub use head::{accepted_text, done_text, header, refusal_text};
+pub use refusal::push_refusal;
 pub use rows::{answer_text, push_row};
 
 #[cfg(test)]

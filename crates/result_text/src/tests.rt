@@ -3,6 +3,9 @@ use super::*;
 use ascii_text::Text;
 use civil_date::CivilDate;
 use fixed_decimal::Scale;
+use refusals::{
+    BindRefusal, Cause, FaultKind, LineFault, LineRefusal, RefreshFile, Refusal, TemplateRefusal,
+};
 use sql_value::{Row, Value};
 use std::test::Fail;
 
@@ -50,5 +53,46 @@ fn writes_rows(rt: HostRuntime) -> Result<(), Fail> {
     let second = Row::new(vec![in alloc; text, Value::Date(date)]?)?;
     let written = answer_text(alloc, &[first, second])?;
     assert!(rt; written.as_slice() == b"0.666667|\\N\na\\|b\\\\c|0098-01-02\n".as_slice());
+    Ok(())
+}
+
+#[test]
+fn writes_lines(rt: HostRuntime) -> Result<(), Fail> {
+    let alloc = rt.alloc();
+    let done = done_text(alloc, 1, 20)?;
+    assert!(rt; done.as_slice() == b"[1] version 20 done\n".as_slice());
+    let accepted = accepted_text(alloc, 18, 16, 17)?;
+    assert!(rt; accepted.as_slice() == b"[18] version 16 accepted 17\n".as_slice());
+    Ok(())
+}
+
+#[test]
+fn writes_refusals(rt: HostRuntime) -> Result<(), Fail> {
+    let alloc = rt.alloc();
+    let line = LineRefusal {
+        line: 10,
+        fault: LineFault::BadDate,
+    };
+    let malformed = Cause::Malformed(RefreshFile::Orders, 999_999_999, line);
+    let text = refusal_text(alloc, 12, 3, &Refusal::Refresh(malformed))?;
+    assert!(rt;
+        text.as_slice()
+            == b"[12] version 3 refused 47 Malformed orders.tbl.u999999999 line 10 4 BadDate\n".as_slice()
+    );
+    let stray = refusal_text(alloc, 1, 0, &Refusal::Refresh(Cause::StrayLine(i64::MAX)))?;
+    assert!(rt;
+        stray.as_slice() == b"[1] version 0 refused 44 StrayLine 9223372036854775807\n".as_slice()
+    );
+    let fault = refusal_text(alloc, 1, 0, &Refusal::Fault(FaultKind::TooManyRows))?;
+    assert!(rt; fault.as_slice() == b"[1] version 0 refused 22 Fault 3 TooManyRows\n".as_slice());
+    let bind = refusal_text(alloc, 1, 0, &Refusal::Bind(BindRefusal::UnknownColumn))?;
+    assert!(rt; bind.as_slice() == b"[1] version 0 refused 2 UnknownColumn\n".as_slice());
+    let kind = refusal_text(
+        alloc,
+        1,
+        0,
+        &Refusal::Template(TemplateRefusal::WrongKind(16)),
+    )?;
+    assert!(rt; kind.as_slice() == b"[1] version 0 refused 32 WrongKind 16\n".as_slice());
     Ok(())
 }

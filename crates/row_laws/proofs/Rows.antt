@@ -57,10 +57,6 @@ module _ {V : Type 0} (same : V → V → Bool) (is : IsIdentity same) where
   pub same_row_is : IsIdentity (same_row same)
   same_row_is = record { meets = same_row-refl; tells = same_row-tells }
 
-  pub starts-append : (d t : List V) → starts same d (d ++ t) ≡ true
-  starts-append [] t = refl
-  starts-append (x ∷ d) t = rw (is.meets x, starts-append d t)
-
   pub starts_is : (d r : List V) → starts same d r ≡ true → r ≡ d ++ drop (length d) r
   starts_is [] r e = refl
   starts_is (x ∷ d) [] e = absurd (true≢false (sym e))

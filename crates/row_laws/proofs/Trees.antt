@@ -10,9 +10,10 @@ use Rattle.row_laws.specs.Operators.{select, project, pair, join_node, outer_nod
 use Rattle.row_laws.specs.Domains.{values_of, under, meeting, IsDomain, Meets, Answers}
 use Rattle.row_laws.specs.Trees.{Side, Tree, side_row, side_pick, side_width, side_domain, tree_rows, node_rows}
 use Rattle.row_laws.specs.Trees.Side.{Closed, Shared, Dependent}
-use Rattle.row_laws.specs.Trees.Tree.{Scan, Select, Project, Join, Outer, Mark, Single, Group, Total, Distinct}
+use Rattle.row_laws.specs.Trees.Tree.{OneRow, Scan, Select, Project, Join, Outer, Mark, Single, Group, Total, Distinct}
 use Rattle.row_laws.proofs.Lists.{Each-weaker, Each-map, Each-all, Each-both}
-use Rattle.row_laws.proofs.Rows.{starts_is, take-append, select_meets, Meets-from, Meets-weighs}
+use Rattle.row_laws.proofs.Rows.{starts_is, take-append, select_meets, map-after_nil, Meets-from, Meets-weighs}
+use Rattle.row_laws.proofs.Alike.{total_alike}
 use Rattle.row_laws.proofs.Nodes.{join_meets, outer_meets, attach_meets, project_meets}
 use Rattle.row_laws.proofs.Groups.{group_meets, key_meets, distinct_meets}
 use Rattle.row_laws.proofs.Values.{mark_bag, scalar_bag}
@@ -53,6 +54,29 @@ module _ {V : Type 0} (same : V → V → Bool) (is : IsIdentity same) where
   total_is A (t ∷ ts) =
       ap (λ l. or_else (map (λ k. ranked (k ++ A (filter (λ x. same_row same [] k) (t ∷ ts))) (least (filter (λ x. same_row same [] k) (t ∷ ts)))) l) (ranked (A []) true_rank)) (each_once_const t ts)
       ∙ ap (λ l. ranked (A l) (least l) ∷ []) (keeps_all (t ∷ ts))
+
+  -- over the one row the fill gives the one group, or the empty one
+  pub without_fill : (A : List (Ranked V) → List V) (xs : List (Ranked V)) → fill same (A []) unit_row (group_by same (λ t. []) A xs) ≡ total A xs
+  without_fill A xs =
+      let gs = group_by same (λ t. []) A xs in
+      append-nil (or_else (filter (λ g. true) gs) (ranked (A []) true_rank))
+      ∙ ap (λ l. or_else l (ranked (A []) true_rank)) (keeps_all gs)
+      ∙ total_is A xs
+
+  -- the root of a plan, both ways
+  pub root_bag : (xs : List (Ranked V)) (L : List V → List (Ranked V)) → Answers same unit_row xs L → SameBag xs (L [])
+  root_bag xs L all = record { weighs = λ h. Meets-weighs same is all.0 h }
+
+  pub bag_root : (xs : List (Ranked V)) (L : List V → List (Ranked V)) → SameBag xs (L []) → Answers same unit_row xs L
+  bag_root xs L e = (Meets-from same is [] xs (L []) (Each-all (λ x. 0 ≤ length x.values) xs (λ x. omega arith)) (λ h. e.weighs h), tt)
+
+  -- aggregates without GROUP BY over the one row
+  pub total_alone : (A : List (Ranked V) → List V) (xs : List (Ranked V)) (L : List V → List (Ranked V)) → OfBag A → Answers same unit_row xs L
+      → Answers same unit_row (total A xs) (λ d. total (λ ys. A (map (after d) ys)) (L d))
+  total_alone A xs L bag all =
+      bag_root (total A xs) (λ d. total (λ ys. A (map (after d) ys)) (L d))
+      (subst (λ ys. SameBag (total A xs) (ranked (A ys) (least (L [])) ∷ [])) (sym (map-after_nil (L [])))
+      (total_alike A xs (L []) bag (root_bag xs L all)))
 
   pub scan_step : (n : ℕ) (ds : List (Ranked V)) (rows : List (List V)) → IsDomain same n ds
       → Answers same ds (join_node same (λ x. []) (λ t. true_rank) ds (scanned rows)) (λ d. scanned rows)
@@ -171,6 +195,7 @@ module _ {V : Type 0} (same : V → V → Bool) (is : IsIdentity same) where
 module _ {V : Type 0} (same : V → V → Bool) (is : IsIdentity same) (null : V) (tables : ℕ → List (List V)) where
   -- the theorem for each domain row, by induction over the tree
   pub unnests : (T : Tree V) (n : ℕ) (ds : List (Ranked V)) → IsDomain same n ds → Answers same ds (node_rows same null tables T n ds) (tree_rows same null tables T)
+  unnests OneRow n ds dom = domain_alone same is n ds dom
   unnests (Scan table) n ds dom = scan_step same is n ds (tables table) dom
   unnests (Select c T) n ds dom = select_step same is c ds (node_rows same null tables T n ds) (tree_rows same null tables T) (unnests T n ds dom)
   unnests (Project f T) n ds dom = project_step same is f n ds (node_rows same null tables T n ds) (tree_rows same null tables T) dom (unnests T n ds dom)

@@ -1,7 +1,7 @@
 -- Each operator gives one bag for one bag, so a plan may be run node by node.
 use Rattle.std.specs.Prelude.{ℕ, List, Bool}
 use Rattle.row_laws.specs.Ranked.{Ranked}
-use Rattle.row_laws.specs.Bags.{SameBag, OfBag}
+use Rattle.row_laws.specs.Bags.{SameBag, OfBag, Each}
 use Rattle.row_laws.specs.Operators.{
   select,
   project,
@@ -91,20 +91,20 @@ FillAlike {V} same = (empty : List V) (ds es gs hs : List (Ranked V))
     → SameBag ds es → SameBag gs hs
     → SameBag (fill same empty ds gs) (fill same empty es hs)
 
--- A join by nested loops, whose right sides are one bag under each left row: one bag gives one bag.
+-- A join by nested loops, whose right sides are one bag under each left row that is there: one bag gives one bag.
 abbrev pub JoinLoopAlike : (V : Type 0) → Type 0
 JoinLoopAlike V = (c : List V → ℕ) (ls ms : List (Ranked V)) (R S : List V → List (Ranked V))
-    → SameBag ls ms → ((l : List V) → SameBag (R l) (S l))
+    → SameBag ls ms → Each (λ l. SameBag (R l.values) (S l.values)) ls
     → SameBag (join_loop c ls R) (join_loop c ms S)
 
--- A left outer join by nested loops: one bag gives one bag.
+-- A left outer join by nested loops, with such right sides: one bag gives one bag.
 abbrev pub OuterLoopAlike : (V : Type 0) → Type 0
 OuterLoopAlike V = (nulls : List V) (c : List V → ℕ) (ls ms : List (Ranked V)) (R S : List V → List (Ranked V))
-    → SameBag ls ms → ((l : List V) → SameBag (R l) (S l))
+    → SameBag ls ms → Each (λ l. SameBag (R l.values) (S l.values)) ls
     → SameBag (outer_loop nulls c ls R) (outer_loop nulls c ms S)
 
--- A mark or a scalar value by nested loops: one bag gives one bag.
+-- A mark or a scalar value by nested loops, with such right sides: one bag gives one bag.
 abbrev pub AttachLoopAlike : (V : Type 0) → Type 0
 AttachLoopAlike V = (value : List V → List (Ranked V) → V) (ls ms : List (Ranked V)) (R S : List V → List (Ranked V))
-    → ((x : List V) → OfBag (value x)) → SameBag ls ms → ((l : List V) → SameBag (R l) (S l))
+    → ((x : List V) → OfBag (value x)) → SameBag ls ms → Each (λ l. SameBag (R l.values) (S l.values)) ls
     → SameBag (attach_loop value ls R) (attach_loop value ms S)

@@ -1,8 +1,9 @@
 -- Only what conditions and select lists say of the rows at hand matters: two that say the same of these give the same rows.
-use Rattle.std.specs.Prelude.{◌≡◌, ℕ, List, ◌++◌}
+use Rattle.std.specs.Prelude.{◌≡◌, ℕ, List, ◌++◌, Bool}
+use Rattle.std.specs.List.{filter}
 use Rattle.row_laws.specs.Ranked.{Ranked}
 use Rattle.row_laws.specs.Bags.{Each}
-use Rattle.row_laws.specs.Operators.{select, project, mark_of, join_loop, outer_loop, attach_loop}
+use Rattle.row_laws.specs.Operators.{select, project, mark_of, join_loop, outer_loop, attach_loop, group_by, domain_node}
 
 -- the conditions c and e say the same of each combination of a left row with a right row under it
 abbrev pub SameOfPairs : {V : Type 0} → (List V → ℕ) → (List V → ℕ) → List (Ranked V) → (List V → List (Ranked V)) → Type 0
@@ -36,3 +37,15 @@ MarkAtHand V = (write : ℕ → V) (c e : List V → ℕ) (ls : List (Ranked V))
 abbrev pub AttachAtHand : (V : Type 0) → Type 0
 AttachAtHand V = (value worth : List V → List (Ranked V) → V) (ls : List (Ranked V)) (R S : List V → List (Ranked V))
     → Each (λ l. value l.values (R l.values) ≡ worth l.values (S l.values)) ls → attach_loop value ls R ≡ attach_loop worth ls S
+
+-- GROUP BY gives the same groups under keys that say the same of each row, and aggregates that say the same of any of the rows.
+abbrev pub GroupAtHand : {V : Type 0} → (V → V → Bool) → Type 0
+GroupAtHand {V} same = (key like : List V → List V) (aggregates worth : List (Ranked V) → List V) (xs : List (Ranked V))
+    → Each (λ x. key x.values ≡ like x.values) xs
+    → ((p : Ranked V → Bool) → aggregates (filter p xs) ≡ worth (filter p xs))
+    → group_by same key aggregates xs ≡ group_by same like worth xs
+
+-- A domain is the same where two functions take the same of each row.
+abbrev pub DomainAtHand : {V : Type 0} → (V → V → Bool) → Type 0
+DomainAtHand {V} same = (pick like : List V → List V) (xs : List (Ranked V))
+    → Each (λ x. pick x.values ≡ like x.values) xs → domain_node same pick xs ≡ domain_node same like xs

@@ -1,5 +1,5 @@
 -- Laws of bags, of classes, and of what a table of groups has to show.
-use Rattle.std.specs.Prelude.{◌≡◌, ℕ, ◌+◌, List, ◌++◌, Bool, true, Some, None, map, length, cond, min, max}
+use Rattle.std.specs.Prelude.{◌≡◌, ℕ, ◌+◌, List, ◌++◌, Bool, true, not, Some, None, map, length, cond, min, max}
 use Rattle.std.specs.List.{filter, flat_map, sum_by, IsDistinct}
 use Rattle.std.specs.List.Sorted.{IsPermutation}
 use Rattle.std.specs.Map.{lookup}
@@ -28,6 +28,15 @@ AppendAlike X = (xs us ys vs : List X) → SameBag xs us → SameBag ys vs → S
 -- Two lists behind one another are the same bag in either order.
 abbrev pub AppendSwapped : (X : Type 0) → Type 0
 AppendSwapped X = (xs ys : List X) → SameBag (xs ++ ys) (ys ++ xs)
+
+-- A list is, as a bag, what passes a test and what doesn't.
+abbrev pub PartsByTest : (X : Type 0) → Type 0
+PartsByTest X = (p : X → Bool) (xs : List X) → SameBag xs (filter p xs ++ filter (λ x. not (p x)) xs)
+
+-- Two nested loops may be exchanged: they give the same bag.
+abbrev pub LoopsExchanged : (X Y Z : Type 0) → Type 0
+LoopsExchanged X Y Z = (f : X → Y → List Z) (xs : List X) (ys : List Y)
+    → SameBag (flat_map (λ x. flat_map (λ y. f x y) ys) xs) (flat_map (λ y. flat_map (λ x. f x y) xs) ys)
 
 -- The images under a function: one bag gives one bag.
 abbrev pub MapAlike : (X Y : Type 0) → Type 0

@@ -53,6 +53,26 @@ LeftRowsMet {V} same = (pick : List V → List V) (xs ys : List (Ranked V)) (R :
     → Answers same (domain_node same pick xs) ys R
     → Each (λ x. Meets same (pick x.values) ys (R (pick x.values))) xs
 
+-- The one row of no columns over a domain: the domain's own rows.
+abbrev pub OneRowAnswers : {V : Type 0} → (V → V → Bool) → Type 0
+OneRowAnswers {V} same = (n : ℕ) (ds : List (Ranked V)) → IsDomain same n ds → Answers same ds ds (λ d. unit_row)
+
+-- The root of a plan: rows answer loops over the one row of no columns exactly where they are, as a bag, what the loops give under it.
+abbrev pub RootAnswers : {V : Type 0} → (V → V → Bool) → Type 0
+RootAnswers {V} same = (xs : List (Ranked V)) (L : List V → List (Ranked V))
+    → (Answers same unit_row xs L → SameBag xs (L [])) × (SameBag xs (L []) → Answers same unit_row xs L)
+
+-- Over the one row of no columns aggregates without GROUP BY need no fill: the groups by no columns, filled, are the one group of all rows.
+abbrev pub TotalWithoutFill : {V : Type 0} → (V → V → Bool) → Type 0
+TotalWithoutFill {V} same = (aggregates : List (Ranked V) → List V) (xs : List (Ranked V))
+    → fill same (aggregates []) unit_row (group_by same (λ x. []) aggregates xs) ≡ total aggregates xs
+
+-- So the one group of all rows answers them.
+abbrev pub TotalAloneAnswers : {V : Type 0} → (V → V → Bool) → Type 0
+TotalAloneAnswers {V} same = (aggregates : List (Ranked V) → List V) (xs : List (Ranked V)) (L : List V → List (Ranked V))
+    → OfBag aggregates → Answers same unit_row xs L
+    → Answers same unit_row (total aggregates xs) (λ d. total (λ ys. aggregates (map (after d) ys)) (L d))
+
 -- A table over a domain: the domain's rows joined with the table's.
 abbrev pub ScanAnswers : {V : Type 0} → (V → V → Bool) → Type 0
 ScanAnswers {V} same = (n : ℕ) (ds : List (Ranked V)) (rows : List (List V))

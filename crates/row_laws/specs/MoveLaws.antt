@@ -1,9 +1,10 @@
 -- What may be moved over joins when a tree is arranged anew.
-use Rattle.std.specs.Prelude.{◌≡◌, ◌≤◌, ℕ, List, ◌++◌, min, max}
+use Rattle.std.specs.Prelude.{◌≡◌, ◌≤◌, ℕ, List, [], ◌∷◌, ◌++◌, Bool, map, min, max}
 use Rattle.row_laws.specs.Ranked.{Ranked, true_rank}
-use Rattle.row_laws.specs.Rows.{unit_row}
-use Rattle.row_laws.specs.Bags.{SameBag, Each}
-use Rattle.row_laws.specs.Operators.{select, project, cross, join, join_loop, outer_loop, attach_loop}
+use Rattle.row_laws.specs.Rows.{lowered, unit_row}
+use Rattle.row_laws.specs.Bags.{SameBag, OfBag, Each}
+use Rattle.row_laws.specs.Operators.{select, project, cross, join, join_loop, outer_loop, attach_loop, group_by, distinct}
+use Rattle.row_laws.specs.StandingLaws.{Stands}
 
 -- the condition e reads the columns of the left row l only, and says p of them
 abbrev pub OfLeft : {V : Type 0} → (List V → ℕ) → (List V → ℕ) → Ranked V → Type 0
@@ -16,6 +17,19 @@ OfRight e p R l = Each (λ r. e (l.values ++ r.values) ≡ p r.values) (R l.valu
 -- Two selections are one, under the AND of their conditions.
 abbrev pub SelectTwice : (V : Type 0) → Type 0
 SelectTwice V = (c e : List V → ℕ) (xs : List (Ranked V)) → SameBag (select e (select c xs)) (select (λ r. min (c r) (e r)) xs)
+
+-- A selection above DISTINCT is one below it, of rows at True or at a fault.
+abbrev pub SelectBelowDistinct : {V : Type 0} → (V → V → Bool) → Type 0
+SelectBelowDistinct {V} same = (c : List V → ℕ) (xs : List (Ranked V)) → Each Stands xs
+    → SameBag (select c (distinct same xs)) (distinct same (select c xs))
+
+-- A selection above GROUP BY that reads the keys only is one below it, of rows at True or at a fault,
+-- where the aggregates don't read standings.
+abbrev pub SelectBelowGroup : {V : Type 0} → (V → V → Bool) → Type 0
+SelectBelowGroup {V} same = (key : List V → List V) (aggregates : List (Ranked V) → List V) (c q : List V → ℕ) (xs : List (Ranked V))
+    → ((k v : List V) → c (k ++ v) ≡ q k)
+    → ((e : List V → ℕ) (ys : List (Ranked V)) → aggregates (map (lowered e) ys) ≡ aggregates ys) → OfBag aggregates → Each Stands xs
+    → SameBag (select c (group_by same key aggregates xs)) (group_by same key aggregates (select (λ r. q (key r)) xs))
 
 -- Two projections are one.
 abbrev pub ProjectTwice : (V : Type 0) → Type 0
@@ -88,6 +102,42 @@ abbrev pub ProjectOutOfRight : (V : Type 0) → Type 0
 ProjectOutOfRight V = (f g : List V → List V) (xs ys : List (Ranked V))
     → Each (λ x. Each (λ y. g (x.values ++ y.values) ≡ x.values ++ f y.values) ys) xs
     → cross xs (project f ys) ≡ project g (cross xs ys)
+
+-- A projection of an inner join's left side is one above the join, where g does to the combined row what f does to its left part,
+-- also where the right side is taken anew under each left row.
+abbrev pub ProjectOutOfJoin : (V : Type 0) → Type 0
+ProjectOutOfJoin V = (f g : List V → List V) (c : List V → ℕ) (ls : List (Ranked V)) (R : List V → List (Ranked V))
+    → Each (λ l. Each (λ r. g (l.values ++ r.values) ≡ f l.values ++ r.values) (R (f l.values))) ls
+    → join_loop c (project f ls) R ≡ project g (join_loop (λ r. c (g r)) ls (λ l. R (f l)))
+
+-- A projection of a left outer join's left side likewise, where g does so to the row filled with nulls too.
+abbrev pub ProjectOutOfOuter : (V : Type 0) → Type 0
+ProjectOutOfOuter V = (f g : List V → List V) (nulls : List V) (c : List V → ℕ) (ls : List (Ranked V)) (R : List V → List (Ranked V))
+    → Each (λ l. Each (λ r. g (l.values ++ r.values) ≡ f l.values ++ r.values) (R (f l.values))) ls
+    → Each (λ l. g (l.values ++ nulls) ≡ f l.values ++ nulls) ls
+    → outer_loop nulls c (project f ls) R ≡ project g (outer_loop nulls (λ r. c (g r)) ls (λ l. R (f l)))
+
+-- A projection below a mark or a scalar value is one above it, where g does to the row with the attached column what f does to the row.
+abbrev pub ProjectOutOfAttach : (V : Type 0) → Type 0
+ProjectOutOfAttach V = (value : List V → List (Ranked V) → V) (f g : List V → List V) (ls : List (Ranked V)) (R : List V → List (Ranked V))
+    → Each (λ l. g (l.values ++ value (f l.values) (R (f l.values)) ∷ []) ≡ f l.values ++ value (f l.values) (R (f l.values)) ∷ []) ls
+    → attach_loop value (project f ls) R ≡ project g (attach_loop (λ l us. value (f l) us) ls (λ l. R (f l)))
+
+-- A selection that reads an attached column is one below it that reads the value.
+abbrev pub SelectReadsAttached : (V : Type 0) → Type 0
+SelectReadsAttached V = (value : List V → List (Ranked V) → V) (e : List V → ℕ) (ls : List (Ranked V)) (R : List V → List (Ranked V))
+    → select e (attach_loop value ls R) ≡ attach_loop value (select (λ l. e (l ++ value l (R l) ∷ [])) ls) R
+
+-- A select list that reads an attached column is one that reads the value.
+abbrev pub ProjectReadsAttached : (V : Type 0) → Type 0
+ProjectReadsAttached V = (value : List V → List (Ranked V) → V) (g : List V → List V) (ls : List (Ranked V)) (R : List V → List (Ranked V))
+    → project g (attach_loop value ls R) ≡ project (λ l. g (l ++ value l (R l) ∷ [])) ls
+
+-- An attached column that a selection reads and g drops, as EXISTS in WHERE, is a selection that reads the value.
+abbrev pub AttachedReadAndDropped : (V : Type 0) → Type 0
+AttachedReadAndDropped V = (value : List V → List (Ranked V) → V) (e : List V → ℕ) (g : List V → List V) (ls : List (Ranked V)) (R : List V → List (Ranked V))
+    → Each (λ l. g (l.values ++ value l.values (R l.values) ∷ []) ≡ l.values) ls
+    → project g (select e (attach_loop value ls R)) ≡ select (λ l. e (l ++ value l (R l) ∷ [])) ls
 
 -- The one row of no columns, which FROM begins with, adds nothing.
 abbrev pub CrossUnit : (V : Type 0) → Type 0

@@ -1,5 +1,5 @@
 -- Rows as lists of values, and rows with standings.
-use Rattle.std.specs.Prelude.{ℕ, List, [], ◌∷◌, ◌++◌, Bool, true, false, cond, ◌&&◌, ◌||◌, map, drop, nat_lt, slice_index_or}
+use Rattle.std.specs.Prelude.{ℕ, List, [], ◌∷◌, ◌++◌, Bool, true, false, cond, ◌&&◌, ◌||◌, map, drop, min, nat_lt, slice_index_or}
 use Rattle.row_laws.specs.Ranked.{Ranked, ranked, unknown_rank, true_rank}
 
 module _ {V : Type 0} (same : V → V → Bool) where
@@ -36,6 +36,10 @@ strip n x = ranked (drop n x.values) x.standing
 -- the row at a standing, kept where that is above Unknown
 abbrev pub keep : {V : Type 0} → List V → ℕ → List (Ranked V)
 keep row standing = cond (nat_lt unknown_rank standing) (ranked row standing ∷ []) []
+
+-- the row at the lesser of its standing and what a condition says of its values
+abbrev pub lowered : {V : Type 0} → (List V → ℕ) → Ranked V → Ranked V
+lowered c x = ranked x.values (min x.standing (c x.values))
 
 -- a table's rows, at True
 abbrev pub scanned : {V : Type 0} → List (List V) → List (Ranked V)

@@ -32,7 +32,9 @@ pub data Side : Type 0 where
 -- A tree over a domain row d. Its expressions read d ++ t, t being a row of its input; they are any functions.
 -- A right side is a tree over a domain row of its own, by `Side`. EXISTS and IN are Mark, a scalar subquery is Single, HAVING is Select;
 -- Group has a GROUP BY, Total has none. Their aggregates are functions of the bag of rows.
+-- OneRow is the one row of no columns, which stands to the left of a closed right side that FROM begins with.
 pub data Tree (V : Type 0) : Type 0 where
+  OneRow : Tree V
   Scan : (table : ℕ) → Tree V
   Select : (c : List V → ℕ) → Tree V → Tree V
   Project : (f : List V → List V) → Tree V → Tree V
@@ -74,6 +76,7 @@ module _ {V : Type 0} (same : V → V → Bool) (null : V) where
 module _ {V : Type 0} (same : V → V → Bool) (null : V) (tables : ℕ → List (List V)) where
   -- The tree's rows by nested loops, under the domain row d: a right side is taken anew under each left row.
   abbrev pub tree_rows : Tree V → List V → List (Ranked V)
+  tree_rows OneRow d = unit_row
   tree_rows (Scan table) d = scanned (tables table)
   tree_rows (Select c T) d = select (λ t. c (d ++ t)) (tree_rows T d)
   tree_rows (Project f T) d = project (λ t. f (d ++ t)) (tree_rows T d)
@@ -92,6 +95,7 @@ module _ {V : Type 0} (same : V → V → Bool) (null : V) (tables : ℕ → Lis
 
   -- The rows of the node that the tree is lowered to over the domain ds of n columns: no operator takes anything anew.
   abbrev pub node_rows : Tree V → ℕ → List (Ranked V) → List (Ranked V)
+  node_rows OneRow n ds = ds
   node_rows (Scan table) n ds = join_node same (λ x. []) (λ t. true_rank) ds (scanned (tables table))
   node_rows (Select c T) n ds = select c (node_rows T n ds)
   node_rows (Project f T) n ds = project (λ x. take n x ++ f x) (node_rows T n ds)

@@ -69,17 +69,17 @@ pub fn fill_alike<V>()
     ensures { (same : V → V → Bool) → IsIdentity same → FillAlike same }
 {}
 
-/// A join by nested loops, whose right sides are one bag under each left row: one bag gives one bag.
+/// A join by nested loops, whose right sides are one bag under each left row that is there: one bag gives one bag.
 pub fn join_loop_alike<V>()
     ensures { JoinLoopAlike V }
 {}
 
-/// A left outer join by nested loops: one bag gives one bag.
+/// A left outer join by nested loops, with such right sides: one bag gives one bag.
 pub fn outer_loop_alike<V>()
     ensures { OuterLoopAlike V }
 {}
 
-/// A mark or a scalar value by nested loops: one bag gives one bag.
+/// A mark or a scalar value by nested loops, with such right sides: one bag gives one bag.
 pub fn attach_loop_alike<V>()
     ensures { AttachLoopAlike V }
 {}

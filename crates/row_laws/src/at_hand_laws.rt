@@ -1,6 +1,7 @@
 //! Only what conditions and select lists say of the rows at hand matters.
 
-ghost use Rattle.row_laws.specs.AtHandLaws.{SelectAtHand, ProjectAtHand, JoinAtHand, OuterAtHand, MarkAtHand, AttachAtHand};
+ghost use Rattle.std.specs.Prelude.{Bool};
+ghost use Rattle.row_laws.specs.AtHandLaws.{SelectAtHand, ProjectAtHand, JoinAtHand, OuterAtHand, MarkAtHand, AttachAtHand, GroupAtHand, DomainAtHand};
 
 /// WHERE and HAVING keep the same rows under conditions that say the same of each row.
 pub fn select_at_hand<V>()
@@ -31,4 +32,14 @@ pub fn mark_at_hand<V>()
 /// for that row and another right side's rows.
 pub fn attach_at_hand<V>()
     ensures { AttachAtHand V }
+{}
+
+/// GROUP BY gives the same groups under keys that say the same of each row, and aggregates that say the same of any of the rows.
+pub fn group_at_hand<V>()
+    ensures { (same : V → V → Bool) → GroupAtHand same }
+{}
+
+/// A domain is the same where two functions take the same of each row.
+pub fn domain_at_hand<V>()
+    ensures { (same : V → V → Bool) → DomainAtHand same }
 {}

@@ -2,7 +2,7 @@
 
 ghost use Rattle.std.specs.Prelude.{Bool};
 ghost use Rattle.row_laws.specs.Bags.{IsIdentity};
-ghost use Rattle.row_laws.specs.BagLaws.{BagReflexive, BagSymmetric, BagTransitive, AppendAlike, AppendSwapped, MapAlike, FilterAlike, FlatMapAlike, LengthAlike, SameSums, PermutationAlike, WeightsOfAppended, HasAlike, RowsHaveIdentity, IdentitiesAgree, ClassesAlike, DistinctRows, ClassesMade, EntriesMade};
+ghost use Rattle.row_laws.specs.BagLaws.{BagReflexive, BagSymmetric, BagTransitive, AppendAlike, AppendSwapped, PartsByTest, LoopsExchanged, MapAlike, FilterAlike, FlatMapAlike, LengthAlike, SameSums, PermutationAlike, WeightsOfAppended, HasAlike, RowsHaveIdentity, IdentitiesAgree, ClassesAlike, DistinctRows, ClassesMade, EntriesMade};
 
 /// Each list is the same bag as itself.
 pub fn same_bag_reflexive<X>()
@@ -27,6 +27,16 @@ pub fn append_alike<X>()
 /// Two lists behind one another are the same bag in either order.
 pub fn append_swapped<X>()
     ensures { AppendSwapped X }
+{}
+
+/// A list is, as a bag, what passes a test and what doesn't.
+pub fn parts_by_test<X>()
+    ensures { PartsByTest X }
+{}
+
+/// Two nested loops may be exchanged: they give the same bag.
+pub fn loops_exchanged<X, Y, Z>()
+    ensures { LoopsExchanged X Y Z }
 {}
 
 /// The images under a function: one bag gives one bag.

@@ -2,7 +2,7 @@
 
 ghost use Rattle.std.specs.Prelude.{Bool};
 ghost use Rattle.row_laws.specs.Bags.{IsIdentity};
-ghost use Rattle.row_laws.specs.DomainLaws.{UnitRowIsDomain, DomainNodeIsDomain, SideIsDomain, LeftRowsMet, ScanAnswers, SelectAnswers, ProjectAnswers, JoinAnswers, OuterAnswers, AttachAnswers, GroupAnswers, FillAnswers, TotalAnswers, LocalAnswers, DistinctAnswers, UnderMeets};
+ghost use Rattle.row_laws.specs.DomainLaws.{UnitRowIsDomain, DomainNodeIsDomain, SideIsDomain, LeftRowsMet, OneRowAnswers, RootAnswers, TotalWithoutFill, TotalAloneAnswers, ScanAnswers, SelectAnswers, ProjectAnswers, JoinAnswers, OuterAnswers, AttachAnswers, GroupAnswers, FillAnswers, TotalAnswers, LocalAnswers, DistinctAnswers, UnderMeets};
 
 /// The one row of no columns is a domain, which a whole query is lowered over.
 pub fn unit_row_is_domain<V>()
@@ -22,6 +22,26 @@ pub fn side_is_domain<V>()
 /// No left row is missed: what the right side meets under each row of the domain node, it meets under what `pick` takes of each left row.
 pub fn left_rows_met<V>()
     ensures { (same : V → V → Bool) → IsIdentity same → LeftRowsMet same }
+{}
+
+/// The one row of no columns over a domain: the domain's own rows.
+pub fn one_row_answers<V>()
+    ensures { (same : V → V → Bool) → IsIdentity same → OneRowAnswers same }
+{}
+
+/// The root of a plan: rows answer loops over the one row of no columns exactly where they are, as a bag, what the loops give under it.
+pub fn root_answers<V>()
+    ensures { (same : V → V → Bool) → IsIdentity same → RootAnswers same }
+{}
+
+/// Over the one row of no columns aggregates without GROUP BY need no fill.
+pub fn total_without_fill<V>()
+    ensures { (same : V → V → Bool) → IsIdentity same → TotalWithoutFill same }
+{}
+
+/// So the one group of all rows answers them.
+pub fn total_alone_answers<V>()
+    ensures { (same : V → V → Bool) → IsIdentity same → TotalAloneAnswers same }
 {}
 
 /// A table over a domain: the domain's rows joined with the table's.

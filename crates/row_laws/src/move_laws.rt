@@ -1,10 +1,22 @@
 //! What may be moved over joins.
 
-ghost use Rattle.row_laws.specs.MoveLaws.{SelectTwice, ProjectTwice, SelectThroughProject, JoinIsSelectedCross, SelectIntoJoin, SelectBelowLeft, SelectBelowRight, SelectBelowOuter, SelectBelowAttach, OnBelowRight, SidesExchanged, LastSidesExchanged, ProjectOutOfLeft, ProjectOutOfRight, CrossUnit, CrossAssoc, AndOverOr};
+ghost use Rattle.std.specs.Prelude.{Bool};
+ghost use Rattle.row_laws.specs.Bags.{IsIdentity};
+ghost use Rattle.row_laws.specs.MoveLaws.{SelectTwice, SelectBelowDistinct, SelectBelowGroup, ProjectTwice, SelectThroughProject, JoinIsSelectedCross, SelectIntoJoin, SelectBelowLeft, SelectBelowRight, SelectBelowOuter, SelectBelowAttach, OnBelowRight, SidesExchanged, LastSidesExchanged, ProjectOutOfLeft, ProjectOutOfRight, CrossUnit, CrossAssoc, AndOverOr, ProjectOutOfJoin, ProjectOutOfOuter, ProjectOutOfAttach, SelectReadsAttached, ProjectReadsAttached, AttachedReadAndDropped};
 
 /// Two selections are one, under the AND of their conditions.
 pub fn select_twice<V>()
     ensures { SelectTwice V }
+{}
+
+/// A selection above DISTINCT is one below it.
+pub fn select_below_distinct<V>()
+    ensures { (same : V → V → Bool) → IsIdentity same → SelectBelowDistinct same }
+{}
+
+/// A selection above GROUP BY that reads the keys only is one below it, where the aggregates don't read standings.
+pub fn select_below_group<V>()
+    ensures { (same : V → V → Bool) → IsIdentity same → SelectBelowGroup same }
 {}
 
 /// Two projections are one.
@@ -71,6 +83,36 @@ pub fn project_out_of_left<V>()
 /// A projection of a product's right side is one above the product, where g does to the combined row what f does to its right part.
 pub fn project_out_of_right<V>()
     ensures { ProjectOutOfRight V }
+{}
+
+/// A projection of an inner join's left side is one above the join, also where the right side is taken anew under each left row.
+pub fn project_out_of_join<V>()
+    ensures { ProjectOutOfJoin V }
+{}
+
+/// A projection of a left outer join's left side is one above the join.
+pub fn project_out_of_outer<V>()
+    ensures { ProjectOutOfOuter V }
+{}
+
+/// A projection below a mark or a scalar value is one above it.
+pub fn project_out_of_attach<V>()
+    ensures { ProjectOutOfAttach V }
+{}
+
+/// A selection that reads an attached column is one below it that reads the value.
+pub fn select_reads_attached<V>()
+    ensures { SelectReadsAttached V }
+{}
+
+/// A select list that reads an attached column is one that reads the value.
+pub fn project_reads_attached<V>()
+    ensures { ProjectReadsAttached V }
+{}
+
+/// An attached column that a selection reads and a select list drops is a selection that reads the value.
+pub fn attached_read_and_dropped<V>()
+    ensures { AttachedReadAndDropped V }
 {}
 
 /// The one row of no columns, which FROM begins with, adds nothing.

@@ -1,9 +1,10 @@
 use Rattle.std.proofs.Common.{arith, refl}
 use Rattle.std.proofs.lemmas.Fmt.{decimal_digit}
+use Rattle.std.specs.Fmt.{digits}
 use Rattle.result_text.proofs.laws.examples_hold.Goals as goal
 
-pub returns : goal.returns
-returns c = record {
+pub returns-clause-answers : goal.returns-clause-answers
+returns-clause-answers c = record {
   first = rw (decimal_digit 1 (omega arith), decimal_digit 0 (omega arith), decimal_digit 2 (omega arith)) refl;
   minus_half = rw (decimal_digit 0 (omega arith)) refl;
   zero = rw (decimal_digit 0 (omega arith)) refl;
@@ -17,4 +18,24 @@ returns c = record {
   empty = refl;
   rows = refl;
   none = refl;
+}
+
+pub returns-clause-lines : goal.returns-clause-lines
+unfolding digits
+returns-clause-lines c = record {
+  done = refl;
+  accepted = refl;
+  bind = refl;
+  view = refl;
+  template = refl;
+  fault = refl;
+  place = refl;
+  order = refl;
+  twice = refl;
+  stray = refl;
+  key = refl;
+  line = refl;
+  malformed = refl;
+  orders = refl;
+  lineitem = refl;
 }

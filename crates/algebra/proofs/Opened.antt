@@ -1,0 +1,88 @@
+-- What a tree means at each node, and its width.
+use Rattle.std.proofs.Common.{◌≡◌, ℕ, ◌+◌, List, [], ◌∷◌, ◌++◌, ap, ◌∙◌, length}
+use Rattle.scalar_expr.specs.declared.expr.Expr.{Expr}
+use Rattle.tpch_schema.specs.declared.table.TableName.{TableName}
+use Rattle.tpch_schema.specs.Tables.{kinds_of}
+use Rattle.algebra.specs.declared.aggregate.Aggregate.{Aggregate}
+use Rattle.algebra.specs.declared.tree.DepTree.{DepTree, DepTree-F, out-DepTree}
+use Rattle.algebra.specs.declared.tree.DepTree.TheVariants as t
+use Rattle.algebra.specs.declared.tree.DepTree.TheOpen as f
+use Rattle.algebra.specs.declared.tree.DepTree.TheFolds.{fold_out-DepTree, map-DepTree}
+use Rattle.algebra.specs.declared.tree.Side.{Side}
+use Rattle.algebra.specs.Trees.{TreeMeaning, tree_step, tree_meaning, width_of}
+
+abbrev meaning_at : DepTree-F DepTree → TreeMeaning
+meaning_at x = tree_step (map-DepTree DepTree TreeMeaning tree_meaning x)
+
+meaning_is : (a : DepTree) → tree_meaning a ≡ meaning_at (out-DepTree a)
+unfolding tree_meaning
+meaning_is = fold_out-DepTree TreeMeaning tree_step
+
+pub meaning_Scan : (table : TableName) → tree_meaning (t.Scan table) ≡ tree_step (f.Scan table)
+meaning_Scan table = meaning_is (t.Scan table) ∙ ap meaning_at (t.outs-Scan table)
+
+pub meaning_Select : (a : DepTree) (c : Expr) → tree_meaning (t.Select a c) ≡ tree_step (f.Select (tree_meaning a) c)
+meaning_Select a c = meaning_is (t.Select a c) ∙ ap meaning_at (t.outs-Select a c)
+
+pub meaning_Project : (a : DepTree) (es : List Expr) → tree_meaning (t.Project a es) ≡ tree_step (f.Project (tree_meaning a) es)
+meaning_Project a es = meaning_is (t.Project a es) ∙ ap meaning_at (t.outs-Project a es)
+
+pub meaning_Join : (l r : DepTree) (side : Side) (c : Expr) → tree_meaning (t.Join l r side c) ≡ tree_step (f.Join (tree_meaning l) (tree_meaning r) side c)
+meaning_Join l r side c = meaning_is (t.Join l r side c) ∙ ap meaning_at (t.outs-Join l r side c)
+
+pub meaning_Outer : (l r : DepTree) (side : Side) (c : Expr) → tree_meaning (t.Outer l r side c) ≡ tree_step (f.Outer (tree_meaning l) (tree_meaning r) side c)
+meaning_Outer l r side c = meaning_is (t.Outer l r side c) ∙ ap meaning_at (t.outs-Outer l r side c)
+
+pub meaning_Mark : (l r : DepTree) (side : Side) (c : Expr) → tree_meaning (t.Mark l r side c) ≡ tree_step (f.Mark (tree_meaning l) (tree_meaning r) side c)
+meaning_Mark l r side c = meaning_is (t.Mark l r side c) ∙ ap meaning_at (t.outs-Mark l r side c)
+
+pub meaning_Single : (l r : DepTree) (side : Side) (i : ℕ) → tree_meaning (t.Single l r side i) ≡ tree_step (f.Single (tree_meaning l) (tree_meaning r) side i)
+meaning_Single l r side i = meaning_is (t.Single l r side i) ∙ ap meaning_at (t.outs-Single l r side i)
+
+pub meaning_Group : (a : DepTree) (by : List ℕ) (aggregates : List Aggregate) → tree_meaning (t.Group a by aggregates) ≡ tree_step (f.Group (tree_meaning a) by aggregates)
+meaning_Group a by aggregates = meaning_is (t.Group a by aggregates) ∙ ap meaning_at (t.outs-Group a by aggregates)
+
+pub meaning_Distinct : (a : DepTree) → tree_meaning (t.Distinct a) ≡ tree_step (f.Distinct (tree_meaning a))
+meaning_Distinct a = meaning_is (t.Distinct a) ∙ ap meaning_at (t.outs-Distinct a)
+
+abbrev wide : TreeMeaning → ℕ
+wide m = m.width
+
+pub width_Scan : (table : TableName) → width_of (t.Scan table) ≡ length (kinds_of table)
+unfolding width_of
+width_Scan table = ap wide (meaning_Scan table)
+
+pub width_Select : (a : DepTree) (c : Expr) → width_of (t.Select a c) ≡ width_of a
+unfolding width_of
+width_Select a c = ap wide (meaning_Select a c)
+
+pub width_Project : (a : DepTree) (es : List Expr) → width_of (t.Project a es) ≡ length es
+unfolding width_of
+width_Project a es = ap wide (meaning_Project a es)
+
+pub width_Join : (l r : DepTree) (side : Side) (c : Expr) → width_of (t.Join l r side c) ≡ width_of l + width_of r
+unfolding width_of
+width_Join l r side c = ap wide (meaning_Join l r side c)
+
+pub width_Outer : (l r : DepTree) (side : Side) (c : Expr) → width_of (t.Outer l r side c) ≡ width_of l + width_of r
+unfolding width_of
+width_Outer l r side c = ap wide (meaning_Outer l r side c)
+
+pub width_Mark : (l r : DepTree) (side : Side) (c : Expr) → width_of (t.Mark l r side c) ≡ width_of l + 1
+unfolding width_of
+width_Mark l r side c = ap wide (meaning_Mark l r side c)
+
+pub width_Single : (l r : DepTree) (side : Side) (i : ℕ) → width_of (t.Single l r side i) ≡ width_of l + 1
+unfolding width_of
+width_Single l r side i = ap wide (meaning_Single l r side i)
+
+pub width_Group : (a : DepTree) (by : List ℕ) (aggregates : List Aggregate) → width_of (t.Group a by aggregates) ≡ length by + length aggregates
+unfolding width_of
+width_Group a by aggregates = ap wide (meaning_Group a by aggregates)
+
+pub width_Distinct : (a : DepTree) → width_of (t.Distinct a) ≡ width_of a
+unfolding width_of
+width_Distinct a = ap wide (meaning_Distinct a)
+
+-- for the function that goes over the nodes
+pub ruleset widths_opened = (width_Scan, width_Select, width_Project, width_Join, width_Outer, width_Mark, width_Single, width_Group, width_Distinct)

@@ -1,0 +1,4 @@
+pub mod Aggregates
+pub mod Plans
+pub mod Ranks
+pub mod Trees

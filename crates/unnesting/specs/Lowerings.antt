@@ -1,0 +1,68 @@
+-- What it is for a plan's node to stand for a dependent tree over a domain.
+use Rattle.std.specs.Prelude.{◌≡◌, ℕ, ◌+◌, ◌≤◌, ◌<◌, List, [], ◌∷◌, ◌++◌, length}
+use Rattle.row_laws.specs.Ranked.{Ranked}
+use Rattle.row_laws.specs.Bags.{SameBag}
+use Rattle.row_laws.specs.Domains.{values_of, under, meeting, Answers}
+use Rattle.row_laws.specs.DomainLaws.{SidesAnswer}
+use Rattle.row_laws.specs.Trees.{side_width, side_domain}
+use Rattle.sql_value.specs.declared.value.Value.{Value}
+use Rattle.sql_value.specs.declared.value.Value.TheVariants.{Null}
+use Rattle.sql_value.specs.Value.{same_value}
+use Rattle.tpch_schema.specs.declared.table.TableName.{TableName}
+use Rattle.algebra.specs.declared.node.Node.{Node}
+use Rattle.algebra.specs.declared.tree.DepTree.{DepTree}
+use Rattle.algebra.specs.declared.tree.Side.{Side}
+use Rattle.algebra.specs.Trees.{Database, TreeMeaning, tree_rows, side_of, own_domains}
+use Rattle.algebra.specs.Plans.{plan_rows, plan_width, plan_scans, plan_domains}
+use Rattle.unnesting.specs.declared.domain.Domain.{Domain as DomainData}
+use Rattle.unnesting.specs.Domains.{domain_width, domain_rows, Holds, KeepsNotes}
+
+-- Unnesting. Let T be any dependent tree, of any depth, and D the rows of a domain whose columns hold what T uses freely.
+-- Among the rows of the node `id`, those whose domain columns are identical to a row of D are, as a bag, under(D, T): each row of D
+-- before each row that T gives under it by nested loops, at that row's standing.
+-- This holds over every database, with nulls and faults in domain columns, for domain rows without input, and for an empty D.
+-- Rows with other domain columns may be there; no row of D meets them.
+pub record Unnests (before after : List Node) (T : DepTree) (domain : DomainData) (id : ℕ) : Type 0 where
+  pub rows : (db : Database) → Holds db before domain
+      → let D = values_of (domain_rows db before domain.rows) in
+      SameBag (meeting same_value D (plan_rows db after id)) (under D (tree_rows T db))
+
+-- a plan that grew by some nodes, which scan these tables, and of which at most so many are domains
+pub record Grows (before after : List Node) (scans : List TableName) (domains : ℕ) : Type 0 where
+  pub more : List Node
+  pub grows : after ≡ before ++ more
+  pub scans : plan_scans more ≡ scans
+  pub domains : plan_domains more ≤ domains
+
+-- the plan grew by one node, of this number
+pub record IsPut (old new : List Node) (node : Node) (id : ℕ) : Type 0 where
+  pub number : id ≡ length old
+  pub nodes : new ≡ old ++ node ∷ []
+
+-- The plan grew, and its last node answers, for each row of a domain, the loops of a tree's meaning.
+pub record Lowers (before after : List Node) (m : TreeMeaning) (domain : DomainData) (id : ℕ) : Type 0 where
+  pub plan : Grows before after m.scans m.domains
+  pub last : length after ≡ id + 1
+  pub width : plan_width after id ≡ domain_width domain.rows + m.width
+  pub answers : (db : Database) → Holds db before domain
+      → Answers same_value (domain_rows db before domain.rows) (plan_rows db after id) (m.rows db)
+
+-- the plan may have grown by the domain of a right side, of a left side that is the node `outer` over a domain
+pub record IsSideDomain (before after : List Node) (outer : ℕ) (side : Side) (domain inner : DomainData) : Type 0 where
+  pub plan : Grows before after [] (own_domains (side_of side))
+  pub width : domain_width inner.rows ≡ side_width (side_of side) (domain_width domain.rows)
+  pub rows : (db : Database)
+      → domain_rows db after inner.rows ≡ side_domain same_value Null (side_of side) (domain_rows db before domain.rows) (plan_rows db before outer)
+  pub noted : (db : Database) → KeepsNotes domain.unchanged (domain_rows db before domain.rows) → KeepsNotes inner.unchanged (domain_rows db after inner.rows)
+
+-- The plan grew by two sides: the node `outer` answers a left meaning over the domain, the last one, `rows`, a right meaning over the right
+-- side's domain.
+pub record LowersSides (before after : List Node) (l r : TreeMeaning) (side : Side) (domain : DomainData) (outer rows : ℕ) : Type 0 where
+  pub plan : Grows before after (l.scans ++ r.scans) (l.domains + r.domains + own_domains (side_of side))
+  pub outer_within : outer < length after
+  pub last : length after ≡ rows + 1
+  pub outer_width : plan_width after outer ≡ domain_width domain.rows + l.width
+  pub rows_width : plan_width after rows ≡ side_width (side_of side) (domain_width domain.rows) + r.width
+  pub answers : (db : Database) → Holds db before domain
+      → SidesAnswer same_value Null (side_of side) (domain_width domain.rows) (domain_rows db before domain.rows)
+      (plan_rows db after outer) (plan_rows db after rows) (l.rows db) (r.rows db)

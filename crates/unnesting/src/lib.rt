@@ -1,0 +1,9 @@
+//! Dependent trees lowered to flat plans, in which no node depends on the rows of another.
+#![tactic(auto)]
+
+mod domain;
+mod lower;
+mod put;
+
+pub use domain::{Domain, DomainRows, Note};
+pub use lower::lower;
