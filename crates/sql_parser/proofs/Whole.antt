@@ -61,13 +61,13 @@ too_long bytes lt r place e =
 pub long_refused : (bytes : List ℕ) → max_script < length bytes → (result : Result (List Statement) ScriptFault) → result ≡ Err (faults.Refused script.TooLong max_script) → (r : ScriptRefusal) (place : ℕ) → result ≡ Err (faults.Refused r place) → IsRefusedScript r bytes place
 long_refused bytes lt result is r place e = too_long bytes lt r place (err_is result _ _ is e)
 
-lexer_kind : (bytes : List ℕ) → length bytes ≤ max_script → (q : LexRefusal) (p : ℕ) → Refuses 0 bytes q p → IsRefusedScript (of_lexer q) bytes p
+pub lexer_kind : (bytes : List ℕ) → length bytes ≤ max_script → (q : LexRefusal) (p : ℕ) → Refuses 0 bytes q p → IsRefusedScript (of_lexer q) bytes p
 lexer_kind bytes le lex.BadByte p h = (le, h)
 lexer_kind bytes le lex.OpenText p h = (le, h)
 lexer_kind bytes le lex.NumberTooWide p h = (le, h)
 lexer_kind bytes le lex.ScaleTooWide p h = (le, h)
 
-parser_kind : (bytes : List ℕ) (q : SyntaxFault) (p : ℕ) → IsParseRefusal q bytes p → IsRefusedScript (of_parser q) bytes p
+pub parser_kind : (bytes : List ℕ) (q : SyntaxFault) (p : ℕ) → IsParseRefusal q bytes p → IsRefusedScript (of_parser q) bytes p
 parser_kind bytes refusal.Unexpected p h = h
 parser_kind bytes refusal.TooDeep p h = h
 parser_kind bytes refusal.TooWide p h = h

@@ -185,9 +185,13 @@ ParensInside wide part query = Or (Map e.Scalar query) (Whole wide part)
 abbrev pub Parens : ℕ → ℕ → Part Token Expr → Part Token Block → Part Token Expr
 Parens wide room part query = Then second (Opens room (is k.OpenParen)) (Then first (ParensInside wide part query) (One (is k.CloseParen)))
 
+-- "(" query ")"
+abbrev pub Subquery : ℕ → Part Token Block → Part Token Block
+Subquery room query = Then second (Opens room (is k.OpenParen)) (Then first query (One (is k.CloseParen)))
+
 -- exists "(" query ")"
 abbrev pub ExistsLine : ℕ → Part Token Block → Part Token Expr
-ExistsLine room query = Then second (One (is k.Exists)) (Then second (Opens room (is k.OpenParen)) (Then first (Map e.Exists query) (One (is k.CloseParen))))
+ExistsLine room query = Then second (One (is k.Exists)) (Map e.Exists (Subquery room query))
 
 -- "(" (query | e) ")" | exists "(" query ")" | case .. end | a call | what holds no expression
 abbrev pub Operand : ℕ → ℕ → Part Token Expr → Part Token Block → Part Token Expr
@@ -276,7 +280,7 @@ DerivedAlias = Or (Then second (One (is k.As)) NameLine) NameLine
 
 -- "(" query ")" [as] name ["(" name {"," name} ")"]
 abbrev pub DerivedLine : ℕ → ℕ → Part Token Block → Part Token FromItem
-DerivedLine wide room query = Then derived (Then second (Opens room (is k.OpenParen)) (Then first query (One (is k.CloseParen)))) (Then pair DerivedAlias (ColumnNames wide room))
+DerivedLine wide room query = Then derived (Subquery room query) (Then pair DerivedAlias (ColumnNames wide room))
 
 -- a derived table or a table
 abbrev pub FromItemLine : ℕ → ℕ → Part Token Block → Part Token FromItem

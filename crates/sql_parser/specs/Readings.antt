@@ -186,9 +186,13 @@ read_parens_inside wide part query = either (is k.Select) (mapped e.Scalar query
 unfoldable pub read_parens : ℕ → ℕ → Reading Token Expr → Reading Token Block → Reading Token Expr
 read_parens wide room part query = both second (opens room (is k.OpenParen)) (both first (read_parens_inside wide part query) (one (is k.CloseParen)))
 
+-- a query between parentheses, one level further in
+unfoldable pub read_subquery : ℕ → Reading Token Block → Reading Token Block
+read_subquery room query = both second (opens room (is k.OpenParen)) (both first query (one (is k.CloseParen)))
+
 -- EXISTS and, between parentheses, a query
 unfoldable pub read_exists : ℕ → Reading Token Block → Reading Token Expr
-read_exists room query = both second (one (is k.Exists)) (both second (opens room (is k.OpenParen)) (both first (mapped e.Exists query) (one (is k.CloseParen))))
+read_exists room query = both second (one (is k.Exists)) (mapped e.Exists (read_subquery room query))
 
 -- Parentheses, EXISTS, a CASE, a call or a leaf, told by the next token. What they hold is read one level further in.
 unfoldable pub read_operand : ℕ → ℕ → Reading Token Expr → Reading Token Block → Reading Token Expr
@@ -277,13 +281,9 @@ read_table = both from_item.Table read_name read_alias
 unfoldable pub read_derived_alias : Reading Token Name
 read_derived_alias = either (is k.As) (both second (one (is k.As)) read_name) read_name
 
--- a query between parentheses, one level further in
-unfoldable pub read_derived_query : ℕ → Reading Token Block → Reading Token Block
-read_derived_query room query = both second (opens room (is k.OpenParen)) (both first query (one (is k.CloseParen)))
-
 -- a query between parentheses, its alias and perhaps the names of its columns
 unfoldable pub read_derived : ℕ → ℕ → Reading Token Block → Reading Token FromItem
-read_derived wide room query = both derived (read_derived_query room query) (both pair read_derived_alias (read_column_names wide room))
+read_derived wide room query = both derived (read_subquery room query) (both pair read_derived_alias (read_column_names wide room))
 
 -- a derived table where a parenthesis comes next, else a table
 unfoldable pub read_from_item : ℕ → ℕ → Reading Token Block → Reading Token FromItem

@@ -1,5 +1,5 @@
 -- What a script is, from its tokens and from its bytes.
-use Rattle.std.specs.Prelude.{◌≡◌, ℕ, ◌≤◌, ◌<◌, List, length, slice_get, Option, Some, None}
+use Rattle.std.specs.Prelude.{◌≡◌, ℕ, ◌≤◌, ◌<◌, ◌⊎◌, List, length, slice_get, Option, Some, None}
 use Rattle.grammar_laws.specs.declared.SyntaxFault.{SyntaxFault}
 use Rattle.grammar_laws.specs.declared.SyntaxFault.TheVariants as refusal
 use Rattle.grammar_laws.specs.Scripts.{Grammar, IsScript, IsRead, IsFirst}
@@ -58,6 +58,14 @@ IsRefusedScript script.Unexpected bytes place = IsParseRefusal refusal.Unexpecte
 IsRefusedScript script.TooDeep bytes place = IsParseRefusal refusal.TooDeep bytes place
 IsRefusedScript script.TooLong bytes place = (max_script < length bytes) × (place ≡ max_script)
 IsRefusedScript script.TooWide bytes place = IsParseRefusal refusal.TooWide bytes place
+
+-- every token list has a statement list, or a first refusal
+abbrev pub SomeMeaning : Type 0
+SomeMeaning = (ts : List Token) → ((ss : List Statement) × IsRead Sql ts ss) ⊎ ((r : SyntaxFault) × (n : ℕ) × IsFirst Sql r ts n)
+
+-- all bytes are a script, or have a first refusal
+abbrev pub SomeScript : Type 0
+SomeScript = (bytes : List ℕ) → ((ss : List Statement) × IsReadScript bytes ss) ⊎ ((r : ScriptRefusal) × (place : ℕ) × IsRefusedScript r bytes place)
 
 -- a script is read or refused, never both
 abbrev pub NeverBoth : Type 0

@@ -12,6 +12,7 @@ ghost use Rattle.sql_parser.specs.Values as values;
 
 use crate::clauses::column_names;
 use crate::level::Level;
+use crate::nested::Nested;
 use crate::parser::{MAX_MORE, Parser};
 use crate::parts::{block_of, join_of, joined_of};
 use grammar_laws::SyntaxError;
@@ -32,27 +33,21 @@ pub(crate) struct Blocks<P, Q> {
 
 impl<
     P: Copy + Fn(Global, &mut Parser<'_>, usize) -> Result<Expr, SyntaxError>,
-    Q: Fn(Global, &mut Parser<'_>, usize) -> Result<Block, SyntaxError>,
+    Q: Copy + Fn(Global, &mut Parser<'_>, usize) -> Result<Block, SyntaxError>,
 > Blocks<P, Q> {
-    /// `"(" query ")"`.
-    #[tactic(auto, using(crate::proofs::Inner::rules_inner), unfolding(crate::specs::Readings::read_derived_query))]
-    fn derived_query(&self, parser: &mut Parser<'_>) -> Result<Block, SyntaxError>
-        requires query { Below (query_at 1023) self.now.room (Q.pre self.now.query) (Q.post self.now.query) }
-        ensures { Reads (readings.read_derived_query self.now.room (inner_query 1023 self.now.room) parser.old) result parser.new }
-    {
-        parser.opens(self.room, Kind::OpenParen)?;
-        let query = (self.query)(self.alloc, parser, self.room - 1)?;
-        parser.one(Kind::CloseParen)?;
-        Ok(query)
-    }
-
     /// `"(" query ")" [as] name ["(" name {"," name} ")"]`.
     #[tactic(auto, unfolding(crate::specs::Readings::read_derived))]
     fn derived(&self, parser: &mut Parser<'_>) -> Result<FromItem, SyntaxError>
         requires query { Below (query_at 1023) self.now.room (Q.pre self.now.query) (Q.post self.now.query) }
         ensures { Reads (readings.read_derived 1023 self.now.room (inner_query 1023 self.now.room) parser.old) result parser.new }
     {
-        let query = Boxed::new(self.alloc, self.derived_query(parser)?)?;
+        let nested = Nested {
+            alloc: self.alloc,
+            room: self.room,
+            part: self.part,
+            query: self.query,
+        };
+        let query = Boxed::new(self.alloc, nested.subquery(parser)?)?;
         let alias = parser.derived_alias(self.alloc)?;
         let columns = column_names(self.alloc, parser, self.room)?;
         Ok(FromItem::Derived(query, alias, columns))

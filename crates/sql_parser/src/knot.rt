@@ -6,6 +6,7 @@ ghost use Rattle.sql_parser.specs.Readings.{part_at, query_at, unary_at};
 use crate::blocks::Blocks;
 use crate::nested::Nested;
 use crate::parser::Parser;
+use crate::parts::deny;
 use crate::predicates::Predicates;
 use grammar_laws::SyntaxError;
 use sql_ast::{Block, Expr};
@@ -51,7 +52,7 @@ pub(crate) fn part(
     if parser.starts(Kind::Not) {
         parser.opens(room, Kind::Not)?;
         let inner = part(alloc, parser, room - 1)?;
-        return Ok(Expr::Not(Boxed::new(alloc, inner)?));
+        return Ok(deny(alloc, true, inner)?);
     }
     let predicates = Predicates {
         alloc,

@@ -15,6 +15,7 @@ mod predicates;
 mod queries;
 mod scripts;
 mod statements;
+mod subqueries;
 mod sums;
 mod test;
 mod words;

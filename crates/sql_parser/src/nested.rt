@@ -63,19 +63,6 @@ impl<
         Ok(value)
     }
 
-    /// `exists "(" query ")"`.
-    #[tactic(auto, using(crate::proofs::Inner::rules_inner), unfolding(crate::specs::Readings::read_exists))]
-    fn exists(&self, parser: &mut Parser<'_>) -> Result<Expr, SyntaxError>
-        requires query { Below (query_at 1023) self.now.room (Q.pre self.now.query) (Q.post self.now.query) }
-        ensures { Reads (readings.read_exists self.now.room (inner_query 1023 self.now.room) parser.old) result parser.new }
-    {
-        parser.one(Kind::Exists)?;
-        parser.opens(self.room, Kind::OpenParen)?;
-        let query = (self.query)(self.alloc, parser, self.room - 1)?;
-        parser.one(Kind::CloseParen)?;
-        Ok(Expr::Exists(Boxed::new(self.alloc, query)?))
-    }
-
     /// What a unary part is without a sign.
     #[tactic(auto, unfolding(crate::specs::Readings::read_operand))]
     pub(crate) fn operand(&self, parser: &mut Parser<'_>) -> Result<Expr, SyntaxError>

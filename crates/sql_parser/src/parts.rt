@@ -144,7 +144,7 @@ pub(crate) fn opposite(test: Test) -> Test
 }
 
 /// The condition, denied or not.
-fn deny(alloc: Global, is_denied: bool, value: Expr) -> Result<Expr, AllocError>
+pub(crate) fn deny(alloc: Global, is_denied: bool, value: Expr) -> Result<Expr, AllocError>
     ensures { IfOk result (λ x. x ≡ values.deny is_denied value) }
 {
     if is_denied {

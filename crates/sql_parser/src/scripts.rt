@@ -6,7 +6,7 @@ ghost use Rattle.grammar_laws.specs.Scripts as scripts;
 ghost use Rattle.grammar_laws.specs.Scripts.{IsFirst, IsRead};
 ghost use Rattle.sql_parser.specs.declared.fault.ScriptRefusal.{ScriptRefusal};
 ghost use Rattle.sql_parser.specs.Readings.{ended_at};
-ghost use Rattle.sql_parser.specs.Script.{IsReadScript, IsRefusedScript, NeverBoth, OneMeaning, OneScript, Sql, byte_at};
+ghost use Rattle.sql_parser.specs.Script.{IsReadScript, IsRefusedScript, NeverBoth, OneMeaning, OneScript, SomeMeaning, SomeScript, Sql, byte_at};
 
 use crate::fault::{ParseFault, ScriptFault, ScriptRefusal, of_lexer, of_parser};
 use crate::parser::{MAX_DEPTH, Parser};
@@ -85,9 +85,11 @@ pub fn read_script(alloc: Global, script: &[u8]) -> Result<Items<Statement>, Scr
     }
 }
 
-/// Tokens have at most one statement list, and so have bytes; bytes are read or refused, never both.
+/// Tokens have one statement list or a first refusal, and so have bytes; no bytes are both read and refused.
 pub fn one_meaning()
     ensures tokens { OneMeaning }
+    ensures some_tokens { SomeMeaning }
     ensures bytes { OneScript }
+    ensures some_bytes { SomeScript }
     ensures never { NeverBoth }
 {}

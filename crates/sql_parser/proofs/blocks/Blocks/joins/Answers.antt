@@ -15,7 +15,7 @@ use Rattle.sql_parser.proofs.blocks.Blocks.joins.Goals as goal
 
 pub returns-then-width-eq0 : goal.returns-then-width-eq0
 returns-then-width-eq0 g c =
-    let crowds : List Token → Type 0 = λ x. Reads (crowded x ((readings.read_joined_item 1023 c.args.self.now.room (part_at 1023 c.args.self.now.room) (inner_query 1023 c.args.self.now.room)) c.join_words-join.new.self)) (is_err {A = (FromItem × Expr)} c.one_too_many.result) c.one_too_many.new.self in
+    let crowds : List Token → Type 0 = λ x. Reads (crowded x ((readings.read_joined_item 1023 c.args.self.now.room (part_at 1023 c.args.self.now.room) (inner_query 1023 c.args.self.now.room)) c.join_words.new.self)) (is_err {A = (FromItem × Expr)} c.one_too_many.result) c.one_too_many.new.self in
     full_reads (among kinds (k.Left ∷ k.Join ∷ k.Inner ∷ [])) readings.read_join_words values.join (readings.read_joined_item 1023 c.args.self.now.room (part_at 1023 c.args.self.now.room) (inner_query 1023 c.args.self.now.room)) _ c.more.found c.more.width c.more.parser c.more.invariant (sym c.starts_any.ensures ∙ c.more-test.true) (omega arith) _ _ c.in_ok-join.ensures _ _ (subst crowds c.rest-here.ensures (c.one_too_many.ensures _ c.joined_item-element.ensures))
 
 pub returns : goal.returns

@@ -14,7 +14,7 @@ use Rattle.sql_parser.proofs.sums.Sums.factors.Goals as goal
 
 pub returns-then-width-eq0 : goal.returns-then-width-eq0
 returns-then-width-eq0 g c =
-    let crowds : List Token → Type 0 = λ x. Reads (crowded x ((unary_at 1023 c.args.self.now.room) c.multiply-join.new.self)) (is_err {A = Expr} c.one_too_many.result) c.one_too_many.new.self in
+    let crowds : List Token → Type 0 = λ x. Reads (crowded x ((unary_at 1023 c.args.self.now.room) c.multiply.new.self)) (is_err {A = Expr} c.one_too_many.result) c.one_too_many.new.self in
     full_reads (among kinds (k.Star ∷ k.Slash ∷ [])) readings.read_multiply values.factor (unary_at 1023 c.args.self.now.room) _ c.more.found c.more.width c.more.parser c.more.invariant (sym c.starts_any.ensures ∙ c.more-test.true) (omega arith) _ _ c.in_ok-join.ensures _ _ (subst crowds c.rest-here.ensures (c.one_too_many.ensures _ c.unary-element.ensures))
 
 pub returns : goal.returns

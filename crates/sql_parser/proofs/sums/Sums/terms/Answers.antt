@@ -14,7 +14,7 @@ use Rattle.sql_parser.proofs.sums.Sums.terms.Goals as goal
 
 pub returns-then-width-eq0 : goal.returns-then-width-eq0
 returns-then-width-eq0 g c =
-    let crowds : List Token → Type 0 = λ x. Reads (crowded x ((readings.read_product 1023 (unary_at 1023 c.args.self.now.room)) c.add-join.new.self)) (is_err {A = Expr} c.one_too_many.result) c.one_too_many.new.self in
+    let crowds : List Token → Type 0 = λ x. Reads (crowded x ((readings.read_product 1023 (unary_at 1023 c.args.self.now.room)) c.add.new.self)) (is_err {A = Expr} c.one_too_many.result) c.one_too_many.new.self in
     full_reads (among kinds (k.Plus ∷ k.Minus ∷ [])) readings.read_add values.term (readings.read_product 1023 (unary_at 1023 c.args.self.now.room)) _ c.more.found c.more.width c.more.parser c.more.invariant (sym c.starts_any.ensures ∙ c.more-test.true) (omega arith) _ _ c.in_ok-join.ensures _ _ (subst crowds c.rest-here.ensures (c.one_too_many.ensures _ c.product-element.ensures))
 
 pub returns : goal.returns
