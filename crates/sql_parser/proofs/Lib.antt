@@ -6,5 +6,5 @@ pub mod Levels
 pub mod Unfold
 pub mod Inner
 pub mod Whole
-
 pub mod Answered
+pub mod Parentheses
