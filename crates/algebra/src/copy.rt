@@ -50,7 +50,7 @@ fn copied(alloc: Global, e: &Expr) -> Result<Expr, AllocError>
         Expr::Not(e) => Ok(Expr::Not(boxed(alloc, e)?)),
         Expr::All(es) => Ok(Expr::All(copied_all(alloc, es.as_slice())?)),
         Expr::Any(es) => Ok(Expr::Any(copied_all(alloc, es.as_slice())?)),
-        Expr::Holds(e) => Ok(Expr::Holds(boxed(alloc, e)?)),
+        Expr::IsMarked(e) => Ok(Expr::IsMarked(boxed(alloc, e)?)),
     }
 }
 

@@ -21,6 +21,8 @@ fn makes_texts(rt: HostRuntime) -> Result<(), Fail> {
     assert!(rt; made.bytes() == b"AFRICA ~".as_slice());
     assert!(rt; made.clone()? == made);
     assert!(rt; Text::of_printable(alloc, b"AFRICA ~")? == made);
+    assert!(rt; Text::from_vec(Vec::from_slice(alloc, b"AFRICA ~")?)? == made);
+    assert!(rt; made.share(1, 4)?.share(1, 3)? == text(alloc, b"RI")?);
     assert!(rt; matches!(Text::new(alloc, b"a\x1fb\x7f"), Err(TextFault::BadText(1))));
     assert!(rt; matches!(Text::new(alloc, b"a\x7f"), Err(TextFault::BadText(1))));
     assert!(rt; text(alloc, b"AB")? < text(alloc, b"B")?);
@@ -54,12 +56,12 @@ fn meets_patterns(rt: HostRuntime) -> Result<(), Fail> {
 fn takes_parts(rt: HostRuntime) -> Result<(), Fail> {
     let alloc = rt.alloc();
     let phone = text(alloc, b"13-100-200-3000")?;
-    assert!(rt; substring(alloc, &phone, 1, 2)?.bytes() == b"13".as_slice());
-    assert!(rt; substring(alloc, &phone, 4, 3)?.bytes() == b"100".as_slice());
-    assert!(rt; substring(alloc, &phone, 12, 99)?.bytes() == b"3000".as_slice());
-    assert!(rt; substring(alloc, &phone, 16, 1)?.bytes() == b"".as_slice());
-    assert!(rt; substring(alloc, &phone, 0, 2)?.bytes() == b"1".as_slice());
-    assert!(rt; substring(alloc, &phone, 0, 0)?.bytes() == b"".as_slice());
-    assert!(rt; substring(alloc, &phone, u32::MAX, u32::MAX)?.bytes() == b"".as_slice());
+    assert!(rt; substring(&phone, 1, 2)?.bytes() == b"13".as_slice());
+    assert!(rt; substring(&phone, 4, 3)?.bytes() == b"100".as_slice());
+    assert!(rt; substring(&phone, 12, 99)?.bytes() == b"3000".as_slice());
+    assert!(rt; substring(&phone, 16, 1)?.bytes() == b"".as_slice());
+    assert!(rt; substring(&phone, 0, 2)?.bytes() == b"1".as_slice());
+    assert!(rt; substring(&phone, 0, 0)?.bytes() == b"".as_slice());
+    assert!(rt; substring(&phone, u32::MAX, u32::MAX)?.bytes() == b"".as_slice());
     Ok(())
 }

@@ -1,7 +1,8 @@
 //! The type `Text`: its making, its bytes, its order, equality and hash.
-ghost use Rattle.std.specs.Prelude.{◌≡◌, ℕ, List, IfOk, ◌↔◌, ◌==◌, Some};
+ghost use Rattle.std.specs.Prelude.{◌≡◌, ◌≤◌, ◌-◌, ℕ, List, IfOk, ◌↔◌, ◌==◌, Some, length, take, drop};
 ghost use Rattle.std.specs.Ordering.{nat_cmp, as_partial_cmp};
 ghost use Rattle.std.proofs.Common.{rules};
+ghost use Rattle.std.specs.Arc.{arc_slice_items};
 ghost use Rattle.std.specs.Hash as fed;
 ghost use Rattle.std.specs.Cmp.Rules.{comparing, hashing};
 ghost use Rattle.std.specs.Cmp.{partial_order_from_own_ties};
@@ -33,25 +34,33 @@ impl From<AllocError> for TextFault {
     }
 }
 
-/// A text of bytes 0x20 to 0x7E, which contracts see as the list of its bytes. A clone is another
-/// share of the same bytes. Order, equality and hash are those of the bytes, without padding.
+/// A text of bytes 0x20 to 0x7E, which contracts see as the list of its bytes: a part of a buffer
+/// that others may share. A clone and a part are further shares of the same buffer, which stays as
+/// long as any of them. Order, equality and hash are those of the bytes, without padding.
 #[derive(Drop)]
 pub struct Text {
-    shared: ArcSlice<u8>,
+    buffer: ArcSlice<u8>,
+    /// Where the text begins in the buffer, and where it ends.
+    start: usize,
+    end: usize,
 }
+
+// A value holds a text beside its kind, and is to take no more than 32 bytes.
+const _: () = prove!(size_of::<Text>() <= 24);
 
 impl Model for Text {
     ghost use Rattle.std.specs.Prelude.{List, ℕ};
     ghost use Rattle.std.specs.Arc.{arc_slice_items};
-    ghost use Rattle.ascii_text.specs.Printable.{AllPrintable};
+    ghost use Rattle.ascii_text.specs.Buffer.{part_of, IsPart};
 
     ghost Value = { List ℕ };
 
-    ghost view = { λ t. arc_slice_items t.shared };
+    ghost view = { λ t. part_of (arc_slice_items t.buffer) t.start t.end };
 
-    ghost invariant = { λ t. AllPrintable (arc_slice_items t.shared) };
+    ghost invariant = { λ t. IsPart (arc_slice_items t.buffer) t.start t.end };
 }
 
+#[tactic(auto, using(crate::proofs::Parts::parts))]
 impl Text {
     /// The text of these bytes, which are copied once.
     pub fn new(alloc: Global, bytes: &[u8]) -> Result<Text, TextFault>
@@ -72,16 +81,56 @@ impl Text {
         requires { AllPrintable bytes.now }
         ensures { IfOk result (λ t. t ≡ bytes.now) }
     {
-        let shared = ArcSlice::from_slice(alloc, bytes)?;
-        Ok(Text { shared })
+        let buffer = ArcSlice::from_slice(alloc, bytes)?;
+        Ok(Text::whole(buffer))
+    }
+
+    /// The text of bytes that the caller has tested, which are not copied.
+    pub fn from_vec(bytes: Vec<u8>) -> Result<Text, AllocError>
+        requires { AllPrintable bytes.items }
+        ensures { IfOk result (λ t. t ≡ bytes.items) }
+    {
+        let buffer = ArcSlice::from_vec(bytes)?;
+        Ok(Text::whole(buffer))
+    }
+
+    // All bytes of a buffer.
+    fn whole(buffer: ArcSlice<u8>) -> Text
+        requires { AllPrintable (arc_slice_items buffer) }
+        ensures { result ≡ arc_slice_items buffer }
+    {
+        let end = buffer.len();
+        Text {
+            buffer,
+            start: 0,
+            end,
+        }
     }
 
     /// The bytes, of which nothing is copied.
+    #[tactic(auto, using(crate::proofs::Parts::parts), unfolding(crate::specs::Buffer::part_of))]
     pub fn bytes(&self) -> &[u8]
         ensures text { result.now ≡ self.now }
         ensures printable { AllPrintable result.now }
     {
-        self.shared.as_slice()
+        &self.buffer.as_slice()[self.start..self.end]
+    }
+
+    /// The bytes from one place to another, counted from 0, as a text: a further share of the same
+    /// buffer.
+    pub fn share(&self, from: usize, to: usize) -> Result<Text, AllocError>
+        requires order { from ≤ to }
+        requires within { to ≤ length self.now }
+        ensures { IfOk result (λ t. t ≡ take (to - from) (drop from self.now)) }
+    {
+        let start = self.start;
+        let _end = self.end;
+        let buffer = self.buffer.clone()?;
+        Ok(Text {
+            buffer,
+            start: start + from,
+            end: start + to,
+        })
     }
 }
 
@@ -98,8 +147,12 @@ impl Clone for Text {
     fn clone(&self) -> Result<Text, AllocError>
         ensures { IfOk result (λ t. t ≡ self.now) }
     {
-        let shared = self.shared.clone()?;
-        Ok(Text { shared })
+        let buffer = self.buffer.clone()?;
+        Ok(Text {
+            buffer,
+            start: self.start,
+            end: self.end,
+        })
     }
 }
 

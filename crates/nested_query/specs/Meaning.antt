@@ -9,9 +9,9 @@ use Rattle.sql_value.specs.declared.value.Value.{Value}
 use Rattle.sql_value.specs.declared.value.Value.TheVariants.{Null}
 use Rattle.sql_value.specs.Truth.{truth_rank}
 use Rattle.sql_value.specs.Value.{same_value}
-use Rattle.scalar_expr.specs.declared.expr.Comparison.TheVariants.{Equal}
+use Rattle.operators.specs.declared.operator.Comparison.TheVariants.{Equal}
 use Rattle.scalar_expr.specs.Meaning.{value, truth}
-use Rattle.scalar_expr.specs.Operators.{compared}
+use Rattle.operators.specs.Operators.{compared}
 use Rattle.tpch_schema.specs.State.{State, table_rows}
 use Rattle.nested_query.specs.declared.query.BoundAggregate.{BoundAggregate}
 use Rattle.nested_query.specs.declared.query.BoundBlock.{BoundBlock}

@@ -7,9 +7,9 @@ use Rattle.sql_value.specs.declared.truth.Truth.{Truth}
 use Rattle.sql_value.specs.declared.truth.Truth.TheVariants.{False, Unknown, Stands}
 use Rattle.sql_value.specs.declared.value.Value.{Value}
 use Rattle.sql_value.specs.declared.value.Value.TheVariants.{Null}
-use Rattle.scalar_expr.specs.declared.expr.Arithmetic.{Arithmetic}
+use Rattle.operators.specs.declared.operator.Arithmetic.{Arithmetic}
 use Rattle.scalar_expr.specs.declared.expr.Branch.{Branch}
-use Rattle.scalar_expr.specs.declared.expr.Comparison.TheVariants.{Equal, LessOrEqual, GreaterOrEqual}
+use Rattle.operators.specs.declared.operator.Comparison.TheVariants.{Equal, LessOrEqual, GreaterOrEqual}
 use Rattle.scalar_expr.specs.declared.expr.Expr.{Expr, Expr-F, out-Expr}
 use Rattle.scalar_expr.specs.declared.expr.Expr.TheFolds.{fold_out-Expr, fold_out-Branch, fold_out-Operation, map-Expr}
 use Rattle.scalar_expr.specs.declared.expr.Expr.TheOpen as f
@@ -18,10 +18,10 @@ use Rattle.scalar_expr.specs.declared.expr.Operation.{Operation}
 use Rattle.scalar_expr.specs.declared.kind.Kind.{Kind}
 use Rattle.scalar_expr.specs.Known.{is_known, some_null, null_step, branch_null_step, operation_null_step, has_null, branch_has_null, operation_has_null, ConditionsGiveNoKind, NullsComeFromNulls}
 use Rattle.scalar_expr.specs.Meaning.{value, truth, values, truths, chosen, branch_value, operation_value, operated, decided, first_of, in_list}
-use Rattle.scalar_expr.specs.Operators.{arithmetic, negative, at_scale, holds, compared, between}
+use Rattle.operators.specs.Operators.{arithmetic, negative, at_scale, holds, compared, between}
 use Rattle.scalar_expr.specs.Typing.{row_is_of, Sort, Unfit, Nulls, Of, negative_sort, arithmetic_sort, extract_sort, substring_sort, scaled_sort, all_sorts, branches_sorts, sort_in_turn, comparable, is_fit, sort_gives, sort_of, is_condition, typing, branch_sort, operation_sort, Typing, BranchTyping, OperationTyping, sort_step, condition_step}
 use Rattle.scalar_expr.proofs.Induction.{Exprs, Branches, Operations, exprs, branches, operations, induction}
-use Rattle.scalar_expr.proofs.Opened.{branch_is, operation_is, value_Column, value_Literal, value_Negative, value_Arithmetic, value_Case, value_Extract, value_Substring, truth_Compare, truth_Between, truth_Like, truth_InList, truth_IsNull, truth_Not, truth_All, truth_Any, truth_Holds}
+use Rattle.scalar_expr.proofs.Opened.{branch_is, operation_is, value_Column, value_Literal, value_Negative, value_Arithmetic, value_Case, value_Extract, value_Substring, truth_Compare, truth_Between, truth_Like, truth_InList, truth_IsNull, truth_Not, truth_All, truth_Any, truth_IsMarked}
 use Rattle.scalar_expr.proofs.Typed.{fits, all_typed, with_typings, sort_at_node, test_at_node, branch_sort_is, operation_sort_is, arithmetic_typed}
 use Rattle.scalar_expr.proofs.KnownTruths.{is_decided, lesser_decided, negated_decided, least_decided, greatest_decided, compared_decided, comparable_left, comparable_right, liked_decided, text_fits, mark_decided, number_fits, null_test_decided}
 use Rattle.scalar_expr.proofs.KnownValues.{or_left, or_right, negative_known, arithmetic_known, left_fits, right_fits, extract_known, substring_known, scaled_known, inside_fits, first_fits, second_fits, column_known, literal_known}
@@ -227,7 +227,7 @@ all_known ks row r there = induction (Known ks row) (BranchKnown ks row) (Operat
       truth_node ks row _ (f.All list) _ (e.outs-All list) (truth_All list row) (λ n g. least_decided (truths list row) (Stands AtTrue) refl (truths_decided ks row es n g)) refl;
   any = λ es. let list = exprs {P = Known ks row} es in
       truth_node ks row _ (f.Any list) _ (e.outs-Any list) (truth_Any list row) (λ n g. greatest_decided (truths list row) False refl (truths_decided ks row es n g)) refl;
-  holds = λ a h. truth_node ks row _ (f.Holds a) _ (e.outs-Holds a) (truth_Holds a row) (λ n g. mark_decided (sort_of a ks) (value a row) (all_typed a ks row r) (h.value n (number_fits (sort_of a ks) g)) g) refl;
+  is_marked = λ a h. truth_node ks row _ (f.IsMarked a) _ (e.outs-IsMarked a) (truth_IsMarked a row) (λ n g. mark_decided (sort_of a ks) (value a row) (all_typed a ks row r) (h.value n (number_fits (sort_of a ks) g)) g) refl;
   branch = branch_known ks row r;
   operation = operation_known ks row r;
 })

@@ -4,19 +4,19 @@ use Rattle.sql_value.specs.Truth.{negated}
 use Rattle.sql_value.specs.declared.truth.Truth.TheVariants.{Unknown}
 use Rattle.sql_value.specs.declared.value.Value.{Value}
 use Rattle.sql_value.specs.declared.value.Value.TheVariants.{Null}
-use Rattle.scalar_expr.specs.declared.expr.Arithmetic.{Arithmetic}
+use Rattle.operators.specs.declared.operator.Arithmetic.{Arithmetic}
 use Rattle.scalar_expr.specs.declared.expr.Branch.{Branch}
-use Rattle.scalar_expr.specs.declared.expr.Comparison.{Comparison}
-use Rattle.scalar_expr.specs.declared.expr.DatePart.{DatePart}
+use Rattle.operators.specs.declared.operator.Comparison.{Comparison}
+use Rattle.operators.specs.declared.operator.DatePart.{DatePart}
 use Rattle.scalar_expr.specs.declared.expr.Expr.{Expr}
 use Rattle.scalar_expr.specs.declared.expr.Expr.TheVariants as e
 use Rattle.scalar_expr.specs.declared.expr.Operation.{Operation}
 use Rattle.scalar_expr.specs.Meaning.{value, truth, values, truths, chosen, branch_value, operation_value, operated, first_of, decided, least, greatest, in_list}
-use Rattle.scalar_expr.specs.Operators.{at_scale, negative, computed, extracted, part_of, compared, between, liked, null_test, truth_of_mark}
+use Rattle.operators.specs.Operators.{at_scale, negative, computed, extracted, part_of, compared, between, liked, null_test, truth_of_mark}
 use Rattle.scalar_expr.specs.Rename.{column_or_null, renamed, renamed_branch, renamed_operation, gathered, IsRenamed}
-use Rattle.scalar_expr.proofs.Opened.{branch_is, operation_is, value_Literal, truth_Literal, value_Negative, truth_Negative, value_Arithmetic, truth_Arithmetic, value_Case, truth_Case, value_Extract, truth_Extract, value_Substring, truth_Substring, value_Compare, truth_Compare, value_Between, truth_Between, value_Like, truth_Like, value_InList, truth_InList, value_IsNull, truth_IsNull, value_Not, truth_Not, value_All, truth_All, value_Any, truth_Any, value_Holds, truth_Holds, value_Column, truth_Column}
+use Rattle.scalar_expr.proofs.Opened.{branch_is, operation_is, value_Literal, truth_Literal, value_Negative, truth_Negative, value_Arithmetic, truth_Arithmetic, value_Case, truth_Case, value_Extract, truth_Extract, value_Substring, truth_Substring, value_Compare, truth_Compare, value_Between, truth_Between, value_Like, truth_Like, value_InList, truth_InList, value_IsNull, truth_IsNull, value_Not, truth_Not, value_All, truth_All, value_Any, truth_Any, value_IsMarked, truth_IsMarked, value_Column, truth_Column}
 use Rattle.scalar_expr.proofs.Induction.{Exprs, Branches, Operations, exprs, branches, operations, induction}
-use Rattle.scalar_expr.proofs.Renamed.{renamed_branch_is, renamed_operation_is, renamed_Column, renamed_Literal, renamed_Negative, renamed_Arithmetic, renamed_Case, renamed_Extract, renamed_Substring, renamed_Compare, renamed_Between, renamed_Like, renamed_InList, renamed_IsNull, renamed_Not, renamed_All, renamed_Any, renamed_Holds}
+use Rattle.scalar_expr.proofs.Renamed.{renamed_branch_is, renamed_operation_is, renamed_Column, renamed_Literal, renamed_Negative, renamed_Arithmetic, renamed_Case, renamed_Extract, renamed_Substring, renamed_Compare, renamed_Between, renamed_Like, renamed_InList, renamed_IsNull, renamed_Not, renamed_All, renamed_Any, renamed_IsMarked}
 
 -- the same of the expressions of two lists, one by one
 record AreRenamed (columns : List ℕ) (old new : List Expr) : Type 0 where
@@ -115,10 +115,10 @@ keeps_Any m es es' hes = record {
   truth = λ row. truth_Any es' row ∙ ap (λ x. greatest x) (hes.truths row) ∙ sym (truth_Any es (gathered m row));
 }
 
-keeps_Holds : (m : List ℕ) (a a' : Expr) → IsRenamed m a a' → IsRenamed m (e.Holds a) (e.Holds a')
-keeps_Holds m a a' ha = record {
-  value = λ row. value_Holds a' row ∙ sym (value_Holds a (gathered m row));
-  truth = λ row. truth_Holds a' row ∙ ap (λ x. truth_of_mark x) (ha.value row) ∙ sym (truth_Holds a (gathered m row));
+keeps_IsMarked : (m : List ℕ) (a a' : Expr) → IsRenamed m a a' → IsRenamed m (e.IsMarked a) (e.IsMarked a')
+keeps_IsMarked m a a' ha = record {
+  value = λ row. value_IsMarked a' row ∙ sym (value_IsMarked a (gathered m row));
+  truth = λ row. truth_IsMarked a' row ∙ ap (λ x. truth_of_mark x) (ha.value row) ∙ sym (truth_IsMarked a (gathered m row));
 }
 
 -- ---- lists
@@ -226,7 +226,7 @@ renamed_means m = induction (Means m) (BranchMeans m) (OperationMeans m) (record
   not = λ a h. by_node m _ _ (renamed_Not m a) (keeps_Not m a (renamed m a) h);
   all = λ es. by_node m _ _ (renamed_All m (exprs {P = Means m} es)) (keeps_All m _ _ (all_over m es));
   any = λ es. by_node m _ _ (renamed_Any m (exprs {P = Means m} es)) (keeps_Any m _ _ (all_over m es));
-  holds = λ a h. by_node m _ _ (renamed_Holds m a) (keeps_Holds m a (renamed m a) h);
+  is_marked = λ a h. by_node m _ _ (renamed_IsMarked m a) (keeps_IsMarked m a (renamed m a) h);
   branch = branch_means m;
   operation = operation_means m;
 })

@@ -7,14 +7,15 @@ use Rattle.sql_value.specs.declared.truth.Truth.{Truth}
 use Rattle.sql_value.specs.declared.truth.Truth.TheVariants.{False, Unknown, Stands}
 use Rattle.sql_value.specs.declared.value.Value.{Value}
 use Rattle.sql_value.specs.declared.value.Value.TheVariants.{Null, Fault as Failed, Number, Text, Date}
-use Rattle.scalar_expr.specs.declared.expr.Arithmetic.TheVariants.{Add, Subtract, Multiply, Divide}
-use Rattle.scalar_expr.specs.declared.expr.Comparison.TheVariants.{Equal, NotEqual, Less, LessOrEqual, Greater, GreaterOrEqual}
-use Rattle.scalar_expr.specs.declared.expr.DatePart.TheVariants.{Year, Month, Day}
+use Rattle.operators.specs.declared.operator.Arithmetic.TheVariants.{Add, Subtract, Multiply, Divide}
+use Rattle.operators.specs.declared.operator.Comparison.TheVariants.{Equal, NotEqual, Less, LessOrEqual, Greater, GreaterOrEqual}
+use Rattle.operators.specs.declared.operator.DatePart.TheVariants.{Year, Month, Day}
+use Rattle.scalar_expr.specs.declared.expr.Expr.TheOpen as node
 use Rattle.scalar_expr.specs.declared.kind.Kind.TheVariants as kind
-use Rattle.scalar_expr.specs.Typing.{arithmetic_sort, case_sort, comparable, is_of_kind}
+use Rattle.scalar_expr.specs.Typing.{Sort, Typing, arithmetic_sort, case_sort, comparable, condition_step, is_of_kind}
 use Rattle.scalar_expr.specs.Typing.Sort.{Unfit, Nulls, Of}
 use Rattle.scalar_expr.specs.Meaning.{least, greatest, in_list, decided, first_of}
-use Rattle.scalar_expr.specs.Operators.{computed, negative, at_scale, extracted, part_of, compared, between, liked, null_test, fault_truth, truth_of_mark}
+use Rattle.operators.specs.Operators.{computed, negative, at_scale, extracted, part_of, compared, between, liked, null_test, fault_truth, truth_of_mark}
 
 -- a whole number as a value
 abbrev pub whole : ℕ → Value
@@ -109,7 +110,11 @@ MoreConditions = (greatest (fault_truth TooManyRows ∷ fault_truth NumberRange 
     × (extracted Year (Failed DivideByZero) ≡ Failed DivideByZero)
     × (part_of 1 1 (Failed NumberRange) ≡ Failed NumberRange)
 
--- the kinds of a product, a quotient, a CASE; what does not fit
+-- a part of an expression that gives values of that sort
+abbrev pub value_part : Sort → Typing
+value_part sort = record { sort = λ ks. sort; is_condition = λ ks. false }
+
+-- the kinds of a product, a quotient, a CASE; what does not fit, also as the operand of an IN list without elements
 abbrev pub Typings : Type 0
 Typings = (arithmetic_sort Multiply (Of (kind.Number 2)) (Of (kind.Number 2)) ≡ Of (kind.Number 4))
     × (arithmetic_sort Multiply (Of (kind.Number 10)) (Of (kind.Number 9)) ≡ Unfit)
@@ -123,3 +128,6 @@ Typings = (arithmetic_sort Multiply (Of (kind.Number 2)) (Of (kind.Number 2)) �
     × (comparable (Of kind.Text) (Of (kind.Number 0)) ≡ false)
     × (is_of_kind (kind.Number 2) (whole 1) ≡ false)
     × (is_of_kind (kind.Number 2) Null ≡ true)
+    × (condition_step (node.InList (value_part (Of kind.Text)) (value_part (Of kind.Text) ∷ [])) [] ≡ true)
+    × (condition_step (node.InList (value_part (Of kind.Text)) (value_part (Of (kind.Number 0)) ∷ [])) [] ≡ false)
+    × (condition_step (node.InList (value_part Unfit) []) [] ≡ false)

@@ -4,16 +4,16 @@ use Rattle.sql_value.specs.declared.truth.Fault.TheVariants.{DivideByZero, Numbe
 use Rattle.sql_value.specs.declared.truth.Truth.TheVariants.{False, Unknown}
 use Rattle.sql_value.specs.declared.value.Value.{Value}
 use Rattle.sql_value.specs.declared.value.Value.TheVariants.{Null, Fault as Failed, Number, Text, Date}
-use Rattle.scalar_expr.specs.declared.expr.Arithmetic.{Arithmetic}
-use Rattle.scalar_expr.specs.declared.expr.Arithmetic.TheVariants.{Add, Subtract, Divide}
-use Rattle.scalar_expr.specs.declared.expr.Comparison.TheVariants.{Equal, Greater}
-use Rattle.scalar_expr.specs.declared.expr.DatePart.TheVariants.{Month}
+use Rattle.operators.specs.declared.operator.Arithmetic.{Arithmetic}
+use Rattle.operators.specs.declared.operator.Arithmetic.TheVariants.{Add, Subtract, Divide}
+use Rattle.operators.specs.declared.operator.Comparison.TheVariants.{Equal, Greater}
+use Rattle.operators.specs.declared.operator.DatePart.TheVariants.{Month}
 use Rattle.scalar_expr.specs.declared.expr.Expr.{Expr}
 use Rattle.scalar_expr.specs.declared.expr.Expr.TheVariants as e
 use Rattle.scalar_expr.specs.declared.expr.Operation.{Operation}
 use Rattle.scalar_expr.specs.Cases.{whole, true_truth}
 use Rattle.scalar_expr.specs.Meaning.{value, truth}
-use Rattle.scalar_expr.specs.Operators.{fault_truth}
+use Rattle.operators.specs.Operators.{fault_truth}
 
 -- a whole number, written
 abbrev pub number : ℕ → Expr
@@ -107,5 +107,5 @@ WorkedTests = (truth (e.Between key (number 1) (number 3)) (region 3) ≡ true_t
     × (truth (e.IsNull null) (region 3) ≡ true_truth)
     × (truth (e.IsNull key) (region 3) ≡ False)
     × (truth (e.IsNull quotient_by_zero) (region 3) ≡ fault_truth DivideByZero)
-    × (truth (e.Holds (number 1)) (region 3) ≡ true_truth)
-    × (truth (e.Holds null) (region 3) ≡ Unknown)
+    × (truth (e.IsMarked (number 1)) (region 3) ≡ true_truth)
+    × (truth (e.IsMarked null) (region 3) ≡ Unknown)

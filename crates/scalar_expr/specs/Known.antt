@@ -7,7 +7,7 @@ use Rattle.sql_value.specs.declared.value.Value.TheVariants.{Null}
 use Rattle.scalar_expr.specs.declared.expr.Branch.{Branch}
 use Rattle.scalar_expr.specs.declared.expr.Expr.{Expr, Expr-F}
 use Rattle.scalar_expr.specs.declared.expr.Expr.TheFolds.{fold-Expr, fold-Branch, fold-Operation}
-use Rattle.scalar_expr.specs.declared.expr.Expr.TheOpen.{Branch-F, Operation-F, Column, Literal, Negative, Arithmetic, Case, Extract, Substring, Compare, Between, Like, InList, IsNull, Not, All, Any, Holds}
+use Rattle.scalar_expr.specs.declared.expr.Expr.TheOpen.{Branch-F, Operation-F, Column, Literal, Negative, Arithmetic, Case, Extract, Substring, Compare, Between, Like, InList, IsNull, Not, All, Any, IsMarked}
 use Rattle.scalar_expr.specs.declared.expr.Operation.{Operation}
 use Rattle.scalar_expr.specs.declared.kind.Kind.{Kind}
 use Rattle.scalar_expr.specs.Meaning.{value, truth}
@@ -39,7 +39,7 @@ null_step (IsNull e) = e
 null_step (Not e) = e
 null_step (All es) = some_null es
 null_step (Any es) = some_null es
-null_step (Holds e) = e
+null_step (IsMarked e) = e
 
 -- whether null stands in the condition of a branch or in what it gives
 abbrev pub branch_null_step : Branch-F Bool Bool Bool → Bool

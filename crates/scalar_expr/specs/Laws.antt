@@ -2,11 +2,11 @@
 use Rattle.std.specs.Prelude.{◌≡◌, List, [], ◌∷◌, map}
 use Rattle.sql_value.specs.declared.truth.Truth.{Truth}
 use Rattle.sql_value.specs.declared.value.Value.{Value}
-use Rattle.scalar_expr.specs.declared.expr.Comparison.TheVariants.{Equal, LessOrEqual, GreaterOrEqual}
+use Rattle.operators.specs.declared.operator.Comparison.TheVariants.{Equal, LessOrEqual, GreaterOrEqual}
 use Rattle.scalar_expr.specs.declared.expr.Expr.{Expr}
 use Rattle.scalar_expr.specs.declared.expr.Expr.TheVariants as e
 use Rattle.scalar_expr.specs.Meaning.{truth}
-use Rattle.scalar_expr.specs.Operators.{mark_of, truth_of_mark}
+use Rattle.operators.specs.Operators.{mark_of, truth_of_mark}
 
 -- A truth that was written as a mark is read as the same truth.
 abbrev pub MarkIsRead : Type 0

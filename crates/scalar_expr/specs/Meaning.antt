@@ -8,12 +8,12 @@ use Rattle.sql_value.specs.declared.value.Value.{Value}
 use Rattle.sql_value.specs.declared.value.Value.TheVariants.{Null, Fault as Failed}
 use Rattle.sql_value.specs.Truth.{lesser, greater, negated}
 use Rattle.scalar_expr.specs.declared.expr.Branch.{Branch}
-use Rattle.scalar_expr.specs.declared.expr.Comparison.TheVariants.{Equal}
+use Rattle.operators.specs.declared.operator.Comparison.TheVariants.{Equal}
 use Rattle.scalar_expr.specs.declared.expr.Expr.{Expr, Expr-F}
-use Rattle.scalar_expr.specs.declared.expr.Expr.TheOpen.{Branch-F, Operation-F, Column, Literal, Negative, Arithmetic, Case, Extract, Substring, Compare, Between, Like, InList, IsNull, Not, All, Any, Holds}
+use Rattle.scalar_expr.specs.declared.expr.Expr.TheOpen.{Branch-F, Operation-F, Column, Literal, Negative, Arithmetic, Case, Extract, Substring, Compare, Between, Like, InList, IsNull, Not, All, Any, IsMarked}
 use Rattle.scalar_expr.specs.declared.expr.Expr.TheFolds.{fold-Expr, fold-Branch, fold-Operation}
 use Rattle.scalar_expr.specs.declared.expr.Operation.{Operation}
-use Rattle.scalar_expr.specs.Operators.{computed, negative, at_scale, extracted, part_of, compared, between, liked, null_test, truth_of_mark}
+use Rattle.operators.specs.Operators.{computed, negative, at_scale, extracted, part_of, compared, between, liked, null_test, truth_of_mark}
 
 -- what an expression means over a row
 pub record Meaning : Type 0 where
@@ -89,7 +89,7 @@ truth_step (IsNull e) row = null_test (e.value row)
 truth_step (Not e) row = negated (e.truth row)
 truth_step (All es) row = least (map (λ (m : Meaning). m.truth row) es)
 truth_step (Any es) row = greatest (map (λ (m : Meaning). m.truth row) es)
-truth_step (Holds e) row = truth_of_mark (e.value row)
+truth_step (IsMarked e) row = truth_of_mark (e.value row)
 truth_step e row = Unknown
 
 -- a node, from the meanings of its parts

@@ -4,8 +4,8 @@ use Rattle.std.specs.List.{list_all}
 use Rattle.fixed_decimal.specs.Decimal.{quotient_scale}
 use Rattle.sql_value.specs.declared.value.Value.{Value}
 use Rattle.sql_value.specs.declared.value.Value.TheVariants as value
-use Rattle.scalar_expr.specs.declared.expr.Arithmetic.{Arithmetic}
-use Rattle.scalar_expr.specs.declared.expr.Arithmetic.TheVariants.{Add, Subtract, Multiply, Divide}
+use Rattle.operators.specs.declared.operator.Arithmetic.{Arithmetic}
+use Rattle.operators.specs.declared.operator.Arithmetic.TheVariants.{Add, Subtract, Multiply, Divide}
 use Rattle.scalar_expr.specs.declared.expr.Branch.{Branch}
 use Rattle.scalar_expr.specs.declared.expr.Expr.{Expr, Expr-F}
 use Rattle.scalar_expr.specs.declared.expr.Expr.TheOpen as node
@@ -178,7 +178,7 @@ condition_step (node.IsNull e) ks = is_fit (e.sort ks)
 condition_step (node.Not e) ks = e.is_condition ks
 condition_step (node.All es) ks = list_all (λ (x : Typing). x.is_condition ks) es
 condition_step (node.Any es) ks = list_all (λ (x : Typing). x.is_condition ks) es
-condition_step (node.Holds e) ks = is_number (e.sort ks)
+condition_step (node.IsMarked e) ks = is_number (e.sort ks)
 condition_step e ks = false
 
 -- a node, from the typings of its parts

@@ -3,7 +3,7 @@ use Rattle.std.specs.Prelude.{◌≡◌, ℕ, List, [], ◌∷◌, ◌++◌, map
 use Rattle.sql_value.specs.declared.value.Value.{Value}
 use Rattle.scalar_expr.specs.declared.expr.Branch.{Branch}
 use Rattle.scalar_expr.specs.declared.expr.Expr.{Expr, Expr-F}
-use Rattle.scalar_expr.specs.declared.expr.Expr.TheOpen.{Branch-F, Operation-F, Column, Literal, Negative, Arithmetic, Case, Extract, Substring, Compare, Between, Like, InList, IsNull, Not, All, Any, Holds}
+use Rattle.scalar_expr.specs.declared.expr.Expr.TheOpen.{Branch-F, Operation-F, Column, Literal, Negative, Arithmetic, Case, Extract, Substring, Compare, Between, Like, InList, IsNull, Not, All, Any, IsMarked}
 use Rattle.scalar_expr.specs.declared.expr.Expr.TheFolds.{fold-Expr, fold-Branch, fold-Operation}
 use Rattle.scalar_expr.specs.declared.expr.Operation.{Operation}
 use Rattle.scalar_expr.specs.Meaning.{value, truth}
@@ -31,7 +31,7 @@ used_step (IsNull e) = e
 used_step (Not e) = e
 used_step (All es) = one_list es
 used_step (Any es) = one_list es
-used_step (Holds e) = e
+used_step (IsMarked e) = e
 
 -- the places that a branch uses: its condition's, then those of what it gives
 abbrev pub branch_used_step : Branch-F (List ℕ) (List ℕ) (List ℕ) → List ℕ

@@ -64,7 +64,7 @@ fn renamed(alloc: Global, e: &Expr, columns: &[u32]) -> Result<Expr, AllocError>
         Expr::Not(e) => Ok(Expr::Not(boxed(alloc, e, columns)?)),
         Expr::All(es) => Ok(Expr::All(renamed_all(alloc, es.as_slice(), columns)?)),
         Expr::Any(es) => Ok(Expr::Any(renamed_all(alloc, es.as_slice(), columns)?)),
-        Expr::Holds(e) => Ok(Expr::Holds(boxed(alloc, e, columns)?)),
+        Expr::IsMarked(e) => Ok(Expr::IsMarked(boxed(alloc, e, columns)?)),
     }
 }
 

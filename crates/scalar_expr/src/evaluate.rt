@@ -3,10 +3,10 @@ ghost use Rattle.std.specs.Prelude.{◌≡◌, IfOk, IfSome, option_map, slice_i
 ghost use Rattle.std.specs.Cow.{cow_value};
 ghost use Rattle.scalar_expr.specs.Meaning.{value, truth, values, truths, least, greatest, in_list, chosen, operated};
 
-use crate::expr::{Branch, Comparison, Expr, Operation};
-use crate::operate::{
-    at_scale, between, compared, computed, extracted, is_false, is_true, liked, negative,
-    null_test, part_of, truth_of_mark,
+use crate::expr::{Branch, Expr, Operation};
+use operators::{
+    Comparison, at_scale, between, compared, computed, extracted, is_false, is_true, liked,
+    negative, null_test, part_of, truth_of_mark,
 };
 use sql_value::{Row, Standing, Truth, Value};
 use std::alloc::{AllocError, Global};
@@ -98,7 +98,7 @@ fn made<'a>(alloc: Global, e: &'a Expr, row: &'a [Value]) -> Result<Cow<'a, Valu
         }
         Expr::Substring(e, from, count) => {
             let x = operand(alloc, e.get(), row)?;
-            Ok(Cow::Owned(part_of(alloc, &x, *from, *count)?))
+            Ok(Cow::Owned(part_of(&x, *from, *count)?))
         }
         Expr::Compare(_, _, _)
         | Expr::Between(_, _, _)
@@ -108,7 +108,7 @@ fn made<'a>(alloc: Global, e: &'a Expr, row: &'a [Value]) -> Result<Cow<'a, Valu
         | Expr::Not(_)
         | Expr::All(_)
         | Expr::Any(_)
-        | Expr::Holds(_) => Ok(Cow::Owned(Value::Null)),
+        | Expr::IsMarked(_) => Ok(Cow::Owned(Value::Null)),
     }
 }
 
@@ -218,7 +218,7 @@ fn tested(alloc: Global, e: &Expr, row: &[Value]) -> Result<Truth, AllocError>
         Expr::Not(e) => Ok(truth_slice(alloc, e.get(), row)?.negated()),
         Expr::All(es) => least(alloc, es.as_slice(), row),
         Expr::Any(es) => greatest(alloc, es.as_slice(), row),
-        Expr::Holds(e) => Ok(truth_of_mark(&*operand(alloc, e.get(), row)?)),
+        Expr::IsMarked(e) => Ok(truth_of_mark(&*operand(alloc, e.get(), row)?)),
         Expr::Column(_)
         | Expr::Literal(_)
         | Expr::Negative(_)

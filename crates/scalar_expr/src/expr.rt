@@ -1,49 +1,9 @@
 //! Bound expressions without subqueries. A column is a place of one flat row, counted from 0.
 use ascii_text::Text;
 use fixed_decimal::Scale;
+use operators::{Arithmetic, Comparison, DatePart};
 use sql_value::Value;
 use sqlite_items::{Boxed, Items};
-
-/// What is computed of two numbers.
-#[derive(Clone, Copy, Debug, PartialEq, Eq)]
-pub enum Arithmetic {
-    /// The sum, of the larger scale.
-    Add,
-    /// The difference, of the larger scale.
-    Subtract,
-    /// The product, of both scales added up.
-    Multiply,
-    /// The quotient, of the larger of 6 and the dividend's scale.
-    Divide,
-}
-
-/// How two values of one kind are compared.
-#[derive(Clone, Copy, Debug, PartialEq, Eq)]
-pub enum Comparison {
-    /// `=`
-    Equal,
-    /// `<>`
-    NotEqual,
-    /// `<`
-    Less,
-    /// `<=`
-    LessOrEqual,
-    /// `>`
-    Greater,
-    /// `>=`
-    GreaterOrEqual,
-}
-
-/// A part of a date.
-#[derive(Clone, Copy, Debug, PartialEq, Eq)]
-pub enum DatePart {
-    /// The year, from 1 to 9999.
-    Year,
-    /// The month, from 1 to 12.
-    Month,
-    /// The day of the month, from 1.
-    Day,
-}
 
 /// An expression. Each has a value and a truth: a condition's value is null, and any other one's truth is Unknown.
 #[cycle(expr)]
@@ -82,7 +42,7 @@ pub enum Expr {
     /// OR; False of no conditions.
     Any(Items<Expr>),
     /// The truth that a mark stands for: 1 for True, 0 for False, null for Unknown, and a fault.
-    Holds(Boxed<Expr>),
+    IsMarked(Boxed<Expr>),
 }
 
 /// A branch of a CASE.

@@ -277,7 +277,7 @@ fn tests_values(rt: HostRuntime) -> Result<(), Fail> {
     let alloc = rt.alloc();
     let null = Expr::IsNull(boxed(alloc, Expr::Column(4))?);
     assert!(rt; truth_of(alloc, null)? == YES);
-    let mark = Expr::Holds(boxed(alloc, Expr::Literal(mark_of(Truth::False)))?);
+    let mark = Expr::IsMarked(boxed(alloc, Expr::Literal(mark_of(Truth::False)))?);
     assert!(rt; truth_of(alloc, mark)? == Truth::False);
     assert!(rt; truth_of(alloc, Expr::Column(0))? == Truth::Unknown);
     Ok(())

@@ -31,7 +31,7 @@ fn put_used(e: &Expr, columns: &mut Vec<u32>) -> Result<(), AllocError>
         | Expr::Like(e, _)
         | Expr::IsNull(e)
         | Expr::Not(e)
-        | Expr::Holds(e) => put_used(e.get(), columns),
+        | Expr::IsMarked(e) => put_used(e.get(), columns),
         Expr::Arithmetic(first, operations) => {
             put_used(first.get(), columns)?;
             put_operations_used(operations.as_slice(), columns)

@@ -10,3 +10,4 @@ pub mod LineFaults
 pub mod FieldCuts
 pub mod FieldLaws
 pub mod FileLaws
+pub mod Readers

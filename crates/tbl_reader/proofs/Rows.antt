@@ -1,5 +1,6 @@
--- A line's row is of the kinds that it was read by.
-use Rattle.std.proofs.Common.{◌≡◌, ℕ, ℤ, Bool, true, false, cond, List, [], ◌∷◌, refl, Option, Some, None, Result, Ok, Err}
+-- A line's row fits the columns that it was read by.
+use Rattle.std.proofs.Common.{◌≡◌, ℕ, ℤ, Bool, true, false, cond, List, [], ◌&&◌, ◌||◌, ◌∷◌, refl, Option, Some, None, Result, Ok, Err}
+use Rattle.std.specs.Cmp.Lexicographic.{pointwise}
 use Rattle.std.specs.List.{before_first, after_first}
 use Rattle.ascii_text.specs.Printable.{first_unprintable}
 use Rattle.civil_date.specs.Date.{date_of}
@@ -8,10 +9,12 @@ use Rattle.fixed_decimal.specs.declared.read.Spelling.{Spelling}
 use Rattle.fixed_decimal.specs.declared.read.Spelling.TheVariants.{NotANumber, TooWide}
 use Rattle.refusals.specs.declared.line.LineFault.{LineFault}
 use Rattle.sql_value.specs.declared.value.Value.{Value}
+use Rattle.sql_value.specs.declared.value.Value.TheVariants as value
 use Rattle.tpch_schema.specs.declared.column.ColumnKind.{ColumnKind}
 use Rattle.tpch_schema.specs.declared.column.ColumnKind.TheVariants.{Key, Whole, Decimal, Date, Text}
-use Rattle.tpch_schema.specs.Kinds.{is_of_kind, are_of_kinds}
-use Rattle.tbl_reader.specs.Field.{field_value, number_field, date_field, printable_field}
+use Rattle.tpch_schema.specs.Kinds.{is_of_kind}
+use Rattle.tpch_schema.specs.LineForm.{LineColumn, LineForm, can_hold, fits, is_null}
+use Rattle.tbl_reader.specs.Field.{field_value, spells_null, column_value, number_field, date_field, printable_field}
 use Rattle.tbl_reader.specs.Line.{is_bar, put_first, values_of, row_of}
 
 -- what is answered only where the column can hold it
@@ -39,27 +42,46 @@ field_kind Decimal field v e = number_kind Decimal 2 (decimal_read field 2) v e
 field_kind Date field v e = date_kind (date_of field) v e
 field_kind (Text most) field v e = text_kind (Text most) field (first_unprintable field) v e
 
-put_kinds : (kind : ColumnKind) (kinds : List ColumnKind) (r : Result Value LineFault) (s : Result (List Value) LineFault) (vs : List Value)
-    → ((v : Value) → r ≡ Ok v → is_of_kind kind v ≡ true)
-    → ((ws : List Value) → s ≡ Ok ws → are_of_kinds kinds ws ≡ true)
-    → put_first r s ≡ Ok vs → are_of_kinds (kind ∷ kinds) vs ≡ true
-put_kinds kind kinds (Ok v) (Ok ws) vs p q e =
+or_true : (a b : Bool) → b ≡ true → (a || b) ≡ true
+or_true true b e = refl
+or_true false b e = e
+
+held : (nullable null : Bool) (kind : ColumnKind) (r : Result Value LineFault) (v : Value) → ((w : Value) → r ≡ Ok w → is_of_kind kind w ≡ true)
+    → cond (nullable && null) (Ok value.Null) r ≡ Ok v → ((nullable && is_null v) || is_of_kind kind v) ≡ true
+held true true kind r v p e = let same : value.Null ≡ v = cc in rw (← same) refl
+held true false kind r v p e = or_true (is_null v) (is_of_kind kind v) (p v e)
+held false null kind r v p e = p v e
+
+pub column_held : (column : LineColumn) (field : List ℕ) (v : Value) → column_value column field ≡ Ok v → can_hold column v ≡ true
+column_held column field v e = held column.nullable (spells_null field) column.kind (field_value column.kind field) v (field_kind column.kind field) e
+
+put_held : (column : LineColumn) (columns : List LineColumn) (r : Result Value LineFault) (s : Result (List Value) LineFault) (vs : List Value)
+    → ((v : Value) → r ≡ Ok v → can_hold column v ≡ true)
+    → ((ws : List Value) → s ≡ Ok ws → pointwise can_hold columns ws ≡ true)
+    → put_first r s ≡ Ok vs → pointwise can_hold (column ∷ columns) vs ≡ true
+put_held column columns (Ok v) (Ok ws) vs p q e =
     let same : v ∷ ws ≡ vs = cc in
     rw (← same, p v refl, q ws refl) refl
-put_kinds kind kinds (Ok v) (Err fault) vs p q e = cc
-put_kinds kind kinds (Err fault) s vs p q e = cc
+put_held column columns (Ok v) (Err fault) vs p q e = cc
+put_held column columns (Err fault) s vs p q e = cc
 
-pub values_kinds : (kinds : List ColumnKind) (text : List ℕ) (vs : List Value) → values_of kinds text ≡ Ok vs → are_of_kinds kinds vs ≡ true
-values_kinds [] text vs e = let same : [] ≡ vs = cc in rw (← same) refl
-values_kinds (kind ∷ kinds) text vs e =
-    put_kinds kind kinds (field_value kind (before_first is_bar text)) (values_of kinds (after_first is_bar text)) vs
-    (field_kind kind (before_first is_bar text))
-    (values_kinds kinds (after_first is_bar text))
+pub values_held : (columns : List LineColumn) (text : List ℕ) (vs : List Value) → values_of columns text ≡ Ok vs → pointwise can_hold columns vs ≡ true
+values_held [] text vs e = let same : [] ≡ vs = cc in rw (← same) refl
+values_held (column ∷ columns) text vs e =
+    put_held column columns (column_value column (before_first is_bar text)) (values_of columns (after_first is_bar text)) vs
+    (column_held column (before_first is_bar text))
+    (values_held columns (after_first is_bar text))
     e
 
 only_then : (b : Bool) (r : Result (List Value) LineFault) (fault : LineFault) (vs : List Value) → cond b r (Err fault) ≡ Ok vs → r ≡ Ok vs
 only_then true r fault vs e = e
 only_then false r fault vs e = cc
 
-pub row_kinds : (kinds : List ColumnKind) (line : List ℕ) (vs : List Value) → row_of kinds line ≡ Ok vs → are_of_kinds kinds vs ≡ true
-row_kinds kinds line vs e = values_kinds kinds line vs (only_then _ _ _ vs e)
+pub row_held : (columns : List LineColumn) (line : List ℕ) (vs : List Value) → row_of columns line ≡ Ok vs → pointwise can_hold columns vs ≡ true
+row_held columns line vs e = values_held columns line vs (only_then _ _ _ vs e)
+
+-- the same for the row that was read by the columns of a form
+pub row_fits : (form : LineForm) (columns : List LineColumn) (line : List ℕ) (vs : List Value) → columns ≡ form.columns → row_of columns line ≡ Ok vs → fits form vs ≡ true
+row_fits form columns line vs same e = rw (← same) (row_held columns line vs e)
+
+pub ruleset held_rows = (row_fits)

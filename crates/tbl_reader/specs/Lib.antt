@@ -3,7 +3,7 @@ pub mod Line
 pub mod File
 pub mod Rows
 pub mod Key
-pub mod Fault
+pub mod Error
 pub mod Lines
 pub mod Reading
 pub mod Steps

@@ -11,37 +11,37 @@ use sql_value::Value;
 use std::alloc::{AllocError, AllocFailed, Global};
 use tpch_schema::{ColumnKind, LineFault};
 
-/// Why a field or a line gives nothing: it is bad, or memory is wanted.
+/// Why a field, or a line's fields, give no value: one is bad, or memory ran out.
 #[derive(Clone, Copy, Debug, PartialEq, Eq)]
-pub enum LineError {
-    /// What is wrong with it.
+pub enum FieldError {
+    /// What is wrong.
     Bad(LineFault),
-    /// Memory was wanted.
+    /// Memory ran out.
     OutOfMemory,
 }
 
-impl From<AllocError> for LineError {
-    ghost use Rattle.tbl_reader.specs.declared.field.LineError.TheVariants.{OutOfMemory};
+impl From<AllocError> for FieldError {
+    ghost use Rattle.tbl_reader.specs.declared.field.FieldError.TheVariants.{OutOfMemory};
 
     ghost from_gives = { λ _ e. e ≡ OutOfMemory };
 
     fn from(_: AllocError) -> Self {
-        LineError::OutOfMemory
+        FieldError::OutOfMemory
     }
 }
 
-impl<T: Drop> From<AllocFailed<T>> for LineError {
-    ghost use Rattle.tbl_reader.specs.declared.field.LineError.TheVariants.{OutOfMemory};
+impl<T: Drop> From<AllocFailed<T>> for FieldError {
+    ghost use Rattle.tbl_reader.specs.declared.field.FieldError.TheVariants.{OutOfMemory};
 
     ghost from_gives = { λ _ e. e ≡ OutOfMemory };
 
     fn from(_: AllocFailed<T>) -> Self {
-        LineError::OutOfMemory
+        FieldError::OutOfMemory
     }
 }
 
 /// The value of a field in a column of that kind.
-pub fn field_value(alloc: Global, kind: ColumnKind, field: &[u8]) -> Result<Value, LineError>
+pub fn field_value(alloc: Global, kind: ColumnKind, field: &[u8]) -> Result<Value, FieldError>
     ensures { MatchResult result (λ v. field_value kind field.now ≡ Ok v) (Blames (field_value kind field.now)) }
 {
     match kind {
@@ -53,7 +53,7 @@ pub fn field_value(alloc: Global, kind: ColumnKind, field: &[u8]) -> Result<Valu
 }
 
 // The number that a field spells at that scale.
-fn number_value(kind: ColumnKind, scale: Scale, field: &[u8]) -> Result<Value, LineError>
+fn number_value(kind: ColumnKind, scale: Scale, field: &[u8]) -> Result<Value, FieldError>
     ensures { MatchResult result (λ v. number_field kind scale (decimal_read field.now scale) ≡ Ok v) (Blames (number_field kind scale (decimal_read field.now scale))) }
 {
     match read_decimal(field, scale) {
@@ -62,26 +62,26 @@ fn number_value(kind: ColumnKind, scale: Scale, field: &[u8]) -> Result<Value, L
             if kind.admits(&value) {
                 Ok(value)
             } else {
-                Err(LineError::Bad(LineFault::NumberTooWide))
+                Err(FieldError::Bad(LineFault::NumberTooWide))
             }
         }
-        Err(Spelling::TooWide) => Err(LineError::Bad(LineFault::NumberTooWide)),
-        Err(Spelling::NotANumber) => Err(LineError::Bad(LineFault::BadNumber)),
+        Err(Spelling::TooWide) => Err(FieldError::Bad(LineFault::NumberTooWide)),
+        Err(Spelling::NotANumber) => Err(FieldError::Bad(LineFault::BadNumber)),
     }
 }
 
 // The date that a field spells.
-fn date_value(field: &[u8]) -> Result<Value, LineError>
+fn date_value(field: &[u8]) -> Result<Value, FieldError>
     ensures { MatchResult result (λ v. date_field (date_of field.now) ≡ Ok v) (Blames (date_field (date_of field.now))) }
 {
     match CivilDate::read(field) {
         Ok(date) => Ok(Value::Date(date)),
-        Err(_) => Err(LineError::Bad(LineFault::BadDate)),
+        Err(_) => Err(FieldError::Bad(LineFault::BadDate)),
     }
 }
 
 // The text of a field.
-fn text_value(alloc: Global, kind: ColumnKind, field: &[u8]) -> Result<Value, LineError>
+fn text_value(alloc: Global, kind: ColumnKind, field: &[u8]) -> Result<Value, FieldError>
     ensures { MatchResult result (λ v. text_field kind field.now ≡ Ok v) (Blames (text_field kind field.now)) }
 {
     match Text::new(alloc, field) {
@@ -92,10 +92,10 @@ fn text_value(alloc: Global, kind: ColumnKind, field: &[u8]) -> Result<Value, Li
             if kind.admits(&value) {
                 Ok(value)
             } else {
-                Err(LineError::Bad(LineFault::TextTooLong))
+                Err(FieldError::Bad(LineFault::TextTooLong))
             }
         }
-        Err(TextFault::BadText(_)) => Err(LineError::Bad(LineFault::BadText)),
-        Err(TextFault::OutOfMemory) => Err(LineError::OutOfMemory),
+        Err(TextFault::BadText(_)) => Err(FieldError::Bad(LineFault::BadText)),
+        Err(TextFault::OutOfMemory) => Err(FieldError::OutOfMemory),
     }
 }

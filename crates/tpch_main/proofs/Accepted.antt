@@ -9,7 +9,7 @@ use Rattle.tpch_schema.specs.State.{State, table_rows}
 use Rattle.tpch_schema.specs.Tables.{all_tables}
 use Rattle.tpch_schema.specs.declared.table.TableName.{TableName}
 use Rattle.tpch_schema.specs.declared.table.TableName.TheVariants as table
-use Rattle.tpch_main.specs.Inputs.{Refused, and_then, lists_in, script_in, state_in, table_in}
+use Rattle.tpch_main.specs.Inputs.{BadInput, and_then, lists_in, script_in, state_in, table_in}
 use Rattle.tpch_main.specs.Laws.{SessionAcceptedLaw, TablesAcceptedLaw}
 use Rattle.tpch_main.specs.declared.statement.Statement.{Statement}
 use Rattle.tpch_main.proofs.ReadingOrder.{both_of}
@@ -31,7 +31,7 @@ read_at dir folder (t ∷ ts) lists e k below = at (read_at dir folder ts) (tabl
     place behind rows is others are zero below = is
     place behind rows is others are (suc k) below = behind others are k (omega arith)
 
-    at : Behind → (first : Result (List (List Value)) Refused) → table_in dir t folder ≡ first → (further : Result (List (List (List Value))) Refused) → lists_in dir ts folder ≡ further
+    at : Behind → (first : Result (List (List Value)) BadInput) → table_in dir t folder ≡ first → (further : Result (List (List (List Value))) BadInput) → lists_in dir ts folder ≡ further
         → and_then first (λ rows. and_then further (λ others. Ok (rows ∷ others))) ≡ Ok lists
         → (k : ℕ) → k < length (t ∷ ts) → HasRows dir folder (slice_index_or (t ∷ ts) k table.Region) (slice_index_or lists k [])
     at behind (Ok rows) is (Ok others) are e k below =
@@ -54,7 +54,7 @@ tables_read dir folder state e t = at (lists_in dir all_tables folder) refl e
     each lists all table.Orders = all 6 (omega arith)
     each lists all table.Lineitem = all 7 (omega arith)
 
-    at : (read : Result (List (List (List Value))) Refused) → lists_in dir all_tables folder ≡ read → and_then read (λ lists. Ok (state_of lists)) ≡ Ok state → HasRows dir folder t (table_rows state t)
+    at : (read : Result (List (List (List Value))) BadInput) → lists_in dir all_tables folder ≡ read → and_then read (λ lists. Ok (state_of lists)) ≡ Ok state → HasRows dir folder t (table_rows state t)
     at (Ok lists) is e =
         let same : state_of lists ≡ state = cc in
         subst (λ (s : State). HasRows dir folder t (table_rows s t)) same (each lists (read_at dir folder all_tables lists is) t)
@@ -72,14 +72,14 @@ pub tables_law : TablesAcceptedLaw
 tables_law dir folder state = (tables_read dir folder state, state_read dir folder state)
 
 -- a session's inputs, from its script and its tables
-session_read : (script : Result Statement Refused) (tables : Result State Refused) (statement : Statement) (state : State) → both_of script tables ≡ Ok (statement, state) → (script ≡ Ok statement) × (tables ≡ Ok state)
+session_read : (script : Result Statement BadInput) (tables : Result State BadInput) (statement : Statement) (state : State) → both_of script tables ≡ Ok (statement, state) → (script ≡ Ok statement) × (tables ≡ Ok state)
 session_read (Ok one) (Ok other) statement state e =
     let same : (one, other) ≡ (statement, state) = cc in
     (ap (λ (both : Statement × State). Ok both.0) same, ap (λ (both : Statement × State). Ok both.1) same)
 session_read (Ok one) (Err first) statement state e = absurd (cc)
 session_read (Err first) tables statement state e = absurd (cc)
 
-both_read : (script : Result Statement Refused) (tables : Result State Refused) (statement : Statement) (state : State) → (script ≡ Ok statement) × (tables ≡ Ok state) → both_of script tables ≡ Ok (statement, state)
+both_read : (script : Result Statement BadInput) (tables : Result State BadInput) (statement : Statement) (state : State) → (script ≡ Ok statement) × (tables ≡ Ok state) → both_of script tables ≡ Ok (statement, state)
 both_read script tables statement state (one, other) = rw (one, other) refl
 
 pub session_law : SessionAcceptedLaw

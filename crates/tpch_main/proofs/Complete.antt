@@ -5,7 +5,7 @@ use Rattle.std.specs.Result.{result_err}
 use Rattle.std.specs.declared.result.Result.{Result}
 use Rattle.std.specs.declared.result.Result.TheVariants.{Ok, Err}
 use Rattle.tpch_outside.specs.Outside.{Folder}
-use Rattle.tpch_main.specs.Inputs.{Refused, session_inputs, state_in}
+use Rattle.tpch_main.specs.Inputs.{BadInput, session_inputs, state_in}
 use Rattle.tpch_main.specs.Meaning.{IsAccepted, IsAnswer, Prints, PrintsOf}
 use Rattle.tpch_main.specs.Words.{Command}
 use Rattle.tpch_main.specs.Words.Command.{check, session}
@@ -13,11 +13,11 @@ use Rattle.tpch_main.specs.declared.status.Status.{Status}
 use Rattle.tpch_main.specs.declared.status.Status.TheVariants as status
 
 -- inputs of which none is refused are there
-read_whole : {A : Type 0} → (Means : A → List ℕ → Type 0) (inputs : Result A Refused) (text : List ℕ) (s : Status) → PrintsOf Means inputs text s → result_err inputs ≡ None → s ≡ status.Done
+read_whole : {A : Type 0} → (Means : A → List ℕ → Type 0) (inputs : Result A BadInput) (text : List ℕ) (s : Status) → PrintsOf Means inputs text s → result_err inputs ≡ None → s ≡ status.Done
 read_whole Means (Ok read) text s prints accepted = prints.1
 read_whole Means (Err refused) text s prints accepted = absurd (elim_some refused accepted)
   where
-    elim_some : (r : Refused) → Some r ≡ None → ⊥
+    elim_some : (r : BadInput) → Some r ≡ None → ⊥
     elim_some r e = cc
 
 -- what an accepted command prints, it prints with the status of an answer

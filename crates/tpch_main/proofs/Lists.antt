@@ -13,23 +13,23 @@ use Rattle.tpch_schema.specs.Kinds.{RowsAreOf}
 use Rattle.tpch_schema.specs.Tables.{all_tables}
 use Rattle.tpch_schema.specs.declared.table.TableName.TheVariants as table
 use Rattle.tpch_main.specs.Lists.{AreOf}
-use Rattle.tpch_main.specs.Inputs.{Refused, and_then, lists_in, table_in}
+use Rattle.tpch_main.specs.Inputs.{BadInput, and_then, lists_in, table_in}
 use Rattle.tpch_main.specs.Views.{Explains, Told, refused_view}
-use Rattle.tpch_main.specs.declared.input.InputError.{InputError}
-use Rattle.tpch_main.specs.declared.input.InputError.TheVariants as error
+use Rattle.tpch_main.specs.declared.input_error.InputError.{InputError}
+use Rattle.tpch_main.specs.declared.input_error.InputError.TheVariants as error
 
 -- what is read of further tables, behind what was read of those before
-abbrev pub behind : List (List (List Value)) → Result (List (List (List Value))) Refused → Result (List (List (List Value))) Refused
+abbrev pub behind : List (List (List Value)) → Result (List (List (List Value))) BadInput → Result (List (List (List Value))) BadInput
 behind before further = and_then further (λ lists. Ok (before ++ lists))
 
 -- one table's rows and those of further tables
-abbrev pub with_first : Result (List (List Value)) Refused → Result (List (List (List Value))) Refused → Result (List (List (List Value))) Refused
+abbrev pub with_first : Result (List (List Value)) BadInput → Result (List (List (List Value))) BadInput → Result (List (List (List Value))) BadInput
 with_first first further = and_then first (λ rows. and_then further (λ lists. Ok (rows ∷ lists)))
 
 pub lists_step : (dir : List ℕ) (tables : List TableName) (i : ℕ) (d : TableName) (folder : Folder) → i < length tables → lists_in dir (drop i tables) folder ≡ with_first (table_in dir (slice_index_or tables i d) folder) (lists_in dir (drop (i + 1) tables) folder)
 lists_step dir tables i d folder inside = rw (add-one, drop-cons tables i d) refl
 
-pub behind_more : (before : List (List (List Value))) (rows : List (List Value)) (further : Result (List (List (List Value))) Refused) → behind before (with_first (Ok rows) further) ≡ behind (before ++ rows ∷ []) further
+pub behind_more : (before : List (List (List Value))) (rows : List (List Value)) (further : Result (List (List (List Value))) BadInput) → behind before (with_first (Ok rows) further) ≡ behind (before ++ rows ∷ []) further
 behind_more before rows (Ok lists) = ap Ok (sym (append_assoc before (rows ∷ []) lists))
 behind_more before rows (Err refused) = refl
 
@@ -51,8 +51,7 @@ pub lists_refused : (held later : Option Folder) (dir : List ℕ) (tables : List
     → Told held (λ folder. lists_in dir tables folder ≡ behind before (lists_in dir (drop i tables) folder))
     → Explains later (table_in dir (slice_index_or tables i d)) made
     → Explains held (lists_in dir tables) made
-lists_refused held later dir tables i d before error.Fault same inside so_far why = tt
-lists_refused held later dir tables i d before error.Memory same inside so_far why = tt
+lists_refused held later dir tables i d before (error.Unread unread) same inside so_far why = tt
 lists_refused None later dir tables i d before (error.Refused refusal) same inside so_far why = tt
 lists_refused (Some folder) None dir tables i d before (error.Refused refusal) same inside so_far why = absurd (cc)
 lists_refused (Some folder) (Some other) dir tables i d before (error.Refused refusal) same inside so_far why =

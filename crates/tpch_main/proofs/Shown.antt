@@ -12,7 +12,7 @@ use Rattle.tpch_schema.specs.Tables.{kinds_of}
 use Rattle.tpch_schema.specs.declared.column.ColumnKind.{ColumnKind}
 use Rattle.tpch_schema.specs.declared.column.ColumnKind.TheVariants as kind
 use Rattle.tpch_schema.specs.declared.table.TableName.{TableName}
-use Rattle.tpch_main.specs.Answer.{asked, is_below, kept, place_of, value_at}
+use Rattle.tpch_main.specs.Answer.{selected_values, is_below, selected_rows, place_of, value_at}
 use Rattle.tpch_main.specs.declared.statement.Statement.{Statement}
 
 -- values none of which is a fault have no fault among them
@@ -45,9 +45,9 @@ kinds_shown (k ∷ ks) (v ∷ vs) zero h = value_shown k v (both_true (is_of_kin
 kinds_shown (k ∷ ks) (v ∷ vs) (suc place) h = kinds_shown ks vs place (both_true (is_of_kind k v) (are_of_kinds ks vs) h).1
 
 -- what a statement asks for of a table has no fault, in whatever order
-pub asked_shown : (table : TableName) (statement : Statement) (rows : List (List Value)) (sorted : List Value) → RowsAreOf table rows → IsPermutation (asked statement rows) sorted → IsTrue (has_no_fault sorted)
-asked_shown table statement rows sorted kinds same =
-    all_shown sorted (All-permutation (λ v. IsTrue (is_no_fault v)) (asked statement rows) sorted same
-    (All-map (λ v. IsTrue (is_no_fault v)) (value_at (place_of statement.column)) (kept statement rows)
+pub selected_shown : (table : TableName) (statement : Statement) (rows : List (List Value)) (sorted : List Value) → RowsAreOf table rows → IsPermutation (selected_values statement rows) sorted → IsTrue (has_no_fault sorted)
+selected_shown table statement rows sorted kinds same =
+    all_shown sorted (All-permutation (λ v. IsTrue (is_no_fault v)) (selected_values statement rows) sorted same
+    (All-map (λ v. IsTrue (is_no_fault v)) (value_at (place_of statement.column)) (selected_rows statement rows)
     (All-filter (λ row. is_below statement.limit (value_at 0 row)) (λ row. IsTrue (is_no_fault (value_at (place_of statement.column) row))) rows
     (λ k d inside. kinds_shown (kinds_of table) _ (place_of statement.column) (kinds k d inside)))))

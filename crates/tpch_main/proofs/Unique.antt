@@ -12,7 +12,7 @@ use Rattle.std.specs.declared.cmp.Ordering.TheVariants.{Less, Equal, Greater}
 use Rattle.sql_value.proofs.Orders.{row_ties, value_total}
 use Rattle.sql_value.specs.Value.{value_cmp}
 use Rattle.sql_value.specs.declared.value.Value.{Value}
-use Rattle.tpch_main.specs.Answer.{InOrder, asked, values_text}
+use Rattle.tpch_main.specs.Answer.{InOrder, selected_values, values_text}
 use Rattle.tpch_main.specs.Laws.{AnswerLaw}
 
 -- 1 where an element is less than x
@@ -76,4 +76,4 @@ values_tell x y e = head_of (row_ties (x ∷ []) (y ∷ []) (rw e refl))
     head_of same = cc
 
 pub answer_law : AnswerLaw
-answer_law statement rows a b (xs, up, is) (ys, down, as_well) = is ∙ ap values_text (in_order_once value_cmp value_total values_tell (asked statement rows) xs ys up down) ∙ sym as_well
+answer_law statement rows a b (xs, up, is) (ys, down, as_well) = is ∙ ap values_text (in_order_once value_cmp value_total values_tell (selected_values statement rows) xs ys up down) ∙ sym as_well

@@ -21,8 +21,8 @@ is_below limit (value.Number scale c) = int_lt c (pos limit)
 is_below limit v = false
 
 -- the rows whose key, their first value, is below the statement's number
-abbrev pub kept : Statement → List (List Value) → List (List Value)
-kept statement rows = filter (λ row. is_below statement.limit (value_at 0 row)) rows
+abbrev pub selected_rows : Statement → List (List Value) → List (List Value)
+selected_rows statement rows = filter (λ row. is_below statement.limit (value_at 0 row)) rows
 
 -- the place of a column
 abbrev pub place_of : Column → ℕ
@@ -31,8 +31,8 @@ place_of column.Name = 1
 place_of column.Comment = 2
 
 -- the statement's column of the rows that it keeps
-abbrev pub asked : Statement → List (List Value) → List Value
-asked statement rows = map (value_at (place_of statement.column)) (kept statement rows)
+abbrev pub selected_values : Statement → List (List Value) → List Value
+selected_values statement rows = map (value_at (place_of statement.column)) (selected_rows statement rows)
 
 -- the same values in ascending order
 pub record InOrder {X : Type 0} (cmp : X → X → Ordering) (values sorted : List X) : Type 0 where
@@ -40,13 +40,13 @@ pub record InOrder {X : Type 0} (cmp : X → X → Ordering) (values sorted : Li
   pub ascending : IsSorted cmp sorted
 
 -- a row of one value
-abbrev pub alone : Value → List Value
-alone v = v ∷ []
+abbrev pub row_of : Value → List Value
+row_of v = v ∷ []
 
 -- the first statement's line over version 0, and below it the values, each in a row of its own
 abbrev pub values_text : List Value → List ℕ
-values_text values = header 1 0 (length values) ++ answer_text (map alone values)
+values_text values = header 1 0 (length values) ++ answer_text (map row_of values)
 
 -- the text is the statement's answer over the rows: the values that it asks for, in ascending order
 abbrev pub IsAnswerText : Statement → List (List Value) → List ℕ → Type 0
-IsAnswerText statement rows text = (values : List Value) × InOrder value_cmp (asked statement rows) values × (text ≡ values_text values)
+IsAnswerText statement rows text = (values : List Value) × InOrder value_cmp (selected_values statement rows) values × (text ≡ values_text values)

@@ -7,10 +7,10 @@ use Rattle.tpch_outside.specs.Outside.{Folder}
 use Rattle.tpch_schema.specs.State.{State}
 use Rattle.tpch_main.specs.Answer.{IsAnswerText}
 use Rattle.tpch_main.specs.Counts.{counts_text}
-use Rattle.tpch_main.specs.Inputs.{Refused, refusal_line, session_inputs, state_in}
+use Rattle.tpch_main.specs.Inputs.{BadInput, refusal_line, session_inputs, state_in}
 use Rattle.tpch_main.specs.Script.{script_of}
-use Rattle.tpch_main.specs.declared.input.Cause.{Cause}
-use Rattle.tpch_main.specs.declared.input.Cause.TheVariants as cause
+use Rattle.tpch_main.specs.declared.input_error.InputFault.{InputFault}
+use Rattle.tpch_main.specs.declared.input_error.InputFault.TheVariants as fault
 use Rattle.tpch_main.specs.declared.statement.Column.TheVariants as column
 use Rattle.tpch_main.specs.declared.statement.Statement.{Statement}
 
@@ -52,8 +52,8 @@ abbrev pub good_script : List ℕ × List ℕ
 good_script = (codes "s", codes "select r_name from region where r_regionkey < 2;")
 
 -- the input of that name is refused
-abbrev pub refused : {A : Type 0} → List ℕ → Cause → Result A Refused
-refused name why = Err (record { name = name; cause = why })
+abbrev pub refused : {A : Type 0} → List ℕ → InputFault → Result A BadInput
+refused name why = Err (record { name = name; fault = why })
 
 pub record Examples : Type 0 where
   -- a script is a statement with its semicolon, and with one LF behind it or none
@@ -62,16 +62,16 @@ pub record Examples : Type 0 where
   pub unended : script_of (codes "select r_name from region where r_regionkey < 2") ≡ None
   pub two_lines : script_of (codes "select r_name from region where r_regionkey < 2;\n\n") ≡ None
   -- the first refused input counts: the script comes before the tables, region before nation
-  pub script_first : session_inputs (codes "d") (codes "s") [] ≡ refused (codes "s") cause.Absent
-  pub region_first : state_in (codes "d") (bad_nation ∷ []) ≡ refused (codes "d/region.tbl") cause.Absent
-  pub line_refused : state_in (codes "d") (bad_nation ∷ no_region ∷ []) ≡ refused (codes "d/nation.tbl") (cause.Line (record { line = 2; fault = DuplicateKey }))
+  pub script_first : session_inputs (codes "d") (codes "s") [] ≡ refused (codes "s") fault.Absent
+  pub region_first : state_in (codes "d") (bad_nation ∷ []) ≡ refused (codes "d/region.tbl") fault.Absent
+  pub line_refused : state_in (codes "d") (bad_nation ∷ no_region ∷ []) ≡ refused (codes "d/nation.tbl") (fault.Line (record { line = 2; fault = DuplicateKey }))
   -- good inputs are accepted, with the rows of their files
   pub accepted : state_in (codes "d") good_folder ≡ Ok regions_only
   pub both_accepted : session_inputs (codes "d") (codes "s") (good_script ∷ good_folder) ≡ Ok (names_below_two, regions_only)
-  pub one_missing : state_in (codes "d") (good_region ∷ []) ≡ refused (codes "d/nation.tbl") cause.Absent
+  pub one_missing : state_in (codes "d") (good_region ∷ []) ≡ refused (codes "d/nation.tbl") fault.Absent
   -- and a refused one is printed with its name, and a bad line with its place
-  pub absent_line : refusal_line (record { name = codes "d/region.tbl"; cause = cause.Absent }) ≡ codes "input refused d/region.tbl absent\n"
-  pub bad_line : refusal_line (record { name = codes "d/nation.tbl"; cause = cause.Line (record { line = 2; fault = DuplicateKey }) }) ≡ codes "input refused d/nation.tbl line 2 7 DuplicateKey\n"
+  pub absent_line : refusal_line (record { name = codes "d/region.tbl"; fault = fault.Absent }) ≡ codes "input refused d/region.tbl absent\n"
+  pub bad_line : refusal_line (record { name = codes "d/nation.tbl"; fault = fault.Line (record { line = 2; fault = DuplicateKey }) }) ≡ codes "input refused d/nation.tbl line 2 7 DuplicateKey\n"
   -- each table's rows are counted, in the schema's order
   pub counted : counts_text regions_only ≡ codes "region rows 3\nnation rows 0\npart rows 0\nsupplier rows 0\npartsupp rows 0\ncustomer rows 0\norders rows 0\nlineitem rows 0\n"
   -- an answer has its header line and its rows

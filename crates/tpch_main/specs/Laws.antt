@@ -7,7 +7,7 @@ use Rattle.tpch_schema.specs.State.{State, table_rows}
 use Rattle.tpch_schema.specs.Tables.{all_tables}
 use Rattle.tpch_schema.specs.declared.table.TableName.{TableName}
 use Rattle.tpch_main.specs.Answer.{IsAnswerText}
-use Rattle.tpch_main.specs.Inputs.{Refused, script_in, session_inputs, state_in, table_in}
+use Rattle.tpch_main.specs.Inputs.{BadInput, script_in, session_inputs, state_in, table_in}
 use Rattle.sql_value.specs.declared.value.Value.{Value}
 use Rattle.tpch_main.specs.Script.{script_front, script_of, value_after}
 use Rattle.tpch_main.specs.declared.statement.Statement.{Statement}
@@ -36,7 +36,7 @@ abbrev pub AnswerLaw : Type 0
 AnswerLaw = (statement : Statement) (rows : List (List Value)) (a b : List ℕ) → IsAnswerText statement rows a → IsAnswerText statement rows b → a ≡ b
 
 -- one of the tables is refused so, and those before it are there and of their form
-pub record IsFirstBadTable (dir : List ℕ) (folder : Folder) (tables : List TableName) (refused : Refused) : Type 0 where
+pub record IsFirstBadTable (dir : List ℕ) (folder : Folder) (tables : List TableName) (refused : BadInput) : Type 0 where
   pub before : List TableName
   pub table : TableName
   pub behind : List TableName
@@ -46,7 +46,7 @@ pub record IsFirstBadTable (dir : List ℕ) (folder : Folder) (tables : List Tab
 
 -- the tables of a folder are refused exactly as the first bad one of them is, in the schema's order
 abbrev pub TablesOrderLaw : Type 0
-TablesOrderLaw = (dir : List ℕ) (folder : Folder) (refused : Refused) → (state_in dir folder ≡ Err refused) ↔ IsFirstBadTable dir folder all_tables refused
+TablesOrderLaw = (dir : List ℕ) (folder : Folder) (refused : BadInput) → (state_in dir folder ≡ Err refused) ↔ IsFirstBadTable dir folder all_tables refused
 
 -- the tables of a folder are that state exactly where each table has that state's rows
 abbrev pub TablesAcceptedLaw : Type 0
@@ -58,4 +58,4 @@ SessionAcceptedLaw = (dir script : List ℕ) (folder : Folder) (statement : Stat
 
 -- a session's inputs are refused exactly as its script is, or, where that is good, as its tables are
 abbrev pub SessionOrderLaw : Type 0
-SessionOrderLaw = (dir script : List ℕ) (folder : Folder) (refused : Refused) → (session_inputs dir script folder ≡ Err refused) ↔ ((script_in folder script ≡ Err refused) ⊎ (IsOk (script_in folder script) × (state_in dir folder ≡ Err refused)))
+SessionOrderLaw = (dir script : List ℕ) (folder : Folder) (refused : BadInput) → (session_inputs dir script folder ≡ Err refused) ↔ ((script_in folder script ≡ Err refused) ⊎ (IsOk (script_in folder script) × (state_in dir folder ≡ Err refused)))

@@ -8,6 +8,7 @@ pub mod Counts
 pub mod Inputs
 pub mod Meaning
 pub mod Views
+pub mod FilesAfter
 pub mod Laws
 pub mod Examples
 pub mod Front

@@ -1,15 +1,16 @@
 -- What a run of the program prints, and with which status.
 use Rattle.std.specs.Prelude.{◌≡◌, ◌⊎◌, ℕ, List, ⊤, Option, None, Some}
+use Rattle.std.specs.Io.KnownBytes.{Appends}
 use Rattle.std.specs.Result.{result_err}
 use Rattle.std.specs.declared.result.Result.{Result}
 use Rattle.std.specs.declared.result.Result.TheVariants.{Ok, Err}
-use Rattle.tpch_outside.specs.Outside.{Folder}
+use Rattle.tpch_outside.specs.Outside.{AppendsPart, Folder}
 use Rattle.tpch_main.specs.Answer.{IsAnswerText}
 use Rattle.tpch_main.specs.Counts.{counts_text}
-use Rattle.tpch_main.specs.Inputs.{Refused, refusal_line, session_inputs, state_in}
+use Rattle.tpch_main.specs.Inputs.{BadInput, refusal_line, session_inputs, state_in}
 use Rattle.tpch_main.specs.Words.{Command, usage_line}
 use Rattle.tpch_main.specs.Words.Command.{check, session}
-use Rattle.tpch_main.specs.declared.input.Cause.TheVariants as cause
+use Rattle.tpch_main.specs.declared.input_error.InputFault.TheVariants as fault
 use Rattle.tpch_main.specs.declared.status.Status.{Status}
 use Rattle.tpch_main.specs.declared.status.Status.TheVariants as status
 
@@ -24,7 +25,7 @@ IsAnswer status.WriteFault = ⊥
 IsAnswer status.OutOfMemory = ⊥
 
 -- what is printed of inputs: what they mean, or the line of the first refused one
-abbrev pub PrintsOf : {A : Type 0} → (A → List ℕ → Type 0) → Result A Refused → List ℕ → Status → Type 0
+abbrev pub PrintsOf : {A : Type 0} → (A → List ℕ → Type 0) → Result A BadInput → List ℕ → Status → Type 0
 PrintsOf Means (Ok inputs) text s = Means inputs text × (s ≡ status.Done)
 PrintsOf Means (Err refused) text s = (text ≡ refusal_line refused) × (s ≡ status.InputRefused)
 
@@ -47,8 +48,16 @@ Prints (Some command) (Some folder) text s = PrintsFrom command folder text s
 abbrev pub MayPrint : Option Command → Option Folder → List ℕ → Type 0
 MayPrint command told text = (s : Status) × Prints command told text s
 
+-- on an answer the sink took a whole text that may be printed with just that status
+abbrev pub TakesWhole : Option Command → Option Folder → Option (List ℕ) → Option (List ℕ) → Status → Type 0
+TakesWhole command told before now s = IsAnswer s → ((text : List ℕ) × Prints command told text s × Appends before now text)
+
+-- the sink took a part, from its front, of a text that may be printed
+abbrev pub TakesPart : Option Command → Option Folder → Option (List ℕ) → Option (List ℕ) → Type 0
+TakesPart command told before now = (text : List ℕ) × MayPrint command told text × AppendsPart before now text
+
 -- the first refused input, if there is one
-abbrev pub first_refused : Command → Folder → Option Refused
+abbrev pub first_refused : Command → Folder → Option BadInput
 first_refused (session dir script) folder = result_err (session_inputs dir script folder)
 first_refused (check dir) folder = result_err (state_in dir folder)
 
@@ -56,7 +65,7 @@ first_refused (check dir) folder = result_err (state_in dir folder)
 abbrev pub IsAbsentInput : Option Command → Option Folder → Type 0
 IsAbsentInput None told = ⊥
 IsAbsentInput (Some command) None = ⊥
-IsAbsentInput (Some command) (Some folder) = (name : List ℕ) × (first_refused command folder ≡ Some (record { name = name; cause = cause.Absent }))
+IsAbsentInput (Some command) (Some folder) = (name : List ℕ) × (first_refused command folder ≡ Some (record { name = name; fault = fault.Absent }))
 
 -- the words are a command, and each file that it names is told, is there and is of its form
 abbrev pub IsAccepted : Option Command → Option Folder → Type 0

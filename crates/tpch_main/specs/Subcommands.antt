@@ -4,16 +4,16 @@ use Rattle.clap.specs.Simple.{on_top}
 use Rattle.clap.specs.Words.{App, Rule, new_app, new_rule, with_rule, with_subcommand}
 
 -- an argument that has to be there, and is known by its place among the words
-abbrev pub wanted : List ℕ → Rule
-wanted name = record (new_rule name) { required = true }
+abbrev pub required_argument : List ℕ → Rule
+required_argument name = record (new_rule name) { required = true }
 
 -- `session DIR SCRIPT`
 abbrev pub session_app : App
-session_app = with_rule (with_rule (new_app (codes "session")) (wanted (codes "DIR"))) (wanted (codes "SCRIPT"))
+session_app = with_rule (with_rule (new_app (codes "session")) (required_argument (codes "DIR"))) (required_argument (codes "SCRIPT"))
 
 -- `check DIR`
 abbrev pub check_app : App
-check_app = with_rule (new_app (codes "check")) (wanted (codes "DIR"))
+check_app = with_rule (new_app (codes "check")) (required_argument (codes "DIR"))
 
 -- the program, whose words begin with the name of a subcommand
 abbrev pub bare_app : App

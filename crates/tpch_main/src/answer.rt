@@ -4,7 +4,7 @@ ghost use Rattle.result_text.specs.Answer.{has_no_fault};
 ghost use Rattle.sql_value.specs.Value.{value_cmp};
 ghost use Rattle.tpch_schema.specs.Kinds.{RowsAreOf};
 ghost use Rattle.tpch_schema.specs.declared.table.TableName.TheVariants.{Region};
-ghost use Rattle.tpch_main.specs.Answer.{InOrder, IsAnswerText, asked, is_below, place_of, value_at, values_text};
+ghost use Rattle.tpch_main.specs.Answer.{InOrder, IsAnswerText, selected_values, is_below, place_of, value_at, values_text};
 
 use crate::statement::{Column, Statement};
 use result_text::{header, push_row};
@@ -45,7 +45,7 @@ fn is_kept(row: &[Value], limit: u64) -> bool
 
 /// The values that the statement asks for, in the rows' order.
 fn values(alloc: Global, statement: Statement, rows: &[Row]) -> Result<Vec<Value>, AllocError>
-    ensures { IfOk result (λ v. v.items ≡ asked statement rows.now) }
+    ensures { IfOk result (λ v. v.items ≡ selected_values statement rows.now) }
 {
     let place = place(statement.column);
     let mut found = Vec::new(alloc);

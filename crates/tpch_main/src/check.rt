@@ -1,12 +1,12 @@
 //! How many rows each table of a folder has.
-ghost use Rattle.std.specs.Prelude.{◌≡◌, ◌≤◌, ◌++◌, IfErr, IfOk, IsErrOf, OnOk};
+ghost use Rattle.std.specs.Prelude.{◌≡◌, ◌++◌, IfOk, OnOk};
 ghost use Rattle.std.specs.List.{flat_map};
-ghost use Rattle.tpch_outside.specs.Outside.{Rose};
 ghost use Rattle.tpch_main.specs.Counts.{count_line, counts_text};
+ghost use Rattle.tpch_main.specs.FilesAfter.{FilesAfterInput};
 ghost use Rattle.tpch_main.specs.Inputs.{state_in};
-ghost use Rattle.tpch_main.specs.Views.{Answers, IsAbsence};
+ghost use Rattle.tpch_main.specs.Views.{Answers};
 
-use crate::input::InputError;
+use crate::input_error::InputError;
 use crate::tables::read_state;
 use itoa::Buffer;
 use std::alloc::{AllocError, Global};
@@ -51,11 +51,7 @@ pub fn check_text<F: Files>(
     folder: &str,
 ) -> Result<Vec<u8>, InputError>
     ensures answer { Answers (λ state text. text ≡ counts_text state) (F.held files.old) (state_in folder.now) result }
-    ensures held { F.held files.new ≡ F.held files.old }
-    ensures fault { IsErrOf result InputError.Fault → Rose (F.faults files.old) (F.faults files.new) }
-    ensures absent { IfErr result (λ e. IsAbsence e → Rose (F.misses files.old) (F.misses files.new)) }
-    ensures faults { F.faults files.old ≤ F.faults files.new }
-    ensures misses { F.misses files.old ≤ F.misses files.new }
+    ensures files { FilesAfterInput F.held F.faults F.misses result files.old files.new }
 {
     let state = read_state(alloc, files, folder)?;
     let text = counts_text(alloc, &state)?;

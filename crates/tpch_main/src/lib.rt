@@ -6,8 +6,11 @@
 mod answer;
 mod check;
 mod input;
+mod input_error;
 pub mod laws;
 mod output;
+mod refusal_line;
+mod run;
 mod session;
 mod statement;
 mod status;

@@ -5,54 +5,43 @@ ghost use Rattle.tpch_outside.specs.Outside.{AppendsPart, Rose};
 ghost use Rattle.tpch_main.specs.Meaning.{IsAnswer};
 
 use crate::Status;
-use std::alloc::AllocError;
 use tpch_outside::{Put, Sink};
 
-/// Why a run stops without a text, or before its text's end.
+/// Why a text was not taken whole.
 #[derive(Clone, Copy, Debug, PartialEq, Eq)]
-pub enum Stop {
-    /// Reading or writing failed.
+enum WriteError {
+    /// Writing failed.
     Fault,
-    /// Memory was wanted.
-    Memory,
-}
-
-impl From<AllocError> for Stop {
-    ghost use Rattle.tpch_main.specs.declared.output.Stop.TheVariants.{Memory};
-
-    ghost from_gives = { λ _ e. e ≡ Memory };
-
-    fn from(_: AllocError) -> Self {
-        Stop::Memory
-    }
+    /// Memory ran out.
+    OutOfMemory,
 }
 
 /// One call of the sink, at which no byte taken is a fault.
-fn put_some<S: Sink>(out: &mut S, piece: &[u8]) -> Result<usize, Stop>
+fn put_some<S: Sink>(out: &mut S, piece: &[u8]) -> Result<usize, WriteError>
     requires { 0 < length piece.now }
     ensures took { IfOk result (λ n. (0 < n) × (n ≤ length piece.now)
         × Appends (S.taken out.old) (S.taken out.new) (take n piece.now)) }
     ensures kept { OnErr result (Appends (S.taken out.old) (S.taken out.new) []) }
-    ensures fault { IsErrOf result Stop.Fault → Rose (S.faults out.old) (S.faults out.new) }
+    ensures fault { IsErrOf result WriteError.Fault → Rose (S.faults out.old) (S.faults out.new) }
     ensures later { S.faults out.old ≤ S.faults out.new }
 {
     match out.put(piece) {
         Put::Took(n) => {
             if n == 0 {
-                return Err(Stop::Fault);
+                return Err(WriteError::Fault);
             }
             Ok(n)
         }
-        Put::Failed => Err(Stop::Fault),
-        Put::OutOfMemory => Err(Stop::Memory),
+        Put::Failed => Err(WriteError::Fault),
+        Put::OutOfMemory => Err(WriteError::OutOfMemory),
     }
 }
 
 /// Writes all of the text.
-fn write_all<S: Sink>(out: &mut S, text: &[u8]) -> Result<(), Stop>
+fn write_all<S: Sink>(out: &mut S, text: &[u8]) -> Result<(), WriteError>
     ensures whole { OnOk result (Appends (S.taken out.old) (S.taken out.new) text.now) }
     ensures part { AppendsPart (S.taken out.old) (S.taken out.new) text.now }
-    ensures fault { IsErrOf result Stop.Fault → Rose (S.faults out.old) (S.faults out.new) }
+    ensures fault { IsErrOf result WriteError.Fault → Rose (S.faults out.old) (S.faults out.new) }
     ensures later { S.faults out.old ≤ S.faults out.new }
 {
     let mut at = 0;
@@ -73,7 +62,7 @@ pub fn write_text<S: Sink>(out: &mut S, text: &[u8], status: Status) -> Status
 {
     match write_all(out, text) {
         Ok(()) => status,
-        Err(Stop::Fault) => Status::WriteFault,
-        Err(Stop::Memory) => Status::OutOfMemory,
+        Err(WriteError::Fault) => Status::WriteFault,
+        Err(WriteError::OutOfMemory) => Status::OutOfMemory,
     }
 }

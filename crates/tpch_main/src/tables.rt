@@ -1,19 +1,20 @@
 //! Reading the eight tables of a folder.
-ghost use Rattle.std.specs.Prelude.{◌≡◌, ℕ, ◌<◌, ◌≤◌, List, [], ◌++◌, IfErr, IfOk, IsErrOf, MatchResult, length, map, slice_index_or};
+ghost use Rattle.std.specs.Prelude.{◌≡◌, ℕ, List, ◌++◌, IfOk, MatchResult, length, map};
 ghost use Rattle.std.specs.String.{string_bytes};
 ghost use Rattle.std.specs.Vec.{vec_items};
 ghost use Rattle.table_state.specs.Lists.{IsOfKinds, state_of};
 ghost use Rattle.tbl_reader.specs.Fault.{IsFaultOf};
 ghost use Rattle.tbl_reader.specs.File.{file_rows, most_bytes};
-ghost use Rattle.tpch_outside.specs.Outside.{Rose};
 ghost use Rattle.tpch_schema.specs.Kinds.{RowsAreOf};
 ghost use Rattle.tpch_schema.specs.Tables.{all_tables};
 ghost use Rattle.tpch_main.specs.Front.{IsFront};
 ghost use Rattle.tpch_main.specs.Lists.{AreOf};
+ghost use Rattle.tpch_main.specs.FilesAfter.{FilesAfterInput};
 ghost use Rattle.tpch_main.specs.Inputs.{lists_in, state_in, table_file, table_in};
-ghost use Rattle.tpch_main.specs.Views.{IsAbsence, Reads};
+ghost use Rattle.tpch_main.specs.Views.{Reads};
 
-use crate::input::{Cause, InputError, front, refused};
+use crate::input::front;
+use crate::input_error::{InputError, InputFault, ReadError, refused};
 use sql_value::Row;
 use std::alloc::{AllocError, Global};
 use table_state::State;
@@ -57,22 +58,22 @@ fn read_table<F: Files>(
 ) -> Result<Vec<Row>, InputError>
     ensures input { Reads vec_items (F.held files.old) (table_in folder.now table) result }
     ensures kinds { IfOk result (λ rows. RowsAreOf table rows.items) }
-    ensures held { F.held files.new ≡ F.held files.old }
-    ensures fault { IsErrOf result InputError.Fault → Rose (F.faults files.old) (F.faults files.new) }
-    ensures absent { IfErr result (λ e. IsAbsence e → Rose (F.misses files.old) (F.misses files.new)) }
-    ensures faults { F.faults files.old ≤ F.faults files.new }
-    ensures misses { F.misses files.old ≤ F.misses files.new }
+    ensures files { FilesAfterInput F.held F.faults F.misses result files.old files.new }
 {
     let name = file_name(alloc, folder, table)?;
     match files.open(&name) {
-        Open::Failed => Err(InputError::Fault),
-        Open::Absent => Err(refused(alloc, &name, Cause::Absent)),
+        Open::Failed => Err(InputError::Unread(ReadError::Fault)),
+        Open::Absent => Err(refused(alloc, &name, InputFault::Absent)),
         Open::Opened => {
             let bytes = front(alloc, files, TABLE_LIMIT)?;
             match rows_from(alloc, table, &bytes) {
                 Ok(rows) => Ok(rows),
-                Err(ReadFault::Refused(first)) => Err(refused(alloc, &name, Cause::Line(first))),
-                Err(ReadFault::OutOfMemory) => Err(InputError::Memory),
+                Err(ReadFault::Refused(first)) => Err(refused(
+                    alloc,
+                    &name,
+                    InputFault::Line(first),
+                )),
+                Err(ReadFault::OutOfMemory) => Err(InputError::Unread(ReadError::OutOfMemory)),
             }
         }
     }
@@ -88,11 +89,7 @@ fn read_tables<F: Files>(
     ensures input { Reads (λ tables. map vec_items tables.items) (F.held files.old) (lists_in folder.now names.now) result }
     ensures length { IfOk result (λ tables. length tables.items ≡ length names.now) }
     ensures kinds { IfOk result (λ tables. AreOf names.now (map vec_items tables.items)) }
-    ensures held { F.held files.new ≡ F.held files.old }
-    ensures fault { IsErrOf result InputError.Fault → Rose (F.faults files.old) (F.faults files.new) }
-    ensures absent { IfErr result (λ e. IsAbsence e → Rose (F.misses files.old) (F.misses files.new)) }
-    ensures faults { F.faults files.old ≤ F.faults files.new }
-    ensures misses { F.misses files.old ≤ F.misses files.new }
+    ensures files { FilesAfterInput F.held F.faults F.misses result files.old files.new }
 {
     let mut tables = Vec::new(alloc);
     for name in names {
@@ -105,11 +102,7 @@ fn read_tables<F: Files>(
 /// The tables of the folder.
 pub fn read_state<F: Files>(alloc: Global, files: &mut F, folder: &str) -> Result<State, InputError>
     ensures input { Reads (λ state. state) (F.held files.old) (state_in folder.now) result }
-    ensures held { F.held files.new ≡ F.held files.old }
-    ensures fault { IsErrOf result InputError.Fault → Rose (F.faults files.old) (F.faults files.new) }
-    ensures absent { IfErr result (λ e. IsAbsence e → Rose (F.misses files.old) (F.misses files.new)) }
-    ensures faults { F.faults files.old ≤ F.faults files.new }
-    ensures misses { F.misses files.old ≤ F.misses files.new }
+    ensures files { FilesAfterInput F.held F.faults F.misses result files.old files.new }
 {
     let tables = read_tables(alloc, files, folder, &TABLES)?;
     Ok(State::new(tables))

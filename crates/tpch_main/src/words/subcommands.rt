@@ -2,14 +2,14 @@
 ghost use Rattle.std.specs.Prelude.{◌≡◌, IfOk, false};
 ghost use Rattle.clap.specs.Words.{app_of, rule_of};
 ghost use Rattle.clap.specs.declared.builder.Command.TheViews.{out-Command as fields_of};
-ghost use Rattle.tpch_main.specs.Subcommands.{check_app, program_app, session_app, wanted};
+ghost use Rattle.tpch_main.specs.Subcommands.{check_app, program_app, session_app, required_argument};
 
 use clap::{Arg, Command};
 use std::alloc::{AllocError, Global};
 
 /// An argument that has to be there, known by its place among the words.
-fn wanted<'a>(alloc: Global, name: &'a str) -> Arg<'a>
-    ensures rule { rule_of result ≡ wanted name.entry.now }
+fn required_argument<'a>(alloc: Global, name: &'a str) -> Arg<'a>
+    ensures rule { rule_of result ≡ required_argument name.entry.now }
     ensures local { result.global ≡ false }
 {
     Arg::new(alloc, name).required(true)
@@ -21,8 +21,8 @@ fn session<'a>(alloc: Global) -> Result<Command<'a>, AllocError>
     ensures local { IfOk result (λ command. (fields_of command).has_globals ≡ false) }
 {
     Command::new(alloc, "session")
-        .arg(wanted(alloc, "DIR"))?
-        .arg(wanted(alloc, "SCRIPT"))
+        .arg(required_argument(alloc, "DIR"))?
+        .arg(required_argument(alloc, "SCRIPT"))
 }
 
 /// `check DIR`
@@ -30,7 +30,7 @@ fn check<'a>(alloc: Global) -> Result<Command<'a>, AllocError>
     ensures app { IfOk result (λ command. app_of command ≡ check_app) }
     ensures local { IfOk result (λ command. (fields_of command).has_globals ≡ false) }
 {
-    Command::new(alloc, "check").arg(wanted(alloc, "DIR"))
+    Command::new(alloc, "check").arg(required_argument(alloc, "DIR"))
 }
 
 /// The program, whose words begin with the name of a subcommand.

@@ -23,7 +23,7 @@ loop-name-preserved g c =
       subst (λ (lists : List (List (List Value))). Told held (λ folder. lists_in c.args.folder.now names folder ≡ behind lists (lists_in c.args.folder.now (drop (i + 1) names) folder))) (sym pushed) told,
       count_pushed c.loop-name.tables.items c.push.new.self.items c.in_ok-rows.rows i c.in_ok-push.ensures.items invariant.1,
       subst (AreOf names) (sym pushed) kinds,
-      c.read_table.ensures.held ∙ invariant.3,
-      le_trans invariant.4 c.read_table.ensures.faults,
-      le_trans invariant.5 c.read_table.ensures.misses,
+      c.read_table.ensures.files.held ∙ invariant.3,
+      le_trans invariant.4 c.read_table.ensures.files.faults,
+      le_trans invariant.5 c.read_table.ensures.files.misses,
     )

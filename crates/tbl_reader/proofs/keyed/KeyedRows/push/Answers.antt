@@ -1,14 +1,13 @@
-use Rattle.std.proofs.Common.{◌≡◌, ap}
+use Rattle.std.proofs.Common.{◌≡◌, ap, IsTrue, true}
 use Rattle.std.proofs.lemmas.List.Elements.{All-push}
-use Rattle.tpch_schema.specs.Kinds.{RowIsOf}
-use Rattle.tbl_reader.proofs.Keys.{keys-push}
+use Rattle.tpch_schema.specs.LineForm.{file_form, fits}
 use Rattle.tbl_reader.proofs.keyed.KeyedRows.push.Goals as goal
 
-pub invariant_of-self-in-Ok-true : goal.invariant_of-self-in-Ok-true
-invariant_of-self-in-Ok-true c =
-    let table_is : c.self.inside.table ≡ c.args.self.now.table = ap (λ r. r.table) c.self.view_is in
-    let kinds : RowIsOf c.self.inside.table c.in_ok-row.row = rw (table_is, c.in_ok-row.ensures) c.requires in
-    let put = rw c.in-Ok-true.field-0-test at c.in-Ok-true.ensures.keys in (
-      rw (c.in_ok-push.ensures.items, keys-push) (cc (put, c.self.invariant.0, c.in_ok-key.ensures, c.as_slice.ensures.value, c.in_ok-row.ensures)),
-      rw c.in_ok-push.ensures.items (All-push (RowIsOf c.self.inside.table) _ _ c.self.invariant.1 kinds),
+pub invariant_of-self-in-Ok : goal.invariant_of-self-in-Ok
+invariant_of-self-in-Ok c =
+    let form_is : file_form c.self.inside.file ≡ c.args.self.now.form = ap (λ r. r.form) c.self.view_is in
+    let fit : fits (file_form c.self.inside.file) c.args.values.items ≡ true = rw form_is c.requires in
+    let noted = rw (c.if-not-new.false, c.as_slice.ensures.value, c.as_slice-2.ensures.value) at c.in_ok-new.ensures.noted in (
+      λ unique. rw c.in-Ok.ensures.ok (noted unique),
+      rw c.in-Ok.ensures.ok (All-push (λ row. IsTrue (fits (file_form c.self.inside.file) row)) _ _ c.self.invariant.1 fit),
     )

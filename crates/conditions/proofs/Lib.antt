@@ -1,0 +1,4 @@
+pub mod Ranks
+pub mod Gather
+pub mod Truths
+pub mod Implied

@@ -1,0 +1,10 @@
+-- Why a file gives no rows.
+use Rattle.std.specs.Prelude.{◌≡◌, Result, Err, ⊤}
+use Rattle.refusals.specs.declared.line.LineRefusal.{LineRefusal}
+use Rattle.tbl_reader.specs.declared.error.TableError.{TableError}
+use Rattle.tbl_reader.specs.declared.error.TableError.TheVariants.{Refused, OutOfMemory}
+
+-- the error is the refusal that stands there, or memory ran out
+abbrev pub IsErrorOf : {A : Type 0} → Result A LineRefusal → TableError → Type 0
+IsErrorOf r (Refused refusal) = r ≡ Err refusal
+IsErrorOf r OutOfMemory = ⊤

@@ -1,0 +1,92 @@
+//! A run from its words to its text. Nothing here waits or starts a thread, so each call is proved to return.
+ghost use Rattle.std.specs.Prelude.{◌≡◌, ◌≢◌, ◌≤◌, ◌⊎◌, ℕ, List, Some, IfOk, map};
+ghost use Rattle.std.specs.Io.KnownBytes.{Keeps};
+ghost use Rattle.std.specs.String.{string_bytes};
+ghost use Rattle.tpch_outside.specs.Outside.{Rose};
+ghost use Rattle.tpch_main.specs.FilesAfter.{FilesAfterInput, FilesAfterRead};
+ghost use Rattle.tpch_main.specs.Meaning.{IsAbsentInput, IsAccepted, IsAnswer, Prints, TakesPart, TakesWhole};
+ghost use Rattle.tpch_main.specs.Views.{IsTextOf, command_view};
+ghost use Rattle.tpch_main.specs.Words.{command_of};
+
+use crate::Status;
+use crate::check::check_text;
+use crate::input_error::{InputError, ReadError};
+use crate::output::write_text;
+use crate::refusal_line::line_of_refusal;
+use crate::session::session_text;
+use crate::words::{Command, read_words};
+use std::alloc::Global;
+use tpch_outside::{Files, Sink};
+
+static USAGE: &[u8] =
+    b"usage: tpch session DIR SCRIPT, throughput DIR JOB, explain SCRIPT, check DIR, trial N\n";
+
+/// The text of a command over its files.
+fn command_text<F: Files>(
+    alloc: Global,
+    files: &mut F,
+    command: &Command<'_>,
+) -> Result<Vec<u8>, InputError>
+    ensures text { IsTextOf (command_view command.now) (F.held files.old) result }
+    ensures files { FilesAfterInput F.held F.faults F.misses result files.old files.new }
+{
+    match command {
+        Command::Session { folder, script } => session_text(alloc, files, folder, script),
+        Command::Check { folder } => check_text(alloc, files, folder),
+    }
+}
+
+/// What a command prints, and its status: its text, or the line of its first refused input.
+fn printed<F: Files>(
+    alloc: Global,
+    files: &mut F,
+    command: &Command<'_>,
+) -> Result<(Vec<u8>, Status), ReadError>
+    ensures prints { IfOk result (λ printed. IsAnswer printed.1
+        × Prints (Some (command_view command.now)) (F.held files.old) printed.0.items printed.1) }
+    ensures absent { IfOk result (λ printed. IsAbsentInput (Some (command_view command.now)) (F.held files.old)
+        → Rose (F.misses files.old) (F.misses files.new)) }
+    ensures files { FilesAfterRead F.held F.faults F.misses result files.old files.new }
+{
+    match command_text(alloc, files, command) {
+        Ok(text) => Ok((text, Status::Done)),
+        Err(InputError::Refused(refused)) => {
+            let text = line_of_refusal(alloc, &refused)?;
+            Ok((text, Status::InputRefused))
+        }
+        Err(InputError::Unread(error)) => Err(error),
+    }
+}
+
+/// Reads the words and the files that they name, and writes one text. The clauses are those of `tpch`.
+pub fn run<F: Files, S: Sink>(alloc: Global, words: &[String], files: &mut F, out: &mut S) -> Status
+    ensures answer { TakesWhole (command_of (map string_bytes words.now)) (F.held files.old)
+        (S.taken out.old) (S.taken out.new) result }
+    ensures read { result ≡ Status.ReadFault → Rose (F.faults files.old) (F.faults files.new)
+        × Keeps (S.taken out.old) (S.taken out.new) }
+    ensures write { result ≡ Status.WriteFault → Rose (S.faults out.old) (S.faults out.new)
+        × TakesPart (command_of (map string_bytes words.now)) (F.held files.old) (S.taken out.old) (S.taken out.new) }
+    ensures memory { result ≡ Status.OutOfMemory → Keeps (S.taken out.old) (S.taken out.new)
+        ⊎ TakesPart (command_of (map string_bytes words.now)) (F.held files.old) (S.taken out.old) (S.taken out.new) }
+    ensures absent { result ≡ Status.InputRefused
+        → IsAbsentInput (command_of (map string_bytes words.now)) (F.held files.old)
+        → Rose (F.misses files.old) (F.misses files.new) }
+    ensures complete { IsAccepted (command_of (map string_bytes words.now)) (F.held files.old)
+        → ¬ Rose (F.faults files.old) (F.faults files.new) → ¬ Rose (S.faults out.old) (S.faults out.new)
+        → result ≢ Status.OutOfMemory → (result ≡ Status.Done) ⊎ (result ≡ Status.SomeRefused) }
+    ensures held { F.held files.new ≡ F.held files.old }
+    ensures counts { (F.faults files.old ≤ F.faults files.new) × (F.misses files.old ≤ F.misses files.new)
+        × (S.faults out.old ≤ S.faults out.new) }
+{
+    let Ok(read) = read_words(alloc, words) else {
+        return Status::OutOfMemory;
+    };
+    let Some(command) = read else {
+        return write_text(out, USAGE, Status::Usage);
+    };
+    match printed(alloc, files, &command) {
+        Ok((text, status)) => write_text(out, text.as_slice(), status),
+        Err(ReadError::Fault) => Status::ReadFault,
+        Err(ReadError::OutOfMemory) => Status::OutOfMemory,
+    }
+}
