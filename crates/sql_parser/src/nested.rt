@@ -1,8 +1,11 @@
 //! Parentheses that may hold a query: operands, EXISTS and IN.
-ghost use Rattle.grammar_laws.specs.Readings.{Reads};
+ghost use Rattle.grammar_laws.specs.Readings.{Reads, both, one};
+ghost use Rattle.sql_lexer.specs.Kinds.{is};
+ghost use Rattle.sql_lexer.specs.declared.kind.Kind.TheVariants as k;
 ghost use Rattle.sql_parser.specs.Nests.{Below};
 ghost use Rattle.sql_parser.specs.Readings as readings;
 ghost use Rattle.sql_parser.specs.Readings.{inner_part, inner_query, part_at, query_at};
+ghost use Rattle.sql_parser.specs.Values as values;
 ghost use Rattle.std.specs.Prelude.{◌<◌};
 
 use crate::calls::Calls;
@@ -98,17 +101,19 @@ impl<
         parser.leaf(self.alloc, self.room)
     }
 
-    /// `query | e {"," e}`, where `room` levels may still be opened.
+    /// `(query | e {"," e}) ")"`, where `room` levels may still be opened.
     #[tactic(auto, unfolding(crate::specs::Readings::read_in_inside))]
     fn in_inside(&self, parser: &mut Parser<'_>, room: usize) -> Result<Test, SyntaxError>
         requires room { room < self.now.room }
         requires part { Below (part_at 1023) self.now.room (P.pre self.now.part) (P.post self.now.part) }
         requires query { Below (query_at 1023) self.now.room (Q.pre self.now.query) (Q.post self.now.query) }
-        ensures { Reads (readings.read_in_inside 1023 (part_at 1023 room) (query_at 1023 room) parser.old) result parser.new }
+        ensures { Reads (both values.first (readings.read_in_inside 1023 (part_at 1023 room) (query_at 1023 room)) (one (is k.CloseParen)) parser.old) result parser.new }
     {
         if parser.starts(Kind::Select) {
             let query = (self.query)(self.alloc, parser, room)?;
-            return Ok(Test::InQuery(false, Boxed::new(self.alloc, query)?));
+            let query = Boxed::new(self.alloc, query)?;
+            parser.one(Kind::CloseParen)?;
+            return Ok(Test::InQuery(false, query));
         }
         let level = Level {
             alloc: self.alloc,
@@ -116,6 +121,7 @@ impl<
             part: self.part,
         };
         let list = level.expr_list(parser)?;
+        parser.one(Kind::CloseParen)?;
         Ok(Test::InList(false, list))
     }
 
@@ -128,8 +134,6 @@ impl<
     {
         parser.one(Kind::In)?;
         parser.opens(self.room, Kind::OpenParen)?;
-        let test = self.in_inside(parser, self.room - 1)?;
-        parser.one(Kind::CloseParen)?;
-        Ok(test)
+        self.in_inside(parser, self.room - 1)
     }
 }
