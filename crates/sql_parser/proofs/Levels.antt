@@ -118,7 +118,7 @@ pub record Parts (P S : Type 0) (U N : List (Mark Token) → Expr → Type 0) (B
 -- one level, from the level further in
 Parts-of : {P S : Type 0} {U N : List (Mark Token) → Expr → Type 0} {B : List (Mark Token) → Block → Type 0} {u n : List Token → Outcome Token Expr} {b : List Token → Outcome Token Block} (wide room : ℕ) → Parts (Deeper room) S U N B u n b
     → Parts P S (UnaryLine wide room U N B) (PartLine wide room (UnaryLine wide room U N B) N B) (QueryLine wide room (PartLine wide room (UnaryLine wide room U N B) N B) B)
-        (read_unary_line wide room u n b) (read_part_line wide room (read_unary_line wide room u n b) n b) (read_query_line wide room (read_part_line wide room (read_unary_line wide room u n b) n b) b)
+    (read_unary_line wide room u n b) (read_part_line wide room (read_unary_line wide room u n b) n b) (read_query_line wide room (read_part_line wide room (read_unary_line wide room u n b) n b) b)
 Parts-of {P} {S} {U} {N} {B} {u} {n} {b} wide room i =
     let unary : Line kinds P S unary_first on_unary (UnaryLine wide room U N B) (read_unary_line wide room u n b) = law-UnaryLine wide room i.unary i.part i.query in
     let part : Line kinds P S part_first on_part (PartLine wide room (UnaryLine wide room U N B) N B) (read_part_line wide room (read_unary_line wide room u n b) n b) = law-PartLine wide room unary i.part i.query in
@@ -167,7 +167,7 @@ record Larger (n : ℕ) (U N : List (Mark Token) → Expr → Type 0) (B : List 
 Larger-of : {S : Type 0} {U N V M : List (Mark Token) → Expr → Type 0} {B C : List (Mark Token) → Block → Type 0} {u w : List Token → Outcome Token Expr} {b : List Token → Outcome Token Block} (n many : ℕ) → n ≤ many → (wide room : ℕ)
     → Parts (Deeper room) S U N B u w b → Below n U V → Below n N M → Below n B C
     → Larger n (UnaryLine wide room U N B) (PartLine wide room (UnaryLine wide room U N B) N B) (QueryLine wide room (PartLine wide room (UnaryLine wide room U N B) N B) B)
-        (UnaryLine many n V M C) (PartLine many n (UnaryLine many n V M C) M C) (QueryLine many n (PartLine many n (UnaryLine many n V M C) M C) C)
+    (UnaryLine many n V M C) (PartLine many n (UnaryLine many n V M C) M C) (QueryLine many n (PartLine many n (UnaryLine many n V M C) M C) C)
 Larger-of {S} n many le wide room i v d c =
     let here : Parts (Unit {0}) S _ _ _ _ _ _ = Parts-of wide room i in
     let unary = lift-UnaryLine n many le wide room i.part v d c in

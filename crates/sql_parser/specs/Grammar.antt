@@ -412,7 +412,7 @@ unfoldable mutual
   Query zero wide room = QueryLine wide room (PartLine wide room (UnaryLine wide room Never Never Never) Never Never) Never
   Query (suc h) wide room =
       QueryLine wide room (PartLine wide room (UnaryLine wide room (Unary h wide (less room)) (NotPart h wide (less room)) (Query h wide (less room))) (NotPart h wide (less room)) (Query h wide (less room)))
-        (Query h wide (less room))
+      (Query h wide (less room))
 
 -- A statement with its semicolon, where so many levels may be opened, and a list may have so many elements after its first.
 abbrev pub Ended : ℕ → ℕ → ℕ → Part Token Statement

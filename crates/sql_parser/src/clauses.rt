@@ -132,7 +132,11 @@ impl<'a> Parser<'a> {
 }
 
 /// The columns, of which the first is read.
-fn more_columns(alloc: Global, parser: &mut Parser<'_>, first: Column) -> Result<Items<Column>, SyntaxError>
+fn more_columns(
+    alloc: Global,
+    parser: &mut Parser<'_>,
+    first: Column,
+) -> Result<Items<Column>, SyntaxError>
     ensures { Reads (mapped (λ xs. first ∷ xs) (links (is k.Comma) (one (is k.Comma)) values.second readings.read_column 1023) parser.old) result parser.new }
 {
     let mut found = Items::new(alloc);
@@ -166,7 +170,11 @@ pub(crate) fn group(alloc: Global, parser: &mut Parser<'_>) -> Result<Items<Colu
 }
 
 /// The keys, of which the first is read.
-fn more_order_keys(alloc: Global, parser: &mut Parser<'_>, first: OrderKey) -> Result<Items<OrderKey>, SyntaxError>
+fn more_order_keys(
+    alloc: Global,
+    parser: &mut Parser<'_>,
+    first: OrderKey,
+) -> Result<Items<OrderKey>, SyntaxError>
     ensures { Reads (mapped (λ xs. first ∷ xs) (links (is k.Comma) (one (is k.Comma)) values.second readings.read_order_key 1023) parser.old) result parser.new }
 {
     let mut found = Items::new(alloc);
@@ -200,7 +208,11 @@ pub(crate) fn order(alloc: Global, parser: &mut Parser<'_>) -> Result<Items<Orde
 }
 
 /// The names, of which the first is read.
-fn more_names(alloc: Global, parser: &mut Parser<'_>, first: Name) -> Result<Items<Name>, SyntaxError>
+fn more_names(
+    alloc: Global,
+    parser: &mut Parser<'_>,
+    first: Name,
+) -> Result<Items<Name>, SyntaxError>
     ensures { Reads (mapped (λ xs. first ∷ xs) (links (is k.Comma) (one (is k.Comma)) values.second readings.read_name 1023) parser.old) result parser.new }
 {
     let mut found = Items::new(alloc);

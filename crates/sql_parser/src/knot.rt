@@ -42,11 +42,7 @@ pub(crate) fn unary(
 /// `not not-part`, or a predicate.
 #[cycle(knot)]
 #[tactic(auto, using(crate::proofs::Unfold::part_is), unfolding(crate::specs::Readings::read_part_line))]
-pub(crate) fn part(
-    alloc: Global,
-    parser: &mut Parser<'_>,
-    room: usize,
-) -> Result<Expr, SyntaxError>
+pub(crate) fn part(alloc: Global, parser: &mut Parser<'_>, room: usize) -> Result<Expr, SyntaxError>
     ensures { Reads (part_at 1023 room parser.old) result parser.new }
 {
     if parser.starts(Kind::Not) {

@@ -96,11 +96,7 @@ impl<P: Fn(Global, &mut Parser<'_>, usize) -> Result<Expr, SyntaxError>> Level<P
     }
 
     /// The list, of which the first expression is read.
-    fn more_exprs(
-        &self,
-        parser: &mut Parser<'_>,
-        first: Expr,
-    ) -> Result<Items<Expr>, SyntaxError>
+    fn more_exprs(&self, parser: &mut Parser<'_>, first: Expr) -> Result<Items<Expr>, SyntaxError>
         requires { At (part_at 1023) self.now.room (P.pre self.now.part) (P.post self.now.part) }
         ensures { Reads (mapped (λ xs. first ∷ xs) (links (is k.Comma) (one (is k.Comma)) values.second (readings.read_whole 1023 (part_at 1023 self.now.room)) 1023) parser.old) result parser.new }
     {

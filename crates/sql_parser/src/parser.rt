@@ -115,7 +115,9 @@ impl<'a> Parser<'a> {
         let len = self.rest.len();
         self.rest = here;
         match element {
-            Err(SyntaxError::Refused(refusal)) if len == here.len() => SyntaxError::Refused(refusal),
+            Err(SyntaxError::Refused(refusal)) if len == here.len() => SyntaxError::Refused(
+                refusal,
+            ),
             Err(SyntaxError::OutOfMemory) => SyntaxError::OutOfMemory,
             _ => SyntaxError::Refused(SyntaxFault::TooWide),
         }

@@ -53,11 +53,7 @@ pub(crate) fn joined_of(first: FromItem, joins: Items<Join>) -> Joined
 }
 
 /// A query of its select list, FROM and the clauses after it.
-pub(crate) fn block_of(
-    selected: (bool, Selected),
-    from: Items<Joined>,
-    filters: Filters,
-) -> Block
+pub(crate) fn block_of(selected: (bool, Selected), from: Items<Joined>, filters: Filters) -> Block
     ensures { result ≡ values.block selected (from, filters) }
 {
     Block {

@@ -96,7 +96,11 @@ impl<'a> Parser<'a> {
 }
 
 /// The values, of which the first is read.
-fn more_values(alloc: Global, parser: &mut Parser<'_>, first: TemplateValue) -> Result<Items<TemplateValue>, SyntaxError>
+fn more_values(
+    alloc: Global,
+    parser: &mut Parser<'_>,
+    first: TemplateValue,
+) -> Result<Items<TemplateValue>, SyntaxError>
     ensures { Reads (mapped (λ xs. first ∷ xs) (links (is k.Comma) (one (is k.Comma)) values.second readings.read_value 1023) parser.old) result parser.new }
 {
     let mut found = Items::new(alloc);
@@ -126,10 +130,7 @@ fn values(alloc: Global, parser: &mut Parser<'_>) -> Result<Items<TemplateValue>
 
 /// `[value {"," value}] ")"`.
 #[tactic(auto, unfolding(crate::specs::Readings::read_run_inside))]
-fn run_inside(
-    alloc: Global,
-    parser: &mut Parser<'_>,
-) -> Result<Items<TemplateValue>, SyntaxError>
+fn run_inside(alloc: Global, parser: &mut Parser<'_>) -> Result<Items<TemplateValue>, SyntaxError>
     ensures { Reads (readings.read_run_inside 1023 parser.old) result parser.new }
 {
     if parser.starts(Kind::CloseParen) {

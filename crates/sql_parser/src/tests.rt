@@ -15,7 +15,12 @@ use std::alloc::Global;
 use std::test::Fail;
 
 /// Whether the script is refused for this at this byte.
-pub(super) fn is_refused(alloc: Global, script: &[u8], refusal: ScriptRefusal, place: usize) -> bool {
+pub(super) fn is_refused(
+    alloc: Global,
+    script: &[u8],
+    refusal: ScriptRefusal,
+    place: usize,
+) -> bool {
     match read_script(alloc, script) {
         Err(ScriptFault::Refused(found, at)) => found == refusal && at == place,
         _ => false,
@@ -290,7 +295,8 @@ fn has_subqueries(condition: &Clause) -> bool {
 #[test]
 fn joins_and_subqueries(rt: HostRuntime) -> Result<(), Fail> {
     let alloc = rt.alloc();
-    let script = b"select * from a left outer join b on c = 1 join (select * from e) as d (e, f) on g where not exists (select * from h) and a < (select b from c) and d not in (select e from f);";
+    let script =
+        b"select * from a left outer join b on c = 1 join (select * from e) as d (e, f) on g where not exists (select * from h) and a < (select b from c) and d not in (select e from f);";
     let found = read_script(alloc, script)?;
     match first_block(&found) {
         Some(block) => {
@@ -332,7 +338,8 @@ fn are_others(statements: &[Statement]) -> bool {
 #[test]
 fn other_statements(rt: HostRuntime) -> Result<(), Fail> {
     let alloc = rt.alloc();
-    let script = b"create view v (a, b) as select c, d from e; drop view w; refresh insert 007; refresh delete 999999999; run 6 ('it''s', 0.06); run 1 ();";
+    let script =
+        b"create view v (a, b) as select c, d from e; drop view w; refresh insert 007; refresh delete 999999999; run 6 ('it''s', 0.06); run 1 ();";
     let found = read_script(alloc, script)?;
     assert!(rt; are_others(found.as_slice()));
     assert!(rt; has_statements(alloc, queries::QUERIES, 24));
@@ -366,8 +373,22 @@ fn misplaced_parts(rt: HostRuntime) -> Result<(), Fail> {
             31
         )
     );
-    assert!(rt; is_refused(alloc, b"select * from a join b;", ScriptRefusal::Unexpected, 22));
-    assert!(rt; is_refused(alloc, b"region cross join nation;", ScriptRefusal::Unexpected, 0));
+    assert!(rt;
+        is_refused(
+            alloc,
+            b"select * from a join b;",
+            ScriptRefusal::Unexpected,
+            22
+        )
+    );
+    assert!(rt;
+        is_refused(
+            alloc,
+            b"region cross join nation;",
+            ScriptRefusal::Unexpected,
+            0
+        )
+    );
     assert!(rt; is_refused(alloc, b"refresh insert 1.0;", ScriptRefusal::Unexpected, 15));
     assert!(rt; is_refused(alloc, b"run 1 (-1);", ScriptRefusal::Unexpected, 7));
     Ok(())
