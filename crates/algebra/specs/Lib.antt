@@ -1,4 +1,3 @@
 pub mod Aggregates
 pub mod Plans
-pub mod Ranks
 pub mod Trees

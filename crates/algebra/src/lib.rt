@@ -11,6 +11,9 @@ mod tree;
 pub use aggregate::{Aggregate, values_of_none};
 pub use copy::{copy_aggregates, copy_expr, copy_exprs};
 pub use node::{Node, NodeId};
-pub use plan::{Builder, FlatPlan, SortKey};
+pub use plan::{Builder, FlatPlan};
 pub use steps::Steps;
 pub use tree::{DepTree, Side, width};
+
+#[cfg(test)]
+mod tests;

@@ -1,3 +1,5 @@
 pub mod Meaning
 pub mod Answer
 pub mod Reads
+pub mod Typing
+pub mod Examples

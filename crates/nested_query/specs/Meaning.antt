@@ -120,10 +120,18 @@ expr_meaning state = fold-BoundExpr AggregateMeaning RowsMeaning RowsMeaning Inp
 unfoldable pub aggregate_meaning : State → BoundAggregate → AggregateMeaning
 aggregate_meaning state = fold-BoundAggregate AggregateMeaning RowsMeaning RowsMeaning InputMeaning ExprMeaning aggregate_step block_step (source_step state) input_step expr_step
 
--- the rows of a source
+-- the same of a source
+unfoldable pub source_meaning : State → BoundSource → RowsMeaning
+source_meaning state = fold-BoundSource AggregateMeaning RowsMeaning RowsMeaning InputMeaning ExprMeaning aggregate_step block_step (source_step state) input_step expr_step
+
+-- the same of a query
+unfoldable pub block_meaning : State → BoundBlock → RowsMeaning
+block_meaning state = fold-BoundBlock AggregateMeaning RowsMeaning RowsMeaning InputMeaning ExprMeaning aggregate_step block_step (source_step state) input_step expr_step
+
+-- the rows of a source under the rows around it
 unfoldable pub source_rows : BoundSource → Env → State → List (Ranked Value)
-source_rows s env state = fold-BoundSource AggregateMeaning RowsMeaning RowsMeaning InputMeaning ExprMeaning aggregate_step block_step (source_step state) input_step expr_step s env
+source_rows s env state = source_meaning state s env
 
 -- the rows of a query under the rows around it
 unfoldable pub rows : BoundBlock → Env → State → List (Ranked Value)
-rows q env state = fold-BoundBlock AggregateMeaning RowsMeaning RowsMeaning InputMeaning ExprMeaning aggregate_step block_step (source_step state) input_step expr_step q env
+rows q env state = block_meaning state q env

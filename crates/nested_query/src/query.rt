@@ -61,11 +61,11 @@ pub enum BoundSource {
 #[derive(Drop)]
 pub enum BoundBlock {
     /// FROM, WHERE, and the select list over the rows kept.
-    Plain(BoundSource, BoundExpr, Items<BoundExpr>),
+    Plain(Boxed<BoundSource>, BoundExpr, Items<BoundExpr>),
     /// FROM, WHERE, the places of the GROUP BY columns, the aggregates, HAVING, and the select list. HAVING and the
     /// select list read a group's row, which is its GROUP BY columns and then its aggregates.
     Grouped(
-        BoundSource,
+        Boxed<BoundSource>,
         BoundExpr,
         Items<u32>,
         Items<BoundAggregate>,

@@ -1,10 +1,10 @@
 -- The keys of rows, and what is kept of them.
-use Rattle.std.proofs.Common.{◌≡◌, ℕ, zero, suc, ◌+◌, ◌<◌, Bool, true, false, not, cond, ◌&&◌, ◌||◌, ◌==◌, ℤ, pos, int_lt, int_le, List, [], ◌∷◌, ◌++◌, map, length, take, get_or, refl, sym, ◌∙◌, ap, arith, Decides, Option, Some, None}
+use Rattle.std.proofs.Common.{◌≡◌, ℕ, zero, suc, ◌+◌, ◌<◌, Bool, true, false, not, cond, ◌&&◌, ◌||◌, ◌==◌, ℤ, pos, negsuc, FitsSigned, unwrap_or, w64, ◌^◌, int_lt, int_le, List, [], ◌∷◌, ◌++◌, map, length, take, get_or, refl, sym, ◌∙◌, ap, arith, Decides, Option, Some, None}
 use Rattle.std.specs.Cmp.Lexicographic.{pointwise}
 use Rattle.std.specs.Ordering.{int_eq}
 use Rattle.std.specs.Prelude.{slice_index_or}
 use Rattle.std.specs.List.{All, list_any}
-use Rattle.std.proofs.lemmas.Bool.{and_parts, and_from}
+use Rattle.std.proofs.lemmas.Bool.{and_parts, and_from, lt-ltb, ltb-true}
 use Rattle.std.proofs.lemmas.Bool.Decides.{Decides-int_eq, Decides-eqb}
 use Rattle.std.proofs.lemmas.Int.{ints}
 use Rattle.std.proofs.lemmas.List.{map-append, take_more}
@@ -14,6 +14,7 @@ use Rattle.sql_value.specs.declared.value.Value.{Value}
 use Rattle.sql_value.specs.declared.value.Value.TheVariants as value
 use Rattle.sql_value.specs.Value.{same_row}
 use Rattle.refusals.specs.declared.refresh.RefreshFile.TheVariants as refresh
+use Rattle.columns.specs.Numbers.{is_small}
 use Rattle.tpch_schema.specs.declared.column.ColumnKind.TheVariants.{Key as KeyKind, Whole}
 use Rattle.tpch_schema.specs.declared.file.DataFile.{DataFile}
 use Rattle.tpch_schema.specs.declared.file.DataFile.TheVariants.{Table, Refresh}
@@ -164,8 +165,26 @@ pub ruleset sets = (told, noted, new_after, below_after)
 abbrev IsKeyNumber : Value → Type 0
 IsKeyNumber v = v ≡ value.Number 0 (key_number v)
 
-narrow_number : (s : ℕ) (c : ℤ) → (s == 0) ≡ true → is_narrow c ≡ true → value.Number s c ≡ value.Number 0 (cond (is_narrow c) c (pos 0))
-narrow_number s c e n = let zero_scale : s ≡ 0 = (Decides-eqb s 0).0 e in rw (zero_scale, n) refl
+small_of_narrow : (c : ℤ) → is_narrow c ≡ true → is_small c ≡ true
+small_of_narrow (pos n) e = e
+small_of_narrow (negsuc n) e = lt-ltb n (2 ^ 63) (omega (arith, ltb-true (suc n) (2 ^ 63) e))
+
+-- a number of 64 bits is the one that a key has
+small_number_is : (c : ℤ) → is_small c ≡ true → unwrap_or (cond (is_small c) (Some c) None) (pos 0) ≡ c
+small_number_is c e = rw e refl
+
+fits_small : (c : ℤ) → FitsSigned w64 c → is_small c ≡ true
+fits_small (pos n) f = lt-ltb n (2 ^ 63) f.sfits
+fits_small (negsuc n) f = lt-ltb n (2 ^ 63) f.sfits
+
+pub small_is : (c : ℤ) → FitsSigned w64 c → c ≡ unwrap_or (cond (is_small c) (Some c) None) (pos 0)
+small_is c f = sym (small_number_is c (fits_small c f))
+
+narrow_number : (s : ℕ) (c : ℤ) → (s == 0) ≡ true → is_narrow c ≡ true → value.Number s c ≡ value.Number 0 (key_number (value.Number s c))
+narrow_number s c e n =
+    let zero_scale : s ≡ 0 = (Decides-eqb s 0).0 e in
+    let number : key_number (value.Number s c) ≡ c = small_number_is c (small_of_narrow c n) in
+    rw (number, zero_scale) refl
 
 key_kind : (v : Value) → is_of_kind KeyKind v ≡ true → IsKeyNumber v
 key_kind (value.Number s c) e =

@@ -11,3 +11,5 @@ pub mod FieldCuts
 pub mod FieldLaws
 pub mod FileLaws
 pub mod Readers
+pub mod Held
+pub mod PlainNumbers

@@ -12,7 +12,7 @@ use Rattle.sql_value.specs.declared.value.Value.{Value}
 use Rattle.tpch_schema.specs.declared.column.ColumnKind.{ColumnKind}
 use Rattle.tpch_schema.specs.declared.column.ColumnKind.TheVariants.{Key, Whole, Decimal, Date, Text}
 use Rattle.tpch_schema.specs.LineForm.{LineColumn}
-use Rattle.tbl_reader.specs.Field.{field_value, spells_null, column_value, number_field, date_field, printable_field}
+use Rattle.tbl_reader.specs.Field.{kind_field, spells_null, column_value, number_field, date_field, printable_field}
 use Rattle.tbl_reader.specs.Line.{is_bar, has_fields, put_first, values_of, row_of}
 
 -- a fault of one field
@@ -45,7 +45,7 @@ text_fault : (kind : ColumnKind) (text : List ℕ) (r : Option ℕ) (fault : Lin
 text_fault kind text (Some place) fault e = let same : BadText ≡ fault = cc in rw (← same) tt
 text_fault kind text None fault e = tested_fault _ _ TextTooLong fault tt e
 
-pub field_fault : (kind : ColumnKind) (field : List ℕ) (fault : LineFault) → field_value kind field ≡ Err fault → IsOfField fault
+pub field_fault : (kind : ColumnKind) (field : List ℕ) (fault : LineFault) → kind_field kind field ≡ Err fault → IsOfField fault
 field_fault Key field fault e = number_fault Key 0 (decimal_read field 0) fault e
 field_fault Whole field fault e = number_fault Whole 0 (decimal_read field 0) fault e
 field_fault Decimal field fault e = number_fault Decimal 2 (decimal_read field 2) fault e
@@ -58,7 +58,7 @@ by_null false v r fault p e = p e
 
 pub column_fault : (column : LineColumn) (field : List ℕ) (fault : LineFault) → column_value column field ≡ Err fault → IsOfField fault
 column_fault column field fault e =
-    by_null (column.nullable && spells_null field) _ (field_value column.kind field) fault (field_fault column.kind field fault) e
+    by_null (column.nullable && spells_null field) _ (kind_field column.kind field) fault (field_fault column.kind field fault) e
 
 put_fault : (r : Result Value LineFault) (s : Result (List Value) LineFault) (fault : LineFault)
     → (r ≡ Err fault → IsOfField fault) → (s ≡ Err fault → IsOfField fault) → put_first r s ≡ Err fault → IsOfField fault

@@ -1,5 +1,5 @@
 -- The value of a field.
-use Rattle.std.specs.Prelude.{◌≡◌, ℕ, ℤ, Bool, ◌&&◌, ◌==◌, List, [], ◌∷◌, Result, Ok, Err, Option, Some, None, if◌then◌else◌, ⊤}
+use Rattle.std.specs.Prelude.{ℕ, ℤ, Bool, ◌&&◌, ◌==◌, List, [], ◌∷◌, Result, Ok, Err, Option, Some, None, if◌then◌else◌}
 use Rattle.std.specs.Cmp.Lexicographic.{pointwise}
 use Rattle.ascii_text.specs.Printable.{first_unprintable}
 use Rattle.civil_date.specs.Date.{date_of}
@@ -14,8 +14,6 @@ use Rattle.tpch_schema.specs.declared.column.ColumnKind.{ColumnKind}
 use Rattle.tpch_schema.specs.declared.column.ColumnKind.TheVariants.{Key, Whole, Decimal, Date, Text}
 use Rattle.tpch_schema.specs.Kinds.{is_of_kind}
 use Rattle.tpch_schema.specs.LineForm.{LineColumn}
-use Rattle.tbl_reader.specs.declared.field.FieldError.{FieldError}
-use Rattle.tbl_reader.specs.declared.field.FieldError.TheVariants.{Bad, OutOfMemory}
 
 -- the number that was read at a scale, where the column can hold it
 abbrev pub number_field : ColumnKind → ℕ → Result ℤ Spelling → Result Value LineFault
@@ -40,12 +38,12 @@ abbrev pub text_field : ColumnKind → List ℕ → Result Value LineFault
 text_field kind text = printable_field kind text (first_unprintable text)
 
 -- the value of a field in a column of a kind, or what is wrong with it
-abbrev pub field_value : ColumnKind → List ℕ → Result Value LineFault
-field_value Key field = number_field Key 0 (decimal_read field 0)
-field_value Whole field = number_field Whole 0 (decimal_read field 0)
-field_value Decimal field = number_field Decimal 2 (decimal_read field 2)
-field_value Date field = date_field (date_of field)
-field_value (Text most) field = text_field (Text most) field
+abbrev pub kind_field : ColumnKind → List ℕ → Result Value LineFault
+kind_field Key field = number_field Key 0 (decimal_read field 0)
+kind_field Whole field = number_field Whole 0 (decimal_read field 0)
+kind_field Decimal field = number_field Decimal 2 (decimal_read field 2)
+kind_field Date field = date_field (date_of field)
+kind_field (Text most) field = text_field (Text most) field
 
 -- a field of the two bytes \N
 abbrev pub spells_null : List ℕ → Bool
@@ -54,9 +52,4 @@ spells_null field = pointwise ◌==◌ field (92 ∷ 78 ∷ [])
 -- the value of a field in a column: null where the column may be null and the field spells it, before its kind is asked
 abbrev pub column_value : LineColumn → List ℕ → Result Value LineFault
 column_value column field =
-    if column.nullable && spells_null field then Ok value.Null else field_value column.kind field
-
--- the error is what is wrong, or memory ran out
-abbrev pub Blames : {A : Type 0} → Result A LineFault → FieldError → Type 0
-Blames r (Bad fault) = r ≡ Err fault
-Blames r OutOfMemory = ⊤
+    if column.nullable && spells_null field then Ok value.Null else kind_field column.kind field

@@ -1,10 +1,10 @@
 -- The keys of rows as pairs of numbers, and what is kept of them.
-use Rattle.std.specs.Prelude.{◌≡◌, ℤ, pos, Bool, true, false, ◌&&◌, ◌||◌, int_lt, int_le, List, [], slice_index_or, Option, Some, None, ⊤, if◌then◌else◌}
+use Rattle.std.specs.Prelude.{◌≡◌, ℤ, pos, Bool, true, false, ◌&&◌, ◌||◌, int_lt, int_le, List, [], slice_index_or, Option, Some, None, ⊤, unwrap_or}
 use Rattle.std.specs.List.{All, list_any}
 use Rattle.std.specs.Ordering.{int_eq}
 use Rattle.sql_value.specs.declared.value.Value.{Value}
 use Rattle.sql_value.specs.declared.value.Value.TheVariants as value
-use Rattle.tpch_schema.specs.Kinds.{is_narrow}
+use Rattle.columns.specs.Numbers.{small_number}
 use Rattle.tpch_schema.specs.LineForm.{LineForm, key_of}
 use Rattle.tbl_reader.specs.declared.key.Key.{Key}
 use Rattle.tbl_reader.specs.declared.key.Keys.{Keys}
@@ -12,8 +12,7 @@ use Rattle.tbl_reader.specs.declared.key.Keys.TheVariants.{Ascending, Hashed, Lo
 
 -- the number of a key's value; 0 where there is none of 64 bits
 abbrev pub key_number : Value → ℤ
-key_number (value.Number scale c) = if is_narrow c then c else pos 0
-key_number v = pos 0
+key_number v = unwrap_or (small_number v) (pos 0)
 
 -- the numbers of a row's key, 0 in place of a second one that there is not
 abbrev pub row_key : LineForm → List Value → Key

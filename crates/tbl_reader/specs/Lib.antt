@@ -1,4 +1,5 @@
 pub mod Field
+pub mod Natural
 pub mod Line
 pub mod File
 pub mod Rows

@@ -2,7 +2,7 @@
 ghost use Rattle.std.specs.Prelude.{◌≡◌};
 
 use std::alloc::{AllocError, AllocFailed};
-use tpch_schema::LineRefusal;
+use tpch_schema::{LineFault, LineRefusal};
 
 /// Why a file gives no rows: its first bad line, or that memory ran out.
 #[derive(Clone, Copy, Debug, PartialEq, Eq)]
@@ -31,4 +31,13 @@ impl<T: Drop> From<AllocFailed<T>> for TableError {
     fn from(_: AllocFailed<T>) -> Self {
         TableError::OutOfMemory
     }
+}
+
+/// Why the fields of a line give no row: one of them is bad, or memory ran out.
+#[derive(Clone, Copy, Debug, PartialEq, Eq)]
+pub enum FieldsError {
+    /// What is wrong.
+    Bad(LineFault),
+    /// Memory ran out.
+    OutOfMemory,
 }

@@ -1,13 +1,14 @@
 //! Which keys the rows so far have.
-ghost use Rattle.std.specs.Prelude.{◌≡◌, ◌++◌, ◌∷◌, [], ◌&&◌, true, IsTrue, not, map, length, IfOk, OnErr, if◌then◌else◌, slice_index_or};
+ghost use Rattle.std.specs.Prelude.{◌≡◌, ◌<◌, ◌++◌, ◌∷◌, [], ◌&&◌, true, IsTrue, not, map, length, IfOk, OnErr, if◌then◌else◌, slice_index_or};
 ghost use Rattle.sql_value.specs.declared.value.Value.TheVariants.{Null};
-ghost use Rattle.std.specs.List.{list_any};
+ghost use Rattle.std.specs.List.{All, list_any};
+ghost use Rattle.columns.specs.Fields.{field_value};
 ghost use Rattle.tpch_schema.specs.LineForm.{file_form, fits, RowsFit};
 ghost use Rattle.tbl_reader.specs.File.{is_taken};
 ghost use Rattle.tbl_reader.specs.Key.{key_number, row_key, is_above, comes_after, same_key, SameKeys, AreKeys};
 
+use columns::{Field, RowsBuilder};
 use indexmap::IndexSet;
-use sql_value::{Row, Value};
 use std::alloc::{AllocError, Global};
 use std::hash::Hash;
 use tpch_schema::DataFile;
@@ -21,13 +22,26 @@ pub struct Key {
 
 impl Key {
     // The key of a row of a file.
-    fn of(file: DataFile, row: &[Value]) -> Key
-        ensures { result ≡ row_key (file_form file) row.now }
+    fn of(file: DataFile, row: &[Field<'_>]) -> Key
+        ensures { result ≡ row_key (file_form file) (map field_value row.now) }
     {
         let places = file.key_columns();
         Key {
             first: number_in(row, places, 0),
             second: number_in(row, places, 1),
+        }
+    }
+
+    // The key of the row at a place among those of a file.
+    fn at(file: DataFile, rows: &RowsBuilder, i: usize) -> Key
+        requires row { i < length rows.now.rows }
+        requires width { rows.now.width ≡ length (file_form file).columns }
+        ensures { result ≡ row_key (file_form file) (slice_index_or rows.now.rows i []) }
+    {
+        let places = file.key_columns();
+        Key {
+            first: number_at(rows, i, places, 0),
+            second: number_at(rows, i, places, 1),
         }
     }
 
@@ -50,26 +64,38 @@ impl Key {
 }
 
 // The number of a row in a key's column.
-fn number_in(row: &[Value], places: &[usize], i: usize) -> i64
-    ensures { result ≡ key_number (slice_index_or (map (λ place. slice_index_or row.now place Null) places.now) i Null) }
+fn number_in(row: &[Field<'_>], places: &[usize], k: usize) -> i64
+    ensures { result ≡ key_number (slice_index_or (map (λ place. slice_index_or (map field_value row.now) place Null) places.now) k Null) }
 {
-    match places.get(i) {
+    match places.get(k) {
         Some(place) => match row.get(*place) {
-            Some(value) => key_number(value),
+            Some(field) => key_number(field),
             None => 0,
         },
         None => 0,
     }
 }
 
-// The number of a key's value; 0 where there is none of 64 bits.
-fn key_number(value: &Value) -> i64
-    ensures { result ≡ key_number value.now }
+// The number of a key's field; 0 where it is none.
+#[tactic(auto, using(crate::proofs::Keys::small_is))]
+fn key_number(field: &Field<'_>) -> i64
+    ensures { result ≡ key_number (field_value field.now) }
 {
-    match value {
-        Value::Number(_, coefficient) if coefficient.unsigned_abs() < 1 << 63 =>
-            *coefficient as i64,
-        _ => 0,
+    match field {
+        Field::Number(_, number) => *number,
+        Field::Date(_) | Field::Text(_) => 0,
+    }
+}
+
+// The number of an earlier row in a key's column.
+fn number_at(rows: &RowsBuilder, i: usize, places: &[usize], k: usize) -> i64
+    requires row { i < length rows.now.rows }
+    requires inside { All (λ place. place < rows.now.width) places.now }
+    ensures { result ≡ key_number (slice_index_or (map (λ place. slice_index_or (slice_index_or rows.now.rows i []) place Null) places.now) k Null) }
+{
+    match places.get(k) {
+        Some(place) => rows.number(i, *place).unwrap_or(0),
+        None => 0,
     }
 }
 
@@ -98,12 +124,17 @@ fn insert_key<K: Eq + Hash + Drop>(keys: &mut IndexSet<K>, key: K) -> Result<boo
 
 // The set of the keys of these rows.
 #[tactic(auto, using(crate::proofs::Keys::sets))]
-fn keys_of_rows(alloc: Global, file: DataFile, rows: &[Row]) -> Result<IndexSet<Key>, AllocError>
-    ensures { IfOk result (λ set. SameKeys set.keys (map (row_key (file_form file)) rows.now)) }
+fn keys_of_rows(
+    alloc: Global,
+    file: DataFile,
+    rows: &RowsBuilder,
+) -> Result<IndexSet<Key>, AllocError>
+    requires { rows.now.width ≡ length (file_form file).columns }
+    ensures { IfOk result (λ set. SameKeys set.keys (map (row_key (file_form file)) rows.now.rows)) }
 {
     let mut set = IndexSet::new(alloc);
-    for row in rows {
-        insert_key(&mut set, Key::of(file, row.values()))?;
+    for i in 0..rows.len() {
+        insert_key(&mut set, Key::at(file, rows, i))?;
     }
     Ok(set)
 }
@@ -114,13 +145,14 @@ fn note_key(
     alloc: Global,
     keys: &mut Keys,
     file: DataFile,
-    rows: &[Row],
+    rows: &RowsBuilder,
     key: Key,
 ) -> Result<bool, AllocError>
-    requires { AreKeys keys.old (map (row_key (file_form file)) rows.now) }
-    ensures new { IfOk result (λ new. new ≡ not (list_any (same_key key) (map (row_key (file_form file)) rows.now))) }
-    ensures noted { IfOk result (λ new. AreKeys keys.new (if new then map (row_key (file_form file)) rows.now ++ key ∷ [] else map (row_key (file_form file)) rows.now)) }
-    ensures err { OnErr result (AreKeys keys.new (map (row_key (file_form file)) rows.now)) }
+    requires width { rows.now.width ≡ length (file_form file).columns }
+    requires keys { AreKeys keys.old (map (row_key (file_form file)) rows.now.rows) }
+    ensures new { IfOk result (λ new. new ≡ not (list_any (same_key key) (map (row_key (file_form file)) rows.now.rows))) }
+    ensures noted { IfOk result (λ new. AreKeys keys.new (if new then map (row_key (file_form file)) rows.now.rows ++ key ∷ [] else map (row_key (file_form file)) rows.now.rows)) }
+    ensures err { OnErr result (AreKeys keys.new (map (row_key (file_form file)) rows.now.rows)) }
 {
     match keys {
         Keys::Ascending(last) => {
@@ -145,15 +177,16 @@ pub fn note_row(
     alloc: Global,
     keys: &mut Keys,
     file: DataFile,
-    rows: &[Row],
-    row: &[Value],
+    rows: &RowsBuilder,
+    row: &[Field<'_>],
 ) -> Result<bool, AllocError>
-    requires keys { (file_form file).unique ≡ true → AreKeys keys.old (map (row_key (file_form file)) rows.now) }
-    requires rows { RowsFit (file_form file) rows.now }
-    requires row { IsTrue (fits (file_form file) row.now) }
-    ensures new { IfOk result (λ new. new ≡ not ((file_form file).unique && is_taken (file_form file) rows.now row.now)) }
-    ensures noted { IfOk result (λ new. (file_form file).unique ≡ true → AreKeys keys.new (map (row_key (file_form file)) (if new then rows.now ++ row.now ∷ [] else rows.now))) }
-    ensures err { OnErr result ((file_form file).unique ≡ true → AreKeys keys.new (map (row_key (file_form file)) rows.now)) }
+    requires keys { (file_form file).unique ≡ true → AreKeys keys.old (map (row_key (file_form file)) rows.now.rows) }
+    requires width { rows.now.width ≡ length (file_form file).columns }
+    requires rows { RowsFit (file_form file) rows.now.rows }
+    requires row { IsTrue (fits (file_form file) (map field_value row.now)) }
+    ensures new { IfOk result (λ new. new ≡ not ((file_form file).unique && is_taken (file_form file) rows.now.rows (map field_value row.now))) }
+    ensures noted { IfOk result (λ new. (file_form file).unique ≡ true → AreKeys keys.new (map (row_key (file_form file)) (if new then rows.now.rows ++ map field_value row.now ∷ [] else rows.now.rows))) }
+    ensures err { OnErr result ((file_form file).unique ≡ true → AreKeys keys.new (map (row_key (file_form file)) rows.now.rows)) }
 {
     if !file.refuses_duplicates() {
         return Ok(true);

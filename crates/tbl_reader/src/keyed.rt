@@ -1,20 +1,23 @@
 //! The rows of a file, whose keys differ where they must.
-ghost use Rattle.std.specs.Prelude.{◌≡◌, ◌+◌, ◌++◌, ◌∷◌, [], ◌&&◌, not, length, IfOk, OnErr, OnOk, if◌then◌else◌, true, IsTrue};
+ghost use Rattle.std.specs.Prelude.{◌≡◌, ◌+◌, ◌++◌, ◌∷◌, [], ◌&&◌, not, length, map, IfOk, OnErr, OnOk, if◌then◌else◌, true, IsTrue};
 ghost use Rattle.tpch_schema.specs.LineForm.{file_form, fits, RowsFit};
+ghost use Rattle.std.specs.List.{All};
+ghost use Rattle.columns.specs.Fields.{field_value, IsPrintableField};
 ghost use Rattle.tbl_reader.specs.File.{is_taken};
 
 use crate::key::{Keys, note_row};
-use sql_value::{Row, Value};
+use columns::{ColumnForm, Field, Rows, RowsBuilder};
+use fixed_decimal::Scale;
 use std::alloc::{AllocError, Global};
 use std::marker::Model;
-use tpch_schema::DataFile;
+use tpch_schema::{ColumnKind, DataFile};
 
 /// A file's rows in order, with what is kept of their keys.
 #[derive(Drop)]
 pub struct KeyedRows {
     alloc: Global,
     file: DataFile,
-    rows: Vec<Row>,
+    rows: RowsBuilder,
     keys: Keys,
 }
 
@@ -24,27 +27,29 @@ impl Model for KeyedRows {
 
     ghost Value = { LineRows };
 
-    ghost view = { λ r. line_rows (file_form r.file) r.rows.items };
+    ghost view = { λ r. line_rows (file_form r.file) r.rows.rows };
 
-    ghost use Rattle.std.specs.Prelude.{◌≡◌, map, true};
+    ghost use Rattle.std.specs.Prelude.{◌≡◌, length, map, true};
     ghost use Rattle.tbl_reader.specs.Key.{row_key, AreKeys};
 
-    ghost invariant = { λ r. ((file_form r.file).unique ≡ true → AreKeys r.keys (map (row_key (file_form r.file)) r.rows.items)) × RowsFit (file_form r.file) r.rows.items };
+    ghost invariant = { λ r. ((file_form r.file).unique ≡ true → AreKeys r.keys (map (row_key (file_form r.file)) r.rows.rows)) × RowsFit (file_form r.file) r.rows.rows × (r.rows.width ≡ length (file_form r.file).columns) };
 }
 
-#[tactic(auto, using(crate::proofs::Keys::keyed))]
+#[tactic(auto, using(crate::proofs::Rows::keyed))]
 impl KeyedRows {
     /// No rows yet.
-    pub fn new(alloc: Global, file: DataFile) -> KeyedRows
-        ensures form { result.form ≡ file_form file }
-        ensures rows { result.rows ≡ [] }
+    pub fn new(alloc: Global, file: DataFile) -> Result<KeyedRows, AllocError>
+        ensures form { IfOk result (λ r. r.form ≡ file_form file) }
+        ensures rows { IfOk result (λ r. r.rows ≡ []) }
     {
-        KeyedRows {
+        let forms = column_forms(alloc, file.kinds())?;
+        let rows = RowsBuilder::new(alloc, forms.as_slice())?;
+        Ok(KeyedRows {
             alloc,
             file,
-            rows: Vec::new(alloc),
+            rows,
             keys: Keys::Ascending(None),
-        }
+        })
     }
 
     /// The file whose rows these are.
@@ -54,46 +59,42 @@ impl KeyedRows {
         self.file
     }
 
-    /// The number, from 1, of the row that comes next. It is in range, since the rows lie in memory.
+    /// The number, from 1, of the row that comes next.
     pub fn next_number(&self) -> u64
         ensures { result ≡ length self.now.rows + 1 }
     {
-        self.rows.as_slice().len() as u64 + 1
+        self.rows.len() as u64 + 1
     }
 
     /// The rows in order.
-    pub fn into_rows(self) -> Vec<Row>
-        ensures rows { result.items ≡ self.rows }
-        ensures fit { RowsFit self.form result.items }
+    pub fn into_rows(self) -> Result<Rows, AllocError>
+        ensures rows { IfOk result (λ rows. rows ≡ self.rows) }
+        ensures fit { IfOk result (RowsFit self.form) }
     {
         let KeyedRows {
-            alloc: _,
+            alloc,
             file: _,
             rows,
             keys: _,
         } = self;
-        rows
+        let rows = rows.finish(alloc)?;
+        Ok(rows)
     }
 
-    /// The row of these values at the end, unless its key must be new and isn't; whether it was put there.
-    pub fn push(&mut self, values: Vec<Value>) -> Result<bool, AllocError>
-        requires { IsTrue (fits self.old.form values.items) }
+    /// The row of these fields at the end, unless its key must be new and isn't; whether it was put there.
+    pub fn push(&mut self, row: &[Field<'_>]) -> Result<bool, AllocError>
+        requires fits { IsTrue (fits self.old.form (map field_value row.now)) }
+        requires printable { All IsPrintableField row.now }
         ensures form { self.new.form ≡ self.old.form }
-        ensures added { IfOk result (λ added. added ≡ not (self.old.form.unique && is_taken self.old.form self.old.rows values.items)) }
-        ensures rows { IfOk result (λ added. self.new.rows ≡ (if added then self.old.rows ++ values.items ∷ [] else self.old.rows)) }
+        ensures added { IfOk result (λ added. added ≡ not (self.old.form.unique && is_taken self.old.form self.old.rows (map field_value row.now))) }
+        ensures rows { IfOk result (λ added. self.new.rows ≡ (if added then self.old.rows ++ map field_value row.now ∷ [] else self.old.rows)) }
         ensures err { OnErr result (self.new.rows ≡ self.old.rows) }
     {
-        let new = note_row(
-            self.alloc,
-            &mut self.keys,
-            self.file,
-            self.rows.as_slice(),
-            values.as_slice(),
-        )?;
+        let new = note_row(self.alloc, &mut self.keys, self.file, &self.rows, row)?;
         if !new {
             return Ok(false);
         }
-        match put_row(&mut self.rows, values) {
+        match self.rows.push(self.alloc, row) {
             Ok(()) => Ok(true),
             Err(error) => {
                 self.keys = Keys::Lost;
@@ -103,12 +104,23 @@ impl KeyedRows {
     }
 }
 
-// The row of these values at the end.
-fn put_row(rows: &mut Vec<Row>, values: Vec<Value>) -> Result<(), AllocError>
-    ensures ok { OnOk result (rows.new.items ≡ rows.old.items ++ values.items ∷ []) }
-    ensures err { OnErr result (rows.new.items ≡ rows.old.items) }
+// What columns of these kinds are expected to hold.
+fn column_forms(alloc: Global, kinds: &[ColumnKind]) -> Result<Vec<ColumnForm>, AllocError>
+    ensures { IfOk result (λ forms. length forms.items ≡ length kinds.now) }
 {
-    let row = Row::new(values)?;
-    rows.push(row)?;
-    Ok(())
+    let mut forms = Vec::with_capacity(alloc, kinds.len())?;
+    for kind in kinds {
+        forms.push(column_form(*kind))?;
+    }
+    Ok(forms)
+}
+
+// What a column of that kind is expected to hold.
+fn column_form(kind: ColumnKind) -> ColumnForm {
+    match kind {
+        ColumnKind::Key | ColumnKind::Whole => ColumnForm::Numbers(Scale::new(0)),
+        ColumnKind::Decimal => ColumnForm::Numbers(Scale::new(2)),
+        ColumnKind::Date => ColumnForm::Dates,
+        ColumnKind::Text(_) => ColumnForm::Texts,
+    }
 }

@@ -12,6 +12,7 @@ pub mod laws;
 mod line;
 mod lines;
 mod pieces;
+mod plain;
 mod reader;
 mod refresh_reader;
 mod table_reader;

@@ -1,14 +1,15 @@
-//! One line: its fields, and the values of its row.
-ghost use Rattle.std.specs.Prelude.{◌≡◌, ◌==◌, ◌+◌, ◌<◌, ◌^◌, IfOk, IfSome, IsTrue, MatchResult, length, map, position};
-ghost use Rattle.std.specs.List.{before_first, after_first};
-ghost use Rattle.tbl_reader.specs.Field.{Blames};
+//! One line: its fields.
+ghost use Rattle.std.specs.Prelude.{◌≡◌, ◌==◌, ◌+◌, ◌<◌, ◌^◌, IfErr, IfSome, IsTrue, OnOk, length, map, position};
+ghost use Rattle.std.specs.List.{All, before_first, after_first};
+ghost use Rattle.columns.specs.Fields.{field_value, IsPrintableField};
+ghost use Rattle.tbl_reader.specs.Error.{Blames};
 ghost use Rattle.tpch_schema.specs.LineForm.{file_form, fits, never_null};
 ghost use Rattle.tbl_reader.specs.File.{line_row};
 ghost use Rattle.tbl_reader.specs.Line.{is_bar, has_fields, without_end, line_text, values_of, row_of};
 
-use crate::field::{FieldError, field_value};
-use sql_value::Value;
-use std::alloc::Global;
+use crate::error::FieldsError;
+use crate::field::read_field;
+use columns::Field;
 use tpch_schema::{ColumnKind, DataFile, LineFault};
 
 // The bytes of a line without the LF at its end and one CR directly before that.
@@ -29,25 +30,37 @@ fn without_end(text: &[u8], byte: u8) -> &[u8]
     }
 }
 
-/// The values of the row that a line of a file says, which may have its end.
-#[tactic(auto, using(crate::proofs::Rows::row_fits))]
-pub fn line_values(alloc: Global, file: DataFile, line: &[u8]) -> Result<Vec<Value>, FieldError>
-    ensures value { MatchResult result (λ v. line_row (file_form file) line.now ≡ Ok v.items) (Blames (line_row (file_form file) line.now)) }
-    ensures fits { IfOk result (λ v. IsTrue (fits (file_form file) v.items)) }
+/// Puts the fields of the row that a line of a file says in place of those that were there. The line may have its end.
+#[tactic(auto, using(crate::proofs::Rows::held_rows))]
+pub fn put_line<'a>(
+    fields: &mut Vec<Field<'a>>,
+    file: DataFile,
+    line: &'a [u8],
+) -> Result<(), FieldsError>
+    ensures ok { OnOk result (line_row (file_form file) line.now ≡ Ok (map field_value fields.new.items)) }
+    ensures printable { OnOk result (All IsPrintableField fields.new.items) }
+    ensures fits { OnOk result (IsTrue (fits (file_form file) (map field_value fields.new.items))) }
+    ensures err { IfErr result (Blames (line_row (file_form file) line.now)) }
 {
-    let values = row_values(alloc, file.kinds(), line_text(line))?;
-    Ok(values)
+    put_row(fields, file.kinds(), line_text(line))?;
+    Ok(())
 }
 
-// The values of a line's row: one for each of the kinds, of columns that hold no null.
-fn row_values(alloc: Global, kinds: &[ColumnKind], line: &[u8]) -> Result<Vec<Value>, FieldError>
-    ensures { MatchResult result (λ v. row_of (map never_null kinds.now) line.now ≡ Ok v.items) (Blames (row_of (map never_null kinds.now) line.now)) }
+// Puts the fields of a line's row: one for each of the kinds, of columns that hold no null.
+fn put_row<'a>(
+    fields: &mut Vec<Field<'a>>,
+    kinds: &[ColumnKind],
+    line: &'a [u8],
+) -> Result<(), FieldsError>
+    ensures ok { OnOk result (row_of (map never_null kinds.now) line.now ≡ Ok (map field_value fields.new.items)) }
+    ensures printable { OnOk result (All IsPrintableField fields.new.items) }
+    ensures err { IfErr result (Blames (row_of (map never_null kinds.now) line.now)) }
 {
     if !has_fields(kinds.len(), line) {
-        return Err(FieldError::Bad(LineFault::FieldCount));
+        return Err(FieldsError::Bad(LineFault::FieldCount));
     }
-    let values = values_of(alloc, kinds, line)?;
-    Ok(values)
+    put_fields(fields, kinds, line)?;
+    Ok(())
 }
 
 // Whether bars part a line into that many fields; one may stand after the last field.
@@ -58,20 +71,32 @@ fn has_fields(columns: usize, line: &[u8]) -> bool
     bars + 1 == columns || bars == columns && line.ends_with(b"|")
 }
 
-// The values of the fields that bars part.
+// Puts what the bytes between bars say in columns of these kinds.
 #[tactic(auto, using(crate::proofs::Cuts::fields))]
-fn values_of(alloc: Global, kinds: &[ColumnKind], line: &[u8]) -> Result<Vec<Value>, FieldError>
-    ensures { MatchResult result (λ v. values_of (map never_null kinds.now) line.now ≡ Ok v.items) (Blames (values_of (map never_null kinds.now) line.now)) }
+fn put_fields<'a>(
+    fields: &mut Vec<Field<'a>>,
+    kinds: &[ColumnKind],
+    line: &'a [u8],
+) -> Result<(), FieldsError>
+    ensures ok { OnOk result (values_of (map never_null kinds.now) line.now ≡ Ok (map field_value fields.new.items)) }
+    ensures printable { OnOk result (All IsPrintableField fields.new.items) }
+    ensures err { IfErr result (Blames (values_of (map never_null kinds.now) line.now)) }
 {
-    let mut values = Vec::with_capacity(alloc, kinds.len())?;
+    fields.clear();
     let mut rest = line;
     for kind in kinds {
-        let (field, more) = cut_at_bar(rest);
-        let value = field_value(alloc, *kind, field)?;
-        values.push(value)?;
+        let (bytes, more) = cut_at_bar(rest);
+        match read_field(*kind, bytes) {
+            Ok(field) => {
+                if fields.push(field).is_err() {
+                    return Err(FieldsError::OutOfMemory);
+                }
+            }
+            Err(fault) => return Err(FieldsError::Bad(fault)),
+        }
         rest = more;
     }
-    Ok(values)
+    Ok(())
 }
 
 // The bytes before the first bar, and those after it.

@@ -1,15 +1,14 @@
 //! Whole lines, one after the other: their rows, and the first refusal.
-ghost use Rattle.std.specs.Prelude.{◌≡◌, ◌+◌, ◌≤◌, [], OnOk, IfErr, length};
+ghost use Rattle.std.specs.Prelude.{◌≡◌, ◌+◌, ◌≤◌, [], OnOk, IfErr, IfOk, length};
 ghost use Rattle.tpch_schema.specs.LineForm.{RowsFit, file_form};
 ghost use Rattle.tbl_reader.specs.Error.{IsErrorOf};
 ghost use Rattle.tbl_reader.specs.File.{add_line, refusal};
 
-use crate::error::TableError;
-use crate::field::FieldError;
+use crate::error::{FieldsError, TableError};
 use crate::keyed::KeyedRows;
-use crate::line::line_values;
-use sql_value::Row;
-use std::alloc::Global;
+use crate::line::put_line;
+use columns::{Field, Rows};
+use std::alloc::{AllocError, Global};
 use std::marker::Model;
 use tpch_schema::{DataFile, LineFault, LineRefusal};
 
@@ -35,18 +34,24 @@ impl Model for Lines {
 
 impl Lines {
     /// No lines yet, of a file that may have `limit` bytes.
-    pub fn new(alloc: Global, file: DataFile, limit: u64) -> Lines
-        ensures form { result.form ≡ file_form file }
-        ensures limit { result.limit ≡ limit }
-        ensures rows { result.so_far.rows ≡ [] }
-        ensures bytes { result.so_far.bytes ≡ 0 }
+    pub fn new(alloc: Global, file: DataFile, limit: u64) -> Result<Lines, AllocError>
+        ensures form { IfOk result (λ l. l.form ≡ file_form file) }
+        ensures limit { IfOk result (λ l. l.limit ≡ limit) }
+        ensures rows { IfOk result (λ l. l.so_far.rows ≡ []) }
+        ensures bytes { IfOk result (λ l. l.so_far.bytes ≡ 0) }
     {
-        Lines {
+        let keyed = KeyedRows::new(alloc, file)?;
+        Ok(Lines {
             alloc,
-            keyed: KeyedRows::new(alloc, file),
+            keyed,
             limit,
             bytes: 0,
-        }
+        })
+    }
+
+    /// The allocator.
+    pub fn alloc(&self) -> Global {
+        self.alloc
     }
 
     /// How many bytes may follow the lines so far.
@@ -67,9 +72,9 @@ impl Lines {
     }
 
     /// The rows in order.
-    pub fn into_rows(self) -> Vec<Row>
-        ensures rows { result.items ≡ self.so_far.rows }
-        ensures fit { RowsFit self.form result.items }
+    pub fn into_rows(self) -> Result<Rows, AllocError>
+        ensures rows { IfOk result (λ rows. rows ≡ self.so_far.rows) }
+        ensures fit { IfOk result (RowsFit self.form) }
     {
         let Lines {
             alloc: _,
@@ -77,7 +82,8 @@ impl Lines {
             limit: _,
             bytes: _,
         } = self;
-        keyed.into_rows()
+        let rows = keyed.into_rows()?;
+        Ok(rows)
     }
 
     /// Reads one line more, which has its LF where it has one. After an error the lines are of no use.
@@ -89,16 +95,34 @@ impl Lines {
         ensures within { self.new.so_far.bytes ≤ self.new.limit }
         ensures refused { IfErr result (IsErrorOf (add_line self.old.form self.old.limit (Ok self.old.so_far) line.now)) }
     {
+        let mut fields = Vec::new(self.alloc);
+        self.add_by(&mut fields, line)?;
+        Ok(())
+    }
+
+    /// The same by a vector for the line's fields, which keeps its room from line to line.
+    pub fn add_by<'a>(
+        &mut self,
+        fields: &mut Vec<Field<'a>>,
+        line: &'a [u8],
+    ) -> Result<(), TableError>
+        ensures form { self.new.form ≡ self.old.form }
+        ensures limit { self.new.limit ≡ self.old.limit }
+        ensures ok { OnOk result (add_line self.old.form self.old.limit (Ok self.old.so_far) line.now ≡ Ok self.new.so_far) }
+        ensures bytes { OnOk result (self.new.so_far.bytes ≡ self.old.so_far.bytes + length line.now) }
+        ensures within { self.new.so_far.bytes ≤ self.new.limit }
+        ensures refused { IfErr result (IsErrorOf (add_line self.old.form self.old.limit (Ok self.old.so_far) line.now)) }
+    {
         let size = line.len() as u64;
         if size > self.room() {
             return Err(TableError::Refused(self.refusal(LineFault::FileTooLong)));
         }
-        let values = match line_values(self.alloc, self.keyed.file(), line) {
-            Ok(values) => values,
-            Err(FieldError::Bad(fault)) => return Err(TableError::Refused(self.refusal(fault))),
-            Err(FieldError::OutOfMemory) => return Err(TableError::OutOfMemory),
-        };
-        let added = self.keyed.push(values)?;
+        match put_line(fields, self.keyed.file(), line) {
+            Ok(()) => (),
+            Err(FieldsError::Bad(fault)) => return Err(TableError::Refused(self.refusal(fault))),
+            Err(FieldsError::OutOfMemory) => return Err(TableError::OutOfMemory),
+        }
+        let added = self.keyed.push(fields.as_slice())?;
         if !added {
             return Err(TableError::Refused(self.refusal(LineFault::DuplicateKey)));
         }

@@ -7,16 +7,16 @@ ghost use Rattle.tbl_reader.specs.Pieces.{joined};
 
 use crate::error::TableError;
 use crate::reader::{FileReader, MOST_BYTES};
-use sql_value::Row;
+use columns::Rows;
 use std::alloc::Global;
 use tpch_schema::DataFile;
 
 /// The rows of a file that lies in pieces: those of the joined pieces, wherever they are cut.
-pub fn read_pieces(alloc: Global, file: DataFile, pieces: &[&[u8]]) -> Result<Vec<Row>, TableError>
-    ensures rows { MatchResult result (λ rows. file_rows (file_form file) most_bytes (joined pieces.now) ≡ Ok rows.items) (IsErrorOf (file_rows (file_form file) most_bytes (joined pieces.now))) }
-    ensures fit { IfOk result (λ rows. RowsFit (file_form file) rows.items) }
+pub fn read_pieces(alloc: Global, file: DataFile, pieces: &[&[u8]]) -> Result<Rows, TableError>
+    ensures rows { MatchResult result (λ rows. file_rows (file_form file) most_bytes (joined pieces.now) ≡ Ok rows) (IsErrorOf (file_rows (file_form file) most_bytes (joined pieces.now))) }
+    ensures fit { IfOk result (RowsFit (file_form file)) }
 {
-    let mut reader = FileReader::new(alloc, file, MOST_BYTES);
+    let mut reader = FileReader::new(alloc, file, MOST_BYTES)?;
     for piece in pieces {
         reader.feed(piece)?;
     }

@@ -11,8 +11,8 @@ ghost use Rattle.tbl_reader.specs.Steps.{is_unended, SameResults, IsTooLong, IsE
 use crate::error::TableError;
 use crate::line::place_of;
 use crate::lines::Lines;
-use sql_value::Row;
-use std::alloc::Global;
+use columns::{Field, Rows};
+use std::alloc::{AllocError, Global};
 use std::marker::Model;
 use tpch_schema::{DataFile, LineFault};
 
@@ -20,7 +20,12 @@ use tpch_schema::{DataFile, LineFault};
 pub const MOST_BYTES: u64 = 1 << 32;
 
 // Reads the line that ends with these bytes, its first part having come before. The LF is the last byte.
-fn end_line(lines: &mut Lines, rest: &mut Vec<u8>, end: &[u8]) -> Result<(), TableError>
+fn end_line<'a>(
+    lines: &mut Lines,
+    fields: &mut Vec<Field<'a>>,
+    rest: &mut Vec<u8>,
+    end: &'a [u8],
+) -> Result<(), TableError>
     ensures form { lines.new.form ≡ lines.old.form }
     ensures limit { lines.new.limit ≡ lines.old.limit }
     ensures ok { OnOk result (add_line lines.old.form lines.old.limit (Ok lines.old.so_far) (rest.old.items ++ end.now) ≡ Ok lines.new.so_far) }
@@ -30,7 +35,7 @@ fn end_line(lines: &mut Lines, rest: &mut Vec<u8>, end: &[u8]) -> Result<(), Tab
     ensures refused { IfErr result (IsErrorOf (add_line lines.old.form lines.old.limit (Ok lines.old.so_far) (rest.old.items ++ end.now))) }
 {
     if rest.is_empty() {
-        lines.add(end)?;
+        lines.add_by(fields, end)?;
         return Ok(());
     }
     rest.extend_from_slice(end)?;
@@ -67,10 +72,11 @@ fn read_piece(lines: &mut Lines, rest: &mut Vec<u8>, piece: &[u8]) -> Result<(),
     ensures bytes { lines.new.so_far.bytes ≤ lines.new.limit }
     ensures refused { IfErr result (IsErrorOfAll lines.old (rest.old.items ++ piece.now)) }
 {
+    let mut fields = Vec::new(lines.alloc());
     let mut left = piece;
     'lines: while let Some(end) = place_of(b'\n', left) {
         let (line, more) = left.split_at(end + 1);
-        end_line(lines, rest, line)?;
+        end_line(lines, &mut fields, rest, line)?;
         left = more;
     }
     keep_rest(lines, rest, left)?;
@@ -79,16 +85,18 @@ fn read_piece(lines: &mut Lines, rest: &mut Vec<u8>, piece: &[u8]) -> Result<(),
 
 // The rows of all lines, of which the last one is what is left, if anything is.
 #[tactic(auto, using(crate::proofs::Answers::ends))]
-fn last_rows(mut lines: Lines, rest: &[u8]) -> Result<Vec<Row>, TableError>
+fn last_rows(mut lines: Lines, rest: &[u8]) -> Result<Rows, TableError>
     requires { is_unended rest.now ≡ true }
-    ensures rows { MatchResult result (λ rows. only_rows (lines_result lines rest.now) ≡ Ok rows.items) (IsErrorOf (only_rows (lines_result lines rest.now))) }
-    ensures fit { IfOk result (λ rows. RowsFit lines.form rows.items) }
+    ensures rows { MatchResult result (λ rows. only_rows (lines_result lines rest.now) ≡ Ok rows) (IsErrorOf (only_rows (lines_result lines rest.now))) }
+    ensures fit { IfOk result (RowsFit lines.form) }
 {
     if rest.is_empty() {
-        return Ok(lines.into_rows());
+        let rows = lines.into_rows()?;
+        return Ok(rows);
     }
     lines.add(rest)?;
-    Ok(lines.into_rows())
+    let rows = lines.into_rows()?;
+    Ok(rows)
 }
 
 /// A reader of a file, which is fed the file's pieces in order, however they are cut. It keeps the rows of the
@@ -118,17 +126,18 @@ impl FileReader {
     ghost use Rattle.tbl_reader.specs.Reading.{HasRead, RefusesAll, bytes_fed, rows_for};
 
     /// A reader of a file of at most `limit` bytes.
-    pub fn new(alloc: Global, file: DataFile, limit: u64) -> FileReader
-        ensures form { result.lines.form ≡ file_form file }
-        ensures limit { result.lines.limit ≡ limit }
-        ensures bytes { bytes_fed result ≡ 0 }
-        ensures started { HasRead [] result }
+    pub fn new(alloc: Global, file: DataFile, limit: u64) -> Result<FileReader, AllocError>
+        ensures form { IfOk result (λ r. r.lines.form ≡ file_form file) }
+        ensures limit { IfOk result (λ r. r.lines.limit ≡ limit) }
+        ensures bytes { IfOk result (λ r. bytes_fed r ≡ 0) }
+        ensures started { IfOk result (HasRead []) }
     {
-        FileReader {
-            lines: Lines::new(alloc, file, limit),
+        let lines = Lines::new(alloc, file, limit)?;
+        Ok(FileReader {
+            lines,
             rest: Vec::new(alloc),
             error: None,
-        }
+        })
     }
 
     /// Reads the file's next piece: the lines that end in it give rows, and a bad one among them is refused.
@@ -158,9 +167,9 @@ impl FileReader {
     }
 
     /// The rows of the whole file.
-    pub fn finish(self) -> Result<Vec<Row>, TableError>
-        ensures rows { (text : List ℕ) → HasRead text self → MatchResult result (λ rows. rows_for self text ≡ Ok rows.items) (IsErrorOf (rows_for self text)) }
-        ensures fit { IfOk result (λ rows. RowsFit self.lines.form rows.items) }
+    pub fn finish(self) -> Result<Rows, TableError>
+        ensures rows { (text : List ℕ) → HasRead text self → MatchResult result (λ rows. rows_for self text ≡ Ok rows) (IsErrorOf (rows_for self text)) }
+        ensures fit { IfOk result (RowsFit self.lines.form) }
         ensures again { (error : TableError) → self.error ≡ Some error → result ≡ Err error }
     {
         let FileReader { lines, rest, error } = self;

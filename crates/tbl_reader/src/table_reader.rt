@@ -9,7 +9,7 @@ ghost use Rattle.tbl_reader.specs.File.{most_bytes};
 
 use crate::error::TableError;
 use crate::reader::{FileReader, MOST_BYTES};
-use sql_value::Row;
+use columns::Rows;
 use std::alloc::{AllocError, Global};
 use std::marker::Model;
 use tpch_schema::{DataFile, TableName};
@@ -55,7 +55,7 @@ impl TableReader {
         ensures bytes { IfOk result (λ r. bytes_fed r ≡ 0) }
         ensures started { IfOk result (HasRead []) }
     {
-        let reader = FileReader::new(alloc, DataFile::Table(table), limit);
+        let reader = FileReader::new(alloc, DataFile::Table(table), limit)?;
         Ok(TableReader { reader })
     }
 
@@ -67,10 +67,10 @@ impl TableReader {
     }
 
     /// The rows of the whole file.
-    pub fn finish(self) -> Result<Vec<Row>, TableError>
-        ensures rows { (text : List ℕ) → HasRead text self → MatchResult result (λ rows. rows_for self text ≡ Ok rows.items) (IsErrorOf (rows_for self text)) }
-        ensures fit { IfOk result (λ rows. RowsFit self.lines.form rows.items) }
-        ensures kinds { (table : TableName) → self.lines.form.columns ≡ columns_of table → IfOk result (λ rows. RowsAreOf table rows.items) }
+    pub fn finish(self) -> Result<Rows, TableError>
+        ensures rows { (text : List ℕ) → HasRead text self → MatchResult result (λ rows. rows_for self text ≡ Ok rows) (IsErrorOf (rows_for self text)) }
+        ensures fit { IfOk result (RowsFit self.lines.form) }
+        ensures kinds { (table : TableName) → self.lines.form.columns ≡ columns_of table → IfOk result (RowsAreOf table) }
         ensures again { (error : TableError) → self.error ≡ Some error → result ≡ Err error }
     {
         let TableReader { reader } = self;

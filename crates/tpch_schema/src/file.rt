@@ -1,5 +1,6 @@
 //! Files whose lines are rows: a table's, and those of a refresh set.
-ghost use Rattle.std.specs.Prelude.{◌≡◌, map};
+ghost use Rattle.std.specs.Prelude.{◌≡◌, ◌<◌, ◌≤◌, length, map};
+ghost use Rattle.std.specs.List.{All};
 ghost use Rattle.tpch_schema.specs.LineForm.{file_form, never_null};
 
 use crate::column::ColumnKind;
@@ -18,9 +19,11 @@ pub enum DataFile {
 static DELETE_KINDS: [ColumnKind; 1] = [ColumnKind::Key];
 
 impl DataFile {
-    /// The kinds of a line's columns, from left to right. None of the columns holds nulls.
+    /// The kinds of a line's columns, from left to right, at most 16. None of the columns holds nulls.
+    #[tactic(auto, using(crate::proofs::Forms::kinds_short))]
     pub fn kinds(self) -> &'static [ColumnKind]
-        ensures { map never_null result.now ≡ (file_form self).columns }
+        ensures kinds { map never_null result.now ≡ (file_form self).columns }
+        ensures short { length result.now ≤ 16 }
     {
         match self {
             DataFile::Table(table) => table.kinds(),
@@ -31,8 +34,10 @@ impl DataFile {
     }
 
     /// The places of the key's columns, counted from 0.
+    #[tactic(auto, using(crate::proofs::Forms::keys_inside))]
     pub fn key_columns(self) -> &'static [usize]
-        ensures { result.now ≡ (file_form self).key }
+        ensures places { result.now ≡ (file_form self).key }
+        ensures inside { All (λ place. place < length (file_form self).columns) result.now }
     {
         match self {
             DataFile::Table(table) => table.key_columns(),

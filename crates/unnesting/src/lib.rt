@@ -2,8 +2,12 @@
 #![tactic(auto)]
 
 mod domain;
-mod lower;
+mod lists;
+mod lowering;
 mod put;
 
 pub use domain::{Domain, DomainRows, Note};
-pub use lower::lower;
+pub use lowering::lower;
+
+#[cfg(test)]
+mod tests;

@@ -18,7 +18,7 @@ loop-piece-preserved c = (
 
 pub returns-in_err-feed-clause-rows : goal.returns-in_err-feed-clause-rows
 returns-in_err-feed-clause-rows c =
-    let p = err_from_is_err_and c.from_residual.result c.from_residual.ensures.1 in
+    let p = err_from_is_err_and c.from_residual-in_err-feed.result c.from_residual-in_err-feed.ensures.1 in
     rw (p.1, p.2)
     (refused_more c.loop-piece.reader (file_form c.args.file) most_bytes (joined (take c.loop-piece.piece-index c.args.pieces.now)) _
     (joined (take (c.loop-piece.piece-index + 1) c.args.pieces.now))

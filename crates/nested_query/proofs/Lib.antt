@@ -1,0 +1,11 @@
+pub mod Opened
+pub mod TypingOpened
+pub mod Induction
+pub mod KeptRows
+pub mod Keeps
+pub mod StandingQueries
+pub mod KeptQueries
+pub mod ExampleProofs
+pub mod KeepsLaw
+pub mod ReadsProofs
+pub mod TablesOpened

@@ -1,0 +1,16 @@
+//! Laws of binding. Each function does nothing: its contract is the law.
+ghost use Rattle.sql_binder.specs.Laws.{Resolution, OnlyColumn, BoundOrRefused, NotBoth, OneWay};
+
+/// A name is looked for in the innermost query that has it, and nowhere else; and the place that it means there is that of
+/// the only column that it may stand for.
+pub fn names_are_innermost()
+    ensures resolution { Resolution }
+    ensures only { OnlyColumn }
+{}
+
+/// Each query is bound or refused, not both, in one way or for one cause.
+pub fn bound_or_refused()
+    ensures one { BoundOrRefused }
+    ensures apart { NotBoth }
+    ensures way { OneWay }
+{}

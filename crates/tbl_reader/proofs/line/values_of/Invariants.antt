@@ -1,9 +1,0 @@
-use Rattle.std.proofs.Common.{◌≡◌, map, drop}
-use Rattle.tpch_schema.specs.LineForm.{never_null}
-use Rattle.tbl_reader.specs.Line.{values_of}
-use Rattle.tbl_reader.proofs.Cuts.{before}
-use Rattle.tbl_reader.proofs.line.values_of.Given as goal
-
-abbrev pub invariant-loop-kind : goal.invariant-loop-kind
-invariant-loop-kind l =
-    values_of (map never_null l.kinds) l.line ≡ before l.values.items (values_of (map never_null (drop l.kind-index l.kinds)) l.rest)
