@@ -1,6 +1,6 @@
 -- What a flat plan means: the rows of its nodes, one after the other; their widths; what it scans and reads; and when it is well formed.
-use Rattle.std.specs.Prelude.{ℕ, zero, ◌+◌, ◌-◌, ◌==◌, ◌&&◌, nat_lt, nat_le, Bool, true, false, List, [], ◌∷◌, ◌++◌, map, sum, length, replicate, Option, Some, None, slice_get, slice_index, slice_index_or}
-use Rattle.std.specs.List.{flat_map, list_all, range_with_len}
+use Rattle.std.specs.Prelude.{ℕ, zero, ◌+◌, ◌-◌, ◌==◌, ◌&&◌, nat_lt, nat_le, Bool, true, false, List, [], ◌∷◌, ◌++◌, map, length, replicate, Option, Some, None, slice_get, slice_index, slice_index_or}
+use Rattle.std.specs.List.{flat_map, list_all, range_with_len, sum_by}
 use Rattle.std.specs.Cmp.Lexicographic.{pointwise}
 use Rattle.row_laws.specs.Ranked.{Ranked}
 use Rattle.row_laws.specs.Rows.{columns, scanned}
@@ -16,7 +16,7 @@ use Rattle.algebra.specs.declared.aggregate.Aggregate.{Aggregate}
 use Rattle.algebra.specs.declared.node.Node.{Node}
 use Rattle.algebra.specs.declared.node.Node.TheVariants.{Scan, Domain, Select, Project, Join, Outer, Mark, Single, Group, Fill, Distinct}
 use Rattle.aggregates.specs.Values.{written, value_rank}
-use Rattle.algebra.specs.Ranks.{rank_of}
+use Rattle.conditions.specs.Ranks.{rank_of}
 use Rattle.algebra.specs.Aggregates.{aggregates_of}
 use Rattle.algebra.specs.Trees.{Database}
 
@@ -44,14 +44,14 @@ node_rows db before (Group i by aggregates) = groups by aggregates (rows_at befo
 node_rows db before (Fill i j empty) = fill same_value empty (rows_at before j) (rows_at before i)
 node_rows db before (Distinct i) = distinct same_value (rows_at before i)
 
--- the rows of nodes, behind those before them
-abbrev pub rows_from : Database → List (List (Ranked Value)) → List Node → List (List (Ranked Value))
-rows_from db before [] = before
-rows_from db before (n ∷ ns) = rows_from db (before ++ node_rows db before n ∷ []) ns
+-- what f makes of each node, from what it made of the nodes before it
+abbrev pub made_from : {X : Type 0} → (List X → Node → X) → List X → List Node → List X
+made_from f before [] = before
+made_from f before (n ∷ ns) = made_from f (before ++ f before n ∷ []) ns
 
 -- the rows of the node of this number
 unfoldable pub plan_rows : Database → List Node → ℕ → List (Ranked Value)
-plan_rows db nodes i = rows_at (rows_from db [] nodes) i
+plan_rows db nodes i = rows_at (made_from (node_rows db) [] nodes) i
 
 -- a node's number of columns, from those of the nodes before it
 abbrev pub node_width : List ℕ → Node → ℕ
@@ -67,14 +67,9 @@ node_width before (Group i by aggregates) = length by + length aggregates
 node_width before (Fill i j empty) = slice_index before j + length empty
 node_width before (Distinct i) = slice_index before i
 
--- the widths of nodes, behind those before them
-abbrev pub widths_from : List ℕ → List Node → List ℕ
-widths_from before [] = before
-widths_from before (n ∷ ns) = widths_from (before ++ node_width before n ∷ []) ns
-
 -- the number of columns of the node of this number
 unfoldable pub plan_width : List Node → ℕ → ℕ
-plan_width nodes i = slice_index (widths_from [] nodes) i
+plan_width nodes i = slice_index (made_from node_width [] nodes) i
 
 -- the table that a node scans
 abbrev pub scan_of : Node → List TableName
@@ -92,11 +87,11 @@ is_domain other = 0
 
 -- how many of the nodes are domains
 abbrev pub plan_domains : List Node → ℕ
-plan_domains nodes = sum (map is_domain nodes)
+plan_domains nodes = sum_by is_domain nodes
 
 -- how many rows are read to scan these tables, each as often as it stands there
 unfoldable pub reads_of : Database → List TableName → ℕ
-reads_of db tables = sum (map (λ table. length (db table)) tables)
+reads_of db tables = sum_by (λ table. length (db table)) tables
 
 -- the numbers of the nodes that a node reads, in its order
 abbrev pub inputs_of : Node → List ℕ

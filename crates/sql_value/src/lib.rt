@@ -1,16 +1,14 @@
-//! Values, truth, rows, and bags of rows with standings.
+//! Values, truth and rows.
 #![tactic(auto)]
 
-mod bag;
 pub mod laws;
 mod row;
-mod row_ref;
+mod row_key;
 mod truth;
 mod value;
 
-pub use bag::Bag;
 pub use row::{Row, compare_rows};
-pub use row_ref::{RowKey, RowRef, gather, row_refs};
+pub use row_key::RowKey;
 pub use truth::{Fault, Standing, Truth};
 pub use value::Value;
 

@@ -1,2 +1,4 @@
-mod Order
-mod VersionSteps
+pub mod Found
+pub mod Order
+pub mod Sales
+pub mod VersionSteps

@@ -1,4 +1,7 @@
+pub mod Applied
 pub mod Cases
+pub mod Form
+pub mod Found
 pub mod Keys
 pub mod Laws
 pub mod Lists

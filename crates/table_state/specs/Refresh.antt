@@ -1,5 +1,5 @@
 -- Refreshes: one whole change of a state, or the first cause why there is none.
-use Rattle.std.specs.Prelude.{ℕ, not, List, [], ◌∷◌, ◌++◌, filter, ℤ, Option, Some, None, Result, Ok, Err, if◌then◌else◌}
+use Rattle.std.specs.Prelude.{ℕ, not, List, [], ◌∷◌, ◌++◌, filter, ℤ, pos, ◌≤ℤ◌, ◌<ℤ◌, ◌^◌, Option, Some, None, Result, Ok, Err, if◌then◌else◌}
 use Rattle.refusals.specs.declared.line.LineRefusal.{LineRefusal}
 use Rattle.refusals.specs.declared.refresh.Cause.{Cause}
 use Rattle.refusals.specs.declared.refresh.Cause.TheVariants.{OrderExists, OrderTwice, LineTwice, StrayLine, UnknownOrder, KeyTwice, Malformed, LineExists}
@@ -16,6 +16,10 @@ pub data Change : Type 0 where
   DeleteKeys : (keys : List ℤ) → Change
   -- nothing, since a file of the set of this number has a bad line
   MalformedFile : (file : RefreshFile) → (set : ℕ) → (refusal : LineRefusal) → Change
+
+-- a number that an order's key can be
+abbrev pub IsOrderKey : ℤ → Type 0
+IsOrderKey key = (pos 0 ≤ℤ key) × (key <ℤ pos (2 ^ 63))
 
 -- the first of two causes
 abbrev pub or_cause : Option Cause → Option Cause → Option Cause
@@ -63,12 +67,16 @@ cause_of state (MalformedFile file set refusal) = Some (Malformed file set refus
 abbrev pub without_keys : List ℤ → List (List Value) → List (List Value)
 without_keys keys = filter (λ row. not (has_key keys (order_key row)))
 
+-- a state with these orders and lineitems in place of its own
+abbrev pub with_sales : State → List (List Value) → List (List Value) → State
+with_sales state orders lineitems = record state { orders = orders; lineitem = lineitems }
+
 -- a state after a change that has no cause against it
 abbrev pub changed : State → Change → State
 changed state (InsertRows orders lineitems) =
-    record state { orders = state.orders ++ orders; lineitem = state.lineitem ++ lineitems }
+    with_sales state (state.orders ++ orders) (state.lineitem ++ lineitems)
 changed state (DeleteKeys keys) =
-    record state { orders = without_keys keys state.orders; lineitem = without_keys keys state.lineitem }
+    with_sales state (without_keys keys state.orders) (without_keys keys state.lineitem)
 changed state (MalformedFile file set refusal) = state
 
 -- the changed state, if no cause stands against it

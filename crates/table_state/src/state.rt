@@ -1,11 +1,14 @@
 //! The type `State`.
-ghost use Rattle.std.specs.Prelude.{◌≡◌, length, map};
+ghost use Rattle.std.specs.Prelude.{◌≡◌, length, map, take, drop, IfOk};
 ghost use Rattle.std.specs.Vec.{vec_items};
 ghost use Rattle.tpch_schema.specs.Kinds.{RowsAreOf};
 ghost use Rattle.tpch_schema.specs.State.{table_rows};
 ghost use Rattle.table_state.specs.Lists.{IsOfKinds, place_of, state_of};
+ghost use Rattle.table_state.specs.Refresh.{with_sales};
 
+use crate::rows::push_rows;
 use sql_value::Row;
+use std::alloc::{AllocError, Global};
 use std::marker::Model;
 use tpch_schema::TableName;
 
@@ -30,7 +33,7 @@ impl Model for State {
 }
 
 /// The table's place in the schema's order, counted from 0.
-fn place(table: TableName) -> usize
+pub fn place(table: TableName) -> usize
     ensures { result ≡ place_of table }
 {
     match table {
@@ -43,6 +46,15 @@ fn place(table: TableName) -> usize
         TableName::Orders => 6,
         TableName::Lineitem => 7,
     }
+}
+
+/// Shares of rows.
+fn shared_rows(alloc: Global, rows: &[Row]) -> Result<Vec<Row>, AllocError>
+    ensures { IfOk result (λ shared. shared.items ≡ rows.now) }
+{
+    let mut shared = Vec::with_capacity(alloc, rows.len())?;
+    push_rows(&mut shared, rows)?;
+    Ok(shared)
 }
 
 /// The rows of the table among eight lists in the schema's order.
@@ -77,5 +89,43 @@ impl State {
         ensures kinds { RowsAreOf table result.now }
     {
         table_rows(&self.tables, table)
+    }
+
+    /// Puts these rows in place of those of orders and lineitem.
+    pub(crate) fn replace_sales(&mut self, orders: Vec<Row>, lineitems: Vec<Row>)
+        requires orders { RowsAreOf TableName.Orders orders.items }
+        requires lineitems { RowsAreOf TableName.Lineitem lineitems.items }
+        ensures { self.new ≡ with_sales self.old orders.items lineitems.items }
+    {
+        self.tables[6] = orders;
+        self.tables[7] = lineitems;
+    }
+
+    /// A share of the same rows.
+    pub fn share(&self, alloc: Global) -> Result<State, AllocError>
+        ensures { IfOk result (λ state. state ≡ self.now) }
+    {
+        let mut tables = Vec::with_capacity(alloc, 8)?;
+        for table in &self.tables {
+            tables.push(shared_rows(alloc, table)?)?;
+        }
+        Ok(State { tables })
+    }
+
+    /// Some rows of a table: so many from a place on, or fewer where the table ends.
+    pub fn some_rows(
+        &self,
+        alloc: Global,
+        table: TableName,
+        from: usize,
+        count: usize,
+    ) -> Result<Vec<Row>, AllocError>
+        ensures { IfOk result (λ rows. rows.items ≡ take count (drop from (table_rows self.now table))) }
+    {
+        let rows = self.rows(table);
+        let start = from.min(rows.len());
+        let end = start.saturating_add(count).min(rows.len());
+        let some = shared_rows(alloc, &rows[start..end])?;
+        Ok(some)
     }
 }

@@ -3,10 +3,10 @@ use Rattle.std.proofs.Common.{◌≡◌, ℕ, ◌+◌, ◌<◌, List, [], ◌∷
 use Rattle.std.proofs.lemmas.Grind.{flat_map-append}
 use Rattle.std.proofs.lemmas.List.{take_more, take-append-drop, append-nil}
 use Rattle.refusals.specs.declared.line.LineRefusal.{LineRefusal}
-use Rattle.tpch_schema.specs.declared.table.TableName.{TableName}
-use Rattle.tbl_reader.specs.declared.fault.ReadFault.{ReadFault}
-use Rattle.tbl_reader.specs.declared.fault.ReadFault.TheVariants.{Refused, OutOfMemory}
-use Rattle.tbl_reader.specs.Fault.{IsFaultOf}
+use Rattle.tpch_schema.specs.LineForm.{LineForm}
+use Rattle.tbl_reader.specs.declared.error.TableError.{TableError}
+use Rattle.tbl_reader.specs.declared.error.TableError.TheVariants.{Refused, OutOfMemory}
+use Rattle.tbl_reader.specs.Error.{IsErrorOf}
 use Rattle.tbl_reader.specs.File.{file_rows}
 use Rattle.tbl_reader.specs.Pieces.{joined}
 use Rattle.tbl_reader.specs.Reading.{Reading, HasRead, RefusesAll}
@@ -25,26 +25,22 @@ joined_rest pieces i =
     ap joined (sym (take-append-drop i pieces)) ∙ flat_map-append (λ (p : Bor (List ℕ)). p.now) (take i pieces) (drop i pieces)
 
 -- what refuses all that begins so refuses the file
-pub refused_file : (table : TableName) (limit : ℕ) (text more whole : List ℕ) (fault : ReadFault) → whole ≡ text ++ more
-    → ((first : LineRefusal) → fault ≡ Refused first → RefusesAll table limit text first)
-    → IsFaultOf (file_rows table limit whole) fault
-refused_file table limit text more whole (Refused first) e refuses = ap (file_rows table limit) e ∙ (refuses first refl).answers more
-refused_file table limit text more whole OutOfMemory e refuses = tt
+refused_file : (form : LineForm) (limit : ℕ) (text more whole : List ℕ) (error : TableError) → whole ≡ text ++ more
+    → ((first : LineRefusal) → error ≡ Refused first → RefusesAll form limit text first)
+    → IsErrorOf (file_rows form limit whole) error
+refused_file form limit text more whole (Refused first) e refuses = ap (file_rows form limit) e ∙ (refuses first refl).answers more
+refused_file form limit text more whole OutOfMemory e refuses = tt
 
 -- a reader that was fed one piece more
-pub has_read_more : (old new : Reading) (its_table table : TableName) (its_limit limit : ℕ) (so_far piece text : List ℕ)
-    → its_table ≡ table → its_limit ≡ limit
-    → ((t : List ℕ) → HasRead its_table its_limit t old → HasRead its_table its_limit (t ++ piece) new)
-    → HasRead table limit so_far old → text ≡ so_far ++ piece → HasRead table limit text new
-has_read_more old new its_table table its_limit limit so_far piece text same_table same_limit read has e =
-    rw (e, ← same_table, ← same_limit) (read so_far (rw (same_table, same_limit) has))
+pub has_read_more : (old new : Reading) (so_far piece text : List ℕ) → ((t : List ℕ) → HasRead t old → HasRead (t ++ piece) new)
+    → HasRead so_far old → text ≡ so_far ++ piece → HasRead text new
+has_read_more old new so_far piece text read has e = rw e (read so_far has)
 
 -- a reader that refused a piece
-pub refused_more : (old : Reading) (its_table table : TableName) (its_limit limit : ℕ) (so_far piece text more whole : List ℕ) (fault : ReadFault)
-    → its_table ≡ table → its_limit ≡ limit
-    → ((first : LineRefusal) → ◌≡◌ {A = Result (Unit {0}) ReadFault} (Err fault) (Err (Refused first)) → (t : List ℕ) → HasRead its_table its_limit t old
-    → RefusesAll its_table its_limit (t ++ piece) first)
-    → HasRead table limit so_far old → text ≡ so_far ++ piece → whole ≡ text ++ more → IsFaultOf (file_rows table limit whole) fault
-refused_more old its_table table its_limit limit so_far piece text more whole fault same_table same_limit refuses has e f =
-    refused_file table limit text more whole fault f (λ first is.
-    rw (e, ← same_table, ← same_limit) (refuses first (ap Err is) so_far (rw (same_table, same_limit) has)))
+pub refused_more : (old : Reading) (form : LineForm) (limit : ℕ) (so_far piece text more whole : List ℕ) (error : TableError)
+    → old.lines.form ≡ form → old.lines.limit ≡ limit
+    → ((first : LineRefusal) → ◌≡◌ {A = Result (Unit {0}) TableError} (Err error) (Err (Refused first)) → (t : List ℕ) → HasRead t old
+    → RefusesAll old.lines.form old.lines.limit (t ++ piece) first)
+    → HasRead so_far old → text ≡ so_far ++ piece → whole ≡ text ++ more → IsErrorOf (file_rows form limit whole) error
+refused_more old form limit so_far piece text more whole error same_form same_limit refuses has e f =
+    refused_file form limit text more whole error f (λ first is. rw (e, ← same_form, ← same_limit) (refuses first (ap Err is) so_far has))

@@ -10,3 +10,7 @@ pub mod LineFaults
 pub mod FieldCuts
 pub mod FieldLaws
 pub mod FileLaws
+pub mod Readers
+pub mod Held
+pub mod PlainNumbers
+pub mod BarCuts

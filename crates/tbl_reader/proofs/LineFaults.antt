@@ -1,5 +1,5 @@
 -- Which faults the fields of a line can have.
-use Rattle.std.proofs.Common.{◌≡◌, ℕ, ℤ, Bool, true, false, cond, List, [], ◌∷◌, length, Option, Some, None, Result, Ok, Err, ap}
+use Rattle.std.proofs.Common.{◌≡◌, ℕ, ℤ, Bool, true, false, cond, List, [], ◌∷◌, ◌&&◌, length, Option, Some, None, Result, Ok, Err, ap}
 use Rattle.std.specs.List.{before_first, after_first}
 use Rattle.ascii_text.specs.Printable.{first_unprintable}
 use Rattle.civil_date.specs.Date.{date_of}
@@ -11,7 +11,8 @@ use Rattle.refusals.specs.declared.line.LineFault.TheVariants.{FieldCount, BadNu
 use Rattle.sql_value.specs.declared.value.Value.{Value}
 use Rattle.tpch_schema.specs.declared.column.ColumnKind.{ColumnKind}
 use Rattle.tpch_schema.specs.declared.column.ColumnKind.TheVariants.{Key, Whole, Decimal, Date, Text}
-use Rattle.tbl_reader.specs.Field.{field_value, number_field, date_field, printable_field}
+use Rattle.tpch_schema.specs.LineForm.{LineColumn}
+use Rattle.tbl_reader.specs.Field.{kind_field, spells_null, column_value, number_field, date_field, printable_field}
 use Rattle.tbl_reader.specs.Line.{is_bar, has_fields, put_first, values_of, row_of}
 
 -- a fault of one field
@@ -44,12 +45,20 @@ text_fault : (kind : ColumnKind) (text : List ℕ) (r : Option ℕ) (fault : Lin
 text_fault kind text (Some place) fault e = let same : BadText ≡ fault = cc in rw (← same) tt
 text_fault kind text None fault e = tested_fault _ _ TextTooLong fault tt e
 
-pub field_fault : (kind : ColumnKind) (field : List ℕ) (fault : LineFault) → field_value kind field ≡ Err fault → IsOfField fault
+pub field_fault : (kind : ColumnKind) (field : List ℕ) (fault : LineFault) → kind_field kind field ≡ Err fault → IsOfField fault
 field_fault Key field fault e = number_fault Key 0 (decimal_read field 0) fault e
 field_fault Whole field fault e = number_fault Whole 0 (decimal_read field 0) fault e
 field_fault Decimal field fault e = number_fault Decimal 2 (decimal_read field 2) fault e
 field_fault Date field fault e = date_fault (date_of field) fault e
 field_fault (Text most) field fault e = text_fault (Text most) field (first_unprintable field) fault e
+
+by_null : (null : Bool) (v : Value) (r : Result Value LineFault) (fault : LineFault) → (r ≡ Err fault → IsOfField fault) → cond null (Ok v) r ≡ Err fault → IsOfField fault
+by_null true v r fault p e = cc
+by_null false v r fault p e = p e
+
+pub column_fault : (column : LineColumn) (field : List ℕ) (fault : LineFault) → column_value column field ≡ Err fault → IsOfField fault
+column_fault column field fault e =
+    by_null (column.nullable && spells_null field) _ (kind_field column.kind field) fault (field_fault column.kind field fault) e
 
 put_fault : (r : Result Value LineFault) (s : Result (List Value) LineFault) (fault : LineFault)
     → (r ≡ Err fault → IsOfField fault) → (s ≡ Err fault → IsOfField fault) → put_first r s ≡ Err fault → IsOfField fault
@@ -57,12 +66,12 @@ put_fault (Err first) s fault p q e = let same : first ≡ fault = cc in p (ap E
 put_fault (Ok v) (Err first) fault p q e = q e
 put_fault (Ok v) (Ok vs) fault p q e = cc
 
-pub values_fault_of : (kinds : List ColumnKind) (text : List ℕ) (fault : LineFault) → values_of kinds text ≡ Err fault → IsOfField fault
+pub values_fault_of : (columns : List LineColumn) (text : List ℕ) (fault : LineFault) → values_of columns text ≡ Err fault → IsOfField fault
 values_fault_of [] text fault e = cc
-values_fault_of (kind ∷ kinds) text fault e =
-    put_fault (field_value kind (before_first is_bar text)) (values_of kinds (after_first is_bar text)) fault
-    (field_fault kind (before_first is_bar text) fault)
-    (values_fault_of kinds (after_first is_bar text) fault)
+values_fault_of (column ∷ columns) text fault e =
+    put_fault (column_value column (before_first is_bar text)) (values_of columns (after_first is_bar text)) fault
+    (column_fault column (before_first is_bar text) fault)
+    (values_fault_of columns (after_first is_bar text) fault)
     e
 
 of_line : (fault : LineFault) → IsOfField fault → IsOfLine fault
@@ -80,5 +89,5 @@ row_fault : (b : Bool) (r : Result (List Value) LineFault) (fault : LineFault) �
 row_fault true r fault p e = of_line fault (p e)
 row_fault false r fault p e = let same : FieldCount ≡ fault = cc in rw (← same) tt
 
-pub row_faults : (kinds : List ColumnKind) (line : List ℕ) (fault : LineFault) → row_of kinds line ≡ Err fault → IsOfLine fault
-row_faults kinds line fault e = row_fault (has_fields (length kinds) line) (values_of kinds line) fault (values_fault_of kinds line fault) e
+pub row_faults : (columns : List LineColumn) (line : List ℕ) (fault : LineFault) → row_of columns line ≡ Err fault → IsOfLine fault
+row_faults columns line fault e = row_fault (has_fields (length columns) line) (values_of columns line) fault (values_fault_of columns line fault) e

@@ -5,19 +5,19 @@ use Rattle.std.specs.Prelude.{nat_lt}
 use Rattle.std.specs.List.{position}
 use Rattle.refusals.specs.declared.line.LineFault.TheVariants.{FileTooLong}
 use Rattle.refusals.specs.declared.line.LineRefusal.{LineRefusal}
-use Rattle.tpch_schema.specs.declared.table.TableName.{TableName}
+use Rattle.tpch_schema.specs.LineForm.{LineForm}
 use Rattle.tbl_reader.specs.File.{Progress, refusal, add_line, add_lines, cut_lines}
 use Rattle.tbl_reader.specs.Lines.{LinesRead}
 use Rattle.tbl_reader.specs.Reading.{lines_result}
-use Rattle.tbl_reader.specs.Steps.{is_unended, SameResults, RefusesLines, IsTooLong, IsFaultOfAll}
-use Rattle.tbl_reader.specs.declared.fault.ReadFault.{ReadFault}
-use Rattle.tbl_reader.specs.declared.fault.ReadFault.TheVariants.{Refused, OutOfMemory}
+use Rattle.tbl_reader.specs.Steps.{is_unended, SameResults, RefusesLines, IsTooLong, IsErrorOfAll}
+use Rattle.tbl_reader.specs.declared.error.TableError.{TableError}
+use Rattle.tbl_reader.specs.declared.error.TableError.TheVariants.{Refused, OutOfMemory}
 use Rattle.tbl_reader.proofs.LineCuts.{unended-nil, unended-append, unended_none, cut_lines-ended, cut_lines-rest, cut_lines-begins, BeginsWith, parts, Parts}
 
 -- the first refusal stays
-pub add_lines-refused : (table : TableName) (limit : ℕ) (first : LineRefusal) (lines : List (List ℕ)) → add_lines table limit (Err first) lines ≡ Err first
-add_lines-refused table limit first [] = refl
-add_lines-refused table limit first (l ∷ ls) = add_lines-refused table limit first ls
+pub add_lines-refused : (form : LineForm) (limit : ℕ) (first : LineRefusal) (lines : List (List ℕ)) → add_lines form limit (Err first) lines ≡ Err first
+add_lines-refused form limit first [] = refl
+add_lines-refused form limit first (l ∷ ls) = add_lines-refused form limit first ls
 
 pub same_start : (lines : LinesRead) (text : List ℕ) → SameResults lines text lines text
 same_start lines text = record { results = λ more. refl }
@@ -35,40 +35,40 @@ cut_line rest left end more u p =
 -- a line more
 pub same_line : (now next before : LinesRead) (rest left whole : List ℕ) (end : ℕ) → SameResults now (rest ++ left) before whole
     → is_unended rest ≡ true → position (λ byte. byte == 10) left ≡ Some end
-    → next.table ≡ now.table → next.limit ≡ now.limit
-    → add_line now.table now.limit (Ok now.so_far) (rest ++ take (end + 1) left) ≡ Ok next.so_far
+    → next.form ≡ now.form → next.limit ≡ now.limit
+    → add_line now.form now.limit (Ok now.so_far) (rest ++ take (end + 1) left) ≡ Ok next.so_far
     → SameResults next (drop (end + 1) left) before whole
 unfolding lines_result
 same_line now next before rest left whole end same u found t l e = record {
   results = λ more.
       rw (t, l, ← e)
-      (ap (add_lines now.table now.limit (Ok now.so_far)) (sym (cut_line rest left end more u (parts left end found))) ∙ same.results more);
+      (ap (add_lines now.form now.limit (Ok now.so_far)) (sym (cut_line rest left end more u (parts left end found))) ∙ same.results more);
 }
 
 -- a line that is refused
 pub refused_line : (now before : LinesRead) (rest left whole : List ℕ) (end : ℕ) (first : LineRefusal) → SameResults now (rest ++ left) before whole
     → is_unended rest ≡ true → position (λ byte. byte == 10) left ≡ Some end
-    → add_line now.table now.limit (Ok now.so_far) (rest ++ take (end + 1) left) ≡ Err first
+    → add_line now.form now.limit (Ok now.so_far) (rest ++ take (end + 1) left) ≡ Err first
     → RefusesLines before whole first
 unfolding lines_result
 refused_line now before rest left whole end first same u found e = record {
   results = λ more.
       sym (same.results more)
-      ∙ ap (add_lines now.table now.limit (Ok now.so_far)) (cut_line rest left end more u (parts left end found))
-      ∙ ap (λ r. add_lines now.table now.limit r (cut_lines (drop (end + 1) left ++ more))) e
-      ∙ add_lines-refused now.table now.limit first (cut_lines (drop (end + 1) left ++ more));
+      ∙ ap (add_lines now.form now.limit (Ok now.so_far)) (cut_line rest left end more u (parts left end found))
+      ∙ ap (λ r. add_lines now.form now.limit r (cut_lines (drop (end + 1) left ++ more))) e
+      ∙ add_lines-refused now.form now.limit first (cut_lines (drop (end + 1) left ++ more));
 }
 
-too_long : (table : TableName) (limit : ℕ) (so_far : Progress) (line : List ℕ) → limit < so_far.bytes + length line
-    → add_line table limit (Ok so_far) line ≡ Err (refusal so_far FileTooLong)
-too_long table limit so_far line h =
+too_long : (form : LineForm) (limit : ℕ) (so_far : Progress) (line : List ℕ) → limit < so_far.bytes + length line
+    → add_line form limit (Ok so_far) line ≡ Err (refusal so_far FileTooLong)
+too_long form limit so_far line h =
     let over : nat_lt limit (so_far.bytes + length line) ≡ true = lt-ltb limit (so_far.bytes + length line) h in
     rw over refl
 
-long_line : (table : TableName) (limit : ℕ) (so_far : Progress) (line : List ℕ) (others : List (List ℕ)) → limit < so_far.bytes + length line
-    → add_lines table limit (Ok so_far) (line ∷ others) ≡ Err (refusal so_far FileTooLong)
-long_line table limit so_far line others h =
-    ap (λ r. add_lines table limit r others) (too_long table limit so_far line h) ∙ add_lines-refused table limit (refusal so_far FileTooLong) others
+long_line : (form : LineForm) (limit : ℕ) (so_far : Progress) (line : List ℕ) (others : List (List ℕ)) → limit < so_far.bytes + length line
+    → add_lines form limit (Ok so_far) (line ∷ others) ≡ Err (refusal so_far FileTooLong)
+long_line form limit so_far line others h =
+    ap (λ r. add_lines form limit r others) (too_long form limit so_far line h) ∙ add_lines-refused form limit (refusal so_far FileTooLong) others
 
 -- a line that is too long before it ends
 pub refused_rest : (now before : LinesRead) (text whole : List ℕ) → SameResults now text before whole
@@ -80,13 +80,13 @@ refused_rest now before (b ∷ text) whole same u long short = record {
   results = λ more.
       let begins : BeginsWith (b ∷ text) (cut_lines ((b ∷ text) ++ more)) = cut_lines-begins b text more u in
       let over : now.limit < now.so_far.bytes + length ((b ∷ text) ++ begins.more) = omega (arith, length-append (b ∷ text) begins.more, long) in
-      let ends : add_lines now.table now.limit (Ok now.so_far) (((b ∷ text) ++ begins.more) ∷ begins.others) ≡ Err (refusal now.so_far FileTooLong) =
-      long_line now.table now.limit now.so_far ((b ∷ text) ++ begins.more) begins.others over in
-      sym (same.results more) ∙ ap (add_lines now.table now.limit (Ok now.so_far)) begins.is ∙ ends;
+      let ends : add_lines now.form now.limit (Ok now.so_far) (((b ∷ text) ++ begins.more) ∷ begins.others) ≡ Err (refusal now.so_far FileTooLong) =
+      long_line now.form now.limit now.so_far ((b ∷ text) ++ begins.more) begins.others over in
+      sym (same.results more) ∙ ap (add_lines now.form now.limit (Ok now.so_far)) begins.is ∙ ends;
 }
 
-pub too_long_all : (now before : LinesRead) (text whole : List ℕ) (fault : ReadFault) → SameResults now text before whole
-    → is_unended text ≡ true → IsTooLong now text fault → now.so_far.bytes ≤ now.limit → IsFaultOfAll before whole fault
+pub too_long_all : (now before : LinesRead) (text whole : List ℕ) (error : TableError) → SameResults now text before whole
+    → is_unended text ≡ true → IsTooLong now text error → now.so_far.bytes ≤ now.limit → IsErrorOfAll before whole error
 too_long_all now before text whole (Refused first) same u long short =
     rw long.0 (refused_rest now before text whole same u long.1 short)
 too_long_all now before text whole OutOfMemory same u long short = tt

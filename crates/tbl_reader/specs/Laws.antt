@@ -5,8 +5,7 @@ use Rattle.refusals.specs.declared.line.LineFault.{LineFault}
 use Rattle.refusals.specs.declared.line.LineFault.TheVariants.{DuplicateKey, FileTooLong}
 use Rattle.refusals.specs.declared.line.LineRefusal.{LineRefusal}
 use Rattle.sql_value.specs.declared.value.Value.{Value}
-use Rattle.tpch_schema.specs.declared.table.TableName.{TableName}
-use Rattle.tpch_schema.specs.Kinds.{key_of}
+use Rattle.tpch_schema.specs.LineForm.{LineForm, key_of}
 use Rattle.tbl_reader.specs.File.{cut_lines, line_row, file_rows}
 use Rattle.tbl_reader.specs.Steps.{is_unended}
 
@@ -21,45 +20,46 @@ AreLines [] = ⊤
 AreLines (line ∷ lines) =
     IsLine line × (0 < length lines → slice_index line (length line - 1) ≡ 10) × AreLines lines
 
--- the lines of a text, one behind the other, are the text
+-- the lines of a text, one after the other, are the text
 abbrev pub LinesGiveText : Type 0
 LinesGiveText = (text : List ℕ) → (concat (cut_lines text) ≡ text) × AreLines (cut_lines text)
 
--- the rows of lines: each line's fields say its row, no two rows have one key, and the lines are within the limit
-pub record AreRowsOf (table : TableName) (limit : ℕ) (lines : List (List ℕ)) (rows : List (List Value)) : Type 0 where
-  pub fields : map (line_row table) lines ≡ map Ok rows
-  pub keys : AllPairs ◌≢◌ (map (key_of table) rows)
+-- the rows of lines: each line's fields say its row, no two rows have one key where keys must differ, and the lines are
+-- within the limit
+pub record AreRowsOf (form : LineForm) (limit : ℕ) (lines : List (List ℕ)) (rows : List (List Value)) : Type 0 where
+  pub fields : map (line_row form) lines ≡ map Ok rows
+  pub keys : form.unique ≡ true → AllPairs ◌≢◌ (map (key_of form) rows)
   pub bytes : length (concat lines) ≤ limit
 
 -- a file gives rows exactly where they are those of its lines
 abbrev pub RowsAreThoseOfTheLines : Type 0
 RowsAreThoseOfTheLines =
-    (table : TableName) (limit : ℕ) (text : List ℕ) (rows : List (List Value))
-    → (file_rows table limit text ≡ Ok rows) ↔ AreRowsOf table limit (cut_lines text) rows
+    (form : LineForm) (limit : ℕ) (text : List ℕ) (rows : List (List Value))
+    → (file_rows form limit text ≡ Ok rows) ↔ AreRowsOf form limit (cut_lines text) rows
 
--- what is wrong with a line behind earlier ones of these rows: it reaches past the limit, an earlier row has its key, or
--- its fields say no row
-abbrev pub IsWrong : TableName → ℕ → List (List ℕ) → List (List Value) → List ℕ → LineFault → Type 0
-IsWrong table limit earlier rows line FileTooLong = limit < length (concat earlier) + length line
-IsWrong table limit earlier rows line DuplicateKey =
-    (length (concat earlier) + length line ≤ limit)
-    × (row : List Value) × (line_row table line ≡ Ok row) × Contains (map (key_of table) rows) (key_of table row)
-IsWrong table limit earlier rows line fault =
-    (length (concat earlier) + length line ≤ limit) × (line_row table line ≡ Err fault)
+-- what is wrong with a line after earlier ones of these rows: it reaches past the limit, an earlier row has its key, which
+-- must be new, or its fields say no row
+abbrev pub IsWrong : LineForm → ℕ → List (List ℕ) → List (List Value) → List ℕ → LineFault → Type 0
+IsWrong form limit earlier rows line FileTooLong = limit < length (concat earlier) + length line
+IsWrong form limit earlier rows line DuplicateKey =
+    (length (concat earlier) + length line ≤ limit) × (form.unique ≡ true)
+    × (row : List Value) × (line_row form line ≡ Ok row) × Contains (map (key_of form) rows) (key_of form row)
+IsWrong form limit earlier rows line fault =
+    (length (concat earlier) + length line ≤ limit) × (line_row form line ≡ Err fault)
 
 -- the refusal is that of the first line that can't be a row: the lines before it have rows
-pub record IsFirstBadLine (table : TableName) (limit : ℕ) (lines : List (List ℕ)) (first : LineRefusal) : Type 0 where
+pub record IsFirstBadLine (form : LineForm) (limit : ℕ) (lines : List (List ℕ)) (first : LineRefusal) : Type 0 where
   pub earlier : List (List ℕ)
   pub line : List ℕ
   pub later : List (List ℕ)
   pub rows : List (List Value)
   pub cut : lines ≡ earlier ++ line ∷ later
   pub number : first.line ≡ length earlier + 1
-  pub good : AreRowsOf table limit earlier rows
-  pub bad : IsWrong table limit earlier rows line first.fault
+  pub good : AreRowsOf form limit earlier rows
+  pub bad : IsWrong form limit earlier rows line first.fault
 
 -- a file is refused exactly at its first bad line
 abbrev pub FirstBadLineCounts : Type 0
 FirstBadLineCounts =
-    (table : TableName) (limit : ℕ) (text : List ℕ) (first : LineRefusal)
-    → (file_rows table limit text ≡ Err first) ↔ IsFirstBadLine table limit (cut_lines text) first
+    (form : LineForm) (limit : ℕ) (text : List ℕ) (first : LineRefusal)
+    → (file_rows form limit text ≡ Err first) ↔ IsFirstBadLine form limit (cut_lines text) first

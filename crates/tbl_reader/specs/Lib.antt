@@ -1,9 +1,10 @@
 pub mod Field
+pub mod Natural
 pub mod Line
 pub mod File
 pub mod Rows
 pub mod Key
-pub mod Fault
+pub mod Error
 pub mod Lines
 pub mod Reading
 pub mod Steps

@@ -4,51 +4,51 @@ use Rattle.std.specs.List.{join_with_byte, list_any, zip}
 use Rattle.refusals.specs.declared.line.LineFault.{LineFault}
 use Rattle.refusals.specs.declared.line.LineFault.TheVariants.{FieldCount}
 use Rattle.sql_value.specs.declared.value.Value.{Value}
-use Rattle.tpch_schema.specs.declared.column.ColumnKind.{ColumnKind}
-use Rattle.tbl_reader.specs.Field.{field_value}
+use Rattle.tpch_schema.specs.LineForm.{LineColumn}
+use Rattle.tbl_reader.specs.Field.{column_value}
 use Rattle.tbl_reader.specs.Line.{is_bar, row_of}
 
--- as many fields as a line must have: none has a bar, bars part them, and one more may stand behind the last
+-- as many fields as a line must have: none has a bar, bars part them, and one more may stand after the last
 pub record AreFieldsOf (columns : ℕ) (line : List ℕ) (fields : List (List ℕ)) : Type 0 where
   pub as_many : length fields ≡ columns
   pub no_bar : All (λ field. list_any is_bar field ≡ false) fields
   pub parted : (line ≡ join_with_byte 124 fields) ⊎ (line ≡ join_with_byte 124 fields ++ 124 ∷ [])
 
 -- what a field says in its column
-abbrev pub value_said : ColumnKind × List ℕ → Result Value LineFault
-value_said column = field_value column.0 column.1
+abbrev pub value_said : LineColumn × List ℕ → Result Value LineFault
+value_said column = column_value column.0 column.1
 
 -- the values of a line: each field says its own
-pub record AreValuesOf (kinds : List ColumnKind) (line : List ℕ) (values : List Value) : Type 0 where
+pub record AreValuesOf (columns : List LineColumn) (line : List ℕ) (values : List Value) : Type 0 where
   pub fields : List (List ℕ)
-  pub parted : AreFieldsOf (length kinds) line fields
-  pub said : map value_said (zip kinds fields) ≡ map Ok values
+  pub parted : AreFieldsOf (length columns) line fields
+  pub said : map value_said (zip columns fields) ≡ map Ok values
 
 -- a line gives a row exactly where its fields say it
 abbrev pub RowsSayTheirFields : Type 0
 RowsSayTheirFields =
-    (kinds : List ColumnKind) (line : List ℕ) (values : List Value) → 0 < length kinds
-    → (row_of kinds line ≡ Ok values) ↔ AreValuesOf kinds line values
+    (columns : List LineColumn) (line : List ℕ) (values : List Value) → 0 < length columns
+    → (row_of columns line ≡ Ok values) ↔ AreValuesOf columns line values
 
 -- the fault is that of the first field from the left that says no value
-pub record IsFirstBadField (kinds : List ColumnKind) (line : List ℕ) (fault : LineFault) : Type 0 where
+pub record IsFirstBadField (columns : List LineColumn) (line : List ℕ) (fault : LineFault) : Type 0 where
   pub fields : List (List ℕ)
-  pub parted : AreFieldsOf (length kinds) line fields
-  pub earlier : List (ColumnKind × List ℕ)
-  pub column : ColumnKind × List ℕ
-  pub later : List (ColumnKind × List ℕ)
+  pub parted : AreFieldsOf (length columns) line fields
+  pub earlier : List (LineColumn × List ℕ)
+  pub column : LineColumn × List ℕ
+  pub later : List (LineColumn × List ℕ)
   pub values : List Value
-  pub cut : zip kinds fields ≡ earlier ++ column ∷ later
+  pub cut : zip columns fields ≡ earlier ++ column ∷ later
   pub good : map value_said earlier ≡ map Ok values
   pub bad : value_said column ≡ Err fault
 
 -- what is wrong with a line: it has not as many fields, or a field says no value
-abbrev pub IsBadLine : List ColumnKind → List ℕ → LineFault → Type 0
-IsBadLine kinds line FieldCount = (fields : List (List ℕ)) → ¬ AreFieldsOf (length kinds) line fields
-IsBadLine kinds line fault = IsFirstBadField kinds line fault
+abbrev pub IsBadLine : List LineColumn → List ℕ → LineFault → Type 0
+IsBadLine columns line FieldCount = (fields : List (List ℕ)) → ¬ AreFieldsOf (length columns) line fields
+IsBadLine columns line fault = IsFirstBadField columns line fault
 
 -- a line is refused exactly so
 abbrev pub FirstBadFieldCounts : Type 0
 FirstBadFieldCounts =
-    (kinds : List ColumnKind) (line : List ℕ) (fault : LineFault) → 0 < length kinds
-    → (row_of kinds line ≡ Err fault) ↔ IsBadLine kinds line fault
+    (columns : List LineColumn) (line : List ℕ) (fault : LineFault) → 0 < length columns
+    → (row_of columns line ≡ Err fault) ↔ IsBadLine columns line fault

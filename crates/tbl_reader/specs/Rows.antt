@@ -1,13 +1,13 @@
--- Rows of a table.
+-- Rows of lines.
 use Rattle.std.specs.Prelude.{List}
 use Rattle.sql_value.specs.declared.value.Value.{Value}
-use Rattle.tpch_schema.specs.declared.table.TableName.{TableName}
+use Rattle.tpch_schema.specs.LineForm.{LineForm}
 
--- a table, and some rows of it
-pub record TableRows : Type 0 where
-  pub table : TableName
+-- the form of lines, and the rows of some
+pub record LineRows : Type 0 where
+  pub form : LineForm
   pub rows : List (List Value)
 
--- these rows of a table
-abbrev pub rows_in_table : TableName → List (List Value) → TableRows
-rows_in_table table rows = record { table = table; rows = rows }
+-- these rows of lines of that form
+abbrev pub line_rows : LineForm → List (List Value) → LineRows
+line_rows form rows = record { form = form; rows = rows }

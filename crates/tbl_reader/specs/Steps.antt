@@ -3,8 +3,8 @@ use Rattle.std.specs.Prelude.{◌≡◌, ℕ, ◌+◌, ◌<◌, Bool, not, ◌==
 use Rattle.std.specs.List.{list_all}
 use Rattle.refusals.specs.declared.line.LineRefusal.{LineRefusal}
 use Rattle.refusals.specs.declared.line.LineFault.TheVariants.{FileTooLong}
-use Rattle.tbl_reader.specs.declared.fault.ReadFault.{ReadFault}
-use Rattle.tbl_reader.specs.declared.fault.ReadFault.TheVariants.{Refused, OutOfMemory}
+use Rattle.tbl_reader.specs.declared.error.TableError.{TableError}
+use Rattle.tbl_reader.specs.declared.error.TableError.TheVariants.{Refused, OutOfMemory}
 use Rattle.tbl_reader.specs.File.{refusal}
 use Rattle.tbl_reader.specs.Lines.{LinesRead}
 use Rattle.tbl_reader.specs.Reading.{lines_result}
@@ -13,20 +13,21 @@ use Rattle.tbl_reader.specs.Reading.{lines_result}
 unfoldable pub is_unended : List ℕ → Bool
 is_unended text = list_all (λ byte. not (byte == 10)) text
 
--- whatever follows, one text behind some lines gives what the other gives behind others
+-- whatever follows, one text after some lines gives what the other gives after others
 pub record SameResults (now : LinesRead) (text : List ℕ) (before : LinesRead) (whole : List ℕ) : Type 0 where
   pub results : (more : List ℕ) → lines_result now (text ++ more) ≡ lines_result before (whole ++ more)
 
--- whatever follows, a text behind some lines gives this refusal
+-- whatever follows, a text after some lines gives this refusal
 pub record RefusesLines (lines : LinesRead) (text : List ℕ) (first : LineRefusal) : Type 0 where
   pub results : (more : List ℕ) → lines_result lines (text ++ more) ≡ Err first
 
--- the fault is the refusal of a line that is too long before it ends, or memory was wanted
-abbrev pub IsTooLong : LinesRead → List ℕ → ReadFault → Type 0
-IsTooLong lines text (Refused first) = (first ≡ refusal lines.so_far FileTooLong) × (lines.limit < lines.so_far.bytes + length text)
+-- the error is the refusal of a line that is too long before it ends, or memory ran out
+abbrev pub IsTooLong : LinesRead → List ℕ → TableError → Type 0
+IsTooLong lines text (Refused first) =
+    (first ≡ refusal lines.so_far FileTooLong) × (lines.limit < lines.so_far.bytes + length text)
 IsTooLong lines text OutOfMemory = ⊤
 
--- the fault is the refusal of all that begins with the text, or memory was wanted
-abbrev pub IsFaultOfAll : LinesRead → List ℕ → ReadFault → Type 0
-IsFaultOfAll lines text (Refused first) = RefusesLines lines text first
-IsFaultOfAll lines text OutOfMemory = ⊤
+-- the error is the refusal of all that begins with the text, or memory ran out
+abbrev pub IsErrorOfAll : LinesRead → List ℕ → TableError → Type 0
+IsErrorOfAll lines text (Refused first) = RefusesLines lines text first
+IsErrorOfAll lines text OutOfMemory = ⊤

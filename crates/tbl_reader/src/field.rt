@@ -1,101 +1,93 @@
 //! One field of a line.
-ghost use Rattle.std.specs.Prelude.{◌≡◌, MatchResult};
-ghost use Rattle.tbl_reader.specs.Field.{field_value, number_field, text_field, date_field, Blames};
-ghost use Rattle.fixed_decimal.specs.Written.{decimal_read};
+ghost use Rattle.std.specs.Prelude.{◌≡◌, IfOk, MatchOption, MatchResult, true, false};
+ghost use Rattle.ascii_text.specs.Printable.{first_unprintable};
 ghost use Rattle.civil_date.specs.Date.{date_of};
+ghost use Rattle.columns.specs.Fields.{field_value, IsPrintableField};
+ghost use Rattle.fixed_decimal.specs.Written.{decimal_read};
+ghost use Rattle.sql_value.specs.declared.value.Value.TheVariants.{Number};
+ghost use Rattle.tpch_schema.specs.declared.column.ColumnKind.TheVariants.{Text as TextKind};
+ghost use Rattle.tpch_schema.specs.Kinds.{is_of_kind};
+ghost use Rattle.tbl_reader.specs.Field.{kind_field, number_field, text_field, date_field};
 
-use ascii_text::{Text, TextFault};
+use crate::plain::plain_number;
 use civil_date::CivilDate;
+use columns::Field;
 use fixed_decimal::{Scale, Spelling, read_decimal};
 use sql_value::Value;
-use std::alloc::{AllocError, AllocFailed, Global};
 use tpch_schema::{ColumnKind, LineFault};
 
-/// Why a field or a line gives nothing: it is bad, or memory is wanted.
-#[derive(Clone, Copy, Debug, PartialEq, Eq)]
-pub enum LineError {
-    /// What is wrong with it.
-    Bad(LineFault),
-    /// Memory was wanted.
-    OutOfMemory,
-}
-
-impl From<AllocError> for LineError {
-    ghost use Rattle.tbl_reader.specs.declared.field.LineError.TheVariants.{OutOfMemory};
-
-    ghost from_gives = { λ _ e. e ≡ OutOfMemory };
-
-    fn from(_: AllocError) -> Self {
-        LineError::OutOfMemory
-    }
-}
-
-impl<T: Drop> From<AllocFailed<T>> for LineError {
-    ghost use Rattle.tbl_reader.specs.declared.field.LineError.TheVariants.{OutOfMemory};
-
-    ghost from_gives = { λ _ e. e ≡ OutOfMemory };
-
-    fn from(_: AllocFailed<T>) -> Self {
-        LineError::OutOfMemory
-    }
-}
-
-/// The value of a field in a column of that kind.
-pub fn field_value(alloc: Global, kind: ColumnKind, field: &[u8]) -> Result<Value, LineError>
-    ensures { MatchResult result (λ v. field_value kind field.now ≡ Ok v) (Blames (field_value kind field.now)) }
+/// What the bytes between two bars say in a column of that kind.
+pub fn read_field(kind: ColumnKind, bytes: &[u8]) -> Result<Field<'_>, LineFault>
+    ensures value { MatchResult result (λ f. kind_field kind bytes.now ≡ Ok (field_value f)) (λ fault. kind_field kind bytes.now ≡ Err fault) }
+    ensures printable { IfOk result IsPrintableField }
 {
+    if let Some(field) = plain_number(kind, bytes) {
+        return Ok(field);
+    }
     match kind {
-        ColumnKind::Key | ColumnKind::Whole => number_value(kind, Scale::new(0), field),
-        ColumnKind::Decimal => number_value(kind, Scale::new(2), field),
-        ColumnKind::Date => date_value(field),
-        ColumnKind::Text(_) => text_value(alloc, kind, field),
+        ColumnKind::Key | ColumnKind::Whole => read_number(kind, Scale::new(0), bytes),
+        ColumnKind::Decimal => read_number(kind, Scale::new(2), bytes),
+        ColumnKind::Date => read_date(bytes),
+        ColumnKind::Text(most) => read_text(most, bytes),
     }
 }
 
-// The number that a field spells at that scale.
-fn number_value(kind: ColumnKind, scale: Scale, field: &[u8]) -> Result<Value, LineError>
-    ensures { MatchResult result (λ v. number_field kind scale (decimal_read field.now scale) ≡ Ok v) (Blames (number_field kind scale (decimal_read field.now scale))) }
+// The number that the bytes spell at that scale.
+fn read_number(kind: ColumnKind, scale: Scale, bytes: &[u8]) -> Result<Field<'_>, LineFault>
+    ensures value { MatchResult result (λ f. number_field kind scale (decimal_read bytes.now scale) ≡ Ok (field_value f)) (λ fault. number_field kind scale (decimal_read bytes.now scale) ≡ Err fault) }
+    ensures printable { IfOk result IsPrintableField }
 {
-    match read_decimal(field, scale) {
-        Ok(coefficient) => {
-            let value = Value::Number(scale, coefficient);
-            if kind.admits(&value) {
-                Ok(value)
-            } else {
-                Err(LineError::Bad(LineFault::NumberTooWide))
-            }
-        }
-        Err(Spelling::TooWide) => Err(LineError::Bad(LineFault::NumberTooWide)),
-        Err(Spelling::NotANumber) => Err(LineError::Bad(LineFault::BadNumber)),
+    match read_decimal(bytes, scale) {
+        Ok(coefficient) => match held_number(kind, scale, coefficient) {
+            Some(number) => Ok(Field::Number(scale, number)),
+            None => Err(LineFault::NumberTooWide),
+        },
+        Err(Spelling::TooWide) => Err(LineFault::NumberTooWide),
+        Err(Spelling::NotANumber) => Err(LineFault::BadNumber),
     }
 }
 
-// The date that a field spells.
-fn date_value(field: &[u8]) -> Result<Value, LineError>
-    ensures { MatchResult result (λ v. date_field (date_of field.now) ≡ Ok v) (Blames (date_field (date_of field.now))) }
+// The coefficient in 64 bits, where a column of that kind can hold it.
+#[tactic(auto, using(crate::proofs::Held::wide_is_not_held))]
+fn held_number(kind: ColumnKind, scale: Scale, coefficient: i128) -> Option<i64>
+    ensures value { MatchOption result (is_of_kind kind (Number scale coefficient) ≡ false) (λ number. number ≡ coefficient) }
+    ensures held { MatchOption result (is_of_kind kind (Number scale coefficient) ≡ false) (λ number. is_of_kind kind (Number scale coefficient) ≡ true) }
 {
-    match CivilDate::read(field) {
-        Ok(date) => Ok(Value::Date(date)),
-        Err(_) => Err(LineError::Bad(LineFault::BadDate)),
+    if coefficient.unsigned_abs() >= 1 << 63 {
+        return None;
+    }
+    if !kind.admits(&Value::Number(scale, coefficient)) {
+        return None;
+    }
+    Some(coefficient as i64)
+}
+
+// The date that the bytes spell.
+fn read_date(bytes: &[u8]) -> Result<Field<'_>, LineFault>
+    ensures value { MatchResult result (λ f. date_field (date_of bytes.now) ≡ Ok (field_value f)) (λ fault. date_field (date_of bytes.now) ≡ Err fault) }
+    ensures printable { IfOk result IsPrintableField }
+{
+    match CivilDate::read(bytes) {
+        Ok(date) => Ok(Field::Date(date)),
+        Err(_) => Err(LineFault::BadDate),
     }
 }
 
-// The text of a field.
-fn text_value(alloc: Global, kind: ColumnKind, field: &[u8]) -> Result<Value, LineError>
-    ensures { MatchResult result (λ v. text_field kind field.now ≡ Ok v) (Blames (text_field kind field.now)) }
+// The text that the bytes are.
+fn read_text(most: u8, bytes: &[u8]) -> Result<Field<'_>, LineFault>
+    ensures value { MatchResult result (λ f. text_field (TextKind most) bytes.now ≡ Ok (field_value f)) (λ fault. text_field (TextKind most) bytes.now ≡ Err fault) }
+    ensures printable { IfOk result IsPrintableField }
 {
-    match Text::new(alloc, field) {
-        Ok(text) => {
-            // A text's bytes are printable, which this call tells.
-            let _bytes = text.bytes();
-            let value = Value::Text(text);
-            if kind.admits(&value) {
-                Ok(value)
-            } else {
-                Err(LineError::Bad(LineFault::TextTooLong))
-            }
-        }
-        Err(TextFault::BadText(_)) => Err(LineError::Bad(LineFault::BadText)),
-        Err(TextFault::OutOfMemory) => Err(LineError::OutOfMemory),
+    match first_unprintable(bytes) {
+        Some(_) => Err(LineFault::BadText),
+        None if bytes.len() > most as usize => Err(LineFault::TextTooLong),
+        None => Ok(Field::Text(bytes)),
     }
+}
+
+// The place of the first byte that no text holds.
+fn first_unprintable(bytes: &[u8]) -> Option<usize>
+    ensures { result ≡ first_unprintable bytes.now }
+{
+    bytes.iter().position(|byte| !(0x20..=0x7e).contains(byte))
 }

@@ -1,21 +1,21 @@
 //! Laws of the definition of a file's rows. Each function has an empty body: its contract is the law.
-ghost use Rattle.tbl_reader.specs.Cases.{Lines, Rows, Refusals, Limits};
+ghost use Rattle.tbl_reader.specs.Cases.{Lines, Rows, Refusals, Limits, Deletes, Refreshes, Nulls};
 ghost use Rattle.tbl_reader.specs.Laws.{LinesGiveText, RowsAreThoseOfTheLines, FirstBadLineCounts};
 ghost use Rattle.tbl_reader.specs.LineLaws.{RowsSayTheirFields, FirstBadFieldCounts};
 
-/// The lines of a text, one behind the other, are the text, and a line has no LF but at its end.
+/// The lines of a text, one after the other, are the text, and a line has no LF but at its end.
 pub fn lines_give_text()
     ensures { LinesGiveText }
 {}
 
-/// A file gives rows exactly where each line's fields say its row, no two rows have the same primary key, and the file
-/// is within its limit.
+/// A file gives rows exactly where each line's fields say its row, no two rows have the same key where keys must
+/// differ, and the file is within its limit.
 pub fn rows_are_those_of_the_lines()
     ensures { RowsAreThoseOfTheLines }
 {}
 
 /// A file is refused exactly at the first line that can't be a row: the lines before it have rows, and it reaches past
-/// the limit, or its fields say no row, or its key is an earlier row's.
+/// the limit, or its fields say no row, or its key is an earlier row's where keys must differ.
 pub fn first_bad_line_counts()
     ensures { FirstBadLineCounts }
 {}
@@ -37,4 +37,7 @@ pub fn cases()
     ensures rows { Rows }
     ensures refusals { Refusals }
     ensures limits { Limits }
+    ensures deletes { Deletes }
+    ensures refreshes { Refreshes }
+    ensures nulls { Nulls }
 {}

@@ -1,16 +1,20 @@
-//! One line: its fields, and the values of its row.
-ghost use Rattle.std.specs.Prelude.{◌≡◌, ◌==◌, ◌+◌, ◌<◌, ◌^◌, IfSome, MatchResult, length, position};
-ghost use Rattle.std.specs.List.{before_first, after_first};
-ghost use Rattle.tbl_reader.specs.Field.{Blames};
-ghost use Rattle.tbl_reader.specs.Line.{is_bar, has_fields, without_end, line_text, values_of, row_of};
+//! One line: its fields.
+ghost use Rattle.std.specs.Prelude.{◌≡◌, ◌==◌, ◌+◌, ◌<◌, ◌≤◌, ◌^◌, IfErr, IfOk, IfSome, IsTrue, OnOk, is_some, true, length, map, position};
+ghost use Rattle.std.specs.List.{All, before_first, after_first};
+ghost use Rattle.columns.specs.Fields.{field_value, IsPrintableField};
+ghost use Rattle.tbl_reader.specs.declared.error.FieldsError.{FieldsError};
+ghost use Rattle.tbl_reader.specs.Error.{Blames};
+ghost use Rattle.tpch_schema.specs.LineForm.{file_form, fits, never_null};
+ghost use Rattle.tbl_reader.specs.File.{line_row};
+ghost use Rattle.tbl_reader.specs.Line.{is_bar, has_fields, IsWholeCut, without_end, line_text, values_of, row_of};
 
-use crate::field::{LineError, field_value};
-use sql_value::Value;
-use std::alloc::Global;
-use tpch_schema::{ColumnKind, LineFault};
+use crate::error::FieldsError;
+use crate::field::read_field;
+use columns::Field;
+use tpch_schema::{ColumnKind, DataFile, LineFault};
 
-/// The bytes of a line without the LF at its end and one CR directly before that.
-pub fn line_text(line: &[u8]) -> &[u8]
+// The bytes of a line without the LF at its end and one CR directly before that.
+fn line_text(line: &[u8]) -> &[u8]
     ensures { result.now ≡ line_text line.now }
 {
     without_end(without_end(line, b'\n'), b'\r')
@@ -27,18 +31,86 @@ fn without_end(text: &[u8], byte: u8) -> &[u8]
     }
 }
 
-/// The values of a line's row: one for each of the kinds.
-pub fn row_values(alloc: Global, kinds: &[ColumnKind], line: &[u8]) -> Result<Vec<Value>, LineError>
-    ensures { MatchResult result (λ v. row_of kinds.now line.now ≡ Ok v.items) (Blames (row_of kinds.now line.now)) }
+/// Puts the fields of the row that a line of a file says in place of those that were there. The line may have its end.
+#[tactic(auto, using(crate::proofs::Rows::held_rows))]
+pub fn put_line<'a>(
+    fields: &mut Vec<Field<'a>>,
+    file: DataFile,
+    line: &'a [u8],
+) -> Result<(), FieldsError>
+    ensures ok { OnOk result (line_row (file_form file) line.now ≡ Ok (map field_value fields.new.items)) }
+    ensures printable { OnOk result (All IsPrintableField fields.new.items) }
+    ensures fits { OnOk result (IsTrue (fits (file_form file) (map field_value fields.new.items))) }
+    ensures err { IfErr result (Blames (line_row (file_form file) line.now)) }
 {
-    if !has_fields(kinds.len(), line) {
-        return Err(LineError::Bad(LineFault::FieldCount));
-    }
-    let values = values_of(alloc, kinds, line)?;
-    Ok(values)
+    put_row(fields, file.kinds(), line_text(line))?;
+    Ok(())
 }
 
-// Whether bars part a line into so many fields; one may stand behind the last field.
+// Puts the fields of a line's row: one for each of the kinds, of columns that hold no null. A good line is read once;
+// only of another its bars are counted, since their number comes before what is wrong with a field.
+fn put_row<'a>(
+    fields: &mut Vec<Field<'a>>,
+    kinds: &[ColumnKind],
+    line: &'a [u8],
+) -> Result<(), FieldsError>
+    ensures ok { OnOk result (row_of (map never_null kinds.now) line.now ≡ Ok (map field_value fields.new.items)) }
+    ensures printable { OnOk result (All IsPrintableField fields.new.items) }
+    ensures err { IfErr result (Blames (row_of (map never_null kinds.now) line.now)) }
+{
+    if put_good(fields, kinds, line)? {
+        return Ok(());
+    }
+    if !has_fields(kinds.len(), line) {
+        return Err(FieldsError::Bad(LineFault::FieldCount));
+    }
+    put_fields(fields, kinds, line)?;
+    Ok(())
+}
+
+// Puts the fields of a line's row, where the line is good; whether it is. After `false` they are of no use.
+#[tactic(auto, using(crate::proofs::BarCuts::good))]
+fn put_good<'a>(
+    fields: &mut Vec<Field<'a>>,
+    kinds: &[ColumnKind],
+    line: &'a [u8],
+) -> Result<bool, FieldsError>
+    ensures row { IfOk result (λ good. good ≡ true → row_of (map never_null kinds.now) line.now ≡ Ok (map field_value fields.new.items)) }
+    ensures printable { IfOk result (λ good. good ≡ true → All IsPrintableField fields.new.items) }
+    ensures err { IfErr result (λ error. error ≡ FieldsError.OutOfMemory) }
+{
+    fields.clear();
+    let mut rest = line;
+    let mut bars: usize = 0;
+    for kind in kinds {
+        let (bytes, more, found) = cut_at_bar(rest);
+        match read_field(*kind, bytes) {
+            Ok(field) => {
+                if fields.push(field).is_err() {
+                    return Err(FieldsError::OutOfMemory);
+                }
+            }
+            Err(_) => return Ok(false),
+        }
+        rest = more;
+        bars += usize::from(found);
+    }
+    Ok(are_whole(kinds.len(), bars, rest))
+}
+
+// Whether so many bars part that many fields, before this rest.
+fn are_whole(columns: usize, bars: usize, rest: &[u8]) -> bool
+    requires { bars ≤ columns }
+    ensures { result ≡ true → IsWholeCut columns bars rest.now }
+{
+    match columns - bars {
+        0 => 0 < bars && rest.is_empty(),
+        1 => true,
+        _ => false,
+    }
+}
+
+// Whether bars part a line into that many fields; one may stand after the last field.
 fn has_fields(columns: usize, line: &[u8]) -> bool
     ensures { result ≡ has_fields columns line.now }
 {
@@ -46,31 +118,44 @@ fn has_fields(columns: usize, line: &[u8]) -> bool
     bars + 1 == columns || bars == columns && line.ends_with(b"|")
 }
 
-// The values of the fields that bars part.
+// Puts what the bytes between bars say in columns of these kinds.
 #[tactic(auto, using(crate::proofs::Cuts::fields))]
-fn values_of(alloc: Global, kinds: &[ColumnKind], line: &[u8]) -> Result<Vec<Value>, LineError>
-    ensures { MatchResult result (λ v. values_of kinds.now line.now ≡ Ok v.items) (Blames (values_of kinds.now line.now)) }
+fn put_fields<'a>(
+    fields: &mut Vec<Field<'a>>,
+    kinds: &[ColumnKind],
+    line: &'a [u8],
+) -> Result<(), FieldsError>
+    ensures ok { OnOk result (values_of (map never_null kinds.now) line.now ≡ Ok (map field_value fields.new.items)) }
+    ensures printable { OnOk result (All IsPrintableField fields.new.items) }
+    ensures err { IfErr result (Blames (values_of (map never_null kinds.now) line.now)) }
 {
-    let mut values = Vec::with_capacity(alloc, kinds.len())?;
+    fields.clear();
     let mut rest = line;
     for kind in kinds {
-        let (field, more) = cut_at_bar(rest);
-        let value = field_value(alloc, *kind, field)?;
-        values.push(value)?;
+        let (bytes, more, _) = cut_at_bar(rest);
+        match read_field(*kind, bytes) {
+            Ok(field) => {
+                if fields.push(field).is_err() {
+                    return Err(FieldsError::OutOfMemory);
+                }
+            }
+            Err(fault) => return Err(FieldsError::Bad(fault)),
+        }
         rest = more;
     }
-    Ok(values)
+    Ok(())
 }
 
-// The bytes before the first bar, and those behind it.
+// The bytes before the first bar, those after it, and whether there is one.
 #[tactic(auto, using(crate::proofs::Cuts::cuts))]
-fn cut_at_bar(text: &[u8]) -> (&[u8], &[u8])
+fn cut_at_bar(text: &[u8]) -> (&[u8], &[u8], bool)
     ensures field { result.0.now ≡ before_first is_bar text.now }
     ensures rest { result.1.now ≡ after_first is_bar text.now }
+    ensures found { result.2 ≡ is_some (position is_bar text.now) }
 {
     match place_of(b'|', text) {
-        Some(place) => (&text[..place], &text[place + 1..]),
-        None => (text, &[]),
+        Some(place) => (&text[..place], &text[place + 1..], true),
+        None => (text, &[], false),
     }
 }
 

@@ -1,17 +1,16 @@
 //! Whole lines, one after the other: their rows, and the first refusal.
-ghost use Rattle.std.specs.Prelude.{◌≡◌, ◌+◌, ◌≤◌, [], OnOk, IfErr, length};
-ghost use Rattle.tpch_schema.specs.Kinds.{RowsAreOf};
-ghost use Rattle.tbl_reader.specs.Fault.{IsFaultOf};
+ghost use Rattle.std.specs.Prelude.{◌≡◌, ◌+◌, ◌≤◌, [], OnOk, IfErr, IfOk, length};
+ghost use Rattle.tpch_schema.specs.LineForm.{RowsFit, file_form};
+ghost use Rattle.tbl_reader.specs.Error.{IsErrorOf};
 ghost use Rattle.tbl_reader.specs.File.{add_line, refusal};
 
-use crate::fault::ReadFault;
-use crate::field::LineError;
+use crate::error::{FieldsError, TableError};
 use crate::keyed::KeyedRows;
-use crate::line::{line_text, row_values};
-use sql_value::Row;
-use std::alloc::Global;
+use crate::line::put_line;
+use columns::{Field, Rows};
+use std::alloc::{AllocError, Global};
 use std::marker::Model;
-use tpch_schema::{LineFault, LineRefusal, TableName};
+use tpch_schema::{DataFile, LineFault, LineRefusal};
 
 /// The rows of the lines so far, and how many bytes these lines have.
 #[derive(Drop)]
@@ -24,30 +23,35 @@ pub struct Lines {
 
 impl Model for Lines {
     ghost use Rattle.std.specs.Prelude.{◌≤◌};
-    ghost use Rattle.tpch_schema.specs.Kinds.{RowsAreOf};
     ghost use Rattle.tbl_reader.specs.Lines.{LinesRead, lines_read};
 
     ghost Value = { LinesRead };
 
-    ghost view = { λ l. lines_read l.keyed.table l.limit l.keyed.rows l.bytes };
+    ghost view = { λ l. lines_read l.keyed.form l.limit l.keyed.rows l.bytes };
 
     ghost invariant = { λ l. l.bytes ≤ l.limit };
 }
 
 impl Lines {
-    /// No lines yet, of a table's file that may have so many bytes.
-    pub fn new(alloc: Global, table: TableName, limit: u64) -> Lines
-        ensures table { result.table ≡ table }
-        ensures limit { result.limit ≡ limit }
-        ensures rows { result.so_far.rows ≡ [] }
-        ensures bytes { result.so_far.bytes ≡ 0 }
+    /// No lines yet, of a file that may have `limit` bytes.
+    pub fn new(alloc: Global, file: DataFile, limit: u64) -> Result<Lines, AllocError>
+        ensures form { IfOk result (λ l. l.form ≡ file_form file) }
+        ensures limit { IfOk result (λ l. l.limit ≡ limit) }
+        ensures rows { IfOk result (λ l. l.so_far.rows ≡ []) }
+        ensures bytes { IfOk result (λ l. l.so_far.bytes ≡ 0) }
     {
-        Lines {
+        let keyed = KeyedRows::new(alloc, file)?;
+        Ok(Lines {
             alloc,
-            keyed: KeyedRows::new(alloc, table),
+            keyed,
             limit,
             bytes: 0,
-        }
+        })
+    }
+
+    /// The allocator.
+    pub fn alloc(&self) -> Global {
+        self.alloc
     }
 
     /// How many bytes may follow the lines so far.
@@ -57,7 +61,7 @@ impl Lines {
         self.limit - self.bytes
     }
 
-    /// The refusal of the line behind those so far.
+    /// The refusal of the line after those so far.
     pub fn refusal(&self, fault: LineFault) -> LineRefusal
         ensures { result ≡ refusal self.now.so_far fault }
     {
@@ -68,9 +72,9 @@ impl Lines {
     }
 
     /// The rows in order.
-    pub fn into_rows(self) -> Vec<Row>
-        ensures rows { result.items ≡ self.so_far.rows }
-        ensures kinds { RowsAreOf self.table result.items }
+    pub fn into_rows(self) -> Result<Rows, AllocError>
+        ensures rows { IfOk result (λ rows. rows ≡ self.so_far.rows) }
+        ensures fit { IfOk result (RowsFit self.form) }
     {
         let Lines {
             alloc: _,
@@ -78,32 +82,49 @@ impl Lines {
             limit: _,
             bytes: _,
         } = self;
-        keyed.into_rows()
+        let rows = keyed.into_rows()?;
+        Ok(rows)
     }
 
-    /// Reads one line more, which has its LF where it has one. After a fault the lines are of no use.
-    #[tactic(auto, using(crate::proofs::Rows::row_kinds))]
-    pub fn add(&mut self, line: &[u8]) -> Result<(), ReadFault>
-        ensures table { self.new.table ≡ self.old.table }
+    /// Reads one line more, which has its LF where it has one. After an error the lines are of no use.
+    pub fn add(&mut self, line: &[u8]) -> Result<(), TableError>
+        ensures form { self.new.form ≡ self.old.form }
         ensures limit { self.new.limit ≡ self.old.limit }
-        ensures ok { OnOk result (add_line self.old.table self.old.limit (Ok self.old.so_far) line.now ≡ Ok self.new.so_far) }
+        ensures ok { OnOk result (add_line self.old.form self.old.limit (Ok self.old.so_far) line.now ≡ Ok self.new.so_far) }
         ensures bytes { OnOk result (self.new.so_far.bytes ≡ self.old.so_far.bytes + length line.now) }
         ensures within { self.new.so_far.bytes ≤ self.new.limit }
-        ensures refused { IfErr result (IsFaultOf (add_line self.old.table self.old.limit (Ok self.old.so_far) line.now)) }
+        ensures refused { IfErr result (IsErrorOf (add_line self.old.form self.old.limit (Ok self.old.so_far) line.now)) }
+    {
+        let mut fields = Vec::new(self.alloc);
+        self.add_by(&mut fields, line)?;
+        Ok(())
+    }
+
+    /// The same by a vector for the line's fields, which keeps its room from line to line.
+    pub fn add_by<'a>(
+        &mut self,
+        fields: &mut Vec<Field<'a>>,
+        line: &'a [u8],
+    ) -> Result<(), TableError>
+        ensures form { self.new.form ≡ self.old.form }
+        ensures limit { self.new.limit ≡ self.old.limit }
+        ensures ok { OnOk result (add_line self.old.form self.old.limit (Ok self.old.so_far) line.now ≡ Ok self.new.so_far) }
+        ensures bytes { OnOk result (self.new.so_far.bytes ≡ self.old.so_far.bytes + length line.now) }
+        ensures within { self.new.so_far.bytes ≤ self.new.limit }
+        ensures refused { IfErr result (IsErrorOf (add_line self.old.form self.old.limit (Ok self.old.so_far) line.now)) }
     {
         let size = line.len() as u64;
         if size > self.room() {
-            return Err(ReadFault::Refused(self.refusal(LineFault::FileTooLong)));
+            return Err(TableError::Refused(self.refusal(LineFault::FileTooLong)));
         }
-        let kinds = self.keyed.table().kinds();
-        let values = match row_values(self.alloc, kinds, line_text(line)) {
-            Ok(values) => values,
-            Err(LineError::Bad(fault)) => return Err(ReadFault::Refused(self.refusal(fault))),
-            Err(LineError::OutOfMemory) => return Err(ReadFault::OutOfMemory),
-        };
-        let added = self.keyed.push(values)?;
+        match put_line(fields, self.keyed.file(), line) {
+            Ok(()) => (),
+            Err(FieldsError::Bad(fault)) => return Err(TableError::Refused(self.refusal(fault))),
+            Err(FieldsError::OutOfMemory) => return Err(TableError::OutOfMemory),
+        }
+        let added = self.keyed.push(fields.as_slice())?;
         if !added {
-            return Err(ReadFault::Refused(self.refusal(LineFault::DuplicateKey)));
+            return Err(TableError::Refused(self.refusal(LineFault::DuplicateKey)));
         }
         self.bytes += size;
         Ok(())

@@ -1,36 +1,41 @@
-//! A reader that is fed the pieces of a table's file.
-ghost use Rattle.std.specs.Prelude.{◌≡◌, ◌+◌, ◌^◌, ◌≤◌, ℕ, List, ◌++◌, [], length, true, Some, None, IfOk, IfErr, OnOk, OnErr, MatchResult};
-ghost use Rattle.tpch_schema.specs.Kinds.{RowsAreOf};
+//! A reader that is fed the pieces of a file.
+ghost use Rattle.std.specs.Prelude.{◌≡◌, ◌+◌, ◌≤◌, ℕ, List, ◌++◌, [], length, true, Some, None, IfOk, IfErr, OnOk, OnErr, MatchResult};
+ghost use Rattle.tpch_schema.specs.LineForm.{RowsFit, file_form};
 ghost use Rattle.refusals.specs.declared.line.LineRefusal.{LineRefusal as LineRefused};
-ghost use Rattle.tbl_reader.specs.declared.fault.ReadFault.{ReadFault};
-ghost use Rattle.tbl_reader.specs.Fault.{IsFaultOf};
-ghost use Rattle.tbl_reader.specs.File.{add_line, file_rows, most_bytes, only_rows};
+ghost use Rattle.tbl_reader.specs.declared.error.TableError.{TableError};
+ghost use Rattle.tbl_reader.specs.Error.{IsErrorOf};
+ghost use Rattle.tbl_reader.specs.File.{add_line, only_rows};
 ghost use Rattle.tbl_reader.specs.Reading.{lines_result};
-ghost use Rattle.tbl_reader.specs.Steps.{is_unended, SameResults, IsTooLong, IsFaultOfAll};
+ghost use Rattle.tbl_reader.specs.Steps.{is_unended, SameResults, IsTooLong, IsErrorOfAll};
 
-use crate::fault::ReadFault;
+use crate::error::TableError;
 use crate::line::place_of;
 use crate::lines::Lines;
-use sql_value::Row;
+use columns::{Field, Rows};
 use std::alloc::{AllocError, Global};
 use std::marker::Model;
-use tpch_schema::{LineFault, TableName};
+use tpch_schema::{DataFile, LineFault};
 
-/// The most bytes that a table's file may have.
+/// The most bytes that a file may have.
 pub const MOST_BYTES: u64 = 1 << 32;
 
 // Reads the line that ends with these bytes, its first part having come before. The LF is the last byte.
-fn end_line(lines: &mut Lines, rest: &mut Vec<u8>, end: &[u8]) -> Result<(), ReadFault>
-    ensures table { lines.new.table ≡ lines.old.table }
+fn end_line<'a>(
+    lines: &mut Lines,
+    fields: &mut Vec<Field<'a>>,
+    rest: &mut Vec<u8>,
+    end: &'a [u8],
+) -> Result<(), TableError>
+    ensures form { lines.new.form ≡ lines.old.form }
     ensures limit { lines.new.limit ≡ lines.old.limit }
-    ensures ok { OnOk result (add_line lines.old.table lines.old.limit (Ok lines.old.so_far) (rest.old.items ++ end.now) ≡ Ok lines.new.so_far) }
+    ensures ok { OnOk result (add_line lines.old.form lines.old.limit (Ok lines.old.so_far) (rest.old.items ++ end.now) ≡ Ok lines.new.so_far) }
     ensures rest { OnOk result (rest.new.items ≡ []) }
     ensures bytes { OnOk result (lines.new.so_far.bytes ≡ lines.old.so_far.bytes + length rest.old.items + length end.now) }
     ensures within { lines.old.so_far.bytes ≤ lines.old.limit → lines.new.so_far.bytes ≤ lines.new.limit }
-    ensures refused { IfErr result (IsFaultOf (add_line lines.old.table lines.old.limit (Ok lines.old.so_far) (rest.old.items ++ end.now))) }
+    ensures refused { IfErr result (IsErrorOf (add_line lines.old.form lines.old.limit (Ok lines.old.so_far) (rest.old.items ++ end.now))) }
 {
     if rest.is_empty() {
-        lines.add(end)?;
+        lines.add_by(fields, end)?;
         return Ok(());
     }
     rest.extend_from_slice(end)?;
@@ -40,14 +45,14 @@ fn end_line(lines: &mut Lines, rest: &mut Vec<u8>, end: &[u8]) -> Result<(), Rea
 }
 
 // Keeps the first part of a line that has not ended yet.
-fn keep_rest(lines: &Lines, rest: &mut Vec<u8>, part: &[u8]) -> Result<(), ReadFault>
+fn keep_rest(lines: &Lines, rest: &mut Vec<u8>, part: &[u8]) -> Result<(), TableError>
     requires { lines.now.so_far.bytes + length rest.old.items ≤ lines.now.limit }
     ensures ok { OnOk result (rest.new.items ≡ rest.old.items ++ part.now) }
     ensures within { OnOk result (lines.now.so_far.bytes + length (rest.old.items ++ part.now) ≤ lines.now.limit) }
     ensures refused { IfErr result (IsTooLong lines.now (rest.old.items ++ part.now)) }
 {
     if part.len() as u64 > lines.room() - rest.len() as u64 {
-        return Err(ReadFault::Refused(lines.refusal(LineFault::FileTooLong)));
+        return Err(TableError::Refused(lines.refusal(LineFault::FileTooLong)));
     }
     rest.extend_from_slice(part)?;
     Ok(())
@@ -55,22 +60,23 @@ fn keep_rest(lines: &Lines, rest: &mut Vec<u8>, part: &[u8]) -> Result<(), ReadF
 
 // Reads a piece: the lines that end in it, and the first part of one that does not.
 #[tactic(auto, using(crate::proofs::PieceSteps::pieces))]
-fn read_piece(lines: &mut Lines, rest: &mut Vec<u8>, piece: &[u8]) -> Result<(), ReadFault>
+fn read_piece(lines: &mut Lines, rest: &mut Vec<u8>, piece: &[u8]) -> Result<(), TableError>
     requires unended { is_unended rest.old.items ≡ true }
     requires within { lines.old.so_far.bytes + length rest.old.items ≤ lines.old.limit }
-    ensures table { lines.new.table ≡ lines.old.table }
+    ensures form { lines.new.form ≡ lines.old.form }
     ensures limit { lines.new.limit ≡ lines.old.limit }
     ensures ok { OnOk result (SameResults lines.new rest.new.items lines.old (rest.old.items ++ piece.now)) }
     ensures unended { OnOk result (is_unended rest.new.items ≡ true) }
     ensures fed { OnOk result (lines.new.so_far.bytes + length rest.new.items ≡ lines.old.so_far.bytes + length rest.old.items + length piece.now) }
     ensures within { OnOk result (lines.new.so_far.bytes + length rest.new.items ≤ lines.new.limit) }
     ensures bytes { lines.new.so_far.bytes ≤ lines.new.limit }
-    ensures refused { IfErr result (IsFaultOfAll lines.old (rest.old.items ++ piece.now)) }
+    ensures refused { IfErr result (IsErrorOfAll lines.old (rest.old.items ++ piece.now)) }
 {
+    let mut fields = Vec::new(lines.alloc());
     let mut left = piece;
     'lines: while let Some(end) = place_of(b'\n', left) {
         let (line, more) = left.split_at(end + 1);
-        end_line(lines, rest, line)?;
+        end_line(lines, &mut fields, rest, line)?;
         left = more;
     }
     keep_rest(lines, rest, left)?;
@@ -79,114 +85,96 @@ fn read_piece(lines: &mut Lines, rest: &mut Vec<u8>, piece: &[u8]) -> Result<(),
 
 // The rows of all lines, of which the last one is what is left, if anything is.
 #[tactic(auto, using(crate::proofs::Answers::ends))]
-fn last_rows(mut lines: Lines, rest: &[u8]) -> Result<Vec<Row>, ReadFault>
+fn last_rows(mut lines: Lines, rest: &[u8]) -> Result<Rows, TableError>
     requires { is_unended rest.now ≡ true }
-    ensures rows { MatchResult result (λ rows. only_rows (lines_result lines rest.now) ≡ Ok rows.items) (IsFaultOf (only_rows (lines_result lines rest.now))) }
-    ensures kinds { IfOk result (λ rows. RowsAreOf lines.table rows.items) }
+    ensures rows { MatchResult result (λ rows. only_rows (lines_result lines rest.now) ≡ Ok rows) (IsErrorOf (only_rows (lines_result lines rest.now))) }
+    ensures fit { IfOk result (RowsFit lines.form) }
 {
     if rest.is_empty() {
-        return Ok(lines.into_rows());
+        let rows = lines.into_rows()?;
+        return Ok(rows);
     }
     lines.add(rest)?;
-    Ok(lines.into_rows())
+    let rows = lines.into_rows()?;
+    Ok(rows)
 }
 
-/// A reader of a table's file, which is fed the file's pieces in order, however they are cut. It keeps the rows of the
-/// lines that have ended and the bytes of the line that has not. Once it has refused a line, or memory was wanted, it
+/// A reader of a file, which is fed the file's pieces in order, however they are cut. It keeps the rows of the
+/// lines that have ended and the bytes of the line that has not. Once it has refused a line, or memory ran out, it
 /// answers that again.
 #[derive(Drop)]
-pub struct TableReader {
+pub struct FileReader {
     lines: Lines,
     rest: Vec<u8>,
-    fault: Option<ReadFault>,
+    error: Option<TableError>,
 }
 
-impl Model for TableReader {
+impl Model for FileReader {
     ghost use Rattle.std.specs.Prelude.{◌≡◌, ◌+◌, ◌≤◌, length, true};
     ghost use Rattle.tbl_reader.specs.Steps.{is_unended};
     ghost use Rattle.tbl_reader.specs.Reading.{Reading, reading};
 
     ghost Value = { Reading };
 
-    ghost view = { λ r. reading r.lines r.rest.items r.fault };
+    ghost view = { λ r. reading r.lines r.rest.items r.error };
 
     ghost invariant = { λ r. (is_unended r.rest.items ≡ true) × (r.lines.so_far.bytes + length r.rest.items ≤ r.lines.limit) };
 }
 
 #[tactic(auto, using(crate::proofs::Answers::answers))]
-impl TableReader {
-    ghost use Rattle.tbl_reader.specs.Reading.{HasRead, RefusesAll, bytes_fed};
+impl FileReader {
+    ghost use Rattle.tbl_reader.specs.Reading.{HasRead, RefusesAll, bytes_fed, rows_for};
 
-    /// A reader of a table's file of at most 2^32 bytes.
-    pub fn new(alloc: Global, table: TableName) -> Result<TableReader, AllocError>
-        ensures table { IfOk result (λ r. r.lines.table ≡ table) }
-        ensures limit { IfOk result (λ r. r.lines.limit ≡ most_bytes) }
-        ensures bytes { IfOk result (λ r. bytes_fed r ≡ 0) }
-        ensures started { IfOk result (HasRead table most_bytes []) }
-    {
-        let reader = TableReader::with_limit(alloc, table, MOST_BYTES)?;
-        Ok(reader)
-    }
-
-    /// A reader of a table's file of at most so many bytes.
-    pub fn with_limit(
-        alloc: Global,
-        table: TableName,
-        limit: u64,
-    ) -> Result<TableReader, AllocError>
-        ensures table { IfOk result (λ r. r.lines.table ≡ table) }
+    /// A reader of a file of at most `limit` bytes.
+    pub fn new(alloc: Global, file: DataFile, limit: u64) -> Result<FileReader, AllocError>
+        ensures form { IfOk result (λ r. r.lines.form ≡ file_form file) }
         ensures limit { IfOk result (λ r. r.lines.limit ≡ limit) }
         ensures bytes { IfOk result (λ r. bytes_fed r ≡ 0) }
-        ensures started { IfOk result (HasRead table limit []) }
+        ensures started { IfOk result (HasRead []) }
     {
-        Ok(TableReader {
-            lines: Lines::new(alloc, table, limit),
+        let lines = Lines::new(alloc, file, limit)?;
+        Ok(FileReader {
+            lines,
             rest: Vec::new(alloc),
-            fault: None,
+            error: None,
         })
     }
 
     /// Reads the file's next piece: the lines that end in it give rows, and a bad one among them is refused.
-    pub fn feed(&mut self, piece: &[u8]) -> Result<(), ReadFault>
-        ensures table { self.new.lines.table ≡ self.old.lines.table }
+    pub fn feed(&mut self, piece: &[u8]) -> Result<(), TableError>
+        ensures form { self.new.lines.form ≡ self.old.lines.form }
         ensures limit { self.new.lines.limit ≡ self.old.lines.limit }
-
-        // Whatever the reader had been fed, it has now been fed this piece behind it.
-        ensures read { OnOk result ((text : List ℕ) → HasRead self.old.lines.table self.old.lines.limit text self.old → HasRead self.old.lines.table self.old.lines.limit (text ++ piece.now) self.new) }
+        ensures read { OnOk result ((text : List ℕ) → HasRead text self.old → HasRead (text ++ piece.now) self.new) }
         ensures bytes { OnOk result (bytes_fed self.new ≡ bytes_fed self.old + length piece.now) }
         ensures within { OnOk result (bytes_fed self.new ≤ self.new.lines.limit) }
-
-        // A refusal is that of each file that begins so.
-        ensures refused { (first : LineRefused) → result ≡ Err (ReadFault.Refused first) → (text : List ℕ) → HasRead self.old.lines.table self.old.lines.limit text self.old → RefusesAll self.old.lines.table self.old.lines.limit (text ++ piece.now) first }
-
-        // A reader that has stopped answers the same again, and is as before.
-        ensures going { OnOk result (self.new.fault ≡ None) }
-        ensures stopped { IfErr result (λ fault. self.new.fault ≡ Some fault) }
-        ensures again { (fault : ReadFault) → self.old.fault ≡ Some fault → result ≡ Err fault }
-        ensures kept { (fault : ReadFault) → self.old.fault ≡ Some fault → self.new ≡ self.old }
+        ensures refused { (first : LineRefused) → result ≡ Err (TableError.Refused first) → (text : List ℕ) → HasRead text self.old → RefusesAll self.old.lines.form self.old.lines.limit (text ++ piece.now) first }
+        ensures going { OnOk result (self.new.error ≡ None) }
+        ensures stopped { IfErr result (λ error. self.new.error ≡ Some error) }
+        ensures again { (error : TableError) → self.old.error ≡ Some error → result ≡ Err error }
+        ensures kept { (error : TableError) → self.old.error ≡ Some error → self.new ≡ self.old }
     {
-        if let Some(fault) = self.fault {
-            return Err(fault);
+        if let Some(error) = self.error {
+            return Err(error);
         }
         match read_piece(&mut self.lines, &mut self.rest, piece) {
             Ok(()) => Ok(()),
-            Err(fault) => {
+            Err(error) => {
                 self.rest.clear();
-                self.fault = Some(fault);
-                Err(fault)
+                self.error = Some(error);
+                Err(error)
             }
         }
     }
 
     /// The rows of the whole file.
-    pub fn finish(self) -> Result<Vec<Row>, ReadFault>
-        ensures rows { (text : List ℕ) → HasRead self.lines.table self.lines.limit text self → MatchResult result (λ rows. file_rows self.lines.table self.lines.limit text ≡ Ok rows.items) (IsFaultOf (file_rows self.lines.table self.lines.limit text)) }
-        ensures kinds { IfOk result (λ rows. RowsAreOf self.lines.table rows.items) }
-        ensures again { (fault : ReadFault) → self.fault ≡ Some fault → result ≡ Err fault }
+    pub fn finish(self) -> Result<Rows, TableError>
+        ensures rows { (text : List ℕ) → HasRead text self → MatchResult result (λ rows. rows_for self text ≡ Ok rows) (IsErrorOf (rows_for self text)) }
+        ensures fit { IfOk result (RowsFit self.lines.form) }
+        ensures again { (error : TableError) → self.error ≡ Some error → result ≡ Err error }
     {
-        let TableReader { lines, rest, fault } = self;
-        if let Some(fault) = fault {
-            return Err(fault);
+        let FileReader { lines, rest, error } = self;
+        if let Some(error) = error {
+            return Err(error);
         }
         let rows = last_rows(lines, rest.as_slice())?;
         Ok(rows)

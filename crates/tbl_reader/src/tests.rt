@@ -5,14 +5,14 @@ use fixed_decimal::Scale;
 use sql_value::{Row, Value};
 use std::alloc::Global;
 use std::test::Fail;
-use tpch_schema::{LineFault, LineRefusal, TableName};
+use tpch_schema::{DataFile, LineFault, LineRefusal, RefreshFile, TableName};
 
 const LINEITEM: &[u8] =
     b"9|1|1|1|1.00|5.00|0.00|-0.5|N|O|1996-02-01|1996-02-02|1996-02-29|NONE|MAIL|w|";
 
 fn refusal_of(alloc: Global, table: TableName, pieces: &[&[u8]]) -> Option<(u64, LineFault)> {
-    match read_pieces(alloc, table, pieces) {
-        Err(ReadFault::Refused(LineRefusal { line, fault })) => Some((line, fault)),
+    match read_pieces(alloc, DataFile::Table(table), pieces) {
+        Err(TableError::Refused(LineRefusal { line, fault })) => Some((line, fault)),
         _ => None,
     }
 }
@@ -21,8 +21,8 @@ fn refusal(alloc: Global, table: TableName, text: &[u8]) -> Option<(u64, LineFau
     refusal_of(alloc, table, &[text])
 }
 
-fn count(alloc: Global, table: TableName, text: &[u8]) -> Result<usize, ReadFault> {
-    let rows = read_pieces(alloc, table, &[text])?;
+fn count(alloc: Global, table: TableName, text: &[u8]) -> Result<usize, TableError> {
+    let rows = read_pieces(alloc, DataFile::Table(table), &[text])?;
     Ok(rows.len())
 }
 
@@ -30,8 +30,9 @@ fn count(alloc: Global, table: TableName, text: &[u8]) -> Result<usize, ReadFaul
 fn reads_rows(rt: HostRuntime) -> Result<(), Fail> {
     let alloc = rt.alloc();
     let text = b"0|AFRICA|a|\r\n1|AMERICA||\n2|A|b\r";
-    let rows = read_pieces(alloc, TableName::Region, &[text])?;
+    let rows = read_pieces(alloc, DataFile::Table(TableName::Region), &[text])?;
     assert_eq!(rt; rows.len(), 3);
+    let rows = rows.to_rows(alloc)?;
     let whole = Scale::new(0);
     let first = [
         Value::Number(whole, 0),
@@ -51,9 +52,9 @@ fn reads_rows(rt: HostRuntime) -> Result<(), Fail> {
 #[test]
 fn reads_each_kind(rt: HostRuntime) -> Result<(), Fail> {
     let alloc = rt.alloc();
-    let rows = read_pieces(alloc, TableName::Lineitem, &[LINEITEM])?;
+    let rows = read_pieces(alloc, DataFile::Table(TableName::Lineitem), &[LINEITEM])?;
     assert_eq!(rt; rows.len(), 1);
-    let values = rows[0].values();
+    let values = rows.row(alloc, 0)?;
     assert_eq!(rt; values.len(), 16);
     assert!(rt; values[4] == Value::Number(Scale::new(2), 100));
     assert!(rt; values[7] == Value::Number(Scale::new(2), -50));
@@ -133,7 +134,7 @@ fn ends_at_the_limit(rt: HostRuntime) -> Result<(), Fail> {
     let text = b"0|A|a|\n1|B|b|\nx";
     let mut reader = TableReader::with_limit(rt.alloc(), TableName::Region, 14)?;
     assert!(rt; reader.feed(&text[..14]) == Ok(()));
-    let too_long = ReadFault::Refused(LineRefusal {
+    let too_long = TableError::Refused(LineRefusal {
         line: 3,
         fault: LineFault::FileTooLong,
     });
@@ -144,12 +145,18 @@ fn ends_at_the_limit(rt: HostRuntime) -> Result<(), Fail> {
         Err(fault) => assert!(rt; fault == too_long),
     }
     let mut reader = TableReader::with_limit(rt.alloc(), TableName::Region, 13)?;
-    let too_long = ReadFault::Refused(LineRefusal {
+    let too_long = TableError::Refused(LineRefusal {
         line: 2,
         fault: LineFault::FileTooLong,
     });
     assert!(rt; reader.feed(text) == Err(too_long));
     Ok(())
+}
+
+fn table_rows(alloc: Global, pieces: &[&[u8]]) -> Result<Vec<Row>, TableError> {
+    let rows = read_pieces(alloc, DataFile::Table(TableName::Region), pieces)?;
+    let rows = rows.to_rows(alloc)?;
+    Ok(rows)
 }
 
 fn are_same(left: &[Row], right: &[Row]) -> bool {
@@ -159,9 +166,9 @@ fn are_same(left: &[Row], right: &[Row]) -> bool {
 #[test]
 fn is_cut_anywhere(rt: HostRuntime) -> Result<(), Fail> {
     let text = b"0|AFRICA|a|\r\n1|AMERICA||\n2|A|b\r";
-    let whole = read_pieces(rt.alloc(), TableName::Region, &[text])?;
+    let whole = table_rows(rt.alloc(), &[text])?;
     for at in 0..text.len() + 1 {
-        let cut = read_pieces(rt.alloc(), TableName::Region, &[&text[..at], &text[at..]])?;
+        let cut = table_rows(rt.alloc(), &[&text[..at], &text[at..]])?;
         assert!(rt; are_same(cut.as_slice(), whole.as_slice()));
     }
     Ok(())
@@ -176,4 +183,34 @@ fn refuses_however_cut(rt: HostRuntime) {
             refusal_of(rt.alloc(), TableName::Region, &pieces) == Some((3, LineFault::DuplicateKey))
         );
     }
+}
+
+#[test]
+fn reads_refresh_files(rt: HostRuntime) -> Result<(), Fail> {
+    let alloc = rt.alloc();
+    let order = b"9|2|O|5.00|1996-01-04|5-LOW|K|0|z|\n";
+    let mut orders = RefreshReader::new(alloc, RefreshFile::Orders)?;
+    assert!(rt; orders.feed(order) == Ok(()));
+    assert!(rt; orders.feed(order) == Ok(()));
+    let rows = orders.finish()?;
+    assert_eq!(rt; rows.len(), 2);
+    let mut keys = RefreshReader::with_limit(alloc, RefreshFile::Delete, 5)?;
+    assert!(rt; keys.feed(b"7|\n7") == Ok(()));
+    let bad = TableError::Refused(LineRefusal {
+        line: 3,
+        fault: LineFault::FileTooLong,
+    });
+    assert!(rt; keys.feed(b"\n\n") == Err(bad));
+    Ok(())
+}
+
+#[test]
+fn takes_keys_in_any_order(rt: HostRuntime) -> Result<(), Fail> {
+    let text = b"1|1|1|1|a|\n2|1|1|1|a|\n1|2|1|1|a|\n1|3|1|1|a|\n3|1|1|1|a|\n";
+    assert_eq!(rt; count(rt.alloc(), TableName::Partsupp, text)?, 5);
+    let again = b"1|1|1|1|a|\n2|1|1|1|a|\n1|2|1|1|a|\n1|3|1|1|a|\n2|1|1|1|a|\n";
+    assert!(rt;
+        refusal(rt.alloc(), TableName::Partsupp, again) == Some((5, LineFault::DuplicateKey))
+    );
+    Ok(())
 }

@@ -1,5 +1,5 @@
 -- What it is for values and rows to be of a column's or a table's kinds.
-use Rattle.std.specs.Prelude.{◌^◌, Bool, true, false, not, ◌&&◌, ◌==◌, nat_le, nat_lt, int_lt, List, length, map, slice_index_or, IsTrue, ℤ, pos, unsigned_abs}
+use Rattle.std.specs.Prelude.{◌^◌, Bool, true, false, not, ◌&&◌, ◌==◌, nat_le, nat_lt, int_lt, List, length, IsTrue, ℤ, pos, unsigned_abs}
 use Rattle.std.specs.Cmp.Lexicographic.{pointwise}
 use Rattle.std.specs.List.{All}
 use Rattle.sql_value.specs.declared.value.Value.{Value}
@@ -7,7 +7,7 @@ use Rattle.sql_value.specs.declared.value.Value.TheVariants as value
 use Rattle.tpch_schema.specs.declared.column.ColumnKind.{ColumnKind}
 use Rattle.tpch_schema.specs.declared.column.ColumnKind.TheVariants.{Key, Whole, Decimal, Date, Text}
 use Rattle.tpch_schema.specs.declared.table.TableName.{TableName}
-use Rattle.tpch_schema.specs.Tables.{kinds_of, key_columns_of}
+use Rattle.tpch_schema.specs.Tables.{kinds_of}
 
 -- a whole number whose absolute value is at most 2^63 - 1
 abbrev pub is_narrow : ℤ → Bool
@@ -33,7 +33,3 @@ RowIsOf table row = IsTrue (are_of_kinds (kinds_of table) row)
 -- each of the rows is of a table's kinds
 abbrev pub RowsAreOf : TableName → List (List Value) → Type 0
 RowsAreOf table = All (RowIsOf table)
-
--- the values of a row's primary key
-abbrev pub key_of : TableName → List Value → List Value
-key_of table row = map (λ column. slice_index_or row column value.Null) (key_columns_of table)

@@ -1,11 +1,14 @@
-//! The schema of the eight tables: columns, kinds, primary keys, and what it is for a row to be of a table.
+//! The schema of the eight tables: columns, kinds, primary keys, the files of rows,
+//! and what it is for a row to be of a table.
 #![tactic(auto)]
 
 mod column;
+mod file;
 mod table;
 
 pub use column::{ColumnKind, are_of_kinds};
-pub use refusals::{LineFault, LineRefusal};
+pub use file::DataFile;
+pub use refusals::{LineFault, LineRefusal, RefreshFile};
 pub use table::{TABLES, TableName};
 
 #[cfg(test)]

@@ -2,8 +2,14 @@
 #![tactic(auto)]
 
 mod domain;
-mod lower;
+mod lists;
+mod lowering;
 mod put;
+mod worked;
 
 pub use domain::{Domain, DomainRows, Note};
-pub use lower::lower;
+pub use lowering::lower;
+pub use worked::worked_rows;
+
+#[cfg(test)]
+mod tests;

@@ -16,3 +16,15 @@ returns-clause-refusals c = (refl, refl, refl, refl, refl, refl, refl, refl, ref
 pub returns-clause-limits : goal.returns-clause-limits
 unfolding file_rows
 returns-clause-limits c = (refl, refl, refl, refl)
+
+pub returns-clause-deletes : goal.returns-clause-deletes
+unfolding file_rows
+returns-clause-deletes c = (refl, refl, refl, refl, refl)
+
+pub returns-clause-refreshes : goal.returns-clause-refreshes
+unfolding file_rows
+returns-clause-refreshes c = (refl, refl, refl, refl)
+
+pub returns-clause-nulls : goal.returns-clause-nulls
+unfolding file_rows
+returns-clause-nulls c = (refl, refl, refl, refl)

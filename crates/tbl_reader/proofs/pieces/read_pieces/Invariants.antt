@@ -1,4 +1,5 @@
 use Rattle.std.proofs.Common.{◌≡◌, take}
+use Rattle.tpch_schema.specs.LineForm.{file_form}
 use Rattle.tbl_reader.specs.File.{most_bytes}
 use Rattle.tbl_reader.specs.Pieces.{joined}
 use Rattle.tbl_reader.specs.Reading.{HasRead}
@@ -6,5 +7,5 @@ use Rattle.tbl_reader.proofs.pieces.read_pieces.Given as goal
 
 abbrev pub invariant-loop-piece : goal.invariant-loop-piece
 invariant-loop-piece l =
-    (l.reader.lines.table ≡ l.fn.table) × (l.reader.lines.limit ≡ most_bytes)
-    × HasRead l.fn.table most_bytes (joined (take l.piece-index l.pieces)) l.reader
+    (l.reader.lines.form ≡ file_form l.fn.file) × (l.reader.lines.limit ≡ most_bytes)
+    × HasRead (joined (take l.piece-index l.pieces)) l.reader

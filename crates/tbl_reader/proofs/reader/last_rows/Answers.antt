@@ -7,4 +7,4 @@ use Rattle.tbl_reader.proofs.reader.last_rows.Goals as goal
 pub returns-then-is_empty-clause-rows : goal.returns-then-is_empty-clause-rows
 returns-then-is_empty-clause-rows c =
     let none : length c.args.rest.now ≡ 0 = eqb-true _ _ (sym c.is_empty.ensures ∙ c.if-is_empty.true) in
-    ap only_rows (no_line c.args.lines c.args.rest.now none) ∙ ap Ok (sym c.into_rows.ensures.rows)
+    ap only_rows (no_line c.args.lines c.args.rest.now none) ∙ ap Ok (sym c.in_ok-rows.ensures.rows)

@@ -6,7 +6,7 @@ abbrev pub invariant-lines : goal.invariant-lines
 invariant-lines l =
     SameResults l.lines (l.rest.items ++ l.left) l.initial.lines (l.initial.rest.items ++ l.piece)
     × (is_unended l.rest.items ≡ true)
-    × (l.lines.table ≡ l.initial.lines.table)
+    × (l.lines.form ≡ l.initial.lines.form)
     × (l.lines.limit ≡ l.initial.lines.limit)
     × (l.lines.so_far.bytes + length l.rest.items ≤ l.lines.limit)
     × (l.lines.so_far.bytes + length l.rest.items + length l.left ≡ l.initial.lines.so_far.bytes + length l.initial.rest.items + length l.piece)

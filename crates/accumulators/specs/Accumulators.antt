@@ -1,0 +1,63 @@
+-- What accumulators have of the values that they took.
+use Rattle.std.specs.Prelude.{◌≡◌, ℕ, ◌==◌, List, length, Bool, cond}
+use Rattle.fixed_decimal.specs.Tally.{Sums, sums, total_of, average_of, average_scale}
+use Rattle.row_laws.specs.Bags.{weigh}
+use Rattle.row_laws.specs.Aggregates.{not_null, least_fault, first_of}
+use Rattle.sql_value.specs.declared.value.Value.{Value}
+use Rattle.aggregates.specs.Values.{written, reading, above, below, is_before, number_or_fault}
+
+-- a function of a list of values, as an aggregate is
+abbrev pub OfValues : Type 0
+OfValues = List Value → Value
+
+-- two functions of a list give the same
+abbrev pub GiveTheSame : OfValues → OfValues → Type 0
+GiveTheSame a b = (vs : List Value) → a vs ≡ b vs
+
+-- the values that aren't null
+abbrev pub present : List Value → List Value
+present vs = not_null (reading 0) vs
+
+-- the rank of the least fault among the values
+abbrev pub least_fault_rank : List Value → ℕ
+least_fault_rank vs = least_fault (reading 0) vs
+
+-- how many rows there were
+pub record CountedRows (n : ℕ) (vs : List Value) : Type 0 where
+  pub rows : n ≡ length vs
+
+-- the rank of the least fault among the values, and how many of them aren't null
+pub record Counted (rank n : ℕ) (vs : List Value) : Type 0 where
+  pub least : rank ≡ least_fault_rank vs
+  pub terms : n ≡ length (present vs)
+
+-- the same with the sums of the numbers at or above 0, and of the others negated
+pub record Summed (rank n : ℕ) (added_up : Sums) (vs : List Value) : Type 0 where
+  pub least : rank ≡ least_fault_rank vs
+  pub terms : n ≡ length (present vs)
+  pub tally : added_up ≡ sums (length (present vs)) (weigh above vs) (weigh below vs)
+
+-- null of no terms, else a number
+abbrev pub unless_empty : ℕ → Value → Value
+unless_empty terms v = cond (terms == 0) (written 1) v
+
+-- what was added up, as a number of the scale
+abbrev pub total_value : ℕ → Sums → Value
+total_value scale tally = number_or_fault scale (total_of tally)
+
+-- what was added up, divided by the number of terms
+abbrev pub average_value : ℕ → Sums → Value
+average_value scale tally = number_or_fault (average_scale scale) (average_of tally scale)
+
+-- the order in which the first is the least value, or the greatest
+abbrev pub extreme_order : Bool → Value → Value → Bool
+extreme_order is_greatest x y = cond is_greatest (is_before y x) (is_before x y)
+
+-- the first of the values that aren't null, null where there is none
+abbrev pub first_value : Bool → List Value → Value
+first_value is_greatest vs = first_of (extreme_order is_greatest) (written 1) vs
+
+-- the rank of the least fault, and the first of the values that aren't null
+pub record Compared (rank : ℕ) (is_greatest : Bool) (value : Value) (vs : List Value) : Type 0 where
+  pub least : rank ≡ least_fault_rank vs
+  pub best : value ≡ first_value is_greatest (present vs)

@@ -1,0 +1,33 @@
+//! What an accumulator promises.
+ghost use Rattle.std.specs.Prelude.{◌≡◌, ℕ, ◌+◌, ◌<◌, ◌≤◌, ◌^◌, List, [], ◌∷◌, ◌++◌, length, OnOk, IfOk};
+ghost use Rattle.sql_value.specs.declared.value.Value.{Value as Datum};
+ghost use Rattle.accumulators.specs.Accumulators.{OfValues};
+
+use sql_value::Value;
+use std::alloc::AllocError;
+
+/// Computes an aggregate of a list of values, which come one by one or as what other accumulators
+/// have of parts of the list.
+pub trait Accumulator: Drop {
+    /// Whether it has taken the values of a list, for an aggregate of them.
+    ghost has_taken: { Self → OfValues → List Datum → Type 0 };
+
+    /// How many terms it counts: no more than values that it has taken.
+    ghost terms: { Self → ℕ };
+
+    /// Takes a value behind those that it has.
+    fn put(&mut self, value: &Value) -> Result<(), AllocError>
+        requires { terms self.old + 1 < 2 ^ 64 }
+        ensures terms { terms self.new ≤ terms self.old + 1 }
+        ensures taken { OnOk result ((aggregate : OfValues) (vs : List Datum) → has_taken self.old aggregate vs → has_taken self.new aggregate (vs ++ value.now ∷ [])) };
+
+    /// Takes what another has behind what it has itself.
+    fn merge(&mut self, other: Self) -> Result<(), AllocError>
+        requires { terms self.old + terms other < 2 ^ 64 }
+        ensures terms { terms self.new ≤ terms self.old + terms other }
+        ensures taken { OnOk result ((aggregate : OfValues) (vs ws : List Datum) → has_taken self.old aggregate vs → has_taken other aggregate ws → has_taken self.new aggregate (vs ++ ws)) };
+
+    /// The aggregate of the values that it has taken.
+    fn value(&self) -> Result<Value, AllocError>
+        ensures { IfOk result (λ v. (aggregate : OfValues) (vs : List Datum) → has_taken self.now aggregate vs → v ≡ aggregate vs) };
+}

@@ -1,0 +1,102 @@
+//! Numbers of rows and of values.
+ghost use Rattle.std.specs.Prelude.{◌≡◌, [], ◌^◌, ◌<◌};
+
+use crate::accumulator::Accumulator;
+use crate::term::{least_with, terms_of, unless_fault};
+use fixed_decimal::Scale;
+use sql_value::{Standing, Value};
+use std::alloc::AllocError;
+
+/// count(*): how many rows there are, whatever stands in them.
+#[derive(Clone, Copy, Debug)]
+pub struct CountRows {
+    rows: u64,
+}
+
+impl CountRows {
+    ghost use Rattle.row_laws.specs.Aggregates.{count_rows};
+    ghost use Rattle.aggregates.specs.Values.{reading};
+
+    /// Of no rows.
+    pub fn new() -> CountRows
+        ensures terms { ⟦<CountRows as Accumulator>⟧.terms result ≡ 0 }
+        ensures taken { ⟦<CountRows as Accumulator>⟧.has_taken result (count_rows (reading 0)) [] }
+    {
+        CountRows { rows: 0 }
+    }
+}
+
+impl Accumulator for CountRows {
+    ghost use Rattle.row_laws.specs.Aggregates.{count_rows};
+    ghost use Rattle.aggregates.specs.Values.{reading};
+    ghost use Rattle.accumulators.specs.Accumulators.{GiveTheSame, CountedRows};
+
+    ghost has_taken = { λ s aggregate vs. GiveTheSame aggregate (count_rows (reading 0)) × CountedRows s.rows vs };
+
+    ghost terms = { λ s. s.rows };
+
+    fn put(&mut self, _value: &Value) -> Result<(), AllocError> {
+        self.rows += 1;
+        Ok(())
+    }
+
+    fn merge(&mut self, other: CountRows) -> Result<(), AllocError> {
+        self.rows += other.rows;
+        Ok(())
+    }
+
+    fn value(&self) -> Result<Value, AllocError> {
+        Ok(Value::Number(Scale::WHOLE, i128::from(self.rows)))
+    }
+}
+
+/// count(e): how many values aren't null.
+#[derive(Clone, Copy, Debug)]
+pub struct Count {
+    least: Standing,
+    terms: u64,
+}
+
+impl Count {
+    ghost use Rattle.row_laws.specs.Aggregates.{count_of};
+    ghost use Rattle.aggregates.specs.Values.{reading};
+
+    /// Of no values.
+    pub fn new() -> Count
+        ensures terms { ⟦<Count as Accumulator>⟧.terms result ≡ 0 }
+        ensures taken { ⟦<Count as Accumulator>⟧.has_taken result (count_of (reading 0)) [] }
+    {
+        Count {
+            least: Standing::AtTrue,
+            terms: 0,
+        }
+    }
+}
+
+impl Accumulator for Count {
+    ghost use Rattle.row_laws.specs.Aggregates.{count_of};
+    ghost use Rattle.sql_value.specs.Truth.{standing_rank};
+    ghost use Rattle.aggregates.specs.Values.{reading};
+    ghost use Rattle.accumulators.specs.Accumulators.{GiveTheSame, Counted};
+
+    ghost has_taken = { λ s aggregate vs. GiveTheSame aggregate (count_of (reading 0)) × Counted (standing_rank s.least) s.terms vs };
+
+    ghost terms = { λ s. s.terms };
+
+    fn put(&mut self, value: &Value) -> Result<(), AllocError> {
+        self.least = least_with(self.least, value);
+        self.terms += terms_of(value);
+        Ok(())
+    }
+
+    fn merge(&mut self, other: Count) -> Result<(), AllocError> {
+        self.least = self.least.lesser(other.least);
+        self.terms += other.terms;
+        Ok(())
+    }
+
+    fn value(&self) -> Result<Value, AllocError> {
+        let count = Value::Number(Scale::WHOLE, i128::from(self.terms));
+        Ok(unless_fault(self.least, count))
+    }
+}

@@ -1,0 +1,11 @@
+pub mod BagLists
+pub mod BatchRows
+pub mod CodeLists
+pub mod ColumnLists
+pub mod FieldLists
+pub mod Kept
+pub mod RowLists
+pub mod SegmentLists
+pub mod StandingLists
+pub mod TableLists
+pub mod TextLists

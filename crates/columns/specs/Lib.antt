@@ -1,0 +1,10 @@
+pub mod Bags
+pub mod Batches
+pub mod Fields
+pub mod Lists
+pub mod Numbers
+pub mod Selections
+pub mod Shown
+pub mod Standings
+pub mod Tables
+pub mod Texts

@@ -1,0 +1,11 @@
+-- The standings of a batch's rows.
+use Rattle.std.specs.Prelude.{List, replicate}
+use Rattle.sql_value.specs.declared.truth.Standing.{Standing}
+use Rattle.sql_value.specs.declared.truth.Standing.TheVariants.{AtTrue}
+use Rattle.columns.specs.declared.standings.Counted.{Counted}
+use Rattle.columns.specs.declared.standings.Counted.TheVariants.{AllTrue, Each}
+
+-- as many rows at True as are counted, or one standing each
+unfoldable pub standings_of : Counted → List Standing
+standings_of (AllTrue n) = replicate n AtTrue
+standings_of (Each standings) = standings.items

@@ -1,0 +1,205 @@
+//! A column of values of one kind, or of any.
+ghost use Rattle.std.specs.Prelude.{◌≡◌, ◌<◌, ◌==◌, ℕ, IfOk, IfSome, length, slice_index_or, map, [], replicate};
+ghost use Rattle.std.specs.Arc.{arc_value};
+ghost use Rattle.sql_value.specs.declared.value.Value.TheVariants.{Null, Number, Date as DateOf, Text as TextOf};
+ghost use Rattle.columns.specs.Lists.{gathered, AreBelow};
+ghost use Rattle.columns.specs.Numbers.{small_number};
+ghost use Rattle.columns.specs.Shown.{shown, kept_values};
+
+use crate::dictionary::Dictionary;
+use crate::form::{Form, form_at, form_len, form_number, gather, repeated, stored};
+use civil_date::CivilDate;
+use fixed_decimal::Scale;
+use sql_value::Value;
+use std::alloc::{AllocError, Global};
+use std::marker::Model;
+use std::sync::Arc;
+
+// A column's values, its own or shared with others.
+#[derive(Drop)]
+pub(crate) enum Kept {
+    Own(Form),
+    Shared(Arc<Form>),
+}
+
+/// Values, seen as their list. Numbers of one scale and 64 bits, dates, and texts are kept in little room.
+#[derive(Drop)]
+pub struct Column {
+    pub(crate) kept: Kept,
+}
+
+impl Model for Column {
+    ghost use Rattle.std.specs.Prelude.{List};
+    ghost use Rattle.sql_value.specs.declared.value.Value.{Value as Datum};
+    ghost use Rattle.columns.specs.Shown.{kept_values};
+
+    ghost Value = { List Datum };
+
+    ghost view = { λ c. kept_values c.kept };
+}
+
+impl Column {
+    /// Numbers of one scale.
+    pub fn from_numbers(scale: Scale, numbers: Vec<i64>) -> Column
+        ensures { result ≡ map (Number scale) numbers.items }
+    {
+        Column::own(Form::Numbers(scale, numbers))
+    }
+
+    /// Dates.
+    pub fn from_dates(dates: Vec<CivilDate>) -> Column
+        ensures { result ≡ map DateOf dates.items }
+    {
+        Column::own(Form::Dates(dates))
+    }
+
+    /// Values of whatever kind, each kept as it is.
+    pub fn from_values(values: Vec<Value>) -> Column
+        ensures { result ≡ values.items }
+    {
+        Column::own(Form::Values(values))
+    }
+
+    /// The same value so many times.
+    pub fn repeated(alloc: Global, value: &Value, n: usize) -> Result<Column, AllocError>
+        ensures { IfOk result (λ c. c ≡ replicate n value.now) }
+    {
+        let form = repeated(alloc, value, n)?;
+        Ok(Column::own(form))
+    }
+
+    // A column that shares nothing.
+    pub(crate) fn own(form: Form) -> Column
+        ensures { result ≡ shown form }
+    {
+        Column {
+            kept: Kept::Own(form),
+        }
+    }
+
+    // The values' form, own or shared.
+    pub(crate) fn form(&self) -> &Form
+        ensures { shown result.now ≡ self.now }
+    {
+        match &self.kept {
+            Kept::Own(form) => form,
+            Kept::Shared(form) => &**form,
+        }
+    }
+
+    /// How many values there are.
+    pub fn len(&self) -> usize
+        ensures { result ≡ length self.now }
+    {
+        form_len(self.form())
+    }
+
+    /// Whether there is no value.
+    pub fn is_empty(&self) -> bool
+        ensures { result ≡ (length self.now == 0) }
+    {
+        self.len() == 0
+    }
+
+    /// The value at a place. A text of a stored column is a share of its buffer, or of a dictionary's text; one of
+    /// another column may be a copy.
+    pub fn at(&self, alloc: Global, i: usize) -> Result<Value, AllocError>
+        requires { i < length self.now }
+        ensures { IfOk result (λ v. v ≡ slice_index_or self.now i Null) }
+    {
+        form_at(alloc, self.form(), i)
+    }
+
+    /// The numbers and their scale, where the column keeps all as 64 bits each.
+    pub fn as_numbers(&self) -> Option<(Scale, &[i64])>
+        ensures { IfSome result (λ p. self.now ≡ map (Number p.0) p.1.now) }
+    {
+        match self.form() {
+            Form::Numbers(scale, numbers) => Some((*scale, numbers.as_slice())),
+            _ => None,
+        }
+    }
+
+    /// The dates, where the column keeps all as dates.
+    pub fn as_dates(&self) -> Option<&[CivilDate]>
+        ensures { IfSome result (λ d. self.now ≡ map DateOf d.now) }
+    {
+        match self.form() {
+            Form::Dates(dates) => Some(dates.as_slice()),
+            _ => None,
+        }
+    }
+
+    /// The texts as places of a dictionary, where the column keeps all so.
+    pub fn as_codes(&self) -> Option<(&[u8], &Dictionary)>
+        ensures texts { IfSome result (λ p. self.now ≡ map TextOf (gathered [] p.1.now p.0.now)) }
+        ensures below { IfSome result (λ p. AreBelow (length p.1.now) p.0.now) }
+    {
+        match self.form() {
+            Form::Coded(codes) => Some(codes.parts()),
+            _ => None,
+        }
+    }
+
+    /// The bytes of the text at a place, of which nothing is copied, where the column keeps texts.
+    pub fn text(&self, i: usize) -> Option<&[u8]>
+        requires { i < length self.now }
+        ensures { IfSome result (λ b. TextOf b.now ≡ slice_index_or self.now i Null) }
+    {
+        match self.form() {
+            Form::Texts(texts) => Some(texts.bytes(i)),
+            Form::Coded(codes) => Some(codes.text(i).bytes()),
+            Form::Values(values) => match &values[i] {
+                Value::Text(text) => Some(text.bytes()),
+                _ => None,
+            },
+            _ => None,
+        }
+    }
+
+    /// The number at a place, where it is one of 64 bits.
+    pub fn number(&self, i: usize) -> Option<i64>
+        requires { i < length self.now }
+        ensures { result ≡ small_number (slice_index_or self.now i Null) }
+    {
+        form_number(self.form(), i)
+    }
+
+    /// The values at these places, in their order.
+    pub fn gather(&self, alloc: Global, places: &[u32]) -> Result<Column, AllocError>
+        requires { AreBelow (length self.now) places.now }
+        ensures { IfOk result (λ c. c ≡ gathered Null self.now places.now) }
+    {
+        let form = gather(alloc, self.form(), places)?;
+        Ok(Column::own(form))
+    }
+
+    /// The same values: a further share of a stored column, a copy of another one.
+    pub fn share(&self, alloc: Global) -> Result<Column, AllocError>
+        ensures { IfOk result (λ c. c ≡ self.now) }
+    {
+        match &self.kept {
+            Kept::Own(form) => {
+                let form = stored(alloc, form)?;
+                Ok(Column::own(form))
+            }
+            Kept::Shared(form) => {
+                let form = form.clone()?;
+                Ok(Column {
+                    kept: Kept::Shared(form),
+                })
+            }
+        }
+    }
+}
+
+/// A stored column: the values of a form, shared and without room for more.
+pub(crate) fn stored_column(alloc: Global, form: &Form) -> Result<Column, AllocError>
+    ensures { IfOk result (λ c. c ≡ shown form.now) }
+{
+    let form = stored(alloc, form)?;
+    let form = Arc::new(alloc, form)?;
+    Ok(Column {
+        kept: Kept::Shared(form),
+    })
+}

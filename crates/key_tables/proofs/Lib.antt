@@ -1,0 +1,3 @@
+pub mod Seeks
+pub mod PlaceLists
+pub mod NumberSteps

@@ -1,0 +1,16 @@
+//! Tables of keys for joins and groups: numbers of keys, and the places of equal keys.
+//!
+//! No contract speaks of a hash: pairs are those of nested loops, in their order, and numbers are in the order of first
+//! occurrences.
+#![tactic(auto)]
+
+mod chains;
+mod joined;
+mod numbering;
+
+pub use chains::Chains;
+pub use joined::pairs;
+pub use numbering::{Numbered, numbers};
+
+#[cfg(test)]
+mod tests;

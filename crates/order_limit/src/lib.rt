@@ -1,0 +1,10 @@
+//! The rows of an answer: their least fault, or their order and the row limit.
+#![tactic(auto)]
+
+mod fault;
+mod key;
+mod order;
+
+pub use fault::least_of_row;
+pub use key::OrderKey;
+pub use order::ordered;

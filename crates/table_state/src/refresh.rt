@@ -1,0 +1,71 @@
+//! What a refresh is to do.
+ghost use Rattle.std.specs.Prelude.{◌≡◌};
+ghost use Rattle.std.specs.List.{All};
+ghost use Rattle.tpch_schema.specs.Kinds.{RowsAreOf};
+ghost use Rattle.table_state.specs.Refresh.{DeleteKeys, InsertRows, IsOrderKey, MalformedFile};
+
+use refusals::{LineRefusal, RefreshFile};
+use sql_value::Row;
+use std::marker::Model;
+use tpch_schema::TableName;
+
+/// What a refresh is to do, with the rows or keys of its files.
+#[derive(Drop)]
+pub(crate) enum Form {
+    /// Adds orders and their lineitems.
+    Insert(Vec<Row>, Vec<Row>),
+    /// Removes the orders of these keys with their lineitems.
+    Delete(Vec<i64>),
+    /// Nothing, since a file of the set of this number has a bad line.
+    Malformed(RefreshFile, u32, LineRefusal),
+}
+
+/// A refresh, read from its files. Rows are of their tables' kinds, and keys from 0 to 2^63 - 1.
+#[derive(Drop)]
+pub struct Refresh {
+    pub(crate) form: Form,
+}
+
+impl Model for Refresh {
+    ghost use Rattle.table_state.specs.Refresh.{Change};
+
+    ghost Value = { Change };
+
+    ghost use Rattle.table_state.specs.Form.{IsFormed, change_of};
+
+    ghost view = { λ r. change_of r.form };
+
+    ghost invariant = { λ r. IsFormed r.form };
+}
+
+impl Refresh {
+    /// Adds these orders and lineitems at the ends of their tables. No memory is taken.
+    pub fn insert(orders: Vec<Row>, lineitems: Vec<Row>) -> Refresh
+        requires orders { RowsAreOf TableName.Orders orders.items }
+        requires lineitems { RowsAreOf TableName.Lineitem lineitems.items }
+        ensures { result ≡ InsertRows orders.items lineitems.items }
+    {
+        Refresh {
+            form: Form::Insert(orders, lineitems),
+        }
+    }
+
+    /// Removes the orders of these keys, with all their lineitems. No memory is taken.
+    pub fn delete(keys: Vec<i64>) -> Refresh
+        requires { All IsOrderKey keys.items }
+        ensures { result ≡ DeleteKeys keys.items }
+    {
+        Refresh {
+            form: Form::Delete(keys),
+        }
+    }
+
+    /// Is refused, since this file of the set of this number has a bad line.
+    pub fn malformed(file: RefreshFile, set: u32, refusal: LineRefusal) -> Refresh
+        ensures { result ≡ MalformedFile file set refusal }
+    {
+        Refresh {
+            form: Form::Malformed(file, set, refusal),
+        }
+    }
+}

@@ -1,0 +1,170 @@
+-- What plainly spelled numbers are.
+use Rattle.std.proofs.Common.{◌≡◌, ℕ, zero, suc, ◌+◌, ◌-◌, ◌*◌, ◌^◌, ◌<◌, ◌≤◌, Bool, true, false, cond, ◌==◌, ℤ, pos, List, [], ◌∷◌, ◌++◌, length, take, drop, get_or, position, refl, sym, ◌∙◌, ap, arith, Option, Some, None, Result, Ok, Err, w64}
+use Rattle.std.specs.Prelude.{nat_lt, nat_le}
+use Rattle.std.specs.Char.{is_ascii_digit}
+use Rattle.std.specs.List.{position_or_len}
+use Rattle.std.specs.Str.{all_ascii_digits}
+use Rattle.std.specs.Str.Parse.{digits_value_after}
+use Rattle.std.proofs.lemmas.Bool.{and_parts, and_from, lt-ltb, le-ltb, le-leb}
+use Rattle.std.proofs.lemmas.Bool.Decides.{nat_tests}
+use Rattle.std.proofs.lemmas.Int.{to_z_pos}
+use mir.Val.{to_z}
+use Rattle.std.proofs.lemmas.List.{append-nil, length-append, length-drop}
+use Rattle.refusals.specs.declared.line.LineFault.{LineFault}
+use Rattle.refusals.specs.declared.line.LineFault.TheVariants.{NumberTooWide}
+use Rattle.sql_value.specs.declared.value.Value.{Value}
+use Rattle.sql_value.specs.declared.value.Value.TheVariants as value
+use Rattle.fixed_decimal.specs.Written.{is_digits, coefficient_of, read_size, decimal_read}
+use Rattle.fixed_decimal.proofs.Digits.{digits_more, value_more, value_join}
+use Rattle.tpch_schema.specs.declared.column.ColumnKind.TheVariants.{Key, Whole, Decimal}
+use Rattle.tbl_reader.specs.Field.{kind_field}
+use Rattle.tbl_reader.specs.Natural.{IsNatural}
+
+pub ruleset steps = (digits_more, value_more)
+
+-- digits are no minus and no point
+
+no_minus : (b : ℕ) → is_ascii_digit b ≡ true → (b == 45) ≡ false
+no_minus b e = grind (arith, nat_tests)
+
+no_point : (b : ℕ) → is_ascii_digit b ≡ true → (b == 46) ≡ false
+no_point b e = grind (arith, nat_tests)
+
+-- where the first point stands
+point_after : (whole more : List ℕ) → all_ascii_digits whole ≡ true → position_or_len (λ byte. byte == 46) (whole ++ 46 ∷ more) ≡ length whole
+point_after [] more e = refl
+point_after (b ∷ whole) more e =
+    let one : 1 + position_or_len (λ byte. byte == 46) (whole ++ 46 ∷ more) ≡ suc (position_or_len (λ byte. byte == 46) (whole ++ 46 ∷ more)) = omega arith in
+    rw (no_point b (and_parts _ _ e).0, one) (ap suc (point_after whole more (and_parts _ _ e).1))
+
+no_points : (digits : List ℕ) → all_ascii_digits digits ≡ true → position_or_len (λ byte. byte == 46) digits ≡ length digits
+no_points [] e = refl
+no_points (b ∷ digits) e =
+    let one : 1 + position_or_len (λ byte. byte == 46) digits ≡ suc (position_or_len (λ byte. byte == 46) digits) = omega arith in
+    rw (no_point b (and_parts _ _ e).0, one) (ap suc (no_points digits (and_parts _ _ e).1))
+
+found_at : (i n : ℕ) → i < n → cond (nat_lt i n) (Some i) None ≡ Some i
+found_at i n h = rw (lt-ltb i n h) refl
+
+found_none : (n : ℕ) → ◌≡◌ {A = Option ℕ} (cond (nat_lt n n) (Some n) None) None
+found_none n = rw (le-ltb n n (omega arith)) refl
+
+point_of : (whole more : List ℕ) → all_ascii_digits whole ≡ true → position (λ byte. byte == 46) (whole ++ 46 ∷ more) ≡ Some (length whole)
+point_of whole more e =
+    let at : position_or_len (λ byte. byte == 46) (whole ++ 46 ∷ more) ≡ length whole = point_after whole more e in
+    rw at (found_at (length whole) (length (whole ++ 46 ∷ more)) (omega (arith, length-append whole (46 ∷ more))))
+
+no_point_of : (digits : List ℕ) → all_ascii_digits digits ≡ true → position (λ byte. byte == 46) digits ≡ None
+no_point_of digits e = rw (no_points digits e) (found_none (length digits))
+
+-- a text that begins with a digit has no sign
+unsigned : (text : List ℕ) (places n : ℕ) → 0 < length text → is_ascii_digit (get_or text 0 0) ≡ true → read_size text places ≡ Some n → n < 2 ^ 63
+    → decimal_read text places ≡ Ok (pos n)
+unsigned [] places n some digit e h = absurd (omega (arith, some))
+unsigned (b ∷ rest) places n some digit e h =
+    let small : nat_lt n (2 ^ 127) ≡ true = lt-ltb n (2 ^ 127) (omega (arith, h)) in
+    rw (no_minus b digit, e, small) refl
+
+first_digit : (text : List ℕ) → 0 < length text → all_ascii_digits text ≡ true → is_ascii_digit (get_or text 0 0) ≡ true
+first_digit [] some e = absurd (omega (arith, some))
+first_digit (b ∷ rest) some e = (and_parts _ _ e).0
+
+are_digits : (text : List ℕ) → 0 < length text → all_ascii_digits text ≡ true → is_digits text ≡ true
+are_digits text some e = and_from _ _ (lt-ltb 0 (length text) some) e
+
+times_one : (n : ℕ) → n * 1 ≡ n
+times_one n = omega arith
+
+whole_number : (text : List ℕ) (n : ℕ) → 0 < length text → all_ascii_digits text ≡ true → n ≡ digits_value_after 10 0 text → n < 2 ^ 63
+    → decimal_read text 0 ≡ Ok (pos n)
+whole_number text n some digits e h =
+    let size : coefficient_of 0 text [] ≡ n = ap (λ t. digits_value_after 10 0 t * 1) (append-nil text) ∙ times_one (digits_value_after 10 0 text) ∙ sym e in
+    let read : read_size text 0 ≡ Some n = rw (no_point_of text digits, are_digits text some digits, size) refl in
+    unsigned text 0 n some (first_digit text some digits) read h
+
+take_front : (front more : List ℕ) → take (length front) (front ++ more) ≡ front
+take_front [] more = refl
+take_front (b ∷ front) more = ap (λ l. b ∷ l) (take_front front more)
+
+drop_front : (front : List ℕ) (b : ℕ) (more : List ℕ) → drop (length front + 1) (front ++ b ∷ more) ≡ more
+drop_front [] b more = refl
+drop_front (c ∷ front) b more =
+    let one : suc (length front) + 1 ≡ suc (length front + 1) = omega arith in
+    rw one (drop_front front b more)
+
+-- digits, a point and two digits
+cents_of : (whole fraction : List ℕ) (n : ℕ) → 0 < length whole → all_ascii_digits whole ≡ true → all_ascii_digits fraction ≡ true → length fraction ≡ 2
+    → n ≡ digits_value_after 10 (digits_value_after 10 0 whole) fraction → n < 2 ^ 63 → decimal_read (whole ++ 46 ∷ fraction) 2 ≡ Ok (pos n)
+cents_of whole fraction n some digits more two e h =
+    let long : length (whole ++ 46 ∷ fraction) ≡ length whole + suc (length fraction) = length-append whole (46 ∷ fraction) in
+    let size : coefficient_of 2 whole fraction ≡ n =
+    ap (λ places. digits_value_after 10 0 (whole ++ fraction) * 10 ^ (2 - places)) two ∙ times_one (digits_value_after 10 0 (whole ++ fraction)) ∙ value_join 0 whole fraction ∙ sym e in
+    let short : nat_le (length fraction) 2 ≡ true = le-leb (length fraction) 2 (omega (arith, two)) in
+    let some_more : 0 < length fraction = omega (arith, two) in
+    let read : read_size (whole ++ 46 ∷ fraction) 2 ≡ Some n =
+    rw (point_of whole fraction digits, take_front whole (46 ∷ fraction), drop_front whole 46 fraction, are_digits whole some digits, are_digits fraction some_more more, short, size) refl in
+    unsigned (whole ++ 46 ∷ fraction) 2 n (omega (arith, long)) (first_of whole (46 ∷ fraction) some digits) read h
+  where
+    first_of : (whole more : List ℕ) → 0 < length whole → all_ascii_digits whole ≡ true → is_ascii_digit (get_or (whole ++ more) 0 0) ≡ true
+    first_of [] more some e = absurd (omega (arith, some))
+    first_of (b ∷ rest) more some e = (and_parts _ _ e).0
+
+parts_at : (text : List ℕ) (i : ℕ) → i < length text → text ≡ take i text ++ get_or text i 0 ∷ drop (i + 1) text
+parts_at [] i h = absurd (omega (arith, h))
+parts_at (b ∷ text) zero h = refl
+parts_at (b ∷ text) (suc i) h =
+    let one : suc i + 1 ≡ suc (i + 1) = omega arith in
+    rw one (ap (λ l. b ∷ l) (parts_at text i (omega (arith, h))))
+
+cents_number : (text : List ℕ) (point n : ℕ) → point + 3 ≡ length text → 0 < point → get_or text point 0 ≡ 46
+    → all_ascii_digits (take point text) ≡ true → all_ascii_digits (drop (point + 1) text) ≡ true
+    → n ≡ digits_value_after 10 (digits_value_after 10 0 (take point text)) (drop (point + 1) text) → n < 2 ^ 63
+    → decimal_read text 2 ≡ Ok (pos n)
+cents_number text point n long some is digits more e h =
+    let whole : text ≡ take point text ++ 46 ∷ drop (point + 1) text = parts_at text point (omega (arith, long)) ∙ ap (λ b. take point text ++ b ∷ drop (point + 1) text) is in
+    let front : length (take point text) ≡ point = length-take point text (omega (arith, long)) in
+    let rest : length (drop (point + 1) text) ≡ 2 = omega (arith, length-drop (point + 1) text, long) in
+    ap (λ t. decimal_read t 2) whole ∙ cents_of (take point text) (drop (point + 1) text) n (omega (arith, front, some)) digits more rest e h
+  where
+    length-take : (i : ℕ) (xs : List ℕ) → i ≤ length xs → length (take i xs) ≡ i
+    length-take zero xs h = refl
+    length-take (suc i) [] h = absurd (omega (arith, h))
+    length-take (suc i) (x ∷ xs) h = ap suc (length-take i xs (omega (arith, h)))
+
+natural : (n : ℕ) → n < 2 ^ 63 → IsNatural (pos n)
+natural n h = record { sign = le-ltb n 0 (omega arith); narrow = lt-ltb n (2 ^ 63) h }
+
+-- the same of the number as it is cast
+
+pub whole_is : (text : List ℕ) (n : ℕ) → 0 < length text → all_ascii_digits text ≡ true → n ≡ digits_value_after 10 0 text → n < 2 ^ 63
+    → decimal_read text 0 ≡ Ok (to_z w64 n)
+whole_is text n some digits e h = rw (to_z_pos w64 n h) (whole_number text n some digits e h)
+
+pub cents_is : (text : List ℕ) (point n whole : ℕ) → point + 3 ≡ length text → 0 < point → get_or text point 0 ≡ 46
+    → all_ascii_digits (take point text) ≡ true → all_ascii_digits (drop (point + 1) text) ≡ true
+    → whole ≡ digits_value_after 10 0 (take point text) → n ≡ digits_value_after 10 whole (drop (point + 1) text) → n < 2 ^ 63
+    → decimal_read text 2 ≡ Ok (to_z w64 n)
+cents_is text point n whole long some is digits more w e h =
+    rw (to_z_pos w64 n h) (cents_number text point n long some is digits more (e ∙ ap (λ v. digits_value_after 10 v (drop (point + 1) text)) w) h)
+
+pub natural_is : (n : ℕ) → n < 2 ^ 63 → IsNatural (to_z w64 n)
+natural_is n h = rw (to_z_pos w64 n h) (natural n h)
+
+pub ruleset read = (whole_is, cents_is, natural_is)
+
+-- columns hold natural numbers
+
+held_natural : (b : Bool) (scale : ℕ) (number : ℤ) → b ≡ true
+    → ◌≡◌ {A = Result Value LineFault} (cond b (Ok (value.Number scale number)) (Err NumberTooWide)) (Ok (value.Number scale number))
+held_natural b scale number e = rw e refl
+
+pub key_holds : (text : List ℕ) (number : ℤ) → decimal_read text 0 ≡ Ok number → IsNatural number → kind_field Key text ≡ Ok (value.Number 0 number)
+key_holds text number e natural = rw e (held_natural _ 0 number (rw (natural.sign, natural.narrow) refl))
+
+pub whole_holds : (text : List ℕ) (number : ℤ) → decimal_read text 0 ≡ Ok number → IsNatural number → kind_field Whole text ≡ Ok (value.Number 0 number)
+whole_holds text number e natural = rw e (held_natural _ 0 number (rw natural.narrow refl))
+
+pub decimal_holds : (text : List ℕ) (number : ℤ) → decimal_read text 2 ≡ Ok number → IsNatural number → kind_field Decimal text ≡ Ok (value.Number 2 number)
+decimal_holds text number e natural = rw e (held_natural _ 2 number (rw natural.narrow refl))
+
+pub ruleset held = (key_holds, whole_holds, decimal_holds)

@@ -1,0 +1,36 @@
+-- A fill over the groups that were put just before.
+use Rattle.std.proofs.Common.{◌≡◌, ℕ, ◌+◌, ◌<◌, List, [], ◌∷◌, ◌++◌, refl, sym, ap, ◌∙◌, arith, length}
+use Rattle.std.specs.Prelude.{IsTrue, Some, slice_get}
+use Rattle.std.specs.List.{range_with_len}
+use Rattle.sql_value.specs.declared.value.Value.{Value}
+use Rattle.algebra.specs.declared.aggregate.Aggregate.{Aggregate}
+use Rattle.algebra.specs.declared.node.Node.{Node}
+use Rattle.algebra.specs.declared.node.Node.TheVariants as node
+use Rattle.algebra.specs.Aggregates.{aggregates_of}
+use Rattle.algebra.specs.Plans.{plan_width, fits}
+use Rattle.algebra.proofs.Fits.{fill_fits}
+use Rattle.unnesting.specs.Lowerings.{IsPut, IsFilled, IsGrouped}
+use Rattle.unnesting.specs.declared.domain.DomainRows.TheVariants.{One, Node as AtNode}
+use Rattle.unnesting.proofs.Grown.{same_plan, put_more, put_last, kept_width}
+
+last_get : (ns : List Node) (n : Node) → slice_get (ns ++ n ∷ []) (length ns) ≡ Some n
+last_get [] n = refl
+last_get (m ∷ ns) n = last_get ns n
+
+pub fill_suits : (old now : List Node) (rows groups domain width : ℕ) (by : List ℕ) (computed aggregates : List Aggregate) (empty : List Value)
+    → domain < length old → plan_width old domain ≡ width → by ≡ range_with_len 0 width → computed ≡ aggregates → empty ≡ aggregates_of aggregates []
+    → groups ≡ length old → now ≡ old ++ node.Group rows by computed ∷ [] → IsTrue (fits now (node.Fill groups domain empty))
+fill_suits old now rows groups domain width by computed aggregates empty h w columns same none number nodes =
+    let p : IsPut old now (node.Group rows by computed) groups = record { number = number; nodes = nodes } in
+    let l : length now ≡ groups + 1 = put_last p in
+    let kept : plan_width now domain ≡ plan_width old domain = kept_width domain (put_more (same_plan old) p) h in
+    fill_fits now groups domain rows by computed empty (omega (arith, l)) (omega (arith, l, number))
+    (ap (λ ns. slice_get ns groups) nodes ∙ ap (slice_get (old ++ node.Group rows by computed ∷ [])) number ∙ last_get old (node.Group rows by computed))
+    (columns ∙ ap (range_with_len 0) (sym w ∙ sym kept))
+    (none ∙ ap (λ a. aggregates_of a []) (sym same))
+
+-- groups by some columns of their own need no fill
+pub grouped_by : (old new : List Node) (rows : ℕ) (by : List ℕ) (aggregates : List Aggregate) (domain width id : ℕ) → (by ≡ [] → ⊥)
+    → IsPut old new (node.Group rows (range_with_len 0 width ++ by) aggregates) id → IsGrouped old new rows by aggregates (AtNode domain width) id
+grouped_by old new rows [] aggregates domain width id some p = absurd (some refl)
+grouped_by old new rows (c ∷ cs) aggregates domain width id some p = p

@@ -1,0 +1,11 @@
+pub mod Arms
+pub mod Both
+pub mod Columns
+pub mod Fills
+pub mod Groups
+pub mod Grown
+pub mod Sides
+pub mod Steps
+pub mod Whole
+pub mod Wide
+pub mod WorkedProofs

@@ -1,0 +1,119 @@
+//! From dependent trees to flat nodes.
+ghost use Rattle.std.specs.Prelude.{◌≡◌, ◌+◌, ◌≤◌, ◌++◌, length, IfOk, OnOk};
+ghost use Rattle.algebra.specs.Trees.{tree_meaning, scans_of, domains_of};
+ghost use Rattle.algebra.specs.Plans.{plan_scans, plan_domains};
+ghost use Rattle.unnesting.specs.Domains.{IsInPlan};
+ghost use Rattle.unnesting.specs.Lowerings.{Unnests, Answered, KeepsNodes, Lowers};
+
+use crate::domain::Domain;
+use crate::put::{
+    put_distinct, put_group, put_join, put_mark, put_outer, put_project, put_scan, put_select,
+    put_single, side_domain,
+};
+use algebra::{Builder, DepTree, NodeId, width};
+use std::alloc::{AllocError, Global};
+
+/// Adds to a plan the nodes of a tree over a domain, and says which node has its rows: the last one.
+///
+/// A dependent right side is lowered over a domain: the projection of its left side's rows to the columns that it reads,
+/// identical rows once. The left side is lowered once, and read by the domain and by the operator. Domain columns are
+/// matched by identity, so null meets null, and a fault the same fault.
+#[tactic(auto, using(crate::proofs::Whole::unnested, crate::proofs::Whole::answered, crate::proofs::Whole::nodes_kept, crate::proofs::Whole::scans_added, crate::proofs::Whole::domains_added))]
+pub fn lower(
+    alloc: Global,
+    builder: &mut Builder,
+    tree: &DepTree,
+    domain: Domain,
+) -> Result<NodeId, AllocError>
+    requires { IsInPlan builder.old.nodes domain.rows }
+
+    // Among the node's rows those that begin with a row of the domain are, as a bag, the rows of the nested loops.
+    ensures unnests { IfOk result (Unnests builder.old.nodes builder.new.nodes tree.now domain) }
+
+    // Over the one row of no columns these are all its rows: those of a whole query.
+    ensures whole { IfOk result (Answered builder.new.nodes tree.now domain) }
+
+    // The plan only grows, and the node is its last.
+    ensures grows { IfOk result (KeepsNodes builder.old.nodes builder.new.nodes) }
+
+    // One scan for each table of the tree, in its order: what is read twice is lowered once.
+    ensures scans { OnOk result (plan_scans builder.new.nodes ≡ plan_scans builder.old.nodes ++ scans_of tree.now) }
+
+    // No more domains than dependent right sides: a closed or shared one gets none.
+    ensures domains { OnOk result (plan_domains builder.new.nodes ≤ plan_domains builder.old.nodes + domains_of tree.now) }
+{
+    let id = lowered(alloc, builder, tree, &domain)?;
+    Ok(id)
+}
+
+// The same for each row of the domain by itself.
+fn lowered(
+    alloc: Global,
+    builder: &mut Builder,
+    tree: &DepTree,
+    domain: &Domain,
+) -> Result<NodeId, AllocError>
+    requires { IsInPlan builder.old.nodes domain.now.rows }
+    ensures { IfOk result (Lowers builder.old.nodes builder.new.nodes (tree_meaning tree.now) domain.now) }
+{
+    match tree {
+        DepTree::Scan(table) => {
+            let id = put_scan(alloc, builder, *table, domain)?;
+            Ok(id)
+        }
+        DepTree::Select(input, condition) => {
+            let rows = lowered(alloc, builder, input.get(), domain)?;
+            let id = put_select(alloc, builder, rows, condition.get())?;
+            Ok(id)
+        }
+        DepTree::Project(input, es) => {
+            let rows = lowered(alloc, builder, input.get(), domain)?;
+            let id = put_project(alloc, builder, rows, domain.rows.width(), es.as_slice())?;
+            Ok(id)
+        }
+        DepTree::Join(left, right, side, on) => {
+            let outer = lowered(alloc, builder, left.get(), domain)?;
+            let inner = side_domain(alloc, builder, outer, side, domain)?;
+            let rows = lowered(alloc, builder, right.get(), &inner)?;
+            let width = domain.rows.width();
+            let id = put_join(alloc, builder, outer, rows, side, width, on.get())?;
+            Ok(id)
+        }
+        DepTree::Outer(left, right, side, on) => {
+            let outer = lowered(alloc, builder, left.get(), domain)?;
+            let inner = side_domain(alloc, builder, outer, side, domain)?;
+            let rows = lowered(alloc, builder, right.get(), &inner)?;
+            let nulls = width(right.get())?;
+            let width = domain.rows.width();
+            let id = put_outer(alloc, builder, outer, rows, side, width, nulls, on.get())?;
+            Ok(id)
+        }
+        DepTree::Mark(left, right, side, condition) => {
+            let outer = lowered(alloc, builder, left.get(), domain)?;
+            let inner = side_domain(alloc, builder, outer, side, domain)?;
+            let rows = lowered(alloc, builder, right.get(), &inner)?;
+            let width = domain.rows.width();
+            let id = put_mark(alloc, builder, outer, rows, side, width, condition.get())?;
+            Ok(id)
+        }
+        DepTree::Single(left, right, side, column) => {
+            let outer = lowered(alloc, builder, left.get(), domain)?;
+            let inner = side_domain(alloc, builder, outer, side, domain)?;
+            let rows = lowered(alloc, builder, right.get(), &inner)?;
+            let width = domain.rows.width();
+            let id = put_single(alloc, builder, outer, rows, side, width, *column)?;
+            Ok(id)
+        }
+        DepTree::Group(input, by, aggregates) => {
+            let rows = lowered(alloc, builder, input.get(), domain)?;
+            let by = by.as_slice();
+            let id = put_group(alloc, builder, rows, by, aggregates.as_slice(), domain)?;
+            Ok(id)
+        }
+        DepTree::Distinct(input) => {
+            let rows = lowered(alloc, builder, input.get(), domain)?;
+            let id = put_distinct(builder, rows)?;
+            Ok(id)
+        }
+    }
+}

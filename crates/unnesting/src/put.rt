@@ -1,0 +1,303 @@
+//! The node that each kind of tree adds to a plan, once its inputs are there.
+ghost use Rattle.std.specs.Prelude.{◌≡◌, ◌+◌, ◌<◌, ◌≤◌, [], ◌∷◌, ◌++◌, map, length, IfOk};
+ghost use Rattle.std.specs.List.{range_with_len};
+ghost use Rattle.row_laws.specs.Matched.{side_matched};
+ghost use Rattle.row_laws.specs.Trees.{side_width};
+ghost use Rattle.scalar_expr.specs.declared.expr.Expr.TheVariants.{Column as column_of, All as all_of};
+ghost use Rattle.algebra.specs.declared.node.Node.TheVariants as node;
+ghost use Rattle.algebra.specs.Trees.{side_of};
+ghost use Rattle.algebra.specs.Plans.{plan_width};
+ghost use Rattle.unnesting.specs.Domains.{domain_width, IsInPlan};
+ghost use Rattle.unnesting.specs.Lowerings.{IsPut, IsScanned, IsFilled, IsGrouped, IsOwnDomain, IsSideDomain};
+
+use crate::domain::{Domain, DomainRows};
+use crate::lists::{first_columns, matched_columns, select_list, with_first_columns};
+use algebra::{Aggregate, Builder, Node, NodeId, Side, copy_aggregates, copy_expr, values_of_none};
+use scalar_expr::Expr;
+use sqlite_items::{Boxed, Items};
+use std::alloc::{AllocError, Global};
+use tpch_schema::TableName;
+
+// The rows of two nodes, all combinations.
+#[tactic(auto, using(algebra::proofs::Fits::join_fits, crate::proofs::Columns::none_matched))]
+fn put_cross(
+    alloc: Global,
+    builder: &mut Builder,
+    left: NodeId,
+    right: NodeId,
+) -> Result<NodeId, AllocError>
+    requires left { left < length builder.old.nodes }
+    requires right { right < length builder.old.nodes }
+    ensures { IfOk result (IsPut builder.old.nodes builder.new.nodes (node.Join left right [] (all_of []))) }
+{
+    let matched = Items::new(alloc);
+    let always = Boxed::new(alloc, Expr::All(Items::new(alloc)))?;
+    let id = builder.put(Node::Join(left, right, matched, always))?;
+    Ok(id)
+}
+
+// A table's rows under each row of the domain.
+#[tactic(auto, using(algebra::proofs::Fits::scan_fits))]
+pub(crate) fn put_scan(
+    alloc: Global,
+    builder: &mut Builder,
+    table: TableName,
+    domain: &Domain,
+) -> Result<NodeId, AllocError>
+    requires { IsInPlan builder.old.nodes domain.now.rows }
+    ensures { IfOk result (IsScanned builder.old.nodes builder.new.nodes table domain.now.rows) }
+{
+    let rows = builder.put(Node::Scan(table))?;
+    match domain.rows {
+        DomainRows::One => Ok(rows),
+        DomainRows::Node(id, _) => {
+            let id = put_cross(alloc, builder, id, rows)?;
+            Ok(id)
+        }
+    }
+}
+
+// The rows of a node that a condition keeps.
+#[tactic(auto, using(algebra::proofs::Fits::select_fits))]
+pub(crate) fn put_select(
+    alloc: Global,
+    builder: &mut Builder,
+    rows: NodeId,
+    condition: &Expr,
+) -> Result<NodeId, AllocError>
+    requires { rows < length builder.old.nodes }
+    ensures { IfOk result (IsPut builder.old.nodes builder.new.nodes (node.Select rows condition.now)) }
+{
+    let condition = copy_expr(alloc, condition)?;
+    let id = builder.put(Node::Select(rows, condition))?;
+    Ok(id)
+}
+
+// A select list after a domain's columns.
+#[tactic(auto, using(algebra::proofs::Fits::project_fits))]
+pub(crate) fn put_project(
+    alloc: Global,
+    builder: &mut Builder,
+    rows: NodeId,
+    width: u32,
+    es: &[Expr],
+) -> Result<NodeId, AllocError>
+    requires { rows < length builder.old.nodes }
+    ensures { IfOk result (IsPut builder.old.nodes builder.new.nodes (node.Project rows (map column_of (range_with_len 0 width) ++ es.now))) }
+{
+    let es = select_list(alloc, width, es)?;
+    let id = builder.put(Node::Project(rows, es))?;
+    Ok(id)
+}
+
+// The rows of a node, identical ones once.
+#[tactic(auto, using(algebra::proofs::Fits::distinct_fits))]
+pub(crate) fn put_distinct(builder: &mut Builder, rows: NodeId) -> Result<NodeId, AllocError>
+    requires { rows < length builder.old.nodes }
+    ensures { IfOk result (IsPut builder.old.nodes builder.new.nodes (node.Distinct rows)) }
+{
+    let id = builder.put(Node::Distinct(rows))?;
+    Ok(id)
+}
+
+// The inner join of two sides.
+#[tactic(auto, using(algebra::proofs::Fits::join_fits, crate::proofs::Columns::side_first))]
+pub(crate) fn put_join(
+    alloc: Global,
+    builder: &mut Builder,
+    outer: NodeId,
+    rows: NodeId,
+    side: &Side,
+    width: u32,
+    on: &Expr,
+) -> Result<NodeId, AllocError>
+    requires outer { outer < length builder.old.nodes }
+    requires rows { rows < length builder.old.nodes }
+    requires width { side_width (side_of side.now) width ≤ plan_width builder.old.nodes rows }
+    ensures { IfOk result (IsPut builder.old.nodes builder.new.nodes (node.Join outer rows (side_matched (side_of side.now) width) on.now)) }
+{
+    let matched = matched_columns(alloc, side, width)?;
+    let on = copy_expr(alloc, on)?;
+    let id = builder.put(Node::Join(outer, rows, matched, on))?;
+    Ok(id)
+}
+
+// The left outer join of two sides, the right one of this number of columns of its own.
+pub(crate) fn put_outer(
+    alloc: Global,
+    builder: &mut Builder,
+    outer: NodeId,
+    rows: NodeId,
+    side: &Side,
+    width: u32,
+    nulls: u32,
+    on: &Expr,
+) -> Result<NodeId, AllocError>
+    requires outer { outer < length builder.old.nodes }
+    requires rows { rows < length builder.old.nodes }
+    requires width { plan_width builder.old.nodes rows ≡ side_width (side_of side.now) width + nulls }
+    ensures { IfOk result (IsPut builder.old.nodes builder.new.nodes (node.Outer outer rows (side_matched (side_of side.now) width) nulls on.now)) }
+{
+    let matched = matched_columns(alloc, side, width)?;
+    let on = copy_expr(alloc, on)?;
+    let id = builder.put(Node::Outer(outer, rows, matched, nulls, on))?;
+    Ok(id)
+}
+
+// The marks of a left side's rows.
+#[tactic(auto, using(algebra::proofs::Fits::mark_fits, crate::proofs::Columns::side_first))]
+pub(crate) fn put_mark(
+    alloc: Global,
+    builder: &mut Builder,
+    outer: NodeId,
+    rows: NodeId,
+    side: &Side,
+    width: u32,
+    condition: &Expr,
+) -> Result<NodeId, AllocError>
+    requires outer { outer < length builder.old.nodes }
+    requires rows { rows < length builder.old.nodes }
+    requires width { side_width (side_of side.now) width ≤ plan_width builder.old.nodes rows }
+    ensures { IfOk result (IsPut builder.old.nodes builder.new.nodes (node.Mark outer rows (side_matched (side_of side.now) width) condition.now)) }
+{
+    let matched = matched_columns(alloc, side, width)?;
+    let condition = copy_expr(alloc, condition)?;
+    let id = builder.put(Node::Mark(outer, rows, matched, condition))?;
+    Ok(id)
+}
+
+// The scalar values of a left side's rows.
+#[tactic(auto, using(algebra::proofs::Fits::single_fits, crate::proofs::Columns::side_first))]
+pub(crate) fn put_single(
+    alloc: Global,
+    builder: &mut Builder,
+    outer: NodeId,
+    rows: NodeId,
+    side: &Side,
+    width: u32,
+    column: u32,
+) -> Result<NodeId, AllocError>
+    requires outer { outer < length builder.old.nodes }
+    requires rows { rows < length builder.old.nodes }
+    requires width { side_width (side_of side.now) width ≤ plan_width builder.old.nodes rows }
+    ensures { IfOk result (IsPut builder.old.nodes builder.new.nodes (node.Single outer rows (side_matched (side_of side.now) width) column)) }
+{
+    let matched = matched_columns(alloc, side, width)?;
+    let id = builder.put(Node::Single(outer, rows, matched, column))?;
+    Ok(id)
+}
+
+// The groups of a node's rows by a domain's columns alone, and the domain rows without a group.
+fn put_fill(
+    alloc: Global,
+    builder: &mut Builder,
+    rows: NodeId,
+    aggregates: &[Aggregate],
+    domain: NodeId,
+    width: u32,
+) -> Result<NodeId, AllocError>
+    requires rows { rows < length builder.old.nodes }
+    requires domain { domain < length builder.old.nodes }
+    requires width { plan_width builder.old.nodes domain ≡ width }
+    ensures { IfOk result (IsFilled builder.old.nodes builder.new.nodes rows aggregates.now domain width) }
+{
+    let by = first_columns(alloc, width)?;
+    let computed = copy_aggregates(alloc, aggregates)?;
+    let empty = values_of_none(alloc, aggregates)?;
+    let groups = builder.put(Node::Group(rows, by, computed))?;
+    let id = builder.put(Node::Fill(groups, domain, empty))?;
+    Ok(id)
+}
+
+// The groups of a node's rows by a domain's columns and by others.
+#[tactic(auto, using(algebra::proofs::Fits::group_fits))]
+fn put_group_by(
+    alloc: Global,
+    builder: &mut Builder,
+    rows: NodeId,
+    width: u32,
+    by: &[u32],
+    aggregates: &[Aggregate],
+) -> Result<NodeId, AllocError>
+    requires { rows < length builder.old.nodes }
+    ensures { IfOk result (IsPut builder.old.nodes builder.new.nodes (node.Group rows (range_with_len 0 width ++ by.now) aggregates.now)) }
+{
+    let by = with_first_columns(alloc, width, by)?;
+    let computed = copy_aggregates(alloc, aggregates)?;
+    let id = builder.put(Node::Group(rows, by, computed))?;
+    Ok(id)
+}
+
+// The groups of a node's rows under each row of the domain.
+pub(crate) fn put_group(
+    alloc: Global,
+    builder: &mut Builder,
+    rows: NodeId,
+    by: &[u32],
+    aggregates: &[Aggregate],
+    domain: &Domain,
+) -> Result<NodeId, AllocError>
+    requires rows { rows < length builder.old.nodes }
+    requires domain { IsInPlan builder.old.nodes domain.now.rows }
+    ensures { IfOk result (IsGrouped builder.old.nodes builder.new.nodes rows by.now aggregates.now domain.now.rows) }
+{
+    match domain.rows {
+        DomainRows::One => {
+            let id = put_group_by(alloc, builder, rows, 0, by, aggregates)?;
+            Ok(id)
+        }
+        DomainRows::Node(domain, width) => {
+            if by.is_empty() {
+                let id = put_fill(alloc, builder, rows, aggregates, domain, width)?;
+                return Ok(id);
+            }
+            let id = put_group_by(alloc, builder, rows, width, by, aggregates)?;
+            Ok(id)
+        }
+    }
+}
+
+// A domain of these columns of a left side's rows.
+#[tactic(auto, using(algebra::proofs::Fits::domain_fits))]
+fn put_domain(
+    alloc: Global,
+    builder: &mut Builder,
+    outer: NodeId,
+    columns: &[u32],
+) -> Result<Domain, AllocError>
+    requires { outer < length builder.old.nodes }
+    ensures { IfOk result (IsOwnDomain builder.old.nodes builder.new.nodes outer columns.now) }
+{
+    let width = u32::try_from(columns.len()).map_err(|_| AllocError)?;
+    let columns = Items::from_slice(alloc, columns)?;
+    let id = builder.put(Node::Domain(outer, columns))?;
+    Ok(Domain::of(alloc, DomainRows::Node(id, width)))
+}
+
+// The domain of a right side. One that depends on no columns is closed, and gets none.
+pub(crate) fn side_domain(
+    alloc: Global,
+    builder: &mut Builder,
+    outer: NodeId,
+    side: &Side,
+    domain: &Domain,
+) -> Result<Domain, AllocError>
+    requires outer { outer < length builder.old.nodes }
+    requires domain { IsInPlan builder.old.nodes domain.now.rows }
+    ensures { IfOk result (IsSideDomain builder.old.nodes builder.new.nodes outer side.now domain.now) }
+{
+    match side {
+        Side::Closed => Ok(Domain::one(alloc)),
+        Side::Shared => {
+            let same = domain.copy(alloc)?;
+            Ok(same)
+        }
+        Side::Dependent(columns) => {
+            if columns.is_empty() {
+                return Ok(Domain::one(alloc));
+            }
+            let inner = put_domain(alloc, builder, outer, columns.as_slice())?;
+            Ok(inner)
+        }
+    }
+}
