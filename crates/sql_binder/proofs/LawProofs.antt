@@ -44,12 +44,20 @@ split_result q views (Err why) e = inr (why, record { is = e })
 pub bound_or_refused : BoundOrRefused
 bound_or_refused q views = split_result q views (bound_query q views) refl
 
+apart_results : (r : Checked BoundQuery) (bound : BoundQuery) (why : BindRefusal) → r ≡ Ok bound → r ≡ Err why → ⊥
+apart_results r bound why e f = cc
+
+same_bound : (r : Checked BoundQuery) (a b : BoundQuery) → r ≡ Ok a → r ≡ Ok b → a ≡ b
+same_bound r a b e f = cc
+
+same_cause : (r : Checked BoundQuery) (a b : BindRefusal) → r ≡ Err a → r ≡ Err b → a ≡ b
+same_cause r a b e f = cc
+
 pub not_both : NotBoth
-not_both q views bound why b r =
-    let e : Ok {E = BindRefusal} bound ≡ Err why = sym b.is ∙ r.is in cc
+not_both q views bound why b r = apart_results (bound_query q views) bound why b.is r.is
 
 pub one_way : OneWay
 one_way = (
-  λ q views a b h k. let e : Ok {E = BindRefusal} a ≡ Ok b = sym h.is ∙ k.is in cc,
-  λ q views a b h k. let e : Err {A = BoundQuery} a ≡ Err b = sym h.is ∙ k.is in cc,
+  λ q views a b h k. same_bound (bound_query q views) a b h.is k.is,
+  λ q views a b h k. same_cause (bound_query q views) a b h.is k.is,
 )

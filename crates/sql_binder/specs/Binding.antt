@@ -204,8 +204,12 @@ abbrev pub any_in_chain : List ChainMeaning → Bool
 any_in_chain = list_any (λ (m : ChainMeaning). m.aggregates)
 
 -- whether one stands in an arm
+abbrev pub in_arm : ArmMeaning → Bool
+in_arm a = a.condition.aggregates || a.value.aggregates
+
+-- whether one stands in one of the arms
 abbrev pub any_in_arms : List ArmMeaning → Bool
-any_in_arms = list_any (λ (a : ArmMeaning). a.condition.aggregates || a.value.aggregates)
+any_in_arms = list_any in_arm
 
 -- whether an aggregate stands in an expression, outside of subqueries
 abbrev pub aggregates_step : Expr-F ClauseMeaning Meaning FromItemMeaning SelectedMeaning ArmMeaning BlockMeaning ChainMeaning ItemMeaning JoinMeaning JoinedMeaning ChainMeaning → Bool
@@ -402,9 +406,9 @@ over_groups sight from kept group items m = do
 
 -- FROM, WHERE, GROUP BY, select list, HAVING
 abbrev pub clauses : Block-F ClauseMeaning Meaning FromItemMeaning SelectedMeaning ArmMeaning BlockMeaning ChainMeaning ItemMeaning JoinMeaning JoinedMeaning ChainMeaning → BlockMeaning
-clauses q sight = from_where sight q.from q.condition >>= (λ p. if is_grouped q
-then over_groups sight p.0 p.1 q.group q.selected q.having
-else over_rows sight p.0 p.1 q.selected)
+clauses q sight =
+    from_where sight q.from q.condition
+    >>= (λ p. if is_grouped q then over_groups sight p.0 p.1 q.group q.selected q.having else over_rows sight p.0 p.1 q.selected)
 
 -- a query, with aggregates of its own, then DISTINCT
 abbrev pub block_step : Block-F ClauseMeaning Meaning FromItemMeaning SelectedMeaning ArmMeaning BlockMeaning ChainMeaning ItemMeaning JoinMeaning JoinedMeaning ChainMeaning → BlockMeaning

@@ -70,17 +70,24 @@ result_kind Subtract s t = Ok (Number (max s t))
 result_kind Multiply s t = product_kind s t
 result_kind Divide s t = Ok (Number (quotient_scale s))
 
+-- the scale of numbers, which a value has to be
+abbrev pub kind_scale : Kind → Checked ℕ
+kind_scale (Number s) = Ok s
+kind_scale k = Err TypeMismatch
+
+-- the scale of an operand, which has to be a number
+abbrev pub number_scale : BoundKind → Checked ℕ
+number_scale k = and_then (value_kind k) kind_scale
+
 -- what an operator gives of two operands, which have to be numbers
 abbrev pub operated_kind : Arithmetic → BoundKind → BoundKind → Checked Kind
-operated_kind operator (Value (Number s)) (Value (Number t)) = result_kind operator s t
-operated_kind operator j k = Err TypeMismatch
+operated_kind operator j k = and_then (number_scale j) (λ s. and_then (number_scale k) (λ t. result_kind operator s t))
 
 -- the kind of two branches of a CASE: numbers have the larger scale
 abbrev pub merged_kind : Kind → BoundKind → Checked Kind
-merged_kind (Number s) (Value (Number t)) = Ok (Number (max s t))
-merged_kind Text (Value Text) = Ok Text
-merged_kind Date (Value Date) = Ok Date
-merged_kind j k = Err TypeMismatch
+merged_kind (Number s) k = and_then (number_scale k) (λ t. Ok (Number (max s t)))
+merged_kind Text k = where_fit (is_text k) Text
+merged_kind Date k = where_fit (is_date k) Date
 
 -- the kind of a branch and those after it
 abbrev pub common_from : Kind → List BoundKind → Checked Kind

@@ -5,3 +5,4 @@ pub mod Values
 pub mod Parts
 pub mod Binding
 pub mod Laws
+pub mod Examples

@@ -1,9 +1,10 @@
 -- What is made of operands that are bound.
-use Rattle.std.specs.Prelude.{ℕ, Bool, true, false, not, ◌&&◌, List, [], ◌∷◌, ◌++◌, length, map, Option, Some, None, Result, Ok, Err, ℤ, pos, neg_ℤ, if◌then◌else◌, nat_le, nat_lt, ◌==◌}
+use Rattle.std.specs.Prelude.{ℕ, ◌^◌, Bool, true, false, ◌&&◌, List, [], ◌∷◌, ◌++◌, length, map, Option, Some, None, Result, Ok, Err, ℤ, pos, neg_ℤ, if◌then◌else◌, nat_le, nat_lt, ok_or}
 use Rattle.std.specs.List.{list_all}
 use Rattle.civil_date.specs.Date.{date_of, number_of}
 use Rattle.civil_date.specs.Move.{moved}
 use Rattle.civil_date.specs.declared.DateFault.{DateFault}
+use Rattle.civil_date.specs.declared.DateFault.TheVariants as fault
 use Rattle.civil_date.specs.declared.moved.IntervalUnit.{IntervalUnit}
 use Rattle.civil_date.specs.declared.moved.IntervalUnit.TheVariants as unit
 use Rattle.refusals.specs.declared.bind.BindRefusal.TheVariants.{TypeMismatch, IntervalOnColumn, BadDate, DateRange}
@@ -44,13 +45,13 @@ typed v k = record { value = v; kind = k; date = None }
 abbrev pub dated : ℕ → Typed
 dated d = record { value = e.Literal (value.Date d); kind = Value kind.Date; date = Some d }
 
--- a date literal's text: BadDate where it spells no date
-abbrev pub dated_by : Option ℕ → Checked Typed
-dated_by None = Err BadDate
-dated_by (Some d) = Ok (dated d)
+-- a date literal's text, as it is read: BadDate where it spells no date
+abbrev pub dated_by : Result ℕ DateFault → Checked Typed
+dated_by (Ok d) = Ok (dated d)
+dated_by (Err fault) = Err BadDate
 
 unfoldable pub date_literal : List ℕ → Checked Typed
-date_literal text = dated_by (date_of text)
+date_literal text = dated_by (ok_or (date_of text) fault.BadDate)
 
 -- - a
 unfoldable pub negative : Typed → Checked Typed
@@ -127,9 +128,14 @@ operated operator c b =
       date = None;
     }))
 
+-- a number of six digits at most
+abbrev pub short_number : Option ℕ → Option ℕ
+short_number None = None
+short_number (Some n) = if nat_lt n (10 ^ 6) then Some n else None
+
 -- an interval's digits, six at most
 abbrev pub interval_count : List ℕ → Option ℕ
-interval_count text = if nat_le (length text) 6 then number_of text else None
+interval_count text = if nat_le (length text) 6 then short_number (number_of text) else None
 
 -- a unit of intervals
 abbrev pub unit_of : Span → IntervalUnit

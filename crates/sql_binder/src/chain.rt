@@ -9,8 +9,8 @@ use crate::kinds::operated_kind;
 use crate::values::{dated, typed};
 use ascii_text::Text;
 use civil_date::{CivilDate, Interval, IntervalUnit};
-use refusals::BindRefusal;
 use operators::Arithmetic;
+use refusals::BindRefusal;
 use scalar_expr::{Expr, Operation};
 use sql_ast::{Adding, Multiplying, Span};
 use sqlite_items::Items;
@@ -82,7 +82,11 @@ fn interval_count(text: &[u8]) -> Option<u32>
         }
         number = 10 * number + (*digit - b'0') as u32;
     }
-    Some(number)
+    if number < 1_000_000 {
+        Some(number)
+    } else {
+        None
+    }
 }
 
 fn unit_of(s: Span) -> IntervalUnit

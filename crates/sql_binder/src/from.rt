@@ -217,7 +217,7 @@ pub fn columns_from(columns: &[ScopeColumn], start: usize) -> &[ScopeColumn]
 
 /// An item that is to be joined to those before it.
 #[tactic(auto, unfolding(crate::specs::Parts::joining))]
-pub fn joining(done: FromRows, o: FromRows) -> Result<Joining, AllocError>
+pub fn begin_join(done: FromRows, o: FromRows) -> Result<Joining, AllocError>
     ensures { IfOk result (λ j. j ≡ spec.joining done o) }
 {
     let FromRows {

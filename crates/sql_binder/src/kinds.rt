@@ -8,8 +8,8 @@ use crate::collected::BoundKind;
 use crate::fault::BindFault;
 use aggregates::AggregateFunction;
 use fixed_decimal::Scale;
-use refusals::BindRefusal;
 use operators::Arithmetic;
+use refusals::BindRefusal;
 use scalar_expr::Kind;
 
 pub fn is_condition(k: BoundKind) -> bool
@@ -83,11 +83,11 @@ pub fn all_conditions(mut all: &[BoundKind]) -> bool
 }
 
 /// Whether values of each can be compared with values of the first.
-pub fn all_fit(a: BoundKind, mut all: &[BoundKind]) -> bool
-    ensures { result ≡ list_all (spec.fits a) all.entry.now }
+pub fn all_fit(a: &BoundKind, mut all: &[BoundKind]) -> bool
+    ensures { result ≡ list_all (spec.fits a.now) all.entry.now }
 {
     'all: while let [k, rest @ ..] = all {
-        if !fits(a, *k) {
+        if !fits(*a, *k) {
             return false;
         }
         all = rest;
@@ -140,32 +140,57 @@ fn result_kind(operator: Arithmetic, s: Scale, t: Scale) -> Result<Kind, BindFau
     }
 }
 
+fn kind_scale(k: Kind) -> Result<Scale, BindFault>
+    ensures { Gives (spec.kind_scale k) result }
+{
+    match k {
+        Kind::Number(s) => Ok(s),
+        Kind::Text | Kind::Date => Err(BindFault::Refused(BindRefusal::TypeMismatch)),
+    }
+}
+
+/// The scale of an operand, which has to be a number.
+fn number_scale(k: BoundKind) -> Result<Scale, BindFault>
+    ensures { Gives (spec.number_scale k) result }
+{
+    let kind = value_kind(k)?;
+    let scale = kind_scale(kind)?;
+    Ok(scale)
+}
+
 /// What an operator gives of two operands.
-pub fn operated_kind(
-    operator: Arithmetic,
-    a: BoundKind,
-    b: BoundKind,
-) -> Result<Kind, BindFault>
+pub fn operated_kind(operator: Arithmetic, a: BoundKind, b: BoundKind) -> Result<Kind, BindFault>
     ensures { Gives (spec.operated_kind operator a b) result }
 {
-    match (a, b) {
-        (BoundKind::Value(Kind::Number(s)), BoundKind::Value(Kind::Number(t))) => {
-            let kind = result_kind(operator, s, t)?;
-            Ok(kind)
-        }
-        _ => Err(BindFault::Refused(BindRefusal::TypeMismatch)),
-    }
+    let s = number_scale(a)?;
+    let t = number_scale(b)?;
+    let kind = result_kind(operator, s, t)?;
+    Ok(kind)
 }
 
 /// The kind of two branches of a CASE.
 fn merged_kind(a: Kind, b: BoundKind) -> Result<Kind, BindFault>
     ensures { Gives (spec.merged_kind a b) result }
 {
-    match (a, b) {
-        (Kind::Number(s), BoundKind::Value(Kind::Number(t))) => Ok(Kind::Number(s.larger(t))),
-        (Kind::Text, BoundKind::Value(Kind::Text)) => Ok(Kind::Text),
-        (Kind::Date, BoundKind::Value(Kind::Date)) => Ok(Kind::Date),
-        _ => Err(BindFault::Refused(BindRefusal::TypeMismatch)),
+    match a {
+        Kind::Number(s) => {
+            let t = number_scale(b)?;
+            Ok(Kind::Number(s.larger(t)))
+        }
+        Kind::Text => {
+            if is_text(b) {
+                Ok(Kind::Text)
+            } else {
+                Err(BindFault::Refused(BindRefusal::TypeMismatch))
+            }
+        }
+        Kind::Date => {
+            if is_date(b) {
+                Ok(Kind::Date)
+            } else {
+                Err(BindFault::Refused(BindRefusal::TypeMismatch))
+            }
+        }
     }
 }
 

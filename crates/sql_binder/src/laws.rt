@@ -1,4 +1,5 @@
 //! Laws of binding. Each function does nothing: its contract is the law.
+ghost use Rattle.sql_binder.specs.Examples.{FirstRefusals, LaterRefusals};
 ghost use Rattle.sql_binder.specs.Laws.{Resolution, OnlyColumn, BoundOrRefused, NotBoth, OneWay};
 
 /// A name is looked for in the innermost query that has it, and nowhere else; and the place that it means there is that of
@@ -13,4 +14,10 @@ pub fn bound_or_refused()
     ensures one { BoundOrRefused }
     ensures apart { NotBoth }
     ensures way { OneWay }
+{}
+
+/// A query for each refusal.
+pub fn worked_refusals()
+    ensures first { FirstRefusals }
+    ensures later { LaterRefusals }
 {}

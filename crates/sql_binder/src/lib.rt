@@ -1,7 +1,6 @@
 //! Names of a query bound to columns: a bound query, or the first refusal.
 #![tactic(auto)]
 
-mod bind;
 mod chain;
 mod collected;
 mod fault;
@@ -11,12 +10,10 @@ pub mod laws;
 mod lists;
 mod names;
 mod scope;
-mod statement;
 mod steps;
 mod syntax;
 mod values;
 mod view;
 
 pub use fault::BindFault;
-pub use statement::{bind, bind_view};
 pub use view::{Header, View, Views};

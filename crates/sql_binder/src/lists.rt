@@ -65,8 +65,9 @@ fn listed(done: Shown, expr: BoundExpr, name: Name, kind: Kind) -> Result<Shown,
 pub fn shown_part(done: Shown, name: Name, p: Part) -> Result<Shown, BindFault>
     ensures { Gives (spec.shown_part done name p) result }
 {
-    match p.kind {
-        BoundKind::Value(kind) => Ok(listed(done, p.expr, name, kind)?),
+    let Part { expr, kind } = p;
+    match kind {
+        BoundKind::Value(kind) => Ok(listed(done, expr, name, kind)?),
         BoundKind::Condition => Err(BindFault::Refused(BindRefusal::TypeMismatch)),
     }
 }

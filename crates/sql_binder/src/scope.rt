@@ -111,7 +111,10 @@ pub fn the_one(wanted: &Column, columns: &[ScopeColumn]) -> Result<Place, BindFa
             if found.is_some() {
                 return Err(BindFault::Refused(BindRefusal::AmbiguousColumn));
             }
-            found = Some(Place { at: narrow(at)?, kind: c.kind });
+            found = Some(Place {
+                at: narrow(at)?,
+                kind: c.kind,
+            });
         }
         at += 1;
         left = rest;

@@ -51,11 +51,18 @@ fn any_aggregate(all: &[Expr]) -> bool
 
 #[cycle(aggregates)]
 #[tactic(auto, using(crate::proofs::Opened::term_is))]
+fn in_term(t: &Term) -> bool
+    ensures { result ≡ (term_meaning t.now).aggregates }
+{
+    aggregates(&t.value)
+}
+
+#[cycle(aggregates)]
 fn any_in_terms(all: &[Term]) -> bool
     ensures { result ≡ spec.any_in_chain (map term_meaning all.now) }
 {
     for t in all {
-        if aggregates(&t.value) {
+        if in_term(t) {
             return true;
         }
     }
@@ -64,11 +71,18 @@ fn any_in_terms(all: &[Term]) -> bool
 
 #[cycle(aggregates)]
 #[tactic(auto, using(crate::proofs::Opened::factor_is))]
+fn in_factor(f: &Factor) -> bool
+    ensures { result ≡ (factor_meaning f.now).aggregates }
+{
+    aggregates(&f.value)
+}
+
+#[cycle(aggregates)]
 fn any_in_factors(all: &[Factor]) -> bool
     ensures { result ≡ spec.any_in_chain (map factor_meaning all.now) }
 {
     for f in all {
-        if aggregates(&f.value) {
+        if in_factor(f) {
             return true;
         }
     }
@@ -77,11 +91,18 @@ fn any_in_factors(all: &[Factor]) -> bool
 
 #[cycle(aggregates)]
 #[tactic(auto, using(crate::proofs::Opened::arm_is))]
+fn in_arm(a: &Arm) -> bool
+    ensures { result ≡ spec.in_arm (arm_meaning a.now) }
+{
+    aggregates(&a.condition) || aggregates(&a.value)
+}
+
+#[cycle(aggregates)]
 fn any_in_arms(all: &[Arm]) -> bool
     ensures { result ≡ spec.any_in_arms (map arm_meaning all.now) }
 {
     for a in all {
-        if aggregates(&a.condition) || aggregates(&a.value) {
+        if in_arm(a) {
             return true;
         }
     }
@@ -89,11 +110,17 @@ fn any_in_arms(all: &[Arm]) -> bool
 }
 
 #[tactic(auto, using(crate::proofs::Opened::item_is))]
+fn in_item(i: &Item) -> bool
+    ensures { result ≡ (item_meaning i.now).aggregates }
+{
+    aggregates(&i.value)
+}
+
 fn any_in_items(mut all: &[Item]) -> bool
     ensures { result ≡ spec.any_in_items (map item_meaning all.entry.now) }
 {
     'all: while let [i, rest @ ..] = all {
-        if aggregates(&i.value) {
+        if in_item(i) {
             return true;
         }
         all = rest;

@@ -11,8 +11,8 @@ use crate::kinds::{
 };
 use ascii_text::Text;
 use civil_date::CivilDate;
-use refusals::BindRefusal;
 use operators::{Comparison, DatePart};
+use refusals::BindRefusal;
 use scalar_expr::{Branch, Expr, Kind};
 use sql_ast::Span;
 use sql_value::Value;
@@ -133,10 +133,14 @@ pub fn liked(alloc: Global, a: Typed, pattern: &Text) -> Result<Typed, BindFault
 pub fn in_list(alloc: Global, a: Typed, list: Operands) -> Result<Typed, BindFault>
     ensures { Gives (spec.in_list a list) result }
 {
-    if !is_value(a.kind) || !all_fit(a.kind, list.kinds.as_slice()) {
+    if !is_value(a.kind) || !all_fit(&a.kind, list.kinds.as_slice()) {
         return Err(BindFault::Refused(BindRefusal::TypeMismatch));
     }
-    Ok(typed(alloc, Expr::InList(a.value, list.values), BoundKind::Condition)?)
+    Ok(typed(
+        alloc,
+        Expr::InList(a.value, list.values),
+        BoundKind::Condition,
+    )?)
 }
 
 /// `not a`
@@ -203,10 +207,16 @@ pub fn first_condition(alloc: Global, a: Typed) -> Result<Conditions, AllocError
 pub fn next_condition(c: Conditions, a: Typed) -> Result<Conditions, BindFault>
     ensures { Gives (spec.next_condition c a) result }
 {
-    if !c.are_conditions || !is_condition(a.kind) {
+    let Conditions {
+        mut values,
+        are_conditions,
+    } = c;
+    if !are_conditions {
         return Err(BindFault::Refused(BindRefusal::TypeMismatch));
     }
-    let mut values = c.values;
+    if !is_condition(a.kind) {
+        return Err(BindFault::Refused(BindRefusal::TypeMismatch));
+    }
     values.push(a.value.into_inner())?;
     Ok(Conditions {
         values,
@@ -260,6 +270,7 @@ pub fn with_operand(done: Operands, a: Typed) -> Result<Operands, AllocError>
 }
 
 /// Each condition with its branch. A CASE of a script has at most 1024 of them.
+#[tactic(auto, using(crate::proofs::Small::branches_of_none))]
 fn branches(
     alloc: Global,
     mut whens: Items<Expr>,
@@ -268,7 +279,10 @@ fn branches(
     ensures { IfOk result (λ bs. bs ≡ spec.branches whens gives) }
 {
     let mut all = Items::new(alloc);
-    'arms: while !whens.is_empty() && !gives.is_empty() {
+    'arms: while !whens.is_empty() {
+        if gives.is_empty() {
+            return Ok(all);
+        }
         all.push(Branch {
             when: whens.remove(0),
             gives: gives.remove(0),
@@ -303,7 +317,8 @@ pub fn case_of(alloc: Global, whens: Operands, gives: Operands) -> Result<Typed,
     ensures { Gives (spec.case_of whens gives) result }
 {
     let other = Boxed::new(alloc, Expr::Literal(Value::Null))?;
-    let t = chosen(alloc, whens, gives.kinds.as_slice(), gives.values, other)?;
+    let Operands { values, kinds } = gives;
+    let t = chosen(alloc, whens, kinds.as_slice(), values, other)?;
     Ok(t)
 }
 

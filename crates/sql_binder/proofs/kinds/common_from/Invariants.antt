@@ -3,7 +3,7 @@ use Rattle.sql_binder.specs.Kinds.{common_from}
 use Rattle.sql_binder.proofs.kinds.common_from.Given as goal
 
 abbrev pub invariant-all : goal.invariant-all
-invariant-all l = common_from l.first l.all ≡ common_from l.kind l.left
+invariant-all l = common_from l.fn.first l.all ≡ common_from l.kind l.left
 
 abbrev pub decreases-all : goal.decreases-all
 decreases-all l = length l.left

@@ -1,0 +1,5 @@
+use Rattle.sql_binder.proofs.ExampleProofs.{first_refusals, later_refusals}
+use Rattle.sql_binder.proofs.laws.worked_refusals.Goals as goal
+
+pub returns : goal.returns
+returns c = record { first = first_refusals; later = later_refusals }
