@@ -1,3 +1,4 @@
 pub mod Fits
+pub mod LiveRows
 pub mod NoRows
 pub mod Opened

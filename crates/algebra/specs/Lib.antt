@@ -1,4 +1,4 @@
 pub mod Aggregates
+pub mod Pieces
 pub mod Plans
-pub mod Ranks
 pub mod Trees

@@ -16,7 +16,7 @@ use Rattle.algebra.specs.declared.aggregate.Aggregate.{Aggregate}
 use Rattle.algebra.specs.declared.node.Node.{Node}
 use Rattle.algebra.specs.declared.node.Node.TheVariants.{Scan, Domain, Select, Project, Join, Outer, Mark, Single, Group, Fill, Distinct}
 use Rattle.aggregates.specs.Values.{written, value_rank}
-use Rattle.algebra.specs.Ranks.{rank_of}
+use Rattle.conditions.specs.Ranks.{rank_of}
 use Rattle.algebra.specs.Aggregates.{aggregates_of}
 use Rattle.algebra.specs.Trees.{Database}
 

@@ -21,7 +21,7 @@ use Rattle.algebra.specs.declared.tree.DepTree.TheOpen.{Scan, Select, Project, J
 use Rattle.algebra.specs.declared.tree.Side.{Side}
 use Rattle.algebra.specs.declared.tree.Side.TheVariants.{Closed, Shared, Dependent}
 use Rattle.aggregates.specs.Values.{written, value_rank}
-use Rattle.algebra.specs.Ranks.{rank_of}
+use Rattle.conditions.specs.Ranks.{rank_of, says}
 use Rattle.algebra.specs.Aggregates.{aggregates_of}
 
 -- the rows of each table
@@ -44,10 +44,6 @@ own_domains (DependentKind cs) = 1
 -- the domain row of a right side, under the domain row d and a left row of the values l
 unfoldable pub right_row : Side → List Value → List Value → List Value
 right_row side d l = side_row Null (side_of side) d l
-
--- what a condition says of a row under the domain row d
-unfoldable pub says : Expr → List Value → List Value → ℕ
-says e d row = rank_of e (d ++ row)
 
 -- a select list over a row under the domain row d
 unfoldable pub listed : List Expr → List Value → List Value → List Value

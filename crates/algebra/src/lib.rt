@@ -4,13 +4,20 @@
 mod aggregate;
 mod copy;
 mod node;
+mod piece;
 mod plan;
 mod steps;
+mod tables;
 mod tree;
 
 pub use aggregate::{Aggregate, values_of_none};
 pub use copy::{copy_aggregates, copy_expr, copy_exprs};
 pub use node::{Node, NodeId};
-pub use plan::{Builder, FlatPlan, SortKey};
+pub use piece::Piece;
+pub use plan::{Builder, FlatPlan};
 pub use steps::Steps;
+pub use tables::Tables;
 pub use tree::{DepTree, Side, width};
+
+#[cfg(test)]
+mod tests;

@@ -3,17 +3,9 @@ ghost use Rattle.std.specs.Prelude.{◌≡◌, [], ◌∷◌, ◌++◌, length, 
 ghost use Rattle.algebra.specs.Plans.{fits, is_formed};
 
 use crate::node::{Node, NodeId};
+use order_limit::OrderKey;
 use sqlite_items::Items;
 use std::alloc::{AllocError, Global};
-
-/// A column of the result by which an answer is ordered.
-#[derive(Clone, Copy, Debug, PartialEq, Eq)]
-pub struct SortKey {
-    /// The place of the column, from 0.
-    pub column: u32,
-    /// Whether the order is turned round.
-    pub is_descending: bool,
-}
 
 /// A plan in which no node depends on the rows of another: each names nodes before it. The last node's rows are the result.
 #[derive(Drop)]
@@ -21,7 +13,7 @@ pub struct FlatPlan {
     /// The nodes, each after those that it names.
     pub nodes: Items<Node>,
     /// The keys of ORDER BY; none where it is absent.
-    pub order: Items<SortKey>,
+    pub order: Items<OrderKey>,
     /// How many rows the answer has at most; nothing where no limit stands.
     pub limit: Option<u64>,
 
@@ -62,7 +54,7 @@ impl Builder {
     }
 
     /// The plan of the nodes so far, with an order and a row limit.
-    pub fn finish(self, order: Items<SortKey>, limit: Option<u64>) -> FlatPlan
+    pub fn finish(self, order: Items<OrderKey>, limit: Option<u64>) -> FlatPlan
         ensures nodes { result.nodes ≡ self.nodes }
         ensures order { result.order ≡ order }
         ensures limit { result.limit ≡ limit }

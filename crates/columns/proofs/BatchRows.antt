@@ -10,7 +10,7 @@ use Rattle.sql_value.specs.declared.value.Value.{Value}
 use Rattle.sql_value.specs.declared.value.Value.TheVariants.{Null}
 use Rattle.sql_value.specs.Truth.{standing_rank}
 use Rattle.columns.specs.Lists.{gathered, AreBelow}
-use Rattle.columns.specs.Batches.{cells, rows_from, column_relation, put_row, AreLong, row_at, column_at}
+use Rattle.columns.specs.Batches.{cells, rows_from, column_relation, put_row, AreLong, row_at, column_at, projected}
 
 pub length-rows_from : (cs : List (List Value)) (k : ℕ) (ss : List Standing) → length (rows_from cs k ss) ≡ length ss
 unfolding rows_from
@@ -184,6 +184,50 @@ relation_made old cs new ss picked places o h e f =
     ap (λ x. column_relation x picked) e ∙ ap (column_relation (map (λ c. gathered Null c places) cs)) f in
     (w, ap (λ r. r.rows) n ∙ relation-gathered cs ss places b ∙ sym (ap (λ r. gathered (ranked [] true_rank) r.rows places) o))
 
+-- each row has a value of each column
+wide_from : (cs : List (List Value)) (k : ℕ) (ss : List Standing) → All (λ r. length r.values ≡ length cs) (rows_from cs k ss)
+unfolding rows_from
+wide_from cs k [] j d h = absurd (omega (arith, h))
+wide_from cs k (s ∷ ss) zero d h = length-map cs (λ c. get_or c k Null)
+wide_from cs k (s ∷ ss) (suc j) d h = wide_from cs (suc k) ss j d (omega (arith, h))
+
+pub relation-wide : (cs : List (List Value)) (ss : List Standing) → All (λ r. length r.values ≡ (column_relation cs ss).width) (column_relation cs ss).rows
+unfolding column_relation
+relation-wide cs ss = wide_from cs 0 ss
+
+-- some of the columns
+cells_picked : (cs : List (List Value)) (places : List ℕ) (i : ℕ) → AreBelow (length cs) places → cells (gathered [] cs places) i ≡ gathered Null (cells cs i) places
+cells_picked cs [] i h = refl
+cells_picked cs (j ∷ places) i h =
+    rw (cells_picked cs places i (λ k d l. h (suc k) d (omega (arith, l))), get_or-map (λ c. get_or c i Null) cs j [] Null (h 0 0 (omega arith))) refl
+
+rows_picked : (cs : List (List Value)) (places : List ℕ) (k : ℕ) (ss : List Standing) → AreBelow (length cs) places
+    → rows_from (gathered [] cs places) k ss ≡ map (projected places) (rows_from cs k ss)
+unfolding rows_from
+rows_picked cs places k [] h = refl
+rows_picked cs places k (s ∷ ss) h = rw (cells_picked cs places k h, rows_picked cs places (suc k) ss h) refl
+
+long_picked : (n : ℕ) (cs : List (List Value)) (places : List ℕ) → AreLong n cs → AreBelow (length cs) places → AreLong n (gathered [] cs places)
+unfolding AreLong
+long_picked n cs [] a h = tt
+long_picked n cs (j ∷ places) a h = (long_at n cs j [] a (h 0 0 (omega arith)), long_picked n cs places a (λ k d l. h (suc k) d (omega (arith, l))))
+
+pub picked_long : (old : Relation Value) (cs new : List (List Value)) (ss more : List Standing) (places : List ℕ) → old ≡ column_relation cs ss → AreLong (length ss) cs
+    → AreBelow old.width places → new ≡ gathered [] cs places → more ≡ ss → AreLong (length more) new
+picked_long old cs new ss more places o a h e f =
+    let b : AreBelow (length cs) places = subst (λ n. AreBelow n places) (ap (λ r. r.width) o ∙ relation-width cs ss) h in
+    rw (e, f) (long_picked (length ss) cs places a b)
+
+pub projected_made : (old : Relation Value) (cs new : List (List Value)) (ss more : List Standing) (places : List ℕ) → old ≡ column_relation cs ss
+    → AreBelow old.width places → new ≡ gathered [] cs places → more ≡ ss
+    → ((column_relation new more).width ≡ length places) × ((column_relation new more).rows ≡ map (projected places) old.rows)
+unfolding column_relation
+projected_made old cs new ss more places o h e f =
+    let b : AreBelow (length cs) places = subst (λ n. AreBelow n places) (ap (λ r. r.width) o) h in (
+      ap length e ∙ length-map places (λ j. get_or cs j []),
+      ap (λ x. rows_from x 0 more) e ∙ ap (λ x. rows_from (gathered [] cs places) 0 x) f ∙ rows_picked cs places 0 ss b ∙ ap (λ r. map (projected places) r.rows) (sym o),
+    )
+
 -- the same of lists that are known by equations
 pub long_pushed : (cs new : List (List Value)) (vs : List Value) (ss more : List Standing) (s : Standing) → AreLong (length ss) cs → length vs ≡ length cs
     → new ≡ put_row cs vs → more ≡ ss ++ s ∷ [] → AreLong (length more) new
@@ -202,4 +246,4 @@ without_last ss s n e = rw e (take-append_seam ss (s ∷ []))
 pub cleared : (cs : List (List Value)) (ss : List Standing) → All (λ c. c ≡ []) cs → AreLong (length (take 0 ss)) cs
 cleared cs ss h = long_nil cs h
 
-pub ruleset batches = (long_pushed, relation_pushed, without_last, cleared, length-put_row, long_to, long_nil, relation-nil, relation-width, relation-length, relation-push, relation-values, relation-standing, long_read, cell_at, long_below, long_holds, relation-column, long_gathered, relation-gathered)
+pub ruleset batches = (relation-wide, long_pushed, relation_pushed, without_last, cleared, length-put_row, long_to, long_nil, relation-nil, relation-width, relation-length, relation-push, relation-values, relation-standing, long_read, cell_at, long_below, long_holds, relation-column, long_gathered, relation-gathered)

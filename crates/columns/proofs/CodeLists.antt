@@ -1,10 +1,10 @@
 -- Lemmas on texts as places of a dictionary.
-use Rattle.std.proofs.Common.{◌≡◌, ℕ, ◌+◌, ◌<◌, ◌≤◌, suc, zero, List, [], ◌∷◌, ◌++◌, refl, sym, ap, ◌∙◌, subst, arith, length, get_or, take, map, Bool, true, ◌==◌}
+use Rattle.std.proofs.Common.{◌≡◌, ℕ, ◌+◌, ◌<◌, ◌≤◌, suc, zero, List, [], ◌∷◌, ◌++◌, refl, sym, ap, ◌∙◌, subst, arith, length, get_or, take, map, Bool, true, ◌==◌, replicate}
 use Rattle.std.specs.List.{All}
 use Rattle.std.proofs.lemmas.List.{get_or-map, get_or_append_left, get_or_push, length-map, map-append, take-map}
-use Rattle.std.proofs.lemmas.List.Elements.{All-push, All-take}
+use Rattle.std.proofs.lemmas.List.Elements.{All-push, All-take, All-replicate}
 use Rattle.std.specs.Cmp.Lexicographic.{pointwise, pointwise_decides, bytes_decides}
-use Rattle.columns.proofs.ColumnLists.{map-gathered}
+use Rattle.columns.proofs.ColumnLists.{map-gathered, map-replicate}
 use Rattle.columns.specs.Lists.{gathered, AreBelow}
 
 pub gathered-length : {A : Type 0} (d : A) (xs : List A) (places : List ℕ) → length (gathered d xs places) ≡ length places
@@ -56,8 +56,15 @@ codes_gathered texts new seen inner picked outer s n p h l =
     let b : AreBelow (length inner) outer = subst (λ k. AreBelow k outer) m l in
     rw (n, p, s) (below-gathered (length texts) inner outer h b, gathered-gathered [] texts inner outer b)
 
+-- the first element many times
+pub gathered-first : {A : Type 0} (d x : A) (n : ℕ) → gathered d (x ∷ []) (replicate n 0) ≡ replicate n x
+gathered-first d x n = map-replicate (λ i. get_or (x ∷ []) i d) n 0
+
+pub below-first : (m n : ℕ) → 0 < m → AreBelow m (replicate n 0)
+below-first m n h = All-replicate (λ i. i < m) n 0 h
+
 -- texts that pass the test of equality are the same
 pub same_texts : (xs ys : List (List ℕ)) (r : Bool) → r ≡ pointwise (pointwise ◌==◌) xs ys → r ≡ true → xs ≡ ys
 same_texts xs ys r e t = (pointwise_decides bytes_decides xs ys).0 (sym e ∙ t)
 
-pub ruleset codes = (same_texts, gathered-take, below-take, gathered-length, gathered-at, gathered-push, gathered-added, below-push)
+pub ruleset codes = (gathered-first, below-first, same_texts, gathered-take, below-take, gathered-length, gathered-at, gathered-push, gathered-added, below-push)

@@ -1,9 +1,13 @@
 -- Lemmas on lists taken by place.
-use Rattle.std.proofs.Common.{◌≡◌, ◌<◌, ℕ, suc, List, [], ◌∷◌, refl, ap, arith, length, map, get_or, None}
-use Rattle.std.proofs.lemmas.List.{get_or-map, get_or_default, take-map, length-map}
+use Rattle.std.proofs.Common.{◌≡◌, ◌<◌, ℕ, suc, zero, List, [], ◌∷◌, refl, ap, arith, length, map, get_or, None, replicate}
+use Rattle.std.proofs.lemmas.List.{get_or-map, get_or_default, take-map, length-map, replicate_more}
 use Rattle.sql_value.specs.declared.value.Value.TheVariants.{Null, Date, Text}
 use Rattle.columns.specs.Lists.{gathered, AreBelow}
 use Rattle.columns.specs.Numbers.{small_number}
+
+pub map-replicate : {A B : Type 0} (f : A → B) (n : ℕ) (x : A) → map f (replicate n x) ≡ replicate n (f x)
+map-replicate f zero x = refl
+map-replicate f (suc n) x = ap (λ ys. f x ∷ ys) (map-replicate f n x)
 
 -- what f makes of the elements at these places
 pub map-gathered : {A B : Type 0} (f : A → B) (d : A) (e : B) (xs : List A) (places : List ℕ) → AreBelow (length xs) places
@@ -24,3 +28,5 @@ pub ruleset numbers = (no_number_of_dates, no_number_of_texts)
 pub ruleset lists = (map-gathered)
 
 pub ruleset cuts = (take-map)
+
+pub ruleset repeats = (map-replicate, replicate_more)

@@ -54,4 +54,8 @@ length-standing plain = length-map plain (λ vs. ranked vs true_rank)
 pub no_cell : (plain : List (List Value)) (n i j : ℕ) → All (λ row. length row ≡ n) plain → i < length plain → n ≤ j → small_number (get_or (get_or plain i []) j Null) ≡ None
 no_cell plain n i j w h l = rw (get_or_past (get_or plain i []) j Null (omega (arith, l, w i [] h))) refl
 
-pub ruleset segments = (stored-row, stored-cell, length-standing, no_cell, stored-rows, stored-wide, stored-some, stored-most, length-plain)
+pub is_stored : (batch : Relation Value) → 0 < length batch.rows → length batch.rows ≤ 4096 → All (λ r. r.standing ≡ true_rank) batch.rows
+    → All (λ r. length r.values ≡ batch.width) batch.rows → IsStored batch
+is_stored batch s m t w = record { some = s; most = m; stand = t; wide = w }
+
+pub ruleset segments = (is_stored, stored-row, stored-cell, length-standing, no_cell, stored-rows, stored-wide, stored-some, stored-most, length-plain)

@@ -11,7 +11,7 @@ use Rattle.columns.specs.Batches.{row_at}
 use Rattle.columns.specs.Fields.{field_value}
 use Rattle.columns.specs.declared.field.Field.{Field}
 use Rattle.columns.specs.Numbers.{small_number}
-use Rattle.columns.specs.Tables.{Table, table_under_way, AreFull, IsOpen, IsStored, plain_rows}
+use Rattle.columns.specs.Tables.{Table, table_under_way, AreFull, IsOpen, plain_rows}
 use Rattle.columns.proofs.RowLists.{one_list-push, one_list-at, length-full}
 
 pub table-width : (full : List (List (List Value))) (rest : Relation Value) → (table_under_way full rest).width ≡ rest.width
@@ -92,8 +92,11 @@ open-same batch new o w e = record {
   wide = subst (λ n. All (λ r. length r.values ≡ n) new.rows) (sym w) (subst (All (λ r. length r.values ≡ batch.width)) (sym e) o.wide);
 }
 
-pub stored-open : (batch : Relation Value) → IsOpen batch → 0 < length batch.rows → IsStored batch
-stored-open batch o h = record { some = h; most = o.most; stand = o.stand; wide = o.wide }
+pub open-most : (batch : Relation Value) → IsOpen batch → length batch.rows ≤ 4096
+open-most batch o = o.most
+
+pub open-stand : (batch : Relation Value) → IsOpen batch → All (λ r. r.standing ≡ true_rank) batch.rows
+open-stand batch o = o.stand
 
 -- a row of a full segment, and one of those that come after them
 pub row-full : (full : List (List (List Value))) (rest : Relation Value) (i q r : ℕ) → AreFull full → q ≡ i / 4096 → r ≡ i % 4096 → q < length full
@@ -138,4 +141,4 @@ number_rest table full rest i j left r t f h l m e =
     (sym (row-open full rest i left f m o (omega (arith, l, n, m, o)))
     ∙ ap (λ x. get_or x.rows i []) (sym t))
 
-pub ruleset tables = (fields-open, full-length, no_rest, table-width, table-rows, table-nil, table-length, table-push, table-same, table-closed, full-nil, full-push, open-nil, open-push, open-same, stored-open)
+pub ruleset tables = (fields-open, full-length, no_rest, table-width, table-rows, table-nil, table-length, table-push, table-same, table-closed, full-nil, full-push, open-nil, open-push, open-same, open-most, open-stand)

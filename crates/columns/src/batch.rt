@@ -72,7 +72,8 @@ impl Batch {
 
     /// How many values each row has.
     pub fn width(&self) -> usize
-        ensures { result ≡ self.now.width }
+        ensures value { result ≡ self.now.width }
+        ensures wide { All (λ r. length r.values ≡ self.now.width) self.now.rows }
     {
         self.columns.len()
     }
@@ -136,6 +137,17 @@ impl Batch {
     {
         let columns = gather_columns(alloc, self.columns.as_slice(), places)?;
         let standings = self.standings.gather(alloc, places)?;
+        Ok(Batch { columns, standings })
+    }
+
+    /// The rows of these columns alone, in this order: further shares of stored columns, copies of others.
+    pub fn project(&self, alloc: Global, places: &[u32]) -> Result<Batch, AllocError>
+        requires { AreBelow self.now.width places.now }
+        ensures width { IfOk result (λ b. b.width ≡ length places.now) }
+        ensures rows { IfOk result (λ b. b.rows ≡ map (projected places.now) self.now.rows) }
+    {
+        let columns = picked_columns(alloc, self.columns.as_slice(), places)?;
+        let standings = self.standings.copy(alloc)?;
         Ok(Batch { columns, standings })
     }
 
@@ -220,6 +232,23 @@ fn shared_columns(alloc: Global, columns: &[Column]) -> Result<Vec<Column>, Allo
         out.push(column)?;
     }
     Ok(out)
+}
+
+// The columns at these places.
+fn picked_columns(
+    alloc: Global,
+    columns: &[Column],
+    places: &[u32],
+) -> Result<Vec<Column>, AllocError>
+    requires { AreBelow (length columns.now) places.now }
+    ensures { IfOk result (λ v. v.items ≡ gathered [] columns.now places.now) }
+{
+    let mut picked = Vec::with_capacity(alloc, places.len())?;
+    for place in places {
+        let column = columns[*place as usize].share(alloc)?;
+        picked.push(column)?;
+    }
+    Ok(picked)
 }
 
 // Each column at these places.

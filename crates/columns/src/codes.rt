@@ -1,5 +1,5 @@
 //! Texts as places of a dictionary that they share.
-ghost use Rattle.std.specs.Prelude.{◌≡◌, ◌<◌, ◌≤◌, ◌++◌, ◌∷◌, [], IfOk, IfSome, OnErr, length, take, if◌then◌else◌, slice_index_or};
+ghost use Rattle.std.specs.Prelude.{◌≡◌, ◌<◌, ◌≤◌, ◌++◌, ◌∷◌, [], IfOk, IfSome, OnErr, length, take, if◌then◌else◌, slice_index_or, replicate};
 ghost use Rattle.std.specs.Arc.{arc_value};
 ghost use Rattle.ascii_text.specs.Printable.{AllPrintable};
 ghost use Rattle.columns.specs.Lists.{gathered, AreBelow};
@@ -43,6 +43,17 @@ impl Codes {
             codes: Vec::new(alloc),
             dictionary,
         })
+    }
+
+    /// The same text so many times.
+    pub(crate) fn repeated(alloc: Global, text: &[u8], n: usize) -> Result<Codes, AllocError>
+        requires { AllPrintable text.now }
+        ensures { IfOk result (λ c. c ≡ replicate n text.now) }
+    {
+        let dictionary = Dictionary::new(alloc)?.with(alloc, text)?;
+        let dictionary = Arc::new(alloc, dictionary)?;
+        let codes = Vec::from_elem(alloc, 0u8, n)?;
+        Ok(Codes { codes, dictionary })
     }
 
     /// How many there are.

@@ -7,7 +7,7 @@ ghost use Rattle.columns.specs.Numbers.{small_number};
 ghost use Rattle.columns.specs.Shown.{shown, kept_values};
 
 use crate::dictionary::Dictionary;
-use crate::form::{Form, form_at, form_len, form_number, gather, stored};
+use crate::form::{Form, form_at, form_len, form_number, gather, repeated, stored};
 use civil_date::CivilDate;
 use fixed_decimal::Scale;
 use sql_value::Value;
@@ -58,6 +58,14 @@ impl Column {
         ensures { result ≡ values.items }
     {
         Column::own(Form::Values(values))
+    }
+
+    /// The same value so many times.
+    pub fn repeated(alloc: Global, value: &Value, n: usize) -> Result<Column, AllocError>
+        ensures { IfOk result (λ c. c ≡ replicate n value.now) }
+    {
+        let form = repeated(alloc, value, n)?;
+        Ok(Column::own(form))
     }
 
     // A column that shares nothing.

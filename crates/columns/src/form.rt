@@ -1,11 +1,13 @@
 //! How a column keeps its values, and how they are read.
-ghost use Rattle.std.specs.Prelude.{◌≡◌, ◌<◌, ◌≤◌, ◌++◌, ◌∷◌, [], IfOk, IfSome, OnErr, length, take, slice_index_or, map};
+ghost use Rattle.std.specs.Prelude.{◌≡◌, ◌<◌, ◌≤◌, ◌++◌, ◌∷◌, [], IfOk, IfSome, OnErr, length, take, slice_index_or, map, replicate};
 ghost use Rattle.sql_value.specs.declared.value.Value.TheVariants.{Null, Number, Date as DateOf, Text as TextOf};
 ghost use Rattle.columns.specs.Lists.{gathered, AreBelow};
+ghost use Rattle.columns.specs.Fields.{field_value, IsPrintableField};
 ghost use Rattle.columns.specs.Numbers.{small_number};
 ghost use Rattle.columns.specs.Shown.{shown};
 
 use crate::codes::Codes;
+use crate::field::{Field, field_of};
 use crate::places::copies;
 use crate::texts::Texts;
 use civil_date::CivilDate;
@@ -79,6 +81,54 @@ fn small_number(value: &Value) -> Option<i64>
         Value::Number(_, coefficient) => i64::try_from(*coefficient).ok(),
         _ => None,
     }
+}
+
+/// The same value so many times.
+pub(crate) fn repeated(alloc: Global, value: &Value, n: usize) -> Result<Form, AllocError>
+    ensures { IfOk result (λ f. shown f ≡ replicate n value.now) }
+{
+    match field_of(value) {
+        Some(field) => repeated_field(alloc, &field, n),
+        None => {
+            let values = repeated_value(alloc, value, n)?;
+            Ok(Form::Values(values))
+        }
+    }
+}
+
+// The same field so many times.
+#[tactic(auto, using(crate::proofs::ColumnLists::repeats))]
+fn repeated_field(alloc: Global, field: &Field<'_>, n: usize) -> Result<Form, AllocError>
+    requires { IsPrintableField field.now }
+    ensures { IfOk result (λ f. shown f ≡ replicate n (field_value field.now)) }
+{
+    match field {
+        Field::Number(scale, number) => {
+            let numbers = Vec::from_elem(alloc, *number, n)?;
+            Ok(Form::Numbers(*scale, numbers))
+        }
+        Field::Date(date) => {
+            let dates = Vec::from_elem(alloc, *date, n)?;
+            Ok(Form::Dates(dates))
+        }
+        Field::Text(text) => {
+            let codes = Codes::repeated(alloc, text, n)?;
+            Ok(Form::Coded(codes))
+        }
+    }
+}
+
+// The same value so many times, each a value of its own.
+#[tactic(auto, using(crate::proofs::ColumnLists::repeats))]
+fn repeated_value(alloc: Global, value: &Value, n: usize) -> Result<Vec<Value>, AllocError>
+    ensures { IfOk result (λ v. v.items ≡ replicate n value.now) }
+{
+    let mut values = Vec::with_capacity(alloc, n)?;
+    for _i in 0..n {
+        let copy = value.clone()?;
+        values.push(copy)?;
+    }
+    Ok(values)
 }
 
 /// All values, of whatever kind.

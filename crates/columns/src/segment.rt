@@ -3,6 +3,7 @@ ghost use Rattle.std.specs.Prelude.{◌≡◌, ◌<◌, ◌≤◌, ◌++◌, [],
 ghost use Rattle.std.specs.List.{All};
 ghost use Rattle.sql_value.specs.declared.value.Value.TheVariants.{Null};
 ghost use Rattle.columns.specs.Numbers.{small_number};
+ghost use Rattle.row_laws.specs.Ranked.{true_rank};
 ghost use Rattle.columns.specs.Tables.{IsStored, plain_rows, standing_rows};
 
 use crate::batch::Batch;
@@ -36,11 +37,15 @@ impl Model for Segment {
 
 #[tactic(auto, using(crate::proofs::SegmentLists::segments))]
 impl Segment {
-    // The segment of this batch.
-    pub(crate) fn new(alloc: Global, batch: Batch) -> Result<Segment, AllocError>
-        requires { IsStored batch }
+    /// The segment of this batch.
+    pub fn new(alloc: Global, batch: Batch) -> Result<Segment, AllocError>
+        requires some { 0 < length batch.rows }
+        requires most { length batch.rows ≤ 4096 }
+        requires stand { All (λ r. r.standing ≡ true_rank) batch.rows }
         ensures { IfOk result (λ s. s ≡ plain_rows batch.rows) }
     {
+        // A batch tells that each row is of its width.
+        let _width = batch.width();
         let batch = Arc::new(alloc, batch)?;
         Ok(Segment { batch })
     }

@@ -1,67 +1,83 @@
 //! Each call that takes memory once, and the forms that columns change to.
+ghost use Rattle.std.specs.Prelude.{IsTrue};
+ghost use Rattle.columns.specs.Lists.{AreBelow};
+
 use super::*;
 use ascii_text::Text;
 use civil_date::CivilDate;
 use fixed_decimal::Scale;
-use sql_value::{Fault, Row, Standing, Truth, Value};
+use sql_value::{Fault, Standing, Truth, Value};
 use std::alloc::Global;
 use std::test::Fail;
 
-fn text(alloc: Global, bytes: &[u8]) -> Result<Value, Fail> {
-    let text = Text::new(alloc, bytes)?;
-    Ok(Value::Text(text))
+fn is_at(alloc: Global, column: &Column, i: usize, value: &Value) -> Result<bool, Fail> {
+    if i >= column.len() {
+        return Ok(false);
+    }
+    let found = column.at(alloc, i)?;
+    Ok(found.is_identical(value))
+}
+
+fn are_below(most: usize, places: &[u32]) -> bool
+    ensures { IsTrue result → AreBelow most places.now }
+{
+    places.iter().all(|place| (*place as usize) < most)
+}
+
+fn picked(alloc: Global, column: &Column, places: &[u32]) -> Result<Column, Fail> {
+    if !are_below(column.len(), places) {
+        return Ok(Column::from_values(Vec::new(alloc)));
+    }
+    let column = column.gather(alloc, places)?;
+    Ok(column)
 }
 
 #[test]
 fn takes_any_value(rt: HostRuntime) -> Result<(), Fail> {
     let alloc = rt.alloc();
     let money = Scale::new(2);
+    let price = Value::Number(money, 125);
     let mut builder = ColumnBuilder::new(alloc, ColumnForm::Numbers(money))?;
     builder.push_field(alloc, &Field::Number(money, 125))?;
     assert!(rt; builder.stored(alloc)?.as_numbers().is_some());
     builder.push(alloc, &Value::Null)?;
-    let column = builder.finish();
-    assert_eq!(rt; column.len(), 2);
-    assert!(rt; column.at(alloc, 0)? == Value::Number(money, 125));
-    let picked = column.gather(alloc, &[1, 0])?;
-    assert!(rt; picked.at(alloc, 0)? == Value::Null);
+    let turned = picked(alloc, &builder.finish(), &[1, 0])?;
+    assert!(rt; is_at(alloc, &turned, 0, &Value::Null)?);
     let mut all = ColumnBuilder::new(alloc, ColumnForm::Dates)?;
-    all.append(alloc, &picked)?;
-    assert!(rt; all.finish().share(alloc)?.at(alloc, 1)? == Value::Number(money, 125));
+    all.append(alloc, &turned)?;
+    assert!(rt; is_at(alloc, &all.finish().share(alloc)?, 1, &price)?);
+    assert!(rt; is_at(alloc, &Column::repeated(alloc, &price, 3)?, 2, &price)?);
     Ok(())
+}
+
+fn many_texts(alloc: Global, texts: u8) -> Result<ColumnBuilder, Fail> {
+    let mut builder = ColumnBuilder::new(alloc, ColumnForm::Texts)?;
+    for first in b'A'..b'Z' {
+        for second in 0..texts {
+            let text = Text::new(alloc, &[first, b'a'.wrapping_add(second)])?;
+            builder.push(alloc, &Value::Text(text))?;
+        }
+    }
+    Ok(builder)
 }
 
 #[test]
 fn spells_many_texts(rt: HostRuntime) -> Result<(), Fail> {
     let alloc = rt.alloc();
-    let mut builder = ColumnBuilder::new(alloc, ColumnForm::Texts)?;
-    for first in b'A'..=b'Z' {
-        for second in b'a'..=b'j' {
-            builder.push_field(alloc, &Field::Text(&[first, second]))?;
-        }
-        assert!(rt; (first <= b'Y') == builder.stored(alloc)?.as_codes().is_some());
-    }
-    let column = builder.finish();
-    assert_eq!(rt; column.len(), 260);
-    assert!(rt; column.at(alloc, 12)? == text(alloc, b"Bc")?);
-    assert!(rt; column.at(alloc, 259)? == text(alloc, b"Zj")?);
+    assert!(rt; many_texts(alloc, 10)?.stored(alloc)?.as_codes().is_some());
+    let column = many_texts(alloc, 11)?.stored(alloc)?;
+    assert!(rt; column.as_codes().is_none());
+    let text = Text::new(alloc, b"Yk")?;
+    assert!(rt; is_at(alloc, &column, 274, &Value::Text(text))?);
     Ok(())
 }
 
-fn one_row(alloc: Global, rows: usize) -> Result<Rows, Fail> {
-    let forms = [
-        ColumnForm::Numbers(Scale::WHOLE),
-        ColumnForm::Texts,
-        ColumnForm::Dates,
-    ];
+fn many_rows(alloc: Global, n: u16) -> Result<Rows, Fail> {
+    let forms = [ColumnForm::Numbers(Scale::WHOLE), ColumnForm::Dates];
     let day = CivilDate::read(b"1996-02-29")?;
     let mut builder = RowsBuilder::new(alloc, &forms)?;
-    for i in 0..rows {
-        let row = [
-            Field::Number(Scale::WHOLE, i as i64),
-            Field::Text(b"TRUCK"),
-            Field::Date(day),
-        ];
+    for i in 0..n {
+        let row = [Field::Number(Scale::WHOLE, i64::from(i)), Field::Date(day)];
         if builder.width() == row.len() {
             builder.push(alloc, &row)?;
         }
@@ -73,44 +89,48 @@ fn one_row(alloc: Global, rows: usize) -> Result<Rows, Fail> {
 #[test]
 fn stores_rows(rt: HostRuntime) -> Result<(), Fail> {
     let alloc = rt.alloc();
-    let rows = one_row(alloc, 4097)?;
+    let rows = many_rows(alloc, 4097)?;
     assert_eq!(rt; rows.len(), 4097);
     assert_eq!(rt; rows.segments().len(), 2);
-    let copied = stored_rows(alloc, rows.clone()?.to_rows(alloc)?.as_slice())?;
-    assert_eq!(rt; copied.len(), 4097);
-    if copied.len() == 4097 {
-        let last = copied.row(alloc, 4096)?;
-        assert!(rt; last[0] == Value::Number(Scale::WHOLE, 4096));
-        assert!(rt; last[1] == text(alloc, b"TRUCK")?);
+    let again = stored_rows(alloc, rows.clone()?.to_rows(alloc)?.as_slice())?;
+    assert_eq!(rt; again.len(), 4097);
+    if again.len() == 4097 {
+        let number = Value::Number(Scale::WHOLE, 4096);
+        assert!(rt;
+            matches!(again.row(alloc, 4096)?.first(), Some(found) if found.is_identical(&number))
+        );
     }
     Ok(())
+}
+
+fn two_rows(alloc: Global) -> Result<Batch, Fail> {
+    let mut builder = BatchBuilder::new(alloc, &[ColumnForm::Values])?;
+    let fault = Standing::AtFault(Fault::NumberRange);
+    if builder.width() == 1 {
+        builder.push_row(alloc, &[Value::Null], Standing::AtTrue)?;
+    }
+    if builder.width() == 1 {
+        builder.push_row(alloc, &[Value::Fault(Fault::DivideByZero)], fault)?;
+    }
+    let batch = builder.finish(alloc)?;
+    Ok(batch)
 }
 
 #[test]
 fn selects_rows(rt: HostRuntime) -> Result<(), Fail> {
     let alloc = rt.alloc();
-    let mut builder = BatchBuilder::new(alloc, &[ColumnForm::Values])?;
-    let fault = Standing::AtFault(Fault::NumberRange);
-    builder.push_row(alloc, &[Value::Null], Standing::AtTrue)?;
-    builder.push_row(alloc, &[Value::Fault(Fault::DivideByZero)], fault)?;
-    let batch = builder.finish(alloc)?;
-    let kept = batch.select(alloc, &[Truth::Unknown, Truth::Stands(Standing::AtTrue)])?;
-    assert_eq!(rt; kept.len(), 1);
-    assert!(rt; kept.standing(0) == fault);
-    assert!(rt; kept.row(alloc, 0)?[0] == Value::Fault(Fault::DivideByZero));
-    let again = batch.share(alloc)?.gather(alloc, &[1, 0])?;
-    assert!(rt; again.row(alloc, 1)?[0] == Value::Null);
-    let mut bag = Bag::new(alloc, 1);
-    bag.push(again)?;
-    assert_eq!(rt; bag.len(), 2);
-    Ok(())
-}
-
-#[test]
-fn shares_tables(rt: HostRuntime) -> Result<(), Fail> {
-    let alloc = rt.alloc();
-    let row = Row::from_slice(alloc, &[Value::Null])?;
-    let rows = stored_rows(alloc, &[row])?;
-    assert_eq!(rt; rows.len(), 1);
+    let batch = two_rows(alloc)?.share(alloc)?;
+    let truths = [Truth::Unknown, Truth::Stands(Standing::AtTrue)];
+    assert_eq!(rt; batch.len(), 2);
+    if batch.len() == truths.len() {
+        let kept = batch.select(alloc, &truths)?;
+        assert_eq!(rt; kept.len(), 1);
+        if kept.len() == 1 {
+            assert!(rt; kept.standing(0) == Standing::AtFault(Fault::NumberRange));
+        }
+        let mut bag = Bag::new(alloc, kept.width());
+        bag.push(kept)?;
+        assert_eq!(rt; bag.len(), 1);
+    }
     Ok(())
 }

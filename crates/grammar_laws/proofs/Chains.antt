@@ -3,8 +3,8 @@ use Rattle.std.proofs.Common.{◌≡◌, ℕ, zero, suc, Bool, true, false, cond
 use Rattle.std.proofs.lemmas.List.{length-append}
 use Rattle.std.proofs.lemmas.Bool.{eqb-true}
 use Rattle.std.proofs.lemmas.Bool.Decides.{nat_tests}
-use Rattle.grammar_laws.specs.declared.refusal.Refusal.{Refusal}
-use Rattle.grammar_laws.specs.declared.refusal.Refusal.TheVariants.{TooWide}
+use Rattle.grammar_laws.specs.declared.fault.SyntaxFault.{SyntaxFault}
+use Rattle.grammar_laws.specs.declared.fault.SyntaxFault.TheVariants.{TooWide}
 use Rattle.grammar_laws.specs.Marks.{Mark, tokens, element}
 use Rattle.grammar_laws.specs.Lines.{Empty, Then, Or, less, Element, Links, none, more}
 use Rattle.grammar_laws.specs.Readings.{Outcome, crowded, crowd, links}
@@ -52,7 +52,7 @@ module _ {T : Type 0} where
 
   module _ {A : Type 0} (G : List (Mark T) → A → Type 0) (p : List T → Outcome T A) (s : Sound G p) (ne : NonEmpty G) where
     -- what begins an element begins one that is one too many
-    crowd_first : (ts : List T) (r : Refusal) (us : List T) → Stops G ts r us → length us ≡ length ts → Stops (Element 0 G) ts r ts
+    crowd_first : (ts : List T) (r : SyntaxFault) (us : List T) → Stops G ts r us → length us ≡ length ts → Stops (Element 0 G) ts r ts
     crowd_first ts r us m len =
         let nil : m.front ≡ [] = nil_of m.front us (ap length (sym m.text) ∙ sym len) in
         let same : ts ≡ us = m.text ∙ ap (λ (x : List T). x ++ us) nil in
@@ -88,7 +88,7 @@ module _ {T : Type 0} where
       };
     }
 
-    crowd_later : (ts : List T) (r : Refusal) (us front : List T) → ts ≡ front ++ us → Begins G (front ++ shown r us) → (length us ≡ length ts → ⊥) → Stops (Element 0 G) ts TooWide ts
+    crowd_later : (ts : List T) (r : SyntaxFault) (us front : List T) → ts ≡ front ++ us → Begins G (front ++ shown r us) → (length us ≡ length ts → ⊥) → Stops (Element 0 G) ts TooWide ts
     crowd_later ts r us [] e b ne' = absurd (ne' (ap length (sym e)))
     crowd_later ts r us (t ∷ front) e b ne' =
         let P : List T → Type 0 = λ x. Stops (Element 0 G) x TooWide x in
@@ -100,7 +100,7 @@ module _ {T : Type 0} where
         let P : List T → Type 0 = λ x. Stops (Element 0 G) x TooWide x in
         subst P (sym e) (wide_at m.token (tokens ms ++ us) (record { tail = tokens ms; marks = m ∷ ms; value = a; part = g; text = refl }))
 
-    crowd_choose : (ts : List T) (r : Refusal) (us : List T) → Stops G ts r us → (b : Bool) → eqb (length us) (length ts) ≡ b → Meets (Element 0 G) ts (cond b (Err r, ts) (Err TooWide, ts))
+    crowd_choose : (ts : List T) (r : SyntaxFault) (us : List T) → Stops G ts r us → (b : Bool) → eqb (length us) (length ts) ≡ b → Meets (Element 0 G) ts (cond b (Err r, ts) (Err TooWide, ts))
     crowd_choose ts r us m true e = crowd_first ts r us m (eqb-true _ _ e)
     crowd_choose ts r us m false e = crowd_later ts r us m.front m.text m.begins (λ same. eqb_differ (length us) (length ts) e same)
 

@@ -1,7 +1,7 @@
 -- What is in the grammar is read, up to the first token at which it passes a limit.
 use Rattle.std.proofs.Common.{◌≡◌, ℕ, zero, suc, ◌<◌, Bool, true, false, cond, eqb, List, [], ◌∷◌, ◌++◌, length, Option, Some, None, Ok, Err, refl, sym, ap, subst, ◌∙◌, append_assoc, arith, inl, inr}
 use Rattle.std.proofs.lemmas.Bool.Decides.{nat_tests}
-use Rattle.grammar_laws.specs.declared.refusal.Refusal.TheVariants.{TooWide}
+use Rattle.grammar_laws.specs.declared.fault.SyntaxFault.TheVariants.{TooWide}
 use Rattle.grammar_laws.specs.Marks.{Mark, Limit, tokens, plain, opening, element, or_wide}
 use Rattle.grammar_laws.specs.Lines.{One, Opens, Empty, Then, Or, Map, Element, Links}
 use Rattle.grammar_laws.specs.Readings.{Outcome, and_then, starts, one, opens, nothing, both, mapped, either, crowded, crowd, links}

@@ -151,7 +151,7 @@ Sample-then f s t = record { marks = s.marks ++ t.marks; value = f s.value t.val
 pub Sample-map : {T A B : Type 0} {G : List (Mark T) → A → Type 0} (f : A → B) → Sample G → Sample (Map f G)
 Sample-map f s = record { marks = s.marks; value = f s.value; part = record { a = s.value; part = s.part; value = refl } }
 
-Sample-left : {T A : Type 0} {G H : List (Mark T) → A → Type 0} → Sample G → Sample (Or G H)
+pub Sample-left : {T A : Type 0} {G H : List (Mark T) → A → Type 0} → Sample G → Sample (Or G H)
 Sample-left s = record { marks = s.marks; value = s.value; part = inl s.part }
 
 pub Sample-right : {T A : Type 0} {G H : List (Mark T) → A → Type 0} → Sample H → Sample (Or G H)

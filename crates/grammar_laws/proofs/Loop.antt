@@ -1,9 +1,9 @@
 -- A list or a chain, read by a loop.
 use Rattle.std.proofs.Common.{◌≡◌, ℕ, zero, suc, ◌-◌, ◌<◌, Bool, true, false, List, [], ◌∷◌, ◌++◌, Ok, Err, refl, sym, ap, ◌∙◌, append_assoc, arith}
 use Rattle.std.proofs.lemmas.List.{append-nil}
-use Rattle.grammar_laws.specs.declared.refusal.Refusal.{Refusal}
-use Rattle.grammar_laws.specs.declared.refusal.Stop.{Stop}
-use Rattle.grammar_laws.specs.declared.refusal.Stop.TheVariants as stops
+use Rattle.grammar_laws.specs.declared.fault.SyntaxFault.{SyntaxFault}
+use Rattle.grammar_laws.specs.declared.fault.SyntaxError.{SyntaxError}
+use Rattle.grammar_laws.specs.declared.fault.SyntaxError.TheVariants as stops
 use Rattle.grammar_laws.specs.Readings.{Outcome, and_then, starts, crowded, links, Reads, is_err}
 use Rattle.grammar_laws.proofs.Stable.{out}
 
@@ -30,7 +30,7 @@ module _ {T : Type 0} where
         by zero e = sym e ∙ rw none (ap (λ (x : List B). out (Ok x) ts) (append-nil front))
         by (suc n) e = sym e ∙ rw none (ap (λ (x : List B). out (Ok x) ts) (append-nil front))
 
-    pub loop_joins : starts test ts ≡ true → (r : Refusal) (us : List T) → join ts ≡ out (Err r) us → total ≡ out (Err r) us
+    pub loop_joins : starts test ts ≡ true → (r : SyntaxFault) (us : List T) → join ts ≡ out (Err r) us → total ≡ out (Err r) us
     unfolding links
     loop_joins some r us h = by room so_far
       where
@@ -48,7 +48,7 @@ module _ {T : Type 0} where
             let whole : with_front front (links test join link p (suc m) ts) ≡ with_front (front ++ link j a ∷ []) (links test join link p m vs) = rw (some, h, g) (regroup front (link j a) (links test join link p m vs)) in
             sym whole ∙ ap (λ (x : ℕ). with_front front (links test join link p x ts)) (sym e) ∙ f
 
-    pub loop_fails : starts test ts ≡ true → 0 < room → (j : D) (us : List T) → join ts ≡ out (Ok j) us → (r : Refusal) (vs : List T) → p us ≡ out (Err r) vs → total ≡ out (Err r) vs
+    pub loop_fails : starts test ts ≡ true → 0 < room → (j : D) (us : List T) → join ts ≡ out (Ok j) us → (r : SyntaxFault) (vs : List T) → p us ≡ out (Err r) vs → total ≡ out (Err r) vs
     unfolding links
     loop_fails some lt j us h r vs g = by room (room - 1) (omega arith) so_far
       where
@@ -57,21 +57,21 @@ module _ {T : Type 0} where
             let whole : with_front front (links test join link p (suc m) ts) ≡ out (Err r) vs = rw (some, h, g) refl in
             sym (ap (λ (x : ℕ). with_front front (links test join link p x ts)) (sym e) ∙ f) ∙ whole
 
-    pub loop_is_full : starts test ts ≡ true → room ≡ 0 → (j : D) (us : List T) → join ts ≡ out (Ok j) us → (r : Refusal) (vs : List T) → crowded us (p us) ≡ out (Err r) vs → total ≡ out (Err r) vs
+    pub loop_is_full : starts test ts ≡ true → room ≡ 0 → (j : D) (us : List T) → join ts ≡ out (Ok j) us → (r : SyntaxFault) (vs : List T) → crowded us (p us) ≡ out (Err r) vs → total ≡ out (Err r) vs
     unfolding links
     loop_is_full some full j us h r vs g =
         let whole : with_front front (links test join link p 0 ts) ≡ out (Err r) vs = rw (some, h, g) refl in
         sym (ap (λ (x : ℕ). with_front front (links test join link p x ts)) (sym full) ∙ so_far) ∙ whole
 
-    pub joins_reads : starts test ts ≡ true → (e : Stop) (us : List T) → Reads (join ts) (is_err {A = D} e) us → Reads total (is_err {A = List B} e) us
+    pub joins_reads : starts test ts ≡ true → (e : SyntaxError) (us : List T) → Reads (join ts) (is_err {A = D} e) us → Reads total (is_err {A = List B} e) us
     joins_reads some stops.OutOfMemory us g = tt
     joins_reads some (stops.Refused r) us g = loop_joins some r us g
 
     -- the same, of what a function returned
-    pub full_reads : starts test ts ≡ true → room ≡ 0 → (j : D) (us : List T) → join ts ≡ out (Ok j) us → (e : Stop) (vs : List T) → Reads (crowded us (p us)) (is_err {A = A} e) vs → Reads total (is_err {A = List B} e) vs
+    pub full_reads : starts test ts ≡ true → room ≡ 0 → (j : D) (us : List T) → join ts ≡ out (Ok j) us → (e : SyntaxError) (vs : List T) → Reads (crowded us (p us)) (is_err {A = A} e) vs → Reads total (is_err {A = List B} e) vs
     full_reads some full j us h stops.OutOfMemory vs g = tt
     full_reads some full j us h (stops.Refused r) vs g = loop_is_full some full j us h r vs g
 
-    pub fails_reads : starts test ts ≡ true → 0 < room → (j : D) (us : List T) → join ts ≡ out (Ok j) us → (e : Stop) (vs : List T) → Reads (p us) (is_err {A = A} e) vs → Reads total (is_err {A = List B} e) vs
+    pub fails_reads : starts test ts ≡ true → 0 < room → (j : D) (us : List T) → join ts ≡ out (Ok j) us → (e : SyntaxError) (vs : List T) → Reads (p us) (is_err {A = A} e) vs → Reads total (is_err {A = List B} e) vs
     fails_reads some lt j us h stops.OutOfMemory vs g = tt
     fails_reads some lt j us h (stops.Refused r) vs g = loop_fails some lt j us h r vs g

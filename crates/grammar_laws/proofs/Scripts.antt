@@ -1,9 +1,9 @@
 -- A script's statements, one after the other.
 use Rattle.std.proofs.Common.{◌≡◌, ℕ, zero, suc, ◌+◌, ◌<◌, ◌≤◌, List, [], ◌∷◌, ◌++◌, length, Result, Ok, Err, refl, sym, ap, subst, ◌∙◌, append_assoc, arith}
 use Rattle.std.proofs.lemmas.List.{length-append, append-nil}
-use Rattle.grammar_laws.specs.declared.refusal.Refusal.{Refusal}
-use Rattle.grammar_laws.specs.declared.refusal.Stop.{Stop}
-use Rattle.grammar_laws.specs.declared.refusal.Stop.TheVariants as stops
+use Rattle.grammar_laws.specs.declared.fault.SyntaxFault.{SyntaxFault}
+use Rattle.grammar_laws.specs.declared.fault.SyntaxError.{SyntaxError}
+use Rattle.grammar_laws.specs.declared.fault.SyntaxError.TheVariants as stops
 use Rattle.grammar_laws.specs.Marks.{Mark, tokens}
 use Rattle.grammar_laws.specs.Lines.{Then}
 use Rattle.grammar_laws.specs.Readings.{Outcome, and_then, both, Reads, is_err}
@@ -42,11 +42,11 @@ module _ {T S : Type 0} (G : ℕ → List (Mark T) → S → Type 0) (read : Lis
   unfolding statements
   step_stable n s = record { ends = ends; same = same }
     where
-      ends : (ts : List T) (r : Result (List S) Refusal) (us : List T) → statements read (suc n) ts ≡ (r, us) → (front : List T) × (ts ≡ front ++ us)
+      ends : (ts : List T) (r : Result (List S) SyntaxFault) (us : List T) → statements read (suc n) ts ≡ (r, us) → (front : List T) × (ts ≡ front ++ us)
       ends [] r us e = ([], ap (λ (o : Outcome T (List S)). o.1) e)
       ends (t ∷ ts) r us e = s.ends (t ∷ ts) r us e
 
-      same : (front : List T) (x : T) (u v : List T) (r : Result (List S) Refusal) → statements read (suc n) (front ++ x ∷ u) ≡ (r, x ∷ u) → statements read (suc n) (front ++ x ∷ v) ≡ (r, x ∷ v)
+      same : (front : List T) (x : T) (u v : List T) (r : Result (List S) SyntaxFault) → statements read (suc n) (front ++ x ∷ u) ≡ (r, x ∷ u) → statements read (suc n) (front ++ x ∷ v) ≡ (r, x ∷ v)
       same [] x u v r e = s.same [] x u v r e
       same (y ∷ front) x u v r e = s.same (y ∷ front) x u v r e
 
@@ -142,7 +142,7 @@ module _ {T S : Type 0} (G : ℕ → List (Mark T) → S → Type 0) (read : Lis
         by [] f g h = absurd (f refl)
         by (t ∷ ts) f g h = ap (with_statements (found ++ s ∷ [])) (enough (length us) (length ts) us (omega arith) (let lt = Ended-shorter (t ∷ ts) us s h in omega arith)) ∙ alike (statements read (length ts) us) ∙ sym (ap (λ (o : Outcome T S). with_statements found (and_then o (λ x vs. and_then (statements read (length ts) vs) (λ xs ws. out (Ok (x ∷ xs)) ws)))) h) ∙ g
 
-    pub script_fails : (ts ≡ [] → ⊥) → (e : Stop) (us : List T) → Reads (read ts) (is_err {A = S} e) us → Reads total (is_err {A = List S} e) us
+    pub script_fails : (ts ≡ [] → ⊥) → (e : SyntaxError) (us : List T) → Reads (read ts) (is_err {A = S} e) us → Reads total (is_err {A = List S} e) us
     unfolding statements
     script_fails some stops.OutOfMemory us h = tt
     script_fails some (stops.Refused r) us h = by ts some so_far h

@@ -1,6 +1,6 @@
 -- What is read is in the grammar, and what was read before a refusal begins something that is.
 use Rattle.std.proofs.Common.{◌≡◌, ℕ, zero, suc, Bool, true, false, cond, List, [], ◌∷◌, ◌++◌, Ok, Err, refl, sym, ap, ◌∙◌, append_assoc, inl, inr}
-use Rattle.grammar_laws.specs.declared.refusal.Refusal.TheVariants.{Unexpected}
+use Rattle.grammar_laws.specs.declared.fault.SyntaxFault.TheVariants.{Unexpected}
 use Rattle.grammar_laws.specs.Marks.{Mark, tokens, plain, opening}
 use Rattle.grammar_laws.specs.Lines.{One, Opens, Empty, Then, Or, Map}
 use Rattle.grammar_laws.specs.Readings.{Outcome, and_then, starts, one, allow, opens, nothing, never, both, mapped, either}

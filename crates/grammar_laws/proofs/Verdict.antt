@@ -1,8 +1,8 @@
 -- What is read is the script, or the first refusal.
 use Rattle.std.proofs.Common.{◌≡◌, ℕ, zero, suc, ◌+◌, ◌-◌, ◌<◌, ◌≤◌, List, [], ◌∷◌, ◌++◌, length, take, drop, ◌⊎◌, Option, Some, None, Ok, Err, refl, sym, ap, subst, ◌∙◌, append_assoc, arith, inl, inr}
 use Rattle.std.proofs.lemmas.List.{length-append, append-nil, take_at, take-append-drop}
-use Rattle.grammar_laws.specs.declared.refusal.Refusal.{Refusal}
-use Rattle.grammar_laws.specs.declared.refusal.Refusal.TheVariants.{Unexpected, TooDeep, TooWide}
+use Rattle.grammar_laws.specs.declared.fault.SyntaxFault.{SyntaxFault}
+use Rattle.grammar_laws.specs.declared.fault.SyntaxFault.TheVariants.{Unexpected, TooDeep, TooWide}
 use Rattle.grammar_laws.specs.Marks.{Mark, Limit, deep, wide, refusal_of, tokens}
 use Rattle.grammar_laws.specs.Readings.{Outcome, and_then}
 use Rattle.grammar_laws.specs.Scripts.{Script, Spells, IsScript, passes_at, CanBegin, IsUnexpected, Passes, Stands, rank, IsFirst, IsRead, statements}
@@ -30,7 +30,7 @@ module _ {T S : Type 0} (G : ℕ → List (Mark T) → S → Type 0) (read : Lis
   reads_script h n ms ss g le = ap (statements read n) (sym (append-nil (tokens ms))) ∙ (Complete-script G read law h n).at ms ss [] (record { script = g; length_le = le }) refl
 
   -- the first limit that is passed
-  record Broken (ms : List (Mark T)) (r : Refusal) (us : List T) : Type 0 where
+  record Broken (ms : List (Mark T)) (r : SyntaxFault) (us : List T) : Type 0 where
     limit : Limit
     front : List T
     x : T
@@ -40,7 +40,7 @@ module _ {T S : Type 0} (G : ℕ → List (Mark T) → S → Type 0) (read : Lis
     text : tokens ms ≡ front ++ x ∷ v
     rest : us ≡ x ∷ v
 
-  broken : (ms : List (Mark T)) (ss : (List S)) (r : Refusal) (us : List T) → verdict ms [] (out (Ok ss) []) ≡ out (Err r) us → Broken ms r us
+  broken : (ms : List (Mark T)) (ss : (List S)) (r : SyntaxFault) (us : List T) → verdict ms [] (out (Ok ss) []) ≡ out (Err r) us → Broken ms r us
   broken [] ss r us e = absurd (let no_ok : Ok ss ≡ Err r = ap (λ (o : Outcome T (List S)). o.0) e in cc)
   broken (m ∷ ms) ss r us e = by m.passes refl e (broken ms ss r us)
     where
@@ -55,7 +55,7 @@ module _ {T S : Type 0} (G : ℕ → List (Mark T) → S → Type 0) (read : Lis
 
   -- a limit that is passed somewhere is refused there or before
   record Refused (ms : List (Mark T)) (ss : (List S)) (n : ℕ) (l : Limit) : Type 0 where
-    kind : Refusal
+    kind : SyntaxFault
     front : List T
     x : T
     v : List T
@@ -88,7 +88,7 @@ module _ {T S : Type 0} (G : ℕ → List (Mark T) → S → Type 0) (read : Lis
 
   -- where a limit is passed, reading stops there or before
   record StopsBy (ts : List T) (m : ℕ) (l : Limit) : Type 0 where
-    kind : Refusal
+    kind : SyntaxFault
     front : List T
     x : T
     v : List T
@@ -170,7 +170,7 @@ module _ {T S : Type 0} (G : ℕ → List (Mark T) → S → Type 0) (read : Lis
               by None f ih = ih f
               by (Some l) f ih = absurd (let same : Err (refusal_of l) ≡ Ok ss = ap (λ (o : Outcome T (List S)). o.0) f in cc)
 
-      none : IsScript G ts ss → (q : Refusal) (m : ℕ) → Stands G q ts m → ⊥
+      none : IsScript G ts ss → (q : SyntaxFault) (m : ℕ) → Stands G q ts m → ⊥
       none whole Unexpected m s = no_unexpected ts ss m whole s
       none whole TooDeep m s = no_limit deep ts ss us m e s
       none whole TooWide m s = no_limit wide ts ss us m e s
@@ -187,7 +187,7 @@ module _ {T S : Type 0} (G : ℕ → List (Mark T) → S → Type 0) (read : Lis
       cc
 
   -- what is refused at a token, in each script that begins with the tokens up to it
-  in_scripts : (front : List T) (x : T) (v more : List T) (r : Refusal) (ms : List (Mark T)) (ss : (List S)) → statements read (length (front ++ x ∷ v)) (front ++ x ∷ v) ≡ out (Err r) (x ∷ v)
+  in_scripts : (front : List T) (x : T) (v more : List T) (r : SyntaxFault) (ms : List (Mark T)) (ss : (List S)) → statements read (length (front ++ x ∷ v)) (front ++ x ∷ v) ≡ out (Err r) (x ∷ v)
       → Spells G (front ++ x ∷ more) ms ss → Broken ms r (x ∷ more)
   in_scripts front x v more r ms ss e o =
       let n : ℕ = length (front ++ x ∷ v) + length (front ++ x ∷ more) in
@@ -229,7 +229,7 @@ module _ {T S : Type 0} (G : ℕ → List (Mark T) → S → Type 0) (read : Lis
       split zero (t ∷ front) us more lt = refl
       split (suc m) (t ∷ front) us more lt = ap (λ (y : List T). t ∷ y) (split m front us more (omega arith))
 
-  first_limit : (r : Refusal) (front us : List T) (m : ℕ) (l : Limit) → statements read (length (front ++ us)) (front ++ us) ≡ out (Err r) us → Passes G l (front ++ us) m → (length front < m) ⊎ ((length front ≡ m) × (r ≡ refusal_of l))
+  first_limit : (r : SyntaxFault) (front us : List T) (m : ℕ) (l : Limit) → statements read (length (front ++ us)) (front ++ us) ≡ out (Err r) us → Passes G l (front ++ us) m → (length front < m) ⊎ ((length front ≡ m) × (r ≡ refusal_of l))
   first_limit r front us m l e p =
       let s = stops_by l (front ++ us) m p in
       let both_are : out (Err r) us ≡ out (Err s.kind) (s.x ∷ s.v) = sym e ∙ s.is in
@@ -248,7 +248,7 @@ module _ {T S : Type 0} (G : ℕ → List (Mark T) → S → Type 0) (read : Lis
           less_or (suc n) zero le = absurd (omega arith)
           less_or (suc n) (suc m) le = elim (less_or n m (omega arith)) [ inl h ↦ inl (omega arith) | inr h ↦ inr (ap suc h) ]
 
-  first_of_all : (r : Refusal) (front us : List T) → statements read (length (front ++ us)) (front ++ us) ≡ out (Err r) us → Stands G r (front ++ us) (length front) → CanBegin G front
+  first_of_all : (r : SyntaxFault) (front us : List T) → statements read (length (front ++ us)) (front ++ us) ≡ out (Err r) us → Stands G r (front ++ us) (length front) → CanBegin G front
       → (IsUnexpected G (front ++ us) (length front) → rank r ≤ 5) → IsFirst G r (front ++ us) (length front)
   first_of_all r front us e s can least = record { stands = s; first = first }
     where
@@ -265,7 +265,7 @@ module _ {T S : Type 0} (G : ℕ → List (Mark T) → S → Type 0) (read : Lis
       limit : (l : Limit) (m : ℕ) → Passes G l (front ++ us) m → (length front < m) ⊎ ((length front ≡ m) × (rank r ≤ rank (refusal_of l)))
       limit l m p = elim (first_limit r front us m l e p) [ inl h ↦ inl h | inr h ↦ inr (h.0, omega (arith, ap rank h.1)) ]
 
-      first : (q : Refusal) (m : ℕ) → Stands G q (front ++ us) m → (length front < m) ⊎ ((length front ≡ m) × (rank r ≤ rank q))
+      first : (q : SyntaxFault) (m : ℕ) → Stands G q (front ++ us) m → (length front < m) ⊎ ((length front ≡ m) × (rank r ≤ rank q))
       first Unexpected m u = at m u (order (length front) m (no_earlier front us m can u))
       first TooDeep m p = limit deep m p
       first TooWide m p = limit wide m p
@@ -287,7 +287,7 @@ module _ {T S : Type 0} (G : ℕ → List (Mark T) → S → Type 0) (read : Lis
       stands_as deep p = p
       stands_as wide p = p
 
-  placed : (r : Refusal) (front us : List T) (tail : List T) (ms : List (Mark T)) (ss : (List S)) → IsThere r us → statements read (length (front ++ us)) (front ++ us) ≡ out (Err r) us
+  placed : (r : SyntaxFault) (front us : List T) (tail : List T) (ms : List (Mark T)) (ss : (List S)) → IsThere r us → statements read (length (front ++ us)) (front ++ us) ≡ out (Err r) us
       → Script G law.height ss ms → tokens ms ≡ (front ++ shown r us) ++ tail → IsFirst G r (front ++ us) (length front)
   placed Unexpected front [] tail ms ss there e g text =
       let can : CanBegin G front = record { more = tail; statements = ss; whole = record { marks = ms; spells = record { height = law.height; script = g; text = text ∙ ap (λ (z : List T). z ++ tail) (append-nil front) } } } in
@@ -318,7 +318,7 @@ module _ {T S : Type 0} (G : ℕ → List (Mark T) → S → Type 0) (read : Lis
   placed TooWide front [] tail ms ss there e g text = elim there [ ]
   placed TooWide front (x ∷ v) tail ms ss there e g text = limit_first wide front x v tail ms ss e g text
 
-  pub refusal_is_first : (ts : List T) (r : Refusal) (us : List T) → statements read (length ts) ts ≡ out (Err r) us → IsFirst G r ts (length ts - length us)
+  pub refusal_is_first : (ts : List T) (r : SyntaxFault) (us : List T) → statements read (length ts) ts ≡ out (Err r) us → IsFirst G r ts (length ts - length us)
   refusal_is_first ts r us e =
       let s : Stops (λ ms xs. Script G law.height xs ms) ts r us = subst (Meets (λ ms xs. Script G law.height xs ms) ts) e ((Sound-script G read law (length ts)).at ts) in
       let again : statements read (length (s.front ++ us)) (s.front ++ us) ≡ out (Err r) us = ap (λ (z : List T). statements read (length z) z) (sym s.text) ∙ e in

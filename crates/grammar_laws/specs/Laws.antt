@@ -1,12 +1,12 @@
 -- What holds of a reading of a grammar's texts: what it takes is in the grammar, it looks one token ahead, and it takes all.
 use Rattle.std.specs.Prelude.{◌≡◌, ℕ, List, [], ◌∷◌, ◌++◌, Option, Some, None, Result, Ok, Err}
-use Rattle.grammar_laws.specs.declared.refusal.Refusal.{Refusal}
-use Rattle.grammar_laws.specs.declared.refusal.Refusal.TheVariants.{Unexpected, TooDeep, TooWide}
+use Rattle.grammar_laws.specs.declared.fault.SyntaxFault.{SyntaxFault}
+use Rattle.grammar_laws.specs.declared.fault.SyntaxFault.TheVariants.{Unexpected, TooDeep, TooWide}
 use Rattle.grammar_laws.specs.Marks.{Mark, Limit, refusal_of, tokens}
 use Rattle.grammar_laws.specs.Readings.{Outcome}
 
 -- the refused token, where it can stand there
-abbrev pub shown : {T : Type 0} → Refusal → List T → List T
+abbrev pub shown : {T : Type 0} → SyntaxFault → List T → List T
 shown Unexpected ts = []
 shown TooDeep [] = []
 shown TooDeep (t ∷ ts) = t ∷ []
@@ -14,7 +14,7 @@ shown TooWide [] = []
 shown TooWide (t ∷ ts) = t ∷ []
 
 -- a limit is passed at a token
-abbrev pub IsThere : {T : Type 0} → Refusal → List T → Type 0
+abbrev pub IsThere : {T : Type 0} → SyntaxFault → List T → Type 0
 IsThere Unexpected ts = Unit {0}
 IsThere TooDeep [] = ⊥
 IsThere TooDeep (t ∷ ts) = Unit {0}
@@ -36,7 +36,7 @@ pub record Takes {T A : Type 0} (G : List (Mark T) → A → Type 0) (ts : List 
   pub text : ts ≡ tokens marks ++ rest
 
 -- The tokens up to the rest begin a text of the grammar; for a limit, with the refused token.
-pub record Stops {T A : Type 0} (G : List (Mark T) → A → Type 0) (ts : List T) (r : Refusal) (rest : List T) : Type 0 where
+pub record Stops {T A : Type 0} (G : List (Mark T) → A → Type 0) (ts : List T) (r : SyntaxFault) (rest : List T) : Type 0 where
   pub front : List T
   pub text : ts ≡ front ++ rest
   pub begins : Begins G (front ++ shown r rest)
@@ -60,8 +60,8 @@ pub record Sample {T A : Type 0} (G : List (Mark T) → A → Type 0) : Type 0 w
 -- What is read, up to a token, depends on the tokens up to this one alone.
 pub record Stable {T A : Type 0} (p : List T → Outcome T A) : Type 0 where
   -- what is left is the end of what was given
-  pub ends : (ts : List T) (r : Result A Refusal) (us : List T) → p ts ≡ (r, us) → (front : List T) × (ts ≡ front ++ us)
-  pub same : (front : List T) (x : T) (u v : List T) (r : Result A Refusal) → p (front ++ x ∷ u) ≡ (r, x ∷ u) → p (front ++ x ∷ v) ≡ (r, x ∷ v)
+  pub ends : (ts : List T) (r : Result A SyntaxFault) (us : List T) → p ts ≡ (r, us) → (front : List T) × (ts ≡ front ++ us)
+  pub same : (front : List T) (x : T) (u v : List T) (r : Result A SyntaxFault) → p (front ++ x ∷ u) ≡ (r, x ∷ u) → p (front ++ x ∷ v) ≡ (r, x ∷ v)
 
 -- the limit as a refusal at these tokens, where one is passed; else the outcome
 abbrev pub passing : {T A : Type 0} → Option Limit → List T → Outcome T A → Outcome T A

@@ -1,7 +1,7 @@
 -- A token, and the limit that its place in a script passes, if there is one.
 use Rattle.std.specs.Prelude.{ℕ, zero, suc, List, [], ◌∷◌, Option, Some, None}
-use Rattle.grammar_laws.specs.declared.refusal.Refusal.{Refusal}
-use Rattle.grammar_laws.specs.declared.refusal.Refusal.TheVariants.{TooDeep, TooWide}
+use Rattle.grammar_laws.specs.declared.fault.SyntaxFault.{SyntaxFault}
+use Rattle.grammar_laws.specs.declared.fault.SyntaxFault.TheVariants.{TooDeep, TooWide}
 
 -- The limits that a token may pass: `deep` opens a level too many, `wide` begins an element too many.
 pub data Limit : Type 0 where
@@ -9,7 +9,7 @@ pub data Limit : Type 0 where
   wide : Limit
 
 -- a passed limit as a refusal
-abbrev pub refusal_of : Limit → Refusal
+abbrev pub refusal_of : Limit → SyntaxFault
 refusal_of deep = TooDeep
 refusal_of wide = TooWide
 

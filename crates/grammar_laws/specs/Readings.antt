@@ -1,13 +1,13 @@
 -- Reading from left to right: the value or the first refusal, and the tokens after the value or from the refused one on.
 use Rattle.std.specs.Prelude.{◌≡◌, ℕ, zero, suc, ◌==◌, Bool, false, if◌then◌else◌, List, [], ◌∷◌, length, Result, Ok, Err}
-use Rattle.grammar_laws.specs.declared.refusal.Refusal.{Refusal}
-use Rattle.grammar_laws.specs.declared.refusal.Refusal.TheVariants.{Unexpected, TooDeep, TooWide}
-use Rattle.grammar_laws.specs.declared.refusal.Stop.{Stop}
-use Rattle.grammar_laws.specs.declared.refusal.Stop.TheVariants as stops
+use Rattle.grammar_laws.specs.declared.fault.SyntaxFault.{SyntaxFault}
+use Rattle.grammar_laws.specs.declared.fault.SyntaxFault.TheVariants.{Unexpected, TooDeep, TooWide}
+use Rattle.grammar_laws.specs.declared.fault.SyntaxError.{SyntaxError}
+use Rattle.grammar_laws.specs.declared.fault.SyntaxError.TheVariants as stops
 
 -- What comes of reading: a value with the tokens after it, or a refusal with the tokens from the refused one on.
 abbrev pub Outcome : Type 0 → Type 0 → Type 0
-Outcome T A = Result A Refusal × List T
+Outcome T A = Result A SyntaxFault × List T
 
 -- a way to read: what comes of each list of tokens
 abbrev pub Reading : Type 0 → Type 0 → Type 0
@@ -75,11 +75,11 @@ links test join link p (suc room) = either test (both (λ b bs. b ∷ bs) (both 
 -- ---- what a function that reads ensures: the outcome, unless memory runs out
 
 -- The function answered this outcome, its value or its refusal and what is left; or memory ran out.
-abbrev pub Reads : {T A : Type 0} → Outcome T A → Result A Stop → List T → Type 0
+abbrev pub Reads : {T A : Type 0} → Outcome T A → Result A SyntaxError → List T → Type 0
 Reads outcome (Ok a) rest = outcome ≡ (Ok a, rest)
 Reads outcome (Err stops.OutOfMemory) rest = Unit {0}
 Reads outcome (Err (stops.Refused r)) rest = outcome ≡ (Err r, rest)
 
 -- a stop as the answer of a function that gives one alone
-abbrev pub is_err : {A : Type 0} → Stop → Result A Stop
+abbrev pub is_err : {A : Type 0} → SyntaxError → Result A SyntaxError
 is_err e = Err e

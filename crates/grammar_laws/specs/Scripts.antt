@@ -1,8 +1,8 @@
 -- What a script of statements is, and which refusals stand at which token. A grammar says which marked tokens spell one
 -- statement with its end; a script is any number of them.
 use Rattle.std.specs.Prelude.{◌≡◌, ℕ, zero, suc, ◌<◌, ◌≤◌, List, [], ◌∷◌, ◌++◌, ◌⊎◌, length, take, Option, Some, None, Ok}
-use Rattle.grammar_laws.specs.declared.refusal.Refusal.{Refusal}
-use Rattle.grammar_laws.specs.declared.refusal.Refusal.TheVariants.{Unexpected, TooDeep, TooWide}
+use Rattle.grammar_laws.specs.declared.fault.SyntaxFault.{SyntaxFault}
+use Rattle.grammar_laws.specs.declared.fault.SyntaxFault.TheVariants.{Unexpected, TooDeep, TooWide}
 use Rattle.grammar_laws.specs.Marks.{Mark, Limit, deep, wide, tokens}
 use Rattle.grammar_laws.specs.Lines.{Part, Then}
 use Rattle.grammar_laws.specs.Readings.{Reading, both}
@@ -55,27 +55,27 @@ pub record Passes {T S : Type 0} (G : ℕ → List (Mark T) → S → Type 0) (l
   pub here : passes_at n marks ≡ Some l
 
 -- The refusal stands at this token.
-abbrev pub Stands : {T S : Type 0} → Grammar T S → Refusal → List T → ℕ → Type 0
+abbrev pub Stands : {T S : Type 0} → Grammar T S → SyntaxFault → List T → ℕ → Type 0
 Stands G Unexpected ts n = IsUnexpected G ts n
 Stands G TooDeep ts n = Passes G deep ts n
 Stands G TooWide ts n = Passes G wide ts n
 
 -- a refusal's number among those of scripts
-abbrev pub rank : Refusal → ℕ
+abbrev pub rank : SyntaxFault → ℕ
 rank Unexpected = 5
 rank TooDeep = 6
 rank TooWide = 8
 
 -- The first of all: at the earliest token, there the one of the least number.
-pub record IsFirst {T S : Type 0} (G : ℕ → List (Mark T) → S → Type 0) (r : Refusal) (ts : List T) (n : ℕ) : Type 0 where
+pub record IsFirst {T S : Type 0} (G : ℕ → List (Mark T) → S → Type 0) (r : SyntaxFault) (ts : List T) (n : ℕ) : Type 0 where
   pub stands : Stands G r ts n
-  pub first : (q : Refusal) (m : ℕ) → Stands G q ts m → (n < m) ⊎ ((n ≡ m) × (rank r ≤ rank q))
+  pub first : (q : SyntaxFault) (m : ℕ) → Stands G q ts m → (n < m) ⊎ ((n ≡ m) × (rank r ≤ rank q))
 
 -- The tokens are a script with these statements and no others, and no refusal stands at any of them.
 pub record IsRead {T S : Type 0} (G : ℕ → List (Mark T) → S → Type 0) (ts : List T) (ss : List S) : Type 0 where
   pub is : IsScript G ts ss
   pub only : (others : List S) → IsScript G ts others → others ≡ ss
-  pub none : (q : Refusal) (m : ℕ) → Stands G q ts m → ⊥
+  pub none : (q : SyntaxFault) (m : ℕ) → Stands G q ts m → ⊥
 
 -- Reading statements to the end of the tokens. The number bounds the statements; the count of the tokens is always enough.
 unfoldable pub statements : {T S : Type 0} → Reading T S → ℕ → Reading T (List S)

@@ -1,6 +1,6 @@
 //! Laws of grammars that are read from left to right by one token of look-ahead.
 #![tactic(auto)]
 
-mod refusal;
+mod fault;
 
-pub use refusal::{Refusal, Stop};
+pub use fault::{SyntaxError, SyntaxFault};

@@ -1,3 +1,6 @@
+mod CutRows
+mod Joins
+mod Kept
 mod Pieces
 mod Runs
 mod Sessions

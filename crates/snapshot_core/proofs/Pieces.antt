@@ -1,6 +1,6 @@
 -- Pieces that were scanned.
-use Rattle.std.proofs.Common.{◌≡◌, ℕ, zero, suc, ◌+◌, ◌-◌, ◌<◌, ◌≤◌, Bool, true, false, cond, ◌&&◌, eqb, List, [], ◌∷◌, ◌++◌, length, take, drop, get_or, Option, Some, None, refl, sym, ap, subst, ◌∙◌, inl, inr, ⊎_elim, arith, add-one}
-use Rattle.std.specs.Prelude.{◌⊎◌, ◌==◌, nat_lt, slice_index_or, slice_get}
+use Rattle.std.proofs.Common.{◌≡◌, ℕ, zero, suc, ◌+◌, ◌<◌, ◌≤◌, Bool, true, false, cond, ◌&&◌, eqb, List, [], ◌∷◌, ◌++◌, length, take, drop, get_or, Option, Some, None, refl, sym, ap, subst, ◌∙◌, inl, inr, ⊎_elim, arith, add-one}
+use Rattle.std.specs.Prelude.{◌⊎◌, nat_lt, slice_index_or, slice_get}
 use Rattle.std.specs.List.{flat_map, list_all}
 use Rattle.std.proofs.lemmas.Bool.Decides.{Decides-eqb}
 use Rattle.std.proofs.lemmas.List.{take-append-drop, length-drop}
@@ -12,7 +12,7 @@ use Rattle.tpch_schema.specs.Tables.{all_tables}
 use Rattle.table_state.specs.Lists.{place_of}
 use Rattle.table_state.specs.Refresh.{Change}
 use Rattle.table_state.proofs.Order.{place_law}
-use Rattle.snapshot_core.specs.Machine.{ScannedPiece, SessionState, World, is_cut, joined, lengths_of, piece_of, piece_rows, pieces_of, rows_in, scan_from, scanned_at, session_scan, total}
+use Rattle.snapshot_core.specs.Machine.{ScannedPiece, SessionState, World, joined, lengths_of, piece_of, piece_rows, pieces_of, rows_in, scan_from, scanned_at, session_scan, total}
 use Rattle.snapshot_core.proofs.Sessions.{IsPast, IsSound, Keeps}
 
 same_some : {A : Type 0} (a b : A) → Some a ≡ Some b → a ≡ b

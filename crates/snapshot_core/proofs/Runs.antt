@@ -1,16 +1,16 @@
 -- Any list of steps.
-use Rattle.std.proofs.Common.{◌≡◌, ℕ, zero, suc, ◌+◌, ◌<◌, ◌≤◌, Bool, true, false, cond, List, [], ◌∷◌, length, get_or, set, max, replicate, Option, Some, None, refl, sym, ap, subst, ◌∙◌, inl, inr, ⊎_elim, arith, length-set}
-use Rattle.std.specs.Prelude.{◌⊎◌, nat_le, nat_lt, slice_index_or}
+use Rattle.std.proofs.Common.{◌≡◌, ℕ, zero, suc, ◌+◌, ◌<◌, ◌≤◌, Bool, true, false, cond, List, [], ◌∷◌, length, replicate, Some, refl, sym, ap, subst, ◌∙◌, ⊎_elim, arith, length-set}
+use Rattle.std.specs.Prelude.{nat_le, nat_lt, slice_index_or}
 use Rattle.std.proofs.lemmas.Bool.Decides.{nat_tests}
 use Rattle.std.proofs.lemmas.List.{get_or-set_same, length-replicate}
 use Rattle.tpch_schema.specs.State.{State}
 use Rattle.table_state.specs.Refresh.{Change}
 use Rattle.table_state.specs.Versions.{accepted}
 use Rattle.table_state.proofs.VersionSteps.{accepted-rises}
-use Rattle.snapshot_core.specs.declared.step.Step.{Step}
-use Rattle.snapshot_core.specs.declared.step.Step.TheVariants.{Begin, Again, Scan, Publish, Compact, Finish, Learn}
+use Rattle.snapshot_core.specs.declared.steps.Step.{Step}
+use Rattle.snapshot_core.specs.declared.steps.Step.TheVariants.{Begin, Again, Scan, Publish, Compact, Finish, Learn}
 use Rattle.snapshot_core.specs.Laws.{NotesLaw, PinsRiseLaw, PublishedLaw, ScanLaw, next_pin, pin_of, pinning, seen_of}
-use Rattle.snapshot_core.specs.Machine.{SessionState, World, begun, begun_again, changed_in, finished, finished_scan, happens, is_cut, learnt, new_session, pinned, published, rows_in, run, scanned_at, session_in, session_of, start, with_session}
+use Rattle.snapshot_core.specs.Machine.{SessionState, World, begun, begun_again, changed_in, finished, happens, is_cut, learnt, new_session, published, rows_in, run, scanned_at, session_in, session_of, start}
 use Rattle.snapshot_core.proofs.Pieces.{scanned_keeps, session_scan_is}
 use Rattle.snapshot_core.proofs.Sessions.{IsPast, IsSound, Keeps, again_keeps, begun_keeps, finished_keeps, learnt_keeps, nothing_kept, session_changed}
 

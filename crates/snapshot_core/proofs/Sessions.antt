@@ -1,20 +1,13 @@
 -- Invariants of the machine.
-use Rattle.std.proofs.Common.{◌≡◌, ℕ, zero, suc, ◌+◌, ◌<◌, ◌≤◌, Bool, true, false, cond, ◌&&◌, eqb, List, [], ◌∷◌, ◌++◌, length, take, drop, get_or, set, max, replicate, Option, Some, None, refl, sym, ap, subst, ◌∙◌, inl, inr, ⊎_elim, arith, add-one}
-use Rattle.std.specs.Prelude.{◌⊎◌, nat_le, nat_lt, ◌==◌, slice_index_or, slice_get, slice_set}
-use Rattle.std.specs.List.{flat_map, list_all}
+use Rattle.std.proofs.Common.{◌≡◌, ℕ, zero, suc, ◌≤◌, Bool, true, false, cond, List, [], ◌∷◌, get_or, set, max, Some, None, refl, ap, subst, ◌∙◌, inl, inr, ⊎_elim, arith}
+use Rattle.std.specs.Prelude.{◌⊎◌, nat_le, slice_index_or}
 use Rattle.std.proofs.lemmas.Bool.Decides.{nat_tests}
 use Rattle.sql_value.specs.declared.value.Value.{Value}
 use Rattle.tpch_schema.specs.declared.table.TableName.{TableName}
-use Rattle.tpch_schema.specs.State.{State, table_rows}
-use Rattle.tpch_schema.specs.Tables.{all_tables}
-use Rattle.table_state.specs.Lists.{place_of}
+use Rattle.tpch_schema.specs.State.{State}
 use Rattle.table_state.specs.Refresh.{Change}
-use Rattle.table_state.specs.Versions.{accepted, version_state}
-use Rattle.table_state.proofs.Order.{place_law}
-use Rattle.table_state.proofs.VersionSteps.{accepted-rises}
-use Rattle.snapshot_core.specs.declared.step.Step.{Step}
-use Rattle.snapshot_core.specs.declared.step.Step.TheVariants.{Begin, Again, Scan, Publish, Compact, Finish, Learn}
-use Rattle.snapshot_core.specs.Machine.{ScannedPiece, SessionState, World, begun, begun_again, changed_in, finished, finished_scan, happens, is_cut, joined, learnt, lengths_of, new_session, piece_of, piece_rows, pieces_of, pinned, published, rows_in, run, scan_from, scanned_at, session_in, session_of, session_scan, start, total, with_session}
+use Rattle.table_state.specs.Versions.{accepted}
+use Rattle.snapshot_core.specs.Machine.{SessionState, World, begun, begun_again, changed_in, finished, is_cut, learnt, lengths_of, new_session, piece_rows, pieces_of, pinned, published, rows_in, session_in}
 
 -- a list after a write: a place has what it had, or it is the place that was written
 write_at : {A : Type 0} (xs : List A) (i j : ℕ) (v d : A) → (get_or (set xs i v) j d ≡ get_or xs j d) ⊎ ((i ≡ j) × (get_or (set xs i v) j d ≡ v))

@@ -1,8 +1,9 @@
 -- What the machine keeps beside the definition's state.
-use Rattle.std.specs.Prelude.{◌≡◌, ℕ, ◌+◌, ◌≤◌, List, length, IfSome, slice_index_or}
+use Rattle.std.specs.Prelude.{◌≡◌, ℕ, ◌+◌, ◌≤◌, List, length, IfSome, None, Option, Some, if◌then◌else◌, slice_get, slice_index_or}
 use Rattle.std.specs.List.{All}
 use Rattle.tpch_schema.specs.State.{State}
-use Rattle.table_state.specs.Versions.{version_state}
+use Rattle.table_state.specs.Refresh.{Change, changed}
+use Rattle.table_state.specs.Versions.{is_accepted, version_state}
 use Rattle.snapshot_core.specs.Machine.{SessionState, World, published}
 
 -- a session has seen a published version, and pins one
@@ -16,3 +17,9 @@ pub record IsKept (world : World) (versions : List State) : Type 0 where
   pub states : (version : ℕ) (other : State) → version ≤ published world
       → slice_index_or versions version other ≡ version_state world.base world.list version
   pub sessions : All (IsBelow (published world)) world.sessions
+
+-- the next refresh on the published state: the state that it makes, if it is accepted
+abbrev pub IsTried : World → Option State → Type 0
+IsTried world next = (change : Change) → slice_get world.list world.done ≡ Some change
+    → next ≡ (if is_accepted (version_state world.base world.list (published world)) change
+    then Some (changed (version_state world.base world.list (published world)) change) else None)

@@ -1,13 +1,13 @@
 -- What holds of the machine after any list of steps.
-use Rattle.std.specs.Prelude.{◌≡◌, ℕ, ◌<◌, ◌≤◌, Bool, true, List, ◌∷◌, ◌++◌, [], Option, Some, if◌then◌else◌}
+use Rattle.std.specs.Prelude.{◌≡◌, ℕ, ◌<◌, ◌≤◌, Bool, true, List, Option, Some, if◌then◌else◌}
 use Rattle.sql_value.specs.declared.value.Value.{Value}
 use Rattle.tpch_schema.specs.declared.table.TableName.{TableName}
 use Rattle.tpch_schema.specs.State.{State, table_rows}
 use Rattle.table_state.specs.Refresh.{Change}
 use Rattle.table_state.specs.Versions.{version_state}
 use Rattle.snapshot_core.specs.Machine.{World, finished_scan, happens, is_cut, published, run, session_of, start}
-use Rattle.snapshot_core.specs.declared.step.Step.{Step}
-use Rattle.snapshot_core.specs.declared.step.Step.TheVariants.{Begin, Again, Learn}
+use Rattle.snapshot_core.specs.declared.steps.Step.{Step}
+use Rattle.snapshot_core.specs.declared.steps.Step.TheVariants.{Begin, Again, Learn}
 
 -- the version that a session pins, if it pins one
 abbrev pub pin_of : World → ℕ → Option ℕ

@@ -8,8 +8,8 @@ use Rattle.tpch_schema.specs.Tables.{all_tables}
 use Rattle.table_state.specs.Lists.{place_of}
 use Rattle.table_state.specs.Refresh.{Change}
 use Rattle.table_state.specs.Versions.{accepted, version_state}
-use Rattle.snapshot_core.specs.declared.step.Step.{Step}
-use Rattle.snapshot_core.specs.declared.step.Step.TheVariants.{Begin, Again, Scan, Publish, Compact, Finish, Learn}
+use Rattle.snapshot_core.specs.declared.steps.Step.{Step}
+use Rattle.snapshot_core.specs.declared.steps.Step.TheVariants.{Begin, Again, Scan, Publish, Compact, Finish, Learn}
 
 -- a piece that a session scanned: its table, its number among that table's pieces, and its rows
 pub record ScannedPiece : Type 0 where

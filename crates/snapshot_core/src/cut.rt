@@ -24,9 +24,10 @@ pub(crate) fn piece<'a>(rows: &'a [Row], lengths: &[usize], number: usize) -> &'
     requires { number < length lengths.now }
     ensures { result.now ≡ slice_index_or (pieces_of lengths.now rows.now) number [] }
 {
-    let mut rest = rows;
-    for n in &lengths[..number] {
-        rest = &rest[(*n).min(rest.len())..];
+    let (first, rest) = rows.split_at(lengths[0].min(rows.len()));
+    if number == 0 {
+        first
+    } else {
+        piece(rest, &lengths[1..], number - 1)
     }
-    &rest[..lengths[number].min(rest.len())]
 }

@@ -5,7 +5,13 @@
 
 mod cut;
 pub mod laws;
+mod machine;
+mod scan;
 mod session;
-mod step;
+mod steps;
 
-pub use step::{Cuts, Step};
+pub use machine::{Machine, step};
+pub use steps::{Cuts, Step};
+
+#[cfg(test)]
+mod tests;

@@ -2,7 +2,7 @@
 ghost use Rattle.std.specs.Prelude.{◌≡◌, ◌++◌, ◌∷◌, [], max, OnErr, OnOk, Some};
 ghost use Rattle.snapshot_core.specs.Machine.{finished, new_session, pinned};
 
-use crate::step::Cuts;
+use crate::steps::Cuts;
 use sql_value::Row;
 use std::alloc::{AllocError, Global};
 use std::marker::Model;

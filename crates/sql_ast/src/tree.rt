@@ -1,7 +1,5 @@
 //! Expressions and queries, which hold each other.
-use crate::words::{
-    Adding, Aggregate, Column, Comparison, JoinKind, Multiplying, Name, Span,
-};
+use crate::words::{Adding, Aggregate, Column, Comparison, JoinKind, Multiplying, Name, Span};
 use ascii_text::Text;
 use fixed_decimal::Scale;
 use sqlite_items::{Boxed, Items};

@@ -5,3 +5,4 @@ pub mod OneAnswer
 pub mod Printable
 pub mod Steps
 pub mod OneKind
+pub mod Answered

@@ -1,5 +1,5 @@
 -- The tokens of a script, the longest from the left, or its first refusal.
-use Rattle.std.specs.Prelude.{◌≡◌, ℕ, ◌+◌, ◌<◌, ◌≤◌, Bool, true, false, not, ◌==◌, ◌&&◌, if◌then◌else◌, List, [], ◌∷◌, take, drop, Ok, Err}
+use Rattle.std.specs.Prelude.{◌≡◌, ℕ, ◌+◌, ◌<◌, ◌≤◌, Bool, true, false, not, ◌==◌, ◌&&◌, ◌⊎◌, if◌then◌else◌, List, [], ◌∷◌, take, drop, Ok, Err}
 use Rattle.std.specs.List.{prefix_len}
 use Rattle.sql_lexer.specs.declared.kind.Kind.{Kind}
 use Rattle.sql_lexer.specs.declared.token.Content.{Content}
@@ -68,6 +68,14 @@ pub record Cuts (at : ℕ) (bytes : List ℕ) (t : Token) : Type 0 where
 abbrev pub InOrder : ℕ → ℕ → List Token → Type 0
 InOrder low high [] = low ≤ high
 InOrder low high (t ∷ ts) = (low ≤ t.start) × (0 < t.len) × InOrder (t.start + t.len) high ts
+
+-- The bytes from a place on are tokens, or have a first refusal.
+abbrev pub HasAnswer : ℕ → List ℕ → Type 0
+HasAnswer at bytes = ((ts : List Token) × Lexes at bytes ts) ⊎ ((r : LexRefusal) × (place : ℕ) × Refuses at bytes r place)
+
+-- every text has tokens or a first refusal
+abbrev pub SomeAnswer : Type 0
+SomeAnswer = (at : ℕ) (bytes : List ℕ) → HasAnswer at bytes
 
 -- a text has one list of tokens
 abbrev pub OneTokens : Type 0

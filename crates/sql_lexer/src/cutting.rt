@@ -3,7 +3,7 @@ ghost use Rattle.std.specs.Prelude.{◌≡◌, ℕ, ◌+◌, ◌^◌, ◌<◌, �
 ghost use Rattle.std.specs.List.{prefix_len};
 ghost use Rattle.sql_lexer.specs.Bytes as byte;
 ghost use Rattle.sql_lexer.specs.Lexing as lexing;
-ghost use Rattle.sql_lexer.specs.Lexing.{Cuts, InOrder, Lexes, NeverBoth, OneRefusal, OneTokens, Refuses};
+ghost use Rattle.sql_lexer.specs.Lexing.{Cuts, InOrder, Lexes, NeverBoth, OneRefusal, OneTokens, Refuses, SomeAnswer};
 ghost use Rattle.sql_lexer.specs.declared.fault.LexRefusal.{LexRefusal};
 
 use crate::content::make;
@@ -139,6 +139,7 @@ pub fn lex(alloc: Global, script: &[u8]) -> Result<Vec<Token>, LexFault>
 
 /// A script has one list of tokens, or one first refusal, and never both.
 pub fn one_answer()
+    ensures some { SomeAnswer }
     ensures tokens { OneTokens }
     ensures refusal { OneRefusal }
     ensures never { NeverBoth }

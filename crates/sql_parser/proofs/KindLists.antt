@@ -35,6 +35,21 @@ direction_words = k.Asc ∷ k.Desc ∷ []
 abbrev pub limit_words : List Kind
 limit_words = k.Limit ∷ k.Fetch ∷ []
 
+abbrev pub inner_words : List Kind
+inner_words = k.Join ∷ k.Inner ∷ []
+
+abbrev pub join_words : List Kind
+join_words = k.Left ∷ inner_words
+
+abbrev pub refresh_words : List Kind
+refresh_words = k.Insert ∷ k.Delete ∷ []
+
+abbrev pub value_words : List Kind
+value_words = k.Text ∷ k.Number ∷ []
+
+abbrev pub statement_words : List Kind
+statement_words = k.Select ∷ k.Create ∷ k.Drop ∷ k.Refresh ∷ k.Run ∷ []
+
 abbrev pub test_words : List Kind
 test_words = k.Equal ∷ k.NotEqual ∷ k.Less ∷ k.LessOrEqual ∷ k.Greater ∷ k.GreaterOrEqual ∷ k.Is ∷ k.Not ∷ denied_words
 
@@ -46,14 +61,26 @@ leaf_first = k.Number ∷ k.Text ∷ k.Date ∷ k.Interval ∷ k.Name ∷ []
 abbrev pub called_first : List Kind
 called_first = k.Extract ∷ k.Substring ∷ k.Count ∷ k.Sum ∷ k.Avg ∷ k.Min ∷ k.Max ∷ leaf_first
 
+abbrev pub operand_first : List Kind
+operand_first = k.OpenParen ∷ k.Exists ∷ k.Case ∷ called_first
+
 abbrev pub unary_first : List Kind
-unary_first = k.Minus ∷ k.OpenParen ∷ k.Case ∷ called_first
+unary_first = k.Minus ∷ operand_first
 
 abbrev pub part_first : List Kind
 part_first = k.Not ∷ unary_first
 
 abbrev pub selection_first : List Kind
 selection_first = k.Star ∷ part_first
+
+abbrev pub inside_first : List Kind
+inside_first = k.Select ∷ part_first
+
+abbrev pub derived_first : List Kind
+derived_first = k.OpenParen ∷ []
+
+abbrev pub item_first : List Kind
+item_first = k.OpenParen ∷ k.Name ∷ []
 
 abbrev pub filters_first : List Kind
 filters_first = k.Where ∷ k.Group ∷ k.Having ∷ []
@@ -93,8 +120,20 @@ on_item = k.As ∷ k.Name ∷ on_whole
 abbrev pub on_items : List Kind
 on_items = k.Comma ∷ on_item
 
+abbrev pub on_names : List Kind
+on_names = k.Comma ∷ []
+
+abbrev pub on_derived : List Kind
+on_derived = k.OpenParen ∷ []
+
+abbrev pub on_from_item : List Kind
+on_from_item = k.OpenParen ∷ alias_words
+
+abbrev pub on_joined : List Kind
+on_joined = k.Left ∷ k.Join ∷ k.Inner ∷ k.As ∷ k.Name ∷ on_whole
+
 abbrev pub on_from : List Kind
-on_from = k.Comma ∷ alias_words
+on_from = k.Comma ∷ on_joined
 
 abbrev pub on_columns : List Kind
 on_columns = k.Comma ∷ k.Point ∷ []
@@ -106,7 +145,7 @@ abbrev pub on_filters : List Kind
 on_filters = k.Where ∷ k.Group ∷ k.Having ∷ on_list
 
 abbrev pub on_query : List Kind
-on_query = k.As ∷ k.Name ∷ on_filters
+on_query = k.Left ∷ k.Join ∷ k.Inner ∷ k.As ∷ k.Name ∷ on_filters
 
 abbrev pub on_limits : List Kind
 on_limits = k.Order ∷ k.Limit ∷ k.Fetch ∷ on_keys

@@ -4,5 +4,7 @@ pub mod LineLaws
 pub mod LiftLaws
 pub mod Levels
 pub mod Unfold
-pub mod Calls
+pub mod Inner
 pub mod Whole
+pub mod Answered
+pub mod Parentheses

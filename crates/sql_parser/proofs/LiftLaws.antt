@@ -1,29 +1,38 @@
 -- Each line of the grammar with larger limits: its texts are the same, and pass none of them.
-use Rattle.std.proofs.Common.{ℕ, ◌≤◌, true, false, arith, [], Some, None}
+use Rattle.std.proofs.Common.{ℕ, zero, suc, ◌≤◌, true, false, arith, [], ◌∷◌, Some, None}
 use Rattle.sql_lexer.specs.declared.kind.Kind.TheVariants as k
 use Rattle.sql_lexer.specs.declared.token.Token.{Token}
-use Rattle.sql_ast.specs.declared.expr.Expr.{Expr}
-use Rattle.sql_ast.specs.declared.expr.Expr.TheVariants as e
-use Rattle.sql_ast.specs.declared.expr.Comparison.TheVariants as comparison
-use Rattle.sql_ast.specs.declared.expr.Span.TheVariants as span
-use Rattle.sql_ast.specs.declared.expr.Aggregate.TheVariants as aggregate
-use Rattle.sql_ast.specs.declared.expr.Adding.TheVariants as adding
-use Rattle.sql_ast.specs.declared.expr.Multiplying.TheVariants as multiplying
-use Rattle.sql_ast.specs.declared.query.Selected.TheVariants as selected
-use Rattle.sql_ast.specs.declared.query.FromItem.TheVariants as from_item
-use Rattle.sql_ast.specs.declared.query.Clause.TheVariants as clause
+use Rattle.sql_ast.specs.declared.tree.Expr.{Expr}
+use Rattle.sql_ast.specs.declared.tree.Expr.TheVariants as e
+use Rattle.sql_ast.specs.declared.words.Comparison.TheVariants as comparison
+use Rattle.sql_ast.specs.declared.words.Span.TheVariants as span
+use Rattle.sql_ast.specs.declared.words.Aggregate.TheVariants as aggregate
+use Rattle.sql_ast.specs.declared.words.Adding.TheVariants as adding
+use Rattle.sql_ast.specs.declared.words.Multiplying.TheVariants as multiplying
+use Rattle.sql_ast.specs.declared.tree.Selected.TheVariants as selected
+use Rattle.sql_ast.specs.declared.tree.FromItem.TheVariants as from_item
+use Rattle.sql_ast.specs.declared.tree.Clause.TheVariants as clause
+use Rattle.sql_ast.specs.declared.tree.Block.{Block}
+use Rattle.sql_ast.specs.declared.words.JoinKind.TheVariants as join_kind
+use Rattle.sql_ast.specs.declared.statement.RefreshKind.TheVariants as refresh_kind
+use Rattle.sql_ast.specs.declared.statement.Statement.TheVariants as statements
 use Rattle.sql_parser.specs.declared.test.Test.TheVariants as t
 use Rattle.sql_lexer.specs.Kinds.{is}
-use Rattle.grammar_laws.specs.Lines.{Part}
+use Rattle.grammar_laws.specs.Lines.{Part, Then, One}
 use Rattle.grammar_laws.specs.Readings.{Reading}
 use Rattle.grammar_laws.specs.Lifting.{Lifts}
 use Rattle.grammar_laws.proofs.Lift.{Lifts-one, Lifts-or, Lifts-map, Lifts-then, Lifts-empty, Lifts-list, Lifts-level, Below, below, always}
 use Rattle.grammar_laws.proofs.Lawful.{Line, Deeper, line_nonempty}
 use Rattle.sql_parser.specs.Kinds.{kinds}
-use Rattle.sql_parser.specs.Values.{text_of, count_of, number, text, is_count, is_digits, first, second, pair, cons, constant, after_word, after_point, column, negative, negation, factor, term, product, sum, all_of, any_of, arm, case_of, date, interval, extract, substring, distinct_count, between, like, in_list, is_null, is_not_null, denied, tested, item, distinct, plain_selection, condition, filters, query, order_key, statement}
-use Rattle.sql_parser.specs.Grammar.{NameLine, Literal, Number, Digits, SpanWord, ColumnTail, ColumnLine, MultiplyWord, AddWord, Product, Sum, Conjunction, Whole, ExprList, ArmLine, Arms, ElseTail, CaseBody, CaseLine, DateText, DateLine, Precision, IntervalLine, ExtractInside, ExtractLine, Places, SubstringInside, SubstringLine, CountInside, CountLine, AggregateWord, AggregateLine, Call, Leaf, UnaryLine, ComparisonWord, CompareLine, NullLine, BetweenLine, LikeLine, InLine, DenyTest, TestTail, Predicate, PartLine, Alias, ItemLine, Selection, SelectLine, FromItemLine, FromLine, WhereTail, GroupTail, HavingTail, FiltersTail, QueryLine, Direction, KeyLine, OrderTail, RowsOnly, LimitTail, StatementLine, EndedLine}
-use Rattle.sql_parser.proofs.LineLaws.{law-ColumnLine, law-Product, law-Conjunction, law-Whole, law-ArmLine, law-ItemLine, law-FromItemLine, law-KeyLine}
-use Rattle.sql_parser.proofs.KindLists.{unary_first, part_first, on_unary, on_part}
+use Rattle.sql_parser.specs.Values.{text_of, count_of, number, text, is_count, is_digits, first, second, pair, cons, constant, after_word, after_point, column, negative, negation, factor, term, product, sum, all_of, any_of, arm, case_of, date, interval, extract, substring, distinct_count, between, like, in_list, in_query, is_null, is_not_null, denied, tested, item, distinct, plain_selection, derived, join, joined, condition, filters, block, order_key, ordered, create_view, text_value, number_value}
+use Rattle.sql_parser.specs.Grammar.{NameLine, Literal, Number, Digits, SpanWord, ColumnTail, ColumnLine, MultiplyWord, AddWord, Product, Sum, Conjunction, Whole, ExprList, ArmLine, Arms, ElseTail, CaseBody, CaseLine, DateText, DateLine, Precision, IntervalLine, ExtractInside, ExtractLine, Places, SubstringInside, SubstringLine, CountInside, CountLine, AggregateWord, AggregateLine, Call, Leaf, ParensInside, Parens, Subquery, ExistsLine, Operand, UnaryLine, ComparisonWord, CompareLine, NullLine, BetweenLine, LikeLine, InInside, InLine, DenyTest, TestTail, Predicate, PartLine, Alias, ItemLine, Selection, SelectLine, Names, ColumnNames, TableLine, DerivedAlias, DerivedLine, FromItemLine, InnerWords, LeftWords, JoinWords, JoinedItem, JoinedLine, FromLine, WhereTail, GroupTail, HavingTail, FiltersTail, QueryLine, Direction, KeyLine, OrderTail, RowsOnly, LimitTail, OrderedLine, CreateLine, DropLine, RefreshWord, RefreshLine, ValueLine, ValueList, RunInside, RunLine, StatementLine, EndedLine}
+use Rattle.sql_parser.proofs.LineLaws.{law-NameLine, law-ColumnLine, law-ValueLine, law-Product, law-Conjunction, law-Whole, law-ArmLine, law-ItemLine, law-JoinedItem, law-JoinedLine, law-KeyLine}
+use Rattle.sql_parser.proofs.KindLists.{unary_first, part_first, on_unary, on_part, on_query}
+
+-- of two things that stand inside a level
+below_both : {A B C : Type 0} {G G' : Part Token A} {H H' : Part Token B} {X X' : Part Token C} (n : ℕ) → ((m : ℕ) → m ≤ n → Lifts m G G' → Lifts m H H' → Lifts m X X') → Below n G G' → Below n H H' → Below n X X'
+below_both zero f g h = tt
+below_both (suc n) f g h = f n (omega arith) g h
 
 -- ---- what holds no expression
 module _ (n : ℕ) where
@@ -81,8 +90,26 @@ module _ (n : ℕ) where
   lift-Alias = Lifts-or n (Lifts-then n after_word (Lifts-one n (is k.As)) lift-NameLine)
       (Lifts-or n (Lifts-map n Some lift-NameLine) (Lifts-empty n None))
 
-  pub lift-FromItemLine : Lifts n FromItemLine FromItemLine
-  lift-FromItemLine = Lifts-then n from_item.Table lift-NameLine lift-Alias
+  pub lift-TableLine : Lifts n TableLine TableLine
+  lift-TableLine = Lifts-then n from_item.Table lift-NameLine lift-Alias
+
+  pub lift-DerivedAlias : Lifts n DerivedAlias DerivedAlias
+  lift-DerivedAlias = Lifts-or n (Lifts-then n second (Lifts-one n (is k.As)) lift-NameLine) lift-NameLine
+
+  pub lift-JoinWords : Lifts n JoinWords JoinWords
+  lift-JoinWords = Lifts-or n
+      (Lifts-map n (constant join_kind.LeftOuter) (Lifts-then n second (Lifts-one n (is k.Left)) (Lifts-or n (Lifts-then n second (Lifts-one n (is k.Outer)) (Lifts-one n (is k.Join))) (Lifts-one n (is k.Join)))))
+      (Lifts-or n (Lifts-map n (constant join_kind.Inner) (Lifts-one n (is k.Join))) (Lifts-map n (constant join_kind.Inner) (Lifts-then n second (Lifts-one n (is k.Inner)) (Lifts-one n (is k.Join)))))
+
+  pub lift-DropLine : Lifts n DropLine DropLine
+  lift-DropLine = Lifts-then n second (Lifts-then n second (Lifts-one n (is k.Drop)) (Lifts-one n (is k.View))) (Lifts-map n statements.DropView lift-NameLine)
+
+  pub lift-RefreshLine : Lifts n RefreshLine RefreshLine
+  lift-RefreshLine = Lifts-then n second (Lifts-one n (is k.Refresh))
+      (Lifts-then n statements.Refresh (Lifts-or n (Lifts-map n (constant refresh_kind.Insert) (Lifts-one n (is k.Insert))) (Lifts-map n (constant refresh_kind.Delete) (Lifts-one n (is k.Delete)))) lift-Number)
+
+  pub lift-ValueLine : Lifts n ValueLine ValueLine
+  lift-ValueLine = Lifts-or n (Lifts-map n text_value (Lifts-one n (is k.Text))) (Lifts-map n number_value (Lifts-one n (is k.Number)))
 
   pub lift-Direction : Lifts n Direction Direction
   lift-Direction = Lifts-or n (Lifts-map n (constant false) (Lifts-one n (is k.Asc)))
@@ -120,14 +147,34 @@ module _ (n room : ℕ) where
 
 -- ---- lists of what holds no expression
 module _ (n many : ℕ) (le : n ≤ many) (wide : ℕ) where
-  pub lift-FromLine : Lifts n (FromLine wide) (FromLine many)
-  lift-FromLine = Lifts-then n second (Lifts-one n (is k.From)) (Lifts-then n cons (lift-FromItemLine n) (Lifts-list n many second wide le (line_nonempty {P = Unit {0}} {S = Unit {0}} law-FromItemLine) (Lifts-one n (is k.Comma)) (lift-FromItemLine n)))
+  pub lift-Names : Lifts n (Names wide) (Names many)
+  lift-Names = Lifts-then n cons (lift-NameLine n) (Lifts-list n many second wide le (line_nonempty {P = Unit {0}} {S = Unit {0}} law-NameLine) (Lifts-one n (is k.Comma)) (lift-NameLine n))
+
+  pub lift-RunInside : Lifts n (RunInside wide) (RunInside many)
+  lift-RunInside = Lifts-or n (Lifts-map n (constant []) (Lifts-one n (is k.CloseParen)))
+      (Lifts-then n first (Lifts-then n cons (lift-ValueLine n) (Lifts-list n many second wide le (line_nonempty {P = Unit {0}} {S = Unit {0}} law-ValueLine) (Lifts-one n (is k.Comma)) (lift-ValueLine n))) (Lifts-one n (is k.CloseParen)))
 
   pub lift-GroupTail : Lifts n (GroupTail wide) (GroupTail many)
   lift-GroupTail = Lifts-or n (Lifts-then n second (Lifts-then n second (Lifts-one n (is k.Group)) (Lifts-one n (is k.By))) (Lifts-then n cons (lift-ColumnLine n) (Lifts-list n many second wide le (line_nonempty {P = Unit {0}} {S = Unit {0}} law-ColumnLine) (Lifts-one n (is k.Comma)) (lift-ColumnLine n)))) (Lifts-empty n [])
 
   pub lift-OrderTail : Lifts n (OrderTail wide) (OrderTail many)
   lift-OrderTail = Lifts-or n (Lifts-then n second (Lifts-then n second (Lifts-one n (is k.Order)) (Lifts-one n (is k.By))) (Lifts-then n cons (lift-KeyLine n) (Lifts-list n many second wide le (line_nonempty {P = Unit {0}} {S = Unit {0}} law-KeyLine) (Lifts-one n (is k.Comma)) (lift-KeyLine n)))) (Lifts-empty n [])
+
+-- ---- lists in parentheses of what holds no expression
+module _ (n many : ℕ) (le : n ≤ many) (wide room : ℕ) where
+  pub lift-ColumnNames : Lifts n (ColumnNames wide room) (ColumnNames many n)
+  lift-ColumnNames = Lifts-or n (Lifts-level n room (is k.OpenParen) second (fewer n le)) (Lifts-empty n [])
+    where
+      fewer : (n : ℕ) → n ≤ many → Below n (Then first (Names wide) (One (is k.CloseParen))) (Then first (Names many) (One (is k.CloseParen)))
+      fewer zero le = tt
+      fewer (suc m) le = Lifts-then m first (lift-Names m many (omega arith) wide) (Lifts-one m (is k.CloseParen))
+
+  pub lift-RunLine : Lifts n (RunLine wide room) (RunLine many n)
+  lift-RunLine = Lifts-then n second (Lifts-one n (is k.Run)) (Lifts-then n statements.Run (lift-Number n) (Lifts-level n room (is k.OpenParen) second (fewer n le)))
+    where
+      fewer : (n : ℕ) → n ≤ many → Below n (RunInside wide) (RunInside many)
+      fewer zero le = tt
+      fewer (suc m) le = lift-RunInside m many (omega arith) wide
 
 -- ---- sums
 module _ {P S : Type 0} {U V : Part Token Expr} {u : Reading Token Expr}
@@ -197,15 +244,6 @@ module _ {P S : Type 0} {N M : Part Token Expr} {w : Reading Token Expr}
   pub lift-FiltersTail : Lifts n (FiltersTail wide N) (FiltersTail many M)
   lift-FiltersTail = Lifts-then n filters lift-WhereTail (Lifts-then n pair (lift-GroupTail n many le wide) lift-HavingTail)
 
-  pub lift-QueryLine : Lifts n (QueryLine wide N) (QueryLine many M)
-  lift-QueryLine = Lifts-then n query lift-SelectLine (Lifts-then n pair (lift-FromLine n many le wide) lift-FiltersTail)
-
-  pub lift-StatementLine : Lifts n (StatementLine wide N) (StatementLine many M)
-  lift-StatementLine = Lifts-then n statement lift-QueryLine (Lifts-then n pair (lift-OrderTail n many le wide) (lift-LimitTail n))
-
-  pub lift-EndedLine : Lifts n (EndedLine wide N) (EndedLine many M)
-  lift-EndedLine = Lifts-then n first lift-StatementLine (Lifts-one n (is k.Semicolon))
-
 -- ---- what holds them one level further in
 module _ {S : Type 0} {N M : Part Token Expr} {w : Reading Token Expr}
     (n many : ℕ) (le : n ≤ many) (wide room : ℕ) (law_part : Line kinds (Deeper room) S part_first on_part N w) (lift_part : Below n N M) where
@@ -227,32 +265,90 @@ module _ {S : Type 0} {N M : Part Token Expr} {w : Reading Token Expr}
   pub lift-Call : Lifts n (Call wide room N) (Call many n M)
   lift-Call = Lifts-or n lift-ExtractLine (Lifts-or n lift-SubstringLine (Lifts-or n lift-CountLine lift-AggregateLine))
 
-  pub lift-InLine : Lifts n (InLine wide room N) (InLine many n M)
-  lift-InLine = Lifts-then n in_list (Lifts-one n (is k.In)) (Lifts-level n room (is k.OpenParen) second (below n (λ m lm h. (Lifts-then m first (lift-ExprList m many (omega arith) wide law_part h) (Lifts-one m (is k.CloseParen)))) lift_part))
+-- ---- what holds queries one level further in
+module _ {B C : Part Token Block} (n many : ℕ) (le : n ≤ many) (wide room : ℕ) (lift_query : Below n B C) where
+  pub lift-Subquery : Lifts n (Subquery room B) (Subquery n C)
+  lift-Subquery = Lifts-level n room (is k.OpenParen) second (below n (λ m lm h. (Lifts-then m first h (Lifts-one m (is k.CloseParen)))) lift_query)
 
--- ---- the two parts that lead back to themselves
-module _ {S : Type 0} {U V : Part Token Expr} {u : Reading Token Expr} {N M : Part Token Expr} {w : Reading Token Expr}
-    (n many : ℕ) (le : n ≤ many) (wide room : ℕ) (law_unary : Line kinds (Deeper room) S unary_first on_unary U u) (law_part : Line kinds (Deeper room) S part_first on_part N w) (lift_unary : Below n U V) (lift_part : Below n N M) where
-  pub lift-UnaryLine : Lifts n (UnaryLine wide room U N) (UnaryLine many n V M)
-  lift-UnaryLine = Lifts-or n (Lifts-level n room (is k.Minus) negative (below n (λ m lm h. h) lift_unary))
-      (Lifts-or n (Lifts-level n room (is k.OpenParen) second (below n (λ m lm h. (Lifts-then m first (lift-Whole m many (omega arith) wide law_part h) (Lifts-one m (is k.CloseParen)))) lift_part))
+  pub lift-ExistsLine : Lifts n (ExistsLine room B) (ExistsLine n C)
+  lift-ExistsLine = Lifts-then n second (Lifts-one n (is k.Exists)) (Lifts-map n e.Exists lift-Subquery)
+
+  pub lift-FromItemLine : Lifts n (FromItemLine wide room B) (FromItemLine many n C)
+  lift-FromItemLine = Lifts-or n
+      (Lifts-then n derived lift-Subquery (Lifts-then n pair (lift-DerivedAlias n) (lift-ColumnNames n many le wide room)))
+      (lift-TableLine n)
+
+-- ---- what holds both one level further in
+module _ {S : Type 0} {N M : Part Token Expr} {w : Reading Token Expr} {B C : Part Token Block}
+    (n many : ℕ) (le : n ≤ many) (wide room : ℕ) (law_part : Line kinds (Deeper room) S part_first on_part N w) (lift_part : Below n N M) (lift_query : Below n B C) where
+  pub lift-Parens : Lifts n (Parens wide room N B) (Parens many n M C)
+  lift-Parens = Lifts-level n room (is k.OpenParen) second
+      (below_both n (λ m lm h g. Lifts-then m first (Lifts-or m (Lifts-map m e.Scalar g) (lift-Whole m many (omega arith) wide law_part h)) (Lifts-one m (is k.CloseParen))) lift_part lift_query)
+
+  pub lift-InLine : Lifts n (InLine wide room N B) (InLine many n M C)
+  lift-InLine = Lifts-then n second (Lifts-one n (is k.In)) (Lifts-level n room (is k.OpenParen) second
+      (below_both n (λ m lm h g. Lifts-then m first (Lifts-or m (Lifts-map m in_query g) (Lifts-map m in_list (lift-ExprList m many (omega arith) wide law_part h))) (Lifts-one m (is k.CloseParen))) lift_part lift_query))
+
+  pub lift-Operand : Lifts n (Operand wide room N B) (Operand many n M C)
+  lift-Operand = Lifts-or n lift-Parens
+      (Lifts-or n (lift-ExistsLine n many le wide room lift_query)
       (Lifts-or n (lift-CaseLine n many le wide room law_part lift_part)
       (Lifts-or n (lift-Call n many le wide room law_part lift_part) (lift-Leaf n room))))
 
-module _ {P S : Type 0} {U V : Part Token Expr} {u : Reading Token Expr} {N M : Part Token Expr} {w : Reading Token Expr}
-    (n many : ℕ) (le : n ≤ many) (wide room : ℕ) (law_unary : Line kinds P S unary_first on_unary U u) (law_part : Line kinds (Deeper room) S part_first on_part N w) (lift_unary : Lifts n U V) (lift_part : Below n N M) where
-  pub lift-DenyTest : Lifts n (DenyTest wide room U N) (DenyTest many n V M)
-  lift-DenyTest = Lifts-or n (lift-BetweenLine n many le wide law_unary lift_unary)
-      (Lifts-or n (lift-LikeLine n) (lift-InLine n many le wide room law_part lift_part))
+-- ---- the three parts that lead back to themselves
+module _ {S : Type 0} {U V : Part Token Expr} {N M : Part Token Expr} {w : Reading Token Expr} {B C : Part Token Block}
+    (n many : ℕ) (le : n ≤ many) (wide room : ℕ) (law_part : Line kinds (Deeper room) S part_first on_part N w) (lift_unary : Below n U V) (lift_part : Below n N M) (lift_query : Below n B C) where
+  pub lift-UnaryLine : Lifts n (UnaryLine wide room U N B) (UnaryLine many n V M C)
+  lift-UnaryLine = Lifts-or n (Lifts-level n room (is k.Minus) negative (below n (λ m lm h. h) lift_unary)) (lift-Operand n many le wide room law_part lift_part lift_query)
 
-  pub lift-TestTail : Lifts n (TestTail wide room U N) (TestTail many n V M)
+module _ {P S : Type 0} {U V : Part Token Expr} {u : Reading Token Expr} {N M : Part Token Expr} {w : Reading Token Expr} {B C : Part Token Block}
+    (n many : ℕ) (le : n ≤ many) (wide room : ℕ) (law_unary : Line kinds P S unary_first on_unary U u) (law_part : Line kinds (Deeper room) S part_first on_part N w)
+    (lift_unary : Lifts n U V) (lift_part : Below n N M) (lift_query : Below n B C) where
+  pub lift-DenyTest : Lifts n (DenyTest wide room U N B) (DenyTest many n V M C)
+  lift-DenyTest = Lifts-or n (lift-BetweenLine n many le wide law_unary lift_unary)
+      (Lifts-or n (lift-LikeLine n) (lift-InLine n many le wide room law_part lift_part lift_query))
+
+  pub lift-TestTail : Lifts n (TestTail wide room U N B) (TestTail many n V M C)
   lift-TestTail = Lifts-or n (lift-CompareLine n many le wide law_unary lift_unary)
       (Lifts-or n (lift-NullLine n)
       (Lifts-or n (Lifts-then n denied (Lifts-one n (is k.Not)) lift-DenyTest)
       (Lifts-or n lift-DenyTest (Lifts-empty n t.Holds))))
 
-  pub lift-Predicate : Lifts n (Predicate wide room U N) (Predicate many n V M)
+  pub lift-Predicate : Lifts n (Predicate wide room U N B) (Predicate many n V M C)
   lift-Predicate = Lifts-then n tested (lift-Sum n many le wide law_unary lift_unary) lift-TestTail
 
-  pub lift-PartLine : Lifts n (PartLine wide room U N) (PartLine many n V M)
+  pub lift-PartLine : Lifts n (PartLine wide room U N B) (PartLine many n V M C)
   lift-PartLine = Lifts-or n (Lifts-level n room (is k.Not) negation (below n (λ m lm h. h) lift_part)) lift-Predicate
+
+module _ {P S : Type 0} {N M : Part Token Expr} {w : Reading Token Expr} {B C : Part Token Block} {b : Reading Token Block}
+    (n many : ℕ) (le : n ≤ many) (wide room : ℕ) (law_part : Line kinds P S part_first on_part N w) (law_query : Line kinds (Deeper room) S (k.Select ∷ []) on_query B b)
+    (lift_part : Lifts n N M) (lift_query : Below n B C) where
+  pub lift-JoinedItem : Lifts n (JoinedItem wide room N B) (JoinedItem many n M C)
+  lift-JoinedItem = Lifts-then n pair (lift-FromItemLine n many le wide room lift_query) (Lifts-then n second (Lifts-one n (is k.On)) (lift-Whole n many le wide law_part lift_part))
+
+  pub lift-JoinedLine : Lifts n (JoinedLine wide room N B) (JoinedLine many n M C)
+  lift-JoinedLine = Lifts-then n joined (lift-FromItemLine n many le wide room lift_query)
+      (Lifts-list n many join wide le (line_nonempty (law-JoinedItem wide room law_part law_query)) (lift-JoinWords n) lift-JoinedItem)
+
+  pub lift-FromLine : Lifts n (FromLine wide room N B) (FromLine many n M C)
+  lift-FromLine = Lifts-then n second (Lifts-one n (is k.From))
+      (Lifts-then n cons lift-JoinedLine (Lifts-list n many second wide le (line_nonempty (law-JoinedLine wide room law_part law_query)) (Lifts-one n (is k.Comma)) lift-JoinedLine))
+
+  pub lift-QueryLine : Lifts n (QueryLine wide room N B) (QueryLine many n M C)
+  lift-QueryLine = Lifts-then n block (lift-SelectLine n many le wide law_part lift_part) (Lifts-then n pair lift-FromLine (lift-FiltersTail n many le wide law_part lift_part))
+
+-- ---- statements
+module _ {B C : Part Token Block} (n many : ℕ) (le : n ≤ many) (wide room : ℕ) (lift_query : Lifts n B C) where
+  pub lift-OrderedLine : Lifts n (OrderedLine wide B) (OrderedLine many C)
+  lift-OrderedLine = Lifts-then n ordered lift_query (Lifts-then n pair (lift-OrderTail n many le wide) (lift-LimitTail n))
+
+  pub lift-CreateLine : Lifts n (CreateLine wide room B) (CreateLine many n C)
+  lift-CreateLine = Lifts-then n create_view
+      (Lifts-then n second (Lifts-then n second (Lifts-one n (is k.Create)) (Lifts-one n (is k.View))) (Lifts-then n pair (lift-NameLine n) (lift-ColumnNames n many le wide room)))
+      (Lifts-then n second (Lifts-one n (is k.As)) lift_query)
+
+  pub lift-StatementLine : Lifts n (StatementLine wide room B) (StatementLine many n C)
+  lift-StatementLine = Lifts-or n lift-OrderedLine (Lifts-or n lift-CreateLine (Lifts-or n (lift-DropLine n) (Lifts-or n (lift-RefreshLine n) (lift-RunLine n many le wide room))))
+
+  pub lift-EndedLine : Lifts n (EndedLine wide room B) (EndedLine many n C)
+  lift-EndedLine = Lifts-then n first lift-StatementLine (Lifts-one n (is k.Semicolon))

@@ -2,16 +2,20 @@
 use Rattle.std.proofs.Common.{ℕ, true, false, refl, [], ◌∷◌, Some, None}
 use Rattle.sql_lexer.specs.declared.kind.Kind.TheVariants as k
 use Rattle.sql_lexer.specs.declared.token.Token.{Token}
-use Rattle.sql_ast.specs.declared.expr.Expr.{Expr}
-use Rattle.sql_ast.specs.declared.expr.Expr.TheVariants as e
-use Rattle.sql_ast.specs.declared.expr.Comparison.TheVariants as comparison
-use Rattle.sql_ast.specs.declared.expr.Span.TheVariants as span
-use Rattle.sql_ast.specs.declared.expr.Aggregate.TheVariants as aggregate
-use Rattle.sql_ast.specs.declared.expr.Adding.TheVariants as adding
-use Rattle.sql_ast.specs.declared.expr.Multiplying.TheVariants as multiplying
-use Rattle.sql_ast.specs.declared.query.Selected.TheVariants as selected
-use Rattle.sql_ast.specs.declared.query.FromItem.TheVariants as from_item
-use Rattle.sql_ast.specs.declared.query.Clause.TheVariants as clause
+use Rattle.sql_ast.specs.declared.tree.Expr.{Expr}
+use Rattle.sql_ast.specs.declared.tree.Expr.TheVariants as e
+use Rattle.sql_ast.specs.declared.words.Comparison.TheVariants as comparison
+use Rattle.sql_ast.specs.declared.words.Span.TheVariants as span
+use Rattle.sql_ast.specs.declared.words.Aggregate.TheVariants as aggregate
+use Rattle.sql_ast.specs.declared.words.Adding.TheVariants as adding
+use Rattle.sql_ast.specs.declared.words.Multiplying.TheVariants as multiplying
+use Rattle.sql_ast.specs.declared.tree.Selected.TheVariants as selected
+use Rattle.sql_ast.specs.declared.tree.FromItem.TheVariants as from_item
+use Rattle.sql_ast.specs.declared.tree.Clause.TheVariants as clause
+use Rattle.sql_ast.specs.declared.tree.Block.{Block}
+use Rattle.sql_ast.specs.declared.words.JoinKind.TheVariants as join_kind
+use Rattle.sql_ast.specs.declared.statement.RefreshKind.TheVariants as refresh_kind
+use Rattle.sql_ast.specs.declared.statement.Statement.TheVariants as statements
 use Rattle.sql_parser.specs.declared.test.Test.TheVariants as t
 use Rattle.sql_lexer.specs.Kinds.{is}
 use Rattle.grammar_laws.specs.Kinds.{among}
@@ -19,11 +23,11 @@ use Rattle.grammar_laws.specs.Lines.{Part}
 use Rattle.grammar_laws.specs.Readings.{Reading}
 use Rattle.grammar_laws.proofs.Lawful.{Line, Tail, Deeper, is_among, line_kind, line_then, line_then_tail, tail_then, line_map, tail_empty, line_or, tail_or, line_opens, tail_links, tail_repeats}
 use Rattle.sql_parser.specs.Kinds.{kinds}
-use Rattle.sql_parser.specs.Values.{text_of, count_of, number, text, first, second, pair, cons, constant, after_word, after_point, column, negative, negation, factor, term, product, sum, all_of, any_of, arm, case_of, date, interval, extract, substring, distinct_count, between, like, in_list, is_null, is_not_null, denied, tested, item, distinct, plain_selection, condition, filters, query, order_key, statement}
-use Rattle.sql_parser.specs.Grammar.{NameLine, Literal, Number, Digits, SpanWord, ColumnTail, ColumnLine, MultiplyWord, AddWord, Product, Sum, Conjunction, Whole, ExprList, ArmLine, Arms, ElseTail, CaseBody, CaseLine, DateText, DateLine, Precision, IntervalLine, ExtractInside, ExtractLine, Places, SubstringInside, SubstringLine, CountInside, CountLine, AggregateWord, AggregateLine, Call, Leaf, UnaryLine, ComparisonWord, CompareLine, NullLine, BetweenLine, LikeLine, InLine, DenyTest, TestTail, Predicate, PartLine, Alias, ItemLine, Selection, SelectLine, FromItemLine, FromLine, WhereTail, GroupTail, HavingTail, FiltersTail, QueryLine, Direction, KeyLine, OrderTail, RowsOnly, LimitTail, StatementLine, EndedLine}
-use Rattle.sql_parser.specs.Readings.{read_name, read_literal, read_number, read_digits, read_span, read_column_tail, read_column, read_multiply, read_add, read_product, read_sum, read_conjunction, read_whole, read_expr_list, read_arm, read_arms, read_else, read_case_body, read_case, read_date_text, read_date, read_precision, read_interval, read_extract_inside, read_extract, read_places, read_substring_inside, read_substring, read_count_inside, read_count, read_aggregate_word, read_aggregate, read_call, read_leaf, read_unary_line, read_comparison, read_compare, read_null, read_between, read_like, read_in, read_deny_test, read_test, read_predicate, read_part_line, read_alias, read_item, read_selection, read_select, read_from_item, read_from, read_where, read_group, read_having, read_filters, read_query, read_direction, read_order_key, read_order, read_rows_only, read_limit, read_statement, read_ended}
+use Rattle.sql_parser.specs.Values.{text_of, count_of, number, text, is_count, is_digits, first, second, pair, cons, constant, after_word, after_point, column, negative, negation, factor, term, product, sum, all_of, any_of, arm, case_of, date, interval, extract, substring, distinct_count, between, like, in_list, in_query, is_null, is_not_null, denied, tested, item, distinct, plain_selection, derived, join, joined, condition, filters, block, order_key, ordered, create_view, text_value, number_value}
+use Rattle.sql_parser.specs.Grammar.{NameLine, Literal, Number, Digits, SpanWord, ColumnTail, ColumnLine, MultiplyWord, AddWord, Product, Sum, Conjunction, Whole, ExprList, ArmLine, Arms, ElseTail, CaseBody, CaseLine, DateText, DateLine, Precision, IntervalLine, ExtractInside, ExtractLine, Places, SubstringInside, SubstringLine, CountInside, CountLine, AggregateWord, AggregateLine, Call, Leaf, ParensInside, Parens, Subquery, ExistsLine, Operand, UnaryLine, ComparisonWord, CompareLine, NullLine, BetweenLine, LikeLine, InInside, InLine, DenyTest, TestTail, Predicate, PartLine, Alias, ItemLine, Selection, SelectLine, Names, ColumnNames, TableLine, DerivedAlias, DerivedLine, FromItemLine, InnerWords, LeftWords, JoinWords, JoinedItem, JoinedLine, FromLine, WhereTail, GroupTail, HavingTail, FiltersTail, QueryLine, Direction, KeyLine, OrderTail, RowsOnly, LimitTail, OrderedLine, CreateLine, DropLine, RefreshWord, RefreshLine, ValueLine, ValueList, RunInside, RunLine, StatementLine, EndedLine}
+use Rattle.sql_parser.specs.Readings.{read_name, read_literal, read_number, read_digits, read_span, read_column_tail, read_column, read_multiply, read_add, read_product, read_sum, read_conjunction, read_whole, read_expr_list, read_arm, read_arms, read_else, read_case_body, read_case, read_date_text, read_date, read_precision, read_interval, read_extract_inside, read_extract, read_places, read_substring_inside, read_substring, read_count_inside, read_count, read_aggregate_word, read_aggregate, read_call, read_leaf, read_parens_inside, read_parens, read_subquery, read_exists, read_operand, read_unary_line, read_comparison, read_compare, read_null, read_between, read_like, read_in_inside, read_in, read_deny_test, read_test, read_predicate, read_part_line, read_alias, read_item, read_selection, read_select, read_names, read_column_names, read_table, read_derived_alias, read_derived, read_from_item, read_inner_words, read_left_words, read_join_words, read_joined_item, read_joined, read_from, read_where, read_group, read_having, read_filters, read_query_line, read_direction, read_order_key, read_order, read_rows_only, read_limit, read_ordered, read_view_name, read_create, read_drop, read_refresh_word, read_refresh, read_value, read_values, read_run_inside, read_run, read_statement, read_ended}
 use Rattle.sql_parser.proofs.Samples.{line_count, line_digits}
-use Rattle.sql_parser.proofs.KindLists.{span_words, multiply_words, add_words, comparison_words, denied_words, aggregate_words, call_words, alias_words, direction_words, limit_words, test_words, leaf_first, called_first, unary_first, part_first, selection_first, filters_first, on_unary, on_product, on_sum, on_denied, on_part, on_conjunction, on_whole, on_list, on_arms, on_item, on_items, on_from, on_columns, on_keys, on_filters, on_query, on_limits, on_statement}
+use Rattle.sql_parser.proofs.KindLists.{span_words, multiply_words, add_words, comparison_words, denied_words, aggregate_words, call_words, alias_words, direction_words, limit_words, inner_words, join_words, refresh_words, value_words, statement_words, test_words, leaf_first, called_first, operand_first, unary_first, part_first, selection_first, inside_first, derived_first, item_first, filters_first, on_unary, on_product, on_sum, on_denied, on_part, on_conjunction, on_whole, on_list, on_arms, on_item, on_items, on_names, on_derived, on_from_item, on_joined, on_from, on_columns, on_keys, on_filters, on_query, on_limits, on_statement}
 
 -- ---- what holds no expression
 module _ {P S : Type 0} where
@@ -96,9 +100,43 @@ module _ {P S : Type 0} where
   law-Alias = tail_or {first = alias_words} {on = alias_words} (is k.As) (is_among kinds k.As) (line_then after_word (line_kind kinds k.As) law-NameLine refl)
       (tail_or {first = k.Name ∷ []} {on = k.Name ∷ []} (is k.Name) (is_among kinds k.Name) (line_map Some law-NameLine) (tail_empty None) refl refl refl refl refl refl) refl refl refl refl refl refl
 
-  pub law-FromItemLine : Line kinds P S (k.Name ∷ []) alias_words FromItemLine read_from_item
-  unfolding read_from_item
-  law-FromItemLine = line_then_tail {on = alias_words} from_item.Table law-NameLine law-Alias refl refl refl
+  pub law-TableLine : Line kinds P S (k.Name ∷ []) alias_words TableLine read_table
+  unfolding read_table
+  law-TableLine = line_then_tail {on = alias_words} from_item.Table law-NameLine law-Alias refl refl refl
+
+  pub law-DerivedAlias : Line kinds P S alias_words [] DerivedAlias read_derived_alias
+  unfolding read_derived_alias
+  law-DerivedAlias = line_or {first = alias_words} {on = []} (is k.As) (is_among kinds k.As) (line_then second (line_kind kinds k.As) law-NameLine refl) law-NameLine refl refl refl refl refl
+
+  pub law-InnerWords : Line kinds P S inner_words [] InnerWords read_inner_words
+  unfolding read_inner_words
+  law-InnerWords = line_or {first = inner_words} {on = []} (is k.Join) (is_among kinds k.Join) (line_map (constant join_kind.Inner) (line_kind kinds k.Join))
+      (line_map (constant join_kind.Inner) (line_then second (line_kind kinds k.Inner) (line_kind kinds k.Join) refl)) refl refl refl refl refl
+
+  pub law-LeftWords : Line kinds P S (k.Left ∷ []) [] LeftWords read_left_words
+  unfolding read_left_words
+  law-LeftWords = line_map (constant join_kind.LeftOuter) (line_then second (line_kind kinds k.Left)
+      (line_or {first = k.Outer ∷ k.Join ∷ []} {on = []} (is k.Outer) (is_among kinds k.Outer) (line_then second (line_kind kinds k.Outer) (line_kind kinds k.Join) refl) (line_kind kinds k.Join) refl refl refl refl refl) refl)
+
+  pub law-JoinWords : Line kinds P S join_words [] JoinWords read_join_words
+  unfolding read_join_words
+  law-JoinWords = line_or {first = join_words} {on = []} (is k.Left) (is_among kinds k.Left) law-LeftWords law-InnerWords refl refl refl refl refl
+
+  pub law-DropLine : Line kinds P S (k.Drop ∷ []) [] DropLine read_drop
+  unfolding read_drop
+  law-DropLine = line_then second (line_then second (line_kind kinds k.Drop) (line_kind kinds k.View) refl) (line_map statements.DropView law-NameLine) refl
+
+  pub law-RefreshWord : Line kinds P S refresh_words [] RefreshWord read_refresh_word
+  unfolding read_refresh_word
+  law-RefreshWord = line_or {first = refresh_words} {on = []} (is k.Insert) (is_among kinds k.Insert) (line_map (constant refresh_kind.Insert) (line_kind kinds k.Insert)) (line_map (constant refresh_kind.Delete) (line_kind kinds k.Delete)) refl refl refl refl refl
+
+  pub law-RefreshLine : Line kinds P S (k.Refresh ∷ []) [] RefreshLine read_refresh
+  unfolding read_refresh
+  law-RefreshLine = line_then second (line_kind kinds k.Refresh) (line_then statements.Refresh law-RefreshWord law-Number refl) refl
+
+  pub law-ValueLine : Line kinds P S value_words [] ValueLine read_value
+  unfolding read_value
+  law-ValueLine = line_or {first = value_words} {on = []} (is k.Text) (is_among kinds k.Text) (line_map text_value (line_kind kinds k.Text)) (line_map number_value (line_kind kinds k.Number)) refl refl refl refl refl
 
   pub law-Direction : Tail kinds P S direction_words direction_words Direction read_direction
   unfolding read_direction
@@ -145,9 +183,17 @@ module _ {P S : Type 0} (room : ℕ) where
 
 -- ---- lists of what holds no expression
 module _ {P S : Type 0} (wide : ℕ) where
-  pub law-FromLine : Line kinds P S (k.From ∷ []) on_from (FromLine wide) (read_from wide)
-  unfolding read_from
-  law-FromLine = line_then second (line_kind kinds k.From) (line_then_tail {on = on_from} cons law-FromItemLine (tail_links {on = on_from} wide (is k.Comma) second (is_among kinds k.Comma) (line_kind kinds k.Comma) law-FromItemLine refl refl refl refl) refl refl refl) refl
+  pub law-Names : Line kinds P S (k.Name ∷ []) on_names (Names wide) (read_names wide)
+  unfolding read_names
+  law-Names = line_then_tail {on = on_names} cons law-NameLine (tail_links {on = on_names} wide (is k.Comma) second (is_among kinds k.Comma) (line_kind kinds k.Comma) law-NameLine refl refl refl refl) refl refl refl
+
+  pub law-ValueList : Line kinds P S value_words on_names (ValueList wide) (read_values wide)
+  unfolding read_values
+  law-ValueList = line_then_tail {on = on_names} cons law-ValueLine (tail_links {on = on_names} wide (is k.Comma) second (is_among kinds k.Comma) (line_kind kinds k.Comma) law-ValueLine refl refl refl refl) refl refl refl
+
+  pub law-RunInside : Line kinds P S (k.CloseParen ∷ value_words) [] (RunInside wide) (read_run_inside wide)
+  unfolding read_run_inside
+  law-RunInside = line_or {first = k.CloseParen ∷ value_words} {on = []} (is k.CloseParen) (is_among kinds k.CloseParen) (line_map (constant []) (line_kind kinds k.CloseParen)) (line_then first law-ValueList (line_kind kinds k.CloseParen) refl) refl refl refl refl refl
 
   pub law-GroupTail : Tail kinds P S (k.Group ∷ []) (k.Group ∷ on_columns) (GroupTail wide) (read_group wide)
   unfolding read_group
@@ -156,6 +202,16 @@ module _ {P S : Type 0} (wide : ℕ) where
   pub law-OrderTail : Tail kinds P S (k.Order ∷ []) (k.Order ∷ on_keys) (OrderTail wide) (read_order wide)
   unfolding read_order
   law-OrderTail = tail_or {first = k.Order ∷ []} {on = k.Order ∷ on_keys} (is k.Order) (is_among kinds k.Order) (line_then second (line_then second (line_kind kinds k.Order) (line_kind kinds k.By) refl) (line_then_tail {on = on_keys} cons law-KeyLine (tail_links {on = on_keys} wide (is k.Comma) second (is_among kinds k.Comma) (line_kind kinds k.Comma) law-KeyLine refl refl refl refl) refl refl refl) refl) (tail_empty []) refl refl refl refl refl refl
+
+-- ---- lists in parentheses of what holds no expression
+module _ {P S : Type 0} (wide room : ℕ) where
+  pub law-ColumnNames : Tail kinds P S (k.OpenParen ∷ []) (k.OpenParen ∷ []) (ColumnNames wide room) (read_column_names wide room)
+  unfolding read_column_names
+  law-ColumnNames = tail_or {first = k.OpenParen ∷ []} {on = k.OpenParen ∷ []} (is k.OpenParen) (is_among kinds k.OpenParen) (line_opens room k.OpenParen second (line_then first (law-Names wide) (line_kind kinds k.CloseParen) refl)) (tail_empty []) refl refl refl refl refl refl
+
+  pub law-RunLine : Line kinds P S (k.Run ∷ []) [] (RunLine wide room) (read_run wide room)
+  unfolding read_run
+  law-RunLine = line_then second (line_kind kinds k.Run) (line_then statements.Run law-Number (line_opens room k.OpenParen second (law-RunInside wide)) refl) refl
 
 -- ---- sums
 module _ {P S : Type 0} {U : Part Token Expr} {u : Reading Token Expr} (wide : ℕ) (unary : Line kinds P S unary_first on_unary U u) where
@@ -243,18 +299,6 @@ module _ {P S : Type 0} {N : Part Token Expr} {n : Reading Token Expr} (wide : �
   unfolding read_filters
   law-FiltersTail = tail_then {first = filters_first} {on = on_filters} filters law-WhereTail (tail_then {first = k.Group ∷ k.Having ∷ []} {on = k.Group ∷ k.Having ∷ on_list} pair (law-GroupTail wide) law-HavingTail refl refl refl refl refl) refl refl refl refl refl
 
-  pub law-QueryLine : Line kinds P S (k.Select ∷ []) on_query (QueryLine wide N) (read_query wide n)
-  unfolding read_query
-  law-QueryLine = line_then query law-SelectLine (line_then_tail {on = on_query} pair (law-FromLine wide) law-FiltersTail refl refl refl) refl
-
-  pub law-StatementLine : Line kinds P S (k.Select ∷ []) on_statement (StatementLine wide N) (read_statement wide n)
-  unfolding read_statement
-  law-StatementLine = line_then_tail {on = on_statement} statement law-QueryLine (tail_then {first = k.Order ∷ limit_words} {on = on_limits} pair (law-OrderTail wide) law-LimitTail refl refl refl refl refl) refl refl refl
-
-  pub law-EndedLine : Line kinds P S (k.Select ∷ []) [] (EndedLine wide N) (read_ended wide n)
-  unfolding read_ended
-  law-EndedLine = line_then first law-StatementLine (line_kind kinds k.Semicolon) refl
-
 -- ---- what holds them one level further in
 module _ {P S : Type 0} {N : Part Token Expr} {n : Reading Token Expr}
     (wide room : ℕ) (part : Line kinds (Deeper room) S part_first on_part N n) where
@@ -284,38 +328,123 @@ module _ {P S : Type 0} {N : Part Token Expr} {n : Reading Token Expr}
       (line_or {first = k.Substring ∷ k.Count ∷ aggregate_words} {on = []} (is k.Substring) (is_among kinds k.Substring) law-SubstringLine
       (line_or {first = k.Count ∷ aggregate_words} {on = []} (is k.Count) (is_among kinds k.Count) law-CountLine law-AggregateLine refl refl refl refl refl) refl refl refl refl refl) refl refl refl refl refl
 
-  pub law-InLine : Line kinds P S (k.In ∷ []) [] (InLine wide room N) (read_in wide room n)
-  unfolding read_in
-  law-InLine = line_then in_list (line_kind kinds k.In) (line_opens room k.OpenParen second (line_then first (law-ExprList wide part) (line_kind kinds k.CloseParen) refl)) refl
+-- ---- what holds queries one level further in
+module _ {P S : Type 0} {B : Part Token Block} {b : Reading Token Block}
+    (wide room : ℕ) (query : Line kinds (Deeper room) S (k.Select ∷ []) on_query B b) where
+  pub law-Subquery : Line kinds P S (k.OpenParen ∷ []) [] (Subquery room B) (read_subquery room b)
+  unfolding read_subquery
+  law-Subquery = line_opens room k.OpenParen second (line_then first query (line_kind kinds k.CloseParen) refl)
 
--- ---- the two parts that lead back to themselves
-module _ {P S : Type 0} {U : Part Token Expr} {u : Reading Token Expr} {N : Part Token Expr} {n : Reading Token Expr}
-    (wide room : ℕ) (unary : Line kinds (Deeper room) S unary_first on_unary U u) (part : Line kinds (Deeper room) S part_first on_part N n) where
-  pub law-UnaryLine : Line kinds P S unary_first on_unary (UnaryLine wide room U N) (read_unary_line wide room u n)
-  unfolding read_unary_line
-  law-UnaryLine = line_or {first = unary_first} {on = on_unary} (is k.Minus) (is_among kinds k.Minus) (line_opens room k.Minus negative unary)
-      (line_or {first = k.OpenParen ∷ k.Case ∷ called_first} {on = on_unary} (is k.OpenParen) (is_among kinds k.OpenParen) (line_opens room k.OpenParen second (line_then first (law-Whole wide part) (line_kind kinds k.CloseParen) refl))
+  pub law-ExistsLine : Line kinds P S (k.Exists ∷ []) [] (ExistsLine room B) (read_exists room b)
+  unfolding read_exists
+  law-ExistsLine = line_then second (line_kind kinds k.Exists) (line_map e.Exists law-Subquery) refl
+
+  pub law-DerivedLine : Line kinds P S derived_first on_derived (DerivedLine wide room B) (read_derived wide room b)
+  unfolding read_derived
+  law-DerivedLine = line_then derived law-Subquery (line_then_tail {on = on_derived} pair law-DerivedAlias (law-ColumnNames wide room) refl refl refl) refl
+
+  pub law-FromItemLine : Line kinds P S item_first on_from_item (FromItemLine wide room B) (read_from_item wide room b)
+  unfolding read_from_item
+  law-FromItemLine = line_or {first = item_first} {on = on_from_item} (is k.OpenParen) (is_among kinds k.OpenParen) law-DerivedLine law-TableLine refl refl refl refl refl
+
+-- ---- what holds both at one level
+module _ {P S : Type 0} {N : Part Token Expr} {n : Reading Token Expr} {B : Part Token Block} {b : Reading Token Block}
+    (wide : ℕ) (part : Line kinds P S part_first on_part N n) (query : Line kinds P S (k.Select ∷ []) on_query B b) where
+  law-ParensInside : Line kinds P S inside_first on_query (ParensInside wide N B) (read_parens_inside wide n b)
+  unfolding read_parens_inside
+  law-ParensInside = line_or {first = inside_first} {on = on_query} (is k.Select) (is_among kinds k.Select) (line_map e.Scalar query) (law-Whole wide part) refl refl refl refl refl
+
+  law-InInside : Line kinds P S inside_first on_query (InInside wide N B) (read_in_inside wide n b)
+  unfolding read_in_inside
+  law-InInside = line_or {first = inside_first} {on = on_query} (is k.Select) (is_among kinds k.Select) (line_map in_query query) (line_map in_list (law-ExprList wide part)) refl refl refl refl refl
+
+-- ---- what holds both one level further in
+module _ {P S : Type 0} {N : Part Token Expr} {n : Reading Token Expr} {B : Part Token Block} {b : Reading Token Block}
+    (wide room : ℕ) (part : Line kinds (Deeper room) S part_first on_part N n) (query : Line kinds (Deeper room) S (k.Select ∷ []) on_query B b) where
+  pub law-Parens : Line kinds P S (k.OpenParen ∷ []) [] (Parens wide room N B) (read_parens wide room n b)
+  unfolding read_parens
+  law-Parens = line_opens room k.OpenParen second (line_then first (law-ParensInside wide part query) (line_kind kinds k.CloseParen) refl)
+
+  pub law-InLine : Line kinds P S (k.In ∷ []) [] (InLine wide room N B) (read_in wide room n b)
+  unfolding read_in
+  law-InLine = line_then second (line_kind kinds k.In) (line_opens room k.OpenParen second (line_then first (law-InInside wide part query) (line_kind kinds k.CloseParen) refl)) refl
+
+  pub law-Operand : Line kinds P S operand_first on_unary (Operand wide room N B) (read_operand wide room n b)
+  unfolding read_operand
+  law-Operand = line_or {first = operand_first} {on = on_unary} (is k.OpenParen) (is_among kinds k.OpenParen) law-Parens
+      (line_or {first = k.Exists ∷ k.Case ∷ called_first} {on = on_unary} (is k.Exists) (is_among kinds k.Exists) (law-ExistsLine wide room query)
       (line_or {first = k.Case ∷ called_first} {on = on_unary} (is k.Case) (is_among kinds k.Case) (law-CaseLine wide room part)
       (line_or {first = called_first} {on = on_unary} (among kinds call_words) (λ t. refl) (law-Call wide room part) (law-Leaf room) refl refl refl refl refl) refl refl refl refl refl) refl refl refl refl refl) refl refl refl refl refl
 
-module _ {P S : Type 0} {U : Part Token Expr} {u : Reading Token Expr} {N : Part Token Expr} {n : Reading Token Expr}
-    (wide room : ℕ) (unary : Line kinds P S unary_first on_unary U u) (part : Line kinds (Deeper room) S part_first on_part N n) where
-  pub law-DenyTest : Line kinds P S denied_words on_sum (DenyTest wide room U N) (read_deny_test wide room u n)
+-- ---- the three parts that lead back to themselves
+module _ {P S : Type 0} {U : Part Token Expr} {u : Reading Token Expr} {N : Part Token Expr} {n : Reading Token Expr} {B : Part Token Block} {b : Reading Token Block}
+    (wide room : ℕ) (unary : Line kinds (Deeper room) S unary_first on_unary U u) (part : Line kinds (Deeper room) S part_first on_part N n)
+    (query : Line kinds (Deeper room) S (k.Select ∷ []) on_query B b) where
+  pub law-UnaryLine : Line kinds P S unary_first on_unary (UnaryLine wide room U N B) (read_unary_line wide room u n b)
+  unfolding read_unary_line
+  law-UnaryLine = line_or {first = unary_first} {on = on_unary} (is k.Minus) (is_among kinds k.Minus) (line_opens room k.Minus negative unary) (law-Operand wide room part query) refl refl refl refl refl
+
+module _ {P S : Type 0} {U : Part Token Expr} {u : Reading Token Expr} {N : Part Token Expr} {n : Reading Token Expr} {B : Part Token Block} {b : Reading Token Block}
+    (wide room : ℕ) (unary : Line kinds P S unary_first on_unary U u) (part : Line kinds (Deeper room) S part_first on_part N n)
+    (query : Line kinds (Deeper room) S (k.Select ∷ []) on_query B b) where
+  pub law-DenyTest : Line kinds P S denied_words on_sum (DenyTest wide room U N B) (read_deny_test wide room u n b)
   unfolding read_deny_test
   law-DenyTest = line_or {first = denied_words} {on = on_sum} (is k.Between) (is_among kinds k.Between) (law-BetweenLine wide unary)
-      (line_or {first = k.Like ∷ k.In ∷ []} {on = []} (is k.Like) (is_among kinds k.Like) law-LikeLine (law-InLine wide room part) refl refl refl refl refl) refl refl refl refl refl
+      (line_or {first = k.Like ∷ k.In ∷ []} {on = []} (is k.Like) (is_among kinds k.Like) law-LikeLine (law-InLine wide room part query) refl refl refl refl refl) refl refl refl refl refl
 
-  pub law-TestTail : Tail kinds P S test_words on_part (TestTail wide room U N) (read_test wide room u n)
+  pub law-TestTail : Tail kinds P S test_words on_part (TestTail wide room U N B) (read_test wide room u n b)
   unfolding read_test
   law-TestTail = tail_or {first = test_words} {on = on_part} (among kinds comparison_words) (λ t. refl) (law-CompareLine wide unary)
       (tail_or {first = k.Is ∷ k.Not ∷ denied_words} {on = k.Is ∷ k.Not ∷ on_denied} (is k.Is) (is_among kinds k.Is) law-NullLine
       (tail_or {first = k.Not ∷ denied_words} {on = k.Not ∷ on_denied} (is k.Not) (is_among kinds k.Not) (line_then denied (line_kind kinds k.Not) law-DenyTest refl)
       (tail_or {first = denied_words} {on = on_denied} (among kinds denied_words) (λ t. refl) law-DenyTest (tail_empty t.Holds) refl refl refl refl refl refl) refl refl refl refl refl refl) refl refl refl refl refl refl) refl refl refl refl refl refl
 
-  pub law-Predicate : Line kinds P S unary_first on_part (Predicate wide room U N) (read_predicate wide room u n)
+  pub law-Predicate : Line kinds P S unary_first on_part (Predicate wide room U N B) (read_predicate wide room u n b)
   unfolding read_predicate
   law-Predicate = line_then_tail {on = on_part} tested (law-Sum wide unary) law-TestTail refl refl refl
 
-  pub law-PartLine : Line kinds P S part_first on_part (PartLine wide room U N) (read_part_line wide room u n)
+  pub law-PartLine : Line kinds P S part_first on_part (PartLine wide room U N B) (read_part_line wide room u n b)
   unfolding read_part_line
   law-PartLine = line_or {first = part_first} {on = on_part} (is k.Not) (is_among kinds k.Not) (line_opens room k.Not negation part) law-Predicate refl refl refl refl refl
+
+module _ {P S : Type 0} {N : Part Token Expr} {n : Reading Token Expr} {B : Part Token Block} {b : Reading Token Block}
+    (wide room : ℕ) (part : Line kinds P S part_first on_part N n) (query : Line kinds (Deeper room) S (k.Select ∷ []) on_query B b) where
+  pub law-JoinedItem : Line kinds P S item_first on_whole (JoinedItem wide room N B) (read_joined_item wide room n b)
+  unfolding read_joined_item
+  law-JoinedItem = line_then pair (law-FromItemLine wide room query) (line_then second (line_kind kinds k.On) (law-Whole wide part) refl) refl
+
+  pub law-JoinedLine : Line kinds P S item_first on_joined (JoinedLine wide room N B) (read_joined wide room n b)
+  unfolding read_joined
+  law-JoinedLine = line_then_tail {on = on_joined} joined (law-FromItemLine wide room query) (tail_links {on = on_joined} wide (among kinds join_words) join (λ t. refl) law-JoinWords law-JoinedItem refl refl refl refl) refl refl refl
+
+  pub law-FromLine : Line kinds P S (k.From ∷ []) on_from (FromLine wide room N B) (read_from wide room n b)
+  unfolding read_from
+  law-FromLine = line_then second (line_kind kinds k.From) (line_then_tail {on = on_from} cons law-JoinedLine (tail_links {on = on_from} wide (is k.Comma) second (is_among kinds k.Comma) (line_kind kinds k.Comma) law-JoinedLine refl refl refl refl) refl refl refl) refl
+
+  pub law-QueryLine : Line kinds P S (k.Select ∷ []) on_query (QueryLine wide room N B) (read_query_line wide room n b)
+  unfolding read_query_line
+  law-QueryLine = line_then block (law-SelectLine wide part) (line_then_tail {on = on_query} pair law-FromLine (law-FiltersTail wide part) refl refl refl) refl
+
+-- ---- statements
+module _ {P S : Type 0} {B : Part Token Block} {b : Reading Token Block}
+    (wide room : ℕ) (query : Line kinds P S (k.Select ∷ []) on_query B b) where
+  pub law-OrderedLine : Line kinds P S (k.Select ∷ []) on_statement (OrderedLine wide B) (read_ordered wide b)
+  unfolding read_ordered
+  law-OrderedLine = line_then_tail {on = on_statement} ordered query (tail_then {first = k.Order ∷ limit_words} {on = on_limits} pair (law-OrderTail wide) law-LimitTail refl refl refl refl refl) refl refl refl
+
+  pub law-CreateLine : Line kinds P S (k.Create ∷ []) on_query (CreateLine wide room B) (read_create wide room b)
+  unfolding read_create read_view_name
+  law-CreateLine = line_then create_view
+      (line_then second (line_then second (line_kind kinds k.Create) (line_kind kinds k.View) refl) (line_then_tail {on = k.OpenParen ∷ []} pair law-NameLine (law-ColumnNames wide room) refl refl refl) refl)
+      (line_then second (line_kind kinds k.As) query refl) refl
+
+  pub law-StatementLine : Line kinds P S statement_words on_statement (StatementLine wide room B) (read_statement wide room b)
+  unfolding read_statement
+  law-StatementLine = line_or {first = statement_words} {on = on_statement} (is k.Select) (is_among kinds k.Select) law-OrderedLine
+      (line_or {first = k.Create ∷ k.Drop ∷ k.Refresh ∷ k.Run ∷ []} {on = on_statement} (is k.Create) (is_among kinds k.Create) law-CreateLine
+      (line_or {first = k.Drop ∷ k.Refresh ∷ k.Run ∷ []} {on = on_statement} (is k.Drop) (is_among kinds k.Drop) law-DropLine
+      (line_or {first = k.Refresh ∷ k.Run ∷ []} {on = on_statement} (is k.Refresh) (is_among kinds k.Refresh) law-RefreshLine (law-RunLine wide room) refl refl refl refl refl) refl refl refl refl refl) refl refl refl refl refl) refl refl refl refl refl
+
+  pub law-EndedLine : Line kinds P S statement_words [] (EndedLine wide room B) (read_ended wide room b)
+  unfolding read_ended
+  law-EndedLine = line_then first law-StatementLine (line_kind kinds k.Semicolon) refl

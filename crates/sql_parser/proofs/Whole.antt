@@ -1,16 +1,16 @@
 -- Scripts from their bytes: one statement list, or one refusal.
 use Rattle.std.proofs.Common.{◌≡◌, ℕ, ◌<◌, ◌≤◌, List, length, Result, Err, sym, subst, ◌∙◌, arith}
-use Rattle.grammar_laws.specs.declared.Refusal.{Refusal}
+use Rattle.grammar_laws.specs.declared.SyntaxFault.{SyntaxFault}
 use Rattle.grammar_laws.specs.Scripts.{IsScript, IsRead, IsFirst}
 use Rattle.sql_lexer.specs.declared.token.Token.{Token}
 use Rattle.sql_lexer.specs.declared.fault.LexRefusal.{LexRefusal}
 use Rattle.sql_lexer.specs.declared.fault.LexRefusal.TheVariants as lex
 use Rattle.sql_lexer.specs.Lexing.{Lexes, Refuses}
 use Rattle.sql_lexer.proofs.OneAnswer.{one_tokens, never_both}
-use Rattle.sql_ast.specs.declared.query.Statement.{Statement}
+use Rattle.sql_ast.specs.declared.statement.Statement.{Statement}
 use Rattle.sql_parser.specs.declared.fault.ScriptRefusal.{ScriptRefusal}
 use Rattle.sql_parser.specs.declared.fault.ScriptRefusal.TheVariants as script
-use Rattle.grammar_laws.specs.declared.Refusal.TheVariants as refusal
+use Rattle.grammar_laws.specs.declared.SyntaxFault.TheVariants as refusal
 use Rattle.sql_parser.specs.declared.fault.ScriptFault.{ScriptFault}
 use Rattle.sql_parser.specs.declared.fault.ScriptFault.TheVariants as faults
 use Rattle.sql_parser.specs.Faults.{of_lexer, of_parser}
@@ -29,7 +29,7 @@ bytes_once bytes ss us s t =
 no_lexer : (bytes : List ℕ) (ss : List Statement) (r : LexRefusal) (place : ℕ) → IsReadScript bytes ss → Refuses 0 bytes r place → ⊥
 no_lexer bytes ss r place s h = never_both 0 bytes s.tokens r place s.lexes h
 
-no_parser : (bytes : List ℕ) (ss : List Statement) (r : Refusal) (place : ℕ) → IsReadScript bytes ss → IsParseRefusal r bytes place → ⊥
+no_parser : (bytes : List ℕ) (ss : List Statement) (r : SyntaxFault) (place : ℕ) → IsReadScript bytes ss → IsParseRefusal r bytes place → ⊥
 no_parser bytes ss r place s h =
     let same : h.tokens ≡ s.tokens = one_tokens 0 bytes h.tokens s.tokens h.lexes s.lexes in
     let P : List Token → Type 0 = λ x. IsFirst Sql r x h.n in
@@ -61,13 +61,13 @@ too_long bytes lt r place e =
 pub long_refused : (bytes : List ℕ) → max_script < length bytes → (result : Result (List Statement) ScriptFault) → result ≡ Err (faults.Refused script.TooLong max_script) → (r : ScriptRefusal) (place : ℕ) → result ≡ Err (faults.Refused r place) → IsRefusedScript r bytes place
 long_refused bytes lt result is r place e = too_long bytes lt r place (err_is result _ _ is e)
 
-lexer_kind : (bytes : List ℕ) → length bytes ≤ max_script → (q : LexRefusal) (p : ℕ) → Refuses 0 bytes q p → IsRefusedScript (of_lexer q) bytes p
+pub lexer_kind : (bytes : List ℕ) → length bytes ≤ max_script → (q : LexRefusal) (p : ℕ) → Refuses 0 bytes q p → IsRefusedScript (of_lexer q) bytes p
 lexer_kind bytes le lex.BadByte p h = (le, h)
 lexer_kind bytes le lex.OpenText p h = (le, h)
 lexer_kind bytes le lex.NumberTooWide p h = (le, h)
 lexer_kind bytes le lex.ScaleTooWide p h = (le, h)
 
-parser_kind : (bytes : List ℕ) (q : Refusal) (p : ℕ) → IsParseRefusal q bytes p → IsRefusedScript (of_parser q) bytes p
+pub parser_kind : (bytes : List ℕ) (q : SyntaxFault) (p : ℕ) → IsParseRefusal q bytes p → IsRefusedScript (of_parser q) bytes p
 parser_kind bytes refusal.Unexpected p h = h
 parser_kind bytes refusal.TooDeep p h = h
 parser_kind bytes refusal.TooWide p h = h
@@ -86,7 +86,7 @@ lexer_refused bytes le q p h s is r place e =
     let P : ScriptRefusal → Type 0 = λ x. IsRefusedScript x bytes p in
     moved bytes s p (subst P (sym is) (lexer_kind bytes le q p h)) r place e
 
-pub parser_refused : (bytes : List ℕ) → length bytes ≤ max_script → (ts : List Token) → Lexes 0 bytes ts → (q : Refusal) (n : ℕ) → IsFirst Sql q ts n → (p : ℕ) → p ≡ byte_at (length bytes) ts n → (s : ScriptRefusal) → s ≡ of_parser q
+pub parser_refused : (bytes : List ℕ) → length bytes ≤ max_script → (ts : List Token) → Lexes 0 bytes ts → (q : SyntaxFault) (n : ℕ) → IsFirst Sql q ts n → (p : ℕ) → p ≡ byte_at (length bytes) ts n → (s : ScriptRefusal) → s ≡ of_parser q
     → (r : ScriptRefusal) (place : ℕ) → faults.Refused s p ≡ faults.Refused r place → IsRefusedScript r bytes place
 parser_refused bytes le ts l q n first p at s is r place e =
     let P : ScriptRefusal → Type 0 = λ x. IsRefusedScript x bytes p in

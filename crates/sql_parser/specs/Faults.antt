@@ -1,6 +1,6 @@
 -- Refusals of bytes and of tokens as refusals of a script.
-use Rattle.grammar_laws.specs.declared.Refusal.{Refusal}
-use Rattle.grammar_laws.specs.declared.Refusal.TheVariants as refusal
+use Rattle.grammar_laws.specs.declared.SyntaxFault.{SyntaxFault}
+use Rattle.grammar_laws.specs.declared.SyntaxFault.TheVariants as refusal
 use Rattle.sql_lexer.specs.declared.fault.LexRefusal.{LexRefusal}
 use Rattle.sql_lexer.specs.declared.fault.LexRefusal.TheVariants as lex
 use Rattle.sql_parser.specs.declared.fault.ScriptRefusal.{ScriptRefusal}
@@ -14,7 +14,7 @@ of_lexer lex.NumberTooWide = script.NumberTooWide
 of_lexer lex.ScaleTooWide = script.ScaleTooWide
 
 -- a refusal of tokens, by the same name
-abbrev pub of_parser : Refusal → ScriptRefusal
+abbrev pub of_parser : SyntaxFault → ScriptRefusal
 of_parser refusal.Unexpected = script.Unexpected
 of_parser refusal.TooDeep = script.TooDeep
 of_parser refusal.TooWide = script.TooWide

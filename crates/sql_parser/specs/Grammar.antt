@@ -3,36 +3,43 @@
 use Rattle.std.specs.Prelude.{ℕ, zero, suc, Bool, true, false, List, [], Option, Some, None}
 use Rattle.sql_lexer.specs.declared.kind.Kind.TheVariants as k
 use Rattle.sql_lexer.specs.declared.token.Token.{Token}
-use Rattle.sql_ast.specs.declared.expr.Expr.{Expr}
-use Rattle.sql_ast.specs.declared.expr.Expr.TheVariants as e
-use Rattle.sql_ast.specs.declared.expr.Arm.{Arm}
-use Rattle.sql_ast.specs.declared.expr.Column.{Column}
-use Rattle.sql_ast.specs.declared.expr.Comparison.{Comparison}
-use Rattle.sql_ast.specs.declared.expr.Comparison.TheVariants as comparison
-use Rattle.sql_ast.specs.declared.expr.Span.{Span}
-use Rattle.sql_ast.specs.declared.expr.Span.TheVariants as span
-use Rattle.sql_ast.specs.declared.expr.Aggregate.{Aggregate}
-use Rattle.sql_ast.specs.declared.expr.Aggregate.TheVariants as aggregate
-use Rattle.sql_ast.specs.declared.expr.Adding.{Adding}
-use Rattle.sql_ast.specs.declared.expr.Adding.TheVariants as adding
-use Rattle.sql_ast.specs.declared.expr.Multiplying.{Multiplying}
-use Rattle.sql_ast.specs.declared.expr.Multiplying.TheVariants as multiplying
-use Rattle.sql_ast.specs.declared.query.Item.{Item}
-use Rattle.sql_ast.specs.declared.query.Selected.{Selected}
-use Rattle.sql_ast.specs.declared.query.Selected.TheVariants as selected
-use Rattle.sql_ast.specs.declared.query.FromItem.{FromItem}
-use Rattle.sql_ast.specs.declared.query.FromItem.TheVariants as from_item
-use Rattle.sql_ast.specs.declared.query.Clause.{Clause}
-use Rattle.sql_ast.specs.declared.query.Clause.TheVariants as clause
-use Rattle.sql_ast.specs.declared.query.OrderKey.{OrderKey}
-use Rattle.sql_ast.specs.declared.query.Query.{Query}
-use Rattle.sql_ast.specs.declared.query.Statement.{Statement}
+use Rattle.sql_ast.specs.declared.tree.Expr.{Expr}
+use Rattle.sql_ast.specs.declared.tree.Expr.TheVariants as e
+use Rattle.sql_ast.specs.declared.tree.Arm.{Arm}
+use Rattle.sql_ast.specs.declared.words.Column.{Column}
+use Rattle.sql_ast.specs.declared.words.Comparison.{Comparison}
+use Rattle.sql_ast.specs.declared.words.Comparison.TheVariants as comparison
+use Rattle.sql_ast.specs.declared.words.Span.{Span}
+use Rattle.sql_ast.specs.declared.words.Span.TheVariants as span
+use Rattle.sql_ast.specs.declared.words.Aggregate.{Aggregate}
+use Rattle.sql_ast.specs.declared.words.Aggregate.TheVariants as aggregate
+use Rattle.sql_ast.specs.declared.words.Adding.{Adding}
+use Rattle.sql_ast.specs.declared.words.Adding.TheVariants as adding
+use Rattle.sql_ast.specs.declared.words.Multiplying.{Multiplying}
+use Rattle.sql_ast.specs.declared.words.Multiplying.TheVariants as multiplying
+use Rattle.sql_ast.specs.declared.tree.Item.{Item}
+use Rattle.sql_ast.specs.declared.tree.Selected.{Selected}
+use Rattle.sql_ast.specs.declared.tree.Selected.TheVariants as selected
+use Rattle.sql_ast.specs.declared.tree.FromItem.{FromItem}
+use Rattle.sql_ast.specs.declared.tree.FromItem.TheVariants as from_item
+use Rattle.sql_ast.specs.declared.tree.Clause.{Clause}
+use Rattle.sql_ast.specs.declared.tree.Clause.TheVariants as clause
+use Rattle.sql_ast.specs.declared.statement.OrderKey.{OrderKey}
+use Rattle.sql_ast.specs.declared.statement.Statement.{Statement}
+use Rattle.sql_ast.specs.declared.words.JoinKind.{JoinKind}
+use Rattle.sql_ast.specs.declared.words.JoinKind.TheVariants as join_kind
+use Rattle.sql_ast.specs.declared.tree.Joined.{Joined}
+use Rattle.sql_ast.specs.declared.tree.Block.{Block}
+use Rattle.sql_ast.specs.declared.statement.RefreshKind.{RefreshKind}
+use Rattle.sql_ast.specs.declared.statement.RefreshKind.TheVariants as refresh_kind
+use Rattle.sql_ast.specs.declared.statement.TemplateValue.{TemplateValue}
+use Rattle.sql_ast.specs.declared.statement.Statement.TheVariants as statements
 use Rattle.sql_parser.specs.declared.test.Test.{Test}
 use Rattle.sql_parser.specs.declared.test.Test.TheVariants as t
 use Rattle.sql_parser.specs.declared.queries.Filters.{Filters}
 use Rattle.sql_lexer.specs.Kinds.{is}
 use Rattle.grammar_laws.specs.Lines.{Part, One, Opens, Empty, Never, Then, Or, Map, less, Links}
-use Rattle.sql_parser.specs.Values.{Name, text_of, count_of, number, text, is_count, is_digits, first, second, pair, cons, constant, after_word, after_point, column, negative, negation, factor, term, product, sum, all_of, any_of, arm, case_of, date, interval, extract, substring, distinct_count, between, like, in_list, is_null, is_not_null, denied, tested, item, distinct, plain_selection, condition, filters, query, order_key, statement}
+use Rattle.sql_parser.specs.Values.{Name, text_of, count_of, number, text, is_count, is_digits, first, second, pair, cons, constant, after_word, after_point, column, negative, negation, factor, term, product, sum, all_of, any_of, arm, case_of, date, interval, extract, substring, distinct_count, between, like, in_list, in_query, is_null, is_not_null, denied, tested, item, distinct, plain_selection, derived, join, joined, condition, filters, block, order_key, ordered, create_view, text_value, number_value}
 
 -- a name
 abbrev pub NameLine : Part Token Name
@@ -170,9 +177,29 @@ Call wide room part = Or (ExtractLine wide room part) (Or (SubstringLine wide ro
 abbrev pub Leaf : ℕ → Part Token Expr
 Leaf room = Or (Map number (One (is k.Number))) (Or (Map text (One (is k.Text))) (Or (DateLine room) (Or (IntervalLine room) (Map e.Column ColumnLine))))
 
--- - unary | "(" e ")" | case .. | N | T | column | ..
-abbrev pub UnaryLine : ℕ → ℕ → Part Token Expr → Part Token Expr → Part Token Expr
-UnaryLine wide room inner part = Or (Then negative (Opens room (is k.Minus)) inner) (Or (Then second (Opens room (is k.OpenParen)) (Then first (Whole wide part) (One (is k.CloseParen)))) (Or (CaseLine wide room part) (Or (Call wide room part) (Leaf room))))
+-- query | e
+abbrev pub ParensInside : ℕ → Part Token Expr → Part Token Block → Part Token Expr
+ParensInside wide part query = Or (Map e.Scalar query) (Whole wide part)
+
+-- "(" (query | e) ")"
+abbrev pub Parens : ℕ → ℕ → Part Token Expr → Part Token Block → Part Token Expr
+Parens wide room part query = Then second (Opens room (is k.OpenParen)) (Then first (ParensInside wide part query) (One (is k.CloseParen)))
+
+-- "(" query ")"
+abbrev pub Subquery : ℕ → Part Token Block → Part Token Block
+Subquery room query = Then second (Opens room (is k.OpenParen)) (Then first query (One (is k.CloseParen)))
+
+-- exists "(" query ")"
+abbrev pub ExistsLine : ℕ → Part Token Block → Part Token Expr
+ExistsLine room query = Then second (One (is k.Exists)) (Map e.Exists (Subquery room query))
+
+-- "(" (query | e) ")" | exists "(" query ")" | case .. end | a call | what holds no expression
+abbrev pub Operand : ℕ → ℕ → Part Token Expr → Part Token Block → Part Token Expr
+Operand wide room part query = Or (Parens wide room part query) (Or (ExistsLine room query) (Or (CaseLine wide room part) (Or (Call wide room part) (Leaf room))))
+
+-- - unary | an operand
+abbrev pub UnaryLine : ℕ → ℕ → Part Token Expr → Part Token Expr → Part Token Block → Part Token Expr
+UnaryLine wide room inner part query = Or (Then negative (Opens room (is k.Minus)) inner) (Operand wide room part query)
 
 -- = | <> | < | <= | > | >=
 abbrev pub ComparisonWord : Part Token Comparison
@@ -194,25 +221,30 @@ BetweenLine wide unary = Then second (One (is k.Between)) (Then between (Sum wid
 abbrev pub LikeLine : Part Token Test
 LikeLine = Then like (One (is k.Like)) Literal
 
--- in "(" e {"," e} ")"
-abbrev pub InLine : ℕ → ℕ → Part Token Expr → Part Token Test
-InLine wide room part = Then in_list (One (is k.In)) (Then second (Opens room (is k.OpenParen)) (Then first (ExprList wide part) (One (is k.CloseParen))))
+-- query | e {"," e}
+abbrev pub InInside : ℕ → Part Token Expr → Part Token Block → Part Token Test
+InInside wide part query = Or (Map in_query query) (Map in_list (ExprList wide part))
+
+-- in "(" (query | e {"," e}) ")"
+abbrev pub InLine : ℕ → ℕ → Part Token Expr → Part Token Block → Part Token Test
+InLine wide room part query = Then second (One (is k.In)) (Then second (Opens room (is k.OpenParen)) (Then first (InInside wide part query) (One (is k.CloseParen))))
 
 -- what a NOT may stand before
-abbrev pub DenyTest : ℕ → ℕ → Part Token Expr → Part Token Expr → Part Token Test
-DenyTest wide room unary part = Or (BetweenLine wide unary) (Or LikeLine (InLine wide room part))
+abbrev pub DenyTest : ℕ → ℕ → Part Token Expr → Part Token Expr → Part Token Block → Part Token Test
+DenyTest wide room unary part query = Or (BetweenLine wide unary) (Or LikeLine (InLine wide room part query))
 
 -- [a comparison | is [not] null | [not] between .. | [not] like .. | [not] in ..]
-abbrev pub TestTail : ℕ → ℕ → Part Token Expr → Part Token Expr → Part Token Test
-TestTail wide room unary part = Or (CompareLine wide unary) (Or NullLine (Or (Then denied (One (is k.Not)) (DenyTest wide room unary part)) (Or (DenyTest wide room unary part) (Empty t.Holds))))
+abbrev pub TestTail : ℕ → ℕ → Part Token Expr → Part Token Expr → Part Token Block → Part Token Test
+TestTail wide room unary part query =
+    Or (CompareLine wide unary) (Or NullLine (Or (Then denied (One (is k.Not)) (DenyTest wide room unary part query)) (Or (DenyTest wide room unary part query) (Empty t.Holds))))
 
 -- sum [test]
-abbrev pub Predicate : ℕ → ℕ → Part Token Expr → Part Token Expr → Part Token Expr
-Predicate wide room unary part = Then tested (Sum wide unary) (TestTail wide room unary part)
+abbrev pub Predicate : ℕ → ℕ → Part Token Expr → Part Token Expr → Part Token Block → Part Token Expr
+Predicate wide room unary part query = Then tested (Sum wide unary) (TestTail wide room unary part query)
 
 -- not not-part | predicate
-abbrev pub PartLine : ℕ → ℕ → Part Token Expr → Part Token Expr → Part Token Expr
-PartLine wide room unary part = Or (Then negation (Opens room (is k.Not)) part) (Predicate wide room unary part)
+abbrev pub PartLine : ℕ → ℕ → Part Token Expr → Part Token Expr → Part Token Block → Part Token Expr
+PartLine wide room unary part query = Or (Then negation (Opens room (is k.Not)) part) (Predicate wide room unary part query)
 
 -- [[as] name]
 abbrev pub Alias : Part Token (Option Name)
@@ -230,13 +262,53 @@ Selection wide part = Or (Map (constant selected.All) (One (is k.Star))) (Map se
 abbrev pub SelectLine : ℕ → Part Token Expr → Part Token (Bool × Selected)
 SelectLine wide part = Then second (One (is k.Select)) (Or (Then distinct (One (is k.Distinct)) (Selection wide part)) (Map plain_selection (Selection wide part)))
 
--- name [[as] name]
-abbrev pub FromItemLine : Part Token FromItem
-FromItemLine = Then from_item.Table NameLine Alias
+-- name {"," name}
+abbrev pub Names : ℕ → Part Token (List Name)
+Names wide = Then cons NameLine (Links (One (is k.Comma)) second NameLine wide)
 
--- from .. {"," ..}
-abbrev pub FromLine : ℕ → Part Token (List FromItem)
-FromLine wide = Then second (One (is k.From)) (Then cons FromItemLine (Links (One (is k.Comma)) second FromItemLine wide))
+-- ["(" name {"," name} ")"]
+abbrev pub ColumnNames : ℕ → ℕ → Part Token (List Name)
+ColumnNames wide room = Or (Then second (Opens room (is k.OpenParen)) (Then first (Names wide) (One (is k.CloseParen)))) (Empty [])
+
+-- name [[as] name]
+abbrev pub TableLine : Part Token FromItem
+TableLine = Then from_item.Table NameLine Alias
+
+-- [as] name
+abbrev pub DerivedAlias : Part Token Name
+DerivedAlias = Or (Then second (One (is k.As)) NameLine) NameLine
+
+-- "(" query ")" [as] name ["(" name {"," name} ")"]
+abbrev pub DerivedLine : ℕ → ℕ → Part Token Block → Part Token FromItem
+DerivedLine wide room query = Then derived (Subquery room query) (Then pair DerivedAlias (ColumnNames wide room))
+
+-- a derived table or a table
+abbrev pub FromItemLine : ℕ → ℕ → Part Token Block → Part Token FromItem
+FromItemLine wide room query = Or (DerivedLine wide room query) TableLine
+
+-- [inner] join
+abbrev pub InnerWords : Part Token JoinKind
+InnerWords = Or (Map (constant join_kind.Inner) (One (is k.Join))) (Map (constant join_kind.Inner) (Then second (One (is k.Inner)) (One (is k.Join))))
+
+-- left [outer] join
+abbrev pub LeftWords : Part Token JoinKind
+LeftWords = Map (constant join_kind.LeftOuter) (Then second (One (is k.Left)) (Or (Then second (One (is k.Outer)) (One (is k.Join))) (One (is k.Join))))
+
+-- [inner] join | left [outer] join
+abbrev pub JoinWords : Part Token JoinKind
+JoinWords = Or LeftWords InnerWords
+
+-- an item and its condition: item on e
+abbrev pub JoinedItem : ℕ → ℕ → Part Token Expr → Part Token Block → Part Token (FromItem × Expr)
+JoinedItem wide room part query = Then pair (FromItemLine wide room query) (Then second (One (is k.On)) (Whole wide part))
+
+-- item {([inner] join | left [outer] join) item on e}
+abbrev pub JoinedLine : ℕ → ℕ → Part Token Expr → Part Token Block → Part Token Joined
+JoinedLine wide room part query = Then joined (FromItemLine wide room query) (Links JoinWords join (JoinedItem wide room part query) wide)
+
+-- from joined {"," joined}
+abbrev pub FromLine : ℕ → ℕ → Part Token Expr → Part Token Block → Part Token (List Joined)
+FromLine wide room part query = Then second (One (is k.From)) (Then cons (JoinedLine wide room part query) (Links (One (is k.Comma)) second (JoinedLine wide room part query) wide))
 
 -- [where e]
 abbrev pub WhereTail : ℕ → Part Token Expr → Part Token Clause
@@ -255,8 +327,8 @@ abbrev pub FiltersTail : ℕ → Part Token Expr → Part Token Filters
 FiltersTail wide part = Then filters (WhereTail wide part) (Then pair (GroupTail wide) (HavingTail wide part))
 
 -- select .. from .. [where ..] [group by ..] [having ..]
-abbrev pub QueryLine : ℕ → Part Token Expr → Part Token Query
-QueryLine wide part = Then query (SelectLine wide part) (Then pair (FromLine wide) (FiltersTail wide part))
+abbrev pub QueryLine : ℕ → ℕ → Part Token Expr → Part Token Block → Part Token Block
+QueryLine wide room part query = Then block (SelectLine wide part) (Then pair (FromLine wide room part query) (FiltersTail wide part))
 
 -- [asc|desc]
 abbrev pub Direction : Part Token Bool
@@ -279,25 +351,69 @@ abbrev pub LimitTail : Part Token (Option ℕ)
 LimitTail = Or (Then after_word (One (is k.Limit)) Number) (Or (Then after_word (Then second (One (is k.Fetch)) (One (is k.First))) (Then first Number RowsOnly)) (Empty None))
 
 -- query [order by ..] [limit ..]
-abbrev pub StatementLine : ℕ → Part Token Expr → Part Token Statement
-StatementLine wide part = Then statement (QueryLine wide part) (Then pair (OrderTail wide) LimitTail)
+abbrev pub OrderedLine : ℕ → Part Token Block → Part Token Statement
+OrderedLine wide query = Then ordered query (Then pair (OrderTail wide) LimitTail)
+
+-- create view name ["(" name {"," name} ")"] as query
+abbrev pub CreateLine : ℕ → ℕ → Part Token Block → Part Token Statement
+CreateLine wide room query = Then create_view (Then second (Then second (One (is k.Create)) (One (is k.View))) (Then pair NameLine (ColumnNames wide room))) (Then second (One (is k.As)) query)
+
+-- drop view name
+abbrev pub DropLine : Part Token Statement
+DropLine = Then second (Then second (One (is k.Drop)) (One (is k.View))) (Map statements.DropView NameLine)
+
+-- insert|delete
+abbrev pub RefreshWord : Part Token RefreshKind
+RefreshWord = Or (Map (constant refresh_kind.Insert) (One (is k.Insert))) (Map (constant refresh_kind.Delete) (One (is k.Delete)))
+
+-- refresh (insert|delete) N
+abbrev pub RefreshLine : Part Token Statement
+RefreshLine = Then second (One (is k.Refresh)) (Then statements.Refresh RefreshWord Number)
+
+-- T or a number
+abbrev pub ValueLine : Part Token TemplateValue
+ValueLine = Or (Map text_value (One (is k.Text))) (Map number_value (One (is k.Number)))
+
+-- value {"," value}
+abbrev pub ValueList : ℕ → Part Token (List TemplateValue)
+ValueList wide = Then cons ValueLine (Links (One (is k.Comma)) second ValueLine wide)
+
+-- [value {"," value}] ")"
+abbrev pub RunInside : ℕ → Part Token (List TemplateValue)
+RunInside wide = Or (Map (constant []) (One (is k.CloseParen))) (Then first (ValueList wide) (One (is k.CloseParen)))
+
+-- run N "(" [value {"," value}] ")"
+abbrev pub RunLine : ℕ → ℕ → Part Token Statement
+RunLine wide room = Then second (One (is k.Run)) (Then statements.Run Number (Then second (Opens room (is k.OpenParen)) (RunInside wide)))
+
+-- a query with its order and row limit | create view .. | drop view .. | refresh .. | run ..
+abbrev pub StatementLine : ℕ → ℕ → Part Token Block → Part Token Statement
+StatementLine wide room query = Or (OrderedLine wide query) (Or (CreateLine wide room query) (Or DropLine (Or RefreshLine (RunLine wide room))))
 
 -- statement ";"
-abbrev pub EndedLine : ℕ → Part Token Expr → Part Token Statement
-EndedLine wide part = Then first (StatementLine wide part) (One (is k.Semicolon))
+abbrev pub EndedLine : ℕ → ℕ → Part Token Block → Part Token Statement
+EndedLine wide room query = Then first (StatementLine wide room query) (One (is k.Semicolon))
 
--- The two parts that lead back to themselves. Of the three numbers, the first is how high the text nests.
+-- The three parts that lead back to themselves. Of the three numbers, the first is how high the text nests.
 unfoldable mutual
   -- what `UnaryLine` says; one level further in, the same of a text that nests one less high
   pub Unary : ℕ → ℕ → ℕ → Part Token Expr
-  Unary zero wide room = UnaryLine wide room Never Never
-  Unary (suc h) wide room = UnaryLine wide room (Unary h wide (less room)) (NotPart h wide (less room))
+  Unary zero wide room = UnaryLine wide room Never Never Never
+  Unary (suc h) wide room = UnaryLine wide room (Unary h wide (less room)) (NotPart h wide (less room)) (Query h wide (less room))
 
   -- what `PartLine` says; one level further in, the same of a text that nests one less high
   pub NotPart : ℕ → ℕ → ℕ → Part Token Expr
-  NotPart zero wide room = PartLine wide room (UnaryLine wide room Never Never) Never
-  NotPart (suc h) wide room = PartLine wide room (UnaryLine wide room (Unary h wide (less room)) (NotPart h wide (less room))) (NotPart h wide (less room))
+  NotPart zero wide room = PartLine wide room (UnaryLine wide room Never Never Never) Never Never
+  NotPart (suc h) wide room =
+      PartLine wide room (UnaryLine wide room (Unary h wide (less room)) (NotPart h wide (less room)) (Query h wide (less room))) (NotPart h wide (less room)) (Query h wide (less room))
 
--- A statement with its semicolon, where so many levels may be opened, and a list may have so many elements behind its first.
+  -- what `QueryLine` says; one level further in, the same of a text that nests one less high
+  pub Query : ℕ → ℕ → ℕ → Part Token Block
+  Query zero wide room = QueryLine wide room (PartLine wide room (UnaryLine wide room Never Never Never) Never Never) Never
+  Query (suc h) wide room =
+      QueryLine wide room (PartLine wide room (UnaryLine wide room (Unary h wide (less room)) (NotPart h wide (less room)) (Query h wide (less room))) (NotPart h wide (less room)) (Query h wide (less room)))
+      (Query h wide (less room))
+
+-- A statement with its semicolon, where so many levels may be opened, and a list may have so many elements after its first.
 abbrev pub Ended : ℕ → ℕ → ℕ → Part Token Statement
-Ended wide room h = EndedLine wide (NotPart h wide room)
+Ended wide room h = EndedLine wide room (Query h wide room)

@@ -2,30 +2,37 @@
 use Rattle.std.specs.Prelude.{ℕ, zero, suc, Bool, true, false, List, [], ◌∷◌, Option, Some, None}
 use Rattle.sql_lexer.specs.declared.kind.Kind.TheVariants as k
 use Rattle.sql_lexer.specs.declared.token.Token.{Token}
-use Rattle.sql_ast.specs.declared.expr.Expr.{Expr}
-use Rattle.sql_ast.specs.declared.expr.Expr.TheVariants as e
-use Rattle.sql_ast.specs.declared.expr.Arm.{Arm}
-use Rattle.sql_ast.specs.declared.expr.Column.{Column}
-use Rattle.sql_ast.specs.declared.expr.Comparison.{Comparison}
-use Rattle.sql_ast.specs.declared.expr.Comparison.TheVariants as comparison
-use Rattle.sql_ast.specs.declared.expr.Span.{Span}
-use Rattle.sql_ast.specs.declared.expr.Span.TheVariants as span
-use Rattle.sql_ast.specs.declared.expr.Aggregate.{Aggregate}
-use Rattle.sql_ast.specs.declared.expr.Aggregate.TheVariants as aggregate
-use Rattle.sql_ast.specs.declared.expr.Adding.{Adding}
-use Rattle.sql_ast.specs.declared.expr.Adding.TheVariants as adding
-use Rattle.sql_ast.specs.declared.expr.Multiplying.{Multiplying}
-use Rattle.sql_ast.specs.declared.expr.Multiplying.TheVariants as multiplying
-use Rattle.sql_ast.specs.declared.query.Item.{Item}
-use Rattle.sql_ast.specs.declared.query.Selected.{Selected}
-use Rattle.sql_ast.specs.declared.query.Selected.TheVariants as selected
-use Rattle.sql_ast.specs.declared.query.FromItem.{FromItem}
-use Rattle.sql_ast.specs.declared.query.FromItem.TheVariants as from_item
-use Rattle.sql_ast.specs.declared.query.Clause.{Clause}
-use Rattle.sql_ast.specs.declared.query.Clause.TheVariants as clause
-use Rattle.sql_ast.specs.declared.query.OrderKey.{OrderKey}
-use Rattle.sql_ast.specs.declared.query.Query.{Query}
-use Rattle.sql_ast.specs.declared.query.Statement.{Statement}
+use Rattle.sql_ast.specs.declared.tree.Expr.{Expr}
+use Rattle.sql_ast.specs.declared.tree.Expr.TheVariants as e
+use Rattle.sql_ast.specs.declared.tree.Arm.{Arm}
+use Rattle.sql_ast.specs.declared.words.Column.{Column}
+use Rattle.sql_ast.specs.declared.words.Comparison.{Comparison}
+use Rattle.sql_ast.specs.declared.words.Comparison.TheVariants as comparison
+use Rattle.sql_ast.specs.declared.words.Span.{Span}
+use Rattle.sql_ast.specs.declared.words.Span.TheVariants as span
+use Rattle.sql_ast.specs.declared.words.Aggregate.{Aggregate}
+use Rattle.sql_ast.specs.declared.words.Aggregate.TheVariants as aggregate
+use Rattle.sql_ast.specs.declared.words.Adding.{Adding}
+use Rattle.sql_ast.specs.declared.words.Adding.TheVariants as adding
+use Rattle.sql_ast.specs.declared.words.Multiplying.{Multiplying}
+use Rattle.sql_ast.specs.declared.words.Multiplying.TheVariants as multiplying
+use Rattle.sql_ast.specs.declared.tree.Item.{Item}
+use Rattle.sql_ast.specs.declared.tree.Selected.{Selected}
+use Rattle.sql_ast.specs.declared.tree.Selected.TheVariants as selected
+use Rattle.sql_ast.specs.declared.tree.FromItem.{FromItem}
+use Rattle.sql_ast.specs.declared.tree.FromItem.TheVariants as from_item
+use Rattle.sql_ast.specs.declared.tree.Clause.{Clause}
+use Rattle.sql_ast.specs.declared.tree.Clause.TheVariants as clause
+use Rattle.sql_ast.specs.declared.statement.OrderKey.{OrderKey}
+use Rattle.sql_ast.specs.declared.statement.Statement.{Statement}
+use Rattle.sql_ast.specs.declared.words.JoinKind.{JoinKind}
+use Rattle.sql_ast.specs.declared.words.JoinKind.TheVariants as join_kind
+use Rattle.sql_ast.specs.declared.tree.Joined.{Joined}
+use Rattle.sql_ast.specs.declared.tree.Block.{Block}
+use Rattle.sql_ast.specs.declared.statement.RefreshKind.{RefreshKind}
+use Rattle.sql_ast.specs.declared.statement.RefreshKind.TheVariants as refresh_kind
+use Rattle.sql_ast.specs.declared.statement.TemplateValue.{TemplateValue}
+use Rattle.sql_ast.specs.declared.statement.Statement.TheVariants as statements
 use Rattle.sql_parser.specs.declared.test.Test.{Test}
 use Rattle.sql_parser.specs.declared.test.Test.TheVariants as t
 use Rattle.sql_parser.specs.declared.queries.Filters.{Filters}
@@ -33,7 +40,7 @@ use Rattle.sql_lexer.specs.Kinds.{is}
 use Rattle.grammar_laws.specs.Kinds.{among}
 use Rattle.grammar_laws.specs.Readings.{Reading, one, opens, nothing, never, both, mapped, either, links}
 use Rattle.sql_parser.specs.Kinds.{kinds}
-use Rattle.sql_parser.specs.Values.{Name, text_of, count_of, number, text, is_count, is_digits, first, second, pair, cons, constant, after_word, after_point, column, negative, negation, factor, term, product, sum, all_of, any_of, arm, case_of, date, interval, extract, substring, distinct_count, between, like, in_list, is_null, is_not_null, denied, tested, item, distinct, plain_selection, condition, filters, query, order_key, statement}
+use Rattle.sql_parser.specs.Values.{Name, text_of, count_of, number, text, is_count, is_digits, first, second, pair, cons, constant, after_word, after_point, column, negative, negation, factor, term, product, sum, all_of, any_of, arm, case_of, date, interval, extract, substring, distinct_count, between, like, in_list, in_query, is_null, is_not_null, denied, tested, item, distinct, plain_selection, derived, join, joined, condition, filters, block, order_key, ordered, create_view, text_value, number_value}
 
 -- a name
 unfoldable pub read_name : Reading Token Name
@@ -59,7 +66,7 @@ read_span = either (is k.Year) (mapped (constant span.Year) (one (is k.Year))) (
 unfoldable pub read_column_tail : Reading Token (Option Name)
 read_column_tail = either (is k.Point) (both after_point (one (is k.Point)) read_name) (nothing None)
 
--- a name, and perhaps a second one behind a point
+-- a name, and perhaps a second one after a point
 unfoldable pub read_column : Reading Token Column
 read_column = both column read_name read_column_tail
 
@@ -71,23 +78,23 @@ read_multiply = either (is k.Star) (mapped (constant multiplying.Times) (one (is
 unfoldable pub read_add : Reading Token Adding
 read_add = either (is k.Plus) (mapped (constant adding.Plus) (one (is k.Plus))) (mapped (constant adding.Minus) (one (is k.Minus)))
 
--- a unary part, then one more behind each * or /
+-- a unary part, then one more after each * or /
 unfoldable pub read_product : ℕ → Reading Token Expr → Reading Token Expr
 read_product wide unary = both product unary (links (among kinds (k.Star ∷ k.Slash ∷ [])) read_multiply factor unary wide)
 
--- a product, then one more behind each + or -
+-- a product, then one more after each + or -
 unfoldable pub read_sum : ℕ → Reading Token Expr → Reading Token Expr
 read_sum wide unary = both sum (read_product wide unary) (links (among kinds (k.Plus ∷ k.Minus ∷ [])) read_add term (read_product wide unary) wide)
 
--- a not-part, then one more behind each AND
+-- a not-part, then one more after each AND
 unfoldable pub read_conjunction : ℕ → Reading Token Expr → Reading Token Expr
 read_conjunction wide part = both all_of part (links (is k.And) (one (is k.And)) second part wide)
 
--- an and-part, then one more behind each OR: a whole expression
+-- an and-part, then one more after each OR: a whole expression
 unfoldable pub read_whole : ℕ → Reading Token Expr → Reading Token Expr
 read_whole wide part = both any_of (read_conjunction wide part) (links (is k.Or) (one (is k.Or)) second (read_conjunction wide part) wide)
 
--- an expression, then one more behind each comma
+-- an expression, then one more after each comma
 unfoldable pub read_expr_list : ℕ → Reading Token Expr → Reading Token (List Expr)
 read_expr_list wide part = both cons (read_whole wide part) (links (is k.Comma) (one (is k.Comma)) second (read_whole wide part) wide)
 
@@ -171,10 +178,30 @@ read_call wide room part = either (is k.Extract) (read_extract wide room part) (
 unfoldable pub read_leaf : ℕ → Reading Token Expr
 read_leaf room = either (is k.Number) (mapped number (one (is k.Number))) (either (is k.Text) (mapped text (one (is k.Text))) (either (is k.Date) (read_date room) (either (is k.Interval) (read_interval room) (mapped e.Column read_column))))
 
--- A minus and a unary part, parentheses around an expression, a CASE, a call or a leaf, told by the next token.
--- The first two and what a CASE or a call holds are read one level further in.
-unfoldable pub read_unary_line : ℕ → ℕ → Reading Token Expr → Reading Token Expr → Reading Token Expr
-read_unary_line wide room inner part = either (is k.Minus) (both negative (opens room (is k.Minus)) inner) (either (is k.OpenParen) (both second (opens room (is k.OpenParen)) (both first (read_whole wide part) (one (is k.CloseParen)))) (either (is k.Case) (read_case wide room part) (either (among kinds (k.Extract ∷ k.Substring ∷ k.Count ∷ k.Sum ∷ k.Avg ∷ k.Min ∷ k.Max ∷ [])) (read_call wide room part) (read_leaf room))))
+-- a query where SELECT comes next, else an expression
+unfoldable pub read_parens_inside : ℕ → Reading Token Expr → Reading Token Block → Reading Token Expr
+read_parens_inside wide part query = either (is k.Select) (mapped e.Scalar query) (read_whole wide part)
+
+-- parentheses, which open a level, around a query or an expression one level further in
+unfoldable pub read_parens : ℕ → ℕ → Reading Token Expr → Reading Token Block → Reading Token Expr
+read_parens wide room part query = both second (opens room (is k.OpenParen)) (both first (read_parens_inside wide part query) (one (is k.CloseParen)))
+
+-- a query between parentheses, one level further in
+unfoldable pub read_subquery : ℕ → Reading Token Block → Reading Token Block
+read_subquery room query = both second (opens room (is k.OpenParen)) (both first query (one (is k.CloseParen)))
+
+-- EXISTS and, between parentheses, a query
+unfoldable pub read_exists : ℕ → Reading Token Block → Reading Token Expr
+read_exists room query = both second (one (is k.Exists)) (mapped e.Exists (read_subquery room query))
+
+-- Parentheses, EXISTS, a CASE, a call or a leaf, told by the next token. What they hold is read one level further in.
+unfoldable pub read_operand : ℕ → ℕ → Reading Token Expr → Reading Token Block → Reading Token Expr
+read_operand wide room part query = either (is k.OpenParen) (read_parens wide room part query) (either (is k.Exists) (read_exists room query) (either (is k.Case) (read_case wide room part)
+    (either (among kinds (k.Extract ∷ k.Substring ∷ k.Count ∷ k.Sum ∷ k.Avg ∷ k.Min ∷ k.Max ∷ [])) (read_call wide room part) (read_leaf room))))
+
+-- a minus, which opens a level, and a unary part one level further in; else an operand
+unfoldable pub read_unary_line : ℕ → ℕ → Reading Token Expr → Reading Token Expr → Reading Token Block → Reading Token Expr
+read_unary_line wide room inner part query = either (is k.Minus) (both negative (opens room (is k.Minus)) inner) (read_operand wide room part query)
 
 -- =, <>, <, <=, > or >=
 unfoldable pub read_comparison : Reading Token Comparison
@@ -196,25 +223,31 @@ read_between wide unary = both second (one (is k.Between)) (both between (read_s
 unfoldable pub read_like : Reading Token Test
 read_like = both like (one (is k.Like)) read_literal
 
--- IN and, between parentheses, a list of expressions
-unfoldable pub read_in : ℕ → ℕ → Reading Token Expr → Reading Token Test
-read_in wide room part = both in_list (one (is k.In)) (both second (opens room (is k.OpenParen)) (both first (read_expr_list wide part) (one (is k.CloseParen))))
+-- a query where SELECT comes next, else a list of expressions
+unfoldable pub read_in_inside : ℕ → Reading Token Expr → Reading Token Block → Reading Token Test
+read_in_inside wide part query = either (is k.Select) (mapped in_query query) (mapped in_list (read_expr_list wide part))
+
+-- IN and, between parentheses, a query or a list of expressions
+unfoldable pub read_in : ℕ → ℕ → Reading Token Expr → Reading Token Block → Reading Token Test
+read_in wide room part query = both second (one (is k.In)) (both second (opens room (is k.OpenParen)) (both first (read_in_inside wide part query) (one (is k.CloseParen))))
 
 -- what NOT may stand before: BETWEEN, LIKE or IN, told by the next token
-unfoldable pub read_deny_test : ℕ → ℕ → Reading Token Expr → Reading Token Expr → Reading Token Test
-read_deny_test wide room unary part = either (is k.Between) (read_between wide unary) (either (is k.Like) read_like (read_in wide room part))
+unfoldable pub read_deny_test : ℕ → ℕ → Reading Token Expr → Reading Token Expr → Reading Token Block → Reading Token Test
+read_deny_test wide room unary part query = either (is k.Between) (read_between wide unary) (either (is k.Like) read_like (read_in wide room part query))
 
 -- what is asked of a sum, told by the next token; nothing, where none of these comes next
-unfoldable pub read_test : ℕ → ℕ → Reading Token Expr → Reading Token Expr → Reading Token Test
-read_test wide room unary part = either (among kinds (k.Equal ∷ k.NotEqual ∷ k.Less ∷ k.LessOrEqual ∷ k.Greater ∷ k.GreaterOrEqual ∷ [])) (read_compare wide unary) (either (is k.Is) read_null (either (is k.Not) (both denied (one (is k.Not)) (read_deny_test wide room unary part)) (either (among kinds (k.Between ∷ k.Like ∷ k.In ∷ [])) (read_deny_test wide room unary part) (nothing t.Holds))))
+unfoldable pub read_test : ℕ → ℕ → Reading Token Expr → Reading Token Expr → Reading Token Block → Reading Token Test
+read_test wide room unary part query = either (among kinds (k.Equal ∷ k.NotEqual ∷ k.Less ∷ k.LessOrEqual ∷ k.Greater ∷ k.GreaterOrEqual ∷ [])) (read_compare wide unary)
+    (either (is k.Is) read_null (either (is k.Not) (both denied (one (is k.Not)) (read_deny_test wide room unary part query))
+    (either (among kinds (k.Between ∷ k.Like ∷ k.In ∷ [])) (read_deny_test wide room unary part query) (nothing t.Holds))))
 
 -- a sum and what is asked of it
-unfoldable pub read_predicate : ℕ → ℕ → Reading Token Expr → Reading Token Expr → Reading Token Expr
-read_predicate wide room unary part = both tested (read_sum wide unary) (read_test wide room unary part)
+unfoldable pub read_predicate : ℕ → ℕ → Reading Token Expr → Reading Token Expr → Reading Token Block → Reading Token Expr
+read_predicate wide room unary part query = both tested (read_sum wide unary) (read_test wide room unary part query)
 
 -- NOT, which opens a level, and a not-part one level further in; else a predicate
-unfoldable pub read_part_line : ℕ → ℕ → Reading Token Expr → Reading Token Expr → Reading Token Expr
-read_part_line wide room unary part = either (is k.Not) (both negation (opens room (is k.Not)) part) (read_predicate wide room unary part)
+unfoldable pub read_part_line : ℕ → ℕ → Reading Token Expr → Reading Token Expr → Reading Token Block → Reading Token Expr
+read_part_line wide room unary part query = either (is k.Not) (both negation (opens room (is k.Not)) part) (read_predicate wide room unary part query)
 
 -- AS and a name, or a name, or nothing, told by the next token
 unfoldable pub read_alias : Reading Token (Option Name)
@@ -232,13 +265,53 @@ read_selection wide part = either (is k.Star) (mapped (constant selected.All) (o
 unfoldable pub read_select : ℕ → Reading Token Expr → Reading Token (Bool × Selected)
 read_select wide part = both second (one (is k.Select)) (either (is k.Distinct) (both distinct (one (is k.Distinct)) (read_selection wide part)) (mapped plain_selection (read_selection wide part)))
 
--- a table and perhaps its alias
-unfoldable pub read_from_item : Reading Token FromItem
-read_from_item = both from_item.Table read_name read_alias
+-- names with commas between them
+unfoldable pub read_names : ℕ → Reading Token (List Name)
+read_names wide = both cons read_name (links (is k.Comma) (one (is k.Comma)) second read_name wide)
 
--- FROM and tables with commas between them
-unfoldable pub read_from : ℕ → Reading Token (List FromItem)
-read_from wide = both second (one (is k.From)) (both cons read_from_item (links (is k.Comma) (one (is k.Comma)) second read_from_item wide))
+-- names between parentheses, where such come next
+unfoldable pub read_column_names : ℕ → ℕ → Reading Token (List Name)
+read_column_names wide room = either (is k.OpenParen) (both second (opens room (is k.OpenParen)) (both first (read_names wide) (one (is k.CloseParen)))) (nothing [])
+
+-- a table and perhaps its alias
+unfoldable pub read_table : Reading Token FromItem
+read_table = both from_item.Table read_name read_alias
+
+-- a name, after AS where it comes next
+unfoldable pub read_derived_alias : Reading Token Name
+read_derived_alias = either (is k.As) (both second (one (is k.As)) read_name) read_name
+
+-- a query between parentheses, its alias and perhaps the names of its columns
+unfoldable pub read_derived : ℕ → ℕ → Reading Token Block → Reading Token FromItem
+read_derived wide room query = both derived (read_subquery room query) (both pair read_derived_alias (read_column_names wide room))
+
+-- a derived table where a parenthesis comes next, else a table
+unfoldable pub read_from_item : ℕ → ℕ → Reading Token Block → Reading Token FromItem
+read_from_item wide room query = either (is k.OpenParen) (read_derived wide room query) read_table
+
+-- JOIN or INNER JOIN, told by the next token
+unfoldable pub read_inner_words : Reading Token JoinKind
+read_inner_words = either (is k.Join) (mapped (constant join_kind.Inner) (one (is k.Join))) (mapped (constant join_kind.Inner) (both second (one (is k.Inner)) (one (is k.Join))))
+
+-- LEFT OUTER JOIN or LEFT JOIN
+unfoldable pub read_left_words : Reading Token JoinKind
+read_left_words = mapped (constant join_kind.LeftOuter) (both second (one (is k.Left)) (either (is k.Outer) (both second (one (is k.Outer)) (one (is k.Join))) (one (is k.Join))))
+
+-- the words of a left join where LEFT comes next, else those of an inner one
+unfoldable pub read_join_words : Reading Token JoinKind
+read_join_words = either (is k.Left) read_left_words read_inner_words
+
+-- an item, ON and an expression
+unfoldable pub read_joined_item : ℕ → ℕ → Reading Token Expr → Reading Token Block → Reading Token (FromItem × Expr)
+read_joined_item wide room part query = both pair (read_from_item wide room query) (both second (one (is k.On)) (read_whole wide part))
+
+-- an item, then one more with its condition after each words of a join
+unfoldable pub read_joined : ℕ → ℕ → Reading Token Expr → Reading Token Block → Reading Token Joined
+read_joined wide room part query = both joined (read_from_item wide room query) (links (among kinds (k.Left ∷ k.Join ∷ k.Inner ∷ [])) read_join_words join (read_joined_item wide room part query) wide)
+
+-- FROM and joined items with commas between them
+unfoldable pub read_from : ℕ → ℕ → Reading Token Expr → Reading Token Block → Reading Token (List Joined)
+read_from wide room part query = both second (one (is k.From)) (both cons (read_joined wide room part query) (links (is k.Comma) (one (is k.Comma)) second (read_joined wide room part query) wide))
 
 -- WHERE and an expression, where WHERE comes next
 unfoldable pub read_where : ℕ → Reading Token Expr → Reading Token Clause
@@ -256,9 +329,9 @@ read_having wide part = either (is k.Having) (both condition (one (is k.Having))
 unfoldable pub read_filters : ℕ → Reading Token Expr → Reading Token Filters
 read_filters wide part = both filters (read_where wide part) (both pair (read_group wide) (read_having wide part))
 
--- SELECT, FROM and the clauses behind it
-unfoldable pub read_query : ℕ → Reading Token Expr → Reading Token Query
-read_query wide part = both query (read_select wide part) (both pair (read_from wide) (read_filters wide part))
+-- SELECT, FROM and the clauses after it
+unfoldable pub read_query_line : ℕ → ℕ → Reading Token Expr → Reading Token Block → Reading Token Block
+read_query_line wide room part query = both block (read_select wide part) (both pair (read_from wide room part query) (read_filters wide part))
 
 -- ASC or DESC or nothing, which is ascending
 unfoldable pub read_direction : Reading Token Bool
@@ -281,23 +354,69 @@ unfoldable pub read_limit : Reading Token (Option ℕ)
 read_limit = either (is k.Limit) (both after_word (one (is k.Limit)) read_number) (either (is k.Fetch) (both after_word (both second (one (is k.Fetch)) (one (is k.First))) (both first read_number read_rows_only)) (nothing None))
 
 -- a query, its order and its row limit
-unfoldable pub read_statement : ℕ → Reading Token Expr → Reading Token Statement
-read_statement wide part = both statement (read_query wide part) (both pair (read_order wide) read_limit)
+unfoldable pub read_ordered : ℕ → Reading Token Block → Reading Token Statement
+read_ordered wide query = both ordered query (both pair (read_order wide) read_limit)
+
+-- CREATE VIEW, a name, and perhaps the names of its columns
+unfoldable pub read_view_name : ℕ → ℕ → Reading Token (Name × List Name)
+read_view_name wide room = both second (both second (one (is k.Create)) (one (is k.View))) (both pair read_name (read_column_names wide room))
+
+-- such a view, AS and a query
+unfoldable pub read_create : ℕ → ℕ → Reading Token Block → Reading Token Statement
+read_create wide room query = both create_view (read_view_name wide room) (both second (one (is k.As)) query)
+
+-- DROP VIEW and a name
+unfoldable pub read_drop : Reading Token Statement
+read_drop = both second (both second (one (is k.Drop)) (one (is k.View))) (mapped statements.DropView read_name)
+
+-- INSERT or DELETE
+unfoldable pub read_refresh_word : Reading Token RefreshKind
+read_refresh_word = either (is k.Insert) (mapped (constant refresh_kind.Insert) (one (is k.Insert))) (mapped (constant refresh_kind.Delete) (one (is k.Delete)))
+
+-- REFRESH, such a word and a number
+unfoldable pub read_refresh : Reading Token Statement
+read_refresh = both second (one (is k.Refresh)) (both statements.Refresh read_refresh_word read_number)
+
+-- a text, or else a number
+unfoldable pub read_value : Reading Token TemplateValue
+read_value = either (is k.Text) (mapped text_value (one (is k.Text))) (mapped number_value (one (is k.Number)))
+
+-- values with commas between them
+unfoldable pub read_values : ℕ → Reading Token (List TemplateValue)
+read_values wide = both cons read_value (links (is k.Comma) (one (is k.Comma)) second read_value wide)
+
+-- the closing parenthesis, or values before it
+unfoldable pub read_run_inside : ℕ → Reading Token (List TemplateValue)
+read_run_inside wide = either (is k.CloseParen) (mapped (constant []) (one (is k.CloseParen))) (both first (read_values wide) (one (is k.CloseParen)))
+
+-- RUN, a number and, between parentheses, values
+unfoldable pub read_run : ℕ → ℕ → Reading Token Statement
+read_run wide room = both second (one (is k.Run)) (both statements.Run read_number (both second (opens room (is k.OpenParen)) (read_run_inside wide)))
+
+-- a statement, told by its first token
+unfoldable pub read_statement : ℕ → ℕ → Reading Token Block → Reading Token Statement
+read_statement wide room query = either (is k.Select) (read_ordered wide query) (either (is k.Create) (read_create wide room query) (either (is k.Drop) read_drop (either (is k.Refresh) read_refresh (read_run wide room))))
 
 -- a statement and its semicolon
-unfoldable pub read_ended : ℕ → Reading Token Expr → Reading Token Statement
-read_ended wide part = both first (read_statement wide part) (one (is k.Semicolon))
+unfoldable pub read_ended : ℕ → ℕ → Reading Token Block → Reading Token Statement
+read_ended wide room query = both first (read_statement wide room query) (one (is k.Semicolon))
 
 unfoldable mutual
   -- a unary part, where so many levels may still be opened; with no room, nothing is read further in
   pub unary_at : ℕ → ℕ → Reading Token Expr
-  unary_at wide zero = read_unary_line wide zero never never
-  unary_at wide (suc room) = read_unary_line wide (suc room) (unary_at wide room) (part_at wide room)
+  unary_at wide zero = read_unary_line wide zero never never never
+  unary_at wide (suc room) = read_unary_line wide (suc room) (unary_at wide room) (part_at wide room) (query_at wide room)
 
   -- a not-part, likewise
   pub part_at : ℕ → ℕ → Reading Token Expr
-  part_at wide zero = read_part_line wide zero (read_unary_line wide zero never never) never
-  part_at wide (suc room) = read_part_line wide (suc room) (read_unary_line wide (suc room) (unary_at wide room) (part_at wide room)) (part_at wide room)
+  part_at wide zero = read_part_line wide zero (read_unary_line wide zero never never never) never never
+  part_at wide (suc room) = read_part_line wide (suc room) (read_unary_line wide (suc room) (unary_at wide room) (part_at wide room) (query_at wide room)) (part_at wide room) (query_at wide room)
+
+  -- a query, likewise
+  pub query_at : ℕ → ℕ → Reading Token Block
+  query_at wide zero = read_query_line wide zero (read_part_line wide zero (read_unary_line wide zero never never never) never never) never
+  query_at wide (suc room) =
+      read_query_line wide (suc room) (read_part_line wide (suc room) (read_unary_line wide (suc room) (unary_at wide room) (part_at wide room) (query_at wide room)) (part_at wide room) (query_at wide room)) (query_at wide room)
 
 -- what stands one level further in
 abbrev pub inner_unary : ℕ → ℕ → Reading Token Expr
@@ -309,6 +428,11 @@ abbrev pub inner_part : ℕ → ℕ → Reading Token Expr
 inner_part wide zero = never
 inner_part wide (suc room) = part_at wide room
 
+-- likewise a query
+abbrev pub inner_query : ℕ → ℕ → Reading Token Block
+inner_query wide zero = never
+inner_query wide (suc room) = query_at wide room
+
 -- a statement with its semicolon, where so many levels may be opened
 abbrev pub ended_at : ℕ → ℕ → Reading Token Statement
-ended_at wide room = read_ended wide (part_at wide room)
+ended_at wide room = read_ended wide room (query_at wide room)

@@ -1,12 +1,12 @@
 -- What a script is, from its tokens and from its bytes.
-use Rattle.std.specs.Prelude.{◌≡◌, ℕ, ◌≤◌, ◌<◌, List, length, slice_get, Option, Some, None}
-use Rattle.grammar_laws.specs.declared.Refusal.{Refusal}
-use Rattle.grammar_laws.specs.declared.Refusal.TheVariants as refusal
+use Rattle.std.specs.Prelude.{◌≡◌, ℕ, ◌≤◌, ◌<◌, ◌⊎◌, List, length, slice_get, Option, Some, None}
+use Rattle.grammar_laws.specs.declared.SyntaxFault.{SyntaxFault}
+use Rattle.grammar_laws.specs.declared.SyntaxFault.TheVariants as refusal
 use Rattle.grammar_laws.specs.Scripts.{Grammar, IsScript, IsRead, IsFirst}
 use Rattle.sql_lexer.specs.declared.token.Token.{Token}
 use Rattle.sql_lexer.specs.declared.fault.LexRefusal.TheVariants as lex
 use Rattle.sql_lexer.specs.Lexing.{Lexes, Refuses}
-use Rattle.sql_ast.specs.declared.query.Statement.{Statement}
+use Rattle.sql_ast.specs.declared.statement.Statement.{Statement}
 use Rattle.sql_parser.specs.declared.fault.ScriptRefusal.{ScriptRefusal}
 use Rattle.sql_parser.specs.declared.fault.ScriptRefusal.TheVariants as script
 use Rattle.sql_parser.specs.Grammar.{Ended}
@@ -40,7 +40,7 @@ pub record IsReadScript (bytes : List ℕ) (ss : List Statement) : Type 0 where
   pub read : IsRead Sql tokens ss
 
 -- The script's tokens have this refusal first, at this byte.
-pub record IsParseRefusal (r : Refusal) (bytes : List ℕ) (place : ℕ) : Type 0 where
+pub record IsParseRefusal (r : SyntaxFault) (bytes : List ℕ) (place : ℕ) : Type 0 where
   pub short : length bytes ≤ max_script
   pub tokens : List Token
   pub lexes : Lexes 0 bytes tokens
@@ -58,6 +58,14 @@ IsRefusedScript script.Unexpected bytes place = IsParseRefusal refusal.Unexpecte
 IsRefusedScript script.TooDeep bytes place = IsParseRefusal refusal.TooDeep bytes place
 IsRefusedScript script.TooLong bytes place = (max_script < length bytes) × (place ≡ max_script)
 IsRefusedScript script.TooWide bytes place = IsParseRefusal refusal.TooWide bytes place
+
+-- every token list has a statement list, or a first refusal
+abbrev pub SomeMeaning : Type 0
+SomeMeaning = (ts : List Token) → ((ss : List Statement) × IsRead Sql ts ss) ⊎ ((r : SyntaxFault) × (n : ℕ) × IsFirst Sql r ts n)
+
+-- all bytes are a script, or have a first refusal
+abbrev pub SomeScript : Type 0
+SomeScript = (bytes : List ℕ) → ((ss : List Statement) × IsReadScript bytes ss) ⊎ ((r : ScriptRefusal) × (place : ℕ) × IsRefusedScript r bytes place)
 
 -- a script is read or refused, never both
 abbrev pub NeverBoth : Type 0

@@ -6,24 +6,30 @@ use Rattle.sql_lexer.specs.declared.kind.Kind.TheVariants as k
 use Rattle.sql_lexer.specs.declared.token.Token.{Token}
 use Rattle.sql_lexer.specs.declared.token.Content.{Content}
 use Rattle.sql_lexer.specs.declared.token.Content.TheVariants as content
-use Rattle.sql_ast.specs.declared.expr.Expr.{Expr}
-use Rattle.sql_ast.specs.declared.expr.Expr.TheVariants as e
-use Rattle.sql_ast.specs.declared.expr.Term.{Term, roll-Term}
-use Rattle.sql_ast.specs.declared.expr.Factor.{Factor, roll-Factor}
-use Rattle.sql_ast.specs.declared.expr.Arm.{Arm, roll-Arm}
-use Rattle.sql_ast.specs.declared.expr.Column.{Column}
-use Rattle.sql_ast.specs.declared.expr.Span.{Span}
-use Rattle.sql_ast.specs.declared.expr.Adding.{Adding}
-use Rattle.sql_ast.specs.declared.expr.Multiplying.{Multiplying}
-use Rattle.sql_ast.specs.declared.query.Item.{Item}
-use Rattle.sql_ast.specs.declared.query.Selected.{Selected}
-use Rattle.sql_ast.specs.declared.query.FromItem.{FromItem}
-use Rattle.sql_ast.specs.declared.query.Clause.{Clause}
-use Rattle.sql_ast.specs.declared.query.Clause.TheVariants as clause
-use Rattle.sql_ast.specs.declared.query.OrderKey.{OrderKey}
-use Rattle.sql_ast.specs.declared.query.Query.{Query}
-use Rattle.sql_ast.specs.declared.query.Statement.{Statement}
-use Rattle.sql_ast.specs.declared.query.Statement.TheVariants as statements
+use Rattle.sql_ast.specs.declared.tree.Expr.{Expr}
+use Rattle.sql_ast.specs.declared.tree.Expr.TheVariants as e
+use Rattle.sql_ast.specs.declared.tree.Term.{Term, roll-Term}
+use Rattle.sql_ast.specs.declared.tree.Factor.{Factor, roll-Factor}
+use Rattle.sql_ast.specs.declared.tree.Arm.{Arm, roll-Arm}
+use Rattle.sql_ast.specs.declared.words.Column.{Column}
+use Rattle.sql_ast.specs.declared.words.Span.{Span}
+use Rattle.sql_ast.specs.declared.words.Adding.{Adding}
+use Rattle.sql_ast.specs.declared.words.Multiplying.{Multiplying}
+use Rattle.sql_ast.specs.declared.words.JoinKind.{JoinKind}
+use Rattle.sql_ast.specs.declared.tree.Item.{Item, roll-Item}
+use Rattle.sql_ast.specs.declared.tree.Selected.{Selected}
+use Rattle.sql_ast.specs.declared.tree.FromItem.{FromItem}
+use Rattle.sql_ast.specs.declared.tree.FromItem.TheVariants as from_item
+use Rattle.sql_ast.specs.declared.tree.Join.{Join, roll-Join}
+use Rattle.sql_ast.specs.declared.tree.Joined.{Joined, roll-Joined}
+use Rattle.sql_ast.specs.declared.tree.Block.{Block, roll-Block}
+use Rattle.sql_ast.specs.declared.tree.Clause.{Clause}
+use Rattle.sql_ast.specs.declared.tree.Clause.TheVariants as clause
+use Rattle.sql_ast.specs.declared.statement.OrderKey.{OrderKey}
+use Rattle.sql_ast.specs.declared.statement.TemplateValue.{TemplateValue}
+use Rattle.sql_ast.specs.declared.statement.TemplateValue.TheVariants as template_value
+use Rattle.sql_ast.specs.declared.statement.Statement.{Statement}
+use Rattle.sql_ast.specs.declared.statement.Statement.TheVariants as statements
 use Rattle.sql_parser.specs.declared.test.Test.{Test}
 use Rattle.sql_parser.specs.declared.test.Test.TheVariants as t
 use Rattle.sql_parser.specs.declared.queries.Filters.{Filters}
@@ -119,11 +125,11 @@ cons a others = a ∷ others
 abbrev pub constant : {A B : Type 0} → A → B → A
 constant a b = a
 
--- the value behind a word
+-- the value after a word
 abbrev pub after_word : {A B : Type 0} → A → B → Option B
 after_word word b = Some b
 
--- the name behind a point
+-- the name after a point
 abbrev pub after_point : Token → Name → Option Name
 after_point point name = Some name
 
@@ -142,11 +148,11 @@ negative minus x = e.Negative x
 abbrev pub negation : Token → Expr → Expr
 negation word x = e.Not x
 
--- a factor behind `*` or `/`
+-- a factor after `*` or `/`
 abbrev pub factor : Multiplying → Expr → Factor
 factor operator x = roll-Factor (record { operator = operator; value = x })
 
--- a term behind `+` or `-`
+-- a term after `+` or `-`
 abbrev pub term : Adding → Expr → Term
 term operator x = roll-Term (record { operator = operator; value = x })
 
@@ -174,7 +180,7 @@ any_of x (y ∷ ys) = e.Or x (y ∷ ys)
 abbrev pub arm : Expr → Expr → Arm
 arm condition value = roll-Arm (record { condition = condition; value = value })
 
--- a CASE, with ELSE where a value stands behind it
+-- a CASE, with ELSE where a value stands after it
 abbrev pub case_of : List Arm → Option Expr → Expr
 case_of arms None = e.Case arms
 case_of arms (Some x) = e.CaseElse arms x
@@ -210,8 +216,12 @@ abbrev pub like : Token → Name → Test
 like word pattern = t.Like false pattern
 
 -- equal to one of these, not denied
-abbrev pub in_list : Token → List Expr → Test
-in_list word list = t.InList false list
+abbrev pub in_list : List Expr → Test
+in_list list = t.InList false list
+
+-- equal to one of the query's values, not denied
+abbrev pub in_query : Block → Test
+in_query query = t.InQuery false query
 
 -- `is null`
 abbrev pub is_null : Token → Test
@@ -229,8 +239,9 @@ opposite (t.IsNull b) = t.IsNull (not b)
 opposite (t.Between b low high) = t.Between (not b) low high
 opposite (t.Like b pattern) = t.Like (not b) pattern
 opposite (t.InList b list) = t.InList (not b) list
+opposite (t.InQuery b query) = t.InQuery (not b) query
 
--- the test behind a NOT
+-- the test after a NOT
 abbrev pub denied : Token → Test → Test
 denied word test = opposite test
 
@@ -247,20 +258,33 @@ tested x (t.IsNull b) = deny b (e.IsNull x)
 tested x (t.Between b low high) = deny b (e.Between x low high)
 tested x (t.Like b pattern) = deny b (e.Like x pattern)
 tested x (t.InList b list) = deny b (e.InList x list)
+tested x (t.InQuery b query) = deny b (e.InQuery x query)
 
 -- ---- queries
 
 -- a selected expression and its alias
 abbrev pub item : Expr → Option Name → Item
-item x alias = record { value = x; alias = alias }
+item x alias = roll-Item (record { value = x; alias = alias })
 
--- what is selected, behind DISTINCT
+-- what is selected, after DISTINCT
 abbrev pub distinct : Token → Selected → Bool × Selected
 distinct word s = (true, s)
 
 -- what is selected, without DISTINCT
 abbrev pub plain_selection : Selected → Bool × Selected
 plain_selection s = (false, s)
+
+-- a query in parentheses, its alias and the names of its columns
+abbrev pub derived : Block → Name × List Name → FromItem
+derived query names = from_item.Derived query names.0 names.1
+
+-- an item joined to those before it, and the condition after ON
+abbrev pub join : JoinKind → FromItem × Expr → Join
+join kind joined = roll-Join (record { kind = kind; item = joined.0; condition = joined.1 })
+
+-- an item, and those that are joined to it
+abbrev pub joined : FromItem → List Join → Joined
+joined first joins = roll-Joined (record { first = first; joins = joins })
 
 -- WHERE or HAVING with its condition
 abbrev pub condition : Token → Expr → Clause
@@ -270,14 +294,34 @@ condition word x = clause.Condition x
 abbrev pub filters : Clause → List Column × Clause → Filters
 filters c g = record { condition = c; group = g.0; having = g.1 }
 
--- a query of its clauses, with no order and no row limit yet
-abbrev pub query : Bool × Selected → List FromItem × Filters → Query
-query s f = record { is_distinct = s.0; selected = s.1; from = f.0; condition = f.1.condition; group = f.1.group; having = f.1.having; order = []; limit = None }
+-- a query of its clauses
+abbrev pub block : Bool × Selected → List Joined × Filters → Block
+block s f = roll-Block (record { is_distinct = s.0; selected = s.1; from = f.0; condition = f.1.condition; group = f.1.group; having = f.1.having })
+
+-- ---- statements
 
 -- an output column to order by, and whether it descends
 abbrev pub order_key : Name → Bool → OrderKey
 order_key column is_descending = record { column = column; is_descending = is_descending }
 
 -- the query with its order and its row limit
-abbrev pub statement : Query → List OrderKey × Option ℕ → Statement
-statement q o = statements.Query (record q { order = o.0; limit = o.1 })
+abbrev pub ordered : Block → List OrderKey × Option ℕ → Statement
+ordered query o = statements.Query (record { block = query; order = o.0; limit = o.1 })
+
+-- a view: its name, the names of its columns, and its query
+abbrev pub create_view : Name × List Name → Block → Statement
+create_view named query = statements.CreateView named.0 named.1 query
+
+-- a text token as a template's value
+abbrev pub text_value : Token → TemplateValue
+text_value token = template_value.Text (text_of token)
+
+-- a number with its digits after the point; 0 of anything else
+abbrev pub content_value : Content → TemplateValue
+content_value content.Nothing = template_value.Number (pos 0) 0
+content_value (content.Text bytes) = template_value.Number (pos 0) 0
+content_value (content.Number value places) = template_value.Number value places
+
+-- a number token as a template's value
+abbrev pub number_value : Token → TemplateValue
+number_value token = content_value token.content

@@ -2,7 +2,7 @@
 ghost use Rattle.std.specs.Prelude.{◌≡◌};
 ghost use Rattle.sql_parser.specs.Faults.{of_lexer, of_parser};
 
-use grammar_laws::Refusal;
+use grammar_laws::SyntaxFault;
 use sql_lexer::LexRefusal;
 
 /// Why tokens are no script.
@@ -11,7 +11,7 @@ pub enum ParseFault {
     /// Memory ran out.
     OutOfMemory,
     /// The first refusal, and the number of its token, counted from 0.
-    Refused(Refusal, usize),
+    Refused(SyntaxFault, usize),
 }
 
 /// Why bytes are no script.
@@ -57,12 +57,12 @@ pub(crate) fn of_lexer(refusal: LexRefusal) -> ScriptRefusal
 }
 
 /// A refusal of the parser as one of the script.
-pub(crate) fn of_parser(refusal: Refusal) -> ScriptRefusal
+pub(crate) fn of_parser(refusal: SyntaxFault) -> ScriptRefusal
     ensures { result ≡ of_parser refusal }
 {
     match refusal {
-        Refusal::Unexpected => ScriptRefusal::Unexpected,
-        Refusal::TooDeep => ScriptRefusal::TooDeep,
-        Refusal::TooWide => ScriptRefusal::TooWide,
+        SyntaxFault::Unexpected => ScriptRefusal::Unexpected,
+        SyntaxFault::TooDeep => ScriptRefusal::TooDeep,
+        SyntaxFault::TooWide => ScriptRefusal::TooWide,
     }
 }

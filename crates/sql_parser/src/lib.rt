@@ -1,13 +1,22 @@
 //! The statements of a script, read by descent.
 #![tactic(auto)]
 
-mod conditions;
-mod expr;
+mod blocks;
+mod calls;
+mod clauses;
 mod fault;
+mod insides;
+mod knot;
+mod level;
+mod nested;
 mod parser;
 mod parts;
+mod predicates;
 mod queries;
 mod scripts;
+mod statements;
+mod subqueries;
+mod sums;
 mod test;
 mod words;
 

@@ -1,5 +1,5 @@
 //! The tokens that are still to be read, and the steps of one token.
-ghost use Rattle.std.specs.Prelude.{◌≡◌, List, ◌∷◌, []};
+ghost use Rattle.std.specs.Prelude.{◌≡◌, ◌==◌, List, length};
 ghost use Rattle.std.specs.List.{list_any};
 ghost use Rattle.grammar_laws.specs.Kinds.{among};
 ghost use Rattle.grammar_laws.specs.Readings.{Outcome, Reads, crowded, is_err, one, opens, starts};
@@ -7,8 +7,9 @@ ghost use Rattle.sql_lexer.specs.Kinds.{is};
 ghost use Rattle.sql_parser.specs.Kinds.{kinds};
 ghost use Rattle.sql_parser.specs.Reads.{seen};
 
-use grammar_laws::{Refusal, Stop};
+use grammar_laws::{SyntaxError, SyntaxFault};
 use sql_lexer::{Kind, Token};
+use std::marker::Model;
 
 /// How many elements a list or a chain has at most, without its first one.
 pub(crate) const MAX_MORE: usize = 1023;
@@ -22,6 +23,15 @@ pub(crate) struct Parser<'a> {
     pub(crate) rest: &'a [Token],
 }
 
+impl<'a> Model for Parser<'a> {
+    ghost use Rattle.std.specs.Prelude.{List};
+    ghost use Rattle.sql_lexer.specs.declared.token.Token.{Token};
+
+    ghost Value = { List Token };
+
+    ghost view = { λ p. p.rest.now };
+}
+
 /// Whether the token is of one of these kinds.
 fn is_any(token: &Token, choice: &[Kind]) -> bool
     ensures { result ≡ list_any (λ k. is k token.now) choice.now }
@@ -30,9 +40,30 @@ fn is_any(token: &Token, choice: &[Kind]) -> bool
 }
 
 impl<'a> Parser<'a> {
+    /// All of these tokens.
+    pub(crate) fn new(rest: &'a [Token]) -> Parser<'a>
+        ensures { result ≡ rest.now }
+    {
+        Parser { rest }
+    }
+
+    /// The tokens that are still to be read.
+    pub(crate) fn rest(&self) -> &'a [Token]
+        ensures { result.now ≡ self.now }
+    {
+        self.rest
+    }
+
+    /// Whether all tokens are read.
+    pub(crate) fn is_done(&self) -> bool
+        ensures { result ≡ (length self.now == 0) }
+    {
+        self.rest.is_empty()
+    }
+
     /// Whether a token of this kind comes next.
     pub(crate) fn starts(&self, kind: Kind) -> bool
-        ensures { result ≡ starts (is kind) self.now.rest.now }
+        ensures { result ≡ starts (is kind) self.now }
     {
         match self.rest {
             [] => false,
@@ -42,7 +73,7 @@ impl<'a> Parser<'a> {
 
     /// Whether a token of one of these kinds comes next.
     pub(crate) fn starts_any(&self, choice: &[Kind]) -> bool
-        ensures { result ≡ starts (among kinds choice.now) self.now.rest.now }
+        ensures { result ≡ starts (among kinds choice.now) self.now }
     {
         match self.rest {
             [] => false,
@@ -51,24 +82,24 @@ impl<'a> Parser<'a> {
     }
 
     /// One token of this kind.
-    pub(crate) fn one(&mut self, kind: Kind) -> Result<&'a Token, Stop>
-        ensures { Reads (one (is kind) self.old.rest.now) (seen result) self.new.rest.now }
+    pub(crate) fn one(&mut self, kind: Kind) -> Result<&'a Token, SyntaxError>
+        ensures { Reads (one (is kind) self.old) (seen result) self.new }
     {
         match self.rest {
             [token, rest @ ..] if token.is(kind) => {
                 self.rest = rest;
                 Ok(token)
             }
-            _ => Err(Stop::Refused(Refusal::Unexpected)),
+            _ => Err(SyntaxError::Refused(SyntaxFault::Unexpected)),
         }
     }
 
     /// One token that opens a level, where there is room for so many.
-    pub(crate) fn opens(&mut self, room: usize, kind: Kind) -> Result<&'a Token, Stop>
-        ensures { Reads (opens room (is kind) self.old.rest.now) (seen result) self.new.rest.now }
+    pub(crate) fn opens(&mut self, room: usize, kind: Kind) -> Result<&'a Token, SyntaxError>
+        ensures { Reads (opens room (is kind) self.old) (seen result) self.new }
     {
         if room == 0 && self.starts(kind) {
-            return Err(Stop::Refused(Refusal::TooDeep));
+            return Err(SyntaxError::Refused(SyntaxFault::TooDeep));
         }
         self.one(kind)
     }
@@ -77,16 +108,18 @@ impl<'a> Parser<'a> {
     pub(crate) fn one_too_many<T: Drop>(
         &mut self,
         here: &'a [Token],
-        element: Result<T, Stop>,
-    ) -> Stop
-        ensures { (o : Outcome Token T) → Reads o element self.old.rest.now → Reads (crowded here.now o) (is_err {A = T} result) self.new.rest.now }
+        element: Result<T, SyntaxError>,
+    ) -> SyntaxError
+        ensures { (o : Outcome Token T) → Reads o element self.old → Reads (crowded here.now o) (is_err {A = T} result) self.new }
     {
         let len = self.rest.len();
         self.rest = here;
         match element {
-            Err(Stop::Refused(refusal)) if len == here.len() => Stop::Refused(refusal),
-            Err(Stop::OutOfMemory) => Stop::OutOfMemory,
-            _ => Stop::Refused(Refusal::TooWide),
+            Err(SyntaxError::Refused(refusal)) if len == here.len() => SyntaxError::Refused(
+                refusal,
+            ),
+            Err(SyntaxError::OutOfMemory) => SyntaxError::OutOfMemory,
+            _ => SyntaxError::Refused(SyntaxFault::TooWide),
         }
     }
 }

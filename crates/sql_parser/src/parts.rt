@@ -1,10 +1,14 @@
-//! What the parts of an expression make together.
+//! What the parts of expressions and queries make together.
 ghost use Rattle.std.specs.Prelude.{◌≡◌, IfOk};
-ghost use Rattle.sql_ast.specs.declared.expr.Expr.TheVariants as e;
+ghost use Rattle.sql_ast.specs.declared.tree.Expr.TheVariants as e;
 ghost use Rattle.sql_parser.specs.Values as values;
 
+use crate::queries::Filters;
 use crate::test::Test;
-use sql_ast::{Adding, Arm, Comparison, Expr, Factor, Multiplying, Term};
+use sql_ast::{
+    Adding, Arm, Block, Comparison, Expr, Factor, FromItem, Join, JoinKind, Joined, Multiplying,
+    Selected, Term,
+};
 use sqlite_items::{Boxed, Items};
 use std::alloc::{AllocError, Global};
 
@@ -27,6 +31,39 @@ pub(crate) fn arm_of(condition: Expr, value: Expr) -> Arm
     ensures { result ≡ values.arm condition value }
 {
     Arm { condition, value }
+}
+
+/// An item joined to those before it, and its condition.
+pub(crate) fn join_of(kind: JoinKind, joined: (FromItem, Expr)) -> Join
+    ensures { result ≡ values.join kind joined }
+{
+    let (item, condition) = joined;
+    Join {
+        kind,
+        item,
+        condition,
+    }
+}
+
+/// An item, and those that are joined to it.
+pub(crate) fn joined_of(first: FromItem, joins: Items<Join>) -> Joined
+    ensures { result ≡ values.joined first joins }
+{
+    Joined { first, joins }
+}
+
+/// A query of its select list, FROM and the clauses after it.
+pub(crate) fn block_of(selected: (bool, Selected), from: Items<Joined>, filters: Filters) -> Block
+    ensures { result ≡ values.block selected (from, filters) }
+{
+    Block {
+        is_distinct: selected.0,
+        selected: selected.1,
+        from,
+        condition: filters.condition,
+        group: filters.group,
+        having: filters.having,
+    }
 }
 
 /// The product of factors; the first alone where there is no other.
@@ -98,11 +135,12 @@ pub(crate) fn opposite(test: Test) -> Test
         Test::Between(is_denied, low, high) => Test::Between(!is_denied, low, high),
         Test::Like(is_denied, pattern) => Test::Like(!is_denied, pattern),
         Test::InList(is_denied, list) => Test::InList(!is_denied, list),
+        Test::InQuery(is_denied, query) => Test::InQuery(!is_denied, query),
     }
 }
 
 /// The condition, denied or not.
-fn deny(alloc: Global, is_denied: bool, value: Expr) -> Result<Expr, AllocError>
+pub(crate) fn deny(alloc: Global, is_denied: bool, value: Expr) -> Result<Expr, AllocError>
     ensures { IfOk result (λ x. x ≡ values.deny is_denied value) }
 {
     if is_denied {
@@ -161,6 +199,10 @@ pub(crate) fn tested(alloc: Global, value: Expr, test: Test) -> Result<Expr, All
         Test::InList(is_denied, list) => {
             let value = Boxed::new(alloc, value)?;
             deny(alloc, is_denied, Expr::InList(value, list))
+        }
+        Test::InQuery(is_denied, query) => {
+            let value = Boxed::new(alloc, value)?;
+            deny(alloc, is_denied, Expr::InQuery(value, query))
         }
     }
 }

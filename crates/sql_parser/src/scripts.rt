@@ -1,16 +1,17 @@
 //! Whole scripts, from their tokens and from their bytes.
 ghost use Rattle.std.specs.Prelude.{◌≡◌, ℕ, length, IfOk, Err};
-ghost use Rattle.grammar_laws.specs.declared.Refusal.{Refusal};
+ghost use Rattle.grammar_laws.specs.declared.SyntaxFault.{SyntaxFault};
 ghost use Rattle.grammar_laws.specs.Readings.{Reads};
 ghost use Rattle.grammar_laws.specs.Scripts as scripts;
 ghost use Rattle.grammar_laws.specs.Scripts.{IsFirst, IsRead};
 ghost use Rattle.sql_parser.specs.declared.fault.ScriptRefusal.{ScriptRefusal};
 ghost use Rattle.sql_parser.specs.Readings.{ended_at};
-ghost use Rattle.sql_parser.specs.Script.{IsReadScript, IsRefusedScript, NeverBoth, OneMeaning, OneScript, Sql, byte_at};
+ghost use Rattle.sql_parser.specs.Script.{IsReadScript, IsRefusedScript, NeverBoth, OneMeaning, OneScript, SomeMeaning, SomeScript, Sql, byte_at};
 
 use crate::fault::{ParseFault, ScriptFault, ScriptRefusal, of_lexer, of_parser};
 use crate::parser::{MAX_DEPTH, Parser};
-use grammar_laws::{Refusal, Stop};
+use crate::statements::ended_statement;
+use grammar_laws::{SyntaxError, SyntaxFault};
 use sql_ast::Statement;
 use sql_lexer::{LexFault, Token, lex};
 use sqlite_items::Items;
@@ -19,17 +20,15 @@ use std::alloc::Global;
 /// How many bytes a script may have.
 pub const MAX_SCRIPT: usize = 1048576;
 
-impl<'a> Parser<'a> {
-    /// `{statement ";"}`, to the end of the tokens.
-    fn script(&mut self, alloc: Global) -> Result<Items<Statement>, Stop>
-        ensures { Reads (scripts.statements (ended_at 1023 64) (length self.old.rest.now) self.old.rest.now) result self.new.rest.now }
-    {
-        let mut found = Items::new(alloc);
-        'more: while !self.rest.is_empty() {
-            found.push(self.ended_statement(alloc, MAX_DEPTH)?)?;
-        }
-        Ok(found)
+/// `{statement ";"}`, to the end of the tokens.
+fn script(alloc: Global, parser: &mut Parser<'_>) -> Result<Items<Statement>, SyntaxError>
+    ensures { Reads (scripts.statements (ended_at 1023 64) (length parser.old) parser.old) result parser.new }
+{
+    let mut found = Items::new(alloc);
+    'more: while !parser.is_done() {
+        found.push(ended_statement(alloc, parser, MAX_DEPTH)?)?;
     }
+    Ok(found)
 }
 
 /// The statements of a script, given as its tokens.
@@ -37,14 +36,14 @@ pub fn parse_script(alloc: Global, tokens: &[Token]) -> Result<Items<Statement>,
     // The tokens are a script with these statements and no others, and no refusal stands at any of them.
     ensures read { IfOk result (λ ss. IsRead Sql tokens.now ss) }
     // A refusal is the first one that stands.
-    ensures refused { (r : Refusal) (n : ℕ) → result ≡ Err (ParseFault.Refused r n) → IsFirst Sql r tokens.now n }
+    ensures refused { (r : SyntaxFault) (n : ℕ) → result ≡ Err (ParseFault.Refused r n) → IsFirst Sql r tokens.now n }
 {
-    let mut parser = Parser { rest: tokens };
-    match parser.script(alloc) {
+    let mut parser = Parser::new(tokens);
+    match script(alloc, &mut parser) {
         Ok(statements) => Ok(statements),
-        Err(Stop::OutOfMemory) => Err(ParseFault::OutOfMemory),
-        Err(Stop::Refused(refusal)) => {
-            Err(ParseFault::Refused(refusal, tokens.len() - parser.rest.len()))
+        Err(SyntaxError::OutOfMemory) => Err(ParseFault::OutOfMemory),
+        Err(SyntaxError::Refused(refusal)) => {
+            Err(ParseFault::Refused(refusal, tokens.len() - parser.rest().len()))
         }
     }
 }
@@ -86,9 +85,11 @@ pub fn read_script(alloc: Global, script: &[u8]) -> Result<Items<Statement>, Scr
     }
 }
 
-/// Tokens have at most one statement list, and so have bytes; bytes are read or refused, never both.
+/// Tokens have one statement list or a first refusal, and so have bytes; no bytes are both read and refused.
 pub fn one_meaning()
     ensures tokens { OneMeaning }
+    ensures some_tokens { SomeMeaning }
     ensures bytes { OneScript }
+    ensures some_bytes { SomeScript }
     ensures never { NeverBoth }
 {}

@@ -1,9 +1,9 @@
 //! What is asked of a sum.
 use ascii_text::Text;
-use sql_ast::{Comparison, Expr};
-use sqlite_items::Items;
+use sql_ast::{Block, Comparison, Expr};
+use sqlite_items::{Boxed, Items};
 
-/// What stands behind a sum in a condition; a flag tells whether it is denied.
+/// What stands after a sum in a condition; a flag tells whether it is denied.
 #[derive(Drop)]
 pub enum Test {
     /// Nothing.
@@ -18,4 +18,6 @@ pub enum Test {
     Like(bool, Text),
     /// `in`, with the list.
     InList(bool, Items<Expr>),
+    /// `in`, with the query.
+    InQuery(bool, Boxed<Block>),
 }

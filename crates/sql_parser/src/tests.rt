@@ -1,15 +1,26 @@
 //! Scripts with their trees or refusals, by the rules of the dialect.
+mod limits;
+mod queries;
+
 use super::*;
 use fixed_decimal::Scale;
-use grammar_laws::Refusal;
-use sql_ast::{Clause, Comparison, Expr, FromItem, Query, Selected, Statement};
+use grammar_laws::SyntaxFault;
+use sql_ast::{
+    Block, Clause, Comparison, Expr, FromItem, JoinKind, Query, RefreshKind, Selected, Statement,
+    TemplateValue,
+};
 use sql_lexer::{Content, LexFault, Token, lex};
 use sqlite_items::Items;
-use std::alloc::{AllocError, Global};
+use std::alloc::Global;
 use std::test::Fail;
 
 /// Whether the script is refused for this at this byte.
-fn is_refused(alloc: Global, script: &[u8], refusal: ScriptRefusal, place: usize) -> bool {
+pub(super) fn is_refused(
+    alloc: Global,
+    script: &[u8],
+    refusal: ScriptRefusal,
+    place: usize,
+) -> bool {
     match read_script(alloc, script) {
         Err(ScriptFault::Refused(found, at)) => found == refusal && at == place,
         _ => false,
@@ -17,46 +28,16 @@ fn is_refused(alloc: Global, script: &[u8], refusal: ScriptRefusal, place: usize
 }
 
 /// Whether the script is read as so many statements.
-fn has_statements(alloc: Global, script: &[u8], count: usize) -> bool {
+pub(super) fn has_statements(alloc: Global, script: &[u8], count: usize) -> bool {
     match read_script(alloc, script) {
         Ok(statements) => statements.len() == count,
         Err(_) => false,
     }
 }
 
-/// `start`, then `count` times `piece` with `between` between two, then `end`.
-fn repeated(
-    alloc: Global,
-    start: &[u8],
-    piece: &[u8],
-    between: &[u8],
-    count: usize,
-    end: &[u8],
-) -> Result<Vec<u8>, AllocError> {
-    let mut text = start.to_vec(alloc)?;
-    for i in 0..count {
-        if i > 0 {
-            text.extend_from_slice(between)?;
-        }
-        text.extend_from_slice(piece)?;
-    }
-    text.extend_from_slice(end)?;
-    Ok(text)
-}
-
-/// `count` parentheses around `inside`, in a query.
-fn nested(alloc: Global, count: usize) -> Result<Vec<u8>, AllocError> {
-    let mut text = repeated(alloc, b"select ", b"(", b"", count, b"1")?;
-    for _ in 0..count {
-        text.push(b')')?;
-    }
-    text.extend_from_slice(b" from region;")?;
-    Ok(text)
-}
-
 /// Whether the query selects `r_name` alone, from `region` alone, and nothing else.
 fn is_names_of_regions(query: &Query) -> bool {
-    let is_selected = match &query.selected {
+    let is_selected = match &query.block.selected {
         Selected::Items(items) => match items.as_slice() {
             [item] => match &item.value {
                 Expr::Column(column) => {
@@ -70,8 +51,13 @@ fn is_names_of_regions(query: &Query) -> bool {
         },
         Selected::All => false,
     };
-    let is_from = match query.from.as_slice() {
-        [FromItem::Table(name, None)] => name.bytes() == b"region".as_slice(),
+    let is_from = match query.block.from.as_slice() {
+        [joined] => match &joined.first {
+            FromItem::Table(name, None) => {
+                name.bytes() == b"region".as_slice() && joined.joins.is_empty()
+            }
+            _ => false,
+        },
         _ => false,
     };
     is_selected && is_from && query.limit.is_none() && query.order.is_empty()
@@ -101,7 +87,7 @@ fn trees(rt: HostRuntime) -> Result<(), Fail> {
     match found.as_slice() {
         [Statement::Query(query)] => {
             assert!(rt; is_names_of_regions(query));
-            assert!(rt; is_below_two(&query.condition));
+            assert!(rt; is_below_two(&query.block.condition));
         }
         _ => assert!(rt; false),
     }
@@ -201,7 +187,7 @@ fn refusals(rt: HostRuntime) -> Result<(), Fail> {
             alloc,
             b"select a from b where exists (1);",
             ScriptRefusal::Unexpected,
-            22
+            30
         )
     );
     assert!(rt;
@@ -209,7 +195,7 @@ fn refusals(rt: HostRuntime) -> Result<(), Fail> {
             alloc,
             b"select a from b, (c) d;",
             ScriptRefusal::Unexpected,
-            17
+            18
         )
     );
     Ok(())
@@ -227,7 +213,7 @@ fn limited(alloc: Global, coefficient: i128) -> Result<Vec<Token>, LexFault> {
 /// Whether the tokens are unexpected from their sixth on.
 fn is_unexpected_limit(alloc: Global, tokens: &[Token]) -> bool {
     match parse_script(alloc, tokens) {
-        Err(ParseFault::Refused(Refusal::Unexpected, place)) => place == 5,
+        Err(ParseFault::Refused(SyntaxFault::Unexpected, place)) => place == 5,
         _ => false,
     }
 }
@@ -245,50 +231,165 @@ fn row_limits(rt: HostRuntime) -> Result<(), Fail> {
     Ok(())
 }
 
+/// The query of the first statement, which has no order and no row limit.
+fn first_block(statements: &Items<Statement>) -> Option<&Block> {
+    match statements.as_slice() {
+        [Statement::Query(query), ..] => Some(&query.block),
+        _ => None,
+    }
+}
+
+/// Whether this is the table of this name, without an alias.
+fn is_table(item: &FromItem, table: &[u8]) -> bool {
+    match item {
+        FromItem::Table(name, None) => name.bytes() == table,
+        _ => false,
+    }
+}
+
+/// Whether FROM is `a left outer join b on .. join (..) as d (e, f) on ..`.
+fn is_joined(block: &Block) -> bool {
+    match block.from.as_slice() {
+        [joined] => match joined.joins.as_slice() {
+            [outer, inner] => {
+                let is_derived = match &inner.item {
+                    FromItem::Derived(_, alias, columns) => {
+                        alias.bytes() == b"d".as_slice() && columns.len() == 2
+                    }
+                    _ => false,
+                };
+                is_table(&joined.first, b"a")
+                    && is_table(&outer.item, b"b")
+                    && outer.kind == JoinKind::LeftOuter
+                    && inner.kind == JoinKind::Inner
+                    && is_derived
+            }
+            _ => false,
+        },
+        _ => false,
+    }
+}
+
+/// Whether this is `not exists (..)` and a comparison with a scalar subquery, joined by AND with `.. not in (..)`.
+fn has_subqueries(condition: &Clause) -> bool {
+    let Clause::Condition(condition) = condition else {
+        return false;
+    };
+    let Expr::And(first, others) = condition.get() else {
+        return false;
+    };
+    let is_not_exists = match first.get() {
+        Expr::Not(inner) => matches!(inner.get(), Expr::Exists(_)),
+        _ => false,
+    };
+    match others.as_slice() {
+        [Expr::Compare(_, _, right), Expr::Not(inner)] => {
+            is_not_exists
+                && matches!(right.get(), Expr::Scalar(_))
+                && matches!(inner.get(), Expr::InQuery(_, _))
+        }
+        _ => false,
+    }
+}
+
 #[test]
-fn levels(rt: HostRuntime) -> Result<(), Fail> {
+fn joins_and_subqueries(rt: HostRuntime) -> Result<(), Fail> {
     let alloc = rt.alloc();
-    assert!(rt; has_statements(alloc, &nested(alloc, 64)?, 1));
-    assert!(rt; is_refused(alloc, &nested(alloc, 65)?, ScriptRefusal::TooDeep, 71));
-    // The 1025th element of a list on the 64th level opens the 65th: the depth counts.
-    let start = repeated(alloc, b"select ", b"(", b"", 63, b"a in (")?;
-    let both = repeated(alloc, &start, b"1,", b"", 1024, b"(1));")?;
-    assert!(rt; is_refused(alloc, &both, ScriptRefusal::TooDeep, 2124));
+    let script =
+        b"select * from a left outer join b on c = 1 join (select * from e) as d (e, f) on g where not exists (select * from h) and a < (select b from c) and d not in (select e from f);";
+    let found = read_script(alloc, script)?;
+    match first_block(&found) {
+        Some(block) => {
+            assert!(rt; is_joined(block));
+            assert!(rt; has_subqueries(&block.condition));
+        }
+        None => assert!(rt; false),
+    }
+    Ok(())
+}
+
+/// Whether the statements are those of `other_statements`.
+fn are_others(statements: &[Statement]) -> bool {
+    match statements {
+        [
+            Statement::CreateView(view, columns, _),
+            Statement::DropView(dropped),
+            Statement::Refresh(RefreshKind::Insert, 7),
+            Statement::Refresh(RefreshKind::Delete, 999_999_999),
+            Statement::Run(6, values),
+            Statement::Run(1, none),
+        ] => {
+            let are_values = match values.as_slice() {
+                [TemplateValue::Text(text), TemplateValue::Number(6, places)] => {
+                    text.bytes() == b"it's".as_slice() && places.places() == 2
+                }
+                _ => false,
+            };
+            view.bytes() == b"v".as_slice()
+                && columns.len() == 2
+                && dropped.bytes() == b"w".as_slice()
+                && are_values
+                && none.is_empty()
+        }
+        _ => false,
+    }
+}
+
+#[test]
+fn other_statements(rt: HostRuntime) -> Result<(), Fail> {
+    let alloc = rt.alloc();
+    let script =
+        b"create view v (a, b) as select c, d from e; drop view w; refresh insert 007; refresh delete 999999999; run 6 ('it''s', 0.06); run 1 ();";
+    let found = read_script(alloc, script)?;
+    assert!(rt; are_others(found.as_slice()));
+    assert!(rt; has_statements(alloc, queries::QUERIES, 24));
     Ok(())
 }
 
 #[test]
-fn widths(rt: HostRuntime) -> Result<(), Fail> {
+fn misplaced_parts(rt: HostRuntime) -> Result<(), Fail> {
     let alloc = rt.alloc();
-    let most = repeated(alloc, b"select ", b"1", b",", 1024, b" from region;")?;
-    assert!(rt; has_statements(alloc, &most, 1));
-    let more = repeated(alloc, b"select ", b"1", b",", 1025, b" from region;")?;
-    assert!(rt; is_refused(alloc, &more, ScriptRefusal::TooWide, 2055));
-    let sums = repeated(alloc, b"select ", b"1", b"+", 1025, b" from region;")?;
-    assert!(rt; is_refused(alloc, &sums, ScriptRefusal::TooWide, 2055));
-    let start = b"select a from b where c in (";
-    let most = repeated(alloc, start, b"1", b",", 1024, b");")?;
-    assert!(rt; has_statements(alloc, &most, 1));
-    let more = repeated(alloc, start, b"1", b",", 1025, b");")?;
-    assert!(rt; is_refused(alloc, &more, ScriptRefusal::TooWide, 2076));
-    let arms = repeated(
-        alloc,
-        b"select case ",
-        b"when a then b",
-        b" ",
-        1025,
-        b" end from c;",
-    )?;
-    assert!(rt; is_refused(alloc, &arms, ScriptRefusal::TooWide, 14348));
-    Ok(())
-}
-
-#[test]
-fn lengths(rt: HostRuntime) -> Result<(), Fail> {
-    let alloc = rt.alloc();
-    let longest = repeated(alloc, b"", b" ", b"", MAX_SCRIPT, b"")?;
-    assert!(rt; has_statements(alloc, &longest, 0));
-    let longer = repeated(alloc, b"'", b" ", b"", MAX_SCRIPT, b"")?;
-    assert!(rt; is_refused(alloc, &longer, ScriptRefusal::TooLong, MAX_SCRIPT));
+    assert!(rt;
+        is_refused(
+            alloc,
+            b"select a from b where exists (select c from d order by e);",
+            ScriptRefusal::Unexpected,
+            46
+        )
+    );
+    assert!(rt;
+        is_refused(
+            alloc,
+            b"create view v as select a from b limit 1;",
+            ScriptRefusal::Unexpected,
+            33
+        )
+    );
+    assert!(rt;
+        is_refused(
+            alloc,
+            b"select * from (select a from b);",
+            ScriptRefusal::Unexpected,
+            31
+        )
+    );
+    assert!(rt;
+        is_refused(
+            alloc,
+            b"select * from a join b;",
+            ScriptRefusal::Unexpected,
+            22
+        )
+    );
+    assert!(rt;
+        is_refused(
+            alloc,
+            b"region cross join nation;",
+            ScriptRefusal::Unexpected,
+            0
+        )
+    );
+    assert!(rt; is_refused(alloc, b"refresh insert 1.0;", ScriptRefusal::Unexpected, 15));
+    assert!(rt; is_refused(alloc, b"run 1 (-1);", ScriptRefusal::Unexpected, 7));
     Ok(())
 }

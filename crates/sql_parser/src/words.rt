@@ -5,10 +5,13 @@ ghost use Rattle.sql_parser.specs.Values as values;
 ghost use Rattle.sql_parser.specs.Readings as readings;
 
 use crate::parser::Parser;
+use crate::test::Test;
 use ascii_text::Text;
 use fixed_decimal::Scale;
-use grammar_laws::{Refusal, Stop};
-use sql_ast::{Adding, Aggregate, Column, Comparison, Expr, Multiplying, Name, Span};
+use grammar_laws::{SyntaxError, SyntaxFault};
+use sql_ast::{
+    Adding, Aggregate, Column, Comparison, Expr, Multiplying, Name, Span, TemplateValue,
+};
 use sql_lexer::{Content, Kind, Token};
 use std::alloc::{AllocError, Global};
 
@@ -94,6 +97,17 @@ fn number_of(token: &Token) -> Expr
     }
 }
 
+/// The token as a template's value.
+fn number_value_of(token: &Token) -> TemplateValue
+    ensures { result ≡ values.number_value token.now }
+{
+    match &token.content {
+        Content::Number(value, places) => TemplateValue::Number(*value, *places),
+        Content::Nothing => TemplateValue::Number(0, Scale::new(0)),
+        Content::Text(_) => TemplateValue::Number(0, Scale::new(0)),
+    }
+}
+
 /// A name alone is the column's, one before a point is its FROM item's.
 fn column_of(first: Name, tail: Option<Name>) -> Column
     ensures { result ≡ values.column first tail }
@@ -113,8 +127,8 @@ fn column_of(first: Name, tail: Option<Name>) -> Column
 impl<'a> Parser<'a> {
     /// A name.
     #[tactic(auto, unfolding(crate::specs::Readings::read_name))]
-    pub(crate) fn name(&mut self, alloc: Global) -> Result<Name, Stop>
-        ensures { Reads (readings.read_name self.old.rest.now) result self.new.rest.now }
+    pub(crate) fn name(&mut self, alloc: Global) -> Result<Name, SyntaxError>
+        ensures { Reads (readings.read_name self.old) result self.new }
     {
         let token = self.one(Kind::Name)?;
         Ok(text_of(alloc, token)?)
@@ -122,8 +136,8 @@ impl<'a> Parser<'a> {
 
     /// A text.
     #[tactic(auto, unfolding(crate::specs::Readings::read_literal))]
-    pub(crate) fn literal(&mut self, alloc: Global) -> Result<Name, Stop>
-        ensures { Reads (readings.read_literal self.old.rest.now) result self.new.rest.now }
+    pub(crate) fn literal(&mut self, alloc: Global) -> Result<Name, SyntaxError>
+        ensures { Reads (readings.read_literal self.old) result self.new }
     {
         let token = self.one(Kind::Text)?;
         Ok(text_of(alloc, token)?)
@@ -131,36 +145,36 @@ impl<'a> Parser<'a> {
 
     /// A number without a point of at most 999999999.
     #[tactic(auto, unfolding(crate::specs::Readings::read_number))]
-    pub(crate) fn number(&mut self) -> Result<u32, Stop>
-        ensures { Reads (readings.read_number self.old.rest.now) result self.new.rest.now }
+    pub(crate) fn number(&mut self) -> Result<u32, SyntaxError>
+        ensures { Reads (readings.read_number self.old) result self.new }
     {
         match self.rest {
             [token, rest @ ..] if is_count(token) => {
                 self.rest = rest;
                 Ok(count_of(token))
             }
-            _ => Err(Stop::Refused(Refusal::Unexpected)),
+            _ => Err(SyntaxError::Refused(SyntaxFault::Unexpected)),
         }
     }
 
     /// A text of one to six digits.
     #[tactic(auto, unfolding(crate::specs::Readings::read_digits))]
-    fn digits(&mut self, alloc: Global) -> Result<Name, Stop>
-        ensures { Reads (readings.read_digits self.old.rest.now) result self.new.rest.now }
+    fn digits(&mut self, alloc: Global) -> Result<Name, SyntaxError>
+        ensures { Reads (readings.read_digits self.old) result self.new }
     {
         match self.rest {
             [token, rest @ ..] if is_digits(token) => {
                 self.rest = rest;
                 Ok(text_of(alloc, token)?)
             }
-            _ => Err(Stop::Refused(Refusal::Unexpected)),
+            _ => Err(SyntaxError::Refused(SyntaxFault::Unexpected)),
         }
     }
 
     /// `year`, `month` or `day`.
     #[tactic(auto, unfolding(crate::specs::Readings::read_span))]
-    pub(crate) fn span(&mut self) -> Result<Span, Stop>
-        ensures { Reads (readings.read_span self.old.rest.now) result self.new.rest.now }
+    pub(crate) fn span(&mut self) -> Result<Span, SyntaxError>
+        ensures { Reads (readings.read_span self.old) result self.new }
     {
         if self.starts(Kind::Year) {
             self.one(Kind::Year)?;
@@ -176,8 +190,8 @@ impl<'a> Parser<'a> {
 
     /// `*` or `/`.
     #[tactic(auto, unfolding(crate::specs::Readings::read_multiply))]
-    pub(crate) fn multiply(&mut self) -> Result<Multiplying, Stop>
-        ensures { Reads (readings.read_multiply self.old.rest.now) result self.new.rest.now }
+    pub(crate) fn multiply(&mut self) -> Result<Multiplying, SyntaxError>
+        ensures { Reads (readings.read_multiply self.old) result self.new }
     {
         if self.starts(Kind::Star) {
             self.one(Kind::Star)?;
@@ -189,8 +203,8 @@ impl<'a> Parser<'a> {
 
     /// `+` or `-`.
     #[tactic(auto, unfolding(crate::specs::Readings::read_add))]
-    pub(crate) fn add(&mut self) -> Result<Adding, Stop>
-        ensures { Reads (readings.read_add self.old.rest.now) result self.new.rest.now }
+    pub(crate) fn add(&mut self) -> Result<Adding, SyntaxError>
+        ensures { Reads (readings.read_add self.old) result self.new }
     {
         if self.starts(Kind::Plus) {
             self.one(Kind::Plus)?;
@@ -202,8 +216,8 @@ impl<'a> Parser<'a> {
 
     /// `=`, `<>`, `<`, `<=`, `>` or `>=`.
     #[tactic(auto, unfolding(crate::specs::Readings::read_comparison))]
-    pub(crate) fn comparison(&mut self) -> Result<Comparison, Stop>
-        ensures { Reads (readings.read_comparison self.old.rest.now) result self.new.rest.now }
+    pub(crate) fn comparison(&mut self) -> Result<Comparison, SyntaxError>
+        ensures { Reads (readings.read_comparison self.old) result self.new }
     {
         if self.starts(Kind::Equal) {
             self.one(Kind::Equal)?;
@@ -231,8 +245,8 @@ impl<'a> Parser<'a> {
 
     /// `sum`, `avg`, `min` or `max`.
     #[tactic(auto, unfolding(crate::specs::Readings::read_aggregate_word))]
-    pub(crate) fn aggregate_word(&mut self) -> Result<Aggregate, Stop>
-        ensures { Reads (readings.read_aggregate_word self.old.rest.now) result self.new.rest.now }
+    pub(crate) fn aggregate_word(&mut self) -> Result<Aggregate, SyntaxError>
+        ensures { Reads (readings.read_aggregate_word self.old) result self.new }
     {
         if self.starts(Kind::Sum) {
             self.one(Kind::Sum)?;
@@ -252,8 +266,8 @@ impl<'a> Parser<'a> {
 
     /// `["." name]`.
     #[tactic(auto, unfolding(crate::specs::Readings::read_column_tail))]
-    fn column_tail(&mut self, alloc: Global) -> Result<Option<Name>, Stop>
-        ensures { Reads (readings.read_column_tail self.old.rest.now) result self.new.rest.now }
+    fn column_tail(&mut self, alloc: Global) -> Result<Option<Name>, SyntaxError>
+        ensures { Reads (readings.read_column_tail self.old) result self.new }
     {
         if self.starts(Kind::Point) {
             self.one(Kind::Point)?;
@@ -265,8 +279,8 @@ impl<'a> Parser<'a> {
 
     /// `name ["." name]`.
     #[tactic(auto, unfolding(crate::specs::Readings::read_column))]
-    pub(crate) fn column(&mut self, alloc: Global) -> Result<Column, Stop>
-        ensures { Reads (readings.read_column self.old.rest.now) result self.new.rest.now }
+    pub(crate) fn column(&mut self, alloc: Global) -> Result<Column, SyntaxError>
+        ensures { Reads (readings.read_column self.old) result self.new }
     {
         let first = self.name(alloc)?;
         let tail = self.column_tail(alloc)?;
@@ -275,8 +289,8 @@ impl<'a> Parser<'a> {
 
     /// `T | "(" T ")"`.
     #[tactic(auto, unfolding(crate::specs::Readings::read_date_text))]
-    fn date_text(&mut self, alloc: Global, room: usize) -> Result<Name, Stop>
-        ensures { Reads (readings.read_date_text room self.old.rest.now) result self.new.rest.now }
+    fn date_text(&mut self, alloc: Global, room: usize) -> Result<Name, SyntaxError>
+        ensures { Reads (readings.read_date_text room self.old) result self.new }
     {
         if self.starts(Kind::OpenParen) {
             self.opens(room, Kind::OpenParen)?;
@@ -289,8 +303,8 @@ impl<'a> Parser<'a> {
 
     /// `date T | date "(" T ")"`.
     #[tactic(auto, unfolding(crate::specs::Readings::read_date))]
-    fn date(&mut self, alloc: Global, room: usize) -> Result<Expr, Stop>
-        ensures { Reads (readings.read_date room self.old.rest.now) result self.new.rest.now }
+    fn date(&mut self, alloc: Global, room: usize) -> Result<Expr, SyntaxError>
+        ensures { Reads (readings.read_date room self.old) result self.new }
     {
         self.one(Kind::Date)?;
         let text = self.date_text(alloc, room)?;
@@ -299,8 +313,8 @@ impl<'a> Parser<'a> {
 
     /// `["(" N ")"]`, which means nothing.
     #[tactic(auto, unfolding(crate::specs::Readings::read_precision))]
-    fn precision(&mut self, room: usize) -> Result<(), Stop>
-        ensures { Reads (readings.read_precision room self.old.rest.now) result self.new.rest.now }
+    fn precision(&mut self, room: usize) -> Result<(), SyntaxError>
+        ensures { Reads (readings.read_precision room self.old) result self.new }
     {
         if !self.starts(Kind::OpenParen) {
             return Ok(());
@@ -313,8 +327,8 @@ impl<'a> Parser<'a> {
 
     /// `interval T (day|month|year) ["(" N ")"]`, the text of one to six digits.
     #[tactic(auto, unfolding(crate::specs::Readings::read_interval))]
-    fn interval(&mut self, alloc: Global, room: usize) -> Result<Expr, Stop>
-        ensures { Reads (readings.read_interval room self.old.rest.now) result self.new.rest.now }
+    fn interval(&mut self, alloc: Global, room: usize) -> Result<Expr, SyntaxError>
+        ensures { Reads (readings.read_interval room self.old) result self.new }
     {
         self.one(Kind::Interval)?;
         let digits = self.digits(alloc)?;
@@ -325,8 +339,8 @@ impl<'a> Parser<'a> {
 
     /// `from N for N`.
     #[tactic(auto, unfolding(crate::specs::Readings::read_places))]
-    pub(crate) fn places(&mut self) -> Result<(u32, u32), Stop>
-        ensures { Reads (readings.read_places self.old.rest.now) result self.new.rest.now }
+    pub(crate) fn places(&mut self) -> Result<(u32, u32), SyntaxError>
+        ensures { Reads (readings.read_places self.old) result self.new }
     {
         self.one(Kind::From)?;
         let first = self.number()?;
@@ -335,10 +349,49 @@ impl<'a> Parser<'a> {
         Ok((first, count))
     }
 
+    /// `is [not] null`.
+    #[tactic(auto, unfolding(crate::specs::Readings::read_null))]
+    pub(crate) fn null(&mut self) -> Result<Test, SyntaxError>
+        ensures { Reads (readings.read_null self.old) result self.new }
+    {
+        self.one(Kind::Is)?;
+        if self.starts(Kind::Not) {
+            self.one(Kind::Not)?;
+            self.one(Kind::Null)?;
+            return Ok(Test::IsNull(true));
+        }
+        self.one(Kind::Null)?;
+        Ok(Test::IsNull(false))
+    }
+
+    /// `like T`.
+    #[tactic(auto, unfolding(crate::specs::Readings::read_like))]
+    pub(crate) fn like(&mut self, alloc: Global) -> Result<Test, SyntaxError>
+        ensures { Reads (readings.read_like self.old) result self.new }
+    {
+        self.one(Kind::Like)?;
+        let pattern = self.literal(alloc)?;
+        Ok(Test::Like(false, pattern))
+    }
+
+    /// A text or a number.
+    #[tactic(auto, unfolding(crate::specs::Readings::read_value))]
+    pub(crate) fn value(&mut self, alloc: Global) -> Result<TemplateValue, SyntaxError>
+        ensures { Reads (readings.read_value self.old) result self.new }
+    {
+        if self.starts(Kind::Text) {
+            let token = self.one(Kind::Text)?;
+            let text = text_of(alloc, token)?;
+            return Ok(TemplateValue::Text(text));
+        }
+        let token = self.one(Kind::Number)?;
+        Ok(number_value_of(token))
+    }
+
     /// What holds no expression.
     #[tactic(auto, unfolding(crate::specs::Readings::read_leaf))]
-    pub(crate) fn leaf(&mut self, alloc: Global, room: usize) -> Result<Expr, Stop>
-        ensures { Reads (readings.read_leaf room self.old.rest.now) result self.new.rest.now }
+    pub(crate) fn leaf(&mut self, alloc: Global, room: usize) -> Result<Expr, SyntaxError>
+        ensures { Reads (readings.read_leaf room self.old) result self.new }
     {
         if self.starts(Kind::Number) {
             let token = self.one(Kind::Number)?;

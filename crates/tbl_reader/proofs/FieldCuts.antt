@@ -16,7 +16,7 @@ abbrev pub cuts : ℕ → List ℕ → List (List ℕ)
 cuts zero text = []
 cuts (suc n) text = before_first is_bar text ∷ cuts n (after_first is_bar text)
 
-abbrev HasNoBar : List ℕ → Type 0
+abbrev pub HasNoBar : List ℕ → Type 0
 HasNoBar field = list_any is_bar field ≡ false
 
 neither : (a b : Bool) → (a || b) ≡ false → (a ≡ false) × (b ≡ false)
@@ -45,13 +45,13 @@ before_none (b ∷ field) e =
 
 -- how many bars
 
-bars-cons : (b : ℕ) (text : List ℕ) → count_by is_bar (b ∷ text) ≡ cond (is_bar b) 1 0 + count_by is_bar text
+pub bars-cons : (b : ℕ) (text : List ℕ) → count_by is_bar (b ∷ text) ≡ cond (is_bar b) 1 0 + count_by is_bar text
 bars-cons b text = sum_by-cons (λ byte. cond (is_bar byte) 1 0) b text
 
-bars-append : (front more : List ℕ) → count_by is_bar (front ++ more) ≡ count_by is_bar front + count_by is_bar more
+pub bars-append : (front more : List ℕ) → count_by is_bar (front ++ more) ≡ count_by is_bar front + count_by is_bar more
 bars-append front more = sum_by-append (λ byte. cond (is_bar byte) 1 0) front more
 
-no_bars : (field : List ℕ) → HasNoBar field → count_by is_bar field ≡ 0
+pub no_bars : (field : List ℕ) → HasNoBar field → count_by is_bar field ≡ 0
 no_bars [] e = refl
 no_bars (b ∷ field) e =
     rw (bars-cons b field, (neither (b == 124) _ e).0, no_bars field (neither (b == 124) _ e).1) refl

@@ -13,3 +13,4 @@ pub mod FileLaws
 pub mod Readers
 pub mod Held
 pub mod PlainNumbers
+pub mod BarCuts

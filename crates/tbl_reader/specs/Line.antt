@@ -1,5 +1,5 @@
 -- The row of a line.
-use Rattle.std.specs.Prelude.{ℕ, ◌+◌, ◌-◌, Bool, ◌&&◌, ◌||◌, ◌==◌, nat_eq, List, [], ◌∷◌, length, take, count_by, Result, Ok, Err, if◌then◌else◌}
+use Rattle.std.specs.Prelude.{◌≡◌, ◌⊎◌, ◌<◌, ℕ, ◌+◌, ◌-◌, Bool, ◌&&◌, ◌||◌, ◌==◌, nat_eq, List, [], ◌∷◌, length, take, count_by, Result, Ok, Err, if◌then◌else◌}
 use Rattle.std.specs.List.{before_first, after_first, ends_with}
 use Rattle.refusals.specs.declared.line.LineFault.{LineFault}
 use Rattle.refusals.specs.declared.line.LineFault.TheVariants.{FieldCount}
@@ -24,6 +24,11 @@ abbrev pub has_fields : ℕ → List ℕ → Bool
 has_fields columns line =
     (count_by is_bar line + 1 == columns)
     || ((count_by is_bar line == columns) && ends_with nat_eq line (124 ∷ []))
+
+-- a line's columns were cut at so many bars, and this rest stands after them: one bar fewer than columns, or as many bars
+-- and no rest
+abbrev pub IsWholeCut : ℕ → ℕ → List ℕ → Type 0
+IsWholeCut columns bars rest = (bars + 1 ≡ columns) ⊎ ((0 < bars) × (bars ≡ columns) × (rest ≡ []))
 
 -- the value of a field before those of the fields after it: the first fault from the left counts
 abbrev pub put_first : Result Value LineFault → Result (List Value) LineFault → Result (List Value) LineFault

@@ -1,11 +1,12 @@
 //! One line: its fields.
-ghost use Rattle.std.specs.Prelude.{◌≡◌, ◌==◌, ◌+◌, ◌<◌, ◌^◌, IfErr, IfSome, IsTrue, OnOk, length, map, position};
+ghost use Rattle.std.specs.Prelude.{◌≡◌, ◌==◌, ◌+◌, ◌<◌, ◌≤◌, ◌^◌, IfErr, IfOk, IfSome, IsTrue, OnOk, is_some, true, length, map, position};
 ghost use Rattle.std.specs.List.{All, before_first, after_first};
 ghost use Rattle.columns.specs.Fields.{field_value, IsPrintableField};
+ghost use Rattle.tbl_reader.specs.declared.error.FieldsError.{FieldsError};
 ghost use Rattle.tbl_reader.specs.Error.{Blames};
 ghost use Rattle.tpch_schema.specs.LineForm.{file_form, fits, never_null};
 ghost use Rattle.tbl_reader.specs.File.{line_row};
-ghost use Rattle.tbl_reader.specs.Line.{is_bar, has_fields, without_end, line_text, values_of, row_of};
+ghost use Rattle.tbl_reader.specs.Line.{is_bar, has_fields, IsWholeCut, without_end, line_text, values_of, row_of};
 
 use crate::error::FieldsError;
 use crate::field::read_field;
@@ -46,7 +47,8 @@ pub fn put_line<'a>(
     Ok(())
 }
 
-// Puts the fields of a line's row: one for each of the kinds, of columns that hold no null.
+// Puts the fields of a line's row: one for each of the kinds, of columns that hold no null. A good line is read once;
+// only of another its bars are counted, since their number comes before what is wrong with a field.
 fn put_row<'a>(
     fields: &mut Vec<Field<'a>>,
     kinds: &[ColumnKind],
@@ -56,11 +58,56 @@ fn put_row<'a>(
     ensures printable { OnOk result (All IsPrintableField fields.new.items) }
     ensures err { IfErr result (Blames (row_of (map never_null kinds.now) line.now)) }
 {
+    if put_good(fields, kinds, line)? {
+        return Ok(());
+    }
     if !has_fields(kinds.len(), line) {
         return Err(FieldsError::Bad(LineFault::FieldCount));
     }
     put_fields(fields, kinds, line)?;
     Ok(())
+}
+
+// Puts the fields of a line's row, where the line is good; whether it is. After `false` they are of no use.
+#[tactic(auto, using(crate::proofs::BarCuts::good))]
+fn put_good<'a>(
+    fields: &mut Vec<Field<'a>>,
+    kinds: &[ColumnKind],
+    line: &'a [u8],
+) -> Result<bool, FieldsError>
+    ensures row { IfOk result (λ good. good ≡ true → row_of (map never_null kinds.now) line.now ≡ Ok (map field_value fields.new.items)) }
+    ensures printable { IfOk result (λ good. good ≡ true → All IsPrintableField fields.new.items) }
+    ensures err { IfErr result (λ error. error ≡ FieldsError.OutOfMemory) }
+{
+    fields.clear();
+    let mut rest = line;
+    let mut bars: usize = 0;
+    for kind in kinds {
+        let (bytes, more, found) = cut_at_bar(rest);
+        match read_field(*kind, bytes) {
+            Ok(field) => {
+                if fields.push(field).is_err() {
+                    return Err(FieldsError::OutOfMemory);
+                }
+            }
+            Err(_) => return Ok(false),
+        }
+        rest = more;
+        bars += usize::from(found);
+    }
+    Ok(are_whole(kinds.len(), bars, rest))
+}
+
+// Whether so many bars part that many fields, before this rest.
+fn are_whole(columns: usize, bars: usize, rest: &[u8]) -> bool
+    requires { bars ≤ columns }
+    ensures { result ≡ true → IsWholeCut columns bars rest.now }
+{
+    match columns - bars {
+        0 => 0 < bars && rest.is_empty(),
+        1 => true,
+        _ => false,
+    }
 }
 
 // Whether bars part a line into that many fields; one may stand after the last field.
@@ -85,7 +132,7 @@ fn put_fields<'a>(
     fields.clear();
     let mut rest = line;
     for kind in kinds {
-        let (bytes, more) = cut_at_bar(rest);
+        let (bytes, more, _) = cut_at_bar(rest);
         match read_field(*kind, bytes) {
             Ok(field) => {
                 if fields.push(field).is_err() {
@@ -99,15 +146,16 @@ fn put_fields<'a>(
     Ok(())
 }
 
-// The bytes before the first bar, and those after it.
+// The bytes before the first bar, those after it, and whether there is one.
 #[tactic(auto, using(crate::proofs::Cuts::cuts))]
-fn cut_at_bar(text: &[u8]) -> (&[u8], &[u8])
+fn cut_at_bar(text: &[u8]) -> (&[u8], &[u8], bool)
     ensures field { result.0.now ≡ before_first is_bar text.now }
     ensures rest { result.1.now ≡ after_first is_bar text.now }
+    ensures found { result.2 ≡ is_some (position is_bar text.now) }
 {
     match place_of(b'|', text) {
-        Some(place) => (&text[..place], &text[place + 1..]),
-        None => (text, &[]),
+        Some(place) => (&text[..place], &text[place + 1..], true),
+        None => (text, &[], false),
     }
 }
 

@@ -32,6 +32,7 @@ fn reads_rows(rt: HostRuntime) -> Result<(), Fail> {
     let text = b"0|AFRICA|a|\r\n1|AMERICA||\n2|A|b\r";
     let rows = read_pieces(alloc, DataFile::Table(TableName::Region), &[text])?;
     assert_eq!(rt; rows.len(), 3);
+    let rows = rows.to_rows(alloc)?;
     let whole = Scale::new(0);
     let first = [
         Value::Number(whole, 0),
@@ -53,7 +54,7 @@ fn reads_each_kind(rt: HostRuntime) -> Result<(), Fail> {
     let alloc = rt.alloc();
     let rows = read_pieces(alloc, DataFile::Table(TableName::Lineitem), &[LINEITEM])?;
     assert_eq!(rt; rows.len(), 1);
-    let values = rows[0].values();
+    let values = rows.row(alloc, 0)?;
     assert_eq!(rt; values.len(), 16);
     assert!(rt; values[4] == Value::Number(Scale::new(2), 100));
     assert!(rt; values[7] == Value::Number(Scale::new(2), -50));
@@ -152,6 +153,12 @@ fn ends_at_the_limit(rt: HostRuntime) -> Result<(), Fail> {
     Ok(())
 }
 
+fn table_rows(alloc: Global, pieces: &[&[u8]]) -> Result<Vec<Row>, TableError> {
+    let rows = read_pieces(alloc, DataFile::Table(TableName::Region), pieces)?;
+    let rows = rows.to_rows(alloc)?;
+    Ok(rows)
+}
+
 fn are_same(left: &[Row], right: &[Row]) -> bool {
     left.len() == right.len() && left.iter().zip(right).all(|(a, b)| a.is_identical(b))
 }
@@ -159,13 +166,9 @@ fn are_same(left: &[Row], right: &[Row]) -> bool {
 #[test]
 fn is_cut_anywhere(rt: HostRuntime) -> Result<(), Fail> {
     let text = b"0|AFRICA|a|\r\n1|AMERICA||\n2|A|b\r";
-    let whole = read_pieces(rt.alloc(), DataFile::Table(TableName::Region), &[text])?;
+    let whole = table_rows(rt.alloc(), &[text])?;
     for at in 0..text.len() + 1 {
-        let cut = read_pieces(
-            rt.alloc(),
-            DataFile::Table(TableName::Region),
-            &[&text[..at], &text[at..]],
-        )?;
+        let cut = table_rows(rt.alloc(), &[&text[..at], &text[at..]])?;
         assert!(rt; are_same(cut.as_slice(), whole.as_slice()));
     }
     Ok(())

@@ -8,7 +8,7 @@ use std::process::ExitCode;
 use tpch_main::{Status, tpch};
 use tpch_outside::{OpenGate, RealFiles, RealSink};
 
-/// The words after the program's name. Words that aren't UTF-8 are as good as none.
+/// The words after the program's name. None where a word isn't UTF-8.
 fn words(rt: &HostRuntime) -> Result<Vec<String>, AllocError> {
     match env::args(rt) {
         Ok(args) => args.skip(1).collect(rt.alloc()),

@@ -16,6 +16,6 @@ mod ScriptForm
 mod WorkedExamples
 mod Unique
 mod Fronts
+mod TableFile
 mod Lists
 mod Shown
-mod Fed

@@ -14,7 +14,7 @@ use Rattle.tpch_schema.specs.Tables.{all_tables}
 use Rattle.tpch_schema.specs.declared.table.TableName.TheVariants as table
 use Rattle.tpch_main.specs.Lists.{AreOf}
 use Rattle.tpch_main.specs.Inputs.{BadInput, and_then, lists_in, table_in}
-use Rattle.tpch_main.specs.Views.{Explains, Told, refused_view}
+use Rattle.tpch_main.specs.Views.{Explains, IfKnown, refused_view}
 use Rattle.tpch_main.specs.declared.input_error.InputError.{InputError}
 use Rattle.tpch_main.specs.declared.input_error.InputError.TheVariants as error
 
@@ -35,9 +35,9 @@ behind_more before rows (Err refused) = refl
 
 -- one table more was read
 pub lists_more : (held later : Option Folder) (dir : List ℕ) (tables : List TableName) (i : ℕ) (d : TableName) (before : List (List (List Value))) (rows : List (List Value)) → later ≡ held → i < length tables
-    → Told held (λ folder. lists_in dir tables folder ≡ behind before (lists_in dir (drop i tables) folder))
-    → Told later (λ folder. table_in dir (slice_index_or tables i d) folder ≡ Ok rows)
-    → Told held (λ folder. lists_in dir tables folder ≡ behind (before ++ rows ∷ []) (lists_in dir (drop (i + 1) tables) folder))
+    → IfKnown held (λ folder. lists_in dir tables folder ≡ behind before (lists_in dir (drop i tables) folder))
+    → IfKnown later (λ folder. table_in dir (slice_index_or tables i d) folder ≡ Ok rows)
+    → IfKnown held (λ folder. lists_in dir tables folder ≡ behind (before ++ rows ∷ []) (lists_in dir (drop (i + 1) tables) folder))
 lists_more None later dir tables i d before rows same inside so_far read = tt
 lists_more (Some folder) None dir tables i d before rows same inside so_far read = absurd (cc)
 lists_more (Some folder) (Some other) dir tables i d before rows same inside so_far read =
@@ -48,7 +48,7 @@ lists_more (Some folder) (Some other) dir tables i d before rows same inside so_
 
 -- the first table that is refused
 pub lists_refused : (held later : Option Folder) (dir : List ℕ) (tables : List TableName) (i : ℕ) (d : TableName) (before : List (List (List Value))) (made : InputError) → later ≡ held → i < length tables
-    → Told held (λ folder. lists_in dir tables folder ≡ behind before (lists_in dir (drop i tables) folder))
+    → IfKnown held (λ folder. lists_in dir tables folder ≡ behind before (lists_in dir (drop i tables) folder))
     → Explains later (table_in dir (slice_index_or tables i d)) made
     → Explains held (lists_in dir tables) made
 lists_refused held later dir tables i d before (error.Unread unread) same inside so_far why = tt

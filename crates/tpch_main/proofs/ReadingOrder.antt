@@ -24,7 +24,7 @@ one_before : (dir : List ℕ) (folder : Folder) (t : TableName) (ts : List Table
 one_before dir folder t ts refused good first = record {
   before = t ∷ first.before;
   table = first.table;
-  behind = first.behind;
+  after = first.after;
   among = ap (λ tables. t ∷ tables) first.among;
   good = All-cons (λ table. IsOk (table_in dir table folder)) t first.before good first.good;
   bad = first.bad;
@@ -39,7 +39,7 @@ first_bad dir folder (t ∷ ts) refused e = at (first_bad dir folder ts refused)
     at behind (Ok rows) is e = one_before dir folder t ts refused (ap is_ok is) (behind (still_refused (λ lists. rows ∷ lists) (lists_in dir ts folder) refused e))
     at behind (Err first) is e =
         let same : first ≡ refused = cc in
-        record { before = []; table = t; behind = ts; among = refl; good = All-nil (λ table. IsOk (table_in dir table folder)); bad = is ∙ ap Err same }
+        record { before = []; table = t; after = ts; among = refl; good = All-nil (λ table. IsOk (table_in dir table folder)); bad = is ∙ ap Err same }
 
 -- a good table before those
 behind_good : (dir : List ℕ) (folder : Folder) (t : TableName) (ts : List TableName) (refused : BadInput) → IsOk (table_in dir t folder) → lists_in dir ts folder ≡ Err refused → lists_in dir (t ∷ ts) folder ≡ Err refused
@@ -57,7 +57,7 @@ bad_refuses dir folder (t ∷ before) table behind refused good bad =
 
 -- the same of all eight, which make the state
 pub state_refused : (dir : List ℕ) (folder : Folder) (refused : BadInput) → IsFirstBadTable dir folder all_tables refused → state_in dir folder ≡ Err refused
-state_refused dir folder refused first = ap (λ lists. and_then lists (λ read. Ok (state_of read))) (ap (λ tables. lists_in dir tables folder) first.among ∙ bad_refuses dir folder first.before first.table first.behind refused first.good first.bad)
+state_refused dir folder refused first = ap (λ lists. and_then lists (λ read. Ok (state_of read))) (ap (λ tables. lists_in dir tables folder) first.among ∙ bad_refuses dir folder first.before first.table first.after refused first.good first.bad)
 
 pub tables_law : TablesOrderLaw
 tables_law dir folder refused = (λ e. first_bad dir folder all_tables refused (still_refused state_of (lists_in dir all_tables folder) refused e), state_refused dir folder refused)

@@ -20,7 +20,7 @@ word_examples = record {
   help_named = refl;
   flag = refl;
   minus = refl;
-  behind_dashes = refl;
+  after_dashes = refl;
   dashes_last = refl;
   dashes_first = refl;
 }

@@ -26,28 +26,31 @@ region_row key name comment = value.Number 0 key ∷ value.Text name ∷ value.T
 abbrev pub three_regions : List (List Value)
 three_regions = region_row (pos 2) (codes "ASIA") [] ∷ region_row (pos 1) (codes "AMERICA") (codes "b") ∷ region_row (pos 0) (codes "AFRICA") (codes "a") ∷ []
 
--- a state of these regions alone
+-- a state of these regions and nothing else
 abbrev pub regions_only : State
 regions_only = record { region = three_regions; nation = []; part = []; supplier = []; partsupp = []; customer = []; orders = []; lineitem = [] }
 
--- a file of no rows, and one whose second line has the key of its first
+-- a file of region without rows
 abbrev pub no_region : List ℕ × List ℕ
 no_region = (codes "d/region.tbl", [])
 
+-- a file of nation whose second line has the key of its first
 abbrev pub bad_nation : List ℕ × List ℕ
 bad_nation = (codes "d/nation.tbl", codes "1|A|0|x|\n01|B|0|y|\n")
 
--- eight files, of which region's has the three regions above and the others have no rows
+-- a table's file without rows
 abbrev pub empty_table : List ℕ → List ℕ × List ℕ
 empty_table name = (codes "d/" ++ name ++ codes ".tbl", [])
 
+-- a file of region with the three regions above
 abbrev pub good_region : List ℕ × List ℕ
 good_region = (codes "d/region.tbl", codes "2|ASIA||\n1|AMERICA|b|\n0|AFRICA|a|\n")
 
+-- eight files, of which only that of region has rows
 abbrev pub good_folder : Folder
 good_folder = good_region ∷ map empty_table (codes "nation" ∷ codes "part" ∷ codes "supplier" ∷ codes "partsupp" ∷ codes "customer" ∷ codes "orders" ∷ codes "lineitem" ∷ [])
 
--- and a script
+-- a script
 abbrev pub good_script : List ℕ × List ℕ
 good_script = (codes "s", codes "select r_name from region where r_regionkey < 2;")
 
@@ -55,8 +58,9 @@ good_script = (codes "s", codes "select r_name from region where r_regionkey < 2
 abbrev pub refused : {A : Type 0} → List ℕ → InputFault → Result A BadInput
 refused name why = Err (record { name = name; fault = why })
 
+-- what the definitions say of these
 pub record Examples : Type 0 where
-  -- a script is a statement with its semicolon, and with one LF behind it or none
+  -- a script is a statement with its semicolon, and with one LF or none after it
   pub script : script_of (codes "select r_name from region where r_regionkey < 2;") ≡ Some names_below_two
   pub line : script_of (codes "select r_name from region where r_regionkey < 002;\n") ≡ Some names_below_two
   pub unended : script_of (codes "select r_name from region where r_regionkey < 2") ≡ None

@@ -7,7 +7,7 @@ pub record IsFront (limit : ℕ) (text bytes : List ℕ) : Type 0 where
   pub is : text ≡ bytes ++ rest
   pub whole : length bytes ≤ limit → rest ≡ []
 
--- the same of what was left of a file, where it is told
+-- the same of what was left of a file, where it is known
 abbrev pub IsFrontOf : ℕ → Option (List ℕ) → List ℕ → Type 0
 IsFrontOf limit None bytes = ⊤
 IsFrontOf limit (Some text) bytes = IsFront limit text bytes

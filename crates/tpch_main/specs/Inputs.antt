@@ -9,6 +9,7 @@ use Rattle.sql_value.specs.declared.value.Value.{Value}
 use Rattle.table_state.specs.Lists.{state_of}
 use Rattle.tbl_reader.specs.File.{file_rows, most_bytes}
 use Rattle.tpch_outside.specs.Outside.{Folder, file_of}
+use Rattle.tpch_schema.specs.LineForm.{table_form}
 use Rattle.tpch_schema.specs.State.{State}
 use Rattle.tpch_schema.specs.Tables.{all_tables, table_name}
 use Rattle.tpch_schema.specs.declared.table.TableName.{TableName}
@@ -56,7 +57,7 @@ rows_or_refusal name (Err first) = Err (record { name = name; fault = fault.Line
 -- the rows of a table's file, if it is there
 abbrev pub rows_in : TableName → List ℕ → Option (List ℕ) → Result (List (List Value)) BadInput
 rows_in table name None = Err (record { name = name; fault = fault.Absent })
-rows_in table name (Some bytes) = rows_or_refusal name (file_rows table most_bytes bytes)
+rows_in table name (Some bytes) = rows_or_refusal name (file_rows (table_form table) most_bytes bytes)
 
 -- the name of a table's file in a folder
 abbrev pub table_file : List ℕ → TableName → List ℕ
@@ -84,7 +85,7 @@ session_inputs dir script folder = and_then (script_in folder script) (λ statem
 abbrev pub line_text : LineRefusal → List ℕ
 line_text first = codes " line " ++ decimal first.line ++ codes " " ++ decimal (line_fault_number first.fault) ++ codes " " ++ line_fault_name first.fault ++ codes "\n"
 
--- why an input is refused, as it is printed behind the input's name
+-- why an input is refused, as it is printed after the input's name
 abbrev pub fault_text : InputFault → List ℕ
 fault_text fault.Absent = codes " absent\n"
 fault_text fault.NotBuilt = codes " not built\n"

@@ -39,8 +39,8 @@ AnswerLaw = (statement : Statement) (rows : List (List Value)) (a b : List ℕ) 
 pub record IsFirstBadTable (dir : List ℕ) (folder : Folder) (tables : List TableName) (refused : BadInput) : Type 0 where
   pub before : List TableName
   pub table : TableName
-  pub behind : List TableName
-  pub among : tables ≡ before ++ table ∷ behind
+  pub after : List TableName
+  pub among : tables ≡ before ++ table ∷ after
   pub good : All (λ t. IsOk (table_in dir t folder)) before
   pub bad : table_in dir table folder ≡ Err refused
 

@@ -12,4 +12,5 @@ pub mod FilesAfter
 pub mod Laws
 pub mod Examples
 pub mod Front
+pub mod TableFile
 pub mod Lists

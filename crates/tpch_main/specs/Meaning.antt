@@ -29,7 +29,7 @@ abbrev pub PrintsOf : {A : Type 0} → (A → List ℕ → Type 0) → Result A 
 PrintsOf Means (Ok inputs) text s = Means inputs text × (s ≡ status.Done)
 PrintsOf Means (Err refused) text s = (text ≡ refusal_line refused) × (s ≡ status.InputRefused)
 
--- what a command prints over told files: a session the answer over region, a check the counts
+-- what a command prints over files with known contents: a session the answer over region, a check the counts
 abbrev pub PrintsFrom : Command → Folder → List ℕ → Status → Type 0
 PrintsFrom (session dir script) folder text s = PrintsOf (λ inputs. IsAnswerText inputs.0 inputs.1.region) (session_inputs dir script folder) text s
 PrintsFrom (check dir) folder text s = PrintsOf (λ state counts. counts ≡ counts_text state) (state_in dir folder) text s
@@ -38,23 +38,23 @@ PrintsFrom (check dir) folder text s = PrintsOf (λ state counts. counts ≡ cou
 abbrev pub MayEnd : Command → Status → Type 0
 MayEnd command s = (s ≡ status.Done) ⊎ (s ≡ status.InputRefused)
 
--- what may be printed by the command, if the words are one, over the files, where they are told
+-- what may be printed by the command, if the words are one, over the files, where their contents are known
 abbrev pub Prints : Option Command → Option Folder → List ℕ → Status → Type 0
-Prints None told text s = (text ≡ usage_line) × (s ≡ status.Usage)
+Prints None known text s = (text ≡ usage_line) × (s ≡ status.Usage)
 Prints (Some command) None text s = MayEnd command s
 Prints (Some command) (Some folder) text s = PrintsFrom command folder text s
 
 -- some text that may be printed, whatever its status
 abbrev pub MayPrint : Option Command → Option Folder → List ℕ → Type 0
-MayPrint command told text = (s : Status) × Prints command told text s
+MayPrint command known text = (s : Status) × Prints command known text s
 
 -- on an answer the sink took a whole text that may be printed with just that status
 abbrev pub TakesWhole : Option Command → Option Folder → Option (List ℕ) → Option (List ℕ) → Status → Type 0
-TakesWhole command told before now s = IsAnswer s → ((text : List ℕ) × Prints command told text s × Appends before now text)
+TakesWhole command known before now s = IsAnswer s → ((text : List ℕ) × Prints command known text s × Appends before now text)
 
 -- the sink took a part, from its front, of a text that may be printed
 abbrev pub TakesPart : Option Command → Option Folder → Option (List ℕ) → Option (List ℕ) → Type 0
-TakesPart command told before now = (text : List ℕ) × MayPrint command told text × AppendsPart before now text
+TakesPart command known before now = (text : List ℕ) × MayPrint command known text × AppendsPart before now text
 
 -- the first refused input, if there is one
 abbrev pub first_refused : Command → Folder → Option BadInput
@@ -63,12 +63,12 @@ first_refused (check dir) folder = result_err (state_in dir folder)
 
 -- the first refused input is an absent file
 abbrev pub IsAbsentInput : Option Command → Option Folder → Type 0
-IsAbsentInput None told = ⊥
+IsAbsentInput None known = ⊥
 IsAbsentInput (Some command) None = ⊥
 IsAbsentInput (Some command) (Some folder) = (name : List ℕ) × (first_refused command folder ≡ Some (record { name = name; fault = fault.Absent }))
 
--- the words are a command, and each file that it names is told, is there and is of its form
+-- the words are a command, and the contents of each file that it names are known, and each is there and of its form
 abbrev pub IsAccepted : Option Command → Option Folder → Type 0
-IsAccepted None told = ⊥
+IsAccepted None known = ⊥
 IsAccepted (Some command) None = ⊥
 IsAccepted (Some command) (Some folder) = first_refused command folder ≡ None

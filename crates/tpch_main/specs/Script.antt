@@ -8,7 +8,7 @@ use Rattle.tpch_main.specs.declared.statement.Column.{Column}
 use Rattle.tpch_main.specs.declared.statement.Column.TheVariants as column
 use Rattle.tpch_main.specs.declared.statement.Statement.{Statement}
 
--- the number that decimal digits write behind those of n
+-- the number that decimal digits write after those of n
 abbrev pub value_after : ℕ → List ℕ → ℕ
 value_after n [] = n
 value_after n (digit ∷ digits) = value_after (n * 10 + (digit - 48)) digits
@@ -35,7 +35,7 @@ column_name column.Comment = codes "r_comment"
 abbrev pub script_front : Column → List ℕ
 script_front c = codes "select " ++ column_name c ++ codes " from region where r_regionkey < "
 
--- the number before a semicolon, behind which one LF may stand
+-- the number before a semicolon, after which one LF may stand
 abbrev pub limit_of : List ℕ → Option ℕ
 limit_of text = option_and_then number_of (before (codes ";") (unwrap_or (before (codes "\n") text) text))
 

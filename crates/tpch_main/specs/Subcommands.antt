@@ -1,4 +1,4 @@
--- The program's subcommands as clap is told of them. An `App` is what clap reads of a command, and a `Rule` what it reads of an argument.
+-- The program's subcommands as clap is given them. An `App` is what clap reads of a command, and a `Rule` what it reads of an argument.
 use Rattle.std.specs.Prelude.{ℕ, List, true, codes}
 use Rattle.clap.specs.Simple.{on_top}
 use Rattle.clap.specs.Words.{App, Rule, new_app, new_rule, with_rule, with_subcommand}

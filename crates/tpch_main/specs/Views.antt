@@ -39,26 +39,26 @@ abbrev pub IsAbsence : InputError → Type 0
 IsAbsence (error.Unread unread) = ⊥
 IsAbsence (error.Refused refusal) = refusal.fault ≡ fault.Absent
 
--- a fact of the files, where they are told
-abbrev pub Told : Option Folder → (Folder → Type 0) → Type 0
-Told None P = ⊤
-Told (Some folder) P = P folder
+-- a fact of the files, where their contents are known
+abbrev pub IfKnown : Option Folder → (Folder → Type 0) → Type 0
+IfKnown None P = ⊤
+IfKnown (Some folder) P = P folder
 
--- a refusal is the one of the input that the told files hold; an input that could not be read says nothing of it
+-- a refusal is the one of the input that the known files hold; an input that could not be read says nothing of it
 abbrev pub Explains : {A : Type 0} → Option Folder → (Folder → Result A BadInput) → InputError → Type 0
 Explains held input (error.Unread unread) = ⊤
-Explains held input (error.Refused refusal) = Told held (λ folder. input folder ≡ Err (refused_view refusal))
+Explains held input (error.Refused refusal) = IfKnown held (λ folder. input folder ≡ Err (refused_view refusal))
 
--- what was read is the input that the told files hold, or the error explains why there is none
+-- what was read is the input that the known files hold, or the error explains why there is none
 abbrev pub Reads : {A B : Type 0} → (A → B) → Option Folder → (Folder → Result B BadInput) → Result A InputError → Type 0
-Reads view held input result = MatchResult result (λ read. Told held (λ folder. input folder ≡ Ok (view read))) (Explains held input)
+Reads view held input result = MatchResult result (λ read. IfKnown held (λ folder. input folder ≡ Ok (view read))) (Explains held input)
 
--- the text is one that the input of the told files means, or the error explains why there is no input
+-- the text is one that the input of the known files means, or the error explains why there is no input
 abbrev pub Answers : {A : Type 0} → (A → List ℕ → Type 0) → Option Folder → (Folder → Result A BadInput) → Result (Vec ℕ) InputError → Type 0
-Answers {A} Means held input result = MatchResult result (λ text. Told held (λ folder. (read : A) × (input folder ≡ Ok read) × Means read text.items)) (Explains held input)
+Answers {A} Means held input result = MatchResult result (λ text. IfKnown held (λ folder. (read : A) × (input folder ≡ Ok read) × Means read text.items)) (Explains held input)
 
 -- the text is the command's, or the error explains why it has none: its first refused input
 abbrev pub IsTextOf : Command → Option Folder → Result (Vec ℕ) InputError → Type 0
 IsTextOf command held (Ok text) = Prints (Some command) held text.items status.Done
 IsTextOf command held (Err (error.Unread unread)) = ⊤
-IsTextOf command held (Err (error.Refused refusal)) = Told held (λ folder. first_refused command folder ≡ Some (refused_view refusal))
+IsTextOf command held (Err (error.Refused refusal)) = IfKnown held (λ folder. first_refused command folder ≡ Some (refused_view refusal))

@@ -12,12 +12,12 @@ use Rattle.tpch_main.specs.Words.Command.{check, session}
 abbrev pub AcceptedLaw : Type 0
 AcceptedLaw = (words : List Text) → (fault_of program_app words ≡ []) ↔ IsSome (command_of words)
 
--- a minus and more behind it
+-- a minus and more after it
 abbrev pub is_flag : Text → Bool
 is_flag (first ∷ second ∷ rest) = first == 45
 is_flag short = false
 
--- the values among the words behind a subcommand's name: the first `--` is left out, what follows it is a value however it begins, and no flag may come before it
+-- the values among the words after a subcommand's name: the first `--` is left out, what follows it is a value however it begins, and no flag may come before it
 abbrev pub values_in : List Text → Option (List Text)
 values_in [] = Some []
 values_in (word ∷ words) =
@@ -67,9 +67,9 @@ pub record WordExamples : Type 0 where
   pub help_flag : command_of (codes "--help" ∷ []) ≡ None
   pub short_help_flag : command_of (codes "check" ∷ codes "d" ∷ codes "-h" ∷ []) ≡ None
   pub help_named : command_of (codes "check" ∷ codes "help" ∷ []) ≡ Some (check (codes "help"))
-  -- a flag is refused, a minus alone is a value, and so is each word behind `--`
+  -- a flag is refused, a single minus is a value, and so is each word after `--`
   pub flag : command_of (codes "session" ∷ codes "-d" ∷ codes "s" ∷ []) ≡ None
   pub minus : command_of (codes "check" ∷ codes "-" ∷ []) ≡ Some (check (codes "-"))
-  pub behind_dashes : command_of (codes "session" ∷ codes "--" ∷ codes "-d" ∷ codes "--" ∷ []) ≡ Some (session (codes "-d") (codes "--"))
+  pub after_dashes : command_of (codes "session" ∷ codes "--" ∷ codes "-d" ∷ codes "--" ∷ []) ≡ Some (session (codes "-d") (codes "--"))
   pub dashes_last : command_of (codes "check" ∷ codes "d" ∷ codes "--" ∷ []) ≡ Some (check (codes "d"))
   pub dashes_first : command_of (codes "--" ∷ codes "check" ∷ codes "d" ∷ []) ≡ None

@@ -14,6 +14,7 @@ mod run;
 mod session;
 mod statement;
 mod status;
+mod table_file;
 mod tables;
 #[cfg(test)]
 mod tests;

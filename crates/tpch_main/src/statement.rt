@@ -50,7 +50,7 @@ pub fn number(digits: &[u8]) -> Option<u64>
     Some(value)
 }
 
-/// The number before a semicolon, behind which one LF may stand.
+/// The number before a semicolon, after which one LF may stand.
 fn limit(text: &[u8]) -> Option<u64>
     ensures { result ≡ limit_of text.now }
 {

@@ -17,7 +17,7 @@ pub enum Status {
     ReadFault,
     /// Writing failed; a part of the text from its front was written.
     WriteFault,
-    /// Memory was wanted; nothing, or a part of the text from its front, was written.
+    /// Memory ran out; nothing, or a part of the text from its front, was written.
     OutOfMemory,
 }
 

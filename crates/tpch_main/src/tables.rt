@@ -1,29 +1,22 @@
 //! Reading the eight tables of a folder.
-ghost use Rattle.std.specs.Prelude.{◌≡◌, ℕ, List, ◌++◌, IfOk, MatchResult, length, map};
+ghost use Rattle.std.specs.Prelude.{◌≡◌, ◌++◌, IfOk, length, map};
 ghost use Rattle.std.specs.String.{string_bytes};
 ghost use Rattle.std.specs.Vec.{vec_items};
 ghost use Rattle.table_state.specs.Lists.{IsOfKinds, state_of};
-ghost use Rattle.tbl_reader.specs.Fault.{IsFaultOf};
-ghost use Rattle.tbl_reader.specs.File.{file_rows, most_bytes};
 ghost use Rattle.tpch_schema.specs.Kinds.{RowsAreOf};
 ghost use Rattle.tpch_schema.specs.Tables.{all_tables};
-ghost use Rattle.tpch_main.specs.Front.{IsFront};
 ghost use Rattle.tpch_main.specs.Lists.{AreOf};
 ghost use Rattle.tpch_main.specs.FilesAfter.{FilesAfterInput};
 ghost use Rattle.tpch_main.specs.Inputs.{lists_in, state_in, table_file, table_in};
 ghost use Rattle.tpch_main.specs.Views.{Reads};
 
-use crate::input::front;
 use crate::input_error::{InputError, InputFault, ReadError, refused};
+use crate::table_file::read_rows;
 use sql_value::Row;
 use std::alloc::{AllocError, Global};
 use table_state::State;
-use tbl_reader::{MOST_BYTES, ReadFault, TableReader};
 use tpch_outside::{Files, Open};
 use tpch_schema::{TABLES, TableName};
-
-/// The most bytes of a table's file.
-const TABLE_LIMIT: usize = MOST_BYTES as usize;
 
 /// The name of a table's file in a folder.
 fn file_name(alloc: Global, folder: &str, table: TableName) -> Result<String, AllocError>
@@ -34,19 +27,6 @@ fn file_name(alloc: Global, folder: &str, table: TableName) -> Result<String, Al
     name.push_str(table.name())?;
     name.push_str(".tbl")?;
     Ok(name)
-}
-
-/// The rows of a table's file of which these bytes are the front.
-fn rows_from(alloc: Global, table: TableName, bytes: &[u8]) -> Result<Vec<Row>, ReadFault>
-    ensures rows { (text : List ℕ) → IsFront most_bytes text bytes.now
-        → MatchResult result (λ rows. file_rows table most_bytes text ≡ Ok rows.items) (IsFaultOf (file_rows table most_bytes text)) }
-    ensures kinds { IfOk result (λ rows. RowsAreOf table rows.items) }
-{
-    let mut reader = TableReader::new(alloc, table)?;
-    match reader.feed(bytes) {
-        Ok(()) => reader.finish(),
-        Err(fault) => Err(fault),
-    }
 }
 
 /// The rows of the table in the folder.
@@ -64,18 +44,7 @@ fn read_table<F: Files>(
     match files.open(&name) {
         Open::Failed => Err(InputError::Unread(ReadError::Fault)),
         Open::Absent => Err(refused(alloc, &name, InputFault::Absent)),
-        Open::Opened => {
-            let bytes = front(alloc, files, TABLE_LIMIT)?;
-            match rows_from(alloc, table, &bytes) {
-                Ok(rows) => Ok(rows),
-                Err(ReadFault::Refused(first)) => Err(refused(
-                    alloc,
-                    &name,
-                    InputFault::Line(first),
-                )),
-                Err(ReadFault::OutOfMemory) => Err(InputError::Unread(ReadError::OutOfMemory)),
-            }
-        }
+        Open::Opened => read_rows(alloc, files, &name, table),
     }
 }
 

@@ -50,7 +50,7 @@ pub fn tpch<R: Threads + Wait + Sync, F: Files, S: Sink, G: Gate + Sync>(
         → IsAbsentInput (command_of (map string_bytes words.now)) (F.held files.old)
         → Rose (F.misses files.old) (F.misses files.new) }
 
-    // Nothing but memory stands in the way of a command whose files are told and accepted.
+    // A command is answered where its files are known and accepted, unless memory runs out.
     ensures complete { IsAccepted (command_of (map string_bytes words.now)) (F.held files.old)
         → ¬ Rose (F.faults files.old) (F.faults files.new) → ¬ Rose (S.faults out.old) (S.faults out.new)
         → result ≢ Status.OutOfMemory → (result ≡ Status.Done) ⊎ (result ≡ Status.SomeRefused) }

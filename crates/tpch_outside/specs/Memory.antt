@@ -3,7 +3,7 @@ use Rattle.std.specs.Prelude.{◌≡◌, ℕ, List, [], drop, length, map, min, 
 use Rattle.std.specs.List.{list_any}
 use Rattle.std.specs.Option.{option_map_or}
 use Rattle.std.specs.String.{string_bytes}
-use Rattle.tpch_outside.specs.Outside.{Folder, file_of, risen}
+use Rattle.tpch_outside.specs.Outside.{Folder, file_of, next_count}
 use Rattle.tpch_outside.specs.declared.files.Open.{Open}
 use Rattle.tpch_outside.specs.declared.files.Open.TheVariants as opening
 use Rattle.tpch_outside.specs.declared.files.Got.{Got}
@@ -23,35 +23,35 @@ abbrev pub bytes_at : List MemFile → ℕ → List ℕ
 bytes_at files i = option_map_or (λ f. f.bytes.items) (slice_get files i) []
 
 -- the bytes of the open file from its place on, none where no file is open
-abbrev pub unread : List MemFile → Option Place → List ℕ
-unread files None = []
-unread files (Some place) = drop place.at (bytes_at files place.index)
+abbrev pub unread_bytes : List MemFile → Option Place → List ℕ
+unread_bytes files None = []
+unread_bytes files (Some place) = drop place.at (bytes_at files place.index)
 
--- what is left of the open file, which is told
+-- what is left of the open file, which is known
 abbrev pub left_of : List MemFile → Option Place → Option (List ℕ)
-left_of files place = Some (unread files place)
+left_of files place = Some (unread_bytes files place)
 
--- the call after so many is one of those that are to fail
-abbrev pub fails : List ℕ → ℕ → Bool
-fails failing calls = list_any (λ k. k == risen calls) failing
+-- the call after n calls is one of those that are to fail
+abbrev pub is_failing : List ℕ → ℕ → Bool
+is_failing failing calls = list_any (λ k. k == next_count calls) failing
 
 -- a count that rises where something happened
-abbrev pub risen_if : Bool → ℕ → ℕ
-risen_if happened count = if happened then risen count else count
+abbrev pub count_after : Bool → ℕ → ℕ
+count_after happened count = if happened then next_count count else count
 
 -- the folder has a file of that name
 abbrev pub has_file : MemFolder → List ℕ → Bool
 has_file folder name = is_some (file_of (folder_of folder.files.items) name)
 
 -- opening finds a file of that name or is absent
-abbrev pub found : MemFolder → List ℕ → Open
-found folder name = if has_file folder name then opening.Opened else opening.Absent
+abbrev pub open_answer : MemFolder → List ℕ → Open
+open_answer folder name = if has_file folder name then opening.Opened else opening.Absent
 
 -- reading gives as many of the unread bytes as there is room for
-abbrev pub given : MemFolder → ℕ → Got
-given folder room = got.Got (min room (length (unread folder.files.items folder.place)))
+abbrev pub read_answer : MemFolder → ℕ → Got
+read_answer folder room = got.Got (min room (length (unread_bytes folder.files.items folder.place)))
 
--- bytes were taken only so many at once
+-- at most that many bytes were taken at once
 abbrev pub TookOnly : Put → ℕ → Type 0
 TookOnly (put.Took n) most = n ≡ most
 TookOnly put.Failed most = ⊤

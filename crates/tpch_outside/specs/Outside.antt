@@ -10,12 +10,12 @@ use Rattle.tpch_outside.specs.declared.sink.Put.{Put}
 use Rattle.tpch_outside.specs.declared.sink.Put.TheVariants as put
 
 -- a count one higher, which stands still at its last value
-abbrev pub risen : ℕ → ℕ
-risen count = min (count + 1) (2 ^ 64 - 1)
+abbrev pub next_count : ℕ → ℕ
+next_count count = min (count + 1) (2 ^ 64 - 1)
 
 -- a count has risen in the call, or stands at its last value
 abbrev pub Rose : ℕ → ℕ → Type 0
-Rose before now = risen before ≤ now
+Rose before now = next_count before ≤ now
 
 -- a count never falls, and where the answer was given it rose
 pub record Counts (answered : Type 0) (before now : ℕ) : Type 0 where
@@ -31,7 +31,7 @@ abbrev pub file_of : Folder → List ℕ → Option (List ℕ)
 file_of [] name = None
 file_of (file ∷ files) name = if bytes_eq file.0 name then Some file.1 else file_of files name
 
--- where the files are told: opened only where the name is held, with all of its bytes left; absent only where it isn't
+-- where the files are known: opened only where the name is held, with all of its bytes left; absent only where it isn't
 abbrev pub Opens : Option Folder → List ℕ → Open → Option (List ℕ) → Type 0
 Opens None name answer left = ⊤
 Opens (Some folder) name opening.Opened left = IsSome (file_of folder name) × (left ≡ file_of folder name)

@@ -27,10 +27,10 @@ pub enum Got {
 /// A failure comes only where the count of faults rose, and "absent" only where the count of misses
 /// rose; a count has "risen" also where it stands at its last value, 2^64 - 1. No count ever falls.
 pub trait Files {
-    /// The files with their names and bytes, where they are told.
+    /// The files with their names and bytes, where they are known.
     ghost held: { Self → Option Folder };
 
-    /// What is left of the open file, where it is told.
+    /// What is left of the open file, where it is known.
     ghost left: { Self → Option (List ℕ) };
 
     /// A file was opened.

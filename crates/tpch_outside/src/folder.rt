@@ -1,7 +1,7 @@
 //! A folder of files in memory, one of which may be open.
 ghost use Rattle.std.specs.Prelude.{◌≡◌, ℕ, ◌<◌, ◌≤◌, Some, None, MatchOption, IsTrue, MatchBool, IsSome, length, min, take, drop, ◌-◌};
 ghost use Rattle.std.specs.Io.KnownBytes.{Consumes, IsAtEnd};
-ghost use Rattle.tpch_outside.specs.Memory.{bytes_at, folder_of, left_of, unread};
+ghost use Rattle.tpch_outside.specs.Memory.{bytes_at, folder_of, left_of, unread_bytes};
 ghost use Rattle.tpch_outside.specs.Outside.{file_of};
 
 /// A file in memory.
@@ -100,7 +100,7 @@ impl MemFolder {
         requires { IsSome self.old.place }
         ensures files { self.new.files ≡ self.old.files }
         ensures open { IsSome self.new.place }
-        ensures count { result ≡ min (length into.old) (length (unread self.old.files.items self.old.place)) }
+        ensures count { result ≡ min (length into.old) (length (unread_bytes self.old.files.items self.old.place)) }
         ensures bytes { Consumes (left_of self.old.files.items self.old.place) (left_of self.old.files.items self.new.place) (take result into.new) }
         ensures end { 0 < length into.old → result ≡ 0 → IsAtEnd (left_of self.old.files.items self.old.place) }
     {

@@ -1,8 +1,8 @@
 //! Files and a sink in memory, which fail at the calls that a list names.
 ghost use Rattle.std.specs.Prelude.{◌≡◌, ◌≢◌, ◌==◌, ◌&&◌, ◌<◌, ◌≤◌, Some, None, is_some, length, min, not, true, if◌then◌else◌};
 ghost use Rattle.std.specs.List.{list_any};
-ghost use Rattle.tpch_outside.specs.Memory.{TookOnly, fails, folder_of, found, given, has_file, is_failed, is_put_fault, left_of, risen_if};
-ghost use Rattle.tpch_outside.specs.Outside.{Counts, Gives, IsPutFault, Opens, Takes, risen};
+ghost use Rattle.tpch_outside.specs.Memory.{TookOnly, is_failing, folder_of, open_answer, read_answer, has_file, is_failed, is_put_fault, left_of, count_after};
+ghost use Rattle.tpch_outside.specs.Outside.{Counts, Gives, IsPutFault, Opens, Takes, next_count};
 
 use crate::{Files, Got, MemFile, MemFolder, Open, Put, Sink};
 
@@ -62,10 +62,10 @@ impl Files for MemFiles {
         ensures misses { Counts (result ≡ Open.Absent) self.old.misses self.new.misses }
 
         // It fails exactly where the list has the call's number, and each count rises by exactly what happened.
-        ensures answer { result ≡ (if fails self.old.failing.items self.old.calls then Open.Failed else found self.old.folder name.now) }
-        ensures calls { self.new.calls ≡ risen self.old.calls }
-        ensures fault_count { self.new.faults ≡ risen_if (fails self.old.failing.items self.old.calls) self.old.faults }
-        ensures miss_count { self.new.misses ≡ risen_if (not (fails self.old.failing.items self.old.calls) && not (has_file self.old.folder name.now)) self.old.misses }
+        ensures answer { result ≡ (if is_failing self.old.failing.items self.old.calls then Open.Failed else open_answer self.old.folder name.now) }
+        ensures calls { self.new.calls ≡ next_count self.old.calls }
+        ensures fault_count { self.new.faults ≡ count_after (is_failing self.old.failing.items self.old.calls) self.old.faults }
+        ensures miss_count { self.new.misses ≡ count_after (not (is_failing self.old.failing.items self.old.calls) && not (has_file self.old.folder name.now)) self.old.misses }
         ensures rest { (self.new.failing ≡ self.old.failing) × (self.new.folder.files ≡ self.old.folder.files) }
         ensures place { result ≢ Open.Opened → self.new.folder.place ≡ self.old.folder.place }
     {
@@ -90,9 +90,9 @@ impl Files for MemFiles {
         ensures faults { Counts (result ≡ Got.Failed) self.old.faults self.new.faults }
         ensures misses { self.old.misses ≤ self.new.misses }
 
-        ensures answer { result ≡ (if fails self.old.failing.items self.old.calls then Got.Failed else given self.old.folder (length into.old)) }
-        ensures calls { self.new.calls ≡ risen self.old.calls }
-        ensures fault_count { self.new.faults ≡ risen_if (fails self.old.failing.items self.old.calls) self.old.faults }
+        ensures answer { result ≡ (if is_failing self.old.failing.items self.old.calls then Got.Failed else read_answer self.old.folder (length into.old)) }
+        ensures calls { self.new.calls ≡ next_count self.old.calls }
+        ensures fault_count { self.new.faults ≡ count_after (is_failing self.old.failing.items self.old.calls) self.old.faults }
         ensures rest { (self.new.failing ≡ self.old.failing) × (self.new.folder.files ≡ self.old.folder.files) × (self.new.misses ≡ self.old.misses) }
         ensures place { result ≡ Got.Failed → self.new.folder.place ≡ self.old.folder.place }
     {
@@ -106,7 +106,7 @@ impl Files for MemFiles {
 }
 
 /// A sink in memory. Its calls are counted from 1, and those that the list names fail; the others
-/// take at most so many bytes.
+/// take at most that many bytes.
 #[derive(Drop)]
 pub struct MemSink {
     /// The bytes taken.
@@ -146,11 +146,11 @@ impl Sink for MemSink {
         ensures bytes { Takes (Some self.old.bytes.items) (Some self.new.bytes.items) result piece.now }
         ensures faults { Counts (IsPutFault result piece.now) self.old.faults self.new.faults }
 
-        // It fails exactly where the list has the call's number; else it takes the most that it may, or memory was wanted.
-        ensures failed { is_failed result ≡ fails self.old.failing.items self.old.calls }
+        // It fails exactly where the list has the call's number; else it takes the most that it may, or memory ran out.
+        ensures failed { is_failed result ≡ is_failing self.old.failing.items self.old.calls }
         ensures took { TookOnly result (min (length piece.now) self.old.most) }
-        ensures calls { self.new.calls ≡ risen self.old.calls }
-        ensures fault_count { self.new.faults ≡ risen_if (is_put_fault result piece.now) self.old.faults }
+        ensures calls { self.new.calls ≡ next_count self.old.calls }
+        ensures fault_count { self.new.faults ≡ count_after (is_put_fault result piece.now) self.old.faults }
         ensures rest { (self.new.failing ≡ self.old.failing) × (self.new.most ≡ self.old.most) }
     {
         self.calls = self.calls.saturating_add(1);

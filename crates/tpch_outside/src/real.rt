@@ -101,7 +101,7 @@ impl<R: Print> Sink for RealSink<'_, R> {
         ensures bytes { Takes None None result piece.now }
         ensures faults { Counts (IsPutFault result piece.now) self.old.faults self.new.faults }
 
-        // It keeps no bytes, so it never wants memory for them.
+        // It keeps no bytes, so memory never runs out for them.
         ensures no_memory { result ≢ Put.OutOfMemory }
     {
         match io::writer(self.rt).write(piece) {

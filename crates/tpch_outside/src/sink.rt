@@ -18,7 +18,7 @@ pub enum Put {
 /// A failure, and no byte taken of a piece that isn't empty, comes only where the count of faults
 /// rose, or stands at its last value, 2^64 - 1.
 pub trait Sink {
-    /// The bytes taken so far, where they are told.
+    /// The bytes taken so far, where they are known.
     ghost taken: { Self → Option (List ℕ) };
 
     /// How many calls failed.

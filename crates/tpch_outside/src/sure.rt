@@ -1,6 +1,6 @@
 //! Files and a sink in memory that never fail.
 ghost use Rattle.std.specs.Prelude.{◌≡◌, ◌≢◌, ◌<◌, ◌≤◌, ◌⊎◌, Some, None, is_some, length, not, true};
-ghost use Rattle.tpch_outside.specs.Memory.{folder_of, found, given, has_file, left_of, risen_if};
+ghost use Rattle.tpch_outside.specs.Memory.{folder_of, open_answer, read_answer, has_file, left_of, count_after};
 ghost use Rattle.tpch_outside.specs.Outside.{Counts, Gives, IsPutFault, Opens, Takes};
 
 use crate::{Files, Got, MemFile, MemFolder, Open, Put, Sink};
@@ -44,8 +44,8 @@ impl Files for SureFiles {
         ensures faults { Counts (result ≡ Open.Failed) 0 0 }
         ensures misses { Counts (result ≡ Open.Absent) self.old.misses self.new.misses }
 
-        ensures answer { result ≡ found self.old.folder name.now }
-        ensures miss_count { self.new.misses ≡ risen_if (not (has_file self.old.folder name.now)) self.old.misses }
+        ensures answer { result ≡ open_answer self.old.folder name.now }
+        ensures miss_count { self.new.misses ≡ count_after (not (has_file self.old.folder name.now)) self.old.misses }
         ensures rest { self.new.folder.files ≡ self.old.folder.files }
         ensures place { result ≢ Open.Opened → self.new.folder.place ≡ self.old.folder.place }
     {
@@ -65,7 +65,7 @@ impl Files for SureFiles {
         ensures faults { Counts (result ≡ Got.Failed) 0 0 }
         ensures misses { self.old.misses ≤ self.new.misses }
 
-        ensures answer { result ≡ given self.old.folder (length into.old) }
+        ensures answer { result ≡ read_answer self.old.folder (length into.old) }
         ensures rest { (self.new.folder.files ≡ self.old.folder.files) × (self.new.misses ≡ self.old.misses) }
     {
         Got::Got(self.folder.read_on(into))

@@ -34,8 +34,8 @@ use Rattle.algebra.specs.declared.node.Node.TheVariants as node
 use Rattle.algebra.specs.declared.tree.DepTree.TheOpen as f
 use Rattle.algebra.specs.declared.tree.Side.{Side}
 use Rattle.algebra.specs.Aggregates.{aggregates_of}
-use Rattle.algebra.specs.Ranks.{rank_of}
-use Rattle.algebra.specs.Trees.{Database, TreeMeaning, tree_step, side_of, own_domains, right_row, says, listed, mark_under, scalar_at, keys_under, aggregates_under}
+use Rattle.conditions.specs.Ranks.{rank_of, says}
+use Rattle.algebra.specs.Trees.{Database, TreeMeaning, tree_step, side_of, own_domains, right_row, listed, mark_under, scalar_at, keys_under, aggregates_under}
 use Rattle.algebra.specs.Plans.{groups, made_from, node_rows, node_width, plan_rows, plan_width, scan_of, is_domain}
 use Rattle.algebra.proofs.NoRows.{aggregates_bag}
 use Rattle.unnesting.specs.declared.domain.Domain.{Domain as DomainData}
@@ -86,9 +86,9 @@ project_lowers before old new m domain rows id es l p =
     let w : length (cs ++ es) ≡ n + length es = length-append cs es ∙ ap (λ k. k + length es) (length-map (range_with_len 0 n) Column ∙ length-range_with_len 0 n) in
     puts before old new m.scans m.domains (tree_step (f.Project m es)) domain id (node.Project rows (cs ++ es)) l.plan p (append-nil m.scans) (omega arith) w
     (λ db h.
-        let ds = domain_rows db before domain.rows in let xs = plan_rows db old rows in
-        over_wide n ds xs _ _ (m.rows db) ((tree_step (f.Project m es)).rows db) h.is_domain (l.answers db h) (projected_wide n es xs)
-        (project_step same_value value_identity (values es) n ds xs (m.rows db) h.is_domain (l.answers db h)))
+    let ds = domain_rows db before domain.rows in let xs = plan_rows db old rows in
+    over_wide n ds xs _ _ (m.rows db) ((tree_step (f.Project m es)).rows db) h.is_domain (l.answers db h) (projected_wide n es xs)
+    (project_step same_value value_identity (values es) n ds xs (m.rows db) h.is_domain (l.answers db h)))
 
 -- A table under each row of a domain.
 always : (row : List Value) → rank_of (All []) row ≡ 5
@@ -133,14 +133,14 @@ scan_joined before new table domain d width id e within p =
     puts before mid new (table ∷ []) 0 (tree_step (f.Scan table)) domain id (node.Join d (length before) [] (All [])) g p refl (omega arith)
     (let z = ap domain_width e in omega (arith, dw, sw, z))
     (λ db h.
-        let kept : plan_rows db mid d ≡ plan_rows db before d = kept_rows db d g within.0 in
-        let here : plan_rows db mid (length before) ≡ scanned (db table) = put_rows db q in
-        let ds = plan_rows db before d in
-        let dom : IsDomain same_value width ds = subst (λ r. IsDomain same_value (domain_width r) (domain_rows db before r)) e h.is_domain in
-        let xs : (List (Ranked Value) × List (Ranked Value)) → List (Ranked Value) = λ p. inner_matched same_value Null [] (rank_of (All [])) p.0 p.1 in
-        subst (λ r. Answers same_value (domain_rows db before r) (xs (plan_rows db mid d, plan_rows db mid (length before))) (λ d. scanned (db table))) (sym e)
-        (subst (λ l. Answers same_value ds (xs (l, plan_rows db mid (length before))) (λ d. scanned (db table))) (sym kept)
-        (subst (λ l. Answers same_value ds (xs (ds, l)) (λ d. scanned (db table))) (sym here) (scan_over width ds (db table) dom))))
+    let kept : plan_rows db mid d ≡ plan_rows db before d = kept_rows db d g within.0 in
+    let here : plan_rows db mid (length before) ≡ scanned (db table) = put_rows db q in
+    let ds = plan_rows db before d in
+    let dom : IsDomain same_value width ds = subst (λ r. IsDomain same_value (domain_width r) (domain_rows db before r)) e h.is_domain in
+    let xs : (List (Ranked Value) × List (Ranked Value)) → List (Ranked Value) = λ p. inner_matched same_value Null [] (rank_of (All [])) p.0 p.1 in
+    subst (λ r. Answers same_value (domain_rows db before r) (xs (plan_rows db mid d, plan_rows db mid (length before))) (λ d. scanned (db table))) (sym e)
+    (subst (λ l. Answers same_value ds (xs (l, plan_rows db mid (length before))) (λ d. scanned (db table))) (sym kept)
+    (subst (λ l. Answers same_value ds (xs (ds, l)) (λ d. scanned (db table))) (sym here) (scan_over width ds (db table) dom))))
 
 pub scan_lowers : (before new : List Node) (table : TableName) (domain : DomainData) (id : ℕ) → IsInPlan before domain.rows
     → IsScanned before new table domain.rows id → Lowers before new (tree_step (f.Scan table)) domain id

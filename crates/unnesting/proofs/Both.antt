@@ -22,8 +22,8 @@ use Rattle.algebra.specs.declared.node.Node.{Node}
 use Rattle.algebra.specs.declared.node.Node.TheVariants as node
 use Rattle.algebra.specs.declared.tree.DepTree.TheOpen as f
 use Rattle.algebra.specs.declared.tree.Side.{Side}
-use Rattle.algebra.specs.Ranks.{rank_of}
-use Rattle.algebra.specs.Trees.{Database, TreeMeaning, tree_step, side_of, own_domains, right_row, says, mark_under, scalar_at}
+use Rattle.conditions.specs.Ranks.{rank_of, says}
+use Rattle.algebra.specs.Trees.{Database, TreeMeaning, tree_step, side_of, own_domains, right_row, mark_under, scalar_at}
 use Rattle.algebra.specs.Plans.{node_rows, node_width, plan_rows, plan_width, made_from}
 use Rattle.unnesting.specs.declared.domain.Domain.{Domain as DomainData}
 use Rattle.unnesting.specs.declared.domain.DomainRows.{DomainRows}
@@ -63,18 +63,18 @@ sides before a b c l r side domain inner outer rows within left own right =
           let xs = plan_rows db a outer in
           let same : domain_rows db a domain.rows ≡ ds = kept_domain db domain.rows left.plan within in
           let inner_rows : domain_rows db b inner.rows ≡ side_domain same_value Null (side_of side) ds xs =
-              own.rows db ∙ ap (λ e. side_domain same_value Null (side_of side) e xs) same in
+          own.rows db ∙ ap (λ e. side_domain same_value Null (side_of side) e xs) same in
           let kept : plan_rows db c outer ≡ xs = kept_rows db outer more h in
           let is : IsDomain same_value (domain_width inner.rows) (domain_rows db b inner.rows) =
-              subst (λ e. IsDomain same_value (domain_width inner.rows) e) (sym inner_rows)
-              (subst (λ n. IsDomain same_value n (side_domain same_value Null (side_of side) ds xs)) (sym own.width)
-              (side_is same_value value_identity Null (side_of side) (domain_width domain.rows) ds xs holds.is_domain)) in
+          subst (λ e. IsDomain same_value (domain_width inner.rows) e) (sym inner_rows)
+          (subst (λ n. IsDomain same_value n (side_domain same_value Null (side_of side) ds xs)) (sym own.width)
+          (side_is same_value value_identity Null (side_of side) (domain_width domain.rows) ds xs holds.is_domain)) in
           let notes : KeepsNotes inner.unchanged (domain_rows db b inner.rows) = own.noted db (subst (λ e. KeepsNotes domain.unchanged e) (sym same) holds.noted) in
           record {
             domain = holds.is_domain;
             left = subst (λ z. Answers same_value ds z (l.rows db)) (sym kept) (left.answers db holds);
             right = subst (λ z. Answers same_value (side_domain same_value Null (side_of side) ds z) (plan_rows db c rows) (r.rows db)) (sym kept)
-            (subst (λ e. Answers same_value e (plan_rows db c rows) (r.rows db)) inner_rows (right.answers db (record { is_domain = is; noted = notes })));
+                (subst (λ e. Answers same_value e (plan_rows db c rows) (r.rows db)) inner_rows (right.answers db (record { is_domain = is; noted = notes })));
           };
     }
 
@@ -91,9 +91,9 @@ join_lowers before c new l r side domain outer rows id e s p =
     (node.Join outer rows (side_matched (side_of side) n) e) s.plan p (append-nil (l.scans ++ r.scans)) (omega arith)
     (matched_width side n r.width l.width (plan_width c outer) (plan_width c rows) s.outer_width s.rows_width)
     (λ db h.
-        let a = s.answers db h in
-        inner_side same_value value_identity Null (side_of side) (rank_of e) n (domain_rows db before domain.rows) (plan_rows db c outer) (plan_rows db c rows)
-        (l.rows db) (r.rows db) a.domain a.left a.right)
+    let a = s.answers db h in
+    inner_side same_value value_identity Null (side_of side) (rank_of e) n (domain_rows db before domain.rows) (plan_rows db c outer) (plan_rows db c rows)
+    (l.rows db) (r.rows db) a.domain a.left a.right)
 
 pub outer_lowers : (before c new : List Node) (l r : TreeMeaning) (side : Side) (domain : DomainData) (outer rows nulls id : ℕ) (e : Expr)
     → LowersSides before c l r side domain outer rows → nulls ≡ r.width → IsPut c new (node.Outer outer rows (side_matched (side_of side) (domain_width domain.rows)) nulls e) id
@@ -105,10 +105,10 @@ outer_lowers before c new l r side domain outer rows nulls id e s w p =
     (node.Outer outer rows (side_matched (side_of side) n) nulls e) s.plan p (append-nil (l.scans ++ r.scans)) (omega arith)
     (let o = s.outer_width in omega (arith, o, w))
     (λ db h.
-        let a = s.answers db h in
-        subst (λ k. Answers same_value (domain_rows db before domain.rows) (node_rows db (made_from (node_rows db) [] c) (node.Outer outer rows (side_matched (side_of side) n) k e)) ((tree_step (f.Outer l r side e)).rows db)) (sym w)
-        (outer_side same_value value_identity Null (side_of side) (replicate r.width Null) (rank_of e) n (domain_rows db before domain.rows) (plan_rows db c outer) (plan_rows db c rows)
-        (l.rows db) (r.rows db) a.domain a.left a.right))
+    let a = s.answers db h in
+    subst (λ k. Answers same_value (domain_rows db before domain.rows) (node_rows db (made_from (node_rows db) [] c) (node.Outer outer rows (side_matched (side_of side) n) k e)) ((tree_step (f.Outer l r side e)).rows db)) (sym w)
+    (outer_side same_value value_identity Null (side_of side) (replicate r.width Null) (rank_of e) n (domain_rows db before domain.rows) (plan_rows db c outer) (plan_rows db c rows)
+    (l.rows db) (r.rows db) a.domain a.left a.right))
 
 pub mark_lowers : (before c new : List Node) (l r : TreeMeaning) (side : Side) (domain : DomainData) (outer rows id : ℕ) (e : Expr)
     → LowersSides before c l r side domain outer rows → IsPut c new (node.Mark outer rows (side_matched (side_of side) (domain_width domain.rows)) e) id
@@ -120,9 +120,9 @@ mark_lowers before c new l r side domain outer rows id e s p =
     (node.Mark outer rows (side_matched (side_of side) n) e) s.plan p (append-nil (l.scans ++ r.scans)) (omega arith)
     (let o = s.outer_width in omega (arith, o))
     (λ db h.
-        let a = s.answers db h in
-        attach_side same_value value_identity Null (side_of side) (mark_of written (rank_of e)) (mark_bag written (rank_of e)) n (domain_rows db before domain.rows)
-        (plan_rows db c outer) (plan_rows db c rows) (l.rows db) (r.rows db) a.domain a.left a.right)
+    let a = s.answers db h in
+    attach_side same_value value_identity Null (side_of side) (mark_of written (rank_of e)) (mark_bag written (rank_of e)) n (domain_rows db before domain.rows)
+    (plan_rows db c outer) (plan_rows db c rows) (l.rows db) (r.rows db) a.domain a.left a.right)
 
 pub single_lowers : (before c new : List Node) (l r : TreeMeaning) (side : Side) (domain : DomainData) (outer rows id column : ℕ)
     → LowersSides before c l r side domain outer rows → IsPut c new (node.Single outer rows (side_matched (side_of side) (domain_width domain.rows)) column) id
@@ -134,6 +134,6 @@ single_lowers before c new l r side domain outer rows id column s p =
     (node.Single outer rows (side_matched (side_of side) n) column) s.plan p (append-nil (l.scans ++ r.scans)) (omega arith)
     (let o = s.outer_width in omega (arith, o))
     (λ db h.
-        let a = s.answers db h in
-        attach_side same_value value_identity Null (side_of side) (λ x us. scalar_of written value_rank column us) (λ x. scalar_bag same_value value_identity written value_rank column) n
-        (domain_rows db before domain.rows) (plan_rows db c outer) (plan_rows db c rows) (l.rows db) (r.rows db) a.domain a.left a.right)
+    let a = s.answers db h in
+    attach_side same_value value_identity Null (side_of side) (λ x us. scalar_of written value_rank column us) (λ x. scalar_bag same_value value_identity written value_rank column) n
+    (domain_rows db before domain.rows) (plan_rows db c outer) (plan_rows db c rows) (l.rows db) (r.rows db) a.domain a.left a.right)

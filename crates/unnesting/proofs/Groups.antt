@@ -119,17 +119,17 @@ group_filled before old new m domain rows d width id aggregates e within l p =
     (append-nil (m.scans ++ []) ∙ append-nil m.scans) (omega arith)
     (let z = ap domain_width e in omega (arith, dw, wide, z))
     (λ db h.
-        let kept : plan_rows db mid d ≡ plan_rows db before d = kept_rows db d g within.0 in
-        let xs = plan_rows db old rows in
-        let here : plan_rows db mid (length old) ≡ groups (range_with_len 0 width) aggregates xs = put_rows db q in
-        let ds = plan_rows db before d in
-        let dom : IsDomain same_value width ds = subst (λ r. IsDomain same_value (domain_width r) (domain_rows db before r)) e h.is_domain in
-        let a : Answers same_value ds xs (m.rows db) = subst (λ r. Answers same_value (domain_rows db before r) xs (m.rows db)) e (l.answers db h) in
-        let M : List Value → List (Ranked Value) = (tree_step (f.Group m [] aggregates)).rows db in
-        subst (λ r. Answers same_value (domain_rows db before r) (fill same_value (A []) (plan_rows db mid d) (plan_rows db mid (length old))) M) (sym e)
-        (subst (λ z. Answers same_value ds (fill same_value (A []) z (plan_rows db mid (length old))) M) (sym kept)
-        (subst (λ z. Answers same_value ds (fill same_value (A []) ds z) M) (sym here)
-        (total_groups aggregates width ds xs (m.rows db) dom a))))
+    let kept : plan_rows db mid d ≡ plan_rows db before d = kept_rows db d g within.0 in
+    let xs = plan_rows db old rows in
+    let here : plan_rows db mid (length old) ≡ groups (range_with_len 0 width) aggregates xs = put_rows db q in
+    let ds = plan_rows db before d in
+    let dom : IsDomain same_value width ds = subst (λ r. IsDomain same_value (domain_width r) (domain_rows db before r)) e h.is_domain in
+    let a : Answers same_value ds xs (m.rows db) = subst (λ r. Answers same_value (domain_rows db before r) xs (m.rows db)) e (l.answers db h) in
+    let M : List Value → List (Ranked Value) = (tree_step (f.Group m [] aggregates)).rows db in
+    subst (λ r. Answers same_value (domain_rows db before r) (fill same_value (A []) (plan_rows db mid d) (plan_rows db mid (length old))) M) (sym e)
+    (subst (λ z. Answers same_value ds (fill same_value (A []) z (plan_rows db mid (length old))) M) (sym kept)
+    (subst (λ z. Answers same_value ds (fill same_value (A []) ds z) M) (sym here)
+    (total_groups aggregates width ds xs (m.rows db) dom a))))
 
 pub group_lowers : (before old new : List Node) (m : TreeMeaning) (domain : DomainData) (rows id : ℕ) (by : List ℕ) (aggregates : List Aggregate) → IsInPlan before domain.rows
     → Lowers before old m domain rows → IsGrouped old new rows by aggregates domain.rows id → Lowers before new (tree_step (f.Group m by aggregates)) domain id

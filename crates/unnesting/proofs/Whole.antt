@@ -52,7 +52,7 @@ one_holds : (db : Database) (before : List Node) (domain : DomainData) → domai
 one_holds db before domain e = record {
   is_domain = subst (λ r. IsDomain same_value (domain_width r) (domain_rows db before r)) (sym e) (unit_is same_value value_identity);
   noted = subst (λ r. KeepsNotes domain.unchanged (domain_rows db before r)) (sym e)
-  (Each-all (λ (n : Note). IsTrue (is_unchanged n.kind (slice_index_or [] n.column Null))) domain.unchanged (λ n. refl), tt);
+      (Each-all (λ (n : Note). IsTrue (is_unchanged n.kind (slice_index_or [] n.column Null))) domain.unchanged (λ n. refl), tt);
 }
 
 pub answered : (before after : List Node) (T : DepTree) (domain : DomainData) (id : ℕ) → Lowers before after (tree_meaning T) domain id → Answered after T domain id

@@ -8,3 +8,6 @@ mod put;
 
 pub use domain::{Domain, DomainRows, Note};
 pub use lowering::lower;
+
+#[cfg(test)]
+mod tests;

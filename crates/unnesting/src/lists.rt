@@ -36,11 +36,7 @@ pub(crate) fn with_first_columns(
 }
 
 // A select list of the first columns, and after them these expressions.
-pub(crate) fn select_list(
-    alloc: Global,
-    width: u32,
-    es: &[Expr],
-) -> Result<Items<Expr>, AllocError>
+pub(crate) fn select_list(alloc: Global, width: u32, es: &[Expr]) -> Result<Items<Expr>, AllocError>
     ensures { IfOk result (λ all. all ≡ map column_of (range_with_len 0 width) ++ es.now) }
 {
     let mut all = Items::new(alloc);

@@ -12,9 +12,7 @@ ghost use Rattle.unnesting.specs.Lowerings.{IsPut, IsScanned, IsFilled, IsGroupe
 
 use crate::domain::{Domain, DomainRows};
 use crate::lists::{first_columns, matched_columns, select_list, with_first_columns};
-use algebra::{
-    Aggregate, Builder, Node, NodeId, Side, copy_aggregates, copy_expr, values_of_none,
-};
+use algebra::{Aggregate, Builder, Node, NodeId, Side, copy_aggregates, copy_expr, values_of_none};
 use scalar_expr::Expr;
 use sqlite_items::{Boxed, Items};
 use std::alloc::{AllocError, Global};

@@ -67,8 +67,8 @@ fn expect_calls<R: Threads + Wait + Sync + Abort>(
 }
 
 // The script and the tables are opened once each and read to their ends, and nothing else is called: of a script and a
-// region with bytes three calls each, of seven empty tables two each. An input that is refused leaves those behind it
-// unopened.
+// region with bytes three calls each, of seven empty tables two each. An input that is refused leaves those after it
+// unopened, and a bad line that has ended is refused before the next bytes are read.
 #[test]
 fn opens_no_other_file(rt: HostRuntime) -> Result<(), Fail> {
     let alloc = rt.alloc();
@@ -80,6 +80,7 @@ fn opens_no_other_file(rt: HostRuntime) -> Result<(), Fail> {
         (session, SCRIPT, "0", 6),
         (check, SCRIPT, REGIONS, 17),
         (check, SCRIPT, "0", 3),
+        (check, SCRIPT, "0\n", 2),
     ] {
         let files = folder_of(alloc, script, &[("d/region.tbl", regions)], &[])?;
         expect_calls(&rt, alloc, words, files, calls)?;

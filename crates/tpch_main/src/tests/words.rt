@@ -54,7 +54,7 @@ fn reads_commands(rt: HostRuntime) -> Result<(), Fail> {
 }
 
 #[test]
-fn reads_words_behind_dashes(rt: HostRuntime) -> Result<(), Fail> {
+fn reads_words_after_dashes(rt: HostRuntime) -> Result<(), Fail> {
     for (words, missing) in [
         (["session", "-", "s"].as_slice(), "-/region.tbl"),
         (["session", "--", "d", "s"].as_slice(), "d/region.tbl"),

@@ -1,4 +1,4 @@
-//! The program's subcommands as clap is told of them, a function for each.
+//! The program's subcommands as clap is given them, a function for each.
 ghost use Rattle.std.specs.Prelude.{◌≡◌, IfOk, false};
 ghost use Rattle.clap.specs.Words.{app_of, rule_of};
 ghost use Rattle.clap.specs.declared.builder.Command.TheViews.{out-Command as fields_of};

@@ -1,5 +1,9 @@
+use Rattle.sql_lexer.proofs.Answered.{answered}
 use Rattle.sql_lexer.proofs.OneAnswer.{one_tokens, one_refusal, never_both}
 use Rattle.sql_lexer.proofs.cutting.one_answer.Goals as goal
+
+pub returns-clause-some : goal.returns-clause-some
+returns-clause-some c = answered
 
 pub returns-clause-tokens : goal.returns-clause-tokens
 returns-clause-tokens c = one_tokens

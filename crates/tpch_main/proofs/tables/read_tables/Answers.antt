@@ -5,7 +5,7 @@ use Rattle.sql_value.specs.declared.value.Value.{Value}
 use Rattle.tpch_main.proofs.Lists.{behind, count_pushed, items_pushed, kinds_more, lists_more}
 use Rattle.tpch_main.specs.Inputs.{lists_in}
 use Rattle.tpch_main.specs.Lists.{AreOf}
-use Rattle.tpch_main.specs.Views.{Told}
+use Rattle.tpch_main.specs.Views.{IfKnown}
 use Rattle.tpch_main.proofs.tables.read_tables.Goals as goal
 
 pub loop-name-preserved : goal.loop-name-preserved
@@ -20,7 +20,7 @@ loop-name-preserved g c =
     let told = lists_more held (g.F.Files.held c.loop-name.files) c.args.folder.now names i _ before rows invariant.3 c.loop-name-test.true invariant.0 c.in_ok-rows.ensures.input in
     let many = length-map c.loop-name.tables.items vec_items ∙ invariant.1 in
     let kinds = kinds_more names before rows i _ many c.loop-name-test.true invariant.2 c.in_ok-rows.ensures.kinds in (
-      subst (λ (lists : List (List (List Value))). Told held (λ folder. lists_in c.args.folder.now names folder ≡ behind lists (lists_in c.args.folder.now (drop (i + 1) names) folder))) (sym pushed) told,
+      subst (λ (lists : List (List (List Value))). IfKnown held (λ folder. lists_in c.args.folder.now names folder ≡ behind lists (lists_in c.args.folder.now (drop (i + 1) names) folder))) (sym pushed) told,
       count_pushed c.loop-name.tables.items c.push.new.self.items c.in_ok-rows.rows i c.in_ok-push.ensures.items invariant.1,
       subst (AreOf names) (sym pushed) kinds,
       c.read_table.ensures.files.held ∙ invariant.3,

@@ -1,7 +1,6 @@
-use Rattle.std.proofs.Common.{◌≡◌, arith, map, set, length-set, ◌∙◌, subst, sym}
+use Rattle.std.proofs.Common.{map, set, length-set, ◌∙◌, subst, sym}
 use Rattle.std.specs.Vec.{vec_items}
 use Rattle.table_state.specs.Lists.{IsOfKinds, state_of}
-use Rattle.table_state.specs.Refresh.{with_sales}
 use Rattle.table_state.proofs.Sales.{sales_of_kinds, sales_replaced}
 use Rattle.table_state.proofs.state.State.replace_sales.Goals as goal
 use mathlib.Core.Path.{refl}

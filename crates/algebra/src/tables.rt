@@ -1,0 +1,34 @@
+//! Tables as a run reads them.
+ghost use Rattle.std.specs.Prelude.{◌≡◌, ◌+◌, ◌≤◌, List, length, IfOk, OnOk};
+ghost use Rattle.columns.specs.Lists.{one_list};
+ghost use Rattle.sql_value.specs.declared.value.Value.{Value};
+ghost use Rattle.tpch_schema.specs.Kinds.{RowsAreOf};
+ghost use Rattle.tpch_schema.specs.declared.table.TableName.{TableName};
+
+use crate::piece::Piece;
+use crate::steps::Steps;
+use std::alloc::{AllocError, Global};
+use std::sync::ledger::Ledger;
+use tpch_schema::TableName;
+
+/// Tables whose reads are counted: a step for each row that a scan hands out.
+pub trait Tables {
+    ghost rows: { Self → TableName → List (List Value) };
+
+    ghost of_kinds: { (tables : Self) (table : TableName) → RowsAreOf table (rows tables table) };
+
+    /// How many rows the table has.
+    fn count(&self, table: TableName) -> u64
+        ensures { result ≡ length (rows self.now table) };
+
+    /// The table's rows in pieces, one behind the other. Out of memory may have taken fewer steps.
+    fn scan<L: Ledger>(
+        &self,
+        alloc: Global,
+        table: TableName,
+        steps: &mut Steps<L>,
+    ) -> Result<Vec<Piece>, AllocError>
+        ensures rows { IfOk result (λ pieces. one_list pieces.items ≡ rows self.now table) }
+        ensures steps { OnOk result (steps.new ≡ steps.old + length (rows self.now table)) }
+        ensures most { steps.new ≤ steps.old + length (rows self.now table) };
+}

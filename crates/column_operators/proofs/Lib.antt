@@ -1,0 +1,3 @@
+pub mod CodedTexts
+pub mod Words64
+pub mod Zips

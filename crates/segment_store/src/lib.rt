@@ -1,0 +1,9 @@
+//! Versions of a base under a list of refreshes that are tried in order.
+#![tactic(auto)]
+
+mod directory;
+
+pub use directory::Directory;
+
+#[cfg(test)]
+mod tests;

@@ -1,0 +1,15 @@
+use Rattle.std.proofs.Common.{◌≡◌}
+use Rattle.grammar_laws.specs.Readings.{links, one}
+use Rattle.grammar_laws.proofs.Loop.{with_front}
+use Rattle.sql_lexer.specs.Kinds.{is}
+use Rattle.sql_lexer.specs.declared.kind.Kind.TheVariants as k
+use Rattle.sql_parser.specs.Readings as readings
+use Rattle.sql_parser.specs.Readings.{part_at}
+use Rattle.sql_parser.specs.Values as values
+use Rattle.sql_parser.proofs.level.Level.disjuncts.Given as goal
+
+abbrev pub invariant-more : goal.invariant-more
+invariant-more g l = with_front l.found (links (is k.Or) (one (is k.Or)) values.second (readings.read_conjunction 1023 (part_at 1023 l.self.room)) l.width l.parser) ≡ links (is k.Or) (one (is k.Or)) values.second (readings.read_conjunction 1023 (part_at 1023 l.self.room)) 1023 l.fn.parser
+
+abbrev pub decreases-more : goal.decreases-more
+decreases-more g l = l.width

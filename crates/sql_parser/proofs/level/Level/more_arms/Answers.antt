@@ -1,0 +1,28 @@
+use Rattle.std.proofs.Common.{◌∙◌, sym, subst, List, arith, refl}
+use Rattle.std.proofs.lemmas.Result.{err_from_is_err_and}
+use Rattle.grammar_laws.specs.Readings.{nothing, Reads, crowded, is_err}
+use Rattle.grammar_laws.proofs.Loop.{loop_ends, loop_goes_on, full_reads, fails_reads}
+use Rattle.sql_lexer.specs.Kinds.{is}
+use Rattle.sql_lexer.specs.declared.kind.Kind.TheVariants as k
+use Rattle.sql_lexer.specs.declared.token.Token.{Token}
+use Rattle.sql_ast.specs.declared.tree.Arm.{Arm}
+use Rattle.sql_parser.specs.Readings as readings
+use Rattle.sql_parser.specs.Readings.{part_at}
+use Rattle.sql_parser.specs.Values as values
+use Rattle.sql_parser.proofs.level.Level.more_arms.Goals as goal
+
+pub returns-then-width-eq0 : goal.returns-then-width-eq0
+returns-then-width-eq0 g c =
+    let crowds : List Token → Type 0 = λ x. Reads (crowded x ((readings.read_arm 1023 (part_at 1023 c.args.self.now.room)) c.more.parser)) (is_err {A = Arm} c.one_too_many.result) c.one_too_many.new.self in
+    full_reads (is k.When) (nothing (tt {0})) values.second (readings.read_arm 1023 (part_at 1023 c.args.self.now.room)) _ c.more.found c.more.width c.more.parser c.more.invariant (sym c.starts.ensures ∙ c.more-test.true) (omega arith) (tt {0}) c.more.parser refl _ _ (subst crowds c.rest-here.ensures (c.one_too_many.ensures _ c.arm-element.ensures))
+
+pub returns : goal.returns
+returns g c = loop_ends (is k.When) (nothing (tt {0})) values.second (readings.read_arm 1023 (part_at 1023 c.args.self.now.room)) _ c.more.found c.more.width c.more.parser c.more.invariant (sym c.starts.ensures ∙ c.more-test.false)
+
+pub more-preserved : goal.more-preserved
+more-preserved g c = rw c.in_ok-push-2.ensures.ok (loop_goes_on (is k.When) (nothing (tt {0})) values.second (readings.read_arm 1023 (part_at 1023 c.args.self.now.room)) _ c.more.found c.more.width c.more.parser c.more.invariant (sym c.starts.ensures ∙ c.more-test.true) (omega arith) (tt {0}) c.more.parser refl _ _ c.in_ok-element.ensures)
+
+pub returns-in_err-element : goal.returns-in_err-element
+returns-in_err-element g c =
+    let p = err_from_is_err_and c.from_residual-in_err-element.result c.from_residual-in_err-element.ensures.1 in
+    rw (p.1, p.2) (fails_reads (is k.When) (nothing (tt {0})) values.second (readings.read_arm 1023 (part_at 1023 c.args.self.now.room)) _ c.more.found c.more.width c.more.parser c.more.invariant (sym c.starts.ensures ∙ c.more-test.true) (omega arith) (tt {0}) c.more.parser refl _ _ c.in_err-element.ensures)

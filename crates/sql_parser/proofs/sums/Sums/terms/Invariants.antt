@@ -1,0 +1,16 @@
+use Rattle.std.proofs.Common.{◌≡◌, ◌∷◌, []}
+use Rattle.grammar_laws.specs.Kinds.{among}
+use Rattle.grammar_laws.specs.Readings.{links}
+use Rattle.grammar_laws.proofs.Loop.{with_front}
+use Rattle.sql_lexer.specs.declared.kind.Kind.TheVariants as k
+use Rattle.sql_parser.specs.Kinds.{kinds}
+use Rattle.sql_parser.specs.Readings as readings
+use Rattle.sql_parser.specs.Readings.{unary_at}
+use Rattle.sql_parser.specs.Values as values
+use Rattle.sql_parser.proofs.sums.Sums.terms.Given as goal
+
+abbrev pub invariant-more : goal.invariant-more
+invariant-more g l = with_front l.found (links (among kinds (k.Plus ∷ k.Minus ∷ [])) readings.read_add values.term (readings.read_product 1023 (unary_at 1023 l.self.room)) l.width l.parser) ≡ links (among kinds (k.Plus ∷ k.Minus ∷ [])) readings.read_add values.term (readings.read_product 1023 (unary_at 1023 l.self.room)) 1023 l.fn.parser
+
+abbrev pub decreases-more : goal.decreases-more
+decreases-more g l = l.width

@@ -1,0 +1,114 @@
+//! Predicates: a sum, and what is asked of it.
+ghost use Rattle.grammar_laws.specs.Readings.{Reads};
+ghost use Rattle.sql_parser.specs.Nests.{At, Below};
+ghost use Rattle.sql_parser.specs.Readings as readings;
+ghost use Rattle.sql_parser.specs.Readings.{inner_part, inner_query, part_at, query_at, unary_at};
+
+use crate::nested::Nested;
+use crate::parser::Parser;
+use crate::parts::{opposite, tested};
+use crate::sums::Sums;
+use crate::test::Test;
+use grammar_laws::SyntaxError;
+use sql_ast::{Block, Expr};
+use sql_lexer::Kind;
+use std::alloc::Global;
+
+/// What holds unary parts of one level, and parts of levels below. `room` is how many levels may still be opened.
+#[derive(Clone, Copy)]
+pub(crate) struct Predicates<U, P, Q> {
+    pub(crate) alloc: Global,
+    pub(crate) room: usize,
+    pub(crate) unary: U,
+    pub(crate) part: P,
+    pub(crate) query: Q,
+}
+
+impl<
+    U: Copy + Fn(Global, &mut Parser<'_>, usize) -> Result<Expr, SyntaxError>,
+    P: Copy + Fn(Global, &mut Parser<'_>, usize) -> Result<Expr, SyntaxError>,
+    Q: Copy + Fn(Global, &mut Parser<'_>, usize) -> Result<Block, SyntaxError>,
+> Predicates<U, P, Q> {
+    /// What a NOT may stand before.
+    #[tactic(auto, unfolding(crate::specs::Readings::read_deny_test))]
+    fn deny_test(&self, parser: &mut Parser<'_>) -> Result<Test, SyntaxError>
+        requires unary { At (unary_at 1023) self.now.room (U.pre self.now.unary) (U.post self.now.unary) }
+        requires part { Below (part_at 1023) self.now.room (P.pre self.now.part) (P.post self.now.part) }
+        requires query { Below (query_at 1023) self.now.room (Q.pre self.now.query) (Q.post self.now.query) }
+        ensures { Reads (readings.read_deny_test 1023 self.now.room (unary_at 1023 self.now.room) (inner_part 1023 self.now.room) (inner_query 1023 self.now.room) parser.old) result parser.new }
+    {
+        if parser.starts(Kind::Between) {
+            let sums = Sums {
+                alloc: self.alloc,
+                room: self.room,
+                unary: self.unary,
+            };
+            return sums.between(parser);
+        }
+        if parser.starts(Kind::Like) {
+            return parser.like(self.alloc);
+        }
+        let nested = Nested {
+            alloc: self.alloc,
+            room: self.room,
+            part: self.part,
+            query: self.query,
+        };
+        nested.in_test(parser)
+    }
+
+    /// What is asked of a sum.
+    #[tactic(auto, unfolding(crate::specs::Readings::read_test))]
+    fn test(&self, parser: &mut Parser<'_>) -> Result<Test, SyntaxError>
+        requires unary { At (unary_at 1023) self.now.room (U.pre self.now.unary) (U.post self.now.unary) }
+        requires part { Below (part_at 1023) self.now.room (P.pre self.now.part) (P.post self.now.part) }
+        requires query { Below (query_at 1023) self.now.room (Q.pre self.now.query) (Q.post self.now.query) }
+        ensures { Reads (readings.read_test 1023 self.now.room (unary_at 1023 self.now.room) (inner_part 1023 self.now.room) (inner_query 1023 self.now.room) parser.old) result parser.new }
+    {
+        if parser.starts_any(&[
+            Kind::Equal,
+            Kind::NotEqual,
+            Kind::Less,
+            Kind::LessOrEqual,
+            Kind::Greater,
+            Kind::GreaterOrEqual,
+        ]) {
+            let sums = Sums {
+                alloc: self.alloc,
+                room: self.room,
+                unary: self.unary,
+            };
+            return sums.compare(parser);
+        }
+        if parser.starts(Kind::Is) {
+            return parser.null();
+        }
+        if parser.starts(Kind::Not) {
+            parser.one(Kind::Not)?;
+            let test = self.deny_test(parser)?;
+            return Ok(opposite(test));
+        }
+        if parser.starts_any(&[Kind::Between, Kind::Like, Kind::In]) {
+            return self.deny_test(parser);
+        }
+        Ok(Test::Holds)
+    }
+
+    /// A sum, and what is asked of it.
+    #[tactic(auto, unfolding(crate::specs::Readings::read_predicate))]
+    pub(crate) fn predicate(&self, parser: &mut Parser<'_>) -> Result<Expr, SyntaxError>
+        requires unary { At (unary_at 1023) self.now.room (U.pre self.now.unary) (U.post self.now.unary) }
+        requires part { Below (part_at 1023) self.now.room (P.pre self.now.part) (P.post self.now.part) }
+        requires query { Below (query_at 1023) self.now.room (Q.pre self.now.query) (Q.post self.now.query) }
+        ensures { Reads (readings.read_predicate 1023 self.now.room (unary_at 1023 self.now.room) (inner_part 1023 self.now.room) (inner_query 1023 self.now.room) parser.old) result parser.new }
+    {
+        let sums = Sums {
+            alloc: self.alloc,
+            room: self.room,
+            unary: self.unary,
+        };
+        let value = sums.sum(parser)?;
+        let test = self.test(parser)?;
+        Ok(tested(self.alloc, value, test)?)
+    }
+}
