@@ -28,7 +28,7 @@ abbrev pub start_or : ℕ → Option Token → ℕ
 start_or end None = end
 start_or end (Some token) = token.start
 
--- the byte of the token of this number, or the script's length behind the last one
+-- the byte of the token of this number, or the script's length after the last one
 abbrev pub byte_at : ℕ → List Token → ℕ → ℕ
 byte_at end tokens n = start_or end (slice_get tokens n)
 

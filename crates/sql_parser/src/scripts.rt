@@ -48,7 +48,7 @@ pub fn parse_script(alloc: Global, tokens: &[Token]) -> Result<Items<Statement>,
     }
 }
 
-/// The byte of the token of this number, or the script's length behind the last one.
+/// The byte of the token of this number, or the script's length after the last one.
 fn byte_of(tokens: &[Token], n: usize, end: usize) -> usize
     ensures { result ≡ byte_at end tokens.now n }
 {

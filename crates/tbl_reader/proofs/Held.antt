@@ -1,10 +1,10 @@
 -- Which numbers a column can hold.
-use Rattle.std.proofs.Common.{◌≡◌, ℕ, ◌≤◌, ◌^◌, ◌&&◌, Bool, false, ℤ, unsigned_abs, refl}
+use Rattle.std.proofs.Common.{◌≡◌, ℕ, ◌≤◌, ◌^◌, false, ℤ, unsigned_abs, refl}
 use Rattle.std.proofs.lemmas.Bool.{le-ltb, and_right}
 use Rattle.sql_value.specs.declared.value.Value.TheVariants.{Number}
 use Rattle.tpch_schema.specs.declared.column.ColumnKind.{ColumnKind}
 use Rattle.tpch_schema.specs.declared.column.ColumnKind.TheVariants.{Key, Whole, Decimal, Date, Text}
-use Rattle.tpch_schema.specs.Kinds.{is_of_kind, is_narrow}
+use Rattle.tpch_schema.specs.Kinds.{is_of_kind}
 
 -- a number of more than 63 bits is held by no column
 pub wide_is_not_held : (kind : ColumnKind) (scale : ℕ) (c : ℤ) → 2 ^ 63 ≤ unsigned_abs c → is_of_kind kind (Number scale c) ≡ false

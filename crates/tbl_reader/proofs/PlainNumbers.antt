@@ -1,26 +1,23 @@
 -- What plainly spelled numbers are.
-use Rattle.std.proofs.Common.{◌≡◌, ℕ, zero, suc, ◌+◌, ◌-◌, ◌*◌, ◌^◌, ◌<◌, ◌≤◌, Bool, true, false, cond, ◌&&◌, ◌==◌, ℤ, pos, int_lt, List, [], ◌∷◌, ◌++◌, length, take, drop, get_or, position, refl, sym, ◌∙◌, ap, arith, Option, Some, None, Result, Ok, Err, w64}
+use Rattle.std.proofs.Common.{◌≡◌, ℕ, zero, suc, ◌+◌, ◌-◌, ◌*◌, ◌^◌, ◌<◌, ◌≤◌, Bool, true, false, cond, ◌==◌, ℤ, pos, List, [], ◌∷◌, ◌++◌, length, take, drop, get_or, position, refl, sym, ◌∙◌, ap, arith, Option, Some, None, Result, Ok, Err, w64}
 use Rattle.std.specs.Prelude.{nat_lt, nat_le}
 use Rattle.std.specs.Char.{is_ascii_digit}
 use Rattle.std.specs.List.{position_or_len}
 use Rattle.std.specs.Str.{all_ascii_digits}
-use Rattle.std.specs.Str.Parse.{digits_value, digits_value_after}
-use Rattle.std.proofs.lemmas.Bool.{and_parts, and_from, lt-ltb, le-ltb, le-leb, eqb-true}
+use Rattle.std.specs.Str.Parse.{digits_value_after}
+use Rattle.std.proofs.lemmas.Bool.{and_parts, and_from, lt-ltb, le-ltb, le-leb}
 use Rattle.std.proofs.lemmas.Bool.Decides.{nat_tests}
 use Rattle.std.proofs.lemmas.Int.{to_z_pos}
 use mir.Val.{to_z}
 use Rattle.std.proofs.lemmas.List.{append-nil, length-append, length-drop}
-use Rattle.std.proofs.Math.Seq.{drop-cons}
 use Rattle.refusals.specs.declared.line.LineFault.{LineFault}
 use Rattle.refusals.specs.declared.line.LineFault.TheVariants.{NumberTooWide}
 use Rattle.sql_value.specs.declared.value.Value.{Value}
 use Rattle.sql_value.specs.declared.value.Value.TheVariants as value
-use Rattle.fixed_decimal.specs.Decimal.{fits}
-use Rattle.fixed_decimal.specs.Written.{is_digits, coefficient_of, read_parts, read_size, with_sign, decimal_read}
+use Rattle.fixed_decimal.specs.Written.{is_digits, coefficient_of, read_size, decimal_read}
 use Rattle.fixed_decimal.proofs.Digits.{digits_more, value_more, value_join}
 use Rattle.tpch_schema.specs.declared.column.ColumnKind.TheVariants.{Key, Whole, Decimal}
-use Rattle.tpch_schema.specs.Kinds.{is_of_kind, is_narrow}
-use Rattle.tbl_reader.specs.Field.{kind_field, number_field}
+use Rattle.tbl_reader.specs.Field.{kind_field}
 use Rattle.tbl_reader.specs.Natural.{IsNatural}
 
 pub ruleset steps = (digits_more, value_more)

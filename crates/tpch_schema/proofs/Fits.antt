@@ -1,12 +1,11 @@
 -- A row fits a table's lines where it is of the table's kinds.
-use Rattle.std.proofs.Common.{◌≡◌, ℕ, Bool, true, ◌&&◌, List, [], ◌∷◌, map, refl, ap, ◌∙◌}
+use Rattle.std.proofs.Common.{◌≡◌, ◌&&◌, List, [], ◌∷◌, map, refl, ap, ◌∙◌}
 use Rattle.std.specs.Cmp.Lexicographic.{pointwise}
-use Rattle.std.specs.List.{All}
 use Rattle.sql_value.specs.declared.value.Value.{Value}
 use Rattle.tpch_schema.specs.declared.column.ColumnKind.{ColumnKind}
 use Rattle.tpch_schema.specs.declared.table.TableName.{TableName}
 use Rattle.tpch_schema.specs.Kinds.{is_of_kind, are_of_kinds, RowsAreOf}
-use Rattle.tpch_schema.specs.LineForm.{LineColumn, LineForm, never_null, columns_of, can_hold, fits, RowsFit}
+use Rattle.tpch_schema.specs.LineForm.{LineColumn, LineForm, never_null, columns_of, can_hold, RowsFit}
 use Rattle.tpch_schema.specs.Tables.{kinds_of}
 
 pub held_without_nulls : (kinds : List ColumnKind) (row : List Value) → pointwise can_hold (map never_null kinds) row ≡ are_of_kinds kinds row

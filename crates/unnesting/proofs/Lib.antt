@@ -8,3 +8,4 @@ pub mod Sides
 pub mod Steps
 pub mod Whole
 pub mod Wide
+pub mod WorkedProofs

@@ -1,2 +1,3 @@
 pub mod Domains
 pub mod Lowerings
+pub mod WorkedRows

@@ -5,9 +5,11 @@ mod domain;
 mod lists;
 mod lowering;
 mod put;
+mod worked;
 
 pub use domain::{Domain, DomainRows, Note};
 pub use lowering::lower;
+pub use worked::worked_rows;
 
 #[cfg(test)]
 mod tests;

@@ -1,4 +1,4 @@
-use Rattle.std.proofs.Common.{◌≡◌, ◌-◌, ◌∙◌, ℕ, List, Result, sym, subst, Ok, Err, ap, length, arith}
+use Rattle.std.proofs.Common.{◌≡◌, ◌-◌, ◌∙◌, ℕ, List, Result, sym, subst, Err, ap, length, arith}
 use Rattle.std.proofs.lemmas.List.{length-append}
 use Rattle.grammar_laws.specs.declared.SyntaxFault.{SyntaxFault}
 use Rattle.grammar_laws.specs.Scripts.{IsFirst, statements}

@@ -11,7 +11,7 @@ loop-kind-preserved c =
     let made = rw ok at c.push.ensures.items in
     let said = rw c.cut_at_bar.ensures.field at c.in-Ok.ensures.value in (
       c.loop-kind.invariant.0
-      ∙ rw c.cut_at_bar.ensures.rest
-      (fields_more c.args.kinds.now c.loop-kind.kind-index Key c.loop-kind.rest.now c.loop-kind.fields.items c.push.new.self.items c.in-Ok.field c.loop-kind-test.true said made),
+          ∙ rw c.cut_at_bar.ensures.rest
+          (fields_more c.args.kinds.now c.loop-kind.kind-index Key c.loop-kind.rest.now c.loop-kind.fields.items c.push.new.self.items c.in-Ok.field c.loop-kind-test.true said made),
       rw made (All-push IsPrintableField c.loop-kind.fields.items c.in-Ok.field c.loop-kind.invariant.1 c.in-Ok.ensures.printable),
     )

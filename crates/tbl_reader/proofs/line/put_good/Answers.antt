@@ -2,7 +2,7 @@ use Rattle.std.proofs.Common.{◌≡◌, ◌∙◌, sym, true, is_ok, rules}
 use Rattle.std.proofs.lemmas.List.Elements.{All-push}
 use Rattle.columns.specs.Fields.{IsPrintableField}
 use Rattle.tpch_schema.specs.declared.column.ColumnKind.TheVariants.{Key}
-use Rattle.tbl_reader.proofs.BarCuts.{cut_start, cut_more, good_row}
+use Rattle.tbl_reader.proofs.BarCuts.{cut_more}
 use Rattle.tbl_reader.proofs.Cuts.{fields_more, ok_since}
 use Rattle.tbl_reader.proofs.line.put_good.Goals as goal
 
@@ -12,8 +12,8 @@ loop-kind-preserved c =
     let made = rw ok at c.push.ensures.items in
     let said = rw c.cut_at_bar-found.ensures.field at c.in-Ok.ensures.value in (
       c.loop-kind.invariant.0
-      ∙ rw c.cut_at_bar-found.ensures.rest
-      (fields_more c.args.kinds.now c.loop-kind.kind-index Key c.loop-kind.rest.now c.loop-kind.fields.items c.push.new.self.items c.in-Ok.field c.loop-kind-test.true said made),
+          ∙ rw c.cut_at_bar-found.ensures.rest
+          (fields_more c.args.kinds.now c.loop-kind.kind-index Key c.loop-kind.rest.now c.loop-kind.fields.items c.push.new.self.items c.in-Ok.field c.loop-kind-test.true said made),
       rw made (All-push IsPrintableField c.loop-kind.fields.items c.in-Ok.field c.loop-kind.invariant.1 c.in-Ok.ensures.printable),
       cut_more c.args.line.now c.loop-kind.rest.now _ c.loop-kind.bars _ c.loop-kind.kind-index c.cut_at_bar-found.result.2 c.loop-kind.invariant.2
           c.cut_at_bar-found.ensures.found

@@ -1,0 +1,20 @@
+-- The worked rows, computed.
+use Rattle.conditions.specs.Ranks.{rank_of, says}
+use Rattle.scalar_expr.specs.Meaning.{values, truths}
+use Rattle.scalar_expr.proofs.Opened.{values_opened, truths_opened}
+use Rattle.algebra.specs.Aggregates.{aggregates_of}
+use Rattle.algebra.specs.Trees.{right_row, listed, mark_under, scalar_at, keys_under, aggregates_under}
+use Rattle.algebra.specs.Plans.{reads_of}
+use Rattle.algebra.proofs.Opened.{rows_opened, scans_opened, width_Project}
+use Rattle.unnesting.specs.WorkedRows.{WorkedRows}
+
+pub worked_rows : WorkedRows
+unfolding rank_of says values truths right_row listed mark_under scalar_at keys_under aggregates_under aggregates_of reads_of
+worked_rows = record {
+  customers = simp (rows_opened, values_opened, truths_opened);
+  customers_read = simp scans_opened;
+  keys = simp (rows_opened, width_Project, values_opened, truths_opened);
+  orders = simp (rows_opened, values_opened, truths_opened);
+  regions = simp (rows_opened, values_opened, truths_opened);
+  regions_read = simp scans_opened;
+}
