@@ -3,14 +3,14 @@ use Rattle.std.proofs.Common.{◌≡◌, ℕ, List, [], ◌∷◌, Bool, true, f
 use Rattle.std.specs.Prelude.{slice_index_or, if◌then◌else◌}
 use Rattle.std.specs.declared.cmp.Ordering.{Ordering}
 use Rattle.std.specs.declared.cmp.Ordering.TheVariants.{Less, Equal, Greater}
-use Rattle.std.specs.Ordering.{is_le, is_lt, is_gt, is_eq, ordering_reverse, ordering_then, on, flip_args, then_cmp}
+use Rattle.std.specs.Ordering.{is_le, is_lt, is_gt, is_eq, ordering_reverse, ordering_then}
 use Rattle.std.specs.Cmp.{IsTotalOrder, IsStrictWeakOrder, on_total, back_total, then_total, upto}
 use Rattle.std.proofs.lemmas.Bool.{true≢false}
 use Rattle.std.proofs.lemmas.List.Sorted.{ranks_by}
 use Rattle.row_laws.specs.Aggregates.{IsOrder}
 use Rattle.sql_value.specs.declared.value.Value.{Value}
 use Rattle.sql_value.specs.declared.value.Value.TheVariants.{Null}
-use Rattle.sql_value.specs.Value.{value_cmp, row_cmp}
+use Rattle.sql_value.specs.Value.{value_cmp}
 use Rattle.sql_value.proofs.Orders.{value_total, row_total, row_ties}
 use Rattle.order_limit.specs.declared.key.OrderKey.{OrderKey}
 use Rattle.order_limit.specs.Answers.{key_order, answer_order, comes_before}

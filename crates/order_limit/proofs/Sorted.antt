@@ -1,10 +1,10 @@
 -- A sorted list with the rows of another is that one in order.
-use Rattle.std.proofs.Common.{◌≡◌, ℕ, suc, ◌+◌, ◌<◌, ◌≤◌, List, [], ◌∷◌, Bool, true, false, refl, sym, ◌∙◌, ap, subst, arith, inl, inr, length, slice_index_or, if◌then◌else◌}
+use Rattle.std.proofs.Common.{◌≡◌, ℕ, suc, ◌+◌, ◌<◌, List, [], ◌∷◌, Bool, true, refl, ◌∙◌, ap, subst, arith, inl, inr, length, slice_index_or}
 use Rattle.std.specs.Ordering.{is_lt}
-use Rattle.std.specs.List.Sorted.{IsSortedBy, IsPermutation}
+use Rattle.std.specs.List.Sorted.{IsSortedBy}
 use Rattle.std.proofs.lemmas.Bool.{cases_Bool}
 use Rattle.row_laws.specs.Bags.{weigh, SameBag, Each}
-use Rattle.row_laws.specs.Aggregates.{IsOrder, InOrder, run}
+use Rattle.row_laws.specs.Aggregates.{IsOrder, InOrder}
 use Rattle.row_laws.proofs.Bags.{SameBag-refl, SameBag-sym, SameBag-trans}
 use Rattle.row_laws.proofs.Lists.{Each-weaker}
 use Rattle.row_laws.proofs.Orders.{one_list}

@@ -15,6 +15,10 @@ use Rattle.order_limit.specs.declared.key.OrderKey.{OrderKey}
 abbrev pub row_rank : Ranked Value → ℕ
 row_rank x = min x.standing (bottom true_rank value_rank x.values)
 
+-- the values of a row
+abbrev pub row_values : Ranked Value → List Value
+row_values x = x.values
+
 -- the rank of the least fault of all rows, True's where there is none
 abbrev pub least_rank : List (Ranked Value) → ℕ
 least_rank xs = bottom true_rank row_rank xs
@@ -52,4 +56,4 @@ limited (Some n) xs = take n xs
 abbrev pub finished : List OrderKey → Option ℕ → List (Ranked Value) → Result (List (List Value)) Value
 finished keys limit xs =
     if nat_lt (least_rank xs) true_rank then Err (written (least_rank xs))
-    else Ok (limited limit (in_order (comes_before keys) (map (λ (x : Ranked Value). x.values) xs)))
+    else Ok (limited limit (in_order (comes_before keys) (map row_values xs)))

@@ -1,4 +1,3 @@
-use Rattle.std.proofs.Common.{arith}
 use Rattle.sql_value.specs.Truth.{standing_rank}
 use Rattle.order_limit.proofs.Faults.{fault_more, fault_end}
 use Rattle.order_limit.proofs.fault.least_of_row.Goals as goal

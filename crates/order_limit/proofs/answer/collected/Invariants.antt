@@ -1,0 +1,8 @@
+use Rattle.std.proofs.Common.{[], take}
+use Rattle.sql_value.specs.Truth.{standing_rank}
+use Rattle.columns.specs.Bags.{bag_rows}
+use Rattle.order_limit.proofs.Bags.{Put}
+use Rattle.order_limit.proofs.answer.collected.Given as goal
+
+abbrev pub invariant-loop-batch : goal.invariant-loop-batch
+invariant-loop-batch l = Put [] 5 (bag_rows (take l.batch-index l.batches)) l.rows.items (standing_rank l.least)
