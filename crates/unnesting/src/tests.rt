@@ -77,7 +77,7 @@ fn correlated_count(rt: HostRuntime) -> Result<(), Fail> {
     let count = tree(alloc, DepTree::Group(orders, Items::new(alloc), counted))?;
     let side = first_column(alloc)?;
     let query = DepTree::Single(customers, count, side, 0);
-    assert!(rt; kinds(alloc, &query)?.as_slice() == b"sdsjwgf1");
+    assert!(rt; kinds(alloc, &query)?.as_slice() == b"sdsjwgf1".as_slice());
     Ok(())
 }
 
@@ -92,7 +92,7 @@ fn correlated_exists(rt: HostRuntime) -> Result<(), Fail> {
     let marked = tree(alloc, DepTree::Mark(regions, nations, side, always))?;
     let mark = expr(alloc, Expr::Column(3))?;
     let query = DepTree::Select(marked, expr(alloc, Expr::IsMarked(mark))?);
-    assert!(rt; kinds(alloc, &query)?.as_slice() == b"sdsjwmw");
+    assert!(rt; kinds(alloc, &query)?.as_slice() == b"sdsjwmw".as_slice());
     Ok(())
 }
 
@@ -110,6 +110,6 @@ fn closed_and_shared_sides(rt: HostRuntime) -> Result<(), Fail> {
     let list = Items::new(alloc);
     let listed = tree(alloc, DepTree::Project(joined, list))?;
     let query = DepTree::Distinct(listed);
-    assert!(rt; kinds(alloc, &query)?.as_slice() == b"ssosjpu");
+    assert!(rt; kinds(alloc, &query)?.as_slice() == b"ssosjpu".as_slice());
     Ok(())
 }
