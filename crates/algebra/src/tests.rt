@@ -24,18 +24,6 @@ fn aggregates_of_no_rows(rt: HostRuntime) -> Result<(), Fail> {
 }
 
 #[test]
-fn plan_of_two_nodes(rt: HostRuntime) -> Result<(), Fail> {
-    let alloc = rt.alloc();
-    let mut builder = Builder::new(alloc);
-    let rows = builder.put(Node::Scan(TableName::Region))?;
-    let always = copy_expr(alloc, &Expr::All(Items::new(alloc)))?;
-    builder.put(Node::Select(rows, always))?;
-    let plan = builder.finish(Items::new(alloc), Some(3));
-    assert_eq!(rt; plan.nodes.len(), 2);
-    Ok(())
-}
-
-#[test]
 fn widths_of_trees(rt: HostRuntime) -> Result<(), Fail> {
     let alloc = rt.alloc();
     let regions = Boxed::new(alloc, DepTree::Scan(TableName::Region))?;

@@ -10,6 +10,3 @@ mod worked;
 pub use domain::{Domain, DomainRows, Note};
 pub use lowering::lower;
 pub use worked::worked_rows;
-
-#[cfg(test)]
-mod tests;
