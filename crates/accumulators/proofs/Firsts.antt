@@ -1,16 +1,15 @@
 -- The first of values by an order, of two lists one after the other.
 use Rattle.std.proofs.Common.{◌≡◌, ℕ, List, [], ◌∷◌, ◌++◌, Bool, true, false, cond, refl, sym, ◌∙◌, ap, inl, inr}
-use Rattle.std.specs.Prelude.{not, min, nat_lt}
-use Rattle.std.specs.List.{filter}
+use Rattle.std.specs.Prelude.{not, min}
 use Rattle.std.proofs.lemmas.Bool.{cases_Bool, true≢false}
 use Rattle.std.proofs.lemmas.List.{append-nil}
 use Rattle.row_laws.specs.Bags.{Each}
-use Rattle.row_laws.specs.Aggregates.{IsOrder, first, first_of, unless_fault}
+use Rattle.row_laws.specs.Aggregates.{IsOrder, first, first_of}
 use Rattle.row_laws.proofs.Lists.{Each-weaker, Each-filter_true}
 use Rattle.row_laws.proofs.Values.{first_comm, first_exchange, turned_round}
 use Rattle.sql_value.specs.declared.value.Value.{Value}
 use Rattle.sql_value.specs.declared.value.Value.TheVariants.{Null, Fault as Failed, Number, Text, Date}
-use Rattle.aggregates.specs.Values.{written, value_rank, is_null, is_before, reading}
+use Rattle.aggregates.specs.Values.{written, value_rank, is_null, is_before}
 use Rattle.aggregates.proofs.Orders.{before_order}
 use Rattle.accumulators.specs.Accumulators.{present, least_fault_rank, extreme_order, first_value, Compared}
 use Rattle.accumulators.proofs.Joins.{present-append, least_put, least-append}

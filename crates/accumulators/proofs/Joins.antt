@@ -1,20 +1,15 @@
 -- What accumulators have of two lists one after the other, and what they give.
-use Rattle.std.proofs.Common.{◌≡◌, ℕ, ◌+◌, ◌-◌, ◌<◌, ◌≤◌, ◌^◌, List, [], ◌∷◌, ◌++◌, Bool, true, false, cond, refl, sym, ◌∙◌, ap, arith, inl, inr, length, ℤ, pos, Ok, Err}
-use Rattle.std.specs.Prelude.{min, max, not, ◌&&◌, ◌==◌, nat_lt, ◌-ℤ◌}
-use Rattle.std.specs.List.{filter}
-use Rattle.std.proofs.Math.Dec.{ltb}
-use Rattle.std.proofs.lemmas.Bool.{cases_Bool, lt-ltb, le-ltb, ltb-true, ltb-false}
+use Rattle.std.proofs.Common.{◌≡◌, ℕ, ◌+◌, List, [], ◌∷◌, ◌++◌, refl, sym, ◌∙◌, ap, arith, length}
+use Rattle.std.specs.Prelude.{min, not}
 use Rattle.std.proofs.lemmas.List.{length-append}
 use Rattle.std.proofs.lemmas.List.Elements.{filter-append}
-use Rattle.fixed_decimal.specs.Tally.{Sums, sums, joined, total_of, average_of, average_scale, is_small}
-use Rattle.row_laws.specs.Bags.{weigh, bottom}
-use Rattle.row_laws.specs.Aggregates.{unless_fault, unless_none, unless_range, count_rows, count_of, sum_of, avg_of}
+use Rattle.fixed_decimal.specs.Tally.{Sums, sums, joined}
+use Rattle.row_laws.specs.Bags.{weigh}
 use Rattle.row_laws.proofs.Bags.{weigh-append}
 use Rattle.row_laws.proofs.OfBags.{bottom-append, bottom_most}
 use Rattle.sql_value.specs.declared.value.Value.{Value}
-use Rattle.sql_value.specs.declared.value.Value.TheVariants.{Number}
-use Rattle.aggregates.specs.Values.{written, value_rank, is_null, above, below, reading, divided, number_or_fault}
-use Rattle.accumulators.specs.Accumulators.{present, least_fault_rank, CountedRows, Counted, Summed, unless_empty, total_value, average_value}
+use Rattle.aggregates.specs.Values.{value_rank, is_null, above, below}
+use Rattle.accumulators.specs.Accumulators.{present, least_fault_rank, CountedRows, Counted, Summed}
 
 pub present-append : (vs ws : List Value) → present (vs ++ ws) ≡ present vs ++ present ws
 present-append vs ws = filter-append (λ v. not (is_null v)) vs ws

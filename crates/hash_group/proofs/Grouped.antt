@@ -1,10 +1,10 @@
 -- Groups by numbers.
-use Rattle.std.proofs.Common.{◌≡◌, ℕ, suc, List, [], ◌∷◌, ◌++◌, Bool, true, false, cond, map, refl, sym, ◌∙◌, ap, inl, inr, Some}
-use Rattle.std.specs.Prelude.{slice_index_or, slice_get, ◌||◌, min, max, nat_eq}
+use Rattle.std.proofs.Common.{◌≡◌, ℕ, suc, List, [], ◌∷◌, ◌++◌, Bool, true, map, refl, sym, ◌∙◌, ap, inl, inr}
+use Rattle.std.specs.Prelude.{slice_index_or, nat_eq}
 use Rattle.std.proofs.lemmas.Bool.{cases_Bool, true≢false}
 use Rattle.std.proofs.lemmas.List.{map-id}
 use Rattle.row_laws.specs.Ranked.{Ranked, ranked, true_rank}
-use Rattle.row_laws.specs.Bags.{IsIdentity, has, each_once, top, bottom, Each}
+use Rattle.row_laws.specs.Bags.{IsIdentity, has, each_once, top, bottom}
 use Rattle.row_laws.specs.Rows.{same_row}
 use Rattle.row_laws.specs.Operators.{least, greatest}
 use Rattle.row_laws.specs.Aggregates.{aggregated}
@@ -15,7 +15,6 @@ use Rattle.row_laws.proofs.Groups.{top-map, bottom-map}
 use Rattle.row_laws.proofs.Rows.{same_row_is}
 use Rattle.row_laws.proofs.Standings.{each_has}
 use Rattle.row_laws.proofs.LoopLists.{classes_by_numbers}
-use Rattle.key_tables.specs.Distinct.{first_places}
 use Rattle.hash_group.specs.GroupLaws.{grouped_rows, distinct_rows, GroupByNumbers, DistinctByNumbers, KeysAtFirstPlaces}
 
 -- images of the elements with a number

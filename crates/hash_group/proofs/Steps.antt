@@ -1,14 +1,14 @@
 -- One row more, and the values at the end.
-use Rattle.std.proofs.Common.{◌≡◌, ℕ, zero, suc, ◌+◌, ◌<◌, ◌≤◌, ◌^◌, List, [], ◌∷◌, ◌++◌, Bool, true, false, cond, refl, sym, ◌∙◌, ap, subst, arith, inl, inr, length, take, get_or, set, Some, None, eq-eqb}
+use Rattle.std.proofs.Common.{◌≡◌, ℕ, zero, suc, ◌+◌, ◌<◌, ◌≤◌, ◌^◌, List, [], ◌∷◌, ◌++◌, Bool, cond, refl, sym, ◌∙◌, ap, subst, arith, inl, inr, length, take, get_or, Some, None}
 use Rattle.std.specs.Prelude.{slice_get, nat_eq}
-use Rattle.std.proofs.lemmas.Bool.{cases_Bool, ne_eqb, eqb-true, eqb-false}
+use Rattle.std.proofs.lemmas.Bool.{cases_Bool, eqb-true, eqb-false}
 use Rattle.std.specs.Prelude.{◌⊎◌}
 use Rattle.std.proofs.lemmas.List.{take_all, take_more, append-nil, length-append}
 use Rattle.std.proofs.lemmas.Option.{slice_get_within, slice_get_cases}
 use Rattle.row_laws.specs.TableLaws.{with_number}
 use Rattle.sql_value.specs.declared.value.Value.{Value}
 use Rattle.accumulators.specs.Accumulators.{OfValues}
-use Rattle.hash_group.specs.ByNumber.{values_by_number, AtEach, PutAt, AreValues}
+use Rattle.hash_group.specs.ByNumber.{values_by_number, PutAt, AreValues}
 
 -- the elements with a number, one place more
 with_more : {R : Type 0} (is : List ℕ) (xs : List R) (n i k : ℕ) (x : R) → slice_get is i ≡ Some k → slice_get xs i ≡ Some x

@@ -1,5 +1,5 @@
 -- The aggregates of groups, each of the values at which the group's number stands.
-use Rattle.std.specs.Prelude.{◌≡◌, ℕ, zero, suc, ◌+◌, ◌≤◌, List, [], ◌∷◌, ◌++◌, length, Option, Some, slice_get}
+use Rattle.std.specs.Prelude.{◌≡◌, ℕ, zero, suc, ◌+◌, ◌≤◌, List, [], ◌∷◌, ◌++◌, length, Some, slice_get}
 use Rattle.row_laws.specs.TableLaws.{with_number}
 use Rattle.sql_value.specs.declared.value.Value.{Value}
 use Rattle.accumulators.specs.Accumulators.{OfValues}
