@@ -243,7 +243,7 @@ module _ (state : State) (tables : (t : TableName) → Each (Rows (column_kinds 
       let there : List (Ranked Value) = select (holds_for (expr_meaning state condition) env) (source_meaning state from env) in
       let rows_there : Each (Rows f.it) there = kept.select_each (λ r. row_is_of f.it r ≡ true) (holds_for (expr_meaning state condition) env) (source_meaning state from env) (sf kinds env f.it h f.is) in
       let in_groups : Each (Rows (j.it ++ m.it)) (groups keys aggregates_of there) =
-          groups_kept f.it j.it m.it keys aggregates_of there j.is (λ ys all. aggregates_kept aggregates kinds env f.it ys m.it h all m.is) rows_there in
+      groups_kept f.it j.it m.it keys aggregates_of there j.is (λ ys all. aggregates_kept aggregates kinds env f.it ys m.it h all m.is) rows_there in
       let of_groups : Each (Rows g.it) (groups keys aggregates_of there) = subst (λ z. Each (Rows z) (groups keys aggregates_of there)) (some_is (j.it ++ m.it) g.it m.gives) in_groups in
       subst (λ (m : RowsMeaning). Each (Rows ks) (m env)) (sym (block_Grouped state from condition keys (parts {P = A} aggregates) having (parts {P = E} list)))
       (kept.project_each (λ r. row_is_of g.it r ≡ true) (λ r. row_is_of ks r ≡ true) (listed (map (expr_meaning state) (parts {P = E} list)) env)

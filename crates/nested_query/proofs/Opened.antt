@@ -125,7 +125,7 @@ pub input_Scalar_at : (state : State) (q : BoundBlock) (env : Env) → input_mea
 input_Scalar_at state q env = ap (λ (m : InputMeaning). m env) (input_Scalar state q)
 
 pub aggregate_CountRows_at : (state : State) (env : Env) → aggregate_meaning state aggregate.CountRows env ≡ aggregate_step node.CountRows env
-aggregate_CountRows_at state env = ap (λ (m : AggregateMeaning). m env) (aggregate_CountRows state )
+aggregate_CountRows_at state env = ap (λ (m : AggregateMeaning). m env) (aggregate_CountRows state)
 
 pub aggregate_Of_at : (state : State) (function : AggregateFunction) (scale : ℕ) (argument : BoundExpr) (env : Env) → aggregate_meaning state (aggregate.Of function scale argument) env ≡ aggregate_step (node.Of function scale (expr_meaning state argument)) env
 aggregate_Of_at state function scale argument env = ap (λ (m : AggregateMeaning). m env) (aggregate_Of state function scale argument)

@@ -22,7 +22,7 @@ returns-clause-version c =
     let list : (arc_value c.in_ok-list.list).items ≡ (arc_value c.self.inside.list).items = ap (λ v. v.items) c.in_ok-list.ensures in
     let made : State → List Change → Trials = λ b l. record { base = b; list = l; done = c.self.inside.done + 1 } in
     let same : made (arc_value c.in_ok-base.base) (arc_value c.in_ok-list.list).items ≡ one_more c.args.self.now =
-        ap (λ b. made b (arc_value c.in_ok-list.list).items) base ∙ ap (λ l. made (arc_value c.self.inside.base) l) list ∙ ap one_more c.self.view_is in
+    ap (λ b. made b (arc_value c.in_ok-list.list).items) base ∙ ap (λ l. made (arc_value c.self.inside.base) l) list ∙ ap one_more c.self.view_is in
     ap version_of same ∙ next_version c.args.self.now c.args.state c.requires.less c.requires.leaves
 
 pub returns-clause-tables : goal.returns-clause-tables
@@ -31,5 +31,5 @@ returns-clause-tables c =
     let list : (arc_value c.in_ok-list.list).items ≡ (arc_value c.self.inside.list).items = ap (λ v. v.items) c.in_ok-list.ensures in
     let made : State → List Change → Trials = λ b l. record { base = b; list = l; done = c.self.inside.done + 1 } in
     let same : made (arc_value c.in_ok-base.base) (arc_value c.in_ok-list.list).items ≡ one_more c.args.self.now =
-        ap (λ b. made b (arc_value c.in_ok-list.list).items) base ∙ ap (λ l. made (arc_value c.self.inside.base) l) list ∙ ap one_more c.self.view_is in
+    ap (λ b. made b (arc_value c.in_ok-list.list).items) base ∙ ap (λ l. made (arc_value c.self.inside.base) l) list ∙ ap one_more c.self.view_is in
     ap tables_of same ∙ next_tables c.args.self.now c.args.state c.requires.less c.requires.leaves
