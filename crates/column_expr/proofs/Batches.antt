@@ -1,59 +1,19 @@
--- The rows of columns that expressions give.
-use Rattle.std.proofs.Common.{◌≡◌, ℕ, ◌+◌, ◌<◌, suc, List, [], ◌∷◌, map, refl, sym, ap, ◌∙◌, length, get_or, arith}
-use Rattle.std.proofs.lemmas.List.{length-map, get_or-map, drop_more}
-use Rattle.row_laws.specs.Ranked.{Ranked, ranked, true_rank}
-use Rattle.row_laws.specs.Operators.{project}
+-- The truths of conditions over rows as ranks.
+use Rattle.std.proofs.Common.{◌≡◌, List, map, ap, ◌∙◌}
+use Rattle.row_laws.specs.Ranked.{Ranked}
 use Rattle.row_laws.proofs.Lists.{map-map}
 use Rattle.sql_value.specs.declared.truth.Truth.{Truth}
 use Rattle.sql_value.specs.declared.value.Value.{Value}
-use Rattle.sql_value.specs.declared.value.Value.TheVariants.{Null}
 use Rattle.sql_value.specs.Truth.{truth_rank}
 use Rattle.scalar_expr.specs.declared.expr.Expr.{Expr}
-use Rattle.scalar_expr.specs.Meaning.{truth, value, values}
+use Rattle.scalar_expr.specs.Meaning.{truth}
 use Rattle.conditions.specs.Ranks.{rank_of}
-use Rattle.columns.specs.Batches.{cells, rows_beside, AreLong}
-use Rattle.column_expr.specs.Rows.{values_over, truths_over, columns_over}
-use Rattle.column_expr.proofs.Nodes.{length-values_over}
+use Rattle.column_expr.specs.Rows.{truths_over}
 
 abbrev Rows : Type 0
 Rows = List (Ranked Value)
 
 -- truths as ranks
-pub ranks_are : (e : Expr) (rows : Rows) (ts : List Truth) → ts ≡ truths_over e rows → map truth_rank ts ≡ map (λ r. rank_of e r.values) rows
+pub ranks_are : (e : Expr) (rows : Rows) (ts : List Truth) → ts ≡ truths_over e rows → map truth_rank ts ≡ map (λ (r : Ranked Value). rank_of e r.values) rows
 unfolding truths_over rank_of
 ranks_are e rows ts is = ap (map truth_rank) is ∙ map-map truth_rank (λ (r : Ranked Value). truth e r.values) rows
-
--- each column has a value of each row
-pub columns_long : (es : List Expr) (rows : Rows) (n : ℕ) → n ≡ length rows → AreLong n (columns_over es rows)
-unfolding AreLong
-columns_long [] rows n is = tt
-columns_long (e ∷ es) rows n is = (length-values_over e rows ∙ sym is, columns_long es rows n is)
-
--- the values of a place are those of the expressions over its row
-cells_are : (es : List Expr) (rows : Rows) (i : ℕ) (d : Ranked Value) → i < length rows → cells (columns_over es rows) i ≡ values es (get_or rows i d).values
-unfolding values values_over
-cells_are [] rows i d h = refl
-cells_are (e ∷ es) rows i d h =
-    ap (λ v. v ∷ cells (columns_over es rows) i) (get_or-map (λ (r : Ranked Value). value e r.values) rows i d Null h)
-    ∙ ap (λ vs. value e (get_or rows i d).values ∷ vs) (cells_are es rows i d h)
-
--- from a place on
-beside : (es : List Expr) (all : Rows) (i : ℕ) (rows : Rows) → ((k : ℕ) (d : Ranked Value) → k < length rows → (i + k < length all) × (get_or all (i + k) d ≡ get_or rows k d))
-    → rows_beside (columns_over es all) i rows ≡ project (values es) rows
-unfolding rows_beside
-beside es all i [] h = refl
-beside es all i (r ∷ rows) h =
-    let at = h 0 r (omega arith) in
-    let e : i + 0 ≡ i = omega arith in
-    let l : i < length all = omega (arith, at.0) in
-    let is : get_or all i r ≡ r = ap (λ k. get_or all k r) (sym e) ∙ at.1 in
-    ap (λ vs. ranked vs r.standing ∷ rows_beside (columns_over es all) (suc i) rows) (cells_are es all i r l ∙ ap (λ (x : Ranked Value). values es x.values) is)
-    ∙ ap (λ rs. ranked (values es r.values) r.standing ∷ rs)
-    (beside es all (suc i) rows
-    (λ k d m. let next = h (suc k) d (omega (arith, m)) in
-    let f : i + suc k ≡ suc i + k = omega arith in
-    (omega (arith, next.0), ap (λ j. get_or all j d) (sym f) ∙ next.1)))
-
-pub projected_rows : (es : List Expr) (rows : Rows) (columns : List (List Value)) → columns ≡ columns_over es rows → rows_beside columns 0 rows ≡ project (values es) rows
-projected_rows es rows columns is =
-    ap (λ cs. rows_beside cs 0 rows) is ∙ beside es rows 0 rows (λ k d h. (omega (arith, h), refl))

@@ -1,10 +1,9 @@
 //! Expressions over batches: their values, their truths, and the rows that they make.
 ghost use Rattle.std.specs.Prelude.{◌≡◌, ◌<◌, ◌^◌, IfOk, length, map};
-ghost use Rattle.row_laws.specs.Operators.{project, select};
+ghost use Rattle.row_laws.specs.Operators.{select};
 ghost use Rattle.sql_value.specs.Truth.{truth_rank};
-ghost use Rattle.scalar_expr.specs.Meaning.{truth, value, values};
+ghost use Rattle.scalar_expr.specs.Meaning.{truth, value};
 ghost use Rattle.conditions.specs.Ranks.{rank_of};
-ghost use Rattle.column_expr.specs.Rows.{columns_over};
 
 use crate::evaluate::{condition, operand};
 use columns::{Batch, Column};
@@ -13,6 +12,7 @@ use sql_value::Truth;
 use std::alloc::{AllocError, Global};
 
 /// The values of an expression over the rows of a batch, row by row.
+#[tactic(auto, unfolding(crate::specs::Rows::values_over))]
 pub fn values_of(alloc: Global, e: &Expr, batch: &Batch) -> Result<Column, AllocError>
     ensures { IfOk result (λ c. c ≡ map (λ r. value e.now r.values) batch.now.rows) }
 {
@@ -23,6 +23,7 @@ pub fn values_of(alloc: Global, e: &Expr, batch: &Batch) -> Result<Column, Alloc
 }
 
 /// The truths of a condition over the rows of a batch, row by row.
+#[tactic(auto, using(crate::proofs::Batches::ranks_are), unfolding(crate::specs::Rows::truths_over))]
 pub fn truths_of(alloc: Global, e: &Expr, batch: &Batch) -> Result<Vec<Truth>, AllocError>
     ensures truths { IfOk result (λ v. v.items ≡ map (λ r. truth e.now r.values) batch.now.rows) }
     ensures ranks { IfOk result (λ v. map truth_rank v.items ≡ map (λ r. rank_of e.now r.values) batch.now.rows) }
@@ -40,26 +41,4 @@ pub fn selected(alloc: Global, e: &Expr, batch: &Batch) -> Result<Batch, AllocEr
     let truths = truths_of(alloc, e, batch)?;
     let kept = batch.select(alloc, truths.as_slice())?;
     Ok(kept)
-}
-
-// The values of each expression.
-fn columns_of(alloc: Global, es: &[Expr], batch: &Batch) -> Result<Vec<Column>, AllocError>
-    ensures { IfOk result (λ v. v.items ≡ columns_over es.now batch.now.rows) }
-{
-    let mut columns = Vec::with_capacity(alloc, es.len())?;
-    for e in es {
-        let column = values_of(alloc, e, batch)?;
-        columns.push(column)?;
-    }
-    Ok(columns)
-}
-
-/// The rows of these expressions' values, standings kept.
-pub fn projected(alloc: Global, es: &[Expr], batch: &Batch) -> Result<Batch, AllocError>
-    ensures width { IfOk result (λ b. b.width ≡ length es.now) }
-    ensures rows { IfOk result (λ b. b.rows ≡ project (values es.now) batch.now.rows) }
-{
-    let columns = columns_of(alloc, es, batch)?;
-    let rows = batch.with_columns(alloc, columns)?;
-    Ok(rows)
 }

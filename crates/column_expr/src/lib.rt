@@ -7,7 +7,7 @@ mod choose;
 mod evaluate;
 mod operand;
 
-pub use batches::{projected, selected, truths_of, values_of};
+pub use batches::{selected, truths_of, values_of};
 
 #[cfg(test)]
 mod tests;

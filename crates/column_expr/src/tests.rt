@@ -185,14 +185,5 @@ fn tests_rows(rt: HostRuntime) -> Result<(), Fail> {
         assert!(rt; kept.standing(0) == Standing::AtTrue);
         assert!(rt; kept.standing(1) == Standing::AtFault(Fault::NumberRange));
     }
-    let es = [Expr::Column(0), number(7)];
-    let made = projected(alloc, &es, &kept)?;
-    assert_eq!(rt; made.width(), 2);
-    assert_eq!(rt; made.len(), 2);
-    if made.len() == 2 {
-        let first = made.row(alloc, 0)?;
-        assert_eq!(rt; first.len(), 2);
-        assert!(rt; matches!(first.last(), Some(last) if last.is_identical(&whole(7))));
-    }
     Ok(())
 }

@@ -42,8 +42,3 @@ column_at rows j = map (λ r. slice_index_or r.values j Null) rows
 -- the columns at these places of a row's values
 abbrev pub projected : List ℕ → Ranked Value → Ranked Value
 projected places r = ranked (gathered Null r.values places) r.standing
-
--- rows of these columns from a place on, each at the standing of a row of a list
-unfoldable pub rows_beside : List (List Value) → ℕ → List (Ranked Value) → List (Ranked Value)
-rows_beside columns i [] = []
-rows_beside columns i (r ∷ rs) = ranked (cells columns i) r.standing ∷ rows_beside columns (suc i) rs

@@ -8,7 +8,7 @@ ghost use Rattle.sql_value.specs.declared.truth.Standing.TheVariants.{AtTrue as 
 ghost use Rattle.sql_value.specs.declared.value.Value.{Value as Datum};
 ghost use Rattle.sql_value.specs.declared.value.Value.TheVariants.{Null};
 ghost use Rattle.sql_value.specs.Truth.{standing_rank, truth_rank};
-ghost use Rattle.columns.specs.Batches.{cells, row_at, column_at, AreLong, column_relation, projected, rows_beside};
+ghost use Rattle.columns.specs.Batches.{cells, row_at, column_at, AreLong, column_relation, projected};
 ghost use Rattle.columns.specs.Lists.{gathered, AreBelow};
 ghost use Rattle.columns.specs.Selections.{rows_at, IsKept};
 
@@ -147,16 +147,6 @@ impl Batch {
         ensures rows { IfOk result (λ b. b.rows ≡ map (projected places.now) self.now.rows) }
     {
         let columns = picked_columns(alloc, self.columns.as_slice(), places)?;
-        let standings = self.standings.copy(alloc)?;
-        Ok(Batch { columns, standings })
-    }
-
-    /// The rows of these columns, at the standings of the rows here.
-    pub fn with_columns(&self, alloc: Global, columns: Vec<Column>) -> Result<Batch, AllocError>
-        requires { AreLong (length self.now.rows) columns.items }
-        ensures width { IfOk result (λ b. b.width ≡ length columns.items) }
-        ensures rows { IfOk result (λ b. b.rows ≡ rows_beside columns.items 0 self.now.rows) }
-    {
         let standings = self.standings.copy(alloc)?;
         Ok(Batch { columns, standings })
     }
