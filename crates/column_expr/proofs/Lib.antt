@@ -1,4 +1,4 @@
-pub mod Batches
 pub mod Lists
 pub mod Nodes
+pub mod Ranks
 pub mod Steps

@@ -10,9 +10,9 @@ ghost use Rattle.column_expr.specs.Lanes.{over, shape_lanes};
 use crate::operand::{Operand, Shape};
 use ascii_text::Text;
 use column_operators::{
-    both, compared_columns, compared_with, computed_columns, computed_from,
-    computed_with, extracted_column, liked_column, marked_truths, negative_column, null_tests,
-    part_column, scaled_column,
+    both, compared_columns, compared_with, computed_columns, computed_from, computed_with,
+    extracted_column, liked_column, marked_truths, negative_column, null_tests, part_column,
+    scaled_column,
 };
 use columns::Column;
 use fixed_decimal::Scale;
@@ -31,7 +31,7 @@ pub(crate) fn negative_operand<'a>(
     x: Shape<'_>,
     n: usize,
 ) -> Result<Operand<'a>, AllocError>
-    ensures { IfOk result (λ o. over n o ≡ map negative (over n (shape_lanes x))) }
+    ensures { IfOk result (λ o. over n o ≡ map negative (over n (shape_lanes x.entry))) }
 {
     match x {
         Shape::One(value) => Ok(Operand::one(negative(value))),
@@ -50,7 +50,7 @@ pub(crate) fn extracted_operand<'a>(
     x: Shape<'_>,
     n: usize,
 ) -> Result<Operand<'a>, AllocError>
-    ensures { IfOk result (λ o. over n o ≡ map (extracted part) (over n (shape_lanes x))) }
+    ensures { IfOk result (λ o. over n o ≡ map (extracted part) (over n (shape_lanes x.entry))) }
 {
     match x {
         Shape::One(value) => Ok(Operand::one(extracted(part, value))),
@@ -70,7 +70,7 @@ pub(crate) fn part_operand<'a>(
     count: u32,
     n: usize,
 ) -> Result<Operand<'a>, AllocError>
-    ensures { IfOk result (λ o. over n o ≡ map (part_of from count) (over n (shape_lanes x))) }
+    ensures { IfOk result (λ o. over n o ≡ map (part_of from count) (over n (shape_lanes x.entry))) }
 {
     match x {
         Shape::One(value) => {
@@ -99,7 +99,7 @@ pub(crate) fn scaled_operand<'a>(
     x: Shape<'_>,
     n: usize,
 ) -> Result<Operand<'a>, AllocError>
-    ensures { IfOk result (λ o. over n o ≡ map (at_scale scale) (over n (shape_lanes x))) }
+    ensures { IfOk result (λ o. over n o ≡ map (at_scale scale) (over n (shape_lanes x.entry))) }
 {
     match x {
         Shape::One(value) => {
@@ -124,7 +124,7 @@ pub(crate) fn computed_operand<'a>(
 ) -> Result<Operand<'a>, AllocError>
     requires x { length (over n (shape_lanes x)) ≡ n }
     requires y { length (over n (shape_lanes y)) ≡ n }
-    ensures { IfOk result (λ o. over n o ≡ zip_with (computed operator) (over n (shape_lanes x)) (over n (shape_lanes y))) }
+    ensures { IfOk result (λ o. over n o ≡ zip_with (computed operator) (over n (shape_lanes x.entry)) (over n (shape_lanes y.entry))) }
 {
     match (x, y) {
         (Shape::One(v), Shape::One(w)) => Ok(Operand::one(computed(operator, v, w))),
@@ -154,7 +154,7 @@ pub(crate) fn compared_truths(
 ) -> Result<Vec<Truth>, AllocError>
     requires x { length (over n (shape_lanes x)) ≡ n }
     requires y { length (over n (shape_lanes y)) ≡ n }
-    ensures { IfOk result (λ v. v.items ≡ zip_with (compared comparison) (over n (shape_lanes x)) (over n (shape_lanes y))) }
+    ensures { IfOk result (λ v. v.items ≡ zip_with (compared comparison) (over n (shape_lanes x.entry)) (over n (shape_lanes y.entry))) }
 {
     match (x, y) {
         (Shape::One(v), Shape::One(w)) => Vec::from_elem(alloc, compared(comparison, v, w), n),
@@ -179,7 +179,7 @@ pub(crate) fn between_truths(
     requires x { length (over n (shape_lanes x)) ≡ n }
     requires least { length (over n (shape_lanes least)) ≡ n }
     requires greatest { length (over n (shape_lanes greatest)) ≡ n }
-    ensures { IfOk result (λ v. v.items ≡ zip_with lesser (zip_with (compared AtLeast) (over n (shape_lanes x)) (over n (shape_lanes least))) (zip_with (compared AtMost) (over n (shape_lanes x)) (over n (shape_lanes greatest)))) }
+    ensures { IfOk result (λ v. v.items ≡ zip_with lesser (zip_with (compared AtLeast) (over n (shape_lanes x.entry)) (over n (shape_lanes least.entry))) (zip_with (compared AtMost) (over n (shape_lanes x.entry)) (over n (shape_lanes greatest.entry)))) }
 {
     let above = compared_truths(alloc, Comparison::GreaterOrEqual, x, least, n)?;
     let below = compared_truths(alloc, Comparison::LessOrEqual, x, greatest, n)?;
@@ -194,7 +194,7 @@ pub(crate) fn liked_truths(
     pattern: &Text,
     n: usize,
 ) -> Result<Vec<Truth>, AllocError>
-    ensures { IfOk result (λ v. v.items ≡ map (liked pattern.now) (over n (shape_lanes x))) }
+    ensures { IfOk result (λ v. v.items ≡ map (liked pattern.now) (over n (shape_lanes x.entry))) }
 {
     match x {
         Shape::One(value) => Vec::from_elem(alloc, liked(value, pattern), n),
@@ -204,12 +204,8 @@ pub(crate) fn liked_truths(
 
 /// IS NULL.
 #[tactic(auto, using(crate::proofs::Lists::ones))]
-pub(crate) fn null_truths(
-    alloc: Global,
-    x: Shape<'_>,
-    n: usize,
-) -> Result<Vec<Truth>, AllocError>
-    ensures { IfOk result (λ v. v.items ≡ map null_test (over n (shape_lanes x))) }
+pub(crate) fn null_truths(alloc: Global, x: Shape<'_>, n: usize) -> Result<Vec<Truth>, AllocError>
+    ensures { IfOk result (λ v. v.items ≡ map null_test (over n (shape_lanes x.entry))) }
 {
     match x {
         Shape::One(value) => Vec::from_elem(alloc, null_test(value), n),
@@ -219,12 +215,8 @@ pub(crate) fn null_truths(
 
 /// The truths that marks stand for.
 #[tactic(auto, using(crate::proofs::Lists::ones))]
-pub(crate) fn mark_truths(
-    alloc: Global,
-    x: Shape<'_>,
-    n: usize,
-) -> Result<Vec<Truth>, AllocError>
-    ensures { IfOk result (λ v. v.items ≡ map truth_of_mark (over n (shape_lanes x))) }
+pub(crate) fn mark_truths(alloc: Global, x: Shape<'_>, n: usize) -> Result<Vec<Truth>, AllocError>
+    ensures { IfOk result (λ v. v.items ≡ map truth_of_mark (over n (shape_lanes x.entry))) }
 {
     match x {
         Shape::One(value) => Vec::from_elem(alloc, truth_of_mark(value), n),

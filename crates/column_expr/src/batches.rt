@@ -23,7 +23,7 @@ pub fn values_of(alloc: Global, e: &Expr, batch: &Batch) -> Result<Column, Alloc
 }
 
 /// The truths of a condition over the rows of a batch, row by row.
-#[tactic(auto, using(crate::proofs::Batches::ranks_are), unfolding(crate::specs::Rows::truths_over))]
+#[tactic(auto, using(crate::proofs::Ranks::ranks_are), unfolding(crate::specs::Rows::truths_over))]
 pub fn truths_of(alloc: Global, e: &Expr, batch: &Batch) -> Result<Vec<Truth>, AllocError>
     ensures truths { IfOk result (λ v. v.items ≡ map (λ r. truth e.now r.values) batch.now.rows) }
     ensures ranks { IfOk result (λ v. map truth_rank v.items ≡ map (λ r. rank_of e.now r.values) batch.now.rows) }

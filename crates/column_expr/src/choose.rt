@@ -22,7 +22,7 @@ pub(crate) fn chosen_operand<'a>(
     requires truths { length truths.now ≡ n }
     requires gives { length (over n (shape_lanes gives)) ≡ n }
     requires rest { length (over n (shape_lanes rest)) ≡ n }
-    ensures { IfOk result (λ o. over n o ≡ zip_three choice truths.now (over n (shape_lanes gives)) (over n (shape_lanes rest))) }
+    ensures { IfOk result (λ o. over n o ≡ zip_three choice truths.now (over n (shape_lanes gives.entry)) (over n (shape_lanes rest.entry))) }
 {
     match (gives, rest) {
         (Shape::One(v), Shape::One(w)) => {

@@ -54,12 +54,7 @@ pub(crate) fn operand<'a>(
 // The values of any node.
 #[cycle(evaluate)]
 #[tactic(auto, using(crate::proofs::Nodes::values_opened))]
-fn node<'a>(
-    alloc: Global,
-    e: &Expr,
-    batch: &'a Batch,
-    n: usize,
-) -> Result<Operand<'a>, AllocError>
+fn node<'a>(alloc: Global, e: &Expr, batch: &'a Batch, n: usize) -> Result<Operand<'a>, AllocError>
     requires { n ≡ length batch.now.rows }
     ensures { IfOk result (λ o. over n o ≡ values_over e.now batch.now.rows) }
 {
@@ -113,7 +108,7 @@ fn operated<'a>(
 ) -> Result<Operand<'a>, AllocError>
     requires rows { n ≡ length batch.now.rows }
     requires long { length (over n first) ≡ n }
-    ensures { IfOk result (λ o. over n o ≡ operated_over (over n first) operations.now batch.now.rows) }
+    ensures { IfOk result (λ o. over n o ≡ operated_over (over n first.entry) operations.now batch.now.rows) }
 {
     let mut x = first;
     for operation in operations {
@@ -134,7 +129,7 @@ fn chosen<'a>(
 ) -> Result<Operand<'a>, AllocError>
     requires rows { n ≡ length batch.now.rows }
     requires long { length (over n rest) ≡ n }
-    ensures { IfOk result (λ o. over n o ≡ chosen_over branches.now (over n rest) batch.now.rows) }
+    ensures { IfOk result (λ o. over n o ≡ chosen_over branches.now (over n rest.entry) batch.now.rows) }
 {
     let mut x = rest;
     for i in 0..branches.len() {
@@ -216,12 +211,7 @@ fn tested(alloc: Global, e: &Expr, batch: &Batch, n: usize) -> Result<Vec<Truth>
 
 // AND.
 #[cycle(evaluate)]
-fn least(
-    alloc: Global,
-    es: &[Expr],
-    batch: &Batch,
-    n: usize,
-) -> Result<Vec<Truth>, AllocError>
+fn least(alloc: Global, es: &[Expr], batch: &Batch, n: usize) -> Result<Vec<Truth>, AllocError>
     requires { n ≡ length batch.now.rows }
     ensures { IfOk result (λ v. v.items ≡ least_over (replicate n (At True)) es.now batch.now.rows) }
 {
@@ -235,12 +225,7 @@ fn least(
 
 // OR.
 #[cycle(evaluate)]
-fn greatest(
-    alloc: Global,
-    es: &[Expr],
-    batch: &Batch,
-    n: usize,
-) -> Result<Vec<Truth>, AllocError>
+fn greatest(alloc: Global, es: &[Expr], batch: &Batch, n: usize) -> Result<Vec<Truth>, AllocError>
     requires { n ≡ length batch.now.rows }
     ensures { IfOk result (λ v. v.items ≡ greatest_over (replicate n Never) es.now batch.now.rows) }
 {

@@ -8,6 +8,3 @@ mod evaluate;
 mod operand;
 
 pub use batches::{selected, truths_of, values_of};
-
-#[cfg(test)]
-mod tests;
