@@ -1,0 +1,10 @@
+//! Dependent trees arranged for speed, their rows kept.
+#![tactic(auto)]
+
+mod choice;
+mod collect;
+mod group;
+mod joined;
+mod nodes;
+
+pub use collect::arrange;
