@@ -6,5 +6,7 @@ mod batches;
 mod choose;
 mod evaluate;
 mod operand;
+mod projection;
 
 pub use batches::{selected, truths_of, values_of};
+pub use projection::projected;
