@@ -5,3 +5,5 @@ pub mod Steps
 pub mod Collected
 pub mod Apart
 pub mod SameNodes
+pub mod Sinking
+pub mod OnParts

@@ -84,8 +84,8 @@ fn put_apart(
     }
 }
 
-// The conditions on the right input alone, over its own columns, and the others.
-fn apart(
+/// The conditions on the right input alone, over its own columns, and the others.
+pub(crate) fn apart(
     alloc: Global,
     closed: bool,
     n: u32,

@@ -6,5 +6,6 @@ mod collect;
 mod group;
 mod joined;
 mod nodes;
+mod sink;
 
 pub use collect::arrange;
