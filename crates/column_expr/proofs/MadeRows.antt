@@ -46,7 +46,7 @@ beside es all i (r ∷ rows) h =
 
 pub projected_rows : (es : List Expr) (rows : Rows) (columns : List (List Value)) → columns ≡ columns_over es rows → rows_beside columns 0 rows ≡ project (values es) rows
 projected_rows es rows columns is =
-    ap (λ cs. rows_beside cs 0 rows) is ∙ beside es rows 0 rows (λ k d h. (omega (arith, h), refl))
+    ap (λ cs. rows_beside cs 0 rows) is ∙ beside es rows 0 rows (λ k d h. let e : 0 + k ≡ k = omega arith in (omega (arith, h), ap (λ j. get_or rows j d) e))
 
 pub projected_width : (es : List Expr) (rows : Rows) (columns : List (List Value)) → columns ≡ columns_over es rows → length columns ≡ length es
 projected_width es rows columns is = ap length is ∙ length-map es (λ e. values_over e rows)

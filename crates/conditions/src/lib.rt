@@ -11,6 +11,3 @@ pub use conjuncts::{Parted, in_parts, put_condition, put_run, reads_below, renam
 pub use copy::copy as copy_of;
 pub use factors::put_factors;
 pub use same::is_same;
-
-#[cfg(test)]
-mod tests;
