@@ -1,2 +1,4 @@
 pub mod Steps
 pub mod Grouped
+pub mod KeyCells
+pub mod Ranks

@@ -1,2 +1,4 @@
 pub mod ByNumber
 pub mod GroupLaws
+pub mod Keys
+pub mod Standings
