@@ -3,3 +3,4 @@ pub mod Grouped
 pub mod KeyCells
 pub mod Ranks
 pub mod FilledRows
+pub mod GroupRows

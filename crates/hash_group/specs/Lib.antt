@@ -1,5 +1,6 @@
 pub mod ByNumber
 pub mod Filled
 pub mod GroupLaws
+pub mod Grouping
 pub mod Keys
 pub mod Standings

@@ -3,6 +3,7 @@
 
 mod aggregate;
 mod filling;
+mod group_by;
 mod grouping;
 mod groups;
 mod identical;
@@ -12,6 +13,10 @@ mod values;
 
 pub use aggregate::{accumulated_by_number, aggregated_by_number};
 pub use filling::fill;
+pub use group_by::group;
 pub use groups::accumulated;
 pub use identical::{distinct, domain};
 pub use values::{ColumnValues, Nulls, SliceValues, ValueList};
+
+#[cfg(test)]
+mod tests;

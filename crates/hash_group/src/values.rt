@@ -41,6 +41,7 @@ impl<'a> ValueList for SliceValues<'a> {
 }
 
 /// The values of a column.
+#[derive(Drop)]
 pub struct ColumnValues<'a> {
     alloc: Global,
     column: &'a Column,
@@ -64,6 +65,7 @@ impl<'a> ValueList for ColumnValues<'a> {
 }
 
 /// So many nulls.
+#[derive(Drop)]
 pub struct Nulls {
     count: usize,
 }
