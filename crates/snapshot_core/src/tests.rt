@@ -1,5 +1,6 @@
 //! One session over a base of one row.
 use super::*;
+use columns::{Rows, stored_rows};
 use fixed_decimal::Scale;
 use refusals::{LineFault, LineRefusal, RefreshFile};
 use sql_value::{Row, Value};
@@ -23,14 +24,14 @@ fn scans_what_it_pins(rt: HostRuntime) -> Result<(), Fail> {
     let row = Row::new(vec![in alloc; Value::Number(Scale::WHOLE, 7), name, text]?)?;
     let regions = vec![in alloc; row]?;
     let tables = vec![in alloc;
-        regions,
-        Vec::new(alloc),
-        Vec::new(alloc),
-        Vec::new(alloc),
-        Vec::new(alloc),
-        Vec::new(alloc),
-        Vec::new(alloc),
-        Vec::new(alloc),
+        stored_rows(alloc, regions.as_slice())?,
+        Rows::new(alloc),
+        Rows::new(alloc),
+        Rows::new(alloc),
+        Rows::new(alloc),
+        Rows::new(alloc),
+        Rows::new(alloc),
+        Rows::new(alloc),
     ]?;
     let bad = LineRefusal {
         line: 1,
@@ -38,7 +39,7 @@ fn scans_what_it_pins(rt: HostRuntime) -> Result<(), Fail> {
     };
     let nothing = Refresh::delete(Vec::new(alloc));
     let list = vec![in alloc; Refresh::malformed(RefreshFile::Delete, 1, bad), nothing]?;
-    let mut machine = Machine::new(alloc, State::new(tables), list, 1)?;
+    let mut machine = Machine::new(alloc, State::new(alloc, tables)?, list, 1)?;
     step(&mut machine, Step::Begin(1, one_piece(alloc)?))?;
     step(&mut machine, Step::Publish)?;
     step(&mut machine, Step::Publish)?;

@@ -1,4 +1,6 @@
-pub mod Found
+pub mod DeleteKeys
+pub mod FoundKeys
 pub mod Order
+pub mod LeftRows
 pub mod Sales
 pub mod VersionSteps

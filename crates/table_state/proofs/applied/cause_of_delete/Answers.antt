@@ -1,6 +1,6 @@
 use Rattle.std.proofs.Common.{◌∙◌}
 use Rattle.table_state.specs.Keys.{order_keys}
-use Rattle.table_state.proofs.Found.{deletes_alike}
+use Rattle.table_state.proofs.FoundKeys.{deletes_alike}
 use Rattle.table_state.proofs.applied.cause_of_delete.Goals as goal
 
 pub returns : goal.returns

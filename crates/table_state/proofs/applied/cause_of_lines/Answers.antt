@@ -1,6 +1,6 @@
 use Rattle.std.proofs.Common.{◌∙◌}
 use Rattle.table_state.specs.Keys.{line_keys}
-use Rattle.table_state.proofs.Found.{lines_alike}
+use Rattle.table_state.proofs.FoundKeys.{lines_alike}
 use Rattle.table_state.proofs.applied.cause_of_lines.Goals as goal
 
 pub returns : goal.returns

@@ -1,6 +1,6 @@
 use Rattle.std.proofs.Common.{◌∙◌}
 use Rattle.table_state.specs.Keys.{order_keys}
-use Rattle.table_state.proofs.Found.{orders_alike}
+use Rattle.table_state.proofs.FoundKeys.{orders_alike}
 use Rattle.table_state.proofs.applied.cause_of_orders.Goals as goal
 
 pub returns : goal.returns

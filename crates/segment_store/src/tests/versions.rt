@@ -1,0 +1,43 @@
+//! Versions of a base under refreshes that are tried in order.
+use super::*;
+
+#[test]
+fn tries_eight_pairs(rt: HostRuntime) -> Result<(), Fail> {
+    let alloc = rt.alloc();
+    let mut list = Vec::new(alloc);
+    for _pair in 0..8 {
+        list.push(insert(alloc, &[NINE], &[NINE_ONE])?)?;
+        list.push(delete(alloc, &[b"9"])?)?;
+    }
+    list.push(insert(alloc, &[NINE], &[NINE_ONE])?)?;
+    let mut directory = Directory::new(alloc, state(alloc, &[ORDERS], &[])?, list)?;
+    for _refresh in 0..16 {
+        directory = directory.after_next()?;
+    }
+    assert_eq!(rt; directory.version(), 16);
+    assert_eq!(rt; directory.count(TableName::Orders), 2);
+    let last = directory.after_next()?;
+    assert_eq!(rt; last.version(), 17);
+    assert_eq!(rt; last.count(TableName::Orders), 3);
+    assert!(rt; last.is_done());
+    Ok(())
+}
+
+#[test]
+fn keeps_earlier_versions(rt: HostRuntime) -> Result<(), Fail> {
+    let alloc = rt.alloc();
+    let list = vec![in alloc; delete(alloc, &[b"9"])?, delete(alloc, &[b"8"])?]?;
+    let mut base = Directory::new(alloc, state(alloc, &[ORDERS], &[EIGHT_TWO])?, list)?;
+    let first = base.another()?;
+    let refused = base.after_next();
+    assert!(rt; matches!(refused, Err(RefreshError::Refused(Cause::UnknownOrder(9)))));
+    assert!(rt; base.version() == 0 && !base.is_done());
+    let next = base.after_next()?;
+    assert!(rt; next.is_done() && next.version() == 1);
+    assert!(rt; base.version() == 0 && first.version() == 0);
+    let orders = keys(alloc, &next.rows(TableName::Orders)?)?;
+    assert!(rt; orders.as_slice() == [7].as_slice());
+    assert_eq!(rt; next.count(TableName::Lineitem), 0);
+    assert_eq!(rt; first.count(TableName::Lineitem), 1);
+    Ok(())
+}
