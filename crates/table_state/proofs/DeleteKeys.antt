@@ -1,5 +1,5 @@
 -- The keys in a delete file's rows.
-use Rattle.std.proofs.Common.{◌≡◌, ℕ, ◌^◌, Bool, true, false, cond, not, ◌&&◌, List, [], ◌∷◌, map, Some, None, ℤ, pos, negsuc, refl, arith, ⊥}
+use Rattle.std.proofs.Common.{◌≡◌, ℕ, ◌^◌, Bool, true, false, cond, not, ◌&&◌, List, [], ◌∷◌, map, Some, None, ℤ, pos, negsuc, ◌<◌, refl, arith}
 use Rattle.std.specs.Prelude.{◌==◌, IsTrue, nat_lt, unwrap_or}
 use Rattle.std.specs.Cmp.Lexicographic.{pointwise}
 use Rattle.std.specs.List.{All}
@@ -18,7 +18,7 @@ short_key : (n : ℕ) (b : Bool) → nat_lt n (2 ^ 63) ≡ b → IsOrderKey (unw
 short_key n true e = let less : n < 2 ^ 63 = ltb-true n (2 ^ 63) e in (omega (arith, ints), omega (arith, ints))
 short_key n false e = (omega (arith, ints), omega (arith, ints))
 
-never : (b x c : Bool) → ((b && (false && x)) && c) ≡ true → ⊥
+never : (b x c : Bool) → (((b && false) && x) && c) ≡ true → ⊥
 never true x c e = cc
 never false x c e = cc
 

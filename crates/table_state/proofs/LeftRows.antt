@@ -1,11 +1,11 @@
 -- The rows that are left of a segment.
-use Rattle.std.proofs.Common.{◌≡◌, ℕ, ℤ, zero, suc, ◌+◌, ◌-◌, ◌<◌, ◌≤◌, Bool, true, false, cond, not, ◌||◌, List, [], ◌∷◌, ◌++◌, length, take, get_or, inl, inr, Result, Ok, Err, refl, sym, ap, ◌∙◌, subst, arith, add-zero, ⊥}
+use Rattle.std.proofs.Common.{◌≡◌, ℕ, ℤ, zero, suc, ◌+◌, ◌-◌, ◌<◌, ◌≤◌, Bool, true, false, cond, not, ◌||◌, List, [], ◌∷◌, ◌++◌, length, take, map, get_or, inl, inr, Result, Ok, Err, refl, sym, ap, ◌∙◌, subst, arith, add-zero, zero-add, append_assoc}
 use Rattle.std.specs.Prelude.{nat_eq, is_ok, MatchResult}
 use Rattle.std.specs.List.{All, filter, list_any}
 use Rattle.std.specs.List.Sorted.{IsNonDecreasing, IsBinarySearchResult}
 use Rattle.std.specs.Ordering.{nat_cmp}
 use Rattle.std.proofs.lemmas.Bool.{cases_lt, eq-eqb, ne_eqb}
-use Rattle.std.proofs.lemmas.List.{append-nil, get_or_default, length-take-le, length_push, map-append, take_all}
+use Rattle.std.proofs.lemmas.List.{append-nil, get_or_default, length-take-le, length_push, map-append, map-id, nil_from_length, take_all}
 use Rattle.std.proofs.lemmas.List.Elements.{All-get_or, All-push, All-weaker, filter-append}
 use Rattle.std.proofs.lemmas.List.Filters.{length-filter_both}
 use Rattle.std.proofs.lemmas.List.Folds.{list_any-append, list_any_at, list_any_none}
@@ -86,7 +86,9 @@ from_more deleted p (row ∷ rows) (suc i) less =
 
 pub left_more : (deleted : List ℕ) (rows : List (List Value)) (i : ℕ) → i < length rows
     → left_rows deleted (take (i + 1) rows) ≡ left_rows deleted (take i rows) ++ cond (has_place deleted i) [] (get_or rows i [] ∷ [])
-left_more deleted rows i less = from_more deleted 0 rows i less
+left_more deleted rows i less =
+    subst (λ p. left_from deleted 0 (take (i + 1) rows) ≡ left_from deleted 0 (take i rows) ++ cond (has_place deleted p) [] (get_or rows i [] ∷ []))
+    (zero-add i) (from_more deleted 0 rows i less)
 
 pub left_gone : (deleted : List ℕ) (rows : List (List Value)) (i : ℕ) → i < length rows → has_place deleted i ≡ true
     → left_rows deleted (take (i + 1) rows) ≡ left_rows deleted (take i rows)
@@ -121,16 +123,16 @@ pub none_deleted : (rows : List (List Value)) → AreDeleted [] rows
 none_deleted rows = record {
   up = λ i j d low less. absurd (omega (arith, less));
   below = λ k d less. absurd (omega (arith, less));
-  count = ap length (left_all rows);
+  count = zero-add (length (left_rows [] rows)) ∙ ap length (left_all rows);
 }
 
 -- what is left of no rows
-nothing_left : (deleted : List ℕ) → left_rows deleted [] ≡ []
+pub nothing_left : (deleted : List ℕ) → left_rows deleted [] ≡ []
 unfolding left_from
 nothing_left deleted = refl
 
-pub without_none : (keys : List ℤ) (deleted : List ℕ) (rows : List (List Value)) → IsWithout keys deleted (take 0 rows) []
-without_none keys deleted rows = record {
+pub without_none : (keys : List ℤ) (deleted : List ℕ) → IsWithout keys deleted [] []
+without_none keys deleted = record {
   are = none_deleted [];
   left = left_all [] ∙ sym (ap (without_keys keys) (nothing_left deleted));
 }
@@ -245,32 +247,77 @@ without_same keys deleted more rows are without same =
 -- the places of the rows that are left, row by row
 pub record AreLeftUntil (deleted : List ℕ) (rows : List (List Value)) (i : ℕ) (places : List ℕ) : Type 0 where
   pub below : AreBelow i places
-  pub rows : gathered [] rows places ≡ left_rows deleted (take i rows)
+  pub left : gathered [] rows places ≡ left_rows deleted (take i rows)
 
 pub left_begin : (deleted : List ℕ) (rows : List (List Value)) → AreLeftUntil deleted rows 0 []
 left_begin deleted rows = record {
   below = λ k d less. absurd (omega (arith, less));
-  rows = sym (nothing_left deleted);
+  left = sym (nothing_left deleted);
 }
 
 pub left_skip : (deleted : List ℕ) (rows : List (List Value)) (i : ℕ) (places : List ℕ) → i < length rows → has_place deleted i ≡ true
     → AreLeftUntil deleted rows i places → AreLeftUntil deleted rows (i + 1) places
 left_skip deleted rows i places less gone so_far = record {
   below = All-weaker (λ p. p < i) (λ p. p < i + 1) (λ p l. omega (arith, l)) places so_far.below;
-  rows = so_far.rows ∙ sym (left_gone deleted rows i less gone);
+  left = so_far.left ∙ sym (left_gone deleted rows i less gone);
 }
 
 pub left_take : (deleted : List ℕ) (rows : List (List Value)) (i : ℕ) (places : List ℕ) → i < length rows → has_place deleted i ≡ false
     → AreLeftUntil deleted rows i places → AreLeftUntil deleted rows (i + 1) (places ++ i ∷ [])
 left_take deleted rows i places less kept so_far = record {
   below = All-push (λ p. p < i + 1) places i (All-weaker (λ p. p < i) (λ p. p < i + 1) (λ p l. omega (arith, l)) places so_far.below) (omega arith);
-  rows = map-append (λ p. get_or rows p []) places (i ∷ []) ∙ ap (λ l. l ++ get_or rows i [] ∷ []) so_far.rows ∙ sym (left_kept deleted rows i less kept);
+  left = map-append (λ p. get_or rows p []) places (i ∷ []) ∙ ap (λ l. l ++ get_or rows i [] ∷ []) so_far.left ∙ sym (left_kept deleted rows i less kept);
 }
 
 pub left_end : (deleted : List ℕ) (rows : List (List Value)) (i : ℕ) (places : List ℕ) → i ≡ length rows → AreLeftUntil deleted rows i places → IsLeft deleted rows places
 left_end deleted rows i places e so_far = record {
   below = subst (λ n. AreBelow n places) e so_far.below;
-  rows = so_far.rows ∙ ap (left_rows deleted) (take_all i rows (omega (arith, e)));
+  left = so_far.left ∙ ap (left_rows deleted) (take_all i rows (omega (arith, e)));
 }
 
-pub ruleset parts = (left_gone, left_kept, left_all, none_deleted)
+-- what is made of the rows that are left, one more
+pub made_begin : {A : Type 0} (make : List Value → A) (before : List A) (deleted : List ℕ) → before ≡ before ++ map make (left_rows deleted [])
+made_begin make before deleted = sym (ap (λ rows. before ++ map make rows) (nothing_left deleted) ∙ append-nil before)
+
+made_by : {A : Type 0} (make : List Value → A) (deleted : List ℕ) (rows : List (List Value)) (before made new : List A) (i : ℕ) (gone : Bool) → i < length rows
+    → has_place deleted i ≡ gone → new ≡ cond gone made (made ++ make (get_or rows i []) ∷ []) → made ≡ before ++ map make (left_rows deleted (take i rows))
+    → new ≡ before ++ map make (left_rows deleted (take (i + 1) rows))
+made_by make deleted rows before made new i true less g is so_far = is ∙ so_far ∙ ap (λ l. before ++ map make l) (sym (left_gone deleted rows i less g))
+made_by make deleted rows before made new i false less g is so_far =
+    is ∙ ap (λ l. l ++ make (get_or rows i []) ∷ []) so_far
+    ∙ append_assoc before (map make (left_rows deleted (take i rows))) (make (get_or rows i []) ∷ [])
+    ∙ ap (λ l. before ++ l) (sym (map-append make (left_rows deleted (take i rows)) (get_or rows i [] ∷ [])))
+    ∙ ap (λ l. before ++ map make l) (sym (left_kept deleted rows i less g))
+
+pub made_more : {A : Type 0} (make : List Value → A) (deleted : List ℕ) (rows : List (List Value)) (before made new : List A) (i : ℕ) → i < length rows
+    → new ≡ cond (has_place deleted i) made (made ++ make (get_or rows i []) ∷ []) → made ≡ before ++ map make (left_rows deleted (take i rows))
+    → new ≡ before ++ map make (left_rows deleted (take (i + 1) rows))
+made_more make deleted rows before made new i less is so_far = made_by make deleted rows before made new i (has_place deleted i) less refl is so_far
+
+pub rows_begin : (before : List (List Value)) (deleted : List ℕ) → before ≡ before ++ left_rows deleted []
+rows_begin before deleted = sym (ap (λ rows. before ++ rows) (nothing_left deleted) ∙ append-nil before)
+
+pub rows_more : (deleted : List ℕ) (rows before made new : List (List Value)) (i : ℕ) → i < length rows
+    → new ≡ cond (has_place deleted i) made (made ++ get_or rows i [] ∷ []) → made ≡ before ++ left_rows deleted (take i rows)
+    → new ≡ before ++ left_rows deleted (take (i + 1) rows)
+rows_more deleted rows before made new i less is so_far =
+    made_more (λ row. row) deleted rows before made new i less is (so_far ∙ ap (λ l. before ++ l) (sym (map-id (left_rows deleted (take i rows)))))
+    ∙ ap (λ l. before ++ l) (map-id (left_rows deleted (take (i + 1) rows)))
+
+left_by : (deleted : List ℕ) (rows : List (List Value)) (i : ℕ) (places new : List ℕ) (gone : Bool) → i < length rows → has_place deleted i ≡ gone
+    → new ≡ cond gone places (places ++ i ∷ []) → AreLeftUntil deleted rows i places → AreLeftUntil deleted rows (i + 1) new
+left_by deleted rows i places new true less g is so_far = rw is (left_skip deleted rows i places less g so_far)
+left_by deleted rows i places new false less g is so_far = rw is (left_take deleted rows i places less g so_far)
+
+pub left_next : (deleted : List ℕ) (rows : List (List Value)) (i : ℕ) (places new : List ℕ) → i < length rows
+    → new ≡ cond (has_place deleted i) places (places ++ i ∷ []) → AreLeftUntil deleted rows i places → AreLeftUntil deleted rows (i + 1) new
+left_next deleted rows i places new less is so_far = left_by deleted rows i places new (has_place deleted i) less refl is so_far
+
+-- as many rows left as there are
+pub all_left : (deleted : List ℕ) (rows : List (List Value)) → AreDeleted deleted rows → length (left_rows deleted rows) ≡ length rows → left_rows deleted rows ≡ rows
+all_left deleted rows are long =
+    let count : length deleted + length (left_rows deleted rows) ≡ length rows = are.count in
+    let none : deleted ≡ [] = nil_from_length deleted (omega (arith, count, long)) in
+    ap (λ d. left_rows d rows) none ∙ left_all rows
+
+pub ruleset parts = (left_all, none_deleted)

@@ -1,6 +1,7 @@
 pub mod DeleteKeys
 pub mod FoundKeys
 pub mod Order
+pub mod PartLists
 pub mod LeftRows
 pub mod Sales
 pub mod VersionSteps

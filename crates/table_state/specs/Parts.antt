@@ -30,7 +30,7 @@ pub record AreDeleted (deleted : List ℕ) (rows : List (List Value)) : Type 0 w
 -- the places of the rows that are left
 pub record IsLeft (deleted : List ℕ) (rows : List (List Value)) (places : List ℕ) : Type 0 where
   pub below : AreBelow (length rows) places
-  pub rows : gathered [] rows places ≡ left_rows deleted rows
+  pub left : gathered [] rows places ≡ left_rows deleted rows
 
 -- more deleted places: also those of the rows of orders of these keys
 pub record IsWithout (keys : List ℤ) (deleted : List ℕ) (rows : List (List Value)) (more : List ℕ) : Type 0 where

@@ -21,14 +21,14 @@ pub(crate) fn key_set(alloc: Global, keys: &[i64]) -> Result<IndexSet<i64>, Allo
 
 /// Puts an order's key among the found ones, if it is wanted.
 fn find_order(
-    key: i64,
+    key: &i64,
     wanted: &IndexSet<i64>,
     found: &mut IndexSet<i64>,
 ) -> Result<(), AllocError>
-    ensures { OnOk result ((keys : List ℤ) → TellsKeys wanted.now.keys keys found.old.keys → TellsKeys wanted.now.keys (keys ++ key ∷ []) found.new.keys) }
+    ensures { OnOk result ((keys : List ℤ) → TellsKeys wanted.now.keys keys found.old.keys → TellsKeys wanted.now.keys (keys ++ key.now ∷ []) found.new.keys) }
 {
-    if has_key(wanted, key) {
-        put_key(found, key)?;
+    if wanted.contains(key) {
+        put_key(found, *key)?;
     }
     Ok(())
 }
@@ -42,7 +42,7 @@ fn find_orders(
     ensures { OnOk result ((before : List ℤ) → TellsKeys wanted.now.keys before found.old.keys → TellsKeys wanted.now.keys (before ++ keys.now) found.new.keys) }
 {
     for key in keys {
-        find_order(*key, wanted, found)?;
+        find_order(key, wanted, found)?;
     }
     Ok(())
 }

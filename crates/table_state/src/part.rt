@@ -3,7 +3,7 @@ ghost use Rattle.std.specs.Prelude.{◌≡◌, ◌<◌, ◌++◌, ◌∷◌, ◌
 ghost use Rattle.std.specs.List.Sorted.{IsNonDecreasing};
 ghost use Rattle.columns.specs.Lists.{AreBelow, gathered};
 ghost use Rattle.table_state.specs.Keys.{has_key, line_key, line_keys, number_at, order_key, order_keys};
-ghost use Rattle.table_state.specs.Parts.{IsLeft, IsWithout, has_place};
+ghost use Rattle.table_state.specs.Parts.{IsLeft, IsWithout, has_place, left_rows};
 ghost use Rattle.table_state.specs.Refresh.{without_keys};
 
 use crate::keys::{LineKey, has_key};
@@ -60,7 +60,6 @@ fn line_key(segment: &Segment, i: usize) -> LineKey
 }
 
 /// One place more, if its row is deleted already or of an order of these keys.
-#[tactic(auto, using(crate::proofs::LeftRows::parts))]
 fn put_place(
     segment: &Segment,
     deleted: &[u32],
@@ -96,8 +95,120 @@ fn places_without(
     Ok(places)
 }
 
+/// Puts the key of the order in a row after others, unless it is deleted.
+fn put_order_key(
+    segment: &Segment,
+    deleted: &[u32],
+    i: usize,
+    keys: &mut Vec<i64>,
+) -> Result<(), AllocError>
+    requires up { IsNonDecreasing deleted.now }
+    requires within { i < length segment.now }
+    requires short { i < 4096 }
+    ensures { OnOk result (keys.new.items ≡ (if has_place deleted.now i then keys.old.items else keys.old.items ++ order_key (slice_index_or segment.now i []) ∷ [])) }
+{
+    if !has_place(deleted, i as u32) {
+        keys.push(number_at(segment, i, 0))?;
+    }
+    Ok(())
+}
+
+/// Puts the keys of a segment's orders after others, but for the deleted ones.
+fn put_order_keys(
+    segment: &Segment,
+    deleted: &[u32],
+    keys: &mut Vec<i64>,
+) -> Result<(), AllocError>
+    requires { IsNonDecreasing deleted.now }
+    ensures { OnOk result (keys.new.items ≡ keys.old.items ++ order_keys (left_rows deleted.now segment.now)) }
+{
+    for i in 0..segment.len() {
+        put_order_key(segment, deleted, i, keys)?;
+    }
+    Ok(())
+}
+
+/// Puts the key of the lineitem in a row after others, unless it is deleted.
+fn put_line_key(
+    segment: &Segment,
+    deleted: &[u32],
+    i: usize,
+    keys: &mut Vec<LineKey>,
+) -> Result<(), AllocError>
+    requires up { IsNonDecreasing deleted.now }
+    requires within { i < length segment.now }
+    requires short { i < 4096 }
+    ensures { OnOk result (keys.new.items ≡ (if has_place deleted.now i then keys.old.items else keys.old.items ++ line_key (slice_index_or segment.now i []) ∷ [])) }
+{
+    if !has_place(deleted, i as u32) {
+        keys.push(line_key(segment, i))?;
+    }
+    Ok(())
+}
+
+/// Puts the keys of a segment's lineitems after others, but for the deleted ones.
+fn put_line_keys(
+    segment: &Segment,
+    deleted: &[u32],
+    keys: &mut Vec<LineKey>,
+) -> Result<(), AllocError>
+    requires { IsNonDecreasing deleted.now }
+    ensures { OnOk result (keys.new.items ≡ keys.old.items ++ line_keys (left_rows deleted.now segment.now)) }
+{
+    for i in 0..segment.len() {
+        put_line_key(segment, deleted, i, keys)?;
+    }
+    Ok(())
+}
+
+/// Puts a row after others, unless it is deleted.
+fn put_row(
+    alloc: Global,
+    segment: &Segment,
+    deleted: &[u32],
+    i: usize,
+    rows: &mut Vec<Row>,
+) -> Result<(), AllocError>
+    requires up { IsNonDecreasing deleted.now }
+    requires within { i < length segment.now }
+    requires short { i < 4096 }
+    ensures { OnOk result (rows.new.items ≡ (if has_place deleted.now i then rows.old.items else rows.old.items ++ slice_index_or segment.now i [] ∷ [])) }
+{
+    if !has_place(deleted, i as u32) {
+        let row = Row::new(segment.row(alloc, i)?)?;
+        rows.push(row)?;
+    }
+    Ok(())
+}
+
+/// Puts a segment's rows after others, but for the deleted ones.
+fn put_rows(
+    alloc: Global,
+    segment: &Segment,
+    deleted: &[u32],
+    rows: &mut Vec<Row>,
+) -> Result<(), AllocError>
+    requires { IsNonDecreasing deleted.now }
+    ensures { OnOk result (rows.new.items ≡ rows.old.items ++ left_rows deleted.now segment.now) }
+{
+    for i in 0..segment.len() {
+        put_row(alloc, segment, deleted, i, rows)?;
+    }
+    Ok(())
+}
+
+/// Puts a place after others, unless it is deleted.
+fn put_left(deleted: &[u32], place: u32, places: &mut Vec<u32>) -> Result<(), AllocError>
+    requires { IsNonDecreasing deleted.now }
+    ensures { OnOk result (places.new.items ≡ (if has_place deleted.now place then places.old.items else places.old.items ++ place ∷ [])) }
+{
+    if !has_place(deleted, place) {
+        places.push(place)?;
+    }
+    Ok(())
+}
+
 /// The places of a segment's rows that are not deleted.
-#[tactic(auto, using(crate::proofs::LeftRows::parts))]
 fn left_places(
     alloc: Global,
     segment: &Segment,
@@ -108,9 +219,7 @@ fn left_places(
 {
     let mut places = Vec::with_capacity(alloc, segment.len())?;
     for i in 0..segment.len() {
-        if !has_place(deleted, i as u32) {
-            places.push(i as u32)?;
-        }
+        put_left(deleted, i as u32, &mut places)?;
     }
     Ok(places)
 }
@@ -136,37 +245,21 @@ impl Part {
     pub(crate) fn put_order_keys(&self, keys: &mut Vec<i64>) -> Result<(), AllocError>
         ensures { OnOk result (keys.new.items ≡ keys.old.items ++ order_keys self.now) }
     {
-        for i in 0..self.segment.len() {
-            if !has_place(self.deleted.as_slice(), i as u32) {
-                keys.push(number_at(&self.segment, i, 0))?;
-            }
-        }
-        Ok(())
+        put_order_keys(&self.segment, self.deleted.as_slice(), keys)
     }
 
     /// Puts the keys of the lineitems after others.
     pub(crate) fn put_line_keys(&self, keys: &mut Vec<LineKey>) -> Result<(), AllocError>
         ensures { OnOk result (keys.new.items ≡ keys.old.items ++ line_keys self.now) }
     {
-        for i in 0..self.segment.len() {
-            if !has_place(self.deleted.as_slice(), i as u32) {
-                keys.push(line_key(&self.segment, i))?;
-            }
-        }
-        Ok(())
+        put_line_keys(&self.segment, self.deleted.as_slice(), keys)
     }
 
     /// Puts the rows after others, each as a row of its own.
     pub(crate) fn put_rows(&self, alloc: Global, rows: &mut Vec<Row>) -> Result<(), AllocError>
         ensures { OnOk result (rows.new.items ≡ rows.old.items ++ self.now) }
     {
-        for i in 0..self.segment.len() {
-            if !has_place(self.deleted.as_slice(), i as u32) {
-                let row = Row::new(self.segment.row(alloc, i)?)?;
-                rows.push(row)?;
-            }
-        }
-        Ok(())
+        put_rows(alloc, &self.segment, self.deleted.as_slice(), rows)
     }
 
     /// A share of the stored segment, and the places of the rows that are left of it, unless all are.
@@ -176,7 +269,7 @@ impl Part {
         ensures left { IfOk result (λ stored. IfSome stored.1 (λ places. self.now ≡ gathered [] stored.0 places.items)) }
     {
         let segment = self.segment.clone()?;
-        if self.deleted.is_empty() {
+        if self.len() == segment.len() {
             return Ok((segment, None));
         }
         let places = left_places(alloc, &self.segment, self.deleted.as_slice())?;

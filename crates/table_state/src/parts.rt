@@ -32,7 +32,7 @@ impl Model for Parts {
     ghost invariant = { λ p. p.count ≡ length (one_list p.parts.items) };
 }
 
-#[tactic(auto, using(columns::proofs::RowLists::rows))]
+#[tactic(auto, using(crate::proofs::PartLists::lists))]
 impl Parts {
     /// No rows.
     pub(crate) fn new(alloc: Global) -> Parts

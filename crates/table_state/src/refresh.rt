@@ -65,7 +65,6 @@ impl Refresh {
     }
 
     /// Removes the orders whose keys are the lines of a delete file, with all their lineitems. These are the file's rows.
-    #[tactic(auto, using(crate::proofs::DeleteKeys::delete_keys))]
     pub fn delete_rows(alloc: Global, rows: &Rows) -> Result<Refresh, AllocError>
         requires { RowsFit (refresh_form RefreshFile.Delete) rows.now }
         ensures { IfOk result (λ refresh. refresh ≡ DeleteKeys (order_keys rows.now)) }
