@@ -1,6 +1,15 @@
 //! Versions of a base under refreshes that are tried in order.
 use super::*;
 
+/// The version after the next refresh, which is accepted.
+fn next(directory: &mut Directory) -> Result<Directory, Fail> {
+    if directory.is_done() {
+        return Err("no refresh is left".into());
+    }
+    let after = directory.after_next()?;
+    Ok(after)
+}
+
 #[test]
 fn tries_eight_pairs(rt: HostRuntime) -> Result<(), Fail> {
     let alloc = rt.alloc();
@@ -12,11 +21,11 @@ fn tries_eight_pairs(rt: HostRuntime) -> Result<(), Fail> {
     list.push(insert(alloc, &[NINE], &[NINE_ONE])?)?;
     let mut directory = Directory::new(alloc, state(alloc, &[ORDERS], &[])?, list)?;
     for _refresh in 0..16 {
-        directory = directory.after_next()?;
+        directory = next(&mut directory)?;
     }
     assert_eq!(rt; directory.version(), 16);
     assert_eq!(rt; directory.count(TableName::Orders), 2);
-    let last = directory.after_next()?;
+    let last = next(&mut directory)?;
     assert_eq!(rt; last.version(), 17);
     assert_eq!(rt; last.count(TableName::Orders), 3);
     assert!(rt; last.is_done());
@@ -29,15 +38,16 @@ fn keeps_earlier_versions(rt: HostRuntime) -> Result<(), Fail> {
     let list = vec![in alloc; delete(alloc, &[b"9"])?, delete(alloc, &[b"8"])?]?;
     let mut base = Directory::new(alloc, state(alloc, &[ORDERS], &[EIGHT_TWO])?, list)?;
     let first = base.another()?;
+    assert!(rt; !base.is_done());
     let refused = base.after_next();
     assert!(rt; matches!(refused, Err(RefreshError::Refused(Cause::UnknownOrder(9)))));
     assert!(rt; base.version() == 0 && !base.is_done());
-    let next = base.after_next()?;
-    assert!(rt; next.is_done() && next.version() == 1);
+    let last = next(&mut base)?;
+    assert!(rt; last.is_done() && last.version() == 1);
     assert!(rt; base.version() == 0 && first.version() == 0);
-    let orders = keys(alloc, &next.rows(TableName::Orders)?)?;
+    let orders = keys(alloc, &last.rows(TableName::Orders)?)?;
     assert!(rt; orders.as_slice() == [7].as_slice());
-    assert_eq!(rt; next.count(TableName::Lineitem), 0);
+    assert_eq!(rt; last.count(TableName::Lineitem), 0);
     assert_eq!(rt; first.count(TableName::Lineitem), 1);
     Ok(())
 }
