@@ -1,0 +1,4 @@
+pub mod Arranged
+pub mod Groups
+pub mod Own
+pub mod Sink
