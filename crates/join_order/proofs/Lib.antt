@@ -7,3 +7,4 @@ pub mod Apart
 pub mod SameNodes
 pub mod Sinking
 pub mod OnParts
+pub mod OfOrs

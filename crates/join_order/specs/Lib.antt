@@ -2,3 +2,4 @@ pub mod Arranged
 pub mod Groups
 pub mod Own
 pub mod Sink
+pub mod Implied

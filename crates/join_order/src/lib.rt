@@ -4,6 +4,7 @@
 mod choice;
 mod collect;
 mod group;
+mod implied;
 mod joined;
 mod nodes;
 mod sink;
