@@ -1,49 +1,14 @@
-//! Refreshes that are read from their files, applied to states and tried in order.
-mod causes;
-mod versions;
-
+//! Versions of an empty base.
 use super::*;
 use columns::Rows;
-use refusals::{Cause, RefreshFile};
-use sql_value::{Row, Value};
-use std::alloc::Global;
+use refusals::{Cause, LineFault, LineRefusal, RefreshFile};
 use std::test::Fail;
-use table_state::{Refresh, RefreshError, State, apply};
-use tbl_reader::{RefreshReader, TableError, TableReader};
+use table_state::{Refresh, RefreshError, State};
 use tpch_schema::TableName;
 
-ghost use Rattle.std.specs.Prelude.{IfOk};
-ghost use Rattle.tpch_schema.specs.Kinds.{RowsAreOf};
-
-/// Two orders of a base.
-const ORDERS: &[u8] = b"7|1|O|10.00|1996-01-02|1-URGENT|K|0|x|\n8|1|F|20.00|1996-01-03|5-LOW|K|0|y|\n";
-/// An order of a refresh, and lineitems of it and of others, named by their order and their line.
-const NINE: &[u8] = b"9|2|O|5.00|1996-01-04|5-LOW|K|0|z|\n";
-const NINE_ONE: &[u8] =
-    b"9|1|1|1|1.00|5.00|0.00|0.00|N|O|1996-02-01|1996-02-02|1996-02-03|NONE|MAIL|w|\n";
-const NINE_TWO: &[u8] =
-    b"9|1|1|2|1.00|5.00|0.00|0.00|N|O|1996-02-01|1996-02-02|1996-02-03|NONE|MAIL|w|\n";
-const TEN_ONE: &[u8] =
-    b"10|1|1|1|1.00|5.00|0.00|0.00|N|O|1996-02-01|1996-02-02|1996-02-03|NONE|MAIL|w|\n";
-const SEVEN_ONE: &[u8] =
-    b"7|1|1|1|1.00|5.00|0.00|0.00|N|O|1996-02-01|1996-02-02|1996-02-03|NONE|MAIL|w|\n";
-const EIGHT_TWO: &[u8] =
-    b"8|1|1|2|1.00|5.00|0.00|0.00|N|O|1996-02-01|1996-02-02|1996-02-03|NONE|MAIL|w|\n";
-
-/// The rows of a table's file.
-fn table(alloc: Global, table: TableName, pieces: &[&[u8]]) -> Result<Rows, Fail>
-    ensures { IfOk result (RowsAreOf table) }
-{
-    let mut reader = TableReader::new(alloc, table)?;
-    for piece in pieces {
-        reader.feed(piece)?;
-    }
-    let rows = reader.finish()?;
-    Ok(rows)
-}
-
-/// A state of these orders and lineitems alone.
-fn state(alloc: Global, orders: &[&[u8]], lineitems: &[&[u8]]) -> Result<State, Fail> {
+#[test]
+fn counts_accepted_refreshes(rt: HostRuntime) -> Result<(), Fail> {
+    let alloc = rt.alloc();
     let tables = vec![in alloc;
         Rows::new(alloc),
         Rows::new(alloc),
@@ -51,70 +16,32 @@ fn state(alloc: Global, orders: &[&[u8]], lineitems: &[&[u8]]) -> Result<State, 
         Rows::new(alloc),
         Rows::new(alloc),
         Rows::new(alloc),
-        table(alloc, TableName::Orders, orders)?,
-        table(alloc, TableName::Lineitem, lineitems)?,
+        Rows::new(alloc),
+        Rows::new(alloc),
     ]?;
-    let state = State::new(alloc, tables)?;
-    Ok(state)
-}
-
-/// The rows of the orders' file of a refresh set.
-fn orders(alloc: Global, pieces: &[&[u8]]) -> Result<Rows, Fail>
-    ensures { IfOk result (RowsAreOf TableName.Orders) }
-{
-    let mut reader = RefreshReader::new(alloc, RefreshFile::Orders)?;
-    for piece in pieces {
-        reader.feed(piece)?;
-    }
-    let rows = reader.finish()?;
-    Ok(rows)
-}
-
-/// The rows of the lineitems' file of a refresh set.
-fn lineitems(alloc: Global, pieces: &[&[u8]]) -> Result<Rows, Fail>
-    ensures { IfOk result (RowsAreOf TableName.Lineitem) }
-{
-    let mut reader = RefreshReader::new(alloc, RefreshFile::Lineitem)?;
-    for piece in pieces {
-        reader.feed(piece)?;
-    }
-    let rows = reader.finish()?;
-    Ok(rows)
-}
-
-/// An insert of these files.
-fn insert(alloc: Global, new_orders: &[&[u8]], new_lineitems: &[&[u8]]) -> Result<Refresh, Fail> {
-    let orders = orders(alloc, new_orders)?;
-    let lineitems = lineitems(alloc, new_lineitems)?;
-    Ok(Refresh::insert(orders, lineitems))
-}
-
-/// A delete of this file.
-fn delete(alloc: Global, pieces: &[&[u8]]) -> Result<Refresh, Fail> {
-    let mut reader = RefreshReader::new(alloc, RefreshFile::Delete)?;
-    for piece in pieces {
-        reader.feed(piece)?;
-    }
-    let rows = reader.finish()?;
-    let refresh = Refresh::delete_rows(alloc, &rows)?;
-    Ok(refresh)
-}
-
-/// The numbers in the first column of rows.
-fn keys(alloc: Global, rows: &[Row]) -> Result<Vec<i128>, Fail> {
-    let mut keys = Vec::new(alloc);
-    for row in rows {
-        match row.values() {
-            [Value::Number(_, key), ..] => keys.push(*key)?,
-            _ => (),
-        }
-    }
-    Ok(keys)
-}
-
-/// Whether the keys of a state's orders, and of its lineitems' orders, are these.
-fn has(alloc: Global, state: &State, orders: &[i128], lineitems: &[i128]) -> Result<bool, Fail> {
-    let of_orders = keys(alloc, &state.rows(alloc, TableName::Orders)?)?;
-    let of_lineitems = keys(alloc, &state.rows(alloc, TableName::Lineitem)?)?;
-    Ok(of_orders.as_slice() == orders && of_lineitems.as_slice() == lineitems)
+    let bad = LineRefusal {
+        line: 1,
+        fault: LineFault::BadNumber,
+    };
+    let list = vec![in alloc;
+        Refresh::malformed(RefreshFile::Delete, 1, bad),
+        Refresh::delete(Vec::new(alloc)),
+    ]?;
+    let mut directory = Directory::new(alloc, State::new(alloc, tables)?, list)?;
+    let first = directory.another()?;
+    assert!(rt; !directory.is_done());
+    let refused = directory.after_next();
+    assert!(rt;
+        matches!(
+            refused,
+            Err(RefreshError::Refused(Cause::Malformed(RefreshFile::Delete, 1, _)))
+        )
+    );
+    assert_eq!(rt; directory.version(), 0);
+    assert!(rt; !directory.is_done());
+    let next = directory.after_next()?;
+    assert!(rt; next.is_done() && next.version() == 1);
+    assert!(rt; directory.version() == 0 && first.version() == 0);
+    assert!(rt; next.rows(TableName::Orders)?.is_empty() && next.count(TableName::Orders) == 0);
+    Ok(())
 }

@@ -114,11 +114,7 @@ fn put_order_key(
 }
 
 /// Puts the keys of a segment's orders after others, but for the deleted ones.
-fn put_order_keys(
-    segment: &Segment,
-    deleted: &[u32],
-    keys: &mut Vec<i64>,
-) -> Result<(), AllocError>
+fn put_order_keys(segment: &Segment, deleted: &[u32], keys: &mut Vec<i64>) -> Result<(), AllocError>
     requires { IsNonDecreasing deleted.now }
     ensures { OnOk result (keys.new.items ≡ keys.old.items ++ order_keys (left_rows deleted.now segment.now)) }
 {
@@ -209,11 +205,7 @@ fn put_left(deleted: &[u32], place: u32, places: &mut Vec<u32>) -> Result<(), Al
 }
 
 /// The places of a segment's rows that are not deleted.
-fn left_places(
-    alloc: Global,
-    segment: &Segment,
-    deleted: &[u32],
-) -> Result<Vec<u32>, AllocError>
+fn left_places(alloc: Global, segment: &Segment, deleted: &[u32]) -> Result<Vec<u32>, AllocError>
     requires { IsNonDecreasing deleted.now }
     ensures { IfOk result (λ places. IsLeft deleted.now segment.now places.items) }
 {
