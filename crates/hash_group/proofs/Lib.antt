@@ -2,3 +2,4 @@ pub mod Steps
 pub mod Grouped
 pub mod KeyCells
 pub mod Ranks
+pub mod FilledRows

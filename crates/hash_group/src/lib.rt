@@ -2,6 +2,7 @@
 #![tactic(auto)]
 
 mod aggregate;
+mod filling;
 mod grouping;
 mod groups;
 mod identical;
@@ -10,6 +11,7 @@ mod standings;
 mod values;
 
 pub use aggregate::{accumulated_by_number, aggregated_by_number};
+pub use filling::fill;
 pub use groups::accumulated;
 pub use identical::{distinct, domain};
 pub use values::{ColumnValues, Nulls, SliceValues, ValueList};
