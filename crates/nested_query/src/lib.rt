@@ -9,5 +9,5 @@ mod query;
 pub use copy::copy_block;
 pub use kinds::kind_of_column;
 pub use query::{
-    BoundAggregate, BoundBlock, BoundExpr, BoundOrderKey, BoundQuery, BoundSource, Input,
+    BoundAggregate, BoundBlock, BoundExpr, BoundQuery, BoundSource, Input,
 };
