@@ -8,6 +8,7 @@ mod query;
 
 pub use copy::copy_block;
 pub use kinds::kind_of_column;
-pub use query::{
-    BoundAggregate, BoundBlock, BoundExpr, BoundQuery, BoundSource, Input,
-};
+pub use query::{BoundAggregate, BoundBlock, BoundExpr, BoundQuery, BoundSource, Input};
+
+#[cfg(test)]
+mod tests;

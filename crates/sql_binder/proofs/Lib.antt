@@ -6,3 +6,4 @@ pub mod OnlyProofs
 pub mod Small
 pub mod Applied
 pub mod ExampleProofs
+pub mod EdgeProofs

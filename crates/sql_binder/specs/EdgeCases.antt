@@ -131,8 +131,8 @@ abbrev pub two_joins : Expr → Expr → Joined
 two_joins x y = roll-Joined (record { first = Table (codes "region") None; joins = join_on (codes "nation") x ∷ join_on (codes "supplier") y ∷ [] })
 
 -- ON of the first join doesn't see the third table; a name of another comma's item is looked for in the queries around
-abbrev pub Sights : Type 0
-Sights = Refuses (statement (select_from (item r_name ∷ []) (two_joins (equal (named (codes "s_nationkey")) (number 1)) is_africa ∷ []))) UnknownColumn
+abbrev pub SightsOfParts : Type 0
+SightsOfParts = Refuses (statement (select_from (item r_name ∷ []) (two_joins (equal (named (codes "s_nationkey")) (number 1)) is_africa ∷ []))) UnknownColumn
     × Refuses (statement (select_from (item r_name ∷ []) (from_table (codes "supplier") ∷ two_joins (equal (named (codes "s_nationkey")) (number 1)) is_africa ∷ []))) UnknownColumn
     × Refuses (statement (select_from (item r_name ∷ []) (from_derived name_of_region (codes "t") ∷ from_table (codes "region") ∷ []))) UnknownColumn
     × Refuses (over_region (e.Exists (select_where (item (number 1) ∷ []) (from_alias (codes "nation") (codes "region") ∷ []) (equal (of_item (codes "region") (codes "r_name")) r_name)))) UnknownColumn

@@ -14,3 +14,4 @@ pub mod Sizes
 pub mod Nests
 pub mod Laws
 pub mod Examples
+pub mod EdgeCases

@@ -1,7 +1,6 @@
 //! Names of a query bound to columns: a bound query, or the first refusal.
 #![tactic(auto)]
 
-mod bind;
 mod blocks;
 mod chain;
 mod clauses;
@@ -18,15 +17,13 @@ mod names;
 mod nodes;
 mod operands;
 mod scope;
+mod statements;
 mod steps;
 mod subqueries;
 mod syntax;
 mod values;
 mod view;
 
-pub use bind::{bind, bind_view};
 pub use fault::BindFault;
+pub use statements::{bind, bind_view};
 pub use view::{Header, View, Views};
-
-#[cfg(test)]
-mod tests;

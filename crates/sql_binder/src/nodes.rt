@@ -4,7 +4,7 @@ ghost use Rattle.nested_query.specs.declared.query.BoundAggregate.TheVariants.{C
 ghost use Rattle.scalar_expr.specs.declared.expr.Expr.TheVariants as e;
 ghost use Rattle.scalar_expr.specs.declared.kind.Kind.TheVariants as kind;
 ghost use Rattle.sql_value.specs.declared.value.Value.TheVariants as value;
-ghost use Rattle.sql_binder.specs.declared.collected.BoundKind.TheVariants.{Value};
+ghost use Rattle.sql_binder.specs.declared.collected.BoundKind.TheVariants as kinds;
 ghost use Rattle.sql_binder.specs.Values.{typed};
 ghost use Rattle.sql_binder.specs.Parts as spec;
 ghost use Rattle.sql_binder.specs.Binding.{meaning};
@@ -30,7 +30,7 @@ use std::alloc::{AllocError, Global};
 
 /// A number.
 fn number(alloc: Global, coefficient: i128, scale: Scale) -> Result<Typed, AllocError>
-    ensures { IfOk result (λ t. t ≡ typed (e.Literal (value.Number scale coefficient)) (Value (kind.Number scale))) }
+    ensures { IfOk result (λ t. t ≡ typed (e.Literal (value.Number scale coefficient)) (kinds.Value (kind.Number scale))) }
 {
     let value = scalar_expr::Expr::Literal(Value::Number(scale, coefficient));
     let t = typed(alloc, value, BoundKind::Value(Kind::Number(scale)))?;
@@ -39,7 +39,7 @@ fn number(alloc: Global, coefficient: i128, scale: Scale) -> Result<Typed, Alloc
 
 /// A text.
 fn text(alloc: Global, t: &Text) -> Result<Typed, AllocError>
-    ensures { IfOk result (λ r. r ≡ typed (e.Literal (value.Text t.now)) (Value kind.Text)) }
+    ensures { IfOk result (λ r. r ≡ typed (e.Literal (value.Text t.now)) (kinds.Value kind.Text)) }
 {
     let value = scalar_expr::Expr::Literal(Value::Text(t.clone()?));
     let t = typed(alloc, value, BoundKind::Value(Kind::Text))?;

@@ -4,7 +4,7 @@ use Rattle.sql_binder.specs.Names.{sight_of}
 use Rattle.sql_binder.specs.Nests.{BindsItem}
 use Rattle.sql_binder.specs.Clauses as spec
 use Rattle.sql_binder.specs.Binding.{item_meaning}
-use Rattle.sql_binder.proofs.clauses.ExprBinder.shown_items.Given as goal
+use Rattle.sql_binder.proofs.exprs.ExprBinder.shown_items.Given as goal
 
 abbrev pub invariant-items : goal.invariant-items
 invariant-items g l = record {

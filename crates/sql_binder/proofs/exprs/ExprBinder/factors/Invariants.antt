@@ -4,7 +4,7 @@ use Rattle.sql_binder.specs.Names.{sight_of}
 use Rattle.sql_binder.specs.Nests.{BindsFactor}
 use Rattle.sql_binder.specs.Operands as spec
 use Rattle.sql_binder.specs.Binding.{factor_meaning}
-use Rattle.sql_binder.proofs.operands.ExprBinder.factors.Given as goal
+use Rattle.sql_binder.proofs.exprs.ExprBinder.factors.Given as goal
 
 abbrev pub invariant-factors : goal.invariant-factors
 invariant-factors g l = record {

@@ -4,7 +4,7 @@ use Rattle.sql_binder.specs.Names.{sight_of}
 use Rattle.sql_binder.specs.Nests.{BindsJoin}
 use Rattle.sql_binder.specs.FromLists as spec
 use Rattle.sql_binder.specs.Binding.{join_meaning}
-use Rattle.sql_binder.proofs.joins.QueryBinder.joins.Given as goal
+use Rattle.sql_binder.proofs.subqueries.QueryBinder.joins.Given as goal
 
 abbrev pub invariant-joins : goal.invariant-joins
 invariant-joins g l = record {

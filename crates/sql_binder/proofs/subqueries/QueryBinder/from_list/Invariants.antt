@@ -4,7 +4,7 @@ use Rattle.sql_binder.specs.Names.{sight_of}
 use Rattle.sql_binder.specs.Nests.{BindsJoined}
 use Rattle.sql_binder.specs.FromLists as spec
 use Rattle.sql_binder.specs.Binding.{joined_meaning}
-use Rattle.sql_binder.proofs.joins.QueryBinder.from_list.Given as goal
+use Rattle.sql_binder.proofs.subqueries.QueryBinder.from_list.Given as goal
 
 abbrev pub invariant-from : goal.invariant-from
 invariant-from g l = record {

@@ -4,7 +4,7 @@ use Rattle.sql_binder.specs.Names.{sight_of}
 use Rattle.sql_binder.specs.Nests.{BindsTerm}
 use Rattle.sql_binder.specs.Operands as spec
 use Rattle.sql_binder.specs.Binding.{term_meaning}
-use Rattle.sql_binder.proofs.operands.ExprBinder.terms.Given as goal
+use Rattle.sql_binder.proofs.exprs.ExprBinder.terms.Given as goal
 
 abbrev pub invariant-terms : goal.invariant-terms
 invariant-terms g l = record {
