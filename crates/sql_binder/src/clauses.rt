@@ -1,7 +1,7 @@
 //! Clauses: WHERE, HAVING and ON, and the select list.
 ghost use Rattle.std.specs.Prelude.{map};
 ghost use Rattle.row_laws.specs.Bags.{Each};
-ghost use Rattle.sql_binder.specs.Clauses as clause;
+ghost use Rattle.sql_binder.specs.Clauses as clauses;
 ghost use Rattle.sql_binder.specs.FromLists as from;
 ghost use Rattle.sql_binder.specs.Binding.{meaning, clause_meaning, item_meaning, selected_meaning};
 ghost use Rattle.sql_binder.specs.Names.{sight_of};
@@ -59,7 +59,7 @@ impl<E: Fn(Global, &Site<'_>, &mut Collected, &Expr) -> Result<Typed, BindFault>
         clause: &Clause,
     ) -> Result<BoundExpr, BindFault>
         requires { BindsClause (E.pre self.now.expr) (E.post self.now.expr) clause.now }
-        ensures { Binds (clause.condition_in (sight_of site.now) (clause_meaning clause.now) state.old) result state.new }
+        ensures { Binds (clauses.condition_in (sight_of site.now) (clause_meaning clause.now) state.old) result state.new }
     {
         match clause {
             Clause::Absent => Ok(no_condition(self.alloc)?),
@@ -82,7 +82,7 @@ impl<E: Fn(Global, &Site<'_>, &mut Collected, &Expr) -> Result<Typed, BindFault>
         clause: &Clause,
     ) -> Result<BoundExpr, BindFault>
         requires { BindsClause (E.pre self.now.expr) (E.post self.now.expr) clause.now }
-        ensures { Binds (clause.condition (sight_of site.now) columns.now keys.now (clause_meaning clause.now) state.old) result state.new }
+        ensures { Binds (clauses.condition (sight_of site.now) columns.now keys.now (clause_meaning clause.now) state.old) result state.new }
     {
         let levels = before(self.alloc, Level { columns, keys }, site.levels)?;
         let inner = Site {
@@ -104,7 +104,7 @@ impl<E: Fn(Global, &Site<'_>, &mut Collected, &Expr) -> Result<Typed, BindFault>
         i: &Item,
     ) -> Result<Shown, BindFault>
         requires { BindsItem (E.pre self.now.expr) (E.post self.now.expr) i.now }
-        ensures { Binds (clause.shown_item (sight_of site.now) done (item_meaning i.now) state.old) result state.new }
+        ensures { Binds (clauses.shown_item (sight_of site.now) done (item_meaning i.now) state.old) result state.new }
     {
         let p = self.part(site, state, &i.value)?;
         let name = item_name(self.alloc, i)?;
@@ -121,7 +121,7 @@ impl<E: Fn(Global, &Site<'_>, &mut Collected, &Expr) -> Result<Typed, BindFault>
         items: &[Item],
     ) -> Result<Shown, BindFault>
         requires { Each (BindsItem (E.pre self.now.expr) (E.post self.now.expr)) items.now }
-        ensures { Binds (clause.shown_items (sight_of site.now) (map item_meaning items.now) state.old) result state.new }
+        ensures { Binds (clauses.shown_items (sight_of site.now) (map item_meaning items.now) state.old) result state.new }
     {
         let mut done = nothing_shown(self.alloc);
         let mut left = items;
@@ -143,7 +143,7 @@ impl<E: Fn(Global, &Site<'_>, &mut Collected, &Expr) -> Result<Typed, BindFault>
         selected: &Selected,
     ) -> Result<Shown, BindFault>
         requires { BindsSelected (E.pre self.now.expr) (E.post self.now.expr) selected.now }
-        ensures { Binds (clause.select_in (sight_of site.now) keys.now columns.now (selected_meaning selected.now) state.old) result state.new }
+        ensures { Binds (clauses.select_in (sight_of site.now) keys.now columns.now (selected_meaning selected.now) state.old) result state.new }
     {
         match selected {
             Selected::All => {
@@ -168,7 +168,7 @@ impl<E: Fn(Global, &Site<'_>, &mut Collected, &Expr) -> Result<Typed, BindFault>
         selected: &Selected,
     ) -> Result<Shown, BindFault>
         requires { BindsSelected (E.pre self.now.expr) (E.post self.now.expr) selected.now }
-        ensures { Binds (clause.select (sight_of site.now) columns.now keys.now (selected_meaning selected.now) state.old) result state.new }
+        ensures { Binds (clauses.select (sight_of site.now) columns.now keys.now (selected_meaning selected.now) state.old) result state.new }
     {
         let levels = before(self.alloc, Level { columns, keys }, site.levels)?;
         let inner = Site {

@@ -122,6 +122,7 @@ impl<E: Fn(Global, &Site<'_>, &mut Collected, &Expr) -> Result<Typed, BindFault>
     }
 
     /// A term: an interval moves the date literal before it.
+    #[tactic(auto, using(crate::proofs::Opened::term_is))]
     fn term(
         &self,
         site: &Site<'_>,
@@ -146,6 +147,7 @@ impl<E: Fn(Global, &Site<'_>, &mut Collected, &Expr) -> Result<Typed, BindFault>
     }
 
     /// A factor.
+    #[tactic(auto, using(crate::proofs::Opened::factor_is))]
     fn factor(
         &self,
         site: &Site<'_>,
@@ -238,7 +240,7 @@ impl<E: Fn(Global, &Site<'_>, &mut Collected, &Expr) -> Result<Typed, BindFault>
     }
 
     /// The conditions of a CASE's arms.
-    #[tactic(auto, unfolding(crate::specs::Operands::arm_conditions))]
+    #[tactic(auto, using(crate::proofs::Opened::arm_is), unfolding(crate::specs::Operands::arm_conditions))]
     fn arm_conditions(
         &self,
         site: &Site<'_>,
@@ -259,7 +261,7 @@ impl<E: Fn(Global, &Site<'_>, &mut Collected, &Expr) -> Result<Typed, BindFault>
     }
 
     /// The branches of a CASE's arms.
-    #[tactic(auto, unfolding(crate::specs::Operands::arm_values))]
+    #[tactic(auto, using(crate::proofs::Opened::arm_is), unfolding(crate::specs::Operands::arm_values))]
     fn arm_values(
         &self,
         site: &Site<'_>,
