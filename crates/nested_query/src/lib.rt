@@ -9,6 +9,3 @@ mod query;
 pub use copy::copy_block;
 pub use kinds::kind_of_column;
 pub use query::{BoundAggregate, BoundBlock, BoundExpr, BoundQuery, BoundSource, Input};
-
-#[cfg(test)]
-mod tests;
