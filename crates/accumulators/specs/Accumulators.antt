@@ -1,9 +1,11 @@
 -- What accumulators have of the values that they took.
-use Rattle.std.specs.Prelude.{◌≡◌, ℕ, ◌==◌, List, length, Bool, cond}
+use Rattle.std.specs.Prelude.{◌≡◌, ℕ, ◌==◌, List, [], ◌∷◌, length, Bool, cond}
 use Rattle.fixed_decimal.specs.Tally.{Sums, sums, total_of, average_of, average_scale}
-use Rattle.row_laws.specs.Bags.{weigh}
+use Rattle.row_laws.specs.Bags.{weigh, each_once}
 use Rattle.row_laws.specs.Aggregates.{not_null, least_fault, first_of}
+use Rattle.key_tables.specs.Distinct.{added}
 use Rattle.sql_value.specs.declared.value.Value.{Value}
+use Rattle.sql_value.specs.Value.{same_value}
 use Rattle.aggregates.specs.Values.{written, reading, above, below, is_before, number_or_fault}
 
 -- a function of a list of values, as an aggregate is
@@ -61,3 +63,13 @@ first_value is_greatest vs = first_of (extreme_order is_greatest) (written 1) vs
 pub record Compared (rank : ℕ) (is_greatest : Bool) (value : Value) (vs : List Value) : Type 0 where
   pub least : rank ≡ least_fault_rank vs
   pub best : value ≡ first_value is_greatest (present vs)
+
+-- the list with each of the others after it that doesn't stand there yet
+abbrev pub added_all : {X : Type 0} → (X → X → Bool) → List X → List X → List X
+added_all same ds [] = ds
+added_all same ds (x ∷ xs) = added_all same (added same ds x) xs
+
+-- the rank of the least fault among the values, and those that aren't null, identical ones once
+pub record CountedDistinct (rank : ℕ) (distinct vs : List Value) : Type 0 where
+  pub least : rank ≡ least_fault_rank vs
+  pub seen : distinct ≡ each_once same_value (present vs)

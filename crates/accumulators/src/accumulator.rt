@@ -3,8 +3,9 @@ ghost use Rattle.std.specs.Prelude.{◌≡◌, ℕ, ◌+◌, ◌<◌, ◌≤◌,
 ghost use Rattle.sql_value.specs.declared.value.Value.{Value as Datum};
 ghost use Rattle.accumulators.specs.Accumulators.{OfValues};
 
+use fixed_decimal::Scale;
 use sql_value::Value;
-use std::alloc::AllocError;
+use std::alloc::{AllocError, Global};
 
 /// Computes an aggregate of a list of values, which come one by one or as what other accumulators
 /// have of parts of the list.
@@ -14,6 +15,14 @@ pub trait Accumulator: Drop {
 
     /// How many terms it counts: no more than values that it has taken.
     ghost terms: { Self → ℕ };
+
+    /// The aggregate that it computes, over numbers of a scale.
+    ghost aggregate: { ℕ → OfValues };
+
+    /// Of no values, whose numbers will be of this scale.
+    fn new(alloc: Global, scale: Scale) -> Self
+        ensures terms { terms result ≡ 0 }
+        ensures taken { has_taken result (aggregate scale) [] };
 
     /// Takes a value behind those that it has.
     fn put(&mut self, value: &Value) -> Result<(), AllocError>

@@ -1,29 +1,14 @@
 //! Numbers of rows and of values.
-ghost use Rattle.std.specs.Prelude.{◌≡◌, [], ◌^◌, ◌<◌};
-
 use crate::accumulator::Accumulator;
 use crate::term::{least_with, terms_of, unless_fault};
 use fixed_decimal::Scale;
 use sql_value::{Standing, Value};
-use std::alloc::AllocError;
+use std::alloc::{AllocError, Global};
 
 /// count(*): how many rows there are, whatever stands in them.
 #[derive(Clone, Copy, Debug)]
 pub struct CountRows {
     rows: u64,
-}
-
-impl CountRows {
-    ghost use Rattle.row_laws.specs.Aggregates.{count_rows};
-    ghost use Rattle.aggregates.specs.Values.{reading};
-
-    /// Of no rows.
-    pub fn new() -> CountRows
-        ensures terms { ⟦<CountRows as Accumulator>⟧.terms result ≡ 0 }
-        ensures taken { ⟦<CountRows as Accumulator>⟧.has_taken result (count_rows (reading 0)) [] }
-    {
-        CountRows { rows: 0 }
-    }
 }
 
 impl Accumulator for CountRows {
@@ -34,6 +19,12 @@ impl Accumulator for CountRows {
     ghost has_taken = { λ s aggregate vs. GiveTheSame aggregate (count_rows (reading 0)) × CountedRows s.rows vs };
 
     ghost terms = { λ s. s.rows };
+
+    ghost aggregate = { λ scale. count_rows (reading 0) };
+
+    fn new(_alloc: Global, _scale: Scale) -> CountRows {
+        CountRows { rows: 0 }
+    }
 
     fn put(&mut self, _value: &Value) -> Result<(), AllocError> {
         self.rows += 1;
@@ -57,22 +48,6 @@ pub struct Count {
     terms: u64,
 }
 
-impl Count {
-    ghost use Rattle.row_laws.specs.Aggregates.{count_of};
-    ghost use Rattle.aggregates.specs.Values.{reading};
-
-    /// Of no values.
-    pub fn new() -> Count
-        ensures terms { ⟦<Count as Accumulator>⟧.terms result ≡ 0 }
-        ensures taken { ⟦<Count as Accumulator>⟧.has_taken result (count_of (reading 0)) [] }
-    {
-        Count {
-            least: Standing::AtTrue,
-            terms: 0,
-        }
-    }
-}
-
 impl Accumulator for Count {
     ghost use Rattle.row_laws.specs.Aggregates.{count_of};
     ghost use Rattle.sql_value.specs.Truth.{standing_rank};
@@ -82,6 +57,15 @@ impl Accumulator for Count {
     ghost has_taken = { λ s aggregate vs. GiveTheSame aggregate (count_of (reading 0)) × Counted (standing_rank s.least) s.terms vs };
 
     ghost terms = { λ s. s.terms };
+
+    ghost aggregate = { λ scale. count_of (reading 0) };
+
+    fn new(_alloc: Global, _scale: Scale) -> Count {
+        Count {
+            least: Standing::AtTrue,
+            terms: 0,
+        }
+    }
 
     fn put(&mut self, value: &Value) -> Result<(), AllocError> {
         self.least = least_with(self.least, value);

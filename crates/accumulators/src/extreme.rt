@@ -1,33 +1,18 @@
 //! The least and the greatest value.
-ghost use Rattle.std.specs.Prelude.{◌≡◌, [], ◌∷◌, ◌++◌, ◌^◌, ◌<◌, if◌then◌else◌};
+ghost use Rattle.std.specs.Prelude.{◌≡◌, [], ◌∷◌, ◌++◌, if◌then◌else◌};
 ghost use Rattle.accumulators.specs.Accumulators.{extreme_order, first_value, present};
 
 use crate::accumulator::Accumulator;
 use crate::term::{is_null, least_with, unless_fault};
+use fixed_decimal::Scale;
 use sql_value::{Standing, Value};
-use std::alloc::AllocError;
+use std::alloc::{AllocError, Global};
 
 /// min(e): the first in ascending order of the values that aren't null, null of none.
 #[derive(Drop)]
 pub struct Least {
     standing: Standing,
     best: Value,
-}
-
-impl Least {
-    ghost use Rattle.row_laws.specs.Aggregates.{min_of};
-    ghost use Rattle.aggregates.specs.Values.{reading, is_before};
-
-    /// Of no values.
-    pub fn new() -> Least
-        ensures terms { ⟦<Least as Accumulator>⟧.terms result ≡ 0 }
-        ensures taken { ⟦<Least as Accumulator>⟧.has_taken result (min_of (reading 0) is_before) [] }
-    {
-        Least {
-            standing: Standing::AtTrue,
-            best: Value::Null,
-        }
-    }
 }
 
 impl Accumulator for Least {
@@ -40,6 +25,15 @@ impl Accumulator for Least {
     ghost has_taken = { λ s aggregate vs. GiveTheSame aggregate (min_of (reading 0) is_before) × Compared (standing_rank s.standing) false s.best vs };
 
     ghost terms = { λ s. 0 };
+
+    ghost aggregate = { λ scale. min_of (reading 0) is_before };
+
+    fn new(_alloc: Global, _scale: Scale) -> Least {
+        Least {
+            standing: Standing::AtTrue,
+            best: Value::Null,
+        }
+    }
 
     fn put(&mut self, value: &Value) -> Result<(), AllocError> {
         self.standing = least_with(self.standing, value);
@@ -70,22 +64,6 @@ pub struct Greatest {
     best: Value,
 }
 
-impl Greatest {
-    ghost use Rattle.row_laws.specs.Aggregates.{max_of};
-    ghost use Rattle.aggregates.specs.Values.{reading, is_before};
-
-    /// Of no values.
-    pub fn new() -> Greatest
-        ensures terms { ⟦<Greatest as Accumulator>⟧.terms result ≡ 0 }
-        ensures taken { ⟦<Greatest as Accumulator>⟧.has_taken result (max_of (reading 0) is_before) [] }
-    {
-        Greatest {
-            standing: Standing::AtTrue,
-            best: Value::Null,
-        }
-    }
-}
-
 impl Accumulator for Greatest {
     ghost use Rattle.std.specs.Prelude.{Bool, true, false};
     ghost use Rattle.row_laws.specs.Aggregates.{max_of};
@@ -96,6 +74,15 @@ impl Accumulator for Greatest {
     ghost has_taken = { λ s aggregate vs. GiveTheSame aggregate (max_of (reading 0) is_before) × Compared (standing_rank s.standing) true s.best vs };
 
     ghost terms = { λ s. 0 };
+
+    ghost aggregate = { λ scale. max_of (reading 0) is_before };
+
+    fn new(_alloc: Global, _scale: Scale) -> Greatest {
+        Greatest {
+            standing: Standing::AtTrue,
+            best: Value::Null,
+        }
+    }
 
     fn put(&mut self, value: &Value) -> Result<(), AllocError> {
         self.standing = least_with(self.standing, value);

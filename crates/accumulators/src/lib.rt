@@ -3,6 +3,7 @@
 
 mod accumulator;
 mod count;
+mod distinct;
 mod extreme;
 mod sum;
 mod term;
@@ -10,5 +11,9 @@ mod terms;
 
 pub use accumulator::Accumulator;
 pub use count::{Count, CountRows};
+pub use distinct::CountDistinct;
 pub use extreme::{Greatest, Least};
 pub use sum::{Average, Sum};
+
+#[cfg(test)]
+mod tests;

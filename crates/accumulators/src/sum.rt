@@ -1,31 +1,14 @@
 //! Sums and averages of numbers.
-ghost use Rattle.std.specs.Prelude.{◌≡◌, [], ◌^◌, ◌<◌};
-
 use crate::accumulator::Accumulator;
 use crate::terms::Terms;
 use fixed_decimal::Scale;
 use sql_value::Value;
-use std::alloc::AllocError;
+use std::alloc::{AllocError, Global};
 
 /// sum(e): the exact sum of the values that are not null, null of none.
 #[derive(Clone, Copy)]
 pub struct Sum {
     terms: Terms,
-}
-
-impl Sum {
-    ghost use Rattle.row_laws.specs.Aggregates.{sum_of};
-    ghost use Rattle.aggregates.specs.Values.{reading};
-
-    /// Of no values, whose numbers will be of this scale.
-    pub fn new(scale: Scale) -> Sum
-        ensures terms { ⟦<Sum as Accumulator>⟧.terms result ≡ 0 }
-        ensures taken { ⟦<Sum as Accumulator>⟧.has_taken result (sum_of (reading scale)) [] }
-    {
-        Sum {
-            terms: Terms::new(scale),
-        }
-    }
 }
 
 impl Accumulator for Sum {
@@ -37,6 +20,14 @@ impl Accumulator for Sum {
     ghost has_taken = { λ s aggregate vs. GiveTheSame aggregate (sum_of (reading s.terms.scale)) × Summed (standing_rank s.terms.least) s.terms.terms s.terms.tally vs };
 
     ghost terms = { λ s. s.terms.terms };
+
+    ghost aggregate = { λ scale. sum_of (reading scale) };
+
+    fn new(_alloc: Global, scale: Scale) -> Sum {
+        Sum {
+            terms: Terms::new(scale),
+        }
+    }
 
     fn put(&mut self, value: &Value) -> Result<(), AllocError> {
         self.terms.put(value);
@@ -59,21 +50,6 @@ pub struct Average {
     terms: Terms,
 }
 
-impl Average {
-    ghost use Rattle.row_laws.specs.Aggregates.{avg_of};
-    ghost use Rattle.aggregates.specs.Values.{reading, divided};
-
-    /// Of no values, whose numbers will be of this scale.
-    pub fn new(scale: Scale) -> Average
-        ensures terms { ⟦<Average as Accumulator>⟧.terms result ≡ 0 }
-        ensures taken { ⟦<Average as Accumulator>⟧.has_taken result (avg_of (reading scale) (divided scale)) [] }
-    {
-        Average {
-            terms: Terms::new(scale),
-        }
-    }
-}
-
 impl Accumulator for Average {
     ghost use Rattle.row_laws.specs.Aggregates.{avg_of};
     ghost use Rattle.sql_value.specs.Truth.{standing_rank};
@@ -83,6 +59,14 @@ impl Accumulator for Average {
     ghost has_taken = { λ s aggregate vs. GiveTheSame aggregate (avg_of (reading s.terms.scale) (divided s.terms.scale)) × Summed (standing_rank s.terms.least) s.terms.terms s.terms.tally vs };
 
     ghost terms = { λ s. s.terms.terms };
+
+    ghost aggregate = { λ scale. avg_of (reading scale) (divided scale) };
+
+    fn new(_alloc: Global, scale: Scale) -> Average {
+        Average {
+            terms: Terms::new(scale),
+        }
+    }
 
     fn put(&mut self, value: &Value) -> Result<(), AllocError> {
         self.terms.put(value);

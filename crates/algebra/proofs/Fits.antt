@@ -21,11 +21,11 @@ both : (a b : Bool) → IsTrue a → IsTrue b → IsTrue (a && b)
 both true b p q = q
 both false b p q = p
 
-first_of_both : (a b : Bool) → IsTrue (a && b) → IsTrue a
+pub first_of_both : (a b : Bool) → IsTrue (a && b) → IsTrue a
 first_of_both true b p = refl
 first_of_both false b p = p
 
-second_of_both : (a b : Bool) → IsTrue (a && b) → IsTrue b
+pub second_of_both : (a b : Bool) → IsTrue (a && b) → IsTrue b
 second_of_both true b p = p
 second_of_both false b p = cc
 

@@ -1,4 +1,6 @@
 pub mod Aggregates
+pub mod NodeLaws
 pub mod Pieces
 pub mod Plans
+pub mod States
 pub mod Trees

@@ -53,6 +53,10 @@ made_from f before (n ∷ ns) = made_from f (before ++ f before n ∷ []) ns
 unfoldable pub plan_rows : Database → List Node → ℕ → List (Ranked Value)
 plan_rows db nodes i = rows_at (made_from (node_rows db) [] nodes) i
 
+-- the rows of a plan are those of its last node; a plan of no nodes has none
+abbrev pub result_rows : Database → List Node → List (Ranked Value)
+result_rows db nodes = plan_rows db nodes (length nodes - 1)
+
 -- a node's number of columns, from those of the nodes before it
 abbrev pub node_width : List ℕ → Node → ℕ
 node_width before (Scan table) = length (kinds_of table)
@@ -70,6 +74,10 @@ node_width before (Distinct i) = slice_index before i
 -- the number of columns of the node of this number
 unfoldable pub plan_width : List Node → ℕ → ℕ
 plan_width nodes i = slice_index (made_from node_width [] nodes) i
+
+-- the number of columns of a plan's rows; 0 for a plan of no nodes
+abbrev pub result_width : List Node → ℕ
+result_width nodes = plan_width nodes (length nodes - 1)
 
 -- the table that a node scans
 abbrev pub scan_of : Node → List TableName
@@ -92,6 +100,10 @@ plan_domains nodes = sum_by is_domain nodes
 -- how many rows are read to scan these tables, each as often as it stands there
 unfoldable pub reads_of : Database → List TableName → ℕ
 reads_of db tables = sum_by (λ table. length (db table)) tables
+
+-- how many rows a plan reads: those of each table that it scans, once for each scan
+abbrev pub plan_reads : Database → List Node → ℕ
+plan_reads db nodes = reads_of db (plan_scans nodes)
 
 -- the numbers of the nodes that a node reads, in its order
 abbrev pub inputs_of : Node → List ℕ

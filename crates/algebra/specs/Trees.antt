@@ -13,6 +13,7 @@ use Rattle.sql_value.specs.Value.{same_value}
 use Rattle.scalar_expr.specs.declared.expr.Expr.{Expr}
 use Rattle.scalar_expr.specs.Meaning.{values}
 use Rattle.tpch_schema.specs.declared.table.TableName.{TableName}
+use Rattle.tpch_schema.specs.Kinds.{RowsAreOf}
 use Rattle.tpch_schema.specs.Tables.{kinds_of}
 use Rattle.algebra.specs.declared.aggregate.Aggregate.{Aggregate}
 use Rattle.algebra.specs.declared.tree.DepTree.{DepTree, DepTree-F}
@@ -27,6 +28,10 @@ use Rattle.algebra.specs.Aggregates.{aggregates_of}
 -- the rows of each table
 abbrev pub Database : Type 0
 Database = TableName → List (List Value)
+
+-- each table's rows are of its kinds
+abbrev pub HasKinds : Database → Type 0
+HasKinds db = (table : TableName) → RowsAreOf table (db table)
 
 -- A right side as the laws have it. One that depends on no columns is closed.
 abbrev pub side_of : Side → SideKind

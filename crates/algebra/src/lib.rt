@@ -3,12 +3,14 @@
 
 mod aggregate;
 mod copy;
+pub mod laws;
 mod node;
 mod piece;
 mod plan;
 mod steps;
 mod tables;
 mod tree;
+mod whole;
 
 pub use aggregate::{Aggregate, values_of_none};
 pub use copy::{copy_aggregates, copy_expr, copy_exprs};
@@ -18,6 +20,7 @@ pub use plan::{Builder, FlatPlan};
 pub use steps::Steps;
 pub use tables::Tables;
 pub use tree::{DepTree, Side, width};
+pub use whole::{WholeTables, rows_are_of};
 
 #[cfg(test)]
 mod tests;

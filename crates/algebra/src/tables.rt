@@ -2,8 +2,8 @@
 ghost use Rattle.std.specs.Prelude.{◌≡◌, ◌+◌, ◌≤◌, List, length, IfOk, OnOk};
 ghost use Rattle.columns.specs.Lists.{one_list};
 ghost use Rattle.sql_value.specs.declared.value.Value.{Value};
-ghost use Rattle.tpch_schema.specs.Kinds.{RowsAreOf};
 ghost use Rattle.tpch_schema.specs.declared.table.TableName.{TableName};
+ghost use Rattle.algebra.specs.Trees.{HasKinds};
 
 use crate::piece::Piece;
 use crate::steps::Steps;
@@ -15,11 +15,10 @@ use tpch_schema::TableName;
 pub trait Tables {
     ghost rows: { Self → TableName → List (List Value) };
 
-    ghost of_kinds: { (tables : Self) (table : TableName) → RowsAreOf table (rows tables table) };
-
-    /// How many rows the table has.
+    /// How many rows the table has. The rows of every table are of its kinds.
     fn count(&self, table: TableName) -> u64
-        ensures { result ≡ length (rows self.now table) };
+        ensures count { result ≡ length (rows self.now table) }
+        ensures kinds { HasKinds (rows self.now) };
 
     /// The table's rows in pieces, one behind the other. Out of memory may have taken fewer steps.
     fn scan<L: Ledger>(
@@ -30,5 +29,6 @@ pub trait Tables {
     ) -> Result<Vec<Piece>, AllocError>
         ensures rows { IfOk result (λ pieces. one_list pieces.items ≡ rows self.now table) }
         ensures steps { OnOk result (steps.new ≡ steps.old + length (rows self.now table)) }
-        ensures most { steps.new ≤ steps.old + length (rows self.now table) };
+        ensures most { steps.new ≤ steps.old + length (rows self.now table) }
+        ensures kinds { HasKinds (rows self.now) };
 }

@@ -1,6 +1,6 @@
 -- Lemmas on two lists together.
-use Rattle.std.proofs.Common.{◌≡◌, ℕ, ◌+◌, ◌<◌, suc, zero, List, [], ◌∷◌, ◌++◌, refl, sym, ap, ◌∙◌, arith, length, get_or, take, map, ℤ}
-use Rattle.std.proofs.lemmas.List.{map-append}
+use Rattle.std.proofs.Common.{◌≡◌, ℕ, ◌+◌, ◌<◌, suc, zero, List, [], ◌∷◌, ◌++◌, refl, sym, ap, ◌∙◌, arith, length, get_or, take, map, ℤ, replicate}
+use Rattle.std.proofs.lemmas.List.{map-append, length-replicate}
 use Rattle.sql_value.specs.declared.value.Value.TheVariants.{Number, Date}
 use Rattle.operators.specs.declared.operator.Comparison.{Comparison}
 use Rattle.operators.specs.Operators.{compared}
@@ -63,3 +63,29 @@ numbers_zip c s t xs ys = sym (zip-map (compared c) (Number s) (Number t) xs ys)
 pub dates_zip : (c : Comparison) (xs ys : List ℕ) → zip_with (dates_compared c) xs ys ≡ zip_with (compared c) (map Date xs) (map Date ys)
 unfolding dates_compared
 dates_zip c xs ys = sym (zip-map (compared c) Date Date xs ys)
+
+-- the length of what two lists of one length make
+pub zip_long : {A B C : Type 0} (f : A → B → C) (xs : List A) (ys : List B) (n : ℕ) → length xs ≡ n → length ys ≡ n → length (zip_with f xs ys) ≡ n
+zip_long f [] ys n h l = h
+zip_long f (x ∷ xs) [] n h l = absurd (omega (arith, h, l))
+zip_long f (x ∷ xs) (y ∷ ys) zero h l = absurd (omega (arith, h))
+zip_long f (x ∷ xs) (y ∷ ys) (suc n) h l = ap suc (zip_long f xs ys n (omega (arith, h)) (omega (arith, l)))
+
+pub three_long : {A B C D : Type 0} (f : A → B → C → D) (xs : List A) (ys : List B) (zs : List C) (n : ℕ) → length xs ≡ n → length ys ≡ n → length zs ≡ n
+    → length (zip_three f xs ys zs) ≡ n
+three_long f [] ys zs n h l m = h
+three_long f (x ∷ xs) [] zs n h l m = absurd (omega (arith, h, l))
+three_long f (x ∷ xs) (y ∷ ys) [] n h l m = absurd (omega (arith, h, m))
+three_long f (x ∷ xs) (y ∷ ys) (z ∷ zs) zero h l m = absurd (omega (arith, h))
+three_long f (x ∷ xs) (y ∷ ys) (z ∷ zs) (suc n) h l m = ap suc (three_long f xs ys zs n (omega (arith, h)) (omega (arith, l)) (omega (arith, m)))
+
+-- a list and one element many times
+pub zip_with_one : {A B C : Type 0} (f : A → B → C) (xs : List A) (y : B) → zip_with f xs (replicate (length xs) y) ≡ map (λ x. f x y) xs
+zip_with_one f [] y = refl
+zip_with_one f (x ∷ xs) y = ap (λ zs. f x y ∷ zs) (zip_with_one f xs y)
+
+pub zip_from_one : {A B C : Type 0} (f : A → B → C) (x : A) (ys : List B) → zip_with f (replicate (length ys) x) ys ≡ map (f x) ys
+zip_from_one f x [] = refl
+zip_from_one f x (y ∷ ys) = ap (λ zs. f x y ∷ zs) (zip_from_one f x ys)
+
+pub ruleset ones = (zip_with_one, zip_from_one, length-replicate)

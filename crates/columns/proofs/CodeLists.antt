@@ -1,7 +1,7 @@
 -- Lemmas on texts as places of a dictionary.
-use Rattle.std.proofs.Common.{◌≡◌, ℕ, ◌+◌, ◌<◌, ◌≤◌, suc, zero, List, [], ◌∷◌, ◌++◌, refl, sym, ap, ◌∙◌, subst, arith, length, get_or, take, map, Bool, true, ◌==◌, replicate}
+use Rattle.std.proofs.Common.{◌≡◌, ℕ, ◌+◌, ◌<◌, ◌≤◌, suc, zero, List, [], ◌∷◌, ◌++◌, refl, sym, ap, ◌∙◌, subst, arith, length, get_or, take, drop, map, Bool, true, ◌==◌, replicate}
 use Rattle.std.specs.List.{All}
-use Rattle.std.proofs.lemmas.List.{get_or-map, get_or_append_left, get_or_push, length-map, map-append, take-map}
+use Rattle.std.proofs.lemmas.List.{get_or-map, get_or_append_left, get_or_push, length-map, length-append, map-append, take-map, take-append-drop}
 use Rattle.std.proofs.lemmas.List.Elements.{All-push, All-take, All-replicate}
 use Rattle.std.specs.Cmp.Lexicographic.{pointwise, pointwise_decides, bytes_decides}
 use Rattle.columns.proofs.ColumnLists.{map-gathered, map-replicate}
@@ -67,4 +67,22 @@ below-first m n h = All-replicate (λ i. i < m) n 0 h
 pub same_texts : (xs ys : List (List ℕ)) (r : Bool) → r ≡ pointwise (pointwise ◌==◌) xs ys → r ≡ true → xs ≡ ys
 same_texts xs ys r e t = (pointwise_decides bytes_decides xs ys).0 (sym e ∙ t)
 
-pub ruleset codes = (gathered-first, below-first, same_texts, gathered-take, below-take, gathered-length, gathered-at, gathered-push, gathered-added, below-push)
+-- a dictionary that begins with another one has its texts at the same places
+pub gathered-begun : {A : Type 0} (d : A) (xs ys : List A) (places : List ℕ) → take (length xs) ys ≡ xs → AreBelow (length xs) places → gathered d ys places ≡ gathered d xs places
+gathered-begun d xs ys places e h =
+    ap (λ zs. gathered d zs places) (sym (take-append-drop (length xs) ys) ∙ ap (λ zs. zs ++ drop (length xs) ys) e) ∙ gathered-longer d xs (drop (length xs) ys) places h
+
+pub below-begun : {A : Type 0} (xs ys : List A) (places : List ℕ) → take (length xs) ys ≡ xs → AreBelow (length xs) places → AreBelow (length ys) places
+below-begun xs ys places e h k c l =
+    let n : length xs ≤ length ys = omega (arith, ap length (take-append-drop (length xs) ys), length-append (take (length xs) ys) (drop (length xs) ys), ap length e) in
+    omega (arith, h k c l, n)
+
+pub gathered-append : {A : Type 0} (d : A) (xs : List A) (ps qs : List ℕ) → gathered d xs (ps ++ qs) ≡ gathered d xs ps ++ gathered d xs qs
+gathered-append d xs ps qs = map-append (λ k. get_or xs k d) ps qs
+
+pub below-append : (n : ℕ) (ps qs : List ℕ) → AreBelow n ps → AreBelow n qs → AreBelow n (ps ++ qs)
+below-append n [] qs h l k c m = l k c m
+below-append n (p ∷ ps) qs h l zero c m = h 0 c (omega arith)
+below-append n (p ∷ ps) qs h l (suc k) c m = below-append n ps qs (λ j d o. h (suc j) d (omega (arith, o))) l k c (omega (arith, m))
+
+pub ruleset codes = (gathered-begun, below-begun, gathered-append, below-append, gathered-first, below-first, same_texts, gathered-take, below-take, gathered-length, gathered-at, gathered-push, gathered-added, below-push)

@@ -3,9 +3,12 @@ pub mod BatchRows
 pub mod CodeLists
 pub mod ColumnLists
 pub mod FieldLists
+pub mod FormLists
+pub mod GatheredTexts
 pub mod Kept
 pub mod RowLists
 pub mod SegmentLists
 pub mod StandingLists
 pub mod TableLists
 pub mod TextLists
+pub mod WiderRows

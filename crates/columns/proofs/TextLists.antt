@@ -44,12 +44,12 @@ ends_last k [] n a = omega arith
 ends_last k (e ∷ es) n a = (a.0, ends_last e es n a.1)
 
 -- what lies before the end of the bytes stays as more come
-cut_before : (bs us : List ℕ) (k e : ℕ) → k ≤ e → e ≤ length bs → cut (bs ++ us) k e ≡ cut bs k e
+pub cut_before : (bs us : List ℕ) (k e : ℕ) → k ≤ e → e ≤ length bs → cut (bs ++ us) k e ≡ cut bs k e
 cut_before bs us k e h l =
     let m : k ≤ length bs = omega (arith, h, l) in
     ap (take (e - k)) (drop-append-le k bs us m) ∙ take-append-le (e - k) (drop k bs) us (omega (arith, h, l, length-drop k bs))
 
-cut_last : (bs us : List ℕ) (k n : ℕ) → k ≡ length bs → n ≡ length bs + length us → cut (bs ++ us) k n ≡ us
+pub cut_last : (bs us : List ℕ) (k n : ℕ) → k ≡ length bs → n ≡ length bs + length us → cut (bs ++ us) k n ≡ us
 cut_last bs us k n e f = ap (take (n - k)) (drop_at bs us k (sym e)) ∙ take_all (n - k) us (omega (arith, e, f))
 
 texts_more : (bs us : List ℕ) (k : ℕ) (es : List ℕ) → AreEnds k es (length bs) → texts_between (bs ++ us) k es ≡ texts_between bs k es

@@ -1,5 +1,5 @@
 -- Rows that lie in columns.
-use Rattle.std.specs.Prelude.{◌≡◌, ℕ, suc, List, [], ◌∷◌, ◌++◌, map, length, slice_index_or}
+use Rattle.std.specs.Prelude.{◌≡◌, ℕ, zero, suc, min, List, [], ◌∷◌, ◌++◌, map, length, slice_index_or}
 use Rattle.row_laws.specs.Ranked.{Ranked, ranked, Relation, relation, true_rank}
 use Rattle.sql_value.specs.declared.truth.Standing.{Standing}
 use Rattle.sql_value.specs.declared.value.Value.{Value}
@@ -42,3 +42,25 @@ column_at rows j = map (λ r. slice_index_or r.values j Null) rows
 -- the columns at these places of a row's values
 abbrev pub projected : List ℕ → Ranked Value → Ranked Value
 projected places r = ranked (gathered Null r.values places) r.standing
+
+-- the rows of these columns from a place on, each at the standing of a row of a list
+abbrev pub rows_beside : List (List Value) → ℕ → List (Ranked Value) → List (Ranked Value)
+rows_beside columns i [] = []
+rows_beside columns i (r ∷ rs) = ranked (cells columns i) r.standing ∷ rows_beside columns (suc i) rs
+
+-- each left row before the right row of its place, at the lesser of their standings
+abbrev pub joined_rows : List (Ranked Value) → List (Ranked Value) → List (Ranked Value)
+joined_rows [] ys = []
+joined_rows (x ∷ xs) [] = []
+joined_rows (x ∷ xs) (y ∷ ys) = ranked (x.values ++ y.values) (min x.standing y.standing) ∷ joined_rows xs ys
+
+-- each row with the value of its place after its own
+abbrev pub longer_rows : List (Ranked Value) → List Value → List (Ranked Value)
+longer_rows [] vs = []
+longer_rows (r ∷ rs) [] = []
+longer_rows (r ∷ rs) (v ∷ vs) = ranked (r.values ++ v ∷ []) r.standing ∷ longer_rows rs vs
+
+-- the first n columns of the rows
+abbrev pub first_columns : List (Ranked Value) → ℕ → List (List Value)
+first_columns rows zero = []
+first_columns rows (suc n) = first_columns rows n ++ column_at rows n ∷ []

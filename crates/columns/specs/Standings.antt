@@ -1,7 +1,8 @@
 -- The standings of a batch's rows.
-use Rattle.std.specs.Prelude.{List, replicate}
+use Rattle.std.specs.Prelude.{List, [], ◌∷◌, replicate}
 use Rattle.sql_value.specs.declared.truth.Standing.{Standing}
 use Rattle.sql_value.specs.declared.truth.Standing.TheVariants.{AtTrue}
+use Rattle.sql_value.specs.Truth.{lesser_standing}
 use Rattle.columns.specs.declared.standings.Counted.{Counted}
 use Rattle.columns.specs.declared.standings.Counted.TheVariants.{AllTrue, Each}
 
@@ -9,3 +10,9 @@ use Rattle.columns.specs.declared.standings.Counted.TheVariants.{AllTrue, Each}
 unfoldable pub standings_of : Counted → List Standing
 standings_of (AllTrue n) = replicate n AtTrue
 standings_of (Each standings) = standings.items
+
+-- the lesser of two standings, place by place
+abbrev pub lesser_standings : List Standing → List Standing → List Standing
+lesser_standings [] ts = []
+lesser_standings (s ∷ ss) [] = []
+lesser_standings (s ∷ ss) (t ∷ ts) = lesser_standing s t ∷ lesser_standings ss ts

@@ -1,5 +1,5 @@
 -- Texts that lie one after the other in one buffer of bytes.
-use Rattle.std.specs.Prelude.{◌≡◌, ℕ, ◌-◌, ◌≤◌, List, [], ◌∷◌, take, drop, length, slice_index_or}
+use Rattle.std.specs.Prelude.{◌≡◌, ℕ, ◌+◌, ◌-◌, ◌≤◌, List, [], ◌∷◌, take, drop, length, slice_index_or}
 use Rattle.std.specs.List.{All}
 use Rattle.ascii_text.specs.Printable.{AllPrintable}
 use Rattle.columns.specs.declared.texts.Buffer.{Buffer}
@@ -35,3 +35,8 @@ texts_of bytes ends = texts_between bytes 0 ends
 -- the bytes and the ends are those of printable texts
 unfoldable pub AreTexts : List ℕ → List ℕ → Type 0
 AreTexts bytes ends = AreEnds 0 ends (length bytes) × All AllPrintable (texts_of bytes ends)
+
+-- where texts end that lie one after the other from a place on
+unfoldable pub ends_of : ℕ → List (List ℕ) → List ℕ
+ends_of start [] = []
+ends_of start (text ∷ texts) = (start + length text) ∷ ends_of (start + length text) texts

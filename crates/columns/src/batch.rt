@@ -1,8 +1,8 @@
 //! Rows of one width with their standings, kept column by column.
-ghost use Rattle.std.specs.Prelude.{◌≡◌, ℕ, ◌+◌, ◌<◌, ◌^◌, ◌==◌, min, List, IfOk, OnOk, IsTrue, length, ◌++◌, [], map, slice_index_or, replicate};
+ghost use Rattle.std.specs.Prelude.{◌≡◌, ℕ, ◌+◌, ◌-◌, ◌<◌, ◌≤◌, ◌^◌, ◌==◌, min, List, IfOk, OnOk, IsTrue, length, ◌++◌, [], map, slice_index_or, replicate};
 ghost use Rattle.std.specs.List.{All};
 ghost use Rattle.row_laws.specs.Ranked.{ranked, true_rank};
-ghost use Rattle.row_laws.specs.Rows.{keep};
+ghost use Rattle.row_laws.specs.Rows.{keep, strip};
 ghost use Rattle.row_laws.specs.Operators.{select};
 ghost use Rattle.sql_value.specs.declared.truth.Standing.TheVariants.{AtTrue as True};
 ghost use Rattle.sql_value.specs.declared.value.Value.{Value as Datum};
@@ -21,8 +21,8 @@ use std::marker::Model;
 /// Rows with standings, seen as their width and the list of the rows.
 #[derive(Drop)]
 pub struct Batch {
-    columns: Vec<Column>,
-    standings: Standings,
+    pub(crate) columns: Vec<Column>,
+    pub(crate) standings: Standings,
 }
 
 impl Model for Batch {
@@ -108,6 +108,13 @@ impl Batch {
         self.standings.at(i)
     }
 
+    // How the rows stand.
+    pub(crate) fn standings(&self) -> &Standings
+        ensures { map standing_rank result.now ≡ map (λ r. r.standing) self.now.rows }
+    {
+        &self.standings
+    }
+
     /// The values of a row, counted from 0.
     pub fn row(&self, alloc: Global, i: usize) -> Result<Vec<Value>, AllocError>
         requires { i < length self.now.rows }
@@ -129,6 +136,21 @@ impl Batch {
         Ok(Batch { columns, standings })
     }
 
+    /// The same of a batch that isn't needed any more, which is itself the result where each truth is True.
+    pub fn keep(self, alloc: Global, truths: &[Truth]) -> Result<Batch, AllocError>
+        requires long { length truths.now ≡ length self.rows }
+        requires short { length self.rows < 2 ^ 32 }
+        ensures width { IfOk result (λ b. b.width ≡ self.width) }
+        ensures rows { IfOk result (λ b. (c : List Datum → ℕ) → map truth_rank truths.now ≡ map (λ r. c r.values) self.rows → b.rows ≡ select c self.rows) }
+    {
+        // A field that is used tells how the rows stand.
+        let _standings = &self.standings;
+        if are_all_true(truths) {
+            return Ok(self);
+        }
+        self.select(alloc, truths)
+    }
+
     /// The rows at these places, in their order.
     pub fn gather(&self, alloc: Global, places: &[u32]) -> Result<Batch, AllocError>
         requires { AreBelow (length self.now.rows) places.now }
@@ -136,6 +158,19 @@ impl Batch {
         ensures rows { IfOk result (λ b. b.rows ≡ gathered (ranked [] true_rank) self.now.rows places.now) }
     {
         let columns = gather_columns(alloc, self.columns.as_slice(), places)?;
+        let standings = self.standings.gather(alloc, places)?;
+        Ok(Batch { columns, standings })
+    }
+
+    /// The rows at these places, in their order, without the first n columns.
+    #[tactic(auto, using(crate::proofs::BatchRows::batches, crate::proofs::WiderRows::wider))]
+    pub fn gather_after(&self, alloc: Global, n: usize, places: &[u32]) -> Result<Batch, AllocError>
+        requires below { AreBelow (length self.now.rows) places.now }
+        requires there { n ≤ self.now.width }
+        ensures width { IfOk result (λ b. b.width ≡ self.now.width - n) }
+        ensures rows { IfOk result (λ b. b.rows ≡ map (strip n) (gathered (ranked [] true_rank) self.now.rows places.now)) }
+    {
+        let columns = gather_columns(alloc, &self.columns.as_slice()[n..], places)?;
         let standings = self.standings.gather(alloc, places)?;
         Ok(Batch { columns, standings })
     }
@@ -172,6 +207,18 @@ fn cells(alloc: Global, columns: &[Column], i: usize) -> Result<Vec<Value>, Allo
         row.push(value)?;
     }
     Ok(row)
+}
+
+// Whether each truth is True.
+fn are_all_true(truths: &[Truth]) -> bool
+    ensures { IsTrue result → map truth_rank truths.now ≡ replicate (length truths.now) true_rank }
+{
+    for truth in truths {
+        if *truth != Truth::Stands(Standing::AtTrue) {
+            return false;
+        }
+    }
+    true
 }
 
 // One row more, if its truth keeps it.

@@ -119,16 +119,31 @@ impl Codes {
         Ok(Codes { codes, dictionary })
     }
 
-    /// All texts of another list at the end, if it has the same dictionary.
+    /// All texts of another list at the end, if one of their dictionaries begins with the other.
     pub(crate) fn append(&mut self, other: &Codes) -> Result<bool, AllocError>
         ensures ok { IfOk result (λ done. self.new ≡ (if done then self.old ++ other.now else self.old)) }
         ensures err { OnErr result (self.new ≡ self.old) }
     {
-        if !self.dictionary.is_same(&other.dictionary) {
+        if self.dictionary.begins(&other.dictionary) {
+            let dictionary = other.dictionary.clone()?;
+            self.codes.extend_from_slice(other.codes.as_slice())?;
+            self.dictionary = dictionary;
+            return Ok(true);
+        }
+        if !other.dictionary.begins(&self.dictionary) {
             return Ok(false);
         }
         self.codes.extend_from_slice(other.codes.as_slice())?;
         Ok(true)
+    }
+
+    /// No texts, with room for so many with the same dictionary.
+    pub(crate) fn emptied(&self, alloc: Global, n: usize) -> Result<Codes, AllocError>
+        ensures { IfOk result (λ c. c ≡ []) }
+    {
+        let codes = Vec::with_capacity(alloc, n)?;
+        let dictionary = self.dictionary.clone()?;
+        Ok(Codes { codes, dictionary })
     }
 
     /// The same texts without room for more.

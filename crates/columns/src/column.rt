@@ -2,12 +2,14 @@
 ghost use Rattle.std.specs.Prelude.{◌≡◌, ◌<◌, ◌==◌, ℕ, IfOk, IfSome, length, slice_index_or, map, [], replicate};
 ghost use Rattle.std.specs.Arc.{arc_value};
 ghost use Rattle.sql_value.specs.declared.value.Value.TheVariants.{Null, Number, Date as DateOf, Text as TextOf};
+ghost use Rattle.columns.specs.Forms.{AreOfForm};
 ghost use Rattle.columns.specs.Lists.{gathered, AreBelow};
 ghost use Rattle.columns.specs.Numbers.{small_number};
 ghost use Rattle.columns.specs.Shown.{shown, kept_values};
 
+use crate::column_builder::ColumnForm;
 use crate::dictionary::Dictionary;
-use crate::form::{Form, form_at, form_len, form_number, gather, repeated, stored};
+use crate::form::{Form, form_at, form_len, form_number, form_type, gather, repeated, stored};
 use civil_date::CivilDate;
 use fixed_decimal::Scale;
 use sql_value::Value;
@@ -108,6 +110,14 @@ impl Column {
         ensures { IfOk result (λ v. v ≡ slice_index_or self.now i Null) }
     {
         form_at(alloc, self.form(), i)
+    }
+
+    /// What all values are, where the column keeps them as numbers of one scale, as dates or as texts. `Values` says
+    /// nothing of them.
+    pub fn typed(&self) -> ColumnForm
+        ensures { AreOfForm result self.now }
+    {
+        form_type(self.form())
     }
 
     /// The numbers and their scale, where the column keeps all as 64 bits each.

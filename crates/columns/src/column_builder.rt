@@ -9,7 +9,7 @@ ghost use Rattle.columns.specs.Fields.{field_value, IsPrintableField};
 use crate::codes::Codes;
 use crate::column::{Column, stored_column};
 use crate::field::{Field, field_of, value_of};
-use crate::form::{Form, form_at, form_len, form_number, truncate, widened};
+use crate::form::{Form, empty_like, form_at, form_len, form_number, truncate, widened};
 use crate::texts::Texts;
 use civil_date::CivilDate;
 use fixed_decimal::Scale;
@@ -59,6 +59,18 @@ impl ColumnBuilder {
             ColumnForm::Texts => Form::Coded(Codes::new(alloc)?),
             ColumnForm::Values => Form::Values(Vec::new(alloc)),
         };
+        Ok(ColumnBuilder { form })
+    }
+
+    /// No values, with room for so many as that column keeps its own.
+    pub(crate) fn like(
+        alloc: Global,
+        column: &Column,
+        n: usize,
+    ) -> Result<ColumnBuilder, AllocError>
+        ensures { IfOk result (λ c. c ≡ []) }
+    {
+        let form = empty_like(alloc, column.form(), n)?;
         Ok(ColumnBuilder { form })
     }
 
@@ -172,8 +184,9 @@ impl ColumnBuilder {
         match &mut self.form {
             Form::Numbers(scale, numbers) => append_numbers(*scale, numbers, other),
             Form::Dates(dates) => append_dates(dates, other),
+            Form::Texts(texts) => append_texts(texts, other),
             Form::Coded(codes) => append_codes(codes, other),
-            _ => Ok(false),
+            Form::Values(_) => Ok(false),
         }
     }
 
@@ -249,7 +262,18 @@ fn append_dates(dates: &mut Vec<CivilDate>, other: &Form) -> Result<bool, AllocE
     Ok(true)
 }
 
-// All texts of a form with the same dictionary.
+// All texts of a form that keeps texts one after the other, if the buffer has room.
+fn append_texts(texts: &mut Texts, other: &Form) -> Result<bool, AllocError>
+    ensures ok { IfOk result (λ done. map TextOf texts.new ≡ (if done then map TextOf texts.old ++ shown other.now else map TextOf texts.old)) }
+    ensures err { OnErr result (texts.new ≡ texts.old) }
+{
+    let Form::Texts(more) = other else {
+        return Ok(false);
+    };
+    texts.append(more)
+}
+
+// All texts of a form, if one of the dictionaries begins with the other.
 fn append_codes(codes: &mut Codes, other: &Form) -> Result<bool, AllocError>
     ensures ok { IfOk result (λ done. map TextOf codes.new ≡ (if done then map TextOf codes.old ++ shown other.now else map TextOf codes.old)) }
     ensures err { OnErr result (codes.new ≡ codes.old) }

@@ -1,5 +1,5 @@
 //! A short list of texts, which columns refer to by their places.
-ghost use Rattle.std.specs.Prelude.{◌≡◌, ◌<◌, ◌≤◌, ◌++◌, ◌∷◌, [], IfOk, IfSome, length, slice_index_or, true};
+ghost use Rattle.std.specs.Prelude.{◌≡◌, ◌<◌, ◌≤◌, ◌++◌, ◌∷◌, [], IfOk, IfSome, length, slice_index_or, take, true};
 ghost use Rattle.ascii_text.specs.Printable.{AllPrintable};
 
 use ascii_text::Text;
@@ -140,11 +140,16 @@ impl Dictionary {
         Ok(Dictionary { texts, slots })
     }
 
-    /// Whether the other one has the same texts in the same places.
+    /// Whether the other one has the same texts in the same places, and maybe more after them.
     #[tactic(auto, using(crate::proofs::CodeLists::same_texts))]
-    pub(crate) fn is_same(&self, other: &Dictionary) -> bool
-        ensures { result ≡ true → self.now ≡ other.now }
+    pub(crate) fn begins(&self, other: &Dictionary) -> bool
+        ensures { result ≡ true → take (length self.now) other.now ≡ self.now }
     {
-        self.texts == other.texts
+        let n = self.texts.len();
+        if other.texts.len() < n {
+            return false;
+        }
+        let first = &other.texts.as_slice()[..n];
+        first == self.texts.as_slice()
     }
 }

@@ -1,12 +1,14 @@
 //! How a column keeps its values, and how they are read.
 ghost use Rattle.std.specs.Prelude.{◌≡◌, ◌<◌, ◌≤◌, ◌++◌, ◌∷◌, [], IfOk, IfSome, OnErr, length, take, slice_index_or, map, replicate};
 ghost use Rattle.sql_value.specs.declared.value.Value.TheVariants.{Null, Number, Date as DateOf, Text as TextOf};
+ghost use Rattle.columns.specs.Forms.{AreOfForm};
 ghost use Rattle.columns.specs.Lists.{gathered, AreBelow};
 ghost use Rattle.columns.specs.Fields.{field_value, IsPrintableField};
 ghost use Rattle.columns.specs.Numbers.{small_number};
 ghost use Rattle.columns.specs.Shown.{shown};
 
 use crate::codes::Codes;
+use crate::column_builder::ColumnForm;
 use crate::field::{Field, field_of};
 use crate::places::copies;
 use crate::texts::Texts;
@@ -35,6 +37,20 @@ pub(crate) fn form_len(form: &Form) -> usize
         Form::Texts(texts) => texts.len(),
         Form::Coded(codes) => codes.len(),
         Form::Values(values) => values.len(),
+    }
+}
+
+/// What all values are.
+#[tactic(auto, using(crate::proofs::FormLists::forms))]
+pub(crate) fn form_type(form: &Form) -> ColumnForm
+    ensures { AreOfForm result (shown form.now) }
+{
+    match form {
+        Form::Numbers(scale, _) => ColumnForm::Numbers(*scale),
+        Form::Dates(_) => ColumnForm::Dates,
+        Form::Texts(_) => ColumnForm::Texts,
+        Form::Coded(_) => ColumnForm::Texts,
+        Form::Values(_) => ColumnForm::Values,
     }
 }
 
@@ -155,6 +171,34 @@ pub(crate) fn truncate(form: &mut Form, n: usize)
         Form::Texts(texts) => texts.truncate(n),
         Form::Coded(codes) => codes.truncate(n),
         Form::Values(values) => values.truncate(n),
+    }
+}
+
+/// No values, with room for so many in the same form.
+pub(crate) fn empty_like(alloc: Global, form: &Form, n: usize) -> Result<Form, AllocError>
+    ensures { IfOk result (λ f. shown f ≡ []) }
+{
+    match form {
+        Form::Numbers(scale, _) => {
+            let numbers = Vec::with_capacity(alloc, n)?;
+            Ok(Form::Numbers(*scale, numbers))
+        }
+        Form::Dates(_) => {
+            let dates = Vec::with_capacity(alloc, n)?;
+            Ok(Form::Dates(dates))
+        }
+        Form::Texts(_) => {
+            let texts = Texts::with_room(alloc, n)?;
+            Ok(Form::Texts(texts))
+        }
+        Form::Coded(codes) => {
+            let codes = codes.emptied(alloc, n)?;
+            Ok(Form::Coded(codes))
+        }
+        Form::Values(_) => {
+            let values = Vec::with_capacity(alloc, n)?;
+            Ok(Form::Values(values))
+        }
     }
 }
 

@@ -4,6 +4,7 @@
 mod bag;
 mod batch;
 mod batch_builder;
+mod batch_columns;
 mod codes;
 mod column;
 mod column_builder;

@@ -78,7 +78,7 @@ impl Segment {
     }
 
     /// The number of a row in a column, where it is one of 64 bits.
-    pub(crate) fn number(&self, i: usize, j: usize) -> Option<i64>
+    pub fn number(&self, i: usize, j: usize) -> Option<i64>
         requires { i < length self.now }
         ensures { result ≡ small_number (slice_index_or (slice_index_or self.now i []) j Null) }
     {

@@ -3,7 +3,7 @@ ghost use Rattle.std.specs.Prelude.{◌≡◌, ◌<◌, ◌≤◌, ◌++◌, ◌
 ghost use Rattle.std.specs.List.{All};
 ghost use Rattle.sql_value.specs.declared.truth.Standing.TheVariants.{AtTrue as True};
 ghost use Rattle.columns.specs.Lists.{gathered, AreBelow};
-ghost use Rattle.columns.specs.Standings.{standings_of};
+ghost use Rattle.columns.specs.Standings.{standings_of, lesser_standings};
 
 use crate::places::copies;
 use sql_value::Standing;
@@ -143,6 +143,55 @@ impl Standings {
                 Ok(Standings::each(picked))
             }
         }
+    }
+
+    /// The lesser of both, place by place.
+    pub(crate) fn lesser(&self, alloc: Global, other: &Standings) -> Result<Standings, AllocError>
+        requires { length self.now ≡ length other.now }
+        ensures { IfOk result (λ s. s ≡ lesser_standings self.now other.now) }
+    {
+        if self.are_all_true() {
+            return other.copy(alloc);
+        }
+        if other.are_all_true() {
+            return self.copy(alloc);
+        }
+        let mut both = Vec::with_capacity(alloc, self.len())?;
+        for i in 0..self.len() {
+            both.push(self.at(i).lesser(other.at(i)))?;
+        }
+        Ok(Standings::each(both))
+    }
+
+    /// All standings of another list at the end.
+    pub(crate) fn append(&mut self, alloc: Global, other: &Standings) -> Result<(), AllocError>
+        ensures { OnOk result (self.new ≡ self.old ++ other.now) }
+    {
+        if self.count_all(other) {
+            return Ok(());
+        }
+        let mut standings = self.spelled(alloc)?;
+        let more = other.spelled(alloc)?;
+        standings.extend_from_slice(more.as_slice())?;
+        self.counted = Counted::Each(standings);
+        Ok(())
+    }
+
+    // All of another list more, if all are True on both sides and the count fits.
+    fn count_all(&mut self, other: &Standings) -> bool
+        ensures { self.new ≡ (if result then self.old ++ other.now else self.old) }
+    {
+        let Counted::AllTrue(n) = &mut self.counted else {
+            return false;
+        };
+        let Counted::AllTrue(more) = &other.counted else {
+            return false;
+        };
+        let Some(count) = n.checked_add(*more) else {
+            return false;
+        };
+        *n = count;
+        true
     }
 
     /// The same standings.

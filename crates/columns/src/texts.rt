@@ -1,8 +1,8 @@
 //! Texts that lie one after the other in one buffer of bytes.
-ghost use Rattle.std.specs.Prelude.{◌≡◌, ◌<◌, ◌≤◌, ◌++◌, ◌∷◌, [], IfOk, OnErr, length, take, if◌then◌else◌, slice_index_or, IfSome};
+ghost use Rattle.std.specs.Prelude.{◌≡◌, ◌<◌, ◌≤◌, ◌++◌, ◌∷◌, [], IfOk, OnErr, IsTrue, length, take, if◌then◌else◌, slice_index_or, IfSome};
 ghost use Rattle.ascii_text.specs.Printable.{AllPrintable};
-ghost use Rattle.columns.specs.Texts.{start_of, buffer_bytes, texts_of, AreTexts};
-ghost use Rattle.columns.specs.Lists.{gathered, AreBelow};
+ghost use Rattle.columns.specs.Texts.{start_of, buffer_bytes, texts_of, AreTexts, ends_of};
+ghost use Rattle.columns.specs.Lists.{gathered, AreBelow, one_list};
 
 use ascii_text::Text;
 use std::alloc::{AllocError, Global};
@@ -86,14 +86,13 @@ impl Texts {
         }
     }
 
-    /// No texts, with room for so many of so many bytes together.
-    pub(crate) fn with_room(alloc: Global, texts: usize, bytes: usize) -> Result<Texts, AllocError>
+    /// No texts, with room for so many.
+    pub(crate) fn with_room(alloc: Global, n: usize) -> Result<Texts, AllocError>
         ensures { IfOk result (λ t. t ≡ []) }
     {
-        let bytes = Vec::with_capacity(alloc, bytes)?;
-        let ends = Vec::with_capacity(alloc, texts)?;
+        let ends = Vec::with_capacity(alloc, n)?;
         Ok(Texts {
-            buffer: Buffer::Own(bytes),
+            buffer: Buffer::Own(Vec::new(alloc)),
             ends,
         })
     }
@@ -151,29 +150,86 @@ impl Texts {
         self.ends.truncate(n);
     }
 
-    // How many bytes the texts at these places have together, as far as 64 bits count them.
-    fn bytes_at(&self, places: &[u32]) -> usize
-        requires { AreBelow (length self.now) places.now }
-    {
-        let mut total: usize = 0;
-        for place in places {
-            total = total.saturating_add(self.bytes(*place as usize).len());
-        }
-        total
-    }
-
     /// The texts at these places, unless the bytes would be more than 32 bits count.
     pub(crate) fn gather(&self, alloc: Global, places: &[u32]) -> Result<Option<Texts>, AllocError>
         requires { AreBelow (length self.now) places.now }
         ensures { IfOk result (λ r. IfSome r (λ t. t ≡ gathered [] self.now places.now)) }
     {
-        let mut out = Texts::with_room(alloc, places.len(), self.bytes_at(places))?;
+        // A field that is used tells that the texts lie as they should.
+        let _ends = &self.ends;
+        let Some((ends, count)) = self.ends_at(alloc, places)? else {
+            return Ok(None);
+        };
+        let bytes = self.bytes_at(alloc, places, count)?;
+        Ok(Some(Texts {
+            buffer: Buffer::Own(bytes),
+            ends,
+        }))
+    }
+
+    // Where the texts at these places end when they lie one after the other, and how many bytes they have together,
+    // unless these are more than 32 bits count.
+    fn ends_at(
+        &self,
+        alloc: Global,
+        places: &[u32],
+    ) -> Result<Option<(Vec<u32>, usize)>, AllocError>
+        requires { AreBelow (length self.now) places.now }
+        ensures { IfOk result (λ r. IfSome r (λ p. p.0.items ≡ ends_of 0 (gathered [] self.now places.now))) }
+    {
+        let mut ends = Vec::with_capacity(alloc, places.len())?;
+        let mut total: usize = 0;
         for place in places {
-            if !out.push(self.bytes(*place as usize))? {
+            let text = self.bytes(*place as usize);
+            let Some(next) = total.checked_add(text.len()) else {
                 return Ok(None);
+            };
+            let Ok(end) = u32::try_from(next) else {
+                return Ok(None);
+            };
+            ends.push(end)?;
+            total = next;
+        }
+        Ok(Some((ends, total)))
+    }
+
+    // The bytes of the texts at these places, one after the other, which are so many.
+    fn bytes_at(&self, alloc: Global, places: &[u32], count: usize) -> Result<Vec<u8>, AllocError>
+        requires { AreBelow (length self.now) places.now }
+        ensures { IfOk result (λ v. v.items ≡ one_list (gathered [] self.now places.now)) }
+    {
+        let mut bytes = Vec::with_capacity(alloc, count)?;
+        for place in places {
+            bytes.extend_from_slice(self.bytes(*place as usize))?;
+        }
+        Ok(bytes)
+    }
+
+    /// All texts of another list at the end, unless the buffer is shared, or the bytes would be more than 32 bits count.
+    pub(crate) fn append(&mut self, other: &Texts) -> Result<bool, AllocError>
+        ensures ok { IfOk result (λ done. self.new ≡ (if done then self.old ++ other.now else self.old)) }
+        ensures err { OnErr result (self.new ≡ self.old) }
+    {
+        let before = self.len();
+        let done = self.push_all(other);
+        if !matches!(done, Ok(true)) {
+            self.truncate(before);
+        }
+        done
+    }
+
+    // All texts of another list, one by one, as far as the bytes are counted and memory goes.
+    fn push_all(&mut self, other: &Texts) -> Result<bool, AllocError>
+        ensures ok { IfOk result (λ done. IsTrue done → self.new ≡ self.old ++ other.now) }
+        ensures kept { take (length self.old) self.new ≡ self.old }
+        ensures longer { length self.old ≤ length self.new }
+    {
+        for i in 0..other.len() {
+            if !self.push(other.bytes(i))? {
+                return Ok(false);
             }
         }
-        Ok(Some(out))
+        Ok(true)
     }
 
     /// The same texts in a shared buffer, without room for more.

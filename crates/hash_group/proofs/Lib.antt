@@ -1,2 +1,5 @@
 pub mod Steps
 pub mod Grouped
+pub mod KeyCells
+pub mod Ranks
+pub mod FilledRows

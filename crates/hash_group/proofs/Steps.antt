@@ -11,7 +11,7 @@ use Rattle.accumulators.specs.Accumulators.{OfValues}
 use Rattle.hash_group.specs.ByNumber.{values_by_number, PutAt, AreValues}
 
 -- the elements with a number, one place more
-with_more : {R : Type 0} (is : List ℕ) (xs : List R) (n i k : ℕ) (x : R) → slice_get is i ≡ Some k → slice_get xs i ≡ Some x
+pub with_more : {R : Type 0} (is : List ℕ) (xs : List R) (n i k : ℕ) (x : R) → slice_get is i ≡ Some k → slice_get xs i ≡ Some x
     → with_number (take (suc i) is) (take (suc i) xs) n ≡ with_number (take i is) (take i xs) n ++ cond (nat_eq k n) (x ∷ []) []
 with_more [] xs n i k x e f = absurd (let e' : None ≡ Some k = e in cc)
 with_more (j ∷ is) [] n i k x e f = absurd (let f' : None ≡ Some x = f in cc)

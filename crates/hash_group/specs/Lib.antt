@@ -1,2 +1,5 @@
 pub mod ByNumber
+pub mod Filled
 pub mod GroupLaws
+pub mod Keys
+pub mod Standings

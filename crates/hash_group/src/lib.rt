@@ -1,9 +1,17 @@
 //! Aggregates of groups: the values of a column, each put into the accumulator of its row's group.
 #![tactic(auto)]
 
+mod aggregate;
+mod filling;
+mod grouping;
 mod groups;
+mod identical;
 pub mod laws;
+mod standings;
 mod values;
 
+pub use aggregate::{accumulated_by_number, aggregated_by_number};
+pub use filling::fill;
 pub use groups::accumulated;
-pub use values::{SliceValues, ValueList};
+pub use identical::{distinct, domain};
+pub use values::{ColumnValues, Nulls, SliceValues, ValueList};

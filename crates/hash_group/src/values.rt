@@ -1,9 +1,11 @@
 //! A list of values that are read one by one, as those of a column.
-ghost use Rattle.std.specs.Prelude.{◌≡◌, ◌<◌, List, length, slice_get, Some, IfOk};
+ghost use Rattle.std.specs.Prelude.{◌≡◌, ◌<◌, List, length, replicate, slice_get, Some, IfOk};
 ghost use Rattle.sql_value.specs.declared.value.Value.{Value as Datum};
+ghost use Rattle.sql_value.specs.declared.value.Value.TheVariants.{Null};
 
+use columns::Column;
 use sql_value::Value;
-use std::alloc::AllocError;
+use std::alloc::{AllocError, Global};
 
 /// Values in a row, as those of a column.
 pub trait ValueList {
@@ -35,5 +37,50 @@ impl<'a> ValueList for SliceValues<'a> {
 
     fn value(&self, i: usize) -> Result<Value, AllocError> {
         self.values[i].clone()
+    }
+}
+
+/// The values of a column.
+pub struct ColumnValues<'a> {
+    alloc: Global,
+    column: &'a Column,
+}
+
+impl<'a> ColumnValues<'a> {
+    /// These values.
+    pub fn new(alloc: Global, column: &'a Column) -> ColumnValues<'a>
+        ensures { ⟦<ColumnValues<'a> as ValueList>⟧.shown result ≡ column.now }
+    {
+        ColumnValues { alloc, column }
+    }
+}
+
+impl<'a> ValueList for ColumnValues<'a> {
+    ghost shown = { λ s. s.column.now };
+
+    fn value(&self, i: usize) -> Result<Value, AllocError> {
+        self.column.at(self.alloc, i)
+    }
+}
+
+/// So many nulls.
+pub struct Nulls {
+    count: usize,
+}
+
+impl Nulls {
+    /// That many.
+    pub fn new(count: usize) -> Nulls
+        ensures { ⟦<Nulls as ValueList>⟧.shown result ≡ replicate count Null }
+    {
+        Nulls { count }
+    }
+}
+
+impl ValueList for Nulls {
+    ghost shown = { λ s. replicate s.count Null };
+
+    fn value(&self, _i: usize) -> Result<Value, AllocError> {
+        Ok(Value::Null)
     }
 }

@@ -9,8 +9,8 @@ mod joined;
 mod numbering;
 
 pub use chains::Chains;
-pub use joined::pairs;
-pub use numbering::{Numbered, numbers};
+pub use joined::{pairs, put_partners};
+pub use numbering::{Numbered, numbers, put_key};
 
 #[cfg(test)]
 mod tests;

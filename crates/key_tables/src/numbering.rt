@@ -17,8 +17,8 @@ pub struct Numbered {
     pub firsts: Vec<u32>,
 }
 
-// Puts a key after the others, if it isn't there yet: its number, and whether it is new.
-fn put_key<K: Copy + Eq + Hash + Drop>(
+/// Puts a key after the others, if it isn't there yet: its number, and whether it is new.
+pub fn put_key<K: Eq + Hash + Drop>(
     seen: &mut IndexSet<K>,
     key: K,
 ) -> Result<(usize, bool), AllocError>

@@ -57,3 +57,11 @@ sorted_is keys xs ys same up =
     (adjacent before order ys (λ k d l. not_less keys (slice_index_or ys k d) (slice_index_or ys (k + 1) d) (up k d (omega arith) l)))
     (in_order_is before order xs)
     (SameBag-trans (SameBag-sym same) (SameBag-sym (in_order_bag before order xs)))
+
+-- lists of the same rows are the same list in order
+pub in_order_alike : (keys : List OrderKey) (xs ys : List (List Value)) → SameBag xs ys → in_order (comes_before keys) xs ≡ in_order (comes_before keys) ys
+in_order_alike keys xs ys same =
+    let before = comes_before keys in
+    let order = answer_is_order keys in
+    one_list same_row before row_identity order (in_order before xs) (in_order before ys) (in_order_is before order xs) (in_order_is before order ys)
+    (SameBag-trans (in_order_bag before order xs) (SameBag-trans same (SameBag-sym (in_order_bag before order ys))))

@@ -4,6 +4,7 @@
 mod answer;
 mod fault;
 mod key;
+pub mod laws;
 mod order;
 
 pub use answer::finish;

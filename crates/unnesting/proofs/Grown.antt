@@ -1,8 +1,7 @@
 -- Plans that grow keep the rows and widths of their nodes; and what a node adds that is put last.
 use Rattle.std.proofs.Common.{◌≡◌, ℕ, ◌+◌, ◌<◌, ◌≤◌, List, [], ◌∷◌, ◌++◌, refl, sym, ap, ◌∙◌, subst, arith, length}
-use Rattle.std.specs.Prelude.{slice_index_or}
 use Rattle.std.specs.List.{flat_map, sum_by}
-use Rattle.std.proofs.lemmas.List.{append_assoc, append-nil, length-append, get_or_append_left, get_or_push}
+use Rattle.std.proofs.lemmas.List.{append_assoc, append-nil, length-append}
 use Rattle.std.proofs.lemmas.Grind.{flat_map-append}
 use Rattle.std.proofs.lemmas.List.Sums.{sum_by-append}
 use Rattle.row_laws.specs.Ranked.{Ranked}
@@ -11,33 +10,8 @@ use Rattle.tpch_schema.specs.declared.table.TableName.{TableName}
 use Rattle.algebra.specs.declared.node.Node.{Node}
 use Rattle.algebra.specs.Trees.{Database}
 use Rattle.algebra.specs.Plans.{made_from, node_rows, node_width, plan_rows, plan_width, scan_of, plan_scans, is_domain, plan_domains}
+use Rattle.algebra.proofs.Made.{kept_at, put_at}
 use Rattle.unnesting.specs.Lowerings.{Grows, IsPut}
-
-module _ {X : Type 0} (f : List X → Node → X) where
-  made-append : (before : List X) (ns ms : List Node) → made_from f before (ns ++ ms) ≡ made_from f (made_from f before ns) ms
-  made-append before [] ms = refl
-  made-append before (n ∷ ns) ms = made-append (before ++ f before n ∷ []) ns ms
-
-  made-length : (before : List X) (ns : List Node) → length (made_from f before ns) ≡ length before + length ns
-  made-length before [] = omega arith
-  made-length before (n ∷ ns) =
-      let ih = made-length (before ++ f before n ∷ []) ns in let e = length-append before (f before n ∷ []) in omega (arith, ih, e)
-
-  made-keeps : (z : X) (i : ℕ) (before : List X) (ms : List Node) → i < length before → slice_index_or (made_from f before ms) i z ≡ slice_index_or before i z
-  made-keeps z i before [] h = refl
-  made-keeps z i before (n ∷ ns) h =
-      let e = length-append before (f before n ∷ []) in
-      made-keeps z i (before ++ f before n ∷ []) ns (omega (arith, e)) ∙ get_or_append_left before (f before n ∷ []) z i h
-
-  kept_at : (z : X) (ns ms more : List Node) (i : ℕ) → ms ≡ ns ++ more → i < length ns → slice_index_or (made_from f [] ms) i z ≡ slice_index_or (made_from f [] ns) i z
-  kept_at z ns ms more i e h =
-      ap (λ l. slice_index_or (made_from f [] l) i z) e ∙ ap (λ l. slice_index_or l i z) (made-append [] ns more)
-      ∙ made-keeps z i (made_from f [] ns) more (let l = made-length [] ns in omega (arith, l))
-
-  put_at : (z : X) (ns ms : List Node) (n : Node) (i : ℕ) → ms ≡ ns ++ n ∷ [] → i ≡ length ns → slice_index_or (made_from f [] ms) i z ≡ f (made_from f [] ns) n
-  put_at z ns ms n i e k =
-      ap (λ l. slice_index_or (made_from f [] l) i z) e ∙ ap (λ l. slice_index_or l i z) (made-append [] ns (n ∷ []))
-      ∙ get_or_push (made_from f [] ns) (f (made_from f [] ns) n) z i (let l = made-length [] ns in omega (arith, l, k))
 
 pub kept_rows : {before after : List Node} {tables : List TableName} {most : ℕ} (db : Database) (i : ℕ) → Grows before after tables most → i < length before
     → plan_rows db after i ≡ plan_rows db before i

@@ -1,0 +1,13 @@
+use Rattle.std.proofs.Common.{ap, ◌∙◌}
+use Rattle.sql_value.specs.Value.{same_value}
+use Rattle.accumulators.specs.Accumulators.{added_all}
+use Rattle.accumulators.proofs.DistinctValues.{distinct_joined}
+use Rattle.accumulators.proofs.distinct.CountDistinctAccumulator.merge.Goals as goal
+
+pub returns-clause-taken : goal.returns-clause-taken
+returns-clause-taken c =
+    λ aggregate vs ws h j. (
+      h.0,
+      distinct_joined _ _ _ _ c.args.other.seen.keys _ vs ws h.1 j.1 c.lesser-self.ensures.rank
+          (c.in_ok-put_values.ensures ∙ ap (added_all same_value c.args.self.now.seen.keys) c.as_slice.ensures.keys),
+    )

@@ -1,0 +1,30 @@
+use Rattle.std.proofs.Common.{ℕ, List, length, ap, sym, subst, ◌∙◌}
+use Rattle.row_laws.specs.Numbers.{numbers_of}
+use Rattle.key_tables.specs.Distinct.{first_places}
+use Rattle.key_tables.specs.Keys.{same_two}
+use Rattle.sql_value.specs.declared.value.Value.{Value}
+use Rattle.columns.specs.Batches.{AreLong}
+use Rattle.row_keys.specs.Keys.{AreKeys}
+use Rattle.hash_group.specs.Keys.{key_columns}
+use Rattle.hash_group.proofs.KeyCells.{long_keys, keys_told}
+use Rattle.hash_group.proofs.grouping.group_numbers.Goals as goal
+
+pub keys_of_columns-requires : goal.keys_of_columns-requires
+keys_of_columns-requires c =
+    let L : ℕ → Type 0 = λ n. AreLong n c.args.columns.now in
+    let M : List (List Value) → Type 0 = λ cs. AreLong (length c.args.bag.now.rows) cs in
+    subst L (sym c.len.ensures) (subst M (sym c.requires) (long_keys c.args.bag.now.rows c.args.by.now))
+
+pub returns-clause-numbers : goal.returns-clause-numbers
+returns-clause-numbers c =
+    let K : ℕ → Type 0 = λ n. AreKeys c.args.columns.now n c.in_ok-keys.keys.items in
+    let M : List (List Value) → Type 0 = λ cs. AreKeys cs (length c.args.bag.now.rows) c.in_ok-keys.keys.items in
+    c.in_ok-numbered.ensures.numbers ∙ ap (numbers_of same_two) c.as_slice.ensures.value
+    ∙ (keys_told c.args.bag.now.rows c.args.by.now c.in_ok-keys.keys.items (subst M c.requires (subst K c.len.ensures c.in_ok-keys.ensures))).0
+
+pub returns-clause-firsts : goal.returns-clause-firsts
+returns-clause-firsts c =
+    let K : ℕ → Type 0 = λ n. AreKeys c.args.columns.now n c.in_ok-keys.keys.items in
+    let M : List (List Value) → Type 0 = λ cs. AreKeys cs (length c.args.bag.now.rows) c.in_ok-keys.keys.items in
+    c.in_ok-numbered.ensures.firsts ∙ ap (first_places same_two) c.as_slice.ensures.value
+    ∙ (keys_told c.args.bag.now.rows c.args.by.now c.in_ok-keys.keys.items (subst M c.requires (subst K c.len.ensures c.in_ok-keys.ensures))).1

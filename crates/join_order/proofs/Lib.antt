@@ -1,0 +1,10 @@
+pub mod Good
+pub mod Gather
+pub mod Scans
+pub mod Steps
+pub mod Collected
+pub mod Apart
+pub mod SameNodes
+pub mod Sinking
+pub mod OnParts
+pub mod OfOrs

@@ -1,0 +1,5 @@
+pub mod Arranged
+pub mod Groups
+pub mod Own
+pub mod Sink
+pub mod Implied

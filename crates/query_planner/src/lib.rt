@@ -1,0 +1,10 @@
+//! From a query to its flat plan, and the plan as it is printed.
+#![tactic(auto)]
+
+pub mod laws;
+mod text;
+
+pub use text::plan_text;
+
+#[cfg(test)]
+mod tests;
