@@ -9,7 +9,7 @@ mod joined;
 mod numbering;
 
 pub use chains::Chains;
-pub use joined::{pairs, put_partners};
+pub use joined::{pairs, put_pairs, put_partners};
 pub use numbering::{Numbered, numbers, put_key};
 
 #[cfg(test)]

@@ -1,6 +1,7 @@
 -- Queries worked out by hand over small tables.
 use Rattle.std.specs.Prelude.{◌≡◌, ℕ, ◌-◌, ◌^◌, List, [], ◌∷◌, Option, Some, None, Result, Ok, Err, pos, negsuc, codes, true, false}
 use Rattle.aggregates.specs.declared.function.AggregateFunction.TheVariants.{Sum}
+use Rattle.order_limit.specs.declared.key.OrderKey.{OrderKey}
 use Rattle.operators.specs.declared.operator.Arithmetic.TheVariants.{Add, Divide}
 use Rattle.operators.specs.declared.operator.Comparison.TheVariants.{Equal, Greater, Less}
 use Rattle.scalar_expr.specs.declared.expr.Expr.{Expr}
@@ -15,7 +16,6 @@ use Rattle.nested_query.specs.declared.query.BoundAggregate.TheVariants.{CountRo
 use Rattle.nested_query.specs.declared.query.BoundBlock.{BoundBlock}
 use Rattle.nested_query.specs.declared.query.BoundBlock.TheVariants.{Plain, Grouped, Distinct}
 use Rattle.nested_query.specs.declared.query.BoundExpr.{BoundExpr}
-use Rattle.nested_query.specs.declared.query.BoundOrderKey.{BoundOrderKey}
 use Rattle.nested_query.specs.declared.query.BoundQuery.{BoundQuery}
 use Rattle.nested_query.specs.declared.query.BoundSource.TheVariants.{Table, Derived, Outer}
 use Rattle.nested_query.specs.declared.query.Input.{Input}
@@ -235,7 +235,7 @@ abbrev pub NestedExists : Type 0
 NestedExists = answer (statement two_levels) small ≡ Ok (wholes (1 ∷ []))
 
 -- descending by the only column
-abbrev pub downwards : BoundOrderKey
+abbrev pub downwards : OrderKey
 downwards = record { column = 0; is_descending = true }
 
 -- Order, row limit and DISTINCT: nulls first when descending; the limit after the order; a fault before the limit.

@@ -1,6 +1,7 @@
 //! Queries whose names are bound: a column is so many levels out and at a place of that query's row.
 use aggregates::AggregateFunction;
 use fixed_decimal::Scale;
+use order_limit::OrderKey;
 use scalar_expr::Expr;
 use sqlite_items::{Boxed, Items};
 use tpch_schema::TableName;
@@ -76,22 +77,13 @@ pub enum BoundBlock {
     Distinct(Boxed<BoundBlock>),
 }
 
-/// An output column by which an answer is ordered.
-#[derive(Clone, Copy, Debug, PartialEq, Eq)]
-pub struct BoundOrderKey {
-    /// The place of the output column, from 0.
-    pub column: u32,
-    /// Whether the order is turned round.
-    pub is_descending: bool,
-}
-
 /// A query that is a statement, with its order and row limit.
 #[derive(Drop)]
 pub struct BoundQuery {
     /// The query from SELECT to HAVING.
     pub block: Boxed<BoundBlock>,
     /// The keys of ORDER BY; none where it is absent.
-    pub order: Items<BoundOrderKey>,
+    pub order: Items<OrderKey>,
     /// How many rows the answer has at most; nothing where no limit stands.
     pub limit: Option<u32>,
 }

@@ -3,7 +3,7 @@ ghost use Rattle.std.specs.Prelude.{◌≡◌, ◌++◌, IfOk, OnOk};
 ghost use Rattle.result_text.specs.Answer.{header};
 ghost use Rattle.result_text.specs.Lines.{accepted_text, done_text, line_start, refusal_text};
 
-use crate::refusal::push_refusal;
+use crate::refusal::put_refusal;
 use itoa::Buffer;
 use refusals::Refusal;
 use std::alloc::{AllocError, Global};
@@ -73,7 +73,7 @@ pub fn refusal_text(
     let mut text = Vec::new(alloc);
     push_start(&mut text, statement, version)?;
     text.push(b' ')?;
-    push_refusal(&mut text, refusal)?;
+    put_refusal(&mut text, refusal)?;
     text.push(b'\n')?;
     Ok(text)
 }

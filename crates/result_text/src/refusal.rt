@@ -1,5 +1,5 @@
 //! Refusals as lines say them.
-ghost use Rattle.std.specs.Prelude.{◌≡◌, ◌++◌, OnOk};
+ghost use Rattle.std.specs.Prelude.{◌≡◌, ◌++◌, OnErr, OnOk};
 ghost use Rattle.result_text.specs.Refusal.{arguments, cause_arguments, file_name, key_written, line_written, malformed_written, refusal_written, tagged, template_arguments};
 
 use fixed_decimal::{Scale, push_decimal};
@@ -98,12 +98,22 @@ fn push_arguments(text: &mut Vec<u8>, refusal: &Refusal) -> Result<(), AllocErro
     }
 }
 
-/// Appends the word `refused`, the refusal's number and name, and its arguments, parted by spaces. Where memory is wanted,
-/// a part of it may stand there.
-pub fn push_refusal(text: &mut Vec<u8>, refusal: &Refusal) -> Result<(), AllocError>
+/// Appends the word `refused`, the refusal's number and name, and its arguments, parted by spaces, as far as memory goes.
+pub(crate) fn put_refusal(text: &mut Vec<u8>, refusal: &Refusal) -> Result<(), AllocError>
     ensures { OnOk result (text.new.items ≡ text.old.items ++ refusal_written refusal.now) }
 {
     text.extend_from_slice(b"refused")?;
     push_tagged(text, refusal.number(), refusal.name())?;
     push_arguments(text, refusal)
+}
+
+/// Appends the word `refused`, the refusal's number and name, and its arguments, parted by spaces. Where memory runs out,
+/// the text stays as it was.
+pub fn push_refusal(text: &mut Vec<u8>, refusal: &Refusal) -> Result<(), AllocError>
+    ensures ok { OnOk result (text.new.items ≡ text.old.items ++ refusal_written refusal.now) }
+    ensures err { OnErr result (text.new.items ≡ text.old.items) }
+{
+    let mut written = Vec::new(*text.allocator());
+    put_refusal(&mut written, refusal)?;
+    text.append(&mut written)
 }

@@ -1,5 +1,5 @@
 //! The rows of an answer.
-ghost use Rattle.std.specs.Prelude.{◌≡◌, ◌++◌, IfOk, OnOk, IsTrue};
+ghost use Rattle.std.specs.Prelude.{◌≡◌, ◌++◌, IfOk, OnErr, OnOk, IsTrue};
 ghost use Rattle.result_text.specs.Answer.{answer_text, barred, columns_written, date_written, escaped, has_no_fault, is_no_fault, row_written, rows_have_no_fault, value_written};
 
 use civil_date::CivilDate;
@@ -69,16 +69,27 @@ fn push_columns(text: &mut Vec<u8>, values: &[Value]) -> Result<(), AllocError>
     push_barred(text, others)
 }
 
-/// Appends a row of an answer: bars between its columns and LF at its end. A number has all its scale's digits, a date is
-/// YYYY-MM-DD, null is `\N`, and in a text a backslash stands before each bar and each backslash. Where memory is wanted,
-/// a part of the row may stand there.
-pub fn push_row(text: &mut Vec<u8>, values: &[Value]) -> Result<(), AllocError>
+/// Appends a row of an answer, as far as memory goes.
+fn put_row(text: &mut Vec<u8>, values: &[Value]) -> Result<(), AllocError>
     requires { IsTrue (has_no_fault values.now) }
     ensures { OnOk result (text.new.items ≡ text.old.items ++ row_written values.now) }
 {
     push_columns(text, values)?;
     text.push(b'\n')?;
     Ok(())
+}
+
+/// Appends a row of an answer: bars between its columns and LF at its end. A number has all its scale's digits, a date is
+/// YYYY-MM-DD, null is `\N`, and in a text a backslash stands before each bar and each backslash. Where memory runs out,
+/// the text stays as it was.
+pub fn push_row(text: &mut Vec<u8>, values: &[Value]) -> Result<(), AllocError>
+    requires { IsTrue (has_no_fault values.now) }
+    ensures ok { OnOk result (text.new.items ≡ text.old.items ++ row_written values.now) }
+    ensures err { OnErr result (text.new.items ≡ text.old.items) }
+{
+    let mut row = Vec::new(*text.allocator());
+    put_row(&mut row, values)?;
+    text.append(&mut row)
 }
 
 /// The rows of an answer, in order, each as `push_row` appends it.
@@ -88,7 +99,7 @@ pub fn answer_text(alloc: Global, rows: &[Row]) -> Result<Vec<u8>, AllocError>
 {
     let mut text = Vec::new(alloc);
     for row in rows {
-        push_row(&mut text, row.values())?;
+        put_row(&mut text, row.values())?;
     }
     Ok(text)
 }

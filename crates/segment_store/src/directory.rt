@@ -93,12 +93,12 @@ impl Directory {
         self.state.count(table)
     }
 
-    /// The rows of a table, in order.
-    pub fn rows(&self, table: TableName) -> &[Row]
-        ensures rows { result.now ≡ table_rows (tables_of self.now) table }
-        ensures kinds { RowsAreOf table result.now }
+    /// The rows of a table in order, each copied to a row of its own.
+    pub fn rows(&self, table: TableName) -> Result<Vec<Row>, AllocError>
+        ensures rows { IfOk result (λ rows. rows.items ≡ table_rows (tables_of self.now) table) }
+        ensures kinds { IfOk result (λ rows. RowsAreOf table rows.items) }
     {
-        self.state.rows(table)
+        self.state.rows(self.alloc, table)
     }
 
     /// The state that the next refresh leaves here, or its first cause.

@@ -4,6 +4,3 @@
 mod directory;
 
 pub use directory::Directory;
-
-#[cfg(test)]
-mod tests;

@@ -12,6 +12,3 @@ mod steps;
 
 pub use machine::{Machine, step};
 pub use steps::{Cuts, Step};
-
-#[cfg(test)]
-mod tests;

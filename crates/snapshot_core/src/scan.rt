@@ -36,8 +36,9 @@ pub(crate) fn scanned_piece(
     if number >= lengths.len() {
         return Ok(None);
     }
+    let all = state.rows(alloc, table)?;
     let mut rows = Vec::new(alloc);
-    push_rows(&mut rows, piece(state.rows(table), lengths, number))?;
+    push_rows(&mut rows, piece(all.as_slice(), lengths, number))?;
     Ok(Some(Piece {
         table,
         number,

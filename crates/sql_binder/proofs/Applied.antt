@@ -13,7 +13,9 @@ use Rattle.sql_binder.specs.declared.scope.ScopeColumn.{ScopeColumn}
 use Rattle.sql_binder.specs.Steps.{Name, Binding, apart, pure, ◌>>=◌}
 use Rattle.sql_binder.specs.Names.{Sight}
 use Rattle.sql_binder.specs.Parts.{columns_so_far, first_rows, joining, once_each}
-use Rattle.sql_binder.specs.Binding.{FromItemMeaning, from_item_step, from_item_meaning, join_meaning, joined_meaning, block_meaning, meaning, clauses_of, on_joining, chained}
+use Rattle.sql_binder.specs.Meanings.{FromItemMeaning}
+use Rattle.sql_binder.specs.FromLists.{from_item_step, on_joining, chained}
+use Rattle.sql_binder.specs.Binding.{from_item_meaning, join_meaning, joined_meaning, block_meaning, meaning, clauses_of}
 use Rattle.sql_binder.proofs.Opened.{from_item_Table, from_item_Derived, join_is, joined_is, block_is, expr_opened, clause_opened, selected_opened, term_is, factor_is, arm_is, item_is}
 
 pub table_at : (n : Name) (alias : Option Name) (sight : Sight) (left : List ScopeColumn) (s : Collected) → from_item_meaning (from_item.Table n alias) sight left s ≡ from_item_step (FromItem-F.Table n alias) sight left s

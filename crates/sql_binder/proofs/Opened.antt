@@ -27,7 +27,12 @@ use Rattle.sql_binder.specs.declared.scope.ScopeColumn.{ScopeColumn}
 use Rattle.sql_binder.specs.Steps.{Name, Binding, apart, pure, ◌>>=◌}
 use Rattle.sql_binder.specs.Names.{Sight}
 use Rattle.sql_binder.specs.Parts.{columns_so_far, first_rows, joining, once_each, table_rows}
-use Rattle.sql_binder.specs.Binding.{Meaning, ChainMeaning, ArmMeaning, ItemMeaning, SelectedMeaning, ClauseMeaning, FromItemMeaning, JoinMeaning, JoinedMeaning, BlockMeaning, clause_step, expr_step, from_item_step, selected_step, arm_step, block_step, factor_step, item_step, join_step, joined_step, term_step, clause_meaning, meaning, from_item_meaning, selected_meaning, arm_meaning, block_meaning, factor_meaning, item_meaning, join_meaning, joined_meaning, term_meaning, opened_block, clauses_of, on_joining, chained}
+use Rattle.sql_binder.specs.Meanings.{Meaning, ChainMeaning, ArmMeaning, ItemMeaning, SelectedMeaning, ClauseMeaning, FromItemMeaning, JoinMeaning, JoinedMeaning, BlockMeaning}
+use Rattle.sql_binder.specs.Clauses.{clause_step, selected_step, item_step}
+use Rattle.sql_binder.specs.Expressions.{expr_step, arm_step, factor_step, term_step}
+use Rattle.sql_binder.specs.FromLists.{from_item_step, join_step, joined_step, on_joining, chained}
+use Rattle.sql_binder.specs.Blocks.{block_step}
+use Rattle.sql_binder.specs.Binding.{clause_meaning, meaning, from_item_meaning, selected_meaning, arm_meaning, block_meaning, factor_meaning, item_meaning, join_meaning, joined_meaning, term_meaning, opened_block, clauses_of}
 
 unfoldable pub clause_meaning_at : Clause-F Clause Expr FromItem Selected Arm Block Factor Item Join Joined Term → ClauseMeaning
 clause_meaning_at x = clause_step (map-Clause Clause Expr FromItem Selected Arm Block Factor Item Join Joined Term ClauseMeaning Meaning FromItemMeaning SelectedMeaning ArmMeaning BlockMeaning ChainMeaning ItemMeaning JoinMeaning JoinedMeaning ChainMeaning clause_meaning meaning from_item_meaning selected_meaning arm_meaning block_meaning factor_meaning item_meaning join_meaning joined_meaning term_meaning x)

@@ -3,6 +3,12 @@ pub mod Names
 pub mod Kinds
 pub mod Values
 pub mod Parts
+pub mod Meanings
+pub mod Operands
+pub mod Expressions
+pub mod FromLists
+pub mod Clauses
+pub mod Blocks
 pub mod Binding
 pub mod Laws
 pub mod Examples

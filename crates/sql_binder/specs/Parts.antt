@@ -9,17 +9,17 @@ use Rattle.nested_query.specs.declared.query.BoundAggregate.TheVariants as aggre
 use Rattle.nested_query.specs.declared.query.BoundBlock.{BoundBlock}
 use Rattle.nested_query.specs.declared.query.BoundBlock.TheVariants as block
 use Rattle.nested_query.specs.declared.query.BoundExpr.{BoundExpr}
-use Rattle.nested_query.specs.declared.query.BoundOrderKey.{BoundOrderKey}
 use Rattle.nested_query.specs.declared.query.BoundSource.{BoundSource}
 use Rattle.nested_query.specs.declared.query.BoundSource.TheVariants as source
 use Rattle.nested_query.specs.declared.query.Input.{Input}
 use Rattle.nested_query.specs.declared.query.Input.TheVariants as input
 use Rattle.nested_query.specs.Typing.{kind_of_column}
+use Rattle.order_limit.specs.declared.key.OrderKey.{OrderKey}
 use Rattle.refusals.specs.declared.bind.BindRefusal.TheVariants.{UnknownTable, UnknownColumn, AmbiguousColumn, DuplicateAlias, TypeMismatch, NestedAggregate, OuterAggregate, SubqueryColumns, SubqueryPlace}
 use Rattle.scalar_expr.specs.declared.expr.Expr.TheVariants as e
 use Rattle.scalar_expr.specs.declared.kind.Kind.{Kind}
 use Rattle.scalar_expr.specs.declared.kind.Kind.TheVariants as kind
-use Rattle.sql_ast.specs.declared.statement.OrderKey.{OrderKey}
+use Rattle.sql_ast.specs.declared.statement.OrderKey.{OrderKey as NamedKey}
 use Rattle.sql_ast.specs.declared.words.Aggregate.{Aggregate}
 use Rattle.sql_ast.specs.declared.words.Aggregate.TheVariants as named
 use Rattle.sql_ast.specs.declared.words.Column.{Column}
@@ -383,9 +383,9 @@ unfoldable pub output_place : Name → List Header → Checked ℕ
 output_place name headers = only_place (output_places name 0 headers)
 
 -- keys of ORDER BY, each the one output column of its name
-abbrev pub order_from : List Header → List BoundOrderKey → List OrderKey → Checked (List BoundOrderKey)
+abbrev pub order_from : List Header → List OrderKey → List NamedKey → Checked (List OrderKey)
 order_from headers done [] = Ok done
 order_from headers done (k ∷ ks) = and_then (output_place k.column headers) (λ p. order_from headers (done ++ record { column = p; is_descending = k.is_descending } ∷ []) ks)
 
-unfoldable pub order_of : List Header → List OrderKey → Checked (List BoundOrderKey)
+unfoldable pub order_of : List Header → List NamedKey → Checked (List OrderKey)
 order_of headers order = order_from headers [] order

@@ -9,10 +9,11 @@ use crate::kinds::is_condition;
 use crate::names::share;
 use crate::scope::{ScopeColumn, narrow, placed, same_name, the_one};
 use crate::view::Header;
-use nested_query::{BoundBlock, BoundExpr, BoundOrderKey, Input};
+use nested_query::{BoundBlock, BoundExpr, Input};
+use order_limit::OrderKey;
 use refusals::BindRefusal;
 use scalar_expr::{Expr, Kind};
-use sql_ast::{Column, Name, OrderKey};
+use sql_ast::{Column, Name};
 use sqlite_items::{Boxed, Items};
 use std::alloc::{AllocError, Global};
 
@@ -209,15 +210,15 @@ fn output_place(name: &Name, headers: &[Header]) -> Result<u32, BindFault>
 pub fn order_of(
     alloc: Global,
     headers: &[Header],
-    order: &[OrderKey],
-) -> Result<Items<BoundOrderKey>, BindFault>
+    order: &[sql_ast::OrderKey],
+) -> Result<Items<OrderKey>, BindFault>
     ensures { Gives (spec.order_of headers.now order.now) result }
 {
     let mut done = Items::new(alloc);
     let mut left = order;
     'order: while let [key, rest @ ..] = left {
         let column = output_place(&key.column, headers)?;
-        done.push(BoundOrderKey {
+        done.push(OrderKey {
             column,
             is_descending: key.is_descending,
         })?;

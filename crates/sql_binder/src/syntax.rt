@@ -1,6 +1,8 @@
 //! What can be read off a query before its names are bound.
 ghost use Rattle.std.specs.Prelude.{◌≡◌, map, IfOk};
-ghost use Rattle.sql_binder.specs.Binding as spec;
+ghost use Rattle.sql_binder.specs.Expressions as exprs;
+ghost use Rattle.sql_binder.specs.Blocks as blocks;
+ghost use Rattle.sql_binder.specs.Binding as trees;
 ghost use Rattle.sql_binder.specs.Binding.{meaning, term_meaning, factor_meaning, arm_meaning, item_meaning, selected_meaning};
 
 use crate::names::share;
@@ -39,7 +41,7 @@ fn aggregates(e: &Expr) -> bool
 
 #[cycle(aggregates)]
 fn any_aggregate(all: &[Expr]) -> bool
-    ensures { result ≡ spec.any_aggregate (map meaning all.now) }
+    ensures { result ≡ exprs.any_aggregate (map meaning all.now) }
 {
     for e in all {
         if aggregates(e) {
@@ -59,7 +61,7 @@ fn in_term(t: &Term) -> bool
 
 #[cycle(aggregates)]
 fn any_in_terms(all: &[Term]) -> bool
-    ensures { result ≡ spec.any_in_chain (map term_meaning all.now) }
+    ensures { result ≡ exprs.any_in_chain (map term_meaning all.now) }
 {
     for t in all {
         if in_term(t) {
@@ -79,7 +81,7 @@ fn in_factor(f: &Factor) -> bool
 
 #[cycle(aggregates)]
 fn any_in_factors(all: &[Factor]) -> bool
-    ensures { result ≡ spec.any_in_chain (map factor_meaning all.now) }
+    ensures { result ≡ exprs.any_in_chain (map factor_meaning all.now) }
 {
     for f in all {
         if in_factor(f) {
@@ -92,14 +94,14 @@ fn any_in_factors(all: &[Factor]) -> bool
 #[cycle(aggregates)]
 #[tactic(auto, using(crate::proofs::Opened::arm_is))]
 fn in_arm(a: &Arm) -> bool
-    ensures { result ≡ spec.in_arm (arm_meaning a.now) }
+    ensures { result ≡ exprs.in_arm (arm_meaning a.now) }
 {
     aggregates(&a.condition) || aggregates(&a.value)
 }
 
 #[cycle(aggregates)]
 fn any_in_arms(all: &[Arm]) -> bool
-    ensures { result ≡ spec.any_in_arms (map arm_meaning all.now) }
+    ensures { result ≡ exprs.any_in_arms (map arm_meaning all.now) }
 {
     for a in all {
         if in_arm(a) {
@@ -117,7 +119,7 @@ fn in_item(i: &Item) -> bool
 }
 
 fn any_in_items(mut all: &[Item]) -> bool
-    ensures { result ≡ spec.any_in_items (map item_meaning all.entry.now) }
+    ensures { result ≡ blocks.any_in_items (map item_meaning all.entry.now) }
 {
     'all: while let [i, rest @ ..] = all {
         if in_item(i) {
@@ -130,7 +132,7 @@ fn any_in_items(mut all: &[Item]) -> bool
 
 #[tactic(auto, using(crate::proofs::Opened::selected_opened))]
 fn items_aggregate(s: &Selected) -> bool
-    ensures { result ≡ spec.items_aggregate (selected_meaning s.now) }
+    ensures { result ≡ blocks.items_aggregate (selected_meaning s.now) }
 {
     match s {
         Selected::All => false,
@@ -140,7 +142,7 @@ fn items_aggregate(s: &Selected) -> bool
 
 #[tactic(auto, using(crate::proofs::Opened::clause_opened))]
 fn is_there(c: &Clause) -> bool
-    ensures { result ≡ spec.is_there (spec.clause_meaning c.now) }
+    ensures { result ≡ blocks.is_there (trees.clause_meaning c.now) }
 {
     match c {
         Clause::Absent => false,
@@ -149,9 +151,9 @@ fn is_there(c: &Clause) -> bool
 }
 
 /// Whether groups are made.
-#[tactic(auto, unfolding(crate::specs::Binding::is_grouped_block, crate::specs::Binding::is_grouped))]
+#[tactic(auto, unfolding(crate::specs::Binding::is_grouped_block, crate::specs::Blocks::is_grouped))]
 pub fn is_grouped(q: &Block) -> bool
-    ensures { result ≡ spec.is_grouped_block q.now }
+    ensures { result ≡ trees.is_grouped_block q.now }
 {
     !q.group.is_empty() || is_there(&q.having) || items_aggregate(&q.selected)
 }
@@ -199,7 +201,7 @@ fn own_name(alloc: Global, e: &Expr) -> Result<Name, AllocError>
 }
 
 fn no_name(alloc: Global) -> Result<Name, AllocError>
-    ensures { IfOk result (λ n. n ≡ spec.no_name) }
+    ensures { IfOk result (λ n. n ≡ exprs.no_name) }
 {
     let name = Text::of_printable(alloc, b"")?;
     Ok(name)

@@ -1,4 +1,7 @@
-pub mod Found
+pub mod DeleteKeys
+pub mod FoundKeys
 pub mod Order
+pub mod PartLists
+pub mod LeftRows
 pub mod Sales
 pub mod VersionSteps

@@ -1,7 +1,5 @@
 -- A state with other orders and lineitems.
-use Rattle.std.proofs.Common.{◌≡◌, List, [], ◌∷◌, length, map, set, arith, refl, ap, ◌∙◌}
-use Rattle.std.specs.Global.{Vec}
-use Rattle.std.specs.Vec.{vec_items}
+use Rattle.std.proofs.Common.{◌≡◌, List, [], ◌∷◌, length, set, arith, refl, ap, ◌∙◌}
 use Rattle.sql_value.specs.declared.value.Value.{Value}
 use Rattle.tpch_schema.specs.declared.table.TableName.TheVariants as table
 use Rattle.tpch_schema.specs.Kinds.{RowsAreOf}
@@ -9,11 +7,11 @@ use Rattle.tpch_schema.specs.State.{State}
 use Rattle.table_state.specs.Lists.{IsOfKinds, state_of}
 use Rattle.table_state.specs.Refresh.{with_sales}
 
-abbrev RowVec : Type 0
-RowVec = Vec (List Value)
+abbrev RowList : Type 0
+RowList = List (List Value)
 
-replaced_lists : (tables : List RowVec) (orders lineitems : RowVec) → length tables ≡ 8
-    → state_of (map vec_items (set (set tables 6 orders) 7 lineitems)) ≡ with_sales (state_of (map vec_items tables)) orders.items lineitems.items
+replaced_lists : (tables : List RowList) (orders lineitems : RowList) → length tables ≡ 8
+    → state_of (set (set tables 6 orders) 7 lineitems) ≡ with_sales (state_of tables) orders lineitems
 replaced_lists [] o l eight = absurd (omega arith)
 replaced_lists (a ∷ []) o l eight = absurd (omega arith)
 replaced_lists (a ∷ b ∷ []) o l eight = absurd (omega arith)
@@ -25,10 +23,10 @@ replaced_lists (a ∷ b ∷ c ∷ d ∷ e ∷ f ∷ g ∷ []) o l eight = absurd
 replaced_lists (a ∷ b ∷ c ∷ d ∷ e ∷ f ∷ g ∷ h ∷ []) o l eight = refl
 replaced_lists (a ∷ b ∷ c ∷ d ∷ e ∷ f ∷ g ∷ h ∷ i ∷ more) o l eight = absurd (omega arith)
 
-pub sales_replaced : (tables : List RowVec) (orders lineitems : RowVec) (state : State) → length tables ≡ 8 → state_of (map vec_items tables) ≡ state
-    → state_of (map vec_items (set (set tables 6 orders) 7 lineitems)) ≡ with_sales state orders.items lineitems.items
+pub sales_replaced : (tables : List RowList) (orders lineitems : RowList) (state : State) → length tables ≡ 8 → state_of tables ≡ state
+    → state_of (set (set tables 6 orders) 7 lineitems) ≡ with_sales state orders lineitems
 sales_replaced tables orders lineitems state eight is =
-    replaced_lists tables orders lineitems eight ∙ ap (λ s. with_sales s orders.items lineitems.items) is
+    replaced_lists tables orders lineitems eight ∙ ap (λ s. with_sales s orders lineitems) is
 
 pub sales_of_kinds : (state : State) (orders lineitems : List (List Value)) → IsOfKinds state → RowsAreOf table.Orders orders
     → RowsAreOf table.Lineitem lineitems → IsOfKinds (with_sales state orders lineitems)

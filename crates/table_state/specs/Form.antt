@@ -8,12 +8,12 @@ use Rattle.table_state.specs.Refresh.{Change, DeleteKeys, InsertRows, IsOrderKey
 
 -- the change that the parts say
 abbrev pub change_of : Form → Change
-change_of (Insert orders lineitems) = InsertRows orders.items lineitems.items
+change_of (Insert orders lineitems) = InsertRows orders lineitems
 change_of (Delete keys) = DeleteKeys keys.items
 change_of (Malformed file set refusal) = MalformedFile file set refusal
 
 -- the rows are of their tables' kinds, and the keys are keys of orders
 abbrev pub IsFormed : Form → Type 0
-IsFormed (Insert orders lineitems) = RowsAreOf table.Orders orders.items × RowsAreOf table.Lineitem lineitems.items
+IsFormed (Insert orders lineitems) = RowsAreOf table.Orders orders × RowsAreOf table.Lineitem lineitems
 IsFormed (Delete keys) = All IsOrderKey keys.items
 IsFormed (Malformed file set refusal) = Unit {0}

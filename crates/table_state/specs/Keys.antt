@@ -1,19 +1,10 @@
 -- Keys of orders and lineitems.
-use Rattle.std.specs.Prelude.{ℕ, ◌^◌, Bool, ◌&&◌, nat_lt, List, map, ℤ, pos, negsuc, Option, Some, None, slice_index_or, unwrap_or, if◌then◌else◌}
+use Rattle.std.specs.Prelude.{ℕ, Bool, ◌&&◌, List, map, ℤ, pos, slice_index_or, unwrap_or}
 use Rattle.std.specs.List.{list_any}
 use Rattle.std.specs.Ordering.{int_eq}
 use Rattle.sql_value.specs.declared.value.Value.{Value}
-use Rattle.sql_value.specs.declared.value.Value.TheVariants.{Number, Null}
-
--- whether 64 bits hold a number
-abbrev pub is_small : ℤ → Bool
-is_small (pos n) = nat_lt n (2 ^ 63)
-is_small (negsuc n) = nat_lt n (2 ^ 63)
-
--- a value's coefficient, where it is one of 64 bits
-abbrev pub small_number : Value → Option ℤ
-small_number (Number scale c) = if is_small c then Some c else None
-small_number v = None
+use Rattle.sql_value.specs.declared.value.Value.TheVariants.{Null}
+use Rattle.columns.specs.Numbers.{small_number}
 
 -- the whole number in a column of a row; 0 where there is none of 64 bits
 abbrev pub number_at : ℕ → List Value → ℤ

@@ -5,6 +5,7 @@ pub mod Found
 pub mod Keys
 pub mod Laws
 pub mod Lists
+pub mod Parts
 pub mod Refresh
 pub mod VersionLaws
 pub mod Versions

@@ -1,5 +1,5 @@
 //! A refresh applied to a state.
-ghost use Rattle.std.specs.Prelude.{◌≡◌, [], IfOk, OnErr, OnOk};
+ghost use Rattle.std.specs.Prelude.{◌≡◌, ◌++◌, [], IfOk, OnErr, OnOk};
 ghost use Rattle.tpch_schema.specs.Kinds.{RowsAreOf};
 ghost use Rattle.table_state.specs.Applied.{Applies};
 ghost use Rattle.table_state.specs.Found.{HasSameKeys};
@@ -7,15 +7,14 @@ ghost use Rattle.table_state.specs.Keys.{line_keys, order_keys};
 ghost use Rattle.table_state.specs.Refresh.{DeleteKeys, InsertRows, cause_of, changed, first_cause, line_cause, order_cause};
 
 use crate::cause::{first_delete_cause, first_line_cause, first_order_cause};
+use crate::found::{key_set, lines_found, orders_found};
 use crate::keys::LineKey;
+use crate::parts::Parts;
 use crate::refresh::{Form, Refresh};
-use crate::rows::{
-    key_set, line_keys, lines_found, order_keys, orders_found, rows_with, rows_without,
-};
 use crate::state::State;
+use columns::Rows;
 use indexmap::IndexSet;
 use refusals::Cause;
-use sql_value::Row;
 use std::alloc::{AllocError, Global};
 use tpch_schema::TableName;
 
@@ -24,7 +23,7 @@ use tpch_schema::TableName;
 pub enum RefreshError {
     /// The refresh is refused in this state.
     Refused(Cause),
-    /// Memory was wanted.
+    /// Memory ran out.
     OutOfMemory,
 }
 
@@ -49,7 +48,7 @@ fn cause_of_orders(
     requires { HasSameKeys wanted.now.keys keys.now }
     ensures { IfOk result (λ cause. cause ≡ first_cause (order_cause (order_keys state.now.orders)) [] keys.now) }
 {
-    let present = orders_found(alloc, state.rows(TableName::Orders), wanted)?;
+    let present = orders_found(alloc, state.table(TableName::Orders), wanted)?;
     let cause = first_order_cause(alloc, &present, keys)?;
     Ok(cause)
 }
@@ -63,7 +62,7 @@ fn cause_of_lines(
 ) -> Result<Option<Cause>, AllocError>
     ensures { IfOk result (λ cause. cause ≡ first_cause (line_cause wanted.now.keys (line_keys state.now.lineitem)) [] lines.now) }
 {
-    let present = lines_found(alloc, state.rows(TableName::Lineitem), wanted)?;
+    let present = lines_found(alloc, state.table(TableName::Lineitem), wanted)?;
     let cause = first_line_cause(alloc, wanted, &present, lines)?;
     Ok(cause)
 }
@@ -78,7 +77,7 @@ fn cause_of_delete(
     requires { HasSameKeys wanted.now.keys keys.now }
     ensures { IfOk result (λ cause. cause ≡ cause_of state.now (DeleteKeys keys.now)) }
 {
-    let present = orders_found(alloc, state.rows(TableName::Orders), wanted)?;
+    let present = orders_found(alloc, state.table(TableName::Orders), wanted)?;
     let cause = first_delete_cause(alloc, &present, keys)?;
     Ok(cause)
 }
@@ -87,37 +86,41 @@ fn cause_of_delete(
 fn cause_of_insert(
     alloc: Global,
     state: &State,
-    orders: &[Row],
-    lineitems: &[Row],
+    orders: &Parts,
+    lineitems: &Parts,
 ) -> Result<Option<Cause>, AllocError>
     ensures { IfOk result (λ cause. cause ≡ cause_of state.now (InsertRows orders.now lineitems.now)) }
 {
-    let keys = order_keys(alloc, orders)?;
+    let keys = orders.order_keys(alloc)?;
     let wanted = key_set(alloc, &keys)?;
     match cause_of_orders(alloc, state, &keys, &wanted)? {
         Some(cause) => Ok(Some(cause)),
         None => {
-            let lines = line_keys(alloc, lineitems)?;
+            let lines = lineitems.line_keys(alloc)?;
             let cause = cause_of_lines(alloc, state, &wanted, &lines)?;
             Ok(cause)
         }
     }
 }
 
+/// Rows with others after them.
+fn rows_with(rows: &Parts, added: &Parts) -> Result<Parts, AllocError>
+    ensures { IfOk result (λ all. all ≡ rows.now ++ added.now) }
+{
+    let mut all = rows.clone()?;
+    all.append(added)?;
+    Ok(all)
+}
+
 /// Adds orders and lineitems, which have no cause against them, at the ends of their tables.
-fn insert(
-    alloc: Global,
-    orders: &[Row],
-    lineitems: &[Row],
-    state: &mut State,
-) -> Result<(), AllocError>
+fn insert(orders: &Parts, lineitems: &Parts, state: &mut State) -> Result<(), AllocError>
     requires orders { RowsAreOf TableName.Orders orders.now }
     requires lineitems { RowsAreOf TableName.Lineitem lineitems.now }
     ensures ok { OnOk result (state.new ≡ changed state.old (InsertRows orders.now lineitems.now)) }
     ensures err { OnErr result (state.new ≡ state.old) }
 {
-    let orders = rows_with(alloc, state.rows(TableName::Orders), orders)?;
-    let lineitems = rows_with(alloc, state.rows(TableName::Lineitem), lineitems)?;
+    let orders = rows_with(state.table(TableName::Orders), orders)?;
+    let lineitems = rows_with(state.table(TableName::Lineitem), lineitems)?;
     state.replace_sales(orders, lineitems);
     Ok(())
 }
@@ -127,8 +130,8 @@ fn delete(alloc: Global, wanted: &IndexSet<i64>, state: &mut State) -> Result<()
     ensures ok { OnOk result (state.new ≡ changed state.old (DeleteKeys wanted.now.keys)) }
     ensures err { OnErr result (state.new ≡ state.old) }
 {
-    let orders = rows_without(alloc, state.rows(TableName::Orders), wanted)?;
-    let lineitems = rows_without(alloc, state.rows(TableName::Lineitem), wanted)?;
+    let orders = state.table(TableName::Orders).without(alloc, wanted)?;
+    let lineitems = state.table(TableName::Lineitem).without(alloc, wanted)?;
     state.replace_sales(orders, lineitems);
     Ok(())
 }
@@ -136,18 +139,20 @@ fn delete(alloc: Global, wanted: &IndexSet<i64>, state: &mut State) -> Result<()
 /// Tries an insert.
 fn try_insert(
     alloc: Global,
-    orders: &[Row],
-    lineitems: &[Row],
+    orders: &Rows,
+    lineitems: &Rows,
     state: &mut State,
 ) -> Result<(), RefreshError>
     requires orders { RowsAreOf TableName.Orders orders.now }
     requires lineitems { RowsAreOf TableName.Lineitem lineitems.now }
     ensures { Applies state.old state.new (InsertRows orders.now lineitems.now) result }
 {
-    match cause_of_insert(alloc, state, orders, lineitems)? {
+    let orders = Parts::of(alloc, orders)?;
+    let lineitems = Parts::of(alloc, lineitems)?;
+    match cause_of_insert(alloc, state, &orders, &lineitems)? {
         Some(cause) => Err(RefreshError::Refused(cause)),
         None => {
-            insert(alloc, orders, lineitems, state)?;
+            insert(&orders, &lineitems, state)?;
             Ok(())
         }
     }
@@ -168,7 +173,7 @@ fn try_delete(alloc: Global, keys: &[i64], state: &mut State) -> Result<(), Refr
 }
 
 /// Applies a refresh whole: adds its rows, or removes the orders of its keys with their lineitems. If it is refused, its
-/// first cause is answered and the state stays as it was; so it does where memory is wanted.
+/// first cause is answered and the state stays as it was; so it does when memory runs out.
 pub fn apply(alloc: Global, state: &mut State, refresh: &Refresh) -> Result<(), RefreshError>
     ensures { Applies state.old state.new refresh.now result }
 {

@@ -1,51 +1,16 @@
-//! Keys of orders and lineitems, and sets of keys.
-ghost use Rattle.std.specs.Prelude.{◌≡◌, ◌++◌, ◌∷◌, [], not, if◌then◌else◌, IfOk, OnErr, slice_index_or, unwrap_or};
+//! Sets of the keys of orders and lineitems.
+ghost use Rattle.std.specs.Prelude.{◌≡◌, ◌++◌, ◌∷◌, [], not, if◌then◌else◌, IfOk, OnErr};
 ghost use Rattle.std.specs.List.{list_any};
-ghost use Rattle.table_state.specs.Keys.{has_key, line_key, number_at, order_key, small_number};
+ghost use Rattle.table_state.specs.Keys.{has_key};
 
 use indexmap::IndexSet;
-use sql_value::Value;
 use std::alloc::AllocError;
 use std::hash::Hash;
 
 /// The key of a lineitem: its order's key and its line number.
 pub(crate) type LineKey = (i64, i64);
 
-/// The number of a value, where it is one of 64 bits.
-fn small_number(value: &Value) -> Option<i64>
-    ensures { result ≡ small_number value.now }
-{
-    match value {
-        Value::Number(_, coefficient) => i64::try_from(*coefficient).ok(),
-        _ => None,
-    }
-}
-
-/// The whole number in a column of a row; 0 where there is none of 64 bits.
-fn number_at(row: &[Value], column: usize) -> i64
-    ensures { result ≡ number_at column row.now }
-{
-    match row.get(column) {
-        Some(value) => small_number(value).unwrap_or(0),
-        None => 0,
-    }
-}
-
-/// The key of an order, or of a lineitem's order.
-pub(crate) fn order_key(row: &[Value]) -> i64
-    ensures { result ≡ order_key row.now }
-{
-    number_at(row, 0)
-}
-
-/// The key of a lineitem.
-pub(crate) fn line_key(row: &[Value]) -> LineKey
-    ensures { result ≡ line_key row.now }
-{
-    (order_key(row), number_at(row, 3))
-}
-
-/// Puts a key behind the others, if none of them is the same; whether it was put there.
+/// Puts a key after the others, if none of them is the same; whether it was put there.
 pub(crate) fn put_key<K: Eq + Hash + Drop>(
     keys: &mut IndexSet<K>,
     key: K,

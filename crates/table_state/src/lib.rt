@@ -1,17 +1,20 @@
 //! The state of the database: the rows of the eight tables, each table's in order.
 //!
-//! The lists lie behind methods, so that a state may keep them otherwise one day.
+//! A table's rows lie in shared segments, each with the places of its deleted rows.
 #![tactic(auto)]
 
 mod applied;
 mod cause;
+mod found;
 mod keys;
 pub mod laws;
+mod part;
+mod parts;
 mod refresh;
-mod rows;
 mod state;
 
 pub use applied::{RefreshError, apply};
+pub use part::Part;
 pub use refresh::Refresh;
 pub use state::{State, place};
 

@@ -1,11 +1,15 @@
 //! What a refresh is to do.
-ghost use Rattle.std.specs.Prelude.{◌≡◌};
+ghost use Rattle.std.specs.Prelude.{◌≡◌, IfOk};
 ghost use Rattle.std.specs.List.{All};
 ghost use Rattle.tpch_schema.specs.Kinds.{RowsAreOf};
+ghost use Rattle.tpch_schema.specs.LineForm.{RowsFit, refresh_form};
+ghost use Rattle.table_state.specs.Keys.{order_keys};
 ghost use Rattle.table_state.specs.Refresh.{DeleteKeys, InsertRows, IsOrderKey, MalformedFile};
 
+use crate::parts::Parts;
+use columns::Rows;
 use refusals::{LineRefusal, RefreshFile};
-use sql_value::Row;
+use std::alloc::{AllocError, Global};
 use std::marker::Model;
 use tpch_schema::TableName;
 
@@ -13,7 +17,7 @@ use tpch_schema::TableName;
 #[derive(Drop)]
 pub(crate) enum Form {
     /// Adds orders and their lineitems.
-    Insert(Vec<Row>, Vec<Row>),
+    Insert(Rows, Rows),
     /// Removes the orders of these keys with their lineitems.
     Delete(Vec<i64>),
     /// Nothing, since a file of the set of this number has a bad line.
@@ -40,10 +44,10 @@ impl Model for Refresh {
 
 impl Refresh {
     /// Adds these orders and lineitems at the ends of their tables. No memory is taken.
-    pub fn insert(orders: Vec<Row>, lineitems: Vec<Row>) -> Refresh
-        requires orders { RowsAreOf TableName.Orders orders.items }
-        requires lineitems { RowsAreOf TableName.Lineitem lineitems.items }
-        ensures { result ≡ InsertRows orders.items lineitems.items }
+    pub fn insert(orders: Rows, lineitems: Rows) -> Refresh
+        requires orders { RowsAreOf TableName.Orders orders }
+        requires lineitems { RowsAreOf TableName.Lineitem lineitems }
+        ensures { result ≡ InsertRows orders lineitems }
     {
         Refresh {
             form: Form::Insert(orders, lineitems),
@@ -58,6 +62,15 @@ impl Refresh {
         Refresh {
             form: Form::Delete(keys),
         }
+    }
+
+    /// Removes the orders whose keys are the lines of a delete file, with all their lineitems. These are the file's rows.
+    pub fn delete_rows(alloc: Global, rows: &Rows) -> Result<Refresh, AllocError>
+        requires { RowsFit (refresh_form RefreshFile.Delete) rows.now }
+        ensures { IfOk result (λ refresh. refresh ≡ DeleteKeys (order_keys rows.now)) }
+    {
+        let keys = Parts::of(alloc, rows)?.order_keys(alloc)?;
+        Ok(Refresh::delete(keys))
     }
 
     /// Is refused, since this file of the set of this number has a bad line.

@@ -1,5 +1,6 @@
 //! A state of eight lists, one of which has rows.
 use super::*;
+use columns::{Rows, stored_rows};
 use fixed_decimal::Scale;
 use sql_value::{Row, Value};
 use std::test::Fail;
@@ -14,19 +15,20 @@ fn has_its_tables(rt: HostRuntime) -> Result<(), Fail> {
     let row = Row::new(values)?;
     let regions = vec![in alloc; row]?;
     let tables = vec![in alloc;
-        regions,
-        Vec::new(alloc),
-        Vec::new(alloc),
-        Vec::new(alloc),
-        Vec::new(alloc),
-        Vec::new(alloc),
-        Vec::new(alloc),
-        Vec::new(alloc),
+        stored_rows(alloc, regions.as_slice())?,
+        Rows::new(alloc),
+        Rows::new(alloc),
+        Rows::new(alloc),
+        Rows::new(alloc),
+        Rows::new(alloc),
+        Rows::new(alloc),
+        Rows::new(alloc),
     ]?;
-    let state = State::new(tables);
+    let state = State::new(alloc, tables)?;
     assert_eq!(rt; state.count(TableName::Region), 1);
     assert_eq!(rt; state.count(TableName::Lineitem), 0);
-    assert!(rt; state.rows(TableName::Region)[0].values()[0] == Value::Number(Scale::WHOLE, 7));
-    assert!(rt; state.rows(TableName::Nation).is_empty());
+    let rows = state.rows(alloc, TableName::Region)?;
+    assert!(rt; rows[0].values()[0] == Value::Number(Scale::WHOLE, 7));
+    assert!(rt; state.parts(TableName::Nation).is_empty());
     Ok(())
 }

@@ -9,8 +9,8 @@ use Rattle.tbl_reader.specs.declared.error.TableError.TheVariants.{Refused, OutO
 use Rattle.tbl_reader.specs.File.{Progress, progress, add_line, add_lines, cut_lines, file_rows, only_rows}
 use Rattle.tbl_reader.specs.Lines.{LinesRead}
 use Rattle.tbl_reader.specs.Error.{IsErrorOf}
-use Rattle.tbl_reader.specs.Reading.{Reading, reading, lines_result, answer, answer_of, as_answer, rows_for, HasRead, RefusesAll}
-use Rattle.tbl_reader.specs.Steps.{is_unended, SameResults, IsErrorOfAll}
+use Rattle.tbl_reader.specs.Reading.{Reading, is_unended, reading, lines_result, answer, answer_of, as_answer, rows_for, HasRead, RefusesAll}
+use Rattle.tbl_reader.specs.Steps.{SameResults, IsErrorOfAll}
 use Rattle.tbl_reader.proofs.LineCuts.{cut_lines-rest, unended-nil}
 
 as_answer_of : (r : Result Progress LineRefusal) → answer_of None r ≡ as_answer (only_rows r)

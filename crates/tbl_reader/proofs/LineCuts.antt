@@ -8,7 +8,7 @@ use Rattle.std.proofs.lemmas.Bool.{ltb-true, ltb-false, eqb-true}
 use Rattle.std.proofs.lemmas.List.{take_more, take_all}
 use Rattle.std.proofs.lemmas.Option.{cond_some}
 use Rattle.tbl_reader.specs.File.{cut_lines}
-use Rattle.tbl_reader.specs.Steps.{is_unended}
+use Rattle.tbl_reader.specs.Reading.{is_unended}
 
 and_left : (a b : Bool) → (a && b) ≡ true → a ≡ true
 and_left true b e = refl

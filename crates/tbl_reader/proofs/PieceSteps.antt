@@ -8,8 +8,8 @@ use Rattle.refusals.specs.declared.line.LineRefusal.{LineRefusal}
 use Rattle.tpch_schema.specs.LineForm.{LineForm}
 use Rattle.tbl_reader.specs.File.{Progress, refusal, add_line, add_lines, cut_lines}
 use Rattle.tbl_reader.specs.Lines.{LinesRead}
-use Rattle.tbl_reader.specs.Reading.{lines_result}
-use Rattle.tbl_reader.specs.Steps.{is_unended, SameResults, RefusesLines, IsTooLong, IsErrorOfAll}
+use Rattle.tbl_reader.specs.Reading.{is_unended, lines_result}
+use Rattle.tbl_reader.specs.Steps.{SameResults, RefusesLines, IsTooLong, IsErrorOfAll}
 use Rattle.tbl_reader.specs.declared.error.TableError.{TableError}
 use Rattle.tbl_reader.specs.declared.error.TableError.TheVariants.{Refused, OutOfMemory}
 use Rattle.tbl_reader.proofs.LineCuts.{unended-nil, unended-append, unended_none, cut_lines-ended, cut_lines-rest, cut_lines-begins, BeginsWith, parts, Parts}

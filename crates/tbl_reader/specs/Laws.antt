@@ -7,7 +7,7 @@ use Rattle.refusals.specs.declared.line.LineRefusal.{LineRefusal}
 use Rattle.sql_value.specs.declared.value.Value.{Value}
 use Rattle.tpch_schema.specs.LineForm.{LineForm, key_of}
 use Rattle.tbl_reader.specs.File.{cut_lines, line_row, file_rows}
-use Rattle.tbl_reader.specs.Steps.{is_unended}
+use Rattle.tbl_reader.specs.Reading.{is_unended}
 
 -- a line is not empty, and has no LF but as its last byte
 pub record IsLine (line : List ℕ) : Type 0 where

@@ -1,5 +1,6 @@
 -- A reader of a file that is fed piece by piece.
-use Rattle.std.specs.Prelude.{◌≡◌, ℕ, ◌+◌, ◌≤◌, List, ◌++◌, length, Option, Some, None, Result, Ok, Err, OnOk, IfErr}
+use Rattle.std.specs.Prelude.{◌≡◌, ℕ, ◌+◌, ◌≤◌, ◌==◌, Bool, true, not, List, ◌++◌, length, Option, Some, None, Result, Ok, Err, OnOk, IfErr}
+use Rattle.std.specs.List.{list_all}
 use Rattle.refusals.specs.declared.line.LineRefusal.{LineRefusal}
 use Rattle.sql_value.specs.declared.value.Value.{Value}
 use Rattle.tpch_schema.specs.LineForm.{LineForm}
@@ -7,6 +8,10 @@ use Rattle.tbl_reader.specs.declared.error.TableError.{TableError}
 use Rattle.tbl_reader.specs.declared.error.TableError.TheVariants.{Refused}
 use Rattle.tbl_reader.specs.File.{Progress, cut_lines, add_lines, file_rows}
 use Rattle.tbl_reader.specs.Lines.{LinesRead}
+
+-- no line ends within the text
+unfoldable pub is_unended : List ℕ → Bool
+is_unended text = list_all (λ byte. not (byte == 10)) text
 
 -- a reader: the lines that it has read, the bytes of the line that has not ended, and why it has stopped, if it has
 pub record Reading : Type 0 where
@@ -62,6 +67,8 @@ pub record Feeds (old new : Reading) (piece : List ℕ) (result : Result (Unit {
   pub read : OnOk result ((text : List ℕ) → HasRead text old → HasRead (text ++ piece) new)
   pub bytes : OnOk result (bytes_fed new ≡ bytes_fed old + length piece)
   pub within : OnOk result (bytes_fed new ≤ new.lines.limit)
+  -- each line that ended in the piece was read, so that a bad one among them was refused
+  pub unended : OnOk result (is_unended new.rest ≡ true)
   -- a refusal is that of each file that begins so
   pub refused :
       (first : LineRefusal) → result ≡ Err (Refused first) → (text : List ℕ) → HasRead text old

@@ -1,6 +1,5 @@
 -- How a piece is read.
-use Rattle.std.specs.Prelude.{◌≡◌, ℕ, ◌+◌, ◌<◌, Bool, not, ◌==◌, List, ◌++◌, length, Err, ⊤}
-use Rattle.std.specs.List.{list_all}
+use Rattle.std.specs.Prelude.{◌≡◌, ℕ, ◌+◌, ◌<◌, List, ◌++◌, length, Err, ⊤}
 use Rattle.refusals.specs.declared.line.LineRefusal.{LineRefusal}
 use Rattle.refusals.specs.declared.line.LineFault.TheVariants.{FileTooLong}
 use Rattle.tbl_reader.specs.declared.error.TableError.{TableError}
@@ -8,10 +7,6 @@ use Rattle.tbl_reader.specs.declared.error.TableError.TheVariants.{Refused, OutO
 use Rattle.tbl_reader.specs.File.{refusal}
 use Rattle.tbl_reader.specs.Lines.{LinesRead}
 use Rattle.tbl_reader.specs.Reading.{lines_result}
-
--- no line ends within the text
-unfoldable pub is_unended : List ℕ → Bool
-is_unended text = list_all (λ byte. not (byte == 10)) text
 
 -- whatever follows, one text after some lines gives what the other gives after others
 pub record SameResults (now : LinesRead) (text : List ℕ) (before : LinesRead) (whole : List ℕ) : Type 0 where

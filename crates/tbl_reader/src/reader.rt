@@ -5,8 +5,8 @@ ghost use Rattle.refusals.specs.declared.line.LineRefusal.{LineRefusal as LineRe
 ghost use Rattle.tbl_reader.specs.declared.error.TableError.{TableError};
 ghost use Rattle.tbl_reader.specs.Error.{IsErrorOf};
 ghost use Rattle.tbl_reader.specs.File.{add_line, only_rows};
-ghost use Rattle.tbl_reader.specs.Reading.{lines_result};
-ghost use Rattle.tbl_reader.specs.Steps.{is_unended, SameResults, IsTooLong, IsErrorOfAll};
+ghost use Rattle.tbl_reader.specs.Reading.{is_unended, lines_result};
+ghost use Rattle.tbl_reader.specs.Steps.{SameResults, IsTooLong, IsErrorOfAll};
 
 use crate::error::TableError;
 use crate::line::place_of;
@@ -111,8 +111,7 @@ pub struct FileReader {
 
 impl Model for FileReader {
     ghost use Rattle.std.specs.Prelude.{◌≡◌, ◌+◌, ◌≤◌, length, true};
-    ghost use Rattle.tbl_reader.specs.Steps.{is_unended};
-    ghost use Rattle.tbl_reader.specs.Reading.{Reading, reading};
+    ghost use Rattle.tbl_reader.specs.Reading.{Reading, is_unended, reading};
 
     ghost Value = { Reading };
 
@@ -147,6 +146,7 @@ impl FileReader {
         ensures read { OnOk result ((text : List ℕ) → HasRead text self.old → HasRead (text ++ piece.now) self.new) }
         ensures bytes { OnOk result (bytes_fed self.new ≡ bytes_fed self.old + length piece.now) }
         ensures within { OnOk result (bytes_fed self.new ≤ self.new.lines.limit) }
+        ensures unended { OnOk result (is_unended self.new.rest ≡ true) }
         ensures refused { (first : LineRefused) → result ≡ Err (TableError.Refused first) → (text : List ℕ) → HasRead text self.old → RefusesAll self.old.lines.form self.old.lines.limit (text ++ piece.now) first }
         ensures going { OnOk result (self.new.error ≡ None) }
         ensures stopped { IfErr result (λ error. self.new.error ≡ Some error) }

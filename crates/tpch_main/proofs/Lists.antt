@@ -1,13 +1,11 @@
 -- The rows of the tables, from one table to the next.
-use Rattle.std.proofs.Common.{◌≡◌, ◌∙◌, ℕ, ◌+◌, ◌<◌, List, [], ◌∷◌, ◌++◌, Option, None, Some, add-one, ap, append_assoc, arith, drop, drop-cons, length, map, refl, slice_index_or, suc, sym, zero}
+use Rattle.std.proofs.Common.{◌≡◌, ◌∙◌, ℕ, ◌+◌, ◌<◌, List, [], ◌∷◌, ◌++◌, Option, None, Some, add-one, ap, append_assoc, arith, drop, drop-cons, length, refl, slice_index_or, suc, sym, zero}
 use Rattle.std.proofs.lemmas.List.{length-append}
 use Rattle.std.specs.declared.result.Result.{Result}
 use Rattle.std.specs.declared.result.Result.TheVariants.{Ok, Err}
 use Rattle.sql_value.specs.declared.value.Value.{Value}
 use Rattle.tpch_outside.specs.Outside.{Folder}
 use Rattle.tpch_schema.specs.declared.table.TableName.{TableName}
-use Rattle.std.specs.Global.{Vec}
-use Rattle.std.specs.Vec.{vec_items}
 use Rattle.table_state.specs.Lists.{IsOfKinds, state_of}
 use Rattle.tpch_schema.specs.Kinds.{RowsAreOf}
 use Rattle.tpch_schema.specs.Tables.{all_tables}
@@ -86,14 +84,6 @@ eight_kinds lists eight all table.Customer = all 5 (omega arith)
 eight_kinds lists eight all table.Orders = all 6 (omega arith)
 eight_kinds lists eight all table.Lineitem = all 7 (omega arith)
 
--- lists of rows, one more
-items_more : (xs : List (Vec (List Value))) (v : Vec (List Value)) → map vec_items (xs ++ v ∷ []) ≡ map vec_items xs ++ v.items ∷ []
-items_more [] v = refl
-items_more (x ∷ xs) v = ap (λ lists. x.items ∷ lists) (items_more xs v)
-
-pub items_pushed : (xs later : List (Vec (List Value))) (v : Vec (List Value)) → later ≡ xs ++ v ∷ [] → map vec_items later ≡ map vec_items xs ++ v.items ∷ []
-items_pushed xs later v pushed = ap (map vec_items) pushed ∙ items_more xs v
-
 -- and how many they are
-pub count_pushed : (xs later : List (Vec (List Value))) (v : Vec (List Value)) (n : ℕ) → later ≡ xs ++ v ∷ [] → length xs ≡ n → length later ≡ n + 1
+pub count_pushed : (xs later : List (List (List Value))) (v : List (List Value)) (n : ℕ) → later ≡ xs ++ v ∷ [] → length xs ≡ n → length later ≡ n + 1
 count_pushed xs later v n pushed many = ap length pushed ∙ length-append xs (v ∷ []) ∙ ap (λ k. k + 1) many

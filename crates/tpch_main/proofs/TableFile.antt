@@ -1,7 +1,6 @@
 -- What is read of a table's file, from its pieces.
 use Rattle.std.proofs.Common.{◌≡◌, ◌∙◌, ℕ, ◌≤◌, List, [], ◌++◌, Option, None, Some, ◌+◌, ◌-◌, ◌<◌, ap, append_assoc, arith, length, refl, subst, sym, take}
 use Rattle.std.proofs.lemmas.List.{append-nil, length-take-le}
-use Rattle.std.specs.Global.{Vec}
 use Rattle.std.specs.Io.KnownBytes.{Consumes, IsAtEnd}
 use Rattle.std.specs.declared.result.Result.{Result}
 use Rattle.std.specs.declared.result.Result.TheVariants.{Err, Ok}
@@ -44,7 +43,7 @@ front_refusal name form limit text table_error.OutOfMemory made refuses all more
     table_refusal name (file_rows form limit (text ++ more)) table_error.OutOfMemory made refuses tt
 
 -- the bytes that were left, read to their end, and what they give
-pub ended_rows : (table : TableName) (name : List ℕ) (form : LineForm) (limit : ℕ) (left middle later : Option (List ℕ)) (so_far : List ℕ) (result : Result (Vec (List Value)) InputError)
+pub ended_rows : (table : TableName) (name : List ℕ) (form : LineForm) (limit : ℕ) (left middle later : Option (List ℕ)) (so_far : List ℕ) (result : Result (List (List Value)) InputError)
     → form ≡ table_form table → limit ≡ most_bytes → Consumes left middle so_far → Consumes middle later [] → IsAtEnd later
     → EndsAs name form limit so_far result → IsRowsOf table name left result
 ended_rows table name form limit None middle later so_far result same_form same_limit read none ended ends = tt

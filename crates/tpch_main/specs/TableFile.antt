@@ -2,7 +2,6 @@
 use Rattle.std.specs.Prelude.{◌≡◌, ℕ, List, ◌++◌, ⊤, Option, None, Some, MatchResult}
 use Rattle.std.specs.declared.result.Result.{Result}
 use Rattle.std.specs.declared.result.Result.TheVariants.{Err, Ok}
-use Rattle.std.specs.Global.{Vec}
 use Rattle.refusals.specs.declared.line.LineRefusal.{LineRefusal}
 use Rattle.sql_value.specs.declared.value.Value.{Value}
 use Rattle.tbl_reader.specs.declared.error.TableError.{TableError}
@@ -28,19 +27,19 @@ IsRefusalOf input (error.Unread unread) = ⊤
 IsRefusalOf input (error.Refused refusal) = input ≡ Err (refused_view refusal)
 
 -- what was read is the input, or the error is its refusal
-abbrev pub IsRead : Result (List (List Value)) BadInput → Result (Vec (List Value)) InputError → Type 0
-IsRead input result = MatchResult result (λ rows. input ≡ Ok rows.items) (IsRefusalOf input)
+abbrev pub IsRead : Result (List (List Value)) BadInput → Result (List (List Value)) InputError → Type 0
+IsRead input result = MatchResult result (λ rows. input ≡ Ok rows) (IsRefusalOf input)
 
 -- the error is the refusal of each file of that name that begins with the text
 abbrev pub RefusesFront : List ℕ → LineForm → ℕ → List ℕ → InputError → Type 0
 RefusesFront name form limit text e = (more : List ℕ) → IsRefusalOf (rows_or_refusal name (file_rows form limit (text ++ more))) e
 
 -- a file of that name and these bytes has the rows, or is refused so
-abbrev pub EndsAs : List ℕ → LineForm → ℕ → List ℕ → Result (Vec (List Value)) InputError → Type 0
+abbrev pub EndsAs : List ℕ → LineForm → ℕ → List ℕ → Result (List (List Value)) InputError → Type 0
 EndsAs name form limit text result = IsRead (rows_or_refusal name (file_rows form limit text)) result
 
 -- what was read of a table's file of that name, where the bytes that were left of it are known
-abbrev pub IsRowsOf : TableName → List ℕ → Option (List ℕ) → Result (Vec (List Value)) InputError → Type 0
+abbrev pub IsRowsOf : TableName → List ℕ → Option (List ℕ) → Result (List (List Value)) InputError → Type 0
 IsRowsOf table name None result = ⊤
 IsRowsOf table name (Some text) result = IsRead (rows_in table name (Some text)) result
 

@@ -45,6 +45,7 @@ pub fn session_text<F: Files>(
 {
     let statement = read_statement(alloc, files, script)?;
     let state = read_state(alloc, files, folder)?;
-    let text = statement_text(alloc, statement, state.rows(TableName::Region))?;
+    let rows = state.rows(alloc, TableName::Region)?;
+    let text = statement_text(alloc, statement, rows.as_slice())?;
     Ok(text)
 }

@@ -8,7 +8,7 @@ ghost use Rattle.tpch_main.specs.FilesAfter.{FilesAfterInput, FilesAfterRead};
 ghost use Rattle.tpch_main.specs.TableFile.{EndsAs, IsLineError, IsRowsOf, RefusesFront, RefusesTable};
 
 use crate::input_error::{InputError, InputFault, ReadError, refused};
-use sql_value::Row;
+use columns::Rows;
 use std::alloc::Global;
 use tbl_reader::{TableError, TableReader};
 use tpch_outside::{Files, Got};
@@ -61,19 +61,15 @@ fn feed(alloc: Global, name: &str, reader: &mut TableReader, piece: &[u8]) -> Re
 }
 
 /// The rows of the file of that name, whose bytes the reader has been fed.
-fn finish(alloc: Global, name: &str, reader: TableReader) -> Result<Vec<Row>, InputError>
+fn finish(alloc: Global, name: &str, reader: TableReader) -> Result<Rows, InputError>
     ensures rows { (text : List ℕ) → HasRead text reader
         → EndsAs name.now reader.lines.form reader.lines.limit text result }
     ensures kinds { (table : TableName) → reader.lines.form.columns ≡ columns_of table
-        → IfOk result (λ rows. RowsAreOf table rows.items) }
+        → IfOk result (RowsAreOf table) }
     ensures other { IfErr result IsLineError }
 {
     match reader.finish() {
-        Ok(rows) => {
-            // A state holds rows so far, and not columns.
-            let rows = rows.to_rows(alloc)?;
-            Ok(rows)
-        }
+        Ok(rows) => Ok(rows),
         Err(error) => Err(table_refused(alloc, name, error)),
     }
 }
@@ -85,10 +81,10 @@ pub fn read_rows<F: Files>(
     files: &mut F,
     name: &str,
     table: TableName,
-) -> Result<Vec<Row>, InputError>
+) -> Result<Rows, InputError>
     requires { F.is_open files.old ≡ true }
     ensures rows { IsRowsOf table name.now (F.left files.old) result }
-    ensures kinds { IfOk result (λ rows. RowsAreOf table rows.items) }
+    ensures kinds { IfOk result (RowsAreOf table) }
     ensures files { FilesAfterInput F.held F.faults F.misses result files.old files.new }
 {
     let mut reader = TableReader::new(alloc, table)?;

@@ -1,5 +1,5 @@
 //! Reading the eight tables of a folder.
-ghost use Rattle.std.specs.Prelude.{◌≡◌, ◌++◌, IfOk, length, map};
+ghost use Rattle.std.specs.Prelude.{◌≡◌, ◌++◌, IfOk, length};
 ghost use Rattle.std.specs.String.{string_bytes};
 ghost use Rattle.std.specs.Vec.{vec_items};
 ghost use Rattle.table_state.specs.Lists.{IsOfKinds, state_of};
@@ -12,7 +12,7 @@ ghost use Rattle.tpch_main.specs.Views.{Reads};
 
 use crate::input_error::{InputError, InputFault, ReadError, refused};
 use crate::table_file::read_rows;
-use sql_value::Row;
+use columns::Rows;
 use std::alloc::{AllocError, Global};
 use table_state::State;
 use tpch_outside::{Files, Open};
@@ -35,9 +35,9 @@ fn read_table<F: Files>(
     files: &mut F,
     folder: &str,
     table: TableName,
-) -> Result<Vec<Row>, InputError>
-    ensures input { Reads vec_items (F.held files.old) (table_in folder.now table) result }
-    ensures kinds { IfOk result (λ rows. RowsAreOf table rows.items) }
+) -> Result<Rows, InputError>
+    ensures input { Reads (λ rows. rows) (F.held files.old) (table_in folder.now table) result }
+    ensures kinds { IfOk result (RowsAreOf table) }
     ensures files { FilesAfterInput F.held F.faults F.misses result files.old files.new }
 {
     let name = file_name(alloc, folder, table)?;
@@ -54,10 +54,10 @@ fn read_tables<F: Files>(
     files: &mut F,
     folder: &str,
     names: &[TableName],
-) -> Result<Vec<Vec<Row>>, InputError>
-    ensures input { Reads (λ tables. map vec_items tables.items) (F.held files.old) (lists_in folder.now names.now) result }
+) -> Result<Vec<Rows>, InputError>
+    ensures input { Reads vec_items (F.held files.old) (lists_in folder.now names.now) result }
     ensures length { IfOk result (λ tables. length tables.items ≡ length names.now) }
-    ensures kinds { IfOk result (λ tables. AreOf names.now (map vec_items tables.items)) }
+    ensures kinds { IfOk result (λ tables. AreOf names.now tables.items) }
     ensures files { FilesAfterInput F.held F.faults F.misses result files.old files.new }
 {
     let mut tables = Vec::new(alloc);
@@ -74,5 +74,6 @@ pub fn read_state<F: Files>(alloc: Global, files: &mut F, folder: &str) -> Resul
     ensures files { FilesAfterInput F.held F.faults F.misses result files.old files.new }
 {
     let tables = read_tables(alloc, files, folder, &TABLES)?;
-    Ok(State::new(tables))
+    let state = State::new(alloc, tables)?;
+    Ok(state)
 }

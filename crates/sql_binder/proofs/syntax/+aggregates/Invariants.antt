@@ -1,5 +1,5 @@
 use Rattle.std.proofs.Common.{◌≡◌, map, drop}
-use Rattle.sql_binder.specs.Binding as spec
+use Rattle.sql_binder.specs.Expressions as spec
 use Rattle.sql_binder.specs.Binding.{meaning, term_meaning, factor_meaning, arm_meaning}
 use Rattle.sql_binder.proofs.syntax.+aggregates.Given as goal
 

@@ -1,5 +1,5 @@
 use Rattle.std.proofs.Common.{◌≡◌, map, length}
-use Rattle.sql_binder.specs.Binding as spec
+use Rattle.sql_binder.specs.Blocks as spec
 use Rattle.sql_binder.specs.Binding.{item_meaning}
 use Rattle.sql_binder.proofs.syntax.any_in_items.Given as goal
 

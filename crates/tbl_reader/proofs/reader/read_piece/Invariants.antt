@@ -1,5 +1,6 @@
 use Rattle.std.proofs.Common.{◌≡◌, ◌+◌, ◌≤◌, ◌++◌, length, true}
-use Rattle.tbl_reader.specs.Steps.{is_unended, SameResults}
+use Rattle.tbl_reader.specs.Reading.{is_unended}
+use Rattle.tbl_reader.specs.Steps.{SameResults}
 use Rattle.tbl_reader.proofs.reader.read_piece.Given as goal
 
 abbrev pub invariant-lines : goal.invariant-lines

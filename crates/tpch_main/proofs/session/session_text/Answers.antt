@@ -1,4 +1,4 @@
-use Rattle.std.proofs.Common.{List, ℕ, subst}
+use Rattle.std.proofs.Common.{◌∙◌, List, ℕ, subst}
 use Rattle.sql_value.specs.declared.value.Value.{Value}
 use Rattle.tpch_schema.specs.State.{State}
 use Rattle.tpch_main.proofs.Telling.{told_answer, told_both}
@@ -13,4 +13,4 @@ returns-clause-answer g c =
     let both = told_both held (g.F.Files.held c.read_statement.new.files) (λ folder. script_in folder c.args.script.now) (state_in c.args.folder.now) (λ statement state. (statement, state)) c.in_ok-statement.statement c.in_ok-state.state
     c.in_ok-statement.ensures.files.held c.in_ok-statement.ensures.input c.in_ok-state.ensures.input in
     told_answer (λ (inputs : Statement × State) (text : List ℕ). IsAnswerText inputs.0 inputs.1.region text) held (session_inputs c.args.folder.now c.args.script.now) (c.in_ok-statement.statement, c.in_ok-state.state) c.in_ok-text.text.items both
-    (subst (λ (rows : List (List Value)). IsAnswerText c.in_ok-statement.statement rows c.in_ok-text.text.items) c.rows.ensures.rows c.in_ok-text.ensures)
+    (subst (λ (rows : List (List Value)). IsAnswerText c.in_ok-statement.statement rows c.in_ok-text.text.items) (c.as_slice.ensures.value ∙ c.in_ok-rows.ensures.rows) c.in_ok-text.ensures)

@@ -1,6 +1,4 @@
-use Rattle.std.proofs.Common.{◌∙◌, Ok, ap, map, sym}
-use Rattle.std.proofs.lemmas.List.{length-map}
-use Rattle.std.specs.Vec.{vec_items}
+use Rattle.std.proofs.Common.{Ok, ap, sym}
 use Rattle.table_state.specs.Lists.{state_of}
 use Rattle.tpch_schema.specs.Tables.{all_tables}
 use Rattle.tpch_main.proofs.Lists.{eight_kinds}
@@ -9,7 +7,7 @@ use Rattle.tpch_main.specs.Inputs.{lists_in}
 use Rattle.tpch_main.proofs.tables.read_state.Goals as goal
 
 pub new-requires-clause-kinds : goal.new-requires-clause-kinds
-new-requires-clause-kinds g c = eight_kinds (map vec_items c.in_ok-tables.tables.items) (length-map c.in_ok-tables.tables.items vec_items ∙ c.in_ok-tables.ensures.length) c.in_ok-tables.ensures.kinds
+new-requires-clause-kinds g c = eight_kinds c.in_ok-tables.tables.items c.in_ok-tables.ensures.length c.in_ok-tables.ensures.kinds
 
 pub returns-clause-input : goal.returns-clause-input
-returns-clause-input g c = told_further (g.F.Files.held c.args.files.now) (lists_in c.args.folder.now all_tables) (λ lists. Ok (state_of lists)) (map vec_items c.in_ok-tables.tables.items) (Ok c.new.result) (ap Ok (sym c.new.ensures)) c.in_ok-tables.ensures.input
+returns-clause-input g c = told_further (g.F.Files.held c.args.files.now) (lists_in c.args.folder.now all_tables) (λ lists. Ok (state_of lists)) c.in_ok-tables.tables.items (Ok c.in_ok-state.state) (ap Ok (sym c.in_ok-state.ensures)) c.in_ok-tables.ensures.input

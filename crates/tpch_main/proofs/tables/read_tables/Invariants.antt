@@ -1,5 +1,4 @@
-use Rattle.std.proofs.Common.{◌≡◌, ◌≤◌, drop, length, map}
-use Rattle.std.specs.Vec.{vec_items}
+use Rattle.std.proofs.Common.{◌≡◌, ◌≤◌, drop, length}
 use Rattle.tpch_main.specs.Inputs.{lists_in}
 use Rattle.tpch_main.specs.Lists.{AreOf}
 use Rattle.tpch_main.specs.Views.{IfKnown}
@@ -8,8 +7,8 @@ use Rattle.tpch_main.proofs.tables.read_tables.Given as goal
 
 abbrev pub invariant-loop-name : goal.invariant-loop-name
 invariant-loop-name g l =
-    IfKnown (g.F.Files.held l.fn.files) (λ folder. lists_in l.folder l.names folder ≡ behind (map vec_items l.tables.items) (lists_in l.folder (drop l.name-index l.names) folder))
+    IfKnown (g.F.Files.held l.fn.files) (λ folder. lists_in l.folder l.names folder ≡ behind l.tables.items (lists_in l.folder (drop l.name-index l.names) folder))
     × (length l.tables.items ≡ l.name-index)
-    × AreOf l.names (map vec_items l.tables.items)
+    × AreOf l.names l.tables.items
     × (g.F.Files.held l.files ≡ g.F.Files.held l.fn.files)
     × (g.F.Files.faults l.fn.files ≤ g.F.Files.faults l.files) × (g.F.Files.misses l.fn.files ≤ g.F.Files.misses l.files)

@@ -1,5 +1,4 @@
-use Rattle.std.proofs.Common.{map, set, length-set, ◌∙◌, subst, sym}
-use Rattle.std.specs.Vec.{vec_items}
+use Rattle.std.proofs.Common.{set, length-set, ◌∙◌, subst, sym}
 use Rattle.table_state.specs.Lists.{IsOfKinds, state_of}
 use Rattle.table_state.proofs.Sales.{sales_of_kinds, sales_replaced}
 use Rattle.table_state.proofs.state.State.replace_sales.Goals as goal
@@ -8,10 +7,10 @@ use mathlib.Core.Path.{refl}
 pub invariant_of-self : goal.invariant_of-self
 invariant_of-self c =
     let tables = c.self.inside.tables.items in
-    let whole = state_of (map vec_items tables) in (
+    let whole = state_of tables in (
       length-set (set tables 6 c.args.orders) 7 c.args.lineitems ∙ (length-set tables 6 c.args.orders ∙ c.self.invariant.0),
       subst IsOfKinds (sym (sales_replaced tables c.args.orders c.args.lineitems whole c.self.invariant.0 refl))
-          (sales_of_kinds whole c.args.orders.items c.args.lineitems.items c.self.invariant.1 c.requires.orders c.requires.lineitems),
+          (sales_of_kinds whole c.args.orders c.args.lineitems c.self.invariant.1 c.requires.orders c.requires.lineitems),
     )
 
 pub returns : goal.returns

@@ -1,0 +1,19 @@
+use Rattle.std.proofs.Common.{rules, ◌≡◌, ◌∙◌, List, ℕ, IfOk, length, ap, subst, sym}
+use Rattle.std.specs.Arc.{arc_value}
+use Rattle.sql_value.specs.declared.value.Value.{Value}
+use Rattle.table_state.specs.Parts.{IsWithout, left_rows}
+use Rattle.table_state.specs.Refresh.{without_keys}
+use Rattle.table_state.proofs.LeftRows.{without_same}
+use Rattle.table_state.proofs.part.Part.without.Goals as goal
+
+pub returns-then-len : goal.returns-then-len
+returns-then-len c =
+    let deleted = (arc_value c.self.inside.deleted).items in
+    let rows = c.self.inside.segment in
+    let keys = c.args.keys.now.keys in
+    let more = c.in_ok-places.places.items in
+    let without : IsWithout keys deleted rows more =
+    subst (λ (d : List ℕ). IsWithout keys d rows more) (c.as_slice.ensures.value ∙ ap (λ v. v.items) c.deref.ensures) c.in_ok-places.ensures in
+    let same : length more ≡ length deleted = search rules in
+    let e : left_rows deleted rows ≡ without_keys keys (left_rows deleted rows) = without_same keys deleted more rows c.self.invariant without same in
+    subst (λ (all : List (List Value)). IfOk c.clone.result (λ part. part ≡ all)) (sym c.self.view_is ∙ e ∙ ap (without_keys keys) c.self.view_is) c.clone.ensures

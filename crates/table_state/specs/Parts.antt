@@ -1,0 +1,38 @@
+-- Parts of a table: stored rows without those at deleted places.
+use Rattle.std.specs.Prelude.{◌≡◌, ℕ, ℤ, suc, ◌+◌, Bool, List, [], ◌∷◌, length, nat_eq, if◌then◌else◌}
+use Rattle.std.specs.List.{list_any}
+use Rattle.std.specs.List.Sorted.{IsNonDecreasing}
+use Rattle.columns.specs.Lists.{AreBelow, gathered}
+use Rattle.sql_value.specs.declared.value.Value.{Value}
+use Rattle.table_state.specs.Refresh.{without_keys}
+
+-- the place is one of these
+abbrev pub has_place : List ℕ → ℕ → Bool
+has_place places place = list_any (nat_eq place) places
+
+-- of the rows from a place on, those whose places are not deleted
+unfoldable pub left_from : List ℕ → ℕ → List (List Value) → List (List Value)
+left_from deleted place [] = []
+left_from deleted place (row ∷ rows) =
+    if has_place deleted place then left_from deleted (suc place) rows
+    else row ∷ left_from deleted (suc place) rows
+
+-- the rows that are left without those at deleted places
+abbrev pub left_rows : List ℕ → List (List Value) → List (List Value)
+left_rows deleted rows = left_from deleted 0 rows
+
+-- deleted places ascend, and each is that of a row
+pub record AreDeleted (deleted : List ℕ) (rows : List (List Value)) : Type 0 where
+  pub up : IsNonDecreasing deleted
+  pub below : AreBelow (length rows) deleted
+  pub count : length deleted + length (left_rows deleted rows) ≡ length rows
+
+-- the places of the rows that are left
+pub record IsLeft (deleted : List ℕ) (rows : List (List Value)) (places : List ℕ) : Type 0 where
+  pub below : AreBelow (length rows) places
+  pub left : gathered [] rows places ≡ left_rows deleted rows
+
+-- more deleted places: also those of the rows of orders of these keys
+pub record IsWithout (keys : List ℤ) (deleted : List ℕ) (rows : List (List Value)) (more : List ℕ) : Type 0 where
+  pub are : AreDeleted more rows
+  pub left : left_rows more rows ≡ without_keys keys (left_rows deleted rows)

@@ -1,0 +1,114 @@
+//! Which of some keys a table has.
+ghost use Rattle.std.specs.Prelude.{◌≡◌, ◌++◌, ◌∷◌, [], List, ℤ, IfOk, OnOk};
+ghost use Rattle.table_state.specs.Found.{HasSameKeys, TellsKeys, TellsLines};
+ghost use Rattle.table_state.specs.Keys.{line_keys, order_keys};
+
+use crate::keys::{LineKey, has_key, put_key};
+use crate::parts::Parts;
+use indexmap::IndexSet;
+use std::alloc::{AllocError, Global};
+
+/// The set of these keys.
+pub(crate) fn key_set(alloc: Global, keys: &[i64]) -> Result<IndexSet<i64>, AllocError>
+    ensures { IfOk result (λ set. HasSameKeys set.keys keys.now) }
+{
+    let mut set = IndexSet::new(alloc);
+    for key in keys {
+        put_key(&mut set, *key)?;
+    }
+    Ok(set)
+}
+
+/// Puts an order's key among the found ones, if it is wanted.
+fn find_order(
+    key: &i64,
+    wanted: &IndexSet<i64>,
+    found: &mut IndexSet<i64>,
+) -> Result<(), AllocError>
+    ensures { OnOk result ((keys : List ℤ) → TellsKeys wanted.now.keys keys found.old.keys → TellsKeys wanted.now.keys (keys ++ key.now ∷ []) found.new.keys) }
+{
+    if wanted.contains(key) {
+        put_key(found, *key)?;
+    }
+    Ok(())
+}
+
+/// Puts those of some orders' keys among the found ones that are wanted.
+fn find_orders(
+    keys: &[i64],
+    wanted: &IndexSet<i64>,
+    found: &mut IndexSet<i64>,
+) -> Result<(), AllocError>
+    ensures { OnOk result ((before : List ℤ) → TellsKeys wanted.now.keys before found.old.keys → TellsKeys wanted.now.keys (before ++ keys.now) found.new.keys) }
+{
+    for key in keys {
+        find_order(key, wanted, found)?;
+    }
+    Ok(())
+}
+
+/// Those of the wanted keys that an order has. Each order is looked up once.
+pub(crate) fn orders_found(
+    alloc: Global,
+    orders: &Parts,
+    wanted: &IndexSet<i64>,
+) -> Result<IndexSet<i64>, AllocError>
+    ensures { IfOk result (λ found. TellsKeys wanted.now.keys (order_keys orders.now) found.keys) }
+{
+    let mut found = IndexSet::new(alloc);
+    let mut keys = Vec::new(alloc);
+    let parts = orders.as_slice();
+    for part in parts {
+        keys.clear();
+        part.put_order_keys(&mut keys)?;
+        find_orders(keys.as_slice(), wanted, &mut found)?;
+    }
+    Ok(found)
+}
+
+/// Puts a lineitem's key among the found ones, if its order is wanted.
+fn find_line(
+    line: LineKey,
+    wanted: &IndexSet<i64>,
+    found: &mut IndexSet<LineKey>,
+) -> Result<(), AllocError>
+    ensures { OnOk result ((lines : List (ℤ × ℤ)) → TellsLines wanted.now.keys lines found.old.keys → TellsLines wanted.now.keys (lines ++ line ∷ []) found.new.keys) }
+{
+    if has_key(wanted, line.0) {
+        put_key(found, line)?;
+    }
+    Ok(())
+}
+
+/// Puts those of some lineitems' keys among the found ones whose orders are wanted.
+fn find_lines(
+    lines: &[LineKey],
+    wanted: &IndexSet<i64>,
+    found: &mut IndexSet<LineKey>,
+) -> Result<(), AllocError>
+    ensures { OnOk result ((before : List (ℤ × ℤ)) → TellsLines wanted.now.keys before found.old.keys → TellsLines wanted.now.keys (before ++ lines.now) found.new.keys) }
+{
+    for line in lines {
+        find_line(*line, wanted, found)?;
+    }
+    Ok(())
+}
+
+/// The keys of the lineitems of the wanted orders. Each lineitem is looked up once.
+pub(crate) fn lines_found(
+    alloc: Global,
+    lineitems: &Parts,
+    wanted: &IndexSet<i64>,
+) -> Result<IndexSet<LineKey>, AllocError>
+    ensures { IfOk result (λ found. TellsLines wanted.now.keys (line_keys lineitems.now) found.keys) }
+{
+    let mut found = IndexSet::new(alloc);
+    let mut lines = Vec::new(alloc);
+    let parts = lineitems.as_slice();
+    for part in parts {
+        lines.clear();
+        part.put_line_keys(&mut lines)?;
+        find_lines(lines.as_slice(), wanted, &mut found)?;
+    }
+    Ok(found)
+}
