@@ -17,6 +17,3 @@ pub use group_by::group;
 pub use groups::accumulated;
 pub use identical::{distinct, domain};
 pub use values::{ColumnValues, Nulls, SliceValues, ValueList};
-
-#[cfg(test)]
-mod tests;
