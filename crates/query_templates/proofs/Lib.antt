@@ -1,0 +1,11 @@
+pub mod Bytes
+pub mod Cutting
+pub mod Dates
+pub mod Doubled
+pub mod Filled
+pub mod Fronts
+pub mod Misfits
+pub mod Numbers
+pub mod Parts
+pub mod Queries
+pub mod Quoted

@@ -1,0 +1,8 @@
+//! Laws of filled templates. Each function has an empty body: its contract is the law.
+ghost use Rattle.query_templates.specs.Laws.{FilledIsTokens};
+
+/// The text that a query is filled to has tokens, whatever the values are.
+#[tactic(auto, using(crate::proofs::Filled::filled_is_tokens))]
+pub fn filled_is_tokens()
+    ensures { FilledIsTokens }
+{}
