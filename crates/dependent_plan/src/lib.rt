@@ -1,0 +1,11 @@
+//! From bound queries to dependent trees: the list of the rows around a query becomes one flat domain row.
+#![tactic(auto)]
+
+mod outer;
+mod parts;
+mod sight;
+mod sources;
+mod tree;
+
+pub use sight::OuterColumn;
+pub use tree::{depend, depend_under};
