@@ -2,11 +2,9 @@
 use Rattle.std.proofs.Common.{◌≡◌, ℕ, ◌+◌, ◌-◌, List, [], ◌++◌, refl, sym, ap, ◌∙◌, subst, arith, length}
 use Rattle.row_laws.specs.Bags.{SameBag}
 use Rattle.row_laws.proofs.Bags.{SameBag-refl, SameBag-sym, SameBag-trans}
-use Rattle.tpch_schema.specs.State.{State, table_rows}
+use Rattle.tpch_schema.specs.State.{table_rows}
 use Rattle.nested_query.specs.declared.query.BoundQuery.{BoundQuery}
 use Rattle.nested_query.specs.Meaning.{rows}
-use Rattle.nested_query.specs.Reads.{tables}
-use Rattle.nested_query.specs.Typing.{StateIsOf}
 use Rattle.algebra.specs.declared.node.Node.{Node}
 use Rattle.algebra.specs.declared.plan.FlatPlan.{FlatPlan}
 use Rattle.algebra.specs.declared.tree.DepTree.{DepTree}
