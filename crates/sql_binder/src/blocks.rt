@@ -1,6 +1,6 @@
 //! Whole queries.
 ghost use Rattle.sql_binder.specs.Blocks as spec;
-ghost use Rattle.sql_binder.specs.Binding.{block_meaning, joined_meaning, clause_meaning, selected_meaning, clauses_of, opened_block};
+ghost use Rattle.sql_binder.specs.Binding.{block_meaning, clauses_of, opened_block};
 ghost use Rattle.sql_binder.specs.Names.{sight_of};
 ghost use Rattle.sql_binder.specs.Nests.{Below, BindsParts};
 ghost use Rattle.sql_binder.specs.Sizes.{block_size};
@@ -29,8 +29,10 @@ impl<
         state: &mut Collected,
         q: &Block,
     ) -> Result<(FromRows, BoundExpr), BindFault>
-        requires { BindsParts (E.pre self.now.exprs.expr) (E.post self.now.exprs.expr) (Q.pre self.now.query) (Q.post self.now.query) q.now }
-        ensures { Binds (spec.from_where (sight_of site.now) (opened_block q.now).from (opened_block q.now).condition state.old) result state.new }
+        requires { BindsParts (E.pre self.now.exprs.expr) (E.post self.now.exprs.expr)
+            (Q.pre self.now.query) (Q.post self.now.query) q.now }
+        ensures { Binds (spec.from_where (sight_of site.now) (opened_block q.now).from
+            (opened_block q.now).condition state.old) result state.new }
     {
         let from = self.from_list(site, state, q.from.as_slice())?;
         let none = None;
@@ -50,8 +52,10 @@ impl<
         from: FromRows,
         kept: BoundExpr,
     ) -> Result<BoundTable, BindFault>
-        requires { BindsParts (E.pre self.now.exprs.expr) (E.post self.now.exprs.expr) (Q.pre self.now.query) (Q.post self.now.query) q.now }
-        ensures { Binds (spec.over_rows (sight_of site.now) from kept (opened_block q.now).selected state.old) result state.new }
+        requires { BindsParts (E.pre self.now.exprs.expr) (E.post self.now.exprs.expr)
+            (Q.pre self.now.query) (Q.post self.now.query) q.now }
+        ensures { Binds (spec.over_rows (sight_of site.now) from kept (opened_block q.now).selected
+            state.old) result state.new }
     {
         let none = None;
         let shown = self
@@ -70,8 +74,10 @@ impl<
         columns: &[ScopeColumn],
         keys: &Option<Items<u32>>,
     ) -> Result<(Shown, BoundExpr), BindFault>
-        requires { BindsParts (E.pre self.now.exprs.expr) (E.post self.now.exprs.expr) (Q.pre self.now.query) (Q.post self.now.query) q.now }
-        ensures { Binds (spec.group_lists (sight_of site.now) columns.now keys.now (opened_block q.now).selected (opened_block q.now).having state.old) result state.new }
+        requires { BindsParts (E.pre self.now.exprs.expr) (E.post self.now.exprs.expr)
+            (Q.pre self.now.query) (Q.post self.now.query) q.now }
+        ensures { Binds (spec.group_lists (sight_of site.now) columns.now keys.now
+            (opened_block q.now).selected (opened_block q.now).having state.old) result state.new }
     {
         let shown = self.exprs.select(site, state, columns, keys, &q.selected)?;
         let having = self.exprs.condition(site, state, columns, keys, &q.having)?;
@@ -88,8 +94,10 @@ impl<
         from: FromRows,
         kept: BoundExpr,
     ) -> Result<BoundTable, BindFault>
-        requires { BindsParts (E.pre self.now.exprs.expr) (E.post self.now.exprs.expr) (Q.pre self.now.query) (Q.post self.now.query) q.now }
-        ensures { Binds (spec.over_groups (sight_of site.now) from kept (opened_block q.now).group (opened_block q.now).selected (opened_block q.now).having state.old) result state.new }
+        requires { BindsParts (E.pre self.now.exprs.expr) (E.post self.now.exprs.expr)
+            (Q.pre self.now.query) (Q.post self.now.query) q.now }
+        ensures { Binds (spec.over_groups (sight_of site.now) from kept (opened_block q.now).group
+            (opened_block q.now).selected (opened_block q.now).having state.old) result state.new }
     {
         let columns = from.columns.as_slice();
         let keys = Some(keys_of(self.exprs.alloc, columns, q.group.as_slice())?);
@@ -106,7 +114,8 @@ impl<
         state: &mut Collected,
         q: &Block,
     ) -> Result<BoundTable, BindFault>
-        requires { BindsParts (E.pre self.now.exprs.expr) (E.post self.now.exprs.expr) (Q.pre self.now.query) (Q.post self.now.query) q.now }
+        requires { BindsParts (E.pre self.now.exprs.expr) (E.post self.now.exprs.expr)
+            (Q.pre self.now.query) (Q.post self.now.query) q.now }
         ensures { Binds (clauses_of q.now (sight_of site.now) state.old) result state.new }
     {
         let (from, kept) = self.from_where(site, state, q)?;
@@ -127,7 +136,8 @@ impl<
         state: &mut Collected,
         q: &Block,
     ) -> Result<BoundTable, BindFault>
-        requires { BindsParts (E.pre self.now.exprs.expr) (E.post self.now.exprs.expr) (Q.pre self.now.query) (Q.post self.now.query) q.now }
+        requires { BindsParts (E.pre self.now.exprs.expr) (E.post self.now.exprs.expr)
+            (Q.pre self.now.query) (Q.post self.now.query) q.now }
         ensures { Binds (apart (clauses_of q.now (sight_of site.now)) state.old) result state.new }
     {
         let outer = state.swap_aggregates(Items::new(self.exprs.alloc));
@@ -144,7 +154,8 @@ impl<
         state: &mut Collected,
         q: &Block,
     ) -> Result<BoundTable, BindFault>
-        requires { Below (block_size q.now) (E.pre self.now.exprs.expr) (E.post self.now.exprs.expr) (Q.pre self.now.query) (Q.post self.now.query) }
+        requires { Below (block_size q.now) (E.pre self.now.exprs.expr) (E.post self.now.exprs.expr)
+            (Q.pre self.now.query) (Q.post self.now.query) }
         ensures { Binds (block_meaning q.now (sight_of site.now) state.old) result state.new }
     {
         let t = self.own_clauses(site, state, q)?;

@@ -31,7 +31,8 @@ impl<E: Fn(Global, &Site<'_>, &mut Collected, &Expr) -> Result<Typed, BindFault>
         e: &Expr,
     ) -> Result<BoundExpr, BindFault>
         requires { BindsExpr (E.pre self.now.expr) (E.post self.now.expr) e.now }
-        ensures { Binds (from.on_condition (sight_of site.now) columns.now (meaning e.now) state.old) result state.new }
+        ensures { Binds (from.on_condition (sight_of site.now) columns.now (meaning e.now)
+            state.old) result state.new }
     {
         let none = None;
         let level = Level {
@@ -59,7 +60,8 @@ impl<E: Fn(Global, &Site<'_>, &mut Collected, &Expr) -> Result<Typed, BindFault>
         clause: &Clause,
     ) -> Result<BoundExpr, BindFault>
         requires { BindsClause (E.pre self.now.expr) (E.post self.now.expr) clause.now }
-        ensures { Binds (clauses.condition_in (sight_of site.now) (clause_meaning clause.now) state.old) result state.new }
+        ensures { Binds (clauses.condition_in (sight_of site.now) (clause_meaning clause.now)
+            state.old) result state.new }
     {
         match clause {
             Clause::Absent => Ok(no_condition(self.alloc)?),
@@ -82,7 +84,8 @@ impl<E: Fn(Global, &Site<'_>, &mut Collected, &Expr) -> Result<Typed, BindFault>
         clause: &Clause,
     ) -> Result<BoundExpr, BindFault>
         requires { BindsClause (E.pre self.now.expr) (E.post self.now.expr) clause.now }
-        ensures { Binds (clauses.condition (sight_of site.now) columns.now keys.now (clause_meaning clause.now) state.old) result state.new }
+        ensures { Binds (clauses.condition (sight_of site.now) columns.now keys.now
+            (clause_meaning clause.now) state.old) result state.new }
     {
         let levels = before(self.alloc, Level { columns, keys }, site.levels)?;
         let inner = Site {
@@ -104,7 +107,8 @@ impl<E: Fn(Global, &Site<'_>, &mut Collected, &Expr) -> Result<Typed, BindFault>
         i: &Item,
     ) -> Result<Shown, BindFault>
         requires { BindsItem (E.pre self.now.expr) (E.post self.now.expr) i.now }
-        ensures { Binds (clauses.shown_item (sight_of site.now) done (item_meaning i.now) state.old) result state.new }
+        ensures { Binds (clauses.shown_item (sight_of site.now) done (item_meaning i.now) state.old)
+            result state.new }
     {
         let p = self.part(site, state, &i.value)?;
         let name = item_name(self.alloc, i)?;
@@ -121,7 +125,8 @@ impl<E: Fn(Global, &Site<'_>, &mut Collected, &Expr) -> Result<Typed, BindFault>
         items: &[Item],
     ) -> Result<Shown, BindFault>
         requires { Each (BindsItem (E.pre self.now.expr) (E.post self.now.expr)) items.now }
-        ensures { Binds (clauses.shown_items (sight_of site.now) (map item_meaning items.now) state.old) result state.new }
+        ensures { Binds (clauses.shown_items (sight_of site.now) (map item_meaning items.now)
+            state.old) result state.new }
     {
         let mut done = nothing_shown(self.alloc);
         let mut left = items;
@@ -143,7 +148,8 @@ impl<E: Fn(Global, &Site<'_>, &mut Collected, &Expr) -> Result<Typed, BindFault>
         selected: &Selected,
     ) -> Result<Shown, BindFault>
         requires { BindsSelected (E.pre self.now.expr) (E.post self.now.expr) selected.now }
-        ensures { Binds (clauses.select_in (sight_of site.now) keys.now columns.now (selected_meaning selected.now) state.old) result state.new }
+        ensures { Binds (clauses.select_in (sight_of site.now) keys.now columns.now
+            (selected_meaning selected.now) state.old) result state.new }
     {
         match selected {
             Selected::All => {
@@ -168,7 +174,8 @@ impl<E: Fn(Global, &Site<'_>, &mut Collected, &Expr) -> Result<Typed, BindFault>
         selected: &Selected,
     ) -> Result<Shown, BindFault>
         requires { BindsSelected (E.pre self.now.expr) (E.post self.now.expr) selected.now }
-        ensures { Binds (clauses.select (sight_of site.now) columns.now keys.now (selected_meaning selected.now) state.old) result state.new }
+        ensures { Binds (clauses.select (sight_of site.now) columns.now keys.now
+            (selected_meaning selected.now) state.old) result state.new }
     {
         let levels = before(self.alloc, Level { columns, keys }, site.levels)?;
         let inner = Site {

@@ -1,5 +1,5 @@
-//! Expressions that hold others. The function that binds an expression is a value here, so that each rule is proved
-//! alone.
+//! Expressions that hold others. The function that binds an expression is a value here, so that
+//! each rule is proved alone.
 ghost use Rattle.sql_ast.specs.declared.tree.Clause.TheOpen.{Expr-F};
 ghost use Rattle.sql_binder.specs.Expressions as spec;
 ghost use Rattle.sql_binder.specs.Binding.{meaning};
@@ -63,7 +63,8 @@ impl<E: Fn(Global, &Site<'_>, &mut Collected, &Expr) -> Result<Typed, BindFault>
         e: &Expr,
     ) -> Result<Part, BindFault>
         requires { BindsExpr (E.pre self.now.expr) (E.post self.now.expr) e.now }
-        ensures { Binds (alone ((meaning e.now).binds (sight_of site.now)) state.old) result state.new }
+        ensures { Binds (alone ((meaning e.now).binds (sight_of site.now)) state.old)
+            result state.new }
     {
         let outer = state.swap_inputs(Items::new(self.alloc));
         let t = self.bind(site, state, e)?;
@@ -86,7 +87,8 @@ impl<E: Fn(Global, &Site<'_>, &mut Collected, &Expr) -> Result<Typed, BindFault>
         e: &Boxed<Expr>,
     ) -> Result<Part, BindFault>
         requires { BindsExpr (E.pre self.now.expr) (E.post self.now.expr) e.now }
-        ensures { Binds (alone ((meaning e.now).binds (among_rows (sight_of site.now))) state.old) result state.new }
+        ensures { Binds (alone ((meaning e.now).binds (among_rows (sight_of site.now))) state.old)
+            result state.new }
     {
         match site.levels {
             [] => {
@@ -124,7 +126,8 @@ impl<E: Fn(Global, &Site<'_>, &mut Collected, &Expr) -> Result<Typed, BindFault>
         a: &Boxed<Expr>,
     ) -> Result<Typed, BindFault>
         requires { BindsExpr (E.pre self.now.expr) (E.post self.now.expr) a.now }
-        ensures { Binds (spec.binds_step (sight_of site.now) (Expr-F.Negative (meaning a.now)) state.old) result state.new }
+        ensures { Binds (spec.binds_step (sight_of site.now) (Expr-F.Negative (meaning a.now))
+            state.old) result state.new }
     {
         let x = self.operand(site, state, a)?;
         let t = negative(self.alloc, x)?;
@@ -142,7 +145,8 @@ impl<E: Fn(Global, &Site<'_>, &mut Collected, &Expr) -> Result<Typed, BindFault>
     ) -> Result<Typed, BindFault>
         requires left { BindsExpr (E.pre self.now.expr) (E.post self.now.expr) a.now }
         requires right { BindsExpr (E.pre self.now.expr) (E.post self.now.expr) b.now }
-        ensures { Binds (spec.binds_step (sight_of site.now) (Expr-F.Compare c (meaning a.now) (meaning b.now)) state.old) result state.new }
+        ensures { Binds (spec.binds_step (sight_of site.now)
+            (Expr-F.Compare c (meaning a.now) (meaning b.now)) state.old) result state.new }
     {
         let x = self.operand(site, state, a)?;
         let y = self.operand(site, state, b)?;
@@ -158,7 +162,8 @@ impl<E: Fn(Global, &Site<'_>, &mut Collected, &Expr) -> Result<Typed, BindFault>
         a: &Boxed<Expr>,
     ) -> Result<Typed, BindFault>
         requires { BindsExpr (E.pre self.now.expr) (E.post self.now.expr) a.now }
-        ensures { Binds (spec.binds_step (sight_of site.now) (Expr-F.IsNull (meaning a.now)) state.old) result state.new }
+        ensures { Binds (spec.binds_step (sight_of site.now) (Expr-F.IsNull (meaning a.now))
+            state.old) result state.new }
     {
         let x = self.operand(site, state, a)?;
         let t = null_test(self.alloc, x)?;
@@ -177,7 +182,9 @@ impl<E: Fn(Global, &Site<'_>, &mut Collected, &Expr) -> Result<Typed, BindFault>
         requires value { BindsExpr (E.pre self.now.expr) (E.post self.now.expr) a.now }
         requires low { BindsExpr (E.pre self.now.expr) (E.post self.now.expr) low.now }
         requires high { BindsExpr (E.pre self.now.expr) (E.post self.now.expr) high.now }
-        ensures { Binds (spec.binds_step (sight_of site.now) (Expr-F.Between (meaning a.now) (meaning low.now) (meaning high.now)) state.old) result state.new }
+        ensures { Binds (spec.binds_step (sight_of site.now)
+            (Expr-F.Between (meaning a.now) (meaning low.now) (meaning high.now)) state.old)
+            result state.new }
     {
         let x = self.operand(site, state, a)?;
         let y = self.operand(site, state, low)?;
@@ -195,7 +202,8 @@ impl<E: Fn(Global, &Site<'_>, &mut Collected, &Expr) -> Result<Typed, BindFault>
         pattern: &Text,
     ) -> Result<Typed, BindFault>
         requires { BindsExpr (E.pre self.now.expr) (E.post self.now.expr) a.now }
-        ensures { Binds (spec.binds_step (sight_of site.now) (Expr-F.Like (meaning a.now) pattern.now) state.old) result state.new }
+        ensures { Binds (spec.binds_step (sight_of site.now)
+            (Expr-F.Like (meaning a.now) pattern.now) state.old) result state.new }
     {
         let x = self.operand(site, state, a)?;
         let t = liked(self.alloc, x, pattern)?;
@@ -210,7 +218,8 @@ impl<E: Fn(Global, &Site<'_>, &mut Collected, &Expr) -> Result<Typed, BindFault>
         a: &Boxed<Expr>,
     ) -> Result<Typed, BindFault>
         requires { BindsExpr (E.pre self.now.expr) (E.post self.now.expr) a.now }
-        ensures { Binds (spec.binds_step (sight_of site.now) (Expr-F.Not (meaning a.now)) state.old) result state.new }
+        ensures { Binds (spec.binds_step (sight_of site.now) (Expr-F.Not (meaning a.now)) state.old)
+            result state.new }
     {
         let x = self.operand(site, state, a)?;
         let t = denied(self.alloc, x)?;
@@ -226,7 +235,8 @@ impl<E: Fn(Global, &Site<'_>, &mut Collected, &Expr) -> Result<Typed, BindFault>
         a: &Boxed<Expr>,
     ) -> Result<Typed, BindFault>
         requires { BindsExpr (E.pre self.now.expr) (E.post self.now.expr) a.now }
-        ensures { Binds (spec.binds_step (sight_of site.now) (Expr-F.Extract s (meaning a.now)) state.old) result state.new }
+        ensures { Binds (spec.binds_step (sight_of site.now) (Expr-F.Extract s (meaning a.now))
+            state.old) result state.new }
     {
         let x = self.operand(site, state, a)?;
         let t = extracted(self.alloc, s, x)?;
@@ -243,7 +253,8 @@ impl<E: Fn(Global, &Site<'_>, &mut Collected, &Expr) -> Result<Typed, BindFault>
         count: u32,
     ) -> Result<Typed, BindFault>
         requires { BindsExpr (E.pre self.now.expr) (E.post self.now.expr) a.now }
-        ensures { Binds (spec.binds_step (sight_of site.now) (Expr-F.Substring (meaning a.now) from count) state.old) result state.new }
+        ensures { Binds (spec.binds_step (sight_of site.now)
+            (Expr-F.Substring (meaning a.now) from count) state.old) result state.new }
     {
         let x = self.operand(site, state, a)?;
         let t = substring(self.alloc, x, from, count)?;
@@ -258,7 +269,8 @@ impl<E: Fn(Global, &Site<'_>, &mut Collected, &Expr) -> Result<Typed, BindFault>
         a: &Boxed<Expr>,
     ) -> Result<Typed, BindFault>
         requires { BindsExpr (E.pre self.now.expr) (E.post self.now.expr) a.now }
-        ensures { Binds (spec.binds_step (sight_of site.now) (Expr-F.Count (meaning a.now)) state.old) result state.new }
+        ensures { Binds (spec.binds_step (sight_of site.now) (Expr-F.Count (meaning a.now))
+            state.old) result state.new }
     {
         let argument = self.argument(site, state, a)?;
         let t = aggregated(self.alloc, site, state, AggregateFunction::Count, argument)?;
@@ -273,7 +285,8 @@ impl<E: Fn(Global, &Site<'_>, &mut Collected, &Expr) -> Result<Typed, BindFault>
         a: &Boxed<Expr>,
     ) -> Result<Typed, BindFault>
         requires { BindsExpr (E.pre self.now.expr) (E.post self.now.expr) a.now }
-        ensures { Binds (spec.binds_step (sight_of site.now) (Expr-F.CountDistinct (meaning a.now)) state.old) result state.new }
+        ensures { Binds (spec.binds_step (sight_of site.now) (Expr-F.CountDistinct (meaning a.now))
+            state.old) result state.new }
     {
         let argument = self.argument(site, state, a)?;
         let t = aggregated(
@@ -295,7 +308,8 @@ impl<E: Fn(Global, &Site<'_>, &mut Collected, &Expr) -> Result<Typed, BindFault>
         a: &Boxed<Expr>,
     ) -> Result<Typed, BindFault>
         requires { BindsExpr (E.pre self.now.expr) (E.post self.now.expr) a.now }
-        ensures { Binds (spec.binds_step (sight_of site.now) (Expr-F.Aggregate f (meaning a.now)) state.old) result state.new }
+        ensures { Binds (spec.binds_step (sight_of site.now) (Expr-F.Aggregate f (meaning a.now))
+            state.old) result state.new }
     {
         let argument = self.argument(site, state, a)?;
         let t = aggregated(self.alloc, site, state, function_of(f), argument)?;

@@ -35,7 +35,8 @@ impl<
         e: &Expr,
     ) -> Result<FromRows, BindFault>
         requires { BindsExpr (E.pre self.now.exprs.expr) (E.post self.now.exprs.expr) e.now }
-        ensures { Binds (spec.on_joining start (sight_of site.now) kind j (meaning e.now) state.old) result state.new }
+        ensures { Binds (spec.on_joining start (sight_of site.now) kind j (meaning e.now) state.old)
+            result state.new }
     {
         let columns = columns_from(j.columns.as_slice(), start);
         let on = self.exprs.on_condition(site, state, columns, e)?;
@@ -52,8 +53,10 @@ impl<
         done: FromRows,
         j: &Join,
     ) -> Result<FromRows, BindFault>
-        requires { BindsJoin (E.pre self.now.exprs.expr) (E.post self.now.exprs.expr) (Q.pre self.now.query) (Q.post self.now.query) j.now }
-        ensures { Binds (join_meaning j.now start (sight_of site.now) done state.old) result state.new }
+        requires { BindsJoin (E.pre self.now.exprs.expr) (E.post self.now.exprs.expr)
+            (Q.pre self.now.query) (Q.post self.now.query) j.now }
+        ensures { Binds (join_meaning j.now start (sight_of site.now) done state.old)
+            result state.new }
     {
         let o = self.from_item(site, state, &j.item, done.columns.as_slice())?;
         let both = begin_join(done, o)?;
@@ -71,8 +74,10 @@ impl<
         first: FromRows,
         rest: &[Join],
     ) -> Result<FromRows, BindFault>
-        requires { Each (BindsJoin (E.pre self.now.exprs.expr) (E.post self.now.exprs.expr) (Q.pre self.now.query) (Q.post self.now.query)) rest.now }
-        ensures { Binds (spec.joins start (sight_of site.now) first (map join_meaning rest.now) state.old) result state.new }
+        requires { Each (BindsJoin (E.pre self.now.exprs.expr) (E.post self.now.exprs.expr)
+            (Q.pre self.now.query) (Q.post self.now.query)) rest.now }
+        ensures { Binds (spec.joins start (sight_of site.now) first (map join_meaning rest.now)
+            state.old) result state.new }
     {
         let mut done = first;
         let mut left = rest;
@@ -93,8 +98,10 @@ impl<
         first: (Option<Boxed<BoundSource>>, FromRows),
         joins: &[Join],
     ) -> Result<FromRows, BindFault>
-        requires { Each (BindsJoin (E.pre self.now.exprs.expr) (E.post self.now.exprs.expr) (Q.pre self.now.query) (Q.post self.now.query)) joins.now }
-        ensures { Binds (spec.chained start (sight_of site.now) first (map join_meaning joins.now) state.old) result state.new }
+        requires { Each (BindsJoin (E.pre self.now.exprs.expr) (E.post self.now.exprs.expr)
+            (Q.pre self.now.query) (Q.post self.now.query)) joins.now }
+        ensures { Binds (spec.chained start (sight_of site.now) first (map join_meaning joins.now)
+            state.old) result state.new }
     {
         let (before, first) = first;
         let chain = self.joins(site, state, start, first, joins)?;
@@ -110,7 +117,8 @@ impl<
         done: Option<FromRows>,
         j: &Joined,
     ) -> Result<FromRows, BindFault>
-        requires { BindsJoined (E.pre self.now.exprs.expr) (E.post self.now.exprs.expr) (Q.pre self.now.query) (Q.post self.now.query) j.now }
+        requires { BindsJoined (E.pre self.now.exprs.expr) (E.post self.now.exprs.expr)
+            (Q.pre self.now.query) (Q.post self.now.query) j.now }
         ensures { Binds (joined_meaning j.now (sight_of site.now) done state.old) result state.new }
     {
         let left = columns_so_far(&done);
@@ -129,8 +137,10 @@ impl<
         state: &mut Collected,
         all: &[Joined],
     ) -> Result<FromRows, BindFault>
-        requires { Each (BindsJoined (E.pre self.now.exprs.expr) (E.post self.now.exprs.expr) (Q.pre self.now.query) (Q.post self.now.query)) all.now }
-        ensures { Binds (spec.from_list (sight_of site.now) (map joined_meaning all.now) state.old) result state.new }
+        requires { Each (BindsJoined (E.pre self.now.exprs.expr) (E.post self.now.exprs.expr)
+            (Q.pre self.now.query) (Q.post self.now.query)) all.now }
+        ensures { Binds (spec.from_list (sight_of site.now) (map joined_meaning all.now) state.old)
+            result state.new }
     {
         let mut done = None;
         let mut left = all;

@@ -1,5 +1,5 @@
-//! Expressions and queries, which lead back to each other. All else is bound by rules that take these two functions as
-//! values, so that each rule is proved alone.
+//! Expressions and queries, which lead back to each other. All else is bound by rules that take
+//! these two functions as values, so that each rule is proved alone.
 ghost use Rattle.sql_binder.specs.Binding.{meaning, block_meaning};
 ghost use Rattle.sql_binder.specs.Names.{sight_of};
 ghost use Rattle.sql_binder.specs.Steps.{Binds};

@@ -30,7 +30,8 @@ use std::alloc::{AllocError, Global};
 
 /// A number.
 fn number(alloc: Global, coefficient: i128, scale: Scale) -> Result<Typed, AllocError>
-    ensures { IfOk result (λ t. t ≡ typed (e.Literal (value.Number scale coefficient)) (kinds.Value (kind.Number scale))) }
+    ensures { IfOk result
+        (λ t. t ≡ typed (e.Literal (value.Number scale coefficient)) (kinds.Value (kind.Number scale))) }
 {
     let value = scalar_expr::Expr::Literal(Value::Number(scale, coefficient));
     let t = typed(alloc, value, BoundKind::Value(Kind::Number(scale)))?;
@@ -48,7 +49,8 @@ fn text(alloc: Global, t: &Text) -> Result<Typed, AllocError>
 
 /// `count(*)`
 fn count_rows(alloc: Global, site: &Site<'_>, state: &mut Collected) -> Result<Typed, BindFault>
-    ensures { Binds (spec.grouped (sight_of site.now) CountRows (kind.Number 0) state.old) result state.new }
+    ensures { Binds (spec.grouped (sight_of site.now) CountRows (kind.Number 0) state.old)
+        result state.new }
 {
     let kind = Kind::Number(Scale::new(0));
     let t = grouped(alloc, site, state, BoundAggregate::CountRows, kind)?;
@@ -66,7 +68,8 @@ impl<
         state: &mut Collected,
         e: &Expr,
     ) -> Result<Typed, BindFault>
-        requires { Below (size e.now) (E.pre self.now.exprs.expr) (E.post self.now.exprs.expr) (Q.pre self.now.query) (Q.post self.now.query) }
+        requires { Below (size e.now) (E.pre self.now.exprs.expr) (E.post self.now.exprs.expr)
+            (Q.pre self.now.query) (Q.post self.now.query) }
         ensures { Binds ((meaning e.now).binds (sight_of site.now) state.old) result state.new }
     {
         match e {

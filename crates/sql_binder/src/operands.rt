@@ -34,7 +34,8 @@ impl<E: Fn(Global, &Site<'_>, &mut Collected, &Expr) -> Result<Typed, BindFault>
         rest: &[Expr],
     ) -> Result<Conditions, BindFault>
         requires { BindsExprs (E.pre self.now.expr) (E.post self.now.expr) rest.now }
-        ensures { Binds (operands.conditions (sight_of site.now) first (map meaning rest.now) state.old) result state.new }
+        ensures { Binds (operands.conditions (sight_of site.now) first (map meaning rest.now)
+            state.old) result state.new }
     {
         let mut done = first_condition(self.alloc, first)?;
         let mut left = rest;
@@ -56,7 +57,8 @@ impl<E: Fn(Global, &Site<'_>, &mut Collected, &Expr) -> Result<Typed, BindFault>
     ) -> Result<Typed, BindFault>
         requires first { BindsExpr (E.pre self.now.expr) (E.post self.now.expr) a.now }
         requires rest { BindsExprs (E.pre self.now.expr) (E.post self.now.expr) rest.now }
-        ensures { Binds (exprs.binds_step (sight_of site.now) (Expr-F.And (meaning a.now) (map meaning rest.now)) state.old) result state.new }
+        ensures { Binds (exprs.binds_step (sight_of site.now)
+            (Expr-F.And (meaning a.now) (map meaning rest.now)) state.old) result state.new }
     {
         let x = self.operand(site, state, a)?;
         let c = self.conditions(site, state, x, rest)?;
@@ -74,7 +76,8 @@ impl<E: Fn(Global, &Site<'_>, &mut Collected, &Expr) -> Result<Typed, BindFault>
     ) -> Result<Typed, BindFault>
         requires first { BindsExpr (E.pre self.now.expr) (E.post self.now.expr) a.now }
         requires rest { BindsExprs (E.pre self.now.expr) (E.post self.now.expr) rest.now }
-        ensures { Binds (exprs.binds_step (sight_of site.now) (Expr-F.Or (meaning a.now) (map meaning rest.now)) state.old) result state.new }
+        ensures { Binds (exprs.binds_step (sight_of site.now)
+            (Expr-F.Or (meaning a.now) (map meaning rest.now)) state.old) result state.new }
     {
         let x = self.operand(site, state, a)?;
         let c = self.conditions(site, state, x, rest)?;
@@ -91,7 +94,8 @@ impl<E: Fn(Global, &Site<'_>, &mut Collected, &Expr) -> Result<Typed, BindFault>
         list: &[Expr],
     ) -> Result<Operands, BindFault>
         requires { BindsExprs (E.pre self.now.expr) (E.post self.now.expr) list.now }
-        ensures { Binds (operands.operands (sight_of site.now) (map meaning list.now) state.old) result state.new }
+        ensures { Binds (operands.operands (sight_of site.now) (map meaning list.now) state.old)
+            result state.new }
     {
         let mut done = no_operands(self.alloc);
         let mut left = list;
@@ -113,7 +117,8 @@ impl<E: Fn(Global, &Site<'_>, &mut Collected, &Expr) -> Result<Typed, BindFault>
     ) -> Result<Typed, BindFault>
         requires value { BindsExpr (E.pre self.now.expr) (E.post self.now.expr) a.now }
         requires list { BindsExprs (E.pre self.now.expr) (E.post self.now.expr) list.now }
-        ensures { Binds (exprs.binds_step (sight_of site.now) (Expr-F.InList (meaning a.now) (map meaning list.now)) state.old) result state.new }
+        ensures { Binds (exprs.binds_step (sight_of site.now)
+            (Expr-F.InList (meaning a.now) (map meaning list.now)) state.old) result state.new }
     {
         let x = self.operand(site, state, a)?;
         let list = self.operands(site, state, list)?;
@@ -131,7 +136,8 @@ impl<E: Fn(Global, &Site<'_>, &mut Collected, &Expr) -> Result<Typed, BindFault>
         t: &Term,
     ) -> Result<Chain, BindFault>
         requires { BindsTerm (E.pre self.now.expr) (E.post self.now.expr) t.now }
-        ensures { Binds ((term_meaning t.now).adds (sight_of site.now) c state.old) result state.new }
+        ensures { Binds ((term_meaning t.now).adds (sight_of site.now) c state.old)
+            result state.new }
     {
         match interval_of(&t.value)? {
             Some((text, span)) => {
@@ -156,7 +162,8 @@ impl<E: Fn(Global, &Site<'_>, &mut Collected, &Expr) -> Result<Typed, BindFault>
         f: &Factor,
     ) -> Result<Chain, BindFault>
         requires { BindsFactor (E.pre self.now.expr) (E.post self.now.expr) f.now }
-        ensures { Binds ((factor_meaning f.now).adds (sight_of site.now) c state.old) result state.new }
+        ensures { Binds ((factor_meaning f.now).adds (sight_of site.now) c state.old)
+            result state.new }
     {
         let b = self.bind(site, state, &f.value)?;
         let c = operated(multiplying_of(f.operator), c, b)?;
@@ -173,7 +180,8 @@ impl<E: Fn(Global, &Site<'_>, &mut Collected, &Expr) -> Result<Typed, BindFault>
         rest: &[Term],
     ) -> Result<Typed, BindFault>
         requires { Each (BindsTerm (E.pre self.now.expr) (E.post self.now.expr)) rest.now }
-        ensures { Binds (operands.chain (sight_of site.now) first (map term_meaning rest.now) state.old) result state.new }
+        ensures { Binds (operands.chain (sight_of site.now) first (map term_meaning rest.now)
+            state.old) result state.new }
     {
         let mut done = begun(self.alloc, first);
         let mut left = rest;
@@ -194,7 +202,8 @@ impl<E: Fn(Global, &Site<'_>, &mut Collected, &Expr) -> Result<Typed, BindFault>
         rest: &[Factor],
     ) -> Result<Typed, BindFault>
         requires { Each (BindsFactor (E.pre self.now.expr) (E.post self.now.expr)) rest.now }
-        ensures { Binds (operands.chain (sight_of site.now) first (map factor_meaning rest.now) state.old) result state.new }
+        ensures { Binds (operands.chain (sight_of site.now) first (map factor_meaning rest.now)
+            state.old) result state.new }
     {
         let mut done = begun(self.alloc, first);
         let mut left = rest;
@@ -215,7 +224,8 @@ impl<E: Fn(Global, &Site<'_>, &mut Collected, &Expr) -> Result<Typed, BindFault>
     ) -> Result<Typed, BindFault>
         requires first { BindsExpr (E.pre self.now.expr) (E.post self.now.expr) a.now }
         requires rest { Each (BindsTerm (E.pre self.now.expr) (E.post self.now.expr)) rest.now }
-        ensures { Binds (exprs.binds_step (sight_of site.now) (Expr-F.Sum (meaning a.now) (map term_meaning rest.now)) state.old) result state.new }
+        ensures { Binds (exprs.binds_step (sight_of site.now)
+            (Expr-F.Sum (meaning a.now) (map term_meaning rest.now)) state.old) result state.new }
     {
         let x = self.operand(site, state, a)?;
         let t = self.terms(site, state, x, rest)?;
@@ -232,7 +242,9 @@ impl<E: Fn(Global, &Site<'_>, &mut Collected, &Expr) -> Result<Typed, BindFault>
     ) -> Result<Typed, BindFault>
         requires first { BindsExpr (E.pre self.now.expr) (E.post self.now.expr) a.now }
         requires rest { Each (BindsFactor (E.pre self.now.expr) (E.post self.now.expr)) rest.now }
-        ensures { Binds (exprs.binds_step (sight_of site.now) (Expr-F.Product (meaning a.now) (map factor_meaning rest.now)) state.old) result state.new }
+        ensures { Binds (exprs.binds_step (sight_of site.now)
+            (Expr-F.Product (meaning a.now) (map factor_meaning rest.now)) state.old)
+            result state.new }
     {
         let x = self.operand(site, state, a)?;
         let t = self.factors(site, state, x, rest)?;
@@ -248,7 +260,8 @@ impl<E: Fn(Global, &Site<'_>, &mut Collected, &Expr) -> Result<Typed, BindFault>
         arms: &[Arm],
     ) -> Result<Operands, BindFault>
         requires { Each (BindsArm (E.pre self.now.expr) (E.post self.now.expr)) arms.now }
-        ensures { Binds (operands.arm_conditions (sight_of site.now) (map arm_meaning arms.now) state.old) result state.new }
+        ensures { Binds (operands.arm_conditions (sight_of site.now) (map arm_meaning arms.now)
+            state.old) result state.new }
     {
         let mut done = no_operands(self.alloc);
         let mut left = arms;
@@ -269,7 +282,8 @@ impl<E: Fn(Global, &Site<'_>, &mut Collected, &Expr) -> Result<Typed, BindFault>
         arms: &[Arm],
     ) -> Result<Operands, BindFault>
         requires { Each (BindsArm (E.pre self.now.expr) (E.post self.now.expr)) arms.now }
-        ensures { Binds (operands.arm_values (sight_of site.now) (map arm_meaning arms.now) state.old) result state.new }
+        ensures { Binds (operands.arm_values (sight_of site.now) (map arm_meaning arms.now)
+            state.old) result state.new }
     {
         let mut done = no_operands(self.alloc);
         let mut left = arms;
@@ -289,7 +303,8 @@ impl<E: Fn(Global, &Site<'_>, &mut Collected, &Expr) -> Result<Typed, BindFault>
         arms: &[Arm],
     ) -> Result<Typed, BindFault>
         requires { Each (BindsArm (E.pre self.now.expr) (E.post self.now.expr)) arms.now }
-        ensures { Binds (exprs.binds_step (sight_of site.now) (Expr-F.Case (map arm_meaning arms.now)) state.old) result state.new }
+        ensures { Binds (exprs.binds_step (sight_of site.now)
+            (Expr-F.Case (map arm_meaning arms.now)) state.old) result state.new }
     {
         let whens = self.arm_conditions(site, state, arms)?;
         let gives = self.arm_values(site, state, arms)?;
@@ -307,7 +322,9 @@ impl<E: Fn(Global, &Site<'_>, &mut Collected, &Expr) -> Result<Typed, BindFault>
     ) -> Result<Typed, BindFault>
         requires arms { Each (BindsArm (E.pre self.now.expr) (E.post self.now.expr)) arms.now }
         requires other { BindsExpr (E.pre self.now.expr) (E.post self.now.expr) other.now }
-        ensures { Binds (exprs.binds_step (sight_of site.now) (Expr-F.CaseElse (map arm_meaning arms.now) (meaning other.now)) state.old) result state.new }
+        ensures { Binds (exprs.binds_step (sight_of site.now)
+            (Expr-F.CaseElse (map arm_meaning arms.now) (meaning other.now)) state.old)
+            result state.new }
     {
         let whens = self.arm_conditions(site, state, arms)?;
         let gives = self.arm_values(site, state, arms)?;

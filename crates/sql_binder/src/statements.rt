@@ -33,12 +33,13 @@ fn counted_table(alloc: Global, q: &Block, views: &Views) -> Result<(BoundTable,
     Ok((t, state.items))
 }
 
-/// The bound form of a query: each name stands for a column of the innermost query around it that has one of the name,
-/// and each expression has a kind.
+/// The bound form of a query: each name stands for a column of the innermost query around it that
+/// has one of the name, and each expression has a kind.
 ///
 /// # Errors
 ///
-/// `Refused` with the first refusal in the order of binding, as the definition `bound_query` says; `OutOfMemory`.
+/// `Refused` with the first refusal in the order of binding, as the definition `bound_query` says;
+/// `OutOfMemory`.
 #[tactic(auto, unfolding(crate::specs::Binding::bound_query))]
 pub fn bind(alloc: Global, query: &Query, views: &Views) -> Result<BoundQuery, BindFault>
     ensures { Gives (spec.bound_query query.now views.now.all) result }
@@ -56,8 +57,8 @@ pub fn bind(alloc: Global, query: &Query, views: &Views) -> Result<BoundQuery, B
 ///
 /// # Errors
 ///
-/// `Refused`: first for equal names in the list, then for what the query is refused for, then for a list of another
-/// length than the query's; `OutOfMemory`.
+/// `Refused`: first for equal names in the list, then for what the query is refused for, then for a
+/// list of another length than the query's; `OutOfMemory`.
 #[tactic(auto, unfolding(crate::specs::Binding::bound_view))]
 pub fn bind_view(
     alloc: Global,

@@ -1,5 +1,5 @@
-//! Queries in other queries: in expressions, and as derived tables in FROM. The function that binds a query is a value
-//! here too.
+//! Queries in other queries: in expressions, and as derived tables in FROM. The function that binds
+//! a query is a value here too.
 ghost use Rattle.sql_ast.specs.declared.tree.Clause.TheOpen.{Expr-F};
 ghost use Rattle.sql_binder.specs.Expressions as spec;
 ghost use Rattle.sql_binder.specs.Binding.{meaning, block_meaning, from_item_meaning};
@@ -51,7 +51,8 @@ impl<
         q: &Boxed<Block>,
     ) -> Result<Typed, BindFault>
         requires { BindsBlock (Q.pre self.now.query) (Q.post self.now.query) q.now }
-        ensures { Binds (spec.binds_step (sight_of site.now) (Expr-F.Exists (block_meaning q.now)) state.old) result state.new }
+        ensures { Binds (spec.binds_step (sight_of site.now) (Expr-F.Exists (block_meaning q.now))
+            state.old) result state.new }
     {
         let t = self.subquery(site, state, q)?;
         let t = existing(self.exprs.alloc, site, state, t)?;
@@ -66,7 +67,8 @@ impl<
         q: &Boxed<Block>,
     ) -> Result<Typed, BindFault>
         requires { BindsBlock (Q.pre self.now.query) (Q.post self.now.query) q.now }
-        ensures { Binds (spec.binds_step (sight_of site.now) (Expr-F.Scalar (block_meaning q.now)) state.old) result state.new }
+        ensures { Binds (spec.binds_step (sight_of site.now) (Expr-F.Scalar (block_meaning q.now))
+            state.old) result state.new }
     {
         let t = self.subquery(site, state, q)?;
         let t = only_value(self.exprs.alloc, site, state, t)?;
@@ -83,7 +85,8 @@ impl<
     ) -> Result<Typed, BindFault>
         requires left { BindsExpr (E.pre self.now.exprs.expr) (E.post self.now.exprs.expr) a.now }
         requires query { BindsBlock (Q.pre self.now.query) (Q.post self.now.query) q.now }
-        ensures { Binds (spec.binds_step (sight_of site.now) (Expr-F.InQuery (meaning a.now) (block_meaning q.now)) state.old) result state.new }
+        ensures { Binds (spec.binds_step (sight_of site.now)
+            (Expr-F.InQuery (meaning a.now) (block_meaning q.now)) state.old) result state.new }
     {
         let left = self.exprs.part(site, state, a.get())?;
         let t = self.subquery(site, state, q)?;
@@ -91,7 +94,8 @@ impl<
         Ok(t)
     }
 
-    /// A query that may use no name around it: neither of what stands left of it nor of the queries around.
+    /// A query that may use no name around it: neither of what stands left of it nor of the queries
+    /// around.
     #[tactic(auto, using(crate::proofs::Small::one_more), unfolding(crate::specs::Parts::hiding))]
     fn hidden(
         &self,
@@ -101,7 +105,8 @@ impl<
         q: &Boxed<Block>,
     ) -> Result<BoundTable, BindFault>
         requires { BindsBlock (Q.pre self.now.query) (Q.post self.now.query) q.now }
-        ensures { Binds (block_meaning q.now (hiding (sight_of site.now) left.now) state.old) result state.new }
+        ensures { Binds (block_meaning q.now (hiding (sight_of site.now) left.now) state.old)
+            result state.new }
     {
         let none = None;
         let level = Level {
@@ -128,7 +133,8 @@ impl<
         left: &[ScopeColumn],
     ) -> Result<FromRows, BindFault>
         requires { BindsFromItem (Q.pre self.now.query) (Q.post self.now.query) i.now }
-        ensures { Binds (from_item_meaning i.now (sight_of site.now) left.now state.old) result state.new }
+        ensures { Binds (from_item_meaning i.now (sight_of site.now) left.now state.old)
+            result state.new }
     {
         match i {
             FromItem::Table(name, alias) => {
