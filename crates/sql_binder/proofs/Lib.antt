@@ -7,3 +7,4 @@ pub mod Small
 pub mod Applied
 pub mod ExampleProofs
 pub mod EdgeProofs
+pub mod ByHand

@@ -251,8 +251,40 @@ impl<E: Fn(Global, &Site<'_>, &mut Collected, &Expr) -> Result<Typed, BindFault>
         Ok(t)
     }
 
+    /// The condition of a CASE's arm.
+    #[tactic(auto, using(crate::proofs::Opened::arm_is))]
+    fn arm_condition(
+        &self,
+        site: &Site<'_>,
+        state: &mut Collected,
+        arm: &Arm,
+    ) -> Result<Typed, BindFault>
+        requires { BindsArm (E.pre self.now.expr) (E.post self.now.expr) arm.now }
+        ensures { Binds ((arm_meaning arm.now).condition.binds (sight_of site.now) state.old)
+            result state.new }
+    {
+        let t = self.bind(site, state, &arm.condition)?;
+        Ok(t)
+    }
+
+    /// The value of a CASE's arm.
+    #[tactic(auto, using(crate::proofs::Opened::arm_is))]
+    fn arm_value(
+        &self,
+        site: &Site<'_>,
+        state: &mut Collected,
+        arm: &Arm,
+    ) -> Result<Typed, BindFault>
+        requires { BindsArm (E.pre self.now.expr) (E.post self.now.expr) arm.now }
+        ensures { Binds ((arm_meaning arm.now).value.binds (sight_of site.now) state.old)
+            result state.new }
+    {
+        let t = self.bind(site, state, &arm.value)?;
+        Ok(t)
+    }
+
     /// The conditions of a CASE's arms.
-    #[tactic(auto, using(crate::proofs::Opened::arm_is), unfolding(crate::specs::Operands::arm_conditions))]
+    #[tactic(auto, unfolding(crate::specs::Operands::arm_conditions))]
     fn arm_conditions(
         &self,
         site: &Site<'_>,
@@ -266,7 +298,7 @@ impl<E: Fn(Global, &Site<'_>, &mut Collected, &Expr) -> Result<Typed, BindFault>
         let mut done = no_operands(self.alloc);
         let mut left = arms;
         'arms: while let [arm, others @ ..] = left {
-            let a = self.bind(site, state, &arm.condition)?;
+            let a = self.arm_condition(site, state, arm)?;
             done = with_operand(done, a)?;
             left = others;
         }
@@ -274,7 +306,7 @@ impl<E: Fn(Global, &Site<'_>, &mut Collected, &Expr) -> Result<Typed, BindFault>
     }
 
     /// The branches of a CASE's arms.
-    #[tactic(auto, using(crate::proofs::Opened::arm_is), unfolding(crate::specs::Operands::arm_values))]
+    #[tactic(auto, unfolding(crate::specs::Operands::arm_values))]
     fn arm_values(
         &self,
         site: &Site<'_>,
@@ -288,7 +320,7 @@ impl<E: Fn(Global, &Site<'_>, &mut Collected, &Expr) -> Result<Typed, BindFault>
         let mut done = no_operands(self.alloc);
         let mut left = arms;
         'arms: while let [arm, others @ ..] = left {
-            let a = self.bind(site, state, &arm.value)?;
+            let a = self.arm_value(site, state, arm)?;
             done = with_operand(done, a)?;
             left = others;
         }

@@ -96,7 +96,7 @@ impl<
 
     /// A query that may use no name around it: neither of what stands left of it nor of the queries
     /// around.
-    #[tactic(auto, using(crate::proofs::Small::one_more), unfolding(crate::specs::Parts::hiding))]
+    #[tactic(auto, unfolding(crate::specs::Parts::hiding))]
     fn hidden(
         &self,
         site: &Site<'_>,
