@@ -14,6 +14,7 @@ abbrev pub turn_or_end : Course → Moment → Option Statement → Course
 turn_or_end course moment None = course
 turn_or_end course moment (Some statement) = course_after course moment statement
 
+-- the same for moments one after another
 abbrev pub course_through : Course → List Moment → Course
 course_through course [] = course
 course_through course (moment ∷ moments) = course_through (turn_or_end course moment (next_of course)) moments
