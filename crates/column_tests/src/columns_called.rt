@@ -1,0 +1,166 @@
+//! Columns, batches and bags.
+use crate::asked::{are_below, are_long};
+use crate::words::{bag, batch, column, is_bag, is_batch, is_column, values};
+use columns::{Bag, Batch, Column, ColumnForm, stored_rows};
+use fixed_decimal::Scale;
+use sql_value::{Row, Standing, Truth};
+use std::alloc::Global;
+use std::test::Fail;
+
+// Whether the values of a column of these words at places 2, 0 and 2 are these.
+fn gathers(alloc: Global, words: &str, wanted: &str) -> Result<bool, Fail> {
+    let places = [2u32, 0, 2];
+    let column = column(alloc, words)?;
+    if !are_below(column.len(), &places) {
+        return Ok(false);
+    }
+    let gathered = column.gather(alloc, &places)?;
+    is_column(alloc, &gathered, wanted)
+}
+
+#[test]
+fn gathers_each_form(rt: HostRuntime) -> Result<(), Fail> {
+    let alloc = rt.alloc();
+    assert!(rt; gathers(alloc, "1.50 0.06 -2.00", "-2.00 1.50 -2.00")?);
+    assert!(rt;
+        gathers(
+            alloc,
+            "1996-02-29 1994-01-01 1998-12-01",
+            "1998-12-01 1996-02-29 1998-12-01"
+        )?
+    );
+    assert!(rt; gathers(alloc, "MAIL AIR MAIL RAIL", "MAIL MAIL MAIL")?);
+    assert!(rt; gathers(alloc, "null 3 #zero", "#zero null #zero")?);
+    assert!(rt;
+        gathers(
+            alloc,
+            "7 null 9223372036854775808",
+            "9223372036854775808 7 9223372036854775808"
+        )?
+    );
+    Ok(())
+}
+
+// The form of a column of these words: 0 for any values, 1 for texts, 2 for dates, and for numbers
+// 3 and their scale.
+fn form_number(alloc: Global, words: &str) -> Result<u8, Fail> {
+    match column(alloc, words)?.typed() {
+        ColumnForm::Values => Ok(0),
+        ColumnForm::Texts => Ok(1),
+        ColumnForm::Dates => Ok(2),
+        ColumnForm::Numbers(scale) => Ok(3 + scale.places()),
+    }
+}
+
+#[test]
+fn tells_forms(rt: HostRuntime) -> Result<(), Fail> {
+    let alloc = rt.alloc();
+    assert_eq!(rt; form_number(alloc, "1.50 0.06")?, 5);
+    assert_eq!(rt; form_number(alloc, "1996-02-29")?, 2);
+    assert_eq!(rt; form_number(alloc, "MAIL AIR")?, 1);
+    assert_eq!(rt; form_number(alloc, "1.50 0.6")?, 0);
+    assert_eq!(rt; form_number(alloc, "1 null")?, 0);
+    Ok(())
+}
+
+#[test]
+fn puts_batches_end_to_end(rt: HostRuntime) -> Result<(), Fail> {
+    let alloc = rt.alloc();
+    let all = bag(
+        alloc,
+        2,
+        &["a 1\nb 2", "a 3 @zero\ncd 4", "null 5\nb #range @range"],
+    )?;
+    assert_eq!(rt; all.len(), 6);
+    assert!(rt;
+        is_bag(
+            alloc,
+            &all,
+            "a 1\nb 2\na 3 @zero\ncd 4\nnull 5\nb #range @range"
+        )?
+    );
+    assert_eq!(rt; all.width(), 2);
+    let texts = all.column(alloc, 0)?;
+    assert!(rt; is_column(alloc, &texts, "a b a cd null b")?);
+    let numbers = all.column(alloc, 1)?;
+    assert!(rt; is_column(alloc, &numbers, "1 2 3 4 5 #range")?);
+    let none = bag(alloc, 2, &[])?;
+    assert_eq!(rt; none.width(), 2);
+    assert_eq!(rt; none.column(alloc, 1)?.len(), 0);
+    assert_eq!(rt; none.whole(alloc)?.width(), 2);
+    Ok(())
+}
+
+#[test]
+fn shares_a_table(rt: HostRuntime) -> Result<(), Fail> {
+    let alloc = rt.alloc();
+    let values = values(alloc, "1 a 1996-02-29")?;
+    assert_eq!(rt; values.len(), 3);
+    let rows = stored_rows(alloc, &[Row::new(values)?])?;
+    let all = Bag::from_rows(alloc, 3, &rows)?;
+    assert!(rt; is_bag(alloc, &all, "1 a 1996-02-29")?);
+    Ok(())
+}
+
+#[test]
+fn puts_columns_side_by_side(rt: HostRuntime) -> Result<(), Fail> {
+    let alloc = rt.alloc();
+    let left = batch(alloc, "1 a\n2 b @range")?;
+    let right = batch(alloc, "null @zero\n0.05 @zero")?;
+    assert_eq!(rt; left.len(), 2);
+    assert_eq!(rt; right.len(), 2);
+    let both = left.beside(alloc, right)?;
+    assert!(rt; is_batch(alloc, &both, "1 a null @zero\n2 b 0.05 @zero")?);
+    let more = column(alloc, "MAIL AIR")?;
+    assert_eq!(rt; more.len(), both.len());
+    let longer = both.with_column(more)?;
+    assert!(rt; is_batch(alloc, &longer, "1 a null MAIL @zero\n2 b 0.05 AIR @zero")?);
+    let places = [1u32, 1, 0];
+    assert!(rt; are_below(longer.len(), &places));
+    let again = longer.gather(alloc, &places)?;
+    assert!(rt;
+        is_batch(
+            alloc,
+            &again,
+            "2 b 0.05 AIR @zero\n2 b 0.05 AIR @zero\n1 a null MAIL @zero"
+        )?
+    );
+    assert!(rt; longer.width() >= 3);
+    let last = longer.gather_after(alloc, 3, &places)?;
+    assert!(rt; is_batch(alloc, &last, "AIR @zero\nAIR @zero\nMAIL @zero")?);
+    Ok(())
+}
+
+#[test]
+fn keeps_standings(rt: HostRuntime) -> Result<(), Fail> {
+    let alloc = rt.alloc();
+    let rows = batch(alloc, "1 a\n2 b @range\n3 c @zero")?;
+    assert!(rt; are_below(rows.width(), &[1, 1]));
+    let twice = rows.project(alloc, &[1, 1])?;
+    assert!(rt; is_batch(alloc, &twice, "a a\nb b @range\nc c @zero")?);
+    let truths = [
+        Truth::Stands(Standing::AtTrue),
+        Truth::Unknown,
+        Truth::Stands(Standing::AtTrue),
+    ];
+    assert_eq!(rt; twice.len(), 3);
+    let kept = twice.keep(alloc, &truths)?;
+    assert!(rt; is_batch(alloc, &kept, "a a\nc c @zero")?);
+    assert_eq!(rt; kept.len(), 2);
+    let same = kept.keep(alloc, &[truths[0], truths[2]])?;
+    assert!(rt; is_batch(alloc, &same, "a a\nc c @zero")?);
+    let mut columns = Vec::new(alloc);
+    columns.push(column(alloc, "1996-02-29 1994-01-01")?)?;
+    let dates = with_columns(alloc, &same, columns)?;
+    assert!(rt; is_batch(alloc, &dates, "1996-02-29\n1994-01-01 @zero")?);
+    Ok(())
+}
+
+// The rows of these columns, at the standings of the rows of a batch.
+fn with_columns(alloc: Global, rows: &Batch, columns: Vec<Column>) -> Result<Batch, Fail> {
+    if !are_long(rows.len(), columns.as_slice()) {
+        return Err("a column is longer or shorter than the batch")?;
+    }
+    let made = rows.with_columns(alloc, columns)?;
+    Ok(made)
+}
