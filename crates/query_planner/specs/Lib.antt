@@ -1,2 +1,3 @@
 pub mod PlanText
+pub mod Planned
 pub mod Examples

@@ -2,8 +2,10 @@
 #![tactic(auto)]
 
 pub mod laws;
+mod planning;
 mod text;
 
+pub use planning::plan_bound;
 pub use text::plan_text;
 
 #[cfg(test)]

@@ -4,8 +4,14 @@ pub mod Dates
 pub mod Doubled
 pub mod Filled
 pub mod Fronts
+pub mod Lines
 pub mod Misfits
 pub mod Numbers
 pub mod Parts
 pub mod Queries
 pub mod Quoted
+pub mod Readings
+pub mod Samples
+pub mod Scripts
+pub mod Short
+pub mod Stands

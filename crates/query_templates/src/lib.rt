@@ -10,7 +10,7 @@ mod texts;
 pub use fault::TemplateFault;
 pub use filling::fill;
 pub use kind::ValueKind;
-pub use laws::filled_is_tokens;
+pub use laws::{filled_is_script, filled_is_tokens};
 
 #[cfg(test)]
 mod tests;

@@ -7,7 +7,7 @@ use Rattle.std.proofs.lemmas.List.FromFn.{length-range_with_len}
 use Rattle.row_laws.specs.Ranked.{Ranked, ranked, true_rank}
 use Rattle.row_laws.specs.Bags.{Each, OfBag}
 use Rattle.row_laws.specs.Rows.{after, columns, scanned, unit_row}
-use Rattle.row_laws.specs.Operators.{pair, mark_of, scalar_of, total, group_by, fill, or_else, partners, join_loop}
+use Rattle.row_laws.specs.Operators.{select, pair, mark_of, scalar_of, total, group_by, fill, or_else, partners, join_loop}
 use Rattle.row_laws.specs.Domains.{IsDomain, Answers}
 use Rattle.row_laws.specs.Matched.{side_matched, inner_matched}
 use Rattle.row_laws.specs.Trees.{side_width}
@@ -27,6 +27,7 @@ use Rattle.scalar_expr.specs.Meaning.{truth, truths, values}
 use Rattle.scalar_expr.proofs.Opened.{truth_All}
 use Rattle.aggregates.specs.Values.{written, value_rank}
 use Rattle.tpch_schema.specs.declared.table.TableName.{TableName}
+use Rattle.tpch_schema.specs.Tables.{kinds_of}
 use Rattle.sql_value.specs.Truth.{truth_rank}
 use Rattle.algebra.specs.declared.aggregate.Aggregate.{Aggregate}
 use Rattle.algebra.specs.declared.node.Node.{Node}
@@ -42,7 +43,7 @@ use Rattle.unnesting.specs.declared.domain.Domain.{Domain as DomainData}
 use Rattle.unnesting.specs.declared.domain.DomainRows.{DomainRows}
 use Rattle.unnesting.specs.declared.domain.DomainRows.TheVariants.{One, Node as AtNode}
 use Rattle.unnesting.specs.Domains.{domain_width, domain_rows, IsInPlan, Holds}
-use Rattle.unnesting.specs.Lowerings.{Grows, IsPut, Lowers, LowersSides, IsScanned, IsFilled, IsGrouped}
+use Rattle.unnesting.specs.Lowerings.{Grows, IsPut, Lowers, LowersSides, IsScanned, IsSelection, IsFilled, IsGrouped}
 use Rattle.unnesting.proofs.Columns.{side_length}
 use Rattle.unnesting.proofs.Grown.{same_plan, put_more, kept_rows, kept_width, put_rows, put_width, put_last}
 use Rattle.unnesting.proofs.Wide.{over_wide, projected_wide, grouped_wide, keyed_wide, groups_some}
@@ -121,26 +122,74 @@ scan_alone before new table domain id e p =
     (λ db h. subst (λ r. Answers same_value (domain_rows db before r) (scanned (db table)) (λ d. scanned (db table))) (sym e)
     (closed_meets same_value value_identity (scanned (db table)), tt))
 
-scan_joined : (before new : List Node) (table : TableName) (domain : DomainData) (d width id : ℕ) → domain.rows ≡ AtNode d width → IsInPlan before (AtNode d width)
-    → IsPut (before ++ node.Scan table ∷ []) new (node.Join d (length before) [] (All [])) id → Lowers before new (tree_step (f.Scan table)) domain id
+-- a table's rows that a condition keeps, under each row of a domain
+kept_table : (c : List Value → ℕ) → (rows : List (List Value))
+    → flat_map (λ r. pair c (λ x y. x ++ y) (ranked [] true_rank) r) (scanned rows) ≡ select c (scanned rows)
+kept_table c [] = refl
+kept_table c (r ∷ rows) = rw (kept_table c rows) refl
+
+kept_loop : (c : List Value → ℕ) → (rows : List (List Value)) → join_loop c unit_row (λ l. scanned rows) ≡ select c (scanned rows)
+kept_loop c rows = append-nil (flat_map (λ r. pair c (λ x y. x ++ y) (ranked [] true_rank) r) (scanned rows)) ∙ kept_table c rows
+
+selection_over : (n : ℕ) (ds : List (Ranked Value)) (rows : List (List Value)) (c : Expr) → IsDomain same_value n ds
+    → Answers same_value ds (inner_matched same_value Null [] (rank_of c) ds (scanned rows)) (λ d. select (λ t. rank_of c (d ++ t)) (scanned rows))
+selection_over n ds rows c dom =
+    let all : Answers same_value ds (inner_matched same_value Null [] (rank_of c) ds (scanned rows)) (λ d. join_loop (λ t. rank_of c (d ++ t)) unit_row (λ l. scanned rows)) =
+    inner_side same_value value_identity Null ClosedKind (rank_of c) n ds ds (scanned rows) (λ d. unit_row) (λ d. scanned rows) dom
+    (domain_alone same_value value_identity n ds dom) (closed_meets same_value value_identity (scanned rows), tt) in
+    subst (λ (M : List Value → List (Ranked Value)). Answers same_value ds (inner_matched same_value Null [] (rank_of c) ds (scanned rows)) M)
+    (λ i d. kept_loop (λ t. rank_of c (d ++ t)) rows i) all
+
+-- a table joined with a domain under a condition, where its rows are those of a meaning
+joined_scan : (before new : List Node) (table : TableName) (c : Expr) (k : TreeMeaning) (domain : DomainData) (d width id : ℕ) → domain.rows ≡ AtNode d width → IsInPlan before (AtNode d width)
+    → IsPut (before ++ node.Scan table ∷ []) new (node.Join d (length before) [] c) id → table ∷ [] ≡ k.scans → k.width ≡ length (kinds_of table)
+    → ((db : Database) (ds : List (Ranked Value)) → IsDomain same_value width ds
+    → Answers same_value ds (inner_matched same_value Null [] (rank_of c) ds (scanned (db table))) (k.rows db))
+    → Lowers before new k domain id
 unfolding plan_rows plan_width
-scan_joined before new table domain d width id e within p =
+joined_scan before new table c k domain d width id e within p scans wide over =
     let mid = before ++ node.Scan table ∷ [] in
     let q : IsPut before mid (node.Scan table) (length before) = record { number = refl; nodes = refl } in
     let g = put_more (same_plan before) q in
     let dw : plan_width mid d ≡ width = kept_width d g within.0 ∙ within.1 in
     let sw = put_width q in
-    puts before mid new (table ∷ []) 0 (tree_step (f.Scan table)) domain id (node.Join d (length before) [] (All [])) g p refl (omega arith)
-    (let z = ap domain_width e in omega (arith, dw, sw, z))
+    puts before mid new (table ∷ []) 0 k domain id (node.Join d (length before) [] c) g p scans (omega arith)
+    (let z = ap domain_width e in omega (arith, dw, sw, z, wide))
     (λ db h.
     let kept : plan_rows db mid d ≡ plan_rows db before d = kept_rows db d g within.0 in
     let here : plan_rows db mid (length before) ≡ scanned (db table) = put_rows db q in
     let ds = plan_rows db before d in
     let dom : IsDomain same_value width ds = subst (λ r. IsDomain same_value (domain_width r) (domain_rows db before r)) e h.is_domain in
-    let xs : (List (Ranked Value) × List (Ranked Value)) → List (Ranked Value) = λ p. inner_matched same_value Null [] (rank_of (All [])) p.0 p.1 in
-    subst (λ r. Answers same_value (domain_rows db before r) (xs (plan_rows db mid d, plan_rows db mid (length before))) (λ d. scanned (db table))) (sym e)
-    (subst (λ l. Answers same_value ds (xs (l, plan_rows db mid (length before))) (λ d. scanned (db table))) (sym kept)
-    (subst (λ l. Answers same_value ds (xs (ds, l)) (λ d. scanned (db table))) (sym here) (scan_over width ds (db table) dom))))
+    let xs : (List (Ranked Value) × List (Ranked Value)) → List (Ranked Value) = λ p. inner_matched same_value Null [] (rank_of c) p.0 p.1 in
+    subst (λ r. Answers same_value (domain_rows db before r) (xs (plan_rows db mid d, plan_rows db mid (length before))) (k.rows db)) (sym e)
+    (subst (λ l. Answers same_value ds (xs (l, plan_rows db mid (length before))) (k.rows db)) (sym kept)
+    (subst (λ l. Answers same_value ds (xs (ds, l)) (k.rows db)) (sym here) (over db ds dom))))
+
+scan_joined : (before new : List Node) (table : TableName) (domain : DomainData) (d width id : ℕ) → domain.rows ≡ AtNode d width → IsInPlan before (AtNode d width)
+    → IsPut (before ++ node.Scan table ∷ []) new (node.Join d (length before) [] (All [])) id → Lowers before new (tree_step (f.Scan table)) domain id
+scan_joined before new table domain d width id e within p =
+    joined_scan before new table (All []) (tree_step (f.Scan table)) domain d width id e within p refl refl (λ db ds dom. scan_over width ds (db table) dom)
+
+selection_joined : (before new : List Node) (table : TableName) (c : Expr) (domain : DomainData) (d width id : ℕ) → domain.rows ≡ AtNode d width → IsInPlan before (AtNode d width)
+    → IsPut (before ++ node.Scan table ∷ []) new (node.Join d (length before) [] c) id → Lowers before new (tree_step (f.Select (tree_step (f.Scan table)) c)) domain id
+unfolding says
+selection_joined before new table c domain d width id e within p =
+    joined_scan before new table c (tree_step (f.Select (tree_step (f.Scan table)) c)) domain d width id e within p refl refl (λ db ds dom. selection_over width ds (db table) c dom)
+
+selection_alone : (before new : List Node) (table : TableName) (c : Expr) (domain : DomainData) (id : ℕ) → domain.rows ≡ One
+    → IsPut (before ++ node.Scan table ∷ []) new (node.Select (length before) c) id → Lowers before new (tree_step (f.Select (tree_step (f.Scan table)) c)) domain id
+selection_alone before new table c domain id e p =
+    let mid = before ++ node.Scan table ∷ [] in
+    let q : IsPut before mid (node.Scan table) (length before) = record { number = refl; nodes = refl } in
+    select_lowers before mid new (tree_step (f.Scan table)) domain (length before) id c (scan_alone before mid table domain (length before) e q) p
+
+pub selection_lowers : (before new : List Node) (table : TableName) (c : Expr) (domain : DomainData) (id : ℕ) → IsInPlan before domain.rows
+    → IsSelection before new table c domain.rows id → Lowers before new (tree_step (f.Select (tree_step (f.Scan table)) c)) domain id
+selection_lowers before new table c domain id within p = go domain.rows refl within p
+  where
+    go : (r : DomainRows) → domain.rows ≡ r → IsInPlan before r → IsSelection before new table c r id → Lowers before new (tree_step (f.Select (tree_step (f.Scan table)) c)) domain id
+    go One e w q = selection_alone before new table c domain id e q
+    go (AtNode d width) e w q = selection_joined before new table c domain d width id e w q
 
 pub scan_lowers : (before new : List Node) (table : TableName) (domain : DomainData) (id : ℕ) → IsInPlan before domain.rows
     → IsScanned before new table domain.rows id → Lowers before new (tree_step (f.Scan table)) domain id

@@ -11,14 +11,15 @@ use Rattle.algebra.specs.declared.node.Node.{Node}
 use Rattle.algebra.specs.declared.node.Node.TheVariants as node
 use Rattle.algebra.specs.declared.tree.DepTree.{DepTree}
 use Rattle.algebra.specs.declared.tree.DepTree.TheVariants as t
+use Rattle.algebra.specs.declared.tree.DepTree.TheOpen as f
 use Rattle.algebra.specs.declared.tree.Side.{Side}
-use Rattle.algebra.specs.Trees.{TreeMeaning, tree_meaning, width_of, side_of}
+use Rattle.algebra.specs.Trees.{TreeMeaning, tree_step, tree_meaning, width_of, side_of}
 use Rattle.algebra.specs.Plans.{plan_width}
 use Rattle.algebra.proofs.Opened.{meaning_Scan, meaning_Select, meaning_Project, meaning_Join, meaning_Outer, meaning_Mark, meaning_Single, meaning_Group, meaning_Distinct}
 use Rattle.unnesting.specs.declared.domain.Domain.{Domain as DomainData}
 use Rattle.unnesting.specs.Domains.{domain_width, IsInPlan}
-use Rattle.unnesting.specs.Lowerings.{IsPut, Lowers, IsSideDomain, LowersSides, IsScanned, IsGrouped}
-use Rattle.unnesting.proofs.Arms.{scan_lowers, select_lowers, project_lowers, distinct_lowers}
+use Rattle.unnesting.specs.Lowerings.{IsPut, Lowers, IsSideDomain, LowersSides, IsScanned, IsSelection, IsGrouped}
+use Rattle.unnesting.proofs.Arms.{scan_lowers, selection_lowers, select_lowers, project_lowers, distinct_lowers}
 use Rattle.unnesting.proofs.Both.{sides, join_lowers, outer_lowers, mark_lowers, single_lowers}
 use Rattle.unnesting.proofs.Groups.{group_lowers}
 
@@ -38,6 +39,12 @@ pub select_arm : {before old new : List Node} {tree input seen : DepTree} {condi
 select_arm {before = before} {old = old} {new = new} {input = input} {condition = condition} {domain = domain} {rows = rows} {id = id} is e l r p =
     means (ap tree_meaning is ∙ meaning_Select input condition)
     (select_lowers before old new (tree_meaning input) domain rows id condition (read_as e l) (subst (λ c. IsPut old new (node.Select rows c) id) r p))
+
+pub selection_arm : {before new : List Node} {tree input seen : DepTree} {table : TableName} {condition read : Expr} {domain : DomainData} {id : ℕ} → IsInPlan before domain.rows
+    → tree ≡ t.Select input condition → seen ≡ input → seen ≡ t.Scan table → read ≡ condition → IsSelection before new table read domain.rows id → Lowers before new (tree_meaning tree) domain id
+selection_arm {before = before} {new = new} {input = input} {table = table} {condition = condition} {domain = domain} {id = id} within is e s r p =
+    means (ap tree_meaning is ∙ meaning_Select input condition ∙ ap (λ m. tree_step (f.Select m condition)) (ap tree_meaning (sym e ∙ s) ∙ meaning_Scan table))
+    (selection_lowers before new table condition domain id within (subst (λ c. IsSelection before new table c domain.rows id) r p))
 
 pub project_arm : {before old new : List Node} {tree input seen : DepTree} {es read : List Expr} {domain : DomainData} {rows w id : ℕ} → tree ≡ t.Project input es → seen ≡ input
     → Lowers before old (tree_meaning seen) domain rows → w ≡ domain_width domain.rows → read ≡ es → IsPut old new (node.Project rows (map Column (range_with_len 0 w) ++ read)) id

@@ -10,10 +10,11 @@ use Rattle.sql_value.specs.declared.value.Value.{Value}
 use Rattle.sql_value.specs.declared.value.Value.TheVariants.{Null}
 use Rattle.sql_value.specs.Value.{same_value}
 use Rattle.tpch_schema.specs.declared.table.TableName.{TableName}
+use Rattle.scalar_expr.specs.declared.expr.Expr.{Expr}
 use Rattle.scalar_expr.specs.declared.expr.Expr.TheVariants.{All}
 use Rattle.algebra.specs.declared.aggregate.Aggregate.{Aggregate}
 use Rattle.algebra.specs.declared.node.Node.{Node}
-use Rattle.algebra.specs.declared.node.Node.TheVariants.{Scan, Domain, Join, Group, Fill}
+use Rattle.algebra.specs.declared.node.Node.TheVariants.{Scan, Domain, Select, Join, Group, Fill}
 use Rattle.algebra.specs.Aggregates.{aggregates_of}
 use Rattle.algebra.specs.declared.tree.DepTree.{DepTree}
 use Rattle.algebra.specs.declared.tree.Side.{Side}
@@ -89,6 +90,12 @@ pub record LowersSides (before after : List Node) (l r : TreeMeaning) (side : Si
 abbrev pub IsScanned : (old new : List Node) → TableName → DomainRows → ℕ → Type 0
 IsScanned old new table One id = IsPut old new (Scan table) id
 IsScanned old new table (AtNode d width) id = IsPut (old ++ Scan table ∷ []) new (Join d (length old) [] (All [])) id
+
+-- The plan grew by a scan of a table, and by the rows of it that a condition keeps: where the domain is a node, by the combinations of its
+-- rows with the table's that the condition keeps.
+abbrev pub IsSelection : (old new : List Node) → TableName → Expr → DomainRows → ℕ → Type 0
+IsSelection old new table c One id = IsPut (old ++ Scan table ∷ []) new (Select (length old) c) id
+IsSelection old new table c (AtNode d width) id = IsPut (old ++ Scan table ∷ []) new (Join d (length old) [] c) id
 
 -- the plan grew by the groups of the node `rows` by a domain's columns alone, and by the fill over them
 abbrev pub IsFilled : (old new : List Node) (rows : ℕ) → List Aggregate → (domain width : ℕ) → ℕ → Type 0

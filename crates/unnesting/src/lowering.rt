@@ -8,7 +8,7 @@ ghost use Rattle.unnesting.specs.Lowerings.{Unnests, Answered, KeepsNodes, Lower
 use crate::domain::Domain;
 use crate::put::{
     put_distinct, put_group, put_join, put_mark, put_outer, put_project, put_scan, put_select,
-    put_single, side_domain,
+    put_selection, put_single, side_domain,
 };
 use algebra::{Builder, DepTree, NodeId, width};
 use std::alloc::{AllocError, Global};
@@ -62,6 +62,10 @@ fn lowered(
             Ok(id)
         }
         DepTree::Select(input, condition) => {
+            if let DepTree::Scan(table) = input.get() {
+                let id = put_selection(alloc, builder, *table, condition.get(), domain)?;
+                return Ok(id);
+            }
             let rows = lowered(alloc, builder, input.get(), domain)?;
             let id = put_select(alloc, builder, rows, condition.get())?;
             Ok(id)

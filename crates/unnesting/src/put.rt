@@ -8,7 +8,7 @@ ghost use Rattle.algebra.specs.declared.node.Node.TheVariants as node;
 ghost use Rattle.algebra.specs.Trees.{side_of};
 ghost use Rattle.algebra.specs.Plans.{plan_width};
 ghost use Rattle.unnesting.specs.Domains.{domain_width, IsInPlan};
-ghost use Rattle.unnesting.specs.Lowerings.{IsPut, IsScanned, IsFilled, IsGrouped, IsOwnDomain, IsSideDomain};
+ghost use Rattle.unnesting.specs.Lowerings.{IsPut, IsScanned, IsSelection, IsFilled, IsGrouped, IsOwnDomain, IsSideDomain};
 
 use crate::domain::{Domain, DomainRows};
 use crate::lists::{first_columns, matched_columns, select_list, with_first_columns};
@@ -19,7 +19,6 @@ use std::alloc::{AllocError, Global};
 use tpch_schema::TableName;
 
 // The rows of two nodes, all combinations.
-#[tactic(auto, using(algebra::proofs::Fits::join_fits, crate::proofs::Columns::none_matched))]
 fn put_cross(
     alloc: Global,
     builder: &mut Builder,
@@ -30,9 +29,26 @@ fn put_cross(
     requires right { right < length builder.old.nodes }
     ensures { IfOk result (IsPut builder.old.nodes builder.new.nodes (node.Join left right [] (all_of []))) }
 {
-    let matched = Items::new(alloc);
     let always = Boxed::new(alloc, Expr::All(Items::new(alloc)))?;
-    let id = builder.put(Node::Join(left, right, matched, always))?;
+    let id = put_combinations(alloc, builder, left, right, always)?;
+    Ok(id)
+}
+
+// The rows of two nodes, the combinations that a condition keeps.
+#[tactic(auto, using(algebra::proofs::Fits::join_fits, crate::proofs::Columns::none_matched))]
+fn put_combinations(
+    alloc: Global,
+    builder: &mut Builder,
+    left: NodeId,
+    right: NodeId,
+    condition: Boxed<Expr>,
+) -> Result<NodeId, AllocError>
+    requires left { left < length builder.old.nodes }
+    requires right { right < length builder.old.nodes }
+    ensures { IfOk result (IsPut builder.old.nodes builder.new.nodes (node.Join left right [] condition)) }
+{
+    let matched = Items::new(alloc);
+    let id = builder.put(Node::Join(left, right, matched, condition))?;
     Ok(id)
 }
 
@@ -52,6 +68,33 @@ pub(crate) fn put_scan(
         DomainRows::One => Ok(rows),
         DomainRows::Node(id, _) => {
             let id = put_cross(alloc, builder, id, rows)?;
+            Ok(id)
+        }
+    }
+}
+
+// A table's rows that a condition keeps, under each row of the domain. The table is joined with the
+// domain under the condition, so that a combination which it drops is never a row.
+#[tactic(auto, using(algebra::proofs::Fits::scan_fits))]
+pub(crate) fn put_selection(
+    alloc: Global,
+    builder: &mut Builder,
+    table: TableName,
+    condition: &Expr,
+    domain: &Domain,
+) -> Result<NodeId, AllocError>
+    requires { IsInPlan builder.old.nodes domain.now.rows }
+    ensures { IfOk result (IsSelection builder.old.nodes builder.new.nodes table condition.now domain.now.rows) }
+{
+    let rows = builder.put(Node::Scan(table))?;
+    match domain.rows {
+        DomainRows::One => {
+            let id = put_select(alloc, builder, rows, condition)?;
+            Ok(id)
+        }
+        DomainRows::Node(id, _) => {
+            let condition = copy_expr(alloc, condition)?;
+            let id = put_combinations(alloc, builder, id, rows, condition)?;
             Ok(id)
         }
     }

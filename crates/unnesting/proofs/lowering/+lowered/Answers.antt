@@ -1,5 +1,5 @@
 use Rattle.unnesting.proofs.Both.{kept_in_plan}
-use Rattle.unnesting.proofs.Steps.{scan_arm, select_arm, project_arm, distinct_arm, group_arm, join_arm, outer_arm, mark_arm, single_arm, outer_wide}
+use Rattle.unnesting.proofs.Steps.{scan_arm, selection_arm, select_arm, project_arm, distinct_arm, group_arm, join_arm, outer_arm, mark_arm, single_arm, outer_wide}
 use Rattle.unnesting.proofs.lowering.+lowered.Goals as goal
 
 pub side_domain-requires-clause-domain : goal.side_domain-requires-clause-domain
@@ -25,9 +25,13 @@ put_outer-requires-clause-width t c =
 pub returns-in_ok-id-in-Scan : goal.returns-in_ok-id-in-Scan
 returns-in_ok-id-in-Scan t c = scan_arm c.requires c.in-Scan.is c.in_ok-id-in-Scan.ensures
 
-pub returns-in_ok-id-in-Select : goal.returns-in_ok-id-in-Select
-returns-in_ok-id-in-Select t c =
-    select_arm c.in-Select.is c.get.ensures c.in_ok-rows-in-Select.ensures c.get-in-Select.ensures c.in_ok-id-in-Select.ensures
+pub returns-in-Scan-get : goal.returns-in-Scan-get
+returns-in-Scan-get t c =
+    selection_arm c.requires c.in-Select.is c.get.ensures c.in-Scan-get.is c.get-in-Scan-get.ensures c.in_ok-id-in-Select.ensures
+
+pub returns-in_ok-id-in-Select-2 : goal.returns-in_ok-id-in-Select-2
+returns-in_ok-id-in-Select-2 t c =
+    select_arm c.in-Select.is c.get-in-Select.ensures c.in_ok-rows-in-Select.ensures c.get-in-Select-2.ensures c.in_ok-id-in-Select-2.ensures
 
 pub returns-in_ok-id-in-Project : goal.returns-in_ok-id-in-Project
 returns-in_ok-id-in-Project t c =

@@ -1,0 +1,18 @@
+-- What it is for a flat plan to be that of a query.
+use Rattle.std.specs.Prelude.{◌≡◌, []}
+use Rattle.row_laws.specs.Bags.{SameBag}
+use Rattle.tpch_schema.specs.State.{State, table_rows}
+use Rattle.nested_query.specs.declared.query.BoundQuery.{BoundQuery}
+use Rattle.nested_query.specs.Meaning.{rows}
+use Rattle.nested_query.specs.Reads.{tables}
+use Rattle.nested_query.specs.Typing.{StateIsOf}
+use Rattle.algebra.specs.declared.plan.FlatPlan.{FlatPlan}
+use Rattle.algebra.specs.Plans.{result_rows, plan_scans}
+
+-- The plan of a query: over tables of their kinds its rows are, as a bag, the query's rows by nested loops; it has one scan for each table
+-- that stands in the query, and the query's order and limit.
+pub record IsPlanOf (q : BoundQuery) (plan : FlatPlan) : Type 0 where
+  pub rows : (state : State) → StateIsOf state → SameBag (result_rows (table_rows state) plan.nodes) (rows q.block [] state)
+  pub scans : SameBag (plan_scans plan.nodes) (tables q.block)
+  pub order : plan.order ≡ q.order
+  pub limit : plan.limit ≡ q.limit

@@ -1,0 +1,36 @@
+//! From a bound query to its flat plan.
+ghost use Rattle.std.specs.Prelude.{◌≡◌, IfOk};
+ghost use Rattle.query_planner.specs.Planned.{IsPlanOf};
+
+use algebra::{Builder, FlatPlan};
+use dependent_plan::depend;
+use join_order::arrange;
+use nested_query::BoundQuery;
+use std::alloc::{AllocError, Global};
+use unnesting::{Domain, lower};
+
+/// The flat plan of a bound query: its dependent tree, with joins and conditions moved to where they
+/// cost least, lowered to nodes none of which depends on the rows of another.
+pub fn plan_bound(alloc: Global, query: BoundQuery) -> Result<FlatPlan, AllocError>
+    ensures { IfOk result (IsPlanOf query) }
+{
+    let tree = depend(alloc, &query)?;
+    let arranged = arrange(alloc, 0, tree.get())?;
+    let mut builder = Builder::new(alloc);
+    let domain = Domain::one(alloc);
+    lower(alloc, &mut builder, arranged.get(), domain)?;
+    let BoundQuery { order, limit, .. } = query;
+    let most = wide(limit);
+    let plan = builder.finish(order, most);
+    Ok(plan)
+}
+
+// The same limit, as plans have it.
+fn wide(limit: Option<u32>) -> Option<u64>
+    ensures { result ≡ limit }
+{
+    match limit {
+        Some(most) => Some(u64::from(most)),
+        None => None,
+    }
+}
