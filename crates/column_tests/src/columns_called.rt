@@ -102,58 +102,74 @@ fn shares_a_table(rt: HostRuntime) -> Result<(), Fail> {
     Ok(())
 }
 
+// The rows of two batches side by side.
+fn beside(alloc: Global, left: Batch, right: Batch) -> Result<Batch, Fail> {
+    if left.len() != right.len() {
+        return Err("the batches are of two lengths")?;
+    }
+    let both = left.beside(alloc, right)?;
+    Ok(both)
+}
+
+// The rows with one column more.
+fn longer(rows: Batch, column: Column) -> Result<Batch, Fail> {
+    if column.len() != rows.len() {
+        return Err("the column is longer or shorter than the batch")?;
+    }
+    let longer = rows.with_column(column)?;
+    Ok(longer)
+}
+
+// The rows at these places, whole.
+fn at_places(alloc: Global, rows: &Batch, places: &[u32]) -> Result<Batch, Fail> {
+    if !are_below(rows.len(), places) {
+        return Err("there is no such row")?;
+    }
+    let gathered = rows.gather(alloc, places)?;
+    Ok(gathered)
+}
+
+// The rows at these places without the first n columns.
+fn ends(alloc: Global, rows: &Batch, n: usize, places: &[u32]) -> Result<Batch, Fail> {
+    if !are_below(rows.len(), places) || n > rows.width() {
+        return Err("there is no such row or column")?;
+    }
+    let gathered = rows.gather_after(alloc, n, places)?;
+    Ok(gathered)
+}
+
 #[test]
 fn puts_columns_side_by_side(rt: HostRuntime) -> Result<(), Fail> {
     let alloc = rt.alloc();
     let left = batch(alloc, "1 a\n2 b @range")?;
     let right = batch(alloc, "null @zero\n0.05 @zero")?;
-    assert_eq!(rt; left.len(), 2);
-    assert_eq!(rt; right.len(), 2);
-    let both = left.beside(alloc, right)?;
+    let both = beside(alloc, left, right)?;
     assert!(rt; is_batch(alloc, &both, "1 a null @zero\n2 b 0.05 @zero")?);
-    let more = column(alloc, "MAIL AIR")?;
-    assert_eq!(rt; more.len(), both.len());
-    let longer = both.with_column(more)?;
-    assert!(rt; is_batch(alloc, &longer, "1 a null MAIL @zero\n2 b 0.05 AIR @zero")?);
-    let places = [1u32, 1, 0];
-    assert!(rt; are_below(longer.len(), &places));
-    let again = longer.gather(alloc, &places)?;
-    assert!(rt;
-        is_batch(
-            alloc,
-            &again,
-            "2 b 0.05 AIR @zero\n2 b 0.05 AIR @zero\n1 a null MAIL @zero"
-        )?
-    );
-    assert!(rt; longer.width() >= 3);
-    let last = longer.gather_after(alloc, 3, &places)?;
+    let all = longer(both, column(alloc, "MAIL AIR")?)?;
+    let again = at_places(alloc, &all, &[1, 0, 1])?;
+    let wanted = "2 b 0.05 AIR @zero\n1 a null MAIL @zero\n2 b 0.05 AIR @zero";
+    assert!(rt; is_batch(alloc, &again, wanted)?);
+    let last = ends(alloc, &all, 3, &[1, 1, 0])?;
     assert!(rt; is_batch(alloc, &last, "AIR @zero\nAIR @zero\nMAIL @zero")?);
     Ok(())
 }
 
-#[test]
-fn keeps_standings(rt: HostRuntime) -> Result<(), Fail> {
-    let alloc = rt.alloc();
-    let rows = batch(alloc, "1 a\n2 b @range\n3 c @zero")?;
-    assert!(rt; are_below(rows.width(), &[1, 1]));
-    let twice = rows.project(alloc, &[1, 1])?;
-    assert!(rt; is_batch(alloc, &twice, "a a\nb b @range\nc c @zero")?);
-    let truths = [
-        Truth::Stands(Standing::AtTrue),
-        Truth::Unknown,
-        Truth::Stands(Standing::AtTrue),
-    ];
-    assert_eq!(rt; twice.len(), 3);
-    let kept = twice.keep(alloc, &truths)?;
-    assert!(rt; is_batch(alloc, &kept, "a a\nc c @zero")?);
-    assert_eq!(rt; kept.len(), 2);
-    let same = kept.keep(alloc, &[truths[0], truths[2]])?;
-    assert!(rt; is_batch(alloc, &same, "a a\nc c @zero")?);
-    let mut columns = Vec::new(alloc);
-    columns.push(column(alloc, "1996-02-29 1994-01-01")?)?;
-    let dates = with_columns(alloc, &same, columns)?;
-    assert!(rt; is_batch(alloc, &dates, "1996-02-29\n1994-01-01 @zero")?);
-    Ok(())
+// The rows of these columns alone.
+fn picked(alloc: Global, rows: &Batch, places: &[u32]) -> Result<Batch, Fail> {
+    if !are_below(rows.width(), places) {
+        return Err("there is no such column")?;
+    }
+    let picked = rows.project(alloc, places)?;
+    Ok(picked)
+}
+
+// The rows that the truths keep.
+fn kept(alloc: Global, rows: Batch, truths: &[Truth]) -> Result<Batch, Fail> {
+    if truths.len() != rows.len() || rows.len() > 1000 {
+        return Err("there are more rows or fewer than truths")?;
+    }
+    let kept = rows.keep(alloc, truths)?;
+    Ok(kept)
 }
 
 // The rows of these columns, at the standings of the rows of a batch.
@@ -163,4 +179,21 @@ fn with_columns(alloc: Global, rows: &Batch, columns: Vec<Column>) -> Result<Bat
     }
     let made = rows.with_columns(alloc, columns)?;
     Ok(made)
+}
+
+const YES: Truth = Truth::Stands(Standing::AtTrue);
+
+#[test]
+fn keeps_standings(rt: HostRuntime) -> Result<(), Fail> {
+    let alloc = rt.alloc();
+    let rows = batch(alloc, "1 a\n2 b @range\n3 c @zero")?;
+    let twice = picked(alloc, &rows, &[1, 1])?;
+    let some = kept(alloc, twice, &[YES, Truth::Unknown, YES])?;
+    let same = kept(alloc, some, &[YES, YES])?;
+    assert!(rt; is_batch(alloc, &same, "a a\nc c @zero")?);
+    let mut columns = Vec::new(alloc);
+    columns.push(column(alloc, "1996-02-29 1994-01-01")?)?;
+    let dates = with_columns(alloc, &same, columns)?;
+    assert!(rt; is_batch(alloc, &dates, "1996-02-29\n1994-01-01 @zero")?);
+    Ok(())
 }
