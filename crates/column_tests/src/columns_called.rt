@@ -1,8 +1,7 @@
 //! Columns, batches and bags.
 use crate::asked::{are_below, are_long};
 use crate::words::{bag, batch, column, is_bag, is_batch, is_column, values};
-use columns::{Bag, Batch, Column, ColumnForm, stored_rows};
-use fixed_decimal::Scale;
+use columns::{Bag, ColumnForm, stored_rows};
 use sql_value::{Row, Standing, Truth};
 use std::alloc::Global;
 use std::test::Fail;
@@ -21,23 +20,21 @@ fn gathers(alloc: Global, words: &str, wanted: &str) -> Result<bool, Fail> {
 #[test]
 fn gathers_each_form(rt: HostRuntime) -> Result<(), Fail> {
     let alloc = rt.alloc();
-    assert!(rt; gathers(alloc, "1.50 0.06 -2.00", "-2.00 1.50 -2.00")?);
-    assert!(rt;
-        gathers(
-            alloc,
+    for (words, wanted) in [
+        ("1.50 0.06 -2.00", "-2.00 1.50 -2.00"),
+        (
             "1996-02-29 1994-01-01 1998-12-01",
-            "1998-12-01 1996-02-29 1998-12-01"
-        )?
-    );
-    assert!(rt; gathers(alloc, "MAIL AIR MAIL RAIL", "MAIL MAIL MAIL")?);
-    assert!(rt; gathers(alloc, "null 3 #zero", "#zero null #zero")?);
-    assert!(rt;
-        gathers(
-            alloc,
+            "1998-12-01 1996-02-29 1998-12-01",
+        ),
+        ("MAIL AIR MAIL RAIL", "MAIL MAIL MAIL"),
+        ("null 3 #zero", "#zero null #zero"),
+        (
             "7 null 9223372036854775808",
-            "9223372036854775808 7 9223372036854775808"
-        )?
-    );
+            "9223372036854775808 7 9223372036854775808",
+        ),
+    ] {
+        assert!(rt; gathers(alloc, words, wanted)?, "{words}");
+    }
     Ok(())
 }
 
@@ -63,122 +60,134 @@ fn tells_forms(rt: HostRuntime) -> Result<(), Fail> {
     Ok(())
 }
 
+// Whether the batches of these texts, of two columns, are together these rows.
+fn put_together(alloc: Global, texts: &[&str], wanted: &str) -> Result<bool, Fail> {
+    let all = bag(alloc, 2, texts)?;
+    is_bag(alloc, &all, wanted)
+}
+
+// Whether a column of the batches of these texts, of two columns, has these values.
+fn has_column(alloc: Global, texts: &[&str], j: usize, wanted: &str) -> Result<bool, Fail> {
+    let all = bag(alloc, 2, texts)?;
+    if j >= all.width() {
+        return Ok(false);
+    }
+    let column = all.column(alloc, j)?;
+    is_column(alloc, &column, wanted)
+}
+
+const TEXTS: [&str; 3] = ["a 1\nb 2", "a 3 @zero\ncd 4", "null 5\nb #range @range"];
+
 #[test]
 fn puts_batches_end_to_end(rt: HostRuntime) -> Result<(), Fail> {
     let alloc = rt.alloc();
-    let all = bag(
-        alloc,
-        2,
-        &["a 1\nb 2", "a 3 @zero\ncd 4", "null 5\nb #range @range"],
-    )?;
-    assert_eq!(rt; all.len(), 6);
-    assert!(rt;
-        is_bag(
-            alloc,
-            &all,
-            "a 1\nb 2\na 3 @zero\ncd 4\nnull 5\nb #range @range"
-        )?
-    );
-    assert_eq!(rt; all.width(), 2);
-    let texts = all.column(alloc, 0)?;
-    assert!(rt; is_column(alloc, &texts, "a b a cd null b")?);
-    let numbers = all.column(alloc, 1)?;
-    assert!(rt; is_column(alloc, &numbers, "1 2 3 4 5 #range")?);
-    let none = bag(alloc, 2, &[])?;
-    assert_eq!(rt; none.width(), 2);
-    assert_eq!(rt; none.column(alloc, 1)?.len(), 0);
-    assert_eq!(rt; none.whole(alloc)?.width(), 2);
+    let all = "a 1\nb 2\na 3 @zero\ncd 4\nnull 5\nb #range @range";
+    assert!(rt; put_together(alloc, &TEXTS, all)?);
+    assert!(rt; has_column(alloc, &TEXTS, 0, "a b a cd null b")?);
+    assert!(rt; has_column(alloc, &TEXTS, 1, "1 2 3 4 5 #range")?);
+    assert!(rt; put_together(alloc, &[], "")?);
+    assert!(rt; has_column(alloc, &[], 1, "")?);
     Ok(())
+}
+
+// Whether a table of one row of these words, as a bag, is that row.
+fn is_shared(alloc: Global, words: &str) -> Result<bool, Fail> {
+    let values = values(alloc, words)?;
+    let width = values.len();
+    let rows = stored_rows(alloc, &[Row::new(values)?])?;
+    let all = Bag::from_rows(alloc, width, &rows)?;
+    is_bag(alloc, &all, words)
 }
 
 #[test]
 fn shares_a_table(rt: HostRuntime) -> Result<(), Fail> {
-    let alloc = rt.alloc();
-    let values = values(alloc, "1 a 1996-02-29")?;
-    assert_eq!(rt; values.len(), 3);
-    let rows = stored_rows(alloc, &[Row::new(values)?])?;
-    let all = Bag::from_rows(alloc, 3, &rows)?;
-    assert!(rt; is_bag(alloc, &all, "1 a 1996-02-29")?);
+    assert!(rt; is_shared(rt.alloc(), "1 a 1996-02-29 null")?);
     Ok(())
 }
 
-// The rows of two batches side by side.
-fn beside(alloc: Global, left: Batch, right: Batch) -> Result<Batch, Fail> {
+// Whether the rows of two texts side by side are these.
+fn stand_beside(alloc: Global, left: &str, right: &str, wanted: &str) -> Result<bool, Fail> {
+    let left = batch(alloc, left)?;
+    let right = batch(alloc, right)?;
     if left.len() != right.len() {
-        return Err("the batches are of two lengths")?;
+        return Ok(false);
     }
     let both = left.beside(alloc, right)?;
-    Ok(both)
+    is_batch(alloc, &both, wanted)
 }
 
-// The rows with one column more.
-fn longer(rows: Batch, column: Column) -> Result<Batch, Fail> {
+// Whether the rows of a text with one column more are these.
+fn grow_to(alloc: Global, text: &str, words: &str, wanted: &str) -> Result<bool, Fail> {
+    let rows = batch(alloc, text)?;
+    let column = column(alloc, words)?;
     if column.len() != rows.len() {
-        return Err("the column is longer or shorter than the batch")?;
+        return Ok(false);
     }
     let longer = rows.with_column(column)?;
-    Ok(longer)
+    is_batch(alloc, &longer, wanted)
 }
 
-// The rows at these places, whole.
-fn at_places(alloc: Global, rows: &Batch, places: &[u32]) -> Result<Batch, Fail> {
-    if !are_below(rows.len(), places) {
-        return Err("there is no such row")?;
+// Whether a column at the standings of the rows of a text makes these rows.
+fn stand_as(alloc: Global, text: &str, words: &str, wanted: &str) -> Result<bool, Fail> {
+    let rows = batch(alloc, text)?;
+    let mut columns = Vec::new(alloc);
+    columns.push(column(alloc, words)?)?;
+    if !are_long(rows.len(), columns.as_slice()) {
+        return Ok(false);
     }
-    let gathered = rows.gather(alloc, places)?;
-    Ok(gathered)
-}
-
-// The rows at these places without the first n columns.
-fn ends(alloc: Global, rows: &Batch, n: usize, places: &[u32]) -> Result<Batch, Fail> {
-    if !are_below(rows.len(), places) || n > rows.width() {
-        return Err("there is no such row or column")?;
-    }
-    let gathered = rows.gather_after(alloc, n, places)?;
-    Ok(gathered)
+    let made = rows.with_columns(alloc, columns)?;
+    is_batch(alloc, &made, wanted)
 }
 
 #[test]
 fn puts_columns_side_by_side(rt: HostRuntime) -> Result<(), Fail> {
     let alloc = rt.alloc();
-    let left = batch(alloc, "1 a\n2 b @range")?;
-    let right = batch(alloc, "null @zero\n0.05 @zero")?;
-    let both = beside(alloc, left, right)?;
-    assert!(rt; is_batch(alloc, &both, "1 a null @zero\n2 b 0.05 @zero")?);
-    let all = longer(both, column(alloc, "MAIL AIR")?)?;
-    let again = at_places(alloc, &all, &[1, 0, 1])?;
-    let wanted = "2 b 0.05 AIR @zero\n1 a null MAIL @zero\n2 b 0.05 AIR @zero";
-    assert!(rt; is_batch(alloc, &again, wanted)?);
-    let last = ends(alloc, &all, 3, &[1, 1, 0])?;
-    assert!(rt; is_batch(alloc, &last, "AIR @zero\nAIR @zero\nMAIL @zero")?);
+    let left = "1 a\n2 b @range";
+    let right = "null @zero\n0.05 @zero";
+    assert!(rt; stand_beside(alloc, left, right, "1 a null @zero\n2 b 0.05 @zero")?);
+    assert!(rt; grow_to(alloc, left, "MAIL AIR", "1 a MAIL\n2 b AIR @range")?);
+    assert!(rt; stand_as(alloc, left, "MAIL AIR", "MAIL\nAIR @range")?);
     Ok(())
 }
 
-// The rows of these columns alone.
-fn picked(alloc: Global, rows: &Batch, places: &[u32]) -> Result<Batch, Fail> {
+// Whether the rows of a text at these places are these.
+fn are_at(alloc: Global, text: &str, places: &[u32], wanted: &str) -> Result<bool, Fail> {
+    let rows = batch(alloc, text)?;
+    if !are_below(rows.len(), places) {
+        return Ok(false);
+    }
+    let gathered = rows.gather(alloc, places)?;
+    is_batch(alloc, &gathered, wanted)
+}
+
+// Whether the rows of a text at these places, without the first column, are these.
+fn end_at(alloc: Global, text: &str, places: &[u32], wanted: &str) -> Result<bool, Fail> {
+    let rows = batch(alloc, text)?;
+    if !are_below(rows.len(), places) || rows.width() < 1 {
+        return Ok(false);
+    }
+    let gathered = rows.gather_after(alloc, 1, places)?;
+    is_batch(alloc, &gathered, wanted)
+}
+
+// Whether these columns of the rows of a text are these rows.
+fn are_picked(alloc: Global, text: &str, places: &[u32], wanted: &str) -> Result<bool, Fail> {
+    let rows = batch(alloc, text)?;
     if !are_below(rows.width(), places) {
-        return Err("there is no such column")?;
+        return Ok(false);
     }
     let picked = rows.project(alloc, places)?;
-    Ok(picked)
+    is_batch(alloc, &picked, wanted)
 }
 
-// The rows that the truths keep.
-fn kept(alloc: Global, rows: Batch, truths: &[Truth]) -> Result<Batch, Fail> {
+// Whether truths keep these rows of a text.
+fn are_kept(alloc: Global, text: &str, truths: &[Truth], wanted: &str) -> Result<bool, Fail> {
+    let rows = batch(alloc, text)?;
     if truths.len() != rows.len() || rows.len() > 1000 {
-        return Err("there are more rows or fewer than truths")?;
+        return Ok(false);
     }
     let kept = rows.keep(alloc, truths)?;
-    Ok(kept)
-}
-
-// The rows of these columns, at the standings of the rows of a batch.
-fn with_columns(alloc: Global, rows: &Batch, columns: Vec<Column>) -> Result<Batch, Fail> {
-    if !are_long(rows.len(), columns.as_slice()) {
-        return Err("a column is longer or shorter than the batch")?;
-    }
-    let made = rows.with_columns(alloc, columns)?;
-    Ok(made)
+    is_batch(alloc, &kept, wanted)
 }
 
 const YES: Truth = Truth::Stands(Standing::AtTrue);
@@ -186,14 +195,11 @@ const YES: Truth = Truth::Stands(Standing::AtTrue);
 #[test]
 fn keeps_standings(rt: HostRuntime) -> Result<(), Fail> {
     let alloc = rt.alloc();
-    let rows = batch(alloc, "1 a\n2 b @range\n3 c @zero")?;
-    let twice = picked(alloc, &rows, &[1, 1])?;
-    let some = kept(alloc, twice, &[YES, Truth::Unknown, YES])?;
-    let same = kept(alloc, some, &[YES, YES])?;
-    assert!(rt; is_batch(alloc, &same, "a a\nc c @zero")?);
-    let mut columns = Vec::new(alloc);
-    columns.push(column(alloc, "1996-02-29 1994-01-01")?)?;
-    let dates = with_columns(alloc, &same, columns)?;
-    assert!(rt; is_batch(alloc, &dates, "1996-02-29\n1994-01-01 @zero")?);
+    let rows = "1 a\n2 b @range\n3 c @zero";
+    assert!(rt; are_at(alloc, rows, &[2, 0, 2], "3 c @zero\n1 a\n3 c @zero")?);
+    assert!(rt; end_at(alloc, rows, &[2, 1, 1], "c @zero\nb @range\nb @range")?);
+    assert!(rt; are_picked(alloc, rows, &[1, 1], "a a\nb b @range\nc c @zero")?);
+    assert!(rt; are_kept(alloc, rows, &[YES, Truth::Unknown, YES], "1 a\n3 c @zero")?);
+    assert!(rt; are_kept(alloc, rows, &[YES, YES, YES], rows)?);
     Ok(())
 }
