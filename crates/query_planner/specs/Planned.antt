@@ -1,11 +1,13 @@
 -- What it is for a flat plan to be that of a query.
-use Rattle.std.specs.Prelude.{◌≡◌, []}
+use Rattle.std.specs.Prelude.{◌≡◌, [], Result, Ok, Err}
 use Rattle.row_laws.specs.Bags.{SameBag}
 use Rattle.tpch_schema.specs.State.{State, table_rows}
 use Rattle.nested_query.specs.declared.query.BoundQuery.{BoundQuery}
 use Rattle.nested_query.specs.Meaning.{rows}
 use Rattle.nested_query.specs.Reads.{tables}
 use Rattle.nested_query.specs.Typing.{StateIsOf}
+use Rattle.sql_binder.specs.declared.fault.BindFault.{BindFault}
+use Rattle.sql_binder.specs.Steps.{Checked, Gives}
 use Rattle.algebra.specs.declared.plan.FlatPlan.{FlatPlan}
 use Rattle.algebra.specs.Plans.{result_rows, plan_scans}
 
@@ -16,3 +18,9 @@ pub record IsPlanOf (q : BoundQuery) (plan : FlatPlan) : Type 0 where
   pub scans : SameBag (plan_scans plan.nodes) (tables q.block)
   pub order : plan.order ≡ q.order
   pub limit : plan.limit ≡ q.limit
+
+-- What planning answers for a query that binding gives `said` for: refused exactly as binding is; else a plan of the bound query, unless
+-- memory is refused.
+abbrev pub Plans : Checked BoundQuery → Result FlatPlan BindFault → Type 0
+Plans said (Ok plan) = (q : BoundQuery) × (said ≡ Ok q) × IsPlanOf q plan
+Plans said (Err why) = Gives said (Err why)

@@ -5,7 +5,7 @@ pub mod laws;
 mod planning;
 mod text;
 
-pub use planning::plan_bound;
+pub use planning::{plan, plan_bound};
 pub use text::plan_text;
 
 #[cfg(test)]

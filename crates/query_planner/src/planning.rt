@@ -1,13 +1,29 @@
 //! From a bound query to its flat plan.
 ghost use Rattle.std.specs.Prelude.{◌≡◌, IfOk};
-ghost use Rattle.query_planner.specs.Planned.{IsPlanOf};
+ghost use Rattle.sql_binder.specs.Binding.{bound_query};
+ghost use Rattle.query_planner.specs.Planned.{IsPlanOf, Plans};
 
 use algebra::{Builder, FlatPlan};
 use dependent_plan::depend;
 use join_order::arrange;
 use nested_query::BoundQuery;
+use sql_ast::Query;
+use sql_binder::{BindFault, Views, bind};
 use std::alloc::{AllocError, Global};
 use unnesting::{Domain, lower};
+
+/// The flat plan of a query that is a statement, over the views of its session.
+///
+/// # Errors
+///
+/// `Refused` exactly as binding is; `OutOfMemory`.
+pub fn plan(alloc: Global, query: &Query, views: &Views) -> Result<FlatPlan, BindFault>
+    ensures { Plans (bound_query query.now views.now.all) result }
+{
+    let bound = bind(alloc, query, views)?;
+    let plan = plan_bound(alloc, bound)?;
+    Ok(plan)
+}
 
 /// The flat plan of a bound query: its dependent tree, with joins and conditions moved to where they
 /// cost least, lowered to nodes none of which depends on the rows of another.

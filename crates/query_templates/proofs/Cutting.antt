@@ -1,7 +1,6 @@
 -- Closed bytes are cut into tokens, whatever stands after them.
-use Rattle.std.proofs.Common.{◌≡◌, ℕ, zero, suc, ◌+◌, ◌<◌, ◌≤◌, Bool, true, false, cond, eqb, not, ◌&&◌, List, [], ◌∷◌, ◌++◌, length, take, drop, Option, Some, None, Result, Ok, Err, refl, sym, ap, subst, ◌∙◌, arith}
+use Rattle.std.proofs.Common.{◌≡◌, ℕ, zero, suc, ◌+◌, ◌<◌, Bool, true, false, cond, eqb, not, ◌&&◌, List, [], ◌∷◌, ◌++◌, length, take, drop, Option, Some, None, Result, Ok, Err, refl, sym, ap, subst, ◌∙◌, arith}
 use Rattle.std.specs.Prelude.{nat_lt}
-use Rattle.std.specs.Option.{option_map}
 use Rattle.std.proofs.lemmas.Bool.Decides.{nat_tests}
 use Rattle.std.proofs.lemmas.List.{take-append-le, drop-append-le, length-drop}
 use Rattle.sql_lexer.specs.declared.fault.LexRefusal.{LexRefusal}
@@ -18,9 +17,9 @@ use Rattle.sql_lexer.specs.Fronts.{front_of}
 use Rattle.sql_lexer.specs.Lexing.{Lexes, gap, token, gap_len, glued, is_comment, starts_letter}
 use Rattle.sql_lexer.proofs.Fronts.{Finds, finds}
 use Rattle.sql_lexer.proofs.Truths.{and_left, and_right}
-use Rattle.query_templates.specs.Cutting.{bare, before, with_made, is_safe, cut_front, cut_last, cut}
+use Rattle.query_templates.specs.Cutting.{bare, with_made, is_safe, cut_front, cut_last, cut}
 use Rattle.query_templates.specs.Standing.{Beside}
-use Rattle.query_templates.proofs.Fronts.{Stays, front_more, never, not_true}
+use Rattle.query_templates.proofs.Fronts.{Stays, front_more, not_true}
 
 below : (a b : ℕ) → nat_lt a b ≡ true → a < b
 below a b h = grind (arith, nat_tests)

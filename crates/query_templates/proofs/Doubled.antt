@@ -1,9 +1,9 @@
 -- What is put between quotes is some printable text with each quote in it twice.
-use Rattle.std.proofs.Common.{◌≡◌, ℕ, zero, suc, ◌+◌, ◌-◌, ◌<◌, ◌≤◌, ◌^◌, ◌/◌, Bool, true, false, cond, eqb, ltb, not, ◌&&◌, List, [], ◌∷◌, ◌++◌, length, map, Option, Some, None, pos, negsuc, refl, sym, ap, subst, ◌∙◌, arith, append_assoc}
-use Rattle.std.specs.Prelude.{slice_index_or, int_lt, position, unsigned_abs}
+use Rattle.std.proofs.Common.{◌≡◌, ℕ, zero, suc, ◌-◌, ◌<◌, ◌≤◌, ◌^◌, ◌/◌, Bool, true, false, cond, eqb, not, List, [], ◌∷◌, ◌++◌, length, map, Option, Some, None, pos, negsuc, refl, sym, ap, subst, arith, append_assoc}
+use Rattle.std.specs.Prelude.{slice_index_or, int_lt, position}
 use Rattle.std.specs.Char.{is_ascii_digit}
 use Rattle.std.specs.Fmt.{decimal}
-use Rattle.std.specs.List.{list_all, flat_map}
+use Rattle.std.specs.List.{list_all}
 use Rattle.std.specs.Str.{all_ascii_digits}
 use Rattle.std.proofs.lemmas.Bool.Decides.{nat_tests}
 use Rattle.std.proofs.lemmas.Grind.{flat_map-append}
@@ -11,7 +11,6 @@ use Rattle.std.proofs.Math.Nat.{div-le_self}
 use Rattle.std.proofs.Math.Seq.{take-length}
 use Rattle.ascii_text.specs.Printable.{is_printable, AllPrintable}
 use Rattle.ascii_text.proofs.Printables.{append_printable, part_printable}
-use Rattle.fixed_decimal.specs.Decimal.{fits}
 use Rattle.fixed_decimal.specs.Written.{last_digits, size_written, decimal_written}
 use Rattle.sql_ast.specs.declared.statement.TemplateValue.{TemplateValue}
 use Rattle.sql_ast.specs.declared.statement.TemplateValue.TheVariants as value

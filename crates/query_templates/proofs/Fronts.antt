@@ -1,5 +1,5 @@
 -- The token at the front stays where more bytes come at the end.
-use Rattle.std.proofs.Common.{◌≡◌, ℕ, zero, suc, ◌+◌, ◌<◌, ◌≤◌, Bool, true, false, cond, eqb, not, ◌&&◌, List, [], ◌∷◌, ◌++◌, length, take, drop, Option, Some, None, refl, sym, ap, subst, ◌∙◌, arith}
+use Rattle.std.proofs.Common.{◌≡◌, ℕ, zero, suc, ◌+◌, ◌<◌, Bool, true, false, cond, eqb, not, List, [], ◌∷◌, ◌++◌, length, drop, Option, Some, None, refl, sym, ap, subst, ◌∙◌, arith}
 use Rattle.std.specs.Option.{option_map}
 use Rattle.std.specs.List.{prefix_len}
 use Rattle.std.specs.Char.{is_ascii_digit}
@@ -9,7 +9,7 @@ use Rattle.sql_lexer.specs.declared.kind.Kind.{Kind}
 use Rattle.sql_lexer.specs.declared.front.Form.{Form}
 use Rattle.sql_lexer.specs.declared.front.Form.TheVariants as form
 use Rattle.sql_lexer.specs.Bytes.{is_letter, is_word}
-use Rattle.sql_lexer.specs.Forms.{symbol, long_symbol, starts_quote}
+use Rattle.sql_lexer.specs.Forms.{symbol, long_symbol}
 use Rattle.sql_lexer.specs.Fronts.{fraction_len, number_len, text_len, longer, symbol_front, text_front, front_of}
 use Rattle.sql_lexer.proofs.Truths.{and_left, and_right}
 use Rattle.query_templates.specs.Cutting.{head_of, is_safe}

@@ -15,3 +15,4 @@ pub mod Samples
 pub mod Scripts
 pub mod Short
 pub mod Stands
+pub mod WritableValues

@@ -1,5 +1,5 @@
 -- The first misfit of lists from some place on.
-use Rattle.std.proofs.Common.{◌≡◌, ℕ, zero, suc, ◌+◌, ◌<◌, ◌≤◌, Bool, true, false, cond, List, [], ◌∷◌, length, drop, get_or, Option, Some, None, Ok, eqb, refl, ap, ◌∙◌, arith}
+use Rattle.std.proofs.Common.{◌≡◌, ℕ, zero, suc, ◌+◌, ◌<◌, ◌≤◌, true, cond, List, [], ◌∷◌, length, drop, get_or, Some, None, Ok, eqb, refl, ap, ◌∙◌, arith}
 use Rattle.std.proofs.lemmas.List.{drop_all}
 use Rattle.std.proofs.lemmas.Bool.Decides.{nat_tests}
 use Rattle.sql_ast.specs.declared.statement.TemplateValue.{TemplateValue}
@@ -17,6 +17,10 @@ misfit_here p (kind ∷ kinds) (value ∷ values) (suc at) k v lt gt =
   where
     one : (at : ℕ) → suc (at + 1) ≡ suc at + 1
     one at = omega arith
+
+pub misfit_next : (p : ℕ) (kinds : List ValueKind) (values : List TemplateValue) (at : ℕ) (k : ValueKind) (v : TemplateValue) → at < length kinds → at < length values
+    → fits (get_or kinds at k) (get_or values at v) ≡ true → first_misfit p (drop at kinds) (drop at values) ≡ first_misfit (p + 1) (drop (at + 1) kinds) (drop (at + 1) values)
+misfit_next p kinds values at k v lt gt e = misfit_here p kinds values at k v lt gt ∙ rw (e) refl
 
 pub misfit_past : (p : ℕ) (kinds : List ValueKind) (values : List TemplateValue) (at : ℕ) → length values ≤ at → first_misfit p kinds (drop at values) ≡ None
 misfit_past p kinds values at le = ap (first_misfit p kinds) (drop_all at values le) ∙ none p kinds

@@ -1,5 +1,5 @@
 -- A number as answers print it is one token.
-use Rattle.std.proofs.Common.{◌≡◌, ℕ, zero, suc, ◌+◌, ◌-◌, ◌*◌, ◌/◌, ◌%◌, ◌^◌, ◌<◌, ◌≤◌, Bool, true, false, cond, eqb, not, ◌&&◌, List, [], ◌∷◌, ◌++◌, length, take, drop, filter, Option, Some, None, Ok, pos, refl, sym, ap, subst, ◌∙◌, arith, append_assoc, append-nil, length-append, mul_comm}
+use Rattle.std.proofs.Common.{◌≡◌, ℕ, zero, suc, ◌+◌, ◌-◌, ◌*◌, ◌/◌, ◌%◌, ◌^◌, ◌<◌, ◌≤◌, Bool, true, false, cond, eqb, not, ◌&&◌, List, [], ◌∷◌, ◌++◌, length, take, drop, filter, Some, Ok, pos, refl, sym, ap, subst, ◌∙◌, arith, append_assoc, append-nil, length-append, mul_comm}
 use Rattle.std.specs.Prelude.{nat_lt}
 use Rattle.std.specs.Char.{digit_value, is_ascii_digit}
 use Rattle.std.specs.Fmt.{decimal}
@@ -22,7 +22,7 @@ use Rattle.sql_lexer.specs.declared.token.Content.TheVariants as content
 use Rattle.sql_lexer.specs.declared.token.Token.{Token}
 use Rattle.sql_lexer.specs.Bytes.{is_blank, is_letter}
 use Rattle.sql_lexer.specs.Forms.{made, number_made, coefficient, scale, digits_value}
-use Rattle.sql_lexer.specs.Fronts.{number_len, fraction_len, front_of}
+use Rattle.sql_lexer.specs.Fronts.{number_len, front_of}
 use Rattle.sql_lexer.specs.Lexing.{Lexes, gap_len, glued, starts_letter}
 use Rattle.sql_lexer.proofs.Truths.{and_left, and_right}
 use Rattle.query_templates.specs.Cutting.{head_of}
@@ -48,7 +48,7 @@ pub last_digits_digits : (places n : ℕ) → all_ascii_digits (last_digits plac
 last_digits_digits zero n = refl
 last_digits_digits (suc places) n = rw (digit_is (n / 10 ^ places % 10) (mod-lt (n / 10 ^ places) (omega arith))) (last_digits_digits places n)
 
-length-last_digits : (places n : ℕ) → length (last_digits places n) ≡ places
+pub length-last_digits : (places n : ℕ) → length (last_digits places n) ≡ places
 length-last_digits zero n = refl
 length-last_digits (suc places) n = ap suc (length-last_digits places n)
 

@@ -1,6 +1,6 @@
 -- The tokens of a template with its values put in.
-use Rattle.std.proofs.Common.{◌≡◌, ℕ, zero, suc, ◌+◌, ◌-◌, ◌<◌, ◌≤◌, ◌^◌, Bool, true, false, cond, eqb, not, ◌&&◌, ◌||◌, List, [], ◌∷◌, ◌++◌, length, map, Option, Some, None, pos, negsuc, refl, sym, ap, subst, ◌∙◌, arith, append_assoc}
-use Rattle.std.specs.Prelude.{slice_index_or, slice_get, codes, nat_le, int_le, int_lt}
+use Rattle.std.proofs.Common.{◌≡◌, ℕ, zero, suc, ◌+◌, ◌-◌, ◌<◌, ◌≤◌, ◌^◌, Bool, true, false, cond, eqb, not, ◌&&◌, ◌||◌, List, [], ◌∷◌, ◌++◌, length, map, Option, Some, None, pos, negsuc, refl, sym, ap, subst, ◌∙◌, arith}
+use Rattle.std.specs.Prelude.{slice_index_or, slice_get, codes, int_le, int_lt}
 use Rattle.std.specs.List.{list_all, list_any}
 use Rattle.std.specs.Option.{option_and_then, option_map}
 use Rattle.std.specs.Str.{all_ascii_digits, bytes_eq}
@@ -15,19 +15,18 @@ use Rattle.sql_lexer.specs.declared.kind.Kind.TheVariants as k
 use Rattle.sql_lexer.specs.declared.token.Content.TheVariants as content
 use Rattle.sql_lexer.specs.declared.token.Token.{Token}
 use Rattle.sql_lexer.specs.Forms.{starts_quote}
-use Rattle.sql_lexer.specs.Lexing.{Lexes, done}
+use Rattle.sql_lexer.specs.Lexing.{done}
 use Rattle.sql_lexer.proofs.Truths.{and_left, and_right}
 use Rattle.query_templates.specs.declared.kind.ValueKind.{ValueKind}
 use Rattle.query_templates.specs.declared.kind.ValueKind.TheVariants.{Text, Date, Number, Whole}
 use Rattle.query_templates.specs.Cutting.{bare, cut}
 use Rattle.query_templates.specs.Parts.{Hole, quoted, place, Parts, is_plain, text_with, hole_with, holes_with, kind_at, is_numeric, is_whole, quoted_token, hole_token, ends_number, ends_hole, joined_tokens, holes_tokens, sample_tokens}
-use Rattle.query_templates.specs.Standing.{Beside}
 use Rattle.query_templates.specs.Templates.{doubled, put, put_value, fits}
 use Rattle.query_templates.specs.Writable.{IsWritable, AreWritable}
-use Rattle.query_templates.proofs.Cutting.{IsCut, Rest, segment}
-use Rattle.query_templates.proofs.Doubled.{IsText, text_is, doubled_plain, plain_is, digits_plain}
+use Rattle.query_templates.proofs.Cutting.{Rest, segment}
+use Rattle.query_templates.proofs.Doubled.{text_is, doubled_plain, plain_is, digits_plain}
 use Rattle.query_templates.proofs.Fronts.{never, not_true}
-use Rattle.query_templates.proofs.Numbers.{IsNumberToken, number_token, decimal_digits}
+use Rattle.query_templates.proofs.Numbers.{number_token, decimal_digits}
 use Rattle.query_templates.proofs.Quoted.{IsDoubled, quote_step}
 
 -- each place takes its value
@@ -58,7 +57,7 @@ pub record IsNumberPut (bytes : List ℕ) : Type 0 where
   pub few : places ≤ 18
   pub is : bytes ≡ size_written number places
 
-unsigned : (n places : ℕ) → decimal_written (pos n) places ≡ size_written n places
+pub unsigned : (n places : ℕ) → decimal_written (pos n) places ≡ size_written n places
 unsigned n places = rw (none n) refl
   where
     none : (n : ℕ) → int_lt (pos n) (pos 0) ≡ false

@@ -1,9 +1,9 @@
 -- What is computed of each of the 22 templates.
-use Rattle.std.proofs.Common.{◌≡◌, ℕ, Bool, true, false, List, [], ◌∷◌, ◌++◌, length, Option, Some, None, refl}
+use Rattle.std.proofs.Common.{◌≡◌, true, List, [], ◌∷◌, ◌++◌, None, refl}
 use Rattle.std.specs.Prelude.{is_some}
 use Rattle.sql_ast.specs.declared.statement.TemplateValue.{TemplateValue}
 use Rattle.query_templates.specs.Cutting.{cut}
-use Rattle.query_templates.specs.Parts.{Parts, outside, holes_with, sample_tokens}
+use Rattle.query_templates.specs.Parts.{outside, holes_with, sample_tokens}
 use Rattle.query_templates.specs.Templates.{Template, templates, filled}
 
 -- What holds of a template: it is its parts, and these are tokens.

@@ -1,7 +1,5 @@
 -- A text between quotes, each quote in it twice, is one token.
-use Rattle.std.proofs.Common.{◌≡◌, ℕ, zero, suc, ◌+◌, Bool, true, false, cond, eqb, List, [], ◌∷◌, ◌++◌, length, take, drop, Option, Some, None, Ok, refl, sym, ap, subst, ◌∙◌, arith, append_assoc, length-append}
-use Rattle.std.specs.Option.{option_map}
-use Rattle.std.proofs.lemmas.Bool.Decides.{nat_tests}
+use Rattle.std.proofs.Common.{◌≡◌, ℕ, ◌+◌, Bool, true, false, cond, eqb, List, [], ◌∷◌, ◌++◌, length, take, drop, Some, None, Ok, refl, sym, ap, subst, ◌∙◌, arith, append_assoc, length-append}
 use Rattle.std.proofs.Math.Seq.{drop-append_seam, take-append_seam}
 use Rattle.ascii_text.specs.Printable.{AllPrintable, first_unprintable}
 use Rattle.ascii_text.proofs.Printables.{append_printable}
@@ -13,7 +11,6 @@ use Rattle.sql_lexer.specs.Forms.{made, text_made, unquoted, starts_quote}
 use Rattle.sql_lexer.specs.Fronts.{text_len, text_front, front_of}
 use Rattle.sql_lexer.specs.Lexing.{Lexes, gap_len}
 use Rattle.query_templates.specs.Templates.{doubled}
-use Rattle.query_templates.proofs.Fronts.{never}
 use Rattle.query_templates.proofs.Cutting.{token_step}
 
 -- after a text's closing quote no other one follows

@@ -12,7 +12,7 @@ use Rattle.sql_parser.specs.Readings.{ended_at}
 use Rattle.sql_parser.specs.Script.{Sql, max_script}
 use Rattle.sql_parser.proofs.Levels.{is_read}
 use Rattle.query_templates.specs.Laws.{FilledIsScript}
-use Rattle.query_templates.specs.Templates.{filled, template_of}
+use Rattle.query_templates.specs.Templates.{template_of}
 use Rattle.query_templates.specs.Writable.{AreWritable}
 use Rattle.query_templates.proofs.Filled.{IsFilledQuery, query_filled, query_beside}
 use Rattle.query_templates.proofs.Fronts.{never}

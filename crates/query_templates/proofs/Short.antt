@@ -1,6 +1,6 @@
 -- How long a template with its values is at most.
 use Rattle.std.proofs.Common.{◌≡◌, ℕ, zero, suc, ◌+◌, ◌-◌, ◌*◌, ◌/◌, ◌<◌, ◌≤◌, ◌^◌, Bool, true, false, cond, eqb, ◌&&◌, List, [], ◌∷◌, ◌++◌, length, map, Option, Some, None, pos, negsuc, refl, ap, arith, length-append}
-use Rattle.std.specs.Prelude.{◌==◌, if◌then◌else◌, is_some, int_le, slice_index, slice_index_or, slice_range, int_lt}
+use Rattle.std.specs.Prelude.{◌==◌, if◌then◌else◌, is_some, int_le, slice_index, slice_index_or, slice_range}
 use Rattle.std.specs.Char.{is_ascii_digit}
 use Rattle.std.specs.Fmt.{decimal}
 use Rattle.std.proofs.Math.Nat.{div-le_self}
@@ -17,7 +17,8 @@ use Rattle.query_templates.specs.declared.kind.ValueKind.TheVariants.{Text, Date
 use Rattle.query_templates.specs.Templates.{doubled, put, put_value, place_with, filled, fits}
 use Rattle.query_templates.specs.Writable.{IsWritable, AreWritable}
 use Rattle.query_templates.proofs.Fronts.{never}
-use Rattle.query_templates.proofs.Parts.{Fit}
+use Rattle.query_templates.proofs.Numbers.{length-last_digits}
+use Rattle.query_templates.proofs.Parts.{Fit, unsigned}
 
 -- ---- each value
 
@@ -29,10 +30,6 @@ length-doubled (b ∷ bs) = by (eqb b 39) (length-doubled bs)
     by true le = omega (arith, le)
     by false le = omega (arith, le)
 
-length-digits : (places n : ℕ) → length (last_digits places n) ≡ places
-length-digits zero n = refl
-length-digits (suc places) n = ap suc (length-digits places n)
-
 length-whole : (n : ℕ) → n < 2 ^ 127 → length (decimal n) ≤ 39
 length-whole n h = length-decimal-le_wide 39 n (omega arith) (omega (arith, h)) (omega (arith, h))
 
@@ -41,13 +38,7 @@ length-size n zero h few = omega (arith, length-whole n h)
 length-size n (suc places) h few =
     let less = div-le_self n (10 ^ suc places) in
     let whole = length-whole (n / 10 ^ suc places) (omega (arith, less, h)) in
-    omega (arith, whole, few, length-append (decimal (n / 10 ^ suc places)) (46 ∷ last_digits (suc places) n), length-digits (suc places) n)
-
-unsigned : (n places : ℕ) → decimal_written (pos n) places ≡ size_written n places
-unsigned n places = rw (none n) refl
-  where
-    none : (n : ℕ) → int_lt (pos n) (pos 0) ≡ false
-    none n = grind (arith, nat_tests)
+    omega (arith, whole, few, length-append (decimal (n / 10 ^ suc places)) (46 ∷ last_digits (suc places) n), length-last_digits (suc places) n)
 
 length-date : (text : List ℕ) → is_some (date_of text) ≡ true → length text ≡ 10
 length-date text e = by (eqb (length text) 10) refl e

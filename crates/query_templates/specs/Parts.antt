@@ -1,5 +1,5 @@
 -- A template as its plain bytes and its holes.
-use Rattle.std.specs.Prelude.{ℕ, zero, suc, Bool, true, false, not, ◌==◌, ◌&&◌, ◌||◌, if◌then◌else◌, List, [], ◌∷◌, ◌++◌, length, Option, Some, None, pos, slice_get, codes}
+use Rattle.std.specs.Prelude.{ℕ, zero, suc, Bool, true, false, not, ◌==◌, ◌&&◌, if◌then◌else◌, List, [], ◌∷◌, ◌++◌, length, Option, Some, None, pos, slice_get, codes}
 use Rattle.std.specs.Char.{is_ascii_digit}
 use Rattle.std.specs.List.{list_all, list_any}
 use Rattle.std.specs.Option.{option_and_then, option_map}
@@ -11,7 +11,7 @@ use Rattle.sql_lexer.specs.declared.token.Content.TheVariants as content
 use Rattle.sql_lexer.specs.declared.token.Token.{Token}
 use Rattle.sql_lexer.specs.Bytes.{is_letter}
 use Rattle.query_templates.specs.declared.kind.ValueKind.{ValueKind}
-use Rattle.query_templates.specs.declared.kind.ValueKind.TheVariants.{Text, Date, Number, Whole}
+use Rattle.query_templates.specs.declared.kind.ValueKind.TheVariants.{Number, Whole}
 use Rattle.query_templates.specs.Cutting.{head_of, bare, cut}
 use Rattle.query_templates.specs.Templates.{place_with, put_value}
 

@@ -1,8 +1,10 @@
 //! The text of a query with values put in.
-ghost use Rattle.std.specs.Prelude.{◌≡◌, ℕ, ◌∷◌, ◌++◌, ◌≤◌, IfOk, IfSome, IsTrue, List, OnOk, length, None};
+ghost use Rattle.std.specs.Prelude.{◌≡◌, ℕ, ◌∷◌, ◌++◌, ◌≤◌, IfOk, IfSome, IsNone, IsTrue, List, OnOk, length, None};
 ghost use Rattle.sql_ast.specs.declared.statement.TemplateValue.{TemplateValue};
 ghost use Rattle.query_templates.specs.Templates.{doubled, filled, first_misfit, place_with, put, put_value, is_query, template_of};
 ghost use Rattle.query_templates.specs.Filling.{Fills};
+ghost use Rattle.query_templates.specs.Laws.{IsSomeScript};
+ghost use Rattle.query_templates.specs.Writable.{AreWritable};
 
 use crate::fault::TemplateFault;
 use crate::kind::{ValueKind, kinds};
@@ -11,6 +13,13 @@ use fixed_decimal::push_decimal;
 use refusals::TemplateRefusal;
 use sql_ast::TemplateValue;
 use std::alloc::{AllocError, Global};
+
+/// Whether a query has this number.
+fn is_query(number: u64) -> bool
+    ensures { result ≡ is_query number }
+{
+    (1..=22).contains(&number)
+}
 
 /// The text of a query's template.
 fn text(number: u64) -> &'static str
@@ -45,10 +54,11 @@ fn text(number: u64) -> &'static str
 }
 
 /// The number of the first place that doesn't take its value.
-#[tactic(auto, using(crate::proofs::Misfits::misfit_here, crate::proofs::Misfits::misfit_past))]
+#[tactic(auto, using(crate::proofs::Misfits::misfit_here, crate::proofs::Misfits::misfit_past, crate::proofs::WritableValues::writable_all, crate::proofs::WritableValues::writable_more))]
 fn misfit(kinds: &[ValueKind], values: &[TemplateValue]) -> Option<u32>
     requires { length kinds.now ≤ 10 }
-    ensures { result ≡ first_misfit 1 kinds.now values.now }
+    ensures place { result ≡ first_misfit 1 kinds.now values.now }
+    ensures writable { IsNone result → length kinds.now ≡ length values.now → AreWritable values.now }
 {
     let mut at = 0usize;
     'places: while at < kinds.len() && at < values.len() {
@@ -150,9 +160,11 @@ fn with_values(
 /// none of 1 to 22, another number of values than the query has places, and the first value that its place doesn't take.
 #[tactic(auto, using(crate::proofs::Misfits::query_is))]
 pub fn fill(alloc: Global, number: u64, values: &[TemplateValue]) -> Result<Vec<u8>, TemplateFault>
-    ensures { Fills number values.now result }
+    ensures text { Fills number values.now result }
+    // The text is a script.
+    ensures script { IfOk result (λ script. IsSomeScript script.items) }
 {
-    if !(1..=22).contains(&number) {
+    if !is_query(number) {
         return Err(TemplateFault::Refused(TemplateRefusal::NoSuchQuery));
     }
     let kinds = kinds(number);

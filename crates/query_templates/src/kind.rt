@@ -1,7 +1,9 @@
 //! What the places of templates take.
 ghost use Rattle.std.specs.Prelude.{◌≡◌, ◌≤◌, IsTrue, is_some, length};
 ghost use Rattle.civil_date.specs.Date.{date_of};
+ghost use Rattle.sql_ast.specs.declared.statement.TemplateValue.TheVariants as value;
 ghost use Rattle.query_templates.specs.Templates.{fits, is_query, template_of};
+ghost use Rattle.query_templates.specs.Writable.{IsWritable};
 
 use civil_date::CivilDate;
 use sql_ast::TemplateValue;
@@ -37,18 +39,38 @@ fn is_date(text: &[u8]) -> bool
 }
 
 impl ValueKind {
-    /// Whether a place of this kind takes the value.
-    pub fn fits(self, value: &TemplateValue) -> bool
-        ensures { result ≡ fits self value.now }
+    /// Whether a place of this kind takes the text.
+    fn fits_text(self, text: &[u8]) -> bool
+        ensures { result ≡ fits self (value.Text text.now) }
     {
-        match (self, value) {
-            (ValueKind::Text, TemplateValue::Text(text)) => text.bytes().len() <= MAX_TEXT,
-            (ValueKind::Date, TemplateValue::Text(text)) => is_date(text.bytes()),
-            (ValueKind::Number, TemplateValue::Number(number, _)) => *number >= 0,
-            (ValueKind::Whole, TemplateValue::Number(number, scale)) => {
-                scale.places() == 0 && (0..=MAX_WHOLE).contains(number)
-            }
-            _ => false,
+        match self {
+            ValueKind::Text => text.len() <= MAX_TEXT,
+            ValueKind::Date => is_date(text),
+            ValueKind::Number | ValueKind::Whole => false,
+        }
+    }
+
+    /// Whether a place of this kind takes a number with so many digits after the point.
+    fn fits_number(self, number: i128, places: u8) -> bool
+        ensures { result ≡ fits self (value.Number number places) }
+    {
+        match self {
+            ValueKind::Number => number >= 0,
+            ValueKind::Whole => places == 0 && (0..=MAX_WHOLE).contains(&number),
+            ValueKind::Text | ValueKind::Date => false,
+        }
+    }
+
+    /// Whether a place of this kind takes the value.
+    #[tactic(auto, using(crate::proofs::WritableValues::number_writable))]
+    pub fn fits(self, value: &TemplateValue) -> bool
+        ensures takes { result ≡ fits self value.now }
+        // Each value can be put into a script.
+        ensures writable { IsWritable value.now }
+    {
+        match value {
+            TemplateValue::Text(text) => self.fits_text(text.bytes()),
+            TemplateValue::Number(number, scale) => self.fits_number(*number, scale.places()),
         }
     }
 }

@@ -1,9 +1,13 @@
-//! A text with a quote put in, numbers of a query with ten places, and each refusal.
+//! A text with a quote put in, each refusal, and each query with the values that validate it.
+mod validation;
+
 use super::*;
 use ascii_text::Text;
 use fixed_decimal::Scale;
 use refusals::TemplateRefusal;
-use sql_ast::TemplateValue;
+use sql_ast::{Statement, TemplateValue};
+use sql_parser::read_script;
+use std::alloc::Global;
 use std::test::Fail;
 
 #[test]
@@ -24,5 +28,24 @@ fn fills_and_refuses(rt: HostRuntime) -> Result<(), Fail> {
     assert!(rt; fill(alloc, 23, &quantity).err() == refused(TemplateRefusal::NoSuchQuery));
     assert!(rt; fill(alloc, 2, &quantity).err() == refused(TemplateRefusal::WrongCount));
     assert!(rt; fill(alloc, 1, &quantity).err() == refused(TemplateRefusal::WrongKind(1)));
+    Ok(())
+}
+
+/// The text that the query of a `run` statement is filled to.
+fn filled(alloc: Global, run: &str) -> Option<Vec<u8>> {
+    let script = read_script(alloc, run.as_bytes()).ok()?;
+    match script.as_slice() {
+        [Statement::Run(number, values)] => fill(alloc, *number as u64, values.as_slice()).ok(),
+        _ => None,
+    }
+}
+
+#[test]
+fn fills_each_query(rt: HostRuntime) -> Result<(), Fail> {
+    let alloc = rt.alloc();
+    for (run, text) in &validation::CASES {
+        let script = filled(alloc, run);
+        assert!(rt; script.is_some_and(|script| script.as_slice() == text.as_bytes()));
+    }
     Ok(())
 }

@@ -2,13 +2,15 @@
 ghost use Rattle.std.specs.Prelude.{◌≡◌, ◌+◌, ◌<◌, ◌≤◌, ◌↔◌, length, IfOk, IsTrue, Ok};
 ghost use Rattle.tpch_schema.specs.Kinds.{RowsAreOf};
 ghost use Rattle.tpch_schema.specs.State.{table_rows};
+ghost use Rattle.columns.specs.Lists.{one_list};
+ghost use Rattle.table_state.specs.Lists.{IsOfKinds};
 ghost use Rattle.table_state.specs.Versions.{accepted};
 
 use sql_value::Row;
 use std::alloc::{AllocError, Global};
 use std::marker::Model;
 use std::sync::Arc;
-use table_state::{Refresh, RefreshError, State, apply};
+use table_state::{Part, Refresh, RefreshError, State, apply};
 use tpch_schema::TableName;
 
 /// The first refreshes of a list that were tried on a base, with the tables that they leave.
@@ -86,9 +88,34 @@ impl Directory {
         self.done == self.list.len()
     }
 
+    /// The same version, whose tables lie in segments of which no row is deleted.
+    pub fn compacted(&self) -> Result<Directory, AllocError>
+        ensures { IfOk result (λ d. d ≡ self.now) }
+    {
+        let state = self.state.compacted(self.alloc)?;
+        let base = Arc::try_clone(&self.base)?;
+        let list = Arc::try_clone(&self.list)?;
+        Ok(Directory {
+            alloc: self.alloc,
+            base,
+            list,
+            done: self.done,
+            accepted: self.accepted,
+            state,
+        })
+    }
+
+    /// The rows of a table in order, as parts of which nothing is copied.
+    pub(crate) fn parts(&self, table: TableName) -> &[Part]
+        ensures { one_list result.now ≡ table_rows (tables_of self.now) table }
+    {
+        self.state.parts(table)
+    }
+
     /// How many rows a table has.
     pub fn count(&self, table: TableName) -> u64
-        ensures { result ≡ length (table_rows (tables_of self.now) table) }
+        ensures count { result ≡ length (table_rows (tables_of self.now) table) }
+        ensures kinds { IsOfKinds (tables_of self.now) }
     {
         self.state.count(table)
     }

@@ -2,5 +2,6 @@
 #![tactic(auto)]
 
 mod directory;
+mod scan;
 
 pub use directory::Directory;

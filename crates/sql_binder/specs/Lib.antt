@@ -10,5 +10,8 @@ pub mod FromLists
 pub mod Clauses
 pub mod Blocks
 pub mod Binding
+pub mod Sizes
+pub mod Nests
 pub mod Laws
 pub mod Examples
+pub mod EdgeCases

@@ -1,5 +1,6 @@
 //! Laws of binding. Each function does nothing: its contract is the law.
 ghost use Rattle.sql_binder.specs.Examples.{FirstRefusals, LaterRefusals};
+ghost use Rattle.sql_binder.specs.EdgeCases.{MovedDates, ViewOfNames, Chains, ConditionsAsValues, Groups, SightsOfParts, OrderInFrom, OrderInViews};
 ghost use Rattle.sql_binder.specs.Laws.{Resolution, OnlyColumn, BoundOrRefused, NotBoth, OneWay};
 
 /// A name is looked for in the innermost query that has it, and nowhere else; and the place that it means there is that of
@@ -20,4 +21,16 @@ pub fn bound_or_refused()
 pub fn worked_refusals()
     ensures first { FirstRefusals }
     ensures later { LaterRefusals }
+{}
+
+/// Queries bound by hand, and where the order of binding or the sight of a part decides.
+pub fn worked_bindings()
+    ensures dates { MovedDates }
+    ensures view { ViewOfNames }
+    ensures chains { Chains }
+    ensures conditions { ConditionsAsValues }
+    ensures groups { Groups }
+    ensures sights { SightsOfParts }
+    ensures order { OrderInFrom }
+    ensures view_order { OrderInViews }
 {}

@@ -1,5 +1,5 @@
 -- The keys in a delete file's rows.
-use Rattle.std.proofs.Common.{◌≡◌, ℕ, ◌^◌, Bool, true, false, cond, not, ◌&&◌, List, [], ◌∷◌, map, Some, None, ℤ, pos, negsuc, ◌<◌, refl, arith}
+use Rattle.std.proofs.Common.{◌≡◌, ℕ, ◌^◌, Bool, true, false, cond, ◌&&◌, List, [], ◌∷◌, Some, None, pos, negsuc, ◌<◌, refl, arith}
 use Rattle.std.specs.Prelude.{◌==◌, IsTrue, nat_lt, unwrap_or}
 use Rattle.std.specs.Cmp.Lexicographic.{pointwise}
 use Rattle.std.specs.List.{All}

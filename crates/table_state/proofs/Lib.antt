@@ -1,5 +1,7 @@
+pub mod Compaction
 pub mod DeleteKeys
 pub mod FoundKeys
+pub mod KeyRanges
 pub mod Order
 pub mod PartLists
 pub mod LeftRows

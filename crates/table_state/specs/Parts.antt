@@ -1,9 +1,10 @@
 -- Parts of a table: stored rows without those at deleted places.
-use Rattle.std.specs.Prelude.{◌≡◌, ℕ, ℤ, suc, ◌+◌, Bool, List, [], ◌∷◌, length, nat_eq, if◌then◌else◌}
-use Rattle.std.specs.List.{list_any}
+use Rattle.std.specs.Prelude.{◌≡◌, ℕ, ℤ, suc, ◌+◌, Bool, true, false, ◌&&◌, List, [], ◌∷◌, length, nat_eq, int_le, if◌then◌else◌}
+use Rattle.std.specs.List.{All, list_any}
 use Rattle.std.specs.List.Sorted.{IsNonDecreasing}
 use Rattle.columns.specs.Lists.{AreBelow, gathered}
 use Rattle.sql_value.specs.declared.value.Value.{Value}
+use Rattle.table_state.specs.Keys.{has_key, order_key}
 use Rattle.table_state.specs.Refresh.{without_keys}
 
 -- the place is one of these
@@ -36,3 +37,20 @@ pub record IsLeft (deleted : List ℕ) (rows : List (List Value)) (places : List
 pub record IsWithout (keys : List ℤ) (deleted : List ℕ) (rows : List (List Value)) (more : List ℕ) : Type 0 where
   pub are : AreDeleted more rows
   pub left : left_rows more rows ≡ without_keys keys (left_rows deleted rows)
+
+-- the key lies between these
+abbrev pub is_between : ℤ → ℤ → ℤ → Bool
+is_between least greatest key = int_le least key && int_le key greatest
+
+-- the keys of the rows' orders lie between these
+abbrev pub AreBetween : ℤ → ℤ → List (List Value) → Type 0
+AreBetween least greatest rows = All (λ row. is_between least greatest (order_key row) ≡ true) rows
+
+-- no row is of an order of these keys
+abbrev pub HasNone : List ℤ → List (List Value) → Type 0
+HasNone keys rows = list_any (λ row. has_key keys (order_key row)) rows ≡ false
+
+-- what a part keeps of a segment of these rows: the deleted places, and between which keys its orders lie
+pub record IsStoredPart (deleted : List ℕ) (least greatest : ℤ) (rows : List (List Value)) : Type 0 where
+  pub are : AreDeleted deleted rows
+  pub between : AreBetween least greatest rows

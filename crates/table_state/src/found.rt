@@ -4,6 +4,7 @@ ghost use Rattle.table_state.specs.Found.{HasSameKeys, TellsKeys, TellsLines};
 ghost use Rattle.table_state.specs.Keys.{line_keys, order_keys};
 
 use crate::keys::{LineKey, has_key, put_key};
+use crate::part::Part;
 use crate::parts::Parts;
 use indexmap::IndexSet;
 use std::alloc::{AllocError, Global};
@@ -47,7 +48,27 @@ fn find_orders(
     Ok(())
 }
 
-/// Those of the wanted keys that an order has. Each order is looked up once.
+/// Puts those of the keys of a part's orders among the found ones that are wanted. A part that can
+/// have none of them is not read.
+fn find_part_orders(
+    part: &Part,
+    wanted: &IndexSet<i64>,
+    keys: &mut Vec<i64>,
+    found: &mut IndexSet<i64>,
+) -> Result<(), AllocError>
+    ensures { OnOk result ((before : List ℤ) → TellsKeys wanted.now.keys before found.old.keys → TellsKeys wanted.now.keys (before ++ order_keys part.now) found.new.keys) }
+{
+    if !part.may_have(wanted) {
+        return Ok(());
+    }
+    keys.clear();
+    part.put_order_keys(keys)?;
+    find_orders(keys.as_slice(), wanted, found)?;
+    Ok(())
+}
+
+/// Those of the wanted keys that an order has. Each order in a part that may have one is looked up
+/// once.
 pub(crate) fn orders_found(
     alloc: Global,
     orders: &Parts,
@@ -59,9 +80,7 @@ pub(crate) fn orders_found(
     let mut keys = Vec::new(alloc);
     let parts = orders.as_slice();
     for part in parts {
-        keys.clear();
-        part.put_order_keys(&mut keys)?;
-        find_orders(keys.as_slice(), wanted, &mut found)?;
+        find_part_orders(part, wanted, &mut keys, &mut found)?;
     }
     Ok(found)
 }
@@ -94,7 +113,27 @@ fn find_lines(
     Ok(())
 }
 
-/// The keys of the lineitems of the wanted orders. Each lineitem is looked up once.
+/// Puts those of the keys of a part's lineitems among the found ones whose orders are wanted. A part
+/// that can have none of them is not read.
+fn find_part_lines(
+    part: &Part,
+    wanted: &IndexSet<i64>,
+    lines: &mut Vec<LineKey>,
+    found: &mut IndexSet<LineKey>,
+) -> Result<(), AllocError>
+    ensures { OnOk result ((before : List (ℤ × ℤ)) → TellsLines wanted.now.keys before found.old.keys → TellsLines wanted.now.keys (before ++ line_keys part.now) found.new.keys) }
+{
+    if !part.may_have(wanted) {
+        return Ok(());
+    }
+    lines.clear();
+    part.put_line_keys(lines)?;
+    find_lines(lines.as_slice(), wanted, found)?;
+    Ok(())
+}
+
+/// The keys of the lineitems of the wanted orders. Each lineitem in a part that may have one is
+/// looked up once.
 pub(crate) fn lines_found(
     alloc: Global,
     lineitems: &Parts,
@@ -106,9 +145,7 @@ pub(crate) fn lines_found(
     let mut lines = Vec::new(alloc);
     let parts = lineitems.as_slice();
     for part in parts {
-        lines.clear();
-        part.put_line_keys(&mut lines)?;
-        find_lines(lines.as_slice(), wanted, &mut found)?;
+        find_part_lines(part, wanted, &mut lines, &mut found)?;
     }
     Ok(found)
 }

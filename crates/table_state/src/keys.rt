@@ -1,8 +1,9 @@
-//! Sets of the keys of orders and lineitems.
-ghost use Rattle.std.specs.Prelude.{◌≡◌, ◌++◌, ◌∷◌, [], not, if◌then◌else◌, IfOk, OnErr};
+//! The keys of orders and lineitems, and sets of them.
+ghost use Rattle.std.specs.Prelude.{◌≡◌, ◌<◌, ◌++◌, ◌∷◌, [], not, if◌then◌else◌, IfOk, OnErr, length, slice_index_or};
 ghost use Rattle.std.specs.List.{list_any};
-ghost use Rattle.table_state.specs.Keys.{has_key};
+ghost use Rattle.table_state.specs.Keys.{has_key, number_at};
 
+use columns::Segment;
 use indexmap::IndexSet;
 use std::alloc::AllocError;
 use std::hash::Hash;
@@ -30,4 +31,12 @@ pub(crate) fn has_key(keys: &IndexSet<i64>, key: i64) -> bool
     ensures { result ≡ has_key keys.now.keys key }
 {
     keys.contains(&key)
+}
+
+/// The whole number in a column of a row; 0 where there is none of 64 bits.
+pub(crate) fn number_at(segment: &Segment, i: usize, column: usize) -> i64
+    requires { i < length segment.now }
+    ensures { result ≡ number_at column (slice_index_or segment.now i []) }
+{
+    segment.number(i, column).unwrap_or(0)
 }

@@ -5,7 +5,9 @@
 
 mod applied;
 mod cause;
+mod compacted;
 mod found;
+mod key_range;
 mod keys;
 pub mod laws;
 mod part;

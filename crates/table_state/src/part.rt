@@ -1,13 +1,15 @@
 //! A part of a table.
-ghost use Rattle.std.specs.Prelude.{◌≡◌, ◌<◌, ◌++◌, ◌∷◌, ◌||◌, [], if◌then◌else◌, IfNone, IfOk, IfSome, OnOk, length, slice_index_or};
+ghost use Rattle.std.specs.Prelude.{◌≡◌, false, ◌<◌, ◌≤◌, ◌++◌, ◌∷◌, ◌||◌, [], if◌then◌else◌, IfNone, IfOk, IfSome, OnOk, length, slice_index_or};
 ghost use Rattle.std.specs.List.Sorted.{IsNonDecreasing};
 ghost use Rattle.columns.specs.Lists.{AreBelow, gathered};
-ghost use Rattle.table_state.specs.Keys.{has_key, line_key, line_keys, number_at, order_key, order_keys};
-ghost use Rattle.table_state.specs.Parts.{IsLeft, IsWithout, has_place, left_rows};
+ghost use Rattle.columns.specs.Tables.{standing_rows};
+ghost use Rattle.table_state.specs.Keys.{has_key, line_key, line_keys, order_key, order_keys};
+ghost use Rattle.table_state.specs.Parts.{HasNone, IsLeft, IsWithout, has_place, left_rows};
 ghost use Rattle.table_state.specs.Refresh.{without_keys};
 
-use crate::keys::{LineKey, has_key};
-use columns::Segment;
+use crate::key_range::KeyRange;
+use crate::keys::{LineKey, has_key, number_at};
+use columns::{Batch, Segment};
 use indexmap::IndexSet;
 use sql_value::Row;
 use std::alloc::{AllocError, Global};
@@ -18,6 +20,8 @@ use std::sync::Arc;
 #[derive(Drop)]
 pub struct Part {
     segment: Segment,
+    /// Between which keys the orders of the segment's rows lie.
+    range: KeyRange,
     /// The places of the deleted rows, ascending.
     deleted: Arc<Vec<u32>>,
 }
@@ -26,13 +30,13 @@ impl Model for Part {
     ghost use Rattle.std.specs.Prelude.{List};
     ghost use Rattle.std.specs.Arc.{arc_value};
     ghost use Rattle.sql_value.specs.declared.value.Value.{Value as Datum};
-    ghost use Rattle.table_state.specs.Parts.{AreDeleted, left_rows};
+    ghost use Rattle.table_state.specs.Parts.{IsStoredPart, left_rows};
 
     ghost Value = { List (List Datum) };
 
     ghost view = { λ p. left_rows (arc_value p.deleted).items p.segment };
 
-    ghost invariant = { λ p. AreDeleted (arc_value p.deleted).items p.segment };
+    ghost invariant = { λ p. IsStoredPart (arc_value p.deleted).items p.range.least p.range.greatest p.segment };
 }
 
 /// Whether a place is one of these, which ascend.
@@ -41,14 +45,6 @@ fn has_place(places: &[u32], place: u32) -> bool
     ensures { result ≡ has_place places.now place }
 {
     places.binary_search(&place).is_ok()
-}
-
-/// The whole number in a column of a row; 0 where there is none of 64 bits.
-fn number_at(segment: &Segment, i: usize, column: usize) -> i64
-    requires { i < length segment.now }
-    ensures { result ≡ number_at column (slice_index_or segment.now i []) }
-{
-    segment.number(i, column).unwrap_or(0)
 }
 
 /// The key of the lineitem in a row.
@@ -216,21 +212,52 @@ fn left_places(alloc: Global, segment: &Segment, deleted: &[u32]) -> Result<Vec<
     Ok(places)
 }
 
+/// All rows of a segment, as a batch of which nothing is copied.
+fn whole_batch(alloc: Global, segment: &Segment) -> Result<Batch, AllocError>
+    ensures { IfOk result (λ batch. batch.rows ≡ standing_rows segment.now) }
+{
+    let batch = segment.batch().share(alloc)?;
+    Ok(batch)
+}
+
+/// The rows of a segment at these places, as a batch.
+#[tactic(auto, using(crate::proofs::Compaction::gathered_stand))]
+fn batch_at(alloc: Global, segment: &Segment, places: &[u32]) -> Result<Batch, AllocError>
+    requires { AreBelow (length segment.now) places.now }
+    ensures { IfOk result (λ batch. batch.rows ≡ standing_rows (gathered [] segment.now places.now)) }
+{
+    let batch = segment.batch().gather(alloc, places)?;
+    Ok(batch)
+}
+
 #[tactic(auto, using(crate::proofs::LeftRows::parts))]
 impl Part {
     /// All rows of a segment.
     pub(crate) fn whole(alloc: Global, segment: Segment) -> Result<Part, AllocError>
         ensures { IfOk result (λ part. part ≡ segment) }
     {
+        let range = KeyRange::of(&segment);
         let deleted = Arc::new(alloc, Vec::new(alloc))?;
-        Ok(Part { segment, deleted })
+        Ok(Part {
+            segment,
+            range,
+            deleted,
+        })
     }
 
     /// How many rows are left.
     pub fn len(&self) -> usize
-        ensures { result ≡ length self.now }
+        ensures count { result ≡ length self.now }
+        ensures most { result ≤ 4096 }
     {
         self.segment.len() - self.deleted.len()
+    }
+
+    /// Whether a row may be of an order of these keys.
+    pub(crate) fn may_have(&self, keys: &IndexSet<i64>) -> bool
+        ensures { result ≡ false → HasNone keys.now.keys self.now }
+    {
+        self.range.has_one_of(keys.as_slice())
     }
 
     /// Puts the keys of the orders after others.
@@ -268,17 +295,35 @@ impl Part {
         Ok((segment, Some(places)))
     }
 
+    /// The rows as a batch, all at True. Where no row is deleted, nothing is copied.
+    pub(crate) fn batch(&self, alloc: Global) -> Result<Batch, AllocError>
+        ensures { IfOk result (λ batch. batch.rows ≡ standing_rows self.now) }
+    {
+        let (segment, places) = self.stored(alloc)?;
+        match places {
+            None => whole_batch(alloc, &segment),
+            Some(places) => batch_at(alloc, &segment, &places),
+        }
+    }
+
     /// The rows of none of the orders of these keys. Where no row has one, it is another share of the same places.
     pub(crate) fn without(&self, alloc: Global, keys: &IndexSet<i64>) -> Result<Part, AllocError>
         ensures { IfOk result (λ part. part ≡ without_keys keys.now.keys self.now) }
     {
+        if !self.may_have(keys) {
+            return self.clone();
+        }
         let places = places_without(alloc, &self.segment, self.deleted.as_slice(), keys)?;
         if places.len() == self.deleted.len() {
             return self.clone();
         }
         let segment = self.segment.clone()?;
         let deleted = Arc::new(alloc, places)?;
-        Ok(Part { segment, deleted })
+        Ok(Part {
+            segment,
+            range: self.range,
+            deleted,
+        })
     }
 }
 
@@ -290,6 +335,10 @@ impl Clone for Part {
     {
         let segment = self.segment.clone()?;
         let deleted = Arc::try_clone(&self.deleted)?;
-        Ok(Part { segment, deleted })
+        Ok(Part {
+            segment,
+            range: self.range,
+            deleted,
+        })
     }
 }

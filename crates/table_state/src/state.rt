@@ -6,6 +6,7 @@ ghost use Rattle.tpch_schema.specs.State.{table_rows};
 ghost use Rattle.table_state.specs.Lists.{IsOfKinds, place_of, state_of};
 ghost use Rattle.table_state.specs.Refresh.{with_sales};
 
+use crate::compacted::compacted;
 use crate::part::Part;
 use crate::parts::Parts;
 use columns::Rows;
@@ -82,8 +83,10 @@ impl State {
 
     /// How many rows the table has.
     pub fn count(&self, table: TableName) -> u64
-        ensures { result ≡ length (table_rows self.now table) }
+        ensures count { result ≡ length (table_rows self.now table) }
+        ensures kinds { IsOfKinds self.now }
     {
+        let _ = &self.tables;
         self.table(table).len() as u64
     }
 
@@ -111,6 +114,17 @@ impl State {
     {
         self.tables[6] = orders;
         self.tables[7] = lineitems;
+    }
+
+    /// The same rows in segments of which no row is deleted. Neighbours that fit in one segment are joined.
+    pub fn compacted(&self, alloc: Global) -> Result<State, AllocError>
+        ensures { IfOk result (λ state. state ≡ self.now) }
+    {
+        let mut tables = Vec::with_capacity(alloc, 8)?;
+        for table in &self.tables {
+            tables.push(compacted(alloc, table)?)?;
+        }
+        Ok(State { tables })
     }
 
     /// A share of the same rows.

@@ -1,4 +1,4 @@
-use Rattle.std.proofs.Common.{◌≡◌, ℕ, List, ◌∷◌, ◌++◌, Option, Some, None, sym, subst, ap, ◌∙◌}
+use Rattle.std.proofs.Common.{◌≡◌, ℕ, ◌∷◌, ◌++◌, Option, None, sym, subst, ap, ◌∙◌}
 use Rattle.query_templates.specs.Templates.{filled}
 use Rattle.query_templates.proofs.Bytes.{value_ends}
 use Rattle.query_templates.proofs.filling.put_byte.Goals as goal

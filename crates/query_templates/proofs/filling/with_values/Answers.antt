@@ -1,4 +1,4 @@
-use Rattle.std.proofs.Common.{◌≡◌, ℕ, ◌+◌, List, ◌∷◌, ◌++◌, drop, Option, Some, None, sym, ap, ◌∙◌, slice_index_or}
+use Rattle.std.proofs.Common.{◌+◌, ◌++◌, drop, ap, ◌∙◌}
 use Rattle.query_templates.specs.Templates.{filled}
 use Rattle.query_templates.proofs.Bytes.{byte_first}
 use Rattle.query_templates.proofs.filling.with_values.Goals as goal

@@ -10,4 +10,4 @@ returns-then-len-clause-whole c =
     let rows = c.self.inside.segment in
     let e : c.in_ok-segment.segment ≡ rows = c.in_ok-segment.ensures in
     let long : length (left_rows deleted rows) ≡ length rows = omega (arith, ap length c.self.view_is, ap length e) in
-    sym c.self.view_is ∙ all_left deleted rows c.self.invariant long ∙ sym e
+    sym c.self.view_is ∙ all_left deleted rows c.self.invariant.are long ∙ sym e

@@ -3,6 +3,7 @@ use Rattle.std.specs.Arc.{arc_value}
 use Rattle.sql_value.specs.declared.value.Value.{Value}
 use Rattle.table_state.specs.Parts.{IsWithout, left_rows}
 use Rattle.table_state.specs.Refresh.{without_keys}
+use Rattle.table_state.proofs.KeyRanges.{none_goes}
 use Rattle.table_state.proofs.LeftRows.{without_same}
 use Rattle.table_state.proofs.part.Part.without.Goals as goal
 
@@ -15,5 +16,9 @@ returns-then-len c =
     let without : IsWithout keys deleted rows more =
     subst (λ (d : List ℕ). IsWithout keys d rows more) (c.as_slice.ensures.value ∙ ap (λ v. v.items) c.deref.ensures) c.in_ok-places.ensures in
     let same : length more ≡ length deleted = search rules in
-    let e : left_rows deleted rows ≡ without_keys keys (left_rows deleted rows) = without_same keys deleted more rows c.self.invariant without same in
-    subst (λ (all : List (List Value)). IfOk c.clone.result (λ part. part ≡ all)) (sym c.self.view_is ∙ e ∙ ap (without_keys keys) c.self.view_is) c.clone.ensures
+    let e : left_rows deleted rows ≡ without_keys keys (left_rows deleted rows) = without_same keys deleted more rows c.self.invariant.are without same in
+    subst (λ (all : List (List Value)). IfOk c.clone-then-len.result (λ part. part ≡ all)) (sym c.self.view_is ∙ e ∙ ap (without_keys keys) c.self.view_is) c.clone-then-len.ensures
+
+pub returns-then-not-may_have : goal.returns-then-not-may_have
+returns-then-not-may_have c =
+    subst (λ (all : List (List Value)). IfOk c.clone.result (λ part. part ≡ all)) (none_goes c.args.keys.now.keys c.args.self.now (c.may_have.ensures c.if-not-may_have.true)) c.clone.ensures

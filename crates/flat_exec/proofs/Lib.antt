@@ -1,0 +1,4 @@
+pub mod Next
+pub mod PlanReads
+pub mod Released
+pub mod Scans

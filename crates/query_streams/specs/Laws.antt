@@ -1,0 +1,29 @@
+-- Laws of sessions.
+use Rattle.std.specs.Prelude.{◌≡◌, ◌+◌, List, [], ◌∷◌, ◌++◌, drop, ◌&&◌, Option, None, Some}
+use Rattle.sql_ast.specs.declared.statement.Statement.{Statement}
+use Rattle.query_streams.specs.Expansion.{ExpandAll}
+use Rattle.query_streams.specs.Outcomes.{Moment}
+use Rattle.query_streams.specs.Sessions.{Course, are_clean, course_after, lines_of, next_of}
+
+-- A script's statements stand for one list of statements.
+abbrev pub ExpandOnce : Type 0
+ExpandOnce = (statements a b : List Statement) → ExpandAll statements a → ExpandAll statements b → a ≡ b
+
+-- a session after a turn at each moment, as long as statements are left
+abbrev pub turn_or_end : Course → Moment → Option Statement → Course
+turn_or_end course moment None = course
+turn_or_end course moment (Some statement) = course_after course moment statement
+
+-- the same for moments one after another
+abbrev pub course_through : Course → List Moment → Course
+course_through course [] = course
+course_through course (moment ∷ moments) = course_through (turn_or_end course moment (next_of course)) moments
+
+-- The text of a session is, after what it has, the text of the statements that are left, each at its moment; and it is
+-- clean exactly where it was and none of them is refused.
+abbrev pub SessionsText : Type 0
+SessionsText = (course : Course) (moments : List Moment)
+    → ((course_through course moments).text
+    ≡ course.text ++ lines_of course.shows_rows (course.answered + 1) course.views (drop course.answered course.steps) moments)
+    × ((course_through course moments).is_clean
+    ≡ (course.is_clean && are_clean course.views (drop course.answered course.steps) moments))

@@ -1,0 +1,6 @@
+pub mod Expansion
+pub mod Views
+pub mod Outcomes
+pub mod Sessions
+pub mod Laws
+pub mod Examples

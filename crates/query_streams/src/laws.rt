@@ -1,0 +1,18 @@
+//! Laws of sessions. Each function does nothing: its contract is the law.
+ghost use Rattle.query_streams.specs.Examples.{Examples};
+ghost use Rattle.query_streams.specs.Laws.{ExpandOnce, SessionsText};
+
+/// A script's statements stand for one list of statements.
+pub fn scripts_stand_for_one_list()
+    ensures { ExpandOnce }
+{}
+
+/// The text of a session is that of its statements, each at its moment.
+pub fn sessions_have_their_text()
+    ensures { SessionsText }
+{}
+
+/// Texts of sessions, worked out by hand.
+pub fn worked_sessions()
+    ensures { Examples }
+{}

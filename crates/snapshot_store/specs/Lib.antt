@@ -1,0 +1,7 @@
+pub mod Openings
+pub mod Entries
+pub mod Seen
+pub mod Rule
+pub mod Ruled
+pub mod Halls
+pub mod Publishers

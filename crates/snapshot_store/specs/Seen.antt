@@ -1,0 +1,15 @@
+-- What a reader is seen as.
+use Rattle.std.specs.Prelude.{◌≡◌, ◌⊎◌, ℕ}
+use Rattle.segment_store.specs.Trials.{Trials}
+use Rattle.snapshot_store.specs.Openings.{HasRisen}
+
+-- an entry, and the version last seen
+pub record ReaderState (E : Type 0) : Type 0 where
+  pub entry : E
+  pub seen : Trials
+
+-- with the entry's number, its entries and refusals before and after, the number of the version seen before, and that of
+-- the snapshot: it was entered, or the entry was refused and it is the one seen before
+abbrev pub Began : ℕ → ℕ → ℕ → ℕ → ℕ → ℕ → ℕ → Type 0
+Began number entries more refusals others seen version =
+    (HasRisen entries more × (version ≡ number)) ⊎ (HasRisen refusals others × (version ≡ seen))

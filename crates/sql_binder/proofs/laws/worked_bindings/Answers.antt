@@ -1,0 +1,14 @@
+use Rattle.sql_binder.proofs.EdgeProofs as edge
+use Rattle.sql_binder.proofs.laws.worked_bindings.Goals as goal
+
+pub returns : goal.returns
+returns c = record {
+  dates = edge.moved_dates;
+  view = edge.view_of_names;
+  chains = edge.chains;
+  conditions = edge.conditions_as_values;
+  groups = edge.groups;
+  sights = edge.sights_of_parts;
+  order = edge.order_in_from;
+  view_order = edge.order_in_views;
+}

@@ -1,0 +1,42 @@
+//! Expressions and queries, which lead back to each other. All else is bound by rules that take
+//! these two functions as values, so that each rule is proved alone.
+ghost use Rattle.sql_binder.specs.Binding.{meaning, block_meaning};
+ghost use Rattle.sql_binder.specs.Names.{sight_of};
+ghost use Rattle.sql_binder.specs.Steps.{Binds};
+
+use crate::collected::{BoundTable, Collected, Typed};
+use crate::exprs::ExprBinder;
+use crate::fault::BindFault;
+use crate::scope::Site;
+use crate::subqueries::QueryBinder;
+use sql_ast::{Block, Expr};
+use std::alloc::Global;
+
+/// A bound expression, whose inputs are added to those of its clause.
+#[cycle(knot)]
+fn expr(alloc: Global, site: &Site<'_>, state: &mut Collected, e: &Expr) -> Result<Typed, BindFault>
+    ensures { Binds ((meaning e.now).binds (sight_of site.now) state.old) result state.new }
+{
+    let binder = QueryBinder {
+        exprs: ExprBinder { alloc, expr },
+        query,
+    };
+    binder.expr(site, state, e)
+}
+
+/// A bound query and its columns.
+#[cycle(knot)]
+pub(crate) fn query(
+    alloc: Global,
+    site: &Site<'_>,
+    state: &mut Collected,
+    q: &Block,
+) -> Result<BoundTable, BindFault>
+    ensures { Binds (block_meaning q.now (sight_of site.now) state.old) result state.new }
+{
+    let binder = QueryBinder {
+        exprs: ExprBinder { alloc, expr },
+        query,
+    };
+    binder.block(site, state, q)
+}
