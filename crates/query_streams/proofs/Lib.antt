@@ -1,3 +1,5 @@
+mod Printable
+mod Running
 mod Texts
 mod Expanded
 mod Once

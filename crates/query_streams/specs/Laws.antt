@@ -1,13 +1,28 @@
--- Laws of sessions.
-use Rattle.std.specs.Prelude.{◌≡◌, ◌+◌, List, [], ◌∷◌, ◌++◌, drop, ◌&&◌, Option, None, Some}
+-- Laws of sessions and of plans.
+use Rattle.std.specs.Prelude.{◌≡◌, ℕ, ◌+◌, ◌-◌, List, [], ◌∷◌, ◌++◌, drop, length, Bool, ◌&&◌, Option, None, Some}
+use Rattle.row_laws.specs.Bags.{SameBag}
+use Rattle.algebra.specs.Plans.{plan_reads, result_rows}
+use Rattle.algebra.specs.declared.plan.FlatPlan.{FlatPlan}
+use Rattle.nested_query.specs.Meaning.{rows}
+use Rattle.nested_query.specs.Reads.{reads}
+use Rattle.nested_query.specs.Typing.{StateIsOf}
+use Rattle.nested_query.specs.declared.query.BoundQuery.{BoundQuery}
 use Rattle.sql_ast.specs.declared.statement.Statement.{Statement}
+use Rattle.tpch_schema.specs.State.{State, table_rows}
 use Rattle.query_streams.specs.Expansion.{ExpandAll}
 use Rattle.query_streams.specs.Outcomes.{Moment}
+use Rattle.query_planner.specs.Planned.{IsPlanOf}
 use Rattle.query_streams.specs.Sessions.{Course, are_clean, course_after, lines_of, next_of}
 
 -- A script's statements stand for one list of statements.
 abbrev pub ExpandOnce : Type 0
 ExpandOnce = (statements a b : List Statement) → ExpandAll statements a → ExpandAll statements b → a ≡ b
+
+-- The plan of a query, run over tables of their kinds, gives the query's rows as a bag, and reads as much as the query.
+abbrev pub PlansRun : Type 0
+PlansRun = (q : BoundQuery) (plan : FlatPlan) (state : State) → StateIsOf state → IsPlanOf q plan
+    → SameBag (result_rows (table_rows state) plan.nodes) (rows q.block [] state)
+    × (plan_reads (table_rows state) plan.nodes ≡ reads q.block state)
 
 -- a session after a turn at each moment, as long as statements are left
 abbrev pub turn_or_end : Course → Moment → Option Statement → Course

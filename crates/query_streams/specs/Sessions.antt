@@ -1,5 +1,5 @@
 -- Sessions: their text, statement by statement, and how far a running one is.
-use Rattle.std.specs.Prelude.{◌≡◌, ℕ, ◌+◌, List, [], ◌∷◌, ◌++◌, Bool, true, false, ◌&&◌, not, Option, Some, slice_get, Result, Ok, Err}
+use Rattle.std.specs.Prelude.{◌≡◌, ℕ, ◌+◌, List, [], ◌∷◌, ◌++◌, Bool, true, false, ◌&&◌, not, Option, None, Some, slice_get, Result, Ok, Err}
 use Rattle.std.specs.declared.alloc.AllocError.{AllocError}
 use Rattle.refusals.specs.declared.refresh.Cause.{Cause}
 use Rattle.sql_ast.specs.declared.statement.Statement.{Statement}
@@ -12,6 +12,8 @@ use Rattle.query_streams.specs.Outcomes.{Moment, is_refusal, outcome_of, outcome
 use Rattle.query_streams.specs.Views.{views_after}
 use Rattle.query_streams.specs.declared.outcome.Outcome.{Outcome}
 use Rattle.query_streams.specs.declared.session.Session.{Session}
+use Rattle.query_streams.specs.declared.session.Turn.{Turn}
+use Rattle.query_streams.specs.declared.session.Turn.TheVariants.{Answered, AskedRefresh, Ended}
 
 -- The text of statements, numbered on, each at its moment. Views are the session's own.
 abbrev pub lines_of : Bool → ℕ → List View → List Statement → List Moment → List ℕ
@@ -80,6 +82,19 @@ course_after course moment statement =
 -- the statement is a refresh
 abbrev pub IsRefresh : Option Statement → Type 0
 IsRefresh next = (change : RefreshKind) × (set : ℕ) × (next ≡ Some (Refresh change set))
+
+-- What a turn over a version and its tables leaves. A statement that is no refresh has its lines. A refresh is asked for,
+-- and nothing changes before its result is there; nothing changes where no statement is left.
+abbrev pub Takes : Course → ℕ → State → Course → Turn → Type 0
+Takes old version tables new Answered = (statement : Statement) × (next_of old ≡ Some statement) × (IsRefresh (next_of old) → ⊥)
+    × ((tried : Result ℕ Cause) → new ≡ course_after old (record { version = version; tables = tables; tried = tried }) statement)
+Takes old version tables new (AskedRefresh change set) = (next_of old ≡ Some (Refresh change set)) × (new ≡ old)
+Takes old version tables new Ended = (next_of old ≡ None) × (new ≡ old)
+
+-- the same, or memory ran out, now or before
+abbrev pub Goes : Course → ℕ → State → Course → Result Turn AllocError → Type 0
+Goes old version tables new (Ok turn) = (old.is_lost ≡ false) × Takes old version tables new turn
+Goes old version tables new (Err error) = new.is_lost ≡ true
 
 -- what handing in the result of a refresh leaves: its line; or memory ran out, now or before
 abbrev pub HandsIn : Course → ℕ → Result ℕ Cause → Course → Result (Unit {0}) AllocError → Type 0

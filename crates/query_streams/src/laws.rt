@@ -1,6 +1,11 @@
-//! Laws of sessions. Each function does nothing: its contract is the law.
+//! Laws of sessions and of plans. Each function does nothing: its contract is the law.
 ghost use Rattle.query_streams.specs.Examples.{Examples};
-ghost use Rattle.query_streams.specs.Laws.{ExpandOnce, SessionsText};
+ghost use Rattle.query_streams.specs.Laws.{ExpandOnce, PlansRun, SessionsText};
+
+/// The plan of a query, run over tables of their kinds, gives the query's rows as a bag, and reads as much as the query.
+pub fn plans_give_rows()
+    ensures { PlansRun }
+{}
 
 /// A script's statements stand for one list of statements.
 pub fn scripts_stand_for_one_list()

@@ -4,9 +4,10 @@
 mod expansion;
 pub mod laws;
 mod outcome;
+mod query;
+mod runs;
 mod session;
 mod text;
+mod views;
 
-pub use outcome::Outcome;
-pub use session::Session;
-pub use text::outcome_text;
+pub use session::{Session, Turn};

@@ -1,9 +1,9 @@
 //! What comes of a statement.
 ghost use Rattle.std.specs.Prelude.{◌≡◌};
-ghost use Rattle.query_streams.specs.Outcomes.{is_refusal};
+ghost use Rattle.query_streams.specs.Outcomes.{is_refusal, kind_of_fault};
 
-use refusals::Refusal;
-use sql_value::Row;
+use refusals::{FaultKind, Refusal};
+use sql_value::{Fault, Row};
 use sqlite_items::Items;
 
 /// What comes of a statement.
@@ -25,5 +25,16 @@ impl Outcome {
         ensures { result ≡ is_refusal self.now }
     {
         matches!(self, Outcome::Refused(_))
+    }
+}
+
+/// The kind of a fault, as refusals name it.
+pub(crate) fn kind_of_fault(fault: Fault) -> FaultKind
+    ensures { result ≡ kind_of_fault fault }
+{
+    match fault {
+        Fault::TooManyRows => FaultKind::TooManyRows,
+        Fault::DivideByZero => FaultKind::DivideByZero,
+        Fault::NumberRange => FaultKind::NumberRange,
     }
 }

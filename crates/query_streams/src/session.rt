@@ -1,16 +1,35 @@
 //! A session: a script's statements in their order, with views of their own, and the text so far.
-ghost use Rattle.std.specs.Prelude.{◌≡◌, ◌<◌, length, IfOk, IsTrue, OnOk};
-ghost use Rattle.query_streams.specs.Outcomes.{is_printable, refreshed};
+ghost use Rattle.std.specs.Prelude.{◌≡◌, ◌<◌, ℕ, length, IfOk, IsTrue, OnOk, Result, Err, Some, true};
+ghost use Rattle.refusals.specs.declared.refresh.Cause.{Cause};
+ghost use Rattle.segment_store.specs.Trials.{tables_of, version_of};
+ghost use Rattle.query_streams.specs.Outcomes.{is_printable, outcome_of, refreshed};
 ghost use Rattle.query_streams.specs.Sessions.{IsRefresh};
+ghost use Rattle.query_streams.specs.Views.{views_after};
 
 use crate::expansion::expanded;
 use crate::outcome::Outcome;
+use crate::query::query_outcome;
+use crate::runs::run_outcome;
 use crate::text::outcome_text;
+use crate::views::{drop_view, make_view};
 use refusals::{Cause, Refusal};
-use sql_ast::Statement;
+use snapshot_store::Snapshot;
+use sql_ast::{RefreshKind, Statement};
 use sql_binder::Views;
 use sqlite_items::Items;
 use std::alloc::{AllocError, Global};
+use std::thread::Threads;
+
+/// What a turn of a session gave.
+#[derive(Clone, Copy, Debug, PartialEq, Eq)]
+pub enum Turn {
+    /// The next statement has its lines.
+    Answered,
+    /// The next statement is this refresh, whose result is handed in by `refreshed`.
+    AskedRefresh(RefreshKind, u32),
+    /// No statement is left.
+    Ended,
+}
 
 /// The statements of a script in their order, with views of their own, and the text so far. After memory ran out, each
 /// turn answers that again.
@@ -26,6 +45,30 @@ pub struct Session {
     is_lost: bool,
 }
 
+/// What comes of a statement that is no refresh, and what it does to the views.
+fn outcome_of<R: Threads>(
+    rt: &R,
+    alloc: Global,
+    statement: &Statement,
+    views: &mut Views,
+    snapshot: &Snapshot,
+) -> Result<Outcome, AllocError>
+    requires { IsRefresh (Some statement.now) → ⊥ }
+    ensures outcome { IfOk result (λ o. (tried : Result ℕ Cause) → o ≡ outcome_of (record { version = version_of snapshot.now; tables = tables_of snapshot.now; tried = tried }) views.old.all statement.now) }
+    ensures views { OnOk result (views.new.all ≡ views_after views.old.all statement.now) }
+    ensures printable { IfOk result (λ o. IsTrue (is_printable o)) }
+{
+    match statement {
+        Statement::Query(query) => query_outcome(rt, alloc, query, views, snapshot),
+        Statement::CreateView(name, names, query) => {
+            make_view(alloc, views, name, names.as_slice(), query)
+        }
+        Statement::DropView(name) => Ok(drop_view(views, name)),
+        Statement::Refresh(_, _) => unreachable!(),
+        Statement::Run(number, values) => run_outcome(alloc, *number, values.as_slice()),
+    }
+}
+
 /// What comes of a refresh.
 fn refresh_outcome(tried: Result<u64, Cause>) -> Outcome
     ensures outcome { result ≡ refreshed tried }
@@ -38,7 +81,7 @@ fn refresh_outcome(tried: Result<u64, Cause>) -> Outcome
 }
 
 impl Session {
-    ghost use Rattle.query_streams.specs.Sessions.{Begins, HandsIn, course_of, next_of, with_lines};
+    ghost use Rattle.query_streams.specs.Sessions.{Begins, Goes, HandsIn, Takes, course_of, next_of, with_lines};
 
     /// A session of these statements, with a run's in its place. Where `shows_rows` is false, its text leaves out the rows
     /// of answers.
@@ -104,6 +147,37 @@ impl Session {
         self.is_clean = self.is_clean && !outcome.is_refusal();
         self.answered += 1;
         Ok(())
+    }
+
+    /// Takes the next turn over a version.
+    fn go<R: Threads>(&mut self, rt: &R, snapshot: &Snapshot) -> Result<Turn, AllocError>
+        ensures { IfOk result (Takes (course_of self.old) (version_of snapshot.now) (tables_of snapshot.now) (course_of self.new)) }
+    {
+        let Some(statement) = self.steps.get(self.answered) else {
+            return Ok(Turn::Ended);
+        };
+        if let Statement::Refresh(change, set) = statement {
+            return Ok(Turn::AskedRefresh(*change, *set));
+        }
+        let outcome = outcome_of(rt, self.alloc, statement, &mut self.views, snapshot)?;
+        self.put(snapshot.version(), &outcome)?;
+        Ok(Turn::Answered)
+    }
+
+    /// Answers the next statement over a version, or asks for the refresh that it is.
+    pub fn run_next<R: Threads>(&mut self, rt: &R, snapshot: &Snapshot) -> Result<Turn, AllocError>
+        ensures { Goes (course_of self.old) (version_of snapshot.now) (tables_of snapshot.now) (course_of self.new) result }
+    {
+        if self.is_lost {
+            return Err(AllocError);
+        }
+        match self.go(rt, snapshot) {
+            Ok(turn) => Ok(turn),
+            Err(error) => {
+                self.is_lost = true;
+                Err(error)
+            }
+        }
     }
 
     /// Hands in what came of the refresh that was asked for over this version: the version that it made, or its cause.

@@ -28,7 +28,7 @@ fn rows_text(
 }
 
 /// The lines of a statement of this number over this version.
-pub fn outcome_text(
+pub(crate) fn outcome_text(
     alloc: Global,
     shows_rows: bool,
     number: u64,

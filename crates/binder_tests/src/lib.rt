@@ -1,0 +1,5 @@
+//! Statements as texts, bound.
+#![tactic(auto)]
+
+#[cfg(test)]
+mod tests;

@@ -1,0 +1,67 @@
+//! The views of a session.
+ghost use Rattle.std.specs.Prelude.{◌≡◌, IfOk, IsTrue, OnOk};
+ghost use Rattle.query_streams.specs.Outcomes.{dropped, is_printable, made};
+ghost use Rattle.query_streams.specs.Views.{is_taken, is_view, made_view, place_of_view, with_made, without_view};
+
+use crate::outcome::Outcome;
+use refusals::Refusal;
+use sql_ast::{Block, Name};
+use sql_binder::{BindFault, View, Views, bind_view};
+use std::alloc::{AllocError, Global};
+use tpch_schema::TableName;
+
+/// The place of the first view of that name.
+fn place_of(views: &[View], name: &Name) -> Option<usize>
+    ensures { result ≡ place_of_view name.now views.now }
+{
+    views
+        .iter()
+        .position(|view| view.name.bytes() == name.bytes())
+}
+
+/// Whether a table or a view has the name.
+fn is_taken(views: &[View], name: &Name) -> bool
+    ensures { result ≡ is_taken name.now views.now }
+{
+    TableName::from_name(name.bytes()).is_some() || place_of(views, name).is_some()
+}
+
+/// Makes a view, where its name is new and its query is bound.
+pub(crate) fn make_view(
+    alloc: Global,
+    views: &mut Views,
+    name: &Name,
+    names: &[Name],
+    query: &Block,
+) -> Result<Outcome, AllocError>
+    ensures outcome { IfOk result (λ o. o ≡ made (made_view name.now names.now query.now views.old.all)) }
+    ensures printable { IfOk result (λ o. IsTrue (is_printable o)) }
+    ensures views { OnOk result (views.new.all ≡ with_made views.old.all (made_view name.now names.now query.now views.old.all)) }
+{
+    if is_taken(views.all.as_slice(), name) {
+        return Ok(Outcome::Refused(Refusal::ViewExists));
+    }
+    match bind_view(alloc, name, names, query, views) {
+        Ok(view) => {
+            views.all.push(view)?;
+            Ok(Outcome::Done)
+        }
+        Err(BindFault::Refused(why)) => Ok(Outcome::Refused(Refusal::Bind(why))),
+        Err(BindFault::OutOfMemory) => Err(AllocError),
+    }
+}
+
+/// Drops the view of that name, where there is one.
+pub(crate) fn drop_view(views: &mut Views, name: &Name) -> Outcome
+    ensures outcome { result ≡ dropped (is_view name.now views.old.all) }
+    ensures printable { IsTrue (is_printable result) }
+    ensures views { views.new.all ≡ without_view name.now views.old.all }
+{
+    match place_of(views.all.as_slice(), name) {
+        Some(place) => {
+            views.all.remove(place);
+            Outcome::Done
+        }
+        None => Outcome::Refused(Refusal::UnknownView),
+    }
+}
