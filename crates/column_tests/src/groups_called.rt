@@ -113,7 +113,7 @@ fn fills(alloc: Global, groups: &str, keys: &str, wanted: &str) -> Result<bool, 
     let groups = bag(alloc, 2, &[groups])?;
     let keys = bag(alloc, 1, &[keys])?;
     let empty = values(alloc, "0")?;
-    if groups.width() != keys.width() + empty.len() {
+    if groups.width() != 2 || keys.width() != 1 || empty.len() != 1 {
         return Ok(false);
     }
     let filled = fill(alloc, &groups, &keys, empty.as_slice())?;
