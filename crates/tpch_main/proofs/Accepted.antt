@@ -1,7 +1,9 @@
 -- Inputs are accepted exactly where each of them is good.
-use Rattle.std.proofs.Common.{◌≡◌, ℕ, ◌<◌, List, [], ◌∷◌, ap, arith, length, map, refl, slice_index_or, subst, suc, zero}
+use Rattle.std.proofs.Common.{◌≡◌, ℕ, ◌<◌, List, [], ◌∷◌, ap, arith, length, map, refl, slice_index_or, subst, suc, sym, zero, ◌∙◌}
 use Rattle.std.specs.declared.result.Result.{Result}
 use Rattle.std.specs.declared.result.Result.TheVariants.{Ok, Err}
+use Rattle.sql_ast.specs.declared.statement.Statement.{Statement}
+use Rattle.table_state.specs.Refresh.{Change}
 use Rattle.sql_value.specs.declared.value.Value.{Value}
 use Rattle.table_state.specs.Lists.{state_of}
 use Rattle.tpch_outside.specs.Outside.{Folder}
@@ -9,10 +11,8 @@ use Rattle.tpch_schema.specs.State.{State, table_rows}
 use Rattle.tpch_schema.specs.Tables.{all_tables}
 use Rattle.tpch_schema.specs.declared.table.TableName.{TableName}
 use Rattle.tpch_schema.specs.declared.table.TableName.TheVariants as table
-use Rattle.tpch_main.specs.Inputs.{BadInput, and_then, lists_in, script_in, state_in, table_in}
+use Rattle.tpch_main.specs.Inputs.{AreInputs, AreSteps, BadInput, Work, and_then, lists_in, refreshes_in, state_in, table_in, work_of}
 use Rattle.tpch_main.specs.Laws.{SessionAcceptedLaw, TablesAcceptedLaw}
-use Rattle.tpch_main.specs.declared.statement.Statement.{Statement}
-use Rattle.tpch_main.proofs.ReadingOrder.{both_of}
 
 -- a table's rows in a folder are that
 abbrev pub HasRows : List ℕ → Folder → TableName → List (List Value) → Type 0
@@ -71,16 +71,27 @@ state_read dir folder state good = ap (λ lists. and_then lists (λ read. Ok (st
 pub tables_law : TablesAcceptedLaw
 tables_law dir folder state = (tables_read dir folder state, state_read dir folder state)
 
--- a session's inputs, from its script and its tables
-session_read : (script : Result Statement BadInput) (tables : Result State BadInput) (statement : Statement) (state : State) → both_of script tables ≡ Ok (statement, state) → (script ≡ Ok statement) × (tables ≡ Ok state)
-session_read (Ok one) (Ok other) statement state e =
-    let same : (one, other) ≡ (statement, state) = cc in
-    (ap (λ (both : Statement × State). Ok both.0) same, ap (λ (both : Statement × State). Ok both.1) same)
-session_read (Ok one) (Err first) statement state e = absurd (cc)
-session_read (Err first) tables statement state e = absurd (cc)
+-- a session's inputs, from its script, its tables and its refresh files
+work_read : (dir : List ℕ) (folder : Folder) (work : Work) (steps : List Statement) → Ok work ≡ work_of dir folder steps → (steps ≡ work.steps) × (state_in dir folder ≡ Ok work.base) × (refreshes_in dir work.steps folder ≡ Ok work.list)
+work_read dir folder work steps e = at (state_in dir folder) refl (refreshes_in dir steps folder) refl e
+  where
+    at : (tables : Result State BadInput) → state_in dir folder ≡ tables → (changes : Result (List Change) BadInput) → refreshes_in dir steps folder ≡ changes
+        → Ok work ≡ and_then tables (λ base. and_then changes (λ list. Ok (record { steps = steps; base = base; list = list }))) → (steps ≡ work.steps) × (state_in dir folder ≡ Ok work.base) × (refreshes_in dir work.steps folder ≡ Ok work.list)
+    at (Ok base) is (Ok list) are made =
+        let same : work ≡ record { steps = steps; base = base; list = list } = cc in
+        let steps_are : steps ≡ work.steps = sym (ap (λ (w : Work). w.steps) same) in
+        (steps_are, is ∙ ap Ok (sym (ap (λ (w : Work). w.base) same)), subst (λ (ss : List Statement). refreshes_in dir ss folder ≡ Ok work.list) steps_are (are ∙ ap Ok (sym (ap (λ (w : Work). w.list) same))))
+    at (Ok base) is (Err first) are made = absurd (cc)
+    at (Err first) is changes are made = absurd (cc)
 
-both_read : (script : Result Statement BadInput) (tables : Result State BadInput) (statement : Statement) (state : State) → (script ≡ Ok statement) × (tables ≡ Ok state) → both_of script tables ≡ Ok (statement, state)
-both_read script tables statement state (one, other) = rw (one, other) refl
+session_read : (dir script : List ℕ) (folder : Folder) (work : Work) → AreInputs dir script folder (Ok work) → AreSteps folder script (Ok work.steps) × (state_in dir folder ≡ Ok work.base) × (refreshes_in dir work.steps folder ≡ Ok work.list)
+session_read dir script folder work (Ok steps, has, made) =
+    let read = work_read dir folder work steps made in
+    (subst (λ (ss : List Statement). AreSteps folder script (Ok ss)) read.0 has, read.1, read.2)
+session_read dir script folder work (Err refused, has, made) = absurd (cc)
+
+session_made : (dir script : List ℕ) (folder : Folder) (work : Work) → AreSteps folder script (Ok work.steps) × (state_in dir folder ≡ Ok work.base) × (refreshes_in dir work.steps folder ≡ Ok work.list) → AreInputs dir script folder (Ok work)
+session_made dir script folder work (has, tables, list) = (Ok work.steps, has, rw (tables, list) refl)
 
 pub session_law : SessionAcceptedLaw
-session_law dir script folder statement state = (session_read (script_in folder script) (state_in dir folder) statement state, both_read (script_in folder script) (state_in dir folder) statement state)
+session_law dir script folder work = (session_read dir script folder work, session_made dir script folder work)

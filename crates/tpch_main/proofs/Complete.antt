@@ -1,37 +1,63 @@
 -- What a command's text says of the run; an accepted command is answered, where nothing but memory stands in its way.
-use Rattle.std.proofs.Common.{◌≡◌, ◌≢◌, ◌∙◌, ◌⊎◌, ℕ, List, Option, None, Some, inl, inr, refl, subst, sym}
+use Rattle.std.proofs.Common.{◌≡◌, ◌≢◌, ◌∙◌, ◌⊎◌, ℕ, List, [], Option, None, Some, Bool, true, false, inl, inr, refl, subst, sym}
+use Rattle.std.specs.Prelude.{if◌then◌else◌}
 use Rattle.std.specs.Io.KnownBytes.{Appends}
 use Rattle.std.specs.Result.{result_err}
 use Rattle.std.specs.declared.result.Result.{Result}
 use Rattle.std.specs.declared.result.Result.TheVariants.{Ok, Err}
+use Rattle.query_streams.specs.Sessions.{are_clean}
 use Rattle.tpch_outside.specs.Outside.{Folder}
-use Rattle.tpch_main.specs.Inputs.{BadInput, session_inputs, state_in}
-use Rattle.tpch_main.specs.Meaning.{IsAccepted, IsAnswer, Prints, PrintsOf}
+use Rattle.tpch_main.specs.Inputs.{BadInput, Work, state_in}
+use Rattle.tpch_main.specs.Meaning.{IsAccepted, IsAnswer, IsDone, MeansCheck, MeansSession, Prints, PrintsOf}
+use Rattle.tpch_main.specs.Turns.{first_trials, moments, session_status}
 use Rattle.tpch_main.specs.Words.{Command}
 use Rattle.tpch_main.specs.Words.Command.{check, session}
+use Rattle.tpch_main.specs.declared.input_error.InputFault.TheVariants as fault
 use Rattle.tpch_main.specs.declared.status.Status.{Status}
 use Rattle.tpch_main.specs.declared.status.Status.TheVariants as status
+use Rattle.tpch_main.proofs.OneWork.{inputs_alike}
+
+no_refusal : (r : BadInput) → None ≡ Some r → ⊥
+no_refusal r e = cc
+
+by_cleanness : (clean : Bool) → IsDone (if clean then status.Done else status.SomeRefused)
+by_cleanness true = inl refl
+by_cleanness false = inr refl
+
+-- what a session's inputs mean has such a status
+pub session_done : (work : Work) (text : List ℕ) (s : Status) → MeansSession work text s → IsDone s
+session_done work text s means = subst IsDone (sym means.1) (by_cleanness (are_clean [] work.steps (moments (first_trials work) work.steps)))
 
 -- inputs of which none is refused are there
-read_whole : {A : Type 0} → (Means : A → List ℕ → Type 0) (inputs : Result A BadInput) (text : List ℕ) (s : Status) → PrintsOf Means inputs text s → result_err inputs ≡ None → s ≡ status.Done
-read_whole Means (Ok read) text s prints accepted = prints.1
-read_whole Means (Err refused) text s prints accepted = absurd (elim_some refused accepted)
-  where
-    elim_some : (r : BadInput) → Some r ≡ None → ⊥
-    elim_some r e = cc
+there : {A : Type 0} → (inputs : Result A BadInput) → None ≡ result_err inputs → (a : A) × (inputs ≡ Ok a)
+there (Ok a) e = (a, refl)
+there (Err refused) e = absurd (no_refusal refused e)
 
 -- what an accepted command prints, it prints with the status of an answer
-pub accepted_done : (command : Command) (held : Option Folder) (text : List ℕ) (s : Status) → Prints (Some command) held text s → IsAccepted (Some command) held → s ≡ status.Done
+pub accepted_done : (command : Command) (held : Option Folder) (text : List ℕ) (s : Status) → Prints (Some command) held text s → IsAccepted (Some command) held → IsDone s
 accepted_done command None text s prints accepted = absurd accepted
-accepted_done (session dir script) (Some folder) text s prints accepted = read_whole _ (session_inputs dir script folder) text s prints accepted
-accepted_done (check dir) (Some folder) text s prints accepted = read_whole _ (state_in dir folder) text s prints accepted
+accepted_done (check dir) (Some folder) text s prints accepted = at (state_in dir folder) prints accepted
+  where
+    at : (read : Result _ BadInput) → PrintsOf MeansCheck read text s → None ≡ result_err read → IsDone s
+    at (Ok state) means none = inl means.1
+    at (Err refused) means none = absurd (no_refusal refused none)
+accepted_done (session dir script) (Some folder) text s (inputs, are, prints) (others, are', none) =
+    let (work, is) = there others none in
+    at inputs prints (inputs_alike dir script folder inputs others are are') is
+  where
+    at : (read : Result Work BadInput) → PrintsOf MeansSession read text s
+        → (read ≡ others) ⊎ ((first : BadInput) × (second : BadInput) × (read ≡ Err first) × (others ≡ Err second) × (first.fault ≢ fault.Absent) × (second.fault ≢ fault.Absent))
+        → {work : Work} → others ≡ Ok work → IsDone s
+    at (Ok work) means alike is = session_done work text s means
+    at (Err refused) means (inl e) is = absurd (cc)
+    at (Err refused) means (inr (first, second, one, two, p, q)) is = absurd (cc)
 
 -- so the run ends with it
-pub completed : (s result : Status) → s ≡ status.Done → (IsAnswer result → result ≡ s) → result ≢ status.WriteFault → result ≢ status.ReadFault → result ≢ status.OutOfMemory → (result ≡ status.Done) ⊎ (result ≡ status.SomeRefused)
+pub completed : (s result : Status) → IsDone s → (IsAnswer result → result ≡ s) → result ≢ status.WriteFault → result ≢ status.ReadFault → result ≢ status.OutOfMemory → (result ≡ status.Done) ⊎ (result ≡ status.SomeRefused)
 completed s status.Done done whole no_write no_read no_memory = inl refl
 completed s status.SomeRefused done whole no_write no_read no_memory = inr refl
-completed s status.Usage done whole no_write no_read no_memory = inl (whole tt ∙ done)
-completed s status.InputRefused done whole no_write no_read no_memory = inl (whole tt ∙ done)
+completed s status.Usage done whole no_write no_read no_memory = subst IsDone (sym (whole tt)) done
+completed s status.InputRefused done whole no_write no_read no_memory = subst IsDone (sym (whole tt)) done
 completed s status.ReadFault done whole no_write no_read no_memory = absurd (no_read refl)
 completed s status.WriteFault done whole no_write no_read no_memory = absurd (no_write refl)
 completed s status.OutOfMemory done whole no_write no_read no_memory = absurd (no_memory refl)

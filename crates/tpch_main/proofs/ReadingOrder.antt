@@ -1,5 +1,5 @@
 -- The first bad input, in the order in which they are read, is the one that is refused.
-use Rattle.std.proofs.Common.{◌≡◌, ◌∙◌, ◌⊎◌, ℕ, List, [], ◌∷◌, ◌++◌, IsOk, ap, arith, inl, inr, is_ok, refl, suc}
+use Rattle.std.proofs.Common.{◌≡◌, ◌∙◌, ℕ, List, [], ◌∷◌, ◌++◌, IsOk, ap, arith, is_ok, refl, suc}
 use Rattle.std.proofs.lemmas.List.Elements.{All-cons, All-nil}
 use Rattle.std.specs.List.{All}
 use Rattle.std.specs.declared.result.Result.{Result}
@@ -7,12 +7,10 @@ use Rattle.std.specs.declared.result.Result.TheVariants.{Ok, Err}
 use Rattle.sql_value.specs.declared.value.Value.{Value}
 use Rattle.table_state.specs.Lists.{state_of}
 use Rattle.tpch_outside.specs.Outside.{Folder}
-use Rattle.tpch_schema.specs.State.{State}
 use Rattle.tpch_schema.specs.Tables.{all_tables}
 use Rattle.tpch_schema.specs.declared.table.TableName.{TableName}
-use Rattle.tpch_main.specs.Inputs.{BadInput, and_then, lists_in, script_in, state_in, table_in}
-use Rattle.tpch_main.specs.Laws.{IsFirstBadTable, SessionOrderLaw, TablesOrderLaw}
-use Rattle.tpch_main.specs.declared.statement.Statement.{Statement}
+use Rattle.tpch_main.specs.Inputs.{BadInput, and_then, lists_in, state_in, table_in}
+use Rattle.tpch_main.specs.Laws.{IsFirstBadTable, TablesOrderLaw}
 
 -- what is made of an input doesn't change its refusal
 still_refused : {A B : Type 0} → (make : A → B) (input : Result A BadInput) (refused : BadInput) → and_then input (λ x. Ok (make x)) ≡ Err refused → input ≡ Err refused
@@ -61,22 +59,3 @@ state_refused dir folder refused first = ap (λ lists. and_then lists (λ read. 
 
 pub tables_law : TablesOrderLaw
 tables_law dir folder refused = (λ e. first_bad dir folder all_tables refused (still_refused state_of (lists_in dir all_tables folder) refused e), state_refused dir folder refused)
-
--- a session's inputs, from its script and its tables
-abbrev pub both_of : Result Statement BadInput → Result State BadInput → Result (Statement × State) BadInput
-both_of script tables = and_then script (λ statement. and_then tables (λ state. Ok (statement, state)))
-
--- a session's inputs: the script is refused, or it is good and the tables are refused
-session_first : (script : Result Statement BadInput) (tables : Result State BadInput) (refused : BadInput) → both_of script tables ≡ Err refused → (script ≡ Err refused) ⊎ (IsOk script × (tables ≡ Err refused))
-session_first (Ok statement) tables refused e =
-    let pair : State → Statement × State = λ state. (statement, state) in
-    inr (refl, still_refused pair tables refused e)
-session_first (Err first) tables refused e = let same : first ≡ refused = cc in inl (ap Err same)
-
-session_refused : (script : Result Statement BadInput) (tables : Result State BadInput) (refused : BadInput) → (script ≡ Err refused) ⊎ (IsOk script × (tables ≡ Err refused)) → both_of script tables ≡ Err refused
-session_refused script tables refused (inl bad) = rw bad refl
-session_refused (Ok statement) tables refused (inr (good, bad)) = rw bad refl
-session_refused (Err first) tables refused (inr (good, bad)) = absurd (cc)
-
-pub session_law : SessionOrderLaw
-session_law dir script folder refused = (session_first (script_in folder script) (state_in dir folder) refused, session_refused (script_in folder script) (state_in dir folder) refused)

@@ -1,77 +1,98 @@
 -- The text of a command, from what its inputs mean, and what is printed of its first refused input.
-use Rattle.std.proofs.Common.{◌≡◌, ◌∙◌, ℕ, List, Option, None, Some, ap, inl, inr, refl, subst, sym}
-use Rattle.std.specs.Global.{Vec}
+use Rattle.std.proofs.Common.{◌≡◌, ◌≢◌, ◌∙◌, ◌⊎◌, ℕ, List, Option, None, Some, Bool, true, false, ap, inl, inr, refl, subst, sym}
 use Rattle.std.specs.Result.{result_err}
 use Rattle.std.specs.declared.result.Result.{Result}
 use Rattle.std.specs.declared.result.Result.TheVariants.{Ok, Err}
 use Rattle.tpch_outside.specs.Outside.{Folder}
 use Rattle.tpch_schema.specs.State.{State}
-use Rattle.tpch_main.specs.Answer.{IsAnswerText}
 use Rattle.tpch_main.specs.Counts.{counts_text}
-use Rattle.tpch_main.specs.Inputs.{BadInput, refusal_line, session_inputs, state_in}
-use Rattle.tpch_main.specs.Meaning.{IsAbsentInput, Prints, PrintsFrom, PrintsOf, first_refused}
-use Rattle.tpch_main.specs.Views.{Answers, IsAbsence, IsTextOf, refused_view}
+use Rattle.tpch_main.specs.Inputs.{AreInputs, BadInput, Work, refusal_line, state_in}
+use Rattle.tpch_main.specs.Meaning.{IsAbsentInput, IsAnswer, IsDone, IsFirstRefused, MeansCheck, MeansSession, Prints, PrintsFrom, PrintsOf}
+use Rattle.tpch_main.specs.Views.{Explains, IfKnown, IsAbsence, IsTextOf, refused_view}
 use Rattle.tpch_main.specs.Words.{Command}
 use Rattle.tpch_main.specs.Words.Command.{check, session}
 use Rattle.tpch_main.specs.declared.input_error.InputFault.TheVariants as fault
 use Rattle.tpch_main.specs.declared.input_error.InputError.{InputError}
 use Rattle.tpch_main.specs.declared.input_error.InputError.TheVariants as error
 use Rattle.tpch_main.specs.declared.input_error.RefusedInput.{RefusedInput}
-use Rattle.tpch_main.specs.declared.statement.Statement.{Statement}
+use Rattle.tpch_main.specs.declared.status.Status.{Status}
 use Rattle.tpch_main.specs.declared.status.Status.TheVariants as status
+use Rattle.tpch_main.proofs.OneWork.{inputs_alike}
 
--- a text that means a command's inputs is the command's
-pub text_is : {A : Type 0} → (Means : A → List ℕ → Type 0) (input : Folder → Result A BadInput) (command : Command)
-    → ((folder : Folder) (text : List ℕ) → PrintsOf Means (input folder) text status.Done → PrintsFrom command folder text status.Done)
-    → ((folder : Folder) (first : BadInput) → result_err (input folder) ≡ Some first → first_refused command folder ≡ Some first)
-    → (held : Option Folder) (result : Result (Vec ℕ) InputError) → Answers Means held input result → IsTextOf command held result
-text_is Means input command prints refuses None (Ok text) answers = inl refl
-text_is {A = A} Means input command prints refuses (Some folder) (Ok text) (read, is, means) =
-    prints folder text.items (subst (λ (inputs : Result A BadInput). PrintsOf Means inputs text.items status.Done) (sym is) (means, refl))
-text_is Means input command prints refuses held (Err (error.Unread unread)) answers = tt
-text_is Means input command prints refuses None (Err (error.Refused refusal)) answers = tt
-text_is Means input command prints refuses (Some folder) (Err (error.Refused refusal)) answers = refuses folder (refused_view refusal) (ap result_err answers)
+-- the counts of a folder whose tables are there
+pub check_printed : (dir : List ℕ) (held : Option Folder) (text : List ℕ) → IfKnown held (λ folder. (state : State) × (state_in dir folder ≡ Ok state) × (text ≡ counts_text state)) → Prints (Some (check dir)) held text status.Done
+check_printed dir None text told = inl refl
+check_printed dir (Some folder) text (state, is, means) = subst (λ (r : Result State BadInput). PrintsOf MeansCheck r text status.Done) (sym is) (means, refl)
 
--- the text of a session
-pub session_is : (dir script : List ℕ) (held : Option Folder) (result : Result (Vec ℕ) InputError) → Answers (λ (inputs : Statement × State). IsAnswerText inputs.0 inputs.1.region) held (session_inputs dir script) result → IsTextOf (session dir script) held result
-session_is dir script = text_is (λ (inputs : Statement × State). IsAnswerText inputs.0 inputs.1.region) (session_inputs dir script) (session dir script) (λ folder text printed. printed) (λ folder first is. is)
+-- a refused table of a check
+pub check_refused : (dir : List ℕ) (held : Option Folder) (made : InputError) → Explains held (state_in dir) made → IsTextOf (check dir) held (Err made)
+check_refused dir held (error.Unread unread) explains = tt
+check_refused dir None (error.Refused refusal) explains = tt
+check_refused dir (Some folder) (error.Refused refusal) explains = sym (ap result_err explains)
 
--- the text of a check
-pub check_is : (dir : List ℕ) (held : Option Folder) (result : Result (Vec ℕ) InputError) → Answers (λ (state : State) text. text ≡ counts_text state) held (state_in dir) result → IsTextOf (check dir) held result
-check_is dir = text_is (λ (state : State) text. text ≡ counts_text state) (state_in dir) (check dir) (λ folder text printed. printed) (λ folder first is. is)
+-- a session's status
+pub session_may_end : (dir script : List ℕ) (held : Option Folder) (text : List ℕ) (s : Status) → IsDone s → IfKnown held (λ folder. PrintsFrom (session dir script) folder text s) → Prints (Some (session dir script)) held text s
+session_may_end dir script None text s (inl e) told = inl e
+session_may_end dir script None text s (inr e) told = inr (inl e)
+session_may_end dir script (Some folder) text s done told = told
+
+-- a text was printed whole with such a status
+pub done_answers : (s : Status) → IsDone s → IsAnswer s
+done_answers s (inl e) = subst IsAnswer (sym e) tt
+done_answers s (inr e) = subst IsAnswer (sym e) tt
 
 -- of inputs whose first refused one that is, its line is printed
-line_printed : {A : Type 0} → (Means : A → List ℕ → Type 0) (inputs : Result A BadInput) (first : BadInput) → result_err inputs ≡ Some first → PrintsOf Means inputs (refusal_line first) status.InputRefused
+line_printed : {A : Type 0} → (Means : A → List ℕ → Status → Type 0) (inputs : Result A BadInput) (first : BadInput) → Some first ≡ result_err inputs → PrintsOf Means inputs (refusal_line first) status.InputRefused
 line_printed Means (Ok read) first is = absurd (cc)
 line_printed Means (Err refused) first is =
     let same : first ≡ refused = cc in
     (ap refusal_line same, refl)
 
--- the same of a command
-first_printed : (command : Command) (folder : Folder) (first : BadInput) → first_refused command folder ≡ Some first → PrintsFrom command folder (refusal_line first) status.InputRefused
-first_printed (session dir script) folder first is = line_printed _ (session_inputs dir script folder) first is
-first_printed (check dir) folder first is = line_printed _ (state_in dir folder) first is
+first_printed : (command : Command) (folder : Folder) (first : BadInput) → IsFirstRefused command folder (Some first) → PrintsFrom command folder (refusal_line first) status.InputRefused
+first_printed (session dir script) folder first (inputs, are, is) = (inputs, are, line_printed MeansSession inputs first is)
+first_printed (check dir) folder first is = line_printed MeansCheck (state_in dir folder) first is
 
 -- the line of a command's first refused input is printed
 pub refusal_printed : (command : Command) (held : Option Folder) (refusal : RefusedInput) → IsTextOf command held (Err (error.Refused refusal)) → Prints (Some command) held (refusal_line (refused_view refusal)) status.InputRefused
-refusal_printed command None refusal is = inr refl
+refusal_printed (session dir script) None refusal is = inr (inr refl)
+refusal_printed (check dir) None refusal is = inr refl
 refusal_printed command (Some folder) refusal is = first_printed command folder (refused_view refusal) is
 
--- of inputs that are answered none is refused
-answered_whole : {A : Type 0} → (Means : A → List ℕ → Type 0) (inputs : Result A BadInput) (text : List ℕ) (first : BadInput) → PrintsOf Means inputs text status.Done → result_err inputs ≡ Some first → ⊥
-answered_whole Means (Ok read) text first prints is = cc
-answered_whole Means (Err refused) text first prints is = let wrong = prints.1 in cc
+-- a status is not two
+not_refused : (s : Status) → IsDone s → s ≡ status.InputRefused → ⊥
+not_refused s (inl e) is = let wrong : status.Done ≡ status.InputRefused = sym e ∙ is in cc
+not_refused s (inr e) is = let wrong : status.SomeRefused ≡ status.InputRefused = sym e ∙ is in cc
+
+-- inputs that are answered are there
+answered_there : {A : Type 0} → (Means : A → List ℕ → Status → Type 0) (inputs : Result A BadInput) (text : List ℕ) (s : Status) (first : BadInput) → PrintsOf Means inputs text s → IsDone s → inputs ≡ Err first → ⊥
+answered_there Means (Ok read) text s first prints done is = cc
+answered_there Means (Err refused) text s first prints done is = not_refused s done prints.1
+
+refused_is : {A : Type 0} → (inputs : Result A BadInput) (first : BadInput) → Some first ≡ result_err inputs → inputs ≡ Err first
+refused_is (Ok read) first is = absurd (cc)
+refused_is (Err refused) first is = let same : refused ≡ first = cc in ap Err same
 
 -- a command that is answered has no absent input
-pub text_without_absence : (command : Command) (held : Option Folder) (text : List ℕ) → Prints (Some command) held text status.Done → IsAbsentInput (Some command) held → ⊥
-text_without_absence command None text prints absent = absent
-text_without_absence (session dir script) (Some folder) text prints (name, is) = answered_whole _ (session_inputs dir script folder) text _ prints is
-text_without_absence (check dir) (Some folder) text prints (name, is) = answered_whole _ (state_in dir folder) text _ prints is
+pub text_without_absence : (command : Command) (held : Option Folder) (text : List ℕ) (s : Status) → Prints (Some command) held text s → IsDone s → IsAbsentInput (Some command) held → ⊥
+text_without_absence command None text s prints done absent = absent
+text_without_absence (check dir) (Some folder) text s prints done (name, is) = answered_there MeansCheck (state_in dir folder) text s _ prints done (refused_is (state_in dir folder) _ is)
+text_without_absence (session dir script) (Some folder) text s (inputs, are, prints) done (name, (others, are', is)) =
+    at (inputs_alike dir script folder inputs others are are') (refused_is others (record { name = name; fault = fault.Absent }) is)
+  where
+    at : (inputs ≡ others) ⊎ ((first : BadInput) × (second : BadInput) × (inputs ≡ Err first) × (others ≡ Err second) × (first.fault ≢ fault.Absent) × (second.fault ≢ fault.Absent)) → others ≡ Err (record { name = name; fault = fault.Absent }) → ⊥
+    at (inl e) gone = answered_there MeansSession inputs text s _ prints done (e ∙ gone)
+    at (inr (first, second, one, two, p, q)) gone = answered_there MeansSession inputs text s first prints done one
 
 -- where the first refused input is an absent file, the refusal says so
+fault_of_input : (a b : BadInput) → Some a ≡ Some b → a.fault ≡ b.fault
+fault_of_input a b e = let same : a ≡ b = cc in ap (λ r. r.fault) same
+
 pub refusal_of_absence : (command : Command) (held : Option Folder) (refusal : RefusedInput) → IsTextOf command held (Err (error.Refused refusal)) → IsAbsentInput (Some command) held → IsAbsence (error.Refused refusal)
 refusal_of_absence command None refusal is absent = absurd absent
-refusal_of_absence command (Some folder) refusal is (name, absent) = fault_of_input (refused_view refusal) (record { name = name; fault = fault.Absent }) (sym is ∙ absent)
+refusal_of_absence (check dir) (Some folder) refusal is (name, absent) = fault_of_input (refused_view refusal) (record { name = name; fault = fault.Absent }) (is ∙ sym absent)
+refusal_of_absence (session dir script) (Some folder) refusal (inputs, are, is) (name, (others, are', absent)) =
+    at (inputs_alike dir script folder inputs others are are') (refused_is others (record { name = name; fault = fault.Absent }) absent)
   where
-    fault_of_input : (a b : BadInput) → Some a ≡ Some b → a.fault ≡ b.fault
-    fault_of_input a b e = let same : a ≡ b = cc in ap (λ r. r.fault) same
+    at : (inputs ≡ others) ⊎ ((first : BadInput) × (second : BadInput) × (inputs ≡ Err first) × (others ≡ Err second) × (first.fault ≢ fault.Absent) × (second.fault ≢ fault.Absent)) → others ≡ Err (record { name = name; fault = fault.Absent }) → refusal.fault ≡ fault.Absent
+    at (inl e) gone = fault_of_input (refused_view refusal) (record { name = name; fault = fault.Absent }) (is ∙ ap result_err (e ∙ gone))
+    at (inr (first, second, one, two, p, q)) gone = absurd (q (fault_of_input second (record { name = name; fault = fault.Absent }) (ap result_err (sym two ∙ gone))))

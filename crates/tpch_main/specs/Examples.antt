@@ -1,22 +1,14 @@
 -- Some values of the definitions, worked out by hand.
-use Rattle.std.specs.Prelude.{◌≡◌, ℕ, ℤ, pos, List, [], ◌∷◌, ◌++◌, None, Some, Result, Err, Ok, codes, map}
+use Rattle.std.specs.Prelude.{◌≡◌, ℕ, ℤ, pos, List, [], ◌∷◌, ◌++◌, Result, Err, Ok, codes, map}
 use Rattle.refusals.specs.declared.line.LineFault.TheVariants.{DuplicateKey}
 use Rattle.sql_value.specs.declared.value.Value.{Value}
 use Rattle.sql_value.specs.declared.value.Value.TheVariants as value
 use Rattle.tpch_outside.specs.Outside.{Folder}
 use Rattle.tpch_schema.specs.State.{State}
-use Rattle.tpch_main.specs.Answer.{IsAnswerText}
 use Rattle.tpch_main.specs.Counts.{counts_text}
-use Rattle.tpch_main.specs.Inputs.{BadInput, refusal_line, session_inputs, state_in}
-use Rattle.tpch_main.specs.Script.{script_of}
+use Rattle.tpch_main.specs.Inputs.{AreInputs, BadInput, refusal_line, state_in}
 use Rattle.tpch_main.specs.declared.input_error.InputFault.{InputFault}
 use Rattle.tpch_main.specs.declared.input_error.InputFault.TheVariants as fault
-use Rattle.tpch_main.specs.declared.statement.Column.TheVariants as column
-use Rattle.tpch_main.specs.declared.statement.Statement.{Statement}
-
--- the names of the regions whose key is below 2
-abbrev pub names_below_two : Statement
-names_below_two = record { column = column.Name; limit = 2 }
 
 -- a row of region
 abbrev pub region_row : ℤ → List ℕ → List ℕ → List Value
@@ -50,33 +42,21 @@ good_region = (codes "d/region.tbl", codes "2|ASIA||\n1|AMERICA|b|\n0|AFRICA|a|\
 abbrev pub good_folder : Folder
 good_folder = good_region ∷ map empty_table (codes "nation" ∷ codes "part" ∷ codes "supplier" ∷ codes "partsupp" ∷ codes "customer" ∷ codes "orders" ∷ codes "lineitem" ∷ [])
 
--- a script
-abbrev pub good_script : List ℕ × List ℕ
-good_script = (codes "s", codes "select r_name from region where r_regionkey < 2;")
-
 -- the input of that name is refused
 abbrev pub refused : {A : Type 0} → List ℕ → InputFault → Result A BadInput
 refused name why = Err (record { name = name; fault = why })
 
 -- what the definitions say of these
 pub record Examples : Type 0 where
-  -- a script is a statement with its semicolon, and with one LF or none after it
-  pub script : script_of (codes "select r_name from region where r_regionkey < 2;") ≡ Some names_below_two
-  pub line : script_of (codes "select r_name from region where r_regionkey < 002;\n") ≡ Some names_below_two
-  pub unended : script_of (codes "select r_name from region where r_regionkey < 2") ≡ None
-  pub two_lines : script_of (codes "select r_name from region where r_regionkey < 2;\n\n") ≡ None
   -- the first refused input counts: the script comes before the tables, region before nation
-  pub script_first : session_inputs (codes "d") (codes "s") [] ≡ refused (codes "s") fault.Absent
+  pub script_first : AreInputs (codes "d") (codes "s") [] (refused (codes "s") fault.Absent)
   pub region_first : state_in (codes "d") (bad_nation ∷ []) ≡ refused (codes "d/region.tbl") fault.Absent
   pub line_refused : state_in (codes "d") (bad_nation ∷ no_region ∷ []) ≡ refused (codes "d/nation.tbl") (fault.Line (record { line = 2; fault = DuplicateKey }))
   -- good inputs are accepted, with the rows of their files
   pub accepted : state_in (codes "d") good_folder ≡ Ok regions_only
-  pub both_accepted : session_inputs (codes "d") (codes "s") (good_script ∷ good_folder) ≡ Ok (names_below_two, regions_only)
   pub one_missing : state_in (codes "d") (good_region ∷ []) ≡ refused (codes "d/nation.tbl") fault.Absent
   -- and a refused one is printed with its name, and a bad line with its place
   pub absent_line : refusal_line (record { name = codes "d/region.tbl"; fault = fault.Absent }) ≡ codes "input refused d/region.tbl absent\n"
   pub bad_line : refusal_line (record { name = codes "d/nation.tbl"; fault = fault.Line (record { line = 2; fault = DuplicateKey }) }) ≡ codes "input refused d/nation.tbl line 2 7 DuplicateKey\n"
   -- each table's rows are counted, in the schema's order
   pub counted : counts_text regions_only ≡ codes "region rows 3\nnation rows 0\npart rows 0\nsupplier rows 0\npartsupp rows 0\ncustomer rows 0\norders rows 0\nlineitem rows 0\n"
-  -- an answer has its header line and its rows
-  pub answer : IsAnswerText names_below_two three_regions (codes "[1] version 0 rows 2\nAFRICA\nAMERICA\n")

@@ -1,22 +1,35 @@
 -- What the files of a command hold, and which of them is refused first.
-use Rattle.std.specs.Prelude.{ℕ, List, [], ◌∷◌, ◌++◌, length, Option, None, Some, if◌then◌else◌, codes, decimal, nat_lt}
+use Rattle.std.specs.Prelude.{◌≡◌, ℕ, List, [], ◌∷◌, ◌++◌, length, Option, None, Some, if◌then◌else◌, codes, decimal, nat_lt}
+use Rattle.std.specs.List.{flat_map}
 use Rattle.std.specs.declared.result.Result.{Result}
 use Rattle.std.specs.declared.result.Result.TheVariants.{Ok, Err}
-use Rattle.std.specs.Option.{ok_or}
+use Rattle.query_streams.specs.Expansion.{ExpandAll}
 use Rattle.refusals.specs.Line.{line_fault_name, line_fault_number}
 use Rattle.refusals.specs.declared.line.LineRefusal.{LineRefusal}
+use Rattle.refusals.specs.declared.refresh.RefreshFile.{RefreshFile}
+use Rattle.refusals.specs.declared.refresh.RefreshFile.TheVariants.{Orders, Lineitem, Delete}
+use Rattle.result_text.specs.Refusal.{file_name}
+use Rattle.sql_ast.specs.declared.statement.RefreshKind.{RefreshKind}
+use Rattle.sql_ast.specs.declared.statement.RefreshKind.TheVariants as refresh
+use Rattle.sql_ast.specs.declared.statement.Statement.{Statement}
+use Rattle.sql_ast.specs.declared.statement.Statement.TheVariants as statement
+use Rattle.sql_parser.specs.Script.{IsReadScript, IsRefusedScript}
+use Rattle.sql_parser.specs.declared.fault.ScriptRefusal.{ScriptRefusal}
+use Rattle.sql_parser.specs.declared.fault.ScriptRefusal.TheVariants as script
 use Rattle.sql_value.specs.declared.value.Value.{Value}
+use Rattle.table_state.specs.Keys.{order_keys}
 use Rattle.table_state.specs.Lists.{state_of}
+use Rattle.table_state.specs.Refresh.{Change, DeleteKeys, InsertRows, MalformedFile}
 use Rattle.tbl_reader.specs.File.{file_rows, most_bytes}
 use Rattle.tpch_outside.specs.Outside.{Folder, file_of}
-use Rattle.tpch_schema.specs.LineForm.{table_form}
+use Rattle.tpch_schema.specs.LineForm.{refresh_form, table_form}
 use Rattle.tpch_schema.specs.State.{State}
 use Rattle.tpch_schema.specs.Tables.{all_tables, table_name}
 use Rattle.tpch_schema.specs.declared.table.TableName.{TableName}
-use Rattle.tpch_main.specs.Script.{script_of}
+use Rattle.tpch_main.specs.ScriptRefusals.{script_refusal_name, script_refusal_number}
 use Rattle.tpch_main.specs.declared.input_error.InputFault.{InputFault}
 use Rattle.tpch_main.specs.declared.input_error.InputFault.TheVariants as fault
-use Rattle.tpch_main.specs.declared.statement.Statement.{Statement}
+use Rattle.tpch_main.specs.declared.refreshes.Mention.{Mention}
 
 -- an input that is refused: its name and why
 pub record BadInput : Type 0 where
@@ -30,24 +43,36 @@ script_limit = 1_048_576
 -- the bytes of a file, refused where there is none or where they are more than that
 abbrev pub bytes_within : ℕ → List ℕ → Option (List ℕ) → Result (List ℕ) BadInput
 bytes_within limit name None = Err (record { name = name; fault = fault.Absent })
-bytes_within limit name (Some bytes) = if nat_lt limit (length bytes) then Err (record { name = name; fault = fault.NotBuilt }) else Ok bytes
+bytes_within limit name (Some bytes) = if nat_lt limit (length bytes) then Err (record { name = name; fault = fault.Byte script.TooLong limit }) else Ok bytes
 
 -- the bytes of the file of that name, refused where it is absent or has more bytes than that
 abbrev pub file_bytes : ℕ → Folder → List ℕ → Result (List ℕ) BadInput
 file_bytes limit folder name = bytes_within limit name (file_of folder name)
-
--- what was read of an input, refused where it isn't of its form
-abbrev pub value_or_refusal : {A : Type 0} → List ℕ → Option A → Result A BadInput
-value_or_refusal name read = ok_or read (record { name = name; fault = fault.NotBuilt })
 
 -- what is read on from an input, where it isn't refused
 abbrev pub and_then : {A B : Type 0} → Result A BadInput → (A → Result B BadInput) → Result B BadInput
 and_then (Ok read) further = further read
 and_then (Err refused) further = Err refused
 
--- the statement of the script of that name
-abbrev pub script_in : Folder → List ℕ → Result Statement BadInput
-script_in folder name = and_then (file_bytes script_limit folder name) (λ bytes. value_or_refusal name (script_of bytes))
+-- the bytes are these statements, or have that first refusal at its byte
+abbrev pub IsRead : List ℕ → List ℕ → Result (List Statement) BadInput → Type 0
+IsRead name bytes (Ok statements) = IsReadScript bytes statements
+IsRead name bytes (Err refused) = (r : ScriptRefusal) × (place : ℕ) × IsRefusedScript r bytes place × (refused ≡ record { name = name; fault = fault.Byte r place })
+
+-- the script of that name: its statements, or why there are none
+abbrev pub IsScriptOf : List ℕ → Result (List ℕ) BadInput → Result (List Statement) BadInput → Type 0
+IsScriptOf name (Ok bytes) read = IsRead name bytes read
+IsScriptOf name (Err refused) read = read ≡ Err refused
+
+-- the statements that a script stands for, where it is read
+abbrev pub StandsFor : Result (List Statement) BadInput → Result (List Statement) BadInput → Type 0
+StandsFor (Ok statements) (Ok steps) = ExpandAll statements steps
+StandsFor (Ok statements) (Err refused) = ⊥
+StandsFor (Err refused) steps = steps ≡ Err refused
+
+-- the statements that the script of that name in a folder stands for, or why there are none
+abbrev pub AreSteps : Folder → List ℕ → Result (List Statement) BadInput → Type 0
+AreSteps folder name steps = (read : Result (List Statement) BadInput) × IsScriptOf name (file_bytes script_limit folder name) read × StandsFor read steps
 
 -- the rows that were read of a table's file, which its first bad line refuses
 abbrev pub rows_or_refusal : {A : Type 0} → List ℕ → Result A LineRefusal → Result A BadInput
@@ -77,18 +102,82 @@ lists_in dir (table ∷ tables) folder =
 abbrev pub state_in : List ℕ → Folder → Result State BadInput
 state_in dir folder = and_then (lists_in dir all_tables folder) (λ lists. Ok (state_of lists))
 
--- the inputs of a session in their reading order: the script, then the tables
-abbrev pub session_inputs : List ℕ → List ℕ → Folder → Result (Statement × State) BadInput
-session_inputs dir script folder = and_then (script_in folder script) (λ statement. and_then (state_in dir folder) (λ state. Ok (statement, state)))
+-- the name of a refresh file in a folder
+abbrev pub set_file : List ℕ → RefreshFile → ℕ → List ℕ
+set_file dir file set = dir ++ codes "/" ++ file_name file set
+
+-- what a refresh file holds, if it is there: its rows, or its first bad line
+abbrev pub set_rows : List ℕ → RefreshFile → Option (List ℕ) → Result (Result (List (List Value)) LineRefusal) BadInput
+set_rows name file None = Err (record { name = name; fault = fault.Absent })
+set_rows name file (Some bytes) = Ok (file_rows (refresh_form file) most_bytes bytes)
+
+-- what a refresh file of a folder holds
+abbrev pub set_rows_in : List ℕ → RefreshFile → ℕ → Folder → Result (Result (List (List Value)) LineRefusal) BadInput
+set_rows_in dir file set folder = set_rows (set_file dir file set) file (file_of folder (set_file dir file set))
+
+-- an insert of what these files hold; a bad line of the orders comes before one of the lineitems
+abbrev pub insert_of : ℕ → Result (List (List Value)) LineRefusal → Result (List (List Value)) LineRefusal → Change
+insert_of set (Err first) lineitems = MalformedFile Orders set first
+insert_of set (Ok orders) (Err first) = MalformedFile Lineitem set first
+insert_of set (Ok orders) (Ok lineitems) = InsertRows orders lineitems
+
+-- a delete of what this file holds
+abbrev pub delete_of : ℕ → Result (List (List Value)) LineRefusal → Change
+delete_of set (Err first) = MalformedFile Delete set first
+delete_of set (Ok keys) = DeleteKeys (order_keys keys)
+
+-- a refresh of what its files in a folder hold; the first absent one counts
+abbrev pub refresh_in : List ℕ → RefreshKind → ℕ → Folder → Result Change BadInput
+refresh_in dir refresh.Insert set folder = and_then (set_rows_in dir Orders set folder) (λ orders.
+    and_then (set_rows_in dir Lineitem set folder) (λ lineitems. Ok (insert_of set orders lineitems)))
+refresh_in dir refresh.Delete set folder = and_then (set_rows_in dir Delete set folder) (λ keys. Ok (delete_of set keys))
+
+-- a refresh that a statement names
+abbrev pub mention_of : Statement → List Mention
+mention_of (statement.Refresh change set) = record { change = change; set = set } ∷ []
+mention_of other = []
+
+-- the refreshes that statements name, in their order
+abbrev pub mentions_of : List Statement → List Mention
+mentions_of steps = flat_map mention_of steps
+
+-- what the files of these refreshes hold, in their order; the first absent one counts
+abbrev pub changes_in : List ℕ → List Mention → Folder → Result (List Change) BadInput
+changes_in dir [] folder = Ok []
+changes_in dir (mention ∷ mentions) folder =
+    and_then (refresh_in dir mention.change mention.set folder) (λ change. and_then (changes_in dir mentions folder) (λ list. Ok (change ∷ list)))
+
+-- the refreshes of statements
+abbrev pub refreshes_in : List ℕ → List Statement → Folder → Result (List Change) BadInput
+refreshes_in dir steps folder = changes_in dir (mentions_of steps) folder
+
+-- what a session works on: the statements that its script stands for, the tables, and its refreshes
+pub record Work : Type 0 where
+  pub steps : List Statement
+  pub base : State
+  pub list : List Change
+
+-- a session's tables and refreshes, once its script is read
+abbrev pub work_of : List ℕ → Folder → List Statement → Result Work BadInput
+work_of dir folder steps = and_then (state_in dir folder) (λ base.
+    and_then (refreshes_in dir steps folder) (λ list. Ok (record { steps = steps; base = base; list = list })))
+
+-- the inputs of a session in their reading order: the script, the tables, the refresh files
+abbrev pub AreInputs : List ℕ → List ℕ → Folder → Result Work BadInput → Type 0
+AreInputs dir script folder inputs = (steps : Result (List Statement) BadInput) × AreSteps folder script steps × (inputs ≡ and_then steps (work_of dir folder))
 
 -- a line's number, its fault's number and its fault's name
 abbrev pub line_text : LineRefusal → List ℕ
 line_text first = codes " line " ++ decimal first.line ++ codes " " ++ decimal (line_fault_number first.fault) ++ codes " " ++ line_fault_name first.fault ++ codes "\n"
 
+-- a script's byte, its refusal's number and its refusal's name
+abbrev pub byte_text : ScriptRefusal → ℕ → List ℕ
+byte_text refusal place = codes " byte " ++ decimal place ++ codes " " ++ decimal (script_refusal_number refusal) ++ codes " " ++ script_refusal_name refusal ++ codes "\n"
+
 -- why an input is refused, as it is printed after the input's name
 abbrev pub fault_text : InputFault → List ℕ
 fault_text fault.Absent = codes " absent\n"
-fault_text fault.NotBuilt = codes " not built\n"
+fault_text (fault.Byte refusal place) = byte_text refusal place
 fault_text (fault.Line first) = line_text first
 
 -- the line for a refused input

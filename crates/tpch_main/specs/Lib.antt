@@ -2,8 +2,6 @@ pub mod Subcommands
 pub mod Words
 pub mod Status
 pub mod WordLaws
-pub mod Script
-pub mod Answer
 pub mod Counts
 pub mod Inputs
 pub mod Meaning
@@ -14,3 +12,6 @@ pub mod Examples
 pub mod Front
 pub mod TableFile
 pub mod Lists
+pub mod ScriptRefusals
+pub mod Turns
+pub mod SetFile

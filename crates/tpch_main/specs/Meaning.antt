@@ -5,9 +5,10 @@ use Rattle.std.specs.Result.{result_err}
 use Rattle.std.specs.declared.result.Result.{Result}
 use Rattle.std.specs.declared.result.Result.TheVariants.{Ok, Err}
 use Rattle.tpch_outside.specs.Outside.{AppendsPart, Folder}
-use Rattle.tpch_main.specs.Answer.{IsAnswerText}
+use Rattle.tpch_schema.specs.State.{State}
 use Rattle.tpch_main.specs.Counts.{counts_text}
-use Rattle.tpch_main.specs.Inputs.{BadInput, refusal_line, session_inputs, state_in}
+use Rattle.tpch_main.specs.Inputs.{AreInputs, BadInput, Work, refusal_line, state_in}
+use Rattle.tpch_main.specs.Turns.{session_status, session_text}
 use Rattle.tpch_main.specs.Words.{Command, usage_line}
 use Rattle.tpch_main.specs.Words.Command.{check, session}
 use Rattle.tpch_main.specs.declared.input_error.InputFault.TheVariants as fault
@@ -24,19 +25,32 @@ IsAnswer status.ReadFault = ⊥
 IsAnswer status.WriteFault = ⊥
 IsAnswer status.OutOfMemory = ⊥
 
--- what is printed of inputs: what they mean, or the line of the first refused one
-abbrev pub PrintsOf : {A : Type 0} → (A → List ℕ → Type 0) → Result A BadInput → List ℕ → Status → Type 0
-PrintsOf Means (Ok inputs) text s = Means inputs text × (s ≡ status.Done)
+-- the statuses with which inputs that are there end
+abbrev pub IsDone : Status → Type 0
+IsDone s = (s ≡ status.Done) ⊎ (s ≡ status.SomeRefused)
+
+-- what is printed of inputs: what they mean, with its status, or the line of the first refused one
+abbrev pub PrintsOf : {A : Type 0} → (A → List ℕ → Status → Type 0) → Result A BadInput → List ℕ → Status → Type 0
+PrintsOf Means (Ok inputs) text s = Means inputs text s
 PrintsOf Means (Err refused) text s = (text ≡ refusal_line refused) × (s ≡ status.InputRefused)
 
--- what a command prints over files with known contents: a session the answer over region, a check the counts
+-- a session's text, and whether a statement is refused
+abbrev pub MeansSession : Work → List ℕ → Status → Type 0
+MeansSession work text s = (text ≡ session_text work) × (s ≡ session_status work)
+
+-- the counts of the tables
+abbrev pub MeansCheck : State → List ℕ → Status → Type 0
+MeansCheck state text s = (text ≡ counts_text state) × (s ≡ status.Done)
+
+-- what a command prints over files with known contents: a session the text of its statements, a check the counts
 abbrev pub PrintsFrom : Command → Folder → List ℕ → Status → Type 0
-PrintsFrom (session dir script) folder text s = PrintsOf (λ inputs. IsAnswerText inputs.0 inputs.1.region) (session_inputs dir script folder) text s
-PrintsFrom (check dir) folder text s = PrintsOf (λ state counts. counts ≡ counts_text state) (state_in dir folder) text s
+PrintsFrom (session dir script) folder text s = (inputs : Result Work BadInput) × AreInputs dir script folder inputs × PrintsOf MeansSession inputs text s
+PrintsFrom (check dir) folder text s = PrintsOf MeansCheck (state_in dir folder) text s
 
 -- the statuses with which a command's text may be printed
 abbrev pub MayEnd : Command → Status → Type 0
-MayEnd command s = (s ≡ status.Done) ⊎ (s ≡ status.InputRefused)
+MayEnd (session dir script) s = (s ≡ status.Done) ⊎ (s ≡ status.SomeRefused) ⊎ (s ≡ status.InputRefused)
+MayEnd (check dir) s = (s ≡ status.Done) ⊎ (s ≡ status.InputRefused)
 
 -- what may be printed by the command, if the words are one, over the files, where their contents are known
 abbrev pub Prints : Option Command → Option Folder → List ℕ → Status → Type 0
@@ -57,18 +71,18 @@ abbrev pub TakesPart : Option Command → Option Folder → Option (List ℕ) �
 TakesPart command known before now = (text : List ℕ) × MayPrint command known text × AppendsPart before now text
 
 -- the first refused input, if there is one
-abbrev pub first_refused : Command → Folder → Option BadInput
-first_refused (session dir script) folder = result_err (session_inputs dir script folder)
-first_refused (check dir) folder = result_err (state_in dir folder)
+abbrev pub IsFirstRefused : Command → Folder → Option BadInput → Type 0
+IsFirstRefused (session dir script) folder first = (inputs : Result Work BadInput) × AreInputs dir script folder inputs × (first ≡ result_err inputs)
+IsFirstRefused (check dir) folder first = first ≡ result_err (state_in dir folder)
 
 -- the first refused input is an absent file
 abbrev pub IsAbsentInput : Option Command → Option Folder → Type 0
 IsAbsentInput None known = ⊥
 IsAbsentInput (Some command) None = ⊥
-IsAbsentInput (Some command) (Some folder) = (name : List ℕ) × (first_refused command folder ≡ Some (record { name = name; fault = fault.Absent }))
+IsAbsentInput (Some command) (Some folder) = (name : List ℕ) × IsFirstRefused command folder (Some (record { name = name; fault = fault.Absent }))
 
 -- the words are a command, and the contents of each file that it names are known, and each is there and of its form
 abbrev pub IsAccepted : Option Command → Option Folder → Type 0
 IsAccepted None known = ⊥
 IsAccepted (Some command) None = ⊥
-IsAccepted (Some command) (Some folder) = first_refused command folder ≡ None
+IsAccepted (Some command) (Some folder) = IsFirstRefused command folder None

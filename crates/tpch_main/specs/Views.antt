@@ -6,7 +6,7 @@ use Rattle.std.specs.String.{string_bytes}
 use Rattle.std.specs.Global.{Vec}
 use Rattle.tpch_outside.specs.Outside.{Folder}
 use Rattle.tpch_main.specs.Inputs.{BadInput}
-use Rattle.tpch_main.specs.Meaning.{Prints, first_refused}
+use Rattle.tpch_main.specs.Meaning.{IsDone, IsFirstRefused, Prints}
 use Rattle.tpch_main.specs.Words.{Command}
 use Rattle.tpch_main.specs.Words.Command.{check, session}
 use Rattle.tpch_main.specs.declared.input_error.InputFault.{InputFault}
@@ -15,7 +15,7 @@ use Rattle.tpch_main.specs.declared.input_error.InputError.{InputError}
 use Rattle.tpch_main.specs.declared.input_error.InputError.TheVariants as error
 use Rattle.tpch_main.specs.declared.input_error.ReadError.TheVariants as read
 use Rattle.tpch_main.specs.declared.input_error.RefusedInput.{RefusedInput}
-use Rattle.tpch_main.specs.declared.status.Status.TheVariants as status
+use Rattle.tpch_main.specs.declared.status.Status.{Status}
 use Rattle.tpch_main.specs.declared.words.Command as code
 use Rattle.tpch_main.specs.declared.words.Command.TheVariants as word
 
@@ -57,8 +57,14 @@ Reads view held input result = MatchResult result (λ read. IfKnown held (λ fol
 abbrev pub Answers : {A : Type 0} → (A → List ℕ → Type 0) → Option Folder → (Folder → Result A BadInput) → Result (Vec ℕ) InputError → Type 0
 Answers {A} Means held input result = MatchResult result (λ text. IfKnown held (λ folder. (read : A) × (input folder ≡ Ok read) × Means read text.items)) (Explains held input)
 
--- the text is the command's, or the error explains why it has none: its first refused input
-abbrev pub IsTextOf : Command → Option Folder → Result (Vec ℕ) InputError → Type 0
-IsTextOf command held (Ok text) = Prints (Some command) held text.items status.Done
+-- what was read is what the known files may hold, or the error is one of these
+abbrev pub Finds : {A B : Type 0} → (A → B) → Option Folder → (Folder → Result B BadInput → Type 0) → Result A InputError → Type 0
+Finds view held Holds (Ok read) = IfKnown held (λ folder. Holds folder (Ok (view read)))
+Finds view held Holds (Err (error.Unread unread)) = ⊤
+Finds view held Holds (Err (error.Refused refusal)) = IfKnown held (λ folder. Holds folder (Err (refused_view refusal)))
+
+-- the text and its status are the command's, or the error explains why it has none: its first refused input
+abbrev pub IsTextOf : Command → Option Folder → Result (Vec ℕ × Status) InputError → Type 0
+IsTextOf command held (Ok printed) = Prints (Some command) held printed.0.items printed.1 × IsDone printed.1
 IsTextOf command held (Err (error.Unread unread)) = ⊤
-IsTextOf command held (Err (error.Refused refusal)) = IfKnown held (λ folder. first_refused command folder ≡ Some (refused_view refusal))
+IsTextOf command held (Err (error.Refused refusal)) = IfKnown held (λ folder. IsFirstRefused command folder (Some (refused_view refusal)))

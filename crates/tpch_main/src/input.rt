@@ -9,6 +9,7 @@ ghost use Rattle.tpch_main.specs.Inputs.{file_bytes};
 ghost use Rattle.tpch_main.specs.Views.{Reads};
 
 use crate::input_error::{InputError, InputFault, ReadError, refused};
+use sql_parser::ScriptRefusal;
 use std::alloc::Global;
 use tpch_outside::{Files, Got, Open};
 
@@ -35,7 +36,11 @@ fn read_piece<F: Files>(files: &mut F, bytes: &mut Vec<u8>) -> Result<bool, Read
 }
 
 /// The bytes of the open file: all of them, or more than the limit from its front.
-fn front<F: Files>(alloc: Global, files: &mut F, limit: usize) -> Result<Vec<u8>, ReadError>
+pub(crate) fn front<F: Files>(
+    alloc: Global,
+    files: &mut F,
+    limit: usize,
+) -> Result<Vec<u8>, ReadError>
     requires open { F.is_open files.old ≡ true }
     requires limit { limit < 2 ^ 63 }
     ensures bytes { IfOk result (λ v. IsFrontOf limit (F.left files.old) v.items) }
@@ -85,7 +90,7 @@ pub fn read_file<F: Files>(
         Open::Absent => Err(refused(alloc, name, InputFault::Absent)),
         Open::Opened => match collect(alloc, files, limit)? {
             Some(bytes) => Ok(bytes),
-            None => Err(refused(alloc, name, InputFault::NotBuilt)),
+            None => Err(refused(alloc, name, InputFault::Byte(ScriptRefusal::TooLong, limit))),
         },
     }
 }

@@ -2,6 +2,7 @@
 ghost use Rattle.std.specs.Prelude.{◌≡◌};
 ghost use Rattle.tpch_main.specs.Views.{Refuses};
 
+use sql_parser::ScriptRefusal;
 use std::alloc::{AllocError, AllocFailed, Global};
 use tpch_schema::LineRefusal;
 
@@ -10,8 +11,8 @@ use tpch_schema::LineRefusal;
 pub enum InputFault {
     /// There is no file of that name.
     Absent,
-    /// The script is not of its form, or too long.
-    NotBuilt,
+    /// The script has this first refusal at this byte, counted from 0.
+    Byte(ScriptRefusal, usize),
     /// This is the first bad line of a table's file.
     Line(LineRefusal),
 }

@@ -3,22 +3,24 @@
 //! of the eight tables, or the line of the first refused input.
 #![tactic(auto)]
 
-mod answer;
 mod check;
 mod input;
 mod input_error;
 pub mod laws;
 mod output;
+mod refresh_file;
+mod refreshes;
 mod refusal_line;
 mod run;
+mod script_refusal;
 mod session;
-mod statement;
 mod status;
 mod table_file;
 mod tables;
 #[cfg(test)]
 mod tests;
 mod top;
+mod turns;
 pub mod word_laws;
 mod words;
 

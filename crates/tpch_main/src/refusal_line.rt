@@ -1,10 +1,12 @@
 //! The line that is printed of a refused input.
 ghost use Rattle.std.specs.Prelude.{◌≡◌, ◌++◌, IfOk, OnOk};
-ghost use Rattle.tpch_main.specs.Inputs.{line_text, refusal_line};
+ghost use Rattle.tpch_main.specs.Inputs.{byte_text, line_text, refusal_line};
 ghost use Rattle.tpch_main.specs.Views.{refused_view};
 
 use crate::input_error::{InputFault, RefusedInput};
+use crate::script_refusal::{refusal_name, refusal_number};
 use itoa::Buffer;
+use sql_parser::ScriptRefusal;
 use std::alloc::{AllocError, Global};
 use tpch_schema::LineRefusal;
 
@@ -16,10 +18,25 @@ pub fn line_of_refusal(alloc: Global, refused: &RefusedInput) -> Result<Vec<u8>,
     line.extend_from_slice(refused.name.as_bytes())?;
     match refused.fault {
         InputFault::Absent => line.extend_from_slice(b" absent\n")?,
-        InputFault::NotBuilt => line.extend_from_slice(b" not built\n")?,
+        InputFault::Byte(refusal, place) => push_byte(&mut line, refusal, place)?,
         InputFault::Line(first) => push_line(&mut line, first)?,
     }
     Ok(line)
+}
+
+/// Appends the place of a script's refusal, its number and its name.
+fn push_byte(line: &mut Vec<u8>, refusal: ScriptRefusal, place: usize) -> Result<(), AllocError>
+    ensures { OnOk result (line.new.items ≡ line.old.items ++ byte_text refusal place) }
+{
+    let mut buffer = Buffer::new();
+    line.extend_from_slice(b" byte ")?;
+    line.extend_from_slice(buffer.format(place).as_bytes())?;
+    line.push(b' ')?;
+    line.extend_from_slice(buffer.format(refusal_number(refusal)).as_bytes())?;
+    line.push(b' ')?;
+    line.extend_from_slice(refusal_name(refusal).as_bytes())?;
+    line.push(b'\n')?;
+    Ok(())
 }
 
 /// Appends the place and the fault of a bad line.

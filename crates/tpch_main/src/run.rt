@@ -1,4 +1,4 @@
-//! A run from its words to its text. Nothing here waits or starts a thread, so each call is proved to return.
+//! A run from its words to its text. Nothing here waits, so each call is proved to return.
 ghost use Rattle.std.specs.Prelude.{◌≡◌, ◌≢◌, ◌≤◌, ◌⊎◌, ℕ, List, Some, IfOk, map};
 ghost use Rattle.std.specs.Io.KnownBytes.{Keeps};
 ghost use Rattle.std.specs.String.{string_bytes};
@@ -7,6 +7,7 @@ ghost use Rattle.tpch_main.specs.FilesAfter.{FilesAfterInput, FilesAfterRead};
 ghost use Rattle.tpch_main.specs.Meaning.{IsAbsentInput, IsAccepted, IsAnswer, Prints, TakesPart, TakesWhole};
 ghost use Rattle.tpch_main.specs.Views.{IsTextOf, command_view};
 ghost use Rattle.tpch_main.specs.Words.{command_of};
+ghost use Rattle.tpch_main.specs.Words.Command.{check};
 
 use crate::Status;
 use crate::check::check_text;
@@ -16,28 +17,46 @@ use crate::refusal_line::line_of_refusal;
 use crate::session::session_text;
 use crate::words::{Command, read_words};
 use std::alloc::Global;
+use std::thread::Threads;
 use tpch_outside::{Files, Sink};
 
 static USAGE: &[u8] =
     b"usage: tpch session DIR SCRIPT, throughput DIR JOB, explain SCRIPT, check DIR, trial N\n";
 
+/// The text of the counts of the folder's tables, and its status.
+fn check_printed<F: Files>(
+    alloc: Global,
+    files: &mut F,
+    folder: &str,
+) -> Result<(Vec<u8>, Status), InputError>
+    ensures text { IsTextOf (check folder.now) (F.held files.old) result }
+    ensures files { FilesAfterInput F.held F.faults F.misses result files.old files.new }
+{
+    match check_text(alloc, files, folder) {
+        Ok(text) => Ok((text, Status::Done)),
+        Err(error) => Err(error),
+    }
+}
+
 /// The text of a command over its files.
-fn command_text<F: Files>(
+fn command_text<R: Threads, F: Files>(
+    rt: &R,
     alloc: Global,
     files: &mut F,
     command: &Command<'_>,
-) -> Result<Vec<u8>, InputError>
+) -> Result<(Vec<u8>, Status), InputError>
     ensures text { IsTextOf (command_view command.now) (F.held files.old) result }
     ensures files { FilesAfterInput F.held F.faults F.misses result files.old files.new }
 {
     match command {
-        Command::Session { folder, script } => session_text(alloc, files, folder, script),
-        Command::Check { folder } => check_text(alloc, files, folder),
+        Command::Session { folder, script } => session_text(rt, alloc, files, folder, script),
+        Command::Check { folder } => check_printed(alloc, files, folder),
     }
 }
 
 /// What a command prints, and its status: its text, or the line of its first refused input.
-fn printed<F: Files>(
+fn printed<R: Threads, F: Files>(
+    rt: &R,
     alloc: Global,
     files: &mut F,
     command: &Command<'_>,
@@ -48,8 +67,8 @@ fn printed<F: Files>(
         → Rose (F.misses files.old) (F.misses files.new)) }
     ensures files { FilesAfterRead F.held F.faults F.misses result files.old files.new }
 {
-    match command_text(alloc, files, command) {
-        Ok(text) => Ok((text, Status::Done)),
+    match command_text(rt, alloc, files, command) {
+        Ok(printed) => Ok(printed),
         Err(InputError::Refused(refused)) => {
             let text = line_of_refusal(alloc, &refused)?;
             Ok((text, Status::InputRefused))
@@ -59,7 +78,13 @@ fn printed<F: Files>(
 }
 
 /// Reads the words and the files that they name, and writes one text. The clauses are those of `tpch`.
-pub fn run<F: Files, S: Sink>(alloc: Global, words: &[String], files: &mut F, out: &mut S) -> Status
+pub fn run<R: Threads, F: Files, S: Sink>(
+    rt: &R,
+    alloc: Global,
+    words: &[String],
+    files: &mut F,
+    out: &mut S,
+) -> Status
     ensures answer { TakesWhole (command_of (map string_bytes words.now)) (F.held files.old)
         (S.taken out.old) (S.taken out.new) result }
     ensures read { result ≡ Status.ReadFault → Rose (F.faults files.old) (F.faults files.new)
@@ -84,7 +109,7 @@ pub fn run<F: Files, S: Sink>(alloc: Global, words: &[String], files: &mut F, ou
     let Some(command) = read else {
         return write_text(out, USAGE, Status::Usage);
     };
-    match printed(alloc, files, &command) {
+    match printed(rt, alloc, files, &command) {
         Ok((text, status)) => write_text(out, text.as_slice(), status),
         Err(ReadError::Fault) => Status::ReadFault,
         Err(ReadError::OutOfMemory) => Status::OutOfMemory,

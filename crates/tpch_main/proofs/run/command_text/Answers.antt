@@ -1,5 +1,4 @@
 use Rattle.std.proofs.Common.{subst, sym}
-use Rattle.tpch_main.proofs.Texts.{check_is, session_is}
 use Rattle.tpch_main.specs.Views.{IsTextOf, command_view}
 use Rattle.tpch_main.specs.declared.words.Command.{Command}
 use Rattle.tpch_main.proofs.run.command_text.Goals as goal
@@ -7,11 +6,9 @@ use Rattle.tpch_main.proofs.run.command_text.Goals as goal
 pub returns-in-Session-clause-text : goal.returns-in-Session-clause-text
 returns-in-Session-clause-text g c =
     let held = g.F.Files.held c.args.files.now in
-    subst (λ (command : Command). IsTextOf (command_view command) held c.session_text.result) (sym c.in-Session.is)
-    (session_is c.in-Session.folder.now c.in-Session.script.now held c.session_text.result c.session_text.ensures.answer)
+    subst (λ (command : Command). IsTextOf (command_view command) held c.session_text.result) (sym c.in-Session.is) c.session_text.ensures.text
 
 pub returns-in-Check-clause-text : goal.returns-in-Check-clause-text
 returns-in-Check-clause-text g c =
     let held = g.F.Files.held c.args.files.now in
-    subst (λ (command : Command). IsTextOf (command_view command) held c.check_text.result) (sym c.in-Check.is)
-    (check_is c.in-Check.folder.now held c.check_text.result c.check_text.ensures.answer)
+    subst (λ (command : Command). IsTextOf (command_view command) held c.check_printed.result) (sym c.in-Check.is) c.check_printed.ensures.text

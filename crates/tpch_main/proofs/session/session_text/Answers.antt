@@ -1,16 +1,33 @@
-use Rattle.std.proofs.Common.{◌∙◌, List, ℕ, subst}
-use Rattle.sql_value.specs.declared.value.Value.{Value}
-use Rattle.tpch_schema.specs.State.{State}
-use Rattle.tpch_main.proofs.Telling.{told_answer, told_both}
-use Rattle.tpch_main.specs.Answer.{IsAnswerText}
-use Rattle.tpch_main.specs.Inputs.{script_in, session_inputs, state_in}
-use Rattle.tpch_main.specs.declared.statement.Statement.{Statement}
+use Rattle.std.proofs.Common.{◌≡◌, List, Ok, subst}
+use Rattle.std.proofs.lemmas.Result.{err_from_is_err_and}
+use Rattle.query_streams.specs.Sessions.{course_of}
+use Rattle.query_streams.specs.declared.session.Session.{Session}
+use Rattle.sql_ast.specs.declared.statement.Statement.{Statement}
+use Rattle.tpch_main.specs.Inputs.{work_of}
+use Rattle.tpch_main.specs.Turns.{work_from}
+use Rattle.tpch_main.specs.Views.{IfKnown}
+use Rattle.tpch_main.proofs.Complete.{session_done}
+use Rattle.tpch_main.proofs.Works.{same_work_refused, script_refused, session_printed}
 use Rattle.tpch_main.proofs.session.session_text.Goals as goal
 
-pub returns-clause-answer : goal.returns-clause-answer
-returns-clause-answer g c =
-    let held = g.F.Files.held c.args.files.now in
-    let both = told_both held (g.F.Files.held c.read_statement.new.files) (λ folder. script_in folder c.args.script.now) (state_in c.args.folder.now) (λ statement state. (statement, state)) c.in_ok-statement.statement c.in_ok-state.state
-    c.in_ok-statement.ensures.files.held c.in_ok-statement.ensures.input c.in_ok-state.ensures.input in
-    told_answer (λ (inputs : Statement × State) (text : List ℕ). IsAnswerText inputs.0 inputs.1.region text) held (session_inputs c.args.folder.now c.args.script.now) (c.in_ok-statement.statement, c.in_ok-state.state) c.in_ok-text.text.items both
-    (subst (λ (rows : List (List Value)). IsAnswerText c.in_ok-statement.statement rows c.in_ok-text.text.items) (c.as_slice.ensures.value ∙ c.in_ok-rows.ensures.rows) c.in_ok-text.ensures)
+pub returns-in_err-session-clause-text : goal.returns-in_err-session-clause-text
+returns-in_err-session-clause-text g c =
+    let p = err_from_is_err_and c.from_residual.result c.from_residual.ensures.1 in
+    rw (p.1, p.2) (script_refused (λ (s : Session). (course_of s).steps) c.args.folder.now c.args.script.now (g.F.Files.held c.args.files.now) _ c.in_err-session.ensures.input)
+
+pub returns-in_err-directory-clause-text : goal.returns-in_err-directory-clause-text
+returns-in_err-directory-clause-text g c =
+    let later = g.F.Files.held c.begin.new.files in
+    let p = err_from_is_err_and c.from_residual-in_err-directory.result c.from_residual-in_err-directory.ensures.1 in
+    rw (p.1, p.2) (same_work_refused c.args.folder.now c.args.script.now (g.F.Files.held c.args.files.now) later (course_of c.in_ok-session.session).steps c.steps.result.now _ c.begin.ensures.files.held c.steps.ensures c.in_ok-session.ensures.input c.in_err-directory.ensures.input)
+
+pub returns-clause-text : goal.returns-clause-text
+returns-clause-text g c =
+    let later = g.F.Files.held c.begin.new.files in
+    let steps = (course_of c.in_ok-session.session).steps in
+    let directory = c.in_ok-directory.directory in
+    let work = work_from steps directory in
+    let read = subst (λ (ss : List Statement). IfKnown later (λ folder. work_of c.args.folder.now folder ss ≡ Ok (work_from ss directory))) c.steps.ensures c.in_ok-directory.ensures.input in (
+      session_printed c.args.folder.now c.args.script.now (g.F.Files.held c.args.files.now) later steps work c.in_ok-printed.printed.0.items c.in_ok-printed.printed.1 c.begin.ensures.files.held c.in_ok-session.ensures.input read c.in_ok-printed.ensures,
+      session_done work c.in_ok-printed.printed.0.items c.in_ok-printed.printed.1 c.in_ok-printed.ensures,
+    )

@@ -1,0 +1,1 @@
+run 2 (15, 'BRASS', 'EUROPE');

@@ -1,0 +1,1 @@
+run 7 ('FRANCE', 'GERMANY');

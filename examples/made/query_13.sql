@@ -1,0 +1,1 @@
+run 13 ('special', 'requests');

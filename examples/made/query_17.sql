@@ -1,0 +1,1 @@
+run 17 ('Brand#23', 'MED BOX');

@@ -1,0 +1,1 @@
+run 21 ('SAUDI ARABIA');
