@@ -30,9 +30,15 @@ impl Model for Directory {
 
     ghost Value = { Trials };
 
-    ghost view = { λ d. record { base = arc_value d.base; list = (arc_value d.list).items; done = d.done } };
+    ghost view = { λ d. record {
+      base = arc_value d.base;
+      list = (arc_value d.list).items;
+      done = d.done;
+    } };
 
-    ghost invariant = { λ d. IsKept (record { base = arc_value d.base; list = (arc_value d.list).items; done = d.done }) d.accepted d.state };
+    ghost invariant = { λ d.
+        IsKept (record { base = arc_value d.base; list = (arc_value d.list).items; done = d.done })
+        d.accepted d.state };
 }
 
 impl Directory {
@@ -160,8 +166,8 @@ impl Directory {
         })
     }
 
-    /// Tries the next refresh. An accepted one gives the next version and leaves this one as it is; of a refused one this
-    /// version notes only that it was tried.
+    /// Tries the next refresh. An accepted one gives the next version and leaves this one as it is;
+    /// of a refused one this version notes only that it was tried.
     pub fn after_next(&mut self) -> Result<Directory, RefreshError>
         requires { self.old.done < length self.old.list }
         ensures { IsAfter self.old self.new result }
