@@ -115,6 +115,13 @@ impl Publisher {
         Ok(snapshot)
     }
 
+    /// How many refreshes the list has.
+    pub fn listed(&self) -> usize
+        ensures { result ≡ length self.now.version.list }
+    {
+        self.directory.listed()
+    }
+
     /// Whether each refresh of the list was tried.
     pub fn is_done(&self) -> bool
         ensures done { IsTrue result ↔ (self.now.version.done ≡ length self.now.version.list) }
