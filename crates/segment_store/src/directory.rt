@@ -86,6 +86,13 @@ impl Directory {
         self.accepted
     }
 
+    /// How many refreshes the list has.
+    pub fn listed(&self) -> usize
+        ensures { result ≡ length self.now.list }
+    {
+        self.list.len()
+    }
+
     /// Whether each refresh of the list was tried.
     pub fn is_done(&self) -> bool
         ensures done { IsTrue result ↔ (self.now.done ≡ length self.now.list) }

@@ -10,6 +10,7 @@ use crate::reader::Reader;
 use crate::rule::{publish, start};
 use crate::ruled::{Note, RuledEntry};
 use crate::ruled_hall::RuledHall;
+use crate::snapshot::Snapshot;
 use core::mem::replace_with;
 use refusals::Cause;
 use segment_store::Directory;
@@ -106,6 +107,21 @@ impl Publisher {
         ensures { result ≡ version_of self.now.version }
     {
         self.directory.version()
+    }
+
+    /// A snapshot of the last version, of whose rows nothing is copied.
+    pub fn snapshot(&self) -> Result<Snapshot, AllocError>
+        ensures { IfOk result (λ snapshot. snapshot ≡ self.now.version) }
+    {
+        let snapshot = Snapshot::of(self.alloc, &self.directory)?;
+        Ok(snapshot)
+    }
+
+    /// How many refreshes the list has.
+    pub fn listed(&self) -> usize
+        ensures { result ≡ length self.now.version.list }
+    {
+        self.directory.listed()
     }
 
     /// Whether each refresh of the list was tried.
