@@ -57,8 +57,7 @@ pub enum BoundSource {
     /// JOIN: the combinations that its ON condition keeps.
     Inner(Boxed<BoundSource>, Boxed<BoundSource>, BoundExpr),
     /// LEFT OUTER JOIN: those too, and each left row without a kept partner, with nulls for the
-    /// columns of the right
-    /// source, whose number stands before the condition.
+    /// columns of the right source, whose number stands before the condition.
     Outer(Boxed<BoundSource>, Boxed<BoundSource>, u32, BoundExpr),
 }
 
@@ -69,8 +68,8 @@ pub enum BoundBlock {
     /// FROM, WHERE, and the select list over the rows kept.
     Plain(Boxed<BoundSource>, BoundExpr, Items<BoundExpr>),
     /// FROM, WHERE, the places of the GROUP BY columns, the aggregates, HAVING, and the select
-    /// list. HAVING and the
-    /// select list read a group's row, which is its GROUP BY columns and then its aggregates.
+    /// list. HAVING and the select list read a group's row, which is its GROUP BY columns and
+    /// then its aggregates.
     Grouped(
         Boxed<BoundSource>,
         BoundExpr,
