@@ -168,7 +168,8 @@ query_kinds (node.Plain from condition list) ks =
     where_some (from ks) (λ ls.
     if condition.is_condition (ls ∷ ks) then listed_kinds list (ls ∷ ks) else None)
 query_kinds (node.Grouped from condition keys aggregates having list) ks =
-    where_some (from ks) (λ ls. if condition.is_condition (ls ∷ ks)
+    where_some (from ks) (λ ls.
+    if condition.is_condition (ls ∷ ks)
     then where_some (group_kinds keys aggregates ls ks)
     (λ gs. if having.is_condition (gs ∷ ks) then listed_kinds list (gs ∷ ks) else None)
     else None)

@@ -68,8 +68,10 @@ over_groups sight from kept group items m = do
 abbrev pub clauses : BlockNode → BlockMeaning
 clauses q sight =
     from_where sight q.from q.condition
-    >>= (λ p. if is_grouped q then over_groups sight p.0 p.1 q.group q.selected q.having else
-    over_rows sight p.0 p.1 q.selected)
+    >>= (λ p.
+    if is_grouped q
+    then over_groups sight p.0 p.1 q.group q.selected q.having
+    else over_rows sight p.0 p.1 q.selected)
 
 -- a query, with aggregates of its own, then DISTINCT
 abbrev pub block_step : BlockNode → BlockMeaning

@@ -91,8 +91,8 @@ join_on n x = record { kind = Inner; item = Table n None; condition = x }
 abbrev pub equal : Expr → Expr → Expr
 equal a b = e.Compare compared.Equal a b
 
--- Dates that are moved when they are bound: `date '1996-01-31' + interval '1' month`, `date
--- '1998-12-01' - interval '90' day`.
+-- Dates that are moved when they are bound: `date '1996-01-31' + interval '1' month`,
+-- `date '1998-12-01' - interval '90' day`.
 abbrev pub MovedDates : Type 0
 MovedDates =
     bound_query (statement (select_where (item end_of_february ∷ item ninety_days_before ∷ [])

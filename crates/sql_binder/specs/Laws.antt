@@ -13,8 +13,8 @@ use Rattle.sql_binder.specs.Names.{Around, Sight, ends, means, the_one, found, r
 use Rattle.sql_binder.specs.Binding.{bound_query}
 
 -- this level is the first of the queries around that has the name
-pub record IsInnermost (wanted : Column) (levels : List Around) (level : ℕ) (query : Around) : Type
-    0 where
+pub record IsInnermost (wanted : Column) (levels : List Around) (level : ℕ) (query : Around)
+    : Type 0 where
   pub there : slice_get levels level ≡ Some query
   pub has : ends wanted query.columns ≡ true
   pub inner : (k : ℕ) (other : Around) → k < level → slice_get levels k ≡ Some other

@@ -62,8 +62,10 @@ means wanted c = is_met wanted c && bytes_eq c.name wanted.name
 -- the places and kinds of the columns that pass a test, counted on from a number
 abbrev pub places : (ScopeColumn → Bool) → ℕ → List ScopeColumn → List Place
 places test at [] = []
-places test at (c ∷ cs) = if test c then record { at = at; kind = c.kind }
-    ∷ places test (at + 1) cs else places test (at + 1) cs
+places test at (c ∷ cs) =
+    if test c
+    then record { at = at; kind = c.kind } ∷ places test (at + 1) cs
+    else places test (at + 1) cs
 
 -- the only one: none is UnknownColumn, two are AmbiguousColumn
 abbrev pub only : List Place → Checked Place
@@ -93,7 +95,8 @@ placed (Some keys) at = key_at (key_of keys at)
 -- LateralReference.
 unfoldable pub found : Column → Around → ℕ → ℕ → Checked ColumnAt
 found wanted query out seen =
-    and_then (the_one wanted query.columns) (λ p. if nat_lt out seen
+    and_then (the_one wanted query.columns) (λ p.
+    if nat_lt out seen
     then and_then (placed query.keys p.at)
     (λ at. Ok (record { level = out; at = at; kind = p.kind }))
     else Err LateralReference)
@@ -102,8 +105,9 @@ found wanted query out seen =
 abbrev pub resolved_from : Column → ℕ → ℕ → List Around → Checked ColumnAt
 resolved_from wanted seen out [] = Err UnknownColumn
 resolved_from wanted seen out (q ∷ outer) =
-    if ends wanted q.columns then found wanted q out seen else resolved_from wanted seen (out + 1)
-    outer
+    if ends wanted q.columns
+    then found wanted q out seen
+    else resolved_from wanted seen (out + 1) outer
 
 -- the column that a name stands for
 unfoldable pub resolved : Sight → Column → Checked ColumnAt

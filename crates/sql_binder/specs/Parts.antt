@@ -271,8 +271,9 @@ under_names (n ∷ names) (h ∷ headers) = record { name = n; kind = h.kind }
 unfoldable pub renamed_headers : List Name → List Header → Checked (List Header)
 renamed_headers [] headers = Ok headers
 renamed_headers (n ∷ names) headers =
-    if length (n ∷ names) == length headers then Ok (under_names (n ∷ names) headers) else Err
-    SubqueryColumns
+    if length (n ∷ names) == length headers
+    then Ok (under_names (n ∷ names) headers)
+    else Err SubqueryColumns
 
 -- equal names of a column list are DuplicateAlias
 unfoldable pub distinct_names : List Name → Checked (Unit {0})
@@ -423,8 +424,10 @@ once_each false t = t
 -- the places of the output columns of that name, counted on from a number
 abbrev pub output_places : Name → ℕ → List Header → List ℕ
 output_places name at [] = []
-output_places name at (h ∷ hs) = if bytes_eq h.name name then at
-    ∷ output_places name (at + 1) hs else output_places name (at + 1) hs
+output_places name at (h ∷ hs) =
+    if bytes_eq h.name name
+    then at ∷ output_places name (at + 1) hs
+    else output_places name (at + 1) hs
 
 -- the only one
 abbrev pub only_place : List ℕ → Checked ℕ

@@ -85,7 +85,9 @@ most_items = 32
 
 -- so many FROM items more; past the most of a statement they are TooManyTables
 unfoldable pub counted : ℕ → Binding (Unit {0})
-counted n = λ s. if nat_le (s.items + n) most_items then Ok (tt, record s { items = s.items + n })
+counted n = λ s.
+    if nat_le (s.items + n) most_items
+    then Ok (tt, record s { items = s.items + n })
     else Err TooManyTables
 
 -- the aggregates of the query, which are taken out
