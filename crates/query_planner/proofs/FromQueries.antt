@@ -28,7 +28,7 @@ planned {q} {plan} {first} {seen} {second} {lowered} {before} {nodes} {domain} {
       let db = table_rows state in
       let last : length nodes ≡ id + 1 = kept.last in
       let at : length plan.nodes - 1 ≡ id = ap (λ ns. length ns - 1) is ∙ omega (arith, last) in
-      let flat : SameBag (plan_rows db nodes id) (tree_rows second db []) = subst (λ t. SameBag (plan_rows db nodes id) (tree_rows t db [])) f (answered.rows one db) in
+      let flat : SameBag (plan_rows db nodes id) (tree_rows second db []) = subst (λ t. SameBag (plan_rows db nodes id) (tree_rows t db [])) f (answered.rows one db ok.tables) in
       let moved : SameBag (tree_rows first db []) (tree_rows second db []) =
       subst (λ t. SameBag (tree_rows t db []) (tree_rows second db [])) e (same.rows db [] ok.tables refl) in
       subst (λ ns. SameBag (plan_rows db ns (length plan.nodes - 1)) (rows q.block [] state)) (sym is)
