@@ -1,5 +1,11 @@
 //! Files that are absent, which calls files get, and calls of files and sink that fail.
-use super::*;
+use crate::runs::*;
+use std::alloc::{AllocError, Global};
+use std::process::Abort;
+use std::sync::Wait;
+use std::test::Fail;
+use std::thread::Threads;
+use tpch_main::Status;
 
 #[test]
 fn refuses_absent_files(rt: HostRuntime) -> Result<(), Fail> {

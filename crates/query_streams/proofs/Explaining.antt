@@ -1,0 +1,54 @@
+-- The lines of statements, statement by statement.
+use Rattle.std.proofs.Common.{◌≡◌, ◌∙◌, ℕ, ◌+◌, ◌<◌, List, [], ◌∷◌, ◌++◌, Bool, true, false, ◌&&◌, not, ap, append_assoc, add-one, drop, drop-cons, length, refl, slice_index_or, subst, sym}
+use Rattle.std.proofs.Math.Seq.{drop-length}
+use Rattle.std.proofs.lemmas.List.{append-nil}
+use Rattle.sql_ast.specs.declared.statement.Statement.{Statement}
+use Rattle.sql_binder.specs.declared.view.View.{View}
+use Rattle.query_streams.specs.Explained.{AreExplained, IsExplained, are_taken, is_refused}
+use Rattle.query_streams.specs.Views.{views_after}
+
+-- the first statements have their lines: whatever lines those that are left have, come after these
+pub record Explaining (steps : List Statement) (k : ℕ) (views : List View) (text : List ℕ) (clean : Bool) : Type 0 where
+  pub lines : (rest : List ℕ) → AreExplained (k + 1) views (drop k steps) rest → AreExplained 1 [] steps (text ++ rest)
+  pub taken : are_taken [] steps ≡ (clean && are_taken views (drop k steps))
+
+pub explaining_none : (steps : List Statement) → Explaining steps 0 [] [] true
+explaining_none steps = record { lines = λ rest are. are; taken = refl }
+
+split : (steps : List Statement) (k : ℕ) (d : Statement) → k < length steps → drop k steps ≡ slice_index_or steps k d ∷ drop (k + 1) steps
+split steps k d inside = rw (add-one) (drop-cons steps k d inside)
+
+and_assoc : (a b c : Bool) → (a && (b && c)) ≡ ((a && b) && c)
+and_assoc true b c = refl
+and_assoc false b c = refl
+
+pub explaining_more : (steps : List Statement) (k : ℕ) (d : Statement) (views later : List View) (text more first : List ℕ) (clean refused : Bool) → k < length steps → Explaining steps k views text clean
+    → IsExplained (k + 1) views (slice_index_or steps k d) first → more ≡ text ++ first → refused ≡ is_refused views (slice_index_or steps k d) → later ≡ views_after views (slice_index_or steps k d)
+    → Explaining steps (k + 1) later more (clean && not refused)
+explaining_more steps k d views later text more first clean refused inside before is text_is refused_is views_are = record {
+  lines = λ rest are.
+    let s = slice_index_or steps k d in
+    let left : AreExplained (k + 1) views (drop k steps) (first ++ rest) =
+    subst (λ ss. AreExplained (k + 1) views ss (first ++ rest)) (sym (split steps k d inside))
+    (first, rest, is, subst (λ vs. AreExplained (k + 1 + 1) vs (drop (k + 1) steps) rest) views_are are, refl) in
+    subst (AreExplained 1 [] steps) (sym (append_assoc text first rest) ∙ ap (λ t. t ++ rest) (sym text_is)) (before.lines (first ++ rest) left);
+  taken =
+    before.taken ∙ ap (λ ss. clean && are_taken views ss) (split steps k d inside)
+    ∙ ap (λ r. clean && (not r && are_taken (views_after views (slice_index_or steps k d)) (drop (k + 1) steps))) (sym refused_is)
+    ∙ ap (λ vs. clean && (not refused && are_taken vs (drop (k + 1) steps))) (sym views_are)
+    ∙ and_assoc clean (not refused) (are_taken later (drop (k + 1) steps));
+}
+
+-- past the last statement none is left
+none_left : (steps : List Statement) → drop (length steps) steps ≡ []
+none_left steps = drop-length steps
+
+and_true : (a : Bool) → (a && true) ≡ a
+and_true true = refl
+and_true false = refl
+
+pub explaining_all : (steps : List Statement) (views : List View) (text : List ℕ) (clean : Bool) → Explaining steps (length steps) views text clean → AreExplained 1 [] steps text × (clean ≡ are_taken [] steps)
+explaining_all steps views text clean before = (
+  subst (AreExplained 1 [] steps) (append-nil text) (before.lines [] (subst (λ ss. AreExplained (length steps + 1) views ss []) (sym (none_left steps)) refl)),
+  sym (before.taken ∙ ap (λ ss. clean && are_taken views ss) (none_left steps) ∙ and_true clean),
+)
