@@ -70,7 +70,8 @@ fn trees(rt: HostRuntime) -> Result<(), Fail> {
     Ok(())
 }
 
-/// The tokens of a query with this number as its row limit, made by hand where no script can write it.
+/// The tokens of a query with this number as its row limit, made by hand where no script can write
+/// it.
 fn limited(alloc: Global, coefficient: i128) -> Result<Vec<Token>, LexFault> {
     let mut tokens = lex(alloc, b"select a from b limit 1;")?;
     if let Some(token) = tokens.get_mut(5) {
@@ -139,7 +140,8 @@ fn is_joined(block: &Block) -> bool {
     }
 }
 
-/// Whether this is `not exists (..)` and a comparison with a scalar subquery, joined by AND with `.. not in (..)`.
+/// Whether this is `not exists (..)` and a comparison with a scalar subquery, joined by AND with
+/// `.. not in (..)`.
 fn has_subqueries(condition: &Clause) -> bool {
     let Clause::Condition(condition) = condition else {
         return false;

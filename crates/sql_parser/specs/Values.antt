@@ -1,5 +1,6 @@
 -- What the parts of a line make together.
-use Rattle.std.specs.Prelude.{ℕ, Bool, true, false, not, ◌&&◌, nat_le, ◌==◌, ℤ, pos, negsuc, List, [], ◌∷◌, length, Option, Some, None}
+use Rattle.std.specs.Prelude.{ℕ, Bool, true, false, not, ◌&&◌, nat_le, ◌==◌, ℤ, pos, negsuc, List}
+use Rattle.std.specs.Prelude.{[], ◌∷◌, length, Option, Some, None}
 use Rattle.std.specs.List.{list_all}
 use Rattle.std.specs.Char.{is_ascii_digit}
 use Rattle.sql_lexer.specs.declared.kind.Kind.TheVariants as k
@@ -101,7 +102,9 @@ all_digits bytes = list_all is_ascii_digit bytes
 
 -- a text of one to six digits
 abbrev pub is_digits : Token → Bool
-is_digits token = is k.Text token && ((nat_le 1 (length (text_of token)) && nat_le (length (text_of token)) 6) && all_digits (text_of token))
+is_digits token = is k.Text token
+    && ((nat_le 1 (length (text_of token)) && nat_le (length (text_of token)) 6)
+    && all_digits (text_of token))
 
 -- ---- of two values
 
@@ -296,7 +299,16 @@ filters c g = record { condition = c; group = g.0; having = g.1 }
 
 -- a query of its clauses
 abbrev pub block : Bool × Selected → List Joined × Filters → Block
-block s f = roll-Block (record { is_distinct = s.0; selected = s.1; from = f.0; condition = f.1.condition; group = f.1.group; having = f.1.having })
+block s f = roll-Block
+    (record {
+      is_distinct = s.0;
+      selected = s.1;
+      from = f.0;
+      condition = f.1.condition;
+      group =
+          f.1.group;
+      having = f.1.having;
+    })
 
 -- ---- statements
 
