@@ -6,7 +6,8 @@ use Rattle.tpch_schema.specs.declared.table.TableName.{TableName}
 use Rattle.tpch_schema.specs.declared.table.TableName.TheVariants.{Region, Nation, Part, Supplier, Partsupp, Customer, Orders, Lineitem}
 
 -- the state of these rows, in the schema's order of tables
-abbrev pub of_tables : (region nation part supplier partsupp customer orders lineitem : List (List Value)) → State
+abbrev pub of_tables :
+    (region nation part supplier partsupp customer orders lineitem : List (List Value)) → State
 of_tables region nation part supplier partsupp customer orders lineitem = record {
   region = region;
   nation = nation;

@@ -15,7 +15,8 @@ pub record AreNew {K : Type 0} (there keys : List K) : Type 0 where
   pub absent : All (λ key. Contains there key → ⊥) keys
   pub apart : AreDistinct keys
 
--- an insert may be applied: its orders and its lineitems are new, and each lineitem is of one of its orders
+-- an insert may be applied: its orders and its lineitems are new, and each lineitem is of one of
+-- its orders
 pub record MayInsert (state : State) (orders : List ℤ) (lines : List (ℤ × ℤ)) : Type 0 where
   pub new_orders : AreNew (order_keys state.orders) orders
   pub new_lines : AreNew (line_keys state.lineitem) lines
@@ -26,10 +27,13 @@ pub record MayDelete (state : State) (keys : List ℤ) : Type 0 where
   pub there : All (Contains (order_keys state.orders)) keys
   pub apart : AreDistinct keys
 
--- a refresh has no cause against it exactly where it may be applied
+-- an insert has no cause against it exactly where it may be applied
 abbrev pub InsertLaw : Type 0
 InsertLaw = (state : State) (orders lineitems : List (List Value))
-    → (cause_of state (InsertRows orders lineitems) ≡ None) ↔ MayInsert state (order_keys orders) (line_keys lineitems)
+    → (cause_of state (InsertRows orders lineitems) ≡ None)
+    ↔ MayInsert state (order_keys orders) (line_keys lineitems)
 
+-- a delete has no cause against it exactly where its keys may be deleted
 abbrev pub DeleteLaw : Type 0
-DeleteLaw = (state : State) (keys : List ℤ) → (cause_of state (DeleteKeys keys) ≡ None) ↔ MayDelete state keys
+DeleteLaw = (state : State) (keys : List ℤ)
+    → (cause_of state (DeleteKeys keys) ≡ None) ↔ MayDelete state keys

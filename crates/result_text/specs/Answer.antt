@@ -1,14 +1,17 @@
 -- An answer as it is printed.
-use Rattle.std.specs.Prelude.{ℕ, ◌/◌, ◌%◌, List, [], ◌∷◌, ◌++◌, Bool, true, false, codes, decimal, if◌then◌else◌, ◌||◌, ◌==◌}
+use Rattle.std.specs.Prelude.{ℕ, ◌/◌, ◌%◌, List, [], ◌∷◌, ◌++◌, Bool, true, false, codes, decimal}
+use Rattle.std.specs.Prelude.{if◌then◌else◌, ◌||◌, ◌==◌}
 use Rattle.std.specs.List.{flat_map, list_all}
 use Rattle.fixed_decimal.specs.Written.{decimal_written, last_digits}
 use Rattle.sql_value.specs.declared.value.Value.{Value}
 use Rattle.sql_value.specs.declared.value.Value.TheVariants.{Fault, Number, Text, Date, Null}
 use Rattle.result_text.specs.Lines.{line_start}
 
--- the line before an answer: the statement's number, the version over which it was asked, and how many rows follow
+-- the line before an answer: the statement's number, the version over which it was asked, and how
+-- many rows follow
 abbrev pub header : ℕ → ℕ → ℕ → List ℕ
-header statement version rows = line_start statement version ++ codes " rows " ++ decimal rows ++ codes "\n"
+header statement version rows = line_start statement version ++ codes " rows " ++ decimal rows
+    ++ codes "\n"
 
 -- a text as it is printed: a backslash stands before each bar and each backslash
 abbrev pub escaped : List ℕ → List ℕ
@@ -17,7 +20,8 @@ escaped text = flat_map (λ c. if c == 92 || c == 124 then 92 ∷ c ∷ [] else 
 -- a date as four digits of its year, two of its month and two of its day, with hyphens between
 abbrev pub date_written : ℕ → List ℕ
 date_written date =
-    last_digits 4 (date / 10000) ++ codes "-" ++ last_digits 2 (date / 100 % 100) ++ codes "-" ++ last_digits 2 (date % 100)
+    last_digits 4 (date / 10000) ++ codes "-" ++ last_digits 2 (date / 100 % 100) ++ codes "-"
+    ++ last_digits 2 (date % 100)
 
 -- a value as it is printed; a fault is not
 abbrev pub value_written : Value → List ℕ
@@ -40,7 +44,7 @@ columns_written (first ∷ others) = value_written first ++ barred others
 abbrev pub row_written : List Value → List ℕ
 row_written row = columns_written row ++ 10 ∷ []
 
--- rows, one behind the other
+-- rows, one after the other
 abbrev pub answer_text : List (List Value) → List ℕ
 answer_text rows = flat_map row_written rows
 

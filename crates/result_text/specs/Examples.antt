@@ -3,15 +3,18 @@ use Rattle.std.specs.Prelude.{◌≡◌, pos, negsuc, [], ◌∷◌, codes}
 use Rattle.sql_value.specs.declared.value.Value.TheVariants.{Date, Number, Null, Text}
 use Rattle.refusals.specs.declared.bind.BindRefusal.TheVariants.{DateRange}
 use Rattle.refusals.specs.declared.line.LineFault.TheVariants.{BadNumber}
-use Rattle.refusals.specs.declared.refresh.Cause.TheVariants.{KeyTwice, LineExists, LineTwice, Malformed, OrderExists, StrayLine}
+use Rattle.refusals.specs.declared.refresh.Cause.TheVariants.{KeyTwice, LineExists, LineTwice}
+use Rattle.refusals.specs.declared.refresh.Cause.TheVariants.{Malformed, OrderExists, StrayLine}
 use Rattle.refusals.specs.declared.refresh.RefreshFile.TheVariants.{Delete, Lineitem, Orders}
 use Rattle.refusals.specs.declared.statement.FaultKind.TheVariants.{DivideByZero}
-use Rattle.refusals.specs.declared.statement.Refusal.TheVariants.{Bind, Fault, Refresh, Template, ViewExists}
+use Rattle.refusals.specs.declared.statement.Refusal.TheVariants.{Bind, Fault, Refresh, Template}
+use Rattle.refusals.specs.declared.statement.Refusal.TheVariants.{ViewExists}
 use Rattle.refusals.specs.declared.statement.TemplateRefusal.TheVariants.{NoSuchQuery, WrongKind}
 use Rattle.result_text.specs.Answer.{answer_text, header, value_written}
 use Rattle.result_text.specs.Lines.{accepted_text, done_text, refusal_text}
 use Rattle.result_text.specs.Refusal.{file_name, refusal_written}
 
+-- values, rows and headers as they are printed, worked out by hand
 pub record Examples : Type 0 where
   -- the line before an answer
   pub first : header 1 0 2 ≡ codes "[1] version 0 rows 2\n"
@@ -28,8 +31,9 @@ pub record Examples : Type 0 where
   pub escaped : value_written (Text (codes "a|b\\c")) ≡ codes "a\\|b\\\\c"
   pub null_in_a_text : value_written (Text (codes "\\N")) ≡ codes "\\\\N"
   pub empty : value_written (Text []) ≡ []
-  -- bars between columns only, LF behind each row
-  pub rows : answer_text ((Text (codes "AFRICA") ∷ Null ∷ Text [] ∷ []) ∷ (Text [] ∷ []) ∷ []) ≡ codes "AFRICA|\\N|\n\n"
+  -- bars between columns only, LF after each row
+  pub rows : answer_text ((Text (codes "AFRICA") ∷ Null ∷ Text [] ∷ []) ∷ (Text [] ∷ []) ∷ [])
+      ≡ codes "AFRICA|\\N|\n\n"
   pub none : answer_text [] ≡ []
 
 -- Lines of statements, and refusals with their arguments, worked out by hand.
@@ -45,12 +49,16 @@ pub record LineExamples : Type 0 where
   pub fault : refusal_written (Fault DivideByZero) ≡ codes "refused 22 Fault 2 DivideByZero"
   pub place : refusal_written (Template (WrongKind 1)) ≡ codes "refused 32 WrongKind 1"
   -- causes of a refresh print 40 more than their number
-  pub order : refusal_text 4 1 (Refresh (OrderExists (pos 9))) ≡ codes "[4] version 1 refused 41 OrderExists 9\n"
-  pub twice : refusal_written (Refresh (LineTwice (pos 9) (negsuc 0))) ≡ codes "refused 43 LineTwice 9 -1"
+  pub order : refusal_text 4 1 (Refresh (OrderExists (pos 9)))
+      ≡ codes "[4] version 1 refused 41 OrderExists 9\n"
+  pub twice : refusal_written (Refresh (LineTwice (pos 9) (negsuc 0)))
+      ≡ codes "refused 43 LineTwice 9 -1"
   pub stray : refusal_written (Refresh (StrayLine (pos 6))) ≡ codes "refused 44 StrayLine 6"
   pub key : refusal_written (Refresh (KeyTwice (pos 7))) ≡ codes "refused 46 KeyTwice 7"
-  pub line : refusal_written (Refresh (LineExists (pos 9) (pos 1))) ≡ codes "refused 48 LineExists 9 1"
-  pub malformed : refusal_text 1 0 (Refresh (Malformed Delete 1 (record { line = 1; fault = BadNumber })))
+  pub line : refusal_written (Refresh (LineExists (pos 9) (pos 1)))
+      ≡ codes "refused 48 LineExists 9 1"
+  pub malformed : refusal_text 1 0
+      (Refresh (Malformed Delete 1 (record { line = 1; fault = BadNumber })))
       ≡ codes "[1] version 0 refused 47 Malformed delete.1 line 1 2 BadNumber\n"
   -- the names of the two files of an insert
   pub orders : file_name Orders 1 ≡ codes "orders.tbl.u1"

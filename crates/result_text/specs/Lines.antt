@@ -1,11 +1,13 @@
--- Lines of statements. Each has the statement's number in its script, and the version over which it was asked.
+-- Lines of statements. Each has the statement's number in its script, and the version over which it
+-- was asked.
 use Rattle.std.specs.Prelude.{ℕ, List, ◌++◌, codes, decimal}
 use Rattle.refusals.specs.declared.statement.Refusal.{Refusal}
 use Rattle.result_text.specs.Refusal.{refusal_written}
 
 -- the beginning of a statement's line
 abbrev pub line_start : ℕ → ℕ → List ℕ
-line_start statement version = codes "[" ++ decimal statement ++ codes "] version " ++ decimal version
+line_start statement version = codes "[" ++ decimal statement ++ codes "] version "
+    ++ decimal version
 
 -- a view was made or dropped
 abbrev pub done_text : ℕ → ℕ → List ℕ

@@ -3,15 +3,20 @@ use Rattle.std.specs.Prelude.{ℕ, List, [], ◌++◌, ℤ, pos, codes, decimal}
 use Rattle.fixed_decimal.specs.Written.{decimal_written}
 use Rattle.refusals.specs.Line.{line_fault_name, line_fault_number}
 use Rattle.refusals.specs.Refresh.{file_prefix}
-use Rattle.refusals.specs.Statement.{fault_kind_name, fault_kind_number, refusal_name, refusal_number}
+use Rattle.refusals.specs.Statement.{fault_kind_name, fault_kind_number, refusal_name}
+use Rattle.refusals.specs.Statement.{refusal_number}
 use Rattle.refusals.specs.declared.line.LineRefusal.{LineRefusal}
 use Rattle.refusals.specs.declared.refresh.Cause.{Cause}
-use Rattle.refusals.specs.declared.refresh.Cause.TheVariants.{OrderExists, OrderTwice, LineTwice, StrayLine, UnknownOrder, KeyTwice, Malformed, LineExists}
+use Rattle.refusals.specs.declared.refresh.Cause.TheVariants.{OrderExists, OrderTwice, LineTwice}
+use Rattle.refusals.specs.declared.refresh.Cause.TheVariants.{StrayLine, UnknownOrder, KeyTwice}
+use Rattle.refusals.specs.declared.refresh.Cause.TheVariants.{Malformed, LineExists}
 use Rattle.refusals.specs.declared.refresh.RefreshFile.{RefreshFile}
 use Rattle.refusals.specs.declared.statement.Refusal.{Refusal}
-use Rattle.refusals.specs.declared.statement.Refusal.TheVariants.{Bind, ViewExists, UnknownView, Fault, Template, Refresh}
+use Rattle.refusals.specs.declared.statement.Refusal.TheVariants.{Bind, ViewExists, UnknownView}
+use Rattle.refusals.specs.declared.statement.Refusal.TheVariants.{Fault, Template, Refresh}
 use Rattle.refusals.specs.declared.statement.TemplateRefusal.{TemplateRefusal}
-use Rattle.refusals.specs.declared.statement.TemplateRefusal.TheVariants.{NoSuchQuery, WrongCount, WrongKind}
+use Rattle.refusals.specs.declared.statement.TemplateRefusal.TheVariants.{NoSuchQuery, WrongCount}
+use Rattle.refusals.specs.declared.statement.TemplateRefusal.TheVariants.{WrongKind}
 
 -- a whole number after a space
 abbrev pub key_written : ℤ → List ℕ

@@ -8,7 +8,8 @@ use itoa::Buffer;
 use refusals::Refusal;
 use std::alloc::{AllocError, Global};
 
-/// Appends the beginning of a statement's line: its number in its script, from 1, and the version over which it was asked.
+/// Appends the beginning of a statement's line: its number in its script, from 1, and the version
+/// over which it was asked.
 fn push_start(text: &mut Vec<u8>, statement: u64, version: u64) -> Result<(), AllocError>
     ensures { OnOk result (text.new.items ≡ text.old.items ++ line_start statement version) }
 {
@@ -19,8 +20,8 @@ fn push_start(text: &mut Vec<u8>, statement: u64, version: u64) -> Result<(), Al
     text.extend_from_slice(buffer.format(version).as_bytes())
 }
 
-/// The line before the rows of an answer: the statement's number in its script, from 1, the version over which it was
-/// asked, and how many rows it has. The line has its LF.
+/// The line before the rows of an answer: the statement's number in its script, from 1, the version
+/// over which it was asked, and how many rows it has. The line has its LF.
 pub fn header(alloc: Global, statement: u64, version: u64, rows: u64) -> Result<Vec<u8>, AllocError>
     ensures { IfOk result (λ text. text.items ≡ header statement version rows) }
 {
@@ -43,7 +44,8 @@ pub fn done_text(alloc: Global, statement: u64, version: u64) -> Result<Vec<u8>,
     Ok(text)
 }
 
-/// The line of an accepted refresh, with its LF: `version` is the one before it, `after` the one that it made.
+/// The line of an accepted refresh, with its LF: `version` is the one before it, `after` the one
+/// that it made.
 pub fn accepted_text(
     alloc: Global,
     statement: u64,

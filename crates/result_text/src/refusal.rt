@@ -1,6 +1,8 @@
 //! Refusals as lines say them.
 ghost use Rattle.std.specs.Prelude.{◌≡◌, ◌++◌, OnErr, OnOk};
-ghost use Rattle.result_text.specs.Refusal.{arguments, cause_arguments, file_name, key_written, line_written, malformed_written, refusal_written, tagged, template_arguments};
+ghost use Rattle.result_text.specs.Refusal.{arguments, cause_arguments, file_name, key_written};
+ghost use Rattle.result_text.specs.Refusal.{line_written, malformed_written, refusal_written};
+ghost use Rattle.result_text.specs.Refusal.{tagged, template_arguments};
 
 use fixed_decimal::{Scale, push_decimal};
 use itoa::Buffer;
@@ -98,7 +100,8 @@ fn push_arguments(text: &mut Vec<u8>, refusal: &Refusal) -> Result<(), AllocErro
     }
 }
 
-/// Appends the word `refused`, the refusal's number and name, and its arguments, parted by spaces, as far as memory goes.
+/// Appends the word `refused`, the refusal's number and name, and its arguments, parted by spaces,
+/// as far as memory goes.
 pub(crate) fn put_refusal(text: &mut Vec<u8>, refusal: &Refusal) -> Result<(), AllocError>
     ensures { OnOk result (text.new.items ≡ text.old.items ++ refusal_written refusal.now) }
 {
@@ -107,8 +110,8 @@ pub(crate) fn put_refusal(text: &mut Vec<u8>, refusal: &Refusal) -> Result<(), A
     push_arguments(text, refusal)
 }
 
-/// Appends the word `refused`, the refusal's number and name, and its arguments, parted by spaces. Where memory runs out,
-/// the text stays as it was.
+/// Appends the word `refused`, the refusal's number and name, and its arguments, parted by spaces.
+/// Where memory runs out, the text stays as it was.
 pub fn push_refusal(text: &mut Vec<u8>, refusal: &Refusal) -> Result<(), AllocError>
     ensures ok { OnOk result (text.new.items ≡ text.old.items ++ refusal_written refusal.now) }
     ensures err { OnErr result (text.new.items ≡ text.old.items) }

@@ -1,6 +1,8 @@
 //! The rows of an answer.
 ghost use Rattle.std.specs.Prelude.{◌≡◌, ◌++◌, IfOk, OnErr, OnOk, IsTrue};
-ghost use Rattle.result_text.specs.Answer.{answer_text, barred, columns_written, date_written, escaped, has_no_fault, is_no_fault, row_written, rows_have_no_fault, value_written};
+ghost use Rattle.result_text.specs.Answer.{answer_text, barred, columns_written, date_written};
+ghost use Rattle.result_text.specs.Answer.{escaped, has_no_fault, is_no_fault, row_written};
+ghost use Rattle.result_text.specs.Answer.{rows_have_no_fault, value_written};
 
 use civil_date::CivilDate;
 use fixed_decimal::{push_decimal, push_last_digits};
@@ -79,9 +81,9 @@ fn put_row(text: &mut Vec<u8>, values: &[Value]) -> Result<(), AllocError>
     Ok(())
 }
 
-/// Appends a row of an answer: bars between its columns and LF at its end. A number has all its scale's digits, a date is
-/// YYYY-MM-DD, null is `\N`, and in a text a backslash stands before each bar and each backslash. Where memory runs out,
-/// the text stays as it was.
+/// Appends a row of an answer: bars between its columns and LF at its end. A number has all its
+/// scale's digits, a date is YYYY-MM-DD, null is `\N`, and in a text a backslash stands before each
+/// bar and each backslash. Where memory runs out, the text stays as it was.
 pub fn push_row(text: &mut Vec<u8>, values: &[Value]) -> Result<(), AllocError>
     requires { IsTrue (has_no_fault values.now) }
     ensures ok { OnOk result (text.new.items ≡ text.old.items ++ row_written values.now) }

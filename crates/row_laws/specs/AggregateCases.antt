@@ -91,13 +91,15 @@ SumAtItsEdges = (sum_of amounts (plus largest ∷ minus 1 ∷ Missing ∷ []) �
     × (sum_of amounts (minus largest ∷ minus 1 ∷ plus 1 ∷ []) ≡ Failed number_range_rank)
     × (sum_of amounts (plus 2 ∷ minus 5 ∷ []) ≡ minus 3)
 
--- avg(e) of 9, -3, null and 0 is 2: the null is no term, the 0 is one. Its range is judged as that of the sum.
+-- avg(e) of 9, -3, null and 0 is 2: the null is no term, the 0 is one. Its range is judged as that
+-- of the sum.
 abbrev pub AverageOfTerms : Type 0
 AverageOfTerms = (avg_of amounts quotient (plus 9 ∷ minus 3 ∷ Missing ∷ plus 0 ∷ []) ≡ plus 2)
     × (avg_of amounts quotient (plus 3 ∷ minus 9 ∷ Missing ∷ plus 0 ∷ []) ≡ minus 2)
     × (avg_of amounts quotient (plus largest ∷ plus 1 ∷ minus 1 ∷ []) ≡ Failed number_range_rank)
 
--- Where faults are among the values each aggregate is the least of them; count(*) alone counts the rows.
+-- Where faults are among the values each aggregate is the least of them; count(*) alone counts the
+-- rows.
 abbrev pub LeastFaultOfTwo : Type 0
 LeastFaultOfTwo =
     let vs = Missing ∷ Failed number_range_rank ∷ Failed divide_by_zero_rank ∷ plus 1 ∷ [] in
@@ -109,22 +111,28 @@ LeastFaultOfTwo =
     × (max_of amounts at_most vs ≡ Failed divide_by_zero_rank)
     × (count_rows amounts vs ≡ plus 4)
 
--- Over nothing but nulls, as over no rows, counts of values are 0 and the other aggregates null; count(*) counts the rows.
+-- Over nothing but nulls, as over no rows, counts of values are 0 and the other aggregates null;
+-- count(*) counts the rows.
 abbrev pub AggregatesOfNulls : Type 0
 AggregatesOfNulls =
     (sum_of amounts (Missing ∷ Missing ∷ []) ≡ Missing) × (sum_of amounts [] ≡ Missing)
-    × (avg_of amounts quotient (Missing ∷ Missing ∷ []) ≡ Missing) × (avg_of amounts quotient [] ≡ Missing)
-    × (min_of amounts at_most (Missing ∷ Missing ∷ []) ≡ Missing) × (min_of amounts at_most [] ≡ Missing)
-    × (max_of amounts at_most (Missing ∷ Missing ∷ []) ≡ Missing) × (max_of amounts at_most [] ≡ Missing)
+    × (avg_of amounts quotient (Missing ∷ Missing ∷ []) ≡ Missing)
+    × (avg_of amounts quotient [] ≡ Missing)
+    × (min_of amounts at_most (Missing ∷ Missing ∷ []) ≡ Missing)
+    × (min_of amounts at_most [] ≡ Missing)
+    × (max_of amounts at_most (Missing ∷ Missing ∷ []) ≡ Missing)
+    × (max_of amounts at_most [] ≡ Missing)
     × (count_of amounts (Missing ∷ Missing ∷ []) ≡ plus 0) × (count_of amounts [] ≡ plus 0)
-    × (count_distinct_of amounts same_amount (Missing ∷ Missing ∷ []) ≡ plus 0) × (count_distinct_of amounts same_amount [] ≡ plus 0)
+    × (count_distinct_of amounts same_amount (Missing ∷ Missing ∷ []) ≡ plus 0)
+    × (count_distinct_of amounts same_amount [] ≡ plus 0)
     × (count_rows amounts (Missing ∷ Missing ∷ []) ≡ plus 2) × (count_rows amounts [] ≡ plus 0)
 
 -- Of 1, null, 1 and 2 count(e) is 3, count(distinct e) 2 and count(*) 4.
 abbrev pub CountsOfDuplicates : Type 0
 CountsOfDuplicates =
     let vs = plus 1 ∷ Missing ∷ plus 1 ∷ plus 2 ∷ [] in
-    (count_of amounts vs ≡ plus 3) × (count_distinct_of amounts same_amount vs ≡ plus 2) × (count_rows amounts vs ≡ plus 4)
+    (count_of amounts vs ≡ plus 3) × (count_distinct_of amounts same_amount vs ≡ plus 2)
+    × (count_rows amounts vs ≡ plus 4)
 
 -- Of 5, null, -2, 9 and 2 the least is -2 and the greatest 9.
 abbrev pub ExtremesOfAmounts : Type 0

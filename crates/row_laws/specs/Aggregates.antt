@@ -10,7 +10,8 @@ pub record Reading (V : Type 0) : Type 0 where
   pub is_null : V → Bool
   -- a fault's rank, and True's for a value that is none
   pub fault_rank : V → ℕ
-  -- a number's coefficient where it is above 0, else 0; and where it is below 0 its distance from 0, else 0
+  -- a number's coefficient where it is above 0, else 0; and where it is below 0 its distance from
+  -- 0, else 0
   pub above : V → ℕ
   pub below : V → ℕ
   -- null for Unknown, a fault for its rank
@@ -18,7 +19,7 @@ pub record Reading (V : Type 0) : Type 0 where
   -- the number a - b
   pub number : ℕ → ℕ → V
 
--- a fold from the right: the step of each element, beginning at s behind the last
+-- a fold from the right: the step of each element, beginning at s after the last
 abbrev pub run : {X S : Type 0} → (X → S → S) → S → List X → S
 run step s [] = s
 run step s (x ∷ xs) = step x (run step s xs)
@@ -83,9 +84,12 @@ module _ {V : Type 0} (m : Reading V) where
   abbrev pub unless_none : List V → V → V
   unless_none vs v = cond (length (not_null vs) == 0) (m.write unknown_rank) v
 
-  -- NumberRange where the sum of the terms above 0, or of the others negated, passes 2^127 - 1; else v
+  -- NumberRange where the sum of the terms above 0, or of the others negated, passes 2^127 - 1;
+  -- else v
   abbrev pub unless_range : List V → V → V
-  unless_range vs v = cond (nat_lt (max (weigh m.above vs) (weigh m.below vs)) (2 ^ 127)) v (m.write number_range_rank)
+  unless_range vs v =
+      cond (nat_lt (max (weigh m.above vs) (weigh m.below vs)) (2 ^ 127)) v
+      (m.write number_range_rank)
 
   -- sum(e): exact
   abbrev pub sum_of : List V → V
@@ -93,10 +97,13 @@ module _ {V : Type 0} (m : Reading V) where
       let up = weigh m.above vs in let down = weigh m.below vs in
       unless_fault vs (unless_none vs (unless_range vs (m.number (up - down) (down - up))))
 
-  -- avg(e): the sum divided by the number of terms; `divided a b n` is (a - b) / n rescaled and rounded, or its fault
+  -- avg(e): the sum divided by the number of terms; `divided a b n` is (a - b) / n rescaled and
+  -- rounded, or its fault
   abbrev pub avg_of : (ℕ → ℕ → ℕ → V) → List V → V
   avg_of divided vs =
-      unless_fault vs (unless_none vs (unless_range vs (divided (weigh m.above vs) (weigh m.below vs) (length (not_null vs)))))
+      unless_fault vs
+      (unless_none vs
+      (unless_range vs (divided (weigh m.above vs) (weigh m.below vs) (length (not_null vs)))))
 
   -- min(e): the first by `before` of the values that aren't null, null for none
   abbrev pub min_of : (V → V → Bool) → List V → V
@@ -104,7 +111,8 @@ module _ {V : Type 0} (m : Reading V) where
 
   -- max(e): the same by the order turned round
   abbrev pub max_of : (V → V → Bool) → List V → V
-  max_of before vs = unless_fault vs (first_of (λ x y. before y x) (m.write unknown_rank) (not_null vs))
+  max_of before vs =
+      unless_fault vs (first_of (λ x y. before y x) (m.write unknown_rank) (not_null vs))
 
 -- The aggregates of a grouped query, from left to right:
 -- each is an argument, read from the row, and a function of the list of the argument's values.

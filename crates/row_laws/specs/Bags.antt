@@ -12,11 +12,13 @@ abbrev pub weigh : {X : Type 0} → (X → ℕ) → List X → ℕ
 weigh h [] = 0
 weigh h (x ∷ xs) = h x + weigh h xs
 
--- The same elements, each as often, in any order: however the elements are weighed, both lists weigh the same.
+-- The same elements, each as often, in any order: however the elements are weighed, both lists
+-- weigh the same.
 pub record SameBag {X : Type 0} (xs ys : List X) : Type 0 where
   pub weighs : (h : X → ℕ) → weigh h xs ≡ weigh h ys
 
--- A test that tells identical values, as GROUP BY and DISTINCT do: null is identical to null, a fault to the same fault.
+-- A test that tells identical values, as GROUP BY and DISTINCT do: null is identical to null, a
+-- fault to the same fault.
 pub record IsIdentity {X : Type 0} (same : X → X → Bool) : Type 0 where
   pub meets : (x : X) → same x x ≡ true
   pub tells : (x y : X) → same x y ≡ true → x ≡ y
@@ -35,9 +37,12 @@ abbrev pub each_once : {X : Type 0} → (X → X → Bool) → List X → List X
 each_once same [] = []
 each_once same (x ∷ xs) = x ∷ filter (λ y. not (same x y)) (each_once same xs)
 
--- GROUP BY: for each key that is there, once, f of the key and of the elements that have it, in the order of the keys' first places.
-abbrev pub classes : {R K S : Type 0} → (K → K → Bool) → (R → K) → (K → List R → S) → List R → List S
-classes same key f xs = map (λ k. f k (filter (λ x. same (key x) k) xs)) (each_once same (map key xs))
+-- GROUP BY: for each key that is there, once, f of the key and of the elements that have it, in the
+-- order of the keys' first places.
+abbrev pub classes : {R K S : Type 0} → (K → K → Bool) → (R → K) → (K → List R → S) → List R
+    → List S
+classes same key f xs =
+    map (λ k. f k (filter (λ x. same (key x) k) xs)) (each_once same (map key xs))
 
 -- P of each element
 abbrev pub Each : {X : Type 0} → (X → Type 0) → List X → Type 0

@@ -25,7 +25,7 @@ module _ {V : Type 0} (same : V → V → Bool) where
 abbrev pub columns : {V : Type 0} → V → List ℕ → List V → List V
 columns null cs x = map (λ c. slice_index_or x c null) cs
 
--- the row t behind the values d
+-- the row t after the values d
 abbrev pub after : {V : Type 0} → List V → Ranked V → Ranked V
 after d t = ranked (d ++ t.values) t.standing
 

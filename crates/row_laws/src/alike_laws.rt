@@ -39,7 +39,8 @@ pub fn mark_node_alike<V>()
     ensures { (same : V → V → Bool) → IsIdentity same → MarkNodeAlike same }
 {}
 
-/// A scalar value: one bag gives one bag. Besides matching partners, `same` witnesses that the values have an identity.
+/// A scalar value: one bag gives one bag. Besides matching partners, `same` witnesses that the
+/// values have an identity.
 pub fn single_node_alike<V>()
     ensures { (same : V → V → Bool) → IsIdentity same → SingleNodeAlike same }
 {}
@@ -69,7 +70,8 @@ pub fn fill_alike<V>()
     ensures { (same : V → V → Bool) → IsIdentity same → FillAlike same }
 {}
 
-/// A join by nested loops, whose right sides are one bag under each left row that is there: one bag gives one bag.
+/// A join by nested loops, whose right sides are one bag under each left row that is there: one bag
+/// gives one bag.
 pub fn join_loop_alike<V>()
     ensures { JoinLoopAlike V }
 {}

@@ -28,13 +28,14 @@ pub fn mark_at_hand<V>()
     ensures { MarkAtHand V }
 {}
 
-/// An attached column is the same where one function gives for each left row and the right side's rows under it what another gives
-/// for that row and another right side's rows.
+/// An attached column is the same where one function gives for each left row and the right side's
+/// rows under it what another gives for that row and another right side's rows.
 pub fn attach_at_hand<V>()
     ensures { AttachAtHand V }
 {}
 
-/// GROUP BY gives the same groups under keys that say the same of each row, and aggregates that say the same of any of the rows.
+/// GROUP BY gives the same groups under keys that say the same of each row, and aggregates that say
+/// the same of any of the rows.
 pub fn group_at_hand<V>()
     ensures { (same : V → V → Bool) → GroupAtHand same }
 {}

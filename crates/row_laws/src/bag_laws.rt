@@ -24,7 +24,7 @@ pub fn append_alike<X>()
     ensures { AppendAlike X }
 {}
 
-/// Two lists behind one another are the same bag in either order.
+/// Two lists one after the other are the same bag in either order.
 pub fn append_swapped<X>()
     ensures { AppendSwapped X }
 {}
@@ -49,7 +49,8 @@ pub fn filter_alike<X>()
     ensures { FilterAlike X }
 {}
 
-/// Lists made of each element, behind one another: one bag gives one bag, where f and g make the same bag of each element.
+/// Lists made of each element, one after the other: one bag gives one bag, where f and g make the
+/// same bag of each element.
 pub fn flat_map_alike<X, Y>()
     ensures { FlatMapAlike X Y }
 {}
@@ -69,13 +70,14 @@ pub fn same_bag_from_permutation<X>()
     ensures { PermutationAlike X }
 {}
 
-/// The sum, the greatest and the least of two lists behind one another are the sum, the greatest and the least of theirs, as
-/// partial groups are merged.
+/// The sum, the greatest and the least of two lists one after the other are the sum, the greatest
+/// and the least of theirs, as partial groups are merged.
 pub fn weights_of_appended<X>()
     ensures { WeightsOfAppended X }
 {}
 
-/// One bag has the same elements, each as often; and lists in which each element stands equally often are one bag.
+/// One bag has the same elements, each as often; and lists in which each element stands equally
+/// often are one bag.
 pub fn has_alike<X>()
     ensures { (same : X → X → Bool) → IsIdentity same → HasAlike same }
 {}
@@ -85,12 +87,15 @@ pub fn rows_have_identity<V>()
     ensures { (same : V → V → Bool) → IsIdentity same → RowsHaveIdentity same }
 {}
 
-/// Two tests that tell identical elements say the same of any two, so identical elements once and classes are the same lists by both.
+/// Two tests that tell identical elements say the same of any two, so identical elements once and
+/// classes are the same lists by both.
 pub fn identities_agree<R, K, S>()
-    ensures { (same alike : K → K → Bool) → IsIdentity same → IsIdentity alike → IdentitiesAgree R S same alike }
+    ensures { (same alike : K → K → Bool) → IsIdentity same → IsIdentity alike
+        → IdentitiesAgree R S same alike }
 {}
 
-/// GROUP BY: classes of one bag are one bag, where each class is a function of the bag of its elements.
+/// GROUP BY: classes of one bag are one bag, where each class is a function of the bag of its
+/// elements.
 pub fn classes_alike<R, K, S>()
     ensures { (same : K → K → Bool) → IsIdentity same → ClassesAlike R S same }
 {}
@@ -100,13 +105,15 @@ pub fn distinct_rows<V>()
     ensures { (same : V → V → Bool) → IsIdentity same → DistinctRows same }
 {}
 
-/// What a list of keys with their classes has to show: the keys are those of the elements, each once.
+/// What a list of keys with their classes has to show: the keys are those of the elements, each
+/// once.
 pub fn classes_made<R, K, S>()
     ensures { (same : K → K → Bool) → IsIdentity same → ClassesMade R S same }
 {}
 
 /// What a hash table of groups has to show:
-/// its keys differ, it has for the key of each element the part that the elements with that key make, and nothing for other keys.
+/// its keys differ, it has for the key of each element the part that the elements with that key
+/// make, and nothing for other keys.
 /// Then the rows made of its entries, in whatever order, are the classes.
 pub fn entries_made<R, K, A, S>()
     ensures { (same : K → K → Bool) → IsIdentity same → EntriesMade R A S same }

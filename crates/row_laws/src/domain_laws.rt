@@ -9,7 +9,8 @@ pub fn unit_row_is_domain<V>()
     ensures { (same : V → V → Bool) → IsIdentity same → UnitRowIsDomain same }
 {}
 
-/// The domain node of rows of which `pick` takes n values is a domain: no two of its rows are identical.
+/// The domain node of rows of which `pick` takes n values is a domain: no two of its rows are
+/// identical.
 pub fn domain_node_is_domain<V>()
     ensures { (same : V → V → Bool) → IsIdentity same → DomainNodeIsDomain same }
 {}
@@ -19,7 +20,8 @@ pub fn side_is_domain<V>()
     ensures { (same : V → V → Bool) → IsIdentity same → SideIsDomain same }
 {}
 
-/// No left row is missed: what the right side meets under each row of the domain node, it meets under what `pick` takes of each left row.
+/// No left row is missed: what the right side meets under each row of the domain node, it meets
+/// under what `pick` takes of each left row.
 pub fn left_rows_met<V>()
     ensures { (same : V → V → Bool) → IsIdentity same → LeftRowsMet same }
 {}
@@ -29,7 +31,8 @@ pub fn one_row_answers<V>()
     ensures { (same : V → V → Bool) → IsIdentity same → OneRowAnswers same }
 {}
 
-/// The root of a plan: rows answer loops over the one row of no columns exactly where they are, as a bag, what the loops give under it.
+/// The root of a plan: rows answer loops over the one row of no columns exactly where they are, as
+/// a bag, what the loops give under it.
 pub fn root_answers<V>()
     ensures { (same : V → V → Bool) → IsIdentity same → RootAnswers same }
 {}
@@ -59,8 +62,8 @@ pub fn project_answers<V>()
     ensures { (same : V → V → Bool) → IsIdentity same → ProjectAnswers same }
 {}
 
-/// The inner join over a domain, with a right side that is closed, that shares the domain, or that has a domain of its own,
-/// as a lateral join has.
+/// The inner join over a domain, with a right side that is closed, that shares the domain, or that
+/// has a domain of its own, as a lateral join has.
 pub fn join_answers<V>()
     ensures { (same : V → V → Bool) → IsIdentity same → JoinAnswers same }
 {}
@@ -70,8 +73,9 @@ pub fn outer_answers<V>()
     ensures { (same : V → V → Bool) → IsIdentity same → OuterAnswers same }
 {}
 
-/// Marks and scalar values over a domain, with the same three kinds of right side. Under each domain row d a left row l gets
-/// one more column: `value` of d and l, and of the rows that the right side has under them.
+/// Marks and scalar values over a domain, with the same three kinds of right side. Under each
+/// domain row d a left row l gets one more column: `value` of d and l, and of the rows that the
+/// right side has under them.
 pub fn attach_answers<V>()
     ensures { (same : V → V → Bool) → IsIdentity same → AttachAnswers same }
 {}
@@ -91,8 +95,9 @@ pub fn total_answers<V>()
     ensures { (same : V → V → Bool) → IsIdentity same → TotalAnswers same }
 {}
 
-/// A right side that has the domain's values in columns bs of its own, and asks in its WHERE that they equal the domain's,
-/// needs no domain: its rows take their own values as domain columns, and the equality becomes a condition on these alone.
+/// A right side that has the domain's values in columns bs of its own, and asks in its WHERE that
+/// they equal the domain's, needs no domain: its rows take their own values as domain columns, and
+/// the equality becomes a condition on these alone.
 pub fn local_answers<V>()
     ensures { (same : V → V → Bool) → IsIdentity same → LocalAnswers same }
 {}

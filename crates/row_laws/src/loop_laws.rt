@@ -29,7 +29,8 @@ pub fn outer_meets<V>()
     ensures { (same : V → V → Bool) → IsIdentity same → OuterMeets same }
 {}
 
-/// A column that is a function of the left row and of the bag of its partners, under one domain row.
+/// A column that is a function of the left row and of the bag of its partners, under one domain
+/// row.
 pub fn attach_meets<V>()
     ensures { (same : V → V → Bool) → IsIdentity same → AttachMeets same }
 {}
@@ -49,14 +50,15 @@ pub fn group_meets<V>()
     ensures { (same : V → V → Bool) → IsIdentity same → GroupMeets same }
 {}
 
-/// Aggregates without GROUP BY under one domain row, before the fill: groups by the domain's columns alone.
+/// Aggregates without GROUP BY under one domain row, before the fill: groups by the domain's
+/// columns alone.
 pub fn key_meets<V>()
     ensures { (same : V → V → Bool) → IsIdentity same → KeyMeets same }
 {}
 
-/// A right side that has the domain's values in columns bs of its own, and asks in its WHERE that they equal the domain's,
-/// needs no domain: its rows take their own values as domain columns, and the equality becomes a condition on these alone,
-/// as `is not null`.
+/// A right side that has the domain's values in columns bs of its own, and asks in its WHERE that
+/// they equal the domain's, needs no domain: its rows take their own values as domain columns, and
+/// the equality becomes a condition on these alone, as `is not null`.
 pub fn local_meets<V>()
     ensures { (same : V → V → Bool) → IsIdentity same → LocalMeets same }
 {}

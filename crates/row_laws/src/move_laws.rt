@@ -14,7 +14,8 @@ pub fn select_below_distinct<V>()
     ensures { (same : V → V → Bool) → IsIdentity same → SelectBelowDistinct same }
 {}
 
-/// A selection above GROUP BY that reads the keys only is one below it, where the aggregates don't read standings.
+/// A selection above GROUP BY that reads the keys only is one below it, where the aggregates don't
+/// read standings.
 pub fn select_below_group<V>()
     ensures { (same : V → V → Bool) → IsIdentity same → SelectBelowGroup same }
 {}
@@ -34,7 +35,8 @@ pub fn join_is_selected_cross<V>()
     ensures { JoinIsSelectedCross V }
 {}
 
-/// A selection above an inner join is part of its condition, also where the right side is taken anew under each left row.
+/// A selection above an inner join is part of its condition, also where the right side is taken
+/// anew under each left row.
 pub fn select_into_join<V>()
     ensures { SelectIntoJoin V }
 {}
@@ -44,22 +46,26 @@ pub fn select_below_left<V>()
     ensures { SelectBelowLeft V }
 {}
 
-/// A selection above an inner join moves to the right side, where it reads that side's columns only.
+/// A selection above an inner join moves to the right side, where it reads that side's columns
+/// only.
 pub fn select_below_right<V>()
     ensures { SelectBelowRight V }
 {}
 
-/// A selection above a left outer join moves to the left side, where it reads that side's columns only.
+/// A selection above a left outer join moves to the left side, where it reads that side's columns
+/// only.
 pub fn select_below_outer<V>()
     ensures { SelectBelowOuter V }
 {}
 
-/// A selection above a mark or a scalar value moves below it, where it doesn't read the attached column.
+/// A selection above a mark or a scalar value moves below it, where it doesn't read the attached
+/// column.
 pub fn select_below_attach<V>()
     ensures { SelectBelowAttach V }
 {}
 
-/// A part of a left outer join's ON moves to the right side, where it reads that side's columns only.
+/// A part of a left outer join's ON moves to the right side, where it reads that side's columns
+/// only.
 /// To the left side no part may move: a small case shows it.
 pub fn on_below_right<V>()
     ensures { OnBelowRight V }
@@ -75,17 +81,20 @@ pub fn last_sides_exchanged<V>()
     ensures { LastSidesExchanged V }
 {}
 
-/// A projection of a product's left side is one above the product, where g does to the combined row what f does to its left part.
+/// A projection of a product's left side is one above the product, where g does to the combined row
+/// what f does to its left part.
 pub fn project_out_of_left<V>()
     ensures { ProjectOutOfLeft V }
 {}
 
-/// A projection of a product's right side is one above the product, where g does to the combined row what f does to its right part.
+/// A projection of a product's right side is one above the product, where g does to the combined
+/// row what f does to its right part.
 pub fn project_out_of_right<V>()
     ensures { ProjectOutOfRight V }
 {}
 
-/// A projection of an inner join's left side is one above the join, also where the right side is taken anew under each left row.
+/// A projection of an inner join's left side is one above the join, also where the right side is
+/// taken anew under each left row.
 pub fn project_out_of_join<V>()
     ensures { ProjectOutOfJoin V }
 {}
@@ -110,7 +119,8 @@ pub fn project_reads_attached<V>()
     ensures { ProjectReadsAttached V }
 {}
 
-/// An attached column that a selection reads and a select list drops is a selection that reads the value.
+/// An attached column that a selection reads and a select list drops is a selection that reads the
+/// value.
 pub fn attached_read_and_dropped<V>()
     ensures { AttachedReadAndDropped V }
 {}

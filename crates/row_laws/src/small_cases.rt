@@ -6,7 +6,8 @@ ghost use Rattle.row_laws.specs.AggregateCases.{SumAtItsEdges, AverageOfTerms, L
 
 use crate::tree_laws::unnesting;
 
-/// The cells of these cases have an identity, count(*) of them does not depend on the order of the rows, and unnesting holds of them.
+/// The cells of these cases have an identity, count(*) of them does not depend on the order of the
+/// rows, and unnesting holds of them.
 pub fn cells_have_identity()
     ensures { CellsHaveIdentity }
 {}
@@ -17,7 +18,8 @@ pub fn null_binding()
     ensures { NullBinding }
 {}
 
-/// count(*) of no rows is 0, also under a left row without partners: loops and nodes give the same answer.
+/// count(*) of no rows is 0, also under a left row without partners: loops and nodes give the same
+/// answer.
 /// Wrong: without the fill such left rows are lost.
 pub fn count_of_no_rows()
     ensures { CountOfNoRows }
@@ -29,29 +31,34 @@ pub fn duplicate_in_a_domain()
     ensures { DuplicateInADomain }
 {}
 
-/// 3 in (1, null) is Unknown, and so is 3 not in (1, null): WHERE keeps no row. 1 in (1, null) is True. In no rows it is False.
+/// 3 in (1, null) is Unknown, and so is 3 not in (1, null): WHERE keeps no row. 1 in (1, null) is
+/// True. In no rows it is False.
 pub fn not_in_with_a_null()
     ensures { NotInWithANull }
 {}
 
-/// A partner at a fault's standing makes the mark that fault, where no other is above it; of two faults the greater.
+/// A partner at a fault's standing makes the mark that fault, where no other is above it; of two
+/// faults the greater.
 /// Under a condition that is False or Unknown such a partner counts as False or Unknown.
 /// Wrong: where the partners' standings are ignored the mark is True.
 pub fn standing_of_a_partner()
     ensures { StandingOfAPartner }
 {}
 
-/// 1 in (DivideByZero, 2, null) is that fault, whose rank is above those of False and Unknown; with 1 too it is True.
+/// 1 in (DivideByZero, 2, null) is that fault, whose rank is above those of False and Unknown; with
+/// 1 too it is True.
 pub fn mark_of_faults_and_nulls()
     ensures { MarkOfFaultsAndNulls }
 {}
 
-/// A scalar subquery is null for no row, TooManyRows for two, also where they are identical, and the one row's value for one.
+/// A scalar subquery is null for no row, TooManyRows for two, also where they are identical, and
+/// the one row's value for one.
 pub fn scalar_of_rows()
     ensures { ScalarOfRows }
 {}
 
-/// A scalar subquery of one row is the standing's fault, or the value's, or where both are faults the lesser of the two, whichever it is.
+/// A scalar subquery of one row is the standing's fault, or the value's, or where both are faults
+/// the lesser of the two, whichever it is.
 pub fn scalar_of_faults()
     ensures { ScalarOfFaults }
 {}
@@ -63,7 +70,8 @@ pub fn standings_of_where()
     ensures { StandingsOfWhere }
 {}
 
-/// A combination of two rows stands at the lesser of their faults, and under ON at the least of these and the condition's.
+/// A combination of two rows stands at the lesser of their faults, and under ON at the least of
+/// these and the condition's.
 pub fn standings_of_joins()
     ensures { StandingsOfJoins }
 {}
@@ -81,14 +89,15 @@ pub fn standings_of_groups()
 
 /// Keys that are null or the same fault are one group, and one row of a domain; two faults are two.
 /// All rows of a group count, also those at a fault.
-/// A domain row stands at True whatever its left rows do; the fill leaves groups of no domain row out.
+/// A domain row stands at True whatever its left rows do; the fill leaves groups of no domain row
+/// out.
 pub fn keys_of_faults()
     ensures { KeysOfFaults }
 {}
 
-/// A fault in a domain's column is met by identity. select a, (select count(*) from table_1 where b = a) from table_0:
-/// under the fault the comparison with the number is that fault, so one row counts, at the fault's standing;
-/// loops and nodes give the same.
+/// A fault in a domain's column is met by identity. select a, (select count(*) from table_1 where b
+/// = a) from table_0: under the fault the comparison with the number is that fault, so one row
+/// counts, at the fault's standing; loops and nodes give the same.
 pub fn fault_in_a_domain()
     ensures { FaultInADomain }
 {}
@@ -106,17 +115,20 @@ pub fn sum_at_its_edges()
     ensures { SumAtItsEdges }
 {}
 
-/// avg(e) of 9, -3, null and 0 is 2: the null is no term, the 0 is one. Its range is judged as that of the sum.
+/// avg(e) of 9, -3, null and 0 is 2: the null is no term, the 0 is one. Its range is judged as that
+/// of the sum.
 pub fn average_of_terms()
     ensures { AverageOfTerms }
 {}
 
-/// Where faults are among the values each aggregate is the least of them; count(*) alone counts the rows.
+/// Where faults are among the values each aggregate is the least of them; count(*) alone counts the
+/// rows.
 pub fn least_fault_of_two()
     ensures { LeastFaultOfTwo }
 {}
 
-/// Over nothing but nulls, as over no rows, counts of values are 0 and the other aggregates null; count(*) counts the rows.
+/// Over nothing but nulls, as over no rows, counts of values are 0 and the other aggregates null;
+/// count(*) counts the rows.
 pub fn aggregates_of_nulls()
     ensures { AggregatesOfNulls }
 {}

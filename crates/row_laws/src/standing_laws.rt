@@ -19,8 +19,9 @@ pub fn cross_stands<V>()
     ensures { CrossStands V }
 {}
 
-/// The inner join gives rows at True or at a fault, of such left rows, whatever its right rows stand at: the lesser counts,
-/// and what is at most Unknown is dropped. This holds also where the right side is taken anew under each left row.
+/// The inner join gives rows at True or at a fault, of such left rows, whatever its right rows
+/// stand at: the lesser counts, and what is at most Unknown is dropped. This holds also where the
+/// right side is taken anew under each left row.
 pub fn join_stands<V>()
     ensures { JoinStands V }
 {}
@@ -80,7 +81,8 @@ pub fn tree_stands<V>()
     ensures { (same : V → V → Bool) → IsIdentity same → TreeStands same }
 {}
 
-/// The rows of the node that a tree is lowered to stand at True or at a fault, over a domain whose rows do.
+/// The rows of the node that a tree is lowered to stand at True or at a fault, over a domain whose
+/// rows do.
 pub fn node_stands<V>()
     ensures { (same : V → V → Bool) → IsIdentity same → NodeStands same }
 {}

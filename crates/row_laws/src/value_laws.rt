@@ -9,7 +9,8 @@ pub fn standings_in_any_order<V>()
     ensures { StandingsInAnyOrder V }
 {}
 
-/// The sum, the greatest and the least of any measure of the rows don't depend on the order of the rows.
+/// The sum, the greatest and the least of any measure of the rows don't depend on the order of the
+/// rows.
 pub fn measures_in_any_order<X>()
     ensures { MeasuresInAnyOrder X }
 {}
@@ -20,12 +21,14 @@ pub fn counts_in_any_order<V>()
 {}
 
 /// sum(e) doesn't depend on the order of the rows:
-/// it is exact, and NumberRange where the sum of the terms above 0, or of the others negated, passes the largest number.
+/// it is exact, and NumberRange where the sum of the terms above 0, or of the others negated,
+/// passes the largest number.
 pub fn sum_in_any_order<V>()
     ensures { SumInAnyOrder V }
 {}
 
-/// avg(e) doesn't depend on the order of the rows, however the sum is divided by the number of terms and rounded.
+/// avg(e) doesn't depend on the order of the rows, however the sum is divided by the number of
+/// terms and rounded.
 pub fn avg_in_any_order<V>()
     ensures { AvgInAnyOrder V }
 {}
@@ -35,7 +38,8 @@ pub fn extremes_in_any_order<V>()
     ensures { ExtremesInAnyOrder V }
 {}
 
-/// All aggregates of a grouped query together don't depend on the order of the rows, where each of them doesn't.
+/// All aggregates of a grouped query together don't depend on the order of the rows, where each of
+/// them doesn't.
 pub fn aggregates_in_any_order<V>()
     ensures { AggregatesInAnyOrder V }
 {}
@@ -45,12 +49,14 @@ pub fn mark_in_any_order<V>()
     ensures { MarkInAnyOrder V }
 {}
 
-/// A scalar subquery's value doesn't depend on the order of the rows. `same` only witnesses that the values have an identity.
+/// A scalar subquery's value doesn't depend on the order of the rows. `same` only witnesses that
+/// the values have an identity.
 pub fn scalar_in_any_order<V>()
     ensures { (same : V → V → Bool) → IsIdentity same → ScalarInAnyOrder same }
 {}
 
-/// A fold whose steps may be exchanged doesn't depend on the order of the rows. `same` only witnesses that the elements have an identity.
+/// A fold whose steps may be exchanged doesn't depend on the order of the rows. `same` only
+/// witnesses that the elements have an identity.
 pub fn fold_in_any_order<X, S>()
     ensures { (same : X → X → Bool) → IsIdentity same → FoldInAnyOrder S same }
 {}

@@ -25,7 +25,8 @@ whole n = Number 0 (pos n)
 abbrev pub true_truth : Truth
 true_truth = Stands AtTrue
 
--- 2 / 3, -2 / 3, 1 / 0; 1.5 + 2, 1.5 * 2.25; past 2^127 - 1; null before a fault, and the least fault
+-- 2 / 3, -2 / 3, 1 / 0; 1.5 + 2, 1.5 * 2.25; past 2^127 - 1; null before a fault, and the least
+-- fault
 abbrev pub Arithmetics : Type 0
 Arithmetics = (computed Divide (whole 2) (whole 3) ≡ Number 6 (pos 666667))
     × (computed Divide (Number 0 (negsuc 1)) (whole 3) ≡ Number 6 (negsuc 666666))
@@ -52,7 +53,8 @@ abbrev pub Conditions : Type 0
 Conditions = (least (False ∷ fault_truth DivideByZero ∷ []) ≡ False)
     × (greatest (fault_truth DivideByZero ∷ true_truth ∷ []) ≡ true_truth)
     × (least (Unknown ∷ False ∷ []) ≡ False)
-    × (least (fault_truth NumberRange ∷ fault_truth TooManyRows ∷ true_truth ∷ []) ≡ fault_truth TooManyRows)
+    × (least (fault_truth NumberRange ∷ fault_truth TooManyRows ∷ true_truth ∷ [])
+    ≡ fault_truth TooManyRows)
     × (negated Unknown ≡ Unknown)
     × (negated (fault_truth DivideByZero) ≡ fault_truth DivideByZero)
     × (in_list (whole 3) (whole 9 ∷ Null ∷ []) ≡ Unknown)
@@ -64,7 +66,8 @@ Conditions = (least (False ∷ fault_truth DivideByZero ∷ []) ≡ False)
 -- a branch at True, at a fault, and one that does not decide; a number at CASE's scale
 abbrev pub Cases : Type 0
 Cases = (first_of (decided Unknown (whole 1)) (decided true_truth (whole 2)) ≡ Some (whole 2))
-    × (first_of (decided (fault_truth DivideByZero) (whole 1)) (decided true_truth (whole 2)) ≡ Some (Failed DivideByZero))
+    × (first_of (decided (fault_truth DivideByZero) (whole 1)) (decided true_truth (whole 2))
+    ≡ Some (Failed DivideByZero))
     × (unwrap_or (first_of (decided False (whole 1)) None) Null ≡ Null)
     × (at_scale 2 (whole 1) ≡ Number 2 (pos 100))
     × (at_scale 2 (whole (2 ^ 127 - 1)) ≡ Failed NumberRange)
@@ -80,7 +83,8 @@ Parts = (extracted Year (Date 19960229) ≡ whole 1996)
     × (truth_of_mark (whole 0) ≡ False)
     × (truth_of_mark Null ≡ Unknown)
 
--- 1.5 - 2; a quotient of a scale past 6; a product past 18 places; a text is no number; no value at a lower scale
+-- 1.5 - 2; a quotient of a scale past 6; a product past 18 places; a text is no number; no value at
+-- a lower scale
 abbrev pub MoreArithmetics : Type 0
 MoreArithmetics = (computed Subtract (Number 1 (pos 15)) (whole 2) ≡ Number 1 (negsuc 4))
     × (computed Divide (Number 8 (pos 100000000)) (whole 3) ≡ Number 8 (pos 33333333))
@@ -100,7 +104,9 @@ MoreComparisons = (compared Less (Text (97 ∷ [])) (Text (97 ∷ 98 ∷ [])) �
 
 -- OR of two faults is the greater; chains of nothing; NOT of True and of False
 abbrev pub MoreConditions : Type 0
-MoreConditions = (greatest (fault_truth TooManyRows ∷ fault_truth NumberRange ∷ Unknown ∷ []) ≡ fault_truth NumberRange)
+MoreConditions =
+    (greatest (fault_truth TooManyRows ∷ fault_truth NumberRange ∷ Unknown ∷ [])
+    ≡ fault_truth NumberRange)
     × (least [] ≡ true_truth)
     × (greatest [] ≡ False)
     × (in_list (whole 1) [] ≡ False)
@@ -114,7 +120,8 @@ MoreConditions = (greatest (fault_truth TooManyRows ∷ fault_truth NumberRange 
 abbrev pub value_part : Sort → Typing
 value_part sort = record { sort = λ ks. sort; is_condition = λ ks. false }
 
--- the kinds of a product, a quotient, a CASE; what does not fit, also as the operand of an IN list without elements
+-- the kinds of a product, a quotient, a CASE; what does not fit, also as the operand of an IN list
+-- without elements
 abbrev pub Typings : Type 0
 Typings = (arithmetic_sort Multiply (Of (kind.Number 2)) (Of (kind.Number 2)) ≡ Of (kind.Number 4))
     × (arithmetic_sort Multiply (Of (kind.Number 10)) (Of (kind.Number 9)) ≡ Unfit)
@@ -128,6 +135,8 @@ Typings = (arithmetic_sort Multiply (Of (kind.Number 2)) (Of (kind.Number 2)) �
     × (comparable (Of kind.Text) (Of (kind.Number 0)) ≡ false)
     × (is_of_kind (kind.Number 2) (whole 1) ≡ false)
     × (is_of_kind (kind.Number 2) Null ≡ true)
-    × (condition_step (node.InList (value_part (Of kind.Text)) (value_part (Of kind.Text) ∷ [])) [] ≡ true)
-    × (condition_step (node.InList (value_part (Of kind.Text)) (value_part (Of (kind.Number 0)) ∷ [])) [] ≡ false)
+    × (condition_step (node.InList (value_part (Of kind.Text)) (value_part (Of kind.Text) ∷ [])) []
+    ≡ true)
+    × (condition_step
+    (node.InList (value_part (Of kind.Text)) (value_part (Of (kind.Number 0)) ∷ [])) [] ≡ false)
     × (condition_step (node.InList (value_part Unfit) []) [] ≡ false)

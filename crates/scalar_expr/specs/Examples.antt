@@ -1,4 +1,5 @@
--- Expressions worked out by hand, at least one for each node, over rows of the table region: a key, a name, a comment.
+-- Expressions worked out by hand, at least one for each node, over rows of the table region: a key,
+-- a name, a comment.
 use Rattle.std.specs.Prelude.{◌≡◌, ℕ, ◌^◌, ◌-◌, List, [], ◌∷◌, pos, negsuc}
 use Rattle.sql_value.specs.declared.truth.Fault.TheVariants.{DivideByZero, NumberRange}
 use Rattle.sql_value.specs.declared.truth.Truth.TheVariants.{False, Unknown}
@@ -49,7 +50,9 @@ zero_divides = e.Compare Equal quotient_by_zero (number 1)
 
 -- r_regionkey > 2 and (1 / 0 = 1 or 1 = 1)
 abbrev pub above_two : Expr
-above_two = e.All (e.Compare Greater key (number 2) ∷ e.Any (zero_divides ∷ e.Compare Equal (number 1) (number 1) ∷ []) ∷ [])
+above_two =
+    e.All (e.Compare Greater key (number 2)
+    ∷ e.Any (zero_divides ∷ e.Compare Equal (number 1) (number 1) ∷ []) ∷ [])
 
 -- 2^127 - 1, the largest coefficient
 abbrev pub largest : ℕ
@@ -58,12 +61,15 @@ largest = 2 ^ 127 - 1
 -- case when r_regionkey = 0 then largest when r_regionkey = 1 then 1 else -1 end
 abbrev pub three_ways : Expr
 three_ways = e.Case 0
-    (record { when = e.Compare Equal key (number 0); gives = number largest } ∷ record { when = e.Compare Equal key (number 1); gives = number 1 } ∷ [])
+    (record { when = e.Compare Equal key (number 0); gives = number largest }
+    ∷ record { when = e.Compare Equal key (number 1); gives = number 1 } ∷ [])
     (e.Negative (number 1))
 
 -- case when 1 / 0 = 1 then 1 else 1.50 end
 abbrev pub undecided : Expr
-undecided = e.Case 2 (record { when = zero_divides; gives = number 1 } ∷ []) (e.Literal (Number 2 (pos 150)))
+undecided =
+    e.Case 2 (record { when = zero_divides; gives = number 1 } ∷ [])
+    (e.Literal (Number 2 (pos 150)))
 
 -- r_regionkey in (9, null)
 abbrev pub listed : Expr
@@ -71,10 +77,13 @@ listed = e.InList key (number 9 ∷ null ∷ [])
 
 -- 2 / 3, -2 / 3, largest + 1, 9 - 3 - 2
 abbrev pub WorkedNumbers : Type 0
-WorkedNumbers = (value (e.Arithmetic (number 2) (by Divide (number 3) ∷ [])) [] ≡ Number 6 (pos 666667))
-    × (value (e.Arithmetic (e.Negative (number 2)) (by Divide (number 3) ∷ [])) [] ≡ Number 6 (negsuc 666666))
+WorkedNumbers =
+    (value (e.Arithmetic (number 2) (by Divide (number 3) ∷ [])) [] ≡ Number 6 (pos 666667))
+    × (value (e.Arithmetic (e.Negative (number 2)) (by Divide (number 3) ∷ [])) []
+    ≡ Number 6 (negsuc 666666))
     × (value (e.Arithmetic (number largest) (by Add (number 1) ∷ [])) [] ≡ Failed NumberRange)
-    × (value (e.Arithmetic (number 9) (by Subtract (number 3) ∷ by Subtract (number 2) ∷ [])) [] ≡ whole 4)
+    × (value (e.Arithmetic (number 9) (by Subtract (number 3) ∷ by Subtract (number 2) ∷ [])) []
+    ≡ whole 4)
 
 -- columns, there or not; the ways of a CASE; a branch at a fault; parts of texts and dates
 abbrev pub WorkedValues : Type 0
@@ -89,7 +98,8 @@ WorkedValues = (value key (region 3) ≡ whole 3)
 
 -- 1 = 0 and 1 / 0 = 1; above_two; 1 / 0 = 1, and not so
 abbrev pub WorkedConditions : Type 0
-WorkedConditions = (truth (e.All (e.Compare Equal (number 1) (number 0) ∷ zero_divides ∷ [])) (region 3) ≡ False)
+WorkedConditions =
+    (truth (e.All (e.Compare Equal (number 1) (number 0) ∷ zero_divides ∷ [])) (region 3) ≡ False)
     × (truth above_two (region 3) ≡ true_truth)
     × (truth above_two (region 4) ≡ true_truth)
     × (truth above_two (region 2) ≡ False)

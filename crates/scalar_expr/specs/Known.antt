@@ -1,4 +1,5 @@
--- Well-typed expressions over rows without nulls: a null comes from a null, and Unknown from a null, alone.
+-- Well-typed expressions over rows without nulls: a null comes from a null, and Unknown from a
+-- null, alone.
 use Rattle.std.specs.Prelude.{◌≢◌, Bool, true, false, not, ◌||◌, List, IsTrue}
 use Rattle.std.specs.List.{list_all, list_any}
 use Rattle.sql_value.specs.declared.truth.Truth.TheVariants.{Unknown}
@@ -63,10 +64,13 @@ operation_has_null = fold-Operation Bool Bool Bool null_step branch_null_step op
 
 -- A condition gives no kind: it is no value.
 abbrev pub ConditionsGiveNoKind : Type 0
-ConditionsGiveNoKind = (e : Expr) (ks : List Kind) (k : Kind) → IsTrue (is_condition e ks) → IsTrue (not (gives e ks k))
+ConditionsGiveNoKind = (e : Expr) (ks : List Kind) (k : Kind) → IsTrue (is_condition e ks)
+    → IsTrue (not (gives e ks k))
 
--- Over a row of the kinds that has no null, an expression without a written null that gives a kind is not null, and a
--- condition without a written null is not Unknown.
+-- Over a row of the kinds that has no null, an expression without a written null that gives a kind
+-- is not null, and a condition without a written null is not Unknown.
 abbrev pub NullsComeFromNulls : Type 0
-NullsComeFromNulls = (e : Expr) (ks : List Kind) (row : List Value) → IsTrue (row_is_of ks row) → IsTrue (list_all is_known row) → IsTrue (not (has_null e))
-    → ((k : Kind) → IsTrue (gives e ks k) → value e row ≢ Null) × (IsTrue (is_condition e ks) → truth e row ≢ Unknown)
+NullsComeFromNulls = (e : Expr) (ks : List Kind) (row : List Value) → IsTrue (row_is_of ks row)
+    → IsTrue (list_all is_known row) → IsTrue (not (has_null e))
+    → ((k : Kind) → IsTrue (gives e ks k) → value e row ≢ Null)
+    × (IsTrue (is_condition e ks) → truth e row ≢ Unknown)

@@ -15,8 +15,10 @@ MarkIsRead = (t : Truth) → truth_of_mark (mark_of t) ≡ t
 -- x between low and high is x >= low and x <= high.
 abbrev pub BetweenIsAnd : Type 0
 BetweenIsAnd = (x low high : Expr) (row : List Value)
-    → truth (e.Between x low high) row ≡ truth (e.All (e.Compare GreaterOrEqual x low ∷ e.Compare LessOrEqual x high ∷ [])) row
+    → truth (e.Between x low high) row
+    ≡ truth (e.All (e.Compare GreaterOrEqual x low ∷ e.Compare LessOrEqual x high ∷ [])) row
 
 -- x in (a, b, ..) is x = a or x = b or ..
 abbrev pub InListIsOr : Type 0
-InListIsOr = (x : Expr) (es : List Expr) (row : List Value) → truth (e.InList x es) row ≡ truth (e.Any (map (e.Compare Equal x) es)) row
+InListIsOr = (x : Expr) (es : List Expr) (row : List Value) → truth (e.InList x es) row
+    ≡ truth (e.Any (map (e.Compare Equal x) es)) row

@@ -1,5 +1,5 @@
--- The value and the truth of an expression over a row. A condition's value is null, and the truth of any other expression
--- is Unknown.
+-- The value and the truth of an expression over a row. A condition's value is null, and the truth
+-- of any other expression is Unknown.
 use Rattle.std.specs.Prelude.{List, [], ◌∷◌, map, fold, Option, Some, None, unwrap_or, slice_index_or}
 use Rattle.sql_value.specs.declared.truth.Standing.TheVariants.{AtFault, AtTrue}
 use Rattle.sql_value.specs.declared.truth.Truth.{Truth}
@@ -74,7 +74,8 @@ value_step (Column place) row = slice_index_or row place Null
 value_step (Literal v) row = v
 value_step (Negative e) row = negative (e.value row)
 value_step (Arithmetic first operations) row = in_turn (first.value row) operations row
-value_step (Case scale branches other) row = at_scale scale (unwrap_or (first_decided branches row) (other.value row))
+value_step (Case scale branches other) row =
+    at_scale scale (unwrap_or (first_decided branches row) (other.value row))
 value_step (Extract part e) row = extracted part (e.value row)
 value_step (Substring e from count) row = part_of from count (e.value row)
 value_step condition row = Null
@@ -102,11 +103,13 @@ meaning = fold-Expr Meaning BranchMeaning OperationMeaning expr_step branch_step
 
 -- what a branch gives, if it decides
 unfoldable pub branch_value : Branch → List Value → Option Value
-branch_value = fold-Branch Meaning BranchMeaning OperationMeaning expr_step branch_step operation_step
+branch_value =
+    fold-Branch Meaning BranchMeaning OperationMeaning expr_step branch_step operation_step
 
 -- what an operation makes of the value on its left
 unfoldable pub operation_value : Operation → Value → List Value → Value
-operation_value = fold-Operation Meaning BranchMeaning OperationMeaning expr_step branch_step operation_step
+operation_value =
+    fold-Operation Meaning BranchMeaning OperationMeaning expr_step branch_step operation_step
 
 -- the value of an expression over a row
 unfoldable pub value : Expr → List Value → Value

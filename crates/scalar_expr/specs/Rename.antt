@@ -22,17 +22,20 @@ abbrev pub renamed_step : List ℕ → Expr-F Expr Branch Operation → Expr
 renamed_step columns (Column i) = column_or_null (slice_get columns i)
 renamed_step columns node = roll-Expr node
 
--- the expression with the column columns[i] in the place of each column i, and null where columns has no such place
+-- the expression with the column columns[i] in the place of each column i, and null where columns
+-- has no such place
 unfoldable pub renamed : List ℕ → Expr → Expr
 renamed columns = fold-Expr Expr Branch Operation (renamed_step columns) roll-Branch roll-Operation
 
 -- the same of a branch
 unfoldable pub renamed_branch : List ℕ → Branch → Branch
-renamed_branch columns = fold-Branch Expr Branch Operation (renamed_step columns) roll-Branch roll-Operation
+renamed_branch columns =
+    fold-Branch Expr Branch Operation (renamed_step columns) roll-Branch roll-Operation
 
 -- the same of an operation
 unfoldable pub renamed_operation : List ℕ → Operation → Operation
-renamed_operation columns = fold-Operation Expr Branch Operation (renamed_step columns) roll-Branch roll-Operation
+renamed_operation columns =
+    fold-Operation Expr Branch Operation (renamed_step columns) roll-Branch roll-Operation
 
 -- the row of these columns of a row; null where it has none
 unfoldable pub gathered : List ℕ → List Value → List Value
@@ -47,7 +50,10 @@ pub record IsRenamed (columns : List ℕ) (old new : Expr) : Type 0 where
 abbrev pub ColumnsAre : List ℕ → List Kind → List Kind → Type 0
 ColumnsAre columns kinds these = map (slice_get kinds) columns ≡ map Some these
 
--- over rows of some kinds, new is well typed where old is over rows of the kinds of these columns, and gives that kind
+-- over rows of some kinds, new is well typed where old is over rows of the kinds of these columns,
+-- and gives that kind
 pub record KeepsKinds (columns : List ℕ) (old new : Expr) : Type 0 where
-  pub gives : (kinds these : List Kind) (k : Kind) → ColumnsAre columns kinds these → IsTrue (gives old these k) → IsTrue (gives new kinds k)
-  pub is_condition : (kinds these : List Kind) → ColumnsAre columns kinds these → IsTrue (is_condition old these) → IsTrue (is_condition new kinds)
+  pub gives : (kinds these : List Kind) (k : Kind) → ColumnsAre columns kinds these
+      → IsTrue (gives old these k) → IsTrue (gives new kinds k)
+  pub is_condition : (kinds these : List Kind) → ColumnsAre columns kinds these
+      → IsTrue (is_condition old these) → IsTrue (is_condition new kinds)

@@ -37,7 +37,8 @@ row_is_of [] [] = true
 row_is_of (k ∷ ks) (v ∷ vs) = is_of_kind k v && row_is_of ks vs
 row_is_of ks vs = false
 
--- what an expression's values can be: it does not fit together, nulls and faults alone, or values of one kind too
+-- what an expression's values can be: it does not fit together, nulls and faults alone, or values
+-- of one kind too
 pub data Sort : Type 0 where
   Unfit : Sort
   Nulls : Sort
@@ -141,7 +142,8 @@ abbrev pub branch_sort_step : node.Branch-F Typing BranchTyping OperationTyping 
 branch_sort_step b ks = if b.when.is_condition ks then b.gives.sort ks else Unfit
 
 -- an operation: its operator on the sort on its left and that of its operand
-abbrev pub operation_sort_step : node.Operation-F Typing BranchTyping OperationTyping → OperationTyping
+abbrev pub operation_sort_step : node.Operation-F Typing BranchTyping OperationTyping
+    → OperationTyping
 operation_sort_step o x ks = arithmetic_sort o.operator x (o.operand.sort ks)
 
 -- the operations on a sort, from left to right
@@ -155,7 +157,8 @@ branches_sorts (b ∷ bs) ks = b ks ∷ branches_sorts bs ks
 
 -- of a CASE: what all its branches and its ELSE give, once numbers are brought to its scale
 abbrev pub case_sort : ℕ → List Sort → Sort → Sort
-case_sort scale branches other = both_sorts (all_sorts (map (scaled_sort scale) branches)) (scaled_sort scale other)
+case_sort scale branches other =
+    both_sorts (all_sorts (map (scaled_sort scale) branches)) (scaled_sort scale other)
 
 -- of each node that has a value, from its parts; a condition has none
 abbrev pub sort_step : Expr-F Typing BranchTyping OperationTyping → List Kind → Sort
@@ -163,7 +166,8 @@ sort_step (node.Column place) ks = column_sort (slice_get ks place)
 sort_step (node.Literal v) ks = literal_sort v
 sort_step (node.Negative e) ks = negative_sort (e.sort ks)
 sort_step (node.Arithmetic first operations) ks = sort_in_turn (first.sort ks) operations ks
-sort_step (node.Case scale branches other) ks = case_sort scale (branches_sorts branches ks) (other.sort ks)
+sort_step (node.Case scale branches other) ks =
+    case_sort scale (branches_sorts branches ks) (other.sort ks)
 sort_step (node.Extract part e) ks = extract_sort (e.sort ks)
 sort_step (node.Substring e from count) ks = substring_sort (e.sort ks)
 sort_step condition ks = Unfit
@@ -171,9 +175,11 @@ sort_step condition ks = Unfit
 -- whether a node is a condition whose parts fit together
 abbrev pub condition_step : Expr-F Typing BranchTyping OperationTyping → List Kind → Bool
 condition_step (node.Compare comparison a b) ks = comparable (a.sort ks) (b.sort ks)
-condition_step (node.Between e low high) ks = comparable (e.sort ks) (low.sort ks) && comparable (e.sort ks) (high.sort ks)
+condition_step (node.Between e low high) ks = comparable (e.sort ks) (low.sort ks)
+    && comparable (e.sort ks) (high.sort ks)
 condition_step (node.Like e pattern) ks = is_text (e.sort ks)
-condition_step (node.InList e es) ks = is_fit (e.sort ks) && list_all (λ (x : Typing). comparable (e.sort ks) (x.sort ks)) es
+condition_step (node.InList e es) ks = is_fit (e.sort ks)
+    && list_all (λ (x : Typing). comparable (e.sort ks) (x.sort ks)) es
 condition_step (node.IsNull e) ks = is_fit (e.sort ks)
 condition_step (node.Not e) ks = e.is_condition ks
 condition_step (node.All es) ks = list_all (λ (x : Typing). x.is_condition ks) es
@@ -191,11 +197,13 @@ typing = fold-Expr Typing BranchTyping OperationTyping typing_step branch_sort_s
 
 -- the same of a branch
 unfoldable pub branch_sort : Branch → List Kind → Sort
-branch_sort = fold-Branch Typing BranchTyping OperationTyping typing_step branch_sort_step operation_sort_step
+branch_sort =
+    fold-Branch Typing BranchTyping OperationTyping typing_step branch_sort_step operation_sort_step
 
 -- the same of an operation
 unfoldable pub operation_sort : Operation → Sort → List Kind → Sort
-operation_sort = fold-Operation Typing BranchTyping OperationTyping typing_step branch_sort_step operation_sort_step
+operation_sort =
+    fold-Operation Typing BranchTyping OperationTyping typing_step branch_sort_step operation_sort_step
 
 -- what the values of an expression can be over rows of these kinds
 unfoldable pub sort_of : Expr → List Kind → Sort
@@ -215,7 +223,9 @@ sort_gives (Of j) k = same_kind j k
 abbrev pub gives : Expr → List Kind → Kind → Bool
 gives e ks k = sort_gives (sort_of e ks) k
 
--- Over a row of the kinds, an expression that gives a kind has a value of that kind and scale, null or a fault.
+-- Over a row of the kinds, an expression that gives a kind has a value of that kind and scale, null
+-- or a fault.
 abbrev pub WellTypedGivesItsKind : Type 0
-WellTypedGivesItsKind = (e : Expr) (ks : List Kind) (k : Kind) (row : List Value) → IsTrue (gives e ks k) → IsTrue (row_is_of ks row)
+WellTypedGivesItsKind = (e : Expr) (ks : List Kind) (k : Kind) (row : List Value)
+    → IsTrue (gives e ks k) → IsTrue (row_is_of ks row)
     → IsTrue (is_of_kind k (value e row))

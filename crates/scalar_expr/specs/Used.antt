@@ -9,7 +9,7 @@ use Rattle.scalar_expr.specs.declared.expr.Operation.{Operation}
 use Rattle.scalar_expr.specs.Meaning.{value, truth}
 use Rattle.scalar_expr.specs.Rename.{gathered}
 
--- the lists, one behind the other
+-- the lists, one after the other
 abbrev pub one_list : List (List ℕ) → List ℕ
 one_list [] = []
 one_list (places ∷ more) = places ++ one_list more
@@ -51,9 +51,10 @@ branch_used = fold-Branch (List ℕ) (List ℕ) (List ℕ) used_step branch_used
 
 -- the same of an operation
 unfoldable pub operation_used : Operation → List ℕ
-operation_used = fold-Operation (List ℕ) (List ℕ) (List ℕ) used_step branch_used_step operation_used_step
+operation_used =
+    fold-Operation (List ℕ) (List ℕ) (List ℕ) used_step branch_used_step operation_used_step
 
--- the same of expressions, one behind the other
+-- the same of expressions, one after the other
 unfoldable pub all_used : List Expr → List ℕ
 all_used es = one_list (map used es)
 

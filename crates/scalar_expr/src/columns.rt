@@ -10,14 +10,15 @@ use sql_value::Value;
 use sqlite_items::{Boxed, Items, at};
 use std::alloc::{AllocError, Global};
 
-/// The expression that reads the column `columns[i]` where `e` reads the column i, and null where `columns` has no such
-/// place: over any row it means what `e` means over the row of these columns, is typed as `e` is over that row, and
-/// uses of `columns` what `e` names.
+/// The expression that reads the column `columns[i]` where `e` reads the column i, and null where
+/// `columns` has no such place: over any row it means what `e` means over the row of these columns,
+/// is typed as `e` is over that row, and uses of `columns` what `e` names.
 pub fn rename(alloc: Global, e: &Expr, columns: &[u32]) -> Result<Expr, AllocError>
     ensures tree { IfOk result (λ new. new ≡ renamed columns.now e.now) }
     ensures meaning { IfOk result (IsRenamed columns.now e.now) }
     ensures kinds { IfOk result (KeepsKinds columns.now e.now) }
-    ensures used { IfOk result (λ new. used new ≡ filter_map (slice_get columns.now) (used e.now)) }
+    ensures used { IfOk result (λ new.
+        used new ≡ filter_map (slice_get columns.now) (used e.now)) }
 {
     let new = renamed(alloc, e, columns)?;
     Ok(new)

@@ -52,7 +52,8 @@ fn operand<'a>(alloc: Global, e: &'a Expr, row: &'a [Value]) -> Result<Cow<'a, V
     }
 }
 
-// The value of a column or a literal, where it lies: what most nodes ask for, without a result to be moved.
+// The value of a column or a literal, where it lies: what most nodes ask for, without a result to
+// be moved.
 #[inline]
 #[tactic(auto, using(crate::proofs::Opened::value_Column, crate::proofs::Opened::value_Literal))]
 fn at_hand<'a>(e: &'a Expr, row: &'a [Value]) -> Option<&'a Value>
@@ -120,7 +121,8 @@ fn operated<'a>(
     operations: &'a [Operation],
     row: &'a [Value],
 ) -> Result<Cow<'a, Value>, AllocError>
-    ensures { IfOk result (λ v. cow_value v ≡ operated (cow_value first.entry) operations.now row.now) }
+    ensures { IfOk result (λ v.
+        cow_value v ≡ operated (cow_value first.entry) operations.now row.now) }
 {
     let mut x = first;
     for operation in operations {
@@ -190,7 +192,8 @@ fn truth_at_hand(e: &Expr, row: &[Value]) -> Option<Truth>
     }
 }
 
-// The truth of any node. A function of its own, so that a test at hand does not pay at entry for these locals.
+// The truth of any node. A function of its own, so that a test at hand does not pay at entry for
+// these locals.
 #[cycle(eval)]
 #[inline(never)]
 #[tactic(auto, using(crate::proofs::Opened::truths_opened))]

@@ -1,4 +1,5 @@
-//! Laws of the definitions that the contracts cite. Each function does nothing: its contract is the law.
+//! Laws of the definitions that the contracts cite. Each function does nothing: its contract is the
+//! law.
 ghost use Rattle.scalar_expr.specs.Laws.{MarkIsRead, InListIsOr, BetweenIsAnd};
 ghost use Rattle.scalar_expr.specs.Examples.{WorkedNumbers, WorkedValues, WorkedConditions, WorkedTests};
 ghost use Rattle.scalar_expr.specs.Cases.{Arithmetics, Comparisons, Conditions, Cases, Parts, MoreArithmetics, MoreComparisons, MoreConditions, Typings};

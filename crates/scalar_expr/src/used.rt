@@ -80,7 +80,8 @@ fn put_branches_used(branches: &[Branch], columns: &mut Vec<u32>) -> Result<(), 
 
 #[cycle(used)]
 fn put_operations_used(operations: &[Operation], columns: &mut Vec<u32>) -> Result<(), AllocError>
-    ensures { OnOk result (columns.new.items ≡ columns.old.items ++ operations_used operations.now) }
+    ensures { OnOk result
+        (columns.new.items ≡ columns.old.items ++ operations_used operations.now) }
 {
     for operation in operations {
         put_used(&operation.operand, columns)?;
@@ -88,7 +89,8 @@ fn put_operations_used(operations: &[Operation], columns: &mut Vec<u32>) -> Resu
     Ok(())
 }
 
-/// A law: over rows with the same values at the columns that an expression uses, it has the same value and truth.
+/// A law: over rows with the same values at the columns that an expression uses, it has the same
+/// value and truth.
 pub fn used_columns_decide()
     ensures { UsedColumnsDecide }
 {}

@@ -31,21 +31,25 @@ pub record IsKept (trials : Trials) (number : ℕ) (state : State) : Type 0 wher
   pub few : number ≤ trials.done
   pub left : state ≡ tables_of trials
 
--- what comes of the next refresh: the version after it, which leaves this one; or its first cause, by which only the
--- number of tried refreshes rises; out of memory leaves all
+-- what comes of the next refresh: the version after it, which leaves this one; or its first cause,
+-- by which only the number of tried refreshes rises; out of memory leaves all
 abbrev pub IsAfter : Trials → Trials → Result Trials RefreshError → Type 0
 IsAfter old new (Ok next) =
     (next ≡ one_more old) × (version_of next ≡ version_of old + 1) × (new ≡ old)
-    × ((change : Change) → slice_get old.list old.done ≡ Some change → after (tables_of old) change ≡ Ok (tables_of next))
+    × ((change : Change) → slice_get old.list old.done ≡ Some change
+    → after (tables_of old) change ≡ Ok (tables_of next))
 IsAfter old new (Err (Refused cause)) =
     (new ≡ one_more old) × (version_of new ≡ version_of old) × (tables_of new ≡ tables_of old)
-    × ((change : Change) → slice_get old.list old.done ≡ Some change → after (tables_of old) change ≡ Err cause)
+    × ((change : Change) → slice_get old.list old.done ≡ Some change
+    → after (tables_of old) change ≡ Err cause)
 IsAfter old new (Err OutOfMemory) = new ≡ old
 
 -- what trying the next refresh gives: the state that it leaves, or its first cause
 abbrev pub Leaves : Trials → Result State RefreshError → Type 0
 Leaves trials (Ok state) =
-    (change : Change) → slice_get trials.list trials.done ≡ Some change → after (tables_of trials) change ≡ Ok state
+    (change : Change) → slice_get trials.list trials.done ≡ Some change
+    → after (tables_of trials) change ≡ Ok state
 Leaves trials (Err (Refused cause)) =
-    (change : Change) → slice_get trials.list trials.done ≡ Some change → after (tables_of trials) change ≡ Err cause
+    (change : Change) → slice_get trials.list trials.done ≡ Some change
+    → after (tables_of trials) change ≡ Err cause
 Leaves trials (Err OutOfMemory) = Unit {0}

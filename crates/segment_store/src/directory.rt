@@ -30,9 +30,15 @@ impl Model for Directory {
 
     ghost Value = { Trials };
 
-    ghost view = { λ d. record { base = arc_value d.base; list = (arc_value d.list).items; done = d.done } };
+    ghost view = { λ d. record {
+      base = arc_value d.base;
+      list = (arc_value d.list).items;
+      done = d.done;
+    } };
 
-    ghost invariant = { λ d. IsKept (record { base = arc_value d.base; list = (arc_value d.list).items; done = d.done }) d.accepted d.state };
+    ghost invariant = { λ d.
+        IsKept (record { base = arc_value d.base; list = (arc_value d.list).items; done = d.done })
+        d.accepted d.state };
 }
 
 impl Directory {
@@ -78,6 +84,13 @@ impl Directory {
         ensures most { result ≤ accepted self.now.base self.now.list (length self.now.list) }
     {
         self.accepted
+    }
+
+    /// How many refreshes the list has.
+    pub fn listed(&self) -> usize
+        ensures { result ≡ length self.now.list }
+    {
+        self.list.len()
     }
 
     /// Whether each refresh of the list was tried.
@@ -160,8 +173,8 @@ impl Directory {
         })
     }
 
-    /// Tries the next refresh. An accepted one gives the next version and leaves this one as it is; of a refused one this
-    /// version notes only that it was tried.
+    /// Tries the next refresh. An accepted one gives the next version and leaves this one as it is;
+    /// of a refused one this version notes only that it was tried.
     pub fn after_next(&mut self) -> Result<Directory, RefreshError>
         requires { self.old.done < length self.old.list }
         ensures { IsAfter self.old self.new result }

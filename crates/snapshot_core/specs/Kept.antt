@@ -1,5 +1,6 @@
 -- What the machine keeps beside the definition's state.
-use Rattle.std.specs.Prelude.{◌≡◌, ℕ, ◌+◌, ◌≤◌, List, length, IfSome, None, Option, Some, if◌then◌else◌, slice_get, slice_index_or}
+use Rattle.std.specs.Prelude.{◌≡◌, ℕ, ◌+◌, ◌≤◌, List, length, IfSome, None, Option, Some}
+use Rattle.std.specs.Prelude.{if◌then◌else◌, slice_get, slice_index_or}
 use Rattle.std.specs.List.{All}
 use Rattle.tpch_schema.specs.State.{State}
 use Rattle.table_state.specs.Refresh.{Change, changed}

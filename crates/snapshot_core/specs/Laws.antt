@@ -5,7 +5,8 @@ use Rattle.tpch_schema.specs.declared.table.TableName.{TableName}
 use Rattle.tpch_schema.specs.State.{State, table_rows}
 use Rattle.table_state.specs.Refresh.{Change}
 use Rattle.table_state.specs.Versions.{version_state}
-use Rattle.snapshot_core.specs.Machine.{World, finished_scan, happens, is_cut, published, run, session_of, start}
+use Rattle.snapshot_core.specs.Machine.{World, finished_scan, happens, is_cut, published, run}
+use Rattle.snapshot_core.specs.Machine.{session_of, start}
 use Rattle.snapshot_core.specs.declared.steps.Step.{Step}
 use Rattle.snapshot_core.specs.declared.steps.Step.TheVariants.{Begin, Again, Learn}
 
@@ -17,10 +18,11 @@ pin_of world number = (session_of world number).pin
 abbrev pub seen_of : World → ℕ → ℕ
 seen_of world number = (session_of world number).seen
 
--- whatever happened meanwhile, a finished scan of a table has the table's rows in the version that the session pins: the
--- base after just so many accepted refreshes
+-- whatever happened meanwhile, a finished scan of a table has the table's rows in the version that
+-- the session pins: the base after just so many accepted refreshes
 abbrev pub ScanLaw : Type 0
-ScanLaw = (base : State) (list : List Change) (sessions : ℕ) (steps : List Step) (session : ℕ) (table : TableName)
+ScanLaw = (base : State) (list : List Change) (sessions : ℕ) (steps : List Step) (session : ℕ)
+    (table : TableName)
     (rows : List (List Value))
     → finished_scan (run steps (start base list sessions)) session table ≡ Some rows
     → (version : ℕ) × (pin_of (run steps (start base list sessions)) session ≡ Some version)
@@ -28,7 +30,8 @@ ScanLaw = (base : State) (list : List Change) (sessions : ℕ) (steps : List Ste
 
 -- the pins of a session never fall
 abbrev pub PinsRiseLaw : Type 0
-PinsRiseLaw = (base : State) (list : List Change) (sessions : ℕ) (steps more : List Step) (session before later : ℕ)
+PinsRiseLaw = (base : State) (list : List Change) (sessions : ℕ) (steps more : List Step)
+    (session before later : ℕ)
     → pin_of (run steps (start base list sessions)) session ≡ Some before
     → pin_of (run more (run steps (start base list sessions))) session ≡ Some later
     → before ≤ later
@@ -43,15 +46,18 @@ pinning again session cuts = if again then Again session cuts else Begin session
 
 -- a version that is pinned anew is at least each note that the session had learnt
 abbrev pub NotesLaw : Type 0
-NotesLaw = (base : State) (list : List Change) (sessions : ℕ) (steps more : List Step) (session note : ℕ)
+NotesLaw = (base : State) (list : List Change) (sessions : ℕ) (steps more : List Step)
+    (session note : ℕ)
     (cuts : List (List ℕ)) (again : Bool) (world : World)
     → world ≡ run more (happens (run steps (start base list sessions)) (Learn session note))
     → 0 < session → session ≤ sessions → note ≤ published (run steps (start base list sessions))
     → is_cut base list (next_pin world session again) cuts ≡ true
-    → (version : ℕ) × (pin_of (happens world (pinning again session cuts)) session ≡ Some version) × (note ≤ version)
+    → (version : ℕ) × (pin_of (happens world (pinning again session cuts)) session ≡ Some version)
+    × (note ≤ version)
 
--- a pinned version is published, and so is what a session has seen
+-- a pinned version is a published one
 abbrev pub PublishedLaw : Type 0
-PublishedLaw = (base : State) (list : List Change) (sessions : ℕ) (steps : List Step) (session version : ℕ)
+PublishedLaw = (base : State) (list : List Change) (sessions : ℕ) (steps : List Step)
+    (session version : ℕ)
     → pin_of (run steps (start base list sessions)) session ≡ Some version
     → version ≤ published (run steps (start base list sessions))

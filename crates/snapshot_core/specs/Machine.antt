@@ -1,5 +1,7 @@
 -- The machine: sessions that begin, scan and learn, beside refreshes that are published.
-use Rattle.std.specs.Prelude.{ℕ, zero, suc, ◌+◌, Bool, ◌&&◌, ◌==◌, nat_le, nat_lt, List, [], ◌∷◌, ◌++◌, length, take, drop, max, replicate, Option, Some, None, slice_index_or, slice_set, if◌then◌else◌}
+use Rattle.std.specs.Prelude.{ℕ, zero, suc, ◌+◌, Bool, ◌&&◌, ◌==◌, nat_le, nat_lt, List, [], ◌∷◌}
+use Rattle.std.specs.Prelude.{◌++◌, length, take, drop, max, replicate, Option, Some, None}
+use Rattle.std.specs.Prelude.{slice_index_or, slice_set, if◌then◌else◌}
 use Rattle.std.specs.List.{list_all}
 use Rattle.sql_value.specs.declared.value.Value.{Value}
 use Rattle.tpch_schema.specs.declared.table.TableName.{TableName}
@@ -9,7 +11,8 @@ use Rattle.table_state.specs.Lists.{place_of}
 use Rattle.table_state.specs.Refresh.{Change}
 use Rattle.table_state.specs.Versions.{accepted, version_state}
 use Rattle.snapshot_core.specs.declared.steps.Step.{Step}
-use Rattle.snapshot_core.specs.declared.steps.Step.TheVariants.{Begin, Again, Scan, Publish, Compact, Finish, Learn}
+use Rattle.snapshot_core.specs.declared.steps.Step.TheVariants.{Begin, Again, Scan, Publish}
+use Rattle.snapshot_core.specs.declared.steps.Step.TheVariants.{Compact, Finish, Learn}
 
 -- a piece that a session scanned: its table, its number among that table's pieces, and its rows
 pub record ScannedPiece : Type 0 where
@@ -17,8 +20,9 @@ pub record ScannedPiece : Type 0 where
   pub number : ℕ
   pub rows : List (List Value)
 
--- a session: the version that it has seen; the one that it pins, if any, with the lengths of the pieces into which that
--- version's tables are cut, in the schema's order of tables; and the pieces that it scanned since it pinned
+-- a session: the version that it has seen; the one that it pins, if any, with the lengths of the
+-- pieces into which that version's tables are cut, in the schema's order of tables; and the pieces
+-- that it scanned since it pinned
 pub record SessionState : Type 0 where
   pub seen : ℕ
   pub pin : Option ℕ
@@ -38,7 +42,8 @@ new_session = record { seen = 0; pin = None; cuts = []; pieces = [] }
 
 -- nothing tried, and so many new sessions
 abbrev pub start : State → List Change → ℕ → World
-start base list sessions = record { base = base; list = list; done = 0; sessions = replicate sessions new_session }
+start base list sessions =
+    record { base = base; list = list; done = 0; sessions = replicate sessions new_session }
 
 -- the number of the published version
 abbrev pub published : World → ℕ
@@ -60,7 +65,8 @@ total (n ∷ lengths) = n + total lengths
 -- the lengths of each table's pieces add up to its number of rows in a version
 abbrev pub is_cut : State → List Change → ℕ → List (List ℕ) → Bool
 is_cut base list version cuts =
-    list_all (λ table. total (lengths_of cuts table) == length (rows_in base list version table)) all_tables
+    list_all (λ table. total (lengths_of cuts table) == length (rows_in base list version table))
+    all_tables
 
 -- rows cut into pieces of these lengths
 abbrev pub pieces_of : List ℕ → List (List Value) → List (List (List Value))
@@ -74,17 +80,20 @@ pinned version cuts = record { seen = version; pin = Some version; cuts = cuts; 
 -- a session takes the published version, if the cuts are of it
 abbrev pub begun : World → List (List ℕ) → SessionState → SessionState
 begun world cuts session =
-    if is_cut world.base world.list (published world) cuts then pinned (published world) cuts else session
+    if is_cut world.base world.list (published world) cuts then pinned (published world) cuts else
+    session
 
 -- a session takes the version again that it has seen, if the cuts are of it
 abbrev pub begun_again : World → List (List ℕ) → SessionState → SessionState
 begun_again world cuts session =
     if is_cut world.base world.list session.seen cuts then pinned session.seen cuts else session
 
--- a session takes a note, the number of an earlier or the published version: it has then seen that one
+-- a session takes a note, the number of an earlier or the published version: it has then seen that
+-- one
 abbrev pub learnt : World → ℕ → SessionState → SessionState
 learnt world note session =
-    if nat_le note (published world) then record session { seen = max session.seen note } else session
+    if nat_le note (published world) then record session { seen = max session.seen note } else
+    session
 
 -- a session drops its pin
 abbrev pub finished : SessionState → SessionState
@@ -95,7 +104,8 @@ abbrev pub piece_of : State → List Change → ℕ → List (List ℕ) → Tabl
 piece_of base list version cuts table number = record {
   table = table;
   number = number;
-  rows = slice_index_or (pieces_of (lengths_of cuts table) (rows_in base list version table)) number [];
+  rows = slice_index_or (pieces_of (lengths_of cuts table) (rows_in base list version table)) number
+      [];
 }
 
 -- a session scans a piece of the version that it pins, if there is a piece of that number
@@ -103,7 +113,10 @@ abbrev pub scanned_at : World → Option ℕ → TableName → ℕ → SessionSt
 scanned_at world None table number session = session
 scanned_at world (Some version) table number session =
     if nat_lt number (length (lengths_of session.cuts table))
-    then record session { pieces = session.pieces ++ piece_of world.base world.list version session.cuts table number ∷ [] }
+    then record session {
+      pieces = session.pieces
+          ++ piece_of world.base world.list version session.cuts table number ∷ [];
+    }
     else session
 
 -- the session of a number among some; numbers count from 1
@@ -123,7 +136,8 @@ session_of world number = session_in world.sessions number
 
 -- one session changed
 abbrev pub with_session : World → ℕ → (SessionState → SessionState) → World
-with_session world number change = record world { sessions = changed_in world.sessions number change }
+with_session world number change =
+    record world { sessions = changed_in world.sessions number change }
 
 -- what a step does; one whose condition fails changes nothing
 abbrev pub happens : World → Step → World
@@ -131,7 +145,8 @@ happens world (Begin session cuts) = with_session world session (begun world cut
 happens world (Again session cuts) = with_session world session (begun_again world cuts)
 happens world (Scan session table number) =
     with_session world session (λ s. scanned_at world s.pin table number s)
-happens world Publish = record world { done = if nat_lt world.done (length world.list) then world.done + 1 else world.done }
+happens world Publish = record world
+    { done = if nat_lt world.done (length world.list) then world.done + 1 else world.done }
 happens world Compact = world
 happens world (Finish session) = with_session world session finished
 happens world (Learn session note) = with_session world session (learnt world note)
@@ -149,21 +164,25 @@ piece_rows (piece ∷ pieces) table number =
     else piece_rows pieces table number
 
 -- two lists joined, where both are there
-abbrev pub joined : Option (List (List Value)) → Option (List (List Value)) → Option (List (List Value))
+abbrev pub joined : Option (List (List Value)) → Option (List (List Value))
+    → Option (List (List Value))
 joined None second = None
 joined (Some first) None = None
 joined (Some first) (Some second) = Some (first ++ second)
 
--- the pieces of a table from that number on, one for each length, joined by number, where all were scanned
+-- the pieces of a table from that number on, one for each length, joined by number, where all were
+-- scanned
 abbrev pub scan_from : List ScannedPiece → TableName → ℕ → List ℕ → Option (List (List Value))
 scan_from pieces table number [] = Some []
 scan_from pieces table number (n ∷ lengths) =
     joined (piece_rows pieces table number) (scan_from pieces table (number + 1) lengths)
 
--- the rows of a finished scan of a table, in a session that pins a version and scanned each piece of the table
+-- the rows of a finished scan of a table, in a session that pins a version and scanned each piece
+-- of the table
 abbrev pub session_scan : Option ℕ → SessionState → TableName → Option (List (List Value))
 session_scan None session table = None
-session_scan (Some version) session table = scan_from session.pieces table 0 (lengths_of session.cuts table)
+session_scan (Some version) session table =
+    scan_from session.pieces table 0 (lengths_of session.cuts table)
 
 -- the rows of a session's finished scan of a table
 abbrev pub finished_scan : World → ℕ → TableName → Option (List (List Value))

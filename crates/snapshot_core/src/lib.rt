@@ -1,4 +1,5 @@
-//! Sessions that begin, scan and learn beside refreshes that are published, as one machine without threads.
+//! Sessions that begin, scan and learn beside refreshes that are published, as one machine without
+//! threads.
 //!
 //! What running sessions do is said by its steps.
 #![tactic(auto)]

@@ -1,12 +1,17 @@
 //! The machine.
-ghost use Rattle.std.specs.Prelude.{◌≡◌, ◌≤◌, ◌<◌, ◌==◌, suc, length, replicate, if◌then◌else◌, IfNone, IfOk, IfSome, OnErr, OnOk, option_map};
+ghost use Rattle.std.specs.Prelude.{◌≡◌, ◌≤◌, ◌<◌, ◌==◌, suc, length, replicate, if◌then◌else◌};
+ghost use Rattle.std.specs.Prelude.{IfNone, IfOk, IfSome, OnErr, OnOk, option_map};
 ghost use Rattle.std.specs.Vec.{vec_items};
 ghost use Rattle.std.specs.List.{list_all};
 ghost use Rattle.tpch_schema.specs.Tables.{all_tables};
 ghost use Rattle.tpch_schema.specs.State.{table_rows};
 ghost use Rattle.table_state.specs.Versions.{version_state};
 ghost use Rattle.snapshot_core.specs.Kept.{IsTried};
-ghost use Rattle.snapshot_core.specs.Machine.{SessionState, World, begun, begun_again, changed_in, finished, finished_scan, happens, is_cut, learnt, lengths_of, new_session, piece_of, pinned, published, rows_in, scan_from, scanned_at, session_of, start, total, with_session};
+ghost use Rattle.snapshot_core.specs.Machine.{SessionState, World, begun, begun_again, changed_in};
+ghost use Rattle.snapshot_core.specs.Machine.{finished, finished_scan, happens, is_cut, learnt};
+ghost use Rattle.snapshot_core.specs.Machine.{lengths_of, new_session, piece_of, pinned, published};
+ghost use Rattle.snapshot_core.specs.Machine.{rows_in, scan_from, scanned_at, session_of, start};
+ghost use Rattle.snapshot_core.specs.Machine.{total, with_session};
 
 use crate::cut::adds_up;
 use crate::scan::{joined_pieces, scanned_piece};
@@ -18,7 +23,8 @@ use std::marker::Model;
 use table_state::{Refresh, RefreshError, State, apply};
 use tpch_schema::{TABLES, TableName};
 
-/// A base, a list of refreshes of which the first ones were tried, and sessions that begin and scan beside them.
+/// A base, a list of refreshes of which the first ones were tried, and sessions that begin and scan
+/// beside them.
 #[derive(Drop)]
 pub struct Machine {
     alloc: Global,
@@ -36,9 +42,20 @@ impl Model for Machine {
 
     ghost Value = { World };
 
-    ghost view = { λ m. record { base = m.base; list = m.list.items; done = m.done; sessions = m.sessions.items } };
+    ghost view = { λ m. record {
+      base = m.base;
+      list = m.list.items;
+      done = m.done;
+      sessions = m.sessions.items;
+    } };
 
-    ghost invariant = { λ m. IsKept (record { base = m.base; list = m.list.items; done = m.done; sessions = m.sessions.items }) m.versions.items };
+    ghost invariant = { λ m.
+        IsKept (record {
+          base = m.base;
+          list = m.list.items;
+          done = m.done;
+          sessions = m.sessions.items;
+        }) m.versions.items };
 }
 
 impl Machine {
@@ -89,8 +106,11 @@ impl Machine {
 
     /// Where the session of a number stands, if there is one.
     fn place_of(&self, number: u32) -> Option<usize>
-        ensures there { IfSome result (λ place. (number ≡ suc place) × (place < length self.now.sessions)) }
-        ensures absent { IfNone result ((change : SessionState → SessionState) → changed_in self.now.sessions number change ≡ self.now.sessions) }
+        ensures there { IfSome result
+            (λ place. (number ≡ suc place) × (place < length self.now.sessions)) }
+        ensures absent { IfNone result
+            ((change : SessionState → SessionState)
+            → changed_in self.now.sessions number change ≡ self.now.sessions) }
         ensures new { IfNone result (session_of self.now number ≡ new_session) }
     {
         if number == 0 {
@@ -120,7 +140,9 @@ impl Machine {
     /// The session pins a version, if the cuts are of it.
     fn take(&mut self, number: u32, version: u64, cuts: Cuts)
         requires { version ≤ published self.old }
-        ensures { self.new ≡ with_session self.old number (λ session. if is_cut self.old.base self.old.list version cuts then pinned version cuts else session) }
+        ensures { self.new ≡ with_session self.old number
+            (λ session. if is_cut self.old.base self.old.list version cuts then pinned version cuts
+            else session) }
     {
         if !self.is_cut(version, &cuts) {
             return;
@@ -222,10 +244,11 @@ impl Machine {
         }
     }
 
-    /// The rows of a session's finished scan of a table; none where it has not scanned each piece of the version that it
-    /// pins. Sessions count from 1.
+    /// The rows of a session's finished scan of a table; none where it has not scanned each piece
+    /// of the version that it pins. Sessions count from 1.
     pub fn scanned(&self, session: u32, table: TableName) -> Result<Option<Vec<Row>>, AllocError>
-        ensures { IfOk result (λ rows. option_map vec_items rows ≡ finished_scan self.now session table) }
+        ensures { IfOk result (λ rows. option_map vec_items rows
+            ≡ finished_scan self.now session table) }
     {
         let Some(place) = self.place_of(session) else {
             return Ok(None);
@@ -283,7 +306,9 @@ fn new_sessions(alloc: Global, count: u32) -> Result<Vec<Session>, AllocError>
 
 /// Whether the lengths of each table's pieces add up to its rows.
 fn is_cut(state: &State, cuts: &Cuts) -> bool
-    ensures { result ≡ list_all (λ table. total (lengths_of cuts.now table) == length (table_rows state.now table)) all_tables }
+    ensures { result ≡ list_all
+        (λ table. total (lengths_of cuts.now table) == length (table_rows state.now table))
+        all_tables }
 {
     TABLES
         .iter()

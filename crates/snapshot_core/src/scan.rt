@@ -1,5 +1,6 @@
 //! Pieces of a version's tables, and how a session's pieces are joined.
-ghost use Rattle.std.specs.Prelude.{◌≡◌, ◌++◌, [], nat_lt, length, IfOk, MatchOption, None, OnOk, Some, if◌then◌else◌, option_map, slice_index_or};
+ghost use Rattle.std.specs.Prelude.{◌≡◌, ◌++◌, [], nat_lt, length, IfOk, MatchOption, None, OnOk};
+ghost use Rattle.std.specs.Prelude.{Some, if◌then◌else◌, option_map, slice_index_or};
 ghost use Rattle.std.specs.Vec.{vec_items};
 ghost use Rattle.tpch_schema.specs.State.{table_rows};
 ghost use Rattle.snapshot_core.specs.Machine.{lengths_of, piece_rows, pieces_of, scan_from};
@@ -30,7 +31,14 @@ pub(crate) fn scanned_piece(
     table: TableName,
     number: usize,
 ) -> Result<Option<Piece>, AllocError>
-    ensures { IfOk result (λ found. found ≡ (if nat_lt number (length (lengths_of cuts.now table)) then Some (record { table = table; number = number; rows = slice_index_or (pieces_of (lengths_of cuts.now table) (table_rows state.now table)) number [] }) else None)) }
+    ensures { IfOk result (λ found. found
+        ≡ (if nat_lt number (length (lengths_of cuts.now table)) then Some
+        (record {
+          table = table;
+          number = number;
+          rows = slice_index_or (pieces_of (lengths_of cuts.now table) (table_rows state.now table))
+              number [];
+        }) else None)) }
 {
     let lengths = cuts.of(table);
     if number >= lengths.len() {
@@ -48,7 +56,8 @@ pub(crate) fn scanned_piece(
 
 /// The rows of the first piece of that table and number.
 fn piece_rows(pieces: &[Piece], table: TableName, number: usize) -> Option<&[Row]>
-    ensures { MatchOption result (piece_rows pieces.now table number ≡ None) (λ rows. piece_rows pieces.now table number ≡ Some rows.now) }
+    ensures { MatchOption result (piece_rows pieces.now table number ≡ None)
+        (λ rows. piece_rows pieces.now table number ≡ Some rows.now) }
 {
     match pieces {
         [] => None,
@@ -69,7 +78,8 @@ pub(crate) fn joined_pieces(
     lengths: &[usize],
     table: TableName,
 ) -> Result<Option<Vec<Row>>, AllocError>
-    ensures { IfOk result (λ rows. option_map vec_items rows ≡ scan_from pieces.now table 0 lengths.now) }
+    ensures { IfOk result (λ rows. option_map vec_items rows
+        ≡ scan_from pieces.now table 0 lengths.now) }
 {
     let mut all = Vec::new(alloc);
     for number in 0..lengths.len() {

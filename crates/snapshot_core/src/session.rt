@@ -38,7 +38,12 @@ impl Model for Session {
 
     ghost Value = { SessionState };
 
-    ghost view = { λ s. record { seen = s.seen; pin = s.pin; cuts = s.cuts; pieces = s.pieces.items } };
+    ghost view = { λ s. record {
+      seen = s.seen;
+      pin = s.pin;
+      cuts = s.cuts;
+      pieces = s.pieces.items;
+    } };
 }
 
 impl Session {
@@ -108,7 +113,8 @@ impl Session {
 
     /// Notes a piece.
     pub(crate) fn note(&mut self, piece: Piece) -> Result<(), AllocError>
-        ensures ok { OnOk result (self.new ≡ record self.old { pieces = self.old.pieces ++ piece ∷ [] }) }
+        ensures ok { OnOk result
+            (self.new ≡ record self.old { pieces = self.old.pieces ++ piece ∷ [] }) }
         ensures err { OnErr result (self.new ≡ self.old) }
     {
         self.pieces.push(piece)?;

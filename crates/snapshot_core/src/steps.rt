@@ -7,7 +7,8 @@ use std::marker::Model;
 use table_state::place;
 use tpch_schema::TableName;
 
-/// The lengths of the pieces into which the tables of a version are cut: a list for each table, in the schema's order.
+/// The lengths of the pieces into which the tables of a version are cut: a list for each table, in
+/// the schema's order.
 #[derive(Drop)]
 pub struct Cuts {
     lengths: Vec<Vec<usize>>,
@@ -41,7 +42,8 @@ impl Cuts {
     }
 }
 
-/// A step of the machine. Sessions count from 1, pieces and notes from 0. A step whose condition fails changes nothing.
+/// A step of the machine. Sessions count from 1, pieces and notes from 0. A step whose condition
+/// fails changes nothing.
 #[derive(Drop)]
 pub enum Step {
     /// The session pins the published version, whose tables are cut so.

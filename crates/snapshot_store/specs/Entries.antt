@@ -6,16 +6,22 @@ use Rattle.snapshot_store.specs.Openings.{Opening, IsOf, HasRisen}
 use Rattle.snapshot_store.specs.declared.entry.Entered.{Entered}
 use Rattle.snapshot_store.specs.declared.entry.Entered.TheVariants.{Share, Refused, OutOfMemory}
 
--- of an opening, with the number before and after, the entries before and after, and the refusals before and after:
--- a share is of the new number, and only the entries rose; a refusal changes nothing else; out of memory lowers nothing
+-- of an opening, with the number before and after, the entries before and after, and the refusals
+-- before and after:
+-- a share is of the new number, and only the entries rose; a refusal changes nothing else; out of
+-- memory lowers nothing
 abbrev pub Enters : Opening → ℕ → ℕ → ℕ → ℕ → ℕ → ℕ → Entered → Type 0
 Enters opening number new entries more refusals others (Share share) =
-    IsOf opening (arc_value share) × (version_of (arc_value share) ≡ new) × (number ≤ new) × HasRisen entries more × (others ≡ refusals)
-Enters opening number new entries more refusals others Refused = (new ≡ number) × (more ≡ entries) × HasRisen refusals others
-Enters opening number new entries more refusals others OutOfMemory = (number ≤ new) × (entries ≤ more) × (refusals ≤ others)
+    IsOf opening (arc_value share) × (version_of (arc_value share) ≡ new) × (number ≤ new)
+    × HasRisen entries more × (others ≡ refusals)
+Enters opening number new entries more refusals others Refused = (new ≡ number) × (more ≡ entries)
+    × HasRisen refusals others
+Enters opening number new entries more refusals others OutOfMemory = (number ≤ new)
+    × (entries ≤ more) × (refusals ≤ others)
 
 -- the same without the counts
 abbrev pub PassesUncounted : Opening → ℕ → ℕ → Entered → Type 0
-PassesUncounted opening number new (Share share) = IsOf opening (arc_value share) × (version_of (arc_value share) ≡ new) × (number ≤ new)
+PassesUncounted opening number new (Share share) = IsOf opening (arc_value share)
+    × (version_of (arc_value share) ≡ new) × (number ≤ new)
 PassesUncounted opening number new Refused = new ≡ number
 PassesUncounted opening number new OutOfMemory = number ≤ new

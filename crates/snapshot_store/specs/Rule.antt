@@ -18,7 +18,8 @@ Fits version view = IsOf view.opening version × (view.number ≤ version_of ver
 
 -- the rule: what each of them knows is
 abbrev pub AllFit : Trials → List ShelfView → Type 0
-AllFit version views = (seat : ℕ) (view : ShelfView) → get_elem? views seat ≡ some view → Fits version view
+AllFit version views = (seat : ℕ) (view : ShelfView) → get_elem? views seat ≡ some view
+    → Fits version view
 
 -- what is known after the version was seen
 abbrev pub entered : ShelfView → Trials → ShelfView

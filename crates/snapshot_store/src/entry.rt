@@ -41,7 +41,8 @@ pub trait Entry {
     /// A share of the published version. Out of memory may have raised the number and the counts.
     fn enter(&mut self) -> Entered
         ensures opening { opening self.new ≡ opening self.old }
-        ensures entered { Enters (opening self.old) (number self.old) (number self.new) (entries self.old) (entries self.new) (refusals self.old) (refusals self.new) result };
+        ensures entered { Enters (opening self.old) (number self.old) (number self.new)
+            (entries self.old) (entries self.new) (refusals self.old) (refusals self.new) result };
 
     /// The note's version, which its number is from now on at least.
     fn learn(&mut self, note: Self::Note) -> Arc<Directory>

@@ -30,11 +30,13 @@ pub trait Hall<E: Entry> {
     /// One entry more, of number 0.
     fn another(&mut self) -> Another<E>
         ensures shown { shown self.new ≡ shown self.old }
-        ensures made { MakesEntry E.opening E.number (shown self.old) (refused self.old) (refused self.new) result };
+        ensures made { MakesEntry E.opening E.number (shown self.old) (refused self.old)
+            (refused self.new) result };
 }
 
-/// Seats readers by this entry and further ones of the hall, each of which has seen the opening's directory. They are as
-/// many as are wanted, and fewer, but one, only where the hall refused an entry.
+/// Seats readers by this entry and further ones of the hall, each of which has seen the opening's
+/// directory. They are as many as are wanted, and fewer, but one, only where the hall refused an
+/// entry.
 pub fn seat<E: Entry + Drop, H: Hall<E>>(
     alloc: Global,
     first: E,
@@ -48,8 +50,11 @@ pub fn seat<E: Entry + Drop, H: Hall<E>>(
     requires start { arc_value start.now ≡ H.shown hall.old }
     requires fresh { version_of (H.shown hall.old) ≡ 0 }
     ensures shown { H.shown hall.new ≡ H.shown hall.old }
-    ensures readers { IfOk result (λ readers. AreSeated E.opening (H.shown hall.old) readers.items) }
-    ensures enough { IfOk result (λ readers. SeatsEnough want (length readers.items) (H.refused hall.old) (H.refused hall.new)) }
+    ensures readers { IfOk result
+        (λ readers. AreSeated E.opening (H.shown hall.old) readers.items) }
+    ensures enough { IfOk result
+        (λ readers. SeatsEnough want (length readers.items) (H.refused hall.old)
+        (H.refused hall.new)) }
 {
     let mut readers = Vec::new(alloc);
     readers.push(Reader::new(first, Arc::try_clone(start)?))?;

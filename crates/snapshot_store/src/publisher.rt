@@ -10,6 +10,7 @@ use crate::reader::Reader;
 use crate::rule::{publish, start};
 use crate::ruled::{Note, RuledEntry};
 use crate::ruled_hall::RuledHall;
+use crate::snapshot::Snapshot;
 use core::mem::replace_with;
 use refusals::Cause;
 use segment_store::Directory;
@@ -18,8 +19,8 @@ use std::marker::Model;
 use std::sync::{Arc, Wait};
 use table_state::{Refresh, RefreshError, State};
 
-/// Tries the refreshes of a list one after the other and shows readers the versions. It is seen as its last version, with
-/// how often its hall refused an entry. It is not dropped: `close` ends it.
+/// Tries the refreshes of a list one after the other and shows readers the versions. It is seen as
+/// its last version, with how often its hall refused an entry. It is not dropped: `close` ends it.
 pub struct Publisher {
     alloc: Global,
     hall: RuledHall,
@@ -75,7 +76,8 @@ impl Publisher {
         requires base { next.base ≡ self.old.version.base }
         requires list { next.list ≡ self.old.version.list }
         requires later { version_of self.old.version ≤ version_of next }
-        ensures ok { OnOk result (self.new ≡ record { version = next; refused = self.old.refused }) }
+        ensures ok { OnOk result
+            (self.new ≡ record { version = next; refused = self.old.refused }) }
         ensures share { IfOk result (λ share. arc_value share ≡ next) }
         ensures err { OnErr result (self.new ≡ self.old) }
     {
@@ -91,7 +93,8 @@ impl Publisher {
         requires base { next.base ≡ self.old.version.base }
         requires list { next.list ≡ self.old.version.list }
         requires later { version_of self.old.version ≤ version_of next }
-        ensures ok { OnOk result (self.new ≡ record { version = next; refused = self.old.refused }) }
+        ensures ok { OnOk result
+            (self.new ≡ record { version = next; refused = self.old.refused }) }
         ensures note { IfOk result (TellsVersion next) }
         ensures err { OnErr result (self.new ≡ self.old) }
     {
@@ -104,6 +107,21 @@ impl Publisher {
         ensures { result ≡ version_of self.now.version }
     {
         self.directory.version()
+    }
+
+    /// A snapshot of the last version, of whose rows nothing is copied.
+    pub fn snapshot(&self) -> Result<Snapshot, AllocError>
+        ensures { IfOk result (λ snapshot. snapshot ≡ self.now.version) }
+    {
+        let snapshot = Snapshot::of(self.alloc, &self.directory)?;
+        Ok(snapshot)
+    }
+
+    /// How many refreshes the list has.
+    pub fn listed(&self) -> usize
+        ensures { result ≡ length self.now.version.list }
+    {
+        self.directory.listed()
     }
 
     /// Whether each refresh of the list was tried.
@@ -143,11 +161,12 @@ impl Publisher {
     }
 }
 
-/// How many notes may be there at once, each with a reader of its own. A further one is a share alone.
+/// How many notes may be there at once, each with a reader of its own. A further one is a share
+/// alone.
 const NOTES: usize = 64;
 
-/// A publisher of a base with nothing tried, and as many readers of its versions as are wanted; fewer, but one, only where
-/// its hall refused an entry.
+/// A publisher of a base with nothing tried, and as many readers of its versions as are wanted;
+/// fewer, but one, only where its hall refused an entry.
 pub fn open<R: Wait>(
     rt: &R,
     alloc: Global,
@@ -156,7 +175,8 @@ pub fn open<R: Wait>(
     want: u32,
 ) -> Result<(Publisher, Vec<Reader<RuledEntry>>), AllocError>
     requires { 1 ≤ want }
-    ensures publisher { IfOk result (λ r. r.0.version ≡ record { base = base; list = list.items; done = 0 }) }
+    ensures publisher { IfOk result
+        (λ r. r.0.version ≡ record { base = base; list = list.items; done = 0 }) }
     ensures readers { IfOk result (λ r. AreSeated opening_of r.0.version r.1.items) }
     ensures enough { IfOk result (λ r. SeatsEnough want (length r.1.items) 0 r.0.refused) }
 {
@@ -195,8 +215,10 @@ fn seat_all(
     requires start { arc_value start.now ≡ shown_in hall.old }
     requires fresh { version_of (arc_value start.now) ≡ 0 }
     ensures shown { shown_in hall.new ≡ shown_in hall.old }
-    ensures readers { IfOk result (λ readers. AreSeated opening_of (arc_value start.now) readers.items) }
-    ensures enough { IfOk result (λ readers. SeatsEnough want (length readers.items) hall.old.refusals hall.new.refusals) }
+    ensures readers { IfOk result
+        (λ readers. AreSeated opening_of (arc_value start.now) readers.items) }
+    ensures enough { IfOk result
+        (λ readers. SeatsEnough want (length readers.items) hall.old.refusals hall.new.refusals) }
 {
     match hall.another() {
         Another::Made(first) => seat(alloc, first, start, hall, want),

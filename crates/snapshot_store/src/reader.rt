@@ -29,7 +29,8 @@ impl<E: Entry + Drop> Model for Reader<E> {
 
     ghost view = { λ r. record { entry = r.entry; seen = arc_value r.seen } };
 
-    ghost invariant = { λ r. IsOf (E.opening r.entry) (arc_value r.seen) × (version_of (arc_value r.seen) ≤ E.number r.entry) };
+    ghost invariant = { λ r. IsOf (E.opening r.entry) (arc_value r.seen)
+        × (version_of (arc_value r.seen) ≤ E.number r.entry) };
 }
 
 impl<E: Entry + Drop> Reader<E> {
@@ -44,14 +45,18 @@ impl<E: Entry + Drop> Reader<E> {
         Reader { entry, seen }
     }
 
-    /// The published version, or where the entry is refused the one that was seen. No publish waits for it. When memory
-    /// runs out the version seen stays.
+    /// The published version, or where the entry is refused the one that was seen. No publish waits
+    /// for it. When memory runs out the version seen stays.
     pub fn begin(&mut self) -> Result<Snapshot, AllocError>
         ensures opening { E.opening self.new.entry ≡ E.opening self.old.entry }
         ensures of_opening { IsOf (E.opening self.new.entry) self.new.seen }
         ensures later { version_of self.old.seen ≤ version_of self.new.seen }
-        ensures snapshot { IfOk result (λ s. IsOf (E.opening self.old.entry) s × (version_of s ≡ version_of self.new.seen)) }
-        ensures cause { IfOk result (λ s. Began (E.number self.new.entry) (E.entries self.old.entry) (E.entries self.new.entry) (E.refusals self.old.entry) (E.refusals self.new.entry) (version_of self.old.seen) (version_of s)) }
+        ensures snapshot { IfOk result
+            (λ s. IsOf (E.opening self.old.entry) s × (version_of s ≡ version_of self.new.seen)) }
+        ensures cause { IfOk result
+            (λ s. Began (E.number self.new.entry) (E.entries self.old.entry)
+            (E.entries self.new.entry) (E.refusals self.old.entry) (E.refusals self.new.entry)
+            (version_of self.old.seen) (version_of s)) }
         ensures err { OnErr result (self.new.seen ≡ self.old.seen) }
     {
         match self.entry.enter() {
@@ -68,12 +73,13 @@ impl<E: Entry + Drop> Reader<E> {
         }
     }
 
-    /// SeesVersion at least the note's version from now on. No memory is taken.
+    /// Has seen at least the note's version from now on. No memory is taken.
     pub fn learn(&mut self, note: E::Note)
         requires { E.note_opening note ≡ E.opening self.old.entry }
         ensures opening { E.opening self.new.entry ≡ E.opening self.old.entry }
         ensures of_opening { IsOf (E.opening self.new.entry) self.new.seen }
-        ensures seen { version_of self.new.seen ≡ max (version_of self.old.seen) (E.note_number note) }
+        ensures seen { version_of self.new.seen
+            ≡ max (version_of self.old.seen) (E.note_number note) }
     {
         let share = self.entry.learn(note);
         if share.version() > self.seen.version() {

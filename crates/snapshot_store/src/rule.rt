@@ -4,7 +4,8 @@ ghost use Rattle.std.specs.Arc.{arc_value};
 ghost use Rattle.left_right.specs.Sides.{view};
 ghost use Rattle.segment_store.specs.Trials.{version_of};
 ghost use Rattle.snapshot_store.specs.Openings.{IsOf};
-ghost use Rattle.snapshot_store.specs.Rule.{AllFit, KnowsVersion, SeesVersion, entered, named_only, on_shelf, own_view};
+ghost use Rattle.snapshot_store.specs.Rule.{AllFit, KnowsVersion, SeesVersion, entered, named_only};
+ghost use Rattle.snapshot_store.specs.Rule.{on_shelf, own_view};
 
 use crate::shelf::{Shelf, ShelfView};
 use atomic_table::{Join, Split};
@@ -84,7 +85,8 @@ pub(crate) fn start<R: Wait>(
     readers: usize,
 ) -> Option<ShelfWriter>
     requires { (1 ≤ readers) × (readers < 2 ^ 32) }
-    ensures { IfSome result (λ w. (on_shelf w.desk.shown.value ≡ arc_value directory) × (view w.desk.place ≡ own_view (arc_value directory))) }
+    ensures { IfSome result (λ w. (on_shelf w.desk.shown.value ≡ arc_value directory)
+        × (view w.desk.place ≡ own_view (arc_value directory))) }
 {
     let second = Arc::try_clone(&directory).ok()?;
     let writer: ShelfWriter = Writer::new(
@@ -107,7 +109,8 @@ pub(crate) fn start<R: Wait>(
 /// A reader that knows what the writer knows.
 pub(crate) fn told(writer: &mut ShelfWriter) -> Result<ShelfReader, AllocError>
     ensures told { IfOk result (λ r. view r.place ≡ view writer.old.desk.place) }
-    ensures kept { (view writer.new.desk.place ≡ view writer.old.desk.place) × (writer.new.desk.shown ≡ writer.old.desk.shown) }
+    ensures kept { (view writer.new.desk.place ≡ view writer.old.desk.place)
+        × (writer.new.desk.shown ≡ writer.old.desk.shown) }
 {
     let mut reader = writer.factory().reader()?;
     reader.learn::<Learning>(writer.tell::<Telling>());
@@ -117,7 +120,8 @@ pub(crate) fn told(writer: &mut ShelfWriter) -> Result<ShelfReader, AllocError>
 /// A reader that knows the opening of the writer's versions, and none of their numbers.
 pub(crate) fn joined(writer: &mut ShelfWriter) -> Result<ShelfReader, AllocError>
     ensures joined { IfOk result (λ r. view r.place ≡ named_only (view writer.old.desk.place)) }
-    ensures kept { (view writer.new.desk.place ≡ view writer.old.desk.place) × (writer.new.desk.shown ≡ writer.old.desk.shown) }
+    ensures kept { (view writer.new.desk.place ≡ view writer.old.desk.place)
+        × (writer.new.desk.shown ≡ writer.old.desk.shown) }
 {
     let mut reader = writer.factory().reader()?;
     reader.learn::<Joining>(writer.tell::<Telling>());

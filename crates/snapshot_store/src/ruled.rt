@@ -14,7 +14,8 @@ use core::mem::replace_with;
 use segment_store::Directory;
 use std::sync::Arc;
 
-/// An entry by a reader of the shelf. Its number is the greater of what its reader knows and what it was told.
+/// An entry by a reader of the shelf. Its number is the greater of what its reader knows and what
+/// it was told.
 #[derive(Drop)]
 pub struct RuledEntry {
     reader: ShelfReader,
@@ -50,11 +51,13 @@ impl RuledEntry {
 }
 
 impl Note {
-    /// A note of the version that the writer shows, of which this is a share. It takes no memory that must be there.
+    /// A note of the version that the writer shows, of which this is a share. It takes no memory
+    /// that must be there.
     pub(crate) fn at(writer: &mut ShelfWriter, share: Arc<Directory>) -> Note
         requires { view writer.old.desk.place ≡ own_view (arc_value share) }
         ensures share { result.share ≡ share }
-        ensures kept { (view writer.new.desk.place ≡ view writer.old.desk.place) × (writer.new.desk.shown ≡ writer.old.desk.shown) }
+        ensures kept { (view writer.new.desk.place ≡ view writer.old.desk.place)
+            × (writer.new.desk.shown ≡ writer.old.desk.shown) }
     {
         let number = share.version();
         let entry = match told(writer) {

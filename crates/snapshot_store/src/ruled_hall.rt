@@ -8,7 +8,7 @@ use crate::rule::{ShelfWriter, joined};
 use crate::ruled::RuledEntry;
 use std::sync::Wait;
 
-/// MakesEntry entries to the shelf of a writer, which knows its opening.
+/// Makes entries to the shelf of a writer, which knows its opening.
 pub struct RuledHall {
     pub(crate) writer: ShelfWriter,
     refusals: u64,

@@ -10,8 +10,8 @@ use segment_store::Directory;
 use std::alloc::AllocError;
 use std::sync::Arc;
 
-/// An entry that gives the versions of a list in turn, and then its last again. It gives none that is before one that it
-/// gave or was told of: in its place it gives that one.
+/// An entry that gives the versions of a list in turn, and then its last again. It gives none that
+/// is before one that it gave or was told of: in its place it gives that one.
 #[derive(Drop)]
 pub struct SureEntry {
     versions: Vec<Arc<Directory>>,
@@ -57,8 +57,10 @@ impl SureEntry {
     /// Goes on to the next version of the list, unless there is none or it is before the last one.
     fn advance(&mut self) -> Result<(), AllocError>
         ensures entries { self.new.entries ≡ self.old.entries }
-        ensures opening { opening_at (arc_value self.new.last) ≡ opening_at (arc_value self.old.last) }
-        ensures later { version_of (arc_value self.old.last) ≤ version_of (arc_value self.new.last) }
+        ensures opening { opening_at (arc_value self.new.last)
+            ≡ opening_at (arc_value self.old.last) }
+        ensures later { version_of (arc_value self.old.last) ≤ version_of
+            (arc_value self.new.last) }
     {
         if self.next < self.versions.len() {
             let version = &self.versions[self.next];

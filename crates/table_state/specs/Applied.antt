@@ -5,7 +5,8 @@ use Rattle.table_state.specs.Refresh.{Change, after}
 use Rattle.table_state.specs.declared.applied.RefreshError.{RefreshError}
 use Rattle.table_state.specs.declared.applied.RefreshError.TheVariants.{Refused, OutOfMemory}
 
--- the state after the refresh; or its first cause, and the state as before; out of memory leaves the state as before too
+-- the state after the refresh; or its first cause, and the state as before; out of memory leaves
+-- the state as before too
 abbrev pub Applies : {A : Type 0} → State → State → Change → Result A RefreshError → Type 0
 Applies old new change (Ok done) = after old change ≡ Ok new
 Applies old new change (Err (Refused cause)) = (after old change ≡ Err cause) × (new ≡ old)

@@ -14,6 +14,7 @@ change_of (Malformed file set refusal) = MalformedFile file set refusal
 
 -- the rows are of their tables' kinds, and the keys are keys of orders
 abbrev pub IsFormed : Form → Type 0
-IsFormed (Insert orders lineitems) = RowsAreOf table.Orders orders × RowsAreOf table.Lineitem lineitems
+IsFormed (Insert orders lineitems) = RowsAreOf table.Orders orders
+    × RowsAreOf table.Lineitem lineitems
 IsFormed (Delete keys) = All IsOrderKey keys.items
 IsFormed (Malformed file set refusal) = Unit {0}

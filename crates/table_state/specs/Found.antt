@@ -8,7 +8,8 @@ HasSameKeys set keys = (key : ℤ) → has_key set key ≡ has_key keys key
 
 -- for each wanted key, the found ones tell whether it is among these
 abbrev pub TellsKeys : List ℤ → List ℤ → List ℤ → Type 0
-TellsKeys wanted keys found = (key : ℤ) → has_key wanted key ≡ true → has_key found key ≡ has_key keys key
+TellsKeys wanted keys found = (key : ℤ) → has_key wanted key ≡ true
+    → has_key found key ≡ has_key keys key
 
 -- for each lineitem of a wanted order, the found ones tell whether it is among these
 abbrev pub TellsLines : List ℤ → List (ℤ × ℤ) → List (ℤ × ℤ) → Type 0

@@ -12,4 +12,5 @@ PlaceLaw = (table : TableName) → slice_get all_tables (place_of table) ≡ Som
 
 -- the rows of the tables of the state of eight lists, in the schema's order, are these lists
 abbrev pub ListsLaw : Type 0
-ListsLaw = (lists : List (List (List Value))) → length lists ≡ 8 → map (table_rows (state_of lists)) all_tables ≡ lists
+ListsLaw = (lists : List (List (List Value))) → length lists ≡ 8
+    → map (table_rows (state_of lists)) all_tables ≡ lists

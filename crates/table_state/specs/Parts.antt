@@ -1,5 +1,6 @@
 -- Parts of a table: stored rows without those at deleted places.
-use Rattle.std.specs.Prelude.{◌≡◌, ℕ, ℤ, suc, ◌+◌, Bool, true, false, ◌&&◌, List, [], ◌∷◌, length, nat_eq, int_le, if◌then◌else◌}
+use Rattle.std.specs.Prelude.{◌≡◌, ℕ, ℤ, suc, ◌+◌, Bool, true, false, ◌&&◌, List, [], ◌∷◌, length}
+use Rattle.std.specs.Prelude.{nat_eq, int_le, if◌then◌else◌}
 use Rattle.std.specs.List.{All, list_any}
 use Rattle.std.specs.List.Sorted.{IsNonDecreasing}
 use Rattle.columns.specs.Lists.{AreBelow, gathered}
@@ -34,7 +35,8 @@ pub record IsLeft (deleted : List ℕ) (rows : List (List Value)) (places : List
   pub left : gathered [] rows places ≡ left_rows deleted rows
 
 -- more deleted places: also those of the rows of orders of these keys
-pub record IsWithout (keys : List ℤ) (deleted : List ℕ) (rows : List (List Value)) (more : List ℕ) : Type 0 where
+pub record IsWithout (keys : List ℤ) (deleted : List ℕ) (rows : List (List Value)) (more : List ℕ) :
+    Type 0 where
   pub are : AreDeleted more rows
   pub left : left_rows more rows ≡ without_keys keys (left_rows deleted rows)
 
@@ -50,7 +52,9 @@ AreBetween least greatest rows = All (λ row. is_between least greatest (order_k
 abbrev pub HasNone : List ℤ → List (List Value) → Type 0
 HasNone keys rows = list_any (λ row. has_key keys (order_key row)) rows ≡ false
 
--- what a part keeps of a segment of these rows: the deleted places, and between which keys its orders lie
-pub record IsStoredPart (deleted : List ℕ) (least greatest : ℤ) (rows : List (List Value)) : Type 0 where
-  pub are : AreDeleted deleted rows
-  pub between : AreBetween least greatest rows
+-- what a part keeps of a segment of these rows: the deleted places, and between which keys its
+-- orders lie
+pub record IsStoredPart (deleted : List ℕ) (least greatest : ℤ) (rows : List (List Value)) : Type 0
+  where
+    pub are : AreDeleted deleted rows
+    pub between : AreBetween least greatest rows

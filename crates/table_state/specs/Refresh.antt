@@ -1,8 +1,11 @@
 -- Refreshes: one whole change of a state, or the first cause why there is none.
-use Rattle.std.specs.Prelude.{ℕ, not, List, [], ◌∷◌, ◌++◌, filter, ℤ, pos, ◌≤ℤ◌, ◌<ℤ◌, ◌^◌, Option, Some, None, Result, Ok, Err, if◌then◌else◌}
+use Rattle.std.specs.Prelude.{ℕ, not, List, [], ◌∷◌, ◌++◌, filter, ℤ, pos, ◌≤ℤ◌, ◌<ℤ◌, ◌^◌, Option}
+use Rattle.std.specs.Prelude.{Some, None, Result, Ok, Err, if◌then◌else◌}
 use Rattle.refusals.specs.declared.line.LineRefusal.{LineRefusal}
 use Rattle.refusals.specs.declared.refresh.Cause.{Cause}
-use Rattle.refusals.specs.declared.refresh.Cause.TheVariants.{OrderExists, OrderTwice, LineTwice, StrayLine, UnknownOrder, KeyTwice, Malformed, LineExists}
+use Rattle.refusals.specs.declared.refresh.Cause.TheVariants.{OrderExists, OrderTwice, LineTwice}
+use Rattle.refusals.specs.declared.refresh.Cause.TheVariants.{StrayLine, UnknownOrder, KeyTwice}
+use Rattle.refusals.specs.declared.refresh.Cause.TheVariants.{Malformed, LineExists}
 use Rattle.refusals.specs.declared.refresh.RefreshFile.{RefreshFile}
 use Rattle.sql_value.specs.declared.value.Value.{Value}
 use Rattle.tpch_schema.specs.State.{State}
@@ -38,7 +41,8 @@ order_cause present earlier key =
     if has_key present key then Some (OrderExists key)
     else if has_key earlier key then Some (OrderTwice key) else None
 
--- the cause of an inserted lineitem, by the keys of the set's orders, those in the state and the earlier ones of its file
+-- the cause of an inserted lineitem, by the keys of the set's orders, those in the state and the
+-- earlier ones of its file
 abbrev pub line_cause : List ℤ → List (ℤ × ℤ) → List (ℤ × ℤ) → ℤ × ℤ → Option Cause
 line_cause orders present earlier line =
     if not (has_key orders line.0) then Some (StrayLine line.0)
@@ -59,7 +63,8 @@ insert_cause state orders lines =
 
 -- the first cause of a refresh in a state, if it has one
 abbrev pub cause_of : State → Change → Option Cause
-cause_of state (InsertRows orders lineitems) = insert_cause state (order_keys orders) (line_keys lineitems)
+cause_of state (InsertRows orders lineitems) =
+    insert_cause state (order_keys orders) (line_keys lineitems)
 cause_of state (DeleteKeys keys) = first_cause (delete_cause (order_keys state.orders)) [] keys
 cause_of state (MalformedFile file set refusal) = Some (Malformed file set refusal)
 

@@ -1,5 +1,6 @@
 -- Laws of versions.
-use Rattle.std.specs.Prelude.{◌≡◌, ℕ, ◌+◌, ◌≤◌, List, ◌++◌, length, take, Some, slice_get, if◌then◌else◌}
+use Rattle.std.specs.Prelude.{◌≡◌, ℕ, ◌+◌, ◌≤◌, List, ◌++◌, length, take, Some, slice_get}
+use Rattle.std.specs.Prelude.{if◌then◌else◌}
 use Rattle.tpch_schema.specs.State.{State}
 use Rattle.table_state.specs.Refresh.{Change}
 use Rattle.table_state.specs.Versions.{accepted, is_accepted, replayed, taken, tried, version_state}
@@ -7,12 +8,14 @@ use Rattle.table_state.specs.Versions.{accepted, is_accepted, replayed, taken, t
 -- of two lists tried one after the other, the second is tried on what the first leaves
 abbrev pub TakenAppendLaw : Type 0
 TakenAppendLaw = (base : State) (first second : List Change)
-    → taken base (first ++ second) ≡ taken base first ++ taken (replayed base (taken base first)) second
+    → taken base (first ++ second)
+    ≡ taken base first ++ taken (replayed base (taken base first)) second
 
 -- the version of a list's first refreshes is the base after those of them that are accepted
 abbrev pub StateAcceptedLaw : Type 0
 StateAcceptedLaw = (base : State) (list : List Change) (done : ℕ)
-    → version_state base list (accepted base list done) ≡ replayed base (taken base (take done list))
+    → version_state base list (accepted base list done)
+    ≡ replayed base (taken base (take done list))
 
 -- nothing is accepted at first, and the first version is the base
 abbrev pub FirstVersionLaw : Type 0

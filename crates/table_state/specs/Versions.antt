@@ -1,4 +1,5 @@
--- Versions: a base after the refreshes of a list, tried in order. Refused ones change nothing and make no version.
+-- Versions: a base after the refreshes of a list, tried in order. Refused ones change nothing and
+-- make no version.
 use Rattle.std.specs.Prelude.{ℕ, Bool, List, [], ◌∷◌, ◌++◌, length, take, is_none, if◌then◌else◌}
 use Rattle.std.specs.List.{fold}
 use Rattle.tpch_schema.specs.State.{State}

@@ -4,7 +4,8 @@ ghost use Rattle.tpch_schema.specs.Kinds.{RowsAreOf};
 ghost use Rattle.table_state.specs.Applied.{Applies};
 ghost use Rattle.table_state.specs.Found.{HasSameKeys};
 ghost use Rattle.table_state.specs.Keys.{line_keys, order_keys};
-ghost use Rattle.table_state.specs.Refresh.{DeleteKeys, InsertRows, cause_of, changed, first_cause, line_cause, order_cause};
+ghost use Rattle.table_state.specs.Refresh.{DeleteKeys, InsertRows, cause_of, changed, first_cause};
+ghost use Rattle.table_state.specs.Refresh.{line_cause, order_cause};
 
 use crate::cause::{first_delete_cause, first_line_cause, first_order_cause};
 use crate::found::{key_set, lines_found, orders_found};
@@ -46,21 +47,24 @@ fn cause_of_orders(
     wanted: &IndexSet<i64>,
 ) -> Result<Option<Cause>, AllocError>
     requires { HasSameKeys wanted.now.keys keys.now }
-    ensures { IfOk result (λ cause. cause ≡ first_cause (order_cause (order_keys state.now.orders)) [] keys.now) }
+    ensures { IfOk result (λ cause. cause
+        ≡ first_cause (order_cause (order_keys state.now.orders)) [] keys.now) }
 {
     let present = orders_found(alloc, state.table(TableName::Orders), wanted)?;
     let cause = first_order_cause(alloc, &present, keys)?;
     Ok(cause)
 }
 
-/// The first cause of inserted lineitems with these keys, beside orders of the wanted keys, if they have one.
+/// The first cause of inserted lineitems with these keys, beside orders of the wanted keys, if they
+/// have one.
 fn cause_of_lines(
     alloc: Global,
     state: &State,
     wanted: &IndexSet<i64>,
     lines: &[LineKey],
 ) -> Result<Option<Cause>, AllocError>
-    ensures { IfOk result (λ cause. cause ≡ first_cause (line_cause wanted.now.keys (line_keys state.now.lineitem)) [] lines.now) }
+    ensures { IfOk result (λ cause. cause
+        ≡ first_cause (line_cause wanted.now.keys (line_keys state.now.lineitem)) [] lines.now) }
 {
     let present = lines_found(alloc, state.table(TableName::Lineitem), wanted)?;
     let cause = first_line_cause(alloc, wanted, &present, lines)?;
@@ -89,7 +93,8 @@ fn cause_of_insert(
     orders: &Parts,
     lineitems: &Parts,
 ) -> Result<Option<Cause>, AllocError>
-    ensures { IfOk result (λ cause. cause ≡ cause_of state.now (InsertRows orders.now lineitems.now)) }
+    ensures { IfOk result (λ cause. cause
+        ≡ cause_of state.now (InsertRows orders.now lineitems.now)) }
 {
     let keys = orders.order_keys(alloc)?;
     let wanted = key_set(alloc, &keys)?;
@@ -172,8 +177,9 @@ fn try_delete(alloc: Global, keys: &[i64], state: &mut State) -> Result<(), Refr
     }
 }
 
-/// Applies a refresh whole: adds its rows, or removes the orders of its keys with their lineitems. If it is refused, its
-/// first cause is answered and the state stays as it was; so it does when memory runs out.
+/// Applies a refresh whole: adds its rows, or removes the orders of its keys with their lineitems.
+/// If it is refused, its first cause is answered and the state stays as it was; so it does when
+/// memory runs out.
 pub fn apply(alloc: Global, state: &mut State, refresh: &Refresh) -> Result<(), RefreshError>
     ensures { Applies state.old state.new refresh.now result }
 {

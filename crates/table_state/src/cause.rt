@@ -13,7 +13,8 @@ pub(crate) fn first_order_cause(
     present: &IndexSet<i64>,
     keys: &[i64],
 ) -> Result<Option<Cause>, AllocError>
-    ensures { IfOk result (λ cause. cause ≡ first_cause (order_cause present.now.keys) [] keys.now) }
+    ensures { IfOk result (λ cause. cause
+        ≡ first_cause (order_cause present.now.keys) [] keys.now) }
 {
     let mut earlier = IndexSet::new(alloc);
     for key in keys {
@@ -41,15 +42,16 @@ fn line_twice(line: &LineKey) -> Cause
     Cause::LineTwice(line.0, line.1)
 }
 
-/// The first cause of inserted lineitems with these keys, beside orders of these keys, where the state has the lineitems
-/// that are present.
+/// The first cause of inserted lineitems with these keys, beside orders of these keys, where the
+/// state has the lineitems that are present.
 pub(crate) fn first_line_cause(
     alloc: Global,
     orders: &IndexSet<i64>,
     present: &IndexSet<LineKey>,
     lines: &[LineKey],
 ) -> Result<Option<Cause>, AllocError>
-    ensures { IfOk result (λ cause. cause ≡ first_cause (line_cause orders.now.keys present.now.keys) [] lines.now) }
+    ensures { IfOk result (λ cause. cause
+        ≡ first_cause (line_cause orders.now.keys present.now.keys) [] lines.now) }
 {
     let mut earlier = IndexSet::new(alloc);
     for line in lines {
@@ -72,7 +74,8 @@ pub(crate) fn first_delete_cause(
     present: &IndexSet<i64>,
     keys: &[i64],
 ) -> Result<Option<Cause>, AllocError>
-    ensures { IfOk result (λ cause. cause ≡ first_cause (delete_cause present.now.keys) [] keys.now) }
+    ensures { IfOk result (λ cause. cause
+        ≡ first_cause (delete_cause present.now.keys) [] keys.now) }
 {
     let mut earlier = IndexSet::new(alloc);
     for key in keys {

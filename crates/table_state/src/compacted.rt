@@ -35,7 +35,8 @@ fn make_room(
     ensures rest { OnOk result (IsOpen rest.new) }
     ensures width { OnOk result (rest.new.width ≡ width) }
     ensures room { OnOk result (length rest.new.rows + count ≤ 4096) }
-    ensures rows { OnOk result (done.new ++ plain_rows rest.new.rows ≡ done.old ++ plain_rows rest.old.rows) }
+    ensures rows { OnOk result
+        (done.new ++ plain_rows rest.new.rows ≡ done.old ++ plain_rows rest.old.rows) }
 {
     if rest.len() + count <= SEGMENT_ROWS && rest.width() == width {
         return Ok(());
@@ -49,7 +50,9 @@ fn make_room(
 fn put_part(alloc: Global, done: &mut Parts, rest: &mut Bag, part: &Part) -> Result<(), AllocError>
     requires { IsOpen rest.old }
     ensures rest { OnOk result (IsOpen rest.new) }
-    ensures rows { OnOk result (done.new ++ plain_rows rest.new.rows ≡ (done.old ++ plain_rows rest.old.rows) ++ part.now) }
+    ensures rows { OnOk result
+        (done.new ++ plain_rows rest.new.rows
+        ≡ (done.old ++ plain_rows rest.old.rows) ++ part.now) }
 {
     let batch = part.batch(alloc)?;
     make_room(alloc, done, rest, batch.width(), part.len())?;

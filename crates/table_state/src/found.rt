@@ -26,7 +26,8 @@ fn find_order(
     wanted: &IndexSet<i64>,
     found: &mut IndexSet<i64>,
 ) -> Result<(), AllocError>
-    ensures { OnOk result ((keys : List ℤ) → TellsKeys wanted.now.keys keys found.old.keys → TellsKeys wanted.now.keys (keys ++ key.now ∷ []) found.new.keys) }
+    ensures { OnOk result ((keys : List ℤ) → TellsKeys wanted.now.keys keys found.old.keys
+        → TellsKeys wanted.now.keys (keys ++ key.now ∷ []) found.new.keys) }
 {
     if wanted.contains(key) {
         put_key(found, *key)?;
@@ -40,7 +41,8 @@ fn find_orders(
     wanted: &IndexSet<i64>,
     found: &mut IndexSet<i64>,
 ) -> Result<(), AllocError>
-    ensures { OnOk result ((before : List ℤ) → TellsKeys wanted.now.keys before found.old.keys → TellsKeys wanted.now.keys (before ++ keys.now) found.new.keys) }
+    ensures { OnOk result ((before : List ℤ) → TellsKeys wanted.now.keys before found.old.keys
+        → TellsKeys wanted.now.keys (before ++ keys.now) found.new.keys) }
 {
     for key in keys {
         find_order(key, wanted, found)?;
@@ -56,7 +58,8 @@ fn find_part_orders(
     keys: &mut Vec<i64>,
     found: &mut IndexSet<i64>,
 ) -> Result<(), AllocError>
-    ensures { OnOk result ((before : List ℤ) → TellsKeys wanted.now.keys before found.old.keys → TellsKeys wanted.now.keys (before ++ order_keys part.now) found.new.keys) }
+    ensures { OnOk result ((before : List ℤ) → TellsKeys wanted.now.keys before found.old.keys
+        → TellsKeys wanted.now.keys (before ++ order_keys part.now) found.new.keys) }
 {
     if !part.may_have(wanted) {
         return Ok(());
@@ -91,7 +94,8 @@ fn find_line(
     wanted: &IndexSet<i64>,
     found: &mut IndexSet<LineKey>,
 ) -> Result<(), AllocError>
-    ensures { OnOk result ((lines : List (ℤ × ℤ)) → TellsLines wanted.now.keys lines found.old.keys → TellsLines wanted.now.keys (lines ++ line ∷ []) found.new.keys) }
+    ensures { OnOk result ((lines : List (ℤ × ℤ)) → TellsLines wanted.now.keys lines found.old.keys
+        → TellsLines wanted.now.keys (lines ++ line ∷ []) found.new.keys) }
 {
     if has_key(wanted, line.0) {
         put_key(found, line)?;
@@ -105,7 +109,9 @@ fn find_lines(
     wanted: &IndexSet<i64>,
     found: &mut IndexSet<LineKey>,
 ) -> Result<(), AllocError>
-    ensures { OnOk result ((before : List (ℤ × ℤ)) → TellsLines wanted.now.keys before found.old.keys → TellsLines wanted.now.keys (before ++ lines.now) found.new.keys) }
+    ensures { OnOk result ((before : List (ℤ × ℤ))
+        → TellsLines wanted.now.keys before found.old.keys
+        → TellsLines wanted.now.keys (before ++ lines.now) found.new.keys) }
 {
     for line in lines {
         find_line(*line, wanted, found)?;
@@ -113,15 +119,17 @@ fn find_lines(
     Ok(())
 }
 
-/// Puts those of the keys of a part's lineitems among the found ones whose orders are wanted. A part
-/// that can have none of them is not read.
+/// Puts those of the keys of a part's lineitems among the found ones whose orders are wanted. A
+/// part that can have none of them is not read.
 fn find_part_lines(
     part: &Part,
     wanted: &IndexSet<i64>,
     lines: &mut Vec<LineKey>,
     found: &mut IndexSet<LineKey>,
 ) -> Result<(), AllocError>
-    ensures { OnOk result ((before : List (ℤ × ℤ)) → TellsLines wanted.now.keys before found.old.keys → TellsLines wanted.now.keys (before ++ line_keys part.now) found.new.keys) }
+    ensures { OnOk result ((before : List (ℤ × ℤ))
+        → TellsLines wanted.now.keys before found.old.keys
+        → TellsLines wanted.now.keys (before ++ line_keys part.now) found.new.keys) }
 {
     if !part.may_have(wanted) {
         return Ok(());
@@ -139,7 +147,8 @@ pub(crate) fn lines_found(
     lineitems: &Parts,
     wanted: &IndexSet<i64>,
 ) -> Result<IndexSet<LineKey>, AllocError>
-    ensures { IfOk result (λ found. TellsLines wanted.now.keys (line_keys lineitems.now) found.keys) }
+    ensures { IfOk result (λ found.
+        TellsLines wanted.now.keys (line_keys lineitems.now) found.keys) }
 {
     let mut found = IndexSet::new(alloc);
     let mut lines = Vec::new(alloc);

@@ -1,5 +1,6 @@
 //! The keys of orders and lineitems, and sets of them.
-ghost use Rattle.std.specs.Prelude.{◌≡◌, ◌<◌, ◌++◌, ◌∷◌, [], not, if◌then◌else◌, IfOk, OnErr, length, slice_index_or};
+ghost use Rattle.std.specs.Prelude.{◌≡◌, ◌<◌, ◌++◌, ◌∷◌, [], not, if◌then◌else◌, IfOk, OnErr};
+ghost use Rattle.std.specs.Prelude.{length, slice_index_or};
 ghost use Rattle.std.specs.List.{list_any};
 ghost use Rattle.table_state.specs.Keys.{has_key, number_at};
 
@@ -17,7 +18,8 @@ pub(crate) fn put_key<K: Eq + Hash + Drop>(
     key: K,
 ) -> Result<bool, AllocError>
     ensures added { IfOk result (λ added. added ≡ not (list_any (K.eq key) keys.old.keys)) }
-    ensures keys { IfOk result (λ added. keys.new.keys ≡ (if added then keys.old.keys ++ key ∷ [] else keys.old.keys)) }
+    ensures keys { IfOk result
+        (λ added. keys.new.keys ≡ (if added then keys.old.keys ++ key ∷ [] else keys.old.keys)) }
     ensures err { OnErr result (keys.new.keys ≡ keys.old.keys) }
 {
     match keys.insert_full(key) {

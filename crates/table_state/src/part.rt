@@ -1,5 +1,6 @@
 //! A part of a table.
-ghost use Rattle.std.specs.Prelude.{◌≡◌, false, ◌<◌, ◌≤◌, ◌++◌, ◌∷◌, ◌||◌, [], if◌then◌else◌, IfNone, IfOk, IfSome, OnOk, length, slice_index_or};
+ghost use Rattle.std.specs.Prelude.{◌≡◌, false, ◌<◌, ◌≤◌, ◌++◌, ◌∷◌, ◌||◌, [], if◌then◌else◌};
+ghost use Rattle.std.specs.Prelude.{IfNone, IfOk, IfSome, OnOk, length, slice_index_or};
 ghost use Rattle.std.specs.List.Sorted.{IsNonDecreasing};
 ghost use Rattle.columns.specs.Lists.{AreBelow, gathered};
 ghost use Rattle.columns.specs.Tables.{standing_rows};
@@ -16,7 +17,8 @@ use std::alloc::{AllocError, Global};
 use std::marker::Model;
 use std::sync::Arc;
 
-/// A share of a stored segment without the rows at deleted places, seen as the list of the rows that are left.
+/// A share of a stored segment without the rows at deleted places, seen as the list of the rows
+/// that are left.
 #[derive(Drop)]
 pub struct Part {
     segment: Segment,
@@ -36,7 +38,8 @@ impl Model for Part {
 
     ghost view = { λ p. left_rows (arc_value p.deleted).items p.segment };
 
-    ghost invariant = { λ p. IsStoredPart (arc_value p.deleted).items p.range.least p.range.greatest p.segment };
+    ghost invariant = { λ p.
+        IsStoredPart (arc_value p.deleted).items p.range.least p.range.greatest p.segment };
 }
 
 /// Whether a place is one of these, which ascend.
@@ -66,7 +69,10 @@ fn put_place(
     requires up { IsNonDecreasing deleted.now }
     requires within { i < length segment.now }
     requires short { i < 4096 }
-    ensures { OnOk result (places.new.items ≡ (if has_place deleted.now i || has_key keys.now.keys (order_key (slice_index_or segment.now i [])) then places.old.items ++ i ∷ [] else places.old.items)) }
+    ensures { OnOk result (places.new.items
+        ≡ (if has_place deleted.now i || has_key keys.now.keys
+        (order_key (slice_index_or segment.now i [])) then places.old.items
+        ++ i ∷ [] else places.old.items)) }
 {
     if has_place(deleted, i as u32) || has_key(keys, number_at(segment, i, 0)) {
         places.push(i as u32)?;
@@ -101,7 +107,9 @@ fn put_order_key(
     requires up { IsNonDecreasing deleted.now }
     requires within { i < length segment.now }
     requires short { i < 4096 }
-    ensures { OnOk result (keys.new.items ≡ (if has_place deleted.now i then keys.old.items else keys.old.items ++ order_key (slice_index_or segment.now i []) ∷ [])) }
+    ensures { OnOk result (keys.new.items
+        ≡ (if has_place deleted.now i then keys.old.items else keys.old.items
+        ++ order_key (slice_index_or segment.now i []) ∷ [])) }
 {
     if !has_place(deleted, i as u32) {
         keys.push(number_at(segment, i, 0))?;
@@ -112,7 +120,8 @@ fn put_order_key(
 /// Puts the keys of a segment's orders after others, but for the deleted ones.
 fn put_order_keys(segment: &Segment, deleted: &[u32], keys: &mut Vec<i64>) -> Result<(), AllocError>
     requires { IsNonDecreasing deleted.now }
-    ensures { OnOk result (keys.new.items ≡ keys.old.items ++ order_keys (left_rows deleted.now segment.now)) }
+    ensures { OnOk result (keys.new.items
+        ≡ keys.old.items ++ order_keys (left_rows deleted.now segment.now)) }
 {
     for i in 0..segment.len() {
         put_order_key(segment, deleted, i, keys)?;
@@ -130,7 +139,9 @@ fn put_line_key(
     requires up { IsNonDecreasing deleted.now }
     requires within { i < length segment.now }
     requires short { i < 4096 }
-    ensures { OnOk result (keys.new.items ≡ (if has_place deleted.now i then keys.old.items else keys.old.items ++ line_key (slice_index_or segment.now i []) ∷ [])) }
+    ensures { OnOk result (keys.new.items
+        ≡ (if has_place deleted.now i then keys.old.items else keys.old.items
+        ++ line_key (slice_index_or segment.now i []) ∷ [])) }
 {
     if !has_place(deleted, i as u32) {
         keys.push(line_key(segment, i))?;
@@ -145,7 +156,8 @@ fn put_line_keys(
     keys: &mut Vec<LineKey>,
 ) -> Result<(), AllocError>
     requires { IsNonDecreasing deleted.now }
-    ensures { OnOk result (keys.new.items ≡ keys.old.items ++ line_keys (left_rows deleted.now segment.now)) }
+    ensures { OnOk result (keys.new.items
+        ≡ keys.old.items ++ line_keys (left_rows deleted.now segment.now)) }
 {
     for i in 0..segment.len() {
         put_line_key(segment, deleted, i, keys)?;
@@ -164,7 +176,9 @@ fn put_row(
     requires up { IsNonDecreasing deleted.now }
     requires within { i < length segment.now }
     requires short { i < 4096 }
-    ensures { OnOk result (rows.new.items ≡ (if has_place deleted.now i then rows.old.items else rows.old.items ++ slice_index_or segment.now i [] ∷ [])) }
+    ensures { OnOk result (rows.new.items
+        ≡ (if has_place deleted.now i then rows.old.items else rows.old.items
+        ++ slice_index_or segment.now i [] ∷ [])) }
 {
     if !has_place(deleted, i as u32) {
         let row = Row::new(segment.row(alloc, i)?)?;
@@ -192,7 +206,9 @@ fn put_rows(
 /// Puts a place after others, unless it is deleted.
 fn put_left(deleted: &[u32], place: u32, places: &mut Vec<u32>) -> Result<(), AllocError>
     requires { IsNonDecreasing deleted.now }
-    ensures { OnOk result (places.new.items ≡ (if has_place deleted.now place then places.old.items else places.old.items ++ place ∷ [])) }
+    ensures { OnOk result (places.new.items
+        ≡ (if has_place deleted.now place then places.old.items else places.old.items
+        ++ place ∷ [])) }
 {
     if !has_place(deleted, place) {
         places.push(place)?;
@@ -224,7 +240,8 @@ fn whole_batch(alloc: Global, segment: &Segment) -> Result<Batch, AllocError>
 #[tactic(auto, using(crate::proofs::Compaction::gathered_stand))]
 fn batch_at(alloc: Global, segment: &Segment, places: &[u32]) -> Result<Batch, AllocError>
     requires { AreBelow (length segment.now) places.now }
-    ensures { IfOk result (λ batch. batch.rows ≡ standing_rows (gathered [] segment.now places.now)) }
+    ensures { IfOk result (λ batch. batch.rows
+        ≡ standing_rows (gathered [] segment.now places.now)) }
 {
     let batch = segment.batch().gather(alloc, places)?;
     Ok(batch)
@@ -281,11 +298,14 @@ impl Part {
         put_rows(alloc, &self.segment, self.deleted.as_slice(), rows)
     }
 
-    /// A share of the stored segment, and the places of the rows that are left of it, unless all are.
+    /// A share of the stored segment, and the places of the rows that are left of it, unless all
+    /// are.
     pub fn stored(&self, alloc: Global) -> Result<(Segment, Option<Vec<u32>>), AllocError>
         ensures whole { IfOk result (λ stored. IfNone stored.1 (self.now ≡ stored.0)) }
-        ensures below { IfOk result (λ stored. IfSome stored.1 (λ places. AreBelow (length stored.0) places.items)) }
-        ensures left { IfOk result (λ stored. IfSome stored.1 (λ places. self.now ≡ gathered [] stored.0 places.items)) }
+        ensures below { IfOk result
+            (λ stored. IfSome stored.1 (λ places. AreBelow (length stored.0) places.items)) }
+        ensures left { IfOk result
+            (λ stored. IfSome stored.1 (λ places. self.now ≡ gathered [] stored.0 places.items)) }
     {
         let segment = self.segment.clone()?;
         if self.len() == segment.len() {
@@ -306,7 +326,8 @@ impl Part {
         }
     }
 
-    /// The rows of none of the orders of these keys. Where no row has one, it is another share of the same places.
+    /// The rows of none of the orders of these keys. Where no row has one, it is another share of
+    /// the same places.
     pub(crate) fn without(&self, alloc: Global, keys: &IndexSet<i64>) -> Result<Part, AllocError>
         ensures { IfOk result (λ part. part ≡ without_keys keys.now.keys self.now) }
     {

@@ -71,7 +71,8 @@ impl Parts {
         self.parts.as_slice()
     }
 
-    /// The rows of a part at the end. More rows than a usize counts are an error, as memory that isn't there.
+    /// The rows of a part at the end. More rows than a usize counts are an error, as memory that
+    /// isn't there.
     pub(crate) fn push(&mut self, part: Part) -> Result<(), AllocError>
         ensures ok { OnOk result (self.new ≡ self.old ++ part) }
         ensures err { OnErr result (self.new ≡ self.old) }

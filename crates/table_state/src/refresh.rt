@@ -64,7 +64,8 @@ impl Refresh {
         }
     }
 
-    /// Removes the orders whose keys are the lines of a delete file, with all their lineitems. These are the file's rows.
+    /// Removes the orders whose keys are the lines of a delete file, with all their lineitems.
+    /// These are the file's rows.
     pub fn delete_rows(alloc: Global, rows: &Rows) -> Result<Refresh, AllocError>
         requires { RowsFit (refresh_form RefreshFile.Delete) rows.now }
         ensures { IfOk result (λ refresh. refresh ≡ DeleteKeys (order_keys rows.now)) }

@@ -15,7 +15,8 @@ use std::alloc::{AllocError, Global};
 use std::marker::Model;
 use tpch_schema::TableName;
 
-/// The rows of the eight tables, each of its table's kinds. Two rows of a table may have the same primary key.
+/// The rows of the eight tables, each of its table's kinds. Two rows of a table may have the same
+/// primary key.
 #[derive(Drop)]
 pub struct State {
     /// The rows of each table, in the schema's order.
@@ -59,8 +60,8 @@ fn table_parts(tables: &[Parts], table: TableName) -> &Parts
 }
 
 impl State {
-    /// The state of these eight lists, which stand in the schema's order and whose rows are of their tables' kinds. No row
-    /// is copied.
+    /// The state of these eight lists, which stand in the schema's order and whose rows are of
+    /// their tables' kinds. No row is copied.
     pub fn new(alloc: Global, tables: Vec<Rows>) -> Result<State, AllocError>
         requires eight { length tables.items ≡ 8 }
         requires kinds { IsOfKinds (state_of tables.items) }
@@ -116,7 +117,8 @@ impl State {
         self.tables[7] = lineitems;
     }
 
-    /// The same rows in segments of which no row is deleted. Neighbours that fit in one segment are joined.
+    /// The same rows in segments of which no row is deleted. Neighbours that fit in one segment are
+    /// joined.
     pub fn compacted(&self, alloc: Global) -> Result<State, AllocError>
         ensures { IfOk result (λ state. state ≡ self.now) }
     {

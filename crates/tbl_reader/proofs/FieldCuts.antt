@@ -23,7 +23,7 @@ neither : (a b : Bool) → (a || b) ≡ false → (a ≡ false) × (b ≡ false)
 neither true b e = cc
 neither false b e = (refl, e)
 
--- up to a bar, and behind it
+-- up to a bar, and after it
 
 before_bar : (field more : List ℕ) → HasNoBar field → before_first is_bar (field ++ 124 ∷ more) ≡ field
 before_bar [] more e = refl

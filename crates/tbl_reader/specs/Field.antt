@@ -1,5 +1,6 @@
 -- The value of a field.
-use Rattle.std.specs.Prelude.{ℕ, ℤ, Bool, ◌&&◌, ◌==◌, List, [], ◌∷◌, Result, Ok, Err, Option, Some, None, if◌then◌else◌}
+use Rattle.std.specs.Prelude.{ℕ, ℤ, Bool, ◌&&◌, ◌==◌, List, [], ◌∷◌, Result, Ok, Err, Option, Some}
+use Rattle.std.specs.Prelude.{None, if◌then◌else◌}
 use Rattle.std.specs.Cmp.Lexicographic.{pointwise}
 use Rattle.ascii_text.specs.Printable.{first_unprintable}
 use Rattle.civil_date.specs.Date.{date_of}
@@ -7,11 +8,13 @@ use Rattle.fixed_decimal.specs.Written.{decimal_read}
 use Rattle.fixed_decimal.specs.declared.read.Spelling.{Spelling}
 use Rattle.fixed_decimal.specs.declared.read.Spelling.TheVariants.{NotANumber, TooWide}
 use Rattle.refusals.specs.declared.line.LineFault.{LineFault}
-use Rattle.refusals.specs.declared.line.LineFault.TheVariants.{BadNumber, NumberTooWide, BadDate, BadText, TextTooLong}
+use Rattle.refusals.specs.declared.line.LineFault.TheVariants.{BadNumber, NumberTooWide, BadDate}
+use Rattle.refusals.specs.declared.line.LineFault.TheVariants.{BadText, TextTooLong}
 use Rattle.sql_value.specs.declared.value.Value.{Value}
 use Rattle.sql_value.specs.declared.value.Value.TheVariants as value
 use Rattle.tpch_schema.specs.declared.column.ColumnKind.{ColumnKind}
-use Rattle.tpch_schema.specs.declared.column.ColumnKind.TheVariants.{Key, Whole, Decimal, Date, Text}
+use Rattle.tpch_schema.specs.declared.column.ColumnKind.TheVariants.{Key, Whole, Decimal, Date}
+use Rattle.tpch_schema.specs.declared.column.ColumnKind.TheVariants.{Text}
 use Rattle.tpch_schema.specs.Kinds.{is_of_kind}
 use Rattle.tpch_schema.specs.LineForm.{LineColumn}
 
@@ -49,7 +52,8 @@ kind_field (Text most) field = text_field (Text most) field
 abbrev pub spells_null : List ℕ → Bool
 spells_null field = pointwise ◌==◌ field (92 ∷ 78 ∷ [])
 
--- the value of a field in a column: null where the column may be null and the field spells it, before its kind is asked
+-- the value of a field in a column: null where the column may be null and the field spells it,
+-- before its kind is asked
 abbrev pub column_value : LineColumn → List ℕ → Result Value LineFault
 column_value column field =
     if column.nullable && spells_null field then Ok value.Null else kind_field column.kind field

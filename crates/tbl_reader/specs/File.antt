@@ -1,5 +1,6 @@
 -- The rows of a file.
-use Rattle.std.specs.Prelude.{ℕ, ◌+◌, ◌^◌, Bool, ◌&&◌, nat_lt, ◌==◌, List, [], ◌∷◌, ◌++◌, length, fold, Result, Ok, Err, if◌then◌else◌}
+use Rattle.std.specs.Prelude.{ℕ, ◌+◌, ◌^◌, Bool, ◌&&◌, nat_lt, ◌==◌, List, [], ◌∷◌, ◌++◌, length}
+use Rattle.std.specs.Prelude.{fold, Result, Ok, Err, if◌then◌else◌}
 use Rattle.std.specs.List.{list_any, onto_first}
 use Rattle.refusals.specs.declared.line.LineFault.{LineFault}
 use Rattle.refusals.specs.declared.line.LineFault.TheVariants.{DuplicateKey, FileTooLong}
@@ -20,8 +21,10 @@ abbrev pub is_taken : LineForm → List (List Value) → List Value → Bool
 is_taken form rows row = list_any (λ earlier. same_row (key_of form row) (key_of form earlier)) rows
 
 -- a line's row after the earlier rows; where keys must differ, its key must be new
-abbrev pub with_new_key : LineForm → List (List Value) → Result (List Value) LineFault → Result (List Value) LineFault
-with_new_key form rows (Ok row) = if form.unique && is_taken form rows row then Err DuplicateKey else Ok row
+abbrev pub with_new_key : LineForm → List (List Value) → Result (List Value) LineFault
+    → Result (List Value) LineFault
+with_new_key form rows (Ok row) =
+    if form.unique && is_taken form rows row then Err DuplicateKey else Ok row
 with_new_key form rows (Err fault) = Err fault
 
 -- the row that a line's fields say, or what is wrong with them
@@ -46,15 +49,18 @@ abbrev pub with_row : Progress → ℕ → Result (List Value) LineFault → Res
 with_row so_far bytes (Ok row) = Ok (progress (so_far.rows ++ row ∷ []) (so_far.bytes + bytes))
 with_row so_far bytes (Err fault) = Err (refusal so_far fault)
 
--- one line more, where the first refusal stays; a line that has the byte after the limit is tested for nothing else
-abbrev pub add_line : LineForm → ℕ → Result Progress LineRefusal → List ℕ → Result Progress LineRefusal
+-- one line more, where the first refusal stays; a line that has the byte after the limit is tested
+-- for nothing else
+abbrev pub add_line : LineForm → ℕ → Result Progress LineRefusal → List ℕ
+    → Result Progress LineRefusal
 add_line form limit (Err first) line = Err first
 add_line form limit (Ok so_far) line =
     if nat_lt limit (so_far.bytes + length line) then Err (refusal so_far FileTooLong)
     else with_row so_far (length line) (with_new_key form so_far.rows (line_row form line))
 
 -- what lines give after those so far
-abbrev pub add_lines : LineForm → ℕ → Result Progress LineRefusal → List (List ℕ) → Result Progress LineRefusal
+abbrev pub add_lines : LineForm → ℕ → Result Progress LineRefusal → List (List ℕ)
+    → Result Progress LineRefusal
 add_lines form limit = fold (add_line form limit)
 
 -- the rows alone, or the first refusal

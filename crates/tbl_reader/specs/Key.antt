@@ -1,5 +1,6 @@
 -- The keys of rows as pairs of numbers, and what is kept of them.
-use Rattle.std.specs.Prelude.{◌≡◌, ℤ, pos, Bool, true, false, ◌&&◌, ◌||◌, int_lt, int_le, List, [], slice_index_or, Option, Some, None, ⊤, unwrap_or}
+use Rattle.std.specs.Prelude.{◌≡◌, ℤ, pos, Bool, true, false, ◌&&◌, ◌||◌, int_lt, int_le, List, []}
+use Rattle.std.specs.Prelude.{slice_index_or, Option, Some, None, ⊤, unwrap_or}
 use Rattle.std.specs.List.{All, list_any}
 use Rattle.std.specs.Ordering.{int_eq}
 use Rattle.sql_value.specs.declared.value.Value.{Value}
@@ -25,7 +26,8 @@ row_key form row = record {
 abbrev pub same_key : Key → Key → Bool
 same_key k l = int_eq k.first l.first && int_eq k.second l.second
 
--- one key is above another, by the first numbers, or by the second ones where it isn't below by the first
+-- one key is above another, by the first numbers, or by the second ones where it isn't below by the
+-- first
 abbrev pub is_above : Key → Key → Bool
 is_above k l = int_lt l.first k.first || (int_le l.first k.first && int_lt l.second k.second)
 

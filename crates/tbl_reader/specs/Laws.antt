@@ -1,5 +1,6 @@
 -- Laws of the lines and rows of a file.
-use Rattle.std.specs.Prelude.{◌≡◌, ◌≢◌, ◌↔◌, ℕ, ◌+◌, ◌-◌, ◌<◌, ◌≤◌, true, List, [], ◌∷◌, ◌++◌, length, take, map, Ok, Err, Contains, slice_index, ⊤}
+use Rattle.std.specs.Prelude.{◌≡◌, ◌≢◌, ◌↔◌, ℕ, ◌+◌, ◌-◌, ◌<◌, ◌≤◌, true, List, [], ◌∷◌, ◌++◌}
+use Rattle.std.specs.Prelude.{length, take, map, Ok, Err, Contains, slice_index, ⊤}
 use Rattle.std.specs.List.{AllPairs, concat}
 use Rattle.refusals.specs.declared.line.LineFault.{LineFault}
 use Rattle.refusals.specs.declared.line.LineFault.TheVariants.{DuplicateKey, FileTooLong}
@@ -24,9 +25,10 @@ AreLines (line ∷ lines) =
 abbrev pub LinesGiveText : Type 0
 LinesGiveText = (text : List ℕ) → (concat (cut_lines text) ≡ text) × AreLines (cut_lines text)
 
--- the rows of lines: each line's fields say its row, no two rows have one key where keys must differ, and the lines are
--- within the limit
-pub record AreRowsOf (form : LineForm) (limit : ℕ) (lines : List (List ℕ)) (rows : List (List Value)) : Type 0 where
+-- the rows of lines: each line's fields say its row, no two rows have one key where keys must
+-- differ, and the lines are within the limit
+pub record AreRowsOf (form : LineForm) (limit : ℕ) (lines : List (List ℕ))
+    (rows : List (List Value)) : Type 0 where
   pub fields : map (line_row form) lines ≡ map Ok rows
   pub keys : form.unique ≡ true → AllPairs ◌≢◌ (map (key_of form) rows)
   pub bytes : length (concat lines) ≤ limit
@@ -37,18 +39,20 @@ RowsAreThoseOfTheLines =
     (form : LineForm) (limit : ℕ) (text : List ℕ) (rows : List (List Value))
     → (file_rows form limit text ≡ Ok rows) ↔ AreRowsOf form limit (cut_lines text) rows
 
--- what is wrong with a line after earlier ones of these rows: it reaches past the limit, an earlier row has its key, which
--- must be new, or its fields say no row
+-- what is wrong with a line after earlier ones of these rows: it reaches past the limit, an earlier
+-- row has its key, which must be new, or its fields say no row
 abbrev pub IsWrong : LineForm → ℕ → List (List ℕ) → List (List Value) → List ℕ → LineFault → Type 0
 IsWrong form limit earlier rows line FileTooLong = limit < length (concat earlier) + length line
 IsWrong form limit earlier rows line DuplicateKey =
     (length (concat earlier) + length line ≤ limit) × (form.unique ≡ true)
-    × (row : List Value) × (line_row form line ≡ Ok row) × Contains (map (key_of form) rows) (key_of form row)
+    × (row : List Value) × (line_row form line ≡ Ok row)
+    × Contains (map (key_of form) rows) (key_of form row)
 IsWrong form limit earlier rows line fault =
     (length (concat earlier) + length line ≤ limit) × (line_row form line ≡ Err fault)
 
 -- the refusal is that of the first line that can't be a row: the lines before it have rows
-pub record IsFirstBadLine (form : LineForm) (limit : ℕ) (lines : List (List ℕ)) (first : LineRefusal) : Type 0 where
+pub record IsFirstBadLine (form : LineForm) (limit : ℕ) (lines : List (List ℕ))
+    (first : LineRefusal) : Type 0 where
   pub earlier : List (List ℕ)
   pub line : List ℕ
   pub later : List (List ℕ)

@@ -1,5 +1,6 @@
 -- The row of a line.
-use Rattle.std.specs.Prelude.{◌≡◌, ◌⊎◌, ◌<◌, ℕ, ◌+◌, ◌-◌, Bool, ◌&&◌, ◌||◌, ◌==◌, nat_eq, List, [], ◌∷◌, length, take, count_by, Result, Ok, Err, if◌then◌else◌}
+use Rattle.std.specs.Prelude.{◌≡◌, ◌⊎◌, ◌<◌, ℕ, ◌+◌, ◌-◌, Bool, ◌&&◌, ◌||◌, ◌==◌, nat_eq, List, []}
+use Rattle.std.specs.Prelude.{◌∷◌, length, take, count_by, Result, Ok, Err, if◌then◌else◌}
 use Rattle.std.specs.List.{before_first, after_first, ends_with}
 use Rattle.refusals.specs.declared.line.LineFault.{LineFault}
 use Rattle.refusals.specs.declared.line.LineFault.TheVariants.{FieldCount}
@@ -9,7 +10,8 @@ use Rattle.tbl_reader.specs.Field.{column_value}
 
 -- the bytes without that one at their end, if it stands there
 abbrev pub without_end : ℕ → List ℕ → List ℕ
-without_end byte text = if ends_with nat_eq text (byte ∷ []) then take (length text - 1) text else text
+without_end byte text = if ends_with nat_eq text (byte ∷ []) then take (length text - 1) text else
+    text
 
 -- a line without its LF, and without one CR directly before that or before the text's end
 abbrev pub line_text : List ℕ → List ℕ
@@ -25,13 +27,14 @@ has_fields columns line =
     (count_by is_bar line + 1 == columns)
     || ((count_by is_bar line == columns) && ends_with nat_eq line (124 ∷ []))
 
--- a line's columns were cut at so many bars, and this rest stands after them: one bar fewer than columns, or as many bars
--- and no rest
+-- a line's columns were cut at so many bars, and this rest stands after them: one bar fewer than
+-- columns, or as many bars and no rest
 abbrev pub IsWholeCut : ℕ → ℕ → List ℕ → Type 0
 IsWholeCut columns bars rest = (bars + 1 ≡ columns) ⊎ ((0 < bars) × (bars ≡ columns) × (rest ≡ []))
 
 -- the value of a field before those of the fields after it: the first fault from the left counts
-abbrev pub put_first : Result Value LineFault → Result (List Value) LineFault → Result (List Value) LineFault
+abbrev pub put_first : Result Value LineFault → Result (List Value) LineFault
+    → Result (List Value) LineFault
 put_first (Err fault) more = Err fault
 put_first (Ok v) (Err fault) = Err fault
 put_first (Ok v) (Ok vs) = Ok (v ∷ vs)
@@ -40,8 +43,10 @@ put_first (Ok v) (Ok vs) = Ok (v ∷ vs)
 abbrev pub values_of : List LineColumn → List ℕ → Result (List Value) LineFault
 values_of [] text = Ok []
 values_of (column ∷ columns) text =
-    put_first (column_value column (before_first is_bar text)) (values_of columns (after_first is_bar text))
+    put_first (column_value column (before_first is_bar text))
+    (values_of columns (after_first is_bar text))
 
 -- the row of a line of these columns, or what is wrong with the line
 abbrev pub row_of : List LineColumn → List ℕ → Result (List Value) LineFault
-row_of columns line = if has_fields (length columns) line then values_of columns line else Err FieldCount
+row_of columns line = if has_fields (length columns) line then values_of columns line else Err
+    FieldCount

@@ -1,5 +1,6 @@
 -- Laws of the fields of a line.
-use Rattle.std.specs.Prelude.{◌≡◌, ◌↔◌, ◌⊎◌, ℕ, ◌<◌, false, List, [], ◌∷◌, ◌++◌, length, map, All, Result, Ok, Err}
+use Rattle.std.specs.Prelude.{◌≡◌, ◌↔◌, ◌⊎◌, ℕ, ◌<◌, false, List, [], ◌∷◌, ◌++◌, length, map, All}
+use Rattle.std.specs.Prelude.{Result, Ok, Err}
 use Rattle.std.specs.List.{join_with_byte, list_any, zip}
 use Rattle.refusals.specs.declared.line.LineFault.{LineFault}
 use Rattle.refusals.specs.declared.line.LineFault.TheVariants.{FieldCount}
@@ -8,7 +9,8 @@ use Rattle.tpch_schema.specs.LineForm.{LineColumn}
 use Rattle.tbl_reader.specs.Field.{column_value}
 use Rattle.tbl_reader.specs.Line.{is_bar, row_of}
 
--- as many fields as a line must have: none has a bar, bars part them, and one more may stand after the last
+-- as many fields as a line must have: none has a bar, bars part them, and one more may stand after
+-- the last
 pub record AreFieldsOf (columns : ℕ) (line : List ℕ) (fields : List (List ℕ)) : Type 0 where
   pub as_many : length fields ≡ columns
   pub no_bar : All (λ field. list_any is_bar field ≡ false) fields
@@ -19,10 +21,11 @@ abbrev pub value_said : LineColumn × List ℕ → Result Value LineFault
 value_said column = column_value column.0 column.1
 
 -- the values of a line: each field says its own
-pub record AreValuesOf (columns : List LineColumn) (line : List ℕ) (values : List Value) : Type 0 where
-  pub fields : List (List ℕ)
-  pub parted : AreFieldsOf (length columns) line fields
-  pub said : map value_said (zip columns fields) ≡ map Ok values
+pub record AreValuesOf (columns : List LineColumn) (line : List ℕ) (values : List Value) : Type 0
+  where
+    pub fields : List (List ℕ)
+    pub parted : AreFieldsOf (length columns) line fields
+    pub said : map value_said (zip columns fields) ≡ map Ok values
 
 -- a line gives a row exactly where its fields say it
 abbrev pub RowsSayTheirFields : Type 0
@@ -31,20 +34,22 @@ RowsSayTheirFields =
     → (row_of columns line ≡ Ok values) ↔ AreValuesOf columns line values
 
 -- the fault is that of the first field from the left that says no value
-pub record IsFirstBadField (columns : List LineColumn) (line : List ℕ) (fault : LineFault) : Type 0 where
-  pub fields : List (List ℕ)
-  pub parted : AreFieldsOf (length columns) line fields
-  pub earlier : List (LineColumn × List ℕ)
-  pub column : LineColumn × List ℕ
-  pub later : List (LineColumn × List ℕ)
-  pub values : List Value
-  pub cut : zip columns fields ≡ earlier ++ column ∷ later
-  pub good : map value_said earlier ≡ map Ok values
-  pub bad : value_said column ≡ Err fault
+pub record IsFirstBadField (columns : List LineColumn) (line : List ℕ) (fault : LineFault) : Type 0
+  where
+    pub fields : List (List ℕ)
+    pub parted : AreFieldsOf (length columns) line fields
+    pub earlier : List (LineColumn × List ℕ)
+    pub column : LineColumn × List ℕ
+    pub later : List (LineColumn × List ℕ)
+    pub values : List Value
+    pub cut : zip columns fields ≡ earlier ++ column ∷ later
+    pub good : map value_said earlier ≡ map Ok values
+    pub bad : value_said column ≡ Err fault
 
 -- what is wrong with a line: it has not as many fields, or a field says no value
 abbrev pub IsBadLine : List LineColumn → List ℕ → LineFault → Type 0
-IsBadLine columns line FieldCount = (fields : List (List ℕ)) → ¬ AreFieldsOf (length columns) line fields
+IsBadLine columns line FieldCount = (fields : List (List ℕ))
+    → ¬ AreFieldsOf (length columns) line fields
 IsBadLine columns line fault = IsFirstBadField columns line fault
 
 -- a line is refused exactly so

@@ -12,4 +12,5 @@ pub record LinesRead : Type 0 where
 
 -- these rows of lines of that many bytes
 abbrev pub lines_read : LineForm → ℕ → List (List Value) → ℕ → LinesRead
-lines_read form limit rows bytes = record { form = form; limit = limit; so_far = progress rows bytes }
+lines_read form limit rows bytes =
+    record { form = form; limit = limit; so_far = progress rows bytes }

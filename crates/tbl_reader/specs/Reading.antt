@@ -1,5 +1,6 @@
 -- A reader of a file that is fed piece by piece.
-use Rattle.std.specs.Prelude.{◌≡◌, ℕ, ◌+◌, ◌≤◌, ◌==◌, Bool, true, not, List, ◌++◌, length, Option, Some, None, Result, Ok, Err, OnOk, IfErr}
+use Rattle.std.specs.Prelude.{◌≡◌, ℕ, ◌+◌, ◌≤◌, ◌==◌, Bool, true, not, List, ◌++◌, length, Option}
+use Rattle.std.specs.Prelude.{Some, None, Result, Ok, Err, OnOk, IfErr}
 use Rattle.std.specs.List.{list_all}
 use Rattle.refusals.specs.declared.line.LineRefusal.{LineRefusal}
 use Rattle.sql_value.specs.declared.value.Value.{Value}
@@ -13,7 +14,8 @@ use Rattle.tbl_reader.specs.Lines.{LinesRead}
 unfoldable pub is_unended : List ℕ → Bool
 is_unended text = list_all (λ byte. not (byte == 10)) text
 
--- a reader: the lines that it has read, the bytes of the line that has not ended, and why it has stopped, if it has
+-- a reader: the lines that it has read, the bytes of the line that has not ended, and why it has
+-- stopped, if it has
 pub record Reading : Type 0 where
   pub lines : LinesRead
   pub rest : List ℕ
@@ -28,7 +30,8 @@ unfoldable pub lines_result : LinesRead → List ℕ → Result Progress LineRef
 lines_result lines text = add_lines lines.form lines.limit (Ok lines.so_far) (cut_lines text)
 
 -- the rows, or why there are none
-abbrev pub answer_of : Option TableError → Result Progress LineRefusal → Result (List (List Value)) TableError
+abbrev pub answer_of : Option TableError → Result Progress LineRefusal
+    → Result (List (List Value)) TableError
 answer_of (Some error) r = Err error
 answer_of None (Ok so_far) = Ok so_far.rows
 answer_of None (Err first) = Err (Refused first)
@@ -38,7 +41,8 @@ unfoldable pub answer : Reading → List ℕ → Result (List (List Value)) Tabl
 answer reader more = answer_of reader.error (lines_result reader.lines (reader.rest ++ more))
 
 -- the same for what a whole file gives
-abbrev pub as_answer : Result (List (List Value)) LineRefusal → Result (List (List Value)) TableError
+abbrev pub as_answer : Result (List (List Value)) LineRefusal
+    → Result (List (List Value)) TableError
 as_answer (Ok rows) = Ok rows
 as_answer (Err first) = Err (Refused first)
 
@@ -55,11 +59,13 @@ pub record HasRead (text : List ℕ) (reader : Reading) : Type 0 where
   pub answers : (more : List ℕ) → answer reader more ≡ as_answer (rows_for reader (text ++ more))
 
 -- each file that begins with this text is refused so
-pub record RefusesAll (form : LineForm) (limit : ℕ) (text : List ℕ) (first : LineRefusal) : Type 0 where
-  pub answers : (more : List ℕ) → file_rows form limit (text ++ more) ≡ Err first
+pub record RefusesAll (form : LineForm) (limit : ℕ) (text : List ℕ) (first : LineRefusal) : Type 0
+  where
+    pub answers : (more : List ℕ) → file_rows form limit (text ++ more) ≡ Err first
 
 -- the reader was fed a piece, and answered so
-pub record Feeds (old new : Reading) (piece : List ℕ) (result : Result (Unit {0}) TableError) : Type 0 where
+pub record Feeds (old new : Reading) (piece : List ℕ) (result : Result (Unit {0}) TableError) : Type
+    0 where
   -- it reads lines of the same form, up to the same limit
   pub form : new.lines.form ≡ old.lines.form
   pub limit : new.lines.limit ≡ old.lines.limit

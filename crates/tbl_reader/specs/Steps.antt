@@ -9,8 +9,10 @@ use Rattle.tbl_reader.specs.Lines.{LinesRead}
 use Rattle.tbl_reader.specs.Reading.{lines_result}
 
 -- whatever follows, one text after some lines gives what the other gives after others
-pub record SameResults (now : LinesRead) (text : List ℕ) (before : LinesRead) (whole : List ℕ) : Type 0 where
-  pub results : (more : List ℕ) → lines_result now (text ++ more) ≡ lines_result before (whole ++ more)
+pub record SameResults (now : LinesRead) (text : List ℕ) (before : LinesRead) (whole : List ℕ) :
+    Type 0 where
+  pub results : (more : List ℕ)
+      → lines_result now (text ++ more) ≡ lines_result before (whole ++ more)
 
 -- whatever follows, a text after some lines gives this refusal
 pub record RefusesLines (lines : LinesRead) (text : List ℕ) (first : LineRefusal) : Type 0 where

@@ -13,12 +13,14 @@ use crate::plain::plain_number;
 use civil_date::CivilDate;
 use columns::Field;
 use fixed_decimal::{Scale, Spelling, read_decimal};
+use refusals::LineFault;
 use sql_value::Value;
-use tpch_schema::{ColumnKind, LineFault};
+use tpch_schema::ColumnKind;
 
 /// What the bytes between two bars say in a column of that kind.
 pub fn read_field(kind: ColumnKind, bytes: &[u8]) -> Result<Field<'_>, LineFault>
-    ensures value { MatchResult result (λ f. kind_field kind bytes.now ≡ Ok (field_value f)) (λ fault. kind_field kind bytes.now ≡ Err fault) }
+    ensures value { MatchResult result (λ f. kind_field kind bytes.now ≡ Ok (field_value f))
+        (λ fault. kind_field kind bytes.now ≡ Err fault) }
     ensures printable { IfOk result IsPrintableField }
 {
     if let Some(field) = plain_number(kind, bytes) {
@@ -34,7 +36,9 @@ pub fn read_field(kind: ColumnKind, bytes: &[u8]) -> Result<Field<'_>, LineFault
 
 // The number that the bytes spell at that scale.
 fn read_number(kind: ColumnKind, scale: Scale, bytes: &[u8]) -> Result<Field<'_>, LineFault>
-    ensures value { MatchResult result (λ f. number_field kind scale (decimal_read bytes.now scale) ≡ Ok (field_value f)) (λ fault. number_field kind scale (decimal_read bytes.now scale) ≡ Err fault) }
+    ensures value { MatchResult result
+        (λ f. number_field kind scale (decimal_read bytes.now scale) ≡ Ok (field_value f))
+        (λ fault. number_field kind scale (decimal_read bytes.now scale) ≡ Err fault) }
     ensures printable { IfOk result IsPrintableField }
 {
     match read_decimal(bytes, scale) {
@@ -50,8 +54,10 @@ fn read_number(kind: ColumnKind, scale: Scale, bytes: &[u8]) -> Result<Field<'_>
 // The coefficient in 64 bits, where a column of that kind can hold it.
 #[tactic(auto, using(crate::proofs::Held::wide_is_not_held))]
 fn held_number(kind: ColumnKind, scale: Scale, coefficient: i128) -> Option<i64>
-    ensures value { MatchOption result (is_of_kind kind (Number scale coefficient) ≡ false) (λ number. number ≡ coefficient) }
-    ensures held { MatchOption result (is_of_kind kind (Number scale coefficient) ≡ false) (λ number. is_of_kind kind (Number scale coefficient) ≡ true) }
+    ensures value { MatchOption result (is_of_kind kind (Number scale coefficient) ≡ false)
+        (λ number. number ≡ coefficient) }
+    ensures held { MatchOption result (is_of_kind kind (Number scale coefficient) ≡ false)
+        (λ number. is_of_kind kind (Number scale coefficient) ≡ true) }
 {
     if coefficient.unsigned_abs() >= 1 << 63 {
         return None;
@@ -64,7 +70,8 @@ fn held_number(kind: ColumnKind, scale: Scale, coefficient: i128) -> Option<i64>
 
 // The date that the bytes spell.
 fn read_date(bytes: &[u8]) -> Result<Field<'_>, LineFault>
-    ensures value { MatchResult result (λ f. date_field (date_of bytes.now) ≡ Ok (field_value f)) (λ fault. date_field (date_of bytes.now) ≡ Err fault) }
+    ensures value { MatchResult result (λ f. date_field (date_of bytes.now) ≡ Ok (field_value f))
+        (λ fault. date_field (date_of bytes.now) ≡ Err fault) }
     ensures printable { IfOk result IsPrintableField }
 {
     match CivilDate::read(bytes) {
@@ -75,7 +82,9 @@ fn read_date(bytes: &[u8]) -> Result<Field<'_>, LineFault>
 
 // The text that the bytes are.
 fn read_text(most: u8, bytes: &[u8]) -> Result<Field<'_>, LineFault>
-    ensures value { MatchResult result (λ f. text_field (TextKind most) bytes.now ≡ Ok (field_value f)) (λ fault. text_field (TextKind most) bytes.now ≡ Err fault) }
+    ensures value { MatchResult result
+        (λ f. text_field (TextKind most) bytes.now ≡ Ok (field_value f))
+        (λ fault. text_field (TextKind most) bytes.now ≡ Err fault) }
     ensures printable { IfOk result IsPrintableField }
 {
     match first_unprintable(bytes) {

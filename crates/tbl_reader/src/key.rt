@@ -1,11 +1,13 @@
 //! Which keys the rows so far have.
-ghost use Rattle.std.specs.Prelude.{◌≡◌, ◌<◌, ◌++◌, ◌∷◌, [], ◌&&◌, true, IsTrue, not, map, length, IfOk, OnErr, if◌then◌else◌, slice_index_or};
+ghost use Rattle.std.specs.Prelude.{◌≡◌, ◌<◌, ◌++◌, ◌∷◌, [], ◌&&◌, true, IsTrue, not, map, length};
+ghost use Rattle.std.specs.Prelude.{IfOk, OnErr, if◌then◌else◌, slice_index_or};
 ghost use Rattle.sql_value.specs.declared.value.Value.TheVariants.{Null};
 ghost use Rattle.std.specs.List.{All, list_any};
 ghost use Rattle.columns.specs.Fields.{field_value};
 ghost use Rattle.tpch_schema.specs.LineForm.{file_form, fits, RowsFit};
 ghost use Rattle.tbl_reader.specs.File.{is_taken};
-ghost use Rattle.tbl_reader.specs.Key.{key_number, row_key, is_above, comes_after, same_key, SameKeys, AreKeys};
+ghost use Rattle.tbl_reader.specs.Key.{key_number, row_key, is_above, comes_after, same_key};
+ghost use Rattle.tbl_reader.specs.Key.{SameKeys, AreKeys};
 
 use columns::{Field, RowsBuilder};
 use indexmap::IndexSet;
@@ -55,7 +57,8 @@ impl Key {
         }
     }
 
-    // Whether this key is above the other: by the first numbers, or by the second ones where it isn't below.
+    // Whether this key is above the other: by the first numbers, or by the second ones where it
+    // isn't below.
     fn is_above(&self, other: &Key) -> bool
         ensures { result ≡ is_above self.now other.now }
     {
@@ -65,7 +68,9 @@ impl Key {
 
 // The number of a row in a key's column.
 fn number_in(row: &[Field<'_>], places: &[usize], k: usize) -> i64
-    ensures { result ≡ key_number (slice_index_or (map (λ place. slice_index_or (map field_value row.now) place Null) places.now) k Null) }
+    ensures { result ≡ key_number
+        (slice_index_or (map (λ place. slice_index_or (map field_value row.now) place Null)
+        places.now) k Null) }
 {
     match places.get(k) {
         Some(place) => match row.get(*place) {
@@ -91,7 +96,9 @@ fn key_number(field: &Field<'_>) -> i64
 fn number_at(rows: &RowsBuilder, i: usize, places: &[usize], k: usize) -> i64
     requires row { i < length rows.now.rows }
     requires inside { All (λ place. place < rows.now.width) places.now }
-    ensures { result ≡ key_number (slice_index_or (map (λ place. slice_index_or (slice_index_or rows.now.rows i []) place Null) places.now) k Null) }
+    ensures { result ≡ key_number
+        (slice_index_or (map (λ place.
+        slice_index_or (slice_index_or rows.now.rows i []) place Null) places.now) k Null) }
 {
     match places.get(k) {
         Some(place) => rows.number(i, *place).unwrap_or(0),
@@ -113,7 +120,8 @@ pub enum Keys {
 // Puts a key after the others, if none of them is the same; whether it was put there.
 fn insert_key<K: Eq + Hash + Drop>(keys: &mut IndexSet<K>, key: K) -> Result<bool, AllocError>
     ensures added { IfOk result (λ added. added ≡ not (list_any (K.eq key) keys.old.keys)) }
-    ensures keys { IfOk result (λ added. keys.new.keys ≡ (if added then keys.old.keys ++ key ∷ [] else keys.old.keys)) }
+    ensures keys { IfOk result
+        (λ added. keys.new.keys ≡ (if added then keys.old.keys ++ key ∷ [] else keys.old.keys)) }
     ensures err { OnErr result (keys.new.keys ≡ keys.old.keys) }
 {
     match keys.insert_full(key) {
@@ -130,7 +138,8 @@ fn keys_of_rows(
     rows: &RowsBuilder,
 ) -> Result<IndexSet<Key>, AllocError>
     requires { rows.now.width ≡ length (file_form file).columns }
-    ensures { IfOk result (λ set. SameKeys set.keys (map (row_key (file_form file)) rows.now.rows)) }
+    ensures { IfOk result (λ set.
+        SameKeys set.keys (map (row_key (file_form file)) rows.now.rows)) }
 {
     let mut set = IndexSet::new(alloc);
     for i in 0..rows.len() {
@@ -150,8 +159,13 @@ fn note_key(
 ) -> Result<bool, AllocError>
     requires width { rows.now.width ≡ length (file_form file).columns }
     requires keys { AreKeys keys.old (map (row_key (file_form file)) rows.now.rows) }
-    ensures new { IfOk result (λ new. new ≡ not (list_any (same_key key) (map (row_key (file_form file)) rows.now.rows))) }
-    ensures noted { IfOk result (λ new. AreKeys keys.new (if new then map (row_key (file_form file)) rows.now.rows ++ key ∷ [] else map (row_key (file_form file)) rows.now.rows)) }
+    ensures new { IfOk result
+        (λ new. new ≡ not (list_any (same_key key)
+        (map (row_key (file_form file)) rows.now.rows))) }
+    ensures noted { IfOk result
+        (λ new. AreKeys keys.new
+        (if new then map (row_key (file_form file)) rows.now.rows
+        ++ key ∷ [] else map (row_key (file_form file)) rows.now.rows)) }
     ensures err { OnErr result (AreKeys keys.new (map (row_key (file_form file)) rows.now.rows)) }
 {
     match keys {
@@ -170,8 +184,8 @@ fn note_key(
     Ok(new)
 }
 
-/// Notes the key of one row more, where keys must differ and none of these rows has it; whether the row may be put
-/// after them.
+/// Notes the key of one row more, where keys must differ and none of these rows has it; whether the
+/// row may be put after them.
 #[tactic(auto, using(crate::proofs::Keys::keyed))]
 pub fn note_row(
     alloc: Global,
@@ -180,13 +194,21 @@ pub fn note_row(
     rows: &RowsBuilder,
     row: &[Field<'_>],
 ) -> Result<bool, AllocError>
-    requires keys { (file_form file).unique ≡ true → AreKeys keys.old (map (row_key (file_form file)) rows.now.rows) }
+    requires keys { (file_form file).unique ≡ true
+        → AreKeys keys.old (map (row_key (file_form file)) rows.now.rows) }
     requires width { rows.now.width ≡ length (file_form file).columns }
     requires rows { RowsFit (file_form file) rows.now.rows }
     requires row { IsTrue (fits (file_form file) (map field_value row.now)) }
-    ensures new { IfOk result (λ new. new ≡ not ((file_form file).unique && is_taken (file_form file) rows.now.rows (map field_value row.now))) }
-    ensures noted { IfOk result (λ new. (file_form file).unique ≡ true → AreKeys keys.new (map (row_key (file_form file)) (if new then rows.now.rows ++ map field_value row.now ∷ [] else rows.now.rows))) }
-    ensures err { OnErr result ((file_form file).unique ≡ true → AreKeys keys.new (map (row_key (file_form file)) rows.now.rows)) }
+    ensures new { IfOk result
+        (λ new. new ≡ not ((file_form file).unique && is_taken (file_form file) rows.now.rows
+        (map field_value row.now))) }
+    ensures noted { IfOk result
+        (λ new. (file_form file).unique ≡ true
+        → AreKeys keys.new (map (row_key (file_form file))
+        (if new then rows.now.rows ++ map field_value row.now ∷ [] else rows.now.rows))) }
+    ensures err { OnErr result
+        ((file_form file).unique ≡ true
+        → AreKeys keys.new (map (row_key (file_form file)) rows.now.rows)) }
 {
     if !file.refuses_duplicates() {
         return Ok(true);

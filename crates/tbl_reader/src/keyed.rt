@@ -1,5 +1,6 @@
 //! The rows of a file, whose keys differ where they must.
-ghost use Rattle.std.specs.Prelude.{◌≡◌, ◌+◌, ◌++◌, ◌∷◌, [], ◌&&◌, not, length, map, IfOk, OnErr, OnOk, if◌then◌else◌, true, IsTrue};
+ghost use Rattle.std.specs.Prelude.{◌≡◌, ◌+◌, ◌++◌, ◌∷◌, [], ◌&&◌, not, length, map, IfOk, OnErr};
+ghost use Rattle.std.specs.Prelude.{OnOk, if◌then◌else◌, true, IsTrue};
 ghost use Rattle.tpch_schema.specs.LineForm.{file_form, fits, RowsFit};
 ghost use Rattle.std.specs.List.{All};
 ghost use Rattle.columns.specs.Fields.{field_value, IsPrintableField};
@@ -32,7 +33,11 @@ impl Model for KeyedRows {
     ghost use Rattle.std.specs.Prelude.{◌≡◌, length, map, true};
     ghost use Rattle.tbl_reader.specs.Key.{row_key, AreKeys};
 
-    ghost invariant = { λ r. ((file_form r.file).unique ≡ true → AreKeys r.keys (map (row_key (file_form r.file)) r.rows.rows)) × RowsFit (file_form r.file) r.rows.rows × (r.rows.width ≡ length (file_form r.file).columns) };
+    ghost invariant = { λ r.
+        ((file_form r.file).unique ≡ true
+        → AreKeys r.keys (map (row_key (file_form r.file)) r.rows.rows))
+        × RowsFit (file_form r.file) r.rows.rows
+        × (r.rows.width ≡ length (file_form r.file).columns) };
 }
 
 #[tactic(auto, using(crate::proofs::Rows::keyed))]
@@ -81,13 +86,18 @@ impl KeyedRows {
         Ok(rows)
     }
 
-    /// The row of these fields at the end, unless its key must be new and isn't; whether it was put there.
+    /// The row of these fields at the end, unless its key must be new and isn't; whether it was put
+    /// there.
     pub fn push(&mut self, row: &[Field<'_>]) -> Result<bool, AllocError>
         requires fits { IsTrue (fits self.old.form (map field_value row.now)) }
         requires printable { All IsPrintableField row.now }
         ensures form { self.new.form ≡ self.old.form }
-        ensures added { IfOk result (λ added. added ≡ not (self.old.form.unique && is_taken self.old.form self.old.rows (map field_value row.now))) }
-        ensures rows { IfOk result (λ added. self.new.rows ≡ (if added then self.old.rows ++ map field_value row.now ∷ [] else self.old.rows)) }
+        ensures added { IfOk result
+            (λ added. added ≡ not (self.old.form.unique && is_taken self.old.form self.old.rows
+            (map field_value row.now))) }
+        ensures rows { IfOk result
+            (λ added. self.new.rows ≡ (if added then self.old.rows
+            ++ map field_value row.now ∷ [] else self.old.rows)) }
         ensures err { OnErr result (self.new.rows ≡ self.old.rows) }
     {
         let new = note_row(self.alloc, &mut self.keys, self.file, &self.rows, row)?;

@@ -1,7 +1,8 @@
 //! The rows of a file, a table's or one of a refresh set, read in pieces however they are cut.
 //!
-//! A line ends at LF or at the file's end, and one CR directly before either is dropped. Its fields are parted by bars,
-//! of which one may stand after the last field. The first bad line refuses the file.
+//! A line ends at LF or at the file's end, and one CR directly before either is dropped. Its fields
+//! are parted by bars, of which one may stand after the last field. The first bad line refuses the
+//! file.
 #![tactic(auto)]
 
 mod error;

@@ -1,17 +1,20 @@
 //! One line: its fields.
-ghost use Rattle.std.specs.Prelude.{◌≡◌, ◌==◌, ◌+◌, ◌<◌, ◌≤◌, ◌^◌, IfErr, IfOk, IfSome, IsTrue, OnOk, is_some, true, length, map, position};
+ghost use Rattle.std.specs.Prelude.{◌≡◌, ◌==◌, ◌+◌, ◌<◌, ◌≤◌, ◌^◌, IfErr, IfOk, IfSome, IsTrue};
+ghost use Rattle.std.specs.Prelude.{OnOk, is_some, true, length, map, position};
 ghost use Rattle.std.specs.List.{All, before_first, after_first};
 ghost use Rattle.columns.specs.Fields.{field_value, IsPrintableField};
 ghost use Rattle.tbl_reader.specs.declared.error.FieldsError.{FieldsError};
 ghost use Rattle.tbl_reader.specs.Error.{Blames};
 ghost use Rattle.tpch_schema.specs.LineForm.{file_form, fits, never_null};
 ghost use Rattle.tbl_reader.specs.File.{line_row};
-ghost use Rattle.tbl_reader.specs.Line.{is_bar, has_fields, IsWholeCut, without_end, line_text, values_of, row_of};
+ghost use Rattle.tbl_reader.specs.Line.{is_bar, has_fields, IsWholeCut, without_end, line_text};
+ghost use Rattle.tbl_reader.specs.Line.{values_of, row_of};
 
 use crate::error::FieldsError;
 use crate::field::read_field;
 use columns::Field;
-use tpch_schema::{ColumnKind, DataFile, LineFault};
+use refusals::LineFault;
+use tpch_schema::{ColumnKind, DataFile};
 
 // The bytes of a line without the LF at its end and one CR directly before that.
 fn line_text(line: &[u8]) -> &[u8]
@@ -31,14 +34,16 @@ fn without_end(text: &[u8], byte: u8) -> &[u8]
     }
 }
 
-/// Puts the fields of the row that a line of a file says in place of those that were there. The line may have its end.
+/// Puts the fields of the row that a line of a file says in place of those that were there. The
+/// line may have its end.
 #[tactic(auto, using(crate::proofs::Rows::held_rows))]
 pub fn put_line<'a>(
     fields: &mut Vec<Field<'a>>,
     file: DataFile,
     line: &'a [u8],
 ) -> Result<(), FieldsError>
-    ensures ok { OnOk result (line_row (file_form file) line.now ≡ Ok (map field_value fields.new.items)) }
+    ensures ok { OnOk result
+        (line_row (file_form file) line.now ≡ Ok (map field_value fields.new.items)) }
     ensures printable { OnOk result (All IsPrintableField fields.new.items) }
     ensures fits { OnOk result (IsTrue (fits (file_form file) (map field_value fields.new.items))) }
     ensures err { IfErr result (Blames (line_row (file_form file) line.now)) }
@@ -47,14 +52,16 @@ pub fn put_line<'a>(
     Ok(())
 }
 
-// Puts the fields of a line's row: one for each of the kinds, of columns that hold no null. A good line is read once;
-// only of another its bars are counted, since their number comes before what is wrong with a field.
+// Puts the fields of a line's row: one for each of the kinds, of columns that hold no null. A good
+// line is read once; only of another its bars are counted, since their number comes before what is
+// wrong with a field.
 fn put_row<'a>(
     fields: &mut Vec<Field<'a>>,
     kinds: &[ColumnKind],
     line: &'a [u8],
 ) -> Result<(), FieldsError>
-    ensures ok { OnOk result (row_of (map never_null kinds.now) line.now ≡ Ok (map field_value fields.new.items)) }
+    ensures ok { OnOk result
+        (row_of (map never_null kinds.now) line.now ≡ Ok (map field_value fields.new.items)) }
     ensures printable { OnOk result (All IsPrintableField fields.new.items) }
     ensures err { IfErr result (Blames (row_of (map never_null kinds.now) line.now)) }
 {
@@ -68,14 +75,17 @@ fn put_row<'a>(
     Ok(())
 }
 
-// Puts the fields of a line's row, where the line is good; whether it is. After `false` they are of no use.
+// Puts the fields of a line's row, where the line is good; whether it is. After `false` they are of
+// no use.
 #[tactic(auto, using(crate::proofs::BarCuts::good))]
 fn put_good<'a>(
     fields: &mut Vec<Field<'a>>,
     kinds: &[ColumnKind],
     line: &'a [u8],
 ) -> Result<bool, FieldsError>
-    ensures row { IfOk result (λ good. good ≡ true → row_of (map never_null kinds.now) line.now ≡ Ok (map field_value fields.new.items)) }
+    ensures row { IfOk result
+        (λ good. good ≡ true → row_of (map never_null kinds.now) line.now
+        ≡ Ok (map field_value fields.new.items)) }
     ensures printable { IfOk result (λ good. good ≡ true → All IsPrintableField fields.new.items) }
     ensures err { IfErr result (λ error. error ≡ FieldsError.OutOfMemory) }
 {
@@ -125,7 +135,8 @@ fn put_fields<'a>(
     kinds: &[ColumnKind],
     line: &'a [u8],
 ) -> Result<(), FieldsError>
-    ensures ok { OnOk result (values_of (map never_null kinds.now) line.now ≡ Ok (map field_value fields.new.items)) }
+    ensures ok { OnOk result
+        (values_of (map never_null kinds.now) line.now ≡ Ok (map field_value fields.new.items)) }
     ensures printable { OnOk result (All IsPrintableField fields.new.items) }
     ensures err { IfErr result (Blames (values_of (map never_null kinds.now) line.now)) }
 {

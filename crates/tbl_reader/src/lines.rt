@@ -8,9 +8,10 @@ use crate::error::{FieldsError, TableError};
 use crate::keyed::KeyedRows;
 use crate::line::put_line;
 use columns::{Field, Rows};
+use refusals::{LineFault, LineRefusal};
 use std::alloc::{AllocError, Global};
 use std::marker::Model;
-use tpch_schema::{DataFile, LineFault, LineRefusal};
+use tpch_schema::DataFile;
 
 /// The rows of the lines so far, and how many bytes these lines have.
 #[derive(Drop)]
@@ -86,14 +87,19 @@ impl Lines {
         Ok(rows)
     }
 
-    /// Reads one line more, which has its LF where it has one. After an error the lines are of no use.
+    /// Reads one line more, which has its LF where it has one. After an error the lines are of no
+    /// use.
     pub fn add(&mut self, line: &[u8]) -> Result<(), TableError>
         ensures form { self.new.form ≡ self.old.form }
         ensures limit { self.new.limit ≡ self.old.limit }
-        ensures ok { OnOk result (add_line self.old.form self.old.limit (Ok self.old.so_far) line.now ≡ Ok self.new.so_far) }
-        ensures bytes { OnOk result (self.new.so_far.bytes ≡ self.old.so_far.bytes + length line.now) }
+        ensures ok { OnOk result
+            (add_line self.old.form self.old.limit (Ok self.old.so_far) line.now
+            ≡ Ok self.new.so_far) }
+        ensures bytes { OnOk result
+            (self.new.so_far.bytes ≡ self.old.so_far.bytes + length line.now) }
         ensures within { self.new.so_far.bytes ≤ self.new.limit }
-        ensures refused { IfErr result (IsErrorOf (add_line self.old.form self.old.limit (Ok self.old.so_far) line.now)) }
+        ensures refused { IfErr result
+            (IsErrorOf (add_line self.old.form self.old.limit (Ok self.old.so_far) line.now)) }
     {
         let mut fields = Vec::new(self.alloc);
         self.add_by(&mut fields, line)?;
@@ -108,10 +114,14 @@ impl Lines {
     ) -> Result<(), TableError>
         ensures form { self.new.form ≡ self.old.form }
         ensures limit { self.new.limit ≡ self.old.limit }
-        ensures ok { OnOk result (add_line self.old.form self.old.limit (Ok self.old.so_far) line.now ≡ Ok self.new.so_far) }
-        ensures bytes { OnOk result (self.new.so_far.bytes ≡ self.old.so_far.bytes + length line.now) }
+        ensures ok { OnOk result
+            (add_line self.old.form self.old.limit (Ok self.old.so_far) line.now
+            ≡ Ok self.new.so_far) }
+        ensures bytes { OnOk result
+            (self.new.so_far.bytes ≡ self.old.so_far.bytes + length line.now) }
         ensures within { self.new.so_far.bytes ≤ self.new.limit }
-        ensures refused { IfErr result (IsErrorOf (add_line self.old.form self.old.limit (Ok self.old.so_far) line.now)) }
+        ensures refused { IfErr result
+            (IsErrorOf (add_line self.old.form self.old.limit (Ok self.old.so_far) line.now)) }
     {
         let size = line.len() as u64;
         if size > self.room() {

@@ -13,7 +13,9 @@ use tpch_schema::DataFile;
 
 /// The rows of a file that lies in pieces: those of the joined pieces, wherever they are cut.
 pub fn read_pieces(alloc: Global, file: DataFile, pieces: &[&[u8]]) -> Result<Rows, TableError>
-    ensures rows { MatchResult result (λ rows. file_rows (file_form file) most_bytes (joined pieces.now) ≡ Ok rows) (IsErrorOf (file_rows (file_form file) most_bytes (joined pieces.now))) }
+    ensures rows { MatchResult result
+        (λ rows. file_rows (file_form file) most_bytes (joined pieces.now) ≡ Ok rows)
+        (IsErrorOf (file_rows (file_form file) most_bytes (joined pieces.now))) }
     ensures fit { IfOk result (RowsFit (file_form file)) }
 {
     let mut reader = FileReader::new(alloc, file, MOST_BYTES)?;

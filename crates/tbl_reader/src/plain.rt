@@ -11,8 +11,9 @@ use columns::Field;
 use fixed_decimal::Scale;
 use tpch_schema::ColumnKind;
 
-/// The number of a column of that kind, where the bytes are so many digits that 63 bits hold it, for a decimal with a
-/// point before the last two. Other spellings, and other kinds, are for [`crate::field::read_field`].
+/// The number of a column of that kind, where the bytes are so many digits that 63 bits hold it,
+/// for a decimal with a point before the last two. Other spellings, and other kinds, are for
+/// [`crate::field::read_field`].
 #[tactic(auto, using(crate::proofs::PlainNumbers::held))]
 pub fn plain_number(kind: ColumnKind, bytes: &[u8]) -> Option<Field<'_>>
     ensures value { IfSome result (λ f. kind_field kind bytes.now ≡ Ok (field_value f)) }
@@ -62,7 +63,8 @@ fn plain_cents(bytes: &[u8]) -> Option<i64>
 // The most that one digit more leaves below 2^63.
 const MOST_BEFORE: u64 = 922_337_203_685_477_579;
 
-// The number that the digits write after those of another, where all are digits and 63 bits hold it.
+// The number that the digits write after those of another, where all are digits and 63 bits hold
+// it.
 #[tactic(auto, using(crate::proofs::PlainNumbers::steps))]
 fn digits_after(before: u64, digits: &[u8]) -> Option<u64>
     requires { before < 2 ^ 63 }

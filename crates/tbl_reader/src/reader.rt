@@ -1,5 +1,6 @@
 //! A reader that is fed the pieces of a file.
-ghost use Rattle.std.specs.Prelude.{◌≡◌, ◌+◌, ◌≤◌, ℕ, List, ◌++◌, [], length, true, Some, None, IfOk, IfErr, OnOk, OnErr, MatchResult};
+ghost use Rattle.std.specs.Prelude.{◌≡◌, ◌+◌, ◌≤◌, ℕ, List, ◌++◌, [], length, true, Some, None};
+ghost use Rattle.std.specs.Prelude.{IfOk, IfErr, OnOk, OnErr, MatchResult};
 ghost use Rattle.tpch_schema.specs.LineForm.{RowsFit, file_form};
 ghost use Rattle.refusals.specs.declared.line.LineRefusal.{LineRefusal as LineRefused};
 ghost use Rattle.tbl_reader.specs.declared.error.TableError.{TableError};
@@ -12,14 +13,16 @@ use crate::error::TableError;
 use crate::line::place_of;
 use crate::lines::Lines;
 use columns::{Field, Rows};
+use refusals::LineFault;
 use std::alloc::{AllocError, Global};
 use std::marker::Model;
-use tpch_schema::{DataFile, LineFault};
+use tpch_schema::DataFile;
 
 /// The most bytes that a file may have.
 pub const MOST_BYTES: u64 = 1 << 32;
 
-// Reads the line that ends with these bytes, its first part having come before. The LF is the last byte.
+// Reads the line that ends with these bytes, its first part having come before. The LF is the last
+// byte.
 fn end_line<'a>(
     lines: &mut Lines,
     fields: &mut Vec<Field<'a>>,
@@ -28,11 +31,17 @@ fn end_line<'a>(
 ) -> Result<(), TableError>
     ensures form { lines.new.form ≡ lines.old.form }
     ensures limit { lines.new.limit ≡ lines.old.limit }
-    ensures ok { OnOk result (add_line lines.old.form lines.old.limit (Ok lines.old.so_far) (rest.old.items ++ end.now) ≡ Ok lines.new.so_far) }
+    ensures ok { OnOk result
+        (add_line lines.old.form lines.old.limit (Ok lines.old.so_far) (rest.old.items ++ end.now)
+        ≡ Ok lines.new.so_far) }
     ensures rest { OnOk result (rest.new.items ≡ []) }
-    ensures bytes { OnOk result (lines.new.so_far.bytes ≡ lines.old.so_far.bytes + length rest.old.items + length end.now) }
-    ensures within { lines.old.so_far.bytes ≤ lines.old.limit → lines.new.so_far.bytes ≤ lines.new.limit }
-    ensures refused { IfErr result (IsErrorOf (add_line lines.old.form lines.old.limit (Ok lines.old.so_far) (rest.old.items ++ end.now))) }
+    ensures bytes { OnOk result
+        (lines.new.so_far.bytes ≡ lines.old.so_far.bytes + length rest.old.items + length end.now) }
+    ensures within { lines.old.so_far.bytes ≤ lines.old.limit
+        → lines.new.so_far.bytes ≤ lines.new.limit }
+    ensures refused { IfErr result
+        (IsErrorOf (add_line lines.old.form lines.old.limit (Ok lines.old.so_far)
+        (rest.old.items ++ end.now))) }
 {
     if rest.is_empty() {
         lines.add_by(fields, end)?;
@@ -48,7 +57,8 @@ fn end_line<'a>(
 fn keep_rest(lines: &Lines, rest: &mut Vec<u8>, part: &[u8]) -> Result<(), TableError>
     requires { lines.now.so_far.bytes + length rest.old.items ≤ lines.now.limit }
     ensures ok { OnOk result (rest.new.items ≡ rest.old.items ++ part.now) }
-    ensures within { OnOk result (lines.now.so_far.bytes + length (rest.old.items ++ part.now) ≤ lines.now.limit) }
+    ensures within { OnOk result
+        (lines.now.so_far.bytes + length (rest.old.items ++ part.now) ≤ lines.now.limit) }
     ensures refused { IfErr result (IsTooLong lines.now (rest.old.items ++ part.now)) }
 {
     if part.len() as u64 > lines.room() - rest.len() as u64 {
@@ -65,10 +75,14 @@ fn read_piece(lines: &mut Lines, rest: &mut Vec<u8>, piece: &[u8]) -> Result<(),
     requires within { lines.old.so_far.bytes + length rest.old.items ≤ lines.old.limit }
     ensures form { lines.new.form ≡ lines.old.form }
     ensures limit { lines.new.limit ≡ lines.old.limit }
-    ensures ok { OnOk result (SameResults lines.new rest.new.items lines.old (rest.old.items ++ piece.now)) }
+    ensures ok { OnOk result
+        (SameResults lines.new rest.new.items lines.old (rest.old.items ++ piece.now)) }
     ensures unended { OnOk result (is_unended rest.new.items ≡ true) }
-    ensures fed { OnOk result (lines.new.so_far.bytes + length rest.new.items ≡ lines.old.so_far.bytes + length rest.old.items + length piece.now) }
-    ensures within { OnOk result (lines.new.so_far.bytes + length rest.new.items ≤ lines.new.limit) }
+    ensures fed { OnOk result
+        (lines.new.so_far.bytes + length rest.new.items
+        ≡ lines.old.so_far.bytes + length rest.old.items + length piece.now) }
+    ensures within { OnOk result
+        (lines.new.so_far.bytes + length rest.new.items ≤ lines.new.limit) }
     ensures bytes { lines.new.so_far.bytes ≤ lines.new.limit }
     ensures refused { IfErr result (IsErrorOfAll lines.old (rest.old.items ++ piece.now)) }
 {
@@ -87,7 +101,8 @@ fn read_piece(lines: &mut Lines, rest: &mut Vec<u8>, piece: &[u8]) -> Result<(),
 #[tactic(auto, using(crate::proofs::Answers::ends))]
 fn last_rows(mut lines: Lines, rest: &[u8]) -> Result<Rows, TableError>
     requires { is_unended rest.now ≡ true }
-    ensures rows { MatchResult result (λ rows. only_rows (lines_result lines rest.now) ≡ Ok rows) (IsErrorOf (only_rows (lines_result lines rest.now))) }
+    ensures rows { MatchResult result (λ rows. only_rows (lines_result lines rest.now) ≡ Ok rows)
+        (IsErrorOf (only_rows (lines_result lines rest.now))) }
     ensures fit { IfOk result (RowsFit lines.form) }
 {
     if rest.is_empty() {
@@ -99,9 +114,9 @@ fn last_rows(mut lines: Lines, rest: &[u8]) -> Result<Rows, TableError>
     Ok(rows)
 }
 
-/// A reader of a file, which is fed the file's pieces in order, however they are cut. It keeps the rows of the
-/// lines that have ended and the bytes of the line that has not. Once it has refused a line, or memory ran out, it
-/// answers that again.
+/// A reader of a file, which is fed the file's pieces in order, however they are cut. It keeps the
+/// rows of the lines that have ended and the bytes of the line that has not. Once it has refused a
+/// line, or memory ran out, it answers that again.
 #[derive(Drop)]
 pub struct FileReader {
     lines: Lines,
@@ -117,7 +132,8 @@ impl Model for FileReader {
 
     ghost view = { λ r. reading r.lines r.rest.items r.error };
 
-    ghost invariant = { λ r. (is_unended r.rest.items ≡ true) × (r.lines.so_far.bytes + length r.rest.items ≤ r.lines.limit) };
+    ghost invariant = { λ r. (is_unended r.rest.items ≡ true)
+        × (r.lines.so_far.bytes + length r.rest.items ≤ r.lines.limit) };
 }
 
 #[tactic(auto, using(crate::proofs::Answers::answers))]
@@ -139,15 +155,19 @@ impl FileReader {
         })
     }
 
-    /// Reads the file's next piece: the lines that end in it give rows, and a bad one among them is refused.
+    /// Reads the file's next piece: the lines that end in it give rows, and a bad one among them is
+    /// refused.
     pub fn feed(&mut self, piece: &[u8]) -> Result<(), TableError>
         ensures form { self.new.lines.form ≡ self.old.lines.form }
         ensures limit { self.new.lines.limit ≡ self.old.lines.limit }
-        ensures read { OnOk result ((text : List ℕ) → HasRead text self.old → HasRead (text ++ piece.now) self.new) }
+        ensures read { OnOk result
+            ((text : List ℕ) → HasRead text self.old → HasRead (text ++ piece.now) self.new) }
         ensures bytes { OnOk result (bytes_fed self.new ≡ bytes_fed self.old + length piece.now) }
         ensures within { OnOk result (bytes_fed self.new ≤ self.new.lines.limit) }
         ensures unended { OnOk result (is_unended self.new.rest ≡ true) }
-        ensures refused { (first : LineRefused) → result ≡ Err (TableError.Refused first) → (text : List ℕ) → HasRead text self.old → RefusesAll self.old.lines.form self.old.lines.limit (text ++ piece.now) first }
+        ensures refused { (first : LineRefused) → result ≡ Err (TableError.Refused first)
+            → (text : List ℕ) → HasRead text self.old
+            → RefusesAll self.old.lines.form self.old.lines.limit (text ++ piece.now) first }
         ensures going { OnOk result (self.new.error ≡ None) }
         ensures stopped { IfErr result (λ error. self.new.error ≡ Some error) }
         ensures again { (error : TableError) → self.old.error ≡ Some error → result ≡ Err error }
@@ -168,7 +188,9 @@ impl FileReader {
 
     /// The rows of the whole file.
     pub fn finish(self) -> Result<Rows, TableError>
-        ensures rows { (text : List ℕ) → HasRead text self → MatchResult result (λ rows. rows_for self text ≡ Ok rows) (IsErrorOf (rows_for self text)) }
+        ensures rows { (text : List ℕ) → HasRead text self
+            → MatchResult result (λ rows. rows_for self text ≡ Ok rows)
+            (IsErrorOf (rows_for self text)) }
         ensures fit { IfOk result (RowsFit self.lines.form) }
         ensures again { (error : TableError) → self.error ≡ Some error → result ≡ Err error }
     {

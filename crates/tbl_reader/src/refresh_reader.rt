@@ -1,4 +1,5 @@
-//! The reader of the files of a refresh set: orders to insert, their lineitems, and keys of orders to delete.
+//! The reader of the files of a refresh set: orders to insert, their lineitems, and keys of orders
+//! to delete.
 ghost use Rattle.std.specs.Prelude.{◌≡◌, ℕ, List, [], Some, IfOk, MatchResult};
 ghost use Rattle.tpch_schema.specs.declared.table.TableName.{TableName};
 ghost use Rattle.tpch_schema.specs.Kinds.{RowsAreOf};
@@ -10,13 +11,14 @@ ghost use Rattle.tbl_reader.specs.File.{most_bytes};
 use crate::error::TableError;
 use crate::reader::{FileReader, MOST_BYTES};
 use columns::Rows;
+use refusals::RefreshFile;
 use std::alloc::{AllocError, Global};
 use std::marker::Model;
-use tpch_schema::{DataFile, RefreshFile};
+use tpch_schema::DataFile;
 
-/// A reader of a file of a refresh set, which is fed the file's pieces in order, however they are cut. It keeps the rows of the
-/// lines that have ended and the bytes of the line that has not. Once it has refused a line, or memory ran out, it
-/// answers that again.
+/// A reader of a file of a refresh set, which is fed the file's pieces in order, however they are
+/// cut. It keeps the rows of the lines that have ended and the bytes of the line that has not. Once
+/// it has refused a line, or memory ran out, it answers that again.
 #[derive(Drop)]
 pub struct RefreshReader {
     reader: FileReader,
@@ -59,7 +61,8 @@ impl RefreshReader {
         Ok(RefreshReader { reader })
     }
 
-    /// Reads the file's next piece: the lines that end in it give rows, and a bad one among them is refused.
+    /// Reads the file's next piece: the lines that end in it give rows, and a bad one among them is
+    /// refused.
     pub fn feed(&mut self, piece: &[u8]) -> Result<(), TableError>
         ensures { Feeds self.old self.new piece.now result }
     {
@@ -68,9 +71,12 @@ impl RefreshReader {
 
     /// The rows of the whole file.
     pub fn finish(self) -> Result<Rows, TableError>
-        ensures rows { (text : List ℕ) → HasRead text self → MatchResult result (λ rows. rows_for self text ≡ Ok rows) (IsErrorOf (rows_for self text)) }
+        ensures rows { (text : List ℕ) → HasRead text self
+            → MatchResult result (λ rows. rows_for self text ≡ Ok rows)
+            (IsErrorOf (rows_for self text)) }
         ensures fit { IfOk result (RowsFit self.lines.form) }
-        ensures kinds { (table : TableName) → self.lines.form.columns ≡ columns_of table → IfOk result (RowsAreOf table) }
+        ensures kinds { (table : TableName) → self.lines.form.columns ≡ columns_of table
+            → IfOk result (RowsAreOf table) }
         ensures again { (error : TableError) → self.error ≡ Some error → result ≡ Err error }
     {
         let RefreshReader { reader } = self;

@@ -14,9 +14,9 @@ use std::alloc::{AllocError, Global};
 use std::marker::Model;
 use tpch_schema::{DataFile, TableName};
 
-/// A reader of a table's file, which is fed the file's pieces in order, however they are cut. It keeps the rows of the
-/// lines that have ended and the bytes of the line that has not. Once it has refused a line, or memory ran out, it
-/// answers that again.
+/// A reader of a table's file, which is fed the file's pieces in order, however they are cut. It
+/// keeps the rows of the lines that have ended and the bytes of the line that has not. Once it has
+/// refused a line, or memory ran out, it answers that again.
 #[derive(Drop)]
 pub struct TableReader {
     reader: FileReader,
@@ -59,7 +59,8 @@ impl TableReader {
         Ok(TableReader { reader })
     }
 
-    /// Reads the file's next piece: the lines that end in it give rows, and a bad one among them is refused.
+    /// Reads the file's next piece: the lines that end in it give rows, and a bad one among them is
+    /// refused.
     pub fn feed(&mut self, piece: &[u8]) -> Result<(), TableError>
         ensures { Feeds self.old self.new piece.now result }
     {
@@ -68,9 +69,12 @@ impl TableReader {
 
     /// The rows of the whole file.
     pub fn finish(self) -> Result<Rows, TableError>
-        ensures rows { (text : List ℕ) → HasRead text self → MatchResult result (λ rows. rows_for self text ≡ Ok rows) (IsErrorOf (rows_for self text)) }
+        ensures rows { (text : List ℕ) → HasRead text self
+            → MatchResult result (λ rows. rows_for self text ≡ Ok rows)
+            (IsErrorOf (rows_for self text)) }
         ensures fit { IfOk result (RowsFit self.lines.form) }
-        ensures kinds { (table : TableName) → self.lines.form.columns ≡ columns_of table → IfOk result (RowsAreOf table) }
+        ensures kinds { (table : TableName) → self.lines.form.columns ≡ columns_of table
+            → IfOk result (RowsAreOf table) }
         ensures again { (error : TableError) → self.error ≡ Some error → result ≡ Err error }
     {
         let TableReader { reader } = self;

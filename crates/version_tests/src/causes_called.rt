@@ -9,7 +9,8 @@ use table_state::{Refresh, RefreshError, apply};
 use tbl_reader::{RefreshReader, TableError};
 use tpch_schema::TableName;
 
-/// Tries a refresh on the orders 7 and 8 with a lineitem of each and those of order 9, by which the cause may come.
+/// Tries a refresh on the orders 7 and 8 with a lineitem of each and those of order 9, by which the
+/// cause may come.
 /// It is refused, and the state stays as it was.
 fn cause(alloc: Global, refresh: &Refresh) -> Result<Cause, Fail> {
     let mut tried = state(alloc, &[ORDERS], &[SEVEN_ONE, EIGHT_TWO, NINE_TWO])?;
