@@ -9,10 +9,10 @@ ghost use Rattle.tpch_main.specs.SetFile.{FailsAs, FitsFile, IsFileOf};
 use crate::input::front;
 use crate::input_error::ReadError;
 use columns::Rows;
+use refusals::{LineRefusal, RefreshFile};
 use std::alloc::Global;
 use tbl_reader::{RefreshReader, TableError};
 use tpch_outside::Files;
-use tpch_schema::{LineRefusal, RefreshFile};
 
 /// The most bytes of a refresh file: 2^32.
 const MOST_BYTES: usize = 4_294_967_296;

@@ -13,11 +13,11 @@ use crate::input_error::{InputError, InputFault, ReadError, refused};
 use crate::refresh_file::read_refresh_rows;
 use columns::Rows;
 use itoa::Buffer;
+use refusals::{LineRefusal, RefreshFile};
 use sql_ast::{RefreshKind, Statement};
 use std::alloc::{AllocError, Global};
 use table_state::Refresh;
 use tpch_outside::{Files, Open};
-use tpch_schema::{LineRefusal, RefreshFile};
 
 /// A refresh that a statement names.
 #[derive(Clone, Copy, Debug, PartialEq, Eq)]
