@@ -162,8 +162,8 @@ fn with_values(
     Ok(script)
 }
 
-/// The text of one of the 22 queries (TPC-H, section 2.4) with these values: a script of one
-/// statement, for query 15 of three.
+/// The text of one of the 22 queries (TPC-H, section 2.4) with these values, a script: one
+/// statement, but query 15 also creates its view before and drops it after.
 ///
 /// A text is put in with each quote in it twice, a number as answers print it. Refused are, in this
 /// order, a number that is none of 1 to 22, another number of values than the query has places, and

@@ -302,7 +302,7 @@ abbrev pub TestTail : ℕ → ℕ → Part Token Expr → Part Token Expr → Pa
 TestTail wide room unary part query =
     Or (CompareLine wide unary)
     (Or NullLine (Or (Then denied (One (is k.Not)) (DenyTest wide room unary part query))
-    (Or (DenyTest wide room unary part query) (Empty t.Holds))))
+    (Or (DenyTest wide room unary part query) (Empty t.Absent))))
 
 -- sum [test]
 abbrev pub Predicate : ℕ → ℕ → Part Token Expr → Part Token Expr → Part Token Block

@@ -335,7 +335,7 @@ read_test wide room unary part query =
     (either (is k.Is) read_null
     (either (is k.Not) (both denied (one (is k.Not)) (read_deny_test wide room unary part query))
     (either (among kinds (k.Between ∷ k.Like ∷ k.In ∷ []))
-    (read_deny_test wide room unary part query) (nothing t.Holds))))
+    (read_deny_test wide room unary part query) (nothing t.Absent))))
 
 -- a sum and what is asked of it
 unfoldable pub read_predicate : ℕ → ℕ → Reading Token Expr → Reading Token Expr

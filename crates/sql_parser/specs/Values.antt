@@ -236,7 +236,7 @@ is_not_null word null = t.IsNull true
 
 -- the test denied: true becomes false in its flag, and back
 abbrev pub opposite : Test → Test
-opposite t.Holds = t.Holds
+opposite t.Absent = t.Absent
 opposite (t.Compare c x) = t.Compare c x
 opposite (t.IsNull b) = t.IsNull (not b)
 opposite (t.Between b low high) = t.Between (not b) low high
@@ -255,7 +255,7 @@ deny false x = x
 
 -- what is asked of a value, as one condition; a denied test is NOT of the test itself
 abbrev pub tested : Expr → Test → Expr
-tested x t.Holds = x
+tested x t.Absent = x
 tested x (t.Compare c y) = e.Compare c x y
 tested x (t.IsNull b) = deny b (e.IsNull x)
 tested x (t.Between b low high) = deny b (e.Between x low high)

@@ -102,7 +102,7 @@ impl<
         if parser.starts_any(&[Kind::Between, Kind::Like, Kind::In]) {
             return self.deny_test(parser);
         }
-        Ok(Test::Holds)
+        Ok(Test::Absent)
     }
 
     /// A sum, and what is asked of it.
