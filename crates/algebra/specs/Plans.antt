@@ -1,12 +1,15 @@
 -- What a flat plan means: the rows of its nodes, one after the other; their widths; what it scans
 -- and reads; and when it is well formed.
-use Rattle.std.specs.Prelude.{ℕ, zero, ◌+◌, ◌-◌, ◌==◌, ◌&&◌, nat_lt, nat_le, Bool, true, false, List, [], ◌∷◌, ◌++◌, map, length, replicate, Option, Some, None, slice_get, slice_index, slice_index_or}
+use Rattle.std.specs.Prelude.{ℕ, zero, ◌+◌, ◌-◌, ◌==◌, ◌&&◌, nat_lt, nat_le, Bool, true, false}
+use Rattle.std.specs.Prelude.{List, [], ◌∷◌, ◌++◌, map, length, replicate, Option, Some, None}
+use Rattle.std.specs.Prelude.{slice_get, slice_index, slice_index_or}
 use Rattle.std.specs.List.{flat_map, list_all, range_with_len, sum_by}
 use Rattle.std.specs.Cmp.Lexicographic.{pointwise}
 use Rattle.row_laws.specs.Ranked.{Ranked}
 use Rattle.row_laws.specs.Rows.{columns, scanned}
 use Rattle.row_laws.specs.Operators.{select, project, group_by, total, distinct, domain_node, fill}
-use Rattle.row_laws.specs.Matched.{right_places, inner_matched, outer_matched, mark_matched, single_matched}
+use Rattle.row_laws.specs.Matched.{right_places, inner_matched, outer_matched, mark_matched}
+use Rattle.row_laws.specs.Matched.{single_matched}
 use Rattle.sql_value.specs.declared.value.Value.{Value}
 use Rattle.sql_value.specs.declared.value.Value.TheVariants.{Null}
 use Rattle.sql_value.specs.Value.{same_value, same_row}
@@ -15,7 +18,8 @@ use Rattle.tpch_schema.specs.declared.table.TableName.{TableName}
 use Rattle.tpch_schema.specs.Tables.{kinds_of}
 use Rattle.algebra.specs.declared.aggregate.Aggregate.{Aggregate}
 use Rattle.algebra.specs.declared.node.Node.{Node}
-use Rattle.algebra.specs.declared.node.Node.TheVariants.{Scan, Domain, Select, Project, Join, Outer, Mark, Single, Group, Fill, Distinct}
+use Rattle.algebra.specs.declared.node.Node.TheVariants.{Scan, Domain, Select, Project, Join, Outer}
+use Rattle.algebra.specs.declared.node.Node.TheVariants.{Mark, Single, Group, Fill, Distinct}
 use Rattle.aggregates.specs.Values.{written, value_rank}
 use Rattle.conditions.specs.Ranks.{rank_of}
 use Rattle.algebra.specs.Aggregates.{aggregates_of}

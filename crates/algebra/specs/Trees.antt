@@ -3,10 +3,12 @@
 use Rattle.std.specs.Prelude.{ℕ, ◌+◌, List, [], ◌∷◌, ◌++◌, map, length, replicate}
 use Rattle.row_laws.specs.Ranked.{Ranked}
 use Rattle.row_laws.specs.Rows.{after, columns, scanned}
-use Rattle.row_laws.specs.Operators.{select, project, mark_of, scalar_of, join_loop, outer_loop, attach_loop, group_by, total, distinct}
+use Rattle.row_laws.specs.Operators.{select, project, mark_of, scalar_of, join_loop, outer_loop}
+use Rattle.row_laws.specs.Operators.{attach_loop, group_by, total, distinct}
 use Rattle.row_laws.specs.Trees.{side_row}
 use Rattle.row_laws.specs.Trees.{Side as SideKind}
-use Rattle.row_laws.specs.Trees.Side.{Closed as ClosedKind, Shared as SharedKind, Dependent as DependentKind}
+use Rattle.row_laws.specs.Trees.Side.{Closed as ClosedKind, Shared as SharedKind}
+use Rattle.row_laws.specs.Trees.Side.{Dependent as DependentKind}
 use Rattle.sql_value.specs.declared.value.Value.{Value}
 use Rattle.sql_value.specs.declared.value.Value.TheVariants.{Null}
 use Rattle.sql_value.specs.Value.{same_value}
@@ -18,7 +20,8 @@ use Rattle.tpch_schema.specs.Tables.{kinds_of}
 use Rattle.algebra.specs.declared.aggregate.Aggregate.{Aggregate}
 use Rattle.algebra.specs.declared.tree.DepTree.{DepTree, DepTree-F}
 use Rattle.algebra.specs.declared.tree.DepTree.TheFolds.{fold-DepTree}
-use Rattle.algebra.specs.declared.tree.DepTree.TheOpen.{Scan, Select, Project, Join, Outer, Mark, Single, Group, Distinct}
+use Rattle.algebra.specs.declared.tree.DepTree.TheOpen.{Scan, Select, Project, Join, Outer, Mark}
+use Rattle.algebra.specs.declared.tree.DepTree.TheOpen.{Single, Group, Distinct}
 use Rattle.algebra.specs.declared.tree.Side.{Side}
 use Rattle.algebra.specs.declared.tree.Side.TheVariants.{Closed, Shared, Dependent}
 use Rattle.aggregates.specs.Values.{written, value_rank}

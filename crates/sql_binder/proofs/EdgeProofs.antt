@@ -32,7 +32,8 @@ unfolding input aggregate alone apart counted take_aggregates is_met ends means 
     listed_headers table_rows named_rows first_rows crossed joining joined_rows present holding
     shown_part star keys_of plain closing once_each output_place order_of conditions operands chain
     arm_conditions arm_values on_condition on_joining joins chained from_list condition shown_item
-    shown_items select is_grouped from_where over_rows group_lists over_groups clauses_of is_grouped_block bound_query bound_view times
+    shown_items select is_grouped from_where over_rows group_lists over_groups clauses_of
+    is_grouped_block bound_query bound_view times
 moved_dates = simp computed
 
 pub view_of_names : ViewOfNames
@@ -44,7 +45,8 @@ unfolding input aggregate alone apart counted take_aggregates is_met ends means 
     listed_headers table_rows named_rows first_rows crossed joining joined_rows present holding
     shown_part star keys_of plain closing once_each output_place order_of conditions operands chain
     arm_conditions arm_values on_condition on_joining joins chained from_list condition shown_item
-    shown_items select is_grouped from_where over_rows group_lists over_groups clauses_of is_grouped_block bound_query bound_view times
+    shown_items select is_grouped from_where over_rows group_lists over_groups clauses_of
+    is_grouped_block bound_query bound_view times
 view_of_names = simp computed
 
 pub chains : Chains
@@ -56,7 +58,8 @@ unfolding input aggregate alone apart counted take_aggregates is_met ends means 
     listed_headers table_rows named_rows first_rows crossed joining joined_rows present holding
     shown_part star keys_of plain closing once_each output_place order_of conditions operands chain
     arm_conditions arm_values on_condition on_joining joins chained from_list condition shown_item
-    shown_items select is_grouped from_where over_rows group_lists over_groups clauses_of is_grouped_block bound_query bound_view times
+    shown_items select is_grouped from_where over_rows group_lists over_groups clauses_of
+    is_grouped_block bound_query bound_view times
 chains = (
   simp computed,
   simp computed,
@@ -76,7 +79,8 @@ unfolding input aggregate alone apart counted take_aggregates is_met ends means 
     listed_headers table_rows named_rows first_rows crossed joining joined_rows present holding
     shown_part star keys_of plain closing once_each output_place order_of conditions operands chain
     arm_conditions arm_values on_condition on_joining joins chained from_list condition shown_item
-    shown_items select is_grouped from_where over_rows group_lists over_groups clauses_of is_grouped_block bound_query bound_view times
+    shown_items select is_grouped from_where over_rows group_lists over_groups clauses_of
+    is_grouped_block bound_query bound_view times
 conditions_as_values = (simp computed, simp computed, simp computed, simp computed)
 
 pub groups : Groups
@@ -88,7 +92,8 @@ unfolding input aggregate alone apart counted take_aggregates is_met ends means 
     listed_headers table_rows named_rows first_rows crossed joining joined_rows present holding
     shown_part star keys_of plain closing once_each output_place order_of conditions operands chain
     arm_conditions arm_values on_condition on_joining joins chained from_list condition shown_item
-    shown_items select is_grouped from_where over_rows group_lists over_groups clauses_of is_grouped_block bound_query bound_view times
+    shown_items select is_grouped from_where over_rows group_lists over_groups clauses_of
+    is_grouped_block bound_query bound_view times
 groups = (simp computed, simp computed, simp computed, simp computed, simp computed)
 
 pub sights_of_parts : SightsOfParts
@@ -100,7 +105,8 @@ unfolding input aggregate alone apart counted take_aggregates is_met ends means 
     listed_headers table_rows named_rows first_rows crossed joining joined_rows present holding
     shown_part star keys_of plain closing once_each output_place order_of conditions operands chain
     arm_conditions arm_values on_condition on_joining joins chained from_list condition shown_item
-    shown_items select is_grouped from_where over_rows group_lists over_groups clauses_of is_grouped_block bound_query bound_view times
+    shown_items select is_grouped from_where over_rows group_lists over_groups clauses_of
+    is_grouped_block bound_query bound_view times
 sights_of_parts = (simp computed, simp computed, simp computed, simp computed, simp computed)
 
 pub order_in_from : OrderInFrom
@@ -112,7 +118,8 @@ unfolding input aggregate alone apart counted take_aggregates is_met ends means 
     listed_headers table_rows named_rows first_rows crossed joining joined_rows present holding
     shown_part star keys_of plain closing once_each output_place order_of conditions operands chain
     arm_conditions arm_values on_condition on_joining joins chained from_list condition shown_item
-    shown_items select is_grouped from_where over_rows group_lists over_groups clauses_of is_grouped_block bound_query bound_view times
+    shown_items select is_grouped from_where over_rows group_lists over_groups clauses_of
+    is_grouped_block bound_query bound_view times
 order_in_from = (simp computed, simp computed, simp computed, simp computed)
 
 pub order_in_views : OrderInViews
@@ -124,5 +131,6 @@ unfolding input aggregate alone apart counted take_aggregates is_met ends means 
     listed_headers table_rows named_rows first_rows crossed joining joined_rows present holding
     shown_part star keys_of plain closing once_each output_place order_of conditions operands chain
     arm_conditions arm_values on_condition on_joining joins chained from_list condition shown_item
-    shown_items select is_grouped from_where over_rows group_lists over_groups clauses_of is_grouped_block bound_query bound_view times
+    shown_items select is_grouped from_where over_rows group_lists over_groups clauses_of
+    is_grouped_block bound_query bound_view times
 order_in_views = (refl, simp computed, simp computed)

@@ -30,7 +30,8 @@ unfolding input aggregate alone apart counted take_aggregates is_met ends means 
     listed_headers table_rows named_rows first_rows crossed joining joined_rows present holding
     shown_part star keys_of plain closing once_each output_place order_of conditions operands chain
     arm_conditions arm_values on_condition on_joining joins chained from_list condition shown_item
-    shown_items select is_grouped from_where over_rows group_lists over_groups clauses_of is_grouped_block bound_query bound_view
+    shown_items select is_grouped from_where over_rows group_lists over_groups clauses_of
+    is_grouped_block bound_query bound_view
 first_refusals = (
   simp computed,
   simp computed,
@@ -50,7 +51,8 @@ unfolding input aggregate alone apart counted take_aggregates is_met ends means 
     listed_headers table_rows named_rows first_rows crossed joining joined_rows present holding
     shown_part star keys_of plain closing once_each output_place order_of conditions operands chain
     arm_conditions arm_values on_condition on_joining joins chained from_list condition shown_item
-    shown_items select is_grouped from_where over_rows group_lists over_groups clauses_of is_grouped_block bound_query bound_view times
+    shown_items select is_grouped from_where over_rows group_lists over_groups clauses_of
+    is_grouped_block bound_query bound_view times
 later_refusals = (
   simp computed,
   simp computed,
