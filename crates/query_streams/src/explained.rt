@@ -154,7 +154,7 @@ fn explained_steps(alloc: Global, steps: &[Statement]) -> Result<Explained, Allo
     let mut is_clean = true;
     for (place, statement) in steps.iter().enumerate() {
         let is_refused = push_statement(alloc, &mut text, place as u64 + 1, statement, &mut views)?;
-        is_clean = is_clean && !is_refused;
+        is_clean &= !is_refused;
     }
     Ok(Explained { text, is_clean })
 }

@@ -24,8 +24,10 @@ fn expect_reads<R: Threads + Wait + Sync + Abort>(
     let status = tpch(rt, alloc, &words, &mut files, &mut out, &OpenGate);
     assert_eq!(rt; status, Status::Done);
     let text = out.bytes.as_slice();
-    let end = text.iter().position(|byte| *byte == b'\n').unwrap_or(0);
-    let head = &text[..end];
+    let head = match text.iter().position(|byte| *byte == b'\n') {
+        Some(end) => &text[..end],
+        None => text,
+    };
     assert!(rt; head.starts_with(b"[1] plan nodes "), "with {script}");
     assert!(rt; head.ends_with(reads.as_bytes()), "with {script}");
     Ok(())

@@ -5,8 +5,6 @@
 #[cfg(test)]
 mod answers;
 #[cfg(test)]
-mod examples;
-#[cfg(test)]
 mod explanations;
 #[cfg(test)]
 mod outside;

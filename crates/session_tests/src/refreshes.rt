@@ -31,8 +31,8 @@ fn versions_rise_with_accepted_refreshes(rt: HostRuntime) -> Result<(), Fail> {
     Ok(())
 }
 
-// The rows of both tables before and after each refresh: an insert adds those of its files, a delete
-// takes an order with its lineitems, and a refused one leaves both as they were.
+// The rows of both tables before and after each refresh: an insert adds those of its files, a
+// delete takes an order with its lineitems, and a refused one leaves both as they were.
 #[test]
 fn refreshes_change_rows(rt: HostRuntime) -> Result<(), Fail> {
     let script = "create view seen as select o_orderkey, o_comment, l_linenumber, l_comment \
@@ -47,8 +47,13 @@ fn refreshes_change_rows(rt: HostRuntime) -> Result<(), Fail> {
         [7] version 1 accepted 2\n[8] version 2 rows 2\n8|y|\\N|\\N\n9|z|1|w\n\
         [9] version 2 refused 45 UnknownOrder 7\n[10] version 2 rows 2\n8|y|\\N|\\N\n9|z|1|w\n\
         [11] version 2 accepted 3\n[12] version 3 rows 1\n8|y|\\N|\\N\n";
-    let [orders, first, lines, delete] = FIRST_SET;
-    let files = [orders, first, lines, delete, ("d/delete.2", "9\n")];
+    let files = [
+        ORDERS,
+        ("d/orders.tbl.u1", NEW_ORDERS),
+        ("d/lineitem.tbl.u1", NEW_LINES),
+        ("d/delete.1", "7"),
+        ("d/delete.2", "9\n"),
+    ];
     let cases = [(script, text)];
     expect_sessions(&rt, rt.alloc(), &files, Status::SomeRefused, &cases)?;
     Ok(())
@@ -82,8 +87,12 @@ fn bad_sets_change_nothing(rt: HostRuntime) -> Result<(), Fail> {
 
 #[test]
 fn a_line_without_its_order_is_refused(rt: HostRuntime) -> Result<(), Fail> {
-    let [orders, first, lines, _] = FIRST_SET;
-    let files = [orders, first, lines, ("d/lineitem.tbl", NEW_LINES)];
+    let files = [
+        ORDERS,
+        ("d/orders.tbl.u1", NEW_ORDERS),
+        ("d/lineitem.tbl.u1", NEW_LINES),
+        ("d/lineitem.tbl", NEW_LINES),
+    ];
     let script = "refresh insert 1; select count(*) from orders; select count(*) from lineitem;";
     let text = "[1] version 0 refused 48 LineExists 9 1\n[2] version 0 rows 1\n2\n\
         [3] version 0 rows 1\n1\n";
@@ -111,8 +120,12 @@ fn many_versions(rt: HostRuntime) -> Result<(), Fail> {
     text.push_str(
         "[17] version 16 rows 1\n2\n[18] version 16 accepted 17\n[19] version 17 rows 1\n3\n",
     )?;
-    let [orders, first, lines, _] = FIRST_SET;
-    let files = [orders, first, lines, ("d/delete.1", "9")];
+    let files = [
+        ORDERS,
+        ("d/orders.tbl.u1", NEW_ORDERS),
+        ("d/lineitem.tbl.u1", NEW_LINES),
+        ("d/delete.1", "9"),
+    ];
     let cases = [(script.as_str(), text.as_str())];
     expect_sessions(&rt, alloc, &files, Status::Done, &cases)?;
     Ok(())

@@ -64,7 +64,8 @@ fn shared_rows(alloc: Global, rows: &Rows) -> Result<Rows, AllocError>
     ensures { IfOk result (λ shared. shared ≡ rows.now) }
 {
     let mut shared = Rows::new(alloc);
-    for segment in rows.segments() {
+    let segments = rows.segments();
+    for segment in segments {
         shared.push(segment.clone()?)?;
     }
     Ok(shared)
