@@ -28,10 +28,10 @@ and_assoc : (a b c : Bool) → (a && (b && c)) ≡ ((a && b) && c)
 and_assoc true b c = refl
 and_assoc false b c = refl
 
-pub explaining_more : (steps : List Statement) (k : ℕ) {d : Statement} (views later : List View) (text more first : List ℕ) (clean refused : Bool) → k < length steps → Explaining steps k views text clean
+pub explaining_more : (steps : List Statement) (k : ℕ) (d : Statement) (views later : List View) (text more first : List ℕ) (clean refused : Bool) → k < length steps → Explaining steps k views text clean
     → IsExplained (k + 1) views (slice_index_or steps k d) first → more ≡ text ++ first → refused ≡ is_refused views (slice_index_or steps k d) → later ≡ views_after views (slice_index_or steps k d)
     → Explaining steps (k + 1) later more (clean && not refused)
-explaining_more steps k {d} views later text more first clean refused inside before is text_is refused_is views_are = record {
+explaining_more steps k d views later text more first clean refused inside before is text_is refused_is views_are = record {
   lines = λ rest are.
     let s = slice_index_or steps k d in
     let left : AreExplained (k + 1) views (drop k steps) (first ++ rest) =
