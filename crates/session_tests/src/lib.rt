@@ -19,4 +19,6 @@ mod runs;
 #[cfg(test)]
 mod tables;
 #[cfg(test)]
+mod turns;
+#[cfg(test)]
 mod words;
