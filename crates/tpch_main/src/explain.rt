@@ -22,12 +22,11 @@ fn explained(alloc: Global, statements: Items<Statement>) -> Result<(Vec<u8>, St
         × MeansExplained steps printed.0.items printed.1) }
 {
     let explained = explain(alloc, statements)?;
-    let status = if explained.is_clean {
-        Status::Done
+    if explained.is_clean {
+        Ok((explained.text, Status::Done))
     } else {
-        Status::SomeRefused
-    };
-    Ok((explained.text, status))
+        Ok((explained.text, Status::SomeRefused))
+    }
 }
 
 /// The lines of the statements of that script, and their status.
