@@ -10,7 +10,7 @@ ghost use Rattle.tpch_main.specs.Words.Command.{explain};
 use crate::Status;
 use crate::input_error::InputError;
 use crate::session::read_statements;
-use query_streams::explain;
+use query_streams::{Explained, explain};
 use sql_ast::Statement;
 use sqlite_items::Items;
 use std::alloc::{AllocError, Global};
@@ -22,10 +22,11 @@ fn explained(alloc: Global, statements: Items<Statement>) -> Result<(Vec<u8>, St
         × MeansExplained steps printed.0.items printed.1) }
 {
     let explained = explain(alloc, statements)?;
-    if explained.is_clean {
-        Ok((explained.text, Status::Done))
+    let Explained { text, is_clean } = explained;
+    if is_clean {
+        Ok((text, Status::Done))
     } else {
-        Ok((explained.text, Status::SomeRefused))
+        Ok((text, Status::SomeRefused))
     }
 }
 
