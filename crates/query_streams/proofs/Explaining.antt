@@ -33,16 +33,16 @@ pub explaining_more : (steps : List Statement) (k : ℕ) (d : Statement) (views 
     → Explaining steps (k + 1) later more (clean && not refused)
 explaining_more steps k d views later text more first clean refused inside before is text_is refused_is views_are = record {
   lines = λ rest are.
-    let s = slice_index_or steps k d in
-    let left : AreExplained (k + 1) views (drop k steps) (first ++ rest) =
-    subst (λ ss. AreExplained (k + 1) views ss (first ++ rest)) (sym (split steps k d inside))
-    (first, rest, is, subst (λ vs. AreExplained (k + 1 + 1) vs (drop (k + 1) steps) rest) views_are are, refl) in
-    subst (AreExplained 1 [] steps) (sym (append_assoc text first rest) ∙ ap (λ t. t ++ rest) (sym text_is)) (before.lines (first ++ rest) left);
+      let s = slice_index_or steps k d in
+      let left : AreExplained (k + 1) views (drop k steps) (first ++ rest) =
+      subst (λ ss. AreExplained (k + 1) views ss (first ++ rest)) (sym (split steps k d inside))
+      (first, rest, is, subst (λ vs. AreExplained (k + 1 + 1) vs (drop (k + 1) steps) rest) views_are are, refl) in
+      subst (AreExplained 1 [] steps) (sym (append_assoc text first rest) ∙ ap (λ t. t ++ rest) (sym text_is)) (before.lines (first ++ rest) left);
   taken =
-    before.taken ∙ ap (λ ss. clean && are_taken views ss) (split steps k d inside)
-    ∙ ap (λ r. clean && (not r && are_taken (views_after views (slice_index_or steps k d)) (drop (k + 1) steps))) (sym refused_is)
-    ∙ ap (λ vs. clean && (not refused && are_taken vs (drop (k + 1) steps))) (sym views_are)
-    ∙ and_assoc clean (not refused) (are_taken later (drop (k + 1) steps));
+      before.taken ∙ ap (λ ss. clean && are_taken views ss) (split steps k d inside)
+      ∙ ap (λ r. clean && (not r && are_taken (views_after views (slice_index_or steps k d)) (drop (k + 1) steps))) (sym refused_is)
+      ∙ ap (λ vs. clean && (not refused && are_taken vs (drop (k + 1) steps))) (sym views_are)
+      ∙ and_assoc clean (not refused) (are_taken later (drop (k + 1) steps));
 }
 
 and_true : (a : Bool) → (a && true) ≡ a
