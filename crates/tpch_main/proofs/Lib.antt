@@ -22,3 +22,4 @@ mod OneText
 mod Changes
 mod SetFiles
 mod KnownFiles
+mod SharedRows
