@@ -21,5 +21,4 @@ mod OnTheWay
 mod OneText
 mod Changes
 mod SetFiles
-mod KnownFiles
 mod SharedRows
