@@ -3,3 +3,4 @@ mod Running
 mod Texts
 mod Expanded
 mod Once
+mod Explaining

@@ -1,4 +1,4 @@
--- Texts of sessions, worked out by hand, over any tables.
+-- Texts of sessions and of explanations, worked out by hand, over any tables.
 use Rattle.std.specs.Prelude.{◌≡◌, ℕ, List, [], ◌∷◌, true, false, pos, codes, Result, Ok, Err}
 use Rattle.refusals.specs.declared.refresh.Cause.{Cause}
 use Rattle.refusals.specs.declared.refresh.Cause.TheVariants.{OrderExists}
@@ -9,6 +9,7 @@ use Rattle.sql_ast.specs.declared.statement.Statement.TheVariants.{Run}
 use Rattle.sql_ast.specs.declared.statement.TemplateValue.TheVariants.{Number}
 use Rattle.sql_ast.specs.declared.tree.Block.{Block}
 use Rattle.tpch_schema.specs.State.{State}
+use Rattle.query_streams.specs.Explained.{AreExplained, are_taken}
 use Rattle.query_streams.specs.Outcomes.{Moment}
 use Rattle.query_streams.specs.Sessions.{are_clean, lines_of}
 
@@ -45,3 +46,8 @@ pub record Examples : Type 0 where
   pub table_there : (tables : State) (query : Block)
       → lines_of true 1 [] (CreateView (codes "region") [] query ∷ []) (at_first tables)
       ≡ codes "[1] version 0 refused 20 ViewExists\n"
+  pub explained : AreExplained 1 [] refreshes (codes "[1] refresh\n[2] refresh\n[3] refresh\n")
+  pub all_taken : are_taken [] refreshes ≡ true
+  pub explained_runs : AreExplained 1 [] runs
+      (codes "[1] refused 30 NoSuchQuery\n[2] refused 31 WrongCount\n[3] refused 32 WrongKind 1\n")
+  pub none_taken : are_taken [] runs ≡ false

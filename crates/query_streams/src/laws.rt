@@ -18,7 +18,7 @@ pub fn sessions_have_their_text()
     ensures { SessionsText }
 {}
 
-/// Texts of sessions, worked out by hand.
+/// Texts of sessions and of explanations, worked out by hand.
 pub fn worked_sessions()
     ensures { Examples }
 {}

@@ -3,6 +3,7 @@
 #![tactic(auto)]
 
 mod expansion;
+mod explained;
 pub mod laws;
 mod outcome;
 mod query;
@@ -11,4 +12,5 @@ mod session;
 mod text;
 mod views;
 
+pub use explained::{Explained, explain};
 pub use session::{Session, Turn};

@@ -5,17 +5,21 @@ use Rattle.std.specs.Io.KnownBytes.{Appends}
 use Rattle.std.specs.Result.{result_err}
 use Rattle.std.specs.declared.result.Result.{Result}
 use Rattle.std.specs.declared.result.Result.TheVariants.{Ok, Err}
+use Rattle.query_streams.specs.Explained.{are_taken}
 use Rattle.query_streams.specs.Sessions.{are_clean}
+use Rattle.sql_ast.specs.declared.statement.Statement.{Statement}
 use Rattle.tpch_outside.specs.Outside.{Folder}
 use Rattle.tpch_main.specs.Inputs.{BadInput, Work, state_in}
-use Rattle.tpch_main.specs.Meaning.{IsAccepted, IsAnswer, IsDone, MeansCheck, MeansSession, Prints, PrintsOf}
+use Rattle.tpch_main.specs.Meaning.{IsAccepted, MeansCheck, MeansSession, Prints}
+use Rattle.tpch_main.specs.Printing.{IsAnswer, IsDone, PrintsOf}
+use Rattle.tpch_main.specs.ScriptPlans.{MeansExplained}
 use Rattle.tpch_main.specs.Turns.{first_trials, moments, session_status}
 use Rattle.tpch_main.specs.Words.{Command}
-use Rattle.tpch_main.specs.Words.Command.{check, session}
+use Rattle.tpch_main.specs.Words.Command.{check, explain, session}
 use Rattle.tpch_main.specs.declared.input_error.InputFault.TheVariants as fault
 use Rattle.tpch_main.specs.declared.status.Status.{Status}
 use Rattle.tpch_main.specs.declared.status.Status.TheVariants as status
-use Rattle.tpch_main.proofs.OneWork.{inputs_alike}
+use Rattle.tpch_main.proofs.OneWork.{AreAlike, inputs_alike, script_steps_alike}
 
 no_refusal : (r : BadInput) → None ≡ Some r → ⊥
 no_refusal r e = cc
@@ -28,10 +32,26 @@ by_cleanness false = inr refl
 pub session_done : (work : Work) (text : List ℕ) (s : Status) → MeansSession work text s → IsDone s
 session_done work text s means = subst IsDone (sym means.1) (by_cleanness (are_clean [] work.steps (moments (first_trials work) work.steps)))
 
+-- what a script's statements mean that are explained has such a status
+pub explained_done : (steps : List Statement) (text : List ℕ) (s : Status) → MeansExplained steps text s → IsDone s
+explained_done steps text s means = subst IsDone (sym means.1) (by_cleanness (are_taken [] steps))
+
 -- inputs of which none is refused are there
 there : {A : Type 0} → (inputs : Result A BadInput) → None ≡ result_err inputs → (a : A) × (inputs ≡ Ok a)
 there (Ok a) e = (a, refl)
 there (Err refused) e = absurd (no_refusal refused e)
+
+-- inputs that are like accepted ones are answered
+accepted_alike : {A : Type 0} → (Means : A → List ℕ → Status → Type 0) → ((a : A) (text : List ℕ) (s : Status) → Means a text s → IsDone s) → (inputs others : Result A BadInput) (text : List ℕ) (s : Status)
+    → AreAlike inputs others → None ≡ result_err others → PrintsOf Means inputs text s → IsDone s
+accepted_alike {A} Means ends inputs others text s alike none prints =
+    let (a, is) = there others none in
+    at inputs alike a is prints
+  where
+    at : (read : Result A BadInput) → AreAlike read others → (a : A) → others ≡ Ok a → PrintsOf Means read text s → IsDone s
+    at (Ok read) alike a is means = ends read text s means
+    at (Err refused) (inl e) a is means = absurd (cc)
+    at (Err refused) (inr (first, second, one, two, p, q)) a is means = absurd (cc)
 
 -- what an accepted command prints, it prints with the status of an answer
 pub accepted_done : (command : Command) (held : Option Folder) (text : List ℕ) (s : Status) → Prints (Some command) held text s → IsAccepted (Some command) held → IsDone s
@@ -42,15 +62,9 @@ accepted_done (check dir) (Some folder) text s prints accepted = at (state_in di
     at (Ok state) means none = inl means.1
     at (Err refused) means none = absurd (no_refusal refused none)
 accepted_done (session dir script) (Some folder) text s (inputs, are, prints) (others, are', none) =
-    let (work, is) = there others none in
-    at inputs prints (inputs_alike dir script folder inputs others are are') is
-  where
-    at : (read : Result Work BadInput) → PrintsOf MeansSession read text s
-        → (read ≡ others) ⊎ ((first : BadInput) × (second : BadInput) × (read ≡ Err first) × (others ≡ Err second) × (first.fault ≢ fault.Absent) × (second.fault ≢ fault.Absent))
-        → {work : Work} → others ≡ Ok work → IsDone s
-    at (Ok work) means alike is = session_done work text s means
-    at (Err refused) means (inl e) is = absurd (cc)
-    at (Err refused) means (inr (first, second, one, two, p, q)) is = absurd (cc)
+    accepted_alike MeansSession session_done inputs others text s (inputs_alike dir script folder inputs others are are') none prints
+accepted_done (explain script) (Some folder) text s (steps, are, prints) (others, are', none) =
+    accepted_alike MeansExplained explained_done steps others text s (script_steps_alike script folder steps others are are') none prints
 
 -- so the run ends with it
 pub completed : (s result : Status) → IsDone s → (IsAnswer result → result ≡ s) → result ≢ status.WriteFault → result ≢ status.ReadFault → result ≢ status.OutOfMemory → (result ≡ status.Done) ⊎ (result ≡ status.SomeRefused)

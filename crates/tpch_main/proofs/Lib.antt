@@ -21,3 +21,5 @@ mod OnTheWay
 mod OneText
 mod Changes
 mod SetFiles
+mod KnownFiles
+mod SharedRows

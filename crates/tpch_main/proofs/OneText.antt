@@ -7,9 +7,10 @@ use Rattle.tpch_outside.specs.Outside.{Folder}
 use Rattle.tpch_schema.specs.State.{State}
 use Rattle.tpch_main.specs.Inputs.{AreInputs, BadInput, Work, state_in}
 use Rattle.tpch_main.specs.Laws.{TextLaw}
-use Rattle.tpch_main.specs.Meaning.{MeansCheck, MeansSession, PrintsOf}
+use Rattle.tpch_main.specs.Meaning.{MeansCheck, MeansSession}
+use Rattle.tpch_main.specs.Printing.{PrintsOf}
 use Rattle.tpch_main.specs.Turns.{session_status, session_text}
-use Rattle.tpch_main.specs.Words.Command.{check, session}
+use Rattle.tpch_main.specs.Words.Command.{check, explain, session}
 use Rattle.tpch_main.specs.declared.input_error.InputFault.TheVariants as fault
 use Rattle.tpch_main.specs.declared.status.Status.{Status}
 use Rattle.tpch_main.proofs.OneWork.{inputs_alike}
@@ -27,9 +28,10 @@ same_inputs a b none (inl e) = e
 same_inputs a b none (inr (first, second, one, two, p, q)) = absurd (cc)
 
 pub text_law : TextLaw
-text_law (check dir) folder text other s r accepted x y =
+text_law (explain script) folder text other s r one accepted x y = absurd one
+text_law (check dir) folder text other s r one accepted x y =
     one_text MeansCheck (λ state a b p q m n. (m.0 ∙ sym n.0, m.1 ∙ sym n.1)) (state_in dir folder) text other s r accepted x y
-text_law (session dir script) folder text other s r (inputs, are, none) (one, is, x) (two, is', y) =
+text_law (session dir script) folder text other s r only (inputs, are, none) (one, is, x) (two, is', y) =
     let first = same_inputs one inputs none (inputs_alike dir script folder one inputs is are) in
     let second = same_inputs two inputs none (inputs_alike dir script folder two inputs is' are) in
     one_text MeansSession (λ work a b p q m n. (m.0 ∙ sym n.0, m.1 ∙ sym n.1)) inputs text other s r none

@@ -50,6 +50,11 @@ steps_alike (Ok one) other (Ok a) b (inr (first, second, is, is', p, q)) x y = a
 steps_alike (Err one) other a b (inr (first, second, is, is', p, q)) x y =
     inr (first, second, x ∙ is, subst (λ r. StandsFor r b) is' y, p, q)
 
+-- the statements that a script of a folder stands for are alike
+pub script_steps_alike : (script : List ℕ) (folder : Folder) (a b : Result (List Statement) BadInput) → AreSteps folder script a → AreSteps folder script b → AreAlike a b
+script_steps_alike script folder a b (read, is, stands) (read', is', stands') =
+    steps_alike read read' a b (scripts_alike script (file_bytes script_limit folder script) read read' is is') stands stands'
+
 -- what is worked on, from the steps
 works_alike : (dir : List ℕ) (folder : Folder) (a b : Result (List Statement) BadInput) → AreAlike a b → AreAlike (and_then a (work_of dir folder)) (and_then b (work_of dir folder))
 works_alike dir folder a b (inl e) = inl (ap (λ r. and_then r (work_of dir folder)) e)
@@ -58,6 +63,6 @@ works_alike dir folder a b (inr (first, second, is, is', p, q)) =
 
 -- a session's inputs are alike
 pub inputs_alike : (dir script : List ℕ) (folder : Folder) (a b : Result Work BadInput) → AreInputs dir script folder a → AreInputs dir script folder b → AreAlike a b
-inputs_alike dir script folder a b (steps, (read, is, stands), made) (steps', (read', is', stands'), made') =
-    let alike = works_alike dir folder steps steps' (steps_alike read read' steps steps' (scripts_alike script (file_bytes script_limit folder script) read read' is is') stands stands') in
+inputs_alike dir script folder a b (steps, has, made) (steps', has', made') =
+    let alike = works_alike dir folder steps steps' (script_steps_alike script folder steps steps' has has') in
     subst (λ x. AreAlike x b) (sym made) (subst (λ y. AreAlike (and_then steps (work_of dir folder)) y) (sym made') alike)

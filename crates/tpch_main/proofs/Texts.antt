@@ -7,17 +7,19 @@ use Rattle.tpch_outside.specs.Outside.{Folder}
 use Rattle.tpch_schema.specs.State.{State}
 use Rattle.tpch_main.specs.Counts.{counts_text}
 use Rattle.tpch_main.specs.Inputs.{AreInputs, BadInput, Work, refusal_line, state_in}
-use Rattle.tpch_main.specs.Meaning.{IsAbsentInput, IsAnswer, IsDone, IsFirstRefused, MeansCheck, MeansSession, Prints, PrintsFrom, PrintsOf}
+use Rattle.tpch_main.specs.Meaning.{IsAbsentInput, IsFirstRefused, MeansCheck, MeansSession, Prints, PrintsFrom}
+use Rattle.tpch_main.specs.Printing.{IsAnswer, IsDone, PrintsOf}
+use Rattle.tpch_main.specs.ScriptPlans.{MeansExplained}
 use Rattle.tpch_main.specs.Views.{Explains, IfKnown, IsAbsence, IsTextOf, refused_view}
 use Rattle.tpch_main.specs.Words.{Command}
-use Rattle.tpch_main.specs.Words.Command.{check, session}
+use Rattle.tpch_main.specs.Words.Command.{check, explain, session}
 use Rattle.tpch_main.specs.declared.input_error.InputFault.TheVariants as fault
 use Rattle.tpch_main.specs.declared.input_error.InputError.{InputError}
 use Rattle.tpch_main.specs.declared.input_error.InputError.TheVariants as error
 use Rattle.tpch_main.specs.declared.input_error.RefusedInput.{RefusedInput}
 use Rattle.tpch_main.specs.declared.status.Status.{Status}
 use Rattle.tpch_main.specs.declared.status.Status.TheVariants as status
-use Rattle.tpch_main.proofs.OneWork.{inputs_alike}
+use Rattle.tpch_main.proofs.OneWork.{AreAlike, inputs_alike, script_steps_alike}
 
 -- the counts of a folder whose tables are there
 pub check_printed : (dir : List ℕ) (held : Option Folder) (text : List ℕ) → IfKnown held (λ folder. (state : State) × (state_in dir folder ≡ Ok state) × (text ≡ counts_text state)) → Prints (Some (check dir)) held text status.Done
@@ -36,6 +38,12 @@ session_may_end dir script None text s (inl e) told = inl e
 session_may_end dir script None text s (inr e) told = inr (inl e)
 session_may_end dir script (Some folder) text s done told = told
 
+-- the status of statements that are explained
+pub explained_may_end : (script : List ℕ) (held : Option Folder) (text : List ℕ) (s : Status) → IsDone s → IfKnown held (λ folder. PrintsFrom (explain script) folder text s) → Prints (Some (explain script)) held text s
+explained_may_end script None text s (inl e) told = inl e
+explained_may_end script None text s (inr e) told = inr (inl e)
+explained_may_end script (Some folder) text s done told = told
+
 -- a text was printed whole with such a status
 pub done_answers : (s : Status) → IsDone s → IsAnswer s
 done_answers s (inl e) = subst IsAnswer (sym e) tt
@@ -50,11 +58,13 @@ line_printed Means (Err refused) first is =
 
 first_printed : (command : Command) (folder : Folder) (first : BadInput) → IsFirstRefused command folder (Some first) → PrintsFrom command folder (refusal_line first) status.InputRefused
 first_printed (session dir script) folder first (inputs, are, is) = (inputs, are, line_printed MeansSession inputs first is)
+first_printed (explain script) folder first (steps, are, is) = (steps, are, line_printed MeansExplained steps first is)
 first_printed (check dir) folder first is = line_printed MeansCheck (state_in dir folder) first is
 
 -- the line of a command's first refused input is printed
 pub refusal_printed : (command : Command) (held : Option Folder) (refusal : RefusedInput) → IsTextOf command held (Err (error.Refused refusal)) → Prints (Some command) held (refusal_line (refused_view refusal)) status.InputRefused
 refusal_printed (session dir script) None refusal is = inr (inr refl)
+refusal_printed (explain script) None refusal is = inr (inr refl)
 refusal_printed (check dir) None refusal is = inr refl
 refusal_printed command (Some folder) refusal is = first_printed command folder (refused_view refusal) is
 
@@ -72,27 +82,35 @@ refused_is : {A : Type 0} → (inputs : Result A BadInput) (first : BadInput) �
 refused_is (Ok read) first is = absurd (cc)
 refused_is (Err refused) first is = let same : refused ≡ first = cc in ap Err same
 
+-- inputs that are answered are none of which one is absent
+answered_alike : {A : Type 0} → (Means : A → List ℕ → Status → Type 0) (inputs others : Result A BadInput) (text : List ℕ) (s : Status) (absent : BadInput) → AreAlike inputs others → PrintsOf Means inputs text s → IsDone s → others ≡ Err absent → ⊥
+answered_alike Means inputs others text s absent (inl e) prints done gone = answered_there Means inputs text s _ prints done (e ∙ gone)
+answered_alike Means inputs others text s absent (inr (first, second, one, two, p, q)) prints done gone = answered_there Means inputs text s first prints done one
+
 -- a command that is answered has no absent input
 pub text_without_absence : (command : Command) (held : Option Folder) (text : List ℕ) (s : Status) → Prints (Some command) held text s → IsDone s → IsAbsentInput (Some command) held → ⊥
 text_without_absence command None text s prints done absent = absent
 text_without_absence (check dir) (Some folder) text s prints done (name, is) = answered_there MeansCheck (state_in dir folder) text s _ prints done (refused_is (state_in dir folder) _ is)
 text_without_absence (session dir script) (Some folder) text s (inputs, are, prints) done (name, (others, are', is)) =
-    at (inputs_alike dir script folder inputs others are are') (refused_is others (record { name = name; fault = fault.Absent }) is)
-  where
-    at : (inputs ≡ others) ⊎ ((first : BadInput) × (second : BadInput) × (inputs ≡ Err first) × (others ≡ Err second) × (first.fault ≢ fault.Absent) × (second.fault ≢ fault.Absent)) → others ≡ Err (record { name = name; fault = fault.Absent }) → ⊥
-    at (inl e) gone = answered_there MeansSession inputs text s _ prints done (e ∙ gone)
-    at (inr (first, second, one, two, p, q)) gone = answered_there MeansSession inputs text s first prints done one
+    let gone = refused_is others (record { name = name; fault = fault.Absent }) is in
+    answered_alike MeansSession inputs others text s _ (inputs_alike dir script folder inputs others are are') prints done gone
+text_without_absence (explain script) (Some folder) text s (steps, are, prints) done (name, (others, are', is)) =
+    let gone = refused_is others (record { name = name; fault = fault.Absent }) is in
+    answered_alike MeansExplained steps others text s _ (script_steps_alike script folder steps others are are') prints done gone
 
 -- where the first refused input is an absent file, the refusal says so
 fault_of_input : (a b : BadInput) → Some a ≡ Some b → a.fault ≡ b.fault
 fault_of_input a b e = let same : a ≡ b = cc in ap (λ r. r.fault) same
 
+-- inputs of which an absent file is refused, are refused for that one
+absence_alike : {A : Type 0} → (inputs others : Result A BadInput) (refused absent : BadInput) → AreAlike inputs others → absent.fault ≡ fault.Absent → Some refused ≡ result_err inputs → Some absent ≡ result_err others → refused.fault ≡ fault.Absent
+absence_alike inputs others refused absent (inl e) gone is is' = fault_of_input refused absent (is ∙ ap result_err e ∙ sym is') ∙ gone
+absence_alike inputs others refused absent (inr (first, second, one, two, p, q)) gone is is' = absurd (q (fault_of_input second absent (sym (ap result_err two) ∙ sym is') ∙ gone))
+
 pub refusal_of_absence : (command : Command) (held : Option Folder) (refusal : RefusedInput) → IsTextOf command held (Err (error.Refused refusal)) → IsAbsentInput (Some command) held → IsAbsence (error.Refused refusal)
 refusal_of_absence command None refusal is absent = absurd absent
 refusal_of_absence (check dir) (Some folder) refusal is (name, absent) = fault_of_input (refused_view refusal) (record { name = name; fault = fault.Absent }) (is ∙ sym absent)
 refusal_of_absence (session dir script) (Some folder) refusal (inputs, are, is) (name, (others, are', absent)) =
-    at (inputs_alike dir script folder inputs others are are') (refused_is others (record { name = name; fault = fault.Absent }) absent)
-  where
-    at : (inputs ≡ others) ⊎ ((first : BadInput) × (second : BadInput) × (inputs ≡ Err first) × (others ≡ Err second) × (first.fault ≢ fault.Absent) × (second.fault ≢ fault.Absent)) → others ≡ Err (record { name = name; fault = fault.Absent }) → refusal.fault ≡ fault.Absent
-    at (inl e) gone = fault_of_input (refused_view refusal) (record { name = name; fault = fault.Absent }) (is ∙ ap result_err (e ∙ gone))
-    at (inr (first, second, one, two, p, q)) gone = absurd (q (fault_of_input second (record { name = name; fault = fault.Absent }) (ap result_err (sym two ∙ gone))))
+    absence_alike inputs others (refused_view refusal) (record { name = name; fault = fault.Absent }) (inputs_alike dir script folder inputs others are are') refl is absent
+refusal_of_absence (explain script) (Some folder) refusal (steps, are, is) (name, (others, are', absent)) =
+    absence_alike steps others (refused_view refusal) (record { name = name; fault = fault.Absent }) (script_steps_alike script folder steps others are are') refl is absent

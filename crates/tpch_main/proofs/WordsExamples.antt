@@ -8,6 +8,7 @@ unfolding clap_on_literals
 word_examples = record {
   session_read = refl;
   check_read = refl;
+  explain_read = refl;
   none_given = refl;
   too_few = refl;
   no_folder = refl;

@@ -7,7 +7,7 @@ use Rattle.clap.specs.Kinds.{Kinds, or_else}
 use Rattle.clap.specs.Simple.{Shape, subcommand_of}
 use Rattle.clap.specs.Walk.{Held, Row, Text, finished, is_empty, nothing_held, rows_after}
 use Rattle.tpch_main.proofs.WordsGiven.{given, or_else_some, values_fault, values_held}
-use Rattle.tpch_main.proofs.WordsTop.{check_faults, check_placed, check_rows, end_fault, leaf, session_faults, session_placed, session_rows, start}
+use Rattle.tpch_main.proofs.WordsTop.{check_faults, check_placed, check_rows, end_fault, explain_faults, explain_placed, explain_rows, leaf, session_faults, session_placed, session_rows, start}
 use Rattle.tpch_main.proofs.WordsWalk.{Walks, WalksAs, walks}
 use Rattle.tpch_main.specs.Subcommands.{program_app}
 use Rattle.tpch_main.specs.WordLaws.{command_with}
@@ -57,6 +57,22 @@ session_means words = by (given words) (walks (leaf (codes "session")) session_p
     by : (values : Option (List Text)) → WalksAs (leaf (codes "session")) nothing_held 1 words values → Means (codes "session" ∷ words) (option_and_then (command_with (codes "session")) values)
     by None fault = refused_means _ _ (ap is_empty (session_faults words) ∙ or_else_some (walk_fault (leaf (codes "session")) [] start words) _ fault) refl
     by (Some values) walk = session_values words values walk
+
+explain_values : (words values : List Text) → WalksAs (leaf (codes "explain")) nothing_held 1 words (Some values) → Means (codes "explain" ∷ words) (command_with (codes "explain") values)
+unfolding clap_on_literals
+explain_values words [] walk = refused_means _ _ (ap is_empty (explain_faults words ∙ by_values (leaf (codes "explain")) words [] walk)) refl
+explain_values words (script ∷ []) walk =
+    taken_means _ _ (explain_faults words ∙ by_values (leaf (codes "explain")) words (script ∷ []) walk)
+    (ap (option_and_then command_in) (explain_rows words) ∙ ap (λ (rows : List Row). command_in (codes "explain", rows)) (rows_by_values (leaf (codes "explain")) words (script ∷ []) walk))
+explain_values words (script ∷ more ∷ []) walk = refused_means _ _ (ap is_empty (explain_faults words ∙ by_values (leaf (codes "explain")) words (script ∷ more ∷ []) walk)) refl
+explain_values words (script ∷ more ∷ again ∷ others) walk = refused_means _ _ (ap is_empty (explain_faults words ∙ by_values (leaf (codes "explain")) words (script ∷ more ∷ again ∷ others) walk)) refl
+
+pub explain_means : (words : List Text) → Means (codes "explain" ∷ words) (option_and_then (command_with (codes "explain")) (given words))
+explain_means words = by (given words) (walks (leaf (codes "explain")) explain_placed words nothing_held 1 refl)
+  where
+    by : (values : Option (List Text)) → WalksAs (leaf (codes "explain")) nothing_held 1 words values → Means (codes "explain" ∷ words) (option_and_then (command_with (codes "explain")) values)
+    by None fault = refused_means _ _ (ap is_empty (explain_faults words) ∙ or_else_some (walk_fault (leaf (codes "explain")) [] start words) _ fault) refl
+    by (Some values) walk = explain_values words values walk
 
 check_values : (words values : List Text) → WalksAs (leaf (codes "check")) nothing_held 1 words (Some values) → Means (codes "check" ∷ words) (command_with (codes "check") values)
 unfolding clap_on_literals

@@ -60,6 +60,15 @@ pub session_rows : (words : List Text) → subcommand_of program_app (codes "ses
 unfolding clap_on_literals
 session_rows words = ap (λ (w : Walk). entered whole w.stopped) (left (codes "session") words)
 
+pub explain_faults : (words : List Text) → fault_of program_app (codes "explain" ∷ words) ≡ leaf_faults (codes "explain") words
+unfolding clap_on_literals
+explain_faults words =
+    ap₂ faults_at (stopped_fault whole.top (names_of whole) start (codes "explain", []) words) (left (codes "explain") words) ∙ or_else-nil (leaf_faults (codes "explain") words)
+
+pub explain_rows : (words : List Text) → subcommand_of program_app (codes "explain" ∷ words) ≡ Some (rows_at (leaf (codes "explain")) words)
+unfolding clap_on_literals
+explain_rows words = ap (λ (w : Walk). entered whole w.stopped) (left (codes "explain") words)
+
 pub check_faults : (words : List Text) → fault_of program_app (codes "check" ∷ words) ≡ leaf_faults (codes "check") words
 unfolding clap_on_literals
 check_faults words =
@@ -73,6 +82,9 @@ check_rows words = ap (λ (w : Walk). entered whole w.stopped) (left (codes "che
 
 pub session_placed : is_placed (leaf (codes "session")).rules ≡ true
 session_placed = refl
+
+pub explain_placed : is_placed (leaf (codes "explain")).rules ≡ true
+explain_placed = refl
 
 pub check_placed : is_placed (leaf (codes "check")).rules ≡ true
 check_placed = refl

@@ -7,13 +7,14 @@ use Rattle.sql_ast.specs.declared.statement.Statement.{Statement}
 use Rattle.tpch_outside.specs.Outside.{Folder}
 use Rattle.tpch_main.specs.Inputs.{AreSteps, BadInput, IsScriptOf, Work, file_bytes, script_limit, work_of}
 use Rattle.tpch_main.specs.Meaning.{MeansSession, Prints}
+use Rattle.tpch_main.specs.ScriptPlans.{MeansExplained}
 use Rattle.tpch_main.specs.Views.{Explains, Finds, IfKnown, IsTextOf, refused_view}
-use Rattle.tpch_main.specs.Words.Command.{session}
+use Rattle.tpch_main.specs.Words.Command.{explain, session}
 use Rattle.tpch_main.specs.declared.input_error.InputError.{InputError}
 use Rattle.tpch_main.specs.declared.input_error.InputError.TheVariants as error
 use Rattle.tpch_main.specs.declared.status.Status.{Status}
-use Rattle.tpch_main.proofs.Complete.{session_done}
-use Rattle.tpch_main.proofs.Texts.{session_may_end}
+use Rattle.tpch_main.proofs.Complete.{explained_done, session_done}
+use Rattle.tpch_main.proofs.Texts.{explained_may_end, session_may_end}
 
 -- the script of a folder stands for these statements
 abbrev pub HasSteps : List ℕ → List Statement → Folder → Type 0
@@ -38,6 +39,19 @@ pub script_refused : {A : Type 0} → (view : A → List Statement) (dir script 
 script_refused view dir script held (error.Unread unread) found = tt
 script_refused view dir script None (error.Refused refusal) found = tt
 script_refused view dir script (Some folder) (error.Refused refusal) found = (Err (refused_view refusal), (Err (refused_view refusal), found, refl), refl)
+
+-- a refused script that is explained
+pub explained_refused : (script : List ℕ) (held : Option Folder) (made : InputError) → Finds (λ (s : List Statement). s) held (λ folder. IsScriptOf script (file_bytes script_limit folder script)) (Err made)
+    → IsTextOf (explain script) held (Err made)
+explained_refused script held (error.Unread unread) found = tt
+explained_refused script None (error.Refused refusal) found = tt
+explained_refused script (Some folder) (error.Refused refusal) found = (Err (refused_view refusal), (Err (refused_view refusal), found, refl), refl)
+
+-- a script that was read and explained
+pub explained_printed : (script : List ℕ) (held : Option Folder) (statements steps : List Statement) (text : List ℕ) (s : Status) → IfKnown held (λ folder. IsScriptOf script (file_bytes script_limit folder script) (Ok statements))
+    → ExpandAll statements steps → MeansExplained steps text s → Prints (Some (explain script)) held text s
+explained_printed script None statements steps text s found expanded means = explained_may_end script None text s (explained_done steps text s means) tt
+explained_printed script (Some folder) statements steps text s found expanded means = (Ok steps, (Ok statements, found, expanded), means)
 
 -- a refused table or refresh file
 pub work_refused : (dir script : List ℕ) (held later : Option Folder) (steps : List Statement) (made : InputError) → later ≡ held

@@ -1,6 +1,6 @@
 -- What the definitions say in other words: which inputs are accepted, which is refused first, and
 -- that texts are unique.
-use Rattle.std.specs.Prelude.{◌≡◌, ℕ, List, ◌∷◌, ◌++◌, Some, Err, Ok, IsOk, ◌↔◌}
+use Rattle.std.specs.Prelude.{◌≡◌, ℕ, List, ◌∷◌, ◌++◌, Some, Err, Ok, IsOk, ◌↔◌, ⊤}
 use Rattle.std.specs.List.{All}
 use Rattle.tpch_outside.specs.Outside.{Folder}
 use Rattle.tpch_schema.specs.State.{State, table_rows}
@@ -10,6 +10,7 @@ use Rattle.tpch_main.specs.Inputs.{AreInputs, AreSteps, BadInput, Work, refreshe
 use Rattle.tpch_main.specs.Inputs.{table_in}
 use Rattle.tpch_main.specs.Meaning.{IsAccepted, Prints}
 use Rattle.tpch_main.specs.Words.{Command}
+use Rattle.tpch_main.specs.Words.Command.{check, explain, session}
 use Rattle.tpch_main.specs.declared.status.Status.{Status}
 
 -- one of the tables is refused so, and those before it are there and of their form
@@ -41,9 +42,15 @@ SessionAcceptedLaw = (dir script : List ℕ) (folder : Folder) (work : Work)
     ↔ (AreSteps folder script (Ok work.steps) × (state_in dir folder ≡ Ok work.base)
     × (refreshes_in dir work.steps folder ≡ Ok work.list))
 
--- two texts that an accepted command prints are one text, with one status
+-- the command has one text: no plan of a query is any other
+abbrev pub HasOneText : Command → Type 0
+HasOneText (session dir script) = ⊤
+HasOneText (explain script) = ⊥
+HasOneText (check dir) = ⊤
+
+-- two texts that such an accepted command prints are one text, with one status
 abbrev pub TextLaw : Type 0
 TextLaw = (command : Command) (folder : Folder) (text other : List ℕ) (s r : Status)
-    → IsAccepted (Some command) (Some folder)
+    → HasOneText command → IsAccepted (Some command) (Some folder)
     → Prints (Some command) (Some folder) text s → Prints (Some command) (Some folder) other r
     → (text ≡ other) × (s ≡ r)

@@ -4,6 +4,8 @@ pub mod Status
 pub mod WordLaws
 pub mod Counts
 pub mod Inputs
+pub mod Printing
+pub mod ScriptPlans
 pub mod Meaning
 pub mod Views
 pub mod FilesAfter
@@ -15,3 +17,4 @@ pub mod Lists
 pub mod ScriptRefusals
 pub mod Turns
 pub mod SetFile
+pub mod KnownFiles

@@ -7,33 +7,15 @@ use Rattle.std.specs.declared.result.Result.TheVariants.{Ok, Err}
 use Rattle.tpch_outside.specs.Outside.{AppendsPart, Folder}
 use Rattle.tpch_schema.specs.State.{State}
 use Rattle.tpch_main.specs.Counts.{counts_text}
-use Rattle.tpch_main.specs.Inputs.{AreInputs, BadInput, Work, refusal_line, state_in}
+use Rattle.tpch_main.specs.Inputs.{AreInputs, BadInput, Work, state_in}
+use Rattle.tpch_main.specs.Printing.{IsAnswer, PrintsOf}
+use Rattle.tpch_main.specs.ScriptPlans.{IsFirstOfExplained, PrintsExplained}
 use Rattle.tpch_main.specs.Turns.{session_status, session_text}
 use Rattle.tpch_main.specs.Words.{Command, usage_line}
-use Rattle.tpch_main.specs.Words.Command.{check, session}
+use Rattle.tpch_main.specs.Words.Command.{check, explain, session}
 use Rattle.tpch_main.specs.declared.input_error.InputFault.TheVariants as fault
 use Rattle.tpch_main.specs.declared.status.Status.{Status}
 use Rattle.tpch_main.specs.declared.status.Status.TheVariants as status
-
--- the statuses with which a text was printed whole
-abbrev pub IsAnswer : Status → Type 0
-IsAnswer status.Done = ⊤
-IsAnswer status.SomeRefused = ⊤
-IsAnswer status.Usage = ⊤
-IsAnswer status.InputRefused = ⊤
-IsAnswer status.ReadFault = ⊥
-IsAnswer status.WriteFault = ⊥
-IsAnswer status.OutOfMemory = ⊥
-
--- the statuses with which inputs that are there end
-abbrev pub IsDone : Status → Type 0
-IsDone s = (s ≡ status.Done) ⊎ (s ≡ status.SomeRefused)
-
--- what is printed of inputs: what they mean, with its status, or the line of the first refused one
-abbrev pub PrintsOf : {A : Type 0} → (A → List ℕ → Status → Type 0) → Result A BadInput → List ℕ
-    → Status → Type 0
-PrintsOf Means (Ok inputs) text s = Means inputs text s
-PrintsOf Means (Err refused) text s = (text ≡ refusal_line refused) × (s ≡ status.InputRefused)
 
 -- a session's text, and whether a statement is refused
 abbrev pub MeansSession : Work → List ℕ → Status → Type 0
@@ -43,17 +25,20 @@ MeansSession work text s = (text ≡ session_text work) × (s ≡ session_status
 abbrev pub MeansCheck : State → List ℕ → Status → Type 0
 MeansCheck state text s = (text ≡ counts_text state) × (s ≡ status.Done)
 
--- what a command prints over files with known contents: a session the text of its statements, a
--- check the counts
+-- what a command prints over files with known contents: a session the text of its statements,
+-- `explain` their plans, a check the counts
 abbrev pub PrintsFrom : Command → Folder → List ℕ → Status → Type 0
 PrintsFrom (session dir script) folder text s =
     (inputs : Result Work BadInput) × AreInputs dir script folder inputs
     × PrintsOf MeansSession inputs text s
+PrintsFrom (explain script) folder text s = PrintsExplained script folder text s
 PrintsFrom (check dir) folder text s = PrintsOf MeansCheck (state_in dir folder) text s
 
 -- the statuses with which a command's text may be printed
 abbrev pub MayEnd : Command → Status → Type 0
 MayEnd (session dir script) s = (s ≡ status.Done) ⊎ (s ≡ status.SomeRefused)
+    ⊎ (s ≡ status.InputRefused)
+MayEnd (explain script) s = (s ≡ status.Done) ⊎ (s ≡ status.SomeRefused)
     ⊎ (s ≡ status.InputRefused)
 MayEnd (check dir) s = (s ≡ status.Done) ⊎ (s ≡ status.InputRefused)
 
@@ -84,6 +69,7 @@ abbrev pub IsFirstRefused : Command → Folder → Option BadInput → Type 0
 IsFirstRefused (session dir script) folder first =
     (inputs : Result Work BadInput) × AreInputs dir script folder inputs
     × (first ≡ result_err inputs)
+IsFirstRefused (explain script) folder first = IsFirstOfExplained script folder first
 IsFirstRefused (check dir) folder first = first ≡ result_err (state_in dir folder)
 
 -- the first refused input is an absent file

@@ -14,6 +14,10 @@ session_app =
     with_rule (with_rule (new_app (codes "session")) (required_argument (codes "DIR")))
     (required_argument (codes "SCRIPT"))
 
+-- `explain SCRIPT`
+abbrev pub explain_app : App
+explain_app = with_rule (new_app (codes "explain")) (required_argument (codes "SCRIPT"))
+
 -- `check DIR`
 abbrev pub check_app : App
 check_app = with_rule (new_app (codes "check")) (required_argument (codes "DIR"))
@@ -25,4 +29,5 @@ bare_app = on_top (λ s. record s { no_binary_name = true; subcommand_required =
 
 -- the program with its subcommands
 abbrev pub program_app : App
-program_app = with_subcommand (with_subcommand bare_app session_app.top) check_app.top
+program_app =
+    with_subcommand (with_subcommand (with_subcommand bare_app session_app.top) explain_app.top) check_app.top

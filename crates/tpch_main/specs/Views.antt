@@ -6,9 +6,10 @@ use Rattle.std.specs.String.{string_bytes}
 use Rattle.std.specs.Global.{Vec}
 use Rattle.tpch_outside.specs.Outside.{Folder}
 use Rattle.tpch_main.specs.Inputs.{BadInput}
-use Rattle.tpch_main.specs.Meaning.{IsDone, IsFirstRefused, Prints}
+use Rattle.tpch_main.specs.Meaning.{IsFirstRefused, Prints}
+use Rattle.tpch_main.specs.Printing.{IsDone}
 use Rattle.tpch_main.specs.Words.{Command}
-use Rattle.tpch_main.specs.Words.Command.{check, session}
+use Rattle.tpch_main.specs.Words.Command.{check, explain, session}
 use Rattle.tpch_main.specs.declared.input_error.InputFault.{InputFault}
 use Rattle.tpch_main.specs.declared.input_error.InputFault.TheVariants as fault
 use Rattle.tpch_main.specs.declared.input_error.InputError.{InputError}
@@ -22,6 +23,7 @@ use Rattle.tpch_main.specs.declared.words.Command.TheVariants as word
 -- the command that the words were read as
 abbrev pub command_view : code.Command → Command
 command_view (word.Session folder script) = session folder.now script.now
+command_view (word.Explain script) = explain script.now
 command_view (word.Check folder) = check folder.now
 
 -- the refused input with its name as bytes

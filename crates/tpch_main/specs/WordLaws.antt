@@ -7,7 +7,7 @@ use Rattle.std.specs.Str.{IsUtf8, bytes_eq}
 use Rattle.clap.specs.Words.{Text, fault_of}
 use Rattle.tpch_main.specs.Subcommands.{program_app}
 use Rattle.tpch_main.specs.Words.{Command, command_of}
-use Rattle.tpch_main.specs.Words.Command.{check, session}
+use Rattle.tpch_main.specs.Words.Command.{check, explain, session}
 
 -- words are a command exactly where clap finds no fault in them
 abbrev pub AcceptedLaw : Type 0
@@ -32,6 +32,11 @@ abbrev pub session_with : List Text → Option Command
 session_with (folder ∷ script ∷ []) = Some (session folder script)
 session_with values = None
 
+-- `explain` with its one value
+abbrev pub explain_with : List Text → Option Command
+explain_with (script ∷ []) = Some (explain script)
+explain_with values = None
+
 -- `check` with its one value
 abbrev pub check_with : List Text → Option Command
 check_with (folder ∷ []) = Some (check folder)
@@ -41,6 +46,7 @@ check_with values = None
 abbrev pub command_with : Text → List Text → Option Command
 command_with name values =
     if bytes_eq name (codes "session") then session_with values
+    else if bytes_eq name (codes "explain") then explain_with values
     else if bytes_eq name (codes "check") then check_with values
     else None
 
@@ -59,6 +65,7 @@ pub record WordExamples : Type 0 where
   pub session_read : command_of (codes "session" ∷ codes "d" ∷ codes "s" ∷ [])
       ≡ Some (session (codes "d") (codes "s"))
   pub check_read : command_of (codes "check" ∷ codes "d" ∷ []) ≡ Some (check (codes "d"))
+  pub explain_read : command_of (codes "explain" ∷ codes "s" ∷ []) ≡ Some (explain (codes "s"))
   pub none_given : command_of [] ≡ None
   pub too_few : command_of (codes "session" ∷ codes "d" ∷ []) ≡ None
   pub no_folder : command_of (codes "check" ∷ []) ≡ None

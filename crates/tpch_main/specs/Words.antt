@@ -8,8 +8,10 @@ use Rattle.tpch_main.specs.Subcommands.{program_app}
 
 -- what the program is asked to do
 pub data Command : Type 0 where
-  -- the statement of a script over the tables of a folder
+  -- the statements of a script over the tables of a folder
   session : (folder script : List ℕ) → Command
+  -- the plans of a script
+  explain : (script : List ℕ) → Command
   -- how many rows the tables of a folder have
   check : (folder : List ℕ) → Command
 
@@ -19,6 +21,10 @@ session_in rows =
     option_and_then (λ folder. option_map (session folder) (first_of (codes "SCRIPT") rows))
     (first_of (codes "DIR") rows)
 
+-- `explain` with the value of SCRIPT
+abbrev pub explain_in : List Row → Option Command
+explain_in rows = option_map explain (first_of (codes "SCRIPT") rows)
+
 -- `check` with the value of DIR
 abbrev pub check_in : List Row → Option Command
 check_in rows = option_map check (first_of (codes "DIR") rows)
@@ -27,6 +33,7 @@ check_in rows = option_map check (first_of (codes "DIR") rows)
 abbrev pub command_in : Text × List Row → Option Command
 command_in found =
     if bytes_eq found.0 (codes "session") then session_in found.1
+    else if bytes_eq found.0 (codes "explain") then explain_in found.1
     else if bytes_eq found.0 (codes "check") then check_in found.1
     else None
 

@@ -5,7 +5,8 @@ ghost use Rattle.tpch_main.specs.Examples.{Examples};
 ghost use Rattle.tpch_main.specs.Laws.{SessionAcceptedLaw, TablesAcceptedLaw, TablesOrderLaw};
 ghost use Rattle.tpch_main.specs.Laws.{TextLaw};
 
-/// Two texts that an accepted command prints are one text, with one status.
+/// Two texts that an accepted command prints are one text, with one status; but of `explain`, which
+/// may print any plan of a query.
 pub fn texts_are_unique()
     ensures { TextLaw }
 {}

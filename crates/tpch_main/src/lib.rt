@@ -4,6 +4,7 @@
 #![tactic(auto)]
 
 mod check;
+mod explain;
 mod input;
 mod input_error;
 pub mod laws;
@@ -14,11 +15,10 @@ mod refusal_line;
 mod run;
 mod script_refusal;
 mod session;
+mod set_files;
 mod status;
 mod table_file;
 mod tables;
-#[cfg(test)]
-mod tests;
 mod top;
 mod turns;
 pub mod word_laws;

@@ -3,7 +3,7 @@ ghost use Rattle.std.specs.Prelude.{◌≡◌, ◌≢◌, ◌<◌, ◌≤◌, If
 ghost use Rattle.std.specs.Prelude.{take};
 ghost use Rattle.std.specs.Io.KnownBytes.{Appends};
 ghost use Rattle.tpch_outside.specs.Outside.{AppendsPart, Rose};
-ghost use Rattle.tpch_main.specs.Meaning.{IsAnswer};
+ghost use Rattle.tpch_main.specs.Printing.{IsAnswer};
 
 use crate::Status;
 use tpch_outside::{Put, Sink};

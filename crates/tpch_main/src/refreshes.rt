@@ -1,23 +1,22 @@
 //! Reading the refresh files that a session's statements name.
 ghost use Rattle.std.specs.Prelude.{◌≡◌, ◌++◌, IfOk, OnOk, length};
-ghost use Rattle.std.specs.String.{string_bytes};
 ghost use Rattle.std.specs.Vec.{vec_items};
 ghost use Rattle.refusals.specs.declared.refresh.RefreshFile.TheVariants.{Orders, Lineitem, Delete};
 ghost use Rattle.tpch_main.specs.FilesAfter.{FilesAfterInput};
+ghost use Rattle.tpch_main.specs.KnownFiles.{AreKnown};
 ghost use Rattle.tpch_main.specs.Inputs.{changes_in, delete_of, insert_of, mention_of, mentions_of};
-ghost use Rattle.tpch_main.specs.Inputs.{refresh_in, set_file, set_rows_in};
+ghost use Rattle.tpch_main.specs.Inputs.{refresh_in};
 ghost use Rattle.tpch_main.specs.SetFile.{FitsFile};
 ghost use Rattle.tpch_main.specs.Views.{Reads};
 
-use crate::input_error::{InputError, InputFault, ReadError, refused};
-use crate::refresh_file::read_refresh_rows;
+use crate::input_error::InputError;
+use crate::set_files::{SetFile, set_rows};
 use columns::Rows;
-use itoa::Buffer;
 use refusals::{LineRefusal, RefreshFile};
 use sql_ast::{RefreshKind, Statement};
 use std::alloc::{AllocError, Global};
 use table_state::Refresh;
-use tpch_outside::{Files, Open};
+use tpch_outside::Files;
 
 /// A refresh that a statement names.
 #[derive(Clone, Copy, Debug, PartialEq, Eq)]
@@ -26,42 +25,6 @@ pub struct Mention {
     pub change: RefreshKind,
     /// The number of its set.
     pub set: u32,
-}
-
-/// The name of a refresh file in a folder.
-fn file_name(alloc: Global, folder: &str, file: RefreshFile, set: u32) -> Result<String, AllocError>
-    ensures { IfOk result (λ name. string_bytes name ≡ set_file folder.now file set) }
-{
-    let mut buffer = Buffer::new();
-    let mut name = String::from_str(alloc, folder)?;
-    name.push_str("/")?;
-    name.push_str(file.prefix())?;
-    name.push_str(buffer.format(set))?;
-    Ok(name)
-}
-
-/// What a refresh file of the folder holds: its rows, or its first bad line.
-fn read_set_file<F: Files>(
-    alloc: Global,
-    files: &mut F,
-    folder: &str,
-    file: RefreshFile,
-    set: u32,
-) -> Result<Result<Rows, LineRefusal>, InputError>
-    ensures input { Reads (λ rows. rows) (F.held files.old)
-        (set_rows_in folder.now file set) result }
-    ensures fits { IfOk result (FitsFile file) }
-    ensures files { FilesAfterInput F.held F.faults F.misses result files.old files.new }
-{
-    let name = file_name(alloc, folder, file, set)?;
-    match files.open(&name) {
-        Open::Failed => Err(InputError::Unread(ReadError::Fault)),
-        Open::Absent => Err(refused(alloc, &name, InputFault::Absent)),
-        Open::Opened => {
-            let rows = read_refresh_rows(alloc, files, file)?;
-            Ok(rows)
-        }
-    }
 }
 
 /// An insert of what these files hold: a bad line of the orders comes before one of the lineitems.
@@ -107,14 +70,17 @@ fn read_insert<F: Files>(
     alloc: Global,
     files: &mut F,
     folder: &str,
+    known: &mut Vec<SetFile>,
     set: u32,
 ) -> Result<Refresh, InputError>
+    requires known { AreKnown folder.now (F.held files.old) known.old.items }
+    ensures known { OnOk result (AreKnown folder.now (F.held files.old) known.new.items) }
     ensures input { Reads (λ refresh. refresh) (F.held files.old)
         (refresh_in folder.now RefreshKind.Insert set) result }
     ensures files { FilesAfterInput F.held F.faults F.misses result files.old files.new }
 {
-    let orders = read_set_file(alloc, files, folder, RefreshFile::Orders, set)?;
-    let lineitems = read_set_file(alloc, files, folder, RefreshFile::Lineitem, set)?;
+    let orders = set_rows(alloc, files, folder, known, RefreshFile::Orders, set)?;
+    let lineitems = set_rows(alloc, files, folder, known, RefreshFile::Lineitem, set)?;
     Ok(insert_of(set, orders, lineitems))
 }
 
@@ -123,13 +89,16 @@ fn read_delete<F: Files>(
     alloc: Global,
     files: &mut F,
     folder: &str,
+    known: &mut Vec<SetFile>,
     set: u32,
 ) -> Result<Refresh, InputError>
+    requires known { AreKnown folder.now (F.held files.old) known.old.items }
+    ensures known { OnOk result (AreKnown folder.now (F.held files.old) known.new.items) }
     ensures input { Reads (λ refresh. refresh) (F.held files.old)
         (refresh_in folder.now RefreshKind.Delete set) result }
     ensures files { FilesAfterInput F.held F.faults F.misses result files.old files.new }
 {
-    let keys = read_set_file(alloc, files, folder, RefreshFile::Delete, set)?;
+    let keys = set_rows(alloc, files, folder, known, RefreshFile::Delete, set)?;
     let refresh = delete_of(alloc, set, keys)?;
     Ok(refresh)
 }
@@ -139,15 +108,18 @@ fn read_refresh<F: Files>(
     alloc: Global,
     files: &mut F,
     folder: &str,
+    known: &mut Vec<SetFile>,
     mention: Mention,
 ) -> Result<Refresh, InputError>
+    requires known { AreKnown folder.now (F.held files.old) known.old.items }
+    ensures known { OnOk result (AreKnown folder.now (F.held files.old) known.new.items) }
     ensures input { Reads (λ refresh. refresh) (F.held files.old)
         (refresh_in folder.now mention.change mention.set) result }
     ensures files { FilesAfterInput F.held F.faults F.misses result files.old files.new }
 {
     match mention.change {
-        RefreshKind::Insert => read_insert(alloc, files, folder, mention.set),
-        RefreshKind::Delete => read_delete(alloc, files, folder, mention.set),
+        RefreshKind::Insert => read_insert(alloc, files, folder, known, mention.set),
+        RefreshKind::Delete => read_delete(alloc, files, folder, known, mention.set),
     }
 }
 
@@ -181,7 +153,8 @@ pub fn mentions_of(alloc: Global, steps: &[Statement]) -> Result<Vec<Mention>, A
     Ok(mentions)
 }
 
-/// These refreshes, of what their files in the folder hold.
+/// These refreshes, of what their files in the folder hold. Each file is read once, where it is first
+/// named.
 pub fn read_refreshes<F: Files>(
     alloc: Global,
     files: &mut F,
@@ -192,9 +165,10 @@ pub fn read_refreshes<F: Files>(
     ensures length { IfOk result (λ list. length list.items ≡ length mentions.now) }
     ensures files { FilesAfterInput F.held F.faults F.misses result files.old files.new }
 {
+    let mut known = Vec::new(alloc);
     let mut list = Vec::new(alloc);
     for mention in mentions {
-        let refresh = read_refresh(alloc, files, folder, *mention)?;
+        let refresh = read_refresh(alloc, files, folder, &mut known, *mention)?;
         list.push(refresh)?;
     }
     Ok(list)

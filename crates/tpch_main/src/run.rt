@@ -4,7 +4,8 @@ ghost use Rattle.std.specs.Io.KnownBytes.{Keeps};
 ghost use Rattle.std.specs.String.{string_bytes};
 ghost use Rattle.tpch_outside.specs.Outside.{Rose};
 ghost use Rattle.tpch_main.specs.FilesAfter.{FilesAfterInput, FilesAfterRead};
-ghost use Rattle.tpch_main.specs.Meaning.{IsAbsentInput, IsAccepted, IsAnswer, Prints, TakesPart};
+ghost use Rattle.tpch_main.specs.Meaning.{IsAbsentInput, IsAccepted, Prints, TakesPart};
+ghost use Rattle.tpch_main.specs.Printing.{IsAnswer};
 ghost use Rattle.tpch_main.specs.Meaning.{TakesWhole};
 ghost use Rattle.tpch_main.specs.Views.{IsTextOf, command_view};
 ghost use Rattle.tpch_main.specs.Words.{command_of};
@@ -12,6 +13,7 @@ ghost use Rattle.tpch_main.specs.Words.Command.{check};
 
 use crate::Status;
 use crate::check::check_text;
+use crate::explain::explain_text;
 use crate::input_error::{InputError, ReadError};
 use crate::output::write_text;
 use crate::refusal_line::line_of_refusal;
@@ -51,6 +53,7 @@ fn command_text<R: Threads, F: Files>(
 {
     match command {
         Command::Session { folder, script } => session_text(rt, alloc, files, folder, script),
+        Command::Explain { script } => explain_text(alloc, files, script),
         Command::Check { folder } => check_printed(alloc, files, folder),
     }
 }

@@ -25,7 +25,7 @@ use std::thread::Threads;
 use tpch_outside::Files;
 
 /// The statements of the script of that name.
-fn read_statements<F: Files>(
+pub(crate) fn read_statements<F: Files>(
     alloc: Global,
     files: &mut F,
     name: &str,

@@ -3,7 +3,8 @@ ghost use Rattle.std.specs.Prelude.{◌≡◌, ◌≢◌, ◌≤◌, ◌⊎◌, 
 ghost use Rattle.std.specs.Io.KnownBytes.{Appends, Keeps};
 ghost use Rattle.std.specs.String.{string_bytes};
 ghost use Rattle.tpch_outside.specs.Outside.{AppendsPart, Rose};
-ghost use Rattle.tpch_main.specs.Meaning.{IsAbsentInput, IsAccepted, IsAnswer, MayPrint, Prints};
+ghost use Rattle.tpch_main.specs.Meaning.{IsAbsentInput, IsAccepted, MayPrint, Prints};
+ghost use Rattle.tpch_main.specs.Printing.{IsAnswer};
 ghost use Rattle.tpch_main.specs.Words.{command_of};
 
 use crate::Status;

@@ -16,8 +16,10 @@ use subcommands::program;
 /// What the words ask for.
 #[derive(Clone, Copy, Debug)]
 pub enum Command<'a> {
-    /// The script's statement over the tables of the folder.
+    /// The statements of the script over the tables of the folder.
     Session { folder: &'a str, script: &'a str },
+    /// The plans of the script.
+    Explain { script: &'a str },
     /// How many rows the tables of the folder have.
     Check { folder: &'a str },
 }
@@ -39,6 +41,10 @@ fn command_in<'a>(name: &str, found: &ArgMatches<'a>) -> Option<Command<'a>>
             let folder = value(found, "DIR")?;
             let script = value(found, "SCRIPT")?;
             Some(Command::Session { folder, script })
+        }
+        "explain" => {
+            let script = value(found, "SCRIPT")?;
+            Some(Command::Explain { script })
         }
         "check" => {
             let folder = value(found, "DIR")?;

@@ -2,8 +2,7 @@
 ghost use Rattle.std.specs.Prelude.{◌≡◌, IfOk, false};
 ghost use Rattle.clap.specs.Words.{app_of, rule_of};
 ghost use Rattle.clap.specs.declared.builder.Command.TheViews.{out-Command as fields_of};
-ghost use Rattle.tpch_main.specs.Subcommands.{check_app, program_app, session_app};
-ghost use Rattle.tpch_main.specs.Subcommands.{required_argument};
+ghost use Rattle.tpch_main.specs.Subcommands.{check_app, explain_app, program_app, required_argument, session_app};
 
 use clap::{Arg, Command};
 use std::alloc::{AllocError, Global};
@@ -26,6 +25,14 @@ fn session<'a>(alloc: Global) -> Result<Command<'a>, AllocError>
         .arg(required_argument(alloc, "SCRIPT"))
 }
 
+/// `explain SCRIPT`
+fn explain<'a>(alloc: Global) -> Result<Command<'a>, AllocError>
+    ensures app { IfOk result (λ command. app_of command ≡ explain_app) }
+    ensures local { IfOk result (λ command. (fields_of command).has_globals ≡ false) }
+{
+    Command::new(alloc, "explain").arg(required_argument(alloc, "SCRIPT"))
+}
+
 /// `check DIR`
 fn check<'a>(alloc: Global) -> Result<Command<'a>, AllocError>
     ensures app { IfOk result (λ command. app_of command ≡ check_app) }
@@ -42,5 +49,6 @@ pub fn program<'a>(alloc: Global) -> Result<Command<'a>, AllocError>
         .no_binary_name(true)
         .subcommand_required(true)
         .subcommand(session(alloc)?)?
+        .subcommand(explain(alloc)?)?
         .subcommand(check(alloc)?)
 }

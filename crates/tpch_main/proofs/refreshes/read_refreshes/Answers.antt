@@ -1,7 +1,9 @@
-use Rattle.std.proofs.Common.{◌≡◌, ◌∙◌, ◌+◌, List, drop, le_trans, subst, sym}
+use Rattle.std.proofs.Common.{◌≡◌, ◌∙◌, ◌+◌, List, Option, drop, le_trans, subst, sym}
 use Rattle.table_state.specs.Refresh.{Change}
 use Rattle.tpch_main.proofs.Changes.{changes_behind, changes_counted, changes_more}
+use Rattle.tpch_outside.specs.Outside.{Folder}
 use Rattle.tpch_main.specs.Inputs.{changes_in}
+use Rattle.tpch_main.specs.KnownFiles.{AreKnown}
 use Rattle.tpch_main.specs.Views.{IfKnown}
 use Rattle.tpch_main.proofs.refreshes.read_refreshes.Goals as goal
 
@@ -19,4 +21,5 @@ loop-mention-preserved g c =
       c.read_refresh.ensures.files.held ∙ invariant.2,
       le_trans invariant.3 c.read_refresh.ensures.files.faults,
       le_trans invariant.4 c.read_refresh.ensures.files.misses,
+      subst (λ (h : Option Folder). AreKnown c.args.folder.now h c.read_refresh.new.known.items) (sym c.read_refresh.ensures.files.held) c.in_ok-refresh.ensures.known,
     )

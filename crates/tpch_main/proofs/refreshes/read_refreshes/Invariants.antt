@@ -1,5 +1,6 @@
 use Rattle.std.proofs.Common.{◌≡◌, ◌≤◌, drop, length}
 use Rattle.tpch_main.specs.Inputs.{changes_in}
+use Rattle.tpch_main.specs.KnownFiles.{AreKnown}
 use Rattle.tpch_main.specs.Views.{IfKnown}
 use Rattle.tpch_main.proofs.Changes.{changes_behind}
 use Rattle.tpch_main.proofs.refreshes.read_refreshes.Given as goal
@@ -10,3 +11,4 @@ invariant-loop-mention g l =
     × (length l.list.items ≡ l.mention-index)
     × (g.F.Files.held l.files ≡ g.F.Files.held l.fn.files)
     × (g.F.Files.faults l.fn.files ≤ g.F.Files.faults l.files) × (g.F.Files.misses l.fn.files ≤ g.F.Files.misses l.files)
+    × AreKnown l.folder (g.F.Files.held l.files) l.known.items

@@ -8,6 +8,11 @@ returns-in-Session-clause-text g c =
     let held = g.F.Files.held c.args.files.now in
     subst (λ (command : Command). IsTextOf (command_view command) held c.session_text.result) (sym c.in-Session.is) c.session_text.ensures.text
 
+pub returns-in-Explain-clause-text : goal.returns-in-Explain-clause-text
+returns-in-Explain-clause-text g c =
+    let held = g.F.Files.held c.args.files.now in
+    subst (λ (command : Command). IsTextOf (command_view command) held c.explain_text.result) (sym c.in-Explain.is) c.explain_text.ensures.text
+
 pub returns-in-Check-clause-text : goal.returns-in-Check-clause-text
 returns-in-Check-clause-text g c =
     let held = g.F.Files.held c.args.files.now in

@@ -1,5 +1,11 @@
 //! Checks, and tables that are refused.
-use super::*;
+use crate::runs::*;
+use std::alloc::{AllocError, Global};
+use std::process::Abort;
+use std::sync::Wait;
+use std::test::Fail;
+use std::thread::Threads;
+use tpch_main::Status;
 
 /// Runs both commands over a table of these lines, which is refused so.
 fn expect_refused<R: Threads + Wait + Sync + Abort>(

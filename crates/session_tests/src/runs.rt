@@ -1,22 +1,39 @@
-//! Runs over files and a sink in memory: what no clause says of texts and statuses, by hand.
-mod outside;
-mod sessions;
-mod tables;
-mod words;
-
-use crate::{Status, tpch};
+//! Runs over files and a sink in memory.
 use std::alloc::{AllocError, Global};
 use std::process::Abort;
 use std::sync::Wait;
-use std::test::Fail;
 use std::thread::Threads;
+use tpch_main::{Status, tpch};
 use tpch_outside::{MemFile, MemFiles, MemSink, OpenGate};
 
-const REGIONS: &str = "0|AFRICA|a|\n1|AMERICA|b|\n2|ASIA|c|\n3|EUROPE|d|\n4|MIDDLE EAST|e|\n";
+/// The five regions.
+pub(crate) const REGIONS: &str =
+    "0|AFRICA|a|\n1|AMERICA|b|\n2|ASIA|c|\n3|EUROPE|d|\n4|MIDDLE EAST|e|\n";
 
-const SCRIPT: &str = "select r_name from region where r_regionkey < 2;";
+/// Two customers.
+pub(crate) const CUSTOMERS: (&str, &str) = (
+    "d/customer.tbl",
+    "1|C1|a|0|p|0.00|B|c|\n2|C2|a|0|p|0.00|B|c|\n",
+);
 
-const TABLES: [&str; 8] = [
+/// Two orders, both of the first customer.
+pub(crate) const ORDERS: (&str, &str) = (
+    "d/orders.tbl",
+    "7|1|O|10.00|1996-01-02|1-URGENT|K|0|x|\n8|1|F|20.00|1996-01-03|5-LOW|K|0|y|\n",
+);
+
+/// The orders of the first refresh set.
+pub(crate) const NEW_ORDERS: &str = "9|2|O|5.00|1996-01-04|5-LOW|K|0|z|\n";
+
+/// The lineitems of the first refresh set.
+pub(crate) const NEW_LINES: &str =
+    "9|1|1|1|1.00|5.00|0.00|0.00|N|O|1996-02-01|1996-02-02|1996-02-03|NONE|MAIL|w|\n";
+
+/// A script of one query.
+pub(crate) const SCRIPT: &str = "select r_name from region where r_regionkey < 2;";
+
+/// The files of the tables.
+pub(crate) const TABLES: [&str; 8] = [
     "d/region.tbl",
     "d/nation.tbl",
     "d/part.tbl",
@@ -27,11 +44,12 @@ const TABLES: [&str; 8] = [
     "d/lineitem.tbl",
 ];
 
-const USAGE: &str =
+/// The line for words that are no command.
+pub(crate) const USAGE: &str =
     "usage: tpch session DIR SCRIPT, throughput DIR JOB, explain SCRIPT, check DIR, trial N\n";
 
 /// The words as owned texts.
-fn words_of(alloc: Global, words: &[&str]) -> Result<Vec<String>, AllocError> {
+pub(crate) fn words_of(alloc: Global, words: &[&str]) -> Result<Vec<String>, AllocError> {
     let mut owned = Vec::new(alloc);
     for word in words {
         owned.push(String::from_str(alloc, word)?)?;
@@ -40,7 +58,7 @@ fn words_of(alloc: Global, words: &[&str]) -> Result<Vec<String>, AllocError> {
 }
 
 /// Files of these names and texts, of which these calls fail.
-fn files_of(
+pub(crate) fn files_of(
     alloc: Global,
     files: &[(&str, &str)],
     failing: &[u64],
@@ -56,7 +74,7 @@ fn files_of(
 
 /// Runs the words over the files, with a sink of which these calls fail, and compares the status
 /// and the text.
-fn expect_run<R: Threads + Wait + Sync + Abort>(
+pub(crate) fn expect_run<R: Threads + Wait + Sync + Abort>(
     rt: &R,
     alloc: Global,
     words: &[&str],
@@ -73,13 +91,13 @@ fn expect_run<R: Threads + Wait + Sync + Abort>(
 }
 
 /// A sink that takes all that it is given.
-fn sink(alloc: Global) -> MemSink {
+pub(crate) fn sink(alloc: Global) -> MemSink {
     MemSink::new(Vec::new(alloc), usize::MAX, Vec::new(alloc))
 }
 
 /// The files of a folder `d` that has the eight tables, all of them empty but for those given, and
 /// a script `s`.
-fn folder_of<'a>(
+pub(crate) fn folder_of<'a>(
     alloc: Global,
     script: &'a str,
     tables: &[(&'a str, &'a str)],
@@ -98,7 +116,7 @@ fn folder_of<'a>(
 }
 
 /// Runs the words over the eight tables, all of them empty but for those given.
-fn expect_over<R: Threads + Wait + Sync + Abort>(
+pub(crate) fn expect_over<R: Threads + Wait + Sync + Abort>(
     rt: &R,
     alloc: Global,
     words: &[&str],
@@ -111,23 +129,18 @@ fn expect_over<R: Threads + Wait + Sync + Abort>(
     expect_run(rt, alloc, words, files, sink(alloc), status, text)
 }
 
-/// Runs a session of the script over tables of which only region has rows.
-fn expect_session<R: Threads + Wait + Sync + Abort>(
+/// Runs a session of each script over the eight tables, all of them empty but for those given, and
+/// compares the status and the texts.
+pub(crate) fn expect_sessions<R: Threads + Wait + Sync + Abort>(
     rt: &R,
     alloc: Global,
-    script: &str,
-    regions: &str,
+    files: &[(&str, &str)],
     status: Status,
-    text: &str,
+    cases: &[(&str, &str)],
 ) -> Result<(), AllocError> {
     let words = ["session", "d", "s"];
-    expect_over(
-        rt,
-        alloc,
-        &words,
-        script,
-        &[("d/region.tbl", regions)],
-        status,
-        text,
-    )
+    for (script, text) in cases {
+        expect_over(rt, alloc, &words, script, files, status, text)?;
+    }
+    Ok(())
 }

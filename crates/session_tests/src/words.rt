@@ -1,11 +1,11 @@
 //! Which words are a command, and which files it names.
-use super::{SCRIPT, USAGE, expect_run, files_of, sink};
-use crate::Status;
+use crate::runs::{SCRIPT, USAGE, expect_run, files_of, sink};
 use std::alloc::{AllocError, Global};
 use std::process::Abort;
 use std::sync::Wait;
 use std::test::Fail;
 use std::thread::Threads;
+use tpch_main::Status;
 
 /// Runs words that are no command. No file may be opened: the first call would fail.
 fn expect_usage<R: Threads + Wait + Sync + Abort>(
@@ -45,6 +45,7 @@ fn reads_commands(rt: HostRuntime) -> Result<(), Fail> {
         (["session", "", "s"].as_slice(), "/region.tbl"),
         (["session", "help", "s"].as_slice(), "help/region.tbl"),
         (["session", "check", "s"].as_slice(), "check/region.tbl"),
+        (["explain", "t"].as_slice(), "t"),
         (["check", "d"].as_slice(), "d/region.tbl"),
         (["check", ""].as_slice(), "/region.tbl"),
     ] {
@@ -83,7 +84,8 @@ fn refuses_words(rt: HostRuntime) -> Result<(), Fail> {
         ["Check", "d"].as_slice(),
         ["d", "check"].as_slice(),
         ["throughput", "d", "j"].as_slice(),
-        ["explain", "s"].as_slice(),
+        ["explain"].as_slice(),
+        ["explain", "s", "t"].as_slice(),
         ["trial", "1"].as_slice(),
     ] {
         expect_usage(&rt, rt.alloc(), words)?;

@@ -1,5 +1,11 @@
 //! Files that are absent, which calls files get, and calls of files and sink that fail.
-use super::*;
+use crate::runs::*;
+use std::alloc::{AllocError, Global};
+use std::process::Abort;
+use std::sync::Wait;
+use std::test::Fail;
+use std::thread::Threads;
+use tpch_main::Status;
 
 #[test]
 fn refuses_absent_files(rt: HostRuntime) -> Result<(), Fail> {
@@ -66,9 +72,10 @@ fn expect_calls<R: Threads + Wait + Sync + Abort>(
     Ok(())
 }
 
-// The script and the tables are opened once each and read to their ends, and nothing else is called: of a script and a
-// region with bytes three calls each, of seven empty tables two each. An input that is refused leaves those after it
-// unopened, and a bad line that has ended is refused before the next bytes are read.
+// The script and the tables are opened once each and read to their ends, and nothing else is
+// called: of a script and a region with bytes three calls each, of seven empty tables two each. An
+// input that is refused leaves those after it unopened, and a bad line that has ended is refused
+// before the next bytes are read.
 #[test]
 fn opens_no_other_file(rt: HostRuntime) -> Result<(), Fail> {
     let alloc = rt.alloc();

@@ -1,0 +1,15 @@
+pub mod TypedOperands
+pub mod TypedCases
+pub mod TypedSteps
+pub mod TypedNames
+pub mod TypedMade
+pub mod TypedNodes
+pub mod TypedQueries
+pub mod TypedItems
+pub mod TypedFrom
+pub mod TypedClauses
+pub mod TypedBlocks
+pub mod TypedTrees
+pub mod KeepsProofs
+pub mod NamesProofs
+pub mod SettledProofs

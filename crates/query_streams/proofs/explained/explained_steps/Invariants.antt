@@ -1,0 +1,5 @@
+use Rattle.query_streams.proofs.Explaining.{Explaining}
+use Rattle.query_streams.proofs.explained.explained_steps.Given as goal
+
+abbrev pub invariant-loop-place : goal.invariant-loop-place
+invariant-loop-place l = Explaining l.steps l.place l.views.all l.text.items l.is_clean
