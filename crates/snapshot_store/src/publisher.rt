@@ -5,7 +5,7 @@ ghost use Rattle.segment_store.specs.Trials.{version_of};
 ghost use Rattle.snapshot_store.specs.Halls.{AreSeated, SeatsEnough, shown_in};
 ghost use Rattle.snapshot_store.specs.Ruled.{opening_of};
 
-use crate::hall::{Another, Hall, seat};
+use crate::hall::seat;
 use crate::reader::Reader;
 use crate::rule::{publish, start};
 use crate::ruled::{Note, RuledEntry};
@@ -220,8 +220,7 @@ fn seat_all(
     ensures enough { IfOk result
         (λ readers. SeatsEnough want (length readers.items) hall.old.refusals hall.new.refusals) }
 {
-    match hall.another() {
-        Another::Made(first) => seat(alloc, first, start, hall, want),
-        Another::Refused => Err(AllocError),
-    }
+    let first = hall.entry()?;
+    let readers = seat(alloc, first, start, hall, want)?;
+    Ok(readers)
 }
