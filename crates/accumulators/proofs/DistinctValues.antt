@@ -1,5 +1,5 @@
 -- Distinct values of two lists, one after the other.
-use Rattle.std.proofs.Common.{◌≡◌, ℕ, List, [], ◌∷◌, ◌++◌, Bool, true, false, cond, refl, sym, ◌∙◌, ap, inl, inr, take, get_or, arith}
+use Rattle.std.proofs.Common.{◌≡◌, ℕ, List, [], ◌∷◌, ◌++◌, Bool, true, false, refl, sym, ◌∙◌, ap, inl, inr, arith}
 use Rattle.std.specs.Prelude.{not, min, ◌||◌}
 use Rattle.std.specs.List.{filter}
 use Rattle.std.proofs.lemmas.Bool.{cases_Bool, true≢false}
@@ -14,7 +14,7 @@ use Rattle.sql_value.specs.Value.{same_value}
 use Rattle.sql_value.specs.contracts.value.ValuePartialEq.TheImpl.{eq-value}
 use Rattle.sql_value.proofs.Identity.{same_value_is, value_eq_decides, value_identity}
 use Rattle.aggregates.specs.Values.{value_rank, is_null}
-use Rattle.accumulators.specs.Accumulators.{present, least_fault_rank, added_all, CountedDistinct}
+use Rattle.accumulators.specs.Accumulators.{present, added_all, CountedDistinct}
 use Rattle.accumulators.proofs.Joins.{present-append, least_put, least-append}
 
 module _ {X : Type 0} (same : X → X → Bool) (is : IsIdentity same) where
@@ -61,9 +61,6 @@ module _ {X : Type 0} (same : X → X → Bool) (is : IsIdentity same) where
 has_same : (v : Value) (ds : List Value) → has eq-value.it v ds ≡ has same_value v ds
 has_same v [] = refl
 has_same v (d ∷ ds) = rw (same_value_is v d, has_same v ds) refl
-
-pub added_same : (ds : List Value) (v : Value) → added eq-value.it ds v ≡ added same_value ds v
-added_same ds v = rw (has_same v ds) refl
 
 pub derived_identity : IsIdentity eq-value.it
 derived_identity = record {

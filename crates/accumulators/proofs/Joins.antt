@@ -1,5 +1,5 @@
 -- What accumulators have of two lists one after the other, and what they give.
-use Rattle.std.proofs.Common.{◌≡◌, ℕ, ◌+◌, List, [], ◌∷◌, ◌++◌, refl, sym, ◌∙◌, ap, arith, length}
+use Rattle.std.proofs.Common.{◌≡◌, ℕ, ◌+◌, List, [], ◌∷◌, ◌++◌, sym, ◌∙◌, ap, arith, length}
 use Rattle.std.specs.Prelude.{min, not}
 use Rattle.std.proofs.lemmas.List.{length-append}
 use Rattle.std.proofs.lemmas.List.Elements.{filter-append}
@@ -20,18 +20,11 @@ length_both vs ws = ap length (present-append vs ws) ∙ length-append (present 
 pub least-append : (vs ws : List Value) → least_fault_rank (vs ++ ws) ≡ min (least_fault_rank vs) (least_fault_rank ws)
 least-append vs ws = bottom-append 5 value_rank vs ws
 
--- of one value
-least_one : (v : Value) → least_fault_rank (v ∷ []) ≡ min (value_rank v) 5
-least_one v = refl
-
 least_same : (vs : List Value) → min (least_fault_rank vs) 5 ≡ least_fault_rank vs
 least_same vs = let h = bottom_most 5 value_rank vs in omega (arith, h)
 
 pub least_put : (l m : ℕ) (v : Value) (vs : List Value) → l ≡ least_fault_rank vs → m ≡ min l (value_rank v) → m ≡ least_fault_rank (vs ++ v ∷ [])
 least_put l m v vs e is = let a = least-append vs (v ∷ []) in let h = least_same vs in omega (arith, e, is, a, h)
-
-pub rows_put : (n m : ℕ) (v : Value) (vs : List Value) → CountedRows n vs → m ≡ n + 1 → CountedRows m (vs ++ v ∷ [])
-rows_put n m v vs h is = record { rows = let e = h.rows in let a = length-append vs (v ∷ []) in omega (arith, e, a, is) }
 
 pub rows_joined : (n k m : ℕ) (vs ws : List Value) → CountedRows n vs → CountedRows k ws → m ≡ n + k → CountedRows m (vs ++ ws)
 rows_joined n k m vs ws h j is = record { rows = let e = h.rows in let f = j.rows in let a = length-append vs ws in omega (arith, e, f, a, is) }

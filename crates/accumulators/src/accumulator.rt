@@ -1,5 +1,6 @@
 //! What an accumulator promises.
-ghost use Rattle.std.specs.Prelude.{◌≡◌, ℕ, ◌+◌, ◌<◌, ◌≤◌, ◌^◌, List, [], ◌∷◌, ◌++◌, length, OnOk, IfOk};
+ghost use Rattle.std.specs.Prelude.{◌≡◌, ℕ, ◌+◌, ◌<◌, ◌≤◌, ◌^◌, List, [], ◌∷◌, ◌++◌, length, OnOk};
+ghost use Rattle.std.specs.Prelude.{IfOk};
 ghost use Rattle.sql_value.specs.declared.value.Value.{Value as Datum};
 ghost use Rattle.accumulators.specs.Accumulators.{OfValues};
 
@@ -24,19 +25,25 @@ pub trait Accumulator: Drop {
         ensures terms { terms result ≡ 0 }
         ensures taken { has_taken result (aggregate scale) [] };
 
-    /// Takes a value behind those that it has.
+    /// Takes a value after those that it has.
     fn put(&mut self, value: &Value) -> Result<(), AllocError>
         requires { terms self.old + 1 < 2 ^ 64 }
         ensures terms { terms self.new ≤ terms self.old + 1 }
-        ensures taken { OnOk result ((aggregate : OfValues) (vs : List Datum) → has_taken self.old aggregate vs → has_taken self.new aggregate (vs ++ value.now ∷ [])) };
+        ensures taken { OnOk result
+            ((aggregate : OfValues) (vs : List Datum) → has_taken self.old aggregate vs
+            → has_taken self.new aggregate (vs ++ value.now ∷ [])) };
 
-    /// Takes what another has behind what it has itself.
+    /// Takes what another has after what it has itself.
     fn merge(&mut self, other: Self) -> Result<(), AllocError>
         requires { terms self.old + terms other < 2 ^ 64 }
         ensures terms { terms self.new ≤ terms self.old + terms other }
-        ensures taken { OnOk result ((aggregate : OfValues) (vs ws : List Datum) → has_taken self.old aggregate vs → has_taken other aggregate ws → has_taken self.new aggregate (vs ++ ws)) };
+        ensures taken { OnOk result
+            ((aggregate : OfValues) (vs ws : List Datum) → has_taken self.old aggregate vs
+            → has_taken other aggregate ws → has_taken self.new aggregate (vs ++ ws)) };
 
     /// The aggregate of the values that it has taken.
     fn value(&self) -> Result<Value, AllocError>
-        ensures { IfOk result (λ v. (aggregate : OfValues) (vs : List Datum) → has_taken self.now aggregate vs → v ≡ aggregate vs) };
+        ensures { IfOk result
+            (λ v. (aggregate : OfValues) (vs : List Datum) → has_taken self.now aggregate vs
+            → v ≡ aggregate vs) };
 }

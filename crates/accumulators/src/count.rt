@@ -16,7 +16,8 @@ impl Accumulator for CountRows {
     ghost use Rattle.aggregates.specs.Values.{reading};
     ghost use Rattle.accumulators.specs.Accumulators.{GiveTheSame, CountedRows};
 
-    ghost has_taken = { λ s aggregate vs. GiveTheSame aggregate (count_rows (reading 0)) × CountedRows s.rows vs };
+    ghost has_taken = { λ s aggregate vs. GiveTheSame aggregate (count_rows (reading 0))
+        × CountedRows s.rows vs };
 
     ghost terms = { λ s. s.rows };
 
@@ -54,7 +55,8 @@ impl Accumulator for Count {
     ghost use Rattle.aggregates.specs.Values.{reading};
     ghost use Rattle.accumulators.specs.Accumulators.{GiveTheSame, Counted};
 
-    ghost has_taken = { λ s aggregate vs. GiveTheSame aggregate (count_of (reading 0)) × Counted (standing_rank s.least) s.terms vs };
+    ghost has_taken = { λ s aggregate vs. GiveTheSame aggregate (count_of (reading 0))
+        × Counted (standing_rank s.least) s.terms vs };
 
     ghost terms = { λ s. s.terms };
 

@@ -26,7 +26,9 @@ impl Accumulator for CountDistinct {
     ghost use Rattle.aggregates.specs.Values.{reading};
     ghost use Rattle.accumulators.specs.Accumulators.{GiveTheSame, CountedDistinct};
 
-    ghost has_taken = { λ s aggregate vs. GiveTheSame aggregate (count_distinct_of (reading 0) same_value) × CountedDistinct (standing_rank s.least) s.seen.keys vs };
+    ghost has_taken = { λ s aggregate vs.
+        GiveTheSame aggregate (count_distinct_of (reading 0) same_value)
+        × CountedDistinct (standing_rank s.least) s.seen.keys vs };
 
     ghost terms = { λ s. 0 };
 

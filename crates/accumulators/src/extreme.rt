@@ -22,7 +22,8 @@ impl Accumulator for Least {
     ghost use Rattle.aggregates.specs.Values.{reading, is_before};
     ghost use Rattle.accumulators.specs.Accumulators.{GiveTheSame, Compared};
 
-    ghost has_taken = { λ s aggregate vs. GiveTheSame aggregate (min_of (reading 0) is_before) × Compared (standing_rank s.standing) false s.best vs };
+    ghost has_taken = { λ s aggregate vs. GiveTheSame aggregate (min_of (reading 0) is_before)
+        × Compared (standing_rank s.standing) false s.best vs };
 
     ghost terms = { λ s. 0 };
 
@@ -71,7 +72,8 @@ impl Accumulator for Greatest {
     ghost use Rattle.aggregates.specs.Values.{reading, is_before};
     ghost use Rattle.accumulators.specs.Accumulators.{GiveTheSame, Compared};
 
-    ghost has_taken = { λ s aggregate vs. GiveTheSame aggregate (max_of (reading 0) is_before) × Compared (standing_rank s.standing) true s.best vs };
+    ghost has_taken = { λ s aggregate vs. GiveTheSame aggregate (max_of (reading 0) is_before)
+        × Compared (standing_rank s.standing) true s.best vs };
 
     ghost terms = { λ s. 0 };
 
@@ -119,7 +121,8 @@ fn comes_first(first: &Value, second: &Value, is_greatest: bool) -> bool
 
 // Whether a value takes the place of the best so far.
 fn replaces(best: &Value, value: &Value, is_greatest: bool) -> bool
-    ensures { first_value is_greatest (present (best.now ∷ []) ++ present (value.now ∷ [])) ≡ (if result then value.now else best.now) }
+    ensures { first_value is_greatest (present (best.now ∷ []) ++ present (value.now ∷ []))
+        ≡ (if result then value.now else best.now) }
 {
     if is_null(value) {
         return false;

@@ -17,7 +17,8 @@ impl Accumulator for Sum {
     ghost use Rattle.aggregates.specs.Values.{reading};
     ghost use Rattle.accumulators.specs.Accumulators.{GiveTheSame, Summed};
 
-    ghost has_taken = { λ s aggregate vs. GiveTheSame aggregate (sum_of (reading s.terms.scale)) × Summed (standing_rank s.terms.least) s.terms.terms s.terms.tally vs };
+    ghost has_taken = { λ s aggregate vs. GiveTheSame aggregate (sum_of (reading s.terms.scale))
+        × Summed (standing_rank s.terms.least) s.terms.terms s.terms.tally vs };
 
     ghost terms = { λ s. s.terms.terms };
 
@@ -56,7 +57,9 @@ impl Accumulator for Average {
     ghost use Rattle.aggregates.specs.Values.{reading, divided};
     ghost use Rattle.accumulators.specs.Accumulators.{GiveTheSame, Summed};
 
-    ghost has_taken = { λ s aggregate vs. GiveTheSame aggregate (avg_of (reading s.terms.scale) (divided s.terms.scale)) × Summed (standing_rank s.terms.least) s.terms.terms s.terms.tally vs };
+    ghost has_taken = { λ s aggregate vs. GiveTheSame aggregate
+        (avg_of (reading s.terms.scale) (divided s.terms.scale))
+        × Summed (standing_rank s.terms.least) s.terms.terms s.terms.tally vs };
 
     ghost terms = { λ s. s.terms.terms };
 

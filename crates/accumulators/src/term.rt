@@ -1,9 +1,11 @@
 //! What each accumulator reads of a value.
-ghost use Rattle.std.specs.Prelude.{◌≡◌, ◌+◌, ◌<◌, ◌≤◌, ◌^◌, min, length, ◌∷◌, [], nat_lt, if◌then◌else◌};
+ghost use Rattle.std.specs.Prelude.{◌≡◌, ◌+◌, ◌<◌, ◌≤◌, ◌^◌, min, length, ◌∷◌, [], nat_lt};
+ghost use Rattle.std.specs.Prelude.{if◌then◌else◌};
 ghost use Rattle.row_laws.specs.Ranked.{true_rank};
 ghost use Rattle.fixed_decimal.specs.Tally.{sums, joined};
 ghost use Rattle.sql_value.specs.Truth.{standing_rank};
-ghost use Rattle.aggregates.specs.Values.{written, value_rank, is_null, above, below, number_or_fault};
+ghost use Rattle.aggregates.specs.Values.{written, value_rank, is_null, above, below};
+ghost use Rattle.aggregates.specs.Values.{number_or_fault};
 ghost use Rattle.accumulators.specs.Accumulators.{present};
 
 use fixed_decimal::{NumberFault, Scale, Tally};
@@ -40,7 +42,8 @@ pub(crate) fn terms_of(value: &Value) -> u64
 // Adds a value that isn't null: a number's coefficient, and 0 for any other.
 pub(crate) fn add_term(tally: &mut Tally, value: &Value)
     requires { tally.old.terms + 1 < 2 ^ 64 }
-    ensures { tally.new ≡ joined tally.old (sums (length (present (value.now ∷ []))) (above value.now) (below value.now)) }
+    ensures { tally.new ≡ joined tally.old
+        (sums (length (present (value.now ∷ []))) (above value.now) (below value.now)) }
 {
     match value {
         Value::Null => {}
@@ -51,7 +54,8 @@ pub(crate) fn add_term(tally: &mut Tally, value: &Value)
 
 // The value, or the fault where a fault is the least standing.
 pub(crate) fn unless_fault(least: Standing, value: Value) -> Value
-    ensures { result ≡ (if nat_lt (standing_rank least) true_rank then written (standing_rank least) else value) }
+    ensures { result ≡ (if nat_lt (standing_rank least) true_rank then written (standing_rank least)
+        else value) }
 {
     match least {
         Standing::AtFault(fault) => Value::Fault(fault),

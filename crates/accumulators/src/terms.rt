@@ -39,7 +39,10 @@ impl Terms {
         requires { self.old.terms + 1 < 2 ^ 64 }
         ensures terms { self.new.terms ≤ self.old.terms + 1 }
         ensures scale { self.new.scale ≡ self.old.scale }
-        ensures taken { (vs : List Datum) → Summed (standing_rank self.old.least) self.old.terms self.old.tally vs → Summed (standing_rank self.new.least) self.new.terms self.new.tally (vs ++ value.now ∷ []) }
+        ensures taken { (vs : List Datum)
+            → Summed (standing_rank self.old.least) self.old.terms self.old.tally vs
+            → Summed (standing_rank self.new.least) self.new.terms self.new.tally
+            (vs ++ value.now ∷ []) }
     {
         self.least = least_with(self.least, value);
         self.terms += terms_of(value);
@@ -50,7 +53,10 @@ impl Terms {
         requires { self.old.terms + other.now.terms < 2 ^ 64 }
         ensures terms { self.new.terms ≤ self.old.terms + other.now.terms }
         ensures scale { self.new.scale ≡ self.old.scale }
-        ensures taken { (vs ws : List Datum) → Summed (standing_rank self.old.least) self.old.terms self.old.tally vs → Summed (standing_rank other.now.least) other.now.terms other.now.tally ws → Summed (standing_rank self.new.least) self.new.terms self.new.tally (vs ++ ws) }
+        ensures taken { (vs ws : List Datum)
+            → Summed (standing_rank self.old.least) self.old.terms self.old.tally vs
+            → Summed (standing_rank other.now.least) other.now.terms other.now.tally ws
+            → Summed (standing_rank self.new.least) self.new.terms self.new.tally (vs ++ ws) }
     {
         self.least = self.least.lesser(other.least);
         self.terms += other.terms;
@@ -64,14 +70,18 @@ impl Terms {
     }
 
     pub(crate) fn sum(&self) -> Value
-        ensures { (vs : List Datum) → Summed (standing_rank self.now.least) self.now.terms self.now.tally vs → result ≡ sum_of (reading self.now.scale) vs }
+        ensures { (vs : List Datum)
+            → Summed (standing_rank self.now.least) self.now.terms self.now.tally vs
+            → result ≡ sum_of (reading self.now.scale) vs }
     {
         let total = number_or_fault(self.scale, self.tally.total());
         unless_fault(self.least, self.unless_empty(total))
     }
 
     pub(crate) fn average(&self) -> Value
-        ensures { (vs : List Datum) → Summed (standing_rank self.now.least) self.now.terms self.now.tally vs → result ≡ avg_of (reading self.now.scale) (divided self.now.scale) vs }
+        ensures { (vs : List Datum)
+            → Summed (standing_rank self.now.least) self.now.terms self.now.tally vs
+            → result ≡ avg_of (reading self.now.scale) (divided self.now.scale) vs }
     {
         if self.terms == 0 {
             return unless_fault(self.least, Value::Null);

@@ -1,4 +1,5 @@
--- What is made of the nodes of a plan, one after the other: of a plan that grows it stays, and what a node adds.
+-- What is made of the nodes of a plan, one after the other: of a plan that grows it stays, and what
+-- a node adds.
 use Rattle.std.proofs.Common.{◌≡◌, ℕ, ◌+◌, ◌<◌, List, [], ◌∷◌, ◌++◌, refl, ap, sym, ◌∙◌, arith, length}
 use Rattle.std.specs.Prelude.{slice_index_or}
 use Rattle.std.proofs.lemmas.List.{append_assoc, length-append, get_or_append_left, get_or_push}

@@ -9,7 +9,8 @@ use Rattle.algebra.specs.declared.aggregate.Aggregate.{Aggregate}
 use Rattle.algebra.specs.declared.aggregate.Aggregate.TheVariants.{CountRows, Of}
 use Rattle.aggregates.specs.Values.{reading, aggregate_of}
 
--- an aggregate: its argument, read from a row, and what it makes of the list of the argument's values
+-- an aggregate: its argument, read from a row, and what it makes of the list of the argument's
+-- values
 abbrev pub argument_and_function : Aggregate → (List Value → Value) × (List Value → Value)
 argument_and_function CountRows = (λ row. Null, count_rows (reading 0))
 argument_and_function (Of function scale e) = (value e, aggregate_of function scale)

@@ -7,13 +7,15 @@ use Rattle.algebra.specs.declared.node.Node.{Node}
 use Rattle.algebra.specs.Trees.{Database, HasKinds}
 use Rattle.algebra.specs.Plans.{rows_at, node_rows, inputs_of, plan_rows, plan_width, is_formed}
 
--- A node gives one bag for one bag: where the nodes that it reads have the same rows, as bags, in two lists, so has it.
+-- A node gives one bag for one bag: where the nodes that it reads have the same rows, as bags, in
+-- two lists, so has it.
 abbrev pub NodesAlike : Type 0
 NodesAlike = (db : Database) (some others : List (List (Ranked Value))) (node : Node)
     → Each (λ i. SameBag (rows_at some i) (rows_at others i)) (inputs_of node)
     → SameBag (node_rows db some node) (node_rows db others node)
 
--- In a plan that is well formed each row of a node has as many values as the node has columns, over tables whose rows are of their kinds.
+-- In a plan that is well formed each row of a node has as many values as the node has columns, over
+-- tables whose rows are of their kinds.
 abbrev pub RowsAreWide : Type 0
 RowsAreWide = (db : Database) (nodes : List Node) (i : ℕ)
     → HasKinds db → IsTrue (is_formed nodes)

@@ -1,11 +1,15 @@
--- What a flat plan means: the rows of its nodes, one after the other; their widths; what it scans and reads; and when it is well formed.
-use Rattle.std.specs.Prelude.{ℕ, zero, ◌+◌, ◌-◌, ◌==◌, ◌&&◌, nat_lt, nat_le, Bool, true, false, List, [], ◌∷◌, ◌++◌, map, length, replicate, Option, Some, None, slice_get, slice_index, slice_index_or}
+-- What a flat plan means: the rows of its nodes, one after the other; their widths; what it scans
+-- and reads; and when it is well formed.
+use Rattle.std.specs.Prelude.{ℕ, zero, ◌+◌, ◌-◌, ◌==◌, ◌&&◌, nat_lt, nat_le, Bool, true, false}
+use Rattle.std.specs.Prelude.{List, [], ◌∷◌, ◌++◌, map, length, replicate, Option, Some, None}
+use Rattle.std.specs.Prelude.{slice_get, slice_index, slice_index_or}
 use Rattle.std.specs.List.{flat_map, list_all, range_with_len, sum_by}
 use Rattle.std.specs.Cmp.Lexicographic.{pointwise}
 use Rattle.row_laws.specs.Ranked.{Ranked}
 use Rattle.row_laws.specs.Rows.{columns, scanned}
 use Rattle.row_laws.specs.Operators.{select, project, group_by, total, distinct, domain_node, fill}
-use Rattle.row_laws.specs.Matched.{right_places, inner_matched, outer_matched, mark_matched, single_matched}
+use Rattle.row_laws.specs.Matched.{right_places, inner_matched, outer_matched, mark_matched}
+use Rattle.row_laws.specs.Matched.{single_matched}
 use Rattle.sql_value.specs.declared.value.Value.{Value}
 use Rattle.sql_value.specs.declared.value.Value.TheVariants.{Null}
 use Rattle.sql_value.specs.Value.{same_value, same_row}
@@ -14,16 +18,19 @@ use Rattle.tpch_schema.specs.declared.table.TableName.{TableName}
 use Rattle.tpch_schema.specs.Tables.{kinds_of}
 use Rattle.algebra.specs.declared.aggregate.Aggregate.{Aggregate}
 use Rattle.algebra.specs.declared.node.Node.{Node}
-use Rattle.algebra.specs.declared.node.Node.TheVariants.{Scan, Domain, Select, Project, Join, Outer, Mark, Single, Group, Fill, Distinct}
+use Rattle.algebra.specs.declared.node.Node.TheVariants.{Scan, Domain, Select, Project, Join, Outer}
+use Rattle.algebra.specs.declared.node.Node.TheVariants.{Mark, Single, Group, Fill, Distinct}
 use Rattle.aggregates.specs.Values.{written, value_rank}
 use Rattle.conditions.specs.Ranks.{rank_of}
 use Rattle.algebra.specs.Aggregates.{aggregates_of}
 use Rattle.algebra.specs.Trees.{Database}
 
--- GROUP BY these columns, with aggregates; without columns one group of all rows, also where there are none
+-- GROUP BY these columns, with aggregates; without columns one group of all rows, also where there
+-- are none
 abbrev pub groups : List ℕ → List Aggregate → List (Ranked Value) → List (Ranked Value)
 groups [] aggregates rows = total (aggregates_of aggregates) rows
-groups (c ∷ cs) aggregates rows = group_by same_value (columns Null (c ∷ cs)) (aggregates_of aggregates) rows
+groups (c ∷ cs) aggregates rows =
+    group_by same_value (columns Null (c ∷ cs)) (aggregates_of aggregates) rows
 
 -- the rows of the node of this number
 abbrev pub rows_at : List (List (Ranked Value)) → ℕ → List (Ranked Value)
@@ -35,11 +42,16 @@ node_rows db before (Scan table) = scanned (db table)
 node_rows db before (Domain i cs) = domain_node same_value (columns Null cs) (rows_at before i)
 node_rows db before (Select i e) = select (rank_of e) (rows_at before i)
 node_rows db before (Project i es) = project (values es) (rows_at before i)
-node_rows db before (Join i j matched e) = inner_matched same_value Null matched (rank_of e) (rows_at before i) (rows_at before j)
+node_rows db before (Join i j matched e) =
+    inner_matched same_value Null matched (rank_of e) (rows_at before i) (rows_at before j)
 node_rows db before (Outer i j matched nulls e) =
-    outer_matched same_value Null matched (replicate nulls Null) (rank_of e) (rows_at before i) (rows_at before j)
-node_rows db before (Mark i j matched e) = mark_matched same_value Null matched written (rank_of e) (rows_at before i) (rows_at before j)
-node_rows db before (Single i j matched c) = single_matched same_value Null matched written value_rank c (rows_at before i) (rows_at before j)
+    outer_matched same_value Null matched (replicate nulls Null) (rank_of e) (rows_at before i)
+    (rows_at before j)
+node_rows db before (Mark i j matched e) =
+    mark_matched same_value Null matched written (rank_of e) (rows_at before i) (rows_at before j)
+node_rows db before (Single i j matched c) =
+    single_matched same_value Null matched written value_rank c (rows_at before i)
+    (rows_at before j)
 node_rows db before (Group i by aggregates) = groups by aggregates (rows_at before i)
 node_rows db before (Fill i j empty) = fill same_value empty (rows_at before j) (rows_at before i)
 node_rows db before (Distinct i) = distinct same_value (rows_at before i)
@@ -63,7 +75,8 @@ node_width before (Scan table) = length (kinds_of table)
 node_width before (Domain i cs) = length cs
 node_width before (Select i e) = slice_index before i
 node_width before (Project i es) = length es
-node_width before (Join i j matched e) = slice_index before i + (slice_index before j - length matched)
+node_width before (Join i j matched e) =
+    slice_index before i + (slice_index before j - length matched)
 node_width before (Outer i j matched nulls e) = slice_index before i + nulls
 node_width before (Mark i j matched e) = slice_index before i + 1
 node_width before (Single i j matched c) = slice_index before i + 1
@@ -121,17 +134,21 @@ inputs_of (Distinct i) = i ∷ []
 
 -- the pairs match columns with the right side's first ones, which are there
 abbrev pub matches_first : ℕ → List (ℕ × ℕ) → Bool
-matches_first width matched = pointwise ◌==◌ (right_places matched) (range_with_len 0 (length matched)) && nat_le (length matched) width
+matches_first width matched =
+    pointwise ◌==◌ (right_places matched) (range_with_len 0 (length matched))
+    && nat_le (length matched) width
 
 -- a node is a group by just the n columns of a domain, and has these aggregates of no rows
 abbrev pub groups_by_domain : ℕ → List Value → Option Node → Bool
-groups_by_domain n empty (Some (Group i by aggregates)) = pointwise ◌==◌ by (range_with_len 0 n) && same_row (aggregates_of aggregates []) empty
+groups_by_domain n empty (Some (Group i by aggregates)) = pointwise ◌==◌ by (range_with_len 0 n)
+    && same_row (aggregates_of aggregates []) empty
 groups_by_domain n empty other = false
 
 -- what a node asks of the nodes before it, but that they are there
 abbrev pub suits : List Node → Node → Bool
 suits before (Join i j matched e) = matches_first (plan_width before j) matched
-suits before (Outer i j matched nulls e) = matches_first (plan_width before j) matched && (plan_width before j == length matched + nulls)
+suits before (Outer i j matched nulls e) = matches_first (plan_width before j) matched
+    && (plan_width before j == length matched + nulls)
 suits before (Mark i j matched e) = matches_first (plan_width before j) matched
 suits before (Single i j matched c) = matches_first (plan_width before j) matched
 suits before (Fill i j empty) = groups_by_domain (plan_width before j) empty (slice_get before i)
@@ -141,7 +158,7 @@ suits before other = true
 unfoldable pub fits : List Node → Node → Bool
 fits before node = list_all (λ i. nat_lt i (length before)) (inputs_of node) && suits before node
 
--- each of the nodes fits behind those before it
+-- each of the nodes fits after those before it
 abbrev pub all_fit : List Node → List Node → Bool
 all_fit before [] = true
 all_fit before (n ∷ ns) = fits before n && all_fit (before ++ n ∷ []) ns

@@ -3,10 +3,13 @@ use Rattle.std.specs.Prelude.{List, []}
 use Rattle.sql_value.specs.declared.value.Value.{Value}
 use Rattle.tpch_schema.specs.State.{State}
 use Rattle.tpch_schema.specs.declared.table.TableName.{TableName}
-use Rattle.tpch_schema.specs.declared.table.TableName.TheVariants.{Region, Nation, Part, Supplier, Partsupp, Customer, Orders, Lineitem}
+use Rattle.tpch_schema.specs.declared.table.TableName.TheVariants.{Region, Nation, Part, Supplier}
+use Rattle.tpch_schema.specs.declared.table.TableName.TheVariants.{Partsupp, Customer, Orders}
+use Rattle.tpch_schema.specs.declared.table.TableName.TheVariants.{Lineitem}
 
 -- the state of these rows, in the schema's order of tables
-abbrev pub of_tables : (region nation part supplier partsupp customer orders lineitem : List (List Value)) → State
+abbrev pub of_tables :
+    (region nation part supplier partsupp customer orders lineitem : List (List Value)) → State
 of_tables region nation part supplier partsupp customer orders lineitem = record {
   region = region;
   nation = nation;

@@ -1,12 +1,14 @@
--- What a dependent tree means: its rows by nested loops. What it scans, how many columns its rows have, and how many right sides
--- have a domain of their own are read off it too.
+-- What a dependent tree means: its rows by nested loops. What it scans, how many columns its rows
+-- have, and how many right sides have a domain of their own are read off it too.
 use Rattle.std.specs.Prelude.{ℕ, ◌+◌, List, [], ◌∷◌, ◌++◌, map, length, replicate}
 use Rattle.row_laws.specs.Ranked.{Ranked}
 use Rattle.row_laws.specs.Rows.{after, columns, scanned}
-use Rattle.row_laws.specs.Operators.{select, project, mark_of, scalar_of, join_loop, outer_loop, attach_loop, group_by, total, distinct}
+use Rattle.row_laws.specs.Operators.{select, project, mark_of, scalar_of, join_loop, outer_loop}
+use Rattle.row_laws.specs.Operators.{attach_loop, group_by, total, distinct}
 use Rattle.row_laws.specs.Trees.{side_row}
 use Rattle.row_laws.specs.Trees.{Side as SideKind}
-use Rattle.row_laws.specs.Trees.Side.{Closed as ClosedKind, Shared as SharedKind, Dependent as DependentKind}
+use Rattle.row_laws.specs.Trees.Side.{Closed as ClosedKind, Shared as SharedKind}
+use Rattle.row_laws.specs.Trees.Side.{Dependent as DependentKind}
 use Rattle.sql_value.specs.declared.value.Value.{Value}
 use Rattle.sql_value.specs.declared.value.Value.TheVariants.{Null}
 use Rattle.sql_value.specs.Value.{same_value}
@@ -18,7 +20,8 @@ use Rattle.tpch_schema.specs.Tables.{kinds_of}
 use Rattle.algebra.specs.declared.aggregate.Aggregate.{Aggregate}
 use Rattle.algebra.specs.declared.tree.DepTree.{DepTree, DepTree-F}
 use Rattle.algebra.specs.declared.tree.DepTree.TheFolds.{fold-DepTree}
-use Rattle.algebra.specs.declared.tree.DepTree.TheOpen.{Scan, Select, Project, Join, Outer, Mark, Single, Group, Distinct}
+use Rattle.algebra.specs.declared.tree.DepTree.TheOpen.{Scan, Select, Project, Join, Outer, Mark}
+use Rattle.algebra.specs.declared.tree.DepTree.TheOpen.{Single, Group, Distinct}
 use Rattle.algebra.specs.declared.tree.Side.{Side}
 use Rattle.algebra.specs.declared.tree.Side.TheVariants.{Closed, Shared, Dependent}
 use Rattle.aggregates.specs.Values.{written, value_rank}
@@ -71,9 +74,11 @@ unfoldable pub aggregates_under : List Aggregate → List Value → List (Ranked
 aggregates_under aggregates d rows = aggregates_of aggregates (map (after d) rows)
 
 -- GROUP BY under the domain row d; without columns one group of all rows, also where there are none
-abbrev pub groups_under : List ℕ → List Aggregate → List Value → List (Ranked Value) → List (Ranked Value)
+abbrev pub groups_under : List ℕ → List Aggregate → List Value → List (Ranked Value)
+    → List (Ranked Value)
 groups_under [] aggregates d rows = total (aggregates_under aggregates d) rows
-groups_under (c ∷ cs) aggregates d rows = group_by same_value (keys_under (c ∷ cs) d) (aggregates_under aggregates d) rows
+groups_under (c ∷ cs) aggregates d rows =
+    group_by same_value (keys_under (c ∷ cs) d) (aggregates_under aggregates d) rows
 
 -- what a tree is
 pub record TreeMeaning : Type 0 where
@@ -97,11 +102,14 @@ outer_joined l r side c = record {
   scans = l.scans ++ r.scans;
   domains = l.domains + r.domains + own_domains (side_of side);
   width = l.width + r.width;
-  rows = λ db d. outer_loop (replicate r.width Null) (says c d) (l.rows db d) (λ x. r.rows db (right_row side d x));
+  rows = λ db d. outer_loop (replicate r.width Null) (says c d) (l.rows db d)
+      (λ x. r.rows db (right_row side d x));
 }
 
--- one more column at the left rows: a value of each left row under d, and of the right rows under it
-abbrev pub attached : TreeMeaning → TreeMeaning → Side → (List Value → List Value → List (Ranked Value) → Value) → TreeMeaning
+-- one more column at the left rows: a value of each left row under d, and of the right rows under
+-- it
+abbrev pub attached : TreeMeaning → TreeMeaning → Side
+    → (List Value → List Value → List (Ranked Value) → Value) → TreeMeaning
 attached l r side value = record {
   scans = l.scans ++ r.scans;
   domains = l.domains + r.domains + own_domains (side_of side);
@@ -111,15 +119,23 @@ attached l r side value = record {
 
 -- a node, from the meanings of its parts
 abbrev pub tree_step : DepTree-F TreeMeaning → TreeMeaning
-tree_step (Scan table) = record { scans = table ∷ []; domains = 0; width = length (kinds_of table); rows = λ db d. scanned (db table) }
+tree_step (Scan table) = record {
+  scans = table ∷ [];
+  domains = 0;
+  width = length (kinds_of table);
+  rows = λ db d. scanned (db table);
+}
 tree_step (Select t c) = record t { rows = λ db d. select (says c d) (t.rows db d) }
-tree_step (Project t es) = record t { width = length es; rows = λ db d. project (listed es d) (t.rows db d) }
+tree_step (Project t es) =
+    record t { width = length es; rows = λ db d. project (listed es d) (t.rows db d) }
 tree_step (Join l r side c) = joined l r side c
 tree_step (Outer l r side c) = outer_joined l r side c
 tree_step (Mark l r side c) = attached l r side (mark_under c)
 tree_step (Single l r side i) = attached l r side (λ d. scalar_at i)
-tree_step (Group t by aggregates) =
-    record t { width = length by + length aggregates; rows = λ db d. groups_under by aggregates d (t.rows db d) }
+tree_step (Group t by aggregates) = record t {
+  width = length by + length aggregates;
+  rows = λ db d. groups_under by aggregates d (t.rows db d);
+}
 tree_step (Distinct t) = record t { rows = λ db d. distinct same_value (t.rows db d) }
 
 -- a whole tree, node by node from its leaves
@@ -138,6 +154,7 @@ domains_of t = (tree_meaning t).domains
 unfoldable pub width_of : DepTree → ℕ
 width_of t = (tree_meaning t).width
 
--- the tree's rows over a database by nested loops, under the domain row d: a right side is taken anew under each left row
+-- the tree's rows over a database by nested loops, under the domain row d: a right side is taken
+-- anew under each left row
 unfoldable pub tree_rows : DepTree → Database → List Value → List (Ranked Value)
 tree_rows t db d = (tree_meaning t).rows db d

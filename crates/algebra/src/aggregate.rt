@@ -14,7 +14,8 @@ use std::alloc::{AllocError, Global};
 pub enum Aggregate {
     /// How many rows there are.
     CountRows,
-    /// The function, the scale of its argument's numbers (0 where it has none), and the argument, read from each row.
+    /// The function, the scale of its argument's numbers (0 where it has none), and the argument,
+    /// read from each row.
     Of(AggregateFunction, Scale, Boxed<Expr>),
 }
 

@@ -8,10 +8,12 @@ use tpch_schema::TableName;
 /// A node's number in its plan, from 0.
 pub type NodeId = usize;
 
-/// A node of a flat plan. It reads the rows of the nodes that it names, and none of them anew for each row.
+/// A node of a flat plan. It reads the rows of the nodes that it names, and none of them anew for
+/// each row.
 ///
-/// Pairs match a column of the left node with one of the right node: a left row's partners are the right rows whose matched
-/// columns are identical to its own. The matched columns of the right row are dropped from the result.
+/// Pairs match a column of the left node with one of the right node: a left row's partners are the
+/// right rows whose matched columns are identical to its own. The matched columns of the right row
+/// are dropped from the result.
 #[derive(Drop)]
 pub enum Node {
     /// The rows of a table.
@@ -24,16 +26,18 @@ pub enum Node {
     Project(NodeId, Items<Expr>),
     /// The inner join of a left and a right node under a condition over the combined row.
     Join(NodeId, NodeId, Items<(u32, u32)>, Boxed<Expr>),
-    /// The left outer join. The number is that of the nulls which a left row without a kept partner gets.
+    /// The left outer join. The number is that of the nulls which a left row without a kept partner
+    /// gets.
     Outer(NodeId, NodeId, Items<(u32, u32)>, u32, Boxed<Expr>),
     /// Each left row with its mark.
     Mark(NodeId, NodeId, Items<(u32, u32)>, Boxed<Expr>),
     /// Each left row with the value of its one partner, in this column of what is left of it.
     Single(NodeId, NodeId, Items<(u32, u32)>, u32),
-    /// The groups by these columns, with aggregates. Without columns all rows are one group, also where there are none.
+    /// The groups by these columns, with aggregates. Without columns all rows are one group, also
+    /// where there are none.
     Group(NodeId, Items<u32>, Items<Aggregate>),
-    /// The groups of the first node, which are by just the columns of the second one, a domain; and each of its rows that
-    /// has no group, with the aggregates of no rows.
+    /// The groups of the first node, which are by just the columns of the second one, a domain; and
+    /// each of its rows that has no group, with the aggregates of no rows.
     Fill(NodeId, NodeId, Items<Value>),
     /// Identical rows once.
     Distinct(NodeId),

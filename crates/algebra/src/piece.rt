@@ -18,7 +18,8 @@ enum Live {
     At(Items<u32>),
 }
 
-/// A part of a table: a share of a stored segment, and which of its rows are there. It is seen as the list of these rows.
+/// A part of a table: a share of a stored segment, and which of its rows are there. It is seen as
+/// the list of these rows.
 #[derive(Drop)]
 pub struct Piece {
     segment: Segment,
@@ -41,8 +42,10 @@ impl Model for Piece {
 #[tactic(auto, using(crate::proofs::LiveRows::live))]
 fn live_batch(alloc: Global, segment: &Segment, places: &[u32]) -> Result<Batch, AllocError>
     requires { AreBelow (length segment.now) places.now }
-    ensures rows { IfOk result (λ b. b.rows ≡ standing_rows (gathered [] segment.now places.now)) }
-    ensures width { IfOk result (λ b. All (λ row. length row ≡ b.width) (gathered [] segment.now places.now)) }
+    ensures rows { IfOk result (λ b.
+        b.rows ≡ standing_rows (gathered [] segment.now places.now)) }
+    ensures width { IfOk result (λ b.
+        All (λ row. length row ≡ b.width) (gathered [] segment.now places.now)) }
 {
     let batch = segment.batch().gather(alloc, places)?;
     Ok(batch)

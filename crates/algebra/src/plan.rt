@@ -7,7 +7,8 @@ use order_limit::OrderKey;
 use sqlite_items::Items;
 use std::alloc::{AllocError, Global};
 
-/// A plan in which no node depends on the rows of another: each names nodes before it. The last node's rows are the result.
+/// A plan in which no node depends on the rows of another: each names nodes before it. The last
+/// node's rows are the result.
 #[derive(Drop)]
 pub struct FlatPlan {
     /// The nodes, each after those that it names.

@@ -4,8 +4,8 @@ ghost use Rattle.std.specs.Prelude.{◌≡◌, ◌+◌, ◌<◌};
 use std::marker::Model;
 use std::sync::ledger::{Blank, Book, Ledger, Share};
 
-/// How many steps were taken. It takes no bytes, and only `add` changes it. What a step is says who adds: for a scan of a
-/// table, a row that it hands out.
+/// How many steps were taken. It takes no bytes, and only `add` changes it. What a step is says who
+/// adds: for a scan of a table, a row that it hands out.
 #[derive(Drop)]
 pub struct Steps<L: Ledger> {
     book: Book<L>,

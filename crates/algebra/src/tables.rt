@@ -20,7 +20,7 @@ pub trait Tables {
         ensures count { result ≡ length (rows self.now table) }
         ensures kinds { HasKinds (rows self.now) };
 
-    /// The table's rows in pieces, one behind the other. Out of memory may have taken fewer steps.
+    /// The table's rows in pieces, one after the other. Out of memory may have taken fewer steps.
     fn scan<L: Ledger>(
         &self,
         alloc: Global,

@@ -19,8 +19,9 @@ pub enum Side {
     Dependent(Items<u32>),
 }
 
-/// A tree over a domain row d. Its rows are its own columns; its expressions read the columns of d, and after these those
-/// of a row of its input. A right side is a tree over a domain row of its own, by `Side`.
+/// A tree over a domain row d. Its rows are its own columns; its expressions read the columns of d,
+/// and after these those of a row of its input. A right side is a tree over a domain row of its
+/// own, by `Side`.
 #[cycle(tree)]
 #[derive(Drop)]
 pub enum DepTree {
@@ -34,12 +35,14 @@ pub enum DepTree {
     Join(Boxed<DepTree>, Boxed<DepTree>, Side, Boxed<Expr>),
     /// The left outer join under a condition.
     Outer(Boxed<DepTree>, Boxed<DepTree>, Side, Boxed<Expr>),
-    /// EXISTS, IN: each left row with one more column, its mark under the condition over the left row and a right one.
+    /// EXISTS, IN: each left row with one more column, its mark under the condition over the left
+    /// row and a right one.
     Mark(Boxed<DepTree>, Boxed<DepTree>, Side, Boxed<Expr>),
-    /// A scalar subquery: each left row with one more column, the value of the right side's column of this number.
+    /// A scalar subquery: each left row with one more column, the value of the right side's column
+    /// of this number.
     Single(Boxed<DepTree>, Boxed<DepTree>, Side, u32),
-    /// GROUP BY: for each group these columns and its aggregates. Without columns all rows are one group, also where there
-    /// are none.
+    /// GROUP BY: for each group these columns and its aggregates. Without columns all rows are one
+    /// group, also where there are none.
     Group(Boxed<DepTree>, Items<u32>, Items<Aggregate>),
     /// DISTINCT.
     Distinct(Boxed<DepTree>),

@@ -16,7 +16,8 @@ use std::marker::Model;
 use std::sync::ledger::Ledger;
 use tpch_schema::{TableName, are_of_kinds};
 
-/// The rows of the eight tables, each of its table's kinds. A scan hands out shares of their segments.
+/// The rows of the eight tables, each of its table's kinds. A scan hands out shares of their
+/// segments.
 #[derive(Drop)]
 pub struct WholeTables {
     region: Rows,
@@ -36,9 +37,11 @@ impl Model for WholeTables {
 
     ghost Value = { State };
 
-    ghost view = { λ t. of_tables t.region t.nation t.part t.supplier t.partsupp t.customer t.orders t.lineitem };
+    ghost view = { λ t. of_tables t.region t.nation t.part t.supplier t.partsupp t.customer
+        t.orders t.lineitem };
 
-    ghost invariant = { λ t. HasKinds (table_rows (of_tables t.region t.nation t.part t.supplier t.partsupp t.customer t.orders t.lineitem)) };
+    ghost invariant = { λ t. HasKinds (table_rows (of_tables t.region t.nation t.part t.supplier
+        t.partsupp t.customer t.orders t.lineitem)) };
 }
 
 impl WholeTables {

@@ -1,5 +1,6 @@
 //! LIKE: texts against patterns.
-ghost use Rattle.std.specs.Prelude.{◌≡◌, ℕ, ◌+◌, ◌<◌, ◌≤◌, List, length, take, drop, true, false, IsTrue, IsNone, IfSome, MatchOption};
+ghost use Rattle.std.specs.Prelude.{◌≡◌, ℕ, ◌+◌, ◌<◌, ◌≤◌, List, length, take, drop, true, false};
+ghost use Rattle.std.specs.Prelude.{IsTrue, IsNone, IfSome, MatchOption};
 ghost use Rattle.ascii_text.specs.Pattern.{is_like, some_rest};
 ghost use Rattle.ascii_text.specs.Parts.{fits, has_no_percent, IsNoFit, IsFirstFit, IsPercent};
 
@@ -64,7 +65,8 @@ fn place_behind(text: &[u8], pattern: &[u8], part: usize) -> Option<usize>
     requires { IsPercent pattern.now part }
     ensures missing { IsNone result → some_rest (is_like pattern.now) text.now ≡ false }
     ensures found { IfSome result (λ behind. (behind ≤ length text.now)
-        × (some_rest (is_like pattern.now) text.now ≡ some_rest (is_like (drop (part + 1) pattern.now)) (drop behind text.now))) }
+        × (some_rest (is_like pattern.now) text.now
+        ≡ some_rest (is_like (drop (part + 1) pattern.now)) (drop behind text.now))) }
 {
     let place = first_fit(&pattern[..part], text)?;
     Some(place + part)

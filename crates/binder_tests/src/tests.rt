@@ -1,6 +1,5 @@
 //! Statements with their refusals, by the rules of the dialect.
-mod queries;
-
+use parser_tests::QUERIES;
 use sql_ast::Statement;
 use sql_binder::laws::{bound_or_refused, names_are_innermost, worked_bindings, worked_refusals};
 use sql_binder::{BindFault, Views, bind, bind_view};
@@ -84,7 +83,7 @@ fn gives(alloc: Global, script: &[u8], wanted: &[u8]) -> bool {
 #[test]
 fn the_queries_are_bound(rt: HostRuntime) {
     let alloc = rt.alloc();
-    assert!(rt; gives(alloc, queries::QUERIES, &[0; 24]));
+    assert!(rt; gives(alloc, QUERIES, &[0; 24]));
 }
 
 #[test]

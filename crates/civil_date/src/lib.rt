@@ -42,8 +42,8 @@ impl Model for CivilDate {
 }
 
 impl CivilDate {
-    /// The date that a text spells: four digits, a hyphen, two digits, a hyphen and two digits, and a day that the
-    /// calendar has.
+    /// The date that a text spells: four digits, a hyphen, two digits, a hyphen and two digits, and
+    /// a day that the calendar has.
     pub fn read(text: &[u8]) -> Result<CivilDate, DateFault>
         ensures { result ≡ ok_or (date_of text.now) DateFault.BadDate }
     {

@@ -1,8 +1,12 @@
 //! Dates moved by intervals.
-ghost use Rattle.std.specs.Prelude.{◌≡◌, ℕ, ◌+◌, ◌-◌, ◌*◌, ◌/◌, ◌%◌, ◌≤◌, ◌<◌, ◌^◌, ℤ, pos, ◌+ℤ◌, ◌*ℤ◌, ◌≤ℤ◌, IsTrue, IfOk, unsigned_abs, neg_ℤ, MatchOption, Ok, IsOk, ◌↔◌, ◌<ℤ◌};
+ghost use Rattle.std.specs.Prelude.{◌≡◌, ℕ, ◌+◌, ◌-◌, ◌*◌, ◌/◌, ◌%◌, ◌≤◌, ◌<◌, ◌^◌, ℤ, pos, ◌+ℤ◌};
+ghost use Rattle.std.specs.Prelude.{◌*ℤ◌, ◌≤ℤ◌, IsTrue, IfOk, unsigned_abs, neg_ℤ, MatchOption, Ok};
+ghost use Rattle.std.specs.Prelude.{IsOk, ◌↔◌, ◌<ℤ◌};
 ghost use Rattle.jiff.specs.Words.{IsYmd, IsBetween, IsEpochDay, epoch_day};
 ghost use Rattle.civil_date.specs.Date.{is_date, is_day, date_number};
-ghost use Rattle.civil_date.specs.Move.{day_of_date, days_moved, in_years, month_number, months_moved, moved, month_days, day_in_month, IsMonthOutside};
+ghost use Rattle.civil_date.specs.Move.{day_of_date, days_moved, in_years, month_number};
+ghost use Rattle.civil_date.specs.Move.{months_moved, moved, month_days, day_in_month};
+ghost use Rattle.civil_date.specs.Move.{IsMonthOutside};
 
 use crate::{CivilDate, DateFault};
 use jiff::ToSpan;
@@ -32,8 +36,9 @@ pub struct Interval {
 const MOST_DAYS: u32 = 7_304_484;
 
 impl CivilDate {
-    /// The date moved by the interval. A month or year later or earlier is the same day of the month, or the
-    /// month's last day where it has fewer. DateRange where that leaves the years 1 to 9999.
+    /// The date moved by the interval. A month or year later or earlier is the same day of the
+    /// month, or the month's last day where it has fewer. DateRange where that leaves the years 1
+    /// to 9999.
     pub fn plus(&self, by: Interval) -> Result<CivilDate, DateFault>
         ensures { result ≡ moved self.now by.count by.unit }
     {
@@ -46,7 +51,8 @@ impl CivilDate {
 
     fn plus_years(&self, count: i64) -> Result<CivilDate, DateFault>
         requires { IsBetween (neg_ℤ (pos (2 ^ 32))) (pos (2 ^ 32)) count }
-        ensures { result ≡ months_moved (day_of_date self.now) (pos (month_number (day_of_date self.now)) +ℤ count *ℤ pos 12) }
+        ensures { result ≡ months_moved (day_of_date self.now)
+            (pos (month_number (day_of_date self.now)) +ℤ count *ℤ pos 12) }
     {
         self.plus_months(12 * count)
     }
@@ -54,7 +60,8 @@ impl CivilDate {
     #[tactic(auto, using(crate::proofs::Months::months_outside, crate::proofs::Months::months_inside))]
     fn plus_months(&self, count: i64) -> Result<CivilDate, DateFault>
         requires { IsBetween (neg_ℤ (pos (2 ^ 36))) (pos (2 ^ 36)) count }
-        ensures { result ≡ months_moved (day_of_date self.now) (pos (month_number (day_of_date self.now)) +ℤ count) }
+        ensures { result ≡ months_moved (day_of_date self.now)
+            (pos (month_number (day_of_date self.now)) +ℤ count) }
     {
         let number = 12 * self.year() + (self.month() - 1);
         match month_moved(number, count) {
@@ -79,7 +86,8 @@ impl CivilDate {
 
     // The same day as the library has it.
     fn to_jiff(&self) -> Date
-        ensures day { IsYmd (pos (self.now / 10000)) (pos (self.now / 100 % 100)) (pos (self.now % 100)) result }
+        ensures day { IsYmd (pos (self.now / 10000)) (pos (self.now / 100 % 100))
+            (pos (self.now % 100)) result }
         ensures valid { IsTrue (is_date self.now) }
     {
         date(self.year() as i16, self.month() as i8, self.day() as i8)
@@ -98,7 +106,8 @@ fn days_after(from: Date, count: i32) -> Result<Date, jiff::Error>
 // The library's day, where it is of the years from 1 on.
 fn of_years(day: Date) -> Result<CivilDate, DateFault>
     ensures early { day.year <ℤ pos 1 → result ≡ Err DateFault.DateRange }
-    ensures other { pos 1 ≤ℤ day.year → result ≡ Ok (date_number (unsigned_abs day.year) day.month day.day) }
+    ensures other { pos 1 ≤ℤ day.year
+        → result ≡ Ok (date_number (unsigned_abs day.year) day.month day.day) }
 {
     if day.year() < 1 {
         return Err(DateFault::DateRange);
@@ -110,7 +119,8 @@ fn of_years(day: Date) -> Result<CivilDate, DateFault>
 fn month_moved(number: u32, count: i64) -> Option<u32>
     requires number { number < 2 ^ 20 }
     requires count { IsBetween (neg_ℤ (pos (2 ^ 36))) (pos (2 ^ 36)) count }
-    ensures { MatchOption result (IsMonthOutside (pos number +ℤ count)) (λ n. (pos n ≡ pos number +ℤ count) × (12 ≤ n) × (n < 120000)) }
+    ensures { MatchOption result (IsMonthOutside (pos number +ℤ count))
+        (λ n. (pos n ≡ pos number +ℤ count) × (12 ≤ n) × (n < 120000)) }
 {
     let moved = i64::from(number) + count;
     if moved < 12 || moved >= 120_000 {

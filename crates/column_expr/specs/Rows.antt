@@ -24,7 +24,8 @@ truths_over e rows = map (λ r. truth e r.values) rows
 -- what operations make of values, one for each row, from left to right
 unfoldable pub operated_over : List Value → List Operation → List (Ranked Value) → List Value
 operated_over xs [] rows = xs
-operated_over xs (o ∷ os) rows = operated_over (zip_with (computed o.operator) xs (values_over o.operand rows)) os rows
+operated_over xs (o ∷ os) rows =
+    operated_over (zip_with (computed o.operator) xs (values_over o.operand rows)) os rows
 
 -- the lesser of truths, one for each row, and those of conditions
 unfoldable pub least_over : List Truth → List Expr → List (Ranked Value) → List Truth
@@ -39,12 +40,14 @@ greatest_over ts (e ∷ es) rows = greatest_over (zip_with greater ts (truths_ov
 -- the greater of truths, one for each row, and those that values equal those of expressions
 unfoldable pub equal_over : List Value → List Truth → List Expr → List (Ranked Value) → List Truth
 equal_over xs ts [] rows = ts
-equal_over xs ts (e ∷ es) rows = equal_over xs (zip_with greater ts (zip_with (compared Equal) xs (values_over e rows))) es rows
+equal_over xs ts (e ∷ es) rows =
+    equal_over xs (zip_with greater ts (zip_with (compared Equal) xs (values_over e rows))) es rows
 
 -- what the first branch that decides gives, or else the rest, row by row
 unfoldable pub chosen_over : List Branch → List Value → List (Ranked Value) → List Value
 chosen_over [] rest rows = rest
-chosen_over (b ∷ bs) rest rows = zip_three choice (truths_over b.when rows) (values_over b.gives rows) (chosen_over bs rest rows)
+chosen_over (b ∷ bs) rest rows =
+    zip_three choice (truths_over b.when rows) (values_over b.gives rows) (chosen_over bs rest rows)
 
 -- the values of expressions over each row, expression by expression
 abbrev pub columns_over : List Expr → List (Ranked Value) → List (List Value)

@@ -1,7 +1,9 @@
 //! Operators at the values of expressions: at one value for all rows, or column by column.
 ghost use Rattle.std.specs.Prelude.{◌≡◌, IfOk, length, map};
-ghost use Rattle.operators.specs.declared.operator.Comparison.TheVariants.{LessOrEqual as AtMost, GreaterOrEqual as AtLeast};
-ghost use Rattle.operators.specs.Operators.{at_scale, compared, computed, extracted, liked, negative, null_test, part_of, truth_of_mark};
+ghost use Rattle.operators.specs.declared.operator.Comparison.TheVariants.{LessOrEqual as AtMost};
+ghost use Rattle.operators.specs.declared.operator.Comparison.TheVariants.{GreaterOrEqual as AtLeast};
+ghost use Rattle.operators.specs.Operators.{at_scale, compared, computed, extracted, liked};
+ghost use Rattle.operators.specs.Operators.{negative, null_test, part_of, truth_of_mark};
 ghost use Rattle.sql_value.specs.Truth.{lesser};
 ghost use Rattle.column_operators.specs.Choices.{choice};
 ghost use Rattle.column_operators.specs.Zips.{zip_three, zip_with};
@@ -70,7 +72,8 @@ pub(crate) fn part_operand<'a>(
     count: u32,
     n: usize,
 ) -> Result<Operand<'a>, AllocError>
-    ensures { IfOk result (λ o. over n o ≡ map (part_of from count) (over n (shape_lanes x.entry))) }
+    ensures { IfOk result (λ o. over n o
+        ≡ map (part_of from count) (over n (shape_lanes x.entry))) }
 {
     match x {
         Shape::One(value) => {
@@ -124,7 +127,9 @@ pub(crate) fn computed_operand<'a>(
 ) -> Result<Operand<'a>, AllocError>
     requires x { length (over n (shape_lanes x)) ≡ n }
     requires y { length (over n (shape_lanes y)) ≡ n }
-    ensures { IfOk result (λ o. over n o ≡ zip_with (computed operator) (over n (shape_lanes x.entry)) (over n (shape_lanes y.entry))) }
+    ensures { IfOk result (λ o. over n o
+        ≡ zip_with (computed operator) (over n (shape_lanes x.entry))
+        (over n (shape_lanes y.entry))) }
 {
     match (x, y) {
         (Shape::One(v), Shape::One(w)) => Ok(Operand::one(computed(operator, v, w))),
@@ -154,7 +159,9 @@ pub(crate) fn compared_truths(
 ) -> Result<Vec<Truth>, AllocError>
     requires x { length (over n (shape_lanes x)) ≡ n }
     requires y { length (over n (shape_lanes y)) ≡ n }
-    ensures { IfOk result (λ v. v.items ≡ zip_with (compared comparison) (over n (shape_lanes x.entry)) (over n (shape_lanes y.entry))) }
+    ensures { IfOk result (λ v. v.items
+        ≡ zip_with (compared comparison) (over n (shape_lanes x.entry))
+        (over n (shape_lanes y.entry))) }
 {
     match (x, y) {
         (Shape::One(v), Shape::One(w)) => Vec::from_elem(alloc, compared(comparison, v, w), n),
@@ -179,7 +186,11 @@ pub(crate) fn between_truths(
     requires x { length (over n (shape_lanes x)) ≡ n }
     requires least { length (over n (shape_lanes least)) ≡ n }
     requires greatest { length (over n (shape_lanes greatest)) ≡ n }
-    ensures { IfOk result (λ v. v.items ≡ zip_with lesser (zip_with (compared AtLeast) (over n (shape_lanes x.entry)) (over n (shape_lanes least.entry))) (zip_with (compared AtMost) (over n (shape_lanes x.entry)) (over n (shape_lanes greatest.entry)))) }
+    ensures { IfOk result (λ v. v.items
+        ≡ zip_with lesser (zip_with (compared AtLeast) (over n (shape_lanes x.entry))
+        (over n (shape_lanes least.entry)))
+        (zip_with (compared AtMost) (over n (shape_lanes x.entry))
+        (over n (shape_lanes greatest.entry)))) }
 {
     let above = compared_truths(alloc, Comparison::GreaterOrEqual, x, least, n)?;
     let below = compared_truths(alloc, Comparison::LessOrEqual, x, greatest, n)?;

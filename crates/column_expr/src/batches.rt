@@ -26,7 +26,8 @@ pub fn values_of(alloc: Global, e: &Expr, batch: &Batch) -> Result<Column, Alloc
 #[tactic(auto, using(crate::proofs::Ranks::ranks_are), unfolding(crate::specs::Rows::truths_over))]
 pub fn truths_of(alloc: Global, e: &Expr, batch: &Batch) -> Result<Vec<Truth>, AllocError>
     ensures truths { IfOk result (λ v. v.items ≡ map (λ r. truth e.now r.values) batch.now.rows) }
-    ensures ranks { IfOk result (λ v. map truth_rank v.items ≡ map (λ r. rank_of e.now r.values) batch.now.rows) }
+    ensures ranks { IfOk result
+        (λ v. map truth_rank v.items ≡ map (λ r. rank_of e.now r.values) batch.now.rows) }
 {
     let truths = condition(alloc, e, batch, batch.len())?;
     Ok(truths)

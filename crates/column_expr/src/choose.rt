@@ -10,7 +10,8 @@ use columns::Column;
 use sql_value::Truth;
 use std::alloc::{AllocError, Global};
 
-/// A branch of a CASE: its value where its condition is True, a fault where that is one, else the rest.
+/// A branch of a CASE: its value where its condition is True, a fault where that is one, else the
+/// rest.
 #[tactic(auto, using(crate::proofs::Lists::ones))]
 pub(crate) fn chosen_operand<'a>(
     alloc: Global,
@@ -22,7 +23,9 @@ pub(crate) fn chosen_operand<'a>(
     requires truths { length truths.now ≡ n }
     requires gives { length (over n (shape_lanes gives)) ≡ n }
     requires rest { length (over n (shape_lanes rest)) ≡ n }
-    ensures { IfOk result (λ o. over n o ≡ zip_three choice truths.now (over n (shape_lanes gives.entry)) (over n (shape_lanes rest.entry))) }
+    ensures { IfOk result (λ o. over n o
+        ≡ zip_three choice truths.now (over n (shape_lanes gives.entry))
+        (over n (shape_lanes rest.entry))) }
 {
     match (gives, rest) {
         (Shape::One(v), Shape::One(w)) => {

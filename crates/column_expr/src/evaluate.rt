@@ -1,11 +1,12 @@
-//! Evaluation over the rows of a batch. Each node is evaluated over all rows at once; a fault is a value like any other, so
-//! that what a row doesn't ask for does no harm.
+//! Evaluation over the rows of a batch. Each node is evaluated over all rows at once; a fault is a
+//! value like any other, so that what a row doesn't ask for does no harm.
 ghost use Rattle.std.specs.Prelude.{◌≡◌, IfOk, length, replicate};
 ghost use Rattle.sql_value.specs.declared.truth.Standing.TheVariants.{AtTrue as True};
 ghost use Rattle.sql_value.specs.declared.truth.Truth.TheVariants.{False as Never, Stands as At};
 ghost use Rattle.columns.specs.Batches.{column_at};
 ghost use Rattle.column_expr.specs.Lanes.{over};
-ghost use Rattle.column_expr.specs.Rows.{chosen_over, equal_over, greatest_over, least_over, operated_over, truths_over, values_over};
+ghost use Rattle.column_expr.specs.Rows.{chosen_over, equal_over, greatest_over, least_over};
+ghost use Rattle.column_expr.specs.Rows.{operated_over, truths_over, values_over};
 
 use crate::apply::{
     between_truths, compared_truths, computed_operand, extracted_operand, liked_truths,
@@ -108,7 +109,8 @@ fn operated<'a>(
 ) -> Result<Operand<'a>, AllocError>
     requires rows { n ≡ length batch.now.rows }
     requires long { length (over n first) ≡ n }
-    ensures { IfOk result (λ o. over n o ≡ operated_over (over n first.entry) operations.now batch.now.rows) }
+    ensures { IfOk result (λ o. over n o
+        ≡ operated_over (over n first.entry) operations.now batch.now.rows) }
 {
     let mut x = first;
     for operation in operations {
@@ -129,7 +131,8 @@ fn chosen<'a>(
 ) -> Result<Operand<'a>, AllocError>
     requires rows { n ≡ length batch.now.rows }
     requires long { length (over n rest) ≡ n }
-    ensures { IfOk result (λ o. over n o ≡ chosen_over branches.now (over n rest.entry) batch.now.rows) }
+    ensures { IfOk result (λ o. over n o
+        ≡ chosen_over branches.now (over n rest.entry) batch.now.rows) }
 {
     let mut x = rest;
     for i in 0..branches.len() {
@@ -213,7 +216,8 @@ fn tested(alloc: Global, e: &Expr, batch: &Batch, n: usize) -> Result<Vec<Truth>
 #[cycle(evaluate)]
 fn least(alloc: Global, es: &[Expr], batch: &Batch, n: usize) -> Result<Vec<Truth>, AllocError>
     requires { n ≡ length batch.now.rows }
-    ensures { IfOk result (λ v. v.items ≡ least_over (replicate n (At True)) es.now batch.now.rows) }
+    ensures { IfOk result (λ v. v.items
+        ≡ least_over (replicate n (At True)) es.now batch.now.rows) }
 {
     let mut truths = Vec::from_elem(alloc, Truth::Stands(Standing::AtTrue), n)?;
     for e in es {
@@ -248,7 +252,8 @@ fn equal_to_any(
 ) -> Result<Vec<Truth>, AllocError>
     requires rows { n ≡ length batch.now.rows }
     requires long { length (over n x.now) ≡ n }
-    ensures { IfOk result (λ v. v.items ≡ equal_over (over n x.now) (replicate n Never) es.now batch.now.rows) }
+    ensures { IfOk result (λ v. v.items
+        ≡ equal_over (over n x.now) (replicate n Never) es.now batch.now.rows) }
 {
     let mut truths = Vec::from_elem(alloc, Truth::False, n)?;
     for e in es {

@@ -75,7 +75,8 @@ impl<'a> Operand<'a> {
         }
     }
 
-    /// The values of n rows as a column: a further share of a stored column, and a copy of another one that is lent.
+    /// The values of n rows as a column: a further share of a stored column, and a copy of another
+    /// one that is lent.
     pub(crate) fn into_column(self, alloc: Global, n: usize) -> Result<Column, AllocError>
         ensures { IfOk result (λ c. c ≡ over n self.entry) }
     {

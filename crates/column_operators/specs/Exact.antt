@@ -5,7 +5,8 @@ use Rattle.sql_value.specs.declared.value.Value.TheVariants.{Number, Date}
 use Rattle.operators.specs.Operators.{compared}
 use Rattle.operators.specs.declared.operator.Comparison.{Comparison}
 use Rattle.operators.specs.declared.operator.Arithmetic.{Arithmetic}
-use Rattle.operators.specs.declared.operator.Arithmetic.TheVariants.{Add, Subtract, Multiply, Divide}
+use Rattle.operators.specs.declared.operator.Arithmetic.TheVariants.{Add, Subtract, Multiply}
+use Rattle.operators.specs.declared.operator.Arithmetic.TheVariants.{Divide}
 
 -- the operator is taken at coefficients of these scales as they are
 abbrev pub is_exact : Arithmetic → ℕ → ℕ → Bool

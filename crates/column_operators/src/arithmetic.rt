@@ -78,7 +78,10 @@ fn exact_column(
 ) -> Result<Option<Column>, AllocError>
     requires long { length xs.now ≡ length ys.now }
     requires exact { is_exact operator s t ≡ true }
-    ensures { IfOk result (λ r. IfSome r (λ c. c ≡ zip_with (computed operator) (map (Number s) xs.now) (map (Number t) ys.now))) }
+    ensures { IfOk result
+        (λ r. IfSome r
+        (λ c. c ≡ zip_with (computed operator) (map (Number s) xs.now)
+        (map (Number t) ys.now))) }
 {
     match numbers(alloc, operator, s, xs, t, ys)? {
         Some(zs) => {
@@ -115,7 +118,8 @@ fn exact_scale(operator: Arithmetic, s: Scale, t: Scale) -> Scale
 #[tactic(auto, using(crate::proofs::Words64::words))]
 fn number(operator: Arithmetic, s: Scale, x: i64, t: Scale, y: i64) -> Option<i64>
     requires { is_exact operator s t ≡ true }
-    ensures { IfSome result (λ z. computed operator (Number s x) (Number t y) ≡ Number (exact_scale operator s t) z) }
+    ensures { IfSome result
+        (λ z. computed operator (Number s x) (Number t y) ≡ Number (exact_scale operator s t) z) }
 {
     match operator {
         Arithmetic::Add => x.checked_add(y),
@@ -136,7 +140,10 @@ fn numbers(
 ) -> Result<Option<Vec<i64>>, AllocError>
     requires long { length xs.now ≡ length ys.now }
     requires exact { is_exact operator s t ≡ true }
-    ensures { IfOk result (λ r. IfSome r (λ v. map (Number (exact_scale operator s t)) v.items ≡ zip_with (computed operator) (map (Number s) xs.now) (map (Number t) ys.now))) }
+    ensures { IfOk result
+        (λ r. IfSome r
+        (λ v. map (Number (exact_scale operator s t)) v.items
+        ≡ zip_with (computed operator) (map (Number s) xs.now) (map (Number t) ys.now))) }
 {
     let mut zs = Vec::with_capacity(alloc, xs.len())?;
     for i in 0..xs.len() {

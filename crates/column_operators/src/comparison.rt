@@ -63,7 +63,8 @@ fn compared_numbers(
     b: &Column,
 ) -> Result<Option<Vec<Truth>>, AllocError>
     requires { length a.now ≡ length b.now }
-    ensures { IfOk result (λ r. IfSome r (λ v. v.items ≡ zip_with (compared comparison) a.now b.now)) }
+    ensures { IfOk result (λ r.
+        IfSome r (λ v. v.items ≡ zip_with (compared comparison) a.now b.now)) }
 {
     let Some(left) = a.as_numbers() else {
         return Ok(None);
@@ -85,7 +86,8 @@ fn numbers(
     ys: &[i64],
 ) -> Result<Vec<Truth>, AllocError>
     requires { length xs.now ≡ length ys.now }
-    ensures { IfOk result (λ v. v.items ≡ zip_with (λ x y. number_compared comparison s x t y) xs.now ys.now) }
+    ensures { IfOk result
+        (λ v. v.items ≡ zip_with (λ x y. number_compared comparison s x t y) xs.now ys.now) }
 {
     let mut truths = Vec::with_capacity(alloc, xs.len())?;
     for i in 0..xs.len() {
@@ -119,7 +121,8 @@ fn compared_dates(
     b: &Column,
 ) -> Result<Option<Vec<Truth>>, AllocError>
     requires { length a.now ≡ length b.now }
-    ensures { IfOk result (λ r. IfSome r (λ v. v.items ≡ zip_with (compared comparison) a.now b.now)) }
+    ensures { IfOk result (λ r.
+        IfSome r (λ v. v.items ≡ zip_with (compared comparison) a.now b.now)) }
 {
     let Some(xs) = a.as_dates() else {
         return Ok(None);

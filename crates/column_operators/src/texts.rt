@@ -1,4 +1,5 @@
-//! Operators on texts of a dictionary: once for each of its texts, then row by row by the texts' codes.
+//! Operators on texts of a dictionary: once for each of its texts, then row by row by the texts'
+//! codes.
 ghost use Rattle.std.specs.Prelude.{◌≡◌, [], IfOk, IfSome, length, map};
 ghost use Rattle.sql_value.specs.declared.truth.Truth.TheVariants.{False as Never};
 ghost use Rattle.sql_value.specs.declared.value.Value.TheVariants.{Text as TextOf};
@@ -38,7 +39,8 @@ pub(crate) fn compared_codes(
     b: &Column,
 ) -> Result<Option<Vec<Truth>>, AllocError>
     requires { length a.now ≡ length b.now }
-    ensures { IfOk result (λ r. IfSome r (λ v. v.items ≡ zip_with (compared comparison) a.now b.now)) }
+    ensures { IfOk result (λ r.
+        IfSome r (λ v. v.items ≡ zip_with (compared comparison) a.now b.now)) }
 {
     let Some((codes, dictionary)) = a.as_codes() else {
         return Ok(None);
@@ -72,7 +74,8 @@ fn compared_texts(
     texts: &[Text],
     one: &Text,
 ) -> Result<Vec<Truth>, AllocError>
-    ensures { IfOk result (λ v. v.items ≡ map (λ t. compared comparison (TextOf t) (TextOf one.now)) texts.now) }
+    ensures { IfOk result
+        (λ v. v.items ≡ map (λ t. compared comparison (TextOf t) (TextOf one.now)) texts.now) }
 {
     let mut truths = Vec::with_capacity(alloc, texts.len())?;
     for text in texts {

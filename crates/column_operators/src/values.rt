@@ -52,7 +52,8 @@ fn extracted_values(alloc: Global, part: DatePart, a: &Column) -> Result<Column,
 
 // The same of dates.
 fn date_parts(alloc: Global, part: DatePart, dates: &[CivilDate]) -> Result<Vec<i64>, AllocError>
-    ensures { IfOk result (λ v. map (Number 0) v.items ≡ map (extracted part) (map DateOf dates.now)) }
+    ensures { IfOk result (λ v. map (Number 0) v.items
+        ≡ map (extracted part) (map DateOf dates.now)) }
 {
     let mut numbers = Vec::with_capacity(alloc, dates.len())?;
     for date in dates {
@@ -110,7 +111,8 @@ fn choice(truth: Truth, gives: Value, rest: Value) -> Value
     }
 }
 
-/// A branch of a CASE, row by row: its value where its condition is True, a fault where that is one, else the rest.
+/// A branch of a CASE, row by row: its value where its condition is True, a fault where that is
+/// one, else the rest.
 pub fn chosen_column(
     alloc: Global,
     truths: &[Truth],

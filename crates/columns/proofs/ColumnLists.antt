@@ -1,6 +1,6 @@
 -- Lemmas on lists taken by place.
 use Rattle.std.proofs.Common.{◌≡◌, ◌<◌, ℕ, suc, zero, List, [], ◌∷◌, refl, ap, arith, length, map, get_or, None, replicate}
-use Rattle.std.proofs.lemmas.List.{get_or-map, get_or_default, take-map, length-map, replicate_more}
+use Rattle.std.proofs.lemmas.List.{get_or-map, take-map, length-map, replicate_more}
 use Rattle.sql_value.specs.declared.value.Value.TheVariants.{Null, Date, Text}
 use Rattle.columns.specs.Lists.{gathered, AreBelow}
 use Rattle.columns.specs.Numbers.{small_number}

@@ -1,22 +1,13 @@
 -- Lemmas on texts that are taken by their places and put one after the other.
-use Rattle.std.proofs.Common.{◌≡◌, ℕ, ◌+◌, ◌-◌, ◌<◌, ◌≤◌, suc, zero, List, [], ◌∷◌, ◌++◌, refl, sym, ap, ◌∙◌, subst, arith, length, get_or, take, drop, length-append, append_assoc}
+use Rattle.std.proofs.Common.{◌≡◌, ℕ, ◌+◌, ◌-◌, ◌<◌, ◌≤◌, suc, zero, List, [], ◌∷◌, ◌++◌, refl, sym, ap, ◌∙◌, subst, arith, length, get_or, take, length-append, append_assoc}
 use Rattle.std.specs.List.{All}
-use Rattle.std.proofs.lemmas.List.{length-take-le, length-drop, append-nil, take_more}
+use Rattle.std.proofs.lemmas.List.{take_more}
 use Rattle.ascii_text.specs.Printable.{AllPrintable}
 use Rattle.columns.specs.Lists.{gathered, AreBelow, one_list}
 use Rattle.columns.specs.Texts.{cut, texts_between, AreEnds, texts_of, AreTexts, ends_of}
-use Rattle.columns.proofs.TextLists.{cut_before, cut_last, of_at, start_at, end_at}
+use Rattle.columns.proofs.TextLists.{cut_before, cut_last}
 use Rattle.columns.proofs.CodeLists.{gathered-push}
 use Rattle.columns.proofs.RowLists.{one_list-push}
-
--- how many bytes a text has
-pub text_length : (bs es : List ℕ) (i : ℕ) → AreTexts bs es → i < length es → length (get_or (texts_of bs es) i []) ≡ get_or es i 0 - get_or (0 ∷ es) i 0
-text_length bs es i a h =
-    let start = get_or (0 ∷ es) i 0 in
-    let end = get_or es i 0 in
-    let s : start ≤ end = start_at bs es i a h in
-    let e : end ≤ length bs = end_at bs es i a h in
-    ap length (of_at bs es i [] h) ∙ length-take-le (end - start) (drop start bs) (omega (arith, s, e, length-drop start bs))
 
 -- one text more
 ends_push : (k : ℕ) (ts : List (List ℕ)) (t : List ℕ) → ends_of k (ts ++ t ∷ []) ≡ ends_of k ts ++ (k + length (one_list ts) + length t) ∷ []

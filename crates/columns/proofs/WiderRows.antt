@@ -1,14 +1,13 @@
 -- Lemmas on rows with more columns or fewer, and on the rows of batches together.
-use Rattle.std.proofs.Common.{◌≡◌, ℕ, ◌+◌, ◌-◌, ◌<◌, ◌≤◌, suc, zero, List, [], ◌∷◌, ◌++◌, refl, sym, ap, ◌∙◌, subst, arith, length, get_or, map, take, drop, replicate}
+use Rattle.std.proofs.Common.{◌≡◌, ℕ, ◌+◌, ◌-◌, ◌<◌, ◌≤◌, suc, zero, List, [], ◌∷◌, ◌++◌, refl, sym, ap, ◌∙◌, subst, arith, length, get_or, map, take, drop}
 use Rattle.std.specs.Prelude.{min}
 use Rattle.std.specs.List.{All}
 use Rattle.std.proofs.Math.Seq.{drop-cons}
 use Rattle.std.proofs.lemmas.List.{map-append, drop-map, length-map, length-append, length-drop, get_or-map, take_more, take_all, same_lists}
 use Rattle.row_laws.specs.Ranked.{Ranked, ranked, true_rank, Relation}
 use Rattle.row_laws.specs.Rows.{strip}
-use Rattle.sql_value.specs.declared.truth.Fault.TheVariants.{TooManyRows, DivideByZero, NumberRange}
 use Rattle.sql_value.specs.declared.truth.Standing.{Standing}
-use Rattle.sql_value.specs.declared.truth.Standing.TheVariants.{AtTrue, AtFault}
+use Rattle.sql_value.specs.declared.truth.Standing.TheVariants.{AtTrue}
 use Rattle.sql_value.specs.declared.value.Value.{Value}
 use Rattle.sql_value.specs.declared.value.Value.TheVariants.{Null}
 use Rattle.sql_value.specs.Truth.{standing_rank, lesser_standing}

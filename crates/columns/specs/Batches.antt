@@ -1,5 +1,6 @@
 -- Rows that lie in columns.
-use Rattle.std.specs.Prelude.{◌≡◌, ℕ, zero, suc, min, List, [], ◌∷◌, ◌++◌, map, length, slice_index_or}
+use Rattle.std.specs.Prelude.{◌≡◌, ℕ, zero, suc, min, List, [], ◌∷◌, ◌++◌, map, length}
+use Rattle.std.specs.Prelude.{slice_index_or}
 use Rattle.row_laws.specs.Ranked.{Ranked, ranked, Relation, relation, true_rank}
 use Rattle.sql_value.specs.declared.truth.Standing.{Standing}
 use Rattle.sql_value.specs.declared.value.Value.{Value}
@@ -14,7 +15,8 @@ cells columns i = map (λ c. slice_index_or c i Null) columns
 -- the rows from a place on
 unfoldable pub rows_from : List (List Value) → ℕ → List Standing → List (Ranked Value)
 rows_from columns i [] = []
-rows_from columns i (s ∷ ss) = ranked (cells columns i) (standing_rank s) ∷ rows_from columns (suc i) ss
+rows_from columns i (s ∷ ss) =
+    ranked (cells columns i) (standing_rank s) ∷ rows_from columns (suc i) ss
 
 -- the relation of these columns and the rows' standings
 unfoldable pub column_relation : List (List Value) → List Standing → Relation Value
@@ -46,13 +48,15 @@ projected places r = ranked (gathered Null r.values places) r.standing
 -- the rows of these columns from a place on, each at the standing of a row of a list
 abbrev pub rows_beside : List (List Value) → ℕ → List (Ranked Value) → List (Ranked Value)
 rows_beside columns i [] = []
-rows_beside columns i (r ∷ rs) = ranked (cells columns i) r.standing ∷ rows_beside columns (suc i) rs
+rows_beside columns i (r ∷ rs) =
+    ranked (cells columns i) r.standing ∷ rows_beside columns (suc i) rs
 
 -- each left row before the right row of its place, at the lesser of their standings
 abbrev pub joined_rows : List (Ranked Value) → List (Ranked Value) → List (Ranked Value)
 joined_rows [] ys = []
 joined_rows (x ∷ xs) [] = []
-joined_rows (x ∷ xs) (y ∷ ys) = ranked (x.values ++ y.values) (min x.standing y.standing) ∷ joined_rows xs ys
+joined_rows (x ∷ xs) (y ∷ ys) =
+    ranked (x.values ++ y.values) (min x.standing y.standing) ∷ joined_rows xs ys
 
 -- each row with the value of its place after its own
 abbrev pub longer_rows : List (Ranked Value) → List Value → List (Ranked Value)

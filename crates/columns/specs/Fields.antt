@@ -3,7 +3,8 @@ use Rattle.ascii_text.specs.Printable.{AllPrintable}
 use Rattle.sql_value.specs.declared.value.Value.{Value}
 use Rattle.sql_value.specs.declared.value.Value.TheVariants.{Number, Date, Text}
 use Rattle.columns.specs.declared.field.Field.{Field}
-use Rattle.columns.specs.declared.field.Field.TheVariants.{Number as NumberField, Date as DateField, Text as TextField}
+use Rattle.columns.specs.declared.field.Field.TheVariants.{Number as NumberField, Date as DateField}
+use Rattle.columns.specs.declared.field.Field.TheVariants.{Text as TextField}
 
 -- the value that a field stands for
 abbrev pub field_value : Field → Value

@@ -4,7 +4,8 @@ use Rattle.std.specs.List.{All}
 use Rattle.sql_value.specs.declared.value.Value.{Value}
 use Rattle.sql_value.specs.declared.value.Value.TheVariants.{Number, Date, Text}
 use Rattle.columns.specs.declared.column_builder.ColumnForm.{ColumnForm}
-use Rattle.columns.specs.declared.column_builder.ColumnForm.TheVariants.{Numbers, Dates, Texts, Values}
+use Rattle.columns.specs.declared.column_builder.ColumnForm.TheVariants.{Numbers, Dates, Texts}
+use Rattle.columns.specs.declared.column_builder.ColumnForm.TheVariants.{Values}
 
 -- whether a value is of a form: a number of its scale, a date, a text; `Values` takes any
 abbrev pub is_of_form : ColumnForm → Value → Bool

@@ -33,7 +33,8 @@ pub record Table : Type 0 where
 
 -- full segments, and the rows that come after them
 unfoldable pub table_under_way : List (List (List Value)) → Relation Value → Table
-table_under_way full rest = record { width = rest.width; rows = one_list full ++ plain_rows rest.rows }
+table_under_way full rest =
+    record { width = rest.width; rows = one_list full ++ plain_rows rest.rows }
 
 -- each segment is full, and there aren't too many
 pub record AreFull (full : List (List (List Value))) : Type 0 where

@@ -1,5 +1,6 @@
 //! A list of batches.
-ghost use Rattle.std.specs.Prelude.{◌≡◌, ◌+◌, ◌<◌, ◌++◌, ◌∷◌, ◌==◌, [], IfOk, OnOk, OnErr, length, map};
+ghost use Rattle.std.specs.Prelude.{◌≡◌, ◌+◌, ◌<◌, ◌++◌, ◌∷◌, ◌==◌, [], IfOk, OnOk, OnErr, length};
+ghost use Rattle.std.specs.Prelude.{map};
 ghost use Rattle.std.specs.List.{All};
 ghost use Rattle.sql_value.specs.Truth.{standing_rank};
 ghost use Rattle.columns.specs.Batches.{column_at, first_columns};
@@ -83,7 +84,8 @@ impl Bag {
         self.batches.as_slice()
     }
 
-    /// The rows of a batch at the end. More rows than a usize counts are an error, as memory that isn't there.
+    /// The rows of a batch at the end. More rows than a usize counts are an error, as memory that
+    /// isn't there.
     pub fn push(&mut self, batch: Batch) -> Result<(), AllocError>
         requires { batch.width ≡ self.old.width }
         ensures width { self.new.width ≡ self.old.width }
@@ -104,7 +106,8 @@ impl Bag {
         whole_column(alloc, self.batches.as_slice(), j, self.count)
     }
 
-    /// All rows as one batch: further shares of stored columns where there is one batch, copies of others.
+    /// All rows as one batch: further shares of stored columns where there is one batch, copies of
+    /// others.
     pub fn whole(&self, alloc: Global) -> Result<Batch, AllocError>
         ensures width { IfOk result (λ b. b.width ≡ self.now.width) }
         ensures rows { IfOk result (λ b. b.rows ≡ self.now.rows) }
@@ -188,7 +191,8 @@ fn whole_columns(
 
 // The standings of the rows of batches, end to end.
 fn whole_standings(alloc: Global, batches: &[Batch]) -> Result<Standings, AllocError>
-    ensures { IfOk result (λ s. map standing_rank s ≡ map (λ r. r.standing) (bag_rows batches.now)) }
+    ensures { IfOk result (λ s. map standing_rank s
+        ≡ map (λ r. r.standing) (bag_rows batches.now)) }
 {
     let mut whole = Standings::all_true(0);
     for batch in batches {

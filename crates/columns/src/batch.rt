@@ -1,5 +1,6 @@
 //! Rows of one width with their standings, kept column by column.
-ghost use Rattle.std.specs.Prelude.{◌≡◌, ℕ, ◌+◌, ◌-◌, ◌<◌, ◌≤◌, ◌^◌, ◌==◌, min, List, IfOk, OnOk, IsTrue, length, ◌++◌, [], map, slice_index_or, replicate};
+ghost use Rattle.std.specs.Prelude.{◌≡◌, ℕ, ◌+◌, ◌-◌, ◌<◌, ◌≤◌, ◌^◌, ◌==◌, min, List, IfOk, OnOk};
+ghost use Rattle.std.specs.Prelude.{IsTrue, length, ◌++◌, [], map, slice_index_or, replicate};
 ghost use Rattle.std.specs.List.{All};
 ghost use Rattle.row_laws.specs.Ranked.{ranked, true_rank};
 ghost use Rattle.row_laws.specs.Rows.{keep, strip};
@@ -8,7 +9,8 @@ ghost use Rattle.sql_value.specs.declared.truth.Standing.TheVariants.{AtTrue as 
 ghost use Rattle.sql_value.specs.declared.value.Value.{Value as Datum};
 ghost use Rattle.sql_value.specs.declared.value.Value.TheVariants.{Null};
 ghost use Rattle.sql_value.specs.Truth.{standing_rank, truth_rank};
-ghost use Rattle.columns.specs.Batches.{cells, row_at, column_at, AreLong, column_relation, projected};
+ghost use Rattle.columns.specs.Batches.{cells, row_at, column_at, AreLong, column_relation};
+ghost use Rattle.columns.specs.Batches.{projected};
 ghost use Rattle.columns.specs.Lists.{gathered, AreBelow};
 ghost use Rattle.columns.specs.Selections.{rows_at, IsKept};
 
@@ -123,12 +125,16 @@ impl Batch {
         cells(alloc, self.columns.as_slice(), i)
     }
 
-    /// The rows that the truths of a condition keep: each at the lesser of its standing and its truth.
+    /// The rows that the truths of a condition keep: each at the lesser of its standing and its
+    /// truth.
     pub fn select(&self, alloc: Global, truths: &[Truth]) -> Result<Batch, AllocError>
         requires long { length truths.now ≡ length self.now.rows }
         requires short { length self.now.rows < 2 ^ 32 }
         ensures width { IfOk result (λ b. b.width ≡ self.now.width) }
-        ensures rows { IfOk result (λ b. (c : List Datum → ℕ) → map truth_rank truths.now ≡ map (λ r. c r.values) self.now.rows → b.rows ≡ select c self.now.rows) }
+        ensures rows { IfOk result
+            (λ b. (c : List Datum → ℕ)
+            → map truth_rank truths.now ≡ map (λ r. c r.values) self.now.rows
+            → b.rows ≡ select c self.now.rows) }
     {
         let kept = kept_places(alloc, &self.standings, truths)?;
         let (places, standings) = kept;
@@ -136,12 +142,16 @@ impl Batch {
         Ok(Batch { columns, standings })
     }
 
-    /// The same of a batch that isn't needed any more, which is itself the result where each truth is True.
+    /// The same of a batch that isn't needed any more, which is itself the result where each truth
+    /// is True.
     pub fn keep(self, alloc: Global, truths: &[Truth]) -> Result<Batch, AllocError>
         requires long { length truths.now ≡ length self.rows }
         requires short { length self.rows < 2 ^ 32 }
         ensures width { IfOk result (λ b. b.width ≡ self.width) }
-        ensures rows { IfOk result (λ b. (c : List Datum → ℕ) → map truth_rank truths.now ≡ map (λ r. c r.values) self.rows → b.rows ≡ select c self.rows) }
+        ensures rows { IfOk result
+            (λ b. (c : List Datum → ℕ)
+            → map truth_rank truths.now ≡ map (λ r. c r.values) self.rows
+            → b.rows ≡ select c self.rows) }
     {
         // A field that is used tells how the rows stand.
         let _standings = &self.standings;
@@ -155,7 +165,8 @@ impl Batch {
     pub fn gather(&self, alloc: Global, places: &[u32]) -> Result<Batch, AllocError>
         requires { AreBelow (length self.now.rows) places.now }
         ensures width { IfOk result (λ b. b.width ≡ self.now.width) }
-        ensures rows { IfOk result (λ b. b.rows ≡ gathered (ranked [] true_rank) self.now.rows places.now) }
+        ensures rows { IfOk result
+            (λ b. b.rows ≡ gathered (ranked [] true_rank) self.now.rows places.now) }
     {
         let columns = gather_columns(alloc, self.columns.as_slice(), places)?;
         let standings = self.standings.gather(alloc, places)?;
@@ -168,14 +179,17 @@ impl Batch {
         requires below { AreBelow (length self.now.rows) places.now }
         requires there { n ≤ self.now.width }
         ensures width { IfOk result (λ b. b.width ≡ self.now.width - n) }
-        ensures rows { IfOk result (λ b. b.rows ≡ map (strip n) (gathered (ranked [] true_rank) self.now.rows places.now)) }
+        ensures rows { IfOk result
+            (λ b. b.rows
+            ≡ map (strip n) (gathered (ranked [] true_rank) self.now.rows places.now)) }
     {
         let columns = gather_columns(alloc, &self.columns.as_slice()[n..], places)?;
         let standings = self.standings.gather(alloc, places)?;
         Ok(Batch { columns, standings })
     }
 
-    /// The rows of these columns alone, in this order: further shares of stored columns, copies of others.
+    /// The rows of these columns alone, in this order: further shares of stored columns, copies of
+    /// others.
     pub fn project(&self, alloc: Global, places: &[u32]) -> Result<Batch, AllocError>
         requires { AreBelow self.now.width places.now }
         ensures width { IfOk result (λ b. b.width ≡ length places.now) }
@@ -235,7 +249,11 @@ fn put_kept(
     requires below { AreBelow i places.old.items }
     ensures long { OnOk result (length places.new.items ≡ length kept.new) }
     ensures below { OnOk result (AreBelow (i + 1) places.new.items) }
-    ensures rows { OnOk result ((row : ℕ → List Datum) → rows_at row places.new.items kept.new ≡ rows_at row places.old.items kept.old ++ keep (row i) (min (standing_rank standing) (truth_rank truth))) }
+    ensures rows { OnOk result
+        ((row : ℕ → List Datum)
+        → rows_at row places.new.items kept.new
+        ≡ rows_at row places.old.items kept.old
+        ++ keep (row i) (min (standing_rank standing) (truth_rank truth))) }
 {
     if let Some(standing) = truth.kept(standing) {
         places.push(i)?;

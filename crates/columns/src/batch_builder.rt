@@ -1,5 +1,6 @@
 //! Rows that are put together one by one.
-ghost use Rattle.std.specs.Prelude.{◌≡◌, ◌<◌, slice_index_or, ◌≤◌, ◌++◌, ◌∷◌, [], IfOk, OnOk, OnErr, length, map};
+ghost use Rattle.std.specs.Prelude.{◌≡◌, ◌<◌, slice_index_or, ◌≤◌, ◌++◌, ◌∷◌, [], IfOk, OnOk};
+ghost use Rattle.std.specs.Prelude.{OnErr, length, map};
 ghost use Rattle.std.specs.List.{All};
 ghost use Rattle.row_laws.specs.Ranked.{ranked, true_rank};
 ghost use Rattle.sql_value.specs.declared.value.Value.TheVariants.{Null};
@@ -17,7 +18,8 @@ use sql_value::{Standing, Value};
 use std::alloc::{AllocError, Global};
 use std::marker::Model;
 
-/// Rows with standings, seen as their width and the list of the rows. A push that fails leaves it as before.
+/// Rows with standings, seen as their width and the list of the rows. A push that fails leaves it
+/// as before.
 #[derive(Drop)]
 pub struct BatchBuilder {
     columns: Vec<ColumnBuilder>,
@@ -83,7 +85,8 @@ impl BatchBuilder {
     ) -> Result<(), AllocError>
         requires { length row.now ≡ self.old.width }
         ensures width { self.new.width ≡ self.old.width }
-        ensures ok { OnOk result (self.new.rows ≡ self.old.rows ++ ranked row.now (standing_rank standing) ∷ []) }
+        ensures ok { OnOk result
+            (self.new.rows ≡ self.old.rows ++ ranked row.now (standing_rank standing) ∷ []) }
         ensures err { OnErr result (self.new.rows ≡ self.old.rows) }
     {
         let before = self.standings.len();
@@ -103,7 +106,8 @@ impl BatchBuilder {
         requires long { length row.now ≡ self.old.width }
         requires printable { All IsPrintableField row.now }
         ensures width { self.new.width ≡ self.old.width }
-        ensures ok { OnOk result (self.new.rows ≡ self.old.rows ++ ranked (map field_value row.now) true_rank ∷ []) }
+        ensures ok { OnOk result
+            (self.new.rows ≡ self.old.rows ++ ranked (map field_value row.now) true_rank ∷ []) }
         ensures err { OnErr result (self.new.rows ≡ self.old.rows) }
     {
         let before = self.standings.len();
@@ -241,7 +245,8 @@ fn put_fields(
 ) -> Result<(), AllocError>
     requires long { length row.now ≡ length columns.old.items }
     requires printable { All IsPrintableField row.now }
-    ensures ok { OnOk result (columns.new.items ≡ put_row columns.old.items (map field_value row.now)) }
+    ensures ok { OnOk result
+        (columns.new.items ≡ put_row columns.old.items (map field_value row.now)) }
     ensures err { OnErr result (columns.new.items ≡ columns.old.items) }
 {
     put_field_cells(alloc, columns.as_mut_slice(), row)

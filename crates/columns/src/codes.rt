@@ -1,5 +1,6 @@
 //! Texts as places of a dictionary that they share.
-ghost use Rattle.std.specs.Prelude.{◌≡◌, ◌<◌, ◌≤◌, ◌++◌, ◌∷◌, [], IfOk, IfSome, OnErr, length, take, if◌then◌else◌, slice_index_or, replicate};
+ghost use Rattle.std.specs.Prelude.{◌≡◌, ◌<◌, ◌≤◌, ◌++◌, ◌∷◌, [], IfOk, IfSome, OnErr, length};
+ghost use Rattle.std.specs.Prelude.{take, if◌then◌else◌, slice_index_or, replicate};
 ghost use Rattle.std.specs.Arc.{arc_value};
 ghost use Rattle.ascii_text.specs.Printable.{AllPrintable};
 ghost use Rattle.columns.specs.Lists.{gathered, AreBelow};
@@ -12,7 +13,8 @@ use std::alloc::{AllocError, Global};
 use std::marker::Model;
 use std::sync::Arc;
 
-/// Texts, seen as the list of them, of which at most 256 differ. A push that fails leaves it as before.
+/// Texts, seen as the list of them, of which at most 256 differ. A push that fails leaves it as
+/// before.
 #[derive(Drop)]
 pub(crate) struct Codes {
     codes: Vec<u8>,
@@ -83,7 +85,8 @@ impl Codes {
     /// One text more, unless it would be one too many for the dictionary.
     pub(crate) fn push(&mut self, alloc: Global, text: &[u8]) -> Result<bool, AllocError>
         requires { AllPrintable text.now }
-        ensures ok { IfOk result (λ done. self.new ≡ (if done then self.old ++ text.now ∷ [] else self.old)) }
+        ensures ok { IfOk result
+            (λ done. self.new ≡ (if done then self.old ++ text.now ∷ [] else self.old)) }
         ensures err { OnErr result (self.new ≡ self.old) }
     {
         if let Some(code) = self.dictionary.find(text) {
@@ -121,7 +124,8 @@ impl Codes {
 
     /// All texts of another list at the end, if one of their dictionaries begins with the other.
     pub(crate) fn append(&mut self, other: &Codes) -> Result<bool, AllocError>
-        ensures ok { IfOk result (λ done. self.new ≡ (if done then self.old ++ other.now else self.old)) }
+        ensures ok { IfOk result
+            (λ done. self.new ≡ (if done then self.old ++ other.now else self.old)) }
         ensures err { OnErr result (self.new ≡ self.old) }
     {
         if self.dictionary.begins(&other.dictionary) {

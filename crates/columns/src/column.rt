@@ -1,7 +1,9 @@
 //! A column of values of one kind, or of any.
-ghost use Rattle.std.specs.Prelude.{◌≡◌, ◌<◌, ◌==◌, ℕ, IfOk, IfSome, length, slice_index_or, map, [], replicate};
+ghost use Rattle.std.specs.Prelude.{◌≡◌, ◌<◌, ◌==◌, ℕ, IfOk, IfSome, length, slice_index_or, map};
+ghost use Rattle.std.specs.Prelude.{[], replicate};
 ghost use Rattle.std.specs.Arc.{arc_value};
-ghost use Rattle.sql_value.specs.declared.value.Value.TheVariants.{Null, Number, Date as DateOf, Text as TextOf};
+ghost use Rattle.sql_value.specs.declared.value.Value.TheVariants.{Null, Number, Date as DateOf};
+ghost use Rattle.sql_value.specs.declared.value.Value.TheVariants.{Text as TextOf};
 ghost use Rattle.columns.specs.Forms.{AreOfForm};
 ghost use Rattle.columns.specs.Lists.{gathered, AreBelow};
 ghost use Rattle.columns.specs.Numbers.{small_number};
@@ -24,7 +26,8 @@ pub(crate) enum Kept {
     Shared(Arc<Form>),
 }
 
-/// Values, seen as their list. Numbers of one scale and 64 bits, dates, and texts are kept in little room.
+/// Values, seen as their list. Numbers of one scale and 64 bits, dates, and texts are kept in
+/// little room.
 #[derive(Drop)]
 pub struct Column {
     pub(crate) kept: Kept,
@@ -46,13 +49,6 @@ impl Column {
         ensures { result ≡ map (Number scale) numbers.items }
     {
         Column::own(Form::Numbers(scale, numbers))
-    }
-
-    /// Dates.
-    pub fn from_dates(dates: Vec<CivilDate>) -> Column
-        ensures { result ≡ map DateOf dates.items }
-    {
-        Column::own(Form::Dates(dates))
     }
 
     /// Values of whatever kind, each kept as it is.
@@ -103,8 +99,8 @@ impl Column {
         self.len() == 0
     }
 
-    /// The value at a place. A text of a stored column is a share of its buffer, or of a dictionary's text; one of
-    /// another column may be a copy.
+    /// The value at a place. A text of a stored column is a share of its buffer, or of a
+    /// dictionary's text; one of another column may be a copy.
     pub fn at(&self, alloc: Global, i: usize) -> Result<Value, AllocError>
         requires { i < length self.now }
         ensures { IfOk result (λ v. v ≡ slice_index_or self.now i Null) }
@@ -112,8 +108,8 @@ impl Column {
         form_at(alloc, self.form(), i)
     }
 
-    /// What all values are, where the column keeps them as numbers of one scale, as dates or as texts. `Values` says
-    /// nothing of them.
+    /// What all values are, where the column keeps them as numbers of one scale, as dates or as
+    /// texts. `Values` says nothing of them.
     pub fn typed(&self) -> ColumnForm
         ensures { AreOfForm result self.now }
     {

@@ -1,7 +1,9 @@
 //! A column that grows.
-ghost use Rattle.std.specs.Prelude.{◌≡◌, ◌<◌, ◌≤◌, ◌++◌, ◌∷◌, [], IfOk, IfSome, OnOk, OnErr, length, take, if◌then◌else◌, map, true, slice_index_or};
+ghost use Rattle.std.specs.Prelude.{◌≡◌, ◌<◌, ◌≤◌, ◌++◌, ◌∷◌, [], IfOk, IfSome, OnOk, OnErr};
+ghost use Rattle.std.specs.Prelude.{length, take, if◌then◌else◌, map, true, slice_index_or};
 ghost use Rattle.ascii_text.specs.Printable.{AllPrintable};
-ghost use Rattle.sql_value.specs.declared.value.Value.TheVariants.{Null, Number, Date as DateOf, Text as TextOf};
+ghost use Rattle.sql_value.specs.declared.value.Value.TheVariants.{Null, Number, Date as DateOf};
+ghost use Rattle.sql_value.specs.declared.value.Value.TheVariants.{Text as TextOf};
 ghost use Rattle.columns.specs.Numbers.{small_number};
 ghost use Rattle.columns.specs.Shown.{shown};
 ghost use Rattle.columns.specs.Fields.{field_value, IsPrintableField};
@@ -29,8 +31,8 @@ pub enum ColumnForm {
     Values,
 }
 
-/// Values, seen as their list. The first value that doesn't fit the column's form gives it a wider one. A push that fails
-/// leaves it as before.
+/// Values, seen as their list. The first value that doesn't fit the column's form gives it a wider
+/// one. A push that fails leaves it as before.
 #[derive(Drop)]
 pub struct ColumnBuilder {
     form: Form,
@@ -92,7 +94,9 @@ impl ColumnBuilder {
     // One field more, if this form holds it.
     fn put(&mut self, alloc: Global, field: &Field<'_>) -> Result<bool, AllocError>
         requires { IsPrintableField field.now }
-        ensures ok { IfOk result (λ done. self.new ≡ (if done then self.old ++ field_value field.now ∷ [] else self.old)) }
+        ensures ok { IfOk result
+            (λ done. self.new
+            ≡ (if done then self.old ++ field_value field.now ∷ [] else self.old)) }
         ensures err { OnErr result (self.new ≡ self.old) }
     {
         match &mut self.form {
@@ -107,7 +111,9 @@ impl ColumnBuilder {
     // One text more at the end of texts that a dictionary is too short for.
     fn put_spelled(&mut self, alloc: Global, field: &Field<'_>) -> Result<bool, AllocError>
         requires { IsPrintableField field.now }
-        ensures ok { IfOk result (λ done. self.new ≡ (if done then self.old ++ field_value field.now ∷ [] else self.old)) }
+        ensures ok { IfOk result
+            (λ done. self.new
+            ≡ (if done then self.old ++ field_value field.now ∷ [] else self.old)) }
         ensures err { OnErr result (self.new ≡ self.old) }
     {
         let Form::Coded(codes) = &self.form else {
@@ -178,7 +184,8 @@ impl ColumnBuilder {
 
     // All values of a form, if both keep theirs alike.
     fn append_alike(&mut self, other: &Form) -> Result<bool, AllocError>
-        ensures ok { IfOk result (λ done. self.new ≡ (if done then self.old ++ shown other.now else self.old)) }
+        ensures ok { IfOk result
+            (λ done. self.new ≡ (if done then self.old ++ shown other.now else self.old)) }
         ensures err { OnErr result (self.new ≡ self.old) }
     {
         match &mut self.form {
@@ -237,7 +244,10 @@ impl ColumnBuilder {
 
 // All numbers of a form of that scale.
 fn append_numbers(scale: Scale, numbers: &mut Vec<i64>, other: &Form) -> Result<bool, AllocError>
-    ensures ok { IfOk result (λ done. map (Number scale) numbers.new.items ≡ (if done then map (Number scale) numbers.old.items ++ shown other.now else map (Number scale) numbers.old.items)) }
+    ensures ok { IfOk result
+        (λ done. map (Number scale) numbers.new.items
+        ≡ (if done then map (Number scale) numbers.old.items ++ shown other.now
+        else map (Number scale) numbers.old.items)) }
     ensures err { OnErr result (numbers.new.items ≡ numbers.old.items) }
 {
     let Form::Numbers(s, more) = other else {
@@ -252,7 +262,10 @@ fn append_numbers(scale: Scale, numbers: &mut Vec<i64>, other: &Form) -> Result<
 
 // All dates of a form that keeps dates.
 fn append_dates(dates: &mut Vec<CivilDate>, other: &Form) -> Result<bool, AllocError>
-    ensures ok { IfOk result (λ done. map DateOf dates.new.items ≡ (if done then map DateOf dates.old.items ++ shown other.now else map DateOf dates.old.items)) }
+    ensures ok { IfOk result
+        (λ done. map DateOf dates.new.items
+        ≡ (if done then map DateOf dates.old.items ++ shown other.now
+        else map DateOf dates.old.items)) }
     ensures err { OnErr result (dates.new.items ≡ dates.old.items) }
 {
     let Form::Dates(more) = other else {
@@ -264,7 +277,9 @@ fn append_dates(dates: &mut Vec<CivilDate>, other: &Form) -> Result<bool, AllocE
 
 // All texts of a form that keeps texts one after the other, if the buffer has room.
 fn append_texts(texts: &mut Texts, other: &Form) -> Result<bool, AllocError>
-    ensures ok { IfOk result (λ done. map TextOf texts.new ≡ (if done then map TextOf texts.old ++ shown other.now else map TextOf texts.old)) }
+    ensures ok { IfOk result
+        (λ done. map TextOf texts.new
+        ≡ (if done then map TextOf texts.old ++ shown other.now else map TextOf texts.old)) }
     ensures err { OnErr result (texts.new ≡ texts.old) }
 {
     let Form::Texts(more) = other else {
@@ -275,7 +290,9 @@ fn append_texts(texts: &mut Texts, other: &Form) -> Result<bool, AllocError>
 
 // All texts of a form, if one of the dictionaries begins with the other.
 fn append_codes(codes: &mut Codes, other: &Form) -> Result<bool, AllocError>
-    ensures ok { IfOk result (λ done. map TextOf codes.new ≡ (if done then map TextOf codes.old ++ shown other.now else map TextOf codes.old)) }
+    ensures ok { IfOk result
+        (λ done. map TextOf codes.new
+        ≡ (if done then map TextOf codes.old ++ shown other.now else map TextOf codes.old)) }
     ensures err { OnErr result (codes.new ≡ codes.old) }
 {
     let Form::Coded(more) = other else {
@@ -286,7 +303,10 @@ fn append_codes(codes: &mut Codes, other: &Form) -> Result<bool, AllocError>
 
 // A number more, if it is one of that scale.
 fn put_number(scale: Scale, numbers: &mut Vec<i64>, field: &Field<'_>) -> Result<bool, AllocError>
-    ensures ok { IfOk result (λ done. map (Number scale) numbers.new.items ≡ (if done then map (Number scale) numbers.old.items ++ field_value field.now ∷ [] else map (Number scale) numbers.old.items)) }
+    ensures ok { IfOk result
+        (λ done. map (Number scale) numbers.new.items
+        ≡ (if done then map (Number scale) numbers.old.items ++ field_value field.now ∷ []
+        else map (Number scale) numbers.old.items)) }
     ensures err { OnErr result (numbers.new.items ≡ numbers.old.items) }
 {
     let Field::Number(s, number) = field else {
@@ -301,7 +321,10 @@ fn put_number(scale: Scale, numbers: &mut Vec<i64>, field: &Field<'_>) -> Result
 
 // A date more, if it is one.
 fn put_date(dates: &mut Vec<CivilDate>, field: &Field<'_>) -> Result<bool, AllocError>
-    ensures ok { IfOk result (λ done. map DateOf dates.new.items ≡ (if done then map DateOf dates.old.items ++ field_value field.now ∷ [] else map DateOf dates.old.items)) }
+    ensures ok { IfOk result
+        (λ done. map DateOf dates.new.items
+        ≡ (if done then map DateOf dates.old.items ++ field_value field.now ∷ []
+        else map DateOf dates.old.items)) }
     ensures err { OnErr result (dates.new.items ≡ dates.old.items) }
 {
     let Field::Date(date) = field else {
@@ -314,7 +337,10 @@ fn put_date(dates: &mut Vec<CivilDate>, field: &Field<'_>) -> Result<bool, Alloc
 // A text more, if it is one and the buffer has room.
 fn put_text(texts: &mut Texts, field: &Field<'_>) -> Result<bool, AllocError>
     requires { IsPrintableField field.now }
-    ensures ok { IfOk result (λ done. map TextOf texts.new ≡ (if done then map TextOf texts.old ++ field_value field.now ∷ [] else map TextOf texts.old)) }
+    ensures ok { IfOk result
+        (λ done. map TextOf texts.new
+        ≡ (if done then map TextOf texts.old ++ field_value field.now ∷ []
+        else map TextOf texts.old)) }
     ensures err { OnErr result (texts.new ≡ texts.old) }
 {
     let Field::Text(text) = field else {
@@ -326,7 +352,10 @@ fn put_text(texts: &mut Texts, field: &Field<'_>) -> Result<bool, AllocError>
 // A text more, if it is one and the dictionary has room.
 fn put_code(alloc: Global, codes: &mut Codes, field: &Field<'_>) -> Result<bool, AllocError>
     requires { IsPrintableField field.now }
-    ensures ok { IfOk result (λ done. map TextOf codes.new ≡ (if done then map TextOf codes.old ++ field_value field.now ∷ [] else map TextOf codes.old)) }
+    ensures ok { IfOk result
+        (λ done. map TextOf codes.new
+        ≡ (if done then map TextOf codes.old ++ field_value field.now ∷ []
+        else map TextOf codes.old)) }
     ensures err { OnErr result (codes.new ≡ codes.old) }
 {
     let Field::Text(text) = field else {
@@ -338,7 +367,10 @@ fn put_code(alloc: Global, codes: &mut Codes, field: &Field<'_>) -> Result<bool,
 // A value more, of whatever kind.
 fn put_value(alloc: Global, values: &mut Vec<Value>, field: &Field<'_>) -> Result<bool, AllocError>
     requires { IsPrintableField field.now }
-    ensures ok { IfOk result (λ done. values.new.items ≡ (if done then values.old.items ++ field_value field.now ∷ [] else values.old.items)) }
+    ensures ok { IfOk result
+        (λ done. values.new.items
+        ≡ (if done then values.old.items ++ field_value field.now ∷ []
+        else values.old.items)) }
     ensures err { OnErr result (values.new.items ≡ values.old.items) }
 {
     let value = value_of(alloc, field)?;

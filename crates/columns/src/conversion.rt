@@ -23,7 +23,8 @@ pub fn stored_rows(alloc: Global, rows: &[Row]) -> Result<Rows, AllocError>
     Ok(stored)
 }
 
-// One row more after those that are not stored yet, which are stored first if it doesn't go with them.
+// One row more after those that are not stored yet, which are stored first if it doesn't go with
+// them.
 #[tactic(auto, using(crate::proofs::TableLists::tables))]
 fn put_row(
     alloc: Global,
@@ -33,7 +34,9 @@ fn put_row(
 ) -> Result<(), AllocError>
     requires { IsOpen rest.old }
     ensures rest { OnOk result (IsOpen rest.new) }
-    ensures rows { OnOk result (stored.new ++ plain_rows rest.new.rows ≡ (stored.old ++ plain_rows rest.old.rows) ++ row.now ∷ []) }
+    ensures rows { OnOk result
+        (stored.new ++ plain_rows rest.new.rows
+        ≡ (stored.old ++ plain_rows rest.old.rows) ++ row.now ∷ []) }
 {
     if rest.len() < SEGMENT_ROWS && rest.width() == row.len() {
         rest.push_row(alloc, row, Standing::AtTrue)?;

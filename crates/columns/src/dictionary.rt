@@ -1,5 +1,6 @@
 //! A short list of texts, which columns refer to by their places.
-ghost use Rattle.std.specs.Prelude.{◌≡◌, ◌<◌, ◌≤◌, ◌++◌, ◌∷◌, [], IfOk, IfSome, length, slice_index_or, take, true};
+ghost use Rattle.std.specs.Prelude.{◌≡◌, ◌<◌, ◌≤◌, ◌++◌, ◌∷◌, [], IfOk, IfSome, length};
+ghost use Rattle.std.specs.Prelude.{slice_index_or, take, true};
 ghost use Rattle.ascii_text.specs.Printable.{AllPrintable};
 
 use ascii_text::Text;
@@ -18,7 +19,8 @@ const TRIES: usize = 16;
 #[derive(Drop)]
 pub struct Dictionary {
     texts: Vec<Text>,
-    // One more than a text's place, or 0 in a free slot. Slots only speed a look-up: what they name is compared.
+    // One more than a text's place, or 0 in a free slot. Slots only speed a look-up: what they name
+    // is compared.
     slots: Vec<u16>,
 }
 
@@ -83,14 +85,16 @@ impl Dictionary {
 
     // Whether the text at a place, if there is one, is of these bytes.
     fn is_at(&self, i: usize, text: &[u8]) -> bool
-        ensures { result ≡ true → (i < length self.now) × (slice_index_or self.now i [] ≡ text.now) }
+        ensures { result ≡ true → (i < length self.now)
+            × (slice_index_or self.now i [] ≡ text.now) }
     {
         i < self.texts.len() && self.texts[i].bytes() == text
     }
 
     /// The place of a text, if a look-up finds it.
     pub(crate) fn find(&self, text: &[u8]) -> Option<u8>
-        ensures { IfSome result (λ i. (i < length self.now) × (slice_index_or self.now i [] ≡ text.now)) }
+        ensures { IfSome result (λ i. (i < length self.now)
+            × (slice_index_or self.now i [] ≡ text.now)) }
     {
         let mut slot = first_slot(text);
         for _try in 0..TRIES {

@@ -1,6 +1,8 @@
 //! How a column keeps its values, and how they are read.
-ghost use Rattle.std.specs.Prelude.{◌≡◌, ◌<◌, ◌≤◌, ◌++◌, ◌∷◌, [], IfOk, IfSome, OnErr, length, take, slice_index_or, map, replicate};
-ghost use Rattle.sql_value.specs.declared.value.Value.TheVariants.{Null, Number, Date as DateOf, Text as TextOf};
+ghost use Rattle.std.specs.Prelude.{◌≡◌, ◌<◌, ◌≤◌, ◌++◌, ◌∷◌, [], IfOk, IfSome, OnErr, length};
+ghost use Rattle.std.specs.Prelude.{take, slice_index_or, map, replicate};
+ghost use Rattle.sql_value.specs.declared.value.Value.TheVariants.{Null, Number, Date as DateOf};
+ghost use Rattle.sql_value.specs.declared.value.Value.TheVariants.{Text as TextOf};
 ghost use Rattle.columns.specs.Forms.{AreOfForm};
 ghost use Rattle.columns.specs.Lists.{gathered, AreBelow};
 ghost use Rattle.columns.specs.Fields.{field_value, IsPrintableField};
@@ -228,7 +230,8 @@ fn gather_numbers(
     places: &[u32],
 ) -> Result<Form, AllocError>
     requires { AreBelow (length numbers.now) places.now }
-    ensures { IfOk result (λ f. shown f ≡ gathered Null (map (Number scale) numbers.now) places.now) }
+    ensures { IfOk result (λ f. shown f
+        ≡ gathered Null (map (Number scale) numbers.now) places.now) }
 {
     let numbers = copies(alloc, numbers, places)?;
     Ok(Form::Numbers(scale, numbers))
@@ -247,7 +250,8 @@ fn gather_dates(alloc: Global, dates: &[CivilDate], places: &[u32]) -> Result<Fo
 #[tactic(auto, using(crate::proofs::ColumnLists::lists))]
 fn gather_texts(alloc: Global, texts: &Texts, places: &[u32]) -> Result<Option<Form>, AllocError>
     requires { AreBelow (length texts.now) places.now }
-    ensures { IfOk result (λ r. IfSome r (λ f. shown f ≡ gathered Null (map TextOf texts.now) places.now)) }
+    ensures { IfOk result (λ r.
+        IfSome r (λ f. shown f ≡ gathered Null (map TextOf texts.now) places.now)) }
 {
     match texts.gather(alloc, places)? {
         Some(texts) => Ok(Some(Form::Texts(texts))),

@@ -1,4 +1,5 @@
-//! Columns of values, batches of rows kept column by column, and the rows of a table as shared batches.
+//! Columns of values, batches of rows kept column by column, and the rows of a table as shared
+//! batches.
 #![tactic(auto)]
 
 mod bag;

@@ -1,5 +1,6 @@
 //! The rows of a table.
-ghost use Rattle.std.specs.Prelude.{◌≡◌, ◌<◌, ◌++◌, ◌==◌, ◌+◌, ◌^◌, [], IfOk, OnOk, OnErr, length, take, slice_index_or};
+ghost use Rattle.std.specs.Prelude.{◌≡◌, ◌<◌, ◌++◌, ◌==◌, ◌+◌, ◌^◌, [], IfOk, OnOk, OnErr, length};
+ghost use Rattle.std.specs.Prelude.{take, slice_index_or};
 ghost use Rattle.columns.specs.Lists.{one_list};
 
 use crate::segment::Segment;
@@ -68,7 +69,8 @@ impl Rows {
         self.segments.as_slice()
     }
 
-    /// The rows of a segment at the end. More rows than a usize counts are an error, as memory that isn't there.
+    /// The rows of a segment at the end. More rows than a usize counts are an error, as memory that
+    /// isn't there.
     pub fn push(&mut self, segment: Segment) -> Result<(), AllocError>
         ensures ok { OnOk result (self.new ≡ self.old ++ segment) }
         ensures err { OnErr result (self.new ≡ self.old) }

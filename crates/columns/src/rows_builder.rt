@@ -1,5 +1,6 @@
 //! The rows of a table as they are read.
-ghost use Rattle.std.specs.Prelude.{◌≡◌, ◌<◌, ◌++◌, ◌∷◌, ◌^◌, [], IfOk, OnOk, OnErr, length, map, slice_index_or};
+ghost use Rattle.std.specs.Prelude.{◌≡◌, ◌<◌, ◌++◌, ◌∷◌, ◌^◌, [], IfOk, OnOk, OnErr, length, map};
+ghost use Rattle.std.specs.Prelude.{slice_index_or};
 ghost use Rattle.std.specs.List.{All};
 ghost use Rattle.row_laws.specs.Ranked.{ranked, true_rank};
 ghost use Rattle.sql_value.specs.declared.value.Value.TheVariants.{Null};
@@ -18,7 +19,8 @@ use std::marker::Model;
 // A table has fewer full segments than this; past it a row finds no memory.
 const FULL_SEGMENTS: usize = (1 << 50) - 1;
 
-/// Rows of one width, seen as the width and the list of the rows' values. A push that fails leaves it as before.
+/// Rows of one width, seen as the width and the list of the rows' values. A push that fails leaves
+/// it as before.
 #[derive(Drop)]
 pub struct RowsBuilder {
     full: Vec<Segment>,
@@ -68,7 +70,8 @@ impl RowsBuilder {
     pub fn number(&self, i: usize, j: usize) -> Option<i64>
         requires row { i < length self.now.rows }
         requires column { j < self.now.width }
-        ensures { result ≡ small_number (slice_index_or (slice_index_or self.now.rows i []) j Null) }
+        ensures { result ≡ small_number
+            (slice_index_or (slice_index_or self.now.rows i []) j Null) }
     {
         let segment = i / SEGMENT_ROWS;
         if segment < self.full.len() {
@@ -110,7 +113,8 @@ fn push_open(alloc: Global, rest: &mut BatchBuilder, row: &[Field<'_>]) -> Resul
     requires printable { All IsPrintableField row.now }
     ensures rest { IsOpen rest.new }
     ensures width { rest.new.width ≡ rest.old.width }
-    ensures ok { OnOk result (rest.new.rows ≡ rest.old.rows ++ ranked (map field_value row.now) true_rank ∷ []) }
+    ensures ok { OnOk result
+        (rest.new.rows ≡ rest.old.rows ++ ranked (map field_value row.now) true_rank ∷ []) }
     ensures err { OnErr result (rest.new.rows ≡ rest.old.rows) }
 {
     match rest.push_fields(alloc, row) {
@@ -130,7 +134,8 @@ fn close_full(
     requires rest { IsOpen rest.old }
     ensures full { AreFull full.new.items }
     ensures rest { IsOpen rest.new }
-    ensures table { table_under_way full.new.items rest.new ≡ table_under_way full.old.items rest.old }
+    ensures table { table_under_way full.new.items rest.new
+        ≡ table_under_way full.old.items rest.old }
     ensures room { OnOk result (length rest.new.rows < 4096) }
 {
     if rest.len() < SEGMENT_ROWS {

@@ -15,8 +15,8 @@ use std::sync::Arc;
 /// The most rows of a segment.
 pub const SEGMENT_ROWS: usize = 4096;
 
-/// A batch of 1 to 4096 rows that all stand at True, seen as the list of their values. A clone is another share of the
-/// same batch.
+/// A batch of 1 to 4096 rows that all stand at True, seen as the list of their values. A clone is
+/// another share of the same batch.
 #[derive(Drop)]
 pub struct Segment {
     batch: Arc<Batch>,

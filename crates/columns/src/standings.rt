@@ -1,5 +1,6 @@
 //! The standings of a batch's rows: mostly all at True.
-ghost use Rattle.std.specs.Prelude.{◌≡◌, ◌<◌, ◌≤◌, ◌++◌, ◌∷◌, [], IfOk, OnErr, OnOk, IsTrue, length, take, slice_index_or, replicate, if◌then◌else◌};
+ghost use Rattle.std.specs.Prelude.{◌≡◌, ◌<◌, ◌≤◌, ◌++◌, ◌∷◌, [], IfOk, OnErr, OnOk, IsTrue};
+ghost use Rattle.std.specs.Prelude.{length, take, slice_index_or, replicate, if◌then◌else◌};
 ghost use Rattle.std.specs.List.{All};
 ghost use Rattle.sql_value.specs.declared.truth.Standing.TheVariants.{AtTrue as True};
 ghost use Rattle.columns.specs.Lists.{gathered, AreBelow};

@@ -1,5 +1,6 @@
 //! Texts that lie one after the other in one buffer of bytes.
-ghost use Rattle.std.specs.Prelude.{◌≡◌, ◌<◌, ◌≤◌, ◌++◌, ◌∷◌, [], IfOk, OnErr, IsTrue, length, take, if◌then◌else◌, slice_index_or, IfSome};
+ghost use Rattle.std.specs.Prelude.{◌≡◌, ◌<◌, ◌≤◌, ◌++◌, ◌∷◌, [], IfOk, OnErr, IsTrue, length};
+ghost use Rattle.std.specs.Prelude.{take, if◌then◌else◌, slice_index_or, IfSome};
 ghost use Rattle.ascii_text.specs.Printable.{AllPrintable};
 ghost use Rattle.columns.specs.Texts.{start_of, buffer_bytes, texts_of, AreTexts, ends_of};
 ghost use Rattle.columns.specs.Lists.{gathered, AreBelow, one_list};
@@ -58,8 +59,12 @@ fn push_text(bytes: &mut Vec<u8>, ends: &mut Vec<u32>, text: &[u8]) -> Result<bo
     requires texts { AreTexts bytes.old.items ends.old.items }
     requires printable { AllPrintable text.now }
     ensures texts { AreTexts bytes.new.items ends.new.items }
-    ensures ok { IfOk result (λ done. texts_of bytes.new.items ends.new.items ≡ (if done then texts_of bytes.old.items ends.old.items ++ text.now ∷ [] else texts_of bytes.old.items ends.old.items)) }
-    ensures err { OnErr result (texts_of bytes.new.items ends.new.items ≡ texts_of bytes.old.items ends.old.items) }
+    ensures ok { IfOk result
+        (λ done. texts_of bytes.new.items ends.new.items
+        ≡ (if done then texts_of bytes.old.items ends.old.items ++ text.now ∷ []
+        else texts_of bytes.old.items ends.old.items)) }
+    ensures err { OnErr result
+        (texts_of bytes.new.items ends.new.items ≡ texts_of bytes.old.items ends.old.items) }
 {
     let start = start_of(ends.as_slice(), ends.len());
     bytes.truncate(start);
@@ -133,7 +138,8 @@ impl Texts {
     /// One text more, unless the buffer is shared, or the bytes would be more than 32 bits count.
     pub(crate) fn push(&mut self, text: &[u8]) -> Result<bool, AllocError>
         requires { AllPrintable text.now }
-        ensures ok { IfOk result (λ done. self.new ≡ (if done then self.old ++ text.now ∷ [] else self.old)) }
+        ensures ok { IfOk result
+            (λ done. self.new ≡ (if done then self.old ++ text.now ∷ [] else self.old)) }
         ensures err { OnErr result (self.new ≡ self.old) }
     {
         match &mut self.buffer {
@@ -167,15 +173,16 @@ impl Texts {
         }))
     }
 
-    // Where the texts at these places end when they lie one after the other, and how many bytes they have together,
-    // unless these are more than 32 bits count.
+    // Where the texts at these places end when they lie one after the other, and how many bytes
+    // they have together, unless these are more than 32 bits count.
     fn ends_at(
         &self,
         alloc: Global,
         places: &[u32],
     ) -> Result<Option<(Vec<u32>, usize)>, AllocError>
         requires { AreBelow (length self.now) places.now }
-        ensures { IfOk result (λ r. IfSome r (λ p. p.0.items ≡ ends_of 0 (gathered [] self.now places.now))) }
+        ensures { IfOk result
+            (λ r. IfSome r (λ p. p.0.items ≡ ends_of 0 (gathered [] self.now places.now))) }
     {
         let mut ends = Vec::with_capacity(alloc, places.len())?;
         let mut total: usize = 0;
@@ -205,9 +212,11 @@ impl Texts {
         Ok(bytes)
     }
 
-    /// All texts of another list at the end, unless the buffer is shared, or the bytes would be more than 32 bits count.
+    /// All texts of another list at the end, unless the buffer is shared, or the bytes would be
+    /// more than 32 bits count.
     pub(crate) fn append(&mut self, other: &Texts) -> Result<bool, AllocError>
-        ensures ok { IfOk result (λ done. self.new ≡ (if done then self.old ++ other.now else self.old)) }
+        ensures ok { IfOk result
+            (λ done. self.new ≡ (if done then self.old ++ other.now else self.old)) }
         ensures err { OnErr result (self.new ≡ self.old) }
     {
         let before = self.len();

@@ -7,7 +7,7 @@ use scalar_expr::{Expr, rename, used_columns};
 use sqlite_items::{Boxed, Items};
 use std::alloc::{AllocError, Global};
 
-/// Puts the columns from `from` on, `count` of them, behind the others.
+/// Puts the columns from `from` on, `count` of them, after the others.
 pub fn put_run(to: &mut Vec<u32>, from: u32, count: u32) -> Result<(), AllocError>
     ensures { OnOk result (to.new.items ≡ to.old.items ++ columns_from from count) }
 {
@@ -18,7 +18,7 @@ pub fn put_run(to: &mut Vec<u32>, from: u32, count: u32) -> Result<(), AllocErro
     Ok(())
 }
 
-/// Puts the conjuncts of a condition behind the others, each over the columns `places`.
+/// Puts the conjuncts of a condition after the others, each over the columns `places`.
 #[cycle(put)]
 pub fn put_condition(
     alloc: Global,
@@ -45,7 +45,7 @@ pub fn put_condition(
     }
 }
 
-// Puts a condition over the columns `places` behind the others.
+// Puts a condition over the columns `places` after the others.
 fn put_renamed(
     alloc: Global,
     e: &Expr,
@@ -110,7 +110,8 @@ pub struct Parted {
 
 // Puts an expression into its part.
 fn put_part(alloc: Global, parts: &mut Parted, e: Boxed<Expr>, limit: u32) -> Result<(), AllocError>
-    ensures { OnOk result (PutPart limit e parts.old.covered parts.new.covered parts.old.rest parts.new.rest) }
+    ensures { OnOk result (PutPart limit e parts.old.covered parts.new.covered
+        parts.old.rest parts.new.rest) }
 {
     let below = reads_below(alloc, e.get(), limit)?;
     if below {

@@ -41,7 +41,7 @@ fn is_common(e: &Expr, parts: &[Expr]) -> bool
     true
 }
 
-// Puts those of the conditions that each part has behind the others.
+// Puts those of the conditions that each part has after the others.
 fn put_common(
     alloc: Global,
     es: &[Expr],
@@ -75,7 +75,8 @@ fn put_if_common(
     }
 }
 
-/// Puts the conditions that all parts of an OR have behind the others, over the columns `places`: beside the OR they ask nothing more.
+/// Puts the conditions that all parts of an OR have after the others, over the columns `places`:
+/// beside the OR they ask nothing more.
 pub fn put_factors(
     alloc: Global,
     parts: &[Expr],

@@ -13,7 +13,7 @@ lines_more line first end h =
     let more : end - first ≡ suc (end - (first + 1)) = omega arith in
     ap (λ n. flat_map line (range_with_len first n)) more
 
--- a text more behind those that were added
+-- a text more after those that were added
 pub text_added : (start before after added : List (List ℕ × List ℕ)) (name text bytes : List ℕ) → before ≡ start ++ added → after ≡ before ++ (name, text) ∷ [] → text ≡ bytes → after ≡ start ++ (added ++ (name, bytes) ∷ [])
 text_added start before after added name text bytes e f g =
     f ∙ ap (λ t. before ++ (name, t) ∷ []) g ∙ ap (λ t. t ++ (name, bytes) ∷ []) e ∙ append_assoc start added ((name, bytes) ∷ [])
@@ -32,7 +32,7 @@ pub all_pushed : (line : ℕ → List ℕ) (key end : ℕ) (text whole : List �
 all_pushed line key end text whole h e =
     sym (append-nil text) ∙ ap (λ t. text ++ t) (sym (lines_none line end)) ∙ ap (λ k. text ++ lines line k end) (sym h) ∙ e
 
--- four lines one behind another
+-- four lines one after another
 pub four_pushed : (line : ℕ → List ℕ) (places : List ℕ) (a b c d : ℕ) (t0 t1 t2 t3 t4 : List ℕ) → a ∷ b ∷ c ∷ d ∷ [] ≡ places → t1 ≡ t0 ++ line a → t2 ≡ t1 ++ line b → t3 ≡ t2 ++ line c → t4 ≡ t3 ++ line d → t4 ≡ t0 ++ flat_map line places
 four_pushed line places a b c d t0 t1 t2 t3 t4 e e1 e2 e3 e4 =
     let whole : (((t0 ++ line a) ++ line b) ++ line c) ++ line d ≡ t0 ++ flat_map line (a ∷ b ∷ c ∷ d ∷ []) = simp (append_assoc, append-nil) in

@@ -1,5 +1,6 @@
 -- What the fields of a line are made of. n is the number that the data is made for.
-use Rattle.std.specs.Prelude.{ℕ, ◌+◌, ◌-◌, ◌*◌, ◌/◌, ◌%◌, ◌^◌, ◌==◌, if◌then◌else◌, List, [], ◌∷◌, ◌++◌, codes, decimal, ℤ, pos}
+use Rattle.std.specs.Prelude.{ℕ, ◌+◌, ◌-◌, ◌*◌, ◌/◌, ◌%◌, ◌^◌, ◌==◌, if◌then◌else◌, List, [], ◌∷◌}
+use Rattle.std.specs.Prelude.{◌++◌, codes, decimal, ℤ, pos}
 use Rattle.civil_date.specs.Move.{Day, day_at, days_moved}
 use Rattle.fixed_decimal.specs.Written.{decimal_written, last_digits}
 

@@ -1,10 +1,15 @@
 -- The lines of the files. n is the number that the data is made for.
-use Rattle.std.specs.Prelude.{ℕ, ◌+◌, ◌-◌, ◌*◌, ◌%◌, ◌==◌, nat_lt, if◌then◌else◌, List, [], ◌∷◌, ◌++◌, codes, decimal, pos, ◌-ℤ◌}
+use Rattle.std.specs.Prelude.{ℕ, ◌+◌, ◌-◌, ◌*◌, ◌%◌, ◌==◌, nat_lt, if◌then◌else◌, List, [], ◌∷◌}
+use Rattle.std.specs.Prelude.{◌++◌, codes, decimal, pos, ◌-ℤ◌}
 use Rattle.std.specs.List.{flat_map, range_with_len}
-use Rattle.data_maker.specs.Choices.{word, regions, nations, region_of, colours, type_sizes, type_finishes, type_metals, container_sizes, container_kinds, market_segments, order_statuses, order_priorities, return_flags, line_statuses, ship_instructions, ship_modes}
-use Rattle.data_maker.specs.Fields.{draw, field, labelled, money, address, phone, date_text, supplier_of, not_third}
+use Rattle.data_maker.specs.Choices.{word, regions, nations, region_of, colours, type_sizes}
+use Rattle.data_maker.specs.Choices.{type_finishes, type_metals, container_sizes, container_kinds}
+use Rattle.data_maker.specs.Choices.{market_segments, order_statuses, order_priorities}
+use Rattle.data_maker.specs.Choices.{return_flags, line_statuses, ship_instructions, ship_modes}
+use Rattle.data_maker.specs.Fields.{draw, field, labelled, money, address, phone, date_text}
+use Rattle.data_maker.specs.Fields.{supplier_of, not_third}
 
--- fields one behind another
+-- fields one after another
 abbrev pub fields : List (List ℕ) → List ℕ
 fields texts = flat_map field texts
 
@@ -26,7 +31,8 @@ balance n column k = money (pos (draw n column k 1100000) -ℤ pos 99999)
 
 -- where somebody lives, whose nation is drawn for that column
 unfoldable pub residence : ℕ → ℕ → ℕ → List ℕ
-residence n column k = fields (address k ∷ decimal (draw n column k 25) ∷ phone (draw n column k 25) ∷ [])
+residence n column k =
+    fields (address k ∷ decimal (draw n column k 25) ∷ phone (draw n column k 25) ∷ [])
 
 -- every seventh supplier has complaints
 unfoldable pub supplier_comment : ℕ → List ℕ
@@ -39,7 +45,8 @@ supplier_tail n k = fields (balance n 2 k ∷ supplier_comment k ∷ [])
 -- the line of a supplier: key, name, address, nation, phone number, balance, comment
 unfoldable pub supplier_line : ℕ → ℕ → List ℕ
 supplier_line n k =
-    fields (decimal k ∷ labelled (codes "Supplier#") k ∷ []) ++ residence n 1 k ++ supplier_tail n k ++ 10 ∷ []
+    fields (decimal k ∷ labelled (codes "Supplier#") k ∷ []) ++ residence n 1 k ++ supplier_tail n k
+    ++ 10 ∷ []
 
 -- a part's name: two colours
 unfoldable pub part_name : ℕ → ℕ → List ℕ
@@ -59,11 +66,13 @@ brand n k = codes "Brand#" ++ decimal (maker_of n k) ++ decimal (1 + draw n 6 k 
 
 -- a part's type: three words
 unfoldable pub part_type : ℕ → ℕ → List ℕ
-part_type n k = word type_sizes (draw n 7 k 6) ++ 32 ∷ word type_finishes (draw n 8 k 5) ++ 32 ∷ word type_metals (draw n 9 k 5)
+part_type n k = word type_sizes (draw n 7 k 6) ++ 32 ∷ word type_finishes (draw n 8 k 5) ++ 32
+    ∷ word type_metals (draw n 9 k 5)
 
 -- a part's container: two words
 unfoldable pub part_container : ℕ → ℕ → List ℕ
-part_container n k = word container_sizes (draw n 11 k 5) ++ 32 ∷ word container_kinds (draw n 12 k 8)
+part_container n k = word container_sizes (draw n 11 k 5) ++ 32
+    ∷ word container_kinds (draw n 12 k 8)
 
 -- a part's retail price, in hundredths
 abbrev pub retail_price : ℕ → ℕ
@@ -76,7 +85,8 @@ part_head n k = fields (decimal k ∷ part_name n k ∷ manufacturer n k ∷ bra
 -- the others: type, size, container, price, no comment
 unfoldable pub part_tail : ℕ → ℕ → List ℕ
 part_tail n k =
-    fields (part_type n k ∷ decimal (1 + draw n 10 k 50) ∷ part_container n k ∷ money (pos (retail_price k)) ∷ [] ∷ [])
+    fields (part_type n k ∷ decimal (1 + draw n 10 k 50) ∷ part_container n k
+    ∷ money (pos (retail_price k)) ∷ [] ∷ [])
 
 -- the line of a part
 unfoldable pub part_line : ℕ → ℕ → List ℕ
@@ -93,7 +103,8 @@ partsupp_line n k i =
 abbrev pub put_in_order : ℕ → ℕ → ℕ → List ℕ → List ℕ
 put_in_order n k i [] = i ∷ []
 put_in_order n k i (j ∷ others) =
-    if nat_lt (supplier_of n k i) (supplier_of n k j) then i ∷ j ∷ others else j ∷ put_in_order n k i others
+    if nat_lt (supplier_of n k i) (supplier_of n k j) then i ∷ j ∷ others else j
+    ∷ put_in_order n k i others
 
 -- 0 to 3 by ascending supplier of the part
 unfoldable pub by_supplier : ℕ → ℕ → List ℕ
@@ -110,7 +121,8 @@ customer_tail n k = fields (balance n 16 k ∷ word market_segments (draw n 17 k
 -- the line of a customer: key, name, address, nation, phone number, and the last fields
 unfoldable pub customer_line : ℕ → ℕ → List ℕ
 customer_line n k =
-    fields (decimal k ∷ labelled (codes "Customer#") k ∷ []) ++ residence n 15 k ++ customer_tail n k ++ 10 ∷ []
+    fields (decimal k ∷ labelled (codes "Customer#") k ∷ []) ++ residence n 15 k
+    ++ customer_tail n k ++ 10 ∷ []
 
 -- the days from 1992-01-01 to the order
 unfoldable pub order_day : ℕ → ℕ → ℕ
@@ -123,17 +135,20 @@ order_comment k = if k % 5 == 0 then codes "special requests" else codes "plain"
 -- the first fields of an order's line: key, customer, status, price
 unfoldable pub order_head : ℕ → ℕ → List ℕ
 order_head n k =
-    fields (decimal k ∷ decimal (not_third (1 + draw n 18 k (15 * n))) ∷ word order_statuses (draw n 19 k 3)
+    fields (decimal k ∷ decimal (not_third (1 + draw n 18 k (15 * n)))
+    ∷ word order_statuses (draw n 19 k 3)
     ∷ money (pos (100000 + draw n 20 k 40000000)) ∷ [])
 
 -- the last fields of an order's line: priority, clerk, shipping priority 0, comment
 unfoldable pub order_tail : ℕ → ℕ → List ℕ
 order_tail n k =
-    fields (word order_priorities (draw n 22 k 5) ∷ labelled (codes "Clerk#") (1 + draw n 23 k 10) ∷ decimal 0 ∷ order_comment k ∷ [])
+    fields (word order_priorities (draw n 22 k 5) ∷ labelled (codes "Clerk#") (1 + draw n 23 k 10)
+    ∷ decimal 0 ∷ order_comment k ∷ [])
 
 -- the line of an order: the first fields, the date, the last fields
 unfoldable pub order_line : ℕ → ℕ → List ℕ
-order_line n k = order_head n k ++ fields (date_text (order_day n k) ∷ []) ++ order_tail n k ++ 10 ∷ []
+order_line n k = order_head n k ++ fields (date_text (order_day n k) ∷ []) ++ order_tail n k ++ 10
+    ∷ []
 
 -- the part of the line that is drawn by x
 unfoldable pub line_part : ℕ → ℕ → ℕ
@@ -146,12 +161,14 @@ line_quantity n x = 1 + draw n 26 x 50
 -- a line's keys: order, part, supplier, its number within the order
 unfoldable pub lineitem_keys : ℕ → ℕ → ℕ → ℕ → List ℕ
 lineitem_keys n k j x =
-    fields (decimal k ∷ decimal (line_part n x) ∷ decimal (supplier_of n (line_part n x) (draw n 25 x 4)) ∷ decimal j ∷ [])
+    fields (decimal k ∷ decimal (line_part n x)
+    ∷ decimal (supplier_of n (line_part n x) (draw n 25 x 4)) ∷ decimal j ∷ [])
 
 -- a line's amounts: quantity, price, discount, tax
 unfoldable pub lineitem_amounts : ℕ → ℕ → List ℕ
 lineitem_amounts n x =
-    fields (money (pos (100 * line_quantity n x)) ∷ money (pos (line_quantity n x * retail_price (line_part n x)))
+    fields (money (pos (100 * line_quantity n x))
+    ∷ money (pos (line_quantity n x * retail_price (line_part n x)))
     ∷ money (pos (draw n 27 x 11)) ∷ money (pos (draw n 28 x 9)) ∷ [])
 
 -- the days from 1992-01-01 to the shipping
@@ -166,11 +183,13 @@ lineitem_dates n k x =
 
 -- a line's return flag and status
 unfoldable pub lineitem_statuses : ℕ → ℕ → List ℕ
-lineitem_statuses n x = fields (word return_flags (draw n 29 x 3) ∷ word line_statuses (draw n 30 x 2) ∷ [])
+lineitem_statuses n x =
+    fields (word return_flags (draw n 29 x 3) ∷ word line_statuses (draw n 30 x 2) ∷ [])
 
 -- a line's shipping: instruction, mode, and no comment
 unfoldable pub lineitem_shipping : ℕ → ℕ → List ℕ
-lineitem_shipping n x = fields (word ship_instructions (draw n 34 x 4) ∷ word ship_modes (draw n 35 x 7) ∷ [] ∷ [])
+lineitem_shipping n x =
+    fields (word ship_instructions (draw n 34 x 4) ∷ word ship_modes (draw n 35 x 7) ∷ [] ∷ [])
 
 -- the fields of line j of order k are drawn by 4k + j
 unfoldable pub lineitem_line : ℕ → ℕ → ℕ → List ℕ

@@ -2,7 +2,9 @@
 use Rattle.std.specs.Prelude.{ℕ, ◌+◌, ◌*◌, List, [], ◌∷◌, ◌++◌, codes, map}
 use Rattle.std.specs.String.{string_bytes}
 use Rattle.data_maker.specs.declared.text.NamedText.{NamedText}
-use Rattle.data_maker.specs.Lines.{lines, region_line, nation_line, part_line, supplier_line, partsupp_lines, customer_line, order_line, order_lineitems, delete_line}
+use Rattle.data_maker.specs.Lines.{lines, region_line, nation_line, part_line, supplier_line}
+use Rattle.data_maker.specs.Lines.{partsupp_lines, customer_line, order_line, order_lineitems}
+use Rattle.data_maker.specs.Lines.{delete_line}
 
 -- the tables that refreshes leave as they are
 unfoldable pub lasting : ℕ → List (List ℕ × List ℕ)
@@ -22,7 +24,7 @@ ordered n =
     ∷ (codes "lineitem.tbl", lines (order_lineitems n) 1 (30 * n + 1))
     ∷ []
 
--- set 1: orders behind those of the table with their lineitems, and the keys of the first orders
+-- set 1: orders after those of the table with their lineitems, and the keys of the first orders
 unfoldable pub refresh_set : ℕ → List (List ℕ × List ℕ)
 refresh_set n =
     (codes "orders.tbl.u1", lines (order_line n) (30 * n + 1) (33 * n + 1))
@@ -30,7 +32,7 @@ refresh_set n =
     ∷ (codes "delete.1", lines delete_line 1 (3 * n + 1))
     ∷ []
 
--- all eleven texts, each behind its name
+-- all eleven texts, each after its name
 unfoldable pub made : ℕ → List (List ℕ × List ℕ)
 made n = lasting n ++ ordered n ++ refresh_set n
 

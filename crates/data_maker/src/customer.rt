@@ -23,7 +23,8 @@ fn market_segment(place: u64) -> &'static str
 fn push_segment(text: &mut Vec<u8>, number: u64, key: u64) -> Result<(), AllocError>
     requires number { (1 ≤ number) × (number ≤ 1000) }
     requires key { key < 2 ^ 16 }
-    ensures { OnOk result (text.new.items ≡ text.old.items ++ field (word market_segments (draw number 17 key 5))) }
+    ensures { OnOk result (text.new.items ≡ text.old.items
+        ++ field (word market_segments (draw number 17 key 5))) }
 {
     push_word(text, market_segment(draw(number, 17, key, 5)))?;
     Ok(())

@@ -1,5 +1,6 @@
 //! Fields appended to a text, each with the bar that ends it.
-ghost use Rattle.std.specs.Prelude.{◌≡◌, ◌<◌, ◌≤◌, ◌^◌, ◌++◌, ◌∷◌, [], ◌-ℤ◌, pos, OnOk, codes, decimal};
+ghost use Rattle.std.specs.Prelude.{◌≡◌, ◌<◌, ◌≤◌, ◌^◌, ◌++◌, ◌∷◌, [], ◌-ℤ◌, pos, OnOk, codes};
+ghost use Rattle.std.specs.Prelude.{decimal};
 ghost use Rattle.data_maker.specs.Fields.{address, field, labelled, money, phone};
 ghost use Rattle.data_maker.specs.Lines.{balance, fields, residence};
 

@@ -1,5 +1,5 @@
-//! Makes the data of the benchmark in miniature: the files of the eight tables and of one refresh set, the same bytes
-//! for the same number.
+//! Makes the data of the benchmark in miniature: the files of the eight tables and of one refresh
+//! set, the same bytes for the same number.
 #![tactic(auto)]
 
 mod choices;

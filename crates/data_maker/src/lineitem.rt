@@ -1,6 +1,7 @@
 //! Lineitems. The fields of line j of order k are drawn by the place 4k + j.
 ghost use Rattle.std.specs.Prelude.{◌≡◌, ◌<◌, ◌≤◌, ◌+◌, ◌*◌, ◌^◌, ◌++◌, OnOk, IfOk};
-ghost use Rattle.data_maker.specs.Choices.{line_statuses, return_flags, ship_instructions, ship_modes, word};
+ghost use Rattle.data_maker.specs.Choices.{line_statuses, return_flags, ship_instructions};
+ghost use Rattle.data_maker.specs.Choices.{ship_modes, word};
 ghost use Rattle.data_maker.specs.Fields.{draw, field};
 ghost use Rattle.data_maker.specs.Lines.{
   line_part,
@@ -95,7 +96,8 @@ fn return_flag(place: u64) -> &'static str
 fn push_flag(text: &mut Vec<u8>, number: u64, place: u64) -> Result<(), AllocError>
     requires number { (1 ≤ number) × (number ≤ 1000) }
     requires place { place < 2 ^ 19 }
-    ensures { OnOk result (text.new.items ≡ text.old.items ++ field (word return_flags (draw number 29 place 3))) }
+    ensures { OnOk result (text.new.items ≡ text.old.items
+        ++ field (word return_flags (draw number 29 place 3))) }
 {
     push_word(text, return_flag(draw(number, 29, place, 3)))?;
     Ok(())
@@ -113,7 +115,8 @@ fn line_status(place: u64) -> &'static str
 fn push_status(text: &mut Vec<u8>, number: u64, place: u64) -> Result<(), AllocError>
     requires number { (1 ≤ number) × (number ≤ 1000) }
     requires place { place < 2 ^ 19 }
-    ensures { OnOk result (text.new.items ≡ text.old.items ++ field (word line_statuses (draw number 30 place 2))) }
+    ensures { OnOk result (text.new.items ≡ text.old.items
+        ++ field (word line_statuses (draw number 30 place 2))) }
 {
     push_word(text, line_status(draw(number, 30, place, 2)))?;
     Ok(())
@@ -173,7 +176,8 @@ fn ship_instruction(place: u64) -> &'static str
 fn push_instruction(text: &mut Vec<u8>, number: u64, place: u64) -> Result<(), AllocError>
     requires number { (1 ≤ number) × (number ≤ 1000) }
     requires place { place < 2 ^ 19 }
-    ensures { OnOk result (text.new.items ≡ text.old.items ++ field (word ship_instructions (draw number 34 place 4))) }
+    ensures { OnOk result (text.new.items ≡ text.old.items
+        ++ field (word ship_instructions (draw number 34 place 4))) }
 {
     push_word(text, ship_instruction(draw(number, 34, place, 4)))?;
     Ok(())
@@ -191,7 +195,8 @@ fn ship_mode(place: u64) -> &'static str
 fn push_mode(text: &mut Vec<u8>, number: u64, place: u64) -> Result<(), AllocError>
     requires number { (1 ≤ number) × (number ≤ 1000) }
     requires place { place < 2 ^ 19 }
-    ensures { OnOk result (text.new.items ≡ text.old.items ++ field (word ship_modes (draw number 35 place 7))) }
+    ensures { OnOk result (text.new.items ≡ text.old.items
+        ++ field (word ship_modes (draw number 35 place 7))) }
 {
     push_word(text, ship_mode(draw(number, 35, place, 7)))?;
     Ok(())

@@ -2,7 +2,8 @@
 ghost use Rattle.std.specs.Prelude.{◌≡◌, ◌<◌, ◌≤◌, ◌+◌, ◌*◌, ◌^◌, ◌++◌, OnOk, IfOk};
 ghost use Rattle.data_maker.specs.Choices.{order_priorities, order_statuses, word};
 ghost use Rattle.data_maker.specs.Fields.{draw, field};
-ghost use Rattle.data_maker.specs.Lines.{delete_line, lines, order_comment, order_day, order_head, order_line, order_tail};
+ghost use Rattle.data_maker.specs.Lines.{delete_line, lines, order_comment, order_day, order_head};
+ghost use Rattle.data_maker.specs.Lines.{order_line, order_tail};
 
 use crate::choices::{ORDER_PRIORITIES, ORDER_STATUSES, word};
 use crate::dates::push_date;
@@ -45,7 +46,8 @@ fn order_status(place: u64) -> &'static str
 fn push_status(text: &mut Vec<u8>, number: u64, key: u64) -> Result<(), AllocError>
     requires number { (1 ≤ number) × (number ≤ 1000) }
     requires key { key < 2 ^ 16 }
-    ensures { OnOk result (text.new.items ≡ text.old.items ++ field (word order_statuses (draw number 19 key 3))) }
+    ensures { OnOk result (text.new.items ≡ text.old.items
+        ++ field (word order_statuses (draw number 19 key 3))) }
 {
     push_word(text, order_status(draw(number, 19, key, 3)))?;
     Ok(())
@@ -63,7 +65,8 @@ fn order_priority(place: u64) -> &'static str
 fn push_priority(text: &mut Vec<u8>, number: u64, key: u64) -> Result<(), AllocError>
     requires number { (1 ≤ number) × (number ≤ 1000) }
     requires key { key < 2 ^ 16 }
-    ensures { OnOk result (text.new.items ≡ text.old.items ++ field (word order_priorities (draw number 22 key 5))) }
+    ensures { OnOk result (text.new.items ≡ text.old.items
+        ++ field (word order_priorities (draw number 22 key 5))) }
 {
     push_word(text, order_priority(draw(number, 22, key, 5)))?;
     Ok(())

@@ -6,9 +6,9 @@ use crate::draw::{draw, supplier_of};
 use crate::fields::{end_line, push_money, push_number, push_word};
 use std::alloc::{AllocError, Global};
 
-/// The places of a part's four suppliers, by ascending supplier. The suppliers stand a fifth of the ring of all
-/// suppliers apart, so the lowest is the first one behind the ring's end.
-#[tactic(auto, using(crate::proofs::Ring::none_behind, crate::proofs::Ring::one_behind, crate::proofs::Ring::two_behind, crate::proofs::Ring::three_behind))]
+/// The places of a part's four suppliers, by ascending supplier. The suppliers stand a fifth of the
+/// ring of all suppliers apart, so the lowest is the first one past the ring's end.
+#[tactic(auto, using(crate::proofs::Ring::none_past, crate::proofs::Ring::one_past, crate::proofs::Ring::two_past, crate::proofs::Ring::three_past))]
 fn by_supplier(number: u64, part: u64) -> (u64, u64, u64, u64)
     requires number { (1 ≤ number) × (number ≤ 1000) }
     requires part { part < 2 ^ 16 }

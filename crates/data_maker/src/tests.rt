@@ -1,4 +1,5 @@
-//! The lines counted, and whole lines of each table as another program works them out from the formulas.
+//! The lines counted, and whole lines of each table as another program works them out from the
+//! formulas.
 use super::{NamedText, make};
 use std::test::Fail;
 
@@ -10,7 +11,8 @@ fn line_count(texts: &[NamedText], index: usize) -> usize {
     }
 }
 
-/// Whether the text of that index has the name, and at the place among its lines, from 0, that line.
+/// Whether the text of that index has the name, and at the place among its lines, from 0, that
+/// line.
 fn has_line(texts: &[NamedText], index: usize, name: &str, place: usize, line: &str) -> bool {
     let Some(text) = texts.get(index) else {
         return false;

@@ -20,7 +20,8 @@ fn add(
     name: &str,
     bytes: Vec<u8>,
 ) -> Result<(), AllocError>
-    ensures { OnOk result (named texts.new.items ≡ named texts.old.items ++ (name.now, bytes.items) ∷ []) }
+    ensures { OnOk result (named texts.new.items ≡ named texts.old.items ++ (name.now, bytes.items)
+        ∷ []) }
 {
     let name = String::from_str(alloc, name)?;
     texts.push(NamedText { name, bytes })?;
@@ -93,9 +94,9 @@ fn add_refresh_set(alloc: Global, texts: &mut Vec<NamedText>, number: u64) -> Re
     Ok(())
 }
 
-/// The data for a number from 1 to 1000: the files of the eight tables in the schema's order, then those of refresh
-/// set 1, the same bytes at each call. Its size goes up with the number: orders are 30 times the number, and the
-/// set's 3 times. The only error is want of memory.
+/// The data for a number from 1 to 1000: the files of the eight tables in the schema's order, then
+/// those of refresh set 1, the same bytes at each call. Its size goes up with the number: orders
+/// are 30 times the number, and the set's 3 times. The only error is out of memory.
 #[tactic(auto, unfolding(crate::specs::Texts::made, crate::specs::Texts::named))]
 pub fn make(alloc: Global, number: u64) -> Result<Vec<NamedText>, AllocError>
     requires { (1 ≤ number) × (number ≤ 1000) }

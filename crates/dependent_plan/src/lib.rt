@@ -1,4 +1,5 @@
-//! From bound queries to dependent trees: the list of the rows around a query becomes one flat domain row.
+//! From bound queries to dependent trees: the list of the rows around a query becomes one flat
+//! domain row.
 #![tactic(auto)]
 
 mod outer;

@@ -1,6 +1,8 @@
 //! The nodes of a tree that stand above what a query's parts became.
 ghost use Rattle.std.specs.Prelude.{◌≡◌, ◌+◌, [], length, map, IfOk};
-ghost use Rattle.scalar_expr.specs.declared.expr.Expr.TheVariants.{Column as column_of, All as all_of, Compare as compare_of};
+ghost use Rattle.scalar_expr.specs.declared.expr.Expr.TheVariants.{Column as column_of};
+ghost use Rattle.scalar_expr.specs.declared.expr.Expr.TheVariants.{All as all_of};
+ghost use Rattle.scalar_expr.specs.declared.expr.Expr.TheVariants.{Compare as compare_of};
 ghost use Rattle.scalar_expr.specs.Rename.{IsRenamed};
 ghost use Rattle.operators.specs.declared.operator.Comparison.TheVariants.{Equal as equal_of};
 ghost use Rattle.conditions.specs.Ranks.{columns_from};
@@ -121,7 +123,9 @@ pub fn marked(
     right: Right,
     condition: Boxed<Expr>,
 ) -> Result<Attached, AllocError>
-    ensures { IfOk result (λ a. (a.grown.tree ≡ node.Mark grown.tree right.tree right.side condition) × (a.grown.end ≡ grown.end + 1) × (a.column ≡ grown.end)) }
+    ensures { IfOk result (λ a.
+        (a.grown.tree ≡ node.Mark grown.tree right.tree right.side condition)
+        × (a.grown.end ≡ grown.end + 1) × (a.column ≡ grown.end)) }
 {
     let column = grown.end;
     let end = column.checked_add(1).ok_or(AllocError)?;
@@ -133,7 +137,9 @@ pub fn marked(
 
 // EXISTS.
 pub fn existing(alloc: Global, grown: Grown, right: Right) -> Result<Attached, AllocError>
-    ensures { IfOk result (λ a. (a.grown.tree ≡ node.Mark grown.tree right.tree right.side (all_of [])) × (a.grown.end ≡ grown.end + 1) × (a.column ≡ grown.end)) }
+    ensures { IfOk result (λ a.
+        (a.grown.tree ≡ node.Mark grown.tree right.tree right.side (all_of []))
+        × (a.grown.end ≡ grown.end + 1) × (a.column ≡ grown.end)) }
 {
     let condition = always(alloc)?;
     let attached = marked(alloc, grown, right, condition)?;
@@ -143,7 +149,8 @@ pub fn existing(alloc: Global, grown: Grown, right: Right) -> Result<Attached, A
 // IN: the left side equals the right side's only column, the first one after the flat row.
 pub fn contained(alloc: Global, left: Read, right: Right) -> Result<Attached, AllocError>
     ensures { IfOk result (λ a.
-        (a.grown.tree ≡ node.Mark left.grown.tree right.tree right.side (compare_of equal_of left.expr (column_of left.grown.end)))
+        (a.grown.tree ≡ node.Mark left.grown.tree right.tree right.side
+        (compare_of equal_of left.expr (column_of left.grown.end)))
         × (a.grown.end ≡ left.grown.end + 1) × (a.column ≡ left.grown.end)) }
 {
     let Read { grown, expr } = left;
@@ -155,7 +162,8 @@ pub fn contained(alloc: Global, left: Read, right: Right) -> Result<Attached, Al
 
 // A scalar subquery: the value of its only column.
 pub fn valued(alloc: Global, grown: Grown, right: Right) -> Result<Attached, AllocError>
-    ensures { IfOk result (λ a. (a.grown.tree ≡ node.Single grown.tree right.tree right.side 0) × (a.grown.end ≡ grown.end + 1) × (a.column ≡ grown.end)) }
+    ensures { IfOk result (λ a. (a.grown.tree ≡ node.Single grown.tree right.tree right.side 0)
+        × (a.grown.end ≡ grown.end + 1) × (a.column ≡ grown.end)) }
 {
     let column = grown.end;
     let end = column.checked_add(1).ok_or(AllocError)?;
@@ -167,7 +175,8 @@ pub fn valued(alloc: Global, grown: Grown, right: Right) -> Result<Attached, All
 
 // An expression over its inputs, read from the flat row.
 pub fn over_places(alloc: Global, placed: Placed, expr: &Expr) -> Result<Read, AllocError>
-    ensures { IfOk result (λ r. (r.grown.tree ≡ placed.grown.tree) × (r.grown.end ≡ placed.grown.end) × IsRenamed placed.columns expr.now r.expr) }
+    ensures { IfOk result (λ r. (r.grown.tree ≡ placed.grown.tree)
+        × (r.grown.end ≡ placed.grown.end) × IsRenamed placed.columns expr.now r.expr) }
 {
     let Placed { grown, columns } = placed;
     let expr = rename(alloc, expr, columns.as_slice())?;
@@ -188,7 +197,8 @@ pub fn applied(function: AggregateFunction, scale: Scale, argument: Read) -> Cou
 
 // The rows that a condition keeps.
 pub fn selected(alloc: Global, condition: Read) -> Result<Grown, AllocError>
-    ensures { IfOk result (λ g. (g.tree ≡ node.Select condition.grown.tree condition.expr) × (g.end ≡ condition.grown.end)) }
+    ensures { IfOk result (λ g. (g.tree ≡ node.Select condition.grown.tree condition.expr)
+        × (g.end ≡ condition.grown.end)) }
 {
     let Read { grown, expr } = condition;
     let Grown { tree, end } = grown;
@@ -198,7 +208,8 @@ pub fn selected(alloc: Global, condition: Read) -> Result<Grown, AllocError>
 
 // The select list.
 pub fn projected(alloc: Global, listed: Listed) -> Result<Rows, AllocError>
-    ensures { IfOk result (λ r. (r.tree ≡ node.Project listed.grown.tree listed.exprs) × (r.width ≡ length listed.exprs)) }
+    ensures { IfOk result (λ r. (r.tree ≡ node.Project listed.grown.tree listed.exprs)
+        × (r.width ≡ length listed.exprs)) }
 {
     let Listed { grown, exprs } = listed;
     let width = u32::try_from(exprs.len()).map_err(|_| AllocError)?;
@@ -220,7 +231,8 @@ fn columns_of(alloc: Global, start: u32, width: u32) -> Result<Items<Expr>, Allo
 
 // The first columns of a query's row, without what stands after them.
 pub fn trimmed(alloc: Global, grown: Grown, start: u32, width: u32) -> Result<Rows, AllocError>
-    ensures { IfOk result (λ r. IsTrimmed grown.tree start width grown.end r.tree × (r.width ≡ width)) }
+    ensures { IfOk result (λ r. IsTrimmed grown.tree start width grown.end r.tree
+        × (r.width ≡ width)) }
 {
     let Grown { tree, end } = grown;
     let last = start.checked_add(width).ok_or(AllocError)?;
@@ -247,7 +259,8 @@ pub fn key_places(alloc: Global, sight: &Sight, keys: &[u32]) -> Result<Items<u3
 
 // The groups by these columns, with aggregates.
 pub fn grouped(alloc: Global, by: Items<u32>, summed: Summed) -> Result<Rows, AllocError>
-    ensures { IfOk result (λ r. (r.tree ≡ node.Group summed.grown.tree by summed.aggregates) × (r.width ≡ length by + length summed.aggregates)) }
+    ensures { IfOk result (λ r. (r.tree ≡ node.Group summed.grown.tree by summed.aggregates)
+        × (r.width ≡ length by + length summed.aggregates)) }
 {
     let Summed { grown, aggregates } = summed;
     let keys = u32::try_from(by.len()).map_err(|_| AllocError)?;

@@ -13,8 +13,8 @@ pub struct OuterColumn {
     pub place: u32,
 }
 
-/// What an expression of a query sees of a flat row: first columns of the rows around, and further on the query's own
-/// row.
+/// What an expression of a query sees of a flat row: first columns of the rows around, and further
+/// on the query's own row.
 #[derive(Clone, Copy)]
 pub struct Sight<'a> {
     /// The columns of the rows around that the flat row begins with.
@@ -25,7 +25,8 @@ pub struct Sight<'a> {
     pub width: u32,
 }
 
-// The place of a column of the rows around. It is there: these are the columns that the query reads.
+// The place of a column of the rows around. It is there: these are the columns that the query
+// reads.
 fn place_in(outer: &[OuterColumn], column: OuterColumn) -> Result<u32, AllocError>
     ensures { IfOk result (λ at. slice_get outer.now at ≡ Some column) }
 {

@@ -52,7 +52,9 @@ pub fn depending(rows: Rows, columns: Items<u32>) -> Right
 
 // All combinations of the rows of two sides.
 pub fn crossed(alloc: Global, left: Rows, right: RightRows) -> Result<Rows, AllocError>
-    ensures { IfOk result (λ r. (r.tree ≡ node.Join left.tree right.rows.tree right.side (all_of [])) × (r.width ≡ left.width + right.rows.width)) }
+    ensures { IfOk result (λ r.
+        (r.tree ≡ node.Join left.tree right.rows.tree right.side (all_of []))
+        × (r.width ≡ left.width + right.rows.width)) }
 {
     let width = left.width.checked_add(right.rows.width).ok_or(AllocError)?;
     let condition = always(alloc)?;
@@ -67,7 +69,8 @@ fn plain_places(
     inputs: &[Input],
     sight: &Sight,
 ) -> Result<Option<Items<u32>>, AllocError>
-    ensures { IfOk result (ArePlain sight.now.outer.now sight.now.start sight.now.width inputs.now) }
+    ensures { IfOk result (ArePlain sight.now.outer.now sight.now.start sight.now.width
+        inputs.now) }
 {
     let mut places = Items::new(alloc);
     for input in inputs {
@@ -130,7 +133,8 @@ fn first_columns(alloc: Global, count: u32) -> Result<Items<u32>, AllocError>
     Ok(columns)
 }
 
-// LEFT OUTER JOIN of a right side that has its condition, over the domain row and the left row before it.
+// LEFT OUTER JOIN of a right side that has its condition, over the domain row and the left row
+// before it.
 pub fn lateral_outer(
     alloc: Global,
     left: Rows,
@@ -138,7 +142,8 @@ pub fn lateral_outer(
     begin: u32,
     nulls: u32,
 ) -> Result<Rows, AllocError>
-    ensures { IfOk result (λ r. (r.tree ≡ node.Outer left.tree right.tree (dependent_of (columns_from 0 begin)) (all_of []))
+    ensures { IfOk result (λ r.
+        (r.tree ≡ node.Outer left.tree right.tree (dependent_of (columns_from 0 begin)) (all_of []))
         × (r.width ≡ left.width + nulls) × (right.width ≡ nulls)) }
 {
     let columns = first_columns(alloc, begin)?;

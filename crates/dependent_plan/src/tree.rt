@@ -1,8 +1,12 @@
 //! The tree of each part of a query.
 ghost use Rattle.std.specs.Prelude.{◌≡◌, [], length, map, IfOk};
-ghost use Rattle.nested_query.specs.Reads.{tables, tables_of_source, tables_of_input, tables_of_expr, tables_of_aggregate, joined_tables};
+ghost use Rattle.nested_query.specs.Reads.{tables, tables_of_source, tables_of_input};
+ghost use Rattle.nested_query.specs.Reads.{tables_of_expr, tables_of_aggregate, joined_tables};
 ghost use Rattle.dependent_plan.specs.Dependence.{IsTreeOf};
-ghost use Rattle.dependent_plan.specs.Growth.{source_of, block_of, IsTree, IsRightTree, IsSubquery, Attaches, InputAt, InputsAt, ExprAt, ListAt, AggregateAt, AggregatesAt, SameFunction, SameFunctions};
+ghost use Rattle.dependent_plan.specs.Growth.{source_of, block_of, IsTree, IsRightTree, IsSubquery};
+ghost use Rattle.dependent_plan.specs.Growth.{Attaches, InputAt, InputsAt, ExprAt, ListAt};
+ghost use Rattle.dependent_plan.specs.Growth.{AggregateAt, AggregatesAt, SameFunction};
+ghost use Rattle.dependent_plan.specs.Growth.{SameFunctions};
 
 use crate::outer::{outer_columns, reads_outer};
 use crate::parts::{
@@ -21,9 +25,9 @@ use std::alloc::{AllocError, Global};
 
 /// The dependent tree of a query.
 ///
-/// EXISTS and IN become marks and scalar subqueries single values, attached to the rows of FROM one after the other; an
-/// expression is then read from the flat row of the domain's columns, the row's own and these. A subquery's domain row
-/// has just the columns of the rows around that it reads.
+/// EXISTS and IN become marks and scalar subqueries single values, attached to the rows of FROM one
+/// after the other; an expression is then read from the flat row of the domain's columns, the row's
+/// own and these. A subquery's domain row has just the columns of the rows around that it reads.
 pub fn depend(alloc: Global, query: &BoundQuery) -> Result<Boxed<DepTree>, AllocError>
     ensures { IfOk result (IsTreeOf query.now.block []) }
 {
@@ -31,7 +35,8 @@ pub fn depend(alloc: Global, query: &BoundQuery) -> Result<Boxed<DepTree>, Alloc
     Ok(tree)
 }
 
-/// The dependent tree of a query inside others, over the domain row of these columns of the rows around.
+/// The dependent tree of a query inside others, over the domain row of these columns of the rows
+/// around.
 pub fn depend_under(
     alloc: Global,
     q: &BoundBlock,
@@ -51,7 +56,8 @@ fn block(
     outer: &[OuterColumn],
     start: u32,
 ) -> Result<Rows, AllocError>
-    ensures { IfOk result (λ r. IsTree (tables q.now) (block_of q.now) outer.now start r.tree r.width) }
+    ensures { IfOk result (λ r.
+        IsTree (tables q.now) (block_of q.now) outer.now start r.tree r.width) }
 {
     match q {
         BoundBlock::Plain(from, condition, list) => {
@@ -111,7 +117,8 @@ fn source(
     outer: &[OuterColumn],
     start: u32,
 ) -> Result<Rows, AllocError>
-    ensures { IfOk result (λ r. IsTree (tables_of_source s.now) (source_of s.now) outer.now start r.tree r.width) }
+    ensures { IfOk result (λ r.
+        IsTree (tables_of_source s.now) (source_of s.now) outer.now start r.tree r.width) }
 {
     match s {
         BoundSource::Table(table) => {
@@ -188,7 +195,9 @@ fn right_source(
     outer: &[OuterColumn],
     start: u32,
 ) -> Result<RightRows, AllocError>
-    ensures { IfOk result (λ r. IsRightTree (tables_of_source s.now) (source_of s.now) outer.now start r.rows.tree r.side r.rows.width) }
+    ensures { IfOk result (λ r.
+        IsRightTree (tables_of_source s.now) (source_of s.now) outer.now start r.rows.tree r.side
+        r.rows.width) }
 {
     if reads_outer(alloc, s.get())? {
         let rows = source(alloc, s.get(), outer, start)?;
@@ -204,7 +213,8 @@ fn right_source(
 // A subquery, over the domain of the columns of the rows around that it reads.
 #[cycle(depend)]
 fn subquery(alloc: Global, q: &Boxed<BoundBlock>, sight: &Sight) -> Result<Right, AllocError>
-    ensures { IfOk result (λ r. IsSubquery q.now sight.now.outer.now sight.now.start sight.now.width r.tree r.side) }
+    ensures { IfOk result (λ r.
+        IsSubquery q.now sight.now.outer.now sight.now.start sight.now.width r.tree r.side) }
 {
     let outer = outer_columns(alloc, q.get())?;
     let columns = outer_places(alloc, sight, outer.as_slice())?;
@@ -221,7 +231,9 @@ fn attach_input(
     sight: &Sight,
     grown: Grown,
 ) -> Result<Attached, AllocError>
-    ensures { IfOk result (λ a. Attaches sight.now.outer.now sight.now.start sight.now.width (tables_of_input input.now) (InputAt input.now a.column)
+    ensures { IfOk result (λ a.
+        Attaches sight.now.outer.now sight.now.start sight.now.width (tables_of_input input.now)
+        (InputAt input.now a.column)
         grown.tree grown.end a.grown.tree a.grown.end) }
 {
     match input {
@@ -255,7 +267,9 @@ fn attach_inputs(
     sight: &Sight,
     grown: Grown,
 ) -> Result<Placed, AllocError>
-    ensures { IfOk result (λ p. Attaches sight.now.outer.now sight.now.start sight.now.width (joined_tables (map tables_of_input inputs.now)) (InputsAt inputs.now p.columns)
+    ensures { IfOk result (λ p.
+        Attaches sight.now.outer.now sight.now.start sight.now.width
+        (joined_tables (map tables_of_input inputs.now)) (InputsAt inputs.now p.columns)
         grown.tree grown.end p.grown.tree p.grown.end) }
 {
     let mut grown = grown;
@@ -275,7 +289,9 @@ fn attach_expr(
     sight: &Sight,
     grown: Grown,
 ) -> Result<Read, AllocError>
-    ensures { IfOk result (λ r. Attaches sight.now.outer.now sight.now.start sight.now.width (tables_of_expr e.now) (ExprAt e.now r.expr)
+    ensures { IfOk result (λ r.
+        Attaches sight.now.outer.now sight.now.start sight.now.width (tables_of_expr e.now)
+        (ExprAt e.now r.expr)
         grown.tree grown.end r.grown.tree r.grown.end) }
 {
     let placed = attach_inputs(alloc, e.inputs.as_slice(), sight, grown)?;
@@ -290,7 +306,9 @@ fn attach_list(
     sight: &Sight,
     grown: Grown,
 ) -> Result<Listed, AllocError>
-    ensures attaches { IfOk result (λ l. Attaches sight.now.outer.now sight.now.start sight.now.width (joined_tables (map tables_of_expr list.now)) (ListAt list.now l.exprs)
+    ensures attaches { IfOk result
+        (λ l. Attaches sight.now.outer.now sight.now.start sight.now.width
+        (joined_tables (map tables_of_expr list.now)) (ListAt list.now l.exprs)
         grown.tree grown.end l.grown.tree l.grown.end) }
     ensures count { IfOk result (λ l. length l.exprs ≡ length list.now) }
 {
@@ -311,7 +329,9 @@ fn attach_aggregate(
     sight: &Sight,
     grown: Grown,
 ) -> Result<Counted, AllocError>
-    ensures attaches { IfOk result (λ c. Attaches sight.now.outer.now sight.now.start sight.now.width (tables_of_aggregate a.now) (AggregateAt a.now c.aggregate)
+    ensures attaches { IfOk result
+        (λ c. Attaches sight.now.outer.now sight.now.start sight.now.width
+        (tables_of_aggregate a.now) (AggregateAt a.now c.aggregate)
         grown.tree grown.end c.grown.tree c.grown.end) }
     ensures function { IfOk result (λ c. SameFunction a.now c.aggregate) }
 {
@@ -335,7 +355,9 @@ fn attach_aggregates(
     sight: &Sight,
     grown: Grown,
 ) -> Result<Summed, AllocError>
-    ensures attaches { IfOk result (λ s. Attaches sight.now.outer.now sight.now.start sight.now.width (joined_tables (map tables_of_aggregate all.now)) (AggregatesAt all.now s.aggregates)
+    ensures attaches { IfOk result
+        (λ s. Attaches sight.now.outer.now sight.now.start sight.now.width
+        (joined_tables (map tables_of_aggregate all.now)) (AggregatesAt all.now s.aggregates)
         grown.tree grown.end s.grown.tree s.grown.end) }
     ensures functions { IfOk result (λ s. SameFunctions all.now s.aggregates) }
     ensures count { IfOk result (λ s. length s.aggregates ≡ length all.now) }

@@ -1,7 +1,9 @@
 //! Laws of the definitions that the contracts cite. Each function does nothing: its contract is
 //! the law.
-ghost use Rattle.fixed_decimal.specs.Laws.{ReadsBack, RescalingKeepsTheValue, RoundsToNearest, PutIsOneTermMore, MergeIsBothLists, TotalIsTheSum};
-ghost use Rattle.fixed_decimal.specs.Cases.{Thirds, ZeroDivisor, SumPastTheEnd, AcrossScales, SumsAtTheEnd, AverageOfThree, Spelled};
+ghost use Rattle.fixed_decimal.specs.Laws.{ReadsBack, RescalingKeepsTheValue, RoundsToNearest};
+ghost use Rattle.fixed_decimal.specs.Laws.{PutIsOneTermMore, MergeIsBothLists, TotalIsTheSum};
+ghost use Rattle.fixed_decimal.specs.Cases.{Thirds, ZeroDivisor, SumPastTheEnd, AcrossScales};
+ghost use Rattle.fixed_decimal.specs.Cases.{SumsAtTheEnd, AverageOfThree, Spelled};
 
 /// What `write_decimal` wrote at a scale, `read_decimal` reads at it as the same coefficient.
 pub fn written_is_read()

@@ -1,8 +1,10 @@
 //! Decimals read from their digits.
-ghost use Rattle.std.specs.Prelude.{◌≡◌, ℕ, ◌+◌, ◌*◌, ◌^◌, ◌<◌, ◌≤◌, List, length, Option, Some, None, true, position, ◌==◌, IfSome};
+ghost use Rattle.std.specs.Prelude.{◌≡◌, ℕ, ◌+◌, ◌*◌, ◌^◌, ◌<◌, ◌≤◌, List, length, Option, Some};
+ghost use Rattle.std.specs.Prelude.{None, true, position, ◌==◌, IfSome};
 ghost use Rattle.std.specs.Str.{all_ascii_digits};
 ghost use Rattle.std.specs.Str.Parse.{digits_value_after};
-ghost use Rattle.fixed_decimal.specs.Written.{is_digits, read_parts, read_size, decimal_read, below_limit, size_answer, with_sign, coefficient_of};
+ghost use Rattle.fixed_decimal.specs.Written.{is_digits, read_parts, read_size, decimal_read};
+ghost use Rattle.fixed_decimal.specs.Written.{below_limit, size_answer, with_sign, coefficient_of};
 
 use crate::power::power;
 use crate::{Scale, arithmetic};

@@ -36,8 +36,8 @@ fn push_size(text: &mut Vec<u8>, size: u128, places: u8) -> Result<(), AllocErro
     push_last_digits(text, (size % one) as u64, places)
 }
 
-/// Appends the number c / 10^s with all the digits of its scale and at least one before the point; a minus stands first
-/// where it is below zero. Only the text's own memory is wanted.
+/// Appends the number c / 10^s with all the digits of its scale and at least one before the point;
+/// a minus stands first where it is below zero. Only the text's own memory is wanted.
 pub fn push_decimal(text: &mut Vec<u8>, c: i128, s: Scale) -> Result<(), AllocError>
     ensures { OnOk result (text.new.items ≡ text.old.items ++ decimal_written c s) }
 {

@@ -1,4 +1,5 @@
--- The bags of a plan's nodes while it runs: one for each node so far, or nothing where it was let go.
+-- The bags of a plan's nodes while it runs: one for each node so far, or nothing where it was let
+-- go.
 use Rattle.std.specs.Prelude.{◌≡◌, ℕ, ◌+◌, ◌-◌, ◌<◌, ◌==◌, ◌&&◌, ◌||◌, not, Bool, true, false, IsTrue, List, [], ◌∷◌, map, length, drop, Option, Some, None, slice_index, slice_index_or, slice_set, if◌then◌else◌}
 use Rattle.std.specs.List.{list_all}
 use Rattle.row_laws.specs.Ranked.{Ranked, Relation}
@@ -43,7 +44,8 @@ is_there bags i = is_bag (slice_index_or bags i None)
 -- whether the bags have the widths that the operator of a node asks
 abbrev pub suits_widths : List ℕ → Node → Bool
 suits_widths widths (Join i j matched e) = matches_first (slice_index widths j) matched
-suits_widths widths (Outer i j matched nulls e) = matches_first (slice_index widths j) matched && (slice_index widths j == length matched + nulls)
+suits_widths widths (Outer i j matched nulls e) = matches_first (slice_index widths j) matched
+    && (slice_index widths j == length matched + nulls)
 suits_widths widths (Mark i j matched e) = matches_first (slice_index widths j) matched
 suits_widths widths (Single i j matched c) = matches_first (slice_index widths j) matched
 suits_widths widths (Fill i j empty) = slice_index widths i == slice_index widths j + length empty
@@ -58,9 +60,11 @@ node_reads db other = 0
 abbrev pub last_bag : List MaybeBag → MaybeBag
 last_bag bags = slice_index_or bags (length bags - 1) None
 
--- whether a node can be computed from the bags: those that it reads are there and have suitable widths
+-- whether a node can be computed from the bags: those that it reads are there and have suitable
+-- widths
 abbrev pub is_ready : List MaybeBag → Node → Bool
-is_ready bags node = list_all (is_there bags) (inputs_of node) && suits_widths (all_widths bags) node
+is_ready bags node = list_all (is_there bags) (inputs_of node)
+    && suits_widths (all_widths bags) node
 
 -- whether a node reads the node of this number
 abbrev pub reads_node : ℕ → Node → Bool
@@ -75,12 +79,15 @@ is_read i (n ∷ ns) = reads_node i n || is_read i ns
 abbrev pub released : List Node → ℕ → List MaybeBag → List MaybeBag
 released rest i bags = if is_read i rest then bags else slice_set bags i None
 
--- The bags that a node reads may be gone, where none of the nodes after it reads them. The others are there as before.
+-- The bags that a node reads may be gone, where none of the nodes after it reads them. The others
+-- are there as before.
 pub record Spares (node : Node) (rest : List Node) (before after : List MaybeBag) : Type 0 where
   pub long : length after ≡ length before
-  pub kept : (i : ℕ) → IsTrue (not (reads_node i node) || is_read i rest) → slice_index_or after i None ≡ slice_index_or before i None
+  pub kept : (i : ℕ) → IsTrue (not (reads_node i node) || is_read i rest)
+      → slice_index_or after i None ≡ slice_index_or before i None
 
--- whether a node is needed once the first k nodes are computed: it is the last of these, or one after them reads it
+-- whether a node is needed once the first k nodes are computed: it is the last of these, or one
+-- after them reads it
 abbrev pub is_needed : List Node → ℕ → ℕ → Bool
 is_needed nodes k i = (i + 1 == k) || is_read i (drop k nodes)
 
@@ -93,4 +100,5 @@ pub record IsBagOf (db : Database) (nodes : List Node) (i : ℕ) (bag : MaybeBag
 -- the bags of the first k nodes, as far as they are needed
 pub record AreBags (db : Database) (nodes : List Node) (k : ℕ) (bags : List MaybeBag) : Type 0 where
   pub long : length bags ≡ k
-  pub each : (i : ℕ) → i < k → IsTrue (is_needed nodes k i) → IsBagOf db nodes i (slice_index_or bags i None)
+  pub each : (i : ℕ) → i < k → IsTrue (is_needed nodes k i)
+      → IsBagOf db nodes i (slice_index_or bags i None)

@@ -9,7 +9,8 @@ use columns::{Bag, Batch};
 use scalar_expr::Expr;
 use std::alloc::{AllocError, Global};
 
-// The rows of a batch that a condition keeps. 2^32 rows or more are an error, as memory that isn't there.
+// The rows of a batch that a condition keeps. 2^32 rows or more are an error, as memory that isn't
+// there.
 fn selected_batch(alloc: Global, e: &Expr, batch: &Batch) -> Result<Batch, AllocError>
     ensures width { IfOk result (λ b. b.width ≡ batch.now.width) }
     ensures rows { IfOk result (λ b. b.rows ≡ select (rank_of e.now) batch.now.rows) }

@@ -61,9 +61,11 @@ fn release(bags: &mut Vec<Option<Bag>>, id: NodeId, nodes: &[Node], k: usize)
     }
 }
 
-// Lets the bags go that a node has read as the last one: none of the nodes from the k-th on reads them.
+// Lets the bags go that a node has read as the last one: none of the nodes from the k-th on reads
+// them.
 pub(crate) fn release_read(bags: &mut Vec<Option<Bag>>, node: &Node, nodes: &[Node], k: usize)
-    requires inputs { IsTrue (list_all (λ i. nat_lt i (length bags.old.items)) (inputs_of node.now)) }
+    requires inputs { IsTrue
+        (list_all (λ i. nat_lt i (length bags.old.items)) (inputs_of node.now)) }
     requires k { k ≤ length nodes.now }
     ensures { Spares node.now (drop k nodes.now) bags.old.items bags.new.items }
 {

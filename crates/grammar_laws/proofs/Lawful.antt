@@ -226,15 +226,6 @@ module _ {T K : Type 0} {c : Kinds T K} {P S : Type 0} where
     complete = λ p. Complete-mapped f (g.complete p);
   }
 
-  pub tail_map : {A B : Type 0} {G : List (Mark T) → A → Type 0} {p : List T → Outcome T A} {first on : List K} (f : A → B) → Tail c P S first on G p → Tail c P S first on (Map f G) (mapped f p)
-  tail_map f g = record {
-    heads = λ ms b x. g.heads ms x.a x.part;
-    sample = λ s. Sample-map f (g.sample s);
-    sound = λ s. Sound-mapped f (g.sound s);
-    stable = Stable-mapped f g.stable;
-    complete = λ p. Complete-mapped f (g.complete p);
-  }
-
   pub tail_empty : {A : Type 0} (a : A) → Tail c P S [] [] (Empty a) (nothing a)
   tail_empty a = record {
     heads = λ ms b g. inl g.0;
@@ -362,16 +353,6 @@ module _ {T K : Type 0} {c : Kinds T K} {P S : Type 0} where
 
       goes_on : (t : T) (ts : List T) → test t ≡ true → EndsBy c o2 (t ∷ ts)
       goes_on t ts h = avoids c f2 o2 t goes (sym (agree t) ∙ h)
-
-  -- more kinds that may not come next
-  pub line_wider : {A : Type 0} {G : List (Mark T) → A → Type 0} {p : List T → Outcome T A} {first on first' on' : List K} → Line c P S first on G p → within c first first' ≡ true → within c on on' ≡ true → Line c P S first' on' G p
-  line_wider {first = first} {on = on} {first' = first'} {on' = on'} g v w = record {
-    heads = λ ms a x. Starts-wider c first first' ms v (g.heads ms a x);
-    sample = g.sample;
-    sound = g.sound;
-    stable = g.stable;
-    complete = λ p. Complete-narrower (λ ms a x. x) (λ ts e. ends_fewer c on on' ts w e) (g.complete p);
-  }
 
 pub is_among : {T K : Type 0} (c : Kinds T K) (k : K) (t : T) → c.is k t ≡ among c (k ∷ []) t
 is_among c k t = by (c.is k t)

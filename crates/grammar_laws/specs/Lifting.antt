@@ -1,4 +1,5 @@
--- Larger limits: a text of a grammar is one of the grammar with larger limits, and passes none of them.
+-- Larger limits: a text of a grammar is one of the grammar with larger limits, and passes none of
+-- them.
 use Rattle.std.specs.Prelude.{◌≡◌, ℕ, ◌≤◌, List, [], ◌∷◌, length, None}
 use Rattle.grammar_laws.specs.Marks.{Mark, tokens}
 
@@ -8,7 +9,8 @@ AllPlain [] = Unit {0}
 AllPlain (m ∷ ms) = (m.passes ≡ None) × AllPlain ms
 
 -- the same tokens and value, in the other grammar and with no limit passed
-pub record Lifted {T A : Type 0} (H : List (Mark T) → A → Type 0) (ms : List (Mark T)) (a : A) : Type 0 where
+pub record Lifted {T A : Type 0} (H : List (Mark T) → A → Type 0) (ms : List (Mark T)) (a : A)
+    : Type 0 where
   pub marks : List (Mark T)
   pub part : H marks a
   pub text : tokens marks ≡ tokens ms

@@ -23,7 +23,8 @@ abbrev pub Never : {T A : Type 0} → Part T A
 Never ms a = ⊥
 
 -- one after the other
-pub record Then {T A B C : Type 0} (f : A → B → C) (G : List (Mark T) → A → Type 0) (H : List (Mark T) → B → Type 0) (ms : List (Mark T)) (c : C) : Type 0 where
+pub record Then {T A B C : Type 0} (f : A → B → C) (G : List (Mark T) → A → Type 0)
+    (H : List (Mark T) → B → Type 0) (ms : List (Mark T)) (c : C) : Type 0 where
   pub front : List (Mark T)
   pub back : List (Mark T)
   pub a : A
@@ -38,7 +39,8 @@ abbrev pub Or : {T A : Type 0} → Part T A → Part T A → Part T A
 Or G H ms a = G ms a ⊎ H ms a
 
 -- a value of it, seen by f
-pub record Map {T A B : Type 0} (f : A → B) (G : List (Mark T) → A → Type 0) (ms : List (Mark T)) (b : B) : Type 0 where
+pub record Map {T A B : Type 0} (f : A → B) (G : List (Mark T) → A → Type 0) (ms : List (Mark T))
+    (b : B) : Type 0 where
   pub a : A
   pub part : G ms a
   pub value : b ≡ f a
@@ -49,13 +51,16 @@ less zero = zero
 less (suc n) = n
 
 -- an element of a list that has room for so many more
-pub record Element {T A : Type 0} (room : ℕ) (G : List (Mark T) → A → Type 0) (ms : List (Mark T)) (a : A) : Type 0 where
+pub record Element {T A : Type 0} (room : ℕ) (G : List (Mark T) → A → Type 0) (ms : List (Mark T))
+    (a : A) : Type 0 where
   pub inner : List (Mark T)
   pub part : G inner a
   pub text : ms ≡ element room inner
 
 -- elements, each behind what joins it to those before
-pub data Links {T A B D : Type 0} (J : List (Mark T) → D → Type 0) (link : D → A → B) (G : List (Mark T) → A → Type 0) : ℕ → List (Mark T) → List B → Type 0 where
+pub data Links {T A B D : Type 0} (J : List (Mark T) → D → Type 0) (link : D → A → B)
+    (G : List (Mark T) → A → Type 0) : ℕ → List (Mark T) → List B → Type 0 where
   none : {room : ℕ} → Links J link G room [] []
-  more : {room : ℕ} (js ms ns : List (Mark T)) (d : D) (a : A) (bs : List B) → J js d → G ms a → Links J link G (less room) ns bs
+  more : {room : ℕ} (js ms ns : List (Mark T)) (d : D) (a : A) (bs : List B) → J js d → G ms a
+      → Links J link G (less room) ns bs
       → Links J link G room (js ++ (element room ms ++ ns)) (link d a ∷ bs)

@@ -3,7 +3,8 @@ use Rattle.std.specs.Prelude.{ℕ, zero, suc, List, [], ◌∷◌, Option, Some,
 use Rattle.grammar_laws.specs.declared.fault.SyntaxFault.{SyntaxFault}
 use Rattle.grammar_laws.specs.declared.fault.SyntaxFault.TheVariants.{TooDeep, TooWide}
 
--- The limits that a token may pass: `deep` opens a level too many, `wide` begins an element too many.
+-- The limits that a token may pass: `deep` opens a level too many, `wide` begins an element too
+-- many.
 pub data Limit : Type 0 where
   deep : Limit
   wide : Limit

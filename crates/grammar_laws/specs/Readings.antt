@@ -1,11 +1,14 @@
--- Reading from left to right: the value or the first refusal, and the tokens after the value or from the refused one on.
-use Rattle.std.specs.Prelude.{◌≡◌, ℕ, zero, suc, ◌==◌, Bool, false, if◌then◌else◌, List, [], ◌∷◌, length, Result, Ok, Err}
+-- Reading from left to right: the value or the first refusal, and the tokens after the value or
+-- from the refused one on.
+use Rattle.std.specs.Prelude.{◌≡◌, ℕ, zero, suc, ◌==◌, Bool, false, if◌then◌else◌, List, [], ◌∷◌}
+use Rattle.std.specs.Prelude.{length, Result, Ok, Err}
 use Rattle.grammar_laws.specs.declared.fault.SyntaxFault.{SyntaxFault}
 use Rattle.grammar_laws.specs.declared.fault.SyntaxFault.TheVariants.{Unexpected, TooDeep, TooWide}
 use Rattle.grammar_laws.specs.declared.fault.SyntaxError.{SyntaxError}
 use Rattle.grammar_laws.specs.declared.fault.SyntaxError.TheVariants as stops
 
--- What comes of reading: a value with the tokens after it, or a refusal with the tokens from the refused one on.
+-- What comes of reading: a value with the tokens after it, or a refusal with the tokens from the
+-- refused one on.
 abbrev pub Outcome : Type 0 → Type 0 → Type 0
 Outcome T A = Result A SyntaxFault × List T
 
@@ -58,7 +61,8 @@ mapped f p ts = and_then (p ts) (λ a us. (Ok (f a), us))
 abbrev pub either : {T A : Type 0} → (T → Bool) → Reading T A → Reading T A → Reading T A
 either test p q ts = if starts test ts then p ts else q ts
 
--- an element that is one too many: refused at its first token, for what it is refused there or as one too many
+-- an element that is one too many: refused at its first token, for what it is refused there or as
+-- one too many
 abbrev pub crowded : {T A : Type 0} → List T → Outcome T A → Outcome T A
 crowded ts (Ok a, us) = (Err TooWide, ts)
 crowded ts (Err r, us) = if length us == length ts then (Err r, ts) else (Err TooWide, ts)
@@ -67,10 +71,15 @@ crowded ts (Err r, us) = if length us == length ts then (Err r, ts) else (Err To
 abbrev pub crowd : {T A : Type 0} → Reading T A → Reading T A
 crowd p ts = crowded ts (p ts)
 
--- elements, each behind what joins it to those before, which begins with a token that passes the test
-unfoldable pub links : {T A B D : Type 0} → (T → Bool) → Reading T D → (D → A → B) → Reading T A → ℕ → Reading T (List B)
-links test join link p zero = either test (both (λ b bs. b ∷ bs) (both link join (crowd p)) (nothing [])) (nothing [])
-links test join link p (suc room) = either test (both (λ b bs. b ∷ bs) (both link join p) (links test join link p room)) (nothing [])
+-- elements, each behind what joins it to those before, which begins with a token that passes the
+-- test
+unfoldable pub links : {T A B D : Type 0} → (T → Bool) → Reading T D → (D → A → B) → Reading T A → ℕ
+    → Reading T (List B)
+links test join link p zero =
+    either test (both (λ b bs. b ∷ bs) (both link join (crowd p)) (nothing [])) (nothing [])
+links test join link p (suc room) =
+    either test (both (λ b bs. b ∷ bs) (both link join p) (links test join link p room))
+    (nothing [])
 
 -- ---- what a function that reads ensures: the outcome, unless memory runs out
 

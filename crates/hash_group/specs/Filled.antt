@@ -13,13 +13,16 @@ abbrev pub or_place : List ℕ → ℕ → List ℕ
 or_place [] own = own ∷ []
 or_place (p ∷ ps) own = p ∷ ps
 
--- for each left key the places of the right ones that are the same, or where there are none its own, counted from `own`
+-- for each left key the places of the right ones that are the same, or where there are none its
+-- own, counted from `own`
 unfoldable pub places_from : ℕ → List (ℤ × ℤ) → List (ℤ × ℤ) → List ℕ
 places_from own [] right = []
-places_from own (key ∷ left) right = or_place (places_where (same_two key) right) own ++ places_from (suc own) left right
+places_from own (key ∷ left) right = or_place (places_where (same_two key) right) own
+    ++ places_from (suc own) left right
 
 -- places by keys of two sides
-pub record AreFilled (domain : List (List Value)) (n : ℕ) (groups : List (List Value)) (m : ℕ) (places : List ℕ) : Type 0 where
+pub record AreFilled (domain : List (List Value)) (n : ℕ) (groups : List (List Value)) (m : ℕ)
+    (places : List ℕ) : Type 0 where
   pub left : List (ℤ × ℤ)
   pub right : List (ℤ × ℤ)
   pub keys : AreKeysOfTwo domain groups n m left right

@@ -23,7 +23,8 @@ group_numbers [] rows = replicate (length rows) 0
 group_numbers (c ∷ cs) rows = numbers_of (same_row same_value) (key_rows (c ∷ cs) rows)
 
 -- columns of the groups' keys, and the number of each row's group
-pub record AreGroups (by : List ℕ) (rows : List (Ranked Value)) (keys : List (List Value)) (numbers : List ℕ) (count : ℕ) : Type 0 where
+pub record AreGroups (by : List ℕ) (rows : List (Ranked Value)) (keys : List (List Value))
+    (numbers : List ℕ) (count : ℕ) : Type 0 where
   pub numbers_are : numbers ≡ group_numbers by rows
   pub count_is : count ≡ length (group_keys by rows)
   pub wide : length keys ≡ length by
@@ -36,4 +37,5 @@ arguments_of a rows = map (λ r. (argument_and_function a).0 r.values) rows
 
 -- an aggregate of each of `count` groups
 abbrev pub aggregate_column : List (Ranked Value) → List ℕ → ℕ → Aggregate → List Value
-aggregate_column rows numbers count a = values_by_number (argument_and_function a).1 numbers (arguments_of a rows) 0 count
+aggregate_column rows numbers count a =
+    values_by_number (argument_and_function a).1 numbers (arguments_of a rows) 0 count

@@ -17,7 +17,8 @@ use std::alloc::{AllocError, Global};
 fn starts<A: Accumulator>(alloc: Global, scale: Scale, count: usize) -> Result<Vec<A>, AllocError>
     ensures count { IfOk result (λ v. length v.items ≡ count) }
     ensures terms { IfOk result (λ v. AtEach (λ i s. A.terms s ≡ 0) v.items) }
-    ensures taken { IfOk result (λ v. AtEach (λ i s. A.has_taken s (A.aggregate scale) []) v.items) }
+    ensures taken { IfOk result
+        (λ v. AtEach (λ i s. A.has_taken s (A.aggregate scale) []) v.items) }
 {
     let mut states = Vec::with_capacity(alloc, count)?;
     for _i in 0..count {
@@ -27,7 +28,8 @@ fn starts<A: Accumulator>(alloc: Global, scale: Scale, count: usize) -> Result<V
     Ok(states)
 }
 
-/// For each of `count` numbers the accumulator's aggregate of the values of the rows with that number.
+/// For each of `count` numbers the accumulator's aggregate of the values of the rows with that
+/// number.
 pub fn accumulated_by_number<A: Accumulator, L: ValueList>(
     alloc: Global,
     scale: Scale,
@@ -38,13 +40,15 @@ pub fn accumulated_by_number<A: Accumulator, L: ValueList>(
     requires rows { length numbers.now ≡ length (L.shown values.now) }
     requires small { length numbers.now < 2 ^ 32 }
     requires numbers { AreBelow count numbers.now }
-    ensures { IfOk result (λ v. v.items ≡ values_by_number (A.aggregate scale) numbers.now (L.shown values.now) 0 count) }
+    ensures { IfOk result (λ v. v.items
+        ≡ values_by_number (A.aggregate scale) numbers.now (L.shown values.now) 0 count) }
 {
     let states = starts::<A>(alloc, scale, count)?;
     accumulated(alloc, states, numbers, values)
 }
 
-/// For each of `count` numbers the aggregate of the values of the rows with that number, numbers being of this scale.
+/// For each of `count` numbers the aggregate of the values of the rows with that number, numbers
+/// being of this scale.
 pub fn aggregated_by_number<L: ValueList>(
     alloc: Global,
     function: AggregateFunction,
@@ -56,7 +60,8 @@ pub fn aggregated_by_number<L: ValueList>(
     requires rows { length numbers.now ≡ length (L.shown values.now) }
     requires small { length numbers.now < 2 ^ 32 }
     requires numbers { AreBelow count numbers.now }
-    ensures { IfOk result (λ v. v.items ≡ values_by_number (aggregate_of function scale) numbers.now (L.shown values.now) 0 count) }
+    ensures { IfOk result (λ v. v.items
+        ≡ values_by_number (aggregate_of function scale) numbers.now (L.shown values.now) 0 count) }
 {
     match function {
         AggregateFunction::Count => {

@@ -1,5 +1,6 @@
 //! The rows of a domain with their groups, or with the aggregates of no rows.
-ghost use Rattle.std.specs.Prelude.{◌≡◌, ◌+◌, ◌<◌, ◌≤◌, ◌^◌, ◌++◌, List, [], map, replicate, length, IfOk, OnOk};
+ghost use Rattle.std.specs.Prelude.{◌≡◌, ◌+◌, ◌<◌, ◌≤◌, ◌^◌, ◌++◌, List, [], map, replicate};
+ghost use Rattle.std.specs.Prelude.{length, IfOk, OnOk};
 ghost use Rattle.row_laws.specs.Ranked.{ranked, true_rank};
 ghost use Rattle.row_laws.specs.Operators.{fill};
 ghost use Rattle.row_laws.specs.Places.{places_where};
@@ -26,7 +27,8 @@ fn put_places(
     own: u32,
     places: &mut Vec<u32>,
 ) -> Result<(), AllocError>
-    ensures { OnOk result (places.new.items ≡ places.old.items ++ or_place (places_where (same_two key.now) right.now) own) }
+    ensures { OnOk result (places.new.items
+        ≡ places.old.items ++ or_place (places_where (same_two key.now) right.now) own) }
 {
     let before = places.len();
     put_partners(key, right, places)?;
@@ -36,7 +38,8 @@ fn put_places(
     Ok(())
 }
 
-// For each left key the places of the right ones that are the same, or where there are none its own after all of them.
+// For each left key the places of the right ones that are the same, or where there are none its own
+// after all of them.
 fn filled_places(
     alloc: Global,
     left: &[(i64, i64)],
@@ -71,7 +74,8 @@ fn put_repeated(
 
 // How the groups stand, and so many rows at True after them.
 fn all_standings(alloc: Global, groups: &Bag, n: usize) -> Result<Vec<Standing>, AllocError>
-    ensures { IfOk result (λ v. ranks v.items ≡ row_ranks groups.now.rows ++ replicate n true_rank) }
+    ensures { IfOk result (λ v. ranks v.items
+        ≡ row_ranks groups.now.rows ++ replicate n true_rank) }
 {
     let mut standings = row_standings(alloc, groups)?;
     let mut more = vec![in alloc; Standing::AtTrue; n]?;
@@ -122,7 +126,8 @@ fn all_rows(
     requires domain { AreColumns domain.now domain_columns.items }
     requires widths { groups.now.width ≡ domain.now.width + length empty.now }
     ensures width { IfOk result (λ b. b.width ≡ groups.now.width) }
-    ensures rows { IfOk result (λ b. b.rows ≡ groups.now.rows ++ map (filled_row empty.now) domain.now.rows) }
+    ensures rows { IfOk result
+        (λ b. b.rows ≡ groups.now.rows ++ map (filled_row empty.now) domain.now.rows) }
 {
     let mut beside = domain_columns;
     put_repeated(alloc, &mut beside, empty, domain.len())?;
@@ -142,8 +147,12 @@ fn places_by_columns(
     requires groups { AreColumns groups.now group_columns.now }
     requires domain { AreColumns domain.now domain_columns.now }
     requires widths { domain.now.width ≤ groups.now.width }
-    ensures below { IfOk result (λ v. AreBelow (length groups.now.rows + length domain.now.rows) v.items) }
-    ensures rows { IfOk result (λ v. (empty : List Datum) → groups.now.width ≡ domain.now.width + length empty → gathered (ranked [] true_rank) (groups.now.rows ++ map (filled_row empty) domain.now.rows) v.items ≡ fill same_value empty domain.now.rows groups.now.rows) }
+    ensures below { IfOk result
+        (λ v. AreBelow (length groups.now.rows + length domain.now.rows) v.items) }
+    ensures rows { IfOk result
+        (λ v. (empty : List Datum) → groups.now.width ≡ domain.now.width + length empty
+        → gathered (ranked [] true_rank) (groups.now.rows ++ map (filled_row empty) domain.now.rows)
+        v.items ≡ fill same_value empty domain.now.rows groups.now.rows) }
 {
     let width = domain_columns.len();
     let keys = &group_columns[..width];
@@ -151,12 +160,13 @@ fn places_by_columns(
     Ok(places)
 }
 
-/// Over groups by the columns of a domain: each of the domain's rows once, with its groups, or where it has none with
-/// these aggregates of no rows at True.
+/// Over groups by the columns of a domain: each of the domain's rows once, with its groups, or
+/// where it has none with these aggregates of no rows at True.
 pub fn fill(alloc: Global, groups: &Bag, domain: &Bag, empty: &[Value]) -> Result<Bag, AllocError>
     requires { groups.now.width ≡ domain.now.width + length empty.now }
     ensures width { IfOk result (λ b. b.width ≡ groups.now.width) }
-    ensures rows { IfOk result (λ b. b.rows ≡ fill same_value empty.now domain.now.rows groups.now.rows) }
+    ensures rows { IfOk result
+        (λ b. b.rows ≡ fill same_value empty.now domain.now.rows groups.now.rows) }
 {
     let group_columns = all_columns(alloc, groups)?;
     let domain_columns = all_columns(alloc, domain)?;

@@ -17,7 +17,8 @@ use fixed_decimal::Scale;
 use scalar_expr::Expr;
 use std::alloc::{AllocError, Global};
 
-// The groups of rows: columns of their keys, the number of each row's group, and how many groups there are.
+// The groups of rows: columns of their keys, the number of each row's group, and how many groups
+// there are.
 #[derive(Drop)]
 struct Groups {
     keys: Vec<Column>,
@@ -41,7 +42,8 @@ fn one_group(alloc: Global, rows: &Bag) -> Result<Groups, AllocError>
 // The groups by these columns.
 fn groups_by(alloc: Global, rows: &Bag, by: &[u32]) -> Result<Groups, AllocError>
     requires { 0 < length by.now }
-    ensures { IfOk result (λ g. AreGroups by.now rows.now.rows g.keys.items g.numbers.items g.count) }
+    ensures { IfOk result (λ g.
+        AreGroups by.now rows.now.rows g.keys.items g.numbers.items g.count) }
 {
     let columns = key_columns(alloc, rows, by)?;
     let numbered = group_numbers(alloc, rows, by, columns.as_slice())?;
@@ -55,7 +57,8 @@ fn groups_by(alloc: Global, rows: &Bag, by: &[u32]) -> Result<Groups, AllocError
 
 // The groups by these columns, or one group where there are none.
 fn groups_of(alloc: Global, rows: &Bag, by: &[u32]) -> Result<Groups, AllocError>
-    ensures { IfOk result (λ g. AreGroups by.now rows.now.rows g.keys.items g.numbers.items g.count) }
+    ensures { IfOk result (λ g.
+        AreGroups by.now rows.now.rows g.keys.items g.numbers.items g.count) }
 {
     if by.len() == 0 {
         let groups = one_group(alloc, rows)?;
@@ -89,7 +92,8 @@ fn aggregate_column(
     requires rows { length numbers.now ≡ length rows.now.rows }
     requires small { length numbers.now < 2 ^ 32 }
     requires numbers { AreBelow count numbers.now }
-    ensures { IfOk result (λ c. c ≡ aggregate_column rows.now.rows numbers.now count aggregate.now) }
+    ensures { IfOk result (λ c. c
+        ≡ aggregate_column rows.now.rows numbers.now count aggregate.now) }
 {
     match aggregate {
         Aggregate::CountRows => {
@@ -126,7 +130,9 @@ fn put_aggregates(
     requires rows { length numbers.now ≡ length rows.now.rows }
     requires small { length numbers.now < 2 ^ 32 }
     requires numbers { AreBelow count numbers.now }
-    ensures { OnOk result (columns.new.items ≡ columns.old.items ++ map (aggregate_column rows.now.rows numbers.now count) aggregates.now) }
+    ensures { OnOk result (columns.new.items
+        ≡ columns.old.items ++ map (aggregate_column rows.now.rows numbers.now count)
+        aggregates.now) }
 {
     for aggregate in aggregates {
         let column = aggregate_column(alloc, rows, numbers, count, aggregate)?;
@@ -135,9 +141,9 @@ fn put_aggregates(
     Ok(())
 }
 
-/// GROUP BY: for each group of rows that are identical in these columns its key and its aggregates, at the least of
-/// the rows' standings, in the order in which the keys first come. With no column all rows are one group, also where
-/// there are none. A column that isn't there is null.
+/// GROUP BY: for each group of rows that are identical in these columns its key and its aggregates,
+/// at the least of the rows' standings, in the order in which the keys first come. With no column
+/// all rows are one group, also where there are none. A column that isn't there is null.
 pub fn group(
     alloc: Global,
     rows: &Bag,

@@ -70,8 +70,10 @@ pub(crate) fn group_numbers(
     columns: &[Column],
 ) -> Result<Numbered, AllocError>
     requires { columns.now ≡ key_columns bag.now.rows by.now }
-    ensures numbers { IfOk result (λ n. n.numbers.items ≡ numbers_of (same_row same_value) (key_rows by.now bag.now.rows)) }
-    ensures firsts { IfOk result (λ n. n.firsts.items ≡ first_places (same_row same_value) (key_rows by.now bag.now.rows)) }
+    ensures numbers { IfOk result
+        (λ n. n.numbers.items ≡ numbers_of (same_row same_value) (key_rows by.now bag.now.rows)) }
+    ensures firsts { IfOk result
+        (λ n. n.firsts.items ≡ first_places (same_row same_value) (key_rows by.now bag.now.rows)) }
 {
     let keys = keys_of_columns(alloc, columns, bag.len())?;
     if keys.len() > u32::MAX as usize {

@@ -17,7 +17,8 @@ fn put_at<A: Accumulator>(
 ) -> Result<(), AllocError>
     requires number { number < length states.old.items }
     requires terms { AtEach (λ i s. A.terms s + 1 < 2 ^ 64) states.old.items }
-    ensures { OnOk result (PutAt A.has_taken A.terms number value.now states.old.items states.new.items) }
+    ensures { OnOk result (PutAt A.has_taken A.terms number value.now states.old.items
+        states.new.items) }
 {
     states[number].put(value)
 }
@@ -46,7 +47,10 @@ pub fn accumulated<A: Accumulator, L: ValueList>(
     requires small { length numbers.now < 2 ^ 32 }
     requires numbers { All (λ n. n < length states.items) numbers.now }
     requires terms { AtEach (λ i s. A.terms s ≡ 0) states.items }
-    ensures { IfOk result (λ v. (aggregate : OfValues) → AtEach (λ i s. A.has_taken s aggregate []) states.items → v.items ≡ values_by_number aggregate numbers.now (L.shown values.now) 0 (length states.items)) }
+    ensures { IfOk result (λ v. (aggregate : OfValues)
+        → AtEach (λ i s. A.has_taken s aggregate []) states.items
+        → v.items ≡ values_by_number aggregate numbers.now (L.shown values.now) 0
+        (length states.items)) }
 {
     let mut states = states;
     for row in 0..numbers.len() {

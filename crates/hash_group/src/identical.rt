@@ -10,11 +10,12 @@ use crate::standings::{greatest_standings, row_standings};
 use columns::{Bag, Batch};
 use std::alloc::{AllocError, Global};
 
-/// The values of a bag's rows in these columns, identical ones once, in the order in which they first come, each at
-/// True. A column that isn't there is null.
+/// The values of a bag's rows in these columns, identical ones once, in the order in which they
+/// first come, each at True. A column that isn't there is null.
 pub fn domain(alloc: Global, rows: &Bag, by: &[u32]) -> Result<Bag, AllocError>
     ensures width { IfOk result (λ b. b.width ≡ length by.now) }
-    ensures rows { IfOk result (λ b. b.rows ≡ domain_node same_value (columns Null by.now) rows.now.rows) }
+    ensures rows { IfOk result
+        (λ b. b.rows ≡ domain_node same_value (columns Null by.now) rows.now.rows) }
 {
     let keys = key_columns(alloc, rows, by)?;
     let numbered = group_numbers(alloc, rows, by, keys.as_slice())?;
@@ -23,7 +24,8 @@ pub fn domain(alloc: Global, rows: &Bag, by: &[u32]) -> Result<Bag, AllocError>
     Ok(bag)
 }
 
-/// DISTINCT: identical rows once, in the order in which they first come, at the greatest of their standings.
+/// DISTINCT: identical rows once, in the order in which they first come, at the greatest of their
+/// standings.
 pub fn distinct(alloc: Global, rows: &Bag) -> Result<Bag, AllocError>
     ensures width { IfOk result (λ b. b.width ≡ rows.now.width) }
     ensures rows { IfOk result (λ b. b.rows ≡ distinct same_value rows.now.rows) }

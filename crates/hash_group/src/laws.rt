@@ -1,7 +1,9 @@
-//! What groups by numbers have to compute. Each function has an empty body: its contract is the law.
+//! What groups by numbers have to compute. Each function has an empty body: its contract is the
+//! law.
 ghost use Rattle.hash_group.specs.GroupLaws.{GroupByNumbers, DistinctByNumbers, KeysAtFirstPlaces};
 
-/// GROUP BY: each key with the aggregates of the rows that have its number, at the least of their standings.
+/// GROUP BY: each key with the aggregates of the rows that have its number, at the least of their
+/// standings.
 pub fn group_by_numbers<V>()
     ensures { GroupByNumbers V }
 {}

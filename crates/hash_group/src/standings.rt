@@ -1,7 +1,8 @@
 //! The standings of groups.
 ghost use Rattle.std.specs.Prelude.{◌≡◌, ◌++◌, map, length, slice_index, IfOk, OnOk};
 ghost use Rattle.columns.specs.Lists.{AreBelow};
-ghost use Rattle.hash_group.specs.Standings.{ranks, row_ranks, least_of, greatest_of, AreOfNumbers, AreFirsts};
+ghost use Rattle.hash_group.specs.Standings.{ranks, row_ranks, least_of, greatest_of, AreOfNumbers};
+ghost use Rattle.hash_group.specs.Standings.{AreFirsts};
 
 use columns::{Bag, Batch};
 use sql_value::Standing;
@@ -9,7 +10,8 @@ use std::alloc::{AllocError, Global};
 
 // The standings of a batch's rows after others.
 fn put_standings(standings: &mut Vec<Standing>, batch: &Batch) -> Result<(), AllocError>
-    ensures { OnOk result (ranks standings.new.items ≡ ranks standings.old.items ++ row_ranks batch.now.rows) }
+    ensures { OnOk result (ranks standings.new.items
+        ≡ ranks standings.old.items ++ row_ranks batch.now.rows) }
 {
     for i in 0..batch.len() {
         standings.push(batch.standing(i))?;
@@ -38,7 +40,8 @@ pub(crate) fn least_standings(
 ) -> Result<Vec<Standing>, AllocError>
     requires rows { length standings.now ≡ length numbers.now }
     requires numbers { AreBelow count numbers.now }
-    ensures { IfOk result (λ v. AreOfNumbers (least_of numbers.now (ranks standings.now)) count (ranks v.items)) }
+    ensures { IfOk result (λ v.
+        AreOfNumbers (least_of numbers.now (ranks standings.now)) count (ranks v.items)) }
 {
     let mut least = vec![in alloc; Standing::AtTrue; count]?;
     for i in 0..numbers.len() {
@@ -55,7 +58,8 @@ fn standings_at(
     places: &[u32],
 ) -> Result<Vec<Standing>, AllocError>
     requires { AreBelow (length standings.now) places.now }
-    ensures { IfOk result (λ v. ranks v.items ≡ map (slice_index (ranks standings.now)) places.now) }
+    ensures { IfOk result (λ v. ranks v.items
+        ≡ map (slice_index (ranks standings.now)) places.now) }
 {
     let mut picked = Vec::with_capacity(alloc, places.len())?;
     for place in places {
@@ -64,8 +68,8 @@ fn standings_at(
     Ok(picked)
 }
 
-/// For each number the greatest of the standings of the rows with that number, of which one stands at its place of
-/// `firsts`.
+/// For each number the greatest of the standings of the rows with that number, of which one stands
+/// at its place of `firsts`.
 pub(crate) fn greatest_standings(
     alloc: Global,
     standings: &[Standing],
@@ -75,7 +79,9 @@ pub(crate) fn greatest_standings(
     requires rows { length standings.now ≡ length numbers.now }
     requires numbers { AreBelow (length firsts.now) numbers.now }
     requires firsts { AreFirsts numbers.now firsts.now }
-    ensures { IfOk result (λ v. AreOfNumbers (greatest_of numbers.now (ranks standings.now)) (length firsts.now) (ranks v.items)) }
+    ensures { IfOk result (λ v.
+        AreOfNumbers (greatest_of numbers.now (ranks standings.now)) (length firsts.now)
+        (ranks v.items)) }
 {
     let mut greatest = standings_at(alloc, standings, firsts)?;
     for i in 0..numbers.len() {

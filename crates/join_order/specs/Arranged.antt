@@ -11,9 +11,10 @@ use Rattle.algebra.specs.Trees.{Database, scans_of, width_of, tree_rows}
 abbrev pub TablesAreOf : Database → Type 0
 TablesAreOf db = (table : TableName) → RowsAreOf table (db table)
 
--- Two trees scan the same tables, each as often. Their rows are as wide, and under each domain row of n columns the same, as a bag,
--- at the same standings.
+-- Two trees scan the same tables, each as often. Their rows are as wide, and under each domain row
+-- of n columns the same, as a bag, at the same standings.
 pub record SameRows (n : ℕ) (t u : DepTree) : Type 0 where
   pub scans : SameBag (scans_of t) (scans_of u)
   pub width : width_of t ≡ width_of u
-  pub rows : (db : Database) (d : List Value) → TablesAreOf db → length d ≡ n → SameBag (tree_rows t db d) (tree_rows u db d)
+  pub rows : (db : Database) (d : List Value) → TablesAreOf db → length d ≡ n
+      → SameBag (tree_rows t db d) (tree_rows u db d)

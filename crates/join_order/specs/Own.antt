@@ -1,5 +1,6 @@
 -- Conditions on the right input of a join alone.
-use Rattle.std.specs.Prelude.{◌≡◌, ℕ, ◌+◌, ◌<◌, ◌≤◌, ◌⊎◌, Bool, true, false, List, [], ◌++◌, length, min, zero}
+use Rattle.std.specs.Prelude.{◌≡◌, ℕ, ◌+◌, ◌<◌, ◌≤◌, ◌⊎◌, Bool, true, false, List, [], ◌++◌, length}
+use Rattle.std.specs.Prelude.{min, zero}
 use Rattle.std.specs.List.{All}
 use Rattle.sql_value.specs.declared.value.Value.{Value}
 use Rattle.scalar_expr.specs.declared.expr.Expr.{Expr}
@@ -32,23 +33,28 @@ own_width false n = n
 
 -- under the domain row of that side the tree has the rows that it has under one of n columns
 pub record SideServes (n : ℕ) (t : DepTree) (closed : Bool) : Type 0 where
-  pub rows : (db : Database) (d : List Value) → length d ≡ n → tree_rows t db (own_row closed d) ≡ tree_rows t db d
+  pub rows : (db : Database) (d : List Value) → length d ≡ n
+      → tree_rows t db (own_row closed d) ≡ tree_rows t db d
 
--- an expression reads, behind the m first columns, only those from low on and below high
+-- an expression reads, after the m first columns, only those from low on and below high
 abbrev pub ReadsOwn : (m low high : ℕ) → Expr → Type 0
 ReadsOwn m low high e = All (λ c. (c < m) ⊎ ((low ≤ c) × (c < high))) (used e)
 
--- where the columns behind the m first and k others are, in a row without the k others
+-- where the columns after the m first and k others are, in a row without the k others
 abbrev pub own_places : (m k x : ℕ) → List ℕ
 own_places m k x = columns_from 0 m ++ (columns_from 0 k ++ columns_from m x)
 
--- over rows of n, a and x columns: es in two parts, of which the first reads the domain row of the side and the x columns alone
+-- over rows of n, a and x columns: es in two parts, of which the first reads the domain row of the
+-- side and the x columns alone
 pub record IsApart (closed : Bool) (n a x : ℕ) (es own both : List Expr) : Type 0 where
   pub says : (d u w : List Value) → length d ≡ n → length u ≡ a → length w ≡ x
-      → min (all_rank own (own_row closed d ++ w)) (all_rank both (d ++ (u ++ w))) ≡ all_rank es (d ++ (u ++ w))
+      → min (all_rank own (own_row closed d ++ w)) (all_rank both (d ++ (u ++ w)))
+      ≡ all_rank es (d ++ (u ++ w))
 
 -- a condition was put into one of the parts
-pub record PutApart (closed : Bool) (n a x : ℕ) (e : Expr) (own now both then : List Expr) : Type 0 where
-  pub says : (d u w : List Value) → length d ≡ n → length u ≡ a → length w ≡ x
-      → min (all_rank now (own_row closed d ++ w)) (all_rank then (d ++ (u ++ w)))
-      ≡ min (min (all_rank own (own_row closed d ++ w)) (all_rank both (d ++ (u ++ w)))) (rank_of e (d ++ (u ++ w)))
+pub record PutApart (closed : Bool) (n a x : ℕ) (e : Expr) (own now both then : List Expr) : Type 0
+  where
+    pub says : (d u w : List Value) → length d ≡ n → length u ≡ a → length w ≡ x
+        → min (all_rank now (own_row closed d ++ w)) (all_rank then (d ++ (u ++ w)))
+        ≡ min (min (all_rank own (own_row closed d ++ w)) (all_rank both (d ++ (u ++ w))))
+        (rank_of e (d ++ (u ++ w)))

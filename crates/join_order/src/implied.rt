@@ -1,4 +1,5 @@
-//! Conditions on one input that an OR over several inputs implies: the OR of the parts on that input.
+//! Conditions on one input that an OR over several inputs implies: the OR of the parts on that
+//! input.
 ghost use Rattle.std.specs.Prelude.{◌≡◌, IfOk, IfSome, OnOk};
 ghost use Rattle.scalar_expr.specs.declared.expr.Expr.TheVariants.{Any};
 ghost use Rattle.conditions.specs.Ranks.{IsBelow};

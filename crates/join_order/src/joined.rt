@@ -5,7 +5,8 @@ ghost use Rattle.algebra.specs.declared.tree.Side.TheVariants.{Shared};
 ghost use Rattle.scalar_expr.specs.declared.expr.Expr.TheVariants.{All};
 ghost use Rattle.join_order.specs.Arranged.{SameRows};
 ghost use Rattle.join_order.specs.Groups.{IsSelected};
-ghost use Rattle.join_order.specs.Own.{SideServes, ReadsOwn, PutApart, IsApart, own_places, own_side, own_width};
+ghost use Rattle.join_order.specs.Own.{SideServes, ReadsOwn, PutApart, IsApart, own_places};
+ghost use Rattle.join_order.specs.Own.{own_side, own_width};
 
 use algebra::{DepTree, Side, width};
 use conditions::{Parted, copy_of, put_run};
@@ -13,7 +14,8 @@ use scalar_expr::{Expr, rename, used_columns};
 use sqlite_items::{Boxed, Items};
 use std::alloc::{AllocError, Global};
 
-/// Whether an expression reads, behind the m first columns, only those from `low` on and below `high`.
+/// Whether an expression reads, after the m first columns, only those from `low` on and below
+/// `high`.
 pub(crate) fn reads_own(
     alloc: Global,
     e: &Expr,
@@ -66,7 +68,8 @@ fn put_apart(
     e: &Expr,
     parts: &mut Parted,
 ) -> Result<(), AllocError>
-    ensures { OnOk result (PutApart closed n a x e.now parts.old.covered parts.new.covered parts.old.rest parts.new.rest) }
+    ensures { OnOk result (PutApart closed n a x e.now parts.old.covered parts.new.covered
+        parts.old.rest parts.new.rest) }
 {
     let m = own_columns_of_domain(closed, n);
     let low = n.checked_add(a).ok_or(AllocError)?;
@@ -120,8 +123,8 @@ pub(crate) fn selected(
     Ok(new)
 }
 
-// Whether an input has the same rows under the domain row of no columns: a table, and where there are no other domain rows any input. So
-// a table is not read together with a domain.
+// Whether an input has the same rows under the domain row of no columns: a table, and where there
+// are no other domain rows any input. So a table is not read together with a domain.
 fn may_be_closed(n: u32, input: &DepTree) -> bool
     ensures { SideServes n input.now result }
 {

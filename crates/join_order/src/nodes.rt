@@ -1,6 +1,7 @@
 //! Nodes over new inputs.
 ghost use Rattle.std.specs.Prelude.{◌≡◌, IfOk};
-ghost use Rattle.algebra.specs.declared.tree.DepTree.TheVariants.{Select, Project, Join, Outer, Mark, Single, Group};
+ghost use Rattle.algebra.specs.declared.tree.DepTree.TheVariants.{Select, Project, Join, Outer};
+ghost use Rattle.algebra.specs.declared.tree.DepTree.TheVariants.{Mark, Single, Group};
 
 use algebra::{Aggregate, DepTree, Side, copy_aggregates, copy_expr, copy_exprs};
 use scalar_expr::Expr;

@@ -1,7 +1,7 @@
 //! Tables of keys for joins and groups: numbers of keys, and the places of equal keys.
 //!
-//! No contract speaks of a hash: pairs are those of nested loops, in their order, and numbers are in the order of first
-//! occurrences.
+//! No contract speaks of a hash: pairs are those of nested loops, in their order, and numbers are
+//! in the order of first occurrences.
 #![tactic(auto)]
 
 mod chains;

@@ -1,5 +1,6 @@
 //! Numbers of keys: equal ones exactly for the same keys.
-ghost use Rattle.std.specs.Prelude.{◌≡◌, ℕ, ◌<◌, ◌^◌, ◌+◌, ◌++◌, ◌∷◌, [], not, length, slice_get, Some, IfOk, OnOk, if◌then◌else◌};
+ghost use Rattle.std.specs.Prelude.{◌≡◌, ℕ, ◌<◌, ◌^◌, ◌+◌, ◌++◌, ◌∷◌, [], not, length, slice_get};
+ghost use Rattle.std.specs.Prelude.{Some, IfOk, OnOk, if◌then◌else◌};
 ghost use Rattle.row_laws.specs.Bags.{IsIdentity, has};
 ghost use Rattle.row_laws.specs.Numbers.{numbers_of};
 ghost use Rattle.key_tables.specs.Distinct.{added, first_places};
@@ -35,7 +36,8 @@ pub fn put_key<K: Eq + Hash + Drop>(
 
 // Notes the place of a key that is new.
 fn note_first(firsts: &mut Vec<u32>, is_new: bool, row: u32) -> Result<(), AllocError>
-    ensures { OnOk result (firsts.new.items ≡ (if is_new then firsts.old.items ++ row ∷ [] else firsts.old.items)) }
+    ensures { OnOk result (firsts.new.items
+        ≡ (if is_new then firsts.old.items ++ row ∷ [] else firsts.old.items)) }
 {
     if is_new {
         firsts.push(row)?;

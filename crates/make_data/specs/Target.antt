@@ -7,7 +7,7 @@ use Rattle.make_data.specs.Words.{Asks}
 abbrev pub Written : Type 0
 Written = List (List ℕ × List ℕ)
 
--- what is told stays at the front, and so much is added behind it
+-- what is told stays at the front, and so much is added after it
 abbrev pub Grows : {A : Type 0} → Option (List A) → Option (List A) → List A → Type 0
 Grows None now more = ⊤
 Grows (Some before) None more = ⊥
@@ -29,7 +29,8 @@ WritesAll words before now =
 -- where the words ask for data, the first of its files were written, each whole, and no others
 abbrev pub WritesFirst : List (List ℕ) → Option Written → Option Written → Type 0
 WritesFirst words before now =
-    (n : ℕ) → (folder : List ℕ) → Asks words n folder → GrowsInPart before now (files_in folder (made n))
+    (n : ℕ) → (folder : List ℕ) → Asks words n folder
+    → GrowsInPart before now (files_in folder (made n))
 
 -- where the words ask for data, nothing was printed
 abbrev pub IsSilent : List (List ℕ) → Option (List ℕ) → Option (List ℕ) → Type 0

@@ -1,5 +1,5 @@
-//! The machine's files and standard output. They tell no bytes, so nothing is promised of what a file holds or a screen
-//! shows.
+//! The machine's files and standard output. They tell no bytes, so nothing is promised of what a
+//! file holds or a screen shows.
 ghost use Rattle.std.specs.Prelude.{◌≡◌, None};
 ghost use Rattle.tpch_outside.specs.Outside.{Counts};
 
@@ -27,7 +27,7 @@ impl<'r, R: rt::Files + Print> Machine<'r, R> {
         ensures { Counts (result ≡ TargetError.Fault) self.old.faults self.new.faults }
     {
         if error.kind() == ErrorKind::OutOfMemory {
-            return TargetError::Memory;
+            return TargetError::OutOfMemory;
         }
         self.faults = self.faults.saturating_add(1);
         TargetError::Fault

@@ -1,5 +1,6 @@
-//! The program that writes the data of a number into a folder: `make_data NUMBER FOLDER`. Files that are there are
-//! replaced. It prints the usage line where the words are of another form, and else nothing.
+//! The program that writes the data of a number into a folder: `make_data NUMBER FOLDER`. Files
+//! that are there are replaced. It prints the usage line where the words are of another form, and
+//! else nothing.
 #![tactic(auto)]
 
 mod machine;

@@ -1,9 +1,11 @@
 //! A run: its words, and what it writes.
-ghost use Rattle.std.specs.Prelude.{◌≡◌, ◌≢◌, ℕ, ◌≤◌, List, [], ◌∷◌, ◌++◌, IfOk, IsErrOf, OnOk, map};
+ghost use Rattle.std.specs.Prelude.{◌≡◌, ◌≢◌, ℕ, ◌≤◌, List, [], ◌∷◌, ◌++◌, IfOk, IsErrOf, OnOk};
+ghost use Rattle.std.specs.Prelude.{map};
 ghost use Rattle.std.specs.String.{string_bytes};
 ghost use Rattle.tpch_outside.specs.Outside.{Rose};
 ghost use Rattle.data_maker.specs.Texts.{made, named};
-ghost use Rattle.make_data.specs.Target.{Grows, GrowsInPart, IsSilent, WritesAll, WritesFirst, files_in};
+ghost use Rattle.make_data.specs.Target.{Grows, GrowsInPart, IsSilent, WritesAll, WritesFirst};
+ghost use Rattle.make_data.specs.Target.{files_in};
 ghost use Rattle.make_data.specs.Words.{AsksNothing, usage_line};
 
 use crate::status::Status;
@@ -32,10 +34,13 @@ fn write_texts<T: Target>(
     folder: &str,
     texts: &[NamedText],
 ) -> Result<(), TargetError>
-    ensures whole { OnOk result (Grows (T.files target.old) (T.files target.new) (files_in folder.now (named texts.now))) }
-    ensures part { GrowsInPart (T.files target.old) (T.files target.new) (files_in folder.now (named texts.now)) }
+    ensures whole { OnOk result (Grows (T.files target.old) (T.files target.new)
+        (files_in folder.now (named texts.now))) }
+    ensures part { GrowsInPart (T.files target.old) (T.files target.new)
+        (files_in folder.now (named texts.now)) }
     ensures printed { Grows (T.printed target.old) (T.printed target.new) [] }
-    ensures fault { IsErrOf result TargetError.Fault → Rose (T.faults target.old) (T.faults target.new) }
+    ensures fault { IsErrOf result TargetError.Fault
+        → Rose (T.faults target.old) (T.faults target.new) }
     ensures later { T.faults target.old ≤ T.faults target.new }
 {
     for text in texts {
@@ -48,8 +53,10 @@ fn write_texts<T: Target>(
 /// Makes the data of the number, and writes it into the folder.
 fn write_data<T: Target>(alloc: Global, target: &mut T, number: u64, folder: &str) -> Status
     requires { (1 ≤ number) × (number ≤ 1000) }
-    ensures done { result ≡ Status.Done → Grows (T.files target.old) (T.files target.new) (files_in folder.now (made number)) }
-    ensures part { GrowsInPart (T.files target.old) (T.files target.new) (files_in folder.now (made number)) }
+    ensures done { result ≡ Status.Done → Grows (T.files target.old) (T.files target.new)
+        (files_in folder.now (made number)) }
+    ensures part { GrowsInPart (T.files target.old) (T.files target.new)
+        (files_in folder.now (made number)) }
     ensures printed { Grows (T.printed target.old) (T.printed target.new) [] }
     ensures fault { result ≡ Status.WriteFault → Rose (T.faults target.old) (T.faults target.new) }
     ensures later { T.faults target.old ≤ T.faults target.new }
@@ -61,13 +68,14 @@ fn write_data<T: Target>(alloc: Global, target: &mut T, number: u64, folder: &st
     match write_texts(alloc, target, folder, &texts) {
         Ok(()) => Status::Done,
         Err(TargetError::Fault) => Status::WriteFault,
-        Err(TargetError::Memory) => Status::OutOfMemory,
+        Err(TargetError::OutOfMemory) => Status::OutOfMemory,
     }
 }
 
 /// Says how the program is called.
 fn print_usage<T: Target>(target: &mut T) -> Status
-    ensures usage { result ≡ Status.Usage → Grows (T.printed target.old) (T.printed target.new) usage_line }
+    ensures usage { result ≡ Status.Usage → Grows (T.printed target.old) (T.printed target.new)
+        usage_line }
     ensures files { Grows (T.files target.old) (T.files target.new) [] }
     ensures fault { result ≡ Status.WriteFault → Rose (T.faults target.old) (T.faults target.new) }
     ensures later { T.faults target.old ≤ T.faults target.new }
@@ -76,22 +84,28 @@ fn print_usage<T: Target>(target: &mut T) -> Status
     match target.print(USAGE) {
         Ok(()) => Status::Usage,
         Err(TargetError::Fault) => Status::WriteFault,
-        Err(TargetError::Memory) => Status::OutOfMemory,
+        Err(TargetError::OutOfMemory) => Status::OutOfMemory,
     }
 }
 
-/// Writes the data that the words ask for, file by file, or prints the usage line where they ask for none.
+/// Writes the data that the words ask for, file by file, or prints the usage line where they ask
+/// for none.
 ///
-/// Want of memory is the one answer that no clause ties to a cause. After it, and after a fault, the first files may be
-/// written, each whole, and the next one in part.
+/// Out of memory is the one answer that no clause ties to a cause. After it, and after a fault,
+/// the first files may be written, each whole, and the next one in part.
 pub fn make_data<T: Target>(alloc: Global, words: &[String], target: &mut T) -> Status
-    ensures done { result ≡ Status.Done → WritesAll (map string_bytes words.now) (T.files target.old) (T.files target.new) }
-    ensures first { WritesFirst (map string_bytes words.now) (T.files target.old) (T.files target.new) }
-    ensures silent { IsSilent (map string_bytes words.now) (T.printed target.old) (T.printed target.new) }
+    ensures done { result ≡ Status.Done
+        → WritesAll (map string_bytes words.now) (T.files target.old) (T.files target.new) }
+    ensures first { WritesFirst (map string_bytes words.now) (T.files target.old)
+        (T.files target.new) }
+    ensures silent { IsSilent (map string_bytes words.now) (T.printed target.old)
+        (T.printed target.new) }
 
     // Words that ask for no data are answered by the usage line, and no file is written.
-    ensures usage { result ≡ Status.Usage → AsksNothing (map string_bytes words.now) × Grows (T.printed target.old) (T.printed target.new) usage_line }
-    ensures none { AsksNothing (map string_bytes words.now) → Grows (T.files target.old) (T.files target.new) [] }
+    ensures usage { result ≡ Status.Usage → AsksNothing (map string_bytes words.now)
+        × Grows (T.printed target.old) (T.printed target.new) usage_line }
+    ensures none { AsksNothing (map string_bytes words.now)
+        → Grows (T.files target.old) (T.files target.new) [] }
 
     ensures fault { result ≡ Status.WriteFault → Rose (T.faults target.old) (T.faults target.new) }
     ensures later { T.faults target.old ≤ T.faults target.new }

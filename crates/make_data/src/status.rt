@@ -9,9 +9,10 @@ pub enum Status {
     Done,
     /// The words ask for no data, and the usage line was printed.
     Usage,
-    /// A file or the usage line could not be written. The file may be there in part, and those behind it as they were.
+    /// A file or the usage line could not be written. The file may be there in part, and those
+    /// after it as they were.
     WriteFault,
-    /// Memory was wanted.
+    /// Memory was refused.
     OutOfMemory,
 }
 

@@ -1,4 +1,5 @@
-//! Runs over a target in memory, with the files and lines that they must leave, and the machine's own files once.
+//! Runs over a target in memory, with the files and lines that they must leave, and the machine's
+//! own files once.
 ghost use Rattle.std.specs.Prelude.{◌≡◌, Some, [], ◌∷◌, ◌++◌, IsErrOf, OnErr, OnOk, map};
 ghost use Rattle.std.specs.String.{string_bytes};
 ghost use Rattle.tpch_outside.specs.Outside.{Counts};
@@ -27,7 +28,7 @@ struct Memory {
 }
 
 impl Memory {
-    /// A target with nothing written, which fails at the call behind so many.
+    /// A target with nothing written, which fails at the call after this many.
     fn new(alloc: Global, calls_left: u64) -> Memory {
         Memory {
             alloc,
@@ -57,7 +58,8 @@ impl Memory {
     /// Keeps the file.
     #[tactic(auto, unfolding(data_maker::specs::Texts::named))]
     fn keep(&mut self, path: &str, bytes: &[u8]) -> Result<(), AllocError>
-        ensures kept { OnOk result (named self.new.files.items ≡ named self.old.files.items ++ (path.now, bytes.now) ∷ []) }
+        ensures kept { OnOk result (named self.new.files.items ≡ named self.old.files.items
+            ++ (path.now, bytes.now) ∷ []) }
         ensures before { OnErr result (self.new.files.items ≡ self.old.files.items) }
         ensures printed { self.new.printed ≡ self.old.printed }
         ensures faults { self.new.faults ≡ self.old.faults }

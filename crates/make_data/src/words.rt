@@ -14,7 +14,8 @@ pub struct Request<'w> {
     pub folder: &'w str,
 }
 
-/// The number from 1 to 1000 that a word writes in decimal digits, without a sign or a leading zero.
+/// The number from 1 to 1000 that a word writes in decimal digits, without a sign or a leading
+/// zero.
 fn number_of(word: &str) -> Option<u64>
     ensures { MatchOption result ((n : ℕ) → ¬ IsNumber word.now n) (λ n. IsNumber word.now n) }
 {
@@ -31,7 +32,8 @@ fn number_of(word: &str) -> Option<u64>
 
 /// What the words ask for, if they are a number and a folder.
 pub fn read_words(words: &[String]) -> Option<Request<'_>>
-    ensures { MatchOption result (AsksNothing (map string_bytes words.now)) (λ request. Asks (map string_bytes words.now) request.number request.folder.now) }
+    ensures { MatchOption result (AsksNothing (map string_bytes words.now))
+        (λ request. Asks (map string_bytes words.now) request.number request.folder.now) }
 {
     let [number, folder] = words else {
         return None;

@@ -4,7 +4,8 @@ use Rattle.scalar_expr.specs.Meaning.{operated, values, truths, chosen}
 use Rattle.scalar_expr.proofs.Opened.{values_opened, truths_opened, operation_is, branch_is}
 use Rattle.nested_query.specs.Meaning.{rows}
 use Rattle.nested_query.specs.Answer.{answer}
-use Rattle.nested_query.specs.Examples.{FaultsOfConditions, SumsAtTheEnd, Counts, NotIn, ScalarSubqueries, NestedExists, Finished}
+use Rattle.nested_query.specs.Examples.{FaultsOfConditions, SumsAtTheEnd, Counts, NotIn}
+use Rattle.nested_query.specs.Examples.{ScalarSubqueries, NestedExists, Finished}
 use Rattle.nested_query.proofs.Opened.{query_opened}
 
 pub ruleset computed = (query_opened, values_opened, truths_opened, operation_is, branch_is)

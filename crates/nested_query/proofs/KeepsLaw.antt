@@ -1,6 +1,6 @@
 -- A well-typed query keeps the kinds of its columns: the law.
-use Rattle.std.proofs.Common.{◌≡◌, ℕ, zero, suc, ◌<◌, length, List, [], ◌∷◌, Bool, true, false, ◌&&◌, ◌==◌, map, refl, sym, arith}
-use Rattle.std.specs.Prelude.{IsTrue}
+use Rattle.std.proofs.Common.{◌≡◌, ℕ, suc, List, [], ◌∷◌, true}
+use Rattle.std.proofs.Common.{◌&&◌, ◌==◌, map, refl, sym, arith}
 use Rattle.std.specs.Cmp.{first_so, second_so}
 use Rattle.std.specs.List.{All}
 use Rattle.std.proofs.lemmas.Bool.Decides.{Decides-eqb}
@@ -8,7 +8,6 @@ use Rattle.row_laws.specs.Bags.{Each}
 use Rattle.row_laws.specs.Ranked.{Ranked, ranked, true_rank}
 use Rattle.row_laws.specs.Rows.{scanned}
 use Rattle.row_laws.proofs.Lists.{Each-map, Each-weaker}
-use Rattle.scalar_expr.specs.declared.kind.Kind.{Kind}
 use Rattle.scalar_expr.specs.Typing.{is_of_kind, row_is_of}
 use Rattle.sql_value.specs.declared.value.Value.{Value}
 use Rattle.sql_value.specs.declared.value.Value.TheVariants as v
@@ -26,8 +25,10 @@ use Rattle.nested_query.proofs.KeptQueries.{query_kept}
 turned : (s t : ℕ) → (s == t) ≡ true → (t == s) ≡ true
 turned s t e = let is : s ≡ t = (Decides-eqb s t).0 e in (Decides-eqb t s).1 (sym is)
 
-column_value : (k : ColumnKind) (x : Value) → schema.is_of_kind k x ≡ true → is_of_kind (kind_of_column k) x ≡ true
-column_value column.Key (v.Number s c) h = turned s 0 (first_so (s == 0) _ (first_so ((s == 0) && _) _ h))
+column_value : (k : ColumnKind) (x : Value) → schema.is_of_kind k x ≡ true
+    → is_of_kind (kind_of_column k) x ≡ true
+column_value column.Key (v.Number s c) h =
+    turned s 0 (first_so (s == 0) _ (first_so ((s == 0) && _) _ h))
 column_value column.Whole (v.Number s c) h = turned s 0 (first_so (s == 0) _ h)
 column_value column.Decimal (v.Number s c) h = turned s 2 (first_so (s == 2) _ h)
 column_value column.Date (v.Date d) h = refl
@@ -53,25 +54,32 @@ column_value column.Date (v.Text t) h = cc
 column_value (column.Text most) (v.Number s c) h = cc
 column_value (column.Text most) (v.Date d) h = cc
 
-table_row : (ks : List ColumnKind) (row : List Value) → schema.are_of_kinds ks row ≡ true → row_is_of (map kind_of_column ks) row ≡ true
+table_row : (ks : List ColumnKind) (row : List Value) → schema.are_of_kinds ks row ≡ true
+    → row_is_of (map kind_of_column ks) row ≡ true
 table_row [] [] h = refl
 table_row [] (x ∷ row) h = cc
 table_row (k ∷ ks) [] h = cc
 table_row (k ∷ ks) (x ∷ row) h =
     both_so (is_of_kind (kind_of_column k) x) (row_is_of (map kind_of_column ks) row)
-    (column_value k x (first_so (schema.is_of_kind k x) (schema.are_of_kinds ks row) h)) (table_row ks row (second_so (schema.is_of_kind k x) (schema.are_of_kinds ks row) h))
+    (column_value k x (first_so (schema.is_of_kind k x) (schema.are_of_kinds ks row) h))
+    (table_row ks row (second_so (schema.is_of_kind k x) (schema.are_of_kinds ks row) h))
 
 each_of : {X : Type 0} (P : X → Type 0) (xs : List X) → All P xs → Each P xs
 each_of P [] h = tt
 each_of P (x ∷ xs) h = (h 0 x (omega arith), each_of P xs (λ k d below. h (suc k) d (omega arith)))
 
-table_rows_kept : (state : State) → StateIsOf state → (t : TableName) → Each (λ (x : Ranked Value). row_is_of (column_kinds t) x.values ≡ true) (scanned (table_rows state t))
+table_rows_kept : (state : State) → StateIsOf state → (t : TableName)
+    → Each (λ (x : Ranked Value). row_is_of (column_kinds t) x.values ≡ true)
+    (scanned (table_rows state t))
 table_rows_kept state st t =
-    Each-map (λ (x : Ranked Value). row_is_of (column_kinds t) x.values ≡ true) (λ r. ranked r true_rank) (table_rows state t)
-    (Each-weaker (λ r. schema.are_of_kinds (kinds_of t) r ≡ true) (λ r. row_is_of (column_kinds t) r ≡ true) (table_rows state t)
+    Each-map (λ (x : Ranked Value). row_is_of (column_kinds t) x.values ≡ true)
+    (λ r. ranked r true_rank) (table_rows state t)
+    (Each-weaker (λ r. schema.are_of_kinds (kinds_of t) r ≡ true)
+    (λ r. row_is_of (column_kinds t) r ≡ true) (table_rows state t)
     (λ r h. table_row (kinds_of t) r h)
     (each_of (λ r. schema.are_of_kinds (kinds_of t) r ≡ true) (table_rows state t) (st.tables t)))
 
 pub keeps_kinds : KeepsKinds
 unfolding rows
-keeps_kinds q kinds ks env state st h e = query_kept state (table_rows_kept state st) q kinds env ks h e
+keeps_kinds q kinds ks env state st h e =
+    query_kept state (table_rows_kept state st) q kinds env ks h e

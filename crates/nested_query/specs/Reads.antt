@@ -6,7 +6,10 @@ use Rattle.tpch_schema.specs.declared.table.TableName.{TableName}
 use Rattle.tpch_schema.specs.State.{State, table_rows}
 use Rattle.nested_query.specs.declared.query.BoundBlock.{BoundBlock}
 use Rattle.nested_query.specs.declared.query.BoundAggregate.TheOpen as node
-use Rattle.nested_query.specs.declared.query.BoundAggregate.TheFolds.{fold-BoundAggregate, fold-BoundBlock, fold-BoundSource, fold-Input, fold-BoundExpr}
+use Rattle.nested_query.specs.declared.query.BoundAggregate.TheFolds.{fold-BoundAggregate}
+use Rattle.nested_query.specs.declared.query.BoundAggregate.TheFolds.{fold-BoundBlock}
+use Rattle.nested_query.specs.declared.query.BoundAggregate.TheFolds.{fold-BoundSource, fold-Input}
+use Rattle.nested_query.specs.declared.query.BoundAggregate.TheFolds.{fold-BoundExpr}
 use Rattle.nested_query.specs.declared.query.BoundAggregate.{BoundAggregate}
 use Rattle.nested_query.specs.declared.query.BoundExpr.{BoundExpr}
 use Rattle.nested_query.specs.declared.query.BoundSource.{BoundSource}
@@ -51,26 +54,33 @@ block_tables (node.Grouped from condition keys aggregates having list) =
     from ++ condition ++ joined_tables aggregates ++ having ++ joined_tables list
 block_tables (node.Distinct q) = q
 
--- the tables that stand in a query, its subqueries, derived tables and each use of a view, each as often as it does
+-- the tables that stand in a query, its subqueries, derived tables and each use of a view, each as
+-- often as it does
 unfoldable pub tables : BoundBlock → List TableName
-tables = fold-BoundBlock Tables Tables Tables Tables Tables aggregate_tables block_tables source_tables input_tables expr_tables
+tables = fold-BoundBlock Tables Tables Tables Tables Tables aggregate_tables block_tables
+    source_tables input_tables expr_tables
 
 -- those of a source
 unfoldable pub tables_of_source : BoundSource → List TableName
-tables_of_source = fold-BoundSource Tables Tables Tables Tables Tables aggregate_tables block_tables source_tables input_tables expr_tables
+tables_of_source = fold-BoundSource Tables Tables Tables Tables Tables aggregate_tables block_tables
+    source_tables input_tables expr_tables
 
 -- those of an input
 unfoldable pub tables_of_input : Input → List TableName
-tables_of_input = fold-Input Tables Tables Tables Tables Tables aggregate_tables block_tables source_tables input_tables expr_tables
+tables_of_input = fold-Input Tables Tables Tables Tables Tables aggregate_tables block_tables
+    source_tables input_tables expr_tables
 
 -- those of an expression
 unfoldable pub tables_of_expr : BoundExpr → List TableName
-tables_of_expr = fold-BoundExpr Tables Tables Tables Tables Tables aggregate_tables block_tables source_tables input_tables expr_tables
+tables_of_expr = fold-BoundExpr Tables Tables Tables Tables Tables aggregate_tables block_tables
+    source_tables input_tables expr_tables
 
 -- those of an aggregate
 unfoldable pub tables_of_aggregate : BoundAggregate → List TableName
-tables_of_aggregate = fold-BoundAggregate Tables Tables Tables Tables Tables aggregate_tables block_tables source_tables input_tables expr_tables
+tables_of_aggregate = fold-BoundAggregate Tables Tables Tables Tables Tables aggregate_tables
+    block_tables source_tables input_tables expr_tables
 
--- how many rows a query reads in a state: of each table that stands in it all rows, once for each time it does
+-- how many rows a query reads in a state: of each table that stands in it all rows, once for each
+-- time it does
 unfoldable pub reads : BoundBlock → State → ℕ
 reads q state = weigh (λ t. length (table_rows state t)) (tables q)

@@ -1,7 +1,10 @@
 -- Well-typed queries: the kinds of their columns, where all their parts fit together.
-use Rattle.std.specs.Prelude.{◌≡◌, ℕ, ◌==◌, Bool, true, false, ◌&&◌, List, [], ◌∷◌, ◌++◌, length, map, Option, Some, None, slice_get, slice_index_or, if◌then◌else◌, IsTrue}
+use Rattle.std.specs.Prelude.{◌≡◌, ℕ, ◌==◌, Bool, true, false, ◌&&◌, List, [], ◌∷◌, ◌++◌, length}
+use Rattle.std.specs.Prelude.{map, Option, Some, None, slice_get, slice_index_or, if◌then◌else◌}
+use Rattle.std.specs.Prelude.{IsTrue}
 use Rattle.aggregates.specs.declared.function.AggregateFunction.{AggregateFunction}
-use Rattle.aggregates.specs.declared.function.AggregateFunction.TheVariants.{Count, CountDistinct, Sum, Avg, Min, Max}
+use Rattle.aggregates.specs.declared.function.AggregateFunction.TheVariants.{Count, CountDistinct}
+use Rattle.aggregates.specs.declared.function.AggregateFunction.TheVariants.{Sum, Avg, Min, Max}
 use Rattle.fixed_decimal.specs.Tally.{average_scale}
 use Rattle.row_laws.specs.Bags.{Each}
 use Rattle.row_laws.specs.Ranked.{Ranked}
@@ -9,7 +12,7 @@ use Rattle.scalar_expr.specs.declared.expr.Expr.{Expr}
 use Rattle.scalar_expr.specs.declared.kind.Kind.{Kind}
 use Rattle.scalar_expr.specs.declared.kind.Kind.TheVariants as kind
 use Rattle.scalar_expr.specs.Typing.{Sort, row_is_of, sort_of, is_condition, comparable}
-use Rattle.scalar_expr.specs.Typing.Sort.{Unfit, Nulls, Of}
+use Rattle.scalar_expr.specs.Typing.Sort.{Unfit, Of}
 use Rattle.sql_value.specs.declared.value.Value.{Value}
 use Rattle.tpch_schema.specs.declared.column.ColumnKind.{ColumnKind}
 use Rattle.tpch_schema.specs.declared.column.ColumnKind.TheVariants as column
@@ -18,7 +21,10 @@ use Rattle.tpch_schema.specs.Kinds.{RowsAreOf}
 use Rattle.tpch_schema.specs.State.{State, table_rows}
 use Rattle.tpch_schema.specs.Tables.{kinds_of}
 use Rattle.nested_query.specs.declared.query.BoundAggregate.TheOpen as node
-use Rattle.nested_query.specs.declared.query.BoundAggregate.TheFolds.{fold-BoundBlock, fold-BoundSource, fold-BoundExpr, fold-Input, fold-BoundAggregate}
+use Rattle.nested_query.specs.declared.query.BoundAggregate.TheFolds.{fold-BoundBlock}
+use Rattle.nested_query.specs.declared.query.BoundAggregate.TheFolds.{fold-BoundSource}
+use Rattle.nested_query.specs.declared.query.BoundAggregate.TheFolds.{fold-BoundExpr, fold-Input}
+use Rattle.nested_query.specs.declared.query.BoundAggregate.TheFolds.{fold-BoundAggregate}
 use Rattle.nested_query.specs.declared.query.BoundAggregate.{BoundAggregate}
 use Rattle.nested_query.specs.declared.query.BoundBlock.{BoundBlock}
 use Rattle.nested_query.specs.declared.query.BoundExpr.{BoundExpr}
@@ -95,42 +101,54 @@ abbrev pub aggregate_sort : AggregateFunction → ℕ → Sort → Option Kind
 aggregate_sort Count scale (Of k) = Some (kind.Number 0)
 aggregate_sort CountDistinct scale (Of k) = Some (kind.Number 0)
 aggregate_sort Sum scale (Of (kind.Number s)) = where_true (s == scale) (kind.Number s)
-aggregate_sort Avg scale (Of (kind.Number s)) = where_true (s == scale) (kind.Number (average_scale s))
+aggregate_sort Avg scale (Of (kind.Number s)) =
+    where_true (s == scale) (kind.Number (average_scale s))
 aggregate_sort Min scale (Of k) = Some k
 aggregate_sort Max scale (Of k) = Some k
 aggregate_sort function scale s = None
 
 -- each input: a column's kind; a mark is a whole number; a value's kind
-abbrev pub input_kind : node.Input-F KindMeaning KindsMeaning KindsMeaning KindMeaning ExprTyping → KindMeaning
+abbrev pub input_kind : node.Input-F KindMeaning KindsMeaning KindsMeaning KindMeaning ExprTyping
+    → KindMeaning
 input_kind (node.Column level place) ks = slice_get (slice_index_or ks level []) place
 input_kind (node.Exists q) ks = where_some (q ks) (λ js. Some (kind.Number 0))
-input_kind (node.In e q) ks = where_some (q ks) (λ js. where_some (only_kind js) (λ j. where_true (comparable (e.sort ks) (Of j)) (kind.Number 0)))
+input_kind (node.In e q) ks =
+    where_some (q ks) (λ js.
+    where_some (only_kind js) (λ j. where_true (comparable (e.sort ks) (Of j)) (kind.Number 0)))
 input_kind (node.Scalar q) ks = where_some (q ks) only_kind
 
 -- an expression, over the kinds of its inputs
-abbrev pub expr_typing : node.BoundExpr-F KindMeaning KindsMeaning KindsMeaning KindMeaning ExprTyping → ExprTyping
+abbrev pub expr_typing : node.BoundExpr-F KindMeaning KindsMeaning KindsMeaning KindMeaning
+    ExprTyping → ExprTyping
 expr_typing e = record {
   sort = λ ks. sort_over e.expr (all_some (map (λ (i : KindMeaning). i ks) e.inputs));
-  is_condition = λ ks. is_condition_over e.expr (all_some (map (λ (i : KindMeaning). i ks) e.inputs));
+  is_condition = λ ks. is_condition_over e.expr
+      (all_some (map (λ (i : KindMeaning). i ks) e.inputs));
 }
 
 -- an aggregate, under the kinds of a row of its group
-abbrev pub aggregate_kind : node.BoundAggregate-F KindMeaning KindsMeaning KindsMeaning KindMeaning ExprTyping → KindMeaning
+abbrev pub aggregate_kind : node.BoundAggregate-F KindMeaning KindsMeaning KindsMeaning KindMeaning
+    ExprTyping → KindMeaning
 aggregate_kind node.CountRows ks = Some (kind.Number 0)
-aggregate_kind (node.Of function scale argument) ks = aggregate_sort function scale (argument.sort ks)
+aggregate_kind (node.Of function scale argument) ks =
+    aggregate_sort function scale (argument.sort ks)
 
 -- the columns of two sources, where the condition on them is one
 abbrev pub joined_kinds : ExprTyping → EnvKinds → List Kind → List Kind → Option (List Kind)
 joined_kinds on ks ls rs = where_true (on.is_condition ((ls ++ rs) ∷ ks)) (ls ++ rs)
 
 -- each source
-abbrev pub source_kinds : node.BoundSource-F KindMeaning KindsMeaning KindsMeaning KindMeaning ExprTyping → KindsMeaning
+abbrev pub source_kinds : node.BoundSource-F KindMeaning KindsMeaning KindsMeaning KindMeaning
+    ExprTyping → KindsMeaning
 source_kinds (node.Table t) ks = Some (column_kinds t)
 source_kinds (node.Derived q) ks = q []
-source_kinds (node.Cross a b) ks = where_some (a ks) (λ ls. where_some (b ks) (λ rs. Some (ls ++ rs)))
-source_kinds (node.Inner a b on) ks = where_some (a ks) (λ ls. where_some (b ks) (λ rs. joined_kinds on ks ls rs))
+source_kinds (node.Cross a b) ks =
+    where_some (a ks) (λ ls. where_some (b ks) (λ rs. Some (ls ++ rs)))
+source_kinds (node.Inner a b on) ks =
+    where_some (a ks) (λ ls. where_some (b ks) (λ rs. joined_kinds on ks ls rs))
 source_kinds (node.Outer a b width on) ks =
-    where_some (a ks) (λ ls. where_some (b ks) (λ rs. if width == length rs then joined_kinds on ks ls rs else None))
+    where_some (a ks) (λ ls.
+    where_some (b ks) (λ rs. if width == length rs then joined_kinds on ks ls rs else None))
 
 -- the kinds of a select list over rows of some kinds
 abbrev pub listed_kinds : List ExprTyping → EnvKinds → Option (List Kind)
@@ -139,37 +157,48 @@ listed_kinds list ks = all_some (map (λ (e : ExprTyping). kind_of_sort (e.sort 
 -- the kinds of a group's row: its GROUP BY columns, then its aggregates
 abbrev pub group_kinds : List ℕ → List KindMeaning → List Kind → EnvKinds → Option (List Kind)
 group_kinds keys aggregates ls ks =
-    where_some (all_some (map (slice_get ls) keys)) (λ js. where_some (all_some (map (λ (a : KindMeaning). a (ls ∷ ks)) aggregates)) (λ ms. Some (js ++ ms)))
+    where_some (all_some (map (slice_get ls) keys))
+    (λ js. where_some (all_some (map (λ (a : KindMeaning). a (ls ∷ ks)) aggregates))
+    (λ ms. Some (js ++ ms)))
 
 -- each query: its conditions are conditions, and its columns have these kinds
-abbrev pub query_kinds : node.BoundBlock-F KindMeaning KindsMeaning KindsMeaning KindMeaning ExprTyping → KindsMeaning
+abbrev pub query_kinds : node.BoundBlock-F KindMeaning KindsMeaning KindsMeaning KindMeaning
+    ExprTyping → KindsMeaning
 query_kinds (node.Plain from condition list) ks =
-    where_some (from ks) (λ ls. if condition.is_condition (ls ∷ ks) then listed_kinds list (ls ∷ ks) else None)
+    where_some (from ks) (λ ls.
+    if condition.is_condition (ls ∷ ks) then listed_kinds list (ls ∷ ks) else None)
 query_kinds (node.Grouped from condition keys aggregates having list) ks =
-    where_some (from ks) (λ ls. if condition.is_condition (ls ∷ ks)
-    then where_some (group_kinds keys aggregates ls ks) (λ gs. if having.is_condition (gs ∷ ks) then listed_kinds list (gs ∷ ks) else None)
+    where_some (from ks) (λ ls.
+    if condition.is_condition (ls ∷ ks)
+    then where_some (group_kinds keys aggregates ls ks)
+    (λ gs. if having.is_condition (gs ∷ ks) then listed_kinds list (gs ∷ ks) else None)
     else None)
 query_kinds (node.Distinct q) ks = q ks
 
 -- the kinds of a query's columns under rows of these kinds, where it is well typed
 unfoldable pub block_kinds : BoundBlock → EnvKinds → Option (List Kind)
-block_kinds = fold-BoundBlock KindMeaning KindsMeaning KindsMeaning KindMeaning ExprTyping aggregate_kind query_kinds source_kinds input_kind expr_typing
+block_kinds = fold-BoundBlock KindMeaning KindsMeaning KindsMeaning KindMeaning ExprTyping
+    aggregate_kind query_kinds source_kinds input_kind expr_typing
 
 -- the same of a source
 unfoldable pub from_kinds : BoundSource → EnvKinds → Option (List Kind)
-from_kinds = fold-BoundSource KindMeaning KindsMeaning KindsMeaning KindMeaning ExprTyping aggregate_kind query_kinds source_kinds input_kind expr_typing
+from_kinds = fold-BoundSource KindMeaning KindsMeaning KindsMeaning KindMeaning ExprTyping
+    aggregate_kind query_kinds source_kinds input_kind expr_typing
 
 -- the same of an input
 unfoldable pub kind_of_input : Input → EnvKinds → Option Kind
-kind_of_input = fold-Input KindMeaning KindsMeaning KindsMeaning KindMeaning ExprTyping aggregate_kind query_kinds source_kinds input_kind expr_typing
+kind_of_input = fold-Input KindMeaning KindsMeaning KindsMeaning KindMeaning ExprTyping
+    aggregate_kind query_kinds source_kinds input_kind expr_typing
 
 -- the same of an aggregate
 unfoldable pub kind_of_aggregate : BoundAggregate → EnvKinds → Option Kind
-kind_of_aggregate = fold-BoundAggregate KindMeaning KindsMeaning KindsMeaning KindMeaning ExprTyping aggregate_kind query_kinds source_kinds input_kind expr_typing
+kind_of_aggregate = fold-BoundAggregate KindMeaning KindsMeaning KindsMeaning KindMeaning ExprTyping
+    aggregate_kind query_kinds source_kinds input_kind expr_typing
 
 -- the same of an expression
 unfoldable pub typing_of : BoundExpr → ExprTyping
-typing_of = fold-BoundExpr KindMeaning KindsMeaning KindsMeaning KindMeaning ExprTyping aggregate_kind query_kinds source_kinds input_kind expr_typing
+typing_of = fold-BoundExpr KindMeaning KindsMeaning KindsMeaning KindMeaning ExprTyping
+    aggregate_kind query_kinds source_kinds input_kind expr_typing
 
 -- a query that stands by itself is well typed
 abbrev pub IsWellTyped : BoundBlock → List Kind → Type 0
@@ -186,7 +215,8 @@ env_is_of (ks ∷ kss) (r ∷ rs) = row_is_of ks r && env_is_of kss rs
 env_is_of kss rs = false
 
 -- A well-typed query keeps the kinds and scales of its columns:
--- over tables of their kinds and under rows of these kinds each of its rows has values of its columns' kinds, nulls or faults.
+-- over tables of their kinds and under rows of these kinds each of its rows has values of its
+-- columns' kinds, nulls or faults.
 abbrev pub KeepsKinds : Type 0
 KeepsKinds = (q : BoundBlock) (kinds : EnvKinds) (ks : List Kind) (env : Env) (state : State)
     → StateIsOf state

@@ -1,8 +1,11 @@
-//! Laws of bound queries, and queries worked out by hand. Each function does nothing: its contract is the law.
+//! Laws of bound queries, and queries worked out by hand. Each function does nothing: its contract
+//! is the law.
 ghost use Rattle.nested_query.specs.Typing.{KeepsKinds};
-ghost use Rattle.nested_query.specs.Examples.{FaultsOfConditions, SumsAtTheEnd, Counts, NotIn, ScalarSubqueries, NestedExists, Finished, Reading};
+ghost use Rattle.nested_query.specs.Examples.{FaultsOfConditions, SumsAtTheEnd, Counts, NotIn};
+ghost use Rattle.nested_query.specs.Examples.{ScalarSubqueries, NestedExists, Finished, Reading};
 
-/// Over tables of their kinds, each row of a well-typed query has values of its columns' kinds and scales, nulls or faults.
+/// Over tables of their kinds, each row of a well-typed query has values of its columns' kinds and
+/// scales, nulls or faults.
 pub fn well_typed_keeps_its_kinds()
     ensures { KeepsKinds }
 {}

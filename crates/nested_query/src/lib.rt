@@ -1,4 +1,5 @@
-//! Bound queries as plain data, and what they mean: their rows by nested loops, their answer, their reads.
+//! Bound queries as plain data, and what they mean: their rows by nested loops, their answer, their
+//! reads.
 #![tactic(auto)]
 
 mod copy;

@@ -1,4 +1,5 @@
-//! Queries whose names are bound: a column is so many levels out and at a place of that query's row.
+//! Queries whose names are bound: a column is so many levels out and at a place of that query's
+//! row.
 use aggregates::AggregateFunction;
 use fixed_decimal::Scale;
 use order_limit::OrderKey;
@@ -10,7 +11,8 @@ use tpch_schema::TableName;
 #[cycle(query)]
 #[derive(Drop)]
 pub enum Input {
-    /// The column at a place of the row this many levels out, 0 being the innermost query's row. Both count from 0.
+    /// The column at a place of the row this many levels out, 0 being the innermost query's row.
+    /// Both count from 0.
     Column(u32, u32),
     /// EXISTS, as a mark.
     Exists(Boxed<BoundBlock>),
@@ -20,7 +22,8 @@ pub enum Input {
     Scalar(Boxed<BoundBlock>),
 }
 
-/// An expression of a query: a scalar expression over the row of its inputs, so that its column i is the input i.
+/// An expression of a query: a scalar expression over the row of its inputs, so that its column i
+/// is the input i.
 #[cycle(query)]
 #[derive(Drop)]
 pub struct BoundExpr {
@@ -36,7 +39,8 @@ pub struct BoundExpr {
 pub enum BoundAggregate {
     /// `count(*)`.
     CountRows,
-    /// The function, the scale of its argument's numbers (0 where it has none), and the argument, read from each row.
+    /// The function, the scale of its argument's numbers (0 where it has none), and the argument,
+    /// read from each row.
     Of(AggregateFunction, Scale, BoundExpr),
 }
 
@@ -52,8 +56,8 @@ pub enum BoundSource {
     Cross(Boxed<BoundSource>, Boxed<BoundSource>),
     /// JOIN: the combinations that its ON condition keeps.
     Inner(Boxed<BoundSource>, Boxed<BoundSource>, BoundExpr),
-    /// LEFT OUTER JOIN: those too, and each left row without a kept partner, with nulls for the columns of the right
-    /// source, whose number stands before the condition.
+    /// LEFT OUTER JOIN: those too, and each left row without a kept partner, with nulls for the
+    /// columns of the right source, whose number stands before the condition.
     Outer(Boxed<BoundSource>, Boxed<BoundSource>, u32, BoundExpr),
 }
 
@@ -63,8 +67,9 @@ pub enum BoundSource {
 pub enum BoundBlock {
     /// FROM, WHERE, and the select list over the rows kept.
     Plain(Boxed<BoundSource>, BoundExpr, Items<BoundExpr>),
-    /// FROM, WHERE, the places of the GROUP BY columns, the aggregates, HAVING, and the select list. HAVING and the
-    /// select list read a group's row, which is its GROUP BY columns and then its aggregates.
+    /// FROM, WHERE, the places of the GROUP BY columns, the aggregates, HAVING, and the select
+    /// list. HAVING and the select list read a group's row, which is its GROUP BY columns and
+    /// then its aggregates.
     Grouped(
         Boxed<BoundSource>,
         BoundExpr,

@@ -8,4 +8,5 @@ use Rattle.order_limit.specs.Answers.{finished}
 
 -- Rows in another order have the same answer.
 abbrev pub AnswersOfBags : Type 0
-AnswersOfBags = (keys : List OrderKey) (limit : Option ℕ) (xs ys : List (Ranked Value)) → SameBag xs ys → finished keys limit xs ≡ finished keys limit ys
+AnswersOfBags = (keys : List OrderKey) (limit : Option ℕ) (xs ys : List (Ranked Value))
+    → SameBag xs ys → finished keys limit xs ≡ finished keys limit ys

@@ -1,5 +1,6 @@
 -- The rows of an answer in order, or the least fault.
-use Rattle.std.specs.Prelude.{ℕ, Bool, List, [], ◌∷◌, map, min, nat_lt, take, Option, Some, None, Result, Ok, Err, if◌then◌else◌, slice_index_or}
+use Rattle.std.specs.Prelude.{ℕ, Bool, List, [], ◌∷◌, map, min, nat_lt, take, Option, Some, None}
+use Rattle.std.specs.Prelude.{Result, Ok, Err, if◌then◌else◌, slice_index_or}
 use Rattle.std.specs.declared.cmp.Ordering.{Ordering}
 use Rattle.std.specs.Ordering.{is_le, ordering_then, ordering_reverse}
 use Rattle.row_laws.specs.Aggregates.{run}
@@ -39,7 +40,8 @@ abbrev pub comes_before : List OrderKey → List Value → List Value → Bool
 comes_before keys x y = is_le (answer_order keys x y)
 
 -- a row put before the first one that it comes before
-abbrev pub inserted : (List Value → List Value → Bool) → List Value → List (List Value) → List (List Value)
+abbrev pub inserted : (List Value → List Value → Bool) → List Value → List (List Value)
+    → List (List Value)
 inserted before x [] = x ∷ []
 inserted before x (y ∷ ys) = if before x y then x ∷ y ∷ ys else y ∷ inserted before x ys
 
@@ -53,7 +55,8 @@ limited None xs = xs
 limited (Some n) xs = take n xs
 
 -- the rows in order up to the limit; or, where a row has a fault, the least fault, as a value
-abbrev pub finished : List OrderKey → Option ℕ → List (Ranked Value) → Result (List (List Value)) Value
+abbrev pub finished : List OrderKey → Option ℕ → List (Ranked Value)
+    → Result (List (List Value)) Value
 finished keys limit xs =
     if nat_lt (least_rank xs) true_rank then Err (written (least_rank xs))
     else Ok (limited limit (in_order (comes_before keys) (map row_values xs)))

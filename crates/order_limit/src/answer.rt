@@ -20,8 +20,10 @@ fn put_batch(
     least: Standing,
     batch: &Batch,
 ) -> Result<Standing, AllocError>
-    ensures least { IfOk result (λ s. standing_rank s ≡ min (standing_rank least) (least_rank batch.now.rows)) }
-    ensures rows { IfOk result (λ s. rows.new.items ≡ rows.old.items ++ map row_values batch.now.rows) }
+    ensures least { IfOk result
+        (λ s. standing_rank s ≡ min (standing_rank least) (least_rank batch.now.rows)) }
+    ensures rows { IfOk result
+        (λ s. rows.new.items ≡ rows.old.items ++ map row_values batch.now.rows) }
 {
     let mut least = least;
     for i in 0..batch.len() {
@@ -47,14 +49,17 @@ fn collected(alloc: Global, bag: &Bag) -> Result<(Vec<Row>, Standing), AllocErro
     Ok((rows, least))
 }
 
-/// The rows of a bag by the keys, ties by all columns, up to the limit; or the least fault, where a row has one.
+/// The rows of a bag by the keys, ties by all columns, up to the limit; or the least fault, where a
+/// row has one.
 pub fn finish(
     alloc: Global,
     bag: &Bag,
     keys: &[OrderKey],
     limit: Option<u64>,
 ) -> Result<Result<Vec<Row>, Fault>, AllocError>
-    ensures { IfOk result (λ r. MatchResult r (λ v. finished keys.now limit bag.now.rows ≡ Ok v.items) (λ f. finished keys.now limit bag.now.rows ≡ Err (Failed f))) }
+    ensures { IfOk result (λ r.
+        MatchResult r (λ v. finished keys.now limit bag.now.rows ≡ Ok v.items)
+        (λ f. finished keys.now limit bag.now.rows ≡ Err (Failed f))) }
 {
     let (rows, least) = collected(alloc, bag)?;
     match least {

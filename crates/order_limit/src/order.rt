@@ -1,6 +1,7 @@
 //! Rows in the order of an answer, up to a limit.
 ghost use Rattle.std.specs.Prelude.{◌≡◌, IfOk, slice_index_or};
-ghost use Rattle.order_limit.specs.Answers.{key_order, answer_order, comes_before, in_order, limited};
+ghost use Rattle.order_limit.specs.Answers.{key_order, answer_order, comes_before, in_order};
+ghost use Rattle.order_limit.specs.Answers.{limited};
 
 use crate::key::OrderKey;
 use sql_value::{Row, Value, compare_rows};
@@ -56,7 +57,8 @@ pub fn ordered(
     keys: &[OrderKey],
     limit: Option<u64>,
 ) -> Result<Vec<Row>, AllocError>
-    ensures { IfOk result (λ v. v.items ≡ limited limit (in_order (comes_before keys.now) rows.items)) }
+    ensures { IfOk result (λ v. v.items
+        ≡ limited limit (in_order (comes_before keys.now) rows.items)) }
 {
     let mut rows = sorted(rows, keys)?;
     match limit {

@@ -1,9 +1,11 @@
 -- A flat plan as it is printed.
-use Rattle.std.specs.Prelude.{ℕ, ◌+◌, Bool, true, false, List, [], ◌∷◌, ◌++◌, length, codes, decimal}
+use Rattle.std.specs.Prelude.{ℕ, ◌+◌, Bool, true, false, List, [], ◌∷◌, ◌++◌, length, codes}
+use Rattle.std.specs.Prelude.{decimal}
 use Rattle.std.specs.List.{flat_map}
 use Rattle.tpch_schema.specs.Tables.{table_name}
 use Rattle.algebra.specs.declared.node.Node.{Node}
-use Rattle.algebra.specs.declared.node.Node.TheVariants.{Scan, Domain, Select, Project, Join, Outer, Mark, Single, Group, Fill, Distinct}
+use Rattle.algebra.specs.declared.node.Node.TheVariants.{Scan, Domain, Select, Project, Join, Outer}
+use Rattle.algebra.specs.declared.node.Node.TheVariants.{Mark, Single, Group, Fill, Distinct}
 use Rattle.algebra.specs.Plans.{inputs_of, plan_scans}
 
 -- the name of a node's kind
@@ -36,7 +38,8 @@ reads_text node = flat_map spaced (inputs_of node)
 
 -- the line of a node by its number
 abbrev pub node_line : ℕ → Node → List ℕ
-node_line number node = decimal number ++ codes " " ++ kind_name node ++ reads_text node ++ codes "\n"
+node_line number node = decimal number ++ codes " " ++ kind_name node ++ reads_text node
+    ++ codes "\n"
 
 -- the lines of nodes, numbered on from the first one's number
 abbrev pub node_lines : ℕ → List Node → List ℕ
@@ -45,7 +48,8 @@ node_lines number (node ∷ nodes) = node_line number node ++ node_lines (number
 
 -- the first line: how many nodes there are, and how many of them are scans
 abbrev pub head_line : List Node → List ℕ
-head_line nodes = codes "plan nodes " ++ decimal (length nodes) ++ codes " reads " ++ decimal (length (plan_scans nodes)) ++ codes "\n"
+head_line nodes = codes "plan nodes " ++ decimal (length nodes) ++ codes " reads "
+    ++ decimal (length (plan_scans nodes)) ++ codes "\n"
 
 -- the first line, and the lines of the nodes, numbered from 0
 abbrev pub text_of_plan : List Node → List ℕ

@@ -25,8 +25,8 @@ pub fn plan(alloc: Global, query: &Query, views: &Views) -> Result<FlatPlan, Bin
     Ok(plan)
 }
 
-/// The flat plan of a bound query: its dependent tree, with joins and conditions moved to where they
-/// cost least, lowered to nodes none of which depends on the rows of another.
+/// The flat plan of a bound query: its dependent tree, with joins and conditions moved to where
+/// they cost least, lowered to nodes none of which depends on the rows of another.
 pub fn plan_bound(alloc: Global, query: BoundQuery) -> Result<FlatPlan, AllocError>
     ensures { IfOk result (IsPlanOf query) }
 {

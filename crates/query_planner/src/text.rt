@@ -1,14 +1,16 @@
 //! A flat plan as it is printed.
 ghost use Rattle.std.specs.Prelude.{◌≡◌, ◌++◌, length, IfOk, OnOk};
 ghost use Rattle.algebra.specs.Plans.{plan_scans};
-ghost use Rattle.query_planner.specs.PlanText.{kind_name, is_scan, spaced, reads_text, node_line, head_line, text_of_plan};
+ghost use Rattle.query_planner.specs.PlanText.{kind_name, is_scan, spaced, reads_text, node_line};
+ghost use Rattle.query_planner.specs.PlanText.{head_line, text_of_plan};
 
 use algebra::{FlatPlan, Node, NodeId};
 use itoa::Buffer;
 use std::alloc::{AllocError, Global};
 
-/// The text of a plan: a line `plan nodes N reads R` with the numbers of its nodes and of its scans; and for each node,
-/// in the plan's order, a line with its number, its kind, and the numbers of its inputs, or a scan's table.
+/// The text of a plan: a line `plan nodes N reads R` with the numbers of its nodes and of its
+/// scans; and for each node, in the plan's order, a line with its number, its kind, and the numbers
+/// of its inputs, or a scan's table.
 pub fn plan_text(alloc: Global, plan: &FlatPlan) -> Result<Vec<u8>, AllocError>
     ensures { IfOk result (λ text. text.items ≡ text_of_plan plan.now.nodes) }
 {

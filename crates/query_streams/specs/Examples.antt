@@ -4,7 +4,8 @@ use Rattle.refusals.specs.declared.refresh.Cause.{Cause}
 use Rattle.refusals.specs.declared.refresh.Cause.TheVariants.{OrderExists}
 use Rattle.sql_ast.specs.declared.statement.RefreshKind.TheVariants.{Insert, Delete}
 use Rattle.sql_ast.specs.declared.statement.Statement.{Statement}
-use Rattle.sql_ast.specs.declared.statement.Statement.TheVariants.{CreateView, DropView, Refresh, Run}
+use Rattle.sql_ast.specs.declared.statement.Statement.TheVariants.{CreateView, DropView, Refresh}
+use Rattle.sql_ast.specs.declared.statement.Statement.TheVariants.{Run}
 use Rattle.sql_ast.specs.declared.statement.TemplateValue.TheVariants.{Number}
 use Rattle.sql_ast.specs.declared.tree.Block.{Block}
 use Rattle.tpch_schema.specs.State.{State}
@@ -21,7 +22,8 @@ refreshes = Refresh Insert 1 ∷ Refresh Insert 1 ∷ Refresh Delete 1 ∷ []
 
 -- the second one is refused, since the first one's order is there
 abbrev pub tries : State → List Moment
-tries tables = moment tables 0 (Ok 1) ∷ moment tables 1 (Err (OrderExists (pos 9))) ∷ moment tables 1 (Ok 2) ∷ []
+tries tables = moment tables 0 (Ok 1) ∷ moment tables 1 (Err (OrderExists (pos 9)))
+    ∷ moment tables 1 (Ok 2) ∷ []
 
 -- runs of a query that is none, without its value, and with a number for a date
 abbrev pub runs : List Statement
@@ -38,6 +40,8 @@ pub record Examples : Type 0 where
   pub not_clean : (tables : State) → are_clean [] refreshes (tries tables) ≡ false
   pub runs_refused : (tables : State) → lines_of true 1 [] runs (at_first tables)
       ≡ codes "[1] version 0 refused 30 NoSuchQuery\n[2] version 0 refused 31 WrongCount\n[3] version 0 refused 32 WrongKind 1\n"
-  pub no_view : (tables : State) → lines_of true 1 [] (DropView (codes "v") ∷ []) (at_first tables) ≡ codes "[1] version 0 refused 21 UnknownView\n"
-  pub table_there : (tables : State) (query : Block) → lines_of true 1 [] (CreateView (codes "region") [] query ∷ []) (at_first tables)
+  pub no_view : (tables : State) → lines_of true 1 [] (DropView (codes "v") ∷ []) (at_first tables)
+      ≡ codes "[1] version 0 refused 21 UnknownView\n"
+  pub table_there : (tables : State) (query : Block)
+      → lines_of true 1 [] (CreateView (codes "region") [] query ∷ []) (at_first tables)
       ≡ codes "[1] version 0 refused 20 ViewExists\n"

@@ -1,4 +1,5 @@
--- The statements that a script stands for: each run is replaced by the statements of its filled text.
+-- The statements that a script stands for: each run is replaced by the statements of its filled
+-- text.
 use Rattle.std.specs.Prelude.{◌≡◌, ℕ, List, [], ◌∷◌, ◌++◌, Option, None, Some, Result, Ok, Err}
 use Rattle.query_templates.specs.Templates.{filled_query}
 use Rattle.refusals.specs.declared.statement.TemplateRefusal.{TemplateRefusal}
@@ -21,8 +22,8 @@ abbrev pub ExpandsText : Option (List ℕ) → Statement → List Statement → 
 ExpandsText (Some text) statement steps = IsReadScript text steps
 ExpandsText None statement steps = steps ≡ statement ∷ []
 
--- A run stands for the statements of its filled text. Any other statement stands for itself, and so does a run whose
--- template is not filled: it is refused at its turn.
+-- A run stands for the statements of its filled text. Any other statement stands for itself, and so
+-- does a run whose template is not filled: it is refused at its turn.
 abbrev pub Expands : Statement → List Statement → Type 0
 Expands statement steps = ExpandsText (run_text statement) statement steps
 
@@ -30,4 +31,5 @@ Expands statement steps = ExpandsText (run_text statement) statement steps
 abbrev pub ExpandAll : List Statement → List Statement → Type 0
 ExpandAll [] steps = steps ≡ []
 ExpandAll (statement ∷ statements) steps =
-    (first : List Statement) × (rest : List Statement) × Expands statement first × ExpandAll statements rest × (steps ≡ first ++ rest)
+    (first : List Statement) × (rest : List Statement) × Expands statement first
+    × ExpandAll statements rest × (steps ≡ first ++ rest)

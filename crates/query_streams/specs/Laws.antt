@@ -1,5 +1,6 @@
 -- Laws of sessions and of plans.
-use Rattle.std.specs.Prelude.{◌≡◌, ℕ, ◌+◌, ◌-◌, List, [], ◌∷◌, ◌++◌, drop, length, Bool, ◌&&◌, Option, None, Some}
+use Rattle.std.specs.Prelude.{◌≡◌, ℕ, ◌+◌, ◌-◌, List, [], ◌∷◌, ◌++◌, drop, length, Bool, ◌&&◌}
+use Rattle.std.specs.Prelude.{Option, None, Some}
 use Rattle.row_laws.specs.Bags.{SameBag}
 use Rattle.algebra.specs.Plans.{plan_reads, result_rows}
 use Rattle.algebra.specs.declared.plan.FlatPlan.{FlatPlan}
@@ -16,9 +17,11 @@ use Rattle.query_streams.specs.Sessions.{Course, are_clean, course_after, lines_
 
 -- A script's statements stand for one list of statements.
 abbrev pub ExpandOnce : Type 0
-ExpandOnce = (statements a b : List Statement) → ExpandAll statements a → ExpandAll statements b → a ≡ b
+ExpandOnce = (statements a b : List Statement)
+    → ExpandAll statements a → ExpandAll statements b → a ≡ b
 
--- The plan of a query, run over tables of their kinds, gives the query's rows as a bag, and reads as much as the query.
+-- The plan of a query, run over tables of their kinds, gives the query's rows as a bag, and reads
+-- as much as the query.
 abbrev pub PlansRun : Type 0
 PlansRun = (q : BoundQuery) (plan : FlatPlan) (state : State) → StateIsOf state → IsPlanOf q plan
     → SameBag (result_rows (table_rows state) plan.nodes) (rows q.block [] state)
@@ -32,13 +35,15 @@ turn_or_end course moment (Some statement) = course_after course moment statemen
 -- the same for moments one after another
 abbrev pub course_through : Course → List Moment → Course
 course_through course [] = course
-course_through course (moment ∷ moments) = course_through (turn_or_end course moment (next_of course)) moments
+course_through course (moment ∷ moments) =
+    course_through (turn_or_end course moment (next_of course)) moments
 
--- The text of a session is, after what it has, the text of the statements that are left, each at its moment; and it is
--- clean exactly where it was and none of them is refused.
+-- The text of a session is, after what it has, the text of the statements that are left, each at
+-- its moment; and it is clean exactly where it was and none of them is refused.
 abbrev pub SessionsText : Type 0
 SessionsText = (course : Course) (moments : List Moment)
     → ((course_through course moments).text
-    ≡ course.text ++ lines_of course.shows_rows (course.answered + 1) course.views (drop course.answered course.steps) moments)
+    ≡ course.text ++ lines_of course.shows_rows (course.answered + 1) course.views
+    (drop course.answered course.steps) moments)
     × ((course_through course moments).is_clean
     ≡ (course.is_clean && are_clean course.views (drop course.answered course.steps) moments))

@@ -1,5 +1,6 @@
 -- What comes of a statement, and how it is printed.
-use Rattle.std.specs.Prelude.{ℕ, List, [], ◌++◌, length, Bool, true, false, Result, Ok, Err, if◌then◌else◌}
+use Rattle.std.specs.Prelude.{ℕ, List, [], ◌++◌, length, Bool, true, false, Result, Ok, Err}
+use Rattle.std.specs.Prelude.{if◌then◌else◌}
 use Rattle.nested_query.specs.Answer.{answer}
 use Rattle.nested_query.specs.declared.query.BoundQuery.{BoundQuery}
 use Rattle.query_templates.specs.Templates.{filled_query}
@@ -25,7 +26,8 @@ use Rattle.query_streams.specs.Views.{is_view, made_view}
 use Rattle.query_streams.specs.declared.outcome.Outcome.{Outcome}
 use Rattle.query_streams.specs.declared.outcome.Outcome.TheVariants.{Rows, Done, Accepted, Refused}
 
--- When a statement is answered: the version and its tables, and what comes of the refresh, where the statement is one.
+-- When a statement is answered: the version and its tables, and what comes of the refresh, where
+-- the statement is one.
 pub record Moment : Type 0 where
   pub version : ℕ
   pub tables : State
@@ -63,7 +65,8 @@ abbrev pub refreshed : Result ℕ Cause → Outcome
 refreshed (Ok version) = Accepted version
 refreshed (Err cause) = Refused (refusal.Refresh cause)
 
--- the refusal of a run whose template is not filled; a filled one stands for its statements and has no turn itself
+-- the refusal of a run whose template is not filled; a filled one stands for its statements and has
+-- no turn itself
 abbrev pub run_outcome : Result (List ℕ) TemplateRefusal → Outcome
 run_outcome (Ok text) = Done
 run_outcome (Err why) = Refused (refusal.Template why)

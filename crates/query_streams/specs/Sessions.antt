@@ -1,5 +1,6 @@
 -- Sessions: their text, statement by statement, and how far a running one is.
-use Rattle.std.specs.Prelude.{◌≡◌, ℕ, ◌+◌, List, [], ◌∷◌, ◌++◌, Bool, true, false, ◌&&◌, not, Option, None, Some, slice_get, Result, Ok, Err}
+use Rattle.std.specs.Prelude.{◌≡◌, ℕ, ◌+◌, List, [], ◌∷◌, ◌++◌, Bool, true, false, ◌&&◌, not}
+use Rattle.std.specs.Prelude.{Option, None, Some, slice_get, Result, Ok, Err}
 use Rattle.std.specs.declared.alloc.AllocError.{AllocError}
 use Rattle.refusals.specs.declared.refresh.Cause.{Cause}
 use Rattle.sql_ast.specs.declared.statement.Statement.{Statement}
@@ -28,10 +29,12 @@ abbrev pub are_clean : List View → List Statement → List Moment → Bool
 are_clean views [] moments = true
 are_clean views (statement ∷ statements) [] = true
 are_clean views (statement ∷ statements) (moment ∷ moments) =
-    not (is_refusal (outcome_of moment views statement)) && are_clean (views_after views statement) statements moments
+    not (is_refusal (outcome_of moment views statement))
+    && are_clean (views_after views statement) statements moments
 
--- The course of a session: the statements that its script stands for, how many of them have their lines, its views, its
--- text, whether no line is a refusal, whether rows are printed, and whether memory ran out.
+-- The course of a session: the statements that its script stands for, how many of them have their
+-- lines, its views, its text, whether no line is a refusal, whether rows are printed, and whether
+-- memory ran out.
 pub record Course : Type 0 where
   pub steps : List Statement
   pub answered : ℕ
@@ -77,18 +80,25 @@ with_lines course version outcome = record course {
 -- a session after a statement's turn at a moment
 abbrev pub course_after : Course → Moment → Statement → Course
 course_after course moment statement =
-    record (with_lines course moment.version (outcome_of moment course.views statement)) { views = views_after course.views statement }
+    record (with_lines course moment.version (outcome_of moment course.views statement)) {
+      views = views_after course.views statement;
+    }
 
 -- the statement is a refresh
 abbrev pub IsRefresh : Option Statement → Type 0
 IsRefresh next = (change : RefreshKind) × (set : ℕ) × (next ≡ Some (Refresh change set))
 
--- What a turn over a version and its tables leaves. A statement that is no refresh has its lines. A refresh is asked for,
--- and nothing changes before its result is there; nothing changes where no statement is left.
+-- What a turn over a version and its tables leaves. A statement that is no refresh has its lines. A
+-- refresh is asked for, and nothing changes before its result is there; nothing changes where no
+-- statement is left.
 abbrev pub Takes : Course → ℕ → State → Course → Turn → Type 0
-Takes old version tables new Answered = (statement : Statement) × (next_of old ≡ Some statement) × (IsRefresh (next_of old) → ⊥)
-    × ((tried : Result ℕ Cause) → new ≡ course_after old (record { version = version; tables = tables; tried = tried }) statement)
-Takes old version tables new (AskedRefresh change set) = (next_of old ≡ Some (Refresh change set)) × (new ≡ old)
+Takes old version tables new Answered = (statement : Statement) × (next_of old ≡ Some statement)
+    × (IsRefresh (next_of old) → ⊥)
+    × ((tried : Result ℕ Cause)
+    → new ≡ course_after old
+    (record { version = version; tables = tables; tried = tried }) statement)
+Takes old version tables new (AskedRefresh change set) = (next_of old ≡ Some (Refresh change set))
+    × (new ≡ old)
 Takes old version tables new Ended = (next_of old ≡ None) × (new ≡ old)
 
 -- the same, or memory ran out, now or before
@@ -98,6 +108,8 @@ Goes old version tables new (Err error) = new.is_lost ≡ true
 
 -- what handing in the result of a refresh leaves: its line; or memory ran out, now or before
 abbrev pub HandsIn : Course → ℕ → Result ℕ Cause → Course → Result (Unit {0}) AllocError → Type 0
-HandsIn old version tried new (Ok done) = (old.is_lost ≡ false) × ((statement : Statement) (tables : State) → next_of old ≡ Some statement
-    → new ≡ course_after old (record { version = version; tables = tables; tried = tried }) statement)
+HandsIn old version tried new (Ok done) = (old.is_lost ≡ false)
+    × ((statement : Statement) (tables : State) → next_of old ≡ Some statement
+    → new ≡ course_after old
+    (record { version = version; tables = tables; tried = tried }) statement)
 HandsIn old version tried new (Err error) = new.is_lost ≡ true

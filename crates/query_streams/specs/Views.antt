@@ -1,5 +1,6 @@
 -- The views of a session.
-use Rattle.std.specs.Prelude.{ℕ, List, [], ◌∷◌, ◌++◌, Bool, ◌||◌, is_some, Option, None, Some, Result, Ok, Err, if◌then◌else◌, position, remove}
+use Rattle.std.specs.Prelude.{ℕ, List, [], ◌∷◌, ◌++◌, Bool, ◌||◌, is_some, Option, None, Some}
+use Rattle.std.specs.Prelude.{Result, Ok, Err, if◌then◌else◌, position, remove}
 use Rattle.std.specs.Str.{bytes_eq}
 use Rattle.refusals.specs.declared.statement.Refusal.{Refusal}
 use Rattle.refusals.specs.declared.statement.Refusal.TheVariants.{Bind, ViewExists}
@@ -28,7 +29,8 @@ abbrev pub view_or_refusal : Checked View → Result View Refusal
 view_or_refusal (Ok view) = Ok view
 view_or_refusal (Err why) = Err (Bind why)
 
--- the view that is made, or why none is: first a name that is taken, then what its query is refused for
+-- the view that is made, or why none is: first a name that is taken, then what its query is refused
+-- for
 abbrev pub made_view : Name → List Name → Block → List View → Result View Refusal
 made_view name names q views =
     if is_taken name views then Err ViewExists else view_or_refusal (bound_view name names q views)

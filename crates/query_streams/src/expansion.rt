@@ -1,4 +1,5 @@
-//! The statements that a script stands for: each run is replaced by the statements of its filled text.
+//! The statements that a script stands for: each run is replaced by the statements of its filled
+//! text.
 ghost use Rattle.std.specs.Prelude.{◌≡◌, ◌++◌, List, IfOk, IfSome, OnOk, option_map, reverse};
 ghost use Rattle.query_templates.specs.Laws.{IsSomeScript};
 ghost use Rattle.query_templates.specs.Templates.{filled_query};
@@ -18,7 +19,8 @@ fn filled_run(
     number: u32,
     values: &[TemplateValue],
 ) -> Result<Option<Vec<u8>>, AllocError>
-    ensures text { IfOk result (λ text. option_map (λ t. t.items) text ≡ text_or_none (filled_query number values.now)) }
+    ensures text { IfOk result (λ text. option_map (λ t. t.items) text
+        ≡ text_or_none (filled_query number values.now)) }
     ensures script { IfOk result (λ text. IfSome text (λ t. IsSomeScript t.items)) }
 {
     match fill(alloc, number as u64, values) {
@@ -63,7 +65,8 @@ fn put_steps(
     steps: &mut Items<Statement>,
     statement: Statement,
 ) -> Result<(), AllocError>
-    ensures { OnOk result ((more : List Statement) × Expands statement more × (steps.new ≡ steps.old ++ more)) }
+    ensures { OnOk result ((more : List Statement) × Expands statement more
+        × (steps.new ≡ steps.old ++ more)) }
 {
     match text_of_run(alloc, &statement)? {
         Some(text) => {

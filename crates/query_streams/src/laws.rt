@@ -2,7 +2,8 @@
 ghost use Rattle.query_streams.specs.Examples.{Examples};
 ghost use Rattle.query_streams.specs.Laws.{ExpandOnce, PlansRun, SessionsText};
 
-/// The plan of a query, run over tables of their kinds, gives the query's rows as a bag, and reads as much as the query.
+/// The plan of a query, run over tables of their kinds, gives the query's rows as a bag, and reads
+/// as much as the query.
 pub fn plans_give_rows()
     ensures { PlansRun }
 {}

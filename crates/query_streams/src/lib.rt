@@ -1,4 +1,5 @@
-//! Sessions: the statements of a script, answered one by one over the versions that they are asked at, and their text.
+//! Sessions: the statements of a script, answered one by one over the versions that they are asked
+//! at, and their text.
 #![tactic(auto)]
 
 mod expansion;

@@ -29,7 +29,8 @@ use tpch_schema::TableName;
 
 /// The rows of a plan in its order up to its limit, or their least fault.
 fn finished_outcome(alloc: Global, plan: &FlatPlan, bag: &Bag) -> Result<Outcome, AllocError>
-    ensures outcome { IfOk result (λ o. o ≡ answered (finished plan.now.order plan.now.limit bag.now.rows)) }
+    ensures outcome { IfOk result (λ o. o
+        ≡ answered (finished plan.now.order plan.now.limit bag.now.rows)) }
     ensures printable { IfOk result (λ o. IsTrue (is_printable o)) }
 {
     match finish(alloc, bag, plan.order.as_slice(), plan.limit)? {
@@ -93,7 +94,8 @@ pub(crate) fn query_outcome<R: Threads>(
     views: &Views,
     snapshot: &Snapshot,
 ) -> Result<Outcome, AllocError>
-    ensures outcome { IfOk result (λ o. o ≡ query_outcome (bound_query query.now views.now.all) (tables_of snapshot.now)) }
+    ensures outcome { IfOk result (λ o. o
+        ≡ query_outcome (bound_query query.now views.now.all) (tables_of snapshot.now)) }
     ensures printable { IfOk result (λ o. IsTrue (is_printable o)) }
 {
     match bind(alloc, query, views) {

@@ -1,5 +1,6 @@
 //! A session: a script's statements in their order, with views of their own, and the text so far.
-ghost use Rattle.std.specs.Prelude.{◌≡◌, ◌<◌, ℕ, length, IfOk, IsTrue, OnOk, Result, Err, Some, true};
+ghost use Rattle.std.specs.Prelude.{◌≡◌, ◌<◌, ℕ, length, IfOk, IsTrue, OnOk, Result, Err, Some};
+ghost use Rattle.std.specs.Prelude.{true};
 ghost use Rattle.refusals.specs.declared.refresh.Cause.{Cause};
 ghost use Rattle.segment_store.specs.Trials.{tables_of, version_of};
 ghost use Rattle.query_streams.specs.Outcomes.{is_printable, outcome_of, refreshed};
@@ -31,8 +32,8 @@ pub enum Turn {
     Ended,
 }
 
-/// The statements of a script in their order, with views of their own, and the text so far. After memory ran out, each
-/// turn answers that again.
+/// The statements of a script in their order, with views of their own, and the text so far. After
+/// memory ran out, each turn answers that again.
 #[derive(Drop)]
 pub struct Session {
     alloc: Global,
@@ -54,7 +55,12 @@ fn outcome_of<R: Threads>(
     snapshot: &Snapshot,
 ) -> Result<Outcome, AllocError>
     requires { IsRefresh (Some statement.now) → ⊥ }
-    ensures outcome { IfOk result (λ o. (tried : Result ℕ Cause) → o ≡ outcome_of (record { version = version_of snapshot.now; tables = tables_of snapshot.now; tried = tried }) views.old.all statement.now) }
+    ensures outcome { IfOk result (λ o. (tried : Result ℕ Cause) → o
+        ≡ outcome_of (record {
+          version = version_of snapshot.now;
+          tables = tables_of snapshot.now;
+          tried = tried;
+        }) views.old.all statement.now) }
     ensures views { OnOk result (views.new.all ≡ views_after views.old.all statement.now) }
     ensures printable { IfOk result (λ o. IsTrue (is_printable o)) }
 {
@@ -81,10 +87,11 @@ fn refresh_outcome(tried: Result<u64, Cause>) -> Outcome
 }
 
 impl Session {
-    ghost use Rattle.query_streams.specs.Sessions.{Begins, Goes, HandsIn, Takes, course_of, next_of, with_lines};
+    ghost use Rattle.query_streams.specs.Sessions.{Begins, Goes, HandsIn, Takes, course_of};
+    ghost use Rattle.query_streams.specs.Sessions.{next_of, with_lines};
 
-    /// A session of these statements, with a run's in its place. Where `shows_rows` is false, its text leaves out the rows
-    /// of answers.
+    /// A session of these statements, with a run's in its place. Where `shows_rows` is false, its
+    /// text leaves out the rows of answers.
     pub fn new(
         alloc: Global,
         statements: Items<Statement>,
@@ -132,7 +139,8 @@ impl Session {
     fn put(&mut self, version: u64, outcome: &Outcome) -> Result<(), AllocError>
         requires within { self.old.answered < length self.old.steps }
         requires printable { IsTrue (is_printable outcome.now) }
-        ensures { OnOk result (course_of self.new ≡ with_lines (course_of self.old) version outcome.now) }
+        ensures { OnOk result (course_of self.new
+            ≡ with_lines (course_of self.old) version outcome.now) }
     {
         let count = self.steps.len();
         prove!(self.answered < count);
@@ -151,7 +159,8 @@ impl Session {
 
     /// Takes the next turn over a version.
     fn go<R: Threads>(&mut self, rt: &R, snapshot: &Snapshot) -> Result<Turn, AllocError>
-        ensures { IfOk result (Takes (course_of self.old) (version_of snapshot.now) (tables_of snapshot.now) (course_of self.new)) }
+        ensures { IfOk result (Takes (course_of self.old) (version_of snapshot.now)
+            (tables_of snapshot.now) (course_of self.new)) }
     {
         let Some(statement) = self.steps.get(self.answered) else {
             return Ok(Turn::Ended);
@@ -166,7 +175,8 @@ impl Session {
 
     /// Answers the next statement over a version, or asks for the refresh that it is.
     pub fn run_next<R: Threads>(&mut self, rt: &R, snapshot: &Snapshot) -> Result<Turn, AllocError>
-        ensures { Goes (course_of self.old) (version_of snapshot.now) (tables_of snapshot.now) (course_of self.new) result }
+        ensures { Goes (course_of self.old) (version_of snapshot.now) (tables_of snapshot.now)
+            (course_of self.new) result }
     {
         if self.is_lost {
             return Err(AllocError);
@@ -180,7 +190,8 @@ impl Session {
         }
     }
 
-    /// Hands in what came of the refresh that was asked for over this version: the version that it made, or its cause.
+    /// Hands in what came of the refresh that was asked for over this version: the version that it
+    /// made, or its cause.
     pub fn refreshed(&mut self, version: u64, tried: Result<u64, Cause>) -> Result<(), AllocError>
         requires { IsRefresh (next_of (course_of self.old)) }
         ensures { HandsIn (course_of self.old) version tried (course_of self.new) result }

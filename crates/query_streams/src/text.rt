@@ -17,7 +17,8 @@ fn rows_text(
     rows: &[Row],
 ) -> Result<Vec<u8>, AllocError>
     requires { IsTrue (rows_have_no_fault rows.now) }
-    ensures { IfOk result (λ text. text.items ≡ header number version (length rows.now) ++ (if shows_rows then answer_text rows.now else [])) }
+    ensures { IfOk result (λ text. text.items ≡ header number version (length rows.now)
+        ++ (if shows_rows then answer_text rows.now else [])) }
 {
     let mut text = header(alloc, number, version, rows.len() as u64)?;
     if shows_rows {
@@ -36,7 +37,8 @@ pub(crate) fn outcome_text(
     outcome: &Outcome,
 ) -> Result<Vec<u8>, AllocError>
     requires { IsTrue (is_printable outcome.now) }
-    ensures { IfOk result (λ text. text.items ≡ outcome_text shows_rows number version outcome.now) }
+    ensures { IfOk result (λ text. text.items
+        ≡ outcome_text shows_rows number version outcome.now) }
 {
     match outcome {
         Outcome::Rows(rows) => rows_text(alloc, shows_rows, number, version, rows.as_slice()),

@@ -1,7 +1,8 @@
 //! The views of a session.
 ghost use Rattle.std.specs.Prelude.{◌≡◌, IfOk, IsTrue, OnOk};
 ghost use Rattle.query_streams.specs.Outcomes.{dropped, is_printable, made};
-ghost use Rattle.query_streams.specs.Views.{is_taken, is_view, made_view, place_of_view, with_made, without_view};
+ghost use Rattle.query_streams.specs.Views.{is_taken, is_view, made_view, place_of_view, with_made};
+ghost use Rattle.query_streams.specs.Views.{without_view};
 
 use crate::outcome::Outcome;
 use refusals::Refusal;
@@ -34,9 +35,11 @@ pub(crate) fn make_view(
     names: &[Name],
     query: &Block,
 ) -> Result<Outcome, AllocError>
-    ensures outcome { IfOk result (λ o. o ≡ made (made_view name.now names.now query.now views.old.all)) }
+    ensures outcome { IfOk result (λ o. o
+        ≡ made (made_view name.now names.now query.now views.old.all)) }
     ensures printable { IfOk result (λ o. IsTrue (is_printable o)) }
-    ensures views { OnOk result (views.new.all ≡ with_made views.old.all (made_view name.now names.now query.now views.old.all)) }
+    ensures views { OnOk result (views.new.all
+        ≡ with_made views.old.all (made_view name.now names.now query.now views.old.all)) }
 {
     if is_taken(views.all.as_slice(), name) {
         return Ok(Outcome::Refused(Refusal::ViewExists));

@@ -1,5 +1,6 @@
 -- A template as its plain bytes and its holes.
-use Rattle.std.specs.Prelude.{ℕ, zero, suc, Bool, true, false, not, ◌==◌, ◌&&◌, if◌then◌else◌, List, [], ◌∷◌, ◌++◌, length, Option, Some, None, pos, slice_get, codes}
+use Rattle.std.specs.Prelude.{ℕ, zero, suc, Bool, true, false, not, ◌==◌, ◌&&◌, if◌then◌else◌, List}
+use Rattle.std.specs.Prelude.{[], ◌∷◌, ◌++◌, length, Option, Some, None, pos, slice_get, codes}
 use Rattle.std.specs.Char.{is_ascii_digit}
 use Rattle.std.specs.List.{list_all, list_any}
 use Rattle.std.specs.Option.{option_and_then, option_map}
@@ -15,7 +16,8 @@ use Rattle.query_templates.specs.declared.kind.ValueKind.TheVariants.{Number, Wh
 use Rattle.query_templates.specs.Cutting.{head_of, bare, cut}
 use Rattle.query_templates.specs.Templates.{place_with, put_value}
 
--- what stands between plain bytes: the bytes of a text between quotes, or the number of a place outside quotes
+-- what stands between plain bytes: the bytes of a text between quotes, or the number of a place
+-- outside quotes
 pub data Hole : Type 0 where
   quoted : (text : List ℕ) → Hole
   place : (number : ℕ) → Hole
@@ -51,16 +53,22 @@ unfoldable mutual
 
   pub digits : ℕ → List ℕ → Parts
   digits n [] = record { first = []; holes = (place n, []) ∷ [] }
-  digits n (b ∷ bs) = if is_ascii_digit b then digits (place_with n b) bs else with_hole (place n) (with_byte b (outside bs))
+  digits n (b ∷ bs) =
+      if is_ascii_digit b then digits (place_with n b) bs else with_hole (place n)
+      (with_byte b (outside bs))
 
--- A quoted text with the values put in, and then these bytes. `Some` has the number so far of a place.
+-- A quoted text with the values put in, and then these bytes. `Some` has the number so far of a
+-- place.
 abbrev pub text_with : List TemplateValue → Option ℕ → List ℕ → List ℕ → List ℕ
 text_with values None [] tail = tail
 text_with values (Some n) [] tail = put_value values n ++ tail
-text_with values None (b ∷ bs) tail = if b == 58 then text_with values (Some 0) bs tail else b ∷ text_with values None bs tail
+text_with values None (b ∷ bs) tail = if b == 58 then text_with values (Some 0) bs tail else b
+    ∷ text_with values None bs tail
 text_with values (Some n) (b ∷ bs) tail =
     if is_ascii_digit b then text_with values (Some (place_with n b)) bs tail
-    else put_value values n ++ (if b == 58 then text_with values (Some 0) bs tail else b ∷ text_with values None bs tail)
+    else put_value values n
+    ++ (if b == 58 then text_with values (Some 0) bs tail else b ∷ text_with values None bs
+    tail)
 
 -- a hole with the values put in, and then these bytes
 abbrev pub hole_with : List TemplateValue → Hole → List ℕ → List ℕ
@@ -92,23 +100,26 @@ is_whole other = false
 abbrev pub is_plain : ℕ → Bool
 is_plain b = is_printable b && not (b == 39)
 
--- A token that what is put between quotes may stand for: the text itself where nothing is put in, a digit where only a
--- whole number is, and else a text of which nothing is known.
+-- A token that what is put between quotes may stand for: the text itself where nothing is put in, a
+-- digit where only a whole number is, and else a text of which nothing is known.
 abbrev pub quoted_token : List ValueKind → List ℕ → Option Token
 quoted_token kinds text =
     if not (list_all is_plain text) then None
     else if not (list_any (λ b. b == 58) text) then Some (bare k.Text (content.Text text))
-    else if bytes_eq text (codes ":1") && is_whole (kind_at kinds 1) then Some (bare k.Text (content.Text (codes "1")))
+    else if bytes_eq text (codes ":1")
+    && is_whole (kind_at kinds 1) then Some (bare k.Text (content.Text (codes "1")))
     else Some (bare k.Text (content.Text []))
 
 -- a token that what is put into a hole may stand for
 abbrev pub hole_token : List ValueKind → Hole → Option Token
 hole_token kinds (quoted text) = quoted_token kinds text
-hole_token kinds (place n) = if is_numeric (kind_at kinds n) then Some (bare k.Number (content.Number (pos 0) 1)) else None
+hole_token kinds (place n) =
+    if is_numeric (kind_at kinds n) then Some (bare k.Number (content.Number (pos 0) 1)) else None
 
 -- no digit, point or letter comes first
 abbrev pub ends_number : List ℕ → Bool
-ends_number bytes = not (is_ascii_digit (head_of bytes)) && (not (head_of bytes == 46) && not (is_letter (head_of bytes)))
+ends_number bytes = not (is_ascii_digit (head_of bytes))
+    && (not (head_of bytes == 46) && not (is_letter (head_of bytes)))
 
 -- the plain bytes after a hole end what is put into it
 abbrev pub ends_hole : Hole → List ℕ → Bool
@@ -125,7 +136,9 @@ abbrev pub holes_tokens : List ValueKind → List (Hole × List ℕ) → Option 
 holes_tokens kinds [] = Some []
 holes_tokens kinds (h ∷ hs) =
     if ends_hole h.0 h.1
-    then option_and_then (λ t. option_map (λ ts. t ∷ ts) (joined_tokens (cut (length h.1) h.1) (holes_tokens kinds hs))) (hole_token kinds h.0)
+    then option_and_then
+    (λ t. option_map (λ ts. t ∷ ts)
+    (joined_tokens (cut (length h.1) h.1) (holes_tokens kinds hs))) (hole_token kinds h.0)
     else None
 
 -- tokens for which those of a template with any fitting values may stand

@@ -1,16 +1,25 @@
 -- The templates of the 22 queries, and their texts with values put in.
-use Rattle.std.specs.Prelude.{ℕ, ◌+◌, ◌-◌, ◌*◌, ◌==◌, ◌&&◌, Bool, false, nat_le, min, int_le, pos, List, [], ◌∷◌, ◌++◌, length, map, Option, Some, None, is_some, Result, Ok, Err, slice_index_or, if◌then◌else◌}
+use Rattle.std.specs.Prelude.{ℕ, ◌+◌, ◌-◌, ◌*◌, ◌==◌, ◌&&◌, Bool, false, nat_le, min, int_le, pos}
+use Rattle.std.specs.Prelude.{List, [], ◌∷◌, ◌++◌, length, map, Option, Some, None, is_some, Result}
+use Rattle.std.specs.Prelude.{Ok, Err, slice_index_or, if◌then◌else◌}
 use Rattle.std.specs.Char.{is_ascii_digit}
 use Rattle.std.specs.List.{flat_map}
 use Rattle.civil_date.specs.Date.{date_of}
 use Rattle.fixed_decimal.specs.Written.{decimal_written}
 use Rattle.refusals.specs.declared.statement.TemplateRefusal.{TemplateRefusal}
-use Rattle.refusals.specs.declared.statement.TemplateRefusal.TheVariants.{NoSuchQuery, WrongCount, WrongKind}
+use Rattle.refusals.specs.declared.statement.TemplateRefusal.TheVariants.{NoSuchQuery, WrongCount}
+use Rattle.refusals.specs.declared.statement.TemplateRefusal.TheVariants.{WrongKind}
 use Rattle.sql_ast.specs.declared.statement.TemplateValue.{TemplateValue}
 use Rattle.sql_ast.specs.declared.statement.TemplateValue.TheVariants as value
 use Rattle.query_templates.specs.declared.kind.ValueKind.{ValueKind}
 use Rattle.query_templates.specs.declared.kind.ValueKind.TheVariants.{Text, Date, Number, Whole}
-use Rattle.query_templates.specs.declared.texts.TheConstants.{QUERY_1, QUERY_2, QUERY_3, QUERY_4, QUERY_5, QUERY_6, QUERY_7, QUERY_8, QUERY_9, QUERY_10, QUERY_11, QUERY_12, QUERY_13, QUERY_14, QUERY_15, QUERY_16, QUERY_17, QUERY_18, QUERY_19, QUERY_20, QUERY_21, QUERY_22}
+use Rattle.query_templates.specs.declared.texts.TheConstants.{QUERY_1, QUERY_2, QUERY_3, QUERY_4}
+use Rattle.query_templates.specs.declared.texts.TheConstants.{QUERY_5, QUERY_6, QUERY_7, QUERY_8}
+use Rattle.query_templates.specs.declared.texts.TheConstants.{QUERY_9, QUERY_10, QUERY_11, QUERY_12}
+use Rattle.query_templates.specs.declared.texts.TheConstants.{QUERY_13, QUERY_14, QUERY_15}
+use Rattle.query_templates.specs.declared.texts.TheConstants.{QUERY_16, QUERY_17, QUERY_18}
+use Rattle.query_templates.specs.declared.texts.TheConstants.{QUERY_19, QUERY_20, QUERY_21}
+use Rattle.query_templates.specs.declared.texts.TheConstants.{QUERY_22}
 
 -- a template: what its places take, and its text, with `:k` where value k stands
 pub record Template : Type 0 where
@@ -35,7 +44,11 @@ templates =
     ∷ record { kinds = Text ∷ Text ∷ []; text = QUERY_13.now }
     ∷ record { kinds = Date ∷ []; text = QUERY_14.now }
     ∷ record { kinds = Date ∷ []; text = QUERY_15.now }
-    ∷ record { kinds = Text ∷ Text ∷ Whole ∷ Whole ∷ Whole ∷ Whole ∷ Whole ∷ Whole ∷ Whole ∷ Whole ∷ []; text = QUERY_16.now }
+    ∷ record {
+      kinds = Text ∷ Text ∷ Whole ∷ Whole ∷ Whole ∷ Whole ∷ Whole ∷ Whole ∷ Whole ∷ Whole
+          ∷ [];
+      text = QUERY_16.now;
+    }
     ∷ record { kinds = Text ∷ Text ∷ []; text = QUERY_17.now }
     ∷ record { kinds = Number ∷ []; text = QUERY_18.now }
     ∷ record { kinds = Number ∷ Number ∷ Number ∷ Text ∷ Text ∷ Text ∷ []; text = QUERY_19.now }
@@ -61,7 +74,8 @@ abbrev pub fits : ValueKind → TemplateValue → Bool
 fits Text (value.Text text) = nat_le (length text) 1000
 fits Date (value.Text text) = is_some (date_of text)
 fits Number (value.Number number places) = int_le (pos 0) number
-fits Whole (value.Number number places) = places == 0 && (int_le (pos 0) number && int_le number (pos 999_999))
+fits Whole (value.Number number places) =
+    places == 0 && (int_le (pos 0) number && int_le number (pos 999_999))
 fits kind v = false
 
 -- the number of the first place, counted on from one, that doesn't take its value
@@ -75,7 +89,8 @@ first_misfit place (kind ∷ kinds) (v ∷ values) =
 abbrev pub doubled : List ℕ → List ℕ
 doubled text = flat_map (λ b. if b == 39 then 39 ∷ b ∷ [] else b ∷ []) text
 
--- a value as it is put into a template: a text's bytes with each quote twice, a number as answers print it
+-- a value as it is put into a template: a text's bytes with each quote twice, a number as answers
+-- print it
 abbrev pub put : TemplateValue → List ℕ
 put (value.Text text) = doubled text
 put (value.Number number places) = decimal_written number places
@@ -88,22 +103,25 @@ put_value values k = slice_index_or (map put values) (k - 1) []
 abbrev pub place_with : ℕ → ℕ → ℕ
 place_with k digit = min 99 (10 * k + (digit - 48))
 
--- A text with the values put in: each colon and all the digits after it are a place's number. `Some` has the number so
--- far, where a colon and perhaps digits came just before.
+-- A text with the values put in: each colon and all the digits after it are a place's number.
+-- `Some` has the number so far, where a colon and perhaps digits came just before.
 abbrev pub filled : List TemplateValue → Option ℕ → List ℕ → List ℕ
 filled values None [] = []
 filled values (Some k) [] = put_value values k
-filled values None (b ∷ bs) = if b == 58 then filled values (Some 0) bs else b ∷ filled values None bs
+filled values None (b ∷ bs) = if b == 58 then filled values (Some 0) bs else b
+    ∷ filled values None bs
 filled values (Some k) (b ∷ bs) =
     if is_ascii_digit b then filled values (Some (place_with k b)) bs
-    else put_value values k ++ (if b == 58 then filled values (Some 0) bs else b ∷ filled values None bs)
+    else put_value values k
+    ++ (if b == 58 then filled values (Some 0) bs else b ∷ filled values None bs)
 
 -- the text with the values put in, where each place takes its value
 abbrev pub unless_misfit : Option ℕ → List ℕ → Result (List ℕ) TemplateRefusal
 unless_misfit (Some place) text = Err (WrongKind place)
 unless_misfit None text = Ok text
 
--- the text of a template with these values, or why there is none: first how many values, then the first misfit
+-- the text of a template with these values, or why there is none: first how many values, then the
+-- first misfit
 abbrev pub filled_template : Template → List TemplateValue → Result (List ℕ) TemplateRefusal
 filled_template template values =
     if length values == length template.kinds
@@ -112,4 +130,5 @@ filled_template template values =
 
 -- the text of a query with these values, or why there is none
 abbrev pub filled_query : ℕ → List TemplateValue → Result (List ℕ) TemplateRefusal
-filled_query number values = if is_query number then filled_template (template_of number) values else Err NoSuchQuery
+filled_query number values =
+    if is_query number then filled_template (template_of number) values else Err NoSuchQuery

@@ -1,7 +1,9 @@
 //! The text of a query with values put in.
-ghost use Rattle.std.specs.Prelude.{◌≡◌, ℕ, ◌∷◌, ◌++◌, ◌≤◌, IfOk, IfSome, IsNone, IsTrue, List, OnOk, length, None};
+ghost use Rattle.std.specs.Prelude.{◌≡◌, ℕ, ◌∷◌, ◌++◌, ◌≤◌, IfOk, IfSome, IsNone, IsTrue, List};
+ghost use Rattle.std.specs.Prelude.{OnOk, length, None};
 ghost use Rattle.sql_ast.specs.declared.statement.TemplateValue.{TemplateValue};
-ghost use Rattle.query_templates.specs.Templates.{doubled, filled, first_misfit, place_with, put, put_value, is_query, template_of};
+ghost use Rattle.query_templates.specs.Templates.{doubled, filled, first_misfit, place_with, put};
+ghost use Rattle.query_templates.specs.Templates.{put_value, is_query, template_of};
 ghost use Rattle.query_templates.specs.Filling.{Fills};
 ghost use Rattle.query_templates.specs.Laws.{IsSomeScript};
 ghost use Rattle.query_templates.specs.Writable.{AreWritable};
@@ -58,7 +60,8 @@ fn text(number: u64) -> &'static str
 fn misfit(kinds: &[ValueKind], values: &[TemplateValue]) -> Option<u32>
     requires { length kinds.now ≤ 10 }
     ensures place { result ≡ first_misfit 1 kinds.now values.now }
-    ensures writable { IsNone result → length kinds.now ≡ length values.now → AreWritable values.now }
+    ensures writable { IsNone result → length kinds.now ≡ length values.now
+        → AreWritable values.now }
 {
     let mut at = 0usize;
     'places: while at < kinds.len() && at < values.len() {
@@ -94,9 +97,12 @@ fn push_value(script: &mut Vec<u8>, values: &[TemplateValue], number: u32) -> Re
     }
 }
 
-/// Appends a byte that stands in no place's number, unless it is a colon, which begins one: the number so far, if it does.
+/// Appends a byte that stands in no place's number, unless it is a colon, which begins one: the
+/// number so far, if it does.
 fn put_plain(script: &mut Vec<u8>, byte: u8) -> Result<Option<u32>, AllocError>
-    ensures text { IfOk result (λ now. (values : List TemplateValue) (rest : List ℕ) → script.old.items ++ filled values None (byte ∷ rest) ≡ script.new.items ++ filled values now rest) }
+    ensures text { IfOk result (λ now. (values : List TemplateValue) (rest : List ℕ)
+        → script.old.items ++ filled values None (byte ∷ rest)
+        ≡ script.new.items ++ filled values now rest) }
     ensures small { IfOk result (λ now. IfSome now (λ n. n ≤ 99)) }
 {
     if byte == b':' {
@@ -106,7 +112,8 @@ fn put_plain(script: &mut Vec<u8>, byte: u8) -> Result<Option<u32>, AllocError>
     Ok(None)
 }
 
-/// Takes one more byte of a template, where `place` is the number so far of a place: the number after it, if one goes on.
+/// Takes one more byte of a template, where `place` is the number so far of a place: the number
+/// after it, if one goes on.
 #[tactic(auto, using(crate::proofs::Bytes::digit_more, crate::proofs::Bytes::value_ends))]
 fn put_byte(
     script: &mut Vec<u8>,
@@ -115,7 +122,9 @@ fn put_byte(
     byte: u8,
 ) -> Result<Option<u32>, AllocError>
     requires { IfSome place (λ n. n ≤ 99) }
-    ensures text { IfOk result (λ now. (rest : List ℕ) → script.old.items ++ filled values.now place (byte ∷ rest) ≡ script.new.items ++ filled values.now now rest) }
+    ensures text { IfOk result (λ now. (rest : List ℕ)
+        → script.old.items ++ filled values.now place (byte ∷ rest)
+        ≡ script.new.items ++ filled values.now now rest) }
     ensures small { IfOk result (λ now. IfSome now (λ n. n ≤ 99)) }
 {
     match place {
@@ -153,11 +162,12 @@ fn with_values(
     Ok(script)
 }
 
-/// The text of one of the 22 queries (TPC-H, section 2.4) with these values: a script of one statement, for query 15 of
-/// three.
+/// The text of one of the 22 queries (TPC-H, section 2.4) with these values, a script: one
+/// statement, but query 15 also creates its view before and drops it after.
 ///
-/// A text is put in with each quote in it twice, a number as answers print it. Refused are, in this order, a number that is
-/// none of 1 to 22, another number of values than the query has places, and the first value that its place doesn't take.
+/// A text is put in with each quote in it twice, a number as answers print it. Refused are, in this
+/// order, a number that is none of 1 to 22, another number of values than the query has places, and
+/// the first value that its place doesn't take.
 #[tactic(auto, using(crate::proofs::Misfits::query_is))]
 pub fn fill(alloc: Global, number: u64, values: &[TemplateValue]) -> Result<Vec<u8>, TemplateFault>
     ensures text { Fills number values.now result }

@@ -1,5 +1,5 @@
-//! The texts of the 22 queries, with `:k` where value k stands. TPC-H, section 2.4, in this dialect: row limits stand as
-//! `limit N`, and Q15 has its view.
+//! The texts of the 22 queries, with `:k` where value k stands. TPC-H, section 2.4, in this
+//! dialect: row limits stand as `limit N`, and Q15 has its view.
 
 pub const QUERY_1: &str = "select l_returnflag, l_linestatus, sum(l_quantity) as sum_qty,
 sum(l_extendedprice) as sum_base_price,

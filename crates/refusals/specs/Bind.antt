@@ -1,7 +1,14 @@
 -- Refusals of a query that does not bind, as they are printed.
 use Rattle.std.specs.Prelude.{ℕ, List, codes}
 use Rattle.refusals.specs.declared.bind.BindRefusal.{BindRefusal}
-use Rattle.refusals.specs.declared.bind.BindRefusal.TheVariants.{UnknownTable, UnknownColumn, AmbiguousColumn, DuplicateAlias, TypeMismatch, NotGrouped, NestedAggregate, OuterAggregate, LateralReference, SubqueryColumns, ScaleTooWide, IntervalOnColumn, BadDate, DateRange, SubqueryPlace, TooManyTables}
+use Rattle.refusals.specs.declared.bind.BindRefusal.TheVariants.{UnknownTable, UnknownColumn}
+use Rattle.refusals.specs.declared.bind.BindRefusal.TheVariants.{AmbiguousColumn, DuplicateAlias}
+use Rattle.refusals.specs.declared.bind.BindRefusal.TheVariants.{TypeMismatch, NotGrouped}
+use Rattle.refusals.specs.declared.bind.BindRefusal.TheVariants.{NestedAggregate, OuterAggregate}
+use Rattle.refusals.specs.declared.bind.BindRefusal.TheVariants.{LateralReference, SubqueryColumns}
+use Rattle.refusals.specs.declared.bind.BindRefusal.TheVariants.{ScaleTooWide, IntervalOnColumn}
+use Rattle.refusals.specs.declared.bind.BindRefusal.TheVariants.{BadDate, DateRange, SubqueryPlace}
+use Rattle.refusals.specs.declared.bind.BindRefusal.TheVariants.{TooManyTables}
 
 -- the number of a query's refusal
 abbrev pub bind_refusal_number : BindRefusal → ℕ

@@ -1,7 +1,9 @@
 -- Refusals of a line of a table's file, as they are printed.
 use Rattle.std.specs.Prelude.{ℕ, List, codes}
 use Rattle.refusals.specs.declared.line.LineFault.{LineFault}
-use Rattle.refusals.specs.declared.line.LineFault.TheVariants.{FieldCount, BadNumber, NumberTooWide, BadDate, BadText, TextTooLong, DuplicateKey, FileTooLong}
+use Rattle.refusals.specs.declared.line.LineFault.TheVariants.{FieldCount, BadNumber, NumberTooWide}
+use Rattle.refusals.specs.declared.line.LineFault.TheVariants.{BadDate, BadText, TextTooLong}
+use Rattle.refusals.specs.declared.line.LineFault.TheVariants.{DuplicateKey, FileTooLong}
 
 -- the number of a fault of a line
 abbrev pub line_fault_number : LineFault → ℕ

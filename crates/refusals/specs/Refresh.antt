@@ -3,7 +3,9 @@ use Rattle.std.specs.Prelude.{ℕ, List, codes}
 use Rattle.refusals.specs.declared.refresh.RefreshFile.{RefreshFile}
 use Rattle.refusals.specs.declared.refresh.RefreshFile.TheVariants.{Orders, Lineitem, Delete}
 use Rattle.refusals.specs.declared.refresh.Cause.{Cause}
-use Rattle.refusals.specs.declared.refresh.Cause.TheVariants.{OrderExists, OrderTwice, LineTwice, StrayLine, UnknownOrder, KeyTwice, Malformed, LineExists}
+use Rattle.refusals.specs.declared.refresh.Cause.TheVariants.{OrderExists, OrderTwice, LineTwice}
+use Rattle.refusals.specs.declared.refresh.Cause.TheVariants.{StrayLine, UnknownOrder, KeyTwice}
+use Rattle.refusals.specs.declared.refresh.Cause.TheVariants.{Malformed, LineExists}
 
 -- what stands before the set's number in the name of a refresh file
 abbrev pub file_prefix : RefreshFile → List ℕ

@@ -3,11 +3,14 @@ use Rattle.std.specs.Prelude.{ℕ, ◌+◌, List, codes}
 use Rattle.refusals.specs.Bind.{bind_refusal_name, bind_refusal_number}
 use Rattle.refusals.specs.Refresh.{cause_name, cause_number}
 use Rattle.refusals.specs.declared.statement.FaultKind.{FaultKind}
-use Rattle.refusals.specs.declared.statement.FaultKind.TheVariants.{NumberRange, DivideByZero, TooManyRows}
+use Rattle.refusals.specs.declared.statement.FaultKind.TheVariants.{NumberRange, DivideByZero}
+use Rattle.refusals.specs.declared.statement.FaultKind.TheVariants.{TooManyRows}
 use Rattle.refusals.specs.declared.statement.TemplateRefusal.{TemplateRefusal}
-use Rattle.refusals.specs.declared.statement.TemplateRefusal.TheVariants.{NoSuchQuery, WrongCount, WrongKind}
+use Rattle.refusals.specs.declared.statement.TemplateRefusal.TheVariants.{NoSuchQuery, WrongCount}
+use Rattle.refusals.specs.declared.statement.TemplateRefusal.TheVariants.{WrongKind}
 use Rattle.refusals.specs.declared.statement.Refusal.{Refusal}
-use Rattle.refusals.specs.declared.statement.Refusal.TheVariants.{Bind, ViewExists, UnknownView, Fault, Template, Refresh}
+use Rattle.refusals.specs.declared.statement.Refusal.TheVariants.{Bind, ViewExists, UnknownView}
+use Rattle.refusals.specs.declared.statement.Refusal.TheVariants.{Fault, Template, Refresh}
 
 -- the number of a kind of fault
 abbrev pub fault_kind_number : FaultKind → ℕ

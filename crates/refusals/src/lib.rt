@@ -1,7 +1,8 @@
-//! The refusals of the program as plain data: their numbers, names and arguments, as they are printed.
+//! The refusals of the program as plain data: their numbers, names and arguments, as they are
+//! printed.
 //!
-//! This crate stands at the bottom, so that the crate that prints refusals knows those of the crates above it.
-//! Each kind of refusal has a file of its own.
+//! This crate stands at the bottom, so that the crate that prints refusals knows those of the
+//! crates above it. Each kind of refusal has a file of its own.
 #![tactic(auto)]
 
 mod bind;

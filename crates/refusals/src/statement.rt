@@ -1,6 +1,8 @@
 //! Refusals of a statement.
 ghost use Rattle.std.specs.Prelude.{◌≡◌};
-ghost use Rattle.refusals.specs.Statement.{fault_kind_name, fault_kind_number, refusal_name, refusal_number, template_refusal_name, template_refusal_number};
+ghost use Rattle.refusals.specs.Statement.{fault_kind_name, fault_kind_number, refusal_name};
+ghost use Rattle.refusals.specs.Statement.{refusal_number, template_refusal_name};
+ghost use Rattle.refusals.specs.Statement.{template_refusal_number};
 
 use crate::bind::BindRefusal;
 use crate::refresh::Cause;

@@ -1,6 +1,7 @@
 //! Codes of the values of a column.
 ghost use Rattle.std.specs.Prelude.{◌≡◌, pos, [], map, length, IfOk};
-ghost use Rattle.sql_value.specs.declared.value.Value.TheVariants.{Number, Date as DateOf, Text as TextOf};
+ghost use Rattle.sql_value.specs.declared.value.Value.TheVariants.{Number, Date as DateOf};
+ghost use Rattle.sql_value.specs.declared.value.Value.TheVariants.{Text as TextOf};
 ghost use Rattle.sql_value.specs.Value.{same_value};
 ghost use Rattle.columns.specs.Lists.{gathered, AreBelow};
 ghost use Rattle.row_keys.specs.Keys.{AreCodes};
@@ -15,8 +16,8 @@ use key_tables::put_key;
 use sql_value::Value;
 use std::alloc::{AllocError, Global};
 
-/// A number for each value, the same exactly for identical values. 2^32 values or more are an error, as memory that
-/// isn't there.
+/// A number for each value, the same exactly for identical values. 2^32 values or more are an
+/// error, as memory that isn't there.
 pub fn codes(alloc: Global, column: &Column) -> Result<Vec<i64>, AllocError>
     ensures { IfOk result (λ v. AreCodes column.now v.items) }
 {
@@ -66,7 +67,8 @@ fn dictionary_values(alloc: Global, texts: &[Text]) -> Result<Vec<Value>, AllocE
 // The code of each text, which a dictionary has once or more often.
 fn text_codes(alloc: Global, places: &[u8], dictionary: &Dictionary) -> Result<Vec<i64>, AllocError>
     requires { AreBelow (length dictionary.now) places.now }
-    ensures { IfOk result (λ v. AreCodes (map TextOf (gathered [] dictionary.now places.now)) v.items) }
+    ensures { IfOk result (λ v.
+        AreCodes (map TextOf (gathered [] dictionary.now places.now)) v.items) }
 {
     let texts = dictionary_values(alloc, dictionary.texts())?;
     let numbered = value_codes(alloc, texts.as_slice())?;

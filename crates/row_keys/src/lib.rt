@@ -1,4 +1,5 @@
-//! Keys of rows for joins and groups: numbers that are the same exactly where the rows' values are identical.
+//! Keys of rows for joins and groups: numbers that are the same exactly where the rows' values are
+//! identical.
 #![tactic(auto)]
 
 mod column_codes;

@@ -1,4 +1,5 @@
-//! Scalar expressions over one row: their value, their truth with faults, and what can be read off them.
+//! Scalar expressions over one row: their value, their truth with faults, and what can be read off
+//! them.
 #![tactic(auto)]
 
 mod columns;

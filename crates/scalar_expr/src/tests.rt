@@ -1,4 +1,5 @@
-//! Each call once with ample memory, over a row of one number, one decimal, one text, one date and one null.
+//! Each call once with ample memory, over a row of one number, one decimal, one text, one date and
+//! one null.
 use super::*;
 use ascii_text::Text;
 use civil_date::CivilDate;

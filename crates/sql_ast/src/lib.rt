@@ -1,5 +1,5 @@
-//! Scripts as they are written: statements, queries and expressions, as plain data. Parentheses leave no trace,
-//! and a chain of one element is that element.
+//! Scripts as they are written: statements, queries and expressions, as plain data. Parentheses
+//! leave no trace, and a chain of one element is that element.
 #![tactic(auto)]
 
 mod statement;

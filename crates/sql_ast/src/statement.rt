@@ -21,7 +21,8 @@ pub struct Query {
     pub block: Block,
     /// The keys of ORDER BY; none where it is absent.
     pub order: Items<OrderKey>,
-    /// How many rows the answer has at most, itself at most 999999999; nothing where no limit stands.
+    /// How many rows the answer has at most, itself at most 999999999; nothing where no limit
+    /// stands.
     pub limit: Option<u32>,
 }
 

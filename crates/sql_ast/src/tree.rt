@@ -52,7 +52,8 @@ pub enum Expr {
     CaseElse(Items<Arm>, Boxed<Expr>),
     /// The part, and the date that it is taken from.
     Extract(Span, Boxed<Expr>),
-    /// The text, the first place counted from 1, and how many bytes; both numbers are at most 999999999.
+    /// The text, the first place counted from 1, and how many bytes; both numbers are at most
+    /// 999999999.
     Substring(Boxed<Expr>, u32, u32),
     /// `count(*)`.
     CountRows,

@@ -1,5 +1,5 @@
 -- The meanings of the parts of a query at what is collected before them, by which a query computes.
-use Rattle.std.proofs.Common.{◌≡◌, ℕ, List, map, ap, ◌∙◌, length}
+use Rattle.std.proofs.Common.{◌≡◌, ℕ, List, map, ap, length}
 use Rattle.std.specs.Prelude.{Option}
 use Rattle.sql_ast.specs.declared.tree.Block.{Block, out-Block, out-roll-Block}
 use Rattle.sql_ast.specs.declared.tree.Clause.TheOpen.{FromItem-F}
@@ -15,25 +15,57 @@ use Rattle.sql_binder.specs.Names.{Sight}
 use Rattle.sql_binder.specs.Parts.{columns_so_far, first_rows, joining, once_each}
 use Rattle.sql_binder.specs.Meanings.{FromItemMeaning}
 use Rattle.sql_binder.specs.FromLists.{from_item_step, on_joining, chained}
-use Rattle.sql_binder.specs.Binding.{from_item_meaning, join_meaning, joined_meaning, block_meaning, meaning, clauses_of}
-use Rattle.sql_binder.proofs.Opened.{from_item_Table, from_item_Derived, join_is, joined_is, block_is, expr_opened, clause_opened, selected_opened, term_is, factor_is, arm_is, item_is}
+use Rattle.sql_binder.specs.Binding.{from_item_meaning, join_meaning, joined_meaning, block_meaning}
+use Rattle.sql_binder.specs.Binding.{meaning, clauses_of}
+use Rattle.sql_binder.proofs.Opened.{from_item_Table, from_item_Derived, join_is, joined_is}
+use Rattle.sql_binder.proofs.Opened.{block_is, expr_opened, clause_opened, selected_opened, term_is}
+use Rattle.sql_binder.proofs.Opened.{factor_is, arm_is, item_is}
 
-pub table_at : (n : Name) (alias : Option Name) (sight : Sight) (left : List ScopeColumn) (s : Collected) → from_item_meaning (from_item.Table n alias) sight left s ≡ from_item_step (FromItem-F.Table n alias) sight left s
-table_at n alias sight left s = ap (λ (m : FromItemMeaning). m sight left s) (from_item_Table n alias)
+pub table_at : (n : Name) (alias : Option Name) (sight : Sight) (left : List ScopeColumn)
+    (s : Collected) → from_item_meaning (from_item.Table n alias) sight left s
+    ≡ from_item_step (FromItem-F.Table n alias) sight left s
+table_at n alias sight left s =
+    ap (λ (m : FromItemMeaning). m sight left s) (from_item_Table n alias)
 
-pub derived_at : (q : Block) (alias : Name) (names : List Name) (sight : Sight) (left : List ScopeColumn) (s : Collected)
-    → from_item_meaning (from_item.Derived q alias names) sight left s ≡ from_item_step (FromItem-F.Derived (block_meaning q) alias names) sight left s
-derived_at q alias names sight left s = ap (λ (m : FromItemMeaning). m sight left s) (from_item_Derived q alias names)
+pub derived_at : (q : Block) (alias : Name) (names : List Name) (sight : Sight)
+    (left : List ScopeColumn) (s : Collected)
+    → from_item_meaning (from_item.Derived q alias names) sight left s
+    ≡ from_item_step (FromItem-F.Derived (block_meaning q) alias names) sight left s
+derived_at q alias names sight left s =
+    ap (λ (m : FromItemMeaning). m sight left s) (from_item_Derived q alias names)
 
-pub join_at : (j : Join) (start : ℕ) (sight : Sight) (done : FromRows) (s : Collected) → join_meaning j start sight done s
-    ≡ (from_item_meaning (out-Join j).item sight done.columns >>= (λ o. on_joining start sight (out-Join j).kind (joining done o) (meaning (out-Join j).condition))) s
+pub join_at : (j : Join) (start : ℕ) (sight : Sight) (done : FromRows) (s : Collected)
+    → join_meaning j start sight done s
+    ≡ (from_item_meaning (out-Join j).item sight done.columns >>=
+    (λ o. on_joining start sight (out-Join j).kind (joining done o)
+    (meaning (out-Join j).condition))) s
 join_at j start sight done s = ap (λ (m : Binding FromRows). m s) (join_is j start sight done)
 
-pub joined_at : (j : Joined) (sight : Sight) (done : Option FromRows) (s : Collected) → joined_meaning j sight done s
-    ≡ (from_item_meaning (out-Joined j).first sight (columns_so_far done) >>= (λ o. chained (length (columns_so_far done)) sight (first_rows done o) (map join_meaning (out-Joined j).joins))) s
+pub joined_at : (j : Joined) (sight : Sight) (done : Option FromRows) (s : Collected)
+    → joined_meaning j sight done s
+    ≡ (from_item_meaning (out-Joined j).first sight (columns_so_far done) >>=
+    (λ o. chained (length (columns_so_far done)) sight (first_rows done o)
+    (map join_meaning (out-Joined j).joins))) s
 joined_at j sight done s = ap (λ (m : Binding FromRows). m s) (joined_is j sight done)
 
-pub block_at : (q : Block) (sight : Sight) (s : Collected) → block_meaning q sight s ≡ (apart (clauses_of q sight) >>= (λ t. pure (once_each (out-Block q).is_distinct t))) s
+pub block_at : (q : Block) (sight : Sight) (s : Collected)
+    → block_meaning q sight s
+    ≡ (apart (clauses_of q sight) >>= (λ t. pure (once_each (out-Block q).is_distinct t))) s
 block_at q sight s = ap (λ (m : Binding BoundTable). m s) (block_is q sight)
 
-pub ruleset computed = (expr_opened, clause_opened, selected_opened, term_is, factor_is, arm_is, item_is, table_at, derived_at, join_at, joined_at, block_at, out-roll-Block, out-roll-Joined)
+pub ruleset computed = (
+  expr_opened,
+  clause_opened,
+  selected_opened,
+  term_is,
+  factor_is,
+  arm_is,
+  item_is,
+  table_at,
+  derived_at,
+  join_at,
+  joined_at,
+  block_at,
+  out-roll-Block,
+  out-roll-Joined,
+)

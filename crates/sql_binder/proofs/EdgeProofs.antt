@@ -2,8 +2,17 @@
 use Rattle.std.proofs.Common.{refl}
 use Rattle.sql_binder.specs.Steps.{input, aggregate, alone, apart, counted, take_aggregates}
 use Rattle.sql_binder.specs.Names.{is_met, ends, means, the_one, key_of, found, resolved}
-use Rattle.sql_binder.specs.Values.{date_literal, negative, compared, null_test, between, liked, in_list, denied, extracted, substring, operated, shifted, ended, first_condition, next_condition, all_of, any_of, chosen, case_of, case_else_of}
-use Rattle.sql_binder.specs.Parts.{column, inside, within_on, hiding, among_rows, grouped, aggregated, existing, containing, only_value, member, table_headers, named_item, unused, column_of, renamed_headers, distinct_names, listed_headers, table_rows, named_rows, first_rows, crossed, joining, joined_rows, present, holding, shown_part, star, keys_of, plain, closing, once_each, output_place, order_of}
+use Rattle.sql_binder.specs.Values.{date_literal, negative, compared, null_test, between, liked}
+use Rattle.sql_binder.specs.Values.{in_list, denied, extracted, substring, operated, shifted, ended}
+use Rattle.sql_binder.specs.Values.{first_condition, next_condition, all_of, any_of, chosen}
+use Rattle.sql_binder.specs.Values.{case_of, case_else_of}
+use Rattle.sql_binder.specs.Parts.{column, inside, within_on, hiding, among_rows, grouped}
+use Rattle.sql_binder.specs.Parts.{aggregated, existing, containing, only_value, member}
+use Rattle.sql_binder.specs.Parts.{table_headers, named_item, unused, column_of, renamed_headers}
+use Rattle.sql_binder.specs.Parts.{distinct_names, listed_headers, table_rows, named_rows}
+use Rattle.sql_binder.specs.Parts.{first_rows, crossed, joining, joined_rows, present, holding}
+use Rattle.sql_binder.specs.Parts.{shown_part, star, keys_of, plain, closing, once_each}
+use Rattle.sql_binder.specs.Parts.{output_place, order_of}
 use Rattle.sql_binder.specs.Operands.{conditions, operands, chain, arm_conditions, arm_values}
 use Rattle.sql_binder.specs.FromLists.{on_condition, on_joining, joins, chained, from_list}
 use Rattle.sql_binder.specs.Clauses.{condition, shown_item, shown_items, select}
@@ -11,36 +20,117 @@ use Rattle.sql_binder.specs.Blocks.{is_grouped, from_where, over_rows, group_lis
 use Rattle.sql_binder.specs.Binding.{clauses_of, is_grouped_block, bound_query, bound_view}
 use Rattle.civil_date.specs.Move.{times}
 use Rattle.sql_binder.proofs.Applied.{computed}
-use Rattle.sql_binder.specs.EdgeCases.{MovedDates, ViewOfNames, Chains, ConditionsAsValues, Groups, SightsOfParts, OrderInFrom, OrderInViews}
+use Rattle.sql_binder.specs.EdgeCases.{MovedDates, ViewOfNames, Chains, ConditionsAsValues, Groups}
+use Rattle.sql_binder.specs.EdgeCases.{SightsOfParts, OrderInFrom, OrderInViews}
 
 pub moved_dates : MovedDates
-unfolding input aggregate alone apart counted take_aggregates is_met ends means the_one key_of found resolved date_literal negative compared null_test between liked in_list denied extracted substring operated shifted ended first_condition next_condition all_of any_of chosen case_of case_else_of column inside within_on hiding among_rows grouped aggregated existing containing only_value member table_headers named_item unused column_of renamed_headers distinct_names listed_headers table_rows named_rows first_rows crossed joining joined_rows present holding shown_part star keys_of plain closing once_each output_place order_of conditions operands chain arm_conditions arm_values on_condition on_joining joins chained from_list condition shown_item shown_items select is_grouped from_where over_rows group_lists over_groups clauses_of is_grouped_block bound_query bound_view times
+unfolding input aggregate alone apart counted take_aggregates is_met ends means the_one key_of found
+    resolved date_literal negative compared null_test between liked in_list denied extracted
+    substring operated shifted ended first_condition next_condition all_of any_of chosen case_of
+    case_else_of column inside within_on hiding among_rows grouped aggregated existing containing
+    only_value member table_headers named_item unused column_of renamed_headers distinct_names
+    listed_headers table_rows named_rows first_rows crossed joining joined_rows present holding
+    shown_part star keys_of plain closing once_each output_place order_of conditions operands chain
+    arm_conditions arm_values on_condition on_joining joins chained from_list condition shown_item
+    shown_items select is_grouped from_where over_rows group_lists over_groups clauses_of
+    is_grouped_block bound_query bound_view times
 moved_dates = simp computed
 
 pub view_of_names : ViewOfNames
-unfolding input aggregate alone apart counted take_aggregates is_met ends means the_one key_of found resolved date_literal negative compared null_test between liked in_list denied extracted substring operated shifted ended first_condition next_condition all_of any_of chosen case_of case_else_of column inside within_on hiding among_rows grouped aggregated existing containing only_value member table_headers named_item unused column_of renamed_headers distinct_names listed_headers table_rows named_rows first_rows crossed joining joined_rows present holding shown_part star keys_of plain closing once_each output_place order_of conditions operands chain arm_conditions arm_values on_condition on_joining joins chained from_list condition shown_item shown_items select is_grouped from_where over_rows group_lists over_groups clauses_of is_grouped_block bound_query bound_view times
+unfolding input aggregate alone apart counted take_aggregates is_met ends means the_one key_of found
+    resolved date_literal negative compared null_test between liked in_list denied extracted
+    substring operated shifted ended first_condition next_condition all_of any_of chosen case_of
+    case_else_of column inside within_on hiding among_rows grouped aggregated existing containing
+    only_value member table_headers named_item unused column_of renamed_headers distinct_names
+    listed_headers table_rows named_rows first_rows crossed joining joined_rows present holding
+    shown_part star keys_of plain closing once_each output_place order_of conditions operands chain
+    arm_conditions arm_values on_condition on_joining joins chained from_list condition shown_item
+    shown_items select is_grouped from_where over_rows group_lists over_groups clauses_of
+    is_grouped_block bound_query bound_view times
 view_of_names = simp computed
 
 pub chains : Chains
-unfolding input aggregate alone apart counted take_aggregates is_met ends means the_one key_of found resolved date_literal negative compared null_test between liked in_list denied extracted substring operated shifted ended first_condition next_condition all_of any_of chosen case_of case_else_of column inside within_on hiding among_rows grouped aggregated existing containing only_value member table_headers named_item unused column_of renamed_headers distinct_names listed_headers table_rows named_rows first_rows crossed joining joined_rows present holding shown_part star keys_of plain closing once_each output_place order_of conditions operands chain arm_conditions arm_values on_condition on_joining joins chained from_list condition shown_item shown_items select is_grouped from_where over_rows group_lists over_groups clauses_of is_grouped_block bound_query bound_view times
-chains = (simp computed, simp computed, simp computed, simp computed, simp computed, simp computed, simp computed)
+unfolding input aggregate alone apart counted take_aggregates is_met ends means the_one key_of found
+    resolved date_literal negative compared null_test between liked in_list denied extracted
+    substring operated shifted ended first_condition next_condition all_of any_of chosen case_of
+    case_else_of column inside within_on hiding among_rows grouped aggregated existing containing
+    only_value member table_headers named_item unused column_of renamed_headers distinct_names
+    listed_headers table_rows named_rows first_rows crossed joining joined_rows present holding
+    shown_part star keys_of plain closing once_each output_place order_of conditions operands chain
+    arm_conditions arm_values on_condition on_joining joins chained from_list condition shown_item
+    shown_items select is_grouped from_where over_rows group_lists over_groups clauses_of
+    is_grouped_block bound_query bound_view times
+chains = (
+  simp computed,
+  simp computed,
+  simp computed,
+  simp computed,
+  simp computed,
+  simp computed,
+  simp computed,
+)
 
 pub conditions_as_values : ConditionsAsValues
-unfolding input aggregate alone apart counted take_aggregates is_met ends means the_one key_of found resolved date_literal negative compared null_test between liked in_list denied extracted substring operated shifted ended first_condition next_condition all_of any_of chosen case_of case_else_of column inside within_on hiding among_rows grouped aggregated existing containing only_value member table_headers named_item unused column_of renamed_headers distinct_names listed_headers table_rows named_rows first_rows crossed joining joined_rows present holding shown_part star keys_of plain closing once_each output_place order_of conditions operands chain arm_conditions arm_values on_condition on_joining joins chained from_list condition shown_item shown_items select is_grouped from_where over_rows group_lists over_groups clauses_of is_grouped_block bound_query bound_view times
+unfolding input aggregate alone apart counted take_aggregates is_met ends means the_one key_of found
+    resolved date_literal negative compared null_test between liked in_list denied extracted
+    substring operated shifted ended first_condition next_condition all_of any_of chosen case_of
+    case_else_of column inside within_on hiding among_rows grouped aggregated existing containing
+    only_value member table_headers named_item unused column_of renamed_headers distinct_names
+    listed_headers table_rows named_rows first_rows crossed joining joined_rows present holding
+    shown_part star keys_of plain closing once_each output_place order_of conditions operands chain
+    arm_conditions arm_values on_condition on_joining joins chained from_list condition shown_item
+    shown_items select is_grouped from_where over_rows group_lists over_groups clauses_of
+    is_grouped_block bound_query bound_view times
 conditions_as_values = (simp computed, simp computed, simp computed, simp computed)
 
 pub groups : Groups
-unfolding input aggregate alone apart counted take_aggregates is_met ends means the_one key_of found resolved date_literal negative compared null_test between liked in_list denied extracted substring operated shifted ended first_condition next_condition all_of any_of chosen case_of case_else_of column inside within_on hiding among_rows grouped aggregated existing containing only_value member table_headers named_item unused column_of renamed_headers distinct_names listed_headers table_rows named_rows first_rows crossed joining joined_rows present holding shown_part star keys_of plain closing once_each output_place order_of conditions operands chain arm_conditions arm_values on_condition on_joining joins chained from_list condition shown_item shown_items select is_grouped from_where over_rows group_lists over_groups clauses_of is_grouped_block bound_query bound_view times
+unfolding input aggregate alone apart counted take_aggregates is_met ends means the_one key_of found
+    resolved date_literal negative compared null_test between liked in_list denied extracted
+    substring operated shifted ended first_condition next_condition all_of any_of chosen case_of
+    case_else_of column inside within_on hiding among_rows grouped aggregated existing containing
+    only_value member table_headers named_item unused column_of renamed_headers distinct_names
+    listed_headers table_rows named_rows first_rows crossed joining joined_rows present holding
+    shown_part star keys_of plain closing once_each output_place order_of conditions operands chain
+    arm_conditions arm_values on_condition on_joining joins chained from_list condition shown_item
+    shown_items select is_grouped from_where over_rows group_lists over_groups clauses_of
+    is_grouped_block bound_query bound_view times
 groups = (simp computed, simp computed, simp computed, simp computed, simp computed)
 
 pub sights_of_parts : SightsOfParts
-unfolding input aggregate alone apart counted take_aggregates is_met ends means the_one key_of found resolved date_literal negative compared null_test between liked in_list denied extracted substring operated shifted ended first_condition next_condition all_of any_of chosen case_of case_else_of column inside within_on hiding among_rows grouped aggregated existing containing only_value member table_headers named_item unused column_of renamed_headers distinct_names listed_headers table_rows named_rows first_rows crossed joining joined_rows present holding shown_part star keys_of plain closing once_each output_place order_of conditions operands chain arm_conditions arm_values on_condition on_joining joins chained from_list condition shown_item shown_items select is_grouped from_where over_rows group_lists over_groups clauses_of is_grouped_block bound_query bound_view times
+unfolding input aggregate alone apart counted take_aggregates is_met ends means the_one key_of found
+    resolved date_literal negative compared null_test between liked in_list denied extracted
+    substring operated shifted ended first_condition next_condition all_of any_of chosen case_of
+    case_else_of column inside within_on hiding among_rows grouped aggregated existing containing
+    only_value member table_headers named_item unused column_of renamed_headers distinct_names
+    listed_headers table_rows named_rows first_rows crossed joining joined_rows present holding
+    shown_part star keys_of plain closing once_each output_place order_of conditions operands chain
+    arm_conditions arm_values on_condition on_joining joins chained from_list condition shown_item
+    shown_items select is_grouped from_where over_rows group_lists over_groups clauses_of
+    is_grouped_block bound_query bound_view times
 sights_of_parts = (simp computed, simp computed, simp computed, simp computed, simp computed)
 
 pub order_in_from : OrderInFrom
-unfolding input aggregate alone apart counted take_aggregates is_met ends means the_one key_of found resolved date_literal negative compared null_test between liked in_list denied extracted substring operated shifted ended first_condition next_condition all_of any_of chosen case_of case_else_of column inside within_on hiding among_rows grouped aggregated existing containing only_value member table_headers named_item unused column_of renamed_headers distinct_names listed_headers table_rows named_rows first_rows crossed joining joined_rows present holding shown_part star keys_of plain closing once_each output_place order_of conditions operands chain arm_conditions arm_values on_condition on_joining joins chained from_list condition shown_item shown_items select is_grouped from_where over_rows group_lists over_groups clauses_of is_grouped_block bound_query bound_view times
+unfolding input aggregate alone apart counted take_aggregates is_met ends means the_one key_of found
+    resolved date_literal negative compared null_test between liked in_list denied extracted
+    substring operated shifted ended first_condition next_condition all_of any_of chosen case_of
+    case_else_of column inside within_on hiding among_rows grouped aggregated existing containing
+    only_value member table_headers named_item unused column_of renamed_headers distinct_names
+    listed_headers table_rows named_rows first_rows crossed joining joined_rows present holding
+    shown_part star keys_of plain closing once_each output_place order_of conditions operands chain
+    arm_conditions arm_values on_condition on_joining joins chained from_list condition shown_item
+    shown_items select is_grouped from_where over_rows group_lists over_groups clauses_of
+    is_grouped_block bound_query bound_view times
 order_in_from = (simp computed, simp computed, simp computed, simp computed)
 
 pub order_in_views : OrderInViews
-unfolding input aggregate alone apart counted take_aggregates is_met ends means the_one key_of found resolved date_literal negative compared null_test between liked in_list denied extracted substring operated shifted ended first_condition next_condition all_of any_of chosen case_of case_else_of column inside within_on hiding among_rows grouped aggregated existing containing only_value member table_headers named_item unused column_of renamed_headers distinct_names listed_headers table_rows named_rows first_rows crossed joining joined_rows present holding shown_part star keys_of plain closing once_each output_place order_of conditions operands chain arm_conditions arm_values on_condition on_joining joins chained from_list condition shown_item shown_items select is_grouped from_where over_rows group_lists over_groups clauses_of is_grouped_block bound_query bound_view times
+unfolding input aggregate alone apart counted take_aggregates is_met ends means the_one key_of found
+    resolved date_literal negative compared null_test between liked in_list denied extracted
+    substring operated shifted ended first_condition next_condition all_of any_of chosen case_of
+    case_else_of column inside within_on hiding among_rows grouped aggregated existing containing
+    only_value member table_headers named_item unused column_of renamed_headers distinct_names
+    listed_headers table_rows named_rows first_rows crossed joining joined_rows present holding
+    shown_part star keys_of plain closing once_each output_place order_of conditions operands chain
+    arm_conditions arm_values on_condition on_joining joins chained from_list condition shown_item
+    shown_items select is_grouped from_where over_rows group_lists over_groups clauses_of
+    is_grouped_block bound_query bound_view times
 order_in_views = (refl, simp computed, simp computed)

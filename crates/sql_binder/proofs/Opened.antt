@@ -1,12 +1,22 @@
 -- The meanings at each node, as a match of the code sees it.
-use Rattle.std.proofs.Common.{◌≡◌, ℕ, ℤ, List, map, ap, ◌∙◌, refl, length, drop}
-use Rattle.std.specs.Prelude.{Option, Some, None, unwrap_or}
+use Rattle.std.proofs.Common.{◌≡◌, ℕ, ℤ, List, map, ap, ◌∙◌, length}
+use Rattle.std.specs.Prelude.{Option}
 use Rattle.sql_ast.specs.declared.tree.Arm.{Arm, out-Arm}
 use Rattle.sql_ast.specs.declared.tree.Block.{Block, out-Block}
 use Rattle.sql_ast.specs.declared.tree.Clause.{Clause, out-Clause}
 use Rattle.sql_ast.specs.declared.tree.Clause.TheVariants as clause
-use Rattle.sql_ast.specs.declared.tree.Clause.TheOpen.{Expr-F, Term-F, Factor-F, Arm-F, Item-F, Selected-F, FromItem-F, Join-F, Joined-F, Clause-F, Block-F}
-use Rattle.sql_ast.specs.declared.tree.Clause.TheFolds.{fold_out-Clause, fold_out-Expr, fold_out-FromItem, fold_out-Selected, fold_out-Arm, fold_out-Block, fold_out-Factor, fold_out-Item, fold_out-Join, fold_out-Joined, fold_out-Term, map-Clause, map-Expr, map-FromItem, map-Selected, map-Arm, map-Block, map-Factor, map-Item, map-Join, map-Joined, map-Term}
+use Rattle.sql_ast.specs.declared.tree.Clause.TheOpen.{Expr-F, Term-F, Factor-F, Arm-F, Item-F}
+use Rattle.sql_ast.specs.declared.tree.Clause.TheOpen.{Selected-F, FromItem-F, Join-F, Joined-F}
+use Rattle.sql_ast.specs.declared.tree.Clause.TheOpen.{Clause-F, Block-F}
+use Rattle.sql_ast.specs.declared.tree.Clause.TheFolds.{fold_out-Clause, fold_out-Expr}
+use Rattle.sql_ast.specs.declared.tree.Clause.TheFolds.{fold_out-FromItem, fold_out-Selected}
+use Rattle.sql_ast.specs.declared.tree.Clause.TheFolds.{fold_out-Arm, fold_out-Block}
+use Rattle.sql_ast.specs.declared.tree.Clause.TheFolds.{fold_out-Factor, fold_out-Item}
+use Rattle.sql_ast.specs.declared.tree.Clause.TheFolds.{fold_out-Join, fold_out-Joined}
+use Rattle.sql_ast.specs.declared.tree.Clause.TheFolds.{fold_out-Term, map-Clause, map-Expr}
+use Rattle.sql_ast.specs.declared.tree.Clause.TheFolds.{map-FromItem, map-Selected, map-Arm}
+use Rattle.sql_ast.specs.declared.tree.Clause.TheFolds.{map-Block, map-Factor, map-Item, map-Join}
+use Rattle.sql_ast.specs.declared.tree.Clause.TheFolds.{map-Joined, map-Term}
 use Rattle.sql_ast.specs.declared.tree.Expr.{Expr, out-Expr}
 use Rattle.sql_ast.specs.declared.tree.Expr.TheVariants as expr
 use Rattle.sql_ast.specs.declared.tree.Factor.{Factor, out-Factor}
@@ -23,93 +33,208 @@ use Rattle.sql_ast.specs.declared.words.Column.{Column}
 use Rattle.sql_ast.specs.declared.words.Comparison.{Comparison}
 use Rattle.sql_ast.specs.declared.words.Span.{Span}
 use Rattle.sql_binder.specs.declared.collected.FromRows.{FromRows}
-use Rattle.sql_binder.specs.declared.scope.ScopeColumn.{ScopeColumn}
-use Rattle.sql_binder.specs.Steps.{Name, Binding, apart, pure, ◌>>=◌}
+use Rattle.sql_binder.specs.Steps.{Name, apart, pure, ◌>>=◌}
 use Rattle.sql_binder.specs.Names.{Sight}
-use Rattle.sql_binder.specs.Parts.{columns_so_far, first_rows, joining, once_each, table_rows}
-use Rattle.sql_binder.specs.Meanings.{Meaning, ChainMeaning, ArmMeaning, ItemMeaning, SelectedMeaning, ClauseMeaning, FromItemMeaning, JoinMeaning, JoinedMeaning, BlockMeaning}
+use Rattle.sql_binder.specs.Parts.{columns_so_far, first_rows, joining, once_each}
+use Rattle.sql_binder.specs.Meanings.{Meaning, ChainMeaning, ArmMeaning, ItemMeaning}
+use Rattle.sql_binder.specs.Meanings.{SelectedMeaning, ClauseMeaning, FromItemMeaning, JoinMeaning}
+use Rattle.sql_binder.specs.Meanings.{JoinedMeaning, BlockMeaning}
 use Rattle.sql_binder.specs.Clauses.{clause_step, selected_step, item_step}
 use Rattle.sql_binder.specs.Expressions.{expr_step, arm_step, factor_step, term_step}
 use Rattle.sql_binder.specs.FromLists.{from_item_step, join_step, joined_step, on_joining, chained}
 use Rattle.sql_binder.specs.Blocks.{block_step}
-use Rattle.sql_binder.specs.Binding.{clause_meaning, meaning, from_item_meaning, selected_meaning, arm_meaning, block_meaning, factor_meaning, item_meaning, join_meaning, joined_meaning, term_meaning, opened_block, clauses_of}
+use Rattle.sql_binder.specs.Binding.{clause_meaning, meaning, from_item_meaning, selected_meaning}
+use Rattle.sql_binder.specs.Binding.{arm_meaning, block_meaning, factor_meaning, item_meaning}
+use Rattle.sql_binder.specs.Binding.{join_meaning, joined_meaning, term_meaning}
+use Rattle.sql_binder.specs.Binding.{clauses_of}
 
-unfoldable pub clause_meaning_at : Clause-F Clause Expr FromItem Selected Arm Block Factor Item Join Joined Term → ClauseMeaning
-clause_meaning_at x = clause_step (map-Clause Clause Expr FromItem Selected Arm Block Factor Item Join Joined Term ClauseMeaning Meaning FromItemMeaning SelectedMeaning ArmMeaning BlockMeaning ChainMeaning ItemMeaning JoinMeaning JoinedMeaning ChainMeaning clause_meaning meaning from_item_meaning selected_meaning arm_meaning block_meaning factor_meaning item_meaning join_meaning joined_meaning term_meaning x)
+unfoldable pub clause_meaning_at : Clause-F Clause Expr FromItem Selected Arm Block Factor Item Join
+    Joined Term → ClauseMeaning
+clause_meaning_at x = clause_step
+    (map-Clause Clause Expr FromItem Selected Arm Block Factor Item Join Joined Term ClauseMeaning
+    Meaning FromItemMeaning SelectedMeaning ArmMeaning BlockMeaning ChainMeaning ItemMeaning
+    JoinMeaning JoinedMeaning ChainMeaning clause_meaning meaning from_item_meaning selected_meaning
+    arm_meaning block_meaning factor_meaning item_meaning join_meaning joined_meaning term_meaning
+    x)
 
 pub clause_meaning_is : (x : Clause) → clause_meaning x ≡ clause_meaning_at (out-Clause x)
-unfolding clause_meaning meaning from_item_meaning selected_meaning arm_meaning block_meaning factor_meaning item_meaning join_meaning joined_meaning term_meaning clause_meaning_at
-clause_meaning_is = fold_out-Clause ClauseMeaning Meaning FromItemMeaning SelectedMeaning ArmMeaning BlockMeaning ChainMeaning ItemMeaning JoinMeaning JoinedMeaning ChainMeaning clause_step expr_step from_item_step selected_step arm_step block_step factor_step item_step join_step joined_step term_step
+unfolding clause_meaning meaning from_item_meaning selected_meaning arm_meaning block_meaning
+    factor_meaning item_meaning join_meaning joined_meaning term_meaning clause_meaning_at
+clause_meaning_is = fold_out-Clause ClauseMeaning Meaning FromItemMeaning SelectedMeaning ArmMeaning
+    BlockMeaning ChainMeaning ItemMeaning JoinMeaning JoinedMeaning ChainMeaning clause_step
+    expr_step from_item_step selected_step arm_step block_step factor_step item_step join_step
+    joined_step term_step
 
-unfoldable pub meaning_at : Expr-F Clause Expr FromItem Selected Arm Block Factor Item Join Joined Term → Meaning
-meaning_at x = expr_step (map-Expr Clause Expr FromItem Selected Arm Block Factor Item Join Joined Term ClauseMeaning Meaning FromItemMeaning SelectedMeaning ArmMeaning BlockMeaning ChainMeaning ItemMeaning JoinMeaning JoinedMeaning ChainMeaning clause_meaning meaning from_item_meaning selected_meaning arm_meaning block_meaning factor_meaning item_meaning join_meaning joined_meaning term_meaning x)
+unfoldable pub meaning_at : Expr-F Clause Expr FromItem Selected Arm Block Factor Item Join Joined
+    Term → Meaning
+meaning_at x = expr_step
+    (map-Expr Clause Expr FromItem Selected Arm Block Factor Item Join Joined Term ClauseMeaning
+    Meaning FromItemMeaning SelectedMeaning ArmMeaning BlockMeaning ChainMeaning ItemMeaning
+    JoinMeaning JoinedMeaning ChainMeaning clause_meaning meaning from_item_meaning selected_meaning
+    arm_meaning block_meaning factor_meaning item_meaning join_meaning joined_meaning term_meaning
+    x)
 
 pub meaning_is : (x : Expr) → meaning x ≡ meaning_at (out-Expr x)
-unfolding clause_meaning meaning from_item_meaning selected_meaning arm_meaning block_meaning factor_meaning item_meaning join_meaning joined_meaning term_meaning meaning_at
-meaning_is = fold_out-Expr ClauseMeaning Meaning FromItemMeaning SelectedMeaning ArmMeaning BlockMeaning ChainMeaning ItemMeaning JoinMeaning JoinedMeaning ChainMeaning clause_step expr_step from_item_step selected_step arm_step block_step factor_step item_step join_step joined_step term_step
+unfolding clause_meaning meaning from_item_meaning selected_meaning arm_meaning block_meaning
+    factor_meaning item_meaning join_meaning joined_meaning term_meaning meaning_at
+meaning_is = fold_out-Expr ClauseMeaning Meaning FromItemMeaning SelectedMeaning ArmMeaning
+    BlockMeaning ChainMeaning ItemMeaning JoinMeaning JoinedMeaning ChainMeaning clause_step
+    expr_step from_item_step selected_step arm_step block_step factor_step item_step join_step
+    joined_step term_step
 
-unfoldable pub from_item_meaning_at : FromItem-F Clause Expr FromItem Selected Arm Block Factor Item Join Joined Term → FromItemMeaning
-from_item_meaning_at x = from_item_step (map-FromItem Clause Expr FromItem Selected Arm Block Factor Item Join Joined Term ClauseMeaning Meaning FromItemMeaning SelectedMeaning ArmMeaning BlockMeaning ChainMeaning ItemMeaning JoinMeaning JoinedMeaning ChainMeaning clause_meaning meaning from_item_meaning selected_meaning arm_meaning block_meaning factor_meaning item_meaning join_meaning joined_meaning term_meaning x)
+unfoldable pub from_item_meaning_at : FromItem-F Clause Expr FromItem Selected Arm Block Factor Item
+    Join Joined Term → FromItemMeaning
+from_item_meaning_at x =
+    from_item_step (map-FromItem Clause Expr FromItem Selected Arm Block Factor Item Join Joined
+    Term ClauseMeaning Meaning FromItemMeaning SelectedMeaning ArmMeaning BlockMeaning ChainMeaning
+    ItemMeaning JoinMeaning JoinedMeaning ChainMeaning clause_meaning meaning from_item_meaning
+    selected_meaning arm_meaning block_meaning factor_meaning item_meaning join_meaning
+    joined_meaning term_meaning x)
 
-pub from_item_meaning_is : (x : FromItem) → from_item_meaning x ≡ from_item_meaning_at (out-FromItem x)
-unfolding clause_meaning meaning from_item_meaning selected_meaning arm_meaning block_meaning factor_meaning item_meaning join_meaning joined_meaning term_meaning from_item_meaning_at
-from_item_meaning_is = fold_out-FromItem ClauseMeaning Meaning FromItemMeaning SelectedMeaning ArmMeaning BlockMeaning ChainMeaning ItemMeaning JoinMeaning JoinedMeaning ChainMeaning clause_step expr_step from_item_step selected_step arm_step block_step factor_step item_step join_step joined_step term_step
+pub from_item_meaning_is : (x : FromItem)
+    → from_item_meaning x ≡ from_item_meaning_at (out-FromItem x)
+unfolding clause_meaning meaning from_item_meaning selected_meaning arm_meaning block_meaning
+    factor_meaning item_meaning join_meaning joined_meaning term_meaning from_item_meaning_at
+from_item_meaning_is = fold_out-FromItem ClauseMeaning Meaning FromItemMeaning SelectedMeaning
+    ArmMeaning BlockMeaning ChainMeaning ItemMeaning JoinMeaning JoinedMeaning ChainMeaning
+    clause_step expr_step from_item_step selected_step arm_step block_step factor_step item_step
+    join_step joined_step term_step
 
-unfoldable pub selected_meaning_at : Selected-F Clause Expr FromItem Selected Arm Block Factor Item Join Joined Term → SelectedMeaning
-selected_meaning_at x = selected_step (map-Selected Clause Expr FromItem Selected Arm Block Factor Item Join Joined Term ClauseMeaning Meaning FromItemMeaning SelectedMeaning ArmMeaning BlockMeaning ChainMeaning ItemMeaning JoinMeaning JoinedMeaning ChainMeaning clause_meaning meaning from_item_meaning selected_meaning arm_meaning block_meaning factor_meaning item_meaning join_meaning joined_meaning term_meaning x)
+unfoldable pub selected_meaning_at : Selected-F Clause Expr FromItem Selected Arm Block Factor Item
+    Join Joined Term → SelectedMeaning
+selected_meaning_at x = selected_step
+    (map-Selected Clause Expr FromItem Selected Arm Block Factor Item Join Joined Term ClauseMeaning
+    Meaning FromItemMeaning SelectedMeaning ArmMeaning BlockMeaning ChainMeaning ItemMeaning
+    JoinMeaning JoinedMeaning ChainMeaning clause_meaning meaning from_item_meaning selected_meaning
+    arm_meaning block_meaning factor_meaning item_meaning join_meaning joined_meaning term_meaning
+    x)
 
 pub selected_meaning_is : (x : Selected) → selected_meaning x ≡ selected_meaning_at (out-Selected x)
-unfolding clause_meaning meaning from_item_meaning selected_meaning arm_meaning block_meaning factor_meaning item_meaning join_meaning joined_meaning term_meaning selected_meaning_at
-selected_meaning_is = fold_out-Selected ClauseMeaning Meaning FromItemMeaning SelectedMeaning ArmMeaning BlockMeaning ChainMeaning ItemMeaning JoinMeaning JoinedMeaning ChainMeaning clause_step expr_step from_item_step selected_step arm_step block_step factor_step item_step join_step joined_step term_step
+unfolding clause_meaning meaning from_item_meaning selected_meaning arm_meaning block_meaning
+    factor_meaning item_meaning join_meaning joined_meaning term_meaning selected_meaning_at
+selected_meaning_is = fold_out-Selected ClauseMeaning Meaning FromItemMeaning SelectedMeaning
+    ArmMeaning BlockMeaning ChainMeaning ItemMeaning JoinMeaning JoinedMeaning ChainMeaning
+    clause_step expr_step from_item_step selected_step arm_step block_step factor_step item_step
+    join_step joined_step term_step
 
-unfoldable pub arm_meaning_at : Arm-F Clause Expr FromItem Selected Arm Block Factor Item Join Joined Term → ArmMeaning
-arm_meaning_at x = arm_step (map-Arm Clause Expr FromItem Selected Arm Block Factor Item Join Joined Term ClauseMeaning Meaning FromItemMeaning SelectedMeaning ArmMeaning BlockMeaning ChainMeaning ItemMeaning JoinMeaning JoinedMeaning ChainMeaning clause_meaning meaning from_item_meaning selected_meaning arm_meaning block_meaning factor_meaning item_meaning join_meaning joined_meaning term_meaning x)
+unfoldable pub arm_meaning_at : Arm-F Clause Expr FromItem Selected Arm Block Factor Item Join
+    Joined Term → ArmMeaning
+arm_meaning_at x = arm_step
+    (map-Arm Clause Expr FromItem Selected Arm Block Factor Item Join Joined Term ClauseMeaning
+    Meaning FromItemMeaning SelectedMeaning ArmMeaning BlockMeaning ChainMeaning ItemMeaning
+    JoinMeaning JoinedMeaning ChainMeaning clause_meaning meaning from_item_meaning selected_meaning
+    arm_meaning block_meaning factor_meaning item_meaning join_meaning joined_meaning term_meaning
+    x)
 
 pub arm_meaning_is : (x : Arm) → arm_meaning x ≡ arm_meaning_at (out-Arm x)
-unfolding clause_meaning meaning from_item_meaning selected_meaning arm_meaning block_meaning factor_meaning item_meaning join_meaning joined_meaning term_meaning arm_meaning_at
-arm_meaning_is = fold_out-Arm ClauseMeaning Meaning FromItemMeaning SelectedMeaning ArmMeaning BlockMeaning ChainMeaning ItemMeaning JoinMeaning JoinedMeaning ChainMeaning clause_step expr_step from_item_step selected_step arm_step block_step factor_step item_step join_step joined_step term_step
+unfolding clause_meaning meaning from_item_meaning selected_meaning arm_meaning block_meaning
+    factor_meaning item_meaning join_meaning joined_meaning term_meaning arm_meaning_at
+arm_meaning_is = fold_out-Arm ClauseMeaning Meaning FromItemMeaning SelectedMeaning ArmMeaning
+    BlockMeaning ChainMeaning ItemMeaning JoinMeaning JoinedMeaning ChainMeaning clause_step
+    expr_step from_item_step selected_step arm_step block_step factor_step item_step join_step
+    joined_step term_step
 
-unfoldable pub block_meaning_at : Block-F Clause Expr FromItem Selected Arm Block Factor Item Join Joined Term → BlockMeaning
-block_meaning_at x = block_step (map-Block Clause Expr FromItem Selected Arm Block Factor Item Join Joined Term ClauseMeaning Meaning FromItemMeaning SelectedMeaning ArmMeaning BlockMeaning ChainMeaning ItemMeaning JoinMeaning JoinedMeaning ChainMeaning clause_meaning meaning from_item_meaning selected_meaning arm_meaning block_meaning factor_meaning item_meaning join_meaning joined_meaning term_meaning x)
+unfoldable pub block_meaning_at : Block-F Clause Expr FromItem Selected Arm Block Factor Item Join
+    Joined Term → BlockMeaning
+block_meaning_at x = block_step
+    (map-Block Clause Expr FromItem Selected Arm Block Factor Item Join Joined Term ClauseMeaning
+    Meaning FromItemMeaning SelectedMeaning ArmMeaning BlockMeaning ChainMeaning ItemMeaning
+    JoinMeaning JoinedMeaning ChainMeaning clause_meaning meaning from_item_meaning selected_meaning
+    arm_meaning block_meaning factor_meaning item_meaning join_meaning joined_meaning term_meaning
+    x)
 
 pub block_meaning_is : (x : Block) → block_meaning x ≡ block_meaning_at (out-Block x)
-unfolding clause_meaning meaning from_item_meaning selected_meaning arm_meaning block_meaning factor_meaning item_meaning join_meaning joined_meaning term_meaning block_meaning_at
-block_meaning_is = fold_out-Block ClauseMeaning Meaning FromItemMeaning SelectedMeaning ArmMeaning BlockMeaning ChainMeaning ItemMeaning JoinMeaning JoinedMeaning ChainMeaning clause_step expr_step from_item_step selected_step arm_step block_step factor_step item_step join_step joined_step term_step
+unfolding clause_meaning meaning from_item_meaning selected_meaning arm_meaning block_meaning
+    factor_meaning item_meaning join_meaning joined_meaning term_meaning block_meaning_at
+block_meaning_is = fold_out-Block ClauseMeaning Meaning FromItemMeaning SelectedMeaning ArmMeaning
+    BlockMeaning ChainMeaning ItemMeaning JoinMeaning JoinedMeaning ChainMeaning clause_step
+    expr_step from_item_step selected_step arm_step block_step factor_step item_step join_step
+    joined_step term_step
 
-unfoldable pub factor_meaning_at : Factor-F Clause Expr FromItem Selected Arm Block Factor Item Join Joined Term → ChainMeaning
-factor_meaning_at x = factor_step (map-Factor Clause Expr FromItem Selected Arm Block Factor Item Join Joined Term ClauseMeaning Meaning FromItemMeaning SelectedMeaning ArmMeaning BlockMeaning ChainMeaning ItemMeaning JoinMeaning JoinedMeaning ChainMeaning clause_meaning meaning from_item_meaning selected_meaning arm_meaning block_meaning factor_meaning item_meaning join_meaning joined_meaning term_meaning x)
+unfoldable pub factor_meaning_at : Factor-F Clause Expr FromItem Selected Arm Block Factor Item Join
+    Joined Term → ChainMeaning
+factor_meaning_at x = factor_step
+    (map-Factor Clause Expr FromItem Selected Arm Block Factor Item Join Joined Term ClauseMeaning
+    Meaning FromItemMeaning SelectedMeaning ArmMeaning BlockMeaning ChainMeaning ItemMeaning
+    JoinMeaning JoinedMeaning ChainMeaning clause_meaning meaning from_item_meaning selected_meaning
+    arm_meaning block_meaning factor_meaning item_meaning join_meaning joined_meaning term_meaning
+    x)
 
 pub factor_meaning_is : (x : Factor) → factor_meaning x ≡ factor_meaning_at (out-Factor x)
-unfolding clause_meaning meaning from_item_meaning selected_meaning arm_meaning block_meaning factor_meaning item_meaning join_meaning joined_meaning term_meaning factor_meaning_at
-factor_meaning_is = fold_out-Factor ClauseMeaning Meaning FromItemMeaning SelectedMeaning ArmMeaning BlockMeaning ChainMeaning ItemMeaning JoinMeaning JoinedMeaning ChainMeaning clause_step expr_step from_item_step selected_step arm_step block_step factor_step item_step join_step joined_step term_step
+unfolding clause_meaning meaning from_item_meaning selected_meaning arm_meaning block_meaning
+    factor_meaning item_meaning join_meaning joined_meaning term_meaning factor_meaning_at
+factor_meaning_is = fold_out-Factor ClauseMeaning Meaning FromItemMeaning SelectedMeaning ArmMeaning
+    BlockMeaning ChainMeaning ItemMeaning JoinMeaning JoinedMeaning ChainMeaning clause_step
+    expr_step from_item_step selected_step arm_step block_step factor_step item_step join_step
+    joined_step term_step
 
-unfoldable pub item_meaning_at : Item-F Clause Expr FromItem Selected Arm Block Factor Item Join Joined Term → ItemMeaning
-item_meaning_at x = item_step (map-Item Clause Expr FromItem Selected Arm Block Factor Item Join Joined Term ClauseMeaning Meaning FromItemMeaning SelectedMeaning ArmMeaning BlockMeaning ChainMeaning ItemMeaning JoinMeaning JoinedMeaning ChainMeaning clause_meaning meaning from_item_meaning selected_meaning arm_meaning block_meaning factor_meaning item_meaning join_meaning joined_meaning term_meaning x)
+unfoldable pub item_meaning_at : Item-F Clause Expr FromItem Selected Arm Block Factor Item Join
+    Joined Term → ItemMeaning
+item_meaning_at x = item_step
+    (map-Item Clause Expr FromItem Selected Arm Block Factor Item Join Joined Term ClauseMeaning
+    Meaning FromItemMeaning SelectedMeaning ArmMeaning BlockMeaning ChainMeaning ItemMeaning
+    JoinMeaning JoinedMeaning ChainMeaning clause_meaning meaning from_item_meaning selected_meaning
+    arm_meaning block_meaning factor_meaning item_meaning join_meaning joined_meaning term_meaning
+    x)
 
 pub item_meaning_is : (x : Item) → item_meaning x ≡ item_meaning_at (out-Item x)
-unfolding clause_meaning meaning from_item_meaning selected_meaning arm_meaning block_meaning factor_meaning item_meaning join_meaning joined_meaning term_meaning item_meaning_at
-item_meaning_is = fold_out-Item ClauseMeaning Meaning FromItemMeaning SelectedMeaning ArmMeaning BlockMeaning ChainMeaning ItemMeaning JoinMeaning JoinedMeaning ChainMeaning clause_step expr_step from_item_step selected_step arm_step block_step factor_step item_step join_step joined_step term_step
+unfolding clause_meaning meaning from_item_meaning selected_meaning arm_meaning block_meaning
+    factor_meaning item_meaning join_meaning joined_meaning term_meaning item_meaning_at
+item_meaning_is = fold_out-Item ClauseMeaning Meaning FromItemMeaning SelectedMeaning ArmMeaning
+    BlockMeaning ChainMeaning ItemMeaning JoinMeaning JoinedMeaning ChainMeaning clause_step
+    expr_step from_item_step selected_step arm_step block_step factor_step item_step join_step
+    joined_step term_step
 
-unfoldable pub join_meaning_at : Join-F Clause Expr FromItem Selected Arm Block Factor Item Join Joined Term → JoinMeaning
-join_meaning_at x = join_step (map-Join Clause Expr FromItem Selected Arm Block Factor Item Join Joined Term ClauseMeaning Meaning FromItemMeaning SelectedMeaning ArmMeaning BlockMeaning ChainMeaning ItemMeaning JoinMeaning JoinedMeaning ChainMeaning clause_meaning meaning from_item_meaning selected_meaning arm_meaning block_meaning factor_meaning item_meaning join_meaning joined_meaning term_meaning x)
+unfoldable pub join_meaning_at : Join-F Clause Expr FromItem Selected Arm Block Factor Item Join
+    Joined Term → JoinMeaning
+join_meaning_at x = join_step
+    (map-Join Clause Expr FromItem Selected Arm Block Factor Item Join Joined Term ClauseMeaning
+    Meaning FromItemMeaning SelectedMeaning ArmMeaning BlockMeaning ChainMeaning ItemMeaning
+    JoinMeaning JoinedMeaning ChainMeaning clause_meaning meaning from_item_meaning selected_meaning
+    arm_meaning block_meaning factor_meaning item_meaning join_meaning joined_meaning term_meaning
+    x)
 
 pub join_meaning_is : (x : Join) → join_meaning x ≡ join_meaning_at (out-Join x)
-unfolding clause_meaning meaning from_item_meaning selected_meaning arm_meaning block_meaning factor_meaning item_meaning join_meaning joined_meaning term_meaning join_meaning_at
-join_meaning_is = fold_out-Join ClauseMeaning Meaning FromItemMeaning SelectedMeaning ArmMeaning BlockMeaning ChainMeaning ItemMeaning JoinMeaning JoinedMeaning ChainMeaning clause_step expr_step from_item_step selected_step arm_step block_step factor_step item_step join_step joined_step term_step
+unfolding clause_meaning meaning from_item_meaning selected_meaning arm_meaning block_meaning
+    factor_meaning item_meaning join_meaning joined_meaning term_meaning join_meaning_at
+join_meaning_is = fold_out-Join ClauseMeaning Meaning FromItemMeaning SelectedMeaning ArmMeaning
+    BlockMeaning ChainMeaning ItemMeaning JoinMeaning JoinedMeaning ChainMeaning clause_step
+    expr_step from_item_step selected_step arm_step block_step factor_step item_step join_step
+    joined_step term_step
 
-unfoldable pub joined_meaning_at : Joined-F Clause Expr FromItem Selected Arm Block Factor Item Join Joined Term → JoinedMeaning
-joined_meaning_at x = joined_step (map-Joined Clause Expr FromItem Selected Arm Block Factor Item Join Joined Term ClauseMeaning Meaning FromItemMeaning SelectedMeaning ArmMeaning BlockMeaning ChainMeaning ItemMeaning JoinMeaning JoinedMeaning ChainMeaning clause_meaning meaning from_item_meaning selected_meaning arm_meaning block_meaning factor_meaning item_meaning join_meaning joined_meaning term_meaning x)
+unfoldable pub joined_meaning_at : Joined-F Clause Expr FromItem Selected Arm Block Factor Item Join
+    Joined Term → JoinedMeaning
+joined_meaning_at x = joined_step
+    (map-Joined Clause Expr FromItem Selected Arm Block Factor Item Join Joined Term ClauseMeaning
+    Meaning FromItemMeaning SelectedMeaning ArmMeaning BlockMeaning ChainMeaning ItemMeaning
+    JoinMeaning JoinedMeaning ChainMeaning clause_meaning meaning from_item_meaning selected_meaning
+    arm_meaning block_meaning factor_meaning item_meaning join_meaning joined_meaning term_meaning
+    x)
 
 pub joined_meaning_is : (x : Joined) → joined_meaning x ≡ joined_meaning_at (out-Joined x)
-unfolding clause_meaning meaning from_item_meaning selected_meaning arm_meaning block_meaning factor_meaning item_meaning join_meaning joined_meaning term_meaning joined_meaning_at
-joined_meaning_is = fold_out-Joined ClauseMeaning Meaning FromItemMeaning SelectedMeaning ArmMeaning BlockMeaning ChainMeaning ItemMeaning JoinMeaning JoinedMeaning ChainMeaning clause_step expr_step from_item_step selected_step arm_step block_step factor_step item_step join_step joined_step term_step
+unfolding clause_meaning meaning from_item_meaning selected_meaning arm_meaning block_meaning
+    factor_meaning item_meaning join_meaning joined_meaning term_meaning joined_meaning_at
+joined_meaning_is = fold_out-Joined ClauseMeaning Meaning FromItemMeaning SelectedMeaning ArmMeaning
+    BlockMeaning ChainMeaning ItemMeaning JoinMeaning JoinedMeaning ChainMeaning clause_step
+    expr_step from_item_step selected_step arm_step block_step factor_step item_step join_step
+    joined_step term_step
 
-unfoldable pub term_meaning_at : Term-F Clause Expr FromItem Selected Arm Block Factor Item Join Joined Term → ChainMeaning
-term_meaning_at x = term_step (map-Term Clause Expr FromItem Selected Arm Block Factor Item Join Joined Term ClauseMeaning Meaning FromItemMeaning SelectedMeaning ArmMeaning BlockMeaning ChainMeaning ItemMeaning JoinMeaning JoinedMeaning ChainMeaning clause_meaning meaning from_item_meaning selected_meaning arm_meaning block_meaning factor_meaning item_meaning join_meaning joined_meaning term_meaning x)
+unfoldable pub term_meaning_at : Term-F Clause Expr FromItem Selected Arm Block Factor Item Join
+    Joined Term → ChainMeaning
+term_meaning_at x = term_step
+    (map-Term Clause Expr FromItem Selected Arm Block Factor Item Join Joined Term ClauseMeaning
+    Meaning FromItemMeaning SelectedMeaning ArmMeaning BlockMeaning ChainMeaning ItemMeaning
+    JoinMeaning JoinedMeaning ChainMeaning clause_meaning meaning from_item_meaning selected_meaning
+    arm_meaning block_meaning factor_meaning item_meaning join_meaning joined_meaning term_meaning
+    x)
 
 pub term_meaning_is : (x : Term) → term_meaning x ≡ term_meaning_at (out-Term x)
-unfolding clause_meaning meaning from_item_meaning selected_meaning arm_meaning block_meaning factor_meaning item_meaning join_meaning joined_meaning term_meaning term_meaning_at
-term_meaning_is = fold_out-Term ClauseMeaning Meaning FromItemMeaning SelectedMeaning ArmMeaning BlockMeaning ChainMeaning ItemMeaning JoinMeaning JoinedMeaning ChainMeaning clause_step expr_step from_item_step selected_step arm_step block_step factor_step item_step join_step joined_step term_step
+unfolding clause_meaning meaning from_item_meaning selected_meaning arm_meaning block_meaning
+    factor_meaning item_meaning join_meaning joined_meaning term_meaning term_meaning_at
+term_meaning_is = fold_out-Term ClauseMeaning Meaning FromItemMeaning SelectedMeaning ArmMeaning
+    BlockMeaning ChainMeaning ItemMeaning JoinMeaning JoinedMeaning ChainMeaning clause_step
+    expr_step from_item_step selected_step arm_step block_step factor_step item_step join_step
+    joined_step term_step
 
 pub meaning_Number : (c : ℤ) (s : ℕ) → meaning (expr.Number c s) ≡ expr_step (Expr-F.Number c s)
 unfolding meaning_at
@@ -123,7 +248,8 @@ pub meaning_Date : (t : Name) → meaning (expr.Date t) ≡ expr_step (Expr-F.Da
 unfolding meaning_at
 meaning_Date t = meaning_is (expr.Date t) ∙ ap meaning_at (expr.outs-Date t)
 
-pub meaning_Interval : (t : Name) (s : Span) → meaning (expr.Interval t s) ≡ expr_step (Expr-F.Interval t s)
+pub meaning_Interval : (t : Name) (s : Span)
+    → meaning (expr.Interval t s) ≡ expr_step (Expr-F.Interval t s)
 unfolding meaning_at
 meaning_Interval t s = meaning_is (expr.Interval t s) ∙ ap meaning_at (expr.outs-Interval t s)
 
@@ -131,19 +257,25 @@ pub meaning_Column : (c : Column) → meaning (expr.Column c) ≡ expr_step (Exp
 unfolding meaning_at
 meaning_Column c = meaning_is (expr.Column c) ∙ ap meaning_at (expr.outs-Column c)
 
-pub meaning_Negative : (a : Expr) → meaning (expr.Negative a) ≡ expr_step (Expr-F.Negative (meaning a))
+pub meaning_Negative : (a : Expr)
+    → meaning (expr.Negative a) ≡ expr_step (Expr-F.Negative (meaning a))
 unfolding meaning_at
 meaning_Negative a = meaning_is (expr.Negative a) ∙ ap meaning_at (expr.outs-Negative a)
 
-pub meaning_Sum : (a : Expr) (terms : List Term) → meaning (expr.Sum a terms) ≡ expr_step (Expr-F.Sum (meaning a) (map term_meaning terms))
+pub meaning_Sum : (a : Expr) (terms : List Term)
+    → meaning (expr.Sum a terms) ≡ expr_step (Expr-F.Sum (meaning a) (map term_meaning terms))
 unfolding meaning_at
 meaning_Sum a terms = meaning_is (expr.Sum a terms) ∙ ap meaning_at (expr.outs-Sum a terms)
 
-pub meaning_Product : (a : Expr) (factors : List Factor) → meaning (expr.Product a factors) ≡ expr_step (Expr-F.Product (meaning a) (map factor_meaning factors))
+pub meaning_Product : (a : Expr) (factors : List Factor)
+    → meaning (expr.Product a factors)
+    ≡ expr_step (Expr-F.Product (meaning a) (map factor_meaning factors))
 unfolding meaning_at
-meaning_Product a factors = meaning_is (expr.Product a factors) ∙ ap meaning_at (expr.outs-Product a factors)
+meaning_Product a factors = meaning_is (expr.Product a factors)
+    ∙ ap meaning_at (expr.outs-Product a factors)
 
-pub meaning_Compare : (c : Comparison) (a : Expr) (b : Expr) → meaning (expr.Compare c a b) ≡ expr_step (Expr-F.Compare c (meaning a) (meaning b))
+pub meaning_Compare : (c : Comparison) (a : Expr) (b : Expr)
+    → meaning (expr.Compare c a b) ≡ expr_step (Expr-F.Compare c (meaning a) (meaning b))
 unfolding meaning_at
 meaning_Compare c a b = meaning_is (expr.Compare c a b) ∙ ap meaning_at (expr.outs-Compare c a b)
 
@@ -151,27 +283,35 @@ pub meaning_IsNull : (a : Expr) → meaning (expr.IsNull a) ≡ expr_step (Expr-
 unfolding meaning_at
 meaning_IsNull a = meaning_is (expr.IsNull a) ∙ ap meaning_at (expr.outs-IsNull a)
 
-pub meaning_Between : (a : Expr) (low : Expr) (high : Expr) → meaning (expr.Between a low high) ≡ expr_step (Expr-F.Between (meaning a) (meaning low) (meaning high))
+pub meaning_Between : (a : Expr) (low : Expr) (high : Expr)
+    → meaning (expr.Between a low high)
+    ≡ expr_step (Expr-F.Between (meaning a) (meaning low) (meaning high))
 unfolding meaning_at
-meaning_Between a low high = meaning_is (expr.Between a low high) ∙ ap meaning_at (expr.outs-Between a low high)
+meaning_Between a low high = meaning_is (expr.Between a low high)
+    ∙ ap meaning_at (expr.outs-Between a low high)
 
-pub meaning_Like : (a : Expr) (p : Name) → meaning (expr.Like a p) ≡ expr_step (Expr-F.Like (meaning a) p)
+pub meaning_Like : (a : Expr) (p : Name)
+    → meaning (expr.Like a p) ≡ expr_step (Expr-F.Like (meaning a) p)
 unfolding meaning_at
 meaning_Like a p = meaning_is (expr.Like a p) ∙ ap meaning_at (expr.outs-Like a p)
 
-pub meaning_InList : (a : Expr) (list : List Expr) → meaning (expr.InList a list) ≡ expr_step (Expr-F.InList (meaning a) (map meaning list))
+pub meaning_InList : (a : Expr) (list : List Expr)
+    → meaning (expr.InList a list) ≡ expr_step (Expr-F.InList (meaning a) (map meaning list))
 unfolding meaning_at
 meaning_InList a list = meaning_is (expr.InList a list) ∙ ap meaning_at (expr.outs-InList a list)
 
-pub meaning_InQuery : (a : Expr) (q : Block) → meaning (expr.InQuery a q) ≡ expr_step (Expr-F.InQuery (meaning a) (block_meaning q))
+pub meaning_InQuery : (a : Expr) (q : Block)
+    → meaning (expr.InQuery a q) ≡ expr_step (Expr-F.InQuery (meaning a) (block_meaning q))
 unfolding meaning_at
 meaning_InQuery a q = meaning_is (expr.InQuery a q) ∙ ap meaning_at (expr.outs-InQuery a q)
 
-pub meaning_Exists : (q : Block) → meaning (expr.Exists q) ≡ expr_step (Expr-F.Exists (block_meaning q))
+pub meaning_Exists : (q : Block)
+    → meaning (expr.Exists q) ≡ expr_step (Expr-F.Exists (block_meaning q))
 unfolding meaning_at
 meaning_Exists q = meaning_is (expr.Exists q) ∙ ap meaning_at (expr.outs-Exists q)
 
-pub meaning_Scalar : (q : Block) → meaning (expr.Scalar q) ≡ expr_step (Expr-F.Scalar (block_meaning q))
+pub meaning_Scalar : (q : Block)
+    → meaning (expr.Scalar q) ≡ expr_step (Expr-F.Scalar (block_meaning q))
 unfolding meaning_at
 meaning_Scalar q = meaning_is (expr.Scalar q) ∙ ap meaning_at (expr.outs-Scalar q)
 
@@ -179,29 +319,38 @@ pub meaning_Not : (a : Expr) → meaning (expr.Not a) ≡ expr_step (Expr-F.Not 
 unfolding meaning_at
 meaning_Not a = meaning_is (expr.Not a) ∙ ap meaning_at (expr.outs-Not a)
 
-pub meaning_And : (a : Expr) (rest : List Expr) → meaning (expr.And a rest) ≡ expr_step (Expr-F.And (meaning a) (map meaning rest))
+pub meaning_And : (a : Expr) (rest : List Expr)
+    → meaning (expr.And a rest) ≡ expr_step (Expr-F.And (meaning a) (map meaning rest))
 unfolding meaning_at
 meaning_And a rest = meaning_is (expr.And a rest) ∙ ap meaning_at (expr.outs-And a rest)
 
-pub meaning_Or : (a : Expr) (rest : List Expr) → meaning (expr.Or a rest) ≡ expr_step (Expr-F.Or (meaning a) (map meaning rest))
+pub meaning_Or : (a : Expr) (rest : List Expr)
+    → meaning (expr.Or a rest) ≡ expr_step (Expr-F.Or (meaning a) (map meaning rest))
 unfolding meaning_at
 meaning_Or a rest = meaning_is (expr.Or a rest) ∙ ap meaning_at (expr.outs-Or a rest)
 
-pub meaning_Case : (arms : List Arm) → meaning (expr.Case arms) ≡ expr_step (Expr-F.Case (map arm_meaning arms))
+pub meaning_Case : (arms : List Arm)
+    → meaning (expr.Case arms) ≡ expr_step (Expr-F.Case (map arm_meaning arms))
 unfolding meaning_at
 meaning_Case arms = meaning_is (expr.Case arms) ∙ ap meaning_at (expr.outs-Case arms)
 
-pub meaning_CaseElse : (arms : List Arm) (other : Expr) → meaning (expr.CaseElse arms other) ≡ expr_step (Expr-F.CaseElse (map arm_meaning arms) (meaning other))
+pub meaning_CaseElse : (arms : List Arm) (other : Expr)
+    → meaning (expr.CaseElse arms other)
+    ≡ expr_step (Expr-F.CaseElse (map arm_meaning arms) (meaning other))
 unfolding meaning_at
-meaning_CaseElse arms other = meaning_is (expr.CaseElse arms other) ∙ ap meaning_at (expr.outs-CaseElse arms other)
+meaning_CaseElse arms other = meaning_is (expr.CaseElse arms other)
+    ∙ ap meaning_at (expr.outs-CaseElse arms other)
 
-pub meaning_Extract : (s : Span) (a : Expr) → meaning (expr.Extract s a) ≡ expr_step (Expr-F.Extract s (meaning a))
+pub meaning_Extract : (s : Span) (a : Expr)
+    → meaning (expr.Extract s a) ≡ expr_step (Expr-F.Extract s (meaning a))
 unfolding meaning_at
 meaning_Extract s a = meaning_is (expr.Extract s a) ∙ ap meaning_at (expr.outs-Extract s a)
 
-pub meaning_Substring : (a : Expr) (from : ℕ) (count : ℕ) → meaning (expr.Substring a from count) ≡ expr_step (Expr-F.Substring (meaning a) from count)
+pub meaning_Substring : (a : Expr) (from : ℕ) (count : ℕ)
+    → meaning (expr.Substring a from count) ≡ expr_step (Expr-F.Substring (meaning a) from count)
 unfolding meaning_at
-meaning_Substring a from count = meaning_is (expr.Substring a from count) ∙ ap meaning_at (expr.outs-Substring a from count)
+meaning_Substring a from count = meaning_is (expr.Substring a from count)
+    ∙ ap meaning_at (expr.outs-Substring a from count)
 
 pub meaning_CountRows : meaning expr.CountRows ≡ expr_step Expr-F.CountRows
 unfolding meaning_at
@@ -211,11 +360,14 @@ pub meaning_Count : (a : Expr) → meaning (expr.Count a) ≡ expr_step (Expr-F.
 unfolding meaning_at
 meaning_Count a = meaning_is (expr.Count a) ∙ ap meaning_at (expr.outs-Count a)
 
-pub meaning_CountDistinct : (a : Expr) → meaning (expr.CountDistinct a) ≡ expr_step (Expr-F.CountDistinct (meaning a))
+pub meaning_CountDistinct : (a : Expr)
+    → meaning (expr.CountDistinct a) ≡ expr_step (Expr-F.CountDistinct (meaning a))
 unfolding meaning_at
-meaning_CountDistinct a = meaning_is (expr.CountDistinct a) ∙ ap meaning_at (expr.outs-CountDistinct a)
+meaning_CountDistinct a = meaning_is (expr.CountDistinct a)
+    ∙ ap meaning_at (expr.outs-CountDistinct a)
 
-pub meaning_Aggregate : (f : Aggregate) (a : Expr) → meaning (expr.Aggregate f a) ≡ expr_step (Expr-F.Aggregate f (meaning a))
+pub meaning_Aggregate : (f : Aggregate) (a : Expr)
+    → meaning (expr.Aggregate f a) ≡ expr_step (Expr-F.Aggregate f (meaning a))
 unfolding meaning_at
 meaning_Aggregate f a = meaning_is (expr.Aggregate f a) ∙ ap meaning_at (expr.outs-Aggregate f a)
 
@@ -223,57 +375,109 @@ pub clause_Absent : clause_meaning clause.Absent ≡ clause_step Clause-F.Absent
 unfolding clause_meaning_at
 clause_Absent = clause_meaning_is clause.Absent ∙ ap clause_meaning_at clause.outs-Absent
 
-pub clause_Condition : (e : Expr) → clause_meaning (clause.Condition e) ≡ clause_step (Clause-F.Condition (meaning e))
+pub clause_Condition : (e : Expr)
+    → clause_meaning (clause.Condition e) ≡ clause_step (Clause-F.Condition (meaning e))
 unfolding clause_meaning_at
-clause_Condition e = clause_meaning_is (clause.Condition e) ∙ ap clause_meaning_at (clause.outs-Condition e)
+clause_Condition e = clause_meaning_is (clause.Condition e)
+    ∙ ap clause_meaning_at (clause.outs-Condition e)
 
 pub selected_All : selected_meaning selected.All ≡ selected_step Selected-F.All
 unfolding selected_meaning_at
 selected_All = selected_meaning_is selected.All ∙ ap selected_meaning_at selected.outs-All
 
-pub selected_Items : (items : List Item) → selected_meaning (selected.Items items) ≡ selected_step (Selected-F.Items (map item_meaning items))
+pub selected_Items : (items : List Item)
+    → selected_meaning (selected.Items items)
+    ≡ selected_step (Selected-F.Items (map item_meaning items))
 unfolding selected_meaning_at
-selected_Items items = selected_meaning_is (selected.Items items) ∙ ap selected_meaning_at (selected.outs-Items items)
+selected_Items items = selected_meaning_is (selected.Items items)
+    ∙ ap selected_meaning_at (selected.outs-Items items)
 
-pub from_item_Table : (n : Name) (alias : Option Name) → from_item_meaning (from_item.Table n alias) ≡ from_item_step (FromItem-F.Table n alias)
+pub from_item_Table : (n : Name) (alias : Option Name)
+    → from_item_meaning (from_item.Table n alias) ≡ from_item_step (FromItem-F.Table n alias)
 unfolding from_item_meaning_at
-from_item_Table n alias = from_item_meaning_is (from_item.Table n alias) ∙ ap from_item_meaning_at (from_item.outs-Table n alias)
+from_item_Table n alias = from_item_meaning_is (from_item.Table n alias)
+    ∙ ap from_item_meaning_at (from_item.outs-Table n alias)
 
-pub from_item_Derived : (q : Block) (alias : Name) (names : List Name) → from_item_meaning (from_item.Derived q alias names) ≡ from_item_step (FromItem-F.Derived (block_meaning q) alias names)
+pub from_item_Derived : (q : Block) (alias : Name) (names : List Name)
+    → from_item_meaning (from_item.Derived q alias names)
+    ≡ from_item_step (FromItem-F.Derived (block_meaning q) alias names)
 unfolding from_item_meaning_at
-from_item_Derived q alias names = from_item_meaning_is (from_item.Derived q alias names) ∙ ap from_item_meaning_at (from_item.outs-Derived q alias names)
+from_item_Derived q alias names = from_item_meaning_is (from_item.Derived q alias names)
+    ∙ ap from_item_meaning_at (from_item.outs-Derived q alias names)
 
-pub term_is : (t : Term) → term_meaning t ≡ term_step (record { operator = (out-Term t).operator; value = meaning (out-Term t).value })
+pub term_is : (t : Term)
+    → term_meaning t ≡ term_step
+    (record { operator = (out-Term t).operator; value = meaning (out-Term t).value })
 unfolding term_meaning_at
 term_is t = term_meaning_is t
 
-pub factor_is : (f : Factor) → factor_meaning f ≡ factor_step (record { operator = (out-Factor f).operator; value = meaning (out-Factor f).value })
+pub factor_is : (f : Factor)
+    → factor_meaning f ≡ factor_step
+    (record { operator = (out-Factor f).operator; value = meaning (out-Factor f).value })
 unfolding factor_meaning_at
 factor_is f = factor_meaning_is f
 
-pub arm_is : (a : Arm) → arm_meaning a ≡ record { condition = meaning (out-Arm a).condition; value = meaning (out-Arm a).value }
+pub arm_is : (a : Arm) → arm_meaning a
+    ≡ record { condition = meaning (out-Arm a).condition; value = meaning (out-Arm a).value }
 unfolding arm_meaning_at
 arm_is a = arm_meaning_is a
 
-pub item_is : (i : Item) → item_meaning i ≡ item_step (record { value = meaning (out-Item i).value; alias = (out-Item i).alias })
+pub item_is : (i : Item)
+    → item_meaning i ≡ item_step
+    (record { value = meaning (out-Item i).value; alias = (out-Item i).alias })
 unfolding item_meaning_at
 item_is i = item_meaning_is i
 
-pub join_is : (j : Join) (start : ℕ) (sight : Sight) (done : FromRows) → join_meaning j start sight done
-    ≡ (from_item_meaning (out-Join j).item sight done.columns >>= (λ o. on_joining start sight (out-Join j).kind (joining done o) (meaning (out-Join j).condition)))
+pub join_is : (j : Join) (start : ℕ) (sight : Sight) (done : FromRows)
+    → join_meaning j start sight done
+    ≡ (from_item_meaning (out-Join j).item sight done.columns >>=
+    (λ o. on_joining start sight (out-Join j).kind (joining done o)
+    (meaning (out-Join j).condition)))
 unfolding join_meaning_at
 join_is j start sight done = ap (λ (m : JoinMeaning). m start sight done) (join_meaning_is j)
 
 pub joined_is : (j : Joined) (sight : Sight) (done : Option FromRows) → joined_meaning j sight done
-    ≡ (from_item_meaning (out-Joined j).first sight (columns_so_far done) >>= (λ o. chained (length (columns_so_far done)) sight (first_rows done o) (map join_meaning (out-Joined j).joins)))
+    ≡ (from_item_meaning (out-Joined j).first sight (columns_so_far done) >>=
+    (λ o. chained (length (columns_so_far done)) sight (first_rows done o)
+    (map join_meaning (out-Joined j).joins)))
 unfolding joined_meaning_at
 joined_is j sight done = ap (λ (m : JoinedMeaning). m sight done) (joined_meaning_is j)
 
-pub block_is : (q : Block) (sight : Sight) → block_meaning q sight ≡ (apart (clauses_of q sight) >>= (λ t. pure (once_each (out-Block q).is_distinct t)))
+pub block_is : (q : Block) (sight : Sight)
+    → block_meaning q sight ≡ (apart (clauses_of q sight) >>=
+    (λ t. pure (once_each (out-Block q).is_distinct t)))
 unfolding block_meaning_at clauses_of
 block_is q sight = ap (λ (m : BlockMeaning). m sight) (block_meaning_is q)
 
-pub ruleset expr_opened = (meaning_Number, meaning_Text, meaning_Date, meaning_Interval, meaning_Column, meaning_Negative, meaning_Sum, meaning_Product, meaning_Compare, meaning_IsNull, meaning_Between, meaning_Like, meaning_InList, meaning_InQuery, meaning_Exists, meaning_Scalar, meaning_Not, meaning_And, meaning_Or, meaning_Case, meaning_CaseElse, meaning_Extract, meaning_Substring, meaning_CountRows, meaning_Count, meaning_CountDistinct, meaning_Aggregate)
+pub ruleset expr_opened = (
+  meaning_Number,
+  meaning_Text,
+  meaning_Date,
+  meaning_Interval,
+  meaning_Column,
+  meaning_Negative,
+  meaning_Sum,
+  meaning_Product,
+  meaning_Compare,
+  meaning_IsNull,
+  meaning_Between,
+  meaning_Like,
+  meaning_InList,
+  meaning_InQuery,
+  meaning_Exists,
+  meaning_Scalar,
+  meaning_Not,
+  meaning_And,
+  meaning_Or,
+  meaning_Case,
+  meaning_CaseElse,
+  meaning_Extract,
+  meaning_Substring,
+  meaning_CountRows,
+  meaning_Count,
+  meaning_CountDistinct,
+  meaning_Aggregate,
+)
 
 pub ruleset clause_opened = (clause_Absent, clause_Condition)
 

@@ -1,5 +1,5 @@
 -- The sizes at each node, and that parts are smaller than what they stand in.
-use Rattle.std.proofs.Common.{◌≡◌, ℕ, ◌+◌, ◌<◌, ◌≤◌, List, [], ◌∷◌, map, ap, ◌∙◌, refl, arith}
+use Rattle.std.proofs.Common.{◌≡◌, ℕ, ◌+◌, ◌<◌, List, map, ap, ◌∙◌, arith}
 use Rattle.sql_ast.specs.declared.tree.Clause.{Clause, out-Clause}
 use Rattle.sql_ast.specs.declared.tree.Expr.{Expr, out-Expr}
 use Rattle.sql_ast.specs.declared.tree.FromItem.{FromItem, out-FromItem}
@@ -15,104 +15,199 @@ use Rattle.sql_ast.specs.declared.tree.Clause.TheVariants as clause
 use Rattle.sql_ast.specs.declared.tree.Expr.TheVariants as expr
 use Rattle.sql_ast.specs.declared.tree.FromItem.TheVariants as from_item
 use Rattle.sql_ast.specs.declared.tree.Selected.TheVariants as selected
-use Rattle.sql_ast.specs.declared.tree.Clause.TheOpen.{Clause-F, Expr-F, FromItem-F, Selected-F, Arm-F, Block-F, Factor-F, Item-F, Join-F, Joined-F, Term-F}
-use Rattle.sql_ast.specs.declared.tree.Clause.TheFolds.{fold_out-Clause, fold_out-Expr, fold_out-FromItem, fold_out-Selected, fold_out-Arm, fold_out-Block, fold_out-Factor, fold_out-Item, fold_out-Join, fold_out-Joined, fold_out-Term, map-Clause, map-Expr, map-FromItem, map-Selected, map-Arm, map-Block, map-Factor, map-Item, map-Join, map-Joined, map-Term}
+use Rattle.sql_ast.specs.declared.tree.Clause.TheOpen.{Clause-F, Expr-F, FromItem-F, Selected-F}
+use Rattle.sql_ast.specs.declared.tree.Clause.TheOpen.{Arm-F, Block-F, Factor-F, Item-F, Join-F}
+use Rattle.sql_ast.specs.declared.tree.Clause.TheOpen.{Joined-F, Term-F}
+use Rattle.sql_ast.specs.declared.tree.Clause.TheFolds.{fold_out-Clause, fold_out-Expr}
+use Rattle.sql_ast.specs.declared.tree.Clause.TheFolds.{fold_out-FromItem, fold_out-Selected}
+use Rattle.sql_ast.specs.declared.tree.Clause.TheFolds.{fold_out-Arm, fold_out-Block}
+use Rattle.sql_ast.specs.declared.tree.Clause.TheFolds.{fold_out-Factor, fold_out-Item}
+use Rattle.sql_ast.specs.declared.tree.Clause.TheFolds.{fold_out-Join, fold_out-Joined}
+use Rattle.sql_ast.specs.declared.tree.Clause.TheFolds.{fold_out-Term, map-Clause, map-Expr}
+use Rattle.sql_ast.specs.declared.tree.Clause.TheFolds.{map-FromItem, map-Selected, map-Arm}
+use Rattle.sql_ast.specs.declared.tree.Clause.TheFolds.{map-Block, map-Factor, map-Item, map-Join}
+use Rattle.sql_ast.specs.declared.tree.Clause.TheFolds.{map-Joined, map-Term}
 use Rattle.sql_ast.specs.declared.words.Aggregate.{Aggregate}
 use Rattle.sql_ast.specs.declared.words.Comparison.{Comparison}
 use Rattle.sql_ast.specs.declared.words.Span.{Span}
 use Rattle.sql_binder.specs.Steps.{Name}
-use Rattle.sql_binder.specs.Sizes.{total, clause_size_step, expr_size_step, from_item_size_step, selected_size_step, arm_size_step, block_size_step, factor_size_step, item_size_step, join_size_step, joined_size_step, term_size_step, clause_size, size, from_item_size, selected_size, arm_size, block_size, factor_size, item_size, join_size, joined_size, term_size}
+use Rattle.sql_binder.specs.Sizes.{total, clause_size_step, expr_size_step, from_item_size_step}
+use Rattle.sql_binder.specs.Sizes.{selected_size_step, arm_size_step, block_size_step}
+use Rattle.sql_binder.specs.Sizes.{factor_size_step, item_size_step, join_size_step}
+use Rattle.sql_binder.specs.Sizes.{joined_size_step, term_size_step, clause_size, size}
+use Rattle.sql_binder.specs.Sizes.{from_item_size, selected_size, arm_size, block_size, factor_size}
+use Rattle.sql_binder.specs.Sizes.{item_size, join_size, joined_size, term_size}
 
-unfoldable pub clause_size_at : Clause-F Clause Expr FromItem Selected Arm Block Factor Item Join Joined Term → ℕ
-clause_size_at x = clause_size_step (map-Clause Clause Expr FromItem Selected Arm Block Factor Item Join Joined Term ℕ ℕ ℕ ℕ ℕ ℕ ℕ ℕ ℕ ℕ ℕ clause_size size from_item_size selected_size arm_size block_size factor_size item_size join_size joined_size term_size x)
+unfoldable pub clause_size_at : Clause-F Clause Expr FromItem Selected Arm Block Factor Item Join
+    Joined Term → ℕ
+clause_size_at x = clause_size_step
+    (map-Clause Clause Expr FromItem Selected Arm Block Factor Item Join Joined Term ℕ ℕ ℕ ℕ ℕ ℕ ℕ ℕ
+    ℕ ℕ ℕ clause_size size from_item_size selected_size arm_size block_size factor_size item_size
+    join_size joined_size term_size x)
 
 pub clause_size_is : (x : Clause) → clause_size x ≡ clause_size_at (out-Clause x)
-unfolding clause_size size from_item_size selected_size arm_size block_size factor_size item_size join_size joined_size term_size clause_size_at
-clause_size_is = fold_out-Clause ℕ ℕ ℕ ℕ ℕ ℕ ℕ ℕ ℕ ℕ ℕ clause_size_step expr_size_step from_item_size_step selected_size_step arm_size_step block_size_step factor_size_step item_size_step join_size_step joined_size_step term_size_step
+unfolding clause_size size from_item_size selected_size arm_size block_size factor_size item_size
+    join_size joined_size term_size clause_size_at
+clause_size_is = fold_out-Clause ℕ ℕ ℕ ℕ ℕ ℕ ℕ ℕ ℕ ℕ ℕ clause_size_step expr_size_step
+    from_item_size_step selected_size_step arm_size_step block_size_step factor_size_step
+    item_size_step join_size_step joined_size_step term_size_step
 
-unfoldable pub size_at : Expr-F Clause Expr FromItem Selected Arm Block Factor Item Join Joined Term → ℕ
-size_at x = expr_size_step (map-Expr Clause Expr FromItem Selected Arm Block Factor Item Join Joined Term ℕ ℕ ℕ ℕ ℕ ℕ ℕ ℕ ℕ ℕ ℕ clause_size size from_item_size selected_size arm_size block_size factor_size item_size join_size joined_size term_size x)
+unfoldable pub size_at : Expr-F Clause Expr FromItem Selected Arm Block Factor Item Join Joined Term
+    → ℕ
+size_at x = expr_size_step
+    (map-Expr Clause Expr FromItem Selected Arm Block Factor Item Join Joined Term ℕ ℕ ℕ ℕ ℕ ℕ ℕ ℕ ℕ
+    ℕ ℕ clause_size size from_item_size selected_size arm_size block_size factor_size item_size
+    join_size joined_size term_size x)
 
 pub size_is : (x : Expr) → size x ≡ size_at (out-Expr x)
-unfolding clause_size size from_item_size selected_size arm_size block_size factor_size item_size join_size joined_size term_size size_at
-size_is = fold_out-Expr ℕ ℕ ℕ ℕ ℕ ℕ ℕ ℕ ℕ ℕ ℕ clause_size_step expr_size_step from_item_size_step selected_size_step arm_size_step block_size_step factor_size_step item_size_step join_size_step joined_size_step term_size_step
+unfolding clause_size size from_item_size selected_size arm_size block_size factor_size item_size
+    join_size joined_size term_size size_at
+size_is = fold_out-Expr ℕ ℕ ℕ ℕ ℕ ℕ ℕ ℕ ℕ ℕ ℕ clause_size_step expr_size_step from_item_size_step
+    selected_size_step arm_size_step block_size_step factor_size_step item_size_step join_size_step
+    joined_size_step term_size_step
 
-unfoldable pub from_item_size_at : FromItem-F Clause Expr FromItem Selected Arm Block Factor Item Join Joined Term → ℕ
-from_item_size_at x = from_item_size_step (map-FromItem Clause Expr FromItem Selected Arm Block Factor Item Join Joined Term ℕ ℕ ℕ ℕ ℕ ℕ ℕ ℕ ℕ ℕ ℕ clause_size size from_item_size selected_size arm_size block_size factor_size item_size join_size joined_size term_size x)
+unfoldable pub from_item_size_at : FromItem-F Clause Expr FromItem Selected Arm Block Factor Item
+    Join Joined Term → ℕ
+from_item_size_at x = from_item_size_step
+    (map-FromItem Clause Expr FromItem Selected Arm Block Factor Item Join Joined Term ℕ ℕ ℕ ℕ ℕ ℕ ℕ
+    ℕ ℕ ℕ ℕ clause_size size from_item_size selected_size arm_size block_size factor_size item_size
+    join_size joined_size term_size x)
 
 pub from_item_size_is : (x : FromItem) → from_item_size x ≡ from_item_size_at (out-FromItem x)
-unfolding clause_size size from_item_size selected_size arm_size block_size factor_size item_size join_size joined_size term_size from_item_size_at
-from_item_size_is = fold_out-FromItem ℕ ℕ ℕ ℕ ℕ ℕ ℕ ℕ ℕ ℕ ℕ clause_size_step expr_size_step from_item_size_step selected_size_step arm_size_step block_size_step factor_size_step item_size_step join_size_step joined_size_step term_size_step
+unfolding clause_size size from_item_size selected_size arm_size block_size factor_size item_size
+    join_size joined_size term_size from_item_size_at
+from_item_size_is = fold_out-FromItem ℕ ℕ ℕ ℕ ℕ ℕ ℕ ℕ ℕ ℕ ℕ clause_size_step expr_size_step
+    from_item_size_step selected_size_step arm_size_step block_size_step factor_size_step
+    item_size_step join_size_step joined_size_step term_size_step
 
-unfoldable pub selected_size_at : Selected-F Clause Expr FromItem Selected Arm Block Factor Item Join Joined Term → ℕ
-selected_size_at x = selected_size_step (map-Selected Clause Expr FromItem Selected Arm Block Factor Item Join Joined Term ℕ ℕ ℕ ℕ ℕ ℕ ℕ ℕ ℕ ℕ ℕ clause_size size from_item_size selected_size arm_size block_size factor_size item_size join_size joined_size term_size x)
+unfoldable pub selected_size_at : Selected-F Clause Expr FromItem Selected Arm Block Factor Item
+    Join Joined Term → ℕ
+selected_size_at x = selected_size_step
+    (map-Selected Clause Expr FromItem Selected Arm Block Factor Item Join Joined Term ℕ ℕ ℕ ℕ ℕ ℕ ℕ
+    ℕ ℕ ℕ ℕ clause_size size from_item_size selected_size arm_size block_size factor_size item_size
+    join_size joined_size term_size x)
 
 pub selected_size_is : (x : Selected) → selected_size x ≡ selected_size_at (out-Selected x)
-unfolding clause_size size from_item_size selected_size arm_size block_size factor_size item_size join_size joined_size term_size selected_size_at
-selected_size_is = fold_out-Selected ℕ ℕ ℕ ℕ ℕ ℕ ℕ ℕ ℕ ℕ ℕ clause_size_step expr_size_step from_item_size_step selected_size_step arm_size_step block_size_step factor_size_step item_size_step join_size_step joined_size_step term_size_step
+unfolding clause_size size from_item_size selected_size arm_size block_size factor_size item_size
+    join_size joined_size term_size selected_size_at
+selected_size_is = fold_out-Selected ℕ ℕ ℕ ℕ ℕ ℕ ℕ ℕ ℕ ℕ ℕ clause_size_step expr_size_step
+    from_item_size_step selected_size_step arm_size_step block_size_step factor_size_step
+    item_size_step join_size_step joined_size_step term_size_step
 
-unfoldable pub arm_size_at : Arm-F Clause Expr FromItem Selected Arm Block Factor Item Join Joined Term → ℕ
-arm_size_at x = arm_size_step (map-Arm Clause Expr FromItem Selected Arm Block Factor Item Join Joined Term ℕ ℕ ℕ ℕ ℕ ℕ ℕ ℕ ℕ ℕ ℕ clause_size size from_item_size selected_size arm_size block_size factor_size item_size join_size joined_size term_size x)
+unfoldable pub arm_size_at : Arm-F Clause Expr FromItem Selected Arm Block Factor Item Join Joined
+    Term → ℕ
+arm_size_at x = arm_size_step
+    (map-Arm Clause Expr FromItem Selected Arm Block Factor Item Join Joined Term ℕ ℕ ℕ ℕ ℕ ℕ ℕ ℕ ℕ
+    ℕ ℕ clause_size size from_item_size selected_size arm_size block_size factor_size item_size
+    join_size joined_size term_size x)
 
 pub arm_size_is : (x : Arm) → arm_size x ≡ arm_size_at (out-Arm x)
-unfolding clause_size size from_item_size selected_size arm_size block_size factor_size item_size join_size joined_size term_size arm_size_at
-arm_size_is = fold_out-Arm ℕ ℕ ℕ ℕ ℕ ℕ ℕ ℕ ℕ ℕ ℕ clause_size_step expr_size_step from_item_size_step selected_size_step arm_size_step block_size_step factor_size_step item_size_step join_size_step joined_size_step term_size_step
+unfolding clause_size size from_item_size selected_size arm_size block_size factor_size item_size
+    join_size joined_size term_size arm_size_at
+arm_size_is = fold_out-Arm ℕ ℕ ℕ ℕ ℕ ℕ ℕ ℕ ℕ ℕ ℕ clause_size_step expr_size_step from_item_size_step
+    selected_size_step arm_size_step block_size_step factor_size_step item_size_step join_size_step
+    joined_size_step term_size_step
 
-unfoldable pub block_size_at : Block-F Clause Expr FromItem Selected Arm Block Factor Item Join Joined Term → ℕ
-block_size_at x = block_size_step (map-Block Clause Expr FromItem Selected Arm Block Factor Item Join Joined Term ℕ ℕ ℕ ℕ ℕ ℕ ℕ ℕ ℕ ℕ ℕ clause_size size from_item_size selected_size arm_size block_size factor_size item_size join_size joined_size term_size x)
+unfoldable pub block_size_at : Block-F Clause Expr FromItem Selected Arm Block Factor Item Join
+    Joined Term → ℕ
+block_size_at x = block_size_step
+    (map-Block Clause Expr FromItem Selected Arm Block Factor Item Join Joined Term ℕ ℕ ℕ ℕ ℕ ℕ ℕ ℕ
+    ℕ ℕ ℕ clause_size size from_item_size selected_size arm_size block_size factor_size item_size
+    join_size joined_size term_size x)
 
 pub block_size_is : (x : Block) → block_size x ≡ block_size_at (out-Block x)
-unfolding clause_size size from_item_size selected_size arm_size block_size factor_size item_size join_size joined_size term_size block_size_at
-block_size_is = fold_out-Block ℕ ℕ ℕ ℕ ℕ ℕ ℕ ℕ ℕ ℕ ℕ clause_size_step expr_size_step from_item_size_step selected_size_step arm_size_step block_size_step factor_size_step item_size_step join_size_step joined_size_step term_size_step
+unfolding clause_size size from_item_size selected_size arm_size block_size factor_size item_size
+    join_size joined_size term_size block_size_at
+block_size_is = fold_out-Block ℕ ℕ ℕ ℕ ℕ ℕ ℕ ℕ ℕ ℕ ℕ clause_size_step expr_size_step
+    from_item_size_step selected_size_step arm_size_step block_size_step factor_size_step
+    item_size_step join_size_step joined_size_step term_size_step
 
-unfoldable pub factor_size_at : Factor-F Clause Expr FromItem Selected Arm Block Factor Item Join Joined Term → ℕ
-factor_size_at x = factor_size_step (map-Factor Clause Expr FromItem Selected Arm Block Factor Item Join Joined Term ℕ ℕ ℕ ℕ ℕ ℕ ℕ ℕ ℕ ℕ ℕ clause_size size from_item_size selected_size arm_size block_size factor_size item_size join_size joined_size term_size x)
+unfoldable pub factor_size_at : Factor-F Clause Expr FromItem Selected Arm Block Factor Item Join
+    Joined Term → ℕ
+factor_size_at x = factor_size_step
+    (map-Factor Clause Expr FromItem Selected Arm Block Factor Item Join Joined Term ℕ ℕ ℕ ℕ ℕ ℕ ℕ ℕ
+    ℕ ℕ ℕ clause_size size from_item_size selected_size arm_size block_size factor_size item_size
+    join_size joined_size term_size x)
 
 pub factor_size_is : (x : Factor) → factor_size x ≡ factor_size_at (out-Factor x)
-unfolding clause_size size from_item_size selected_size arm_size block_size factor_size item_size join_size joined_size term_size factor_size_at
-factor_size_is = fold_out-Factor ℕ ℕ ℕ ℕ ℕ ℕ ℕ ℕ ℕ ℕ ℕ clause_size_step expr_size_step from_item_size_step selected_size_step arm_size_step block_size_step factor_size_step item_size_step join_size_step joined_size_step term_size_step
+unfolding clause_size size from_item_size selected_size arm_size block_size factor_size item_size
+    join_size joined_size term_size factor_size_at
+factor_size_is = fold_out-Factor ℕ ℕ ℕ ℕ ℕ ℕ ℕ ℕ ℕ ℕ ℕ clause_size_step expr_size_step
+    from_item_size_step selected_size_step arm_size_step block_size_step factor_size_step
+    item_size_step join_size_step joined_size_step term_size_step
 
-unfoldable pub item_size_at : Item-F Clause Expr FromItem Selected Arm Block Factor Item Join Joined Term → ℕ
-item_size_at x = item_size_step (map-Item Clause Expr FromItem Selected Arm Block Factor Item Join Joined Term ℕ ℕ ℕ ℕ ℕ ℕ ℕ ℕ ℕ ℕ ℕ clause_size size from_item_size selected_size arm_size block_size factor_size item_size join_size joined_size term_size x)
+unfoldable pub item_size_at : Item-F Clause Expr FromItem Selected Arm Block Factor Item Join Joined
+    Term → ℕ
+item_size_at x = item_size_step
+    (map-Item Clause Expr FromItem Selected Arm Block Factor Item Join Joined Term ℕ ℕ ℕ ℕ ℕ ℕ ℕ ℕ ℕ
+    ℕ ℕ clause_size size from_item_size selected_size arm_size block_size factor_size item_size
+    join_size joined_size term_size x)
 
 pub item_size_is : (x : Item) → item_size x ≡ item_size_at (out-Item x)
-unfolding clause_size size from_item_size selected_size arm_size block_size factor_size item_size join_size joined_size term_size item_size_at
-item_size_is = fold_out-Item ℕ ℕ ℕ ℕ ℕ ℕ ℕ ℕ ℕ ℕ ℕ clause_size_step expr_size_step from_item_size_step selected_size_step arm_size_step block_size_step factor_size_step item_size_step join_size_step joined_size_step term_size_step
+unfolding clause_size size from_item_size selected_size arm_size block_size factor_size item_size
+    join_size joined_size term_size item_size_at
+item_size_is = fold_out-Item ℕ ℕ ℕ ℕ ℕ ℕ ℕ ℕ ℕ ℕ ℕ clause_size_step expr_size_step
+    from_item_size_step selected_size_step arm_size_step block_size_step factor_size_step
+    item_size_step join_size_step joined_size_step term_size_step
 
-unfoldable pub join_size_at : Join-F Clause Expr FromItem Selected Arm Block Factor Item Join Joined Term → ℕ
-join_size_at x = join_size_step (map-Join Clause Expr FromItem Selected Arm Block Factor Item Join Joined Term ℕ ℕ ℕ ℕ ℕ ℕ ℕ ℕ ℕ ℕ ℕ clause_size size from_item_size selected_size arm_size block_size factor_size item_size join_size joined_size term_size x)
+unfoldable pub join_size_at : Join-F Clause Expr FromItem Selected Arm Block Factor Item Join Joined
+    Term → ℕ
+join_size_at x = join_size_step
+    (map-Join Clause Expr FromItem Selected Arm Block Factor Item Join Joined Term ℕ ℕ ℕ ℕ ℕ ℕ ℕ ℕ ℕ
+    ℕ ℕ clause_size size from_item_size selected_size arm_size block_size factor_size item_size
+    join_size joined_size term_size x)
 
 pub join_size_is : (x : Join) → join_size x ≡ join_size_at (out-Join x)
-unfolding clause_size size from_item_size selected_size arm_size block_size factor_size item_size join_size joined_size term_size join_size_at
-join_size_is = fold_out-Join ℕ ℕ ℕ ℕ ℕ ℕ ℕ ℕ ℕ ℕ ℕ clause_size_step expr_size_step from_item_size_step selected_size_step arm_size_step block_size_step factor_size_step item_size_step join_size_step joined_size_step term_size_step
+unfolding clause_size size from_item_size selected_size arm_size block_size factor_size item_size
+    join_size joined_size term_size join_size_at
+join_size_is = fold_out-Join ℕ ℕ ℕ ℕ ℕ ℕ ℕ ℕ ℕ ℕ ℕ clause_size_step expr_size_step
+    from_item_size_step selected_size_step arm_size_step block_size_step factor_size_step
+    item_size_step join_size_step joined_size_step term_size_step
 
-unfoldable pub joined_size_at : Joined-F Clause Expr FromItem Selected Arm Block Factor Item Join Joined Term → ℕ
-joined_size_at x = joined_size_step (map-Joined Clause Expr FromItem Selected Arm Block Factor Item Join Joined Term ℕ ℕ ℕ ℕ ℕ ℕ ℕ ℕ ℕ ℕ ℕ clause_size size from_item_size selected_size arm_size block_size factor_size item_size join_size joined_size term_size x)
+unfoldable pub joined_size_at : Joined-F Clause Expr FromItem Selected Arm Block Factor Item Join
+    Joined Term → ℕ
+joined_size_at x = joined_size_step
+    (map-Joined Clause Expr FromItem Selected Arm Block Factor Item Join Joined Term ℕ ℕ ℕ ℕ ℕ ℕ ℕ ℕ
+    ℕ ℕ ℕ clause_size size from_item_size selected_size arm_size block_size factor_size item_size
+    join_size joined_size term_size x)
 
 pub joined_size_is : (x : Joined) → joined_size x ≡ joined_size_at (out-Joined x)
-unfolding clause_size size from_item_size selected_size arm_size block_size factor_size item_size join_size joined_size term_size joined_size_at
-joined_size_is = fold_out-Joined ℕ ℕ ℕ ℕ ℕ ℕ ℕ ℕ ℕ ℕ ℕ clause_size_step expr_size_step from_item_size_step selected_size_step arm_size_step block_size_step factor_size_step item_size_step join_size_step joined_size_step term_size_step
+unfolding clause_size size from_item_size selected_size arm_size block_size factor_size item_size
+    join_size joined_size term_size joined_size_at
+joined_size_is = fold_out-Joined ℕ ℕ ℕ ℕ ℕ ℕ ℕ ℕ ℕ ℕ ℕ clause_size_step expr_size_step
+    from_item_size_step selected_size_step arm_size_step block_size_step factor_size_step
+    item_size_step join_size_step joined_size_step term_size_step
 
-unfoldable pub term_size_at : Term-F Clause Expr FromItem Selected Arm Block Factor Item Join Joined Term → ℕ
-term_size_at x = term_size_step (map-Term Clause Expr FromItem Selected Arm Block Factor Item Join Joined Term ℕ ℕ ℕ ℕ ℕ ℕ ℕ ℕ ℕ ℕ ℕ clause_size size from_item_size selected_size arm_size block_size factor_size item_size join_size joined_size term_size x)
+unfoldable pub term_size_at : Term-F Clause Expr FromItem Selected Arm Block Factor Item Join Joined
+    Term → ℕ
+term_size_at x = term_size_step
+    (map-Term Clause Expr FromItem Selected Arm Block Factor Item Join Joined Term ℕ ℕ ℕ ℕ ℕ ℕ ℕ ℕ ℕ
+    ℕ ℕ clause_size size from_item_size selected_size arm_size block_size factor_size item_size
+    join_size joined_size term_size x)
 
 pub term_size_is : (x : Term) → term_size x ≡ term_size_at (out-Term x)
-unfolding clause_size size from_item_size selected_size arm_size block_size factor_size item_size join_size joined_size term_size term_size_at
-term_size_is = fold_out-Term ℕ ℕ ℕ ℕ ℕ ℕ ℕ ℕ ℕ ℕ ℕ clause_size_step expr_size_step from_item_size_step selected_size_step arm_size_step block_size_step factor_size_step item_size_step join_size_step joined_size_step term_size_step
+unfolding clause_size size from_item_size selected_size arm_size block_size factor_size item_size
+    join_size joined_size term_size term_size_at
+term_size_is = fold_out-Term ℕ ℕ ℕ ℕ ℕ ℕ ℕ ℕ ℕ ℕ ℕ clause_size_step expr_size_step
+    from_item_size_step selected_size_step arm_size_step block_size_step factor_size_step
+    item_size_step join_size_step joined_size_step term_size_step
 
 size_Negative : (a : Expr) → size (expr.Negative a) ≡ 1 + size a
 unfolding size_at
 size_Negative a = size_is (expr.Negative a) ∙ ap size_at (expr.outs-Negative a)
 
-size_Sum : (a : Expr) (terms : List Term) → size (expr.Sum a terms) ≡ 1 + size a + total (map term_size terms)
+size_Sum : (a : Expr) (terms : List Term)
+    → size (expr.Sum a terms) ≡ 1 + size a + total (map term_size terms)
 unfolding size_at
 size_Sum a terms = size_is (expr.Sum a terms) ∙ ap size_at (expr.outs-Sum a terms)
 
-size_Product : (a : Expr) (factors : List Factor) → size (expr.Product a factors) ≡ 1 + size a + total (map factor_size factors)
+size_Product : (a : Expr) (factors : List Factor)
+    → size (expr.Product a factors) ≡ 1 + size a + total (map factor_size factors)
 unfolding size_at
 size_Product a factors = size_is (expr.Product a factors) ∙ ap size_at (expr.outs-Product a factors)
 
-size_Compare : (c : Comparison) (a : Expr) (b : Expr) → size (expr.Compare c a b) ≡ 1 + size a + size b
+size_Compare : (c : Comparison) (a : Expr) (b : Expr)
+    → size (expr.Compare c a b) ≡ 1 + size a + size b
 unfolding size_at
 size_Compare c a b = size_is (expr.Compare c a b) ∙ ap size_at (expr.outs-Compare c a b)
 
@@ -120,15 +215,18 @@ size_IsNull : (a : Expr) → size (expr.IsNull a) ≡ 1 + size a
 unfolding size_at
 size_IsNull a = size_is (expr.IsNull a) ∙ ap size_at (expr.outs-IsNull a)
 
-size_Between : (a : Expr) (low : Expr) (high : Expr) → size (expr.Between a low high) ≡ 1 + size a + size low + size high
+size_Between : (a : Expr) (low : Expr) (high : Expr)
+    → size (expr.Between a low high) ≡ 1 + size a + size low + size high
 unfolding size_at
-size_Between a low high = size_is (expr.Between a low high) ∙ ap size_at (expr.outs-Between a low high)
+size_Between a low high = size_is (expr.Between a low high)
+    ∙ ap size_at (expr.outs-Between a low high)
 
 size_Like : (a : Expr) (pattern : Name) → size (expr.Like a pattern) ≡ 1 + size a
 unfolding size_at
 size_Like a pattern = size_is (expr.Like a pattern) ∙ ap size_at (expr.outs-Like a pattern)
 
-size_InList : (a : Expr) (list : List Expr) → size (expr.InList a list) ≡ 1 + size a + total (map size list)
+size_InList : (a : Expr) (list : List Expr)
+    → size (expr.InList a list) ≡ 1 + size a + total (map size list)
 unfolding size_at
 size_InList a list = size_is (expr.InList a list) ∙ ap size_at (expr.outs-InList a list)
 
@@ -148,7 +246,8 @@ size_Not : (a : Expr) → size (expr.Not a) ≡ 1 + size a
 unfolding size_at
 size_Not a = size_is (expr.Not a) ∙ ap size_at (expr.outs-Not a)
 
-size_And : (a : Expr) (rest : List Expr) → size (expr.And a rest) ≡ 1 + size a + total (map size rest)
+size_And : (a : Expr) (rest : List Expr)
+    → size (expr.And a rest) ≡ 1 + size a + total (map size rest)
 unfolding size_at
 size_And a rest = size_is (expr.And a rest) ∙ ap size_at (expr.outs-And a rest)
 
@@ -160,9 +259,11 @@ size_Case : (arms : List Arm) → size (expr.Case arms) ≡ 1 + total (map arm_s
 unfolding size_at
 size_Case arms = size_is (expr.Case arms) ∙ ap size_at (expr.outs-Case arms)
 
-size_CaseElse : (arms : List Arm) (other : Expr) → size (expr.CaseElse arms other) ≡ 1 + total (map arm_size arms) + size other
+size_CaseElse : (arms : List Arm) (other : Expr)
+    → size (expr.CaseElse arms other) ≡ 1 + total (map arm_size arms) + size other
 unfolding size_at
-size_CaseElse arms other = size_is (expr.CaseElse arms other) ∙ ap size_at (expr.outs-CaseElse arms other)
+size_CaseElse arms other = size_is (expr.CaseElse arms other)
+    ∙ ap size_at (expr.outs-CaseElse arms other)
 
 size_Extract : (s : Span) (a : Expr) → size (expr.Extract s a) ≡ 1 + size a
 unfolding size_at
@@ -170,7 +271,8 @@ size_Extract s a = size_is (expr.Extract s a) ∙ ap size_at (expr.outs-Extract 
 
 size_Substring : (a : Expr) (from : ℕ) (count : ℕ) → size (expr.Substring a from count) ≡ 1 + size a
 unfolding size_at
-size_Substring a from count = size_is (expr.Substring a from count) ∙ ap size_at (expr.outs-Substring a from count)
+size_Substring a from count = size_is (expr.Substring a from count)
+    ∙ ap size_at (expr.outs-Substring a from count)
 
 size_Count : (a : Expr) → size (expr.Count a) ≡ 1 + size a
 unfolding size_at
@@ -186,23 +288,30 @@ size_Aggregate f a = size_is (expr.Aggregate f a) ∙ ap size_at (expr.outs-Aggr
 
 clause_Condition : (e : Expr) → clause_size (clause.Condition e) ≡ size e
 unfolding clause_size_at
-clause_Condition e = clause_size_is (clause.Condition e) ∙ ap clause_size_at (clause.outs-Condition e)
+clause_Condition e = clause_size_is (clause.Condition e)
+    ∙ ap clause_size_at (clause.outs-Condition e)
 
-selected_Items : (items : List Item) → selected_size (selected.Items items) ≡ total (map item_size items)
+selected_Items : (items : List Item)
+    → selected_size (selected.Items items) ≡ total (map item_size items)
 unfolding selected_size_at
-selected_Items items = selected_size_is (selected.Items items) ∙ ap selected_size_at (selected.outs-Items items)
+selected_Items items = selected_size_is (selected.Items items)
+    ∙ ap selected_size_at (selected.outs-Items items)
 
-from_item_Derived : (q : Block) (alias : Name) (names : List Name) → from_item_size (from_item.Derived q alias names) ≡ block_size q
+from_item_Derived : (q : Block) (alias : Name) (names : List Name)
+    → from_item_size (from_item.Derived q alias names) ≡ block_size q
 unfolding from_item_size_at
-from_item_Derived q alias names = from_item_size_is (from_item.Derived q alias names) ∙ ap from_item_size_at (from_item.outs-Derived q alias names)
+from_item_Derived q alias names = from_item_size_is (from_item.Derived q alias names)
+    ∙ ap from_item_size_at (from_item.outs-Derived q alias names)
 
 pub clause_falls : (c : Clause) (e : Expr) → c ≡ clause.Condition e → clause_size c ≡ size e
 clause_falls c e is = ap clause_size is ∙ clause_Condition e
 
-pub selected_falls : (s : Selected) (items : List Item) → s ≡ selected.Items items → selected_size s ≡ total (map item_size items)
+pub selected_falls : (s : Selected) (items : List Item) → s ≡ selected.Items items
+    → selected_size s ≡ total (map item_size items)
 selected_falls s items is = ap selected_size is ∙ selected_Items items
 
-pub derived_falls : (i : FromItem) (q : Block) (alias : Name) (names : List Name) → i ≡ from_item.Derived q alias names → from_item_size i ≡ block_size q
+pub derived_falls : (i : FromItem) (q : Block) (alias : Name) (names : List Name)
+    → i ≡ from_item.Derived q alias names → from_item_size i ≡ block_size q
 derived_falls i q alias names is = ap from_item_size is ∙ from_item_Derived q alias names
 
 pub term_size_of : (t : Term) → term_size t ≡ size (out-Term t).value
@@ -221,107 +330,162 @@ pub item_size_of : (i : Item) → item_size i ≡ size (out-Item i).value
 unfolding item_size_at
 item_size_of i = item_size_is i
 
-pub join_size_of : (j : Join) → join_size j ≡ from_item_size (out-Join j).item + size (out-Join j).condition
+pub join_size_of : (j : Join)
+    → join_size j ≡ from_item_size (out-Join j).item + size (out-Join j).condition
 unfolding join_size_at
 join_size_of j = join_size_is j
 
-pub joined_size_of : (j : Joined) → joined_size j ≡ from_item_size (out-Joined j).first + total (map join_size (out-Joined j).joins)
+pub joined_size_of : (j : Joined)
+    → joined_size j ≡ from_item_size (out-Joined j).first
+    + total (map join_size (out-Joined j).joins)
 unfolding joined_size_at
 joined_size_of j = joined_size_is j
 
-pub block_size_of : (q : Block) → block_size q ≡ 1 + selected_size (out-Block q).selected + total (map joined_size (out-Block q).from) + clause_size (out-Block q).condition + clause_size (out-Block q).having
+pub block_size_of : (q : Block)
+    → block_size q ≡ 1 + selected_size (out-Block q).selected
+    + total (map joined_size (out-Block q).from) + clause_size (out-Block q).condition
+    + clause_size (out-Block q).having
 unfolding block_size_at
 block_size_of q = block_size_is q
 
 pub a_of_Negative : (e : Expr) (a : Expr) → e ≡ expr.Negative a → size a < size e
-a_of_Negative e a is = let s : size e ≡ 1 + size a = ap size is ∙ size_Negative a in omega (arith, s)
+a_of_Negative e a is = let s : size e ≡ 1 + size a = ap size is ∙ size_Negative a in
+    omega (arith, s)
 
 pub a_of_Sum : (e : Expr) (a : Expr) (terms : List Term) → e ≡ expr.Sum a terms → size a < size e
-a_of_Sum e a terms is = let s : size e ≡ 1 + size a + total (map term_size terms) = ap size is ∙ size_Sum a terms in omega (arith, s)
+a_of_Sum e a terms is = let s : size e
+    ≡ 1 + size a + total (map term_size terms) = ap size is ∙ size_Sum a terms in omega (arith, s)
 
-pub terms_of_Sum : (e : Expr) (a : Expr) (terms : List Term) → e ≡ expr.Sum a terms → total (map term_size terms) < size e
-terms_of_Sum e a terms is = let s : size e ≡ 1 + size a + total (map term_size terms) = ap size is ∙ size_Sum a terms in omega (arith, s)
+pub terms_of_Sum : (e : Expr) (a : Expr) (terms : List Term) → e ≡ expr.Sum a terms
+    → total (map term_size terms) < size e
+terms_of_Sum e a terms is = let s : size e
+    ≡ 1 + size a + total (map term_size terms) = ap size is ∙ size_Sum a terms in omega (arith, s)
 
-pub a_of_Product : (e : Expr) (a : Expr) (factors : List Factor) → e ≡ expr.Product a factors → size a < size e
-a_of_Product e a factors is = let s : size e ≡ 1 + size a + total (map factor_size factors) = ap size is ∙ size_Product a factors in omega (arith, s)
+pub a_of_Product : (e : Expr) (a : Expr) (factors : List Factor) → e ≡ expr.Product a factors
+    → size a < size e
+a_of_Product e a factors is = let s : size e
+    ≡ 1 + size a + total (map factor_size factors) = ap size is ∙ size_Product a factors in
+    omega (arith, s)
 
-pub factors_of_Product : (e : Expr) (a : Expr) (factors : List Factor) → e ≡ expr.Product a factors → total (map factor_size factors) < size e
-factors_of_Product e a factors is = let s : size e ≡ 1 + size a + total (map factor_size factors) = ap size is ∙ size_Product a factors in omega (arith, s)
+pub factors_of_Product : (e : Expr) (a : Expr) (factors : List Factor) → e ≡ expr.Product a factors
+    → total (map factor_size factors) < size e
+factors_of_Product e a factors is = let s : size e
+    ≡ 1 + size a + total (map factor_size factors) = ap size is ∙ size_Product a factors in
+    omega (arith, s)
 
-pub a_of_Compare : (e : Expr) (c : Comparison) (a : Expr) (b : Expr) → e ≡ expr.Compare c a b → size a < size e
-a_of_Compare e c a b is = let s : size e ≡ 1 + size a + size b = ap size is ∙ size_Compare c a b in omega (arith, s)
+pub a_of_Compare : (e : Expr) (c : Comparison) (a : Expr) (b : Expr) → e ≡ expr.Compare c a b
+    → size a < size e
+a_of_Compare e c a b is = let s : size e ≡ 1 + size a + size b = ap size is ∙ size_Compare c a b in
+    omega (arith, s)
 
-pub b_of_Compare : (e : Expr) (c : Comparison) (a : Expr) (b : Expr) → e ≡ expr.Compare c a b → size b < size e
-b_of_Compare e c a b is = let s : size e ≡ 1 + size a + size b = ap size is ∙ size_Compare c a b in omega (arith, s)
+pub b_of_Compare : (e : Expr) (c : Comparison) (a : Expr) (b : Expr) → e ≡ expr.Compare c a b
+    → size b < size e
+b_of_Compare e c a b is = let s : size e ≡ 1 + size a + size b = ap size is ∙ size_Compare c a b in
+    omega (arith, s)
 
 pub a_of_IsNull : (e : Expr) (a : Expr) → e ≡ expr.IsNull a → size a < size e
 a_of_IsNull e a is = let s : size e ≡ 1 + size a = ap size is ∙ size_IsNull a in omega (arith, s)
 
-pub a_of_Between : (e : Expr) (a : Expr) (low : Expr) (high : Expr) → e ≡ expr.Between a low high → size a < size e
-a_of_Between e a low high is = let s : size e ≡ 1 + size a + size low + size high = ap size is ∙ size_Between a low high in omega (arith, s)
+pub a_of_Between : (e : Expr) (a : Expr) (low : Expr) (high : Expr) → e ≡ expr.Between a low high
+    → size a < size e
+a_of_Between e a low high is = let s : size e
+    ≡ 1 + size a + size low + size high = ap size is ∙ size_Between a low high in omega (arith, s)
 
-pub low_of_Between : (e : Expr) (a : Expr) (low : Expr) (high : Expr) → e ≡ expr.Between a low high → size low < size e
-low_of_Between e a low high is = let s : size e ≡ 1 + size a + size low + size high = ap size is ∙ size_Between a low high in omega (arith, s)
+pub low_of_Between : (e : Expr) (a : Expr) (low : Expr) (high : Expr) → e ≡ expr.Between a low high
+    → size low < size e
+low_of_Between e a low high is = let s : size e
+    ≡ 1 + size a + size low + size high = ap size is ∙ size_Between a low high in omega (arith, s)
 
-pub high_of_Between : (e : Expr) (a : Expr) (low : Expr) (high : Expr) → e ≡ expr.Between a low high → size high < size e
-high_of_Between e a low high is = let s : size e ≡ 1 + size a + size low + size high = ap size is ∙ size_Between a low high in omega (arith, s)
+pub high_of_Between : (e : Expr) (a : Expr) (low : Expr) (high : Expr) → e ≡ expr.Between a low high
+    → size high < size e
+high_of_Between e a low high is = let s : size e
+    ≡ 1 + size a + size low + size high = ap size is ∙ size_Between a low high in omega (arith, s)
 
 pub a_of_Like : (e : Expr) (a : Expr) (pattern : Name) → e ≡ expr.Like a pattern → size a < size e
-a_of_Like e a pattern is = let s : size e ≡ 1 + size a = ap size is ∙ size_Like a pattern in omega (arith, s)
+a_of_Like e a pattern is = let s : size e ≡ 1 + size a = ap size is ∙ size_Like a pattern in
+    omega (arith, s)
 
-pub a_of_InList : (e : Expr) (a : Expr) (list : List Expr) → e ≡ expr.InList a list → size a < size e
-a_of_InList e a list is = let s : size e ≡ 1 + size a + total (map size list) = ap size is ∙ size_InList a list in omega (arith, s)
+pub a_of_InList : (e : Expr) (a : Expr) (list : List Expr) → e ≡ expr.InList a list
+    → size a < size e
+a_of_InList e a list is = let s : size e
+    ≡ 1 + size a + total (map size list) = ap size is ∙ size_InList a list in omega (arith, s)
 
-pub list_of_InList : (e : Expr) (a : Expr) (list : List Expr) → e ≡ expr.InList a list → total (map size list) < size e
-list_of_InList e a list is = let s : size e ≡ 1 + size a + total (map size list) = ap size is ∙ size_InList a list in omega (arith, s)
+pub list_of_InList : (e : Expr) (a : Expr) (list : List Expr) → e ≡ expr.InList a list
+    → total (map size list) < size e
+list_of_InList e a list is = let s : size e
+    ≡ 1 + size a + total (map size list) = ap size is ∙ size_InList a list in omega (arith, s)
 
 pub a_of_InQuery : (e : Expr) (a : Expr) (q : Block) → e ≡ expr.InQuery a q → size a < size e
-a_of_InQuery e a q is = let s : size e ≡ 1 + size a + block_size q = ap size is ∙ size_InQuery a q in omega (arith, s)
+a_of_InQuery e a q is = let s : size e
+    ≡ 1 + size a + block_size q = ap size is ∙ size_InQuery a q in omega (arith, s)
 
 pub q_of_InQuery : (e : Expr) (a : Expr) (q : Block) → e ≡ expr.InQuery a q → block_size q < size e
-q_of_InQuery e a q is = let s : size e ≡ 1 + size a + block_size q = ap size is ∙ size_InQuery a q in omega (arith, s)
+q_of_InQuery e a q is = let s : size e
+    ≡ 1 + size a + block_size q = ap size is ∙ size_InQuery a q in omega (arith, s)
 
 pub q_of_Exists : (e : Expr) (q : Block) → e ≡ expr.Exists q → block_size q < size e
-q_of_Exists e q is = let s : size e ≡ 1 + block_size q = ap size is ∙ size_Exists q in omega (arith, s)
+q_of_Exists e q is = let s : size e ≡ 1 + block_size q = ap size is ∙ size_Exists q in
+    omega (arith, s)
 
 pub q_of_Scalar : (e : Expr) (q : Block) → e ≡ expr.Scalar q → block_size q < size e
-q_of_Scalar e q is = let s : size e ≡ 1 + block_size q = ap size is ∙ size_Scalar q in omega (arith, s)
+q_of_Scalar e q is = let s : size e ≡ 1 + block_size q = ap size is ∙ size_Scalar q in
+    omega (arith, s)
 
 pub a_of_Not : (e : Expr) (a : Expr) → e ≡ expr.Not a → size a < size e
 a_of_Not e a is = let s : size e ≡ 1 + size a = ap size is ∙ size_Not a in omega (arith, s)
 
 pub a_of_And : (e : Expr) (a : Expr) (rest : List Expr) → e ≡ expr.And a rest → size a < size e
-a_of_And e a rest is = let s : size e ≡ 1 + size a + total (map size rest) = ap size is ∙ size_And a rest in omega (arith, s)
+a_of_And e a rest is = let s : size e
+    ≡ 1 + size a + total (map size rest) = ap size is ∙ size_And a rest in omega (arith, s)
 
-pub rest_of_And : (e : Expr) (a : Expr) (rest : List Expr) → e ≡ expr.And a rest → total (map size rest) < size e
-rest_of_And e a rest is = let s : size e ≡ 1 + size a + total (map size rest) = ap size is ∙ size_And a rest in omega (arith, s)
+pub rest_of_And : (e : Expr) (a : Expr) (rest : List Expr) → e ≡ expr.And a rest
+    → total (map size rest) < size e
+rest_of_And e a rest is = let s : size e
+    ≡ 1 + size a + total (map size rest) = ap size is ∙ size_And a rest in omega (arith, s)
 
 pub a_of_Or : (e : Expr) (a : Expr) (rest : List Expr) → e ≡ expr.Or a rest → size a < size e
-a_of_Or e a rest is = let s : size e ≡ 1 + size a + total (map size rest) = ap size is ∙ size_Or a rest in omega (arith, s)
+a_of_Or e a rest is = let s : size e
+    ≡ 1 + size a + total (map size rest) = ap size is ∙ size_Or a rest in omega (arith, s)
 
-pub rest_of_Or : (e : Expr) (a : Expr) (rest : List Expr) → e ≡ expr.Or a rest → total (map size rest) < size e
-rest_of_Or e a rest is = let s : size e ≡ 1 + size a + total (map size rest) = ap size is ∙ size_Or a rest in omega (arith, s)
+pub rest_of_Or : (e : Expr) (a : Expr) (rest : List Expr) → e ≡ expr.Or a rest
+    → total (map size rest) < size e
+rest_of_Or e a rest is = let s : size e
+    ≡ 1 + size a + total (map size rest) = ap size is ∙ size_Or a rest in omega (arith, s)
 
-pub arms_of_Case : (e : Expr) (arms : List Arm) → e ≡ expr.Case arms → total (map arm_size arms) < size e
-arms_of_Case e arms is = let s : size e ≡ 1 + total (map arm_size arms) = ap size is ∙ size_Case arms in omega (arith, s)
+pub arms_of_Case : (e : Expr) (arms : List Arm) → e ≡ expr.Case arms
+    → total (map arm_size arms) < size e
+arms_of_Case e arms is = let s : size e
+    ≡ 1 + total (map arm_size arms) = ap size is ∙ size_Case arms in omega (arith, s)
 
-pub arms_of_CaseElse : (e : Expr) (arms : List Arm) (other : Expr) → e ≡ expr.CaseElse arms other → total (map arm_size arms) < size e
-arms_of_CaseElse e arms other is = let s : size e ≡ 1 + total (map arm_size arms) + size other = ap size is ∙ size_CaseElse arms other in omega (arith, s)
+pub arms_of_CaseElse : (e : Expr) (arms : List Arm) (other : Expr) → e ≡ expr.CaseElse arms other
+    → total (map arm_size arms) < size e
+arms_of_CaseElse e arms other is = let s : size e
+    ≡ 1 + total (map arm_size arms) + size other = ap size is ∙ size_CaseElse arms other in
+    omega (arith, s)
 
-pub other_of_CaseElse : (e : Expr) (arms : List Arm) (other : Expr) → e ≡ expr.CaseElse arms other → size other < size e
-other_of_CaseElse e arms other is = let s : size e ≡ 1 + total (map arm_size arms) + size other = ap size is ∙ size_CaseElse arms other in omega (arith, s)
+pub other_of_CaseElse : (e : Expr) (arms : List Arm) (other : Expr) → e ≡ expr.CaseElse arms other
+    → size other < size e
+other_of_CaseElse e arms other is = let s : size e
+    ≡ 1 + total (map arm_size arms) + size other = ap size is ∙ size_CaseElse arms other in
+    omega (arith, s)
 
 pub a_of_Extract : (e : Expr) (s : Span) (a : Expr) → e ≡ expr.Extract s a → size a < size e
-a_of_Extract e s a is = let s : size e ≡ 1 + size a = ap size is ∙ size_Extract s a in omega (arith, s)
+a_of_Extract e s a is = let s : size e ≡ 1 + size a = ap size is ∙ size_Extract s a in
+    omega (arith, s)
 
-pub a_of_Substring : (e : Expr) (a : Expr) (from : ℕ) (count : ℕ) → e ≡ expr.Substring a from count → size a < size e
-a_of_Substring e a from count is = let s : size e ≡ 1 + size a = ap size is ∙ size_Substring a from count in omega (arith, s)
+pub a_of_Substring : (e : Expr) (a : Expr) (from : ℕ) (count : ℕ) → e ≡ expr.Substring a from count
+    → size a < size e
+a_of_Substring e a from count is = let s : size e
+    ≡ 1 + size a = ap size is ∙ size_Substring a from count in omega (arith, s)
 
 pub a_of_Count : (e : Expr) (a : Expr) → e ≡ expr.Count a → size a < size e
 a_of_Count e a is = let s : size e ≡ 1 + size a = ap size is ∙ size_Count a in omega (arith, s)
 
 pub a_of_CountDistinct : (e : Expr) (a : Expr) → e ≡ expr.CountDistinct a → size a < size e
-a_of_CountDistinct e a is = let s : size e ≡ 1 + size a = ap size is ∙ size_CountDistinct a in omega (arith, s)
+a_of_CountDistinct e a is = let s : size e ≡ 1 + size a = ap size is ∙ size_CountDistinct a in
+    omega (arith, s)
 
-pub a_of_Aggregate : (e : Expr) (f : Aggregate) (a : Expr) → e ≡ expr.Aggregate f a → size a < size e
-a_of_Aggregate e f a is = let s : size e ≡ 1 + size a = ap size is ∙ size_Aggregate f a in omega (arith, s)
+pub a_of_Aggregate : (e : Expr) (f : Aggregate) (a : Expr) → e ≡ expr.Aggregate f a
+    → size a < size e
+a_of_Aggregate e f a is = let s : size e ≡ 1 + size a = ap size is ∙ size_Aggregate f a in
+    omega (arith, s)

@@ -1,6 +1,5 @@
 -- Small facts that the code's arms ask for.
-use Rattle.std.proofs.Common.{◌≡◌, ◌+◌, List, [], ◌∷◌, suc, length, map, refl, ap, ◌∙◌, arith}
-use Rattle.scalar_expr.specs.declared.expr.Branch.{Branch}
+use Rattle.std.proofs.Common.{◌≡◌, ◌+◌, List, [], ◌∷◌, suc, length, map, refl, ap, arith}
 use Rattle.scalar_expr.specs.declared.expr.Expr.{Expr}
 use Rattle.sql_binder.specs.declared.scope.Level.{Level}
 use Rattle.sql_binder.specs.Names.{Around, level_of}
@@ -16,7 +15,8 @@ levels_length [] = refl
 levels_length (l ∷ ls) = ap (λ n. suc n) (levels_length ls)
 
 -- so many levels as around, and one
-pub one_more : (ls : List Level) (l : Around) (outer : List Around) → map level_of ls ≡ l ∷ outer → length ls ≡ length outer + 1
+pub one_more : (ls : List Level) (l : Around) (outer : List Around) → map level_of ls ≡ l ∷ outer
+    → length ls ≡ length outer + 1
 one_more ls l outer e =
     let a = levels_length ls in
     let b : length (map level_of ls) ≡ suc (length outer) = ap length e in

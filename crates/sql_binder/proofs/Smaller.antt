@@ -17,23 +17,32 @@ use Rattle.sql_binder.specs.declared.collected.Typed.{Typed}
 use Rattle.sql_binder.specs.Steps.{Binds}
 use Rattle.sql_binder.specs.Names.{sight_of}
 use Rattle.sql_binder.specs.Binding.{meaning, block_meaning}
-use Rattle.sql_binder.specs.Nests.{Pre, Post, Below, BindsExpr, BindsBlock, BindsExprs, BindsTerm, BindsFactor, BindsArm, BindsItem, BindsSelected, BindsClause, BindsFromItem, BindsJoin, BindsJoined, BindsParts}
-use Rattle.sql_binder.specs.Sizes.{total, size, term_size, factor_size, arm_size, item_size, selected_size, from_item_size, join_size, joined_size, clause_size, block_size}
-use Rattle.sql_binder.proofs.Sized.{clause_falls, selected_falls, derived_falls, term_size_of, factor_size_of, arm_size_of, item_size_of, join_size_of, joined_size_of, block_size_of}
+use Rattle.sql_binder.specs.Nests.{Pre, Post, Below, BindsExpr, BindsBlock, BindsExprs, BindsTerm}
+use Rattle.sql_binder.specs.Nests.{BindsFactor, BindsArm, BindsItem, BindsSelected, BindsClause}
+use Rattle.sql_binder.specs.Nests.{BindsFromItem, BindsJoin, BindsJoined, BindsParts}
+use Rattle.sql_binder.specs.Sizes.{total, size, term_size, factor_size, arm_size, item_size}
+use Rattle.sql_binder.specs.Sizes.{selected_size, from_item_size, join_size, joined_size}
+use Rattle.sql_binder.specs.Sizes.{clause_size, block_size}
+use Rattle.sql_binder.proofs.Sized.{clause_falls, selected_falls, derived_falls, term_size_of}
+use Rattle.sql_binder.proofs.Sized.{factor_size_of, arm_size_of, item_size_of, join_size_of}
+use Rattle.sql_binder.proofs.Sized.{joined_size_of, block_size_of}
 
-module _ {n : ℕ} {pre : Pre Expr} {post : Post Expr Typed} {pre_block : Pre Block} {post_block : Post Block BoundTable} (below : Below n pre post pre_block post_block) where
+module _ {n : ℕ} {pre : Pre Expr} {post : Post Expr Typed} {pre_block : Pre Block}
+    {post_block : Post Block BoundTable} (below : Below n pre post pre_block post_block) where
   pub expr_below : (e : Expr) → size e < n → BindsExpr pre post e
   expr_below e h = record {
     callable = λ alloc site old x same. below.expr_callable alloc site old x (rw same h);
     binds = λ alloc site old new x r same p.
-        subst (λ (y : Expr). Binds ((meaning y).binds (sight_of site.now) old.now) r new.now) same (below.expr_binds alloc site old new x r (rw same h) p);
+        subst (λ (y : Expr). Binds ((meaning y).binds (sight_of site.now) old.now) r new.now) same
+        (below.expr_binds alloc site old new x r (rw same h) p);
   }
 
   pub block_below : (q : Block) → block_size q < n → BindsBlock pre_block post_block q
   block_below q h = record {
     callable = λ alloc site old x same. below.block_callable alloc site old x (rw same h);
     binds = λ alloc site old new x r same p.
-        subst (λ (y : Block). Binds (block_meaning y (sight_of site.now) old.now) r new.now) same (below.block_binds alloc site old new x r (rw same h) p);
+        subst (λ (y : Block). Binds (block_meaning y (sight_of site.now) old.now) r new.now) same
+        (below.block_binds alloc site old new x r (rw same h) p);
   }
 
   pub each_expr : (es : List Expr) → total (map size es) < n → BindsExprs pre post es
@@ -49,7 +58,8 @@ module _ {n : ℕ} {pre : Pre Expr} {post : Post Expr Typed} {pre_block : Pre Bl
       let s = term_size_of t in
       (expr_below (out-Term t).value (omega (arith, h', s)), each_term ts (omega (arith, h')))
 
-  pub each_factor : (fs : List Factor) → total (map factor_size fs) < n → Each (BindsFactor pre post) fs
+  pub each_factor : (fs : List Factor) → total (map factor_size fs) < n
+      → Each (BindsFactor pre post) fs
   each_factor [] h = tt
   each_factor (f ∷ fs) h =
       let h' : factor_size f + total (map factor_size fs) < n = h in
@@ -60,8 +70,13 @@ module _ {n : ℕ} {pre : Pre Expr} {post : Post Expr Typed} {pre_block : Pre Bl
   each_arm [] h = tt
   each_arm (a ∷ arms) h =
       let h' : arm_size a + total (map arm_size arms) < n = h in
-      let s = arm_size_of a in
-      ((expr_below (out-Arm a).condition (omega (arith, h', s)), expr_below (out-Arm a).value (omega (arith, h', s))), each_arm arms (omega (arith, h')))
+      let s = arm_size_of a in (
+        (
+          expr_below (out-Arm a).condition (omega (arith, h', s)),
+          expr_below (out-Arm a).value (omega (arith, h', s)),
+        ),
+        each_arm arms (omega (arith, h')),
+      )
 
   pub each_item : (is : List Item) → total (map item_size is) < n → Each (BindsItem pre post) is
   each_item [] h = tt
@@ -74,24 +89,38 @@ module _ {n : ℕ} {pre : Pre Expr} {post : Post Expr Typed} {pre_block : Pre Bl
   clause_below c h e is = let s = clause_falls c e is in expr_below e (omega (arith, h, s))
 
   selected_below : (s : Selected) → selected_size s < n → BindsSelected pre post s
-  selected_below s h items is = let e = selected_falls s items is in each_item items (omega (arith, h, e))
+  selected_below s h items is = let e = selected_falls s items is in
+      each_item items (omega (arith, h, e))
 
   item_below : (i : FromItem) → from_item_size i < n → BindsFromItem pre_block post_block i
-  item_below i h q alias names is = let s = derived_falls i q alias names is in block_below q (omega (arith, h, s))
+  item_below i h q alias names is = let s = derived_falls i q alias names is in
+      block_below q (omega (arith, h, s))
 
-  each_join : (js : List Join) → total (map join_size js) < n → Each (BindsJoin pre post pre_block post_block) js
+  each_join : (js : List Join) → total (map join_size js) < n
+      → Each (BindsJoin pre post pre_block post_block) js
   each_join [] h = tt
   each_join (j ∷ js) h =
       let h' : join_size j + total (map join_size js) < n = h in
-      let s = join_size_of j in
-      ((item_below (out-Join j).item (omega (arith, h', s)), expr_below (out-Join j).condition (omega (arith, h', s))), each_join js (omega (arith, h')))
+      let s = join_size_of j in (
+        (
+          item_below (out-Join j).item (omega (arith, h', s)),
+          expr_below (out-Join j).condition (omega (arith, h', s)),
+        ),
+        each_join js (omega (arith, h')),
+      )
 
-  each_joined : (js : List Joined) → total (map joined_size js) < n → Each (BindsJoined pre post pre_block post_block) js
+  each_joined : (js : List Joined) → total (map joined_size js) < n
+      → Each (BindsJoined pre post pre_block post_block) js
   each_joined [] h = tt
   each_joined (j ∷ js) h =
       let h' : joined_size j + total (map joined_size js) < n = h in
-      let s = joined_size_of j in
-      ((item_below (out-Joined j).first (omega (arith, h', s)), each_join (out-Joined j).joins (omega (arith, h', s))), each_joined js (omega (arith, h')))
+      let s = joined_size_of j in (
+        (
+          item_below (out-Joined j).first (omega (arith, h', s)),
+          each_join (out-Joined j).joins (omega (arith, h', s)),
+        ),
+        each_joined js (omega (arith, h')),
+      )
 
   pub parts_below : (q : Block) → n ≡ block_size q → BindsParts pre post pre_block post_block q
   parts_below q e =

@@ -1,4 +1,5 @@
--- What it is to bind a whole tree: a fold of the steps of its nodes. A statement and a view are bound so.
+-- What it is to bind a whole tree: a fold of the steps of its nodes. A statement and a view are
+-- bound so.
 use Rattle.std.specs.Prelude.{ℕ, Bool, List, [], map, Ok}
 use Rattle.nested_query.specs.declared.query.BoundQuery.{BoundQuery}
 use Rattle.sql_ast.specs.declared.statement.Query.{Query}
@@ -6,7 +7,10 @@ use Rattle.sql_ast.specs.declared.tree.Arm.{Arm}
 use Rattle.sql_ast.specs.declared.tree.Block.{Block, out-Block}
 use Rattle.sql_ast.specs.declared.tree.Clause.{Clause}
 use Rattle.sql_ast.specs.declared.tree.Expr.{Expr}
-use Rattle.sql_ast.specs.declared.tree.Clause.TheFolds.{fold-Expr, fold-Term, fold-Factor, fold-Arm, fold-Item, fold-Selected, fold-FromItem, fold-Join, fold-Joined, fold-Clause, fold-Block}
+use Rattle.sql_ast.specs.declared.tree.Clause.TheFolds.{fold-Expr, fold-Term, fold-Factor, fold-Arm}
+use Rattle.sql_ast.specs.declared.tree.Clause.TheFolds.{fold-Item, fold-Selected, fold-FromItem}
+use Rattle.sql_ast.specs.declared.tree.Clause.TheFolds.{fold-Join, fold-Joined, fold-Clause}
+use Rattle.sql_ast.specs.declared.tree.Clause.TheFolds.{fold-Block}
 use Rattle.sql_ast.specs.declared.tree.Factor.{Factor}
 use Rattle.sql_ast.specs.declared.tree.FromItem.{FromItem}
 use Rattle.sql_ast.specs.declared.tree.Item.{Item}
@@ -19,7 +23,9 @@ use Rattle.sql_binder.specs.declared.collected.Collected.{Collected}
 use Rattle.sql_binder.specs.declared.view.View.{View}
 use Rattle.sql_binder.specs.Steps.{Name, Checked, and_then}
 use Rattle.sql_binder.specs.Parts.{outermost, distinct_names, renamed_headers, order_of}
-use Rattle.sql_binder.specs.Meanings.{Meaning, ChainMeaning, ArmMeaning, ItemMeaning, SelectedMeaning, ClauseMeaning, FromItemMeaning, JoinMeaning, JoinedMeaning, BlockMeaning, BlockNode}
+use Rattle.sql_binder.specs.Meanings.{Meaning, ChainMeaning, ArmMeaning, ItemMeaning}
+use Rattle.sql_binder.specs.Meanings.{SelectedMeaning, ClauseMeaning, FromItemMeaning, JoinMeaning}
+use Rattle.sql_binder.specs.Meanings.{JoinedMeaning, BlockMeaning, BlockNode}
 use Rattle.sql_binder.specs.Expressions.{expr_step, term_step, factor_step, arm_step}
 use Rattle.sql_binder.specs.FromLists.{from_item_step, join_step, joined_step}
 use Rattle.sql_binder.specs.Clauses.{clause_step, item_step, selected_step}
@@ -27,47 +33,80 @@ use Rattle.sql_binder.specs.Blocks.{is_grouped, clauses, block_step}
 
 -- an expression
 unfoldable pub meaning : Expr → Meaning
-meaning = fold-Expr ClauseMeaning Meaning FromItemMeaning SelectedMeaning ArmMeaning BlockMeaning ChainMeaning ItemMeaning JoinMeaning JoinedMeaning ChainMeaning clause_step expr_step from_item_step selected_step arm_step block_step factor_step item_step join_step joined_step term_step
+meaning = fold-Expr ClauseMeaning Meaning FromItemMeaning SelectedMeaning ArmMeaning BlockMeaning
+    ChainMeaning ItemMeaning JoinMeaning JoinedMeaning ChainMeaning clause_step expr_step
+    from_item_step selected_step arm_step block_step factor_step item_step join_step joined_step
+    term_step
 
 -- a term
 unfoldable pub term_meaning : Term → ChainMeaning
-term_meaning = fold-Term ClauseMeaning Meaning FromItemMeaning SelectedMeaning ArmMeaning BlockMeaning ChainMeaning ItemMeaning JoinMeaning JoinedMeaning ChainMeaning clause_step expr_step from_item_step selected_step arm_step block_step factor_step item_step join_step joined_step term_step
+term_meaning = fold-Term ClauseMeaning Meaning FromItemMeaning SelectedMeaning ArmMeaning
+    BlockMeaning ChainMeaning ItemMeaning JoinMeaning JoinedMeaning ChainMeaning clause_step
+    expr_step from_item_step selected_step arm_step block_step factor_step item_step join_step
+    joined_step term_step
 
 -- a factor
 unfoldable pub factor_meaning : Factor → ChainMeaning
-factor_meaning = fold-Factor ClauseMeaning Meaning FromItemMeaning SelectedMeaning ArmMeaning BlockMeaning ChainMeaning ItemMeaning JoinMeaning JoinedMeaning ChainMeaning clause_step expr_step from_item_step selected_step arm_step block_step factor_step item_step join_step joined_step term_step
+factor_meaning = fold-Factor ClauseMeaning Meaning FromItemMeaning SelectedMeaning ArmMeaning
+    BlockMeaning ChainMeaning ItemMeaning JoinMeaning JoinedMeaning ChainMeaning clause_step
+    expr_step from_item_step selected_step arm_step block_step factor_step item_step join_step
+    joined_step term_step
 
 -- an arm of a CASE
 unfoldable pub arm_meaning : Arm → ArmMeaning
-arm_meaning = fold-Arm ClauseMeaning Meaning FromItemMeaning SelectedMeaning ArmMeaning BlockMeaning ChainMeaning ItemMeaning JoinMeaning JoinedMeaning ChainMeaning clause_step expr_step from_item_step selected_step arm_step block_step factor_step item_step join_step joined_step term_step
+arm_meaning = fold-Arm ClauseMeaning Meaning FromItemMeaning SelectedMeaning ArmMeaning BlockMeaning
+    ChainMeaning ItemMeaning JoinMeaning JoinedMeaning ChainMeaning clause_step expr_step
+    from_item_step selected_step arm_step block_step factor_step item_step join_step joined_step
+    term_step
 
 -- an item of a select list
 unfoldable pub item_meaning : Item → ItemMeaning
-item_meaning = fold-Item ClauseMeaning Meaning FromItemMeaning SelectedMeaning ArmMeaning BlockMeaning ChainMeaning ItemMeaning JoinMeaning JoinedMeaning ChainMeaning clause_step expr_step from_item_step selected_step arm_step block_step factor_step item_step join_step joined_step term_step
+item_meaning = fold-Item ClauseMeaning Meaning FromItemMeaning SelectedMeaning ArmMeaning
+    BlockMeaning ChainMeaning ItemMeaning JoinMeaning JoinedMeaning ChainMeaning clause_step
+    expr_step from_item_step selected_step arm_step block_step factor_step item_step join_step
+    joined_step term_step
 
 -- a select list
 unfoldable pub selected_meaning : Selected → SelectedMeaning
-selected_meaning = fold-Selected ClauseMeaning Meaning FromItemMeaning SelectedMeaning ArmMeaning BlockMeaning ChainMeaning ItemMeaning JoinMeaning JoinedMeaning ChainMeaning clause_step expr_step from_item_step selected_step arm_step block_step factor_step item_step join_step joined_step term_step
+selected_meaning = fold-Selected ClauseMeaning Meaning FromItemMeaning SelectedMeaning ArmMeaning
+    BlockMeaning ChainMeaning ItemMeaning JoinMeaning JoinedMeaning ChainMeaning clause_step
+    expr_step from_item_step selected_step arm_step block_step factor_step item_step join_step
+    joined_step term_step
 
 -- an item of FROM
 unfoldable pub from_item_meaning : FromItem → FromItemMeaning
-from_item_meaning = fold-FromItem ClauseMeaning Meaning FromItemMeaning SelectedMeaning ArmMeaning BlockMeaning ChainMeaning ItemMeaning JoinMeaning JoinedMeaning ChainMeaning clause_step expr_step from_item_step selected_step arm_step block_step factor_step item_step join_step joined_step term_step
+from_item_meaning = fold-FromItem ClauseMeaning Meaning FromItemMeaning SelectedMeaning ArmMeaning
+    BlockMeaning ChainMeaning ItemMeaning JoinMeaning JoinedMeaning ChainMeaning clause_step
+    expr_step from_item_step selected_step arm_step block_step factor_step item_step join_step
+    joined_step term_step
 
 -- a join
 unfoldable pub join_meaning : Join → JoinMeaning
-join_meaning = fold-Join ClauseMeaning Meaning FromItemMeaning SelectedMeaning ArmMeaning BlockMeaning ChainMeaning ItemMeaning JoinMeaning JoinedMeaning ChainMeaning clause_step expr_step from_item_step selected_step arm_step block_step factor_step item_step join_step joined_step term_step
+join_meaning = fold-Join ClauseMeaning Meaning FromItemMeaning SelectedMeaning ArmMeaning
+    BlockMeaning ChainMeaning ItemMeaning JoinMeaning JoinedMeaning ChainMeaning clause_step
+    expr_step from_item_step selected_step arm_step block_step factor_step item_step join_step
+    joined_step term_step
 
 -- what stands between commas
 unfoldable pub joined_meaning : Joined → JoinedMeaning
-joined_meaning = fold-Joined ClauseMeaning Meaning FromItemMeaning SelectedMeaning ArmMeaning BlockMeaning ChainMeaning ItemMeaning JoinMeaning JoinedMeaning ChainMeaning clause_step expr_step from_item_step selected_step arm_step block_step factor_step item_step join_step joined_step term_step
+joined_meaning = fold-Joined ClauseMeaning Meaning FromItemMeaning SelectedMeaning ArmMeaning
+    BlockMeaning ChainMeaning ItemMeaning JoinMeaning JoinedMeaning ChainMeaning clause_step
+    expr_step from_item_step selected_step arm_step block_step factor_step item_step join_step
+    joined_step term_step
 
 -- WHERE or HAVING
 unfoldable pub clause_meaning : Clause → ClauseMeaning
-clause_meaning = fold-Clause ClauseMeaning Meaning FromItemMeaning SelectedMeaning ArmMeaning BlockMeaning ChainMeaning ItemMeaning JoinMeaning JoinedMeaning ChainMeaning clause_step expr_step from_item_step selected_step arm_step block_step factor_step item_step join_step joined_step term_step
+clause_meaning = fold-Clause ClauseMeaning Meaning FromItemMeaning SelectedMeaning ArmMeaning
+    BlockMeaning ChainMeaning ItemMeaning JoinMeaning JoinedMeaning ChainMeaning clause_step
+    expr_step from_item_step selected_step arm_step block_step factor_step item_step join_step
+    joined_step term_step
 
 -- a query
 unfoldable pub block_meaning : Block → BlockMeaning
-block_meaning = fold-Block ClauseMeaning Meaning FromItemMeaning SelectedMeaning ArmMeaning BlockMeaning ChainMeaning ItemMeaning JoinMeaning JoinedMeaning ChainMeaning clause_step expr_step from_item_step selected_step arm_step block_step factor_step item_step join_step joined_step term_step
+block_meaning = fold-Block ClauseMeaning Meaning FromItemMeaning SelectedMeaning ArmMeaning
+    BlockMeaning ChainMeaning ItemMeaning JoinMeaning JoinedMeaning ChainMeaning clause_step
+    expr_step from_item_step selected_step arm_step block_step factor_step item_step join_step
+    joined_step term_step
 
 -- a query with the meanings of its parts in their place
 abbrev pub opened_block : Block → BlockNode
@@ -80,9 +119,11 @@ opened_block q = record {
   having = clause_meaning (out-Block q).having;
 }
 
+-- the meaning of a query, from its clauses
 unfoldable pub clauses_of : Block → BlockMeaning
 clauses_of q = clauses (opened_block q)
 
+-- whether a query makes groups
 unfoldable pub is_grouped_block : Block → Bool
 is_grouped_block q = is_grouped (opened_block q)
 
@@ -102,7 +143,8 @@ counted_table q views = and_then (bound_table q views) (λ r. Ok (r.0, r.1.items
 unfoldable pub bound_query : Query → List View → Checked BoundQuery
 bound_query q views =
     and_then (counted_table q.block views)
-    (λ r. and_then (order_of r.0.headers q.order) (λ keys. Ok (record { block = r.0.block; order = keys; limit = q.limit })))
+    (λ r. and_then (order_of r.0.headers q.order)
+    (λ keys. Ok (record { block = r.0.block; order = keys; limit = q.limit })))
 
 -- a view: equal names of its column list, its query, the list's length
 unfoldable pub bound_view : Name → List Name → Block → List View → Checked View

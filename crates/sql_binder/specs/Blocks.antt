@@ -1,5 +1,6 @@
 -- What a query means, from SELECT to HAVING.
-use Rattle.std.specs.Prelude.{ℕ, Bool, true, false, not, ◌||◌, ◌==◌, List, length, Option, Some, None, if◌then◌else◌}
+use Rattle.std.specs.Prelude.{ℕ, Bool, true, false, not, ◌||◌, ◌==◌, List, length, Option, Some}
+use Rattle.std.specs.Prelude.{None, if◌then◌else◌}
 use Rattle.std.specs.List.{list_any}
 use Rattle.nested_query.specs.declared.query.BoundExpr.{BoundExpr}
 use Rattle.sql_ast.specs.declared.words.Column.{Column}
@@ -10,7 +11,8 @@ use Rattle.sql_binder.specs.declared.scope.ScopeColumn.{ScopeColumn}
 use Rattle.sql_binder.specs.Steps.{Binding, ◌>>=◌, pure, lift, apart}
 use Rattle.sql_binder.specs.Names.{Sight}
 use Rattle.sql_binder.specs.Parts.{keys_of, plain, closing, once_each}
-use Rattle.sql_binder.specs.Meanings.{ItemMeaning, SelectedMeaning, ClauseMeaning, JoinedMeaning, BlockMeaning, BlockNode}
+use Rattle.sql_binder.specs.Meanings.{ItemMeaning, SelectedMeaning, ClauseMeaning, JoinedMeaning}
+use Rattle.sql_binder.specs.Meanings.{BlockMeaning, BlockNode}
 use Rattle.sql_binder.specs.FromLists.{from_list}
 use Rattle.sql_binder.specs.Clauses.{condition, select}
 
@@ -33,7 +35,8 @@ unfoldable pub is_grouped : BlockNode → Bool
 is_grouped q = not (length q.group == 0) || is_there q.having || items_aggregate q.selected
 
 -- FROM, then WHERE
-unfoldable pub from_where : Sight → List JoinedMeaning → ClauseMeaning → Binding (FromRows × BoundExpr)
+unfoldable pub from_where : Sight → List JoinedMeaning → ClauseMeaning
+    → Binding (FromRows × BoundExpr)
 from_where sight js m = do
   from ← from_list sight js
   kept ← condition sight from.columns None m
@@ -46,14 +49,16 @@ over_rows sight from kept items = do
   pure (plain from kept shown)
 
 -- the select list, then HAVING
-unfoldable pub group_lists : Sight → List ScopeColumn → Option (List ℕ) → SelectedMeaning → ClauseMeaning → Binding (Shown × BoundExpr)
+unfoldable pub group_lists : Sight → List ScopeColumn → Option (List ℕ) → SelectedMeaning
+    → ClauseMeaning → Binding (Shown × BoundExpr)
 group_lists sight columns keys items m = do
   shown ← select sight columns keys items
   having ← condition sight columns keys m
   pure (shown, having)
 
 -- a query with groups: GROUP BY, the select list, HAVING
-unfoldable pub over_groups : Sight → FromRows → BoundExpr → List Column → SelectedMeaning → ClauseMeaning → Binding BoundTable
+unfoldable pub over_groups : Sight → FromRows → BoundExpr → List Column → SelectedMeaning
+    → ClauseMeaning → Binding BoundTable
 over_groups sight from kept group items m = do
   keys ← lift (keys_of from.columns group)
   lists ← group_lists sight from.columns (Some keys) items m
@@ -63,7 +68,10 @@ over_groups sight from kept group items m = do
 abbrev pub clauses : BlockNode → BlockMeaning
 clauses q sight =
     from_where sight q.from q.condition
-    >>= (λ p. if is_grouped q then over_groups sight p.0 p.1 q.group q.selected q.having else over_rows sight p.0 p.1 q.selected)
+    >>= (λ p.
+    if is_grouped q
+    then over_groups sight p.0 p.1 q.group q.selected q.having
+    else over_rows sight p.0 p.1 q.selected)
 
 -- a query, with aggregates of its own, then DISTINCT
 abbrev pub block_step : BlockNode → BlockMeaning

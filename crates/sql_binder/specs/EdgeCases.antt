@@ -1,11 +1,15 @@
 -- Where the order of binding or the sight of a part decides, one small query each.
-use Rattle.std.specs.Prelude.{◌≡◌, ℕ, List, [], ◌∷◌, map, Some, None, Ok, Err, pos, codes, false}
+use Rattle.std.specs.Prelude.{◌≡◌, ℕ, List, [], ◌∷◌, map, None, Ok, Err, pos, codes, false}
 use Rattle.nested_query.specs.declared.query.BoundBlock.TheVariants as bound
 use Rattle.nested_query.specs.declared.query.BoundExpr.{BoundExpr}
 use Rattle.nested_query.specs.declared.query.BoundSource.TheVariants as source
 use Rattle.nested_query.specs.declared.query.Input.TheVariants as input
 use Rattle.operators.specs.declared.operator.Comparison.TheVariants as operator
-use Rattle.refusals.specs.declared.bind.BindRefusal.TheVariants.{UnknownColumn, AmbiguousColumn, DuplicateAlias, TypeMismatch, NotGrouped, NestedAggregate, SubqueryColumns, IntervalOnColumn, TooManyTables}
+use Rattle.refusals.specs.declared.bind.BindRefusal.TheVariants.{UnknownColumn, AmbiguousColumn}
+use Rattle.refusals.specs.declared.bind.BindRefusal.TheVariants.{DuplicateAlias, TypeMismatch}
+use Rattle.refusals.specs.declared.bind.BindRefusal.TheVariants.{NotGrouped, NestedAggregate}
+use Rattle.refusals.specs.declared.bind.BindRefusal.TheVariants.{SubqueryColumns, IntervalOnColumn}
+use Rattle.refusals.specs.declared.bind.BindRefusal.TheVariants.{TooManyTables}
 use Rattle.scalar_expr.specs.declared.expr.Expr.{Expr as Scalar}
 use Rattle.scalar_expr.specs.declared.expr.Expr.TheVariants as scalar
 use Rattle.scalar_expr.specs.declared.kind.Kind.TheVariants as kind
@@ -27,7 +31,10 @@ use Rattle.sql_value.specs.declared.value.Value.TheVariants as value
 use Rattle.tpch_schema.specs.declared.table.TableName.TheVariants as table
 use Rattle.sql_binder.specs.Steps.{Name}
 use Rattle.sql_binder.specs.Binding.{bound_query, bound_view}
-use Rattle.sql_binder.specs.Examples.{named, of_item, number, plus, minus, item, from_table, from_alias, from_derived, select_from, select_where, statement, over_region, Refuses, r_name, name_of_region, two_names, one_day, view_of}
+use Rattle.sql_binder.specs.Examples.{named, of_item, number, plus, minus, item, from_table}
+use Rattle.sql_binder.specs.Examples.{from_alias, from_derived, select_from, select_where}
+use Rattle.sql_binder.specs.Examples.{statement, over_region, Refuses, r_name, name_of_region}
+use Rattle.sql_binder.specs.Examples.{two_names, one_day, view_of}
 
 -- a date literal
 abbrev pub date : List ℕ → Expr
@@ -67,7 +74,14 @@ grouped_by items columns from = roll-Block (record {
 -- `.. having true`
 abbrev pub having_where : Selected → Expr → Block
 having_where selected x =
-    roll-Block (record { is_distinct = false; selected = selected; from = from_table (codes "region") ∷ []; condition = Absent; group = []; having = Condition x })
+    roll-Block (record {
+      is_distinct = false;
+      selected = selected;
+      from = from_table (codes "region") ∷ [];
+      condition = Absent;
+      group = [];
+      having = Condition x;
+    })
 
 -- a join under its own name
 abbrev pub join_on : Name → Expr → Join
@@ -77,14 +91,21 @@ join_on n x = record { kind = Inner; item = Table n None; condition = x }
 abbrev pub equal : Expr → Expr → Expr
 equal a b = e.Compare compared.Equal a b
 
--- Dates that are moved when they are bound: `date '1996-01-31' + interval '1' month`, `date '1998-12-01' - interval '90' day`.
+-- Dates that are moved when they are bound: `date '1996-01-31' + interval '1' month`,
+-- `date '1998-12-01' - interval '90' day`.
 abbrev pub MovedDates : Type 0
 MovedDates =
-    bound_query (statement (select_where (item end_of_february ∷ item ninety_days_before ∷ []) (from_table (codes "region") ∷ []) is_africa)) []
+    bound_query (statement (select_where (item end_of_february ∷ item ninety_days_before ∷ [])
+    (from_table (codes "region") ∷ []) is_africa)) []
     ≡ Ok (record {
       block = bound.Plain (source.Table table.Region)
-          (record { inputs = input.Column 0 0 ∷ []; expr = scalar.Compare operator.Equal (scalar.Column 0) (scalar.Literal (value.Number 0 (pos 0))) })
-          (closed (scalar.Literal (value.Date 19960229)) ∷ closed (scalar.Literal (value.Date 19980902)) ∷ []);
+          (record {
+            inputs = input.Column 0 0 ∷ [];
+            expr = scalar.Compare operator.Equal (scalar.Column 0)
+                (scalar.Literal (value.Number 0 (pos 0)));
+          })
+          (closed (scalar.Literal (value.Date 19960229))
+          ∷ closed (scalar.Literal (value.Date 19980902)) ∷ []);
       order = [];
       limit = None;
     })
@@ -100,53 +121,99 @@ ViewOfNames = bound_view (codes "v") [] (from_region (item r_name ∷ [])) []
       items = 1;
     })
 
--- intervals: an interval before a date and one by itself are refused; a date moved twice is a date literal; 1 + 'x' before a later name
+-- intervals: an interval before a date and one by itself are refused; a date moved twice is a date
+-- literal; 1 + 'x' before a later name
 abbrev pub Chains : Type 0
 Chains = Refuses (over_region one_day) IntervalOnColumn
     × Refuses (over_region (e.Sum one_day (plus (date (codes "1996-01-31")) ∷ []))) IntervalOnColumn
-    × (bound_query (over_region (e.Sum (e.Sum (date (codes "1996-01-30")) (plus one_day ∷ [])) (plus one_day ∷ []))) []
-    ≡ Ok (record { block = bound.Plain (source.Table table.Region) (closed (scalar.All [])) (closed (scalar.Literal (value.Date 19960201)) ∷ []); order = []; limit = None }))
-    × Refuses (over_region (e.Sum (number 1) (plus r_name ∷ plus (named (codes "nope")) ∷ []))) TypeMismatch
+    × (bound_query (over_region
+    (e.Sum (e.Sum (date (codes "1996-01-30")) (plus one_day ∷ [])) (plus one_day ∷ []))) []
+    ≡ Ok (record {
+      block = bound.Plain (source.Table table.Region) (closed (scalar.All []))
+          (closed (scalar.Literal (value.Date 19960201)) ∷ []);
+      order = [];
+      limit = None;
+    }))
+    × Refuses (over_region (e.Sum (number 1) (plus r_name ∷ plus (named (codes "nope")) ∷ [])))
+    TypeMismatch
     × Refuses (over_region (e.And (number 1) (named (codes "nope") ∷ []))) UnknownColumn
     × Refuses (over_region (e.InList (number 1) (r_name ∷ named (codes "nope") ∷ []))) UnknownColumn
-    × Refuses (over_region (e.Case (record { condition = number 1; value = named (codes "nope") } ∷ []))) UnknownColumn
+    × Refuses (over_region (e.Case
+    (record { condition = number 1; value = named (codes "nope") } ∷ []))) UnknownColumn
 
 -- conditions are no values
 abbrev pub ConditionsAsValues : Type 0
 ConditionsAsValues = Refuses (over_region is_africa) TypeMismatch
     × Refuses (over_region (e.Count is_africa)) TypeMismatch
     × Refuses (over_region (e.Negative is_africa)) TypeMismatch
-    × Refuses (over_region (e.Case (record { condition = is_africa; value = is_africa } ∷ []))) TypeMismatch
+    × Refuses (over_region (e.Case (record { condition = is_africa; value = is_africa } ∷ [])))
+    TypeMismatch
 
--- `select * .. having ..` is NotGrouped; an aggregate's kind is tested first, then its place, then its columns
+-- `select * .. having ..` is NotGrouped; an aggregate's kind is tested first, then its place, then
+-- its columns
 abbrev pub Groups : Type 0
 Groups = Refuses (statement (having_where All is_africa)) NotGrouped
-    × Refuses (statement (select_where (item r_name ∷ []) (from_table (codes "region") ∷ []) (equal (e.Aggregate Sum r_name) (number 1)))) TypeMismatch
-    × Refuses (statement (select_where (item r_name ∷ []) (from_table (codes "region") ∷ []) (equal (e.Aggregate Sum (number 1)) (number 1)))) NestedAggregate
-    × Refuses (statement (grouped_by (item e.CountRows ∷ []) (codes "n_name" ∷ []) (from_table (codes "nation") ∷ from_alias (codes "nation") (codes "m") ∷ []))) AmbiguousColumn
-    × Refuses (statement (grouped_by (item r_name ∷ []) (codes "n_name" ∷ []) (from_table (codes "nation") ∷ from_table (codes "region") ∷ []))) NotGrouped
+    × Refuses (statement (select_where (item r_name ∷ []) (from_table (codes "region") ∷ [])
+    (equal (e.Aggregate Sum r_name) (number 1)))) TypeMismatch
+    × Refuses (statement (select_where (item r_name ∷ []) (from_table (codes "region") ∷ [])
+    (equal (e.Aggregate Sum (number 1)) (number 1)))) NestedAggregate
+    × Refuses (statement (grouped_by (item e.CountRows ∷ []) (codes "n_name" ∷ [])
+    (from_table (codes "nation") ∷ from_alias (codes "nation") (codes "m") ∷ []))) AmbiguousColumn
+    × Refuses (statement (grouped_by (item r_name ∷ []) (codes "n_name" ∷ [])
+    (from_table (codes "nation") ∷ from_table (codes "region") ∷ []))) NotGrouped
 
 -- region join nation on x join supplier on y
 abbrev pub two_joins : Expr → Expr → Joined
-two_joins x y = roll-Joined (record { first = Table (codes "region") None; joins = join_on (codes "nation") x ∷ join_on (codes "supplier") y ∷ [] })
+two_joins x y = roll-Joined
+    (record {
+      first = Table (codes "region") None;
+      joins = join_on (codes "nation") x ∷ join_on (codes "supplier") y ∷ [];
+    })
 
--- ON of the first join doesn't see the third table; a name of another comma's item is looked for in the queries around
+-- ON of the first join doesn't see the third table; a name of another comma's item is looked for in
+-- the queries around
 abbrev pub SightsOfParts : Type 0
-SightsOfParts = Refuses (statement (select_from (item r_name ∷ []) (two_joins (equal (named (codes "s_nationkey")) (number 1)) is_africa ∷ []))) UnknownColumn
-    × Refuses (statement (select_from (item r_name ∷ []) (from_table (codes "supplier") ∷ two_joins (equal (named (codes "s_nationkey")) (number 1)) is_africa ∷ []))) UnknownColumn
-    × Refuses (statement (select_from (item r_name ∷ []) (from_derived name_of_region (codes "t") ∷ from_table (codes "region") ∷ []))) UnknownColumn
-    × Refuses (over_region (e.Exists (select_where (item (number 1) ∷ []) (from_alias (codes "nation") (codes "region") ∷ []) (equal (of_item (codes "region") (codes "r_name")) r_name)))) UnknownColumn
-    × Refuses (statement (select_from (item (number 1) ∷ []) (from_table (codes "region") ∷ from_alias (codes "region") (codes "b") ∷ from_derived name_of_region (codes "t") ∷ []))) AmbiguousColumn
+SightsOfParts = Refuses (statement
+    (select_from (item r_name ∷ [])
+    (two_joins (equal (named (codes "s_nationkey")) (number 1)) is_africa ∷ []))) UnknownColumn
+    × Refuses (statement (select_from (item r_name ∷ [])
+    (from_table (codes "supplier")
+    ∷ two_joins (equal (named (codes "s_nationkey")) (number 1)) is_africa ∷ []))) UnknownColumn
+    × Refuses (statement (select_from (item r_name ∷ [])
+    (from_derived name_of_region (codes "t") ∷ from_table (codes "region") ∷ []))) UnknownColumn
+    × Refuses (over_region (e.Exists
+    (select_where (item (number 1) ∷ []) (from_alias (codes "nation") (codes "region") ∷ [])
+    (equal (of_item (codes "region") (codes "r_name")) r_name)))) UnknownColumn
+    × Refuses (statement (select_from (item (number 1) ∷ [])
+    (from_table (codes "region") ∷ from_alias (codes "region") (codes "b")
+    ∷ from_derived name_of_region (codes "t") ∷ []))) AmbiguousColumn
 
--- the order of the refusals of an item of FROM: of its items' number, its alias, its query, its column
+-- the order of the refusals of an item of FROM: of its items' number, its alias, its query, its
+-- column
 abbrev pub OrderInFrom : Type 0
-OrderInFrom = (bound_query (statement (select_from (item r_name ∷ []) (from_table (codes "region") ∷ from_alias (codes "v") (codes "region") ∷ []))) (view_of 31 ∷ []) ≡ Err TooManyTables)
-    × (bound_query (statement (select_from (item r_name ∷ []) (from_alias (codes "v") (codes "region") ∷ from_table (codes "region") ∷ []))) (view_of 30 ∷ []) ≡ Err DuplicateAlias)
-    × Refuses (statement (select_from (item r_name ∷ []) (from_table (codes "region") ∷ from_derived (from_region (item (named (codes "nope")) ∷ [])) (codes "region") ∷ []))) UnknownColumn
-    × Refuses (statement (select_from (item (number 1) ∷ []) (roll-Joined (record { first = Table (codes "region") None; joins = join_on (codes "nation") (equal (e.Scalar two_names) (number 1)) ∷ [] }) ∷ []))) SubqueryColumns
+OrderInFrom = (bound_query
+    (statement (select_from (item r_name ∷ [])
+    (from_table (codes "region") ∷ from_alias (codes "v") (codes "region") ∷ []))) (view_of 31 ∷ [])
+    ≡ Err TooManyTables)
+    × (bound_query (statement
+    (select_from (item r_name ∷ [])
+    (from_alias (codes "v") (codes "region") ∷ from_table (codes "region") ∷ []))) (view_of 30 ∷ [])
+    ≡ Err DuplicateAlias)
+    × Refuses (statement (select_from (item r_name ∷ [])
+    (from_table (codes "region")
+    ∷ from_derived (from_region (item (named (codes "nope")) ∷ [])) (codes "region") ∷ [])))
+    UnknownColumn
+    × Refuses (statement (select_from (item (number 1) ∷ [])
+    (roll-Joined (record {
+      first = Table (codes "region") None;
+      joins = join_on (codes "nation") (equal (e.Scalar two_names) (number 1)) ∷ [];
+    }) ∷ []))) SubqueryColumns
 
 -- of a view: of its names, its query, their number
 abbrev pub OrderInViews : Type 0
-OrderInViews = (bound_view (codes "v") (codes "a" ∷ codes "a" ∷ []) (from_region (item (named (codes "nope")) ∷ [])) [] ≡ Err DuplicateAlias)
-    × (bound_view (codes "v") (codes "a" ∷ codes "b" ∷ []) (from_region (item (named (codes "nope")) ∷ [])) [] ≡ Err UnknownColumn)
-    × (bound_view (codes "v") (codes "a" ∷ codes "b" ∷ []) (from_region (item r_name ∷ [])) [] ≡ Err SubqueryColumns)
+OrderInViews = (bound_view (codes "v") (codes "a" ∷ codes "a" ∷ [])
+    (from_region (item (named (codes "nope")) ∷ [])) [] ≡ Err DuplicateAlias)
+    × (bound_view (codes "v") (codes "a" ∷ codes "b" ∷ [])
+    (from_region (item (named (codes "nope")) ∷ [])) [] ≡ Err UnknownColumn)
+    × (bound_view (codes "v") (codes "a" ∷ codes "b" ∷ []) (from_region (item r_name ∷ [])) []
+    ≡ Err SubqueryColumns)

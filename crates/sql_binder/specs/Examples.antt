@@ -1,28 +1,27 @@
 -- Queries bound by hand, and one case for each refusal.
-use Rattle.std.specs.Prelude.{◌≡◌, ℕ, List, [], ◌∷◌, Option, Some, None, Result, Ok, Err, pos, negsuc, codes, true, false}
-use Rattle.nested_query.specs.declared.query.BoundBlock.{BoundBlock}
+use Rattle.std.specs.Prelude.{◌≡◌, ℕ, List, [], ◌∷◌, Some, None, Err, pos}
+use Rattle.std.specs.Prelude.{codes, false}
 use Rattle.nested_query.specs.declared.query.BoundBlock.TheVariants as bound
-use Rattle.nested_query.specs.declared.query.BoundExpr.{BoundExpr}
-use Rattle.nested_query.specs.declared.query.BoundQuery.{BoundQuery}
 use Rattle.nested_query.specs.declared.query.BoundSource.TheVariants as source
 use Rattle.refusals.specs.declared.bind.BindRefusal.{BindRefusal}
-use Rattle.refusals.specs.declared.bind.BindRefusal.TheVariants.{UnknownTable, UnknownColumn, AmbiguousColumn, DuplicateAlias, TypeMismatch, NotGrouped, NestedAggregate, OuterAggregate, LateralReference, SubqueryColumns, ScaleTooWide, IntervalOnColumn, BadDate, DateRange, SubqueryPlace, TooManyTables}
+use Rattle.refusals.specs.declared.bind.BindRefusal.TheVariants.{UnknownTable, UnknownColumn}
+use Rattle.refusals.specs.declared.bind.BindRefusal.TheVariants.{AmbiguousColumn, DuplicateAlias}
+use Rattle.refusals.specs.declared.bind.BindRefusal.TheVariants.{TypeMismatch, NotGrouped}
+use Rattle.refusals.specs.declared.bind.BindRefusal.TheVariants.{NestedAggregate, OuterAggregate}
+use Rattle.refusals.specs.declared.bind.BindRefusal.TheVariants.{LateralReference, SubqueryColumns}
+use Rattle.refusals.specs.declared.bind.BindRefusal.TheVariants.{ScaleTooWide, IntervalOnColumn}
+use Rattle.refusals.specs.declared.bind.BindRefusal.TheVariants.{BadDate, DateRange, SubqueryPlace}
+use Rattle.refusals.specs.declared.bind.BindRefusal.TheVariants.{TooManyTables}
 use Rattle.scalar_expr.specs.declared.expr.Expr.TheVariants as scalar
 use Rattle.scalar_expr.specs.declared.kind.Kind.TheVariants as kind
-use Rattle.sql_ast.specs.declared.statement.OrderKey.{OrderKey}
 use Rattle.sql_ast.specs.declared.statement.Query.{Query}
 use Rattle.sql_ast.specs.declared.tree.Block.{Block, roll-Block}
-use Rattle.sql_ast.specs.declared.tree.Clause.{Clause}
 use Rattle.sql_ast.specs.declared.tree.Clause.TheVariants.{Absent, Condition}
 use Rattle.sql_ast.specs.declared.tree.Expr.{Expr}
 use Rattle.sql_ast.specs.declared.tree.Expr.TheVariants as e
-use Rattle.sql_ast.specs.declared.tree.Factor.{Factor}
-use Rattle.sql_ast.specs.declared.tree.FromItem.{FromItem}
 use Rattle.sql_ast.specs.declared.tree.FromItem.TheVariants.{Table, Derived}
 use Rattle.sql_ast.specs.declared.tree.Item.{Item}
-use Rattle.sql_ast.specs.declared.tree.Join.{Join}
 use Rattle.sql_ast.specs.declared.tree.Joined.{Joined, roll-Joined}
-use Rattle.sql_ast.specs.declared.tree.Selected.{Selected}
 use Rattle.sql_ast.specs.declared.tree.Selected.TheVariants.{All, Items}
 use Rattle.sql_ast.specs.declared.tree.Term.{Term}
 use Rattle.sql_ast.specs.declared.words.Adding.TheVariants.{Plus, Minus}
@@ -30,12 +29,12 @@ use Rattle.sql_ast.specs.declared.words.Aggregate.TheVariants.{Sum}
 use Rattle.sql_ast.specs.declared.words.Column.{Column}
 use Rattle.sql_ast.specs.declared.words.JoinKind.TheVariants.{Inner}
 use Rattle.sql_ast.specs.declared.words.Multiplying.TheVariants.{Times}
-use Rattle.sql_ast.specs.declared.words.Span.TheVariants.{Month, Day}
+use Rattle.sql_ast.specs.declared.words.Span.TheVariants.{Day}
 use Rattle.sql_value.specs.declared.value.Value.TheVariants as value
 use Rattle.tpch_schema.specs.declared.table.TableName.TheVariants as table
 use Rattle.sql_binder.specs.declared.view.View.{View}
-use Rattle.sql_binder.specs.Steps.{Name, Checked}
-use Rattle.sql_binder.specs.Binding.{bound_query, bound_view}
+use Rattle.sql_binder.specs.Steps.{Name}
+use Rattle.sql_binder.specs.Binding.{bound_query}
 
 -- a bare name as a column
 abbrev pub named : Name → Expr
@@ -76,12 +75,26 @@ from_derived q alias = roll-Joined (record { first = Derived q alias []; joins =
 -- select items from ..
 abbrev pub select_from : List Item → List Joined → Block
 select_from items from =
-    roll-Block (record { is_distinct = false; selected = Items items; from = from; condition = Absent; group = []; having = Absent })
+    roll-Block (record {
+      is_distinct = false;
+      selected = Items items;
+      from = from;
+      condition = Absent;
+      group = [];
+      having = Absent;
+    })
 
 -- select items from .. where ..
 abbrev pub select_where : List Item → List Joined → Expr → Block
 select_where items from x =
-    roll-Block (record { is_distinct = false; selected = Items items; from = from; condition = Condition x; group = []; having = Absent })
+    roll-Block (record {
+      is_distinct = false;
+      selected = Items items;
+      from = from;
+      condition = Condition x;
+      group = [];
+      having = Absent;
+    })
 
 -- a statement without order and limit
 abbrev pub statement : Block → Query
@@ -101,17 +114,22 @@ r_name = named (codes "r_name")
 
 -- FROM names, columns, aliases, kinds, groups
 abbrev pub FirstRefusals : Type 0
-FirstRefusals = Refuses (statement (select_from (item r_name ∷ []) (from_table (codes "nowhere") ∷ []))) UnknownTable
+FirstRefusals = Refuses (statement
+    (select_from (item r_name ∷ []) (from_table (codes "nowhere") ∷ []))) UnknownTable
     × Refuses (over_region (named (codes "x"))) UnknownColumn
-    × Refuses (statement (select_from (item r_name ∷ []) (from_table (codes "region") ∷ from_alias (codes "region") (codes "b") ∷ []))) AmbiguousColumn
-    × Refuses (statement (select_from (item (named (codes "n_name")) ∷ []) (from_table (codes "nation") ∷ from_table (codes "nation") ∷ []))) DuplicateAlias
+    × Refuses (statement (select_from (item r_name ∷ [])
+    (from_table (codes "region") ∷ from_alias (codes "region") (codes "b") ∷ []))) AmbiguousColumn
+    × Refuses (statement (select_from (item (named (codes "n_name")) ∷ [])
+    (from_table (codes "nation") ∷ from_table (codes "nation") ∷ []))) DuplicateAlias
     × Refuses (over_region (e.Sum r_name (plus (number 1) ∷ []))) TypeMismatch
-    × Refuses (statement (select_from (item r_name ∷ item e.CountRows ∷ []) (from_table (codes "region") ∷ []))) NotGrouped
+    × Refuses (statement (select_from (item r_name ∷ item e.CountRows ∷ [])
+    (from_table (codes "region") ∷ []))) NotGrouped
     × Refuses (over_region (e.Aggregate Sum (e.CountRows))) NestedAggregate
 
 -- select sum(r_regionkey) from nation
 abbrev pub outer_sum : Block
-outer_sum = select_from (item (e.Aggregate Sum (named (codes "r_regionkey"))) ∷ []) (from_table (codes "nation") ∷ [])
+outer_sum = select_from (item (e.Aggregate Sum (named (codes "r_regionkey"))) ∷ [])
+    (from_table (codes "nation") ∷ [])
 
 -- select r_name from nation
 abbrev pub name_of_region : Block
@@ -123,7 +141,8 @@ two_names = select_from (item r_name ∷ item r_name ∷ []) (from_table (codes 
 
 -- a product of 10 and of 9 digits after the point
 abbrev pub wide_product : Expr
-wide_product = e.Product (e.Number (pos 1) 10) (record { operator = Times; value = e.Number (pos 1) 9 } ∷ [])
+wide_product = e.Product (e.Number (pos 1) 10)
+    (record { operator = Times; value = e.Number (pos 1) 9 } ∷ [])
 
 -- interval '1' day
 abbrev pub one_day : Expr
@@ -133,7 +152,11 @@ one_day = e.Interval (codes "1") Day
 abbrev pub on_exists : Joined
 on_exists = roll-Joined (record {
   first = Table (codes "region") None;
-  joins = record { kind = Inner; item = Table (codes "nation") None; condition = e.Exists name_of_region } ∷ [];
+  joins = record {
+    kind = Inner;
+    item = Table (codes "nation") None;
+    condition = e.Exists name_of_region;
+  } ∷ [];
 })
 
 -- a view of region's names whose query counts so many FROM items
@@ -145,14 +168,17 @@ view_of items = record {
   items = items;
 }
 
--- aggregates over outer columns, derived tables, subqueries, scales, dates, places, numbers of tables
+-- aggregates over outer columns, derived tables, subqueries, scales, dates, places, numbers of
+-- tables
 abbrev pub LaterRefusals : Type 0
 LaterRefusals = Refuses (over_region (e.Scalar outer_sum)) OuterAggregate
-    × Refuses (statement (select_from (item (number 1) ∷ []) (from_table (codes "region") ∷ from_derived name_of_region (codes "t") ∷ []))) LateralReference
+    × Refuses (statement (select_from (item (number 1) ∷ [])
+    (from_table (codes "region") ∷ from_derived name_of_region (codes "t") ∷ []))) LateralReference
     × Refuses (over_region (e.Scalar two_names)) SubqueryColumns
     × Refuses (over_region wide_product) ScaleTooWide
     × Refuses (over_region (e.Sum r_name (plus one_day ∷ []))) IntervalOnColumn
     × Refuses (over_region (e.Date (codes "1996-02-30"))) BadDate
     × Refuses (over_region (e.Sum (e.Date (codes "9999-12-31")) (plus one_day ∷ []))) DateRange
     × Refuses (statement (select_from (item (number 1) ∷ []) (on_exists ∷ []))) SubqueryPlace
-    × (bound_query (statement (select_from (item r_name ∷ []) (from_table (codes "v") ∷ []))) (view_of 32 ∷ []) ≡ Err TooManyTables)
+    × (bound_query (statement (select_from (item r_name ∷ []) (from_table (codes "v") ∷ [])))
+    (view_of 32 ∷ []) ≡ Err TooManyTables)

@@ -15,15 +15,21 @@ use Rattle.sql_binder.specs.declared.collected.BoundKind.TheVariants.{Value}
 use Rattle.sql_binder.specs.declared.collected.Typed.{Typed}
 use Rattle.sql_binder.specs.Steps.{Name, Binding, ◌>>=◌, pure, refuse, lift, alone}
 use Rattle.sql_binder.specs.Names.{Sight}
-use Rattle.sql_binder.specs.Values.{typed, date_literal, negative, compared, null_test, between, liked, in_list, denied, extracted, substring, operated, multiplying_of, all_of, any_of, case_of, case_else_of}
-use Rattle.sql_binder.specs.Parts.{column, among_rows, grouped, aggregated, function_of, existing, containing, only_value}
-use Rattle.sql_binder.specs.Meanings.{Meaning, ChainMeaning, ArmMeaning, ExprNode, TermNode, FactorNode, ArmNode}
-use Rattle.sql_binder.specs.Operands.{conditions, operands, chain, arm_conditions, arm_values, term_by}
+use Rattle.sql_binder.specs.Values.{typed, date_literal, negative, compared, null_test, between}
+use Rattle.sql_binder.specs.Values.{liked, in_list, denied, extracted, substring, operated}
+use Rattle.sql_binder.specs.Values.{multiplying_of, all_of, any_of, case_of, case_else_of}
+use Rattle.sql_binder.specs.Parts.{column, among_rows, grouped, aggregated, function_of, existing}
+use Rattle.sql_binder.specs.Parts.{containing, only_value}
+use Rattle.sql_binder.specs.Meanings.{Meaning, ChainMeaning, ArmMeaning, ExprNode, TermNode}
+use Rattle.sql_binder.specs.Meanings.{FactorNode, ArmNode}
+use Rattle.sql_binder.specs.Operands.{conditions, operands, chain, arm_conditions, arm_values}
+use Rattle.sql_binder.specs.Operands.{term_by}
 
 module _ (sight : Sight) where
   -- each expression
   abbrev pub binds_step : ExprNode → Binding Typed
-  binds_step (Expr-F.Number c s) = pure (typed (e.Literal (value.Number s c)) (Value (kind.Number s)))
+  binds_step (Expr-F.Number c s) =
+      pure (typed (e.Literal (value.Number s c)) (Value (kind.Number s)))
   binds_step (Expr-F.Text t) = pure (typed (e.Literal (value.Text t)) (Value kind.Text))
   binds_step (Expr-F.Date t) = lift (date_literal t)
   binds_step (Expr-F.Interval t s) = refuse IntervalOnColumn
@@ -53,8 +59,10 @@ module _ (sight : Sight) where
   binds_step (Expr-F.Exists q) = q sight >>= existing sight
   binds_step (Expr-F.Scalar q) = q sight >>= only_value sight
   binds_step (Expr-F.Not a) = a.binds sight >>= (λ x. lift (denied x))
-  binds_step (Expr-F.And a rest) = a.binds sight >>= (λ x. conditions sight x rest >>= (λ c. lift (all_of c)))
-  binds_step (Expr-F.Or a rest) = a.binds sight >>= (λ x. conditions sight x rest >>= (λ c. lift (any_of c)))
+  binds_step (Expr-F.And a rest) =
+      a.binds sight >>= (λ x. conditions sight x rest >>= (λ c. lift (all_of c)))
+  binds_step (Expr-F.Or a rest) =
+      a.binds sight >>= (λ x. conditions sight x rest >>= (λ c. lift (any_of c)))
   binds_step (Expr-F.Case arms) = do
     whens ← arm_conditions sight arms
     gives ← arm_values sight arms
@@ -65,11 +73,14 @@ module _ (sight : Sight) where
     x ← other.binds sight
     lift (case_else_of whens gives x)
   binds_step (Expr-F.Extract s a) = a.binds sight >>= (λ x. lift (extracted s x))
-  binds_step (Expr-F.Substring a from count) = a.binds sight >>= (λ x. lift (substring x from count))
+  binds_step (Expr-F.Substring a from count) =
+      a.binds sight >>= (λ x. lift (substring x from count))
   binds_step Expr-F.CountRows = grouped sight CountRows (kind.Number 0)
   binds_step (Expr-F.Count a) = alone (a.binds (among_rows sight)) >>= aggregated sight Count
-  binds_step (Expr-F.CountDistinct a) = alone (a.binds (among_rows sight)) >>= aggregated sight CountDistinct
-  binds_step (Expr-F.Aggregate f a) = alone (a.binds (among_rows sight)) >>= aggregated sight (function_of f)
+  binds_step (Expr-F.CountDistinct a) =
+      alone (a.binds (among_rows sight)) >>= aggregated sight CountDistinct
+  binds_step (Expr-F.Aggregate f a) =
+      alone (a.binds (among_rows sight)) >>= aggregated sight (function_of f)
 
 -- whether an aggregate stands in one of them
 abbrev pub any_aggregate : List Meaning → Bool
@@ -127,11 +138,19 @@ interval_step x = None
 
 -- an expression
 abbrev pub expr_step : ExprNode → Meaning
-expr_step x = record { binds = λ sight. binds_step sight x; aggregates = aggregates_step x; name = name_step x; interval = interval_step x }
+expr_step x = record {
+  binds = λ sight. binds_step sight x;
+  aggregates = aggregates_step x;
+  name = name_step x;
+  interval = interval_step x;
+}
 
 -- a term
 abbrev pub term_step : TermNode → ChainMeaning
-term_step t = record { adds = term_by t.value.interval t.operator t.value; aggregates = t.value.aggregates }
+term_step t = record {
+  adds = term_by t.value.interval t.operator t.value;
+  aggregates = t.value.aggregates;
+}
 
 -- a factor
 abbrev pub factor_step : FactorNode → ChainMeaning

@@ -1,12 +1,15 @@
 -- What expressions are, and which fit: all that does not is TypeMismatch.
-use Rattle.std.specs.Prelude.{ℕ, ◌+◌, max, nat_le, Bool, true, false, List, [], ◌∷◌, Ok, Err, if◌then◌else◌}
+use Rattle.std.specs.Prelude.{ℕ, ◌+◌, max, nat_le, Bool, true, false, List, [], ◌∷◌, Ok, Err}
+use Rattle.std.specs.Prelude.{if◌then◌else◌}
 use Rattle.fixed_decimal.specs.Decimal.{quotient_scale}
 use Rattle.fixed_decimal.specs.Tally.{average_scale}
 use Rattle.aggregates.specs.declared.function.AggregateFunction.{AggregateFunction}
-use Rattle.aggregates.specs.declared.function.AggregateFunction.TheVariants.{Count, CountDistinct, Sum, Avg, Min, Max}
+use Rattle.aggregates.specs.declared.function.AggregateFunction.TheVariants.{Count, CountDistinct}
+use Rattle.aggregates.specs.declared.function.AggregateFunction.TheVariants.{Sum, Avg, Min, Max}
 use Rattle.refusals.specs.declared.bind.BindRefusal.TheVariants.{TypeMismatch, ScaleTooWide}
 use Rattle.operators.specs.declared.operator.Arithmetic.{Arithmetic}
-use Rattle.operators.specs.declared.operator.Arithmetic.TheVariants.{Add, Subtract, Multiply, Divide}
+use Rattle.operators.specs.declared.operator.Arithmetic.TheVariants.{Add, Subtract, Multiply}
+use Rattle.operators.specs.declared.operator.Arithmetic.TheVariants.{Divide}
 use Rattle.scalar_expr.specs.declared.kind.Kind.{Kind}
 use Rattle.scalar_expr.specs.declared.kind.Kind.TheVariants.{Number, Text, Date}
 use Rattle.sql_binder.specs.declared.collected.BoundKind.{BoundKind}
@@ -81,7 +84,8 @@ number_scale k = and_then (value_kind k) kind_scale
 
 -- what an operator gives of two operands, which have to be numbers
 abbrev pub operated_kind : Arithmetic → BoundKind → BoundKind → Checked Kind
-operated_kind operator j k = and_then (number_scale j) (λ s. and_then (number_scale k) (λ t. result_kind operator s t))
+operated_kind operator j k =
+    and_then (number_scale j) (λ s. and_then (number_scale k) (λ t. result_kind operator s t))
 
 -- the kind of two branches of a CASE: numbers have the larger scale
 abbrev pub merged_kind : Kind → BoundKind → Checked Kind

@@ -1,6 +1,8 @@
 -- What each kind of node means: how it is bound, and what is read off it before.
 use Rattle.std.specs.Prelude.{ℕ, Bool, List, Option}
-use Rattle.sql_ast.specs.declared.tree.Clause.TheOpen.{Expr-F, Term-F, Factor-F, Arm-F, Item-F, Selected-F, FromItem-F, Join-F, Joined-F, Clause-F, Block-F}
+use Rattle.sql_ast.specs.declared.tree.Clause.TheOpen.{Expr-F, Term-F, Factor-F, Arm-F, Item-F}
+use Rattle.sql_ast.specs.declared.tree.Clause.TheOpen.{Selected-F, FromItem-F, Join-F, Joined-F}
+use Rattle.sql_ast.specs.declared.tree.Clause.TheOpen.{Clause-F, Block-F}
 use Rattle.sql_ast.specs.declared.words.Span.{Span}
 use Rattle.sql_binder.specs.declared.collected.BoundTable.{BoundTable}
 use Rattle.sql_binder.specs.declared.collected.Chain.{Chain}
@@ -60,44 +62,55 @@ BlockMeaning = Sight → Binding BoundTable
 
 -- an expression with the meanings of its parts in their place
 abbrev pub ExprNode : Type 0
-ExprNode = Expr-F ClauseMeaning Meaning FromItemMeaning SelectedMeaning ArmMeaning BlockMeaning ChainMeaning ItemMeaning JoinMeaning JoinedMeaning ChainMeaning
+ExprNode = Expr-F ClauseMeaning Meaning FromItemMeaning SelectedMeaning ArmMeaning BlockMeaning
+    ChainMeaning ItemMeaning JoinMeaning JoinedMeaning ChainMeaning
 
 -- a term with the meanings of its parts in their place
 abbrev pub TermNode : Type 0
-TermNode = Term-F ClauseMeaning Meaning FromItemMeaning SelectedMeaning ArmMeaning BlockMeaning ChainMeaning ItemMeaning JoinMeaning JoinedMeaning ChainMeaning
+TermNode = Term-F ClauseMeaning Meaning FromItemMeaning SelectedMeaning ArmMeaning BlockMeaning
+    ChainMeaning ItemMeaning JoinMeaning JoinedMeaning ChainMeaning
 
 -- a factor with the meanings of its parts in their place
 abbrev pub FactorNode : Type 0
-FactorNode = Factor-F ClauseMeaning Meaning FromItemMeaning SelectedMeaning ArmMeaning BlockMeaning ChainMeaning ItemMeaning JoinMeaning JoinedMeaning ChainMeaning
+FactorNode = Factor-F ClauseMeaning Meaning FromItemMeaning SelectedMeaning ArmMeaning BlockMeaning
+    ChainMeaning ItemMeaning JoinMeaning JoinedMeaning ChainMeaning
 
 -- an arm of a CASE with the meanings of its parts in their place
 abbrev pub ArmNode : Type 0
-ArmNode = Arm-F ClauseMeaning Meaning FromItemMeaning SelectedMeaning ArmMeaning BlockMeaning ChainMeaning ItemMeaning JoinMeaning JoinedMeaning ChainMeaning
+ArmNode = Arm-F ClauseMeaning Meaning FromItemMeaning SelectedMeaning ArmMeaning BlockMeaning
+    ChainMeaning ItemMeaning JoinMeaning JoinedMeaning ChainMeaning
 
 -- an item of a select list with the meanings of its parts in their place
 abbrev pub ItemNode : Type 0
-ItemNode = Item-F ClauseMeaning Meaning FromItemMeaning SelectedMeaning ArmMeaning BlockMeaning ChainMeaning ItemMeaning JoinMeaning JoinedMeaning ChainMeaning
+ItemNode = Item-F ClauseMeaning Meaning FromItemMeaning SelectedMeaning ArmMeaning BlockMeaning
+    ChainMeaning ItemMeaning JoinMeaning JoinedMeaning ChainMeaning
 
 -- a select list with the meanings of its parts in their place
 abbrev pub SelectedNode : Type 0
-SelectedNode = Selected-F ClauseMeaning Meaning FromItemMeaning SelectedMeaning ArmMeaning BlockMeaning ChainMeaning ItemMeaning JoinMeaning JoinedMeaning ChainMeaning
+SelectedNode = Selected-F ClauseMeaning Meaning FromItemMeaning SelectedMeaning ArmMeaning
+    BlockMeaning ChainMeaning ItemMeaning JoinMeaning JoinedMeaning ChainMeaning
 
 -- an item of FROM with the meanings of its parts in their place
 abbrev pub FromItemNode : Type 0
-FromItemNode = FromItem-F ClauseMeaning Meaning FromItemMeaning SelectedMeaning ArmMeaning BlockMeaning ChainMeaning ItemMeaning JoinMeaning JoinedMeaning ChainMeaning
+FromItemNode = FromItem-F ClauseMeaning Meaning FromItemMeaning SelectedMeaning ArmMeaning
+    BlockMeaning ChainMeaning ItemMeaning JoinMeaning JoinedMeaning ChainMeaning
 
 -- a join with the meanings of its parts in their place
 abbrev pub JoinNode : Type 0
-JoinNode = Join-F ClauseMeaning Meaning FromItemMeaning SelectedMeaning ArmMeaning BlockMeaning ChainMeaning ItemMeaning JoinMeaning JoinedMeaning ChainMeaning
+JoinNode = Join-F ClauseMeaning Meaning FromItemMeaning SelectedMeaning ArmMeaning BlockMeaning
+    ChainMeaning ItemMeaning JoinMeaning JoinedMeaning ChainMeaning
 
 -- what stands between commas with the meanings of its parts in their place
 abbrev pub JoinedNode : Type 0
-JoinedNode = Joined-F ClauseMeaning Meaning FromItemMeaning SelectedMeaning ArmMeaning BlockMeaning ChainMeaning ItemMeaning JoinMeaning JoinedMeaning ChainMeaning
+JoinedNode = Joined-F ClauseMeaning Meaning FromItemMeaning SelectedMeaning ArmMeaning BlockMeaning
+    ChainMeaning ItemMeaning JoinMeaning JoinedMeaning ChainMeaning
 
 -- WHERE or HAVING with the meanings of its parts in their place
 abbrev pub ClauseNode : Type 0
-ClauseNode = Clause-F ClauseMeaning Meaning FromItemMeaning SelectedMeaning ArmMeaning BlockMeaning ChainMeaning ItemMeaning JoinMeaning JoinedMeaning ChainMeaning
+ClauseNode = Clause-F ClauseMeaning Meaning FromItemMeaning SelectedMeaning ArmMeaning BlockMeaning
+    ChainMeaning ItemMeaning JoinMeaning JoinedMeaning ChainMeaning
 
 -- a query with the meanings of its parts in their place
 abbrev pub BlockNode : Type 0
-BlockNode = Block-F ClauseMeaning Meaning FromItemMeaning SelectedMeaning ArmMeaning BlockMeaning ChainMeaning ItemMeaning JoinMeaning JoinedMeaning ChainMeaning
+BlockNode = Block-F ClauseMeaning Meaning FromItemMeaning SelectedMeaning ArmMeaning BlockMeaning
+    ChainMeaning ItemMeaning JoinMeaning JoinedMeaning ChainMeaning

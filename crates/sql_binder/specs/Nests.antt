@@ -1,4 +1,5 @@
--- What rules assume of the functions that bind expressions and queries: they may be called on a part, and then bind it as it means.
+-- What rules assume of the functions that bind expressions and queries: they may be called on a
+-- part, and then bind it as it means.
 use Rattle.std.specs.Prelude.{◌≡◌, ℕ, ◌<◌, List, Result}
 use Rattle.std.specs.declared.alloc.Global.{Global}
 use denote.Ref.{Bor, MutBor}
@@ -33,28 +34,42 @@ Pre A = Global → Bor Site → MutBor Collected → Bor A → Type 0
 
 -- what its calls give
 abbrev pub Post : Type 0 → Type 0 → Type 1
-Post A B = Global → Bor Site → MutBor Collected → Bor A → Result B BindFault → MutBor Collected → Type 0
+Post A B = Global → Bor Site → MutBor Collected → Bor A → Result B BindFault → MutBor Collected
+    → Type 0
 
 -- The function may be called on this expression, and then binds it.
 pub record BindsExpr (pre : Pre Expr) (post : Post Expr Typed) (e : Expr) : Type 0 where
-  pub callable : (alloc : Global) (site : Bor Site) (old : MutBor Collected) (x : Bor Expr) → x.now ≡ e → pre alloc site old x
-  pub binds : (alloc : Global) (site : Bor Site) (old new : MutBor Collected) (x : Bor Expr) (r : Result Typed BindFault)
-      → x.now ≡ e → post alloc site old x r new → Binds ((meaning e).binds (sight_of site.now) old.now) r new.now
+  pub callable : (alloc : Global) (site : Bor Site) (old : MutBor Collected) (x : Bor Expr)
+      → x.now ≡ e → pre alloc site old x
+  pub binds : (alloc : Global) (site : Bor Site) (old new : MutBor Collected) (x : Bor Expr)
+      (r : Result Typed BindFault)
+      → x.now ≡ e → post alloc site old x r new
+      → Binds ((meaning e).binds (sight_of site.now) old.now) r new.now
 
 -- The function may be called on this query, and then binds it.
 pub record BindsBlock (pre : Pre Block) (post : Post Block BoundTable) (q : Block) : Type 0 where
-  pub callable : (alloc : Global) (site : Bor Site) (old : MutBor Collected) (x : Bor Block) → x.now ≡ q → pre alloc site old x
-  pub binds : (alloc : Global) (site : Bor Site) (old new : MutBor Collected) (x : Bor Block) (r : Result BoundTable BindFault)
-      → x.now ≡ q → post alloc site old x r new → Binds (block_meaning q (sight_of site.now) old.now) r new.now
+  pub callable : (alloc : Global) (site : Bor Site) (old : MutBor Collected) (x : Bor Block)
+      → x.now ≡ q → pre alloc site old x
+  pub binds : (alloc : Global) (site : Bor Site) (old new : MutBor Collected) (x : Bor Block)
+      (r : Result BoundTable BindFault)
+      → x.now ≡ q → post alloc site old x r new
+      → Binds (block_meaning q (sight_of site.now) old.now) r new.now
 
 -- The functions may be called on each smaller expression and query, and then bind it.
-pub record Below (n : ℕ) (pre : Pre Expr) (post : Post Expr Typed) (pre_block : Pre Block) (post_block : Post Block BoundTable) : Type 0 where
-  pub expr_callable : (alloc : Global) (site : Bor Site) (old : MutBor Collected) (x : Bor Expr) → size x.now < n → pre alloc site old x
-  pub expr_binds : (alloc : Global) (site : Bor Site) (old new : MutBor Collected) (x : Bor Expr) (r : Result Typed BindFault) → size x.now < n
-      → post alloc site old x r new → Binds ((meaning x.now).binds (sight_of site.now) old.now) r new.now
-  pub block_callable : (alloc : Global) (site : Bor Site) (old : MutBor Collected) (x : Bor Block) → block_size x.now < n → pre_block alloc site old x
-  pub block_binds : (alloc : Global) (site : Bor Site) (old new : MutBor Collected) (x : Bor Block) (r : Result BoundTable BindFault) → block_size x.now < n
-      → post_block alloc site old x r new → Binds (block_meaning x.now (sight_of site.now) old.now) r new.now
+pub record Below (n : ℕ) (pre : Pre Expr) (post : Post Expr Typed) (pre_block : Pre Block)
+    (post_block : Post Block BoundTable) : Type 0 where
+  pub expr_callable : (alloc : Global) (site : Bor Site) (old : MutBor Collected) (x : Bor Expr)
+      → size x.now < n → pre alloc site old x
+  pub expr_binds : (alloc : Global) (site : Bor Site) (old new : MutBor Collected) (x : Bor Expr)
+      (r : Result Typed BindFault) → size x.now < n
+      → post alloc site old x r new
+      → Binds ((meaning x.now).binds (sight_of site.now) old.now) r new.now
+  pub block_callable : (alloc : Global) (site : Bor Site) (old : MutBor Collected) (x : Bor Block)
+      → block_size x.now < n → pre_block alloc site old x
+  pub block_binds : (alloc : Global) (site : Bor Site) (old new : MutBor Collected) (x : Bor Block)
+      (r : Result BoundTable BindFault) → block_size x.now < n
+      → post_block alloc site old x r new
+      → Binds (block_meaning x.now (sight_of site.now) old.now) r new.now
 
 -- ---- the same of what stands in the parts of a query
 
@@ -89,16 +104,20 @@ module _ (pre : Pre Expr) (post : Post Expr Typed) where
 
 -- the query of a derived table
 abbrev pub BindsFromItem : Pre Block → Post Block BoundTable → FromItem → Type 0
-BindsFromItem pre post i = (q : Block) (alias : Name) (names : List Name) → i ≡ from_item.Derived q alias names → BindsBlock pre post q
+BindsFromItem pre post i = (q : Block) (alias : Name) (names : List Name)
+    → i ≡ from_item.Derived q alias names → BindsBlock pre post q
 
-module _ (pre : Pre Expr) (post : Post Expr Typed) (pre_block : Pre Block) (post_block : Post Block BoundTable) where
+module _ (pre : Pre Expr) (post : Post Expr Typed) (pre_block : Pre Block)
+    (post_block : Post Block BoundTable) where
   -- a join's item and condition
   abbrev pub BindsJoin : Join → Type 0
-  BindsJoin j = BindsFromItem pre_block post_block (out-Join j).item × BindsExpr pre post (out-Join j).condition
+  BindsJoin j = BindsFromItem pre_block post_block (out-Join j).item
+      × BindsExpr pre post (out-Join j).condition
 
   -- an item and those joined to it
   abbrev pub BindsJoined : Joined → Type 0
-  BindsJoined j = BindsFromItem pre_block post_block (out-Joined j).first × Each BindsJoin (out-Joined j).joins
+  BindsJoined j = BindsFromItem pre_block post_block (out-Joined j).first
+      × Each BindsJoin (out-Joined j).joins
 
   -- what stands in a query
   pub record BindsParts (q : Block) : Type 0 where

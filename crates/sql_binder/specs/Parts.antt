@@ -1,5 +1,8 @@
--- The steps of binding that go into no part of the tree: columns, aggregates, subqueries, FROM items, select lists.
-use Rattle.std.specs.Prelude.{ℕ, ◌+◌, ◌-◌, Bool, true, false, ◌&&◌, ◌||◌, ◌==◌, List, [], ◌∷◌, ◌++◌, length, map, drop, Option, Some, None, unwrap_or, is_some, Ok, Err, if◌then◌else◌, nat_lt}
+-- The steps of binding that go into no part of the tree: columns, aggregates, subqueries, FROM
+-- items, select lists.
+use Rattle.std.specs.Prelude.{ℕ, ◌+◌, Bool, true, false, ◌&&◌, ◌||◌, ◌==◌, List, [], ◌∷◌, ◌++◌}
+use Rattle.std.specs.Prelude.{length, map, Option, Some, None, is_some, Ok, Err}
+use Rattle.std.specs.Prelude.{if◌then◌else◌, nat_lt}
 use Rattle.std.specs.List.{list_any}
 use Rattle.std.specs.Str.{bytes_eq}
 use Rattle.aggregates.specs.declared.function.AggregateFunction.{AggregateFunction}
@@ -15,7 +18,11 @@ use Rattle.nested_query.specs.declared.query.Input.{Input}
 use Rattle.nested_query.specs.declared.query.Input.TheVariants as input
 use Rattle.nested_query.specs.Typing.{kind_of_column}
 use Rattle.order_limit.specs.declared.key.OrderKey.{OrderKey}
-use Rattle.refusals.specs.declared.bind.BindRefusal.TheVariants.{UnknownTable, UnknownColumn, AmbiguousColumn, DuplicateAlias, TypeMismatch, NestedAggregate, OuterAggregate, SubqueryColumns, SubqueryPlace}
+use Rattle.refusals.specs.declared.bind.BindRefusal.TheVariants.{UnknownTable, UnknownColumn}
+use Rattle.refusals.specs.declared.bind.BindRefusal.TheVariants.{AmbiguousColumn, DuplicateAlias}
+use Rattle.refusals.specs.declared.bind.BindRefusal.TheVariants.{TypeMismatch, NestedAggregate}
+use Rattle.refusals.specs.declared.bind.BindRefusal.TheVariants.{OuterAggregate, SubqueryColumns}
+use Rattle.refusals.specs.declared.bind.BindRefusal.TheVariants.{SubqueryPlace}
 use Rattle.scalar_expr.specs.declared.expr.Expr.TheVariants as e
 use Rattle.scalar_expr.specs.declared.kind.Kind.{Kind}
 use Rattle.scalar_expr.specs.declared.kind.Kind.TheVariants as kind
@@ -37,13 +44,14 @@ use Rattle.sql_binder.specs.declared.collected.Shown.{Shown}
 use Rattle.sql_binder.specs.declared.collected.Typed.{Typed}
 use Rattle.sql_binder.specs.declared.from.Joining.{Joining}
 use Rattle.sql_binder.specs.declared.from.NamedItem.{NamedItem}
-use Rattle.sql_binder.specs.declared.scope.Place.{Place}
 use Rattle.sql_binder.specs.declared.scope.ScopeColumn.{ScopeColumn}
 use Rattle.sql_binder.specs.declared.view.Header.{Header}
 use Rattle.sql_binder.specs.declared.view.View.{View}
-use Rattle.sql_binder.specs.Steps.{Name, Checked, and_then, Binding, ◌>>=◌, pure, refuse, lift, input, aggregate, counted, take_aggregates}
+use Rattle.sql_binder.specs.Steps.{Name, Checked, and_then, Binding, ◌>>=◌, pure, refuse, lift}
+use Rattle.sql_binder.specs.Steps.{input, aggregate, counted, take_aggregates}
 use Rattle.sql_binder.specs.Names.{Around, Sight, resolved, the_one, placed}
-use Rattle.sql_binder.specs.Kinds.{where_fit, is_condition, is_value, fits, aggregate_kind, argument_scale}
+use Rattle.sql_binder.specs.Kinds.{where_fit, is_condition, fits, aggregate_kind}
+use Rattle.sql_binder.specs.Kinds.{argument_scale}
 use Rattle.sql_binder.specs.Values.{typed}
 
 -- ---- columns
@@ -57,13 +65,22 @@ column sight wanted = do
 
 -- over a FROM list, and where they are given over its groups
 unfoldable pub inside : Sight → List ScopeColumn → Option (List ℕ) → Sight
-inside sight columns keys = record sight { levels = record { columns = columns; keys = keys } ∷ sight.levels; takes_subqueries = true }
+inside sight columns keys =
+    record sight {
+      levels = record { columns = columns; keys = keys } ∷ sight.levels;
+      takes_subqueries = true;
+    }
 
 -- over the rows of a join, in ON, where no subquery may stand
 unfoldable pub within_on : Sight → List ScopeColumn → Sight
-within_on sight columns = record sight { levels = record { columns = columns; keys = None } ∷ sight.levels; takes_subqueries = false }
+within_on sight columns =
+    record sight {
+      levels = record { columns = columns; keys = None } ∷ sight.levels;
+      takes_subqueries = false;
+    }
 
--- the sight of a derived table, which may use no name around it: neither of what stands left of it nor of the queries around
+-- the sight of a derived table, which may use no name around it: neither of what stands left of it
+-- nor of the queries around
 unfoldable pub hiding : Sight → List ScopeColumn → Sight
 hiding sight left = record {
   views = sight.views;
@@ -101,7 +118,8 @@ is_outer i = false
 abbrev pub any_outer : List Input → Bool
 any_outer = list_any is_outer
 
--- one aggregate more; in a group's row the GROUP BY columns come first. Elsewhere than over groups it is NestedAggregate.
+-- one aggregate more; in a group's row the GROUP BY columns come first. Elsewhere than over groups
+-- it is NestedAggregate.
 abbrev pub grouped_by : Option (List ℕ) → BoundAggregate → Kind → Binding Typed
 grouped_by None a k = refuse NestedAggregate
 grouped_by (Some keys) a k = do
@@ -120,7 +138,8 @@ reads_groups sight = is_some (keys_by sight.levels)
 -- an aggregate of an argument: TypeMismatch, NestedAggregate, OuterAggregate in this order
 unfoldable pub aggregated : Sight → AggregateFunction → Part → Binding Typed
 aggregated sight f p =
-    lift (aggregate_kind f p.kind) >>= (λ k. if reads_groups sight && any_outer p.expr.inputs then refuse OuterAggregate
+    lift (aggregate_kind f p.kind) >>=
+    (λ k. if reads_groups sight && any_outer p.expr.inputs then refuse OuterAggregate
     else grouped sight (aggregate.Of f (argument_scale p.kind) p.expr) k)
 
 -- the functions by their names
@@ -150,12 +169,14 @@ single (h ∷ g ∷ more) = Err SubqueryColumns
 unfoldable pub member : BoundKind → List Header → Checked (Unit {0})
 member left headers = and_then (single headers) (λ k. where_fit (fits left (Value k)) tt)
 
+-- EXISTS: a mark beside the row
 unfoldable pub existing : Sight → BoundTable → Binding Typed
 existing sight t = do
   _ ← lift (place_of sight)
   k ← input (input.Exists t.block)
   pure (mark k)
 
+-- IN over a subquery of one column: a mark beside the row
 unfoldable pub containing : Sight → Part → BoundTable → Binding Typed
 containing sight left t = do
   _ ← lift (member left.kind t.headers)
@@ -163,6 +184,7 @@ containing sight left t = do
   k ← input (input.In left.expr t.block)
   pure (mark k)
 
+-- a scalar subquery: the value of its one column, as an input
 unfoldable pub only_value : Sight → BoundTable → Binding Typed
 only_value sight t = do
   kind ← lift (single t.headers)
@@ -197,7 +219,8 @@ view_item v = record { source = source.Derived v.block; headers = v.columns; ite
 -- the view of that name
 abbrev pub view_named : Name → List View → Checked NamedItem
 view_named name [] = Err UnknownTable
-view_named name (v ∷ views) = if bytes_eq v.name name then Ok (view_item v) else view_named name views
+view_named name (v ∷ views) =
+    if bytes_eq v.name name then Ok (view_item v) else view_named name views
 
 -- a table of the schema, else a view
 abbrev pub named_by : Option TableName → Name → List View → Checked NamedItem
@@ -241,13 +264,16 @@ has_twice (n ∷ names) = stands_in n names || has_twice names
 abbrev pub under_names : List Name → List Header → List Header
 under_names [] headers = []
 under_names (n ∷ names) [] = []
-under_names (n ∷ names) (h ∷ headers) = record { name = n; kind = h.kind } ∷ under_names names headers
+under_names (n ∷ names) (h ∷ headers) = record { name = n; kind = h.kind }
+    ∷ under_names names headers
 
 -- a column list of another length is SubqueryColumns; where none stands the names stay
 unfoldable pub renamed_headers : List Name → List Header → Checked (List Header)
 renamed_headers [] headers = Ok headers
 renamed_headers (n ∷ names) headers =
-    if length (n ∷ names) == length headers then Ok (under_names (n ∷ names) headers) else Err SubqueryColumns
+    if length (n ∷ names) == length headers
+    then Ok (under_names (n ∷ names) headers)
+    else Err SubqueryColumns
 
 -- equal names of a column list are DuplicateAlias
 unfoldable pub distinct_names : List Name → Checked (Unit {0})
@@ -255,7 +281,8 @@ distinct_names names = if has_twice names then Err DuplicateAlias else Ok tt
 
 -- the column list of a derived table, which stands after its query
 unfoldable pub listed_headers : List Name → List Header → Checked (List Header)
-listed_headers names headers = and_then (distinct_names names) (λ done. renamed_headers names headers)
+listed_headers names headers =
+    and_then (distinct_names names) (λ done. renamed_headers names headers)
 
 -- a table or a view as an item of FROM: UnknownTable, TooManyTables, DuplicateAlias in this order
 unfoldable pub table_rows : Sight → Name → Name → List ScopeColumn → Binding FromRows
@@ -269,26 +296,37 @@ table_rows sight name alias left = do
 unfoldable pub named_rows : BoundTable → Name → List Name → List ScopeColumn → Checked FromRows
 named_rows t alias names left =
     and_then (unused left alias)
-    (λ free. and_then (listed_headers names t.headers) (λ headers. Ok (derived_rows t.block alias headers)))
+    (λ free. and_then (listed_headers names t.headers)
+    (λ headers. Ok (derived_rows t.block alias headers)))
 
 -- the columns so far
 abbrev pub columns_so_far : Option FromRows → List ScopeColumn
 columns_so_far None = []
 columns_so_far (Some f) = f.columns
 
--- what stands before a comma, and the first item after it: its rows alone, with the columns of all so far
+-- what stands before a comma, and the first item after it: its rows alone, with the columns of all
+-- so far
 unfoldable pub first_rows : Option FromRows → FromRows → Option BoundSource × FromRows
 first_rows None o = (None, o)
-first_rows (Some f) o = (Some f.source, record { source = o.source; columns = f.columns ++ o.columns })
+first_rows (Some f) o = (
+  Some f.source,
+  record { source = o.source; columns = f.columns ++ o.columns },
+)
 
 -- what stands after a comma, with what stands before it
 unfoldable pub crossed : Option BoundSource → FromRows → FromRows
 crossed None f = f
 crossed (Some left) f = record { source = source.Cross left f.source; columns = f.columns }
 
--- an item that is to be joined to those before it: its number of columns, and the columns of all so far
+-- an item that is to be joined to those before it: its number of columns, and the columns of all so
+-- far
 unfoldable pub joining : FromRows → FromRows → Joining
-joining done o = record { left = done.source; right = o.source; width = length o.columns; columns = done.columns ++ o.columns }
+joining done o = record {
+  left = done.source;
+  right = o.source;
+  width = length o.columns;
+  columns = done.columns ++ o.columns;
+}
 
 -- a join's rows
 abbrev pub join_source : JoinKind → Joining → BoundExpr → BoundSource
@@ -314,14 +352,20 @@ no_condition = record { inputs = []; expr = e.All [] }
 unfoldable pub holding : Part → Checked BoundExpr
 holding p = where_fit (is_condition p.kind) p.expr
 
--- one column more of a select list: a condition is TypeMismatch
+-- one column more of a select list
 abbrev pub listed : Shown → BoundExpr → Name → Kind → Shown
-listed done expr name k = record { list = done.list ++ expr ∷ []; headers = done.headers ++ record { name = name; kind = k } ∷ [] }
+listed done expr name k =
+    record {
+      list = done.list ++ expr ∷ [];
+      headers = done.headers ++ record { name = name; kind = k } ∷ [];
+    }
 
+-- a column of that kind more; a condition is TypeMismatch
 abbrev pub shown_by : Shown → BoundExpr → Name → BoundKind → Checked Shown
 shown_by done expr name (Value k) = Ok (listed done expr name k)
 shown_by done expr name Condition = Err TypeMismatch
 
+-- a bound expression as one column more
 unfoldable pub shown_part : Shown → Name → Part → Checked Shown
 shown_part done name p = shown_by done p.expr name p.kind
 
@@ -336,7 +380,9 @@ one_column at = record { inputs = input.Column 0 at ∷ []; expr = e.Column 0 }
 -- the columns of `*` from a place on
 abbrev pub star_from : Option (List ℕ) → Shown → ℕ → List ScopeColumn → Checked Shown
 star_from keys done at [] = Ok done
-star_from keys done at (c ∷ cs) = and_then (placed keys at) (λ k. star_from keys (listed done (one_column k) c.name c.kind) (at + 1) cs)
+star_from keys done at (c ∷ cs) =
+    and_then (placed keys at)
+    (λ k. star_from keys (listed done (one_column k) c.name c.kind) (at + 1) cs)
 
 -- `*`: all columns
 unfoldable pub star : Option (List ℕ) → List ScopeColumn → Checked Shown
@@ -345,7 +391,8 @@ star keys columns = star_from keys nothing_shown 0 columns
 -- the places of GROUP BY columns
 abbrev pub keys_from : List ScopeColumn → List ℕ → List Column → Checked (List ℕ)
 keys_from columns done [] = Ok done
-keys_from columns done (n ∷ ns) = and_then (the_one n columns) (λ p. keys_from columns (done ++ p.at ∷ []) ns)
+keys_from columns done (n ∷ ns) =
+    and_then (the_one n columns) (λ p. keys_from columns (done ++ p.at ∷ []) ns)
 
 -- GROUP BY: each name is the one column of the query's own FROM list
 unfoldable pub keys_of : List ScopeColumn → List Column → Checked (List ℕ)
@@ -355,13 +402,19 @@ keys_of columns group = keys_from columns [] group
 
 -- a query without groups
 unfoldable pub plain : FromRows → BoundExpr → Shown → BoundTable
-plain from kept shown = record { block = block.Plain from.source kept shown.list; headers = shown.headers }
+plain from kept shown = record {
+  block = block.Plain from.source kept shown.list;
+  headers = shown.headers;
+}
 
 -- a query with groups, once all its aggregates are known
 unfoldable pub closing : FromRows → BoundExpr → List ℕ → Shown → BoundExpr → Binding BoundTable
 closing from kept keys shown having = do
   all ← take_aggregates
-  pure (record { block = block.Grouped from.source kept keys all having shown.list; headers = shown.headers })
+  pure (record {
+    block = block.Grouped from.source kept keys all having shown.list;
+    headers = shown.headers;
+  })
 
 -- DISTINCT
 unfoldable pub once_each : Bool → BoundTable → BoundTable
@@ -371,7 +424,10 @@ once_each false t = t
 -- the places of the output columns of that name, counted on from a number
 abbrev pub output_places : Name → ℕ → List Header → List ℕ
 output_places name at [] = []
-output_places name at (h ∷ hs) = if bytes_eq h.name name then at ∷ output_places name (at + 1) hs else output_places name (at + 1) hs
+output_places name at (h ∷ hs) =
+    if bytes_eq h.name name
+    then at ∷ output_places name (at + 1) hs
+    else output_places name (at + 1) hs
 
 -- the only one
 abbrev pub only_place : List ℕ → Checked ℕ
@@ -379,13 +435,18 @@ only_place [] = Err UnknownColumn
 only_place (p ∷ []) = Ok p
 only_place (p ∷ q ∷ more) = Err AmbiguousColumn
 
+-- the place of the one output column of a name: UnknownColumn for none, AmbiguousColumn for several
 unfoldable pub output_place : Name → List Header → Checked ℕ
 output_place name headers = only_place (output_places name 0 headers)
 
 -- keys of ORDER BY, each the one output column of its name
 abbrev pub order_from : List Header → List OrderKey → List NamedKey → Checked (List OrderKey)
 order_from headers done [] = Ok done
-order_from headers done (k ∷ ks) = and_then (output_place k.column headers) (λ p. order_from headers (done ++ record { column = p; is_descending = k.is_descending } ∷ []) ks)
+order_from headers done (k ∷ ks) =
+    and_then (output_place k.column headers)
+    (λ p. order_from headers (done ++ record { column = p; is_descending = k.is_descending } ∷ [])
+    ks)
 
+-- the keys of ORDER BY, bound to output columns
 unfoldable pub order_of : List Header → List NamedKey → Checked (List OrderKey)
 order_of headers order = order_from headers [] order

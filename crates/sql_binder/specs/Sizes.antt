@@ -1,7 +1,13 @@
--- How many expressions and queries stand in a part of a tree, itself counted. Binding goes from a part to smaller ones.
+-- How many expressions and queries stand in a part of a tree, itself counted. Binding goes from a
+-- part to smaller ones.
 use Rattle.std.specs.Prelude.{ℕ, ◌+◌, List, [], ◌∷◌}
-use Rattle.sql_ast.specs.declared.tree.Clause.TheOpen.{Expr-F, Term-F, Factor-F, Arm-F, Item-F, Selected-F, FromItem-F, Join-F, Joined-F, Clause-F, Block-F}
-use Rattle.sql_ast.specs.declared.tree.Clause.TheFolds.{fold-Clause, fold-Expr, fold-FromItem, fold-Selected, fold-Arm, fold-Block, fold-Factor, fold-Item, fold-Join, fold-Joined, fold-Term}
+use Rattle.sql_ast.specs.declared.tree.Clause.TheOpen.{Expr-F, Term-F, Factor-F, Arm-F, Item-F}
+use Rattle.sql_ast.specs.declared.tree.Clause.TheOpen.{Selected-F, FromItem-F, Join-F, Joined-F}
+use Rattle.sql_ast.specs.declared.tree.Clause.TheOpen.{Clause-F, Block-F}
+use Rattle.sql_ast.specs.declared.tree.Clause.TheFolds.{fold-Clause, fold-Expr, fold-FromItem}
+use Rattle.sql_ast.specs.declared.tree.Clause.TheFolds.{fold-Selected, fold-Arm, fold-Block}
+use Rattle.sql_ast.specs.declared.tree.Clause.TheFolds.{fold-Factor, fold-Item, fold-Join}
+use Rattle.sql_ast.specs.declared.tree.Clause.TheFolds.{fold-Joined, fold-Term}
 use Rattle.sql_ast.specs.declared.tree.Clause.{Clause}
 use Rattle.sql_ast.specs.declared.tree.Expr.{Expr}
 use Rattle.sql_ast.specs.declared.tree.FromItem.{FromItem}
@@ -89,44 +95,66 @@ block_size_step q = 1 + q.selected + total q.from + q.condition + q.having
 
 -- the size of WHERE or HAVING
 unfoldable pub clause_size : Clause → ℕ
-clause_size = fold-Clause ℕ ℕ ℕ ℕ ℕ ℕ ℕ ℕ ℕ ℕ ℕ clause_size_step expr_size_step from_item_size_step selected_size_step arm_size_step block_size_step factor_size_step item_size_step join_size_step joined_size_step term_size_step
+clause_size = fold-Clause ℕ ℕ ℕ ℕ ℕ ℕ ℕ ℕ ℕ ℕ ℕ clause_size_step expr_size_step from_item_size_step
+    selected_size_step arm_size_step block_size_step factor_size_step item_size_step join_size_step
+    joined_size_step term_size_step
 
 -- the size of an expression
 unfoldable pub size : Expr → ℕ
-size = fold-Expr ℕ ℕ ℕ ℕ ℕ ℕ ℕ ℕ ℕ ℕ ℕ clause_size_step expr_size_step from_item_size_step selected_size_step arm_size_step block_size_step factor_size_step item_size_step join_size_step joined_size_step term_size_step
+size = fold-Expr ℕ ℕ ℕ ℕ ℕ ℕ ℕ ℕ ℕ ℕ ℕ clause_size_step expr_size_step from_item_size_step
+    selected_size_step arm_size_step block_size_step factor_size_step item_size_step join_size_step
+    joined_size_step term_size_step
 
 -- the size of an item of FROM
 unfoldable pub from_item_size : FromItem → ℕ
-from_item_size = fold-FromItem ℕ ℕ ℕ ℕ ℕ ℕ ℕ ℕ ℕ ℕ ℕ clause_size_step expr_size_step from_item_size_step selected_size_step arm_size_step block_size_step factor_size_step item_size_step join_size_step joined_size_step term_size_step
+from_item_size = fold-FromItem ℕ ℕ ℕ ℕ ℕ ℕ ℕ ℕ ℕ ℕ ℕ clause_size_step expr_size_step
+    from_item_size_step selected_size_step arm_size_step block_size_step factor_size_step
+    item_size_step join_size_step joined_size_step term_size_step
 
 -- the size of a select list
 unfoldable pub selected_size : Selected → ℕ
-selected_size = fold-Selected ℕ ℕ ℕ ℕ ℕ ℕ ℕ ℕ ℕ ℕ ℕ clause_size_step expr_size_step from_item_size_step selected_size_step arm_size_step block_size_step factor_size_step item_size_step join_size_step joined_size_step term_size_step
+selected_size = fold-Selected ℕ ℕ ℕ ℕ ℕ ℕ ℕ ℕ ℕ ℕ ℕ clause_size_step expr_size_step
+    from_item_size_step selected_size_step arm_size_step block_size_step factor_size_step
+    item_size_step join_size_step joined_size_step term_size_step
 
 -- the size of an arm of a CASE
 unfoldable pub arm_size : Arm → ℕ
-arm_size = fold-Arm ℕ ℕ ℕ ℕ ℕ ℕ ℕ ℕ ℕ ℕ ℕ clause_size_step expr_size_step from_item_size_step selected_size_step arm_size_step block_size_step factor_size_step item_size_step join_size_step joined_size_step term_size_step
+arm_size = fold-Arm ℕ ℕ ℕ ℕ ℕ ℕ ℕ ℕ ℕ ℕ ℕ clause_size_step expr_size_step from_item_size_step
+    selected_size_step arm_size_step block_size_step factor_size_step item_size_step join_size_step
+    joined_size_step term_size_step
 
 -- the size of a query
 unfoldable pub block_size : Block → ℕ
-block_size = fold-Block ℕ ℕ ℕ ℕ ℕ ℕ ℕ ℕ ℕ ℕ ℕ clause_size_step expr_size_step from_item_size_step selected_size_step arm_size_step block_size_step factor_size_step item_size_step join_size_step joined_size_step term_size_step
+block_size = fold-Block ℕ ℕ ℕ ℕ ℕ ℕ ℕ ℕ ℕ ℕ ℕ clause_size_step expr_size_step from_item_size_step
+    selected_size_step arm_size_step block_size_step factor_size_step item_size_step join_size_step
+    joined_size_step term_size_step
 
 -- the size of a factor
 unfoldable pub factor_size : Factor → ℕ
-factor_size = fold-Factor ℕ ℕ ℕ ℕ ℕ ℕ ℕ ℕ ℕ ℕ ℕ clause_size_step expr_size_step from_item_size_step selected_size_step arm_size_step block_size_step factor_size_step item_size_step join_size_step joined_size_step term_size_step
+factor_size = fold-Factor ℕ ℕ ℕ ℕ ℕ ℕ ℕ ℕ ℕ ℕ ℕ clause_size_step expr_size_step from_item_size_step
+    selected_size_step arm_size_step block_size_step factor_size_step item_size_step join_size_step
+    joined_size_step term_size_step
 
 -- the size of an item of a select list
 unfoldable pub item_size : Item → ℕ
-item_size = fold-Item ℕ ℕ ℕ ℕ ℕ ℕ ℕ ℕ ℕ ℕ ℕ clause_size_step expr_size_step from_item_size_step selected_size_step arm_size_step block_size_step factor_size_step item_size_step join_size_step joined_size_step term_size_step
+item_size = fold-Item ℕ ℕ ℕ ℕ ℕ ℕ ℕ ℕ ℕ ℕ ℕ clause_size_step expr_size_step from_item_size_step
+    selected_size_step arm_size_step block_size_step factor_size_step item_size_step join_size_step
+    joined_size_step term_size_step
 
 -- the size of a join
 unfoldable pub join_size : Join → ℕ
-join_size = fold-Join ℕ ℕ ℕ ℕ ℕ ℕ ℕ ℕ ℕ ℕ ℕ clause_size_step expr_size_step from_item_size_step selected_size_step arm_size_step block_size_step factor_size_step item_size_step join_size_step joined_size_step term_size_step
+join_size = fold-Join ℕ ℕ ℕ ℕ ℕ ℕ ℕ ℕ ℕ ℕ ℕ clause_size_step expr_size_step from_item_size_step
+    selected_size_step arm_size_step block_size_step factor_size_step item_size_step join_size_step
+    joined_size_step term_size_step
 
 -- the size of what stands between commas
 unfoldable pub joined_size : Joined → ℕ
-joined_size = fold-Joined ℕ ℕ ℕ ℕ ℕ ℕ ℕ ℕ ℕ ℕ ℕ clause_size_step expr_size_step from_item_size_step selected_size_step arm_size_step block_size_step factor_size_step item_size_step join_size_step joined_size_step term_size_step
+joined_size = fold-Joined ℕ ℕ ℕ ℕ ℕ ℕ ℕ ℕ ℕ ℕ ℕ clause_size_step expr_size_step from_item_size_step
+    selected_size_step arm_size_step block_size_step factor_size_step item_size_step join_size_step
+    joined_size_step term_size_step
 
 -- the size of a term
 unfoldable pub term_size : Term → ℕ
-term_size = fold-Term ℕ ℕ ℕ ℕ ℕ ℕ ℕ ℕ ℕ ℕ ℕ clause_size_step expr_size_step from_item_size_step selected_size_step arm_size_step block_size_step factor_size_step item_size_step join_size_step joined_size_step term_size_step
+term_size = fold-Term ℕ ℕ ℕ ℕ ℕ ℕ ℕ ℕ ℕ ℕ ℕ clause_size_step expr_size_step from_item_size_step
+    selected_size_step arm_size_step block_size_step factor_size_step item_size_step join_size_step
+    joined_size_step term_size_step

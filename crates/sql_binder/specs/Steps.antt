@@ -1,5 +1,6 @@
 -- Steps of binding: each goes on with what is collected so far, or refuses.
-use Rattle.std.specs.Prelude.{ℕ, ◌+◌, ◌≡◌, List, [], ◌∷◌, ◌++◌, length, Result, Ok, Err, if◌then◌else◌, nat_le}
+use Rattle.std.specs.Prelude.{ℕ, ◌+◌, ◌≡◌, List, [], ◌∷◌, ◌++◌, length, Result, Ok, Err}
+use Rattle.std.specs.Prelude.{if◌then◌else◌, nat_le}
 use Rattle.nested_query.specs.declared.query.BoundAggregate.{BoundAggregate}
 use Rattle.nested_query.specs.declared.query.Input.{Input}
 use Rattle.refusals.specs.declared.bind.BindRefusal.{BindRefusal}
@@ -68,11 +69,15 @@ aggregate a = λ s. Ok (length s.aggregates, record s { aggregates = s.aggregate
 unfoldable pub alone : Binding Typed → Binding Part
 alone p = λ s.
     and_then (p (record s { inputs = [] }))
-    (λ r. Ok (record { expr = record { inputs = r.1.inputs; expr = r.0.value }; kind = r.0.kind }, record r.1 { inputs = s.inputs }))
+    (λ r. Ok (
+      record { expr = record { inputs = r.1.inputs; expr = r.0.value }; kind = r.0.kind },
+      record r.1 { inputs = s.inputs },
+    ))
 
 -- a query with aggregates of its own
 unfoldable pub apart : {A : Type 0} → Binding A → Binding A
-apart p = λ s. and_then (p (record s { aggregates = [] })) (λ r. Ok (r.0, record r.1 { aggregates = s.aggregates }))
+apart p = λ s. and_then (p (record s { aggregates = [] }))
+    (λ r. Ok (r.0, record r.1 { aggregates = s.aggregates }))
 
 -- how many FROM items a statement has at most
 abbrev pub most_items : ℕ
@@ -80,7 +85,10 @@ most_items = 32
 
 -- so many FROM items more; past the most of a statement they are TooManyTables
 unfoldable pub counted : ℕ → Binding (Unit {0})
-counted n = λ s. if nat_le (s.items + n) most_items then Ok (tt, record s { items = s.items + n }) else Err TooManyTables
+counted n = λ s.
+    if nat_le (s.items + n) most_items
+    then Ok (tt, record s { items = s.items + n })
+    else Err TooManyTables
 
 -- the aggregates of the query, which are taken out
 unfoldable pub take_aggregates : Binding (List BoundAggregate)

@@ -1,5 +1,7 @@
 -- What is made of operands that are bound.
-use Rattle.std.specs.Prelude.{ℕ, ◌^◌, Bool, true, false, ◌&&◌, List, [], ◌∷◌, ◌++◌, length, map, Option, Some, None, Result, Ok, Err, ℤ, pos, neg_ℤ, if◌then◌else◌, nat_le, nat_lt, ok_or}
+use Rattle.std.specs.Prelude.{ℕ, ◌^◌, true, ◌&&◌, List, [], ◌∷◌, ◌++◌, length}
+use Rattle.std.specs.Prelude.{Option, Some, None, Result, Ok, Err, ℤ, pos, neg_ℤ, if◌then◌else◌}
+use Rattle.std.specs.Prelude.{nat_le, nat_lt, ok_or}
 use Rattle.std.specs.List.{list_all}
 use Rattle.civil_date.specs.Date.{date_of, number_of}
 use Rattle.civil_date.specs.Move.{moved}
@@ -7,12 +9,16 @@ use Rattle.civil_date.specs.declared.DateFault.{DateFault}
 use Rattle.civil_date.specs.declared.DateFault.TheVariants as fault
 use Rattle.civil_date.specs.declared.moved.IntervalUnit.{IntervalUnit}
 use Rattle.civil_date.specs.declared.moved.IntervalUnit.TheVariants as unit
-use Rattle.refusals.specs.declared.bind.BindRefusal.TheVariants.{TypeMismatch, IntervalOnColumn, BadDate, DateRange}
+use Rattle.refusals.specs.declared.bind.BindRefusal.TheVariants.{TypeMismatch, IntervalOnColumn}
+use Rattle.refusals.specs.declared.bind.BindRefusal.TheVariants.{BadDate, DateRange}
 use Rattle.operators.specs.declared.operator.Arithmetic.{Arithmetic}
-use Rattle.operators.specs.declared.operator.Arithmetic.TheVariants.{Add, Subtract, Multiply, Divide}
+use Rattle.operators.specs.declared.operator.Arithmetic.TheVariants.{Add, Subtract, Multiply}
+use Rattle.operators.specs.declared.operator.Arithmetic.TheVariants.{Divide}
 use Rattle.scalar_expr.specs.declared.expr.Branch.{Branch}
 use Rattle.operators.specs.declared.operator.Comparison.{Comparison}
-use Rattle.operators.specs.declared.operator.Comparison.TheVariants.{Equal, NotEqual, Less, LessOrEqual, Greater, GreaterOrEqual}
+use Rattle.operators.specs.declared.operator.Comparison.TheVariants.{Equal, NotEqual, Less}
+use Rattle.operators.specs.declared.operator.Comparison.TheVariants.{LessOrEqual, Greater}
+use Rattle.operators.specs.declared.operator.Comparison.TheVariants.{GreaterOrEqual}
 use Rattle.operators.specs.declared.operator.DatePart.{DatePart}
 use Rattle.operators.specs.declared.operator.DatePart.TheVariants.{Year, Month, Day}
 use Rattle.scalar_expr.specs.declared.expr.Expr.{Expr}
@@ -35,7 +41,8 @@ use Rattle.sql_binder.specs.declared.collected.Conditions.{Conditions}
 use Rattle.sql_binder.specs.declared.collected.Operands.{Operands}
 use Rattle.sql_binder.specs.declared.collected.Typed.{Typed}
 use Rattle.sql_binder.specs.Steps.{Checked, and_then}
-use Rattle.sql_binder.specs.Kinds.{where_fit, is_condition, is_value, is_text, is_date, is_number, fits, scale_of, operated_kind, common_kind}
+use Rattle.sql_binder.specs.Kinds.{where_fit, is_condition, is_value, is_text, is_date, is_number}
+use Rattle.sql_binder.specs.Kinds.{fits, scale_of, operated_kind, common_kind}
 
 -- an expression of that kind, which is no date literal
 abbrev pub typed : Expr → BoundKind → Typed
@@ -50,6 +57,7 @@ abbrev pub dated_by : Result ℕ DateFault → Checked Typed
 dated_by (Ok d) = Ok (dated d)
 dated_by (Err fault) = Err BadDate
 
+-- a date written out: BadDate where the calendar has no such day
 unfoldable pub date_literal : List ℕ → Checked Typed
 date_literal text = dated_by (ok_or (date_of text) fault.BadDate)
 
@@ -66,8 +74,10 @@ comparison_of written.LessOrEqual = LessOrEqual
 comparison_of written.Greater = Greater
 comparison_of written.GreaterOrEqual = GreaterOrEqual
 
+-- a comparison of two operands whose kinds fit
 unfoldable pub compared : Compared → Typed → Typed → Checked Typed
-compared c a b = where_fit (fits a.kind b.kind) (typed (e.Compare (comparison_of c) a.value b.value) Condition)
+compared c a b = where_fit (fits a.kind b.kind)
+    (typed (e.Compare (comparison_of c) a.value b.value) Condition)
 
 -- a is null
 unfoldable pub null_test : Typed → Checked Typed
@@ -75,7 +85,8 @@ null_test a = where_fit (is_value a.kind) (typed (e.IsNull a.value) Condition)
 
 -- a between low and high
 unfoldable pub between : Typed → Typed → Typed → Checked Typed
-between a low high = where_fit (fits a.kind low.kind && fits a.kind high.kind) (typed (e.Between a.value low.value high.value) Condition)
+between a low high = where_fit (fits a.kind low.kind && fits a.kind high.kind)
+    (typed (e.Between a.value low.value high.value) Condition)
 
 -- a like pattern
 unfoldable pub liked : Typed → List ℕ → Checked Typed
@@ -83,7 +94,8 @@ liked a pattern = where_fit (is_text a.kind) (typed (e.Like a.value pattern) Con
 
 -- a in (..)
 unfoldable pub in_list : Typed → Operands → Checked Typed
-in_list a list = where_fit (is_value a.kind && list_all (fits a.kind) list.kinds) (typed (e.InList a.value list.values) Condition)
+in_list a list = where_fit (is_value a.kind && list_all (fits a.kind) list.kinds)
+    (typed (e.InList a.value list.values) Condition)
 
 -- not a
 unfoldable pub denied : Typed → Checked Typed
@@ -95,12 +107,16 @@ part_of span.Year = Year
 part_of span.Month = Month
 part_of span.Day = Day
 
+-- a part of a date, as a whole number
 unfoldable pub extracted : Span → Typed → Checked Typed
-extracted s a = where_fit (is_date a.kind) (typed (e.Extract (part_of s) a.value) (Value (kind.Number 0)))
+extracted s a = where_fit (is_date a.kind)
+    (typed (e.Extract (part_of s) a.value) (Value (kind.Number 0)))
 
 -- a part of a text, whose first place is at least 1
 unfoldable pub substring : Typed → ℕ → ℕ → Checked Typed
-substring a from count = where_fit (is_text a.kind && nat_lt 0 from) (typed (e.Substring a.value from count) (Value kind.Text))
+substring a from count =
+    where_fit (is_text a.kind && nat_lt 0 from)
+    (typed (e.Substring a.value from count) (Value kind.Text))
 
 -- ---- chains of operations
 
@@ -165,7 +181,8 @@ date_chain d = begun (dated d)
 
 -- an interval added or taken away
 unfoldable pub shifted : Adding → Chain → List ℕ → Span → Checked Chain
-shifted operator c text s = and_then (moved_by c.date operator (interval_count text) s) (λ d. Ok (date_chain d))
+shifted operator c text s =
+    and_then (moved_by c.date operator (interval_count text) s) (λ d. Ok (date_chain d))
 
 -- a chain of no operations is its first operand
 abbrev pub ended_by : Expr → List Operation → BoundKind → Option ℕ → Typed
@@ -184,7 +201,8 @@ first_condition a = record { values = a.value ∷ []; are_conditions = is_condit
 
 -- one operand more: all have to be conditions
 unfoldable pub next_condition : Conditions → Typed → Checked Conditions
-next_condition c a = where_fit (c.are_conditions && is_condition a.kind) (record { values = c.values ++ a.value ∷ []; are_conditions = true })
+next_condition c a = where_fit (c.are_conditions && is_condition a.kind)
+    (record { values = c.values ++ a.value ∷ []; are_conditions = true })
 
 -- AND
 unfoldable pub all_of : Conditions → Checked Typed
@@ -202,7 +220,10 @@ no_operands = record { values = []; kinds = [] }
 
 -- one operand more
 abbrev pub with_operand : Operands → Typed → Operands
-with_operand done a = record { values = done.values ++ a.value ∷ []; kinds = done.kinds ++ a.kind ∷ [] }
+with_operand done a = record {
+  values = done.values ++ a.value ∷ [];
+  kinds = done.kinds ++ a.kind ∷ [];
+}
 
 -- each condition with its branch
 abbrev pub branches : List Expr → List Expr → List Branch
@@ -214,7 +235,8 @@ branches (w ∷ whens) (g ∷ gives) = record { when = w; gives = g } ∷ branch
 unfoldable pub chosen : Operands → List BoundKind → List Expr → Expr → Checked Typed
 chosen whens kinds gives other =
     if list_all is_condition whens.kinds
-    then and_then (common_kind kinds) (λ k. Ok (typed (e.Case (scale_of k) (branches whens.values gives) other) (Value k)))
+    then and_then (common_kind kinds)
+    (λ k. Ok (typed (e.Case (scale_of k) (branches whens.values gives) other) (Value k)))
     else Err TypeMismatch
 
 -- without ELSE
@@ -223,4 +245,5 @@ case_of whens gives = chosen whens gives.kinds gives.values (e.Literal value.Nul
 
 -- with ELSE
 unfoldable pub case_else_of : Operands → Operands → Typed → Checked Typed
-case_else_of whens gives other = chosen whens (gives.kinds ++ other.kind ∷ []) gives.values other.value
+case_else_of whens gives other =
+    chosen whens (gives.kinds ++ other.kind ∷ []) gives.values other.value

@@ -22,7 +22,8 @@ pub enum BoundKind {
     Condition,
 }
 
-/// How many FROM items the statement has so far, the inputs of the clause, and the aggregates of the query.
+/// How many FROM items the statement has so far, the inputs of the clause, and the aggregates of
+/// the query.
 #[derive(Drop)]
 pub struct Collected {
     pub items: u32,
@@ -30,7 +31,8 @@ pub struct Collected {
     pub aggregates: Items<BoundAggregate>,
 }
 
-/// An expression over the inputs of its clause; and its date, where it is a date literal with its intervals.
+/// An expression over the inputs of its clause; and its date, where it is a date literal with its
+/// intervals.
 #[derive(Drop)]
 pub struct Typed {
     pub value: Boxed<Expr>,
@@ -45,8 +47,8 @@ pub struct Part {
     pub kind: BoundKind,
 }
 
-/// A chain of operations so far: its first operand, the operations on it, what it is, and its date, where it is a date
-/// literal with its intervals.
+/// A chain of operations so far: its first operand, the operations on it, what it is, and its date,
+/// where it is a date literal with its intervals.
 #[derive(Drop)]
 pub struct Chain {
     pub value: Boxed<Expr>,

@@ -16,7 +16,8 @@ use sqlite_items::{Boxed, Items};
 use std::alloc::{AllocError, Global};
 use tpch_schema::TableName;
 
-/// What a FROM name stands for: its rows, its columns, and how many FROM items the use of it counts.
+/// What a FROM name stands for: its rows, its columns, and how many FROM items the use of it
+/// counts.
 #[derive(Drop)]
 pub struct NamedItem {
     pub source: Boxed<BoundSource>,
@@ -24,7 +25,8 @@ pub struct NamedItem {
     pub items: u64,
 }
 
-/// Two sources that are to be joined: the right one's number of columns, and the columns of all so far.
+/// Two sources that are to be joined: the right one's number of columns, and the columns of all so
+/// far.
 #[derive(Drop)]
 pub struct Joining {
     pub left: Boxed<BoundSource>,
@@ -121,7 +123,8 @@ pub fn table_rows(
     alias: &Name,
     left: &[ScopeColumn],
 ) -> Result<FromRows, BindFault>
-    ensures { Binds (spec.table_rows (sight_of site.now) name.now alias.now left.now state.old) result state.new }
+    ensures { Binds (spec.table_rows (sight_of site.now) name.now alias.now left.now state.old)
+        result state.new }
 {
     let found = named_item(alloc, name, site.views.all.as_slice())?;
     state.counted(found.items)?;

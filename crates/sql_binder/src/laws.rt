@@ -1,10 +1,11 @@
 //! Laws of binding. Each function does nothing: its contract is the law.
 ghost use Rattle.sql_binder.specs.Examples.{FirstRefusals, LaterRefusals};
-ghost use Rattle.sql_binder.specs.EdgeCases.{MovedDates, ViewOfNames, Chains, ConditionsAsValues, Groups, SightsOfParts, OrderInFrom, OrderInViews};
+ghost use Rattle.sql_binder.specs.EdgeCases.{MovedDates, ViewOfNames, Chains, ConditionsAsValues};
+ghost use Rattle.sql_binder.specs.EdgeCases.{Groups, SightsOfParts, OrderInFrom, OrderInViews};
 ghost use Rattle.sql_binder.specs.Laws.{Resolution, OnlyColumn, BoundOrRefused, NotBoth, OneWay};
 
-/// A name is looked for in the innermost query that has it, and nowhere else; and the place that it means there is that of
-/// the only column that it may stand for.
+/// A name is looked for in the innermost query that has it, and nowhere else; and the place that it
+/// means there is that of the only column that it may stand for.
 pub fn names_are_innermost()
     ensures resolution { Resolution }
     ensures only { OnlyColumn }

@@ -152,7 +152,8 @@ pub fn closing(
     keys: Option<Items<u32>>,
     lists: (Shown, BoundExpr),
 ) -> Result<BoundTable, BindFault>
-    ensures { Binds (spec.closing from kept (unwrap_or keys []) lists.0 lists.1 state.old) result state.new }
+    ensures { Binds (spec.closing from kept (unwrap_or keys []) lists.0 lists.1 state.old) result
+        state.new }
 {
     let (shown, having) = lists;
     let keys = match keys {

@@ -31,7 +31,8 @@ use std::alloc::{AllocError, Global};
 /// A number.
 fn number(alloc: Global, coefficient: i128, scale: Scale) -> Result<Typed, AllocError>
     ensures { IfOk result
-        (λ t. t ≡ typed (e.Literal (value.Number scale coefficient)) (kinds.Value (kind.Number scale))) }
+        (λ t. t ≡ typed (e.Literal (value.Number scale coefficient))
+        (kinds.Value (kind.Number scale))) }
 {
     let value = scalar_expr::Expr::Literal(Value::Number(scale, coefficient));
     let t = typed(alloc, value, BoundKind::Value(Kind::Number(scale)))?;

@@ -2,7 +2,8 @@
 ghost use Rattle.std.specs.Prelude.{◌≡◌, IfOk};
 ghost use Rattle.std.specs.Str.{bytes_eq};
 ghost use Rattle.sql_binder.specs.Steps.{Gives};
-ghost use Rattle.sql_binder.specs.Names.{sight_of, level_of, ends, is_met, means, key_of, the_one, placed, resolved};
+ghost use Rattle.sql_binder.specs.Names.{sight_of, level_of, ends, is_met, means, key_of, the_one};
+ghost use Rattle.sql_binder.specs.Names.{placed, resolved};
 ghost use Rattle.sql_binder.specs.Names as spec;
 
 use crate::fault::BindFault;
@@ -21,16 +22,16 @@ pub struct ScopeColumn {
     pub kind: Kind,
 }
 
-/// A query around an expression: the columns of its FROM list and, where its groups are read, the places of its
-/// GROUP BY columns.
+/// A query around an expression: the columns of its FROM list and, where its groups are read, the
+/// places of its GROUP BY columns.
 #[derive(Clone, Copy)]
 pub struct Level<'a> {
     pub columns: &'a [ScopeColumn],
     pub keys: &'a Option<Items<u32>>,
 }
 
-/// What is in sight: the views; the queries around, from the innermost on; how many of these, from the outermost, no
-/// name may use; and whether a subquery may stand here.
+/// What is in sight: the views; the queries around, from the innermost on; how many of these, from
+/// the outermost, no name may use; and whether a subquery may stand here.
 #[derive(Clone, Copy)]
 pub struct Site<'a> {
     pub views: &'a Views,

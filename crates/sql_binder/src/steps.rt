@@ -40,7 +40,8 @@ pub fn before<'a>(
     level: Level<'a>,
     outer: &[Level<'a>],
 ) -> Result<Vec<Level<'a>>, AllocError>
-    ensures { IfOk result (λ all. map level_of all.items ≡ level_of level.entry ∷ map level_of outer.now) }
+    ensures { IfOk result (λ all. map level_of all.items
+        ≡ level_of level.entry ∷ map level_of outer.now) }
 {
     let mut all = Vec::new(alloc);
     all.push(level)?;

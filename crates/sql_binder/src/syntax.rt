@@ -3,7 +3,8 @@ ghost use Rattle.std.specs.Prelude.{◌≡◌, map, IfOk};
 ghost use Rattle.sql_binder.specs.Expressions as exprs;
 ghost use Rattle.sql_binder.specs.Blocks as blocks;
 ghost use Rattle.sql_binder.specs.Binding as trees;
-ghost use Rattle.sql_binder.specs.Binding.{meaning, term_meaning, factor_meaning, arm_meaning, item_meaning, selected_meaning};
+ghost use Rattle.sql_binder.specs.Binding.{meaning, term_meaning, factor_meaning, arm_meaning};
+ghost use Rattle.sql_binder.specs.Binding.{item_meaning, selected_meaning};
 
 use crate::names::share;
 use ascii_text::Text;

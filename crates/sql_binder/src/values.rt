@@ -291,7 +291,8 @@ fn branches(
     Ok(all)
 }
 
-/// A CASE of its conditions, the kinds of all its branches, the branches, and what stands after ELSE.
+/// A CASE of its conditions, the kinds of all its branches, the branches, and what stands after
+/// ELSE.
 #[tactic(auto, unfolding(crate::specs::Values::chosen))]
 fn chosen(
     alloc: Global,

@@ -7,7 +7,8 @@ use sql_ast::Name;
 use sqlite_items::{Boxed, Items};
 use std::alloc::{AllocError, Global};
 
-/// A column of a view or of a query's answer. One that has no name has the empty one, which no query can write.
+/// A column of a view or of a query's answer. One that has no name has the empty one, which no
+/// query can write.
 #[derive(Drop)]
 pub struct Header {
     /// Its name.

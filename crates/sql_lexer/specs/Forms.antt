@@ -1,5 +1,7 @@
 -- The forms of tokens: which bytes are a token, and what they mean.
-use Rattle.std.specs.Prelude.{◌≡◌, ℕ, ◌+◌, ◌-◌, ◌*◌, ◌^◌, ◌≤◌, Bool, true, false, ◌||◌, ◌&&◌, if◌then◌else◌, ◌==◌, List, [], ◌∷◌, length, take, drop, filter, map, nat_lt, Option, Some, None, Result, Ok, Err, pos}
+use Rattle.std.specs.Prelude.{◌≡◌, ℕ, ◌+◌, ◌-◌, ◌*◌, ◌^◌, ◌≤◌, Bool, true, false, ◌||◌, ◌&&◌}
+use Rattle.std.specs.Prelude.{if◌then◌else◌, ◌==◌, List, [], ◌∷◌, length, take, drop, filter, map}
+use Rattle.std.specs.Prelude.{nat_lt, Option, Some, None, Result, Ok, Err, pos}
 use Rattle.std.specs.List.{prefix_len}
 use Rattle.std.specs.Char.{is_ascii_digit, to_ascii_lowercase}
 use Rattle.sql_lexer.specs.declared.kind.Kind.{Kind}
@@ -7,7 +9,8 @@ use Rattle.sql_lexer.specs.declared.kind.Kind.TheVariants as k
 use Rattle.sql_lexer.specs.declared.token.Content.{Content}
 use Rattle.sql_lexer.specs.declared.token.Content.TheVariants as content
 use Rattle.sql_lexer.specs.declared.fault.LexRefusal.{LexRefusal}
-use Rattle.sql_lexer.specs.declared.fault.LexRefusal.TheVariants.{BadByte, NumberTooWide, ScaleTooWide}
+use Rattle.sql_lexer.specs.declared.fault.LexRefusal.TheVariants.{BadByte, NumberTooWide}
+use Rattle.sql_lexer.specs.declared.fault.LexRefusal.TheVariants.{ScaleTooWide}
 use Rattle.sql_lexer.specs.declared.front.Form.{Form}
 use Rattle.sql_lexer.specs.declared.front.Form.TheVariants as form
 use Rattle.ascii_text.specs.Printable.{first_unprintable}
@@ -24,7 +27,8 @@ abbrev pub are_digits : List ℕ → Bool
 are_digits [] = false
 are_digits (b ∷ bs) = is_ascii_digit b && all_are is_ascii_digit bs
 
--- what may come after a number's first digit: more digits, then perhaps a point and at least one digit
+-- what may come after a number's first digit: more digits, then perhaps a point and at least one
+-- digit
 abbrev pub ends_number : List ℕ → Bool
 ends_number [] = true
 ends_number (b ∷ bs) = (is_ascii_digit b && ends_number bs) || (b == 46 && are_digits bs)
@@ -34,8 +38,8 @@ abbrev pub is_number : List ℕ → Bool
 is_number [] = false
 is_number (b ∷ bs) = (is_ascii_digit b && ends_number bs) || (b == 46 && are_digits bs)
 
--- what may come after a text's opening quote: it ends with the first quote that no other one follows at once. `true`
--- stands where such a quote has just been seen.
+-- what may come after a text's opening quote: it ends with the first quote that no other one
+-- follows at once. `true` stands where such a quote has just been seen.
 abbrev pub ends_text : Bool → List ℕ → Bool
 ends_text seen [] = seen
 ends_text true (b ∷ bs) = b == 39 && ends_text false bs
@@ -135,7 +139,8 @@ abbrev pub word_made : Option Kind → List ℕ → Kind × Content
 word_made (Some kind) word = (kind, content.Nothing)
 word_made None word = (k.Name, content.Text word)
 
--- a number with so many digits after the point: more than 18 of them are refused first, then a value of 2^127 or more
+-- a number with so many digits after the point: more than 18 of them are refused first, then a
+-- value of 2^127 or more
 abbrev pub number_made : ℕ → ℕ → Result (Kind × Content) (LexRefusal × ℕ)
 number_made value places =
     if nat_lt 18 places then Err (ScaleTooWide, 0)
@@ -149,7 +154,8 @@ text_made None bytes = Ok (k.Text, content.Text (unquoted false (drop 1 bytes)))
 
 -- the kind and content of a token, or what it is refused for and at which of its bytes
 abbrev pub made : Form → List ℕ → Result (Kind × Content) (LexRefusal × ℕ)
-made form.Word bytes = Ok (word_made (reserved_kind (map to_ascii_lowercase bytes)) (map to_ascii_lowercase bytes))
+made form.Word bytes =
+    Ok (word_made (reserved_kind (map to_ascii_lowercase bytes)) (map to_ascii_lowercase bytes))
 made form.Number bytes = number_made (coefficient bytes) (scale bytes)
 made form.Text bytes = text_made (first_unprintable bytes) bytes
 made (form.Symbol kind) bytes = Ok (kind, content.Nothing)

@@ -1,5 +1,6 @@
 -- The longest token at the front, computed.
-use Rattle.std.specs.Prelude.{ℕ, suc, ◌+◌, Bool, true, false, ◌==◌, if◌then◌else◌, List, [], ◌∷◌, Option, Some, None}
+use Rattle.std.specs.Prelude.{ℕ, suc, ◌+◌, Bool, true, false, ◌==◌, if◌then◌else◌, List, [], ◌∷◌}
+use Rattle.std.specs.Prelude.{Option, Some, None}
 use Rattle.std.specs.Option.{option_map}
 use Rattle.std.specs.List.{prefix_len}
 use Rattle.std.specs.Char.{is_ascii_digit}
@@ -12,7 +13,9 @@ use Rattle.sql_lexer.specs.Forms.{symbol, long_symbol}
 -- how many bytes a point and its digits take, if digits follow it
 abbrev pub fraction_len : List ℕ → ℕ
 fraction_len [] = 0
-fraction_len (b ∷ bs) = if b == 46 then (if prefix_len is_ascii_digit bs == 0 then 0 else 1 + prefix_len is_ascii_digit bs) else 0
+fraction_len (b ∷ bs) =
+    if b == 46 then (if prefix_len is_ascii_digit bs == 0 then 0 else 1 + prefix_len is_ascii_digit
+    bs) else 0
 
 -- how many bytes of a text come after its opening quote, if it ends
 abbrev pub text_len : Bool → List ℕ → Option ℕ
@@ -49,4 +52,5 @@ front_of (b ∷ bs) =
     if is_letter b then Some (form.Word, suc (prefix_len is_word bs))
     else (if is_ascii_digit b then Some (form.Number, suc (number_len bs))
     else (if b == 39 then text_front (text_len false bs)
-    else (if fraction_len (b ∷ bs) == 0 then symbol_front b bs else Some (form.Number, fraction_len (b ∷ bs)))))
+    else (if fraction_len (b ∷ bs) == 0 then symbol_front b bs else Some
+    (form.Number, fraction_len (b ∷ bs)))))

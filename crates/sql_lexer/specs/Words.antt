@@ -97,7 +97,14 @@ spelling_of k.GreaterOrEqual = []
 -- the words that are never names
 abbrev pub reserved : List Kind
 reserved =
-    k.All ∷ k.And ∷ k.Any ∷ k.As ∷ k.Asc ∷ k.At ∷ k.Avg ∷ k.Between ∷ k.By ∷ k.Case ∷ k.Count ∷ k.Create ∷ k.Date ∷ k.Day ∷ k.Delete ∷ k.Desc ∷ k.Distinct ∷ k.Drop ∷ k.Else ∷ k.End ∷ k.Except ∷ k.Exists ∷ k.Extract ∷ k.Fetch ∷ k.First ∷ k.For ∷ k.From ∷ k.Full ∷ k.Group ∷ k.Having ∷ k.In ∷ k.Inner ∷ k.Insert ∷ k.Intersect ∷ k.Interval ∷ k.Is ∷ k.Join ∷ k.Lateral ∷ k.Left ∷ k.Like ∷ k.Limit ∷ k.Max ∷ k.Min ∷ k.Month ∷ k.Natural ∷ k.Not ∷ k.Null ∷ k.On ∷ k.Only ∷ k.Or ∷ k.Order ∷ k.Outer ∷ k.Refresh ∷ k.Right ∷ k.Rows ∷ k.Run ∷ k.Select ∷ k.Some ∷ k.Substring ∷ k.Sum ∷ k.Then ∷ k.Union ∷ k.Version ∷ k.View ∷ k.When ∷ k.Where ∷ k.With ∷ k.Year ∷ []
+    k.All ∷ k.And ∷ k.Any ∷ k.As ∷ k.Asc ∷ k.At ∷ k.Avg ∷ k.Between ∷ k.By ∷ k.Case ∷ k.Count
+    ∷ k.Create ∷ k.Date ∷ k.Day ∷ k.Delete ∷ k.Desc ∷ k.Distinct ∷ k.Drop ∷ k.Else ∷ k.End
+    ∷ k.Except ∷ k.Exists ∷ k.Extract ∷ k.Fetch ∷ k.First ∷ k.For ∷ k.From ∷ k.Full ∷ k.Group
+    ∷ k.Having ∷ k.In ∷ k.Inner ∷ k.Insert ∷ k.Intersect ∷ k.Interval ∷ k.Is ∷ k.Join
+    ∷ k.Lateral ∷ k.Left ∷ k.Like ∷ k.Limit ∷ k.Max ∷ k.Min ∷ k.Month ∷ k.Natural ∷ k.Not
+    ∷ k.Null ∷ k.On ∷ k.Only ∷ k.Or ∷ k.Order ∷ k.Outer ∷ k.Refresh ∷ k.Right ∷ k.Rows ∷ k.Run
+    ∷ k.Select ∷ k.Some ∷ k.Substring ∷ k.Sum ∷ k.Then ∷ k.Union ∷ k.Version ∷ k.View ∷ k.When
+    ∷ k.Where ∷ k.With ∷ k.Year ∷ []
 
 -- the reserved word that these bytes are, in lower case
 abbrev pub reserved_kind : List ℕ → Option Kind

@@ -42,7 +42,8 @@ fn scale(bytes: &[u8]) -> usize
 
 /// A number token, whose first byte stands at `at`.
 fn number(bytes: &[u8], at: usize) -> Result<(Kind, Content), LexFault>
-    ensures { Makes (forms.number_made (forms.coefficient bytes.now) (forms.scale bytes.now)) result at }
+    ensures { Makes (forms.number_made (forms.coefficient bytes.now) (forms.scale bytes.now)) result
+        at }
 {
     let places = scale(bytes);
     if places > 18 {
@@ -58,7 +59,9 @@ fn number(bytes: &[u8], at: usize) -> Result<(Kind, Content), LexFault>
 /// A reserved word or a name.
 fn word(alloc: Global, bytes: &[u8]) -> Result<(Kind, Content), AllocError>
     requires { forms.all_are byte.is_word bytes.now ≡ true }
-    ensures { IfOk result (λ made. made ≡ forms.word_made (reserved_kind (map to_ascii_lowercase bytes.now)) (map to_ascii_lowercase bytes.now)) }
+    ensures { IfOk result (λ made. made
+        ≡ forms.word_made (reserved_kind (map to_ascii_lowercase bytes.now))
+        (map to_ascii_lowercase bytes.now)) }
 {
     let folded = bytes.to_ascii_lowercase(alloc)?;
     match reserved(&folded) {
@@ -70,7 +73,8 @@ fn word(alloc: Global, bytes: &[u8]) -> Result<(Kind, Content), AllocError>
     }
 }
 
-/// A text without its closing quote and with each doubled quote once, from the bytes after its opening quote.
+/// A text without its closing quote and with each doubled quote once, from the bytes after its
+/// opening quote.
 fn unquoted(alloc: Global, bytes: &[u8]) -> Result<Vec<u8>, AllocError>
     ensures { IfOk result (λ v. v.items ≡ forms.unquoted false bytes.now) }
 {

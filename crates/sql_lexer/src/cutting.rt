@@ -1,9 +1,11 @@
 //! Cutting a script into its tokens.
-ghost use Rattle.std.specs.Prelude.{◌≡◌, ℕ, ◌+◌, ◌^◌, ◌<◌, ◌≤◌, ◌==◌, not, length, drop, take, IfOk, Err};
+ghost use Rattle.std.specs.Prelude.{◌≡◌, ℕ, ◌+◌, ◌^◌, ◌<◌, ◌≤◌, ◌==◌, not, length, drop, take};
+ghost use Rattle.std.specs.Prelude.{IfOk, Err};
 ghost use Rattle.std.specs.List.{prefix_len};
 ghost use Rattle.sql_lexer.specs.Bytes as byte;
 ghost use Rattle.sql_lexer.specs.Lexing as lexing;
-ghost use Rattle.sql_lexer.specs.Lexing.{Cuts, InOrder, Lexes, NeverBoth, OneRefusal, OneTokens, Refuses, SomeAnswer};
+ghost use Rattle.sql_lexer.specs.Lexing.{Cuts, InOrder, Lexes, NeverBoth, OneRefusal, OneTokens};
+ghost use Rattle.sql_lexer.specs.Lexing.{Refuses, SomeAnswer};
 ghost use Rattle.sql_lexer.specs.declared.fault.LexRefusal.{LexRefusal};
 
 use crate::content::make;
@@ -89,7 +91,8 @@ fn next_token(alloc: Global, bytes: &[u8], at: usize) -> Result<Token, LexFault>
     requires no_gap { lexing.gap_len bytes.now ≡ 0 }
     requires place { at + length bytes.now < 2 ^ 64 }
     ensures token { IfOk result (λ t. Cuts at bytes.now t) }
-    ensures refused { (r : LexRefusal) (place : ℕ) → result ≡ Err (LexFault.Refused r place) → Refuses at bytes.now r place }
+    ensures refused { (r : LexRefusal) (place : ℕ) → result ≡ Err (LexFault.Refused r place)
+        → Refuses at bytes.now r place }
 {
     match front(bytes) {
         None => Err(LexFault::Refused(refusal_at(bytes[0]), at)),
@@ -108,15 +111,17 @@ fn next_token(alloc: Global, bytes: &[u8], at: usize) -> Result<Token, LexFault>
     }
 }
 
-/// The tokens of a script, the longest from the left, without what parts them. Refused is the first byte from
-/// the left that makes it no tokens. A token's text is the slice that its start and length name.
+/// The tokens of a script, the longest from the left, without what parts them. Refused is the first
+/// byte from the left that makes it no tokens. A token's text is the slice that its start and
+/// length name.
 pub fn lex(alloc: Global, script: &[u8]) -> Result<Vec<Token>, LexFault>
     // The script is these tokens.
     ensures tokens { IfOk result (λ v. Lexes 0 script.now v.items) }
     // They stand in order.
     ensures order { IfOk result (λ v. InOrder 0 (length script.now) v.items) }
     // A refusal is the first one, at its byte.
-    ensures refused { (r : LexRefusal) (place : ℕ) → result ≡ Err (LexFault.Refused r place) → Refuses 0 script.now r place }
+    ensures refused { (r : LexRefusal) (place : ℕ) → result ≡ Err (LexFault.Refused r place)
+        → Refuses 0 script.now r place }
 {
     let mut found = Vec::new(alloc);
     let mut at = 0;

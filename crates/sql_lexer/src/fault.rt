@@ -7,7 +7,8 @@ use std::alloc::{AllocError, AllocFailed};
 /// Why bytes are no tokens.
 #[derive(Clone, Copy, Debug, PartialEq, Eq)]
 pub enum LexRefusal {
-    /// 1: a byte of no token, a byte of a text outside 0x20 to 0x7E, or a letter directly after a number.
+    /// 1: a byte of no token, a byte of a text outside 0x20 to 0x7E, or a letter directly after a
+    /// number.
     BadByte,
     /// 2: a text that doesn't end, at its opening quote.
     OpenText,

@@ -2,7 +2,8 @@
 ghost use Rattle.std.specs.Prelude.{◌≡◌, List, ℕ};
 ghost use Rattle.sql_lexer.specs.Words.{spelling_of, reserved_kind};
 
-/// What a token is. A reserved word has a kind of its own, named as the word is spelled, as each symbol has.
+/// What a token is. A reserved word has a kind of its own, named as the word is spelled, as each
+/// symbol has.
 #[derive(Clone, Copy, Debug, PartialEq, Eq)]
 pub enum Kind {
     /// A word that is not reserved.

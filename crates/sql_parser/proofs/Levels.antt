@@ -60,7 +60,7 @@ Sample-part_line : (wide room : ℕ) (U N : P) (B : Q) → Sample U → Sample (
 Sample-part_line wide room U N B s = Sample-right (Sample-then tested (Sample-then sum (Sample-then product s (no_links wide)) (no_links wide)) no_test)
   where
     no_test : Sample (TestTail wide room U N B)
-    no_test = record { marks = []; value = t.Holds; part = inr (inr (inr (inr (refl, refl)))) }
+    no_test = record { marks = []; value = t.Absent; part = inr (inr (inr (inr (refl, refl)))) }
 
 -- select * from a name
 Sample-query_line : (wide room : ℕ) (N : P) (B : Q) → Sample (QueryLine wide room N B)

@@ -312,7 +312,7 @@ module _ {P S : Type 0} {U V : Part Token Expr} {u : Reading Token Expr} {N M : 
   lift-TestTail = Lifts-or n (lift-CompareLine n many le wide law_unary lift_unary)
       (Lifts-or n (lift-NullLine n)
       (Lifts-or n (Lifts-then n denied (Lifts-one n (is k.Not)) lift-DenyTest)
-      (Lifts-or n lift-DenyTest (Lifts-empty n t.Holds))))
+      (Lifts-or n lift-DenyTest (Lifts-empty n t.Absent))))
 
   pub lift-Predicate : Lifts n (Predicate wide room U N B) (Predicate many n V M C)
   lift-Predicate = Lifts-then n tested (lift-Sum n many le wide law_unary lift_unary) lift-TestTail

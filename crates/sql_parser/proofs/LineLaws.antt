@@ -397,7 +397,7 @@ module _ {P S : Type 0} {U : Part Token Expr} {u : Reading Token Expr} {N : Part
   law-TestTail = tail_or {first = test_words} {on = on_part} (among kinds comparison_words) (λ t. refl) (law-CompareLine wide unary)
       (tail_or {first = k.Is ∷ k.Not ∷ denied_words} {on = k.Is ∷ k.Not ∷ on_denied} (is k.Is) (is_among kinds k.Is) law-NullLine
       (tail_or {first = k.Not ∷ denied_words} {on = k.Not ∷ on_denied} (is k.Not) (is_among kinds k.Not) (line_then denied (line_kind kinds k.Not) law-DenyTest refl)
-      (tail_or {first = denied_words} {on = on_denied} (among kinds denied_words) (λ t. refl) law-DenyTest (tail_empty t.Holds) refl refl refl refl refl refl) refl refl refl refl refl refl) refl refl refl refl refl refl) refl refl refl refl refl refl
+      (tail_or {first = denied_words} {on = on_denied} (among kinds denied_words) (λ t. refl) law-DenyTest (tail_empty t.Absent) refl refl refl refl refl refl) refl refl refl refl refl refl) refl refl refl refl refl refl) refl refl refl refl refl refl
 
   pub law-Predicate : Line kinds P S unary_first on_part (Predicate wide room U N B) (read_predicate wide room u n b)
   unfolding read_predicate

@@ -1,5 +1,5 @@
--- The grammar of scripts, a definition for each line. `wide` is how many more elements a list may have than its first,
--- `room` how many levels may still be opened.
+-- The grammar of scripts, a definition for each line. `wide` is how many more elements a list may
+-- have than its first, `room` how many levels may still be opened.
 use Rattle.std.specs.Prelude.{ℕ, zero, suc, Bool, true, false, List, [], Option, Some, None}
 use Rattle.sql_lexer.specs.declared.kind.Kind.TheVariants as k
 use Rattle.sql_lexer.specs.declared.token.Token.{Token}
@@ -39,7 +39,14 @@ use Rattle.sql_parser.specs.declared.test.Test.TheVariants as t
 use Rattle.sql_parser.specs.declared.queries.Filters.{Filters}
 use Rattle.sql_lexer.specs.Kinds.{is}
 use Rattle.grammar_laws.specs.Lines.{Part, One, Opens, Empty, Never, Then, Or, Map, less, Links}
-use Rattle.sql_parser.specs.Values.{Name, text_of, count_of, number, text, is_count, is_digits, first, second, pair, cons, constant, after_word, after_point, column, negative, negation, factor, term, product, sum, all_of, any_of, arm, case_of, date, interval, extract, substring, distinct_count, between, like, in_list, in_query, is_null, is_not_null, denied, tested, item, distinct, plain_selection, derived, join, joined, condition, filters, block, order_key, ordered, create_view, text_value, number_value}
+use Rattle.sql_parser.specs.Values.{Name, text_of, count_of, number, text, is_count, is_digits}
+use Rattle.sql_parser.specs.Values.{first, second, pair, cons, constant, after_word, after_point}
+use Rattle.sql_parser.specs.Values.{column, negative, negation, factor, term, product, sum, all_of}
+use Rattle.sql_parser.specs.Values.{any_of, arm, case_of, date, interval, extract, substring}
+use Rattle.sql_parser.specs.Values.{distinct_count, between, like, in_list, in_query, is_null}
+use Rattle.sql_parser.specs.Values.{is_not_null, denied, tested, item, distinct, plain_selection}
+use Rattle.sql_parser.specs.Values.{derived, join, joined, condition, filters, block, order_key}
+use Rattle.sql_parser.specs.Values.{ordered, create_view, text_value, number_value}
 
 -- a name
 abbrev pub NameLine : Part Token Name
@@ -59,7 +66,8 @@ Digits = Map text_of (One is_digits)
 
 -- year, month or day
 abbrev pub SpanWord : Part Token Span
-SpanWord = Or (Map (constant span.Year) (One (is k.Year))) (Or (Map (constant span.Month) (One (is k.Month))) (Map (constant span.Day) (One (is k.Day))))
+SpanWord = Or (Map (constant span.Year) (One (is k.Year)))
+    (Or (Map (constant span.Month) (One (is k.Month))) (Map (constant span.Day) (One (is k.Day))))
 
 -- ["." name]
 abbrev pub ColumnTail : Part Token (Option Name)
@@ -71,11 +79,13 @@ ColumnLine = Then column NameLine ColumnTail
 
 -- * or /
 abbrev pub MultiplyWord : Part Token Multiplying
-MultiplyWord = Or (Map (constant multiplying.Times) (One (is k.Star))) (Map (constant multiplying.Divide) (One (is k.Slash)))
+MultiplyWord = Or (Map (constant multiplying.Times) (One (is k.Star)))
+    (Map (constant multiplying.Divide) (One (is k.Slash)))
 
 -- + or -
 abbrev pub AddWord : Part Token Adding
-AddWord = Or (Map (constant adding.Plus) (One (is k.Plus))) (Map (constant adding.Minus) (One (is k.Minus)))
+AddWord = Or (Map (constant adding.Plus) (One (is k.Plus)))
+    (Map (constant adding.Minus) (One (is k.Minus)))
 
 -- unary {(*|/) unary}
 abbrev pub Product : ℕ → Part Token Expr → Part Token Expr
@@ -91,19 +101,24 @@ Conjunction wide part = Then all_of part (Links (One (is k.And)) second part wid
 
 -- and-part {or and-part}
 abbrev pub Whole : ℕ → Part Token Expr → Part Token Expr
-Whole wide part = Then any_of (Conjunction wide part) (Links (One (is k.Or)) second (Conjunction wide part) wide)
+Whole wide part = Then any_of (Conjunction wide part)
+    (Links (One (is k.Or)) second (Conjunction wide part) wide)
 
 -- e {"," e}
 abbrev pub ExprList : ℕ → Part Token Expr → Part Token (List Expr)
-ExprList wide part = Then cons (Whole wide part) (Links (One (is k.Comma)) second (Whole wide part) wide)
+ExprList wide part =
+    Then cons (Whole wide part) (Links (One (is k.Comma)) second (Whole wide part) wide)
 
 -- when e then e
 abbrev pub ArmLine : ℕ → Part Token Expr → Part Token Arm
-ArmLine wide part = Then arm (Then second (One (is k.When)) (Whole wide part)) (Then second (One (is k.Then)) (Whole wide part))
+ArmLine wide part =
+    Then arm (Then second (One (is k.When)) (Whole wide part))
+    (Then second (One (is k.Then)) (Whole wide part))
 
 -- when e then e {when e then e}
 abbrev pub Arms : ℕ → Part Token Expr → Part Token (List Arm)
-Arms wide part = Then cons (ArmLine wide part) (Links (Empty (tt {0})) second (ArmLine wide part) wide)
+Arms wide part = Then cons (ArmLine wide part)
+    (Links (Empty (tt {0})) second (ArmLine wide part) wide)
 
 -- [else e]
 abbrev pub ElseTail : ℕ → Part Token Expr → Part Token (Option Expr)
@@ -115,11 +130,13 @@ CaseBody wide part = Then case_of (Arms wide part) (ElseTail wide part)
 
 -- case .. end
 abbrev pub CaseLine : ℕ → ℕ → Part Token Expr → Part Token Expr
-CaseLine wide room part = Then second (Opens room (is k.Case)) (Then first (CaseBody wide part) (One (is k.End)))
+CaseLine wide room part =
+    Then second (Opens room (is k.Case)) (Then first (CaseBody wide part) (One (is k.End)))
 
 -- T | "(" T ")"
 abbrev pub DateText : ℕ → Part Token Name
-DateText room = Or (Then second (Opens room (is k.OpenParen)) (Then first Literal (One (is k.CloseParen)))) Literal
+DateText room = Or
+    (Then second (Opens room (is k.OpenParen)) (Then first Literal (One (is k.CloseParen)))) Literal
 
 -- date T | date "(" T ")"
 abbrev pub DateLine : ℕ → Part Token Expr
@@ -127,11 +144,15 @@ DateLine room = Then date (One (is k.Date)) (DateText room)
 
 -- ["(" N ")"]
 abbrev pub Precision : ℕ → Part Token (Unit {0})
-Precision room = Or (Map (constant (tt {0})) (Then second (Opens room (is k.OpenParen)) (Then first Number (One (is k.CloseParen))))) (Empty (tt {0}))
+Precision room = Or
+    (Map (constant (tt {0}))
+    (Then second (Opens room (is k.OpenParen)) (Then first Number (One (is k.CloseParen)))))
+    (Empty (tt {0}))
 
 -- interval T (day|month|year) ["(" N ")"]
 abbrev pub IntervalLine : ℕ → Part Token Expr
-IntervalLine room = Then interval (Then second (One (is k.Interval)) Digits) (Then first SpanWord (Precision room))
+IntervalLine room =
+    Then interval (Then second (One (is k.Interval)) Digits) (Then first SpanWord (Precision room))
 
 -- (year|month|day) from e
 abbrev pub ExtractInside : ℕ → Part Token Expr → Part Token Expr
@@ -139,7 +160,10 @@ ExtractInside wide part = Then extract SpanWord (Then second (One (is k.From)) (
 
 -- extract "(" (year|month|day) from e ")"
 abbrev pub ExtractLine : ℕ → ℕ → Part Token Expr → Part Token Expr
-ExtractLine wide room part = Then second (One (is k.Extract)) (Then second (Opens room (is k.OpenParen)) (Then first (ExtractInside wide part) (One (is k.CloseParen))))
+ExtractLine wide room part =
+    Then second (One (is k.Extract))
+    (Then second (Opens room (is k.OpenParen))
+    (Then first (ExtractInside wide part) (One (is k.CloseParen))))
 
 -- from N for N
 abbrev pub Places : Part Token (ℕ × ℕ)
@@ -151,31 +175,51 @@ SubstringInside wide part = Then substring (Whole wide part) Places
 
 -- substring "(" e from N for N ")"
 abbrev pub SubstringLine : ℕ → ℕ → Part Token Expr → Part Token Expr
-SubstringLine wide room part = Then second (One (is k.Substring)) (Then second (Opens room (is k.OpenParen)) (Then first (SubstringInside wide part) (One (is k.CloseParen))))
+SubstringLine wide room part =
+    Then second (One (is k.Substring))
+    (Then second (Opens room (is k.OpenParen))
+    (Then first (SubstringInside wide part) (One (is k.CloseParen))))
 
 -- "*" | [distinct] e
 abbrev pub CountInside : ℕ → Part Token Expr → Part Token Expr
-CountInside wide part = Or (Map (constant e.CountRows) (One (is k.Star))) (Or (Then distinct_count (One (is k.Distinct)) (Whole wide part)) (Map e.Count (Whole wide part)))
+CountInside wide part =
+    Or (Map (constant e.CountRows) (One (is k.Star)))
+    (Or (Then distinct_count (One (is k.Distinct)) (Whole wide part))
+    (Map e.Count (Whole wide part)))
 
 -- count "(" .. ")"
 abbrev pub CountLine : ℕ → ℕ → Part Token Expr → Part Token Expr
-CountLine wide room part = Then second (One (is k.Count)) (Then second (Opens room (is k.OpenParen)) (Then first (CountInside wide part) (One (is k.CloseParen))))
+CountLine wide room part =
+    Then second (One (is k.Count))
+    (Then second (Opens room (is k.OpenParen))
+    (Then first (CountInside wide part) (One (is k.CloseParen))))
 
 -- sum, avg, min or max
 abbrev pub AggregateWord : Part Token Aggregate
-AggregateWord = Or (Map (constant aggregate.Sum) (One (is k.Sum))) (Or (Map (constant aggregate.Avg) (One (is k.Avg))) (Or (Map (constant aggregate.Min) (One (is k.Min))) (Map (constant aggregate.Max) (One (is k.Max)))))
+AggregateWord = Or (Map (constant aggregate.Sum) (One (is k.Sum)))
+    (Or (Map (constant aggregate.Avg) (One (is k.Avg)))
+    (Or (Map (constant aggregate.Min) (One (is k.Min)))
+    (Map (constant aggregate.Max) (One (is k.Max)))))
 
 -- (sum|avg|min|max) "(" e ")"
 abbrev pub AggregateLine : ℕ → ℕ → Part Token Expr → Part Token Expr
-AggregateLine wide room part = Then e.Aggregate AggregateWord (Then second (Opens room (is k.OpenParen)) (Then first (Whole wide part) (One (is k.CloseParen))))
+AggregateLine wide room part =
+    Then e.Aggregate AggregateWord
+    (Then second (Opens room (is k.OpenParen))
+    (Then first (Whole wide part) (One (is k.CloseParen))))
 
 -- extract, substring, count or an aggregate
 abbrev pub Call : ℕ → ℕ → Part Token Expr → Part Token Expr
-Call wide room part = Or (ExtractLine wide room part) (Or (SubstringLine wide room part) (Or (CountLine wide room part) (AggregateLine wide room part)))
+Call wide room part =
+    Or (ExtractLine wide room part)
+    (Or (SubstringLine wide room part)
+    (Or (CountLine wide room part) (AggregateLine wide room part)))
 
 -- what holds no expression: a number, a text, a date, an interval or a column
 abbrev pub Leaf : ℕ → Part Token Expr
-Leaf room = Or (Map number (One (is k.Number))) (Or (Map text (One (is k.Text))) (Or (DateLine room) (Or (IntervalLine room) (Map e.Column ColumnLine))))
+Leaf room = Or (Map number (One (is k.Number)))
+    (Or (Map text (One (is k.Text)))
+    (Or (DateLine room) (Or (IntervalLine room) (Map e.Column ColumnLine))))
 
 -- query | e
 abbrev pub ParensInside : ℕ → Part Token Expr → Part Token Block → Part Token Expr
@@ -183,11 +227,14 @@ ParensInside wide part query = Or (Map e.Scalar query) (Whole wide part)
 
 -- "(" (query | e) ")"
 abbrev pub Parens : ℕ → ℕ → Part Token Expr → Part Token Block → Part Token Expr
-Parens wide room part query = Then second (Opens room (is k.OpenParen)) (Then first (ParensInside wide part query) (One (is k.CloseParen)))
+Parens wide room part query =
+    Then second (Opens room (is k.OpenParen))
+    (Then first (ParensInside wide part query) (One (is k.CloseParen)))
 
 -- "(" query ")"
 abbrev pub Subquery : ℕ → Part Token Block → Part Token Block
-Subquery room query = Then second (Opens room (is k.OpenParen)) (Then first query (One (is k.CloseParen)))
+Subquery room query =
+    Then second (Opens room (is k.OpenParen)) (Then first query (One (is k.CloseParen)))
 
 -- exists "(" query ")"
 abbrev pub ExistsLine : ℕ → Part Token Block → Part Token Expr
@@ -195,15 +242,25 @@ ExistsLine room query = Then second (One (is k.Exists)) (Map e.Exists (Subquery 
 
 -- "(" (query | e) ")" | exists "(" query ")" | case .. end | a call | what holds no expression
 abbrev pub Operand : ℕ → ℕ → Part Token Expr → Part Token Block → Part Token Expr
-Operand wide room part query = Or (Parens wide room part query) (Or (ExistsLine room query) (Or (CaseLine wide room part) (Or (Call wide room part) (Leaf room))))
+Operand wide room part query =
+    Or (Parens wide room part query)
+    (Or (ExistsLine room query)
+    (Or (CaseLine wide room part) (Or (Call wide room part) (Leaf room))))
 
 -- - unary | an operand
-abbrev pub UnaryLine : ℕ → ℕ → Part Token Expr → Part Token Expr → Part Token Block → Part Token Expr
-UnaryLine wide room inner part query = Or (Then negative (Opens room (is k.Minus)) inner) (Operand wide room part query)
+abbrev pub UnaryLine : ℕ → ℕ → Part Token Expr → Part Token Expr → Part Token Block
+    → Part Token Expr
+UnaryLine wide room inner part query =
+    Or (Then negative (Opens room (is k.Minus)) inner) (Operand wide room part query)
 
 -- = | <> | < | <= | > | >=
 abbrev pub ComparisonWord : Part Token Comparison
-ComparisonWord = Or (Map (constant comparison.Equal) (One (is k.Equal))) (Or (Map (constant comparison.NotEqual) (One (is k.NotEqual))) (Or (Map (constant comparison.Less) (One (is k.Less))) (Or (Map (constant comparison.LessOrEqual) (One (is k.LessOrEqual))) (Or (Map (constant comparison.Greater) (One (is k.Greater))) (Map (constant comparison.GreaterOrEqual) (One (is k.GreaterOrEqual)))))))
+ComparisonWord = Or (Map (constant comparison.Equal) (One (is k.Equal)))
+    (Or (Map (constant comparison.NotEqual) (One (is k.NotEqual)))
+    (Or (Map (constant comparison.Less) (One (is k.Less)))
+    (Or (Map (constant comparison.LessOrEqual) (One (is k.LessOrEqual)))
+    (Or (Map (constant comparison.Greater) (One (is k.Greater)))
+    (Map (constant comparison.GreaterOrEqual) (One (is k.GreaterOrEqual)))))))
 
 -- (= | <> | < | <= | > | >=) sum
 abbrev pub CompareLine : ℕ → Part Token Expr → Part Token Test
@@ -211,11 +268,14 @@ CompareLine wide unary = Then t.Compare ComparisonWord (Sum wide unary)
 
 -- is [not] null
 abbrev pub NullLine : Part Token Test
-NullLine = Then second (One (is k.Is)) (Or (Then is_not_null (One (is k.Not)) (One (is k.Null))) (Map is_null (One (is k.Null))))
+NullLine = Then second (One (is k.Is))
+    (Or (Then is_not_null (One (is k.Not)) (One (is k.Null))) (Map is_null (One (is k.Null))))
 
 -- between sum and sum
 abbrev pub BetweenLine : ℕ → Part Token Expr → Part Token Test
-BetweenLine wide unary = Then second (One (is k.Between)) (Then between (Sum wide unary) (Then second (One (is k.And)) (Sum wide unary)))
+BetweenLine wide unary =
+    Then second (One (is k.Between))
+    (Then between (Sum wide unary) (Then second (One (is k.And)) (Sum wide unary)))
 
 -- like T
 abbrev pub LikeLine : Part Token Test
@@ -227,24 +287,33 @@ InInside wide part query = Or (Map in_query query) (Map in_list (ExprList wide p
 
 -- in "(" (query | e {"," e}) ")"
 abbrev pub InLine : ℕ → ℕ → Part Token Expr → Part Token Block → Part Token Test
-InLine wide room part query = Then second (One (is k.In)) (Then second (Opens room (is k.OpenParen)) (Then first (InInside wide part query) (One (is k.CloseParen))))
+InLine wide room part query =
+    Then second (One (is k.In))
+    (Then second (Opens room (is k.OpenParen))
+    (Then first (InInside wide part query) (One (is k.CloseParen))))
 
 -- what a NOT may stand before
 abbrev pub DenyTest : ℕ → ℕ → Part Token Expr → Part Token Expr → Part Token Block → Part Token Test
-DenyTest wide room unary part query = Or (BetweenLine wide unary) (Or LikeLine (InLine wide room part query))
+DenyTest wide room unary part query =
+    Or (BetweenLine wide unary) (Or LikeLine (InLine wide room part query))
 
 -- [a comparison | is [not] null | [not] between .. | [not] like .. | [not] in ..]
 abbrev pub TestTail : ℕ → ℕ → Part Token Expr → Part Token Expr → Part Token Block → Part Token Test
 TestTail wide room unary part query =
-    Or (CompareLine wide unary) (Or NullLine (Or (Then denied (One (is k.Not)) (DenyTest wide room unary part query)) (Or (DenyTest wide room unary part query) (Empty t.Holds))))
+    Or (CompareLine wide unary)
+    (Or NullLine (Or (Then denied (One (is k.Not)) (DenyTest wide room unary part query))
+    (Or (DenyTest wide room unary part query) (Empty t.Absent))))
 
 -- sum [test]
-abbrev pub Predicate : ℕ → ℕ → Part Token Expr → Part Token Expr → Part Token Block → Part Token Expr
-Predicate wide room unary part query = Then tested (Sum wide unary) (TestTail wide room unary part query)
+abbrev pub Predicate : ℕ → ℕ → Part Token Expr → Part Token Expr → Part Token Block
+    → Part Token Expr
+Predicate wide room unary part query =
+    Then tested (Sum wide unary) (TestTail wide room unary part query)
 
 -- not not-part | predicate
 abbrev pub PartLine : ℕ → ℕ → Part Token Expr → Part Token Expr → Part Token Block → Part Token Expr
-PartLine wide room unary part query = Or (Then negation (Opens room (is k.Not)) part) (Predicate wide room unary part query)
+PartLine wide room unary part query =
+    Or (Then negation (Opens room (is k.Not)) part) (Predicate wide room unary part query)
 
 -- [[as] name]
 abbrev pub Alias : Part Token (Option Name)
@@ -256,11 +325,17 @@ ItemLine wide part = Then item (Whole wide part) Alias
 
 -- "*" | item {"," item}
 abbrev pub Selection : ℕ → Part Token Expr → Part Token Selected
-Selection wide part = Or (Map (constant selected.All) (One (is k.Star))) (Map selected.Items (Then cons (ItemLine wide part) (Links (One (is k.Comma)) second (ItemLine wide part) wide)))
+Selection wide part =
+    Or (Map (constant selected.All) (One (is k.Star)))
+    (Map selected.Items
+    (Then cons (ItemLine wide part) (Links (One (is k.Comma)) second (ItemLine wide part) wide)))
 
 -- select [distinct] ..
 abbrev pub SelectLine : ℕ → Part Token Expr → Part Token (Bool × Selected)
-SelectLine wide part = Then second (One (is k.Select)) (Or (Then distinct (One (is k.Distinct)) (Selection wide part)) (Map plain_selection (Selection wide part)))
+SelectLine wide part =
+    Then second (One (is k.Select))
+    (Or (Then distinct (One (is k.Distinct)) (Selection wide part))
+    (Map plain_selection (Selection wide part)))
 
 -- name {"," name}
 abbrev pub Names : ℕ → Part Token (List Name)
@@ -268,7 +343,9 @@ Names wide = Then cons NameLine (Links (One (is k.Comma)) second NameLine wide)
 
 -- ["(" name {"," name} ")"]
 abbrev pub ColumnNames : ℕ → ℕ → Part Token (List Name)
-ColumnNames wide room = Or (Then second (Opens room (is k.OpenParen)) (Then first (Names wide) (One (is k.CloseParen)))) (Empty [])
+ColumnNames wide room =
+    Or (Then second (Opens room (is k.OpenParen)) (Then first (Names wide) (One (is k.CloseParen))))
+    (Empty [])
 
 -- name [[as] name]
 abbrev pub TableLine : Part Token FromItem
@@ -280,7 +357,8 @@ DerivedAlias = Or (Then second (One (is k.As)) NameLine) NameLine
 
 -- "(" query ")" [as] name ["(" name {"," name} ")"]
 abbrev pub DerivedLine : ℕ → ℕ → Part Token Block → Part Token FromItem
-DerivedLine wide room query = Then derived (Subquery room query) (Then pair DerivedAlias (ColumnNames wide room))
+DerivedLine wide room query =
+    Then derived (Subquery room query) (Then pair DerivedAlias (ColumnNames wide room))
 
 -- a derived table or a table
 abbrev pub FromItemLine : ℕ → ℕ → Part Token Block → Part Token FromItem
@@ -288,11 +366,14 @@ FromItemLine wide room query = Or (DerivedLine wide room query) TableLine
 
 -- [inner] join
 abbrev pub InnerWords : Part Token JoinKind
-InnerWords = Or (Map (constant join_kind.Inner) (One (is k.Join))) (Map (constant join_kind.Inner) (Then second (One (is k.Inner)) (One (is k.Join))))
+InnerWords = Or (Map (constant join_kind.Inner) (One (is k.Join)))
+    (Map (constant join_kind.Inner) (Then second (One (is k.Inner)) (One (is k.Join))))
 
 -- left [outer] join
 abbrev pub LeftWords : Part Token JoinKind
-LeftWords = Map (constant join_kind.LeftOuter) (Then second (One (is k.Left)) (Or (Then second (One (is k.Outer)) (One (is k.Join))) (One (is k.Join))))
+LeftWords = Map (constant join_kind.LeftOuter)
+    (Then second (One (is k.Left)) (Or (Then second (One (is k.Outer)) (One (is k.Join)))
+    (One (is k.Join))))
 
 -- [inner] join | left [outer] join
 abbrev pub JoinWords : Part Token JoinKind
@@ -300,15 +381,21 @@ JoinWords = Or LeftWords InnerWords
 
 -- an item and its condition: item on e
 abbrev pub JoinedItem : ℕ → ℕ → Part Token Expr → Part Token Block → Part Token (FromItem × Expr)
-JoinedItem wide room part query = Then pair (FromItemLine wide room query) (Then second (One (is k.On)) (Whole wide part))
+JoinedItem wide room part query =
+    Then pair (FromItemLine wide room query) (Then second (One (is k.On)) (Whole wide part))
 
 -- item {([inner] join | left [outer] join) item on e}
 abbrev pub JoinedLine : ℕ → ℕ → Part Token Expr → Part Token Block → Part Token Joined
-JoinedLine wide room part query = Then joined (FromItemLine wide room query) (Links JoinWords join (JoinedItem wide room part query) wide)
+JoinedLine wide room part query =
+    Then joined (FromItemLine wide room query)
+    (Links JoinWords join (JoinedItem wide room part query) wide)
 
 -- from joined {"," joined}
 abbrev pub FromLine : ℕ → ℕ → Part Token Expr → Part Token Block → Part Token (List Joined)
-FromLine wide room part query = Then second (One (is k.From)) (Then cons (JoinedLine wide room part query) (Links (One (is k.Comma)) second (JoinedLine wide room part query) wide))
+FromLine wide room part query =
+    Then second (One (is k.From))
+    (Then cons (JoinedLine wide room part query)
+    (Links (One (is k.Comma)) second (JoinedLine wide room part query) wide))
 
 -- [where e]
 abbrev pub WhereTail : ℕ → Part Token Expr → Part Token Clause
@@ -316,23 +403,30 @@ WhereTail wide part = Or (Then condition (One (is k.Where)) (Whole wide part)) (
 
 -- [group by column {"," column}]
 abbrev pub GroupTail : ℕ → Part Token (List Column)
-GroupTail wide = Or (Then second (Then second (One (is k.Group)) (One (is k.By))) (Then cons ColumnLine (Links (One (is k.Comma)) second ColumnLine wide))) (Empty [])
+GroupTail wide = Or
+    (Then second (Then second (One (is k.Group)) (One (is k.By)))
+    (Then cons ColumnLine (Links (One (is k.Comma)) second ColumnLine wide))) (Empty [])
 
 -- [having e]
 abbrev pub HavingTail : ℕ → Part Token Expr → Part Token Clause
-HavingTail wide part = Or (Then condition (One (is k.Having)) (Whole wide part)) (Empty clause.Absent)
+HavingTail wide part =
+    Or (Then condition (One (is k.Having)) (Whole wide part)) (Empty clause.Absent)
 
 -- [where ..] [group by ..] [having ..]
 abbrev pub FiltersTail : ℕ → Part Token Expr → Part Token Filters
-FiltersTail wide part = Then filters (WhereTail wide part) (Then pair (GroupTail wide) (HavingTail wide part))
+FiltersTail wide part =
+    Then filters (WhereTail wide part) (Then pair (GroupTail wide) (HavingTail wide part))
 
 -- select .. from .. [where ..] [group by ..] [having ..]
 abbrev pub QueryLine : ℕ → ℕ → Part Token Expr → Part Token Block → Part Token Block
-QueryLine wide room part query = Then block (SelectLine wide part) (Then pair (FromLine wide room part query) (FiltersTail wide part))
+QueryLine wide room part query =
+    Then block (SelectLine wide part)
+    (Then pair (FromLine wide room part query) (FiltersTail wide part))
 
 -- [asc|desc]
 abbrev pub Direction : Part Token Bool
-Direction = Or (Map (constant false) (One (is k.Asc))) (Or (Map (constant true) (One (is k.Desc))) (Empty false))
+Direction = Or (Map (constant false) (One (is k.Asc)))
+    (Or (Map (constant true) (One (is k.Desc))) (Empty false))
 
 -- name [asc|desc]
 abbrev pub KeyLine : Part Token OrderKey
@@ -340,7 +434,9 @@ KeyLine = Then order_key NameLine Direction
 
 -- [order by .. {"," ..}]
 abbrev pub OrderTail : ℕ → Part Token (List OrderKey)
-OrderTail wide = Or (Then second (Then second (One (is k.Order)) (One (is k.By))) (Then cons KeyLine (Links (One (is k.Comma)) second KeyLine wide))) (Empty [])
+OrderTail wide = Or
+    (Then second (Then second (One (is k.Order)) (One (is k.By)))
+    (Then cons KeyLine (Links (One (is k.Comma)) second KeyLine wide))) (Empty [])
 
 -- rows only
 abbrev pub RowsOnly : Part Token Token
@@ -348,7 +444,9 @@ RowsOnly = Then second (One (is k.Rows)) (One (is k.Only))
 
 -- [limit N | fetch first N rows only]
 abbrev pub LimitTail : Part Token (Option ℕ)
-LimitTail = Or (Then after_word (One (is k.Limit)) Number) (Or (Then after_word (Then second (One (is k.Fetch)) (One (is k.First))) (Then first Number RowsOnly)) (Empty None))
+LimitTail = Or (Then after_word (One (is k.Limit)) Number)
+    (Or (Then after_word (Then second (One (is k.Fetch)) (One (is k.First)))
+    (Then first Number RowsOnly)) (Empty None))
 
 -- query [order by ..] [limit ..]
 abbrev pub OrderedLine : ℕ → Part Token Block → Part Token Statement
@@ -356,15 +454,19 @@ OrderedLine wide query = Then ordered query (Then pair (OrderTail wide) LimitTai
 
 -- create view name ["(" name {"," name} ")"] as query
 abbrev pub CreateLine : ℕ → ℕ → Part Token Block → Part Token Statement
-CreateLine wide room query = Then create_view (Then second (Then second (One (is k.Create)) (One (is k.View))) (Then pair NameLine (ColumnNames wide room))) (Then second (One (is k.As)) query)
+CreateLine wide room query =
+    Then create_view (Then second (Then second (One (is k.Create)) (One (is k.View)))
+    (Then pair NameLine (ColumnNames wide room))) (Then second (One (is k.As)) query)
 
 -- drop view name
 abbrev pub DropLine : Part Token Statement
-DropLine = Then second (Then second (One (is k.Drop)) (One (is k.View))) (Map statements.DropView NameLine)
+DropLine = Then second (Then second (One (is k.Drop)) (One (is k.View)))
+    (Map statements.DropView NameLine)
 
 -- insert|delete
 abbrev pub RefreshWord : Part Token RefreshKind
-RefreshWord = Or (Map (constant refresh_kind.Insert) (One (is k.Insert))) (Map (constant refresh_kind.Delete) (One (is k.Delete)))
+RefreshWord = Or (Map (constant refresh_kind.Insert) (One (is k.Insert)))
+    (Map (constant refresh_kind.Delete) (One (is k.Delete)))
 
 -- refresh (insert|delete) N
 abbrev pub RefreshLine : Part Token Statement
@@ -380,40 +482,56 @@ ValueList wide = Then cons ValueLine (Links (One (is k.Comma)) second ValueLine 
 
 -- [value {"," value}] ")"
 abbrev pub RunInside : ℕ → Part Token (List TemplateValue)
-RunInside wide = Or (Map (constant []) (One (is k.CloseParen))) (Then first (ValueList wide) (One (is k.CloseParen)))
+RunInside wide = Or (Map (constant []) (One (is k.CloseParen)))
+    (Then first (ValueList wide) (One (is k.CloseParen)))
 
 -- run N "(" [value {"," value}] ")"
 abbrev pub RunLine : ℕ → ℕ → Part Token Statement
-RunLine wide room = Then second (One (is k.Run)) (Then statements.Run Number (Then second (Opens room (is k.OpenParen)) (RunInside wide)))
+RunLine wide room =
+    Then second (One (is k.Run))
+    (Then statements.Run Number (Then second (Opens room (is k.OpenParen)) (RunInside wide)))
 
 -- a query with its order and row limit | create view .. | drop view .. | refresh .. | run ..
 abbrev pub StatementLine : ℕ → ℕ → Part Token Block → Part Token Statement
-StatementLine wide room query = Or (OrderedLine wide query) (Or (CreateLine wide room query) (Or DropLine (Or RefreshLine (RunLine wide room))))
+StatementLine wide room query =
+    Or (OrderedLine wide query)
+    (Or (CreateLine wide room query) (Or DropLine (Or RefreshLine (RunLine wide room))))
 
 -- statement ";"
 abbrev pub EndedLine : ℕ → ℕ → Part Token Block → Part Token Statement
 EndedLine wide room query = Then first (StatementLine wide room query) (One (is k.Semicolon))
 
--- The three parts that lead back to themselves. Of the three numbers, the first is how high the text nests.
+-- The three parts that lead back to themselves. Of the three numbers, the first is how high the
+-- text nests.
 unfoldable mutual
   -- what `UnaryLine` says; one level further in, the same of a text that nests one less high
   pub Unary : ℕ → ℕ → ℕ → Part Token Expr
   Unary zero wide room = UnaryLine wide room Never Never Never
-  Unary (suc h) wide room = UnaryLine wide room (Unary h wide (less room)) (NotPart h wide (less room)) (Query h wide (less room))
+  Unary (suc h) wide room =
+      UnaryLine wide room (Unary h wide (less room)) (NotPart h wide (less room))
+      (Query h wide (less room))
 
   -- what `PartLine` says; one level further in, the same of a text that nests one less high
   pub NotPart : ℕ → ℕ → ℕ → Part Token Expr
   NotPart zero wide room = PartLine wide room (UnaryLine wide room Never Never Never) Never Never
   NotPart (suc h) wide room =
-      PartLine wide room (UnaryLine wide room (Unary h wide (less room)) (NotPart h wide (less room)) (Query h wide (less room))) (NotPart h wide (less room)) (Query h wide (less room))
+      PartLine wide room
+      (UnaryLine wide room (Unary h wide (less room)) (NotPart h wide (less room))
+      (Query h wide (less room))) (NotPart h wide (less room)) (Query h wide (less room))
 
   -- what `QueryLine` says; one level further in, the same of a text that nests one less high
   pub Query : ℕ → ℕ → ℕ → Part Token Block
-  Query zero wide room = QueryLine wide room (PartLine wide room (UnaryLine wide room Never Never Never) Never Never) Never
+  Query zero wide room =
+      QueryLine wide room (PartLine wide room (UnaryLine wide room Never Never Never) Never Never)
+      Never
   Query (suc h) wide room =
-      QueryLine wide room (PartLine wide room (UnaryLine wide room (Unary h wide (less room)) (NotPart h wide (less room)) (Query h wide (less room))) (NotPart h wide (less room)) (Query h wide (less room)))
+      QueryLine wide room
+      (PartLine wide room (UnaryLine wide room (Unary h wide (less room))
+      (NotPart h wide (less room)) (Query h wide (less room))) (NotPart h wide (less room))
+      (Query h wide (less room)))
       (Query h wide (less room))
 
--- A statement with its semicolon, where so many levels may be opened, and a list may have so many elements after its first.
+-- A statement with its semicolon, where so many levels may be opened, and a list may have so many
+-- elements after its first.
 abbrev pub Ended : ℕ → ℕ → ℕ → Part Token Statement
 Ended wide room h = EndedLine wide room (Query h wide room)

@@ -7,4 +7,11 @@ use Rattle.sql_lexer.proofs.OneKind.{one_kind, alike, token_of, token_is}
 
 -- Tokens have one kind each, and each kind has a token.
 abbrev pub kinds : Kinds Token Kind
-kinds = record { is = is; same = same; one_kind = one_kind; alike = alike; token = token_of; token_is = token_is }
+kinds = record {
+  is = is;
+  same = same;
+  one_kind = one_kind;
+  alike = alike;
+  token = token_of;
+  token_is = token_is;
+}

@@ -17,7 +17,8 @@ Sql = Ended 1023 64
 
 -- a token list has at most one statement list, also where it passes a limit
 abbrev pub OneMeaning : Type 0
-OneMeaning = (ts : List Token) (ss us : List Statement) → IsScript Sql ts ss → IsScript Sql ts us → ss ≡ us
+OneMeaning = (ts : List Token) (ss us : List Statement) → IsScript Sql ts ss → IsScript Sql ts us
+    → ss ≡ us
 
 -- how many bytes a script may have
 abbrev pub max_script : ℕ
@@ -48,12 +49,17 @@ pub record IsParseRefusal (r : SyntaxFault) (bytes : List ℕ) (place : ℕ) : T
   pub first : IsFirst Sql r tokens n
   pub at : place ≡ byte_at (length bytes) tokens n
 
--- The script's first refusal, and its byte: too long, else the first of its bytes, else the first of its tokens.
+-- The script's first refusal, and its byte: too long, else the first of its bytes, else the first
+-- of its tokens.
 abbrev pub IsRefusedScript : ScriptRefusal → List ℕ → ℕ → Type 0
-IsRefusedScript script.BadByte bytes place = (length bytes ≤ max_script) × Refuses 0 bytes lex.BadByte place
-IsRefusedScript script.OpenText bytes place = (length bytes ≤ max_script) × Refuses 0 bytes lex.OpenText place
-IsRefusedScript script.NumberTooWide bytes place = (length bytes ≤ max_script) × Refuses 0 bytes lex.NumberTooWide place
-IsRefusedScript script.ScaleTooWide bytes place = (length bytes ≤ max_script) × Refuses 0 bytes lex.ScaleTooWide place
+IsRefusedScript script.BadByte bytes place = (length bytes ≤ max_script)
+    × Refuses 0 bytes lex.BadByte place
+IsRefusedScript script.OpenText bytes place = (length bytes ≤ max_script)
+    × Refuses 0 bytes lex.OpenText place
+IsRefusedScript script.NumberTooWide bytes place = (length bytes ≤ max_script)
+    × Refuses 0 bytes lex.NumberTooWide place
+IsRefusedScript script.ScaleTooWide bytes place = (length bytes ≤ max_script)
+    × Refuses 0 bytes lex.ScaleTooWide place
 IsRefusedScript script.Unexpected bytes place = IsParseRefusal refusal.Unexpected bytes place
 IsRefusedScript script.TooDeep bytes place = IsParseRefusal refusal.TooDeep bytes place
 IsRefusedScript script.TooLong bytes place = (max_script < length bytes) × (place ≡ max_script)
@@ -61,16 +67,20 @@ IsRefusedScript script.TooWide bytes place = IsParseRefusal refusal.TooWide byte
 
 -- every token list has a statement list, or a first refusal
 abbrev pub SomeMeaning : Type 0
-SomeMeaning = (ts : List Token) → ((ss : List Statement) × IsRead Sql ts ss) ⊎ ((r : SyntaxFault) × (n : ℕ) × IsFirst Sql r ts n)
+SomeMeaning = (ts : List Token) → ((ss : List Statement) × IsRead Sql ts ss)
+    ⊎ ((r : SyntaxFault) × (n : ℕ) × IsFirst Sql r ts n)
 
 -- all bytes are a script, or have a first refusal
 abbrev pub SomeScript : Type 0
-SomeScript = (bytes : List ℕ) → ((ss : List Statement) × IsReadScript bytes ss) ⊎ ((r : ScriptRefusal) × (place : ℕ) × IsRefusedScript r bytes place)
+SomeScript = (bytes : List ℕ) → ((ss : List Statement) × IsReadScript bytes ss)
+    ⊎ ((r : ScriptRefusal) × (place : ℕ) × IsRefusedScript r bytes place)
 
 -- a script is read or refused, never both
 abbrev pub NeverBoth : Type 0
-NeverBoth = (bytes : List ℕ) (ss : List Statement) (r : ScriptRefusal) (place : ℕ) → IsReadScript bytes ss → IsRefusedScript r bytes place → ⊥
+NeverBoth = (bytes : List ℕ) (ss : List Statement) (r : ScriptRefusal) (place : ℕ)
+    → IsReadScript bytes ss → IsRefusedScript r bytes place → ⊥
 
 -- a script has at most one statement list
 abbrev pub OneScript : Type 0
-OneScript = (bytes : List ℕ) (ss us : List Statement) → IsReadScript bytes ss → IsReadScript bytes us → ss ≡ us
+OneScript = (bytes : List ℕ) (ss us : List Statement) → IsReadScript bytes ss
+    → IsReadScript bytes us → ss ≡ us

@@ -1,5 +1,6 @@
 -- What the parts of a line make together.
-use Rattle.std.specs.Prelude.{ℕ, Bool, true, false, not, ◌&&◌, nat_le, ◌==◌, ℤ, pos, negsuc, List, [], ◌∷◌, length, Option, Some, None}
+use Rattle.std.specs.Prelude.{ℕ, Bool, true, false, not, ◌&&◌, nat_le, ◌==◌, ℤ, pos, negsuc, List}
+use Rattle.std.specs.Prelude.{[], ◌∷◌, length, Option, Some, None}
 use Rattle.std.specs.List.{list_all}
 use Rattle.std.specs.Char.{is_ascii_digit}
 use Rattle.sql_lexer.specs.declared.kind.Kind.TheVariants as k
@@ -101,7 +102,9 @@ all_digits bytes = list_all is_ascii_digit bytes
 
 -- a text of one to six digits
 abbrev pub is_digits : Token → Bool
-is_digits token = is k.Text token && ((nat_le 1 (length (text_of token)) && nat_le (length (text_of token)) 6) && all_digits (text_of token))
+is_digits token = is k.Text token
+    && ((nat_le 1 (length (text_of token)) && nat_le (length (text_of token)) 6)
+    && all_digits (text_of token))
 
 -- ---- of two values
 
@@ -233,7 +236,7 @@ is_not_null word null = t.IsNull true
 
 -- the test denied: true becomes false in its flag, and back
 abbrev pub opposite : Test → Test
-opposite t.Holds = t.Holds
+opposite t.Absent = t.Absent
 opposite (t.Compare c x) = t.Compare c x
 opposite (t.IsNull b) = t.IsNull (not b)
 opposite (t.Between b low high) = t.Between (not b) low high
@@ -252,7 +255,7 @@ deny false x = x
 
 -- what is asked of a value, as one condition; a denied test is NOT of the test itself
 abbrev pub tested : Expr → Test → Expr
-tested x t.Holds = x
+tested x t.Absent = x
 tested x (t.Compare c y) = e.Compare c x y
 tested x (t.IsNull b) = deny b (e.IsNull x)
 tested x (t.Between b low high) = deny b (e.Between x low high)
@@ -296,7 +299,16 @@ filters c g = record { condition = c; group = g.0; having = g.1 }
 
 -- a query of its clauses
 abbrev pub block : Bool × Selected → List Joined × Filters → Block
-block s f = roll-Block (record { is_distinct = s.0; selected = s.1; from = f.0; condition = f.1.condition; group = f.1.group; having = f.1.having })
+block s f = roll-Block
+    (record {
+      is_distinct = s.0;
+      selected = s.1;
+      from = f.0;
+      condition = f.1.condition;
+      group =
+          f.1.group;
+      having = f.1.having;
+    })
 
 -- ---- statements
 

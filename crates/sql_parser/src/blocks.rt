@@ -21,8 +21,8 @@ use sql_lexer::Kind;
 use sqlite_items::{Boxed, Items};
 use std::alloc::Global;
 
-/// What holds expressions of one level, and queries of the level below. `part` reads the parts of the first, `query`
-/// the second; `room` is how many levels may still be opened.
+/// What holds expressions of one level, and queries of the level below. `part` reads the parts of
+/// the first, `query` the second; `room` is how many levels may still be opened.
 #[derive(Clone, Copy)]
 pub(crate) struct Blocks<P, Q> {
     pub(crate) alloc: Global,
@@ -38,8 +38,10 @@ impl<
     /// `"(" query ")" [as] name ["(" name {"," name} ")"]`.
     #[tactic(auto, unfolding(crate::specs::Readings::read_derived))]
     fn derived(&self, parser: &mut Parser<'_>) -> Result<FromItem, SyntaxError>
-        requires query { Below (query_at 1023) self.now.room (Q.pre self.now.query) (Q.post self.now.query) }
-        ensures { Reads (readings.read_derived 1023 self.now.room (inner_query 1023 self.now.room) parser.old) result parser.new }
+        requires query { Below (query_at 1023) self.now.room (Q.pre self.now.query)
+            (Q.post self.now.query) }
+        ensures { Reads (readings.read_derived 1023 self.now.room (inner_query 1023 self.now.room)
+            parser.old) result parser.new }
     {
         let nested = Nested {
             alloc: self.alloc,
@@ -66,8 +68,10 @@ impl<
     /// A derived table or a table.
     #[tactic(auto, unfolding(crate::specs::Readings::read_from_item))]
     fn from_item(&self, parser: &mut Parser<'_>) -> Result<FromItem, SyntaxError>
-        requires query { Below (query_at 1023) self.now.room (Q.pre self.now.query) (Q.post self.now.query) }
-        ensures { Reads (readings.read_from_item 1023 self.now.room (inner_query 1023 self.now.room) parser.old) result parser.new }
+        requires query { Below (query_at 1023) self.now.room (Q.pre self.now.query)
+            (Q.post self.now.query) }
+        ensures { Reads (readings.read_from_item 1023 self.now.room (inner_query 1023 self.now.room)
+            parser.old) result parser.new }
     {
         if parser.starts(Kind::OpenParen) {
             return self.derived(parser);
@@ -78,9 +82,12 @@ impl<
     /// `item on e`.
     #[tactic(auto, unfolding(crate::specs::Readings::read_joined_item))]
     fn joined_item(&self, parser: &mut Parser<'_>) -> Result<(FromItem, Expr), SyntaxError>
-        requires part { At (part_at 1023) self.now.room (P.pre self.now.part) (P.post self.now.part) }
-        requires query { Below (query_at 1023) self.now.room (Q.pre self.now.query) (Q.post self.now.query) }
-        ensures { Reads (readings.read_joined_item 1023 self.now.room (part_at 1023 self.now.room) (inner_query 1023 self.now.room) parser.old) result parser.new }
+        requires part { At (part_at 1023) self.now.room (P.pre self.now.part)
+            (P.post self.now.part) }
+        requires query { Below (query_at 1023) self.now.room (Q.pre self.now.query)
+            (Q.post self.now.query) }
+        ensures { Reads (readings.read_joined_item 1023 self.now.room (part_at 1023 self.now.room)
+            (inner_query 1023 self.now.room) parser.old) result parser.new }
     {
         let item = self.from_item(parser)?;
         parser.one(Kind::On)?;
@@ -95,9 +102,14 @@ impl<
 
     /// `{([inner] join | left [outer] join) item on e}`.
     fn joins(&self, parser: &mut Parser<'_>) -> Result<Items<Join>, SyntaxError>
-        requires part { At (part_at 1023) self.now.room (P.pre self.now.part) (P.post self.now.part) }
-        requires query { Below (query_at 1023) self.now.room (Q.pre self.now.query) (Q.post self.now.query) }
-        ensures { Reads (links (among kinds (k.Left ∷ k.Join ∷ k.Inner ∷ [])) readings.read_join_words values.join (readings.read_joined_item 1023 self.now.room (part_at 1023 self.now.room) (inner_query 1023 self.now.room)) 1023 parser.old) result parser.new }
+        requires part { At (part_at 1023) self.now.room (P.pre self.now.part)
+            (P.post self.now.part) }
+        requires query { Below (query_at 1023) self.now.room (Q.pre self.now.query)
+            (Q.post self.now.query) }
+        ensures { Reads (links (among kinds (k.Left ∷ k.Join ∷ k.Inner ∷ []))
+            readings.read_join_words values.join
+            (readings.read_joined_item 1023 self.now.room (part_at 1023 self.now.room)
+            (inner_query 1023 self.now.room)) 1023 parser.old) result parser.new }
     {
         let mut found = Items::new(self.alloc);
         let mut width = MAX_MORE;
@@ -117,9 +129,12 @@ impl<
     /// `item {([inner] join | left [outer] join) item on e}`.
     #[tactic(auto, unfolding(crate::specs::Readings::read_joined))]
     fn joined(&self, parser: &mut Parser<'_>) -> Result<Joined, SyntaxError>
-        requires part { At (part_at 1023) self.now.room (P.pre self.now.part) (P.post self.now.part) }
-        requires query { Below (query_at 1023) self.now.room (Q.pre self.now.query) (Q.post self.now.query) }
-        ensures { Reads (readings.read_joined 1023 self.now.room (part_at 1023 self.now.room) (inner_query 1023 self.now.room) parser.old) result parser.new }
+        requires part { At (part_at 1023) self.now.room (P.pre self.now.part)
+            (P.post self.now.part) }
+        requires query { Below (query_at 1023) self.now.room (Q.pre self.now.query)
+            (Q.post self.now.query) }
+        ensures { Reads (readings.read_joined 1023 self.now.room (part_at 1023 self.now.room)
+            (inner_query 1023 self.now.room) parser.old) result parser.new }
     {
         let first = self.from_item(parser)?;
         let joins = self.joins(parser)?;
@@ -132,9 +147,14 @@ impl<
         parser: &mut Parser<'_>,
         first: Joined,
     ) -> Result<Items<Joined>, SyntaxError>
-        requires part { At (part_at 1023) self.now.room (P.pre self.now.part) (P.post self.now.part) }
-        requires query { Below (query_at 1023) self.now.room (Q.pre self.now.query) (Q.post self.now.query) }
-        ensures { Reads (mapped (λ xs. first ∷ xs) (links (is k.Comma) (one (is k.Comma)) values.second (readings.read_joined 1023 self.now.room (part_at 1023 self.now.room) (inner_query 1023 self.now.room)) 1023) parser.old) result parser.new }
+        requires part { At (part_at 1023) self.now.room (P.pre self.now.part)
+            (P.post self.now.part) }
+        requires query { Below (query_at 1023) self.now.room (Q.pre self.now.query)
+            (Q.post self.now.query) }
+        ensures { Reads (mapped (λ xs. first ∷ xs)
+            (links (is k.Comma) (one (is k.Comma)) values.second
+            (readings.read_joined 1023 self.now.room (part_at 1023 self.now.room)
+            (inner_query 1023 self.now.room)) 1023) parser.old) result parser.new }
     {
         let mut found = Items::new(self.alloc);
         found.push(first)?;
@@ -155,9 +175,12 @@ impl<
     /// `from joined {"," joined}`.
     #[tactic(auto, unfolding(crate::specs::Readings::read_from))]
     fn from(&self, parser: &mut Parser<'_>) -> Result<Items<Joined>, SyntaxError>
-        requires part { At (part_at 1023) self.now.room (P.pre self.now.part) (P.post self.now.part) }
-        requires query { Below (query_at 1023) self.now.room (Q.pre self.now.query) (Q.post self.now.query) }
-        ensures { Reads (readings.read_from 1023 self.now.room (part_at 1023 self.now.room) (inner_query 1023 self.now.room) parser.old) result parser.new }
+        requires part { At (part_at 1023) self.now.room (P.pre self.now.part)
+            (P.post self.now.part) }
+        requires query { Below (query_at 1023) self.now.room (Q.pre self.now.query)
+            (Q.post self.now.query) }
+        ensures { Reads (readings.read_from 1023 self.now.room (part_at 1023 self.now.room)
+            (inner_query 1023 self.now.room) parser.old) result parser.new }
     {
         parser.one(Kind::From)?;
         let first = self.joined(parser)?;
@@ -167,9 +190,12 @@ impl<
     /// `select .. from .. [where ..] [group by ..] [having ..]`.
     #[tactic(auto, unfolding(crate::specs::Readings::read_query_line))]
     pub(crate) fn block(&self, parser: &mut Parser<'_>) -> Result<Block, SyntaxError>
-        requires part { At (part_at 1023) self.now.room (P.pre self.now.part) (P.post self.now.part) }
-        requires query { Below (query_at 1023) self.now.room (Q.pre self.now.query) (Q.post self.now.query) }
-        ensures { Reads (readings.read_query_line 1023 self.now.room (part_at 1023 self.now.room) (inner_query 1023 self.now.room) parser.old) result parser.new }
+        requires part { At (part_at 1023) self.now.room (P.pre self.now.part)
+            (P.post self.now.part) }
+        requires query { Below (query_at 1023) self.now.room (Q.pre self.now.query)
+            (Q.post self.now.query) }
+        ensures { Reads (readings.read_query_line 1023 self.now.room (part_at 1023 self.now.room)
+            (inner_query 1023 self.now.room) parser.old) result parser.new }
     {
         let level = Level {
             alloc: self.alloc,

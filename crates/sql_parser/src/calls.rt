@@ -12,7 +12,8 @@ use sql_lexer::Kind;
 use sqlite_items::Boxed;
 use std::alloc::Global;
 
-/// What holds expressions of the level below. `part` reads their parts; `room` is how many levels may still be opened.
+/// What holds expressions of the level below. `part` reads their parts; `room` is how many levels
+/// may still be opened.
 #[derive(Clone, Copy)]
 pub(crate) struct Calls<P> {
     pub(crate) alloc: Global,
@@ -25,7 +26,8 @@ impl<P: Copy + Fn(Global, &mut Parser<'_>, usize) -> Result<Expr, SyntaxError>> 
     #[tactic(auto, using(crate::proofs::Inner::rules_inner), unfolding(crate::specs::Readings::read_case))]
     pub(crate) fn case(&self, parser: &mut Parser<'_>) -> Result<Expr, SyntaxError>
         requires { Below (part_at 1023) self.now.room (P.pre self.now.part) (P.post self.now.part) }
-        ensures { Reads (readings.read_case 1023 self.now.room (inner_part 1023 self.now.room) parser.old) result parser.new }
+        ensures { Reads (readings.read_case 1023 self.now.room (inner_part 1023 self.now.room)
+            parser.old) result parser.new }
     {
         parser.opens(self.room, Kind::Case)?;
         let level = Level {
@@ -42,7 +44,8 @@ impl<P: Copy + Fn(Global, &mut Parser<'_>, usize) -> Result<Expr, SyntaxError>> 
     #[tactic(auto, using(crate::proofs::Inner::rules_inner), unfolding(crate::specs::Readings::read_extract))]
     fn extract(&self, parser: &mut Parser<'_>) -> Result<Expr, SyntaxError>
         requires { Below (part_at 1023) self.now.room (P.pre self.now.part) (P.post self.now.part) }
-        ensures { Reads (readings.read_extract 1023 self.now.room (inner_part 1023 self.now.room) parser.old) result parser.new }
+        ensures { Reads (readings.read_extract 1023 self.now.room (inner_part 1023 self.now.room)
+            parser.old) result parser.new }
     {
         parser.one(Kind::Extract)?;
         parser.opens(self.room, Kind::OpenParen)?;
@@ -60,7 +63,8 @@ impl<P: Copy + Fn(Global, &mut Parser<'_>, usize) -> Result<Expr, SyntaxError>> 
     #[tactic(auto, using(crate::proofs::Inner::rules_inner), unfolding(crate::specs::Readings::read_substring))]
     fn substring(&self, parser: &mut Parser<'_>) -> Result<Expr, SyntaxError>
         requires { Below (part_at 1023) self.now.room (P.pre self.now.part) (P.post self.now.part) }
-        ensures { Reads (readings.read_substring 1023 self.now.room (inner_part 1023 self.now.room) parser.old) result parser.new }
+        ensures { Reads (readings.read_substring 1023 self.now.room (inner_part 1023 self.now.room)
+            parser.old) result parser.new }
     {
         parser.one(Kind::Substring)?;
         parser.opens(self.room, Kind::OpenParen)?;
@@ -78,7 +82,8 @@ impl<P: Copy + Fn(Global, &mut Parser<'_>, usize) -> Result<Expr, SyntaxError>> 
     #[tactic(auto, using(crate::proofs::Inner::rules_inner), unfolding(crate::specs::Readings::read_count))]
     fn count(&self, parser: &mut Parser<'_>) -> Result<Expr, SyntaxError>
         requires { Below (part_at 1023) self.now.room (P.pre self.now.part) (P.post self.now.part) }
-        ensures { Reads (readings.read_count 1023 self.now.room (inner_part 1023 self.now.room) parser.old) result parser.new }
+        ensures { Reads (readings.read_count 1023 self.now.room (inner_part 1023 self.now.room)
+            parser.old) result parser.new }
     {
         parser.one(Kind::Count)?;
         parser.opens(self.room, Kind::OpenParen)?;
@@ -96,7 +101,8 @@ impl<P: Copy + Fn(Global, &mut Parser<'_>, usize) -> Result<Expr, SyntaxError>> 
     #[tactic(auto, using(crate::proofs::Inner::rules_inner), unfolding(crate::specs::Readings::read_aggregate))]
     fn aggregate(&self, parser: &mut Parser<'_>) -> Result<Expr, SyntaxError>
         requires { Below (part_at 1023) self.now.room (P.pre self.now.part) (P.post self.now.part) }
-        ensures { Reads (readings.read_aggregate 1023 self.now.room (inner_part 1023 self.now.room) parser.old) result parser.new }
+        ensures { Reads (readings.read_aggregate 1023 self.now.room (inner_part 1023 self.now.room)
+            parser.old) result parser.new }
     {
         let function = parser.aggregate_word()?;
         parser.opens(self.room, Kind::OpenParen)?;
@@ -114,7 +120,8 @@ impl<P: Copy + Fn(Global, &mut Parser<'_>, usize) -> Result<Expr, SyntaxError>> 
     #[tactic(auto, unfolding(crate::specs::Readings::read_call))]
     pub(crate) fn call(&self, parser: &mut Parser<'_>) -> Result<Expr, SyntaxError>
         requires { Below (part_at 1023) self.now.room (P.pre self.now.part) (P.post self.now.part) }
-        ensures { Reads (readings.read_call 1023 self.now.room (inner_part 1023 self.now.room) parser.old) result parser.new }
+        ensures { Reads (readings.read_call 1023 self.now.room (inner_part 1023 self.now.room)
+            parser.old) result parser.new }
     {
         if parser.starts(Kind::Extract) {
             return self.extract(parser);

@@ -137,7 +137,8 @@ fn more_columns(
     parser: &mut Parser<'_>,
     first: Column,
 ) -> Result<Items<Column>, SyntaxError>
-    ensures { Reads (mapped (λ xs. first ∷ xs) (links (is k.Comma) (one (is k.Comma)) values.second readings.read_column 1023) parser.old) result parser.new }
+    ensures { Reads (mapped (λ xs. first ∷ xs) (links (is k.Comma) (one (is k.Comma)) values.second
+        readings.read_column 1023) parser.old) result parser.new }
 {
     let mut found = Items::new(alloc);
     found.push(first)?;
@@ -175,7 +176,8 @@ fn more_order_keys(
     parser: &mut Parser<'_>,
     first: OrderKey,
 ) -> Result<Items<OrderKey>, SyntaxError>
-    ensures { Reads (mapped (λ xs. first ∷ xs) (links (is k.Comma) (one (is k.Comma)) values.second readings.read_order_key 1023) parser.old) result parser.new }
+    ensures { Reads (mapped (λ xs. first ∷ xs) (links (is k.Comma) (one (is k.Comma)) values.second
+        readings.read_order_key 1023) parser.old) result parser.new }
 {
     let mut found = Items::new(alloc);
     found.push(first)?;
@@ -213,7 +215,8 @@ fn more_names(
     parser: &mut Parser<'_>,
     first: Name,
 ) -> Result<Items<Name>, SyntaxError>
-    ensures { Reads (mapped (λ xs. first ∷ xs) (links (is k.Comma) (one (is k.Comma)) values.second readings.read_name 1023) parser.old) result parser.new }
+    ensures { Reads (mapped (λ xs. first ∷ xs) (links (is k.Comma) (one (is k.Comma)) values.second
+        readings.read_name 1023) parser.old) result parser.new }
 {
     let mut found = Items::new(alloc);
     found.push(first)?;

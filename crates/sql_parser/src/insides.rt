@@ -22,7 +22,8 @@ impl<P: Fn(Global, &mut Parser<'_>, usize) -> Result<Expr, SyntaxError>> Level<P
     #[tactic(auto, unfolding(crate::specs::Readings::read_arm))]
     fn arm(&self, parser: &mut Parser<'_>) -> Result<Arm, SyntaxError>
         requires { At (part_at 1023) self.now.room (P.pre self.now.part) (P.post self.now.part) }
-        ensures { Reads (readings.read_arm 1023 (part_at 1023 self.now.room) parser.old) result parser.new }
+        ensures { Reads (readings.read_arm 1023 (part_at 1023 self.now.room) parser.old) result
+            parser.new }
     {
         parser.one(Kind::When)?;
         let condition = self.whole(parser)?;
@@ -34,7 +35,10 @@ impl<P: Fn(Global, &mut Parser<'_>, usize) -> Result<Expr, SyntaxError>> Level<P
     /// The arms, of which the first is read.
     fn more_arms(&self, parser: &mut Parser<'_>, first: Arm) -> Result<Items<Arm>, SyntaxError>
         requires { At (part_at 1023) self.now.room (P.pre self.now.part) (P.post self.now.part) }
-        ensures { Reads (mapped (λ xs. first ∷ xs) (links (is k.When) (nothing (tt {0})) values.second (readings.read_arm 1023 (part_at 1023 self.now.room)) 1023) parser.old) result parser.new }
+        ensures { Reads (mapped (λ xs. first ∷ xs)
+            (links (is k.When) (nothing (tt {0})) values.second
+            (readings.read_arm 1023 (part_at 1023 self.now.room)) 1023) parser.old) result
+            parser.new }
     {
         let mut found = Items::new(self.alloc);
         found.push(first)?;
@@ -55,7 +59,8 @@ impl<P: Fn(Global, &mut Parser<'_>, usize) -> Result<Expr, SyntaxError>> Level<P
     #[tactic(auto, unfolding(crate::specs::Readings::read_arms))]
     fn arms(&self, parser: &mut Parser<'_>) -> Result<Items<Arm>, SyntaxError>
         requires { At (part_at 1023) self.now.room (P.pre self.now.part) (P.post self.now.part) }
-        ensures { Reads (readings.read_arms 1023 (part_at 1023 self.now.room) parser.old) result parser.new }
+        ensures { Reads (readings.read_arms 1023 (part_at 1023 self.now.room) parser.old) result
+            parser.new }
     {
         let first = self.arm(parser)?;
         self.more_arms(parser, first)
@@ -65,7 +70,8 @@ impl<P: Fn(Global, &mut Parser<'_>, usize) -> Result<Expr, SyntaxError>> Level<P
     #[tactic(auto, unfolding(crate::specs::Readings::read_else))]
     fn otherwise(&self, parser: &mut Parser<'_>) -> Result<Option<Expr>, SyntaxError>
         requires { At (part_at 1023) self.now.room (P.pre self.now.part) (P.post self.now.part) }
-        ensures { Reads (readings.read_else 1023 (part_at 1023 self.now.room) parser.old) result parser.new }
+        ensures { Reads (readings.read_else 1023 (part_at 1023 self.now.room) parser.old) result
+            parser.new }
     {
         if parser.starts(Kind::Else) {
             parser.one(Kind::Else)?;
@@ -79,7 +85,8 @@ impl<P: Fn(Global, &mut Parser<'_>, usize) -> Result<Expr, SyntaxError>> Level<P
     #[tactic(auto, unfolding(crate::specs::Readings::read_case_body))]
     pub(crate) fn case_body(&self, parser: &mut Parser<'_>) -> Result<Expr, SyntaxError>
         requires { At (part_at 1023) self.now.room (P.pre self.now.part) (P.post self.now.part) }
-        ensures { Reads (readings.read_case_body 1023 (part_at 1023 self.now.room) parser.old) result parser.new }
+        ensures { Reads (readings.read_case_body 1023 (part_at 1023 self.now.room) parser.old)
+            result parser.new }
     {
         let arms = self.arms(parser)?;
         let otherwise = self.otherwise(parser)?;
@@ -90,7 +97,8 @@ impl<P: Fn(Global, &mut Parser<'_>, usize) -> Result<Expr, SyntaxError>> Level<P
     #[tactic(auto, unfolding(crate::specs::Readings::read_extract_inside))]
     pub(crate) fn extract_inside(&self, parser: &mut Parser<'_>) -> Result<Expr, SyntaxError>
         requires { At (part_at 1023) self.now.room (P.pre self.now.part) (P.post self.now.part) }
-        ensures { Reads (readings.read_extract_inside 1023 (part_at 1023 self.now.room) parser.old) result parser.new }
+        ensures { Reads (readings.read_extract_inside 1023 (part_at 1023 self.now.room) parser.old)
+            result parser.new }
     {
         let part = parser.span()?;
         parser.one(Kind::From)?;
@@ -102,7 +110,8 @@ impl<P: Fn(Global, &mut Parser<'_>, usize) -> Result<Expr, SyntaxError>> Level<P
     #[tactic(auto, unfolding(crate::specs::Readings::read_substring_inside))]
     pub(crate) fn substring_inside(&self, parser: &mut Parser<'_>) -> Result<Expr, SyntaxError>
         requires { At (part_at 1023) self.now.room (P.pre self.now.part) (P.post self.now.part) }
-        ensures { Reads (readings.read_substring_inside 1023 (part_at 1023 self.now.room) parser.old) result parser.new }
+        ensures { Reads (readings.read_substring_inside 1023 (part_at 1023 self.now.room)
+            parser.old) result parser.new }
     {
         let inner = Boxed::new(self.alloc, self.whole(parser)?)?;
         let (first, count) = parser.places()?;
@@ -113,7 +122,8 @@ impl<P: Fn(Global, &mut Parser<'_>, usize) -> Result<Expr, SyntaxError>> Level<P
     #[tactic(auto, unfolding(crate::specs::Readings::read_count_inside))]
     pub(crate) fn count_inside(&self, parser: &mut Parser<'_>) -> Result<Expr, SyntaxError>
         requires { At (part_at 1023) self.now.room (P.pre self.now.part) (P.post self.now.part) }
-        ensures { Reads (readings.read_count_inside 1023 (part_at 1023 self.now.room) parser.old) result parser.new }
+        ensures { Reads (readings.read_count_inside 1023 (part_at 1023 self.now.room) parser.old)
+            result parser.new }
     {
         if parser.starts(Kind::Star) {
             parser.one(Kind::Star)?;

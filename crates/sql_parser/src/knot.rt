@@ -1,5 +1,6 @@
-//! The parts that lead back to themselves. `room` is how many levels may still be opened. All else that is read of
-//! a query is read by rules that take these functions as values, so that each rule is proved alone.
+//! The parts that lead back to themselves. `room` is how many levels may still be opened. All else
+//! that is read of a query is read by rules that take these functions as values, so that each rule
+//! is proved alone.
 ghost use Rattle.grammar_laws.specs.Readings.{Reads};
 ghost use Rattle.sql_parser.specs.Readings.{part_at, query_at, unary_at};
 

@@ -16,7 +16,8 @@ use sql_lexer::Kind;
 use sqlite_items::Items;
 use std::alloc::Global;
 
-/// What holds not-parts of one level. `part` reads such a part where `room` levels may still be opened.
+/// What holds not-parts of one level. `part` reads such a part where `room` levels may still be
+/// opened.
 #[derive(Clone, Copy)]
 pub(crate) struct Level<P> {
     pub(crate) alloc: Global,
@@ -36,7 +37,8 @@ impl<P: Fn(Global, &mut Parser<'_>, usize) -> Result<Expr, SyntaxError>> Level<P
     /// `{and not-part}`.
     fn conjuncts(&self, parser: &mut Parser<'_>) -> Result<Items<Expr>, SyntaxError>
         requires { At (part_at 1023) self.now.room (P.pre self.now.part) (P.post self.now.part) }
-        ensures { Reads (links (is k.And) (one (is k.And)) values.second (part_at 1023 self.now.room) 1023 parser.old) result parser.new }
+        ensures { Reads (links (is k.And) (one (is k.And)) values.second
+            (part_at 1023 self.now.room) 1023 parser.old) result parser.new }
     {
         let mut found = Items::new(self.alloc);
         let mut width = MAX_MORE;
@@ -57,7 +59,8 @@ impl<P: Fn(Global, &mut Parser<'_>, usize) -> Result<Expr, SyntaxError>> Level<P
     #[tactic(auto, unfolding(crate::specs::Readings::read_conjunction))]
     fn conjunction(&self, parser: &mut Parser<'_>) -> Result<Expr, SyntaxError>
         requires { At (part_at 1023) self.now.room (P.pre self.now.part) (P.post self.now.part) }
-        ensures { Reads (readings.read_conjunction 1023 (part_at 1023 self.now.room) parser.old) result parser.new }
+        ensures { Reads (readings.read_conjunction 1023 (part_at 1023 self.now.room) parser.old)
+            result parser.new }
     {
         let first = self.part(parser)?;
         let others = self.conjuncts(parser)?;
@@ -67,7 +70,9 @@ impl<P: Fn(Global, &mut Parser<'_>, usize) -> Result<Expr, SyntaxError>> Level<P
     /// `{or and-part}`.
     fn disjuncts(&self, parser: &mut Parser<'_>) -> Result<Items<Expr>, SyntaxError>
         requires { At (part_at 1023) self.now.room (P.pre self.now.part) (P.post self.now.part) }
-        ensures { Reads (links (is k.Or) (one (is k.Or)) values.second (readings.read_conjunction 1023 (part_at 1023 self.now.room)) 1023 parser.old) result parser.new }
+        ensures { Reads (links (is k.Or) (one (is k.Or)) values.second
+            (readings.read_conjunction 1023 (part_at 1023 self.now.room)) 1023 parser.old) result
+            parser.new }
     {
         let mut found = Items::new(self.alloc);
         let mut width = MAX_MORE;
@@ -88,7 +93,8 @@ impl<P: Fn(Global, &mut Parser<'_>, usize) -> Result<Expr, SyntaxError>> Level<P
     #[tactic(auto, unfolding(crate::specs::Readings::read_whole))]
     pub(crate) fn whole(&self, parser: &mut Parser<'_>) -> Result<Expr, SyntaxError>
         requires { At (part_at 1023) self.now.room (P.pre self.now.part) (P.post self.now.part) }
-        ensures { Reads (readings.read_whole 1023 (part_at 1023 self.now.room) parser.old) result parser.new }
+        ensures { Reads (readings.read_whole 1023 (part_at 1023 self.now.room) parser.old) result
+            parser.new }
     {
         let first = self.conjunction(parser)?;
         let others = self.disjuncts(parser)?;
@@ -98,7 +104,10 @@ impl<P: Fn(Global, &mut Parser<'_>, usize) -> Result<Expr, SyntaxError>> Level<P
     /// The list, of which the first expression is read.
     fn more_exprs(&self, parser: &mut Parser<'_>, first: Expr) -> Result<Items<Expr>, SyntaxError>
         requires { At (part_at 1023) self.now.room (P.pre self.now.part) (P.post self.now.part) }
-        ensures { Reads (mapped (λ xs. first ∷ xs) (links (is k.Comma) (one (is k.Comma)) values.second (readings.read_whole 1023 (part_at 1023 self.now.room)) 1023) parser.old) result parser.new }
+        ensures { Reads (mapped (λ xs. first ∷ xs)
+            (links (is k.Comma) (one (is k.Comma)) values.second
+            (readings.read_whole 1023 (part_at 1023 self.now.room)) 1023) parser.old) result
+            parser.new }
     {
         let mut found = Items::new(self.alloc);
         found.push(first)?;
@@ -120,7 +129,8 @@ impl<P: Fn(Global, &mut Parser<'_>, usize) -> Result<Expr, SyntaxError>> Level<P
     #[tactic(auto, unfolding(crate::specs::Readings::read_expr_list))]
     pub(crate) fn expr_list(&self, parser: &mut Parser<'_>) -> Result<Items<Expr>, SyntaxError>
         requires { At (part_at 1023) self.now.room (P.pre self.now.part) (P.post self.now.part) }
-        ensures { Reads (readings.read_expr_list 1023 (part_at 1023 self.now.room) parser.old) result parser.new }
+        ensures { Reads (readings.read_expr_list 1023 (part_at 1023 self.now.room) parser.old)
+            result parser.new }
     {
         let first = self.whole(parser)?;
         self.more_exprs(parser, first)

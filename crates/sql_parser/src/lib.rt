@@ -24,6 +24,3 @@ pub use fault::{ParseFault, ScriptFault, ScriptRefusal};
 pub use queries::Filters;
 pub use scripts::{MAX_SCRIPT, one_meaning, parse_script, read_script};
 pub use test::Test;
-
-#[cfg(test)]
-mod tests;

@@ -18,8 +18,8 @@ use sql_lexer::Kind;
 use sqlite_items::Boxed;
 use std::alloc::Global;
 
-/// What holds queries and expressions of the level below. `part` and `query` read them; `room` is how many levels may
-/// still be opened.
+/// What holds queries and expressions of the level below. `part` and `query` read them; `room` is
+/// how many levels may still be opened.
 #[derive(Clone, Copy)]
 pub(crate) struct Nested<P, Q> {
     pub(crate) alloc: Global,
@@ -36,9 +36,12 @@ impl<
     #[tactic(auto, unfolding(crate::specs::Readings::read_parens_inside))]
     fn parens_inside(&self, parser: &mut Parser<'_>, room: usize) -> Result<Expr, SyntaxError>
         requires room { room < self.now.room }
-        requires part { Below (part_at 1023) self.now.room (P.pre self.now.part) (P.post self.now.part) }
-        requires query { Below (query_at 1023) self.now.room (Q.pre self.now.query) (Q.post self.now.query) }
-        ensures { Reads (readings.read_parens_inside 1023 (part_at 1023 room) (query_at 1023 room) parser.old) result parser.new }
+        requires part { Below (part_at 1023) self.now.room (P.pre self.now.part)
+            (P.post self.now.part) }
+        requires query { Below (query_at 1023) self.now.room (Q.pre self.now.query)
+            (Q.post self.now.query) }
+        ensures { Reads (readings.read_parens_inside 1023 (part_at 1023 room) (query_at 1023 room)
+            parser.old) result parser.new }
     {
         if parser.starts(Kind::Select) {
             let query = (self.query)(self.alloc, parser, room)?;
@@ -56,9 +59,12 @@ impl<
     /// `"(" (query | e) ")"`.
     #[tactic(auto, using(crate::proofs::Inner::rules_inner), unfolding(crate::specs::Readings::read_parens))]
     fn parens(&self, parser: &mut Parser<'_>) -> Result<Expr, SyntaxError>
-        requires part { Below (part_at 1023) self.now.room (P.pre self.now.part) (P.post self.now.part) }
-        requires query { Below (query_at 1023) self.now.room (Q.pre self.now.query) (Q.post self.now.query) }
-        ensures { Reads (readings.read_parens 1023 self.now.room (inner_part 1023 self.now.room) (inner_query 1023 self.now.room) parser.old) result parser.new }
+        requires part { Below (part_at 1023) self.now.room (P.pre self.now.part)
+            (P.post self.now.part) }
+        requires query { Below (query_at 1023) self.now.room (Q.pre self.now.query)
+            (Q.post self.now.query) }
+        ensures { Reads (readings.read_parens 1023 self.now.room (inner_part 1023 self.now.room)
+            (inner_query 1023 self.now.room) parser.old) result parser.new }
     {
         parser.opens(self.room, Kind::OpenParen)?;
         let value = self.parens_inside(parser, self.room - 1)?;
@@ -69,9 +75,12 @@ impl<
     /// What a unary part is without a sign.
     #[tactic(auto, unfolding(crate::specs::Readings::read_operand))]
     pub(crate) fn operand(&self, parser: &mut Parser<'_>) -> Result<Expr, SyntaxError>
-        requires part { Below (part_at 1023) self.now.room (P.pre self.now.part) (P.post self.now.part) }
-        requires query { Below (query_at 1023) self.now.room (Q.pre self.now.query) (Q.post self.now.query) }
-        ensures { Reads (readings.read_operand 1023 self.now.room (inner_part 1023 self.now.room) (inner_query 1023 self.now.room) parser.old) result parser.new }
+        requires part { Below (part_at 1023) self.now.room (P.pre self.now.part)
+            (P.post self.now.part) }
+        requires query { Below (query_at 1023) self.now.room (Q.pre self.now.query)
+            (Q.post self.now.query) }
+        ensures { Reads (readings.read_operand 1023 self.now.room (inner_part 1023 self.now.room)
+            (inner_query 1023 self.now.room) parser.old) result parser.new }
     {
         if parser.starts(Kind::OpenParen) {
             return self.parens(parser);
@@ -105,9 +114,12 @@ impl<
     #[tactic(auto, unfolding(crate::specs::Readings::read_in_inside))]
     fn in_inside(&self, parser: &mut Parser<'_>, room: usize) -> Result<Test, SyntaxError>
         requires room { room < self.now.room }
-        requires part { Below (part_at 1023) self.now.room (P.pre self.now.part) (P.post self.now.part) }
-        requires query { Below (query_at 1023) self.now.room (Q.pre self.now.query) (Q.post self.now.query) }
-        ensures { Reads (both values.first (readings.read_in_inside 1023 (part_at 1023 room) (query_at 1023 room)) (one (is k.CloseParen)) parser.old) result parser.new }
+        requires part { Below (part_at 1023) self.now.room (P.pre self.now.part)
+            (P.post self.now.part) }
+        requires query { Below (query_at 1023) self.now.room (Q.pre self.now.query)
+            (Q.post self.now.query) }
+        ensures { Reads (both values.first (readings.read_in_inside 1023 (part_at 1023 room)
+            (query_at 1023 room)) (one (is k.CloseParen)) parser.old) result parser.new }
     {
         if parser.starts(Kind::Select) {
             let query = (self.query)(self.alloc, parser, room)?;
@@ -128,9 +140,12 @@ impl<
     /// `in "(" (query | e {"," e}) ")"`.
     #[tactic(auto, using(crate::proofs::Inner::rules_inner), unfolding(crate::specs::Readings::read_in))]
     pub(crate) fn in_test(&self, parser: &mut Parser<'_>) -> Result<Test, SyntaxError>
-        requires part { Below (part_at 1023) self.now.room (P.pre self.now.part) (P.post self.now.part) }
-        requires query { Below (query_at 1023) self.now.room (Q.pre self.now.query) (Q.post self.now.query) }
-        ensures { Reads (readings.read_in 1023 self.now.room (inner_part 1023 self.now.room) (inner_query 1023 self.now.room) parser.old) result parser.new }
+        requires part { Below (part_at 1023) self.now.room (P.pre self.now.part)
+            (P.post self.now.part) }
+        requires query { Below (query_at 1023) self.now.room (Q.pre self.now.query)
+            (Q.post self.now.query) }
+        ensures { Reads (readings.read_in 1023 self.now.room (inner_part 1023 self.now.room)
+            (inner_query 1023 self.now.room) parser.old) result parser.new }
     {
         parser.one(Kind::In)?;
         parser.opens(self.room, Kind::OpenParen)?;

@@ -110,7 +110,8 @@ impl<'a> Parser<'a> {
         here: &'a [Token],
         element: Result<T, SyntaxError>,
     ) -> SyntaxError
-        ensures { (o : Outcome Token T) → Reads o element self.old → Reads (crowded here.now o) (is_err {A = T} result) self.new }
+        ensures { (o : Outcome Token T) → Reads o element self.old
+            → Reads (crowded here.now o) (is_err {A = T} result) self.new }
     {
         let len = self.rest.len();
         self.rest = here;

@@ -129,7 +129,7 @@ pub(crate) fn opposite(test: Test) -> Test
     ensures { result ≡ values.opposite test }
 {
     match test {
-        Test::Holds => Test::Holds,
+        Test::Absent => Test::Absent,
         Test::Compare(comparison, value) => Test::Compare(comparison, value),
         Test::IsNull(is_denied) => Test::IsNull(!is_denied),
         Test::Between(is_denied, low, high) => Test::Between(!is_denied, low, high),
@@ -185,7 +185,7 @@ pub(crate) fn tested(alloc: Global, value: Expr, test: Test) -> Result<Expr, All
     ensures { IfOk result (λ x. x ≡ values.tested value test) }
 {
     match test {
-        Test::Holds => Ok(value),
+        Test::Absent => Ok(value),
         Test::Compare(comparison, other) => compared(alloc, value, comparison, other),
         Test::IsNull(is_denied) => {
             let value = Boxed::new(alloc, value)?;

@@ -14,7 +14,8 @@ use sql_ast::{Block, Expr};
 use sql_lexer::Kind;
 use std::alloc::Global;
 
-/// What holds unary parts of one level, and parts of levels below. `room` is how many levels may still be opened.
+/// What holds unary parts of one level, and parts of levels below. `room` is how many levels may
+/// still be opened.
 #[derive(Clone, Copy)]
 pub(crate) struct Predicates<U, P, Q> {
     pub(crate) alloc: Global,
@@ -32,10 +33,15 @@ impl<
     /// What a NOT may stand before.
     #[tactic(auto, unfolding(crate::specs::Readings::read_deny_test))]
     fn deny_test(&self, parser: &mut Parser<'_>) -> Result<Test, SyntaxError>
-        requires unary { At (unary_at 1023) self.now.room (U.pre self.now.unary) (U.post self.now.unary) }
-        requires part { Below (part_at 1023) self.now.room (P.pre self.now.part) (P.post self.now.part) }
-        requires query { Below (query_at 1023) self.now.room (Q.pre self.now.query) (Q.post self.now.query) }
-        ensures { Reads (readings.read_deny_test 1023 self.now.room (unary_at 1023 self.now.room) (inner_part 1023 self.now.room) (inner_query 1023 self.now.room) parser.old) result parser.new }
+        requires unary { At (unary_at 1023) self.now.room (U.pre self.now.unary)
+            (U.post self.now.unary) }
+        requires part { Below (part_at 1023) self.now.room (P.pre self.now.part)
+            (P.post self.now.part) }
+        requires query { Below (query_at 1023) self.now.room (Q.pre self.now.query)
+            (Q.post self.now.query) }
+        ensures { Reads (readings.read_deny_test 1023 self.now.room (unary_at 1023 self.now.room)
+            (inner_part 1023 self.now.room) (inner_query 1023 self.now.room) parser.old) result
+            parser.new }
     {
         if parser.starts(Kind::Between) {
             let sums = Sums {
@@ -60,10 +66,15 @@ impl<
     /// What is asked of a sum.
     #[tactic(auto, unfolding(crate::specs::Readings::read_test))]
     fn test(&self, parser: &mut Parser<'_>) -> Result<Test, SyntaxError>
-        requires unary { At (unary_at 1023) self.now.room (U.pre self.now.unary) (U.post self.now.unary) }
-        requires part { Below (part_at 1023) self.now.room (P.pre self.now.part) (P.post self.now.part) }
-        requires query { Below (query_at 1023) self.now.room (Q.pre self.now.query) (Q.post self.now.query) }
-        ensures { Reads (readings.read_test 1023 self.now.room (unary_at 1023 self.now.room) (inner_part 1023 self.now.room) (inner_query 1023 self.now.room) parser.old) result parser.new }
+        requires unary { At (unary_at 1023) self.now.room (U.pre self.now.unary)
+            (U.post self.now.unary) }
+        requires part { Below (part_at 1023) self.now.room (P.pre self.now.part)
+            (P.post self.now.part) }
+        requires query { Below (query_at 1023) self.now.room (Q.pre self.now.query)
+            (Q.post self.now.query) }
+        ensures { Reads (readings.read_test 1023 self.now.room (unary_at 1023 self.now.room)
+            (inner_part 1023 self.now.room) (inner_query 1023 self.now.room) parser.old) result
+            parser.new }
     {
         if parser.starts_any(&[
             Kind::Equal,
@@ -91,16 +102,21 @@ impl<
         if parser.starts_any(&[Kind::Between, Kind::Like, Kind::In]) {
             return self.deny_test(parser);
         }
-        Ok(Test::Holds)
+        Ok(Test::Absent)
     }
 
     /// A sum, and what is asked of it.
     #[tactic(auto, unfolding(crate::specs::Readings::read_predicate))]
     pub(crate) fn predicate(&self, parser: &mut Parser<'_>) -> Result<Expr, SyntaxError>
-        requires unary { At (unary_at 1023) self.now.room (U.pre self.now.unary) (U.post self.now.unary) }
-        requires part { Below (part_at 1023) self.now.room (P.pre self.now.part) (P.post self.now.part) }
-        requires query { Below (query_at 1023) self.now.room (Q.pre self.now.query) (Q.post self.now.query) }
-        ensures { Reads (readings.read_predicate 1023 self.now.room (unary_at 1023 self.now.room) (inner_part 1023 self.now.room) (inner_query 1023 self.now.room) parser.old) result parser.new }
+        requires unary { At (unary_at 1023) self.now.room (U.pre self.now.unary)
+            (U.post self.now.unary) }
+        requires part { Below (part_at 1023) self.now.room (P.pre self.now.part)
+            (P.post self.now.part) }
+        requires query { Below (query_at 1023) self.now.room (Q.pre self.now.query)
+            (Q.post self.now.query) }
+        ensures { Reads (readings.read_predicate 1023 self.now.room (unary_at 1023 self.now.room)
+            (inner_part 1023 self.now.room) (inner_query 1023 self.now.room) parser.old) result
+            parser.new }
     {
         let sums = Sums {
             alloc: self.alloc,

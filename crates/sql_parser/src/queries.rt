@@ -40,7 +40,8 @@ impl<P: Fn(Global, &mut Parser<'_>, usize) -> Result<Expr, SyntaxError>> Level<P
     #[tactic(auto, unfolding(crate::specs::Readings::read_item))]
     fn item(&self, parser: &mut Parser<'_>) -> Result<Item, SyntaxError>
         requires { At (part_at 1023) self.now.room (P.pre self.now.part) (P.post self.now.part) }
-        ensures { Reads (readings.read_item 1023 (part_at 1023 self.now.room) parser.old) result parser.new }
+        ensures { Reads (readings.read_item 1023 (part_at 1023 self.now.room) parser.old) result
+            parser.new }
     {
         let value = self.whole(parser)?;
         let alias = parser.alias(self.alloc)?;
@@ -50,7 +51,10 @@ impl<P: Fn(Global, &mut Parser<'_>, usize) -> Result<Expr, SyntaxError>> Level<P
     /// The items, of which the first is read.
     fn more_items(&self, parser: &mut Parser<'_>, first: Item) -> Result<Items<Item>, SyntaxError>
         requires { At (part_at 1023) self.now.room (P.pre self.now.part) (P.post self.now.part) }
-        ensures { Reads (mapped (λ xs. first ∷ xs) (links (is k.Comma) (one (is k.Comma)) values.second (readings.read_item 1023 (part_at 1023 self.now.room)) 1023) parser.old) result parser.new }
+        ensures { Reads (mapped (λ xs. first ∷ xs)
+            (links (is k.Comma) (one (is k.Comma)) values.second
+            (readings.read_item 1023 (part_at 1023 self.now.room)) 1023) parser.old) result
+            parser.new }
     {
         let mut found = Items::new(self.alloc);
         found.push(first)?;
@@ -71,7 +75,10 @@ impl<P: Fn(Global, &mut Parser<'_>, usize) -> Result<Expr, SyntaxError>> Level<P
     /// `item {"," item}`.
     fn items(&self, parser: &mut Parser<'_>) -> Result<Items<Item>, SyntaxError>
         requires { At (part_at 1023) self.now.room (P.pre self.now.part) (P.post self.now.part) }
-        ensures { Reads (both values.cons (readings.read_item 1023 (part_at 1023 self.now.room)) (links (is k.Comma) (one (is k.Comma)) values.second (readings.read_item 1023 (part_at 1023 self.now.room)) 1023) parser.old) result parser.new }
+        ensures { Reads (both values.cons (readings.read_item 1023 (part_at 1023 self.now.room))
+            (links (is k.Comma) (one (is k.Comma)) values.second
+            (readings.read_item 1023 (part_at 1023 self.now.room)) 1023) parser.old) result
+            parser.new }
     {
         let first = self.item(parser)?;
         self.more_items(parser, first)
@@ -81,7 +88,8 @@ impl<P: Fn(Global, &mut Parser<'_>, usize) -> Result<Expr, SyntaxError>> Level<P
     #[tactic(auto, unfolding(crate::specs::Readings::read_selection))]
     fn selection(&self, parser: &mut Parser<'_>) -> Result<Selected, SyntaxError>
         requires { At (part_at 1023) self.now.room (P.pre self.now.part) (P.post self.now.part) }
-        ensures { Reads (readings.read_selection 1023 (part_at 1023 self.now.room) parser.old) result parser.new }
+        ensures { Reads (readings.read_selection 1023 (part_at 1023 self.now.room) parser.old)
+            result parser.new }
     {
         if parser.starts(Kind::Star) {
             parser.one(Kind::Star)?;
@@ -95,7 +103,8 @@ impl<P: Fn(Global, &mut Parser<'_>, usize) -> Result<Expr, SyntaxError>> Level<P
     #[tactic(auto, unfolding(crate::specs::Readings::read_select))]
     pub(crate) fn select(&self, parser: &mut Parser<'_>) -> Result<(bool, Selected), SyntaxError>
         requires { At (part_at 1023) self.now.room (P.pre self.now.part) (P.post self.now.part) }
-        ensures { Reads (readings.read_select 1023 (part_at 1023 self.now.room) parser.old) result parser.new }
+        ensures { Reads (readings.read_select 1023 (part_at 1023 self.now.room) parser.old) result
+            parser.new }
     {
         parser.one(Kind::Select)?;
         if parser.starts(Kind::Distinct) {
@@ -111,7 +120,8 @@ impl<P: Fn(Global, &mut Parser<'_>, usize) -> Result<Expr, SyntaxError>> Level<P
     #[tactic(auto, unfolding(crate::specs::Readings::read_where))]
     fn condition(&self, parser: &mut Parser<'_>) -> Result<Clause, SyntaxError>
         requires { At (part_at 1023) self.now.room (P.pre self.now.part) (P.post self.now.part) }
-        ensures { Reads (readings.read_where 1023 (part_at 1023 self.now.room) parser.old) result parser.new }
+        ensures { Reads (readings.read_where 1023 (part_at 1023 self.now.room) parser.old) result
+            parser.new }
     {
         if parser.starts(Kind::Where) {
             parser.one(Kind::Where)?;
@@ -125,7 +135,8 @@ impl<P: Fn(Global, &mut Parser<'_>, usize) -> Result<Expr, SyntaxError>> Level<P
     #[tactic(auto, unfolding(crate::specs::Readings::read_having))]
     fn having(&self, parser: &mut Parser<'_>) -> Result<Clause, SyntaxError>
         requires { At (part_at 1023) self.now.room (P.pre self.now.part) (P.post self.now.part) }
-        ensures { Reads (readings.read_having 1023 (part_at 1023 self.now.room) parser.old) result parser.new }
+        ensures { Reads (readings.read_having 1023 (part_at 1023 self.now.room) parser.old) result
+            parser.new }
     {
         if parser.starts(Kind::Having) {
             parser.one(Kind::Having)?;
@@ -139,7 +150,8 @@ impl<P: Fn(Global, &mut Parser<'_>, usize) -> Result<Expr, SyntaxError>> Level<P
     #[tactic(auto, unfolding(crate::specs::Readings::read_filters))]
     pub(crate) fn filters(&self, parser: &mut Parser<'_>) -> Result<Filters, SyntaxError>
         requires { At (part_at 1023) self.now.room (P.pre self.now.part) (P.post self.now.part) }
-        ensures { Reads (readings.read_filters 1023 (part_at 1023 self.now.room) parser.old) result parser.new }
+        ensures { Reads (readings.read_filters 1023 (part_at 1023 self.now.room) parser.old) result
+            parser.new }
     {
         let condition = self.condition(parser)?;
         let group = group(self.alloc, parser)?;

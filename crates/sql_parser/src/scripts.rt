@@ -6,7 +6,8 @@ ghost use Rattle.grammar_laws.specs.Scripts as scripts;
 ghost use Rattle.grammar_laws.specs.Scripts.{IsFirst, IsRead};
 ghost use Rattle.sql_parser.specs.declared.fault.ScriptRefusal.{ScriptRefusal};
 ghost use Rattle.sql_parser.specs.Readings.{ended_at};
-ghost use Rattle.sql_parser.specs.Script.{IsReadScript, IsRefusedScript, NeverBoth, OneMeaning, OneScript, SomeMeaning, SomeScript, Sql, byte_at};
+ghost use Rattle.sql_parser.specs.Script.{IsReadScript, IsRefusedScript, NeverBoth, OneMeaning};
+ghost use Rattle.sql_parser.specs.Script.{OneScript, SomeMeaning, SomeScript, Sql, byte_at};
 
 use crate::fault::{ParseFault, ScriptFault, ScriptRefusal, of_lexer, of_parser};
 use crate::parser::{MAX_DEPTH, Parser};
@@ -22,7 +23,8 @@ pub const MAX_SCRIPT: usize = 1048576;
 
 /// `{statement ";"}`, to the end of the tokens.
 fn script(alloc: Global, parser: &mut Parser<'_>) -> Result<Items<Statement>, SyntaxError>
-    ensures { Reads (scripts.statements (ended_at 1023 64) (length parser.old) parser.old) result parser.new }
+    ensures { Reads (scripts.statements (ended_at 1023 64) (length parser.old) parser.old) result
+        parser.new }
 {
     let mut found = Items::new(alloc);
     'more: while !parser.is_done() {
@@ -33,10 +35,12 @@ fn script(alloc: Global, parser: &mut Parser<'_>) -> Result<Items<Statement>, Sy
 
 /// The statements of a script, given as its tokens.
 pub fn parse_script(alloc: Global, tokens: &[Token]) -> Result<Items<Statement>, ParseFault>
-    // The tokens are a script with these statements and no others, and no refusal stands at any of them.
+    // The tokens are a script with these statements and no others, and no refusal stands at any of
+    // them.
     ensures read { IfOk result (λ ss. IsRead Sql tokens.now ss) }
     // A refusal is the first one that stands.
-    ensures refused { (r : SyntaxFault) (n : ℕ) → result ≡ Err (ParseFault.Refused r n) → IsFirst Sql r tokens.now n }
+    ensures refused { (r : SyntaxFault) (n : ℕ) → result ≡ Err (ParseFault.Refused r n)
+        → IsFirst Sql r tokens.now n }
 {
     let mut parser = Parser::new(tokens);
     match script(alloc, &mut parser) {
@@ -63,7 +67,8 @@ pub fn read_script(alloc: Global, script: &[u8]) -> Result<Items<Statement>, Scr
     // The bytes are a script with these statements and no others, and no refusal stands in it.
     ensures read { IfOk result (λ ss. IsReadScript script.now ss) }
     // A refusal is the first one that stands, at its byte.
-    ensures refused { (r : ScriptRefusal) (place : ℕ) → result ≡ Err (ScriptFault.Refused r place) → IsRefusedScript r script.now place }
+    ensures refused { (r : ScriptRefusal) (place : ℕ) → result ≡ Err (ScriptFault.Refused r place)
+        → IsRefusedScript r script.now place }
 {
     if script.len() > MAX_SCRIPT {
         return Err(ScriptFault::Refused(ScriptRefusal::TooLong, MAX_SCRIPT));
@@ -85,7 +90,8 @@ pub fn read_script(alloc: Global, script: &[u8]) -> Result<Items<Statement>, Scr
     }
 }
 
-/// Tokens have one statement list or a first refusal, and so have bytes; no bytes are both read and refused.
+/// Tokens have one statement list or a first refusal, and so have bytes; no bytes are both read and
+/// refused.
 pub fn one_meaning()
     ensures tokens { OneMeaning }
     ensures some_tokens { SomeMeaning }

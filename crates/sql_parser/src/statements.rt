@@ -50,7 +50,8 @@ fn view_name(
 /// `create view name ["(" name {"," name} ")"] as query`.
 #[tactic(auto, unfolding(crate::specs::Readings::read_create))]
 fn create(alloc: Global, parser: &mut Parser<'_>, room: usize) -> Result<Statement, SyntaxError>
-    ensures { Reads (readings.read_create 1023 room (query_at 1023 room) parser.old) result parser.new }
+    ensures { Reads (readings.read_create 1023 room (query_at 1023 room) parser.old) result
+        parser.new }
 {
     let (name, columns) = view_name(alloc, parser, room)?;
     parser.one(Kind::As)?;
@@ -101,7 +102,8 @@ fn more_values(
     parser: &mut Parser<'_>,
     first: TemplateValue,
 ) -> Result<Items<TemplateValue>, SyntaxError>
-    ensures { Reads (mapped (λ xs. first ∷ xs) (links (is k.Comma) (one (is k.Comma)) values.second readings.read_value 1023) parser.old) result parser.new }
+    ensures { Reads (mapped (λ xs. first ∷ xs) (links (is k.Comma) (one (is k.Comma)) values.second
+        readings.read_value 1023) parser.old) result parser.new }
 {
     let mut found = Items::new(alloc);
     found.push(first)?;
@@ -157,7 +159,8 @@ fn run(alloc: Global, parser: &mut Parser<'_>, room: usize) -> Result<Statement,
 /// A statement without its semicolon.
 #[tactic(auto, unfolding(crate::specs::Readings::read_statement))]
 fn statement(alloc: Global, parser: &mut Parser<'_>, room: usize) -> Result<Statement, SyntaxError>
-    ensures { Reads (readings.read_statement 1023 room (query_at 1023 room) parser.old) result parser.new }
+    ensures { Reads (readings.read_statement 1023 room (query_at 1023 room) parser.old) result
+        parser.new }
 {
     if parser.starts(Kind::Select) {
         return ordered(alloc, parser, room);

@@ -19,8 +19,10 @@ impl<
     /// `"(" query ")"`.
     #[tactic(auto, using(crate::proofs::Inner::rules_inner), unfolding(crate::specs::Readings::read_subquery))]
     pub(crate) fn subquery(&self, parser: &mut Parser<'_>) -> Result<Block, SyntaxError>
-        requires query { Below (query_at 1023) self.now.room (Q.pre self.now.query) (Q.post self.now.query) }
-        ensures { Reads (readings.read_subquery self.now.room (inner_query 1023 self.now.room) parser.old) result parser.new }
+        requires query { Below (query_at 1023) self.now.room (Q.pre self.now.query)
+            (Q.post self.now.query) }
+        ensures { Reads (readings.read_subquery self.now.room (inner_query 1023 self.now.room)
+            parser.old) result parser.new }
     {
         parser.opens(self.room, Kind::OpenParen)?;
         let query = (self.query)(self.alloc, parser, self.room - 1)?;
@@ -31,8 +33,10 @@ impl<
     /// `exists "(" query ")"`.
     #[tactic(auto, unfolding(crate::specs::Readings::read_exists))]
     pub(crate) fn exists(&self, parser: &mut Parser<'_>) -> Result<Expr, SyntaxError>
-        requires query { Below (query_at 1023) self.now.room (Q.pre self.now.query) (Q.post self.now.query) }
-        ensures { Reads (readings.read_exists self.now.room (inner_query 1023 self.now.room) parser.old) result parser.new }
+        requires query { Below (query_at 1023) self.now.room (Q.pre self.now.query)
+            (Q.post self.now.query) }
+        ensures { Reads (readings.read_exists self.now.room (inner_query 1023 self.now.room)
+            parser.old) result parser.new }
     {
         parser.one(Kind::Exists)?;
         let query = self.subquery(parser)?;

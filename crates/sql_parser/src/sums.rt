@@ -18,7 +18,8 @@ use sql_lexer::Kind;
 use sqlite_items::Items;
 use std::alloc::Global;
 
-/// What holds unary parts of one level. `unary` reads such a part where `room` levels may still be opened.
+/// What holds unary parts of one level. `unary` reads such a part where `room` levels may still be
+/// opened.
 #[derive(Clone, Copy)]
 pub(crate) struct Sums<U> {
     pub(crate) alloc: Global,
@@ -38,7 +39,8 @@ impl<U: Fn(Global, &mut Parser<'_>, usize) -> Result<Expr, SyntaxError>> Sums<U>
     /// `{(*|/) unary}`.
     fn factors(&self, parser: &mut Parser<'_>) -> Result<Items<Factor>, SyntaxError>
         requires { At (unary_at 1023) self.now.room (U.pre self.now.unary) (U.post self.now.unary) }
-        ensures { Reads (links (among kinds (k.Star ∷ k.Slash ∷ [])) readings.read_multiply values.factor (unary_at 1023 self.now.room) 1023 parser.old) result parser.new }
+        ensures { Reads (links (among kinds (k.Star ∷ k.Slash ∷ [])) readings.read_multiply
+            values.factor (unary_at 1023 self.now.room) 1023 parser.old) result parser.new }
     {
         let mut found = Items::new(self.alloc);
         let mut width = MAX_MORE;
@@ -59,7 +61,8 @@ impl<U: Fn(Global, &mut Parser<'_>, usize) -> Result<Expr, SyntaxError>> Sums<U>
     #[tactic(auto, unfolding(crate::specs::Readings::read_product))]
     fn product(&self, parser: &mut Parser<'_>) -> Result<Expr, SyntaxError>
         requires { At (unary_at 1023) self.now.room (U.pre self.now.unary) (U.post self.now.unary) }
-        ensures { Reads (readings.read_product 1023 (unary_at 1023 self.now.room) parser.old) result parser.new }
+        ensures { Reads (readings.read_product 1023 (unary_at 1023 self.now.room) parser.old) result
+            parser.new }
     {
         let first = self.unary(parser)?;
         let others = self.factors(parser)?;
@@ -69,7 +72,9 @@ impl<U: Fn(Global, &mut Parser<'_>, usize) -> Result<Expr, SyntaxError>> Sums<U>
     /// `{(+|-) product}`.
     fn terms(&self, parser: &mut Parser<'_>) -> Result<Items<Term>, SyntaxError>
         requires { At (unary_at 1023) self.now.room (U.pre self.now.unary) (U.post self.now.unary) }
-        ensures { Reads (links (among kinds (k.Plus ∷ k.Minus ∷ [])) readings.read_add values.term (readings.read_product 1023 (unary_at 1023 self.now.room)) 1023 parser.old) result parser.new }
+        ensures { Reads (links (among kinds (k.Plus ∷ k.Minus ∷ [])) readings.read_add values.term
+            (readings.read_product 1023 (unary_at 1023 self.now.room)) 1023 parser.old) result
+            parser.new }
     {
         let mut found = Items::new(self.alloc);
         let mut width = MAX_MORE;
@@ -90,7 +95,8 @@ impl<U: Fn(Global, &mut Parser<'_>, usize) -> Result<Expr, SyntaxError>> Sums<U>
     #[tactic(auto, unfolding(crate::specs::Readings::read_sum))]
     pub(crate) fn sum(&self, parser: &mut Parser<'_>) -> Result<Expr, SyntaxError>
         requires { At (unary_at 1023) self.now.room (U.pre self.now.unary) (U.post self.now.unary) }
-        ensures { Reads (readings.read_sum 1023 (unary_at 1023 self.now.room) parser.old) result parser.new }
+        ensures { Reads (readings.read_sum 1023 (unary_at 1023 self.now.room) parser.old) result
+            parser.new }
     {
         let first = self.product(parser)?;
         let others = self.terms(parser)?;
@@ -101,7 +107,8 @@ impl<U: Fn(Global, &mut Parser<'_>, usize) -> Result<Expr, SyntaxError>> Sums<U>
     #[tactic(auto, unfolding(crate::specs::Readings::read_compare))]
     pub(crate) fn compare(&self, parser: &mut Parser<'_>) -> Result<Test, SyntaxError>
         requires { At (unary_at 1023) self.now.room (U.pre self.now.unary) (U.post self.now.unary) }
-        ensures { Reads (readings.read_compare 1023 (unary_at 1023 self.now.room) parser.old) result parser.new }
+        ensures { Reads (readings.read_compare 1023 (unary_at 1023 self.now.room) parser.old) result
+            parser.new }
     {
         let comparison = parser.comparison()?;
         let value = self.sum(parser)?;
@@ -112,7 +119,8 @@ impl<U: Fn(Global, &mut Parser<'_>, usize) -> Result<Expr, SyntaxError>> Sums<U>
     #[tactic(auto, unfolding(crate::specs::Readings::read_between))]
     pub(crate) fn between(&self, parser: &mut Parser<'_>) -> Result<Test, SyntaxError>
         requires { At (unary_at 1023) self.now.room (U.pre self.now.unary) (U.post self.now.unary) }
-        ensures { Reads (readings.read_between 1023 (unary_at 1023 self.now.room) parser.old) result parser.new }
+        ensures { Reads (readings.read_between 1023 (unary_at 1023 self.now.room) parser.old) result
+            parser.new }
     {
         parser.one(Kind::Between)?;
         let low = self.sum(parser)?;

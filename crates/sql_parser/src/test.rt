@@ -6,8 +6,8 @@ use sqlite_items::{Boxed, Items};
 /// What stands after a sum in a condition; a flag tells whether it is denied.
 #[derive(Drop)]
 pub enum Test {
-    /// Nothing.
-    Holds,
+    /// Nothing is asked.
+    Absent,
     /// A comparison with its right side.
     Compare(Comparison, Expr),
     /// `is null`.

@@ -1,8 +1,8 @@
 //! Why a file gives no rows.
 ghost use Rattle.std.specs.Prelude.{◌≡◌};
 
+use refusals::{LineFault, LineRefusal};
 use std::alloc::{AllocError, AllocFailed};
-use tpch_schema::{LineFault, LineRefusal};
 
 /// Why a file gives no rows: its first bad line, or that memory ran out.
 #[derive(Clone, Copy, Debug, PartialEq, Eq)]

@@ -13,8 +13,9 @@ use crate::plain::plain_number;
 use civil_date::CivilDate;
 use columns::Field;
 use fixed_decimal::{Scale, Spelling, read_decimal};
+use refusals::LineFault;
 use sql_value::Value;
-use tpch_schema::{ColumnKind, LineFault};
+use tpch_schema::ColumnKind;
 
 /// What the bytes between two bars say in a column of that kind.
 pub fn read_field(kind: ColumnKind, bytes: &[u8]) -> Result<Field<'_>, LineFault>

@@ -13,7 +13,8 @@ ghost use Rattle.tbl_reader.specs.Line.{values_of, row_of};
 use crate::error::FieldsError;
 use crate::field::read_field;
 use columns::Field;
-use tpch_schema::{ColumnKind, DataFile, LineFault};
+use refusals::LineFault;
+use tpch_schema::{ColumnKind, DataFile};
 
 // The bytes of a line without the LF at its end and one CR directly before that.
 fn line_text(line: &[u8]) -> &[u8]

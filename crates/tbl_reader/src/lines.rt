@@ -8,9 +8,10 @@ use crate::error::{FieldsError, TableError};
 use crate::keyed::KeyedRows;
 use crate::line::put_line;
 use columns::{Field, Rows};
+use refusals::{LineFault, LineRefusal};
 use std::alloc::{AllocError, Global};
 use std::marker::Model;
-use tpch_schema::{DataFile, LineFault, LineRefusal};
+use tpch_schema::DataFile;
 
 /// The rows of the lines so far, and how many bytes these lines have.
 #[derive(Drop)]

@@ -13,9 +13,10 @@ use crate::error::TableError;
 use crate::line::place_of;
 use crate::lines::Lines;
 use columns::{Field, Rows};
+use refusals::LineFault;
 use std::alloc::{AllocError, Global};
 use std::marker::Model;
-use tpch_schema::{DataFile, LineFault};
+use tpch_schema::DataFile;
 
 /// The most bytes that a file may have.
 pub const MOST_BYTES: u64 = 1 << 32;

@@ -11,9 +11,10 @@ ghost use Rattle.tbl_reader.specs.File.{most_bytes};
 use crate::error::TableError;
 use crate::reader::{FileReader, MOST_BYTES};
 use columns::Rows;
+use refusals::RefreshFile;
 use std::alloc::{AllocError, Global};
 use std::marker::Model;
-use tpch_schema::{DataFile, RefreshFile};
+use tpch_schema::DataFile;
 
 /// A reader of a file of a refresh set, which is fed the file's pieces in order, however they are
 /// cut. It keeps the rows of the lines that have ended and the bytes of the line that has not. Once

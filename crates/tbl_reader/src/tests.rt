@@ -2,10 +2,11 @@
 use super::*;
 use ascii_text::Text;
 use fixed_decimal::Scale;
+use refusals::{LineFault, LineRefusal, RefreshFile};
 use sql_value::{Row, Value};
 use std::alloc::Global;
 use std::test::Fail;
-use tpch_schema::{DataFile, LineFault, LineRefusal, RefreshFile, TableName};
+use tpch_schema::{DataFile, TableName};
 
 const LINEITEM: &[u8] =
     b"9|1|1|1|1.00|5.00|0.00|-0.5|N|O|1996-02-01|1996-02-02|1996-02-29|NONE|MAIL|w|";

@@ -7,7 +7,8 @@ use Rattle.tpch_schema.specs.declared.table.TableName.{TableName}
 
 -- the line of a table
 abbrev pub count_line : State → TableName → List ℕ
-count_line state table = table_name table ++ codes " rows " ++ decimal (length (table_rows state table)) ++ codes "\n"
+count_line state table =
+    table_name table ++ codes " rows " ++ decimal (length (table_rows state table)) ++ codes "\n"
 
 -- a line for each table, in the schema's order
 abbrev pub counts_text : State → List ℕ

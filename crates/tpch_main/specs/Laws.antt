@@ -1,17 +1,20 @@
--- What the definitions say in other words: which inputs are accepted, which is refused first, and that texts are unique.
+-- What the definitions say in other words: which inputs are accepted, which is refused first, and
+-- that texts are unique.
 use Rattle.std.specs.Prelude.{◌≡◌, ℕ, List, ◌∷◌, ◌++◌, Some, Err, Ok, IsOk, ◌↔◌}
 use Rattle.std.specs.List.{All}
 use Rattle.tpch_outside.specs.Outside.{Folder}
 use Rattle.tpch_schema.specs.State.{State, table_rows}
 use Rattle.tpch_schema.specs.Tables.{all_tables}
 use Rattle.tpch_schema.specs.declared.table.TableName.{TableName}
-use Rattle.tpch_main.specs.Inputs.{AreInputs, AreSteps, BadInput, Work, refreshes_in, state_in, table_in}
+use Rattle.tpch_main.specs.Inputs.{AreInputs, AreSteps, BadInput, Work, refreshes_in, state_in}
+use Rattle.tpch_main.specs.Inputs.{table_in}
 use Rattle.tpch_main.specs.Meaning.{IsAccepted, Prints}
 use Rattle.tpch_main.specs.Words.{Command}
 use Rattle.tpch_main.specs.declared.status.Status.{Status}
 
 -- one of the tables is refused so, and those before it are there and of their form
-pub record IsFirstBadTable (dir : List ℕ) (folder : Folder) (tables : List TableName) (refused : BadInput) : Type 0 where
+pub record IsFirstBadTable (dir : List ℕ) (folder : Folder) (tables : List TableName)
+    (refused : BadInput) : Type 0 where
   pub before : List TableName
   pub table : TableName
   pub after : List TableName
@@ -21,19 +24,26 @@ pub record IsFirstBadTable (dir : List ℕ) (folder : Folder) (tables : List Tab
 
 -- the tables of a folder are refused exactly as the first bad one of them is, in the schema's order
 abbrev pub TablesOrderLaw : Type 0
-TablesOrderLaw = (dir : List ℕ) (folder : Folder) (refused : BadInput) → (state_in dir folder ≡ Err refused) ↔ IsFirstBadTable dir folder all_tables refused
+TablesOrderLaw = (dir : List ℕ) (folder : Folder) (refused : BadInput)
+    → (state_in dir folder ≡ Err refused) ↔ IsFirstBadTable dir folder all_tables refused
 
 -- the tables of a folder are that state exactly where each table has that state's rows
 abbrev pub TablesAcceptedLaw : Type 0
-TablesAcceptedLaw = (dir : List ℕ) (folder : Folder) (state : State) → (state_in dir folder ≡ Ok state) ↔ ((table : TableName) → table_in dir table folder ≡ Ok (table_rows state table))
+TablesAcceptedLaw = (dir : List ℕ) (folder : Folder) (state : State)
+    → (state_in dir folder ≡ Ok state)
+    ↔ ((table : TableName) → table_in dir table folder ≡ Ok (table_rows state table))
 
--- a session works on that exactly where its script stands for these statements, its tables are that base, and its refresh
--- files give that list
+-- a session works on that exactly where its script stands for these statements, its tables are that
+-- base, and its refresh files give that list
 abbrev pub SessionAcceptedLaw : Type 0
-SessionAcceptedLaw = (dir script : List ℕ) (folder : Folder) (work : Work) → AreInputs dir script folder (Ok work)
-    ↔ (AreSteps folder script (Ok work.steps) × (state_in dir folder ≡ Ok work.base) × (refreshes_in dir work.steps folder ≡ Ok work.list))
+SessionAcceptedLaw = (dir script : List ℕ) (folder : Folder) (work : Work)
+    → AreInputs dir script folder (Ok work)
+    ↔ (AreSteps folder script (Ok work.steps) × (state_in dir folder ≡ Ok work.base)
+    × (refreshes_in dir work.steps folder ≡ Ok work.list))
 
 -- two texts that an accepted command prints are one text, with one status
 abbrev pub TextLaw : Type 0
-TextLaw = (command : Command) (folder : Folder) (text other : List ℕ) (s r : Status) → IsAccepted (Some command) (Some folder)
-    → Prints (Some command) (Some folder) text s → Prints (Some command) (Some folder) other r → (text ≡ other) × (s ≡ r)
+TextLaw = (command : Command) (folder : Folder) (text other : List ℕ) (s r : Status)
+    → IsAccepted (Some command) (Some folder)
+    → Prints (Some command) (Some folder) text s → Prints (Some command) (Some folder) other r
+    → (text ≡ other) × (s ≡ r)

@@ -7,4 +7,6 @@ use Rattle.tpch_schema.specs.declared.table.TableName.TheVariants.{Region}
 
 -- each list's rows are of the kinds of the table at its place
 abbrev pub AreOf : List TableName → List (List (List Value)) → Type 0
-AreOf tables lists = (k : ℕ) → k < length lists → RowsAreOf (slice_index_or tables k Region) (slice_index_or lists k [])
+AreOf tables lists =
+    (k : ℕ) → k < length lists
+    → RowsAreOf (slice_index_or tables k Region) (slice_index_or lists k [])

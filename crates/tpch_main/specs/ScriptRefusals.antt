@@ -1,7 +1,10 @@
 -- Refusals of a script, as they are printed.
 use Rattle.std.specs.Prelude.{ℕ, List, codes}
 use Rattle.sql_parser.specs.declared.fault.ScriptRefusal.{ScriptRefusal}
-use Rattle.sql_parser.specs.declared.fault.ScriptRefusal.TheVariants.{BadByte, OpenText, NumberTooWide, ScaleTooWide, Unexpected, TooDeep, TooLong, TooWide}
+use Rattle.sql_parser.specs.declared.fault.ScriptRefusal.TheVariants.{BadByte, OpenText}
+use Rattle.sql_parser.specs.declared.fault.ScriptRefusal.TheVariants.{NumberTooWide, ScaleTooWide}
+use Rattle.sql_parser.specs.declared.fault.ScriptRefusal.TheVariants.{Unexpected, TooDeep, TooLong}
+use Rattle.sql_parser.specs.declared.fault.ScriptRefusal.TheVariants.{TooWide}
 
 -- the number of a script's refusal
 abbrev pub script_refusal_number : ScriptRefusal → ℕ

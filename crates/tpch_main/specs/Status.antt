@@ -1,7 +1,9 @@
 -- How a run ends.
 use Rattle.std.specs.Prelude.{ℕ}
 use Rattle.tpch_main.specs.declared.status.Status.{Status}
-use Rattle.tpch_main.specs.declared.status.Status.TheVariants.{Done, SomeRefused, Usage, InputRefused, ReadFault, WriteFault, OutOfMemory}
+use Rattle.tpch_main.specs.declared.status.Status.TheVariants.{Done, SomeRefused, Usage}
+use Rattle.tpch_main.specs.declared.status.Status.TheVariants.{InputRefused, ReadFault, WriteFault}
+use Rattle.tpch_main.specs.declared.status.Status.TheVariants.{OutOfMemory}
 
 -- the program's exit status
 abbrev pub status_number : Status → ℕ

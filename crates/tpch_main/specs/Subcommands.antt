@@ -1,4 +1,5 @@
--- The program's subcommands as clap is given them. An `App` is what clap reads of a command, and a `Rule` what it reads of an argument.
+-- The program's subcommands as clap is given them. An `App` is what clap reads of a command, and a
+-- `Rule` what it reads of an argument.
 use Rattle.std.specs.Prelude.{ℕ, List, true, codes}
 use Rattle.clap.specs.Simple.{on_top}
 use Rattle.clap.specs.Words.{App, Rule, new_app, new_rule, with_rule, with_subcommand}
@@ -9,7 +10,9 @@ required_argument name = record (new_rule name) { required = true }
 
 -- `session DIR SCRIPT`
 abbrev pub session_app : App
-session_app = with_rule (with_rule (new_app (codes "session")) (required_argument (codes "DIR"))) (required_argument (codes "SCRIPT"))
+session_app =
+    with_rule (with_rule (new_app (codes "session")) (required_argument (codes "DIR")))
+    (required_argument (codes "SCRIPT"))
 
 -- `check DIR`
 abbrev pub check_app : App
@@ -17,7 +20,8 @@ check_app = with_rule (new_app (codes "check")) (required_argument (codes "DIR")
 
 -- the program, whose words begin with the name of a subcommand
 abbrev pub bare_app : App
-bare_app = on_top (λ s. record s { no_binary_name = true; subcommand_required = true }) (new_app (codes "tpch"))
+bare_app = on_top (λ s. record s { no_binary_name = true; subcommand_required = true })
+    (new_app (codes "tpch"))
 
 -- the program with its subcommands
 abbrev pub program_app : App

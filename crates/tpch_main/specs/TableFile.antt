@@ -27,19 +27,23 @@ IsRefusalOf input (error.Unread unread) = ⊤
 IsRefusalOf input (error.Refused refusal) = input ≡ Err (refused_view refusal)
 
 -- what was read is the input, or the error is its refusal
-abbrev pub IsRead : Result (List (List Value)) BadInput → Result (List (List Value)) InputError → Type 0
+abbrev pub IsRead : Result (List (List Value)) BadInput → Result (List (List Value)) InputError
+    → Type 0
 IsRead input result = MatchResult result (λ rows. input ≡ Ok rows) (IsRefusalOf input)
 
 -- the error is the refusal of each file of that name that begins with the text
 abbrev pub RefusesFront : List ℕ → LineForm → ℕ → List ℕ → InputError → Type 0
-RefusesFront name form limit text e = (more : List ℕ) → IsRefusalOf (rows_or_refusal name (file_rows form limit (text ++ more))) e
+RefusesFront name form limit text e =
+    (more : List ℕ) → IsRefusalOf (rows_or_refusal name (file_rows form limit (text ++ more))) e
 
 -- a file of that name and these bytes has the rows, or is refused so
 abbrev pub EndsAs : List ℕ → LineForm → ℕ → List ℕ → Result (List (List Value)) InputError → Type 0
-EndsAs name form limit text result = IsRead (rows_or_refusal name (file_rows form limit text)) result
+EndsAs name form limit text result =
+    IsRead (rows_or_refusal name (file_rows form limit text)) result
 
 -- what was read of a table's file of that name, where the bytes that were left of it are known
-abbrev pub IsRowsOf : TableName → List ℕ → Option (List ℕ) → Result (List (List Value)) InputError → Type 0
+abbrev pub IsRowsOf : TableName → List ℕ → Option (List ℕ) → Result (List (List Value)) InputError
+    → Type 0
 IsRowsOf table name None result = ⊤
 IsRowsOf table name (Some text) result = IsRead (rows_in table name (Some text)) result
 

@@ -1,5 +1,6 @@
 -- The text of one session: each statement at the version that the refreshes before it leave.
-use Rattle.std.specs.Prelude.{ℕ, ◌+◌, ◌≡◌, ◌&&◌, List, [], ◌∷◌, ◌++◌, drop, length, Bool, true, Option, None, Some, Result, Ok, Err, slice_get, if◌then◌else◌}
+use Rattle.std.specs.Prelude.{ℕ, ◌+◌, ◌≡◌, ◌&&◌, List, [], ◌∷◌, ◌++◌, drop, length, Bool, true}
+use Rattle.std.specs.Prelude.{Option, None, Some, Result, Ok, Err, slice_get, if◌then◌else◌}
 use Rattle.query_streams.specs.Outcomes.{Moment}
 use Rattle.query_streams.specs.Sessions.{Course, are_clean, lines_of}
 use Rattle.refusals.specs.declared.refresh.Cause.{Cause}
@@ -19,12 +20,18 @@ version_or_cause before (Err cause) = Err cause
 
 -- what comes of the next refresh of a list; nothing is left to try past its end
 abbrev pub tried_next : Trials → Option Change → Result ℕ Cause
-tried_next trials (Some change) = version_or_cause (version_of trials) (after (tables_of trials) change)
+tried_next trials (Some change) =
+    version_or_cause (version_of trials) (after (tables_of trials) change)
 tried_next trials None = Ok (version_of trials)
 
 -- the moment of a statement after the refreshes that were tried
 abbrev pub moment_after : Trials → Moment
-moment_after trials = record { version = version_of trials; tables = tables_of trials; tried = tried_next trials (slice_get trials.list trials.done) }
+moment_after trials =
+    record {
+      version = version_of trials;
+      tables = tables_of trials;
+      tried = tried_next trials (slice_get trials.list trials.done);
+    }
 
 -- one more refresh is tried where the statement is one
 abbrev pub trials_after : Trials → Statement → Trials
@@ -34,7 +41,8 @@ trials_after trials other = trials
 -- the moments of statements, one after another
 abbrev pub moments : Trials → List Statement → List Moment
 moments trials [] = []
-moments trials (statement ∷ steps) = moment_after trials ∷ moments (trials_after trials statement) steps
+moments trials (statement ∷ steps) =
+    moment_after trials ∷ moments (trials_after trials statement) steps
 
 -- at first nothing is tried
 abbrev pub first_trials : Work → Trials
@@ -46,7 +54,8 @@ session_text work = lines_of true 1 [] work.steps (moments (first_trials work) w
 
 -- its status: some statement is refused, or none is
 abbrev pub session_status : Work → Status
-session_status work = if are_clean [] work.steps (moments (first_trials work) work.steps) then Done else SomeRefused
+session_status work =
+    if are_clean [] work.steps (moments (first_trials work) work.steps) then Done else SomeRefused
 
 -- how many of the statements are refreshes
 abbrev pub refresh_count : List Statement → ℕ
@@ -58,14 +67,18 @@ left_of course = drop course.answered course.steps
 
 -- the whole text of a session: what it has, and what the statements that are left add
 abbrev pub text_from : Course → Trials → List ℕ
-text_from course trials = course.text ++ lines_of true (course.answered + 1) course.views (left_of course) (moments trials (left_of course))
+text_from course trials =
+    course.text ++ lines_of true (course.answered + 1) course.views (left_of course)
+    (moments trials (left_of course))
 
 -- no statement of a session is refused, of those that had their turn and of those that are left
 abbrev pub clean_from : Course → Trials → Bool
-clean_from course trials = course.is_clean && are_clean course.views (left_of course) (moments trials (left_of course))
+clean_from course trials =
+    course.is_clean && are_clean course.views (left_of course) (moments trials (left_of course))
 
 -- A session on its way to a text: each refresh that is left has its place in the list.
-pub record IsOnTheWay (course : Course) (trials : Trials) (text : List ℕ) (clean : Bool) : Type 0 where
+pub record IsOnTheWay (course : Course) (trials : Trials) (text : List ℕ) (clean : Bool)
+    : Type 0 where
   pub shows : course.shows_rows ≡ true
   pub text_is : text ≡ text_from course trials
   pub clean_is : clean ≡ clean_from course trials

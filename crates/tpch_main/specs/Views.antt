@@ -32,7 +32,8 @@ refused_view refusal = record { name = string_bytes refusal.name; fault = refusa
 abbrev pub Refuses : List ℕ → InputFault → InputError → Type 0
 Refuses name why (error.Unread read.Fault) = ⊥
 Refuses name why (error.Unread read.OutOfMemory) = ⊤
-Refuses name why (error.Refused refusal) = refused_view refusal ≡ record { name = name; fault = why }
+Refuses name why (error.Refused refusal) =
+    refused_view refusal ≡ record { name = name; fault = why }
 
 -- the error is that a file is absent
 abbrev pub IsAbsence : InputError → Type 0
@@ -44,27 +45,43 @@ abbrev pub IfKnown : Option Folder → (Folder → Type 0) → Type 0
 IfKnown None P = ⊤
 IfKnown (Some folder) P = P folder
 
--- a refusal is the one of the input that the known files hold; an input that could not be read says nothing of it
-abbrev pub Explains : {A : Type 0} → Option Folder → (Folder → Result A BadInput) → InputError → Type 0
+-- a refusal is the one of the input that the known files hold; an input that could not be read says
+-- nothing of it
+abbrev pub Explains : {A : Type 0} → Option Folder → (Folder → Result A BadInput) → InputError
+    → Type 0
 Explains held input (error.Unread unread) = ⊤
-Explains held input (error.Refused refusal) = IfKnown held (λ folder. input folder ≡ Err (refused_view refusal))
+Explains held input (error.Refused refusal) =
+    IfKnown held (λ folder. input folder ≡ Err (refused_view refusal))
 
 -- what was read is the input that the known files hold, or the error explains why there is none
-abbrev pub Reads : {A B : Type 0} → (A → B) → Option Folder → (Folder → Result B BadInput) → Result A InputError → Type 0
-Reads view held input result = MatchResult result (λ read. IfKnown held (λ folder. input folder ≡ Ok (view read))) (Explains held input)
+abbrev pub Reads : {A B : Type 0} → (A → B) → Option Folder → (Folder → Result B BadInput)
+    → Result A InputError → Type 0
+Reads view held input result =
+    MatchResult result (λ read. IfKnown held (λ folder. input folder ≡ Ok (view read)))
+    (Explains held input)
 
--- the text is one that the input of the known files means, or the error explains why there is no input
-abbrev pub Answers : {A : Type 0} → (A → List ℕ → Type 0) → Option Folder → (Folder → Result A BadInput) → Result (Vec ℕ) InputError → Type 0
-Answers {A} Means held input result = MatchResult result (λ text. IfKnown held (λ folder. (read : A) × (input folder ≡ Ok read) × Means read text.items)) (Explains held input)
+-- the text is one that the input of the known files means, or the error explains why there is no
+-- input
+abbrev pub Answers : {A : Type 0} → (A → List ℕ → Type 0) → Option Folder
+    → (Folder → Result A BadInput) → Result (Vec ℕ) InputError → Type 0
+Answers {A} Means held input result =
+    MatchResult result
+    (λ text. IfKnown held (λ folder. (read : A) × (input folder ≡ Ok read) × Means read text.items))
+    (Explains held input)
 
 -- what was read is what the known files may hold, or the error is one of these
-abbrev pub Finds : {A B : Type 0} → (A → B) → Option Folder → (Folder → Result B BadInput → Type 0) → Result A InputError → Type 0
+abbrev pub Finds : {A B : Type 0} → (A → B) → Option Folder → (Folder → Result B BadInput → Type 0)
+    → Result A InputError → Type 0
 Finds view held Holds (Ok read) = IfKnown held (λ folder. Holds folder (Ok (view read)))
 Finds view held Holds (Err (error.Unread unread)) = ⊤
-Finds view held Holds (Err (error.Refused refusal)) = IfKnown held (λ folder. Holds folder (Err (refused_view refusal)))
+Finds view held Holds (Err (error.Refused refusal)) =
+    IfKnown held (λ folder. Holds folder (Err (refused_view refusal)))
 
--- the text and its status are the command's, or the error explains why it has none: its first refused input
+-- the text and its status are the command's, or the error explains why it has none: its first
+-- refused input
 abbrev pub IsTextOf : Command → Option Folder → Result (Vec ℕ × Status) InputError → Type 0
-IsTextOf command held (Ok printed) = Prints (Some command) held printed.0.items printed.1 × IsDone printed.1
+IsTextOf command held (Ok printed) = Prints (Some command) held printed.0.items printed.1
+    × IsDone printed.1
 IsTextOf command held (Err (error.Unread unread)) = ⊤
-IsTextOf command held (Err (error.Refused refusal)) = IfKnown held (λ folder. IsFirstRefused command folder (Some (refused_view refusal)))
+IsTextOf command held (Err (error.Refused refusal)) =
+    IfKnown held (λ folder. IsFirstRefused command folder (Some (refused_view refusal)))

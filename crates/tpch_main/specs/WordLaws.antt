@@ -1,5 +1,6 @@
 -- Which words are a command, in words of their own, and by examples.
-use Rattle.std.specs.Prelude.{◌≡◌, ◌↔◌, ◌==◌, Bool, false, List, [], ◌∷◌, Option, None, Some, IsSome, if◌then◌else◌, codes, option_map}
+use Rattle.std.specs.Prelude.{◌≡◌, ◌↔◌, ◌==◌, Bool, false, List, [], ◌∷◌, Option, None, Some}
+use Rattle.std.specs.Prelude.{IsSome, if◌then◌else◌, codes, option_map}
 use Rattle.std.specs.List.{All}
 use Rattle.std.specs.Option.{option_and_then}
 use Rattle.std.specs.Str.{IsUtf8, bytes_eq}
@@ -17,7 +18,8 @@ abbrev pub is_flag : Text → Bool
 is_flag (first ∷ second ∷ rest) = first == 45
 is_flag short = false
 
--- the values among the words after a subcommand's name: the first `--` is left out, what follows it is a value however it begins, and no flag may come before it
+-- the values among the words after a subcommand's name: the first `--` is left out, what follows it
+-- is a value however it begins, and no flag may come before it
 abbrev pub values_in : List Text → Option (List Text)
 values_in [] = Some []
 values_in (word ∷ words) =
@@ -54,14 +56,16 @@ ValuesLaw = (words : List Text) → All IsUtf8 words → command_of words ≡ co
 -- lists of words that were worked out by hand
 pub record WordExamples : Type 0 where
   -- a subcommand with just its values
-  pub session_read : command_of (codes "session" ∷ codes "d" ∷ codes "s" ∷ []) ≡ Some (session (codes "d") (codes "s"))
+  pub session_read : command_of (codes "session" ∷ codes "d" ∷ codes "s" ∷ [])
+      ≡ Some (session (codes "d") (codes "s"))
   pub check_read : command_of (codes "check" ∷ codes "d" ∷ []) ≡ Some (check (codes "d"))
   pub none_given : command_of [] ≡ None
   pub too_few : command_of (codes "session" ∷ codes "d" ∷ []) ≡ None
   pub no_folder : command_of (codes "check" ∷ []) ≡ None
   pub too_many : command_of (codes "check" ∷ codes "d" ∷ codes "s" ∷ []) ≡ None
   pub unknown : command_of (codes "count" ∷ codes "d" ∷ []) ≡ None
-  pub empty_folder : command_of (codes "session" ∷ [] ∷ codes "s" ∷ []) ≡ Some (session [] (codes "s"))
+  pub empty_folder : command_of (codes "session" ∷ [] ∷ codes "s" ∷ [])
+      ≡ Some (session [] (codes "s"))
   -- no help
   pub help : command_of (codes "help" ∷ []) ≡ None
   pub help_flag : command_of (codes "--help" ∷ []) ≡ None
@@ -70,6 +74,8 @@ pub record WordExamples : Type 0 where
   -- a flag is refused, a single minus is a value, and so is each word after `--`
   pub flag : command_of (codes "session" ∷ codes "-d" ∷ codes "s" ∷ []) ≡ None
   pub minus : command_of (codes "check" ∷ codes "-" ∷ []) ≡ Some (check (codes "-"))
-  pub after_dashes : command_of (codes "session" ∷ codes "--" ∷ codes "-d" ∷ codes "--" ∷ []) ≡ Some (session (codes "-d") (codes "--"))
-  pub dashes_last : command_of (codes "check" ∷ codes "d" ∷ codes "--" ∷ []) ≡ Some (check (codes "d"))
+  pub after_dashes : command_of (codes "session" ∷ codes "--" ∷ codes "-d" ∷ codes "--" ∷ [])
+      ≡ Some (session (codes "-d") (codes "--"))
+  pub dashes_last : command_of (codes "check" ∷ codes "d" ∷ codes "--" ∷ [])
+      ≡ Some (check (codes "d"))
   pub dashes_first : command_of (codes "--" ∷ codes "check" ∷ codes "d" ∷ []) ≡ None

@@ -15,7 +15,9 @@ pub data Command : Type 0 where
 
 -- `session` with the values of DIR and SCRIPT
 abbrev pub session_in : List Row → Option Command
-session_in rows = option_and_then (λ folder. option_map (session folder) (first_of (codes "SCRIPT") rows)) (first_of (codes "DIR") rows)
+session_in rows =
+    option_and_then (λ folder. option_map (session folder) (first_of (codes "SCRIPT") rows))
+    (first_of (codes "DIR") rows)
 
 -- `check` with the value of DIR
 abbrev pub check_in : List Row → Option Command
@@ -28,9 +30,12 @@ command_in found =
     else if bytes_eq found.0 (codes "check") then check_in found.1
     else None
 
--- the command that the words are: the subcommand that clap reads of them, where it finds no fault in them
+-- the command that the words are: the subcommand that clap reads of them, where it finds no fault
+-- in them
 abbrev pub command_of : List Text → Option Command
-command_of words = if is_empty (fault_of program_app words) then option_and_then command_in (subcommand_of program_app words) else None
+command_of words =
+    if is_empty (fault_of program_app words)
+    then option_and_then command_in (subcommand_of program_app words) else None
 
 -- the line for words that are no command
 abbrev pub usage_line : List ℕ

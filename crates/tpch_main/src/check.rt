@@ -50,7 +50,8 @@ pub fn check_text<F: Files>(
     files: &mut F,
     folder: &str,
 ) -> Result<Vec<u8>, InputError>
-    ensures answer { Answers (λ state text. text ≡ counts_text state) (F.held files.old) (state_in folder.now) result }
+    ensures answer { Answers (λ state text. text ≡ counts_text state) (F.held files.old)
+        (state_in folder.now) result }
     ensures files { FilesAfterInput F.held F.faults F.misses result files.old files.new }
 {
     let state = read_state(alloc, files, folder)?;

@@ -1,5 +1,6 @@
 //! Reading the bytes of a file.
-ghost use Rattle.std.specs.Prelude.{◌≡◌, ℕ, ◌<◌, ◌≤◌, ◌^◌, List, ◌++◌, IfOk, MatchOption, length, true, false};
+ghost use Rattle.std.specs.Prelude.{◌≡◌, ℕ, ◌<◌, ◌≤◌, ◌^◌, List, ◌++◌, IfOk, MatchOption, length};
+ghost use Rattle.std.specs.Prelude.{true, false};
 ghost use Rattle.std.specs.Io.KnownBytes.{Consumes, IsAtEnd};
 ghost use Rattle.std.specs.Vec.{vec_items};
 ghost use Rattle.tpch_outside.specs.Outside.{IsAll, IsLonger};
@@ -14,12 +15,13 @@ use std::alloc::Global;
 use tpch_outside::{Files, Got, Open};
 
 /// The most bytes that one call reads.
-const PIECE: usize = 16_384;
+pub(crate) const PIECE: usize = 65_536;
 
 /// Reads one piece more of the open file, and answers whether it is at its end.
 fn read_piece<F: Files>(files: &mut F, bytes: &mut Vec<u8>) -> Result<bool, ReadError>
     requires { F.is_open files.old ≡ true }
-    ensures bytes { IfOk result (λ end. (added : List ℕ) × (bytes.new.items ≡ bytes.old.items ++ added)
+    ensures bytes { IfOk result (λ end. (added : List ℕ)
+        × (bytes.new.items ≡ bytes.old.items ++ added)
         × Consumes (F.left files.old) (F.left files.new) added
         × (end ≡ true → IsAtEnd (F.left files.new)) × (end ≡ false → 0 < length added)) }
     ensures is_open { F.is_open files.new ≡ true }
@@ -82,7 +84,8 @@ pub fn read_file<F: Files>(
     limit: usize,
 ) -> Result<Vec<u8>, InputError>
     requires { limit < 2 ^ 63 }
-    ensures input { Reads vec_items (F.held files.old) (λ folder. file_bytes limit folder name.now) result }
+    ensures input { Reads vec_items (F.held files.old)
+        (λ folder. file_bytes limit folder name.now) result }
     ensures files { FilesAfterInput F.held F.faults F.misses result files.old files.new }
 {
     match files.open(name) {

@@ -2,9 +2,9 @@
 ghost use Rattle.std.specs.Prelude.{◌≡◌};
 ghost use Rattle.tpch_main.specs.Views.{Refuses};
 
+use refusals::LineRefusal;
 use sql_parser::ScriptRefusal;
 use std::alloc::{AllocError, AllocFailed, Global};
-use tpch_schema::LineRefusal;
 
 /// What is wrong with an input.
 #[derive(Clone, Copy, Debug, PartialEq, Eq)]

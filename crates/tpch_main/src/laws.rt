@@ -1,8 +1,9 @@
 //! Laws of the definitions that the top call's promise stands on, each the contract of a function
-//! that does nothing: inputs are accepted exactly where all of them are good, the first bad table is the one that is
-//! refused, and a text is the only one.
+//! that does nothing: inputs are accepted exactly where all of them are good, the first bad table
+//! is the one that is refused, and a text is the only one.
 ghost use Rattle.tpch_main.specs.Examples.{Examples};
-ghost use Rattle.tpch_main.specs.Laws.{SessionAcceptedLaw, TablesAcceptedLaw, TablesOrderLaw, TextLaw};
+ghost use Rattle.tpch_main.specs.Laws.{SessionAcceptedLaw, TablesAcceptedLaw, TablesOrderLaw};
+ghost use Rattle.tpch_main.specs.Laws.{TextLaw};
 
 /// Two texts that an accepted command prints are one text, with one status.
 pub fn texts_are_unique()
@@ -14,8 +15,9 @@ pub fn first_bad_table_is_refused()
     ensures { TablesOrderLaw }
 {}
 
-/// A folder's tables are accepted with a state exactly where each table's file is accepted with that state's rows, and a
-/// session's inputs exactly where its script, its tables and its refresh files are.
+/// A folder's tables are accepted with a state exactly where each table's file is accepted with
+/// that state's rows, and a session's inputs exactly where its script, its tables and its refresh
+/// files are.
 pub fn good_inputs_are_accepted()
     ensures tables { TablesAcceptedLaw }
     ensures session { SessionAcceptedLaw }

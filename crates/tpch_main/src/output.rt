@@ -1,5 +1,6 @@
 //! Writing a text to a sink.
-ghost use Rattle.std.specs.Prelude.{◌≡◌, ◌≢◌, ◌<◌, ◌≤◌, IfOk, IsErrOf, OnErr, OnOk, [], length, take};
+ghost use Rattle.std.specs.Prelude.{◌≡◌, ◌≢◌, ◌<◌, ◌≤◌, IfOk, IsErrOf, OnErr, OnOk, [], length};
+ghost use Rattle.std.specs.Prelude.{take};
 ghost use Rattle.std.specs.Io.KnownBytes.{Appends};
 ghost use Rattle.tpch_outside.specs.Outside.{AppendsPart, Rose};
 ghost use Rattle.tpch_main.specs.Meaning.{IsAnswer};
@@ -54,7 +55,8 @@ fn write_all<S: Sink>(out: &mut S, text: &[u8]) -> Result<(), WriteError>
 /// Writes the text, and answers its status or why it wasn't taken whole.
 pub fn write_text<S: Sink>(out: &mut S, text: &[u8], status: Status) -> Status
     requires { IsAnswer status }
-    ensures whole { IsAnswer result → (result ≡ status) × Appends (S.taken out.old) (S.taken out.new) text.now }
+    ensures whole { IsAnswer result → (result ≡ status)
+        × Appends (S.taken out.old) (S.taken out.new) text.now }
     ensures part { AppendsPart (S.taken out.old) (S.taken out.new) text.now }
     ensures fault { result ≡ Status.WriteFault → Rose (S.faults out.old) (S.faults out.new) }
     ensures other { result ≢ Status.ReadFault }

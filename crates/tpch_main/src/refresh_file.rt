@@ -9,10 +9,10 @@ ghost use Rattle.tpch_main.specs.SetFile.{FailsAs, FitsFile, IsFileOf};
 use crate::input::front;
 use crate::input_error::ReadError;
 use columns::Rows;
+use refusals::{LineRefusal, RefreshFile};
 use std::alloc::Global;
 use tbl_reader::{RefreshReader, TableError};
 use tpch_outside::Files;
-use tpch_schema::{LineRefusal, RefreshFile};
 
 /// The most bytes of a refresh file: 2^32.
 const MOST_BYTES: usize = 4_294_967_296;
@@ -29,8 +29,10 @@ fn failed(error: TableError) -> Result<Result<Rows, LineRefusal>, ReadError>
 
 /// The rows of a file of which all bytes were fed to the reader, or its first bad line.
 fn finish(reader: RefreshReader) -> Result<Result<Rows, LineRefusal>, ReadError>
-    ensures rows { (text : List ℕ) → HasRead text reader → IfOk result (λ r. r ≡ rows_for reader text) }
-    ensures fits { (file : RefreshFile) → reader.lines.form ≡ refresh_form file → IfOk result (FitsFile file) }
+    ensures rows { (text : List ℕ) → HasRead text reader
+        → IfOk result (λ r. r ≡ rows_for reader text) }
+    ensures fits { (file : RefreshFile) → reader.lines.form ≡ refresh_form file
+        → IfOk result (FitsFile file) }
     ensures memory { IfErr result (λ e. e ≡ ReadError.OutOfMemory) }
 {
     match reader.finish() {
@@ -40,8 +42,8 @@ fn finish(reader: RefreshReader) -> Result<Result<Rows, LineRefusal>, ReadError>
     }
 }
 
-/// What each such refresh file holds that begins with these bytes, and has more only where these are past the most: its
-/// rows, or its first bad line.
+/// What each such refresh file holds that begins with these bytes, and has more only where these
+/// are past the most: its rows, or its first bad line.
 fn rows_of_front(
     alloc: Global,
     file: RefreshFile,

@@ -4,7 +4,8 @@ ghost use Rattle.std.specs.String.{string_bytes};
 ghost use Rattle.std.specs.Vec.{vec_items};
 ghost use Rattle.refusals.specs.declared.refresh.RefreshFile.TheVariants.{Orders, Lineitem, Delete};
 ghost use Rattle.tpch_main.specs.FilesAfter.{FilesAfterInput};
-ghost use Rattle.tpch_main.specs.Inputs.{changes_in, delete_of, insert_of, mention_of, mentions_of, refresh_in, set_file, set_rows_in};
+ghost use Rattle.tpch_main.specs.Inputs.{changes_in, delete_of, insert_of, mention_of, mentions_of};
+ghost use Rattle.tpch_main.specs.Inputs.{refresh_in, set_file, set_rows_in};
 ghost use Rattle.tpch_main.specs.SetFile.{FitsFile};
 ghost use Rattle.tpch_main.specs.Views.{Reads};
 
@@ -12,11 +13,11 @@ use crate::input_error::{InputError, InputFault, ReadError, refused};
 use crate::refresh_file::read_refresh_rows;
 use columns::Rows;
 use itoa::Buffer;
+use refusals::{LineRefusal, RefreshFile};
 use sql_ast::{RefreshKind, Statement};
 use std::alloc::{AllocError, Global};
 use table_state::Refresh;
 use tpch_outside::{Files, Open};
-use tpch_schema::{LineRefusal, RefreshFile};
 
 /// A refresh that a statement names.
 #[derive(Clone, Copy, Debug, PartialEq, Eq)]
@@ -47,7 +48,8 @@ fn read_set_file<F: Files>(
     file: RefreshFile,
     set: u32,
 ) -> Result<Result<Rows, LineRefusal>, InputError>
-    ensures input { Reads (λ rows. rows) (F.held files.old) (set_rows_in folder.now file set) result }
+    ensures input { Reads (λ rows. rows) (F.held files.old)
+        (set_rows_in folder.now file set) result }
     ensures fits { IfOk result (FitsFile file) }
     ensures files { FilesAfterInput F.held F.faults F.misses result files.old files.new }
 {
@@ -107,7 +109,8 @@ fn read_insert<F: Files>(
     folder: &str,
     set: u32,
 ) -> Result<Refresh, InputError>
-    ensures input { Reads (λ refresh. refresh) (F.held files.old) (refresh_in folder.now RefreshKind.Insert set) result }
+    ensures input { Reads (λ refresh. refresh) (F.held files.old)
+        (refresh_in folder.now RefreshKind.Insert set) result }
     ensures files { FilesAfterInput F.held F.faults F.misses result files.old files.new }
 {
     let orders = read_set_file(alloc, files, folder, RefreshFile::Orders, set)?;
@@ -122,7 +125,8 @@ fn read_delete<F: Files>(
     folder: &str,
     set: u32,
 ) -> Result<Refresh, InputError>
-    ensures input { Reads (λ refresh. refresh) (F.held files.old) (refresh_in folder.now RefreshKind.Delete set) result }
+    ensures input { Reads (λ refresh. refresh) (F.held files.old)
+        (refresh_in folder.now RefreshKind.Delete set) result }
     ensures files { FilesAfterInput F.held F.faults F.misses result files.old files.new }
 {
     let keys = read_set_file(alloc, files, folder, RefreshFile::Delete, set)?;
@@ -137,7 +141,8 @@ fn read_refresh<F: Files>(
     folder: &str,
     mention: Mention,
 ) -> Result<Refresh, InputError>
-    ensures input { Reads (λ refresh. refresh) (F.held files.old) (refresh_in folder.now mention.change mention.set) result }
+    ensures input { Reads (λ refresh. refresh) (F.held files.old)
+        (refresh_in folder.now mention.change mention.set) result }
     ensures files { FilesAfterInput F.held F.faults F.misses result files.old files.new }
 {
     match mention.change {

@@ -6,9 +6,9 @@ ghost use Rattle.tpch_main.specs.Views.{refused_view};
 use crate::input_error::{InputFault, RefusedInput};
 use crate::script_refusal::{refusal_name, refusal_number};
 use itoa::Buffer;
+use refusals::LineRefusal;
 use sql_parser::ScriptRefusal;
 use std::alloc::{AllocError, Global};
-use tpch_schema::LineRefusal;
 
 /// The line for a refused input.
 pub fn line_of_refusal(alloc: Global, refused: &RefusedInput) -> Result<Vec<u8>, AllocError>

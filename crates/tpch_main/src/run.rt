@@ -4,7 +4,8 @@ ghost use Rattle.std.specs.Io.KnownBytes.{Keeps};
 ghost use Rattle.std.specs.String.{string_bytes};
 ghost use Rattle.tpch_outside.specs.Outside.{Rose};
 ghost use Rattle.tpch_main.specs.FilesAfter.{FilesAfterInput, FilesAfterRead};
-ghost use Rattle.tpch_main.specs.Meaning.{IsAbsentInput, IsAccepted, IsAnswer, Prints, TakesPart, TakesWhole};
+ghost use Rattle.tpch_main.specs.Meaning.{IsAbsentInput, IsAccepted, IsAnswer, Prints, TakesPart};
+ghost use Rattle.tpch_main.specs.Meaning.{TakesWhole};
 ghost use Rattle.tpch_main.specs.Views.{IsTextOf, command_view};
 ghost use Rattle.tpch_main.specs.Words.{command_of};
 ghost use Rattle.tpch_main.specs.Words.Command.{check};
@@ -63,7 +64,8 @@ fn printed<R: Threads, F: Files>(
 ) -> Result<(Vec<u8>, Status), ReadError>
     ensures prints { IfOk result (λ printed. IsAnswer printed.1
         × Prints (Some (command_view command.now)) (F.held files.old) printed.0.items printed.1) }
-    ensures absent { IfOk result (λ printed. IsAbsentInput (Some (command_view command.now)) (F.held files.old)
+    ensures absent { IfOk result (λ printed. IsAbsentInput (Some (command_view command.now))
+        (F.held files.old)
         → Rose (F.misses files.old) (F.misses files.new)) }
     ensures files { FilesAfterRead F.held F.faults F.misses result files.old files.new }
 {
@@ -77,7 +79,8 @@ fn printed<R: Threads, F: Files>(
     }
 }
 
-/// Reads the words and the files that they name, and writes one text. The clauses are those of `tpch`.
+/// Reads the words and the files that they name, and writes one text. The clauses are those of
+/// `tpch`.
 pub fn run<R: Threads, F: Files, S: Sink>(
     rt: &R,
     alloc: Global,
@@ -90,17 +93,21 @@ pub fn run<R: Threads, F: Files, S: Sink>(
     ensures read { result ≡ Status.ReadFault → Rose (F.faults files.old) (F.faults files.new)
         × Keeps (S.taken out.old) (S.taken out.new) }
     ensures write { result ≡ Status.WriteFault → Rose (S.faults out.old) (S.faults out.new)
-        × TakesPart (command_of (map string_bytes words.now)) (F.held files.old) (S.taken out.old) (S.taken out.new) }
+        × TakesPart (command_of (map string_bytes words.now)) (F.held files.old) (S.taken out.old)
+        (S.taken out.new) }
     ensures memory { result ≡ Status.OutOfMemory → Keeps (S.taken out.old) (S.taken out.new)
-        ⊎ TakesPart (command_of (map string_bytes words.now)) (F.held files.old) (S.taken out.old) (S.taken out.new) }
+        ⊎ TakesPart (command_of (map string_bytes words.now)) (F.held files.old) (S.taken out.old)
+        (S.taken out.new) }
     ensures absent { result ≡ Status.InputRefused
         → IsAbsentInput (command_of (map string_bytes words.now)) (F.held files.old)
         → Rose (F.misses files.old) (F.misses files.new) }
     ensures complete { IsAccepted (command_of (map string_bytes words.now)) (F.held files.old)
-        → ¬ Rose (F.faults files.old) (F.faults files.new) → ¬ Rose (S.faults out.old) (S.faults out.new)
+        → ¬ Rose (F.faults files.old) (F.faults files.new)
+        → ¬ Rose (S.faults out.old) (S.faults out.new)
         → result ≢ Status.OutOfMemory → (result ≡ Status.Done) ⊎ (result ≡ Status.SomeRefused) }
     ensures held { F.held files.new ≡ F.held files.old }
-    ensures counts { (F.faults files.old ≤ F.faults files.new) × (F.misses files.old ≤ F.misses files.new)
+    ensures counts { (F.faults files.old ≤ F.faults files.new)
+        × (F.misses files.old ≤ F.misses files.new)
         × (S.faults out.old ≤ S.faults out.new) }
 {
     let Ok(read) = read_words(alloc, words) else {

@@ -1,4 +1,5 @@
-//! One session: its script, then the tables, then the files of its refreshes, then its statements one by one.
+//! One session: its script, then the tables, then the files of its refreshes, then its statements
+//! one by one.
 ghost use Rattle.std.specs.Prelude.{◌≡◌, ◌+◌, IfOk, length, true};
 ghost use Rattle.query_streams.specs.Sessions.{course_of};
 ghost use Rattle.tpch_main.specs.FilesAfter.{FilesAfterInput};
@@ -29,7 +30,8 @@ fn read_statements<F: Files>(
     files: &mut F,
     name: &str,
 ) -> Result<Items<Statement>, InputError>
-    ensures input { Finds (λ statements. statements) (F.held files.old) (λ folder. IsScriptOf name.now (file_bytes script_limit folder name.now)) result }
+    ensures input { Finds (λ statements. statements) (F.held files.old)
+        (λ folder. IsScriptOf name.now (file_bytes script_limit folder name.now)) result }
     ensures files { FilesAfterInput F.held F.faults F.misses result files.old files.new }
 {
     let bytes = read_file(alloc, files, name, MAX_SCRIPT)?;
@@ -44,7 +46,8 @@ fn read_statements<F: Files>(
 
 /// A session of the script of that name, at its beginning.
 fn begin<F: Files>(alloc: Global, files: &mut F, script: &str) -> Result<Session, InputError>
-    ensures input { Finds (λ s. (course_of s).steps) (F.held files.old) (λ folder. AreSteps folder script.now) result }
+    ensures input { Finds (λ s. (course_of s).steps) (F.held files.old)
+        (λ folder. AreSteps folder script.now) result }
     ensures begun { IfOk result (λ s. IsBegun (course_of s)) }
     ensures files { FilesAfterInput F.held F.faults F.misses result files.old files.new }
 {
@@ -60,7 +63,8 @@ fn opened<F: Files>(
     folder: &str,
     steps: &[Statement],
 ) -> Result<Directory, InputError>
-    ensures input { Reads (work_from steps.now) (F.held files.old) (λ held. work_of folder.now held steps.now) result }
+    ensures input { Reads (work_from steps.now) (F.held files.old)
+        (λ held. work_of folder.now held steps.now) result }
     ensures done { IfOk result (λ d. d.done ≡ 0) }
     ensures places { IfOk result (λ d. length d.list ≡ refresh_count steps.now) }
     ensures files { FilesAfterInput F.held F.faults F.misses result files.old files.new }
@@ -82,7 +86,8 @@ fn played<R: Threads>(
     requires begun { IsBegun (course_of session) }
     requires done { directory.done ≡ 0 }
     requires places { length directory.list ≡ refresh_count (course_of session).steps }
-    ensures { IfOk result (λ printed. MeansSession (work_from (course_of session).steps directory) printed.0.items printed.1) }
+    ensures { IfOk result (λ printed. MeansSession (work_from (course_of session).steps directory)
+        printed.0.items printed.1) }
 {
     let mut session = session;
     take_turns(rt, alloc, &mut session, directory)?;

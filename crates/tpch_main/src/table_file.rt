@@ -1,21 +1,21 @@
 //! Reading the rows of a table's file, each piece fed to the table's reader as it comes.
-ghost use Rattle.std.specs.Prelude.{◌≡◌, ℕ, ◌+◌, ◌<◌, ◌≤◌, ◌++◌, List, IfErr, IfOk, OnOk, length, take, true};
+ghost use Rattle.std.specs.Prelude.{◌≡◌, ℕ, ◌+◌, ◌<◌, ◌≤◌, ◌++◌, List, IfErr, IfOk, OnOk, length};
+ghost use Rattle.std.specs.Prelude.{take, true};
 ghost use Rattle.std.specs.Io.KnownBytes.{Consumes, IsAtEnd};
 ghost use Rattle.tpch_schema.specs.Kinds.{RowsAreOf};
 ghost use Rattle.tpch_schema.specs.LineForm.{columns_of};
 ghost use Rattle.tbl_reader.specs.Reading.{HasRead, bytes_fed};
 ghost use Rattle.tpch_main.specs.FilesAfter.{FilesAfterInput, FilesAfterRead};
-ghost use Rattle.tpch_main.specs.TableFile.{EndsAs, IsLineError, IsRowsOf, RefusesFront, RefusesTable};
+ghost use Rattle.tpch_main.specs.TableFile.{EndsAs, IsLineError, IsRowsOf, RefusesFront};
+ghost use Rattle.tpch_main.specs.TableFile.{RefusesTable};
 
+use crate::input::PIECE;
 use crate::input_error::{InputError, InputFault, ReadError, refused};
 use columns::Rows;
 use std::alloc::Global;
 use tbl_reader::{TableError, TableReader};
 use tpch_outside::{Files, Got};
 use tpch_schema::TableName;
-
-/// The most bytes that one call reads.
-const PIECE: usize = 65_536;
 
 /// The refusal of a table's file of that name, or that memory ran out.
 fn table_refused(alloc: Global, name: &str, error: TableError) -> InputError
@@ -27,7 +27,8 @@ fn table_refused(alloc: Global, name: &str, error: TableError) -> InputError
     }
 }
 
-/// Reads the next bytes of the open file to the piece's front, and answers how many; 0 at the file's end.
+/// Reads the next bytes of the open file to the piece's front, and answers how many; 0 at the
+/// file's end.
 fn next_piece<F: Files>(files: &mut F, piece: &mut [u8]) -> Result<usize, ReadError>
     requires open { F.is_open files.old ≡ true }
     requires room { 0 < length piece.old }
@@ -47,11 +48,13 @@ fn next_piece<F: Files>(files: &mut F, piece: &mut [u8]) -> Result<usize, ReadEr
 fn feed(alloc: Global, name: &str, reader: &mut TableReader, piece: &[u8]) -> Result<(), InputError>
     ensures form { reader.new.lines.form ≡ reader.old.lines.form }
     ensures limit { reader.new.lines.limit ≡ reader.old.lines.limit }
-    ensures read { OnOk result ((text : List ℕ) → HasRead text reader.old → HasRead (text ++ piece.now) reader.new) }
+    ensures read { OnOk result ((text : List ℕ) → HasRead text reader.old
+        → HasRead (text ++ piece.now) reader.new) }
     ensures bytes { OnOk result (bytes_fed reader.new ≡ bytes_fed reader.old + length piece.now) }
     ensures within { OnOk result (bytes_fed reader.new ≤ reader.new.lines.limit) }
     ensures refused { IfErr result (λ e. (text : List ℕ) → HasRead text reader.old
-        → RefusesFront name.now reader.old.lines.form reader.old.lines.limit (text ++ piece.now) e) }
+        → RefusesFront name.now reader.old.lines.form reader.old.lines.limit
+        (text ++ piece.now) e) }
     ensures other { IfErr result IsLineError }
 {
     match reader.feed(piece) {
@@ -74,8 +77,8 @@ fn finish(alloc: Global, name: &str, reader: TableReader) -> Result<Rows, InputE
     }
 }
 
-/// The rows of the open file, which is a table's and has that name. It is read no further than its first bad line's
-/// piece.
+/// The rows of the open file, which is a table's and has that name. It is read no further than its
+/// first bad line's piece.
 pub fn read_rows<F: Files>(
     alloc: Global,
     files: &mut F,

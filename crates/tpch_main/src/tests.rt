@@ -54,7 +54,8 @@ fn files_of(
     Ok(MemFiles::new(held, Vec::from_slice(alloc, failing)?))
 }
 
-/// Runs the words over the files, with a sink of which these calls fail, and compares the status and the text.
+/// Runs the words over the files, with a sink of which these calls fail, and compares the status
+/// and the text.
 fn expect_run<R: Threads + Wait + Sync + Abort>(
     rt: &R,
     alloc: Global,
@@ -76,7 +77,8 @@ fn sink(alloc: Global) -> MemSink {
     MemSink::new(Vec::new(alloc), usize::MAX, Vec::new(alloc))
 }
 
-/// The files of a folder `d` that has the eight tables, all of them empty but for those given, and a script `s`.
+/// The files of a folder `d` that has the eight tables, all of them empty but for those given, and
+/// a script `s`.
 fn folder_of<'a>(
     alloc: Global,
     script: &'a str,

@@ -20,8 +20,8 @@ use tpch_outside::{Files, Gate, Sink};
 ///
 /// # Errors
 ///
-/// A fault of reading or writing is answered only where `files` or `out` counted one. No clause says
-/// when memory runs out.
+/// A fault of reading or writing is answered only where `files` or `out` counted one. No clause
+/// says when memory runs out.
 pub fn tpch<R: Threads + Wait + Sync, F: Files, S: Sink, G: Gate + Sync>(
     rt: &R,
     alloc: Global,
@@ -39,9 +39,11 @@ pub fn tpch<R: Threads + Wait + Sync, F: Files, S: Sink, G: Gate + Sync>(
     ensures read { result ≡ Status.ReadFault → Rose (F.faults files.old) (F.faults files.new)
         × Keeps (S.taken out.old) (S.taken out.new) }
     ensures write { result ≡ Status.WriteFault → Rose (S.faults out.old) (S.faults out.new)
-        × ((text : List ℕ) × MayPrint (command_of (map string_bytes words.now)) (F.held files.old) text
+        × ((text : List ℕ)
+        × MayPrint (command_of (map string_bytes words.now)) (F.held files.old) text
         × AppendsPart (S.taken out.old) (S.taken out.new) text) }
-    ensures memory { result ≡ Status.OutOfMemory → Keeps (S.taken out.old) (S.taken out.new) ⊎ ((text : List ℕ)
+    ensures memory { result ≡ Status.OutOfMemory → Keeps (S.taken out.old) (S.taken out.new)
+        ⊎ ((text : List ℕ)
         × MayPrint (command_of (map string_bytes words.now)) (F.held files.old) text
         × AppendsPart (S.taken out.old) (S.taken out.new) text) }
 
@@ -52,10 +54,12 @@ pub fn tpch<R: Threads + Wait + Sync, F: Files, S: Sink, G: Gate + Sync>(
 
     // A command is answered where its files are known and accepted, unless memory runs out.
     ensures complete { IsAccepted (command_of (map string_bytes words.now)) (F.held files.old)
-        → ¬ Rose (F.faults files.old) (F.faults files.new) → ¬ Rose (S.faults out.old) (S.faults out.new)
+        → ¬ Rose (F.faults files.old) (F.faults files.new)
+        → ¬ Rose (S.faults out.old) (S.faults out.new)
         → result ≢ Status.OutOfMemory → (result ≡ Status.Done) ⊎ (result ≡ Status.SomeRefused) }
     ensures held { F.held files.new ≡ F.held files.old }
-    ensures counts { (F.faults files.old ≤ F.faults files.new) × (F.misses files.old ≤ F.misses files.new)
+    ensures counts { (F.faults files.old ≤ F.faults files.new)
+        × (F.misses files.old ≤ F.misses files.new)
         × (S.faults out.old ≤ S.faults out.new) }
 {
     run(rt, alloc, words, files, out)

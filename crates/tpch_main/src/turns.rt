@@ -3,7 +3,8 @@ ghost use Rattle.std.specs.Prelude.{◌≡◌, ◌+◌, ◌<◌, length, Some, t
 ghost use Rattle.query_streams.specs.Sessions.{IsRefresh, course_after, course_of, next_of};
 ghost use Rattle.segment_store.specs.Trials.{one_more};
 ghost use Rattle.sql_ast.specs.declared.statement.Statement.{Statement};
-ghost use Rattle.tpch_main.specs.Turns.{clean_from, left_of, moment_after, refresh_count, text_from};
+ghost use Rattle.tpch_main.specs.Turns.{clean_from, left_of, moment_after, refresh_count};
+ghost use Rattle.tpch_main.specs.Turns.{text_from};
 
 use query_streams::{Session, Turn};
 use segment_store::Directory;
@@ -26,13 +27,16 @@ fn settled(directory: Directory) -> Result<Directory, AllocError>
     Ok(directory)
 }
 
-/// Tries the refresh that the session asks for, and hands in what comes of it: the version after it.
+/// Tries the refresh that the session asks for, and hands in what comes of it: the version after
+/// it.
 fn refresh(session: &mut Session, directory: Directory) -> Result<Directory, AllocError>
     requires next { IsRefresh (next_of (course_of session.old)) }
     requires place { directory.done < length directory.list }
     ensures next { IfOk result (λ next. next ≡ one_more directory) }
-    ensures handed { OnOk result ((statement : Statement) → next_of (course_of session.old) ≡ Some statement
-        → course_of session.new ≡ course_after (course_of session.old) (moment_after directory) statement) }
+    ensures handed { OnOk result ((statement : Statement)
+        → next_of (course_of session.old) ≡ Some statement
+        → course_of session.new
+        ≡ course_after (course_of session.old) (moment_after directory) statement) }
 {
     let mut directory = directory;
     let before = directory.version();
@@ -58,9 +62,12 @@ pub fn take_turns<R: Threads>(
     directory: Directory,
 ) -> Result<(), AllocError>
     requires shows { (course_of session.old).shows_rows ≡ true }
-    requires places { directory.done + refresh_count (left_of (course_of session.old)) ≡ length directory.list }
-    ensures text { OnOk result ((course_of session.new).text ≡ text_from (course_of session.old) directory) }
-    ensures clean { OnOk result ((course_of session.new).is_clean ≡ clean_from (course_of session.old) directory) }
+    requires places { directory.done + refresh_count (left_of (course_of session.old))
+        ≡ length directory.list }
+    ensures text { OnOk result ((course_of session.new).text
+        ≡ text_from (course_of session.old) directory) }
+    ensures clean { OnOk result ((course_of session.new).is_clean
+        ≡ clean_from (course_of session.old) directory) }
 {
     let mut directory = directory;
     'turns: loop {

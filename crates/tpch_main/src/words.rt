@@ -24,7 +24,8 @@ pub enum Command<'a> {
 
 /// The value of an argument.
 fn value<'a>(found: &ArgMatches<'a>, name: &str) -> Option<&'a str>
-    ensures { option_map (λ text. text.now) result ≡ first_of name.now (rows_of (found_of found.now)) }
+    ensures { option_map (λ text. text.now) result
+        ≡ first_of name.now (rows_of (found_of found.now)) }
 {
     found.get_str(name)
 }
@@ -49,7 +50,8 @@ fn command_in<'a>(name: &str, found: &ArgMatches<'a>) -> Option<Command<'a>>
 
 /// The command that clap found.
 fn command_found<'a>(found: &ArgMatches<'a>) -> Option<Command<'a>>
-    ensures { option_map command_view result ≡ option_and_then command_in (subcommand_rows_of found.now) }
+    ensures { option_map command_view result
+        ≡ option_and_then command_in (subcommand_rows_of found.now) }
 {
     let (name, found) = found.subcommand()?;
     command_in(name, found)
@@ -57,7 +59,8 @@ fn command_found<'a>(found: &ArgMatches<'a>) -> Option<Command<'a>>
 
 /// The command that the words are, if they are one; clap's own texts are left out.
 pub fn read_words<'a>(alloc: Global, words: &'a [String]) -> Result<Option<Command<'a>>, AllocError>
-    ensures { IfOk result (λ read. option_map command_view read ≡ command_of (map string_bytes words.entry.now)) }
+    ensures { IfOk result (λ read. option_map command_view read
+        ≡ command_of (map string_bytes words.entry.now)) }
 {
     match program(alloc)?.try_get_matches_from(words) {
         Ok(found) => Ok(command_found(&found)),

@@ -1,5 +1,7 @@
 -- What the files and the sink in memory hold, and what their calls answer.
-use Rattle.std.specs.Prelude.{◌≡◌, ℕ, List, [], drop, length, map, min, slice_get, Option, None, Some, Bool, is_some, if◌then◌else◌, ◌==◌, ◌&&◌, nat_lt, true, false, ⊤}
+use Rattle.std.specs.Prelude.{◌≡◌, ℕ, List, [], drop, length, map, min, slice_get, Option, None}
+use Rattle.std.specs.Prelude.{Some, Bool, is_some, if◌then◌else◌, ◌==◌, ◌&&◌, nat_lt, true, false}
+use Rattle.std.specs.Prelude.{⊤}
 use Rattle.std.specs.List.{list_any}
 use Rattle.std.specs.Option.{option_map_or}
 use Rattle.std.specs.String.{string_bytes}

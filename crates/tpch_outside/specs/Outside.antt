@@ -1,5 +1,6 @@
 -- Files, a sink, and what they count.
-use Rattle.std.specs.Prelude.{◌≡◌, ℕ, ◌+◌, ◌-◌, ◌^◌, ◌<◌, ◌≤◌, min, List, [], ◌∷◌, length, take, ⊤, Option, None, Some, if◌then◌else◌, IsSome}
+use Rattle.std.specs.Prelude.{◌≡◌, ℕ, ◌+◌, ◌-◌, ◌^◌, ◌<◌, ◌≤◌, min, List, [], ◌∷◌, length, take, ⊤}
+use Rattle.std.specs.Prelude.{Option, None, Some, if◌then◌else◌, IsSome}
 use Rattle.std.specs.Str.{bytes_eq}
 use Rattle.std.specs.Io.KnownBytes.{Appends, Consumes, IsAtEnd, Keeps}
 use Rattle.tpch_outside.specs.declared.files.Open.{Open}
@@ -31,16 +32,20 @@ abbrev pub file_of : Folder → List ℕ → Option (List ℕ)
 file_of [] name = None
 file_of (file ∷ files) name = if bytes_eq file.0 name then Some file.1 else file_of files name
 
--- where the files are known: opened only where the name is held, with all of its bytes left; absent only where it isn't
+-- where the files are known: opened only where the name is held, with all of its bytes left; absent
+-- only where it isn't
 abbrev pub Opens : Option Folder → List ℕ → Open → Option (List ℕ) → Type 0
 Opens None name answer left = ⊤
-Opens (Some folder) name opening.Opened left = IsSome (file_of folder name) × (left ≡ file_of folder name)
+Opens (Some folder) name opening.Opened left = IsSome (file_of folder name)
+    × (left ≡ file_of folder name)
 Opens (Some folder) name opening.Absent left = file_of folder name ≡ None
 Opens (Some folder) name opening.Failed left = ⊤
 
--- the bytes got stand at the piece's front and are gone from what is left; none are got only at the end
+-- the bytes got stand at the piece's front and are gone from what is left; none are got only at the
+-- end
 abbrev pub Gives : Option (List ℕ) → Option (List ℕ) → Got → List ℕ → Type 0
-Gives before now (got.Got n) piece = (n ≤ length piece) × Consumes before now (take n piece) × (n ≡ 0 → IsAtEnd now)
+Gives before now (got.Got n) piece = (n ≤ length piece) × Consumes before now (take n piece)
+    × (n ≡ 0 → IsAtEnd now)
 Gives before now got.Failed piece = ⊤
 
 -- the bytes taken are the piece's first ones; without them the sink is as it was

@@ -50,7 +50,8 @@ pub trait Files {
         ensures faults { Counts (result ≡ Open.Failed) (faults self.old) (faults self.new) }
         ensures misses { Counts (result ≡ Open.Absent) (misses self.old) (misses self.new) };
 
-    /// Reads the open file's next bytes into the front of `into`, at least one of them before its end.
+    /// Reads the open file's next bytes into the front of `into`, at least one of them before its
+    /// end.
     fn next(&mut self, into: &mut [u8]) -> Got
         requires room { 0 < length into.old }
         requires is_open { is_open self.old ≡ true }

@@ -1,5 +1,6 @@
 //! A folder of files in memory, one of which may be open.
-ghost use Rattle.std.specs.Prelude.{◌≡◌, ℕ, ◌<◌, ◌≤◌, Some, None, MatchOption, IsTrue, MatchBool, IsSome, length, min, take, drop, ◌-◌};
+ghost use Rattle.std.specs.Prelude.{◌≡◌, ℕ, ◌<◌, ◌≤◌, Some, None, MatchOption, IsTrue, MatchBool};
+ghost use Rattle.std.specs.Prelude.{IsSome, length, min, take, drop, ◌-◌};
 ghost use Rattle.std.specs.Io.KnownBytes.{Consumes, IsAtEnd};
 ghost use Rattle.tpch_outside.specs.Memory.{bytes_at, folder_of, left_of, unread_bytes};
 ghost use Rattle.tpch_outside.specs.Outside.{file_of};
@@ -95,14 +96,18 @@ impl MemFolder {
         }
     }
 
-    /// Copies the open file's next bytes into the front of `into`, as many as go in, and answers how many.
+    /// Copies the open file's next bytes into the front of `into`, as many as go in, and answers
+    /// how many.
     pub fn read_on(&mut self, into: &mut [u8]) -> usize
         requires { IsSome self.old.place }
         ensures files { self.new.files ≡ self.old.files }
         ensures open { IsSome self.new.place }
-        ensures count { result ≡ min (length into.old) (length (unread_bytes self.old.files.items self.old.place)) }
-        ensures bytes { Consumes (left_of self.old.files.items self.old.place) (left_of self.old.files.items self.new.place) (take result into.new) }
-        ensures end { 0 < length into.old → result ≡ 0 → IsAtEnd (left_of self.old.files.items self.old.place) }
+        ensures count { result
+            ≡ min (length into.old) (length (unread_bytes self.old.files.items self.old.place)) }
+        ensures bytes { Consumes (left_of self.old.files.items self.old.place)
+            (left_of self.old.files.items self.new.place) (take result into.new) }
+        ensures end { 0 < length into.old → result ≡ 0
+            → IsAtEnd (left_of self.old.files.items self.old.place) }
     {
         let Some(place) = self.place else {
             return 0;

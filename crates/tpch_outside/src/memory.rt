@@ -1,7 +1,10 @@
 //! Files and a sink in memory, which fail at the calls that a list names.
-ghost use Rattle.std.specs.Prelude.{◌≡◌, ◌≢◌, ◌==◌, ◌&&◌, ◌<◌, ◌≤◌, Some, None, is_some, length, min, not, true, if◌then◌else◌};
+ghost use Rattle.std.specs.Prelude.{◌≡◌, ◌≢◌, ◌==◌, ◌&&◌, ◌<◌, ◌≤◌, Some, None, is_some, length};
+ghost use Rattle.std.specs.Prelude.{min, not, true, if◌then◌else◌};
 ghost use Rattle.std.specs.List.{list_any};
-ghost use Rattle.tpch_outside.specs.Memory.{TookOnly, is_failing, folder_of, open_answer, read_answer, has_file, is_failed, is_put_fault, left_of, count_after};
+ghost use Rattle.tpch_outside.specs.Memory.{TookOnly, is_failing, folder_of, open_answer};
+ghost use Rattle.tpch_outside.specs.Memory.{read_answer, has_file, is_failed, is_put_fault};
+ghost use Rattle.tpch_outside.specs.Memory.{left_of, count_after};
 ghost use Rattle.tpch_outside.specs.Outside.{Counts, Gives, IsPutFault, Opens, Takes, next_count};
 
 use crate::{Files, Got, MemFile, MemFolder, Open, Put, Sink};
@@ -31,7 +34,14 @@ pub struct MemFiles {
 impl MemFiles {
     /// These files with none open, and the numbers of the calls that are to fail.
     pub fn new(files: Vec<MemFile>, failing: Vec<u64>) -> MemFiles
-        ensures { result ≡ record { folder = record { files = files; place = None }; failing = failing; calls = 0; faults = 0; misses = 0 } }
+        ensures { result ≡ record {
+          folder = record { files = files; place = None };
+          failing =
+              failing;
+          calls = 0;
+          faults = 0;
+          misses = 0;
+        } }
     {
         MemFiles {
             folder: MemFolder::new(files),
@@ -55,18 +65,26 @@ impl Files for MemFiles {
     ghost misses = { λ m. m.misses };
 
     fn open(&mut self, name: &str) -> Open
-        ensures held { Some (folder_of self.new.folder.files.items) ≡ Some (folder_of self.old.folder.files.items) }
-        ensures opens { Opens (Some (folder_of self.old.folder.files.items)) name.now result (left_of self.new.folder.files.items self.new.folder.place) }
+        ensures held { Some (folder_of self.new.folder.files.items)
+            ≡ Some (folder_of self.old.folder.files.items) }
+        ensures opens { Opens (Some (folder_of self.old.folder.files.items)) name.now result
+            (left_of self.new.folder.files.items self.new.folder.place) }
         ensures is_open { result ≡ Open.Opened → is_some self.new.folder.place ≡ true }
         ensures faults { Counts (result ≡ Open.Failed) self.old.faults self.new.faults }
         ensures misses { Counts (result ≡ Open.Absent) self.old.misses self.new.misses }
 
-        // It fails exactly where the list has the call's number, and each count rises by exactly what happened.
-        ensures answer { result ≡ (if is_failing self.old.failing.items self.old.calls then Open.Failed else open_answer self.old.folder name.now) }
+        // It fails exactly where the list has the call's number, and each count rises by exactly
+        // what happened.
+        ensures answer { result
+            ≡ (if is_failing self.old.failing.items self.old.calls then Open.Failed else open_answer
+            self.old.folder name.now) }
         ensures calls { self.new.calls ≡ next_count self.old.calls }
-        ensures fault_count { self.new.faults ≡ count_after (is_failing self.old.failing.items self.old.calls) self.old.faults }
-        ensures miss_count { self.new.misses ≡ count_after (not (is_failing self.old.failing.items self.old.calls) && not (has_file self.old.folder name.now)) self.old.misses }
-        ensures rest { (self.new.failing ≡ self.old.failing) × (self.new.folder.files ≡ self.old.folder.files) }
+        ensures fault_count { self.new.faults ≡ count_after (is_failing self.old.failing.items self.old.calls)
+            self.old.faults }
+        ensures miss_count { self.new.misses ≡ count_after (not (is_failing self.old.failing.items self.old.calls)
+            && not (has_file self.old.folder name.now)) self.old.misses }
+        ensures rest { (self.new.failing ≡ self.old.failing)
+            × (self.new.folder.files ≡ self.old.folder.files) }
         ensures place { result ≢ Open.Opened → self.new.folder.place ≡ self.old.folder.place }
     {
         self.calls = self.calls.saturating_add(1);
@@ -84,16 +102,23 @@ impl Files for MemFiles {
     fn next(&mut self, into: &mut [u8]) -> Got
         requires room { 0 < length into.old }
         requires is_open { is_some self.old.folder.place ≡ true }
-        ensures held { Some (folder_of self.new.folder.files.items) ≡ Some (folder_of self.old.folder.files.items) }
-        ensures bytes { Gives (left_of self.old.folder.files.items self.old.folder.place) (left_of self.new.folder.files.items self.new.folder.place) result into.new }
+        ensures held { Some (folder_of self.new.folder.files.items)
+            ≡ Some (folder_of self.old.folder.files.items) }
+        ensures bytes { Gives (left_of self.old.folder.files.items self.old.folder.place)
+            (left_of self.new.folder.files.items self.new.folder.place) result into.new }
         ensures is_open { is_some self.new.folder.place ≡ true }
         ensures faults { Counts (result ≡ Got.Failed) self.old.faults self.new.faults }
         ensures misses { self.old.misses ≤ self.new.misses }
 
-        ensures answer { result ≡ (if is_failing self.old.failing.items self.old.calls then Got.Failed else read_answer self.old.folder (length into.old)) }
+        ensures answer { result
+            ≡ (if is_failing self.old.failing.items self.old.calls then Got.Failed else read_answer
+            self.old.folder (length into.old)) }
         ensures calls { self.new.calls ≡ next_count self.old.calls }
-        ensures fault_count { self.new.faults ≡ count_after (is_failing self.old.failing.items self.old.calls) self.old.faults }
-        ensures rest { (self.new.failing ≡ self.old.failing) × (self.new.folder.files ≡ self.old.folder.files) × (self.new.misses ≡ self.old.misses) }
+        ensures fault_count { self.new.faults ≡ count_after (is_failing self.old.failing.items self.old.calls)
+            self.old.faults }
+        ensures rest { (self.new.failing ≡ self.old.failing)
+            × (self.new.folder.files ≡ self.old.folder.files)
+            × (self.new.misses ≡ self.old.misses) }
         ensures place { result ≡ Got.Failed → self.new.folder.place ≡ self.old.folder.place }
     {
         self.calls = self.calls.saturating_add(1);
@@ -125,7 +150,13 @@ impl MemSink {
     /// A sink that holds these bytes and takes at most `most` at a time, and the numbers of the
     /// calls that are to fail.
     pub fn new(bytes: Vec<u8>, most: usize, failing: Vec<u64>) -> MemSink
-        ensures { result ≡ record { bytes = bytes; most = most; failing = failing; calls = 0; faults = 0 } }
+        ensures { result ≡ record {
+          bytes = bytes;
+          most = most;
+          failing = failing;
+          calls = 0;
+          faults = 0;
+        } }
     {
         MemSink {
             bytes,
@@ -143,10 +174,12 @@ impl Sink for MemSink {
     ghost faults = { λ m. m.faults };
 
     fn put(&mut self, piece: &[u8]) -> Put
-        ensures bytes { Takes (Some self.old.bytes.items) (Some self.new.bytes.items) result piece.now }
+        ensures bytes { Takes (Some self.old.bytes.items) (Some self.new.bytes.items) result
+            piece.now }
         ensures faults { Counts (IsPutFault result piece.now) self.old.faults self.new.faults }
 
-        // It fails exactly where the list has the call's number; else it takes the most that it may, or memory ran out.
+        // It fails exactly where the list has the call's number; else it takes the most that it
+        // may, or memory ran out.
         ensures failed { is_failed result ≡ is_failing self.old.failing.items self.old.calls }
         ensures took { TookOnly result (min (length piece.now) self.old.most) }
         ensures calls { self.new.calls ≡ next_count self.old.calls }

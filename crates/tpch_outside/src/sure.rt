@@ -1,6 +1,8 @@
 //! Files and a sink in memory that never fail.
-ghost use Rattle.std.specs.Prelude.{◌≡◌, ◌≢◌, ◌<◌, ◌≤◌, ◌⊎◌, Some, None, is_some, length, not, true};
-ghost use Rattle.tpch_outside.specs.Memory.{folder_of, open_answer, read_answer, has_file, left_of, count_after};
+ghost use Rattle.std.specs.Prelude.{◌≡◌, ◌≢◌, ◌<◌, ◌≤◌, ◌⊎◌, Some, None, is_some, length, not};
+ghost use Rattle.std.specs.Prelude.{true};
+ghost use Rattle.tpch_outside.specs.Memory.{folder_of, open_answer, read_answer, has_file, left_of};
+ghost use Rattle.tpch_outside.specs.Memory.{count_after};
 ghost use Rattle.tpch_outside.specs.Outside.{Counts, Gives, IsPutFault, Opens, Takes};
 
 use crate::{Files, Got, MemFile, MemFolder, Open, Put, Sink};
@@ -38,14 +40,17 @@ impl Files for SureFiles {
     ghost misses = { λ m. m.misses };
 
     fn open(&mut self, name: &str) -> Open
-        ensures held { Some (folder_of self.new.folder.files.items) ≡ Some (folder_of self.old.folder.files.items) }
-        ensures opens { Opens (Some (folder_of self.old.folder.files.items)) name.now result (left_of self.new.folder.files.items self.new.folder.place) }
+        ensures held { Some (folder_of self.new.folder.files.items)
+            ≡ Some (folder_of self.old.folder.files.items) }
+        ensures opens { Opens (Some (folder_of self.old.folder.files.items)) name.now result
+            (left_of self.new.folder.files.items self.new.folder.place) }
         ensures is_open { result ≡ Open.Opened → is_some self.new.folder.place ≡ true }
         ensures faults { Counts (result ≡ Open.Failed) 0 0 }
         ensures misses { Counts (result ≡ Open.Absent) self.old.misses self.new.misses }
 
         ensures answer { result ≡ open_answer self.old.folder name.now }
-        ensures miss_count { self.new.misses ≡ count_after (not (has_file self.old.folder name.now)) self.old.misses }
+        ensures miss_count { self.new.misses ≡ count_after (not (has_file self.old.folder name.now))
+            self.old.misses }
         ensures rest { self.new.folder.files ≡ self.old.folder.files }
         ensures place { result ≢ Open.Opened → self.new.folder.place ≡ self.old.folder.place }
     {
@@ -59,14 +64,17 @@ impl Files for SureFiles {
     fn next(&mut self, into: &mut [u8]) -> Got
         requires room { 0 < length into.old }
         requires is_open { is_some self.old.folder.place ≡ true }
-        ensures held { Some (folder_of self.new.folder.files.items) ≡ Some (folder_of self.old.folder.files.items) }
-        ensures bytes { Gives (left_of self.old.folder.files.items self.old.folder.place) (left_of self.new.folder.files.items self.new.folder.place) result into.new }
+        ensures held { Some (folder_of self.new.folder.files.items)
+            ≡ Some (folder_of self.old.folder.files.items) }
+        ensures bytes { Gives (left_of self.old.folder.files.items self.old.folder.place)
+            (left_of self.new.folder.files.items self.new.folder.place) result into.new }
         ensures is_open { is_some self.new.folder.place ≡ true }
         ensures faults { Counts (result ≡ Got.Failed) 0 0 }
         ensures misses { self.old.misses ≤ self.new.misses }
 
         ensures answer { result ≡ read_answer self.old.folder (length into.old) }
-        ensures rest { (self.new.folder.files ≡ self.old.folder.files) × (self.new.misses ≡ self.old.misses) }
+        ensures rest { (self.new.folder.files ≡ self.old.folder.files)
+            × (self.new.misses ≡ self.old.misses) }
     {
         Got::Got(self.folder.read_on(into))
     }
@@ -94,7 +102,8 @@ impl Sink for SureSink {
     ghost faults = { λ _. 0 };
 
     fn put(&mut self, piece: &[u8]) -> Put
-        ensures bytes { Takes (Some self.old.bytes.items) (Some self.new.bytes.items) result piece.now }
+        ensures bytes { Takes (Some self.old.bytes.items) (Some self.new.bytes.items) result
+            piece.now }
         ensures faults { Counts (IsPutFault result piece.now) 0 0 }
 
         ensures answer { (result ≡ Put.Took (length piece.now)) ⊎ (result ≡ Put.OutOfMemory) }

@@ -1,11 +1,13 @@
 -- What it is for values and rows to be of a column's or a table's kinds.
-use Rattle.std.specs.Prelude.{◌^◌, Bool, true, false, not, ◌&&◌, ◌==◌, nat_le, nat_lt, int_lt, List, length, IsTrue, ℤ, pos, unsigned_abs}
+use Rattle.std.specs.Prelude.{◌^◌, Bool, true, false, not, ◌&&◌, ◌==◌, nat_le, nat_lt, int_lt, List}
+use Rattle.std.specs.Prelude.{length, IsTrue, ℤ, pos, unsigned_abs}
 use Rattle.std.specs.Cmp.Lexicographic.{pointwise}
 use Rattle.std.specs.List.{All}
 use Rattle.sql_value.specs.declared.value.Value.{Value}
 use Rattle.sql_value.specs.declared.value.Value.TheVariants as value
 use Rattle.tpch_schema.specs.declared.column.ColumnKind.{ColumnKind}
-use Rattle.tpch_schema.specs.declared.column.ColumnKind.TheVariants.{Key, Whole, Decimal, Date, Text}
+use Rattle.tpch_schema.specs.declared.column.ColumnKind.TheVariants.{Key, Whole, Decimal, Date}
+use Rattle.tpch_schema.specs.declared.column.ColumnKind.TheVariants.{Text}
 use Rattle.tpch_schema.specs.declared.table.TableName.{TableName}
 use Rattle.tpch_schema.specs.Tables.{kinds_of}
 

@@ -1,5 +1,6 @@
 -- What the lines of a file are.
-use Rattle.std.specs.Prelude.{ℕ, Bool, true, false, ◌&&◌, ◌||◌, List, [], ◌∷◌, map, slice_index_or, IsTrue}
+use Rattle.std.specs.Prelude.{ℕ, Bool, true, false, ◌&&◌, ◌||◌, List, [], ◌∷◌, map, slice_index_or}
+use Rattle.std.specs.Prelude.{IsTrue}
 use Rattle.std.specs.Cmp.Lexicographic.{pointwise}
 use Rattle.std.specs.List.{All}
 use Rattle.sql_value.specs.declared.value.Value.{Value}
@@ -20,7 +21,8 @@ pub record LineColumn : Type 0 where
   pub kind : ColumnKind
   pub nullable : Bool
 
--- the columns of a line, the places of the key's columns, counted from 0, and whether no two lines may have one key
+-- the columns of a line, the places of the key's columns, counted from 0, and whether no two lines
+-- may have one key
 pub record LineForm : Type 0 where
   pub columns : List LineColumn
   pub key : List ℕ
@@ -36,13 +38,18 @@ columns_of table = map never_null (kinds_of table)
 
 -- a table's lines, where the keys differ or where they need not
 abbrev pub lines_of : TableName → Bool → LineForm
-lines_of table unique = record { columns = columns_of table; key = key_columns_of table; unique = unique }
+lines_of table unique = record {
+  columns = columns_of table;
+  key = key_columns_of table;
+  unique = unique;
+}
 
 -- the lines of a table's file: no two have one key
 abbrev pub table_form : TableName → LineForm
 table_form table = lines_of table true
 
--- the lines of a refresh file: those of orders or lineitem, or one order's key each; a key may stand twice
+-- the lines of a refresh file: those of orders or lineitem, or one order's key each; a key may
+-- stand twice
 abbrev pub refresh_form : RefreshFile → LineForm
 refresh_form Orders = lines_of name.Orders false
 refresh_form Lineitem = lines_of name.Lineitem false

@@ -2,7 +2,9 @@
 use Rattle.std.specs.Prelude.{List}
 use Rattle.sql_value.specs.declared.value.Value.{Value}
 use Rattle.tpch_schema.specs.declared.table.TableName.{TableName}
-use Rattle.tpch_schema.specs.declared.table.TableName.TheVariants.{Region, Nation, Part, Supplier, Partsupp, Customer, Orders, Lineitem}
+use Rattle.tpch_schema.specs.declared.table.TableName.TheVariants.{Region, Nation, Part, Supplier}
+use Rattle.tpch_schema.specs.declared.table.TableName.TheVariants.{Partsupp, Customer, Orders}
+use Rattle.tpch_schema.specs.declared.table.TableName.TheVariants.{Lineitem}
 
 -- the rows of each table
 pub record State : Type 0 where

@@ -19,7 +19,8 @@ pub enum DataFile {
 static DELETE_KINDS: [ColumnKind; 1] = [ColumnKind::Key];
 
 impl DataFile {
-    /// The kinds of a line's columns, from left to right, at most 16. None of the columns holds nulls.
+    /// The kinds of a line's columns, from left to right, at most 16. None of the columns holds
+    /// nulls.
     #[tactic(auto, using(crate::proofs::Forms::kinds_short))]
     pub fn kinds(self) -> &'static [ColumnKind]
         ensures kinds { map never_null result.now ≡ (file_form self).columns }

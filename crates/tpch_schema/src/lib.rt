@@ -8,7 +8,6 @@ mod table;
 
 pub use column::{ColumnKind, are_of_kinds};
 pub use file::DataFile;
-pub use refusals::{LineFault, LineRefusal, RefreshFile};
 pub use table::{TABLES, TableName};
 
 #[cfg(test)]

@@ -2,7 +2,8 @@
 //!
 //! The columns are those of TPC Benchmark H, section 1.4.
 ghost use Rattle.std.specs.Prelude.{◌≡◌, map, IfSome, Some};
-ghost use Rattle.tpch_schema.specs.Tables.{table_name, table_of, kinds_of, column_names_of, key_columns_of};
+ghost use Rattle.tpch_schema.specs.Tables.{table_name, table_of, kinds_of, column_names_of};
+ghost use Rattle.tpch_schema.specs.Tables.{key_columns_of};
 
 use crate::column::ColumnKind;
 

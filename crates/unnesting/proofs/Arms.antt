@@ -42,7 +42,7 @@ use Rattle.algebra.proofs.NoRows.{aggregates_bag}
 use Rattle.unnesting.specs.declared.domain.Domain.{Domain as DomainData}
 use Rattle.unnesting.specs.declared.domain.DomainRows.{DomainRows}
 use Rattle.unnesting.specs.declared.domain.DomainRows.TheVariants.{One, Node as AtNode}
-use Rattle.unnesting.specs.Domains.{domain_width, domain_rows, IsInPlan, Holds}
+use Rattle.unnesting.specs.Domains.{domain_width, domain_rows, IsInPlan, DomainHolds}
 use Rattle.unnesting.specs.Lowerings.{Grows, IsPut, Lowers, LowersSides, IsScanned, IsSelection, IsFilled, IsGrouped}
 use Rattle.unnesting.proofs.Columns.{side_length}
 use Rattle.unnesting.proofs.Grown.{same_plan, put_more, kept_rows, kept_width, put_rows, put_width, put_last}
@@ -55,7 +55,7 @@ grows_as g e h = record { more = g.more; grows = g.grows; scans = g.scans ∙ e;
 pub puts : (before old new : List Node) (tables : List TableName) (most : ℕ) (k : TreeMeaning) (domain : DomainData) (id : ℕ) (n : Node)
     → Grows before old tables most → IsPut old new n id → tables ++ scan_of n ≡ k.scans → most + is_domain n ≤ k.domains
     → node_width (made_from node_width [] old) n ≡ domain_width domain.rows + k.width
-    → ((db : Database) → Holds db before domain → Answers same_value (domain_rows db before domain.rows) (node_rows db (made_from (node_rows db) [] old) n) (k.rows db))
+    → ((db : Database) → DomainHolds db before domain → Answers same_value (domain_rows db before domain.rows) (node_rows db (made_from (node_rows db) [] old) n) (k.rows db))
     → Lowers before new k domain id
 puts before old new tables most k domain id n g p s d w a = record {
   plan = grows_as (put_more g p) s d;

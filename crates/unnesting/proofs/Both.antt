@@ -28,7 +28,7 @@ use Rattle.algebra.specs.Plans.{node_rows, node_width, plan_rows, plan_width, ma
 use Rattle.unnesting.specs.declared.domain.Domain.{Domain as DomainData}
 use Rattle.unnesting.specs.declared.domain.DomainRows.{DomainRows}
 use Rattle.unnesting.specs.declared.domain.DomainRows.TheVariants.{One, Node as AtNode}
-use Rattle.unnesting.specs.Domains.{domain_width, domain_rows, IsInPlan, Holds, KeepsNotes}
+use Rattle.unnesting.specs.Domains.{domain_width, domain_rows, IsInPlan, DomainHolds, KeepsNotes}
 use Rattle.unnesting.specs.Lowerings.{Grows, IsPut, Lowers, IsSideDomain, LowersSides}
 use Rattle.unnesting.proofs.Columns.{side_length}
 use Rattle.unnesting.proofs.Grown.{both_more, kept_rows, kept_width}
@@ -74,7 +74,7 @@ sides before a b c l r side domain inner outer rows within left own right =
             domain = holds.is_domain;
             left = subst (λ z. Answers same_value ds z (l.rows db)) (sym kept) (left.answers db holds);
             right = subst (λ z. Answers same_value (side_domain same_value Null (side_of side) ds z) (plan_rows db c rows) (r.rows db)) (sym kept)
-                (subst (λ e. Answers same_value e (plan_rows db c rows) (r.rows db)) inner_rows (right.answers db (record { is_domain = is; noted = notes })));
+                (subst (λ e. Answers same_value e (plan_rows db c rows) (r.rows db)) inner_rows (right.answers db (record { kinds = holds.kinds; is_domain = is; noted = notes })));
           };
     }
 

@@ -25,7 +25,7 @@ use Rattle.algebra.proofs.NoRows.{aggregates_bag, length-aggregates_of}
 use Rattle.unnesting.specs.declared.domain.Domain.{Domain as DomainData}
 use Rattle.unnesting.specs.declared.domain.DomainRows.{DomainRows}
 use Rattle.unnesting.specs.declared.domain.DomainRows.TheVariants.{One, Node as AtNode}
-use Rattle.unnesting.specs.Domains.{domain_width, domain_rows, IsInPlan, Holds}
+use Rattle.unnesting.specs.Domains.{domain_width, domain_rows, IsInPlan, DomainHolds}
 use Rattle.unnesting.specs.Lowerings.{IsPut, Lowers, IsFilled, IsGrouped}
 use Rattle.unnesting.proofs.Grown.{put_more, kept_rows, kept_width, put_rows, put_width}
 use Rattle.unnesting.proofs.Wide.{over_wide, grouped_wide, keyed_wide, groups_some}

@@ -13,12 +13,12 @@ use Rattle.algebra.specs.Plans.{plan_rows, plan_width}
 use Rattle.unnesting.specs.declared.domain.Domain.{Domain as DomainData}
 use Rattle.unnesting.specs.declared.domain.DomainRows.{DomainRows}
 use Rattle.unnesting.specs.declared.domain.DomainRows.TheVariants.{One, Node as AtNode}
-use Rattle.unnesting.specs.declared.domain.Note.{Note}
+use Rattle.unnesting.specs.declared.domain.Origin.{Origin}
 use Rattle.unnesting.specs.Domains.{domain_width, domain_rows, IsInPlan, KeepsNotes}
 use Rattle.unnesting.specs.Lowerings.{Grows, IsPut, IsOwnDomain, IsSideDomain}
 use Rattle.unnesting.proofs.Grown.{same_plan, put_more, put_rows, put_width, put_last}
 
-no_notes : (notes : List Note) (rows : List (Ranked Value)) → notes ≡ [] → KeepsNotes notes rows
+no_notes : (notes : List Origin) (rows : List (Ranked Value)) → notes ≡ [] → KeepsNotes notes rows
 no_notes notes rows e = subst (λ n. KeepsNotes n rows) (sym e) (Each-all (λ r. Unit {0}) rows (λ r. tt))
 
 -- a domain of one row of no columns serves a closed side

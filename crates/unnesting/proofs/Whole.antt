@@ -17,12 +17,12 @@ use Rattle.sql_value.proofs.Identity.{value_identity}
 use Rattle.std.specs.Prelude.{IsTrue, slice_index_or}
 use Rattle.algebra.specs.declared.node.Node.{Node}
 use Rattle.algebra.specs.declared.tree.DepTree.{DepTree}
-use Rattle.algebra.specs.Trees.{Database, tree_meaning, tree_rows, scans_of, domains_of, width_of}
+use Rattle.algebra.specs.Trees.{Database, HasKinds, tree_meaning, tree_rows, scans_of, domains_of, width_of}
 use Rattle.algebra.specs.Plans.{plan_rows, plan_width, plan_scans, scan_of, plan_domains, is_domain}
 use Rattle.unnesting.specs.declared.domain.Domain.{Domain as DomainData}
 use Rattle.unnesting.specs.declared.domain.DomainRows.TheVariants.{One}
-use Rattle.unnesting.specs.declared.domain.Note.{Note}
-use Rattle.unnesting.specs.Domains.{domain_width, domain_rows, is_unchanged, KeepsNotes, Holds}
+use Rattle.unnesting.specs.declared.domain.Origin.{Origin}
+use Rattle.unnesting.specs.Domains.{domain_width, domain_rows, is_unchanged, KeepsNotes, DomainHolds}
 use Rattle.unnesting.specs.Lowerings.{Unnests, Answered, KeepsNodes, Lowers}
 
 pub unnested : (before after : List Node) (T : DepTree) (domain : DomainData) (id : ℕ) → Lowers before after (tree_meaning T) domain id → Unnests before after T domain id
@@ -48,17 +48,18 @@ domains_added before after T domain id l =
     let e = ap plan_domains l.plan.grows in let s = sum_by-append is_domain before l.plan.more in let d = l.plan.domains in omega (arith, e, s, d)
 
 -- the one row of no columns is a domain, whatever is noted of its columns
-one_holds : (db : Database) (before : List Node) (domain : DomainData) → domain.rows ≡ One → Holds db before domain
-one_holds db before domain e = record {
+one_holds : (db : Database) (before : List Node) (domain : DomainData) → domain.rows ≡ One → HasKinds db → DomainHolds db before domain
+one_holds db before domain e kinds = record {
+  kinds = kinds;
   is_domain = subst (λ r. IsDomain same_value (domain_width r) (domain_rows db before r)) (sym e) (unit_is same_value value_identity);
   noted = subst (λ r. KeepsNotes domain.unchanged (domain_rows db before r)) (sym e)
-      (Each-all (λ (n : Note). IsTrue (is_unchanged n.kind (slice_index_or [] n.column Null))) domain.unchanged (λ n. refl), tt);
+      (Each-all (λ (n : Origin). IsTrue (is_unchanged n.kind (slice_index_or [] n.column Null))) domain.unchanged (λ n. refl), tt);
 }
 
 pub answered : (before after : List Node) (T : DepTree) (domain : DomainData) (id : ℕ) → Lowers before after (tree_meaning T) domain id → Answered after T domain id
 unfolding tree_rows
 answered before after T domain id l = record {
-  rows = λ e db.
+  rows = λ e db kinds.
       root_bag same_value value_identity (plan_rows db after id) (tree_rows T db)
-      (subst (λ r. Answers same_value (domain_rows db before r) (plan_rows db after id) (tree_rows T db)) e (l.answers db (one_holds db before domain e)));
+      (subst (λ r. Answers same_value (domain_rows db before r) (plan_rows db after id) (tree_rows T db)) e (l.answers db (one_holds db before domain e kinds)));
 }

@@ -1,7 +1,8 @@
 -- The worked rows, computed.
 use Rattle.conditions.specs.Ranks.{rank_of, says}
-use Rattle.scalar_expr.specs.Meaning.{values, truths}
-use Rattle.scalar_expr.proofs.Opened.{values_opened, truths_opened}
+use Rattle.fixed_decimal.specs.Decimal.{rescaled, sum_of}
+use Rattle.scalar_expr.specs.Meaning.{values, truths, operated}
+use Rattle.scalar_expr.proofs.Opened.{values_opened, truths_opened, operation_is}
 use Rattle.algebra.specs.Aggregates.{aggregates_of}
 use Rattle.algebra.specs.Trees.{right_row, listed, mark_under, scalar_at, keys_under, aggregates_under}
 use Rattle.algebra.specs.Plans.{reads_of}
@@ -9,7 +10,7 @@ use Rattle.algebra.proofs.Opened.{rows_opened, scans_opened, width_Project}
 use Rattle.unnesting.specs.WorkedRows.{WorkedRows}
 
 pub worked_rows : WorkedRows
-unfolding rank_of says values truths right_row listed mark_under scalar_at keys_under aggregates_under aggregates_of reads_of
+unfolding rank_of says values truths operated sum_of rescaled right_row listed mark_under scalar_at keys_under aggregates_under aggregates_of reads_of
 worked_rows = record {
   customers = simp (rows_opened, values_opened, truths_opened);
   customers_read = simp scans_opened;
@@ -17,4 +18,6 @@ worked_rows = record {
   orders = simp (rows_opened, values_opened, truths_opened);
   regions = simp (rows_opened, values_opened, truths_opened);
   regions_read = simp scans_opened;
+  nested = simp (rows_opened, values_opened, truths_opened, operation_is);
+  nested_read = simp scans_opened;
 }

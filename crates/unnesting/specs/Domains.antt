@@ -10,12 +10,12 @@ use Rattle.sql_value.specs.Value.{same_value}
 use Rattle.scalar_expr.specs.declared.kind.Kind.{Kind}
 use Rattle.scalar_expr.specs.Typing.{is_of_kind}
 use Rattle.algebra.specs.declared.node.Node.{Node}
-use Rattle.algebra.specs.Trees.{Database}
+use Rattle.algebra.specs.Trees.{Database, HasKinds}
 use Rattle.algebra.specs.Plans.{plan_rows, plan_width}
 use Rattle.unnesting.specs.declared.domain.Domain.{Domain as DomainData}
 use Rattle.unnesting.specs.declared.domain.DomainRows.{DomainRows}
 use Rattle.unnesting.specs.declared.domain.DomainRows.TheVariants.{One, Node as AtNode}
-use Rattle.unnesting.specs.declared.domain.Note.{Note}
+use Rattle.unnesting.specs.declared.domain.Origin.{Origin}
 
 -- how many columns a domain has
 abbrev pub domain_width : DomainRows → ℕ
@@ -38,10 +38,14 @@ is_unchanged kind (Fault f) = false
 is_unchanged kind v = is_of_kind kind v
 
 -- in each noted column the rows hold only nulls and values of the column's kind and scale
-abbrev pub KeepsNotes : List Note → List (Ranked Value) → Type 0
-KeepsNotes notes rows = Each (λ e. Each (λ n. IsTrue (is_unchanged n.kind (slice_index_or e.values n.column Null))) notes) rows
+abbrev pub KeepsNotes : List Origin → List (Ranked Value) → Type 0
+KeepsNotes notes rows =
+    Each (λ e. Each (λ n. IsTrue (is_unchanged n.kind (slice_index_or e.values n.column Null))) notes)
+    rows
 
--- over this database a domain of the plan is one: no two of its rows are identical, each stands at True, and its notes hold
-pub record Holds (db : Database) (nodes : List Node) (domain : DomainData) : Type 0 where
+-- Over this database, whose tables are of their kinds, a domain of the plan is one: no two of its
+-- rows are identical, each stands at True, and its notes hold.
+pub record DomainHolds (db : Database) (nodes : List Node) (domain : DomainData) : Type 0 where
+  pub kinds : HasKinds db
   pub is_domain : IsDomain same_value (domain_width domain.rows) (domain_rows db nodes domain.rows)
   pub noted : KeepsNotes domain.unchanged (domain_rows db nodes domain.rows)

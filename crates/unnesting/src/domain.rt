@@ -13,14 +13,15 @@ use std::alloc::{AllocError, Global};
 pub enum DomainRows {
     /// The one row of no columns, for which no node stands.
     One,
-    /// The rows of the node of this number, of so many columns. No two are identical, and each stands at True.
+    /// The rows of the node of this number, of so many columns. No two are identical, and each
+    /// stands at True.
     Node(NodeId, u32),
 }
 
-/// A note that a column of a domain comes unchanged from a table, whose column has this kind: it holds only nulls and
-/// values of that kind and scale, and no fault.
+/// A note that a column of a domain comes unchanged from a table, whose column has this kind: it
+/// holds only nulls and values of that kind and scale, and no fault.
 #[derive(Clone, Copy)]
-pub struct Note {
+pub struct Origin {
     /// The column, from 0.
     pub column: u32,
     /// The kind of its values.
@@ -33,7 +34,7 @@ pub struct Domain {
     /// The rows.
     pub rows: DomainRows,
     /// The columns that come unchanged from a table, as far as they are noted.
-    pub unchanged: Items<Note>,
+    pub unchanged: Items<Origin>,
 }
 
 impl DomainRows {

@@ -7,6 +7,6 @@ mod lowering;
 mod put;
 mod worked;
 
-pub use domain::{Domain, DomainRows, Note};
+pub use domain::{Domain, DomainRows, Origin};
 pub use lowering::lower;
 pub use worked::worked_rows;

@@ -13,11 +13,13 @@ use crate::put::{
 use algebra::{Builder, DepTree, NodeId, width};
 use std::alloc::{AllocError, Global};
 
-/// Adds to a plan the nodes of a tree over a domain, and says which node has its rows: the last one.
+/// Adds to a plan the nodes of a tree over a domain, and says which node has its rows: the last
+/// one.
 ///
-/// A dependent right side is lowered over a domain: the projection of its left side's rows to the columns that it reads,
-/// identical rows once. The left side is lowered once, and read by the domain and by the operator. Domain columns are
-/// matched by identity, so null meets null, and a fault the same fault.
+/// A dependent right side is lowered over a domain: the projection of its left side's rows to the
+/// columns that it reads, identical rows once. The left side is lowered once, and read by the
+/// domain and by the operator. Domain columns are matched by identity, so null meets null, and a
+/// fault the same fault.
 #[tactic(auto, using(crate::proofs::Whole::unnested, crate::proofs::Whole::answered, crate::proofs::Whole::nodes_kept, crate::proofs::Whole::scans_added, crate::proofs::Whole::domains_added))]
 pub fn lower(
     alloc: Global,
@@ -27,7 +29,8 @@ pub fn lower(
 ) -> Result<NodeId, AllocError>
     requires { IsInPlan builder.old.nodes domain.rows }
 
-    // Among the node's rows those that begin with a row of the domain are, as a bag, the rows of the nested loops.
+    // Among the node's rows those that begin with a row of the domain are, as a bag, the rows of
+    // the nested loops.
     ensures unnests { IfOk result (Unnests builder.old.nodes builder.new.nodes tree.now domain) }
 
     // Over the one row of no columns these are all its rows: those of a whole query.
@@ -37,10 +40,12 @@ pub fn lower(
     ensures grows { IfOk result (KeepsNodes builder.old.nodes builder.new.nodes) }
 
     // One scan for each table of the tree, in its order: what is read twice is lowered once.
-    ensures scans { OnOk result (plan_scans builder.new.nodes ≡ plan_scans builder.old.nodes ++ scans_of tree.now) }
+    ensures scans { OnOk result
+        (plan_scans builder.new.nodes ≡ plan_scans builder.old.nodes ++ scans_of tree.now) }
 
     // No more domains than dependent right sides: a closed or shared one gets none.
-    ensures domains { OnOk result (plan_domains builder.new.nodes ≤ plan_domains builder.old.nodes + domains_of tree.now) }
+    ensures domains { OnOk result
+        (plan_domains builder.new.nodes ≤ plan_domains builder.old.nodes + domains_of tree.now) }
 {
     let id = lowered(alloc, builder, tree, &domain)?;
     Ok(id)
@@ -54,7 +59,8 @@ fn lowered(
     domain: &Domain,
 ) -> Result<NodeId, AllocError>
     requires { IsInPlan builder.old.nodes domain.now.rows }
-    ensures { IfOk result (Lowers builder.old.nodes builder.new.nodes (tree_meaning tree.now) domain.now) }
+    ensures { IfOk result
+        (Lowers builder.old.nodes builder.new.nodes (tree_meaning tree.now) domain.now) }
 {
     match tree {
         DepTree::Scan(table) => {

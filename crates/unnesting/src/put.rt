@@ -27,7 +27,8 @@ fn put_cross(
 ) -> Result<NodeId, AllocError>
     requires left { left < length builder.old.nodes }
     requires right { right < length builder.old.nodes }
-    ensures { IfOk result (IsPut builder.old.nodes builder.new.nodes (node.Join left right [] (all_of []))) }
+    ensures { IfOk result
+        (IsPut builder.old.nodes builder.new.nodes (node.Join left right [] (all_of []))) }
 {
     let always = Boxed::new(alloc, Expr::All(Items::new(alloc)))?;
     let id = put_combinations(alloc, builder, left, right, always)?;
@@ -45,7 +46,8 @@ fn put_combinations(
 ) -> Result<NodeId, AllocError>
     requires left { left < length builder.old.nodes }
     requires right { right < length builder.old.nodes }
-    ensures { IfOk result (IsPut builder.old.nodes builder.new.nodes (node.Join left right [] condition)) }
+    ensures { IfOk result
+        (IsPut builder.old.nodes builder.new.nodes (node.Join left right [] condition)) }
 {
     let matched = Items::new(alloc);
     let id = builder.put(Node::Join(left, right, matched, condition))?;
@@ -84,7 +86,8 @@ pub(crate) fn put_selection(
     domain: &Domain,
 ) -> Result<NodeId, AllocError>
     requires { IsInPlan builder.old.nodes domain.now.rows }
-    ensures { IfOk result (IsSelection builder.old.nodes builder.new.nodes table condition.now domain.now.rows) }
+    ensures { IfOk result
+        (IsSelection builder.old.nodes builder.new.nodes table condition.now domain.now.rows) }
 {
     let rows = builder.put(Node::Scan(table))?;
     match domain.rows {
@@ -109,7 +112,8 @@ pub(crate) fn put_select(
     condition: &Expr,
 ) -> Result<NodeId, AllocError>
     requires { rows < length builder.old.nodes }
-    ensures { IfOk result (IsPut builder.old.nodes builder.new.nodes (node.Select rows condition.now)) }
+    ensures { IfOk result
+        (IsPut builder.old.nodes builder.new.nodes (node.Select rows condition.now)) }
 {
     let condition = copy_expr(alloc, condition)?;
     let id = builder.put(Node::Select(rows, condition))?;
@@ -126,7 +130,9 @@ pub(crate) fn put_project(
     es: &[Expr],
 ) -> Result<NodeId, AllocError>
     requires { rows < length builder.old.nodes }
-    ensures { IfOk result (IsPut builder.old.nodes builder.new.nodes (node.Project rows (map column_of (range_with_len 0 width) ++ es.now))) }
+    ensures { IfOk result
+        (IsPut builder.old.nodes builder.new.nodes
+        (node.Project rows (map column_of (range_with_len 0 width) ++ es.now))) }
 {
     let es = select_list(alloc, width, es)?;
     let id = builder.put(Node::Project(rows, es))?;
@@ -157,7 +163,9 @@ pub(crate) fn put_join(
     requires outer { outer < length builder.old.nodes }
     requires rows { rows < length builder.old.nodes }
     requires width { side_width (side_of side.now) width ≤ plan_width builder.old.nodes rows }
-    ensures { IfOk result (IsPut builder.old.nodes builder.new.nodes (node.Join outer rows (side_matched (side_of side.now) width) on.now)) }
+    ensures { IfOk result
+        (IsPut builder.old.nodes builder.new.nodes
+        (node.Join outer rows (side_matched (side_of side.now) width) on.now)) }
 {
     let matched = matched_columns(alloc, side, width)?;
     let on = copy_expr(alloc, on)?;
@@ -178,8 +186,11 @@ pub(crate) fn put_outer(
 ) -> Result<NodeId, AllocError>
     requires outer { outer < length builder.old.nodes }
     requires rows { rows < length builder.old.nodes }
-    requires width { plan_width builder.old.nodes rows ≡ side_width (side_of side.now) width + nulls }
-    ensures { IfOk result (IsPut builder.old.nodes builder.new.nodes (node.Outer outer rows (side_matched (side_of side.now) width) nulls on.now)) }
+    requires width { plan_width builder.old.nodes rows
+        ≡ side_width (side_of side.now) width + nulls }
+    ensures { IfOk result
+        (IsPut builder.old.nodes builder.new.nodes
+        (node.Outer outer rows (side_matched (side_of side.now) width) nulls on.now)) }
 {
     let matched = matched_columns(alloc, side, width)?;
     let on = copy_expr(alloc, on)?;
@@ -201,7 +212,9 @@ pub(crate) fn put_mark(
     requires outer { outer < length builder.old.nodes }
     requires rows { rows < length builder.old.nodes }
     requires width { side_width (side_of side.now) width ≤ plan_width builder.old.nodes rows }
-    ensures { IfOk result (IsPut builder.old.nodes builder.new.nodes (node.Mark outer rows (side_matched (side_of side.now) width) condition.now)) }
+    ensures { IfOk result
+        (IsPut builder.old.nodes builder.new.nodes
+        (node.Mark outer rows (side_matched (side_of side.now) width) condition.now)) }
 {
     let matched = matched_columns(alloc, side, width)?;
     let condition = copy_expr(alloc, condition)?;
@@ -223,7 +236,9 @@ pub(crate) fn put_single(
     requires outer { outer < length builder.old.nodes }
     requires rows { rows < length builder.old.nodes }
     requires width { side_width (side_of side.now) width ≤ plan_width builder.old.nodes rows }
-    ensures { IfOk result (IsPut builder.old.nodes builder.new.nodes (node.Single outer rows (side_matched (side_of side.now) width) column)) }
+    ensures { IfOk result
+        (IsPut builder.old.nodes builder.new.nodes
+        (node.Single outer rows (side_matched (side_of side.now) width) column)) }
 {
     let matched = matched_columns(alloc, side, width)?;
     let id = builder.put(Node::Single(outer, rows, matched, column))?;
@@ -242,7 +257,8 @@ fn put_fill(
     requires rows { rows < length builder.old.nodes }
     requires domain { domain < length builder.old.nodes }
     requires width { plan_width builder.old.nodes domain ≡ width }
-    ensures { IfOk result (IsFilled builder.old.nodes builder.new.nodes rows aggregates.now domain width) }
+    ensures { IfOk result
+        (IsFilled builder.old.nodes builder.new.nodes rows aggregates.now domain width) }
 {
     let by = first_columns(alloc, width)?;
     let computed = copy_aggregates(alloc, aggregates)?;
@@ -263,7 +279,9 @@ fn put_group_by(
     aggregates: &[Aggregate],
 ) -> Result<NodeId, AllocError>
     requires { rows < length builder.old.nodes }
-    ensures { IfOk result (IsPut builder.old.nodes builder.new.nodes (node.Group rows (range_with_len 0 width ++ by.now) aggregates.now)) }
+    ensures { IfOk result
+        (IsPut builder.old.nodes builder.new.nodes
+        (node.Group rows (range_with_len 0 width ++ by.now) aggregates.now)) }
 {
     let by = with_first_columns(alloc, width, by)?;
     let computed = copy_aggregates(alloc, aggregates)?;
@@ -282,7 +300,8 @@ pub(crate) fn put_group(
 ) -> Result<NodeId, AllocError>
     requires rows { rows < length builder.old.nodes }
     requires domain { IsInPlan builder.old.nodes domain.now.rows }
-    ensures { IfOk result (IsGrouped builder.old.nodes builder.new.nodes rows by.now aggregates.now domain.now.rows) }
+    ensures { IfOk result
+        (IsGrouped builder.old.nodes builder.new.nodes rows by.now aggregates.now domain.now.rows) }
 {
     match domain.rows {
         DomainRows::One => {
@@ -327,7 +346,8 @@ pub(crate) fn side_domain(
 ) -> Result<Domain, AllocError>
     requires outer { outer < length builder.old.nodes }
     requires domain { IsInPlan builder.old.nodes domain.now.rows }
-    ensures { IfOk result (IsSideDomain builder.old.nodes builder.new.nodes outer side.now domain.now) }
+    ensures { IfOk result
+        (IsSideDomain builder.old.nodes builder.new.nodes outer side.now domain.now) }
 {
     match side {
         Side::Closed => Ok(Domain::one(alloc)),

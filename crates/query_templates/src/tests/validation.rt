@@ -1,4 +1,5 @@
-//! Each query as a `run` statement with the values that validate it (TPC-H, section 2.4), and its text with them.
+//! Each query as a `run` statement with the values that validate it (TPC-H, section 2.4), and its
+//! text with them.
 
 /// The statements, and the texts.
 pub const CASES: [(&str, &str); 22] = [

@@ -2,7 +2,8 @@
 ghost use Rattle.std.specs.Prelude.{◌≡◌, IfOk, false};
 ghost use Rattle.clap.specs.Words.{app_of, rule_of};
 ghost use Rattle.clap.specs.declared.builder.Command.TheViews.{out-Command as fields_of};
-ghost use Rattle.tpch_main.specs.Subcommands.{check_app, program_app, session_app, required_argument};
+ghost use Rattle.tpch_main.specs.Subcommands.{check_app, program_app, session_app};
+ghost use Rattle.tpch_main.specs.Subcommands.{required_argument};
 
 use clap::{Arg, Command};
 use std::alloc::{AllocError, Global};

@@ -4,4 +4,6 @@ use Rattle.dependent_plan.specs.Growth.{ArePlain}
 use Rattle.dependent_plan.proofs.sources.plain_places.Given as goal
 
 abbrev pub invariant-loop-input : goal.invariant-loop-input
-invariant-loop-input l = ArePlain l.sight.outer.now l.sight.start l.sight.width (take l.input-index l.inputs) (Some l.places)
+invariant-loop-input l =
+    ArePlain l.sight.outer.now l.sight.start l.sight.width (take l.input-index l.inputs)
+    (Some l.places)

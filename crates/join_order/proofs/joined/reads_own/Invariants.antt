@@ -3,4 +3,5 @@ use Rattle.std.specs.List.{All}
 use Rattle.join_order.proofs.joined.reads_own.Given as goal
 
 abbrev pub invariant-loop-column : goal.invariant-loop-column
-invariant-loop-column l = All (λ c. (c < l.m) ⊎ ((l.low ≤ c) × (c < l.high))) (take l.column-index l.column-items)
+invariant-loop-column l =
+    All (λ c. (c < l.m) ⊎ ((l.low ≤ c) × (c < l.high))) (take l.column-index l.column-items)

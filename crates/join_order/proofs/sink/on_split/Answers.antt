@@ -6,12 +6,19 @@ use Rattle.join_order.proofs.sink.on_split.Goals as goal
 
 pub returns-in_ok-parts-in-Closed : goal.returns-in_ok-parts-in-Closed
 returns-in_ok-parts-in-Closed c =
-    subst (λ s. IsOnSplit c.args.n (width_of c.args.left.now) (width_of c.args.right.now) s c.args.c.now c.in_ok-parts-in-Closed.parts.covered c.in_ok-parts-in-Closed.parts.rest) (sym c.in-Closed.is) c.in_ok-parts-in-Closed.ensures
+    subst (λ s. IsOnSplit c.args.n (width_of c.args.left.now) (width_of c.args.right.now) s
+    c.args.c.now c.in_ok-parts-in-Closed.parts.covered c.in_ok-parts-in-Closed.parts.rest)
+    (sym c.in-Closed.is) c.in_ok-parts-in-Closed.ensures
 
 pub returns-in_ok-parts-in-Shared : goal.returns-in_ok-parts-in-Shared
 returns-in_ok-parts-in-Shared c =
-    subst (λ s. IsOnSplit c.args.n (width_of c.args.left.now) (width_of c.args.right.now) s c.args.c.now c.in_ok-parts-in-Shared.parts.covered c.in_ok-parts-in-Shared.parts.rest) (sym c.in-Shared.is) c.in_ok-parts-in-Shared.ensures
+    subst (λ s. IsOnSplit c.args.n (width_of c.args.left.now) (width_of c.args.right.now) s
+    c.args.c.now c.in_ok-parts-in-Shared.parts.covered c.in_ok-parts-in-Shared.parts.rest)
+    (sym c.in-Shared.is) c.in_ok-parts-in-Shared.ensures
 
 pub returns-in_ok-push-in-Dependent : goal.returns-in_ok-push-in-Dependent
 returns-in_ok-push-in-Dependent c =
-    on_whole c.args.n (width_of c.args.left.now) (width_of c.args.right.now) c.args.side.now c.args.c.now c.in_ok-c-in-Dependent.c c.new-covered.result c.new-rest.result c.push.new.self c.new-covered.ensures c.new-rest.ensures c.in_ok-c-in-Dependent.ensures c.in_ok-push-in-Dependent.ensures.ok
+    on_whole c.args.n (width_of c.args.left.now) (width_of c.args.right.now) c.args.side.now
+    c.args.c.now c.in_ok-c-in-Dependent.c c.new-covered.result c.new-rest.result c.push.new.self
+    c.new-covered.ensures c.new-rest.ensures c.in_ok-c-in-Dependent.ensures
+    c.in_ok-push-in-Dependent.ensures.ok

@@ -10,4 +10,6 @@ loop-e-init c =
 
 pub loop-e-preserved : goal.loop-e-preserved
 loop-e-preserved c =
-    split_more c.args.limit c.args.es.now c.loop-e.parts.covered _ c.loop-e.parts.rest _ c.loop-e.e-index c.e-item.result c.loop-e-test.true c.e-item.is c.loop-e.invariant c.in_ok-put_split.ensures
+    split_more c.args.limit c.args.es.now c.loop-e.parts.covered _ c.loop-e.parts.rest _
+    c.loop-e.e-index c.e-item.result c.loop-e-test.true c.e-item.is c.loop-e.invariant
+    c.in_ok-put_split.ensures

@@ -6,7 +6,8 @@ use Rattle.sql_binder.proofs.lists.output_place.Given as goal
 abbrev pub invariant-headers : goal.invariant-headers
 invariant-headers l = record {
   counted : l.at + length l.left ≡ length l.headers;
-  same : output_places l.name 0 l.headers ≡ option_to_list l.found ++ output_places l.name l.at l.left;
+  same : output_places l.name 0 l.headers
+      ≡ option_to_list l.found ++ output_places l.name l.at l.left;
 }
 
 abbrev pub decreases-headers : goal.decreases-headers

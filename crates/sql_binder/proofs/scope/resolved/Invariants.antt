@@ -5,7 +5,8 @@ use Rattle.sql_binder.proofs.scope.resolved.Given as goal
 abbrev pub invariant-levels : goal.invariant-levels
 invariant-levels l = record {
   counted : l.out + length l.levels ≡ length l.site.levels.now;
-  same : resolved (sight_of l.site) l.wanted ≡ resolved_from l.wanted l.seen l.out (map level_of l.levels);
+  same : resolved (sight_of l.site) l.wanted
+      ≡ resolved_from l.wanted l.seen l.out (map level_of l.levels);
 }
 
 abbrev pub decreases-levels : goal.decreases-levels

@@ -6,7 +6,8 @@ use Rattle.sql_binder.proofs.scope.the_one.Given as goal
 abbrev pub invariant-columns : goal.invariant-columns
 invariant-columns l = record {
   counted : l.at + length l.left ≡ length l.columns;
-  same : places (means l.wanted) 0 l.columns ≡ option_to_list l.found ++ places (means l.wanted) l.at l.left;
+  same : places (means l.wanted) 0 l.columns
+      ≡ option_to_list l.found ++ places (means l.wanted) l.at l.left;
 }
 
 abbrev pub decreases-columns : goal.decreases-columns

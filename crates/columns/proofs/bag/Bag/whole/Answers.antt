@@ -1,4 +1,4 @@
-use Rattle.std.proofs.Common.{◌≡◌, ◌∙◌, ap, sym, length, arith}
+use Rattle.std.proofs.Common.{◌≡◌, ◌∙◌, ap, sym, arith}
 use Rattle.row_laws.specs.Ranked.{Relation}
 use Rattle.sql_value.specs.declared.value.Value.{Value}
 use Rattle.columns.specs.Bags.{bag_rows}

@@ -1,4 +1,4 @@
-use Rattle.std.proofs.Common.{sym, true, IsTrue}
+use Rattle.std.proofs.Common.{sym, true}
 use Rattle.columns.proofs.Kept.{relation-all_kept}
 use Rattle.columns.proofs.batch.Batch.keep.Goals as goal
 

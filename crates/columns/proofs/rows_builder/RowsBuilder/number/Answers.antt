@@ -1,4 +1,4 @@
-use Rattle.std.proofs.Common.{◌≡◌, ◌-◌, ◌*◌, ◌/◌, ◌<◌, ◌≤◌, rules, sym, refl, length, arith}
+use Rattle.std.proofs.Common.{◌≡◌, ◌-◌, ◌*◌, ◌/◌, ◌<◌, ◌≤◌, rules, sym, length, arith}
 use Rattle.columns.proofs.TableLists.{number_full, number_rest}
 use Rattle.columns.proofs.rows_builder.RowsBuilder.number.Goals as goal
 

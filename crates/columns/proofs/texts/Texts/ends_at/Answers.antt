@@ -1,4 +1,4 @@
-use Rattle.std.proofs.Common.{◌≡◌, ◌+◌, arith, sym, ap, ◌∙◌, refl, length, get_or, [], ◌∷◌, ◌++◌}
+use Rattle.std.proofs.Common.{◌≡◌, ◌+◌, arith, sym, ap, ◌∙◌, refl, length, [], ◌∷◌, ◌++◌}
 use Rattle.columns.proofs.GatheredTexts.{ends_none, ends_more}
 use Rattle.columns.proofs.texts.Texts.ends_at.Goals as goal
 

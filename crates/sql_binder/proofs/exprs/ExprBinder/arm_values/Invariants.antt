@@ -9,7 +9,8 @@ use Rattle.sql_binder.proofs.exprs.ExprBinder.arm_values.Given as goal
 abbrev pub invariant-arms : goal.invariant-arms
 invariant-arms g l = record {
   parts : Each (BindsArm (goal.E-pre g l.self.expr) (goal.E-post g l.self.expr)) l.left;
-  same : spec.arm_values (sight_of l.site) (map arm_meaning l.arms) l.fn.state ≡ spec.values_of_arms (sight_of l.site) l.done (map arm_meaning l.left) l.state;
+  same : spec.arm_values (sight_of l.site) (map arm_meaning l.arms) l.fn.state
+      ≡ spec.values_of_arms (sight_of l.site) l.done (map arm_meaning l.left) l.state;
 }
 
 abbrev pub decreases-arms : goal.decreases-arms

@@ -9,7 +9,8 @@ use Rattle.sql_binder.proofs.exprs.ExprBinder.factors.Given as goal
 abbrev pub invariant-factors : goal.invariant-factors
 invariant-factors g l = record {
   parts : Each (BindsFactor (goal.E-pre g l.self.expr) (goal.E-post g l.self.expr)) l.left;
-  same : spec.chain (sight_of l.site) l.fn.first (map factor_meaning l.rest) l.fn.state ≡ spec.chain_from (sight_of l.site) l.done (map factor_meaning l.left) l.state;
+  same : spec.chain (sight_of l.site) l.fn.first (map factor_meaning l.rest) l.fn.state
+      ≡ spec.chain_from (sight_of l.site) l.done (map factor_meaning l.left) l.state;
 }
 
 abbrev pub decreases-factors : goal.decreases-factors

@@ -8,7 +8,8 @@ use Rattle.sql_binder.proofs.exprs.ExprBinder.operands.Given as goal
 abbrev pub invariant-operands : goal.invariant-operands
 invariant-operands g l = record {
   parts : BindsExprs (goal.E-pre g l.self.expr) (goal.E-post g l.self.expr) l.left;
-  same : spec.operands (sight_of l.site) (map meaning l.list) l.fn.state ≡ spec.operands_from (sight_of l.site) l.done (map meaning l.left) l.state;
+  same : spec.operands (sight_of l.site) (map meaning l.list) l.fn.state
+      ≡ spec.operands_from (sight_of l.site) l.done (map meaning l.left) l.state;
 }
 
 abbrev pub decreases-operands : goal.decreases-operands

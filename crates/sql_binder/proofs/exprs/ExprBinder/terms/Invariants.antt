@@ -9,7 +9,8 @@ use Rattle.sql_binder.proofs.exprs.ExprBinder.terms.Given as goal
 abbrev pub invariant-terms : goal.invariant-terms
 invariant-terms g l = record {
   parts : Each (BindsTerm (goal.E-pre g l.self.expr) (goal.E-post g l.self.expr)) l.left;
-  same : spec.chain (sight_of l.site) l.fn.first (map term_meaning l.rest) l.fn.state ≡ spec.chain_from (sight_of l.site) l.done (map term_meaning l.left) l.state;
+  same : spec.chain (sight_of l.site) l.fn.first (map term_meaning l.rest) l.fn.state
+      ≡ spec.chain_from (sight_of l.site) l.done (map term_meaning l.left) l.state;
 }
 
 abbrev pub decreases-terms : goal.decreases-terms

@@ -1,7 +1,7 @@
 //! The 22 queries of TPC Benchmark H with their validation values, as one script.
 
 /// The 22 queries, of which the fifteenth is three statements.
-pub(crate) const QUERIES: &[u8] = b"\
+pub const QUERIES: &[u8] = b"\
 select l_returnflag, l_linestatus, sum(l_quantity) as sum_qty,
 sum(l_extendedprice) as sum_base_price,
 sum(l_extendedprice * (1 - l_discount)) as sum_disc_price,

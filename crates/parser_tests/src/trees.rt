@@ -1,8 +1,4 @@
-//! Scripts with their trees or refusals, by the rules of the dialect.
-mod limits;
-mod queries;
-
-use super::*;
+//! Scripts with the trees that they are read as.
 use fixed_decimal::Scale;
 use grammar_laws::SyntaxFault;
 use sql_ast::{
@@ -10,30 +6,10 @@ use sql_ast::{
     TemplateValue,
 };
 use sql_lexer::{Content, LexFault, Token, lex};
+use sql_parser::{ParseFault, parse_script, read_script};
 use sqlite_items::Items;
 use std::alloc::Global;
 use std::test::Fail;
-
-/// Whether the script is refused for this at this byte.
-pub(super) fn is_refused(
-    alloc: Global,
-    script: &[u8],
-    refusal: ScriptRefusal,
-    place: usize,
-) -> bool {
-    match read_script(alloc, script) {
-        Err(ScriptFault::Refused(found, at)) => found == refusal && at == place,
-        _ => false,
-    }
-}
-
-/// Whether the script is read as so many statements.
-pub(super) fn has_statements(alloc: Global, script: &[u8], count: usize) -> bool {
-    match read_script(alloc, script) {
-        Ok(statements) => statements.len() == count,
-        Err(_) => false,
-    }
-}
 
 /// Whether the query selects `r_name` alone, from `region` alone, and nothing else.
 fn is_names_of_regions(query: &Query) -> bool {
@@ -94,114 +70,8 @@ fn trees(rt: HostRuntime) -> Result<(), Fail> {
     Ok(())
 }
 
-#[test]
-fn scripts(rt: HostRuntime) -> Result<(), Fail> {
-    let alloc = rt.alloc();
-    assert!(rt; has_statements(alloc, b"", 0));
-    assert!(rt;
-        has_statements(
-            alloc,
-            b"select * from a;select distinct a.b c from d e, f as g;",
-            2
-        )
-    );
-    assert!(rt;
-        has_statements(
-            alloc,
-            b"select a from b where not a = 1 and b not in (1, 2) or c is not null group by a, b.c having sum(a) > 2 order by a desc, b fetch first 007 rows only;",
-            1
-        )
-    );
-    assert!(rt;
-        has_statements(
-            alloc,
-            b"select case when a between 1 and 2 and b then c else d end, date '1998-12-01' - interval '90' day (3), date('1998-12-01') from e where f not like 'a%' limit 1;",
-            1
-        )
-    );
-    assert!(rt;
-        has_statements(
-            alloc,
-            b"select count(*), count(distinct a), count(b), avg(-1 * 2 / a), extract(year from d), substring(e from 1 for 2) as f from g;",
-            1
-        )
-    );
-    Ok(())
-}
-
-#[test]
-fn refusals(rt: HostRuntime) -> Result<(), Fail> {
-    let alloc = rt.alloc();
-    assert!(rt; is_refused(alloc, b"select from region;", ScriptRefusal::Unexpected, 7));
-    assert!(rt; is_refused(alloc, b"select 'a", ScriptRefusal::OpenText, 7));
-    assert!(rt;
-        is_refused(
-            alloc,
-            b"select 170141183460469231731687303715884105728 from region;",
-            ScriptRefusal::NumberTooWide,
-            7
-        )
-    );
-    assert!(rt;
-        is_refused(
-            alloc,
-            b"select r_name from region",
-            ScriptRefusal::Unexpected,
-            25
-        )
-    );
-    assert!(rt;
-        is_refused(
-            alloc,
-            b"select a from b where a = not c;",
-            ScriptRefusal::Unexpected,
-            26
-        )
-    );
-    assert!(rt;
-        is_refused(
-            alloc,
-            b"select a from b where a = c = d;",
-            ScriptRefusal::Unexpected,
-            28
-        )
-    );
-    assert!(rt;
-        is_refused(
-            alloc,
-            b"select interval '1234567' day from b;",
-            ScriptRefusal::Unexpected,
-            16
-        )
-    );
-    assert!(rt;
-        is_refused(
-            alloc,
-            b"select a from b limit 1.0;",
-            ScriptRefusal::Unexpected,
-            22
-        )
-    );
-    assert!(rt;
-        is_refused(
-            alloc,
-            b"select a from b where exists (1);",
-            ScriptRefusal::Unexpected,
-            30
-        )
-    );
-    assert!(rt;
-        is_refused(
-            alloc,
-            b"select a from b, (c) d;",
-            ScriptRefusal::Unexpected,
-            18
-        )
-    );
-    Ok(())
-}
-
-/// The tokens of a query with this number as its row limit, made by hand where no script can write it.
+/// The tokens of a query with this number as its row limit, made by hand where no script can write
+/// it.
 fn limited(alloc: Global, coefficient: i128) -> Result<Vec<Token>, LexFault> {
     let mut tokens = lex(alloc, b"select a from b limit 1;")?;
     if let Some(token) = tokens.get_mut(5) {
@@ -270,7 +140,8 @@ fn is_joined(block: &Block) -> bool {
     }
 }
 
-/// Whether this is `not exists (..)` and a comparison with a scalar subquery, joined by AND with `.. not in (..)`.
+/// Whether this is `not exists (..)` and a comparison with a scalar subquery, joined by AND with
+/// `.. not in (..)`.
 fn has_subqueries(condition: &Clause) -> bool {
     let Clause::Condition(condition) = condition else {
         return false;
@@ -342,54 +213,5 @@ fn other_statements(rt: HostRuntime) -> Result<(), Fail> {
         b"create view v (a, b) as select c, d from e; drop view w; refresh insert 007; refresh delete 999999999; run 6 ('it''s', 0.06); run 1 ();";
     let found = read_script(alloc, script)?;
     assert!(rt; are_others(found.as_slice()));
-    assert!(rt; has_statements(alloc, queries::QUERIES, 24));
-    Ok(())
-}
-
-#[test]
-fn misplaced_parts(rt: HostRuntime) -> Result<(), Fail> {
-    let alloc = rt.alloc();
-    assert!(rt;
-        is_refused(
-            alloc,
-            b"select a from b where exists (select c from d order by e);",
-            ScriptRefusal::Unexpected,
-            46
-        )
-    );
-    assert!(rt;
-        is_refused(
-            alloc,
-            b"create view v as select a from b limit 1;",
-            ScriptRefusal::Unexpected,
-            33
-        )
-    );
-    assert!(rt;
-        is_refused(
-            alloc,
-            b"select * from (select a from b);",
-            ScriptRefusal::Unexpected,
-            31
-        )
-    );
-    assert!(rt;
-        is_refused(
-            alloc,
-            b"select * from a join b;",
-            ScriptRefusal::Unexpected,
-            22
-        )
-    );
-    assert!(rt;
-        is_refused(
-            alloc,
-            b"region cross join nation;",
-            ScriptRefusal::Unexpected,
-            0
-        )
-    );
-    assert!(rt; is_refused(alloc, b"refresh insert 1.0;", ScriptRefusal::Unexpected, 15));
-    assert!(rt; is_refused(alloc, b"run 1 (-1);", ScriptRefusal::Unexpected, 7));
     Ok(())
 }

@@ -1,6 +1,6 @@
 //! Scripts at the limits of depth, width and length.
-use super::{has_statements, is_refused};
-use crate::{MAX_SCRIPT, ScriptRefusal};
+use crate::asked::{has_statements, is_refused};
+use sql_parser::{MAX_SCRIPT, ScriptRefusal};
 use std::alloc::{AllocError, Global};
 use std::test::Fail;
 
