@@ -1,9 +1,9 @@
 //! A version in whole segments.
-ghost use Rattle.std.specs.Prelude.{◌≡◌, IfOk, length, map};
+ghost use Rattle.std.specs.Prelude.{◌≡◌, IfOk, OnOk, length, map};
 ghost use Rattle.std.specs.List.{All};
 ghost use Rattle.columns.specs.Lists.{one_list};
+ghost use Rattle.tpch_schema.specs.Kinds.{RowsAreOf};
 ghost use Rattle.tpch_schema.specs.State.{table_rows};
-ghost use Rattle.tpch_schema.specs.Tables.{all_tables};
 ghost use Rattle.table_state.specs.Lists.{IsOfKinds, state_of};
 ghost use Rattle.segment_store.specs.Segments.{AreJoined};
 
@@ -14,7 +14,7 @@ use std::alloc::{AllocError, Global};
 use std::marker::Model;
 use std::sync::Arc;
 use table_state::{Refresh, State};
-use tpch_schema::TABLES;
+use tpch_schema::TableName;
 
 /// A version whose tables lie in segments of which no row is deleted and no two neighbours fit in
 /// one. It is seen as that version with the segments of each table.
@@ -51,9 +51,9 @@ impl Model for Compacted {
 
     ghost invariant = { λ c.
         IsKept (record { base = arc_value c.base; list = (arc_value c.list).items; done = c.done })
-        c.accepted (state_of (map one_list (map vec_items c.tables.items)))
+        c.accepted (state_of (map (λ segments. one_list segments.items) c.tables.items))
         × (length c.tables.items ≡ 8)
-        × IsOfKinds (state_of (map one_list (map vec_items c.tables.items))) };
+        × IsOfKinds (state_of (map (λ segments. one_list segments.items) c.tables.items)) };
 }
 
 impl Compacted {
@@ -61,33 +61,40 @@ impl Compacted {
     pub fn into_directory(self) -> Result<Directory, AllocError>
         ensures { IfOk result (λ d. d ≡ self.version) }
     {
-        let state = state_over(self.alloc, &self.tables)?;
-        Ok(Directory::at(
-            self.alloc,
-            self.base,
-            self.list,
-            self.done,
-            self.accepted,
-            state,
-        ))
+        let Compacted {
+            alloc,
+            base,
+            list,
+            done,
+            accepted,
+            tables,
+        } = self;
+        let state = state_over(alloc, tables.as_slice())?;
+        Ok(Directory::at(alloc, base, list, done, accepted, state))
     }
 }
 
-/// The rows of a state's tables in joined segments, table by table.
-pub(crate) fn joined_tables(alloc: Global, state: &State) -> Result<Vec<Vec<Segment>>, AllocError>
+/// The rows of these tables of a state in joined segments, table by table.
+pub(crate) fn joined_tables(
+    alloc: Global,
+    state: &State,
+    names: &[TableName],
+) -> Result<Vec<Vec<Segment>>, AllocError>
     ensures rows { IfOk result (λ tables. map (λ segments. one_list segments.items) tables.items
-        ≡ map (table_rows state.now) all_tables) }
+        ≡ map (table_rows state.now) names.now) }
     ensures joined { IfOk result (λ tables. All (λ segments. AreJoined segments.items) tables.items) }
+    ensures kinds { OnOk result (All (λ table. RowsAreOf table (table_rows state.now table)) names.now) }
 {
-    let mut tables = Vec::with_capacity(alloc, 8)?;
-    for table in &TABLES {
-        let width = table.kinds().len();
-        tables.push(joined(alloc, width, state.parts(*table))?)?;
+    let mut tables = Vec::with_capacity(alloc, names.len())?;
+    for name in names {
+        let segments = joined(alloc, name.kinds().len(), state.parts(*name))?;
+        tables.push(segments)?;
     }
     Ok(tables)
 }
 
 /// The rows of segments, of which nothing is copied.
+#[tactic(auto, using(table_state::proofs::PartLists::lists))]
 fn rows_over(alloc: Global, segments: &[Segment]) -> Result<Rows, AllocError>
     ensures { IfOk result (λ rows. rows ≡ one_list segments.now) }
 {

@@ -12,7 +12,7 @@ use std::alloc::{AllocError, Global};
 use std::marker::Model;
 use std::sync::Arc;
 use table_state::{Part, Refresh, RefreshError, State, apply};
-use tpch_schema::TableName;
+use tpch_schema::{TABLES, TableName};
 
 /// The first refreshes of a list that were tried on a base, with the tables that they leave.
 #[derive(Drop)]
@@ -140,7 +140,7 @@ impl Directory {
     pub fn compacted(&self) -> Result<Compacted, AllocError>
         ensures { IfOk result (IsCompacted self.now) }
     {
-        let tables = joined_tables(self.alloc, &self.state)?;
+        let tables = joined_tables(self.alloc, &self.state, &TABLES)?;
         let base = Arc::try_clone(&self.base)?;
         let list = Arc::try_clone(&self.list)?;
         Ok(Compacted {

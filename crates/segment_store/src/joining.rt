@@ -1,11 +1,10 @@
 //! Parts of a table joined into whole segments.
-ghost use Rattle.std.specs.Prelude.{◌≡◌, ◌+◌, ◌<◌, ◌≤◌, ◌++◌, ◌∷◌, [], List, IfOk, OnOk, length};
+ghost use Rattle.std.specs.Prelude.{◌≡◌, ◌<◌, ◌≤◌, ◌++◌, ◌∷◌, [], IfOk, OnOk, length};
 ghost use Rattle.std.specs.List.{All};
-ghost use Rattle.sql_value.specs.declared.value.Value.{Value as Datum};
 ghost use Rattle.columns.specs.Lists.{one_list};
 ghost use Rattle.columns.specs.Tables.{IsOpen, plain_rows};
-ghost use Rattle.segment_store.specs.Segments.{AreApart, AreJoined, IsShort};
-ghost use Rattle.segment_store.specs.Joining.{IsJoining};
+ghost use Rattle.segment_store.specs.Segments.{AreJoined};
+ghost use Rattle.segment_store.specs.Joining.{HasRoom, IsJoining};
 
 use crate::scan::piece_of;
 use columns::{Bag, SEGMENT_ROWS, Segment};
@@ -22,8 +21,22 @@ fn stored(alloc: Global, rest: &Bag) -> Result<Segment, AllocError>
     Ok(segment)
 }
 
+/// Stores the rows that are not stored yet as the next segment.
+fn close_rest(alloc: Global, full: &mut Vec<Segment>, rest: &mut Bag) -> Result<(), AllocError>
+    requires is_open { IsOpen rest.old }
+    requires some { 0 < length rest.old.rows }
+    ensures full { OnOk result (full.new.items ≡ full.old.items ++ plain_rows rest.old.rows ∷ []) }
+    ensures rest { OnOk result (rest.new.rows ≡ []) }
+    ensures width { OnOk result (rest.new.width ≡ rest.old.width) }
+{
+    full.push(stored(alloc, rest)?)?;
+    *rest = Bag::new(alloc, rest.width());
+    Ok(())
+}
+
 /// Makes room for so many rows after those that are not stored yet: these become a segment of their
 /// own, if they don't fit in one with them.
+#[tactic(auto, using(crate::proofs::Neighbours::neighbours))]
 fn make_room(
     alloc: Global,
     count: usize,
@@ -32,21 +45,13 @@ fn make_room(
 ) -> Result<(), AllocError>
     requires joining { IsJoining full.old.items rest.old }
     requires count { count ≤ 4096 }
-    ensures is_open { OnOk result (IsOpen rest.new) }
-    ensures width { OnOk result (rest.new.width ≡ rest.old.width) }
-    ensures room { OnOk result (length rest.new.rows + count ≤ 4096) }
-    ensures rows { OnOk result
-        (one_list full.new.items ++ plain_rows rest.new.rows
-        ≡ one_list full.old.items ++ plain_rows rest.old.rows) }
-    ensures short { OnOk result (All IsShort full.new.items) }
-    ensures apart { OnOk result ((more : List (List Datum)) → length more ≡ count
-        → AreApart (full.new.items ++ (plain_rows rest.new.rows ++ more) ∷ [])) }
+    ensures room { OnOk result
+        (HasRoom count full.old.items rest.old full.new.items rest.new) }
 {
     if rest.len() + count <= SEGMENT_ROWS {
         return Ok(());
     }
-    full.push(stored(alloc, rest)?)?;
-    *rest = Bag::new(alloc, rest.width());
+    close_rest(alloc, full, rest)?;
     Ok(())
 }
 
@@ -69,12 +74,15 @@ fn put_part(
     if count == 0 {
         return Ok(());
     }
-    let batch = piece_of(alloc, part)?.batch(alloc)?;
+    let piece = piece_of(alloc, part)?;
+    let batch = piece.batch(alloc)?;
     make_room(alloc, count, full, rest)?;
-    rest.push(batch)
+    rest.push(batch)?;
+    Ok(())
 }
 
 /// The full segments, and one of the rows that are not stored yet, if there are any.
+#[tactic(auto, using(crate::proofs::Neighbours::neighbours))]
 fn finished(alloc: Global, mut full: Vec<Segment>, rest: &Bag) -> Result<Vec<Segment>, AllocError>
     requires { IsJoining full.items rest.now }
     ensures rows { IfOk result

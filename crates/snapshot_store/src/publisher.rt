@@ -141,11 +141,12 @@ impl Publisher {
         Ok(Note::at(&mut self.hall.writer, share))
     }
 
-    /// Shows readers the same version, in segments of which no row is deleted.
+    /// Shows readers the same version, in segments of which no row is deleted and no two neighbours
+    /// fit in one.
     pub fn compact<R: Wait>(&mut self, rt: &R) -> Result<(), AllocError>
         ensures { self.new ≡ self.old }
     {
-        let next = self.directory.compacted()?;
+        let next = self.directory.compacted()?.into_directory()?;
         self.show(rt, next)?;
         Ok(())
     }
