@@ -216,7 +216,7 @@ follow_deny_test wide room by_unary by_part by_query = follow_either (same_is k.
 
 pub follow_test : (wide : ℕ) (room : ℕ) {unary : Reading Token Expr} {part : Reading Token Expr} {query : Reading Token Block} → Follows unary → Follows part → Follows query → Follows (read_test wide room unary part query)
 unfolding read_test
-follow_test wide room by_unary by_part by_query = follow_either (same_among (k.Equal ∷ k.NotEqual ∷ k.Less ∷ k.LessOrEqual ∷ k.Greater ∷ k.GreaterOrEqual ∷ [])) (follow_compare wide by_unary) (follow_either (same_is k.Is) follow_null (follow_either (same_is k.Not) (follow_both denied (follow_one (tests_is k.Not)) (follow_deny_test wide room by_unary by_part by_query)) (follow_either (same_among (k.Between ∷ k.Like ∷ k.In ∷ [])) (follow_deny_test wide room by_unary by_part by_query) (follow_nothing t.Holds))))
+follow_test wide room by_unary by_part by_query = follow_either (same_among (k.Equal ∷ k.NotEqual ∷ k.Less ∷ k.LessOrEqual ∷ k.Greater ∷ k.GreaterOrEqual ∷ [])) (follow_compare wide by_unary) (follow_either (same_is k.Is) follow_null (follow_either (same_is k.Not) (follow_both denied (follow_one (tests_is k.Not)) (follow_deny_test wide room by_unary by_part by_query)) (follow_either (same_among (k.Between ∷ k.Like ∷ k.In ∷ [])) (follow_deny_test wide room by_unary by_part by_query) (follow_nothing t.Absent))))
 
 pub follow_predicate : (wide : ℕ) (room : ℕ) {unary : Reading Token Expr} {part : Reading Token Expr} {query : Reading Token Block} → Follows unary → Follows part → Follows query → Follows (read_predicate wide room unary part query)
 unfolding read_predicate
