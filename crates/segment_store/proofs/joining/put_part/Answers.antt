@@ -1,4 +1,4 @@
-use Rattle.std.proofs.Common.{◌≡◌, ◌<◌, List, length, ap, arith, subst, ◌∙◌}
+use Rattle.std.proofs.Common.{◌≡◌, ◌<◌, List, length, ap, arith, subst, sym, ◌∙◌}
 use Rattle.std.specs.List.{All}
 use Rattle.sql_value.specs.declared.value.Value.{Value}
 use Rattle.columns.specs.Lists.{one_list}
@@ -6,6 +6,17 @@ use Rattle.columns.specs.Tables.{standing_rows}
 use Rattle.table_state.proofs.Compaction.{rows_joined}
 use Rattle.segment_store.proofs.Neighbours.{part-joined, same-width}
 use Rattle.segment_store.proofs.joining.put_part.Goals as goal
+
+pub push-requires : goal.push-requires
+push-requires c =
+    let part = c.args.part.now in
+    let batch = c.in_ok-batch.batch in
+    let wide : All (λ row. length row ≡ batch.width) part =
+    subst (λ (rows : List (List Value)). All (λ row. length row ≡ batch.width) rows)
+    c.in_ok-piece.ensures c.in_ok-batch.ensures.width in
+    let some : 0 < length part = omega (arith, c.len-count.ensures.count, c.if-count-eq0.false) in
+    sym (c.in_ok-make_room.ensures.room.width
+    ∙ same-width part c.args.rest.now.width batch.width some c.requires.width wide)
 
 pub returns-clause-joining : goal.returns-clause-joining
 returns-clause-joining c =
