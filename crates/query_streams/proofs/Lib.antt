@@ -4,3 +4,9 @@ mod Texts
 mod Expanded
 mod Once
 mod Explaining
+mod JobSets
+mod JobDeals
+mod JobRuns
+mod JobReports
+mod JobTexts
+mod JobParts

@@ -6,12 +6,13 @@ ghost use Rattle.columns.specs.Lists.{one_list};
 ghost use Rattle.table_state.specs.Lists.{IsOfKinds};
 ghost use Rattle.table_state.specs.Versions.{accepted};
 
+use crate::compacted::{Compacted, joined_tables};
 use sql_value::Row;
 use std::alloc::{AllocError, Global};
 use std::marker::Model;
 use std::sync::Arc;
 use table_state::{Part, Refresh, RefreshError, State, apply};
-use tpch_schema::TableName;
+use tpch_schema::{TABLES, TableName};
 
 /// The first refreshes of a list that were tried on a base, with the tables that they leave.
 #[derive(Drop)]
@@ -42,7 +43,10 @@ impl Model for Directory {
 }
 
 impl Directory {
-    ghost use Rattle.segment_store.specs.Trials.{IsAfter, Leaves, one_more, tables_of, version_of};
+    ghost use Rattle.std.specs.Arc.{arc_value};
+    ghost use Rattle.segment_store.specs.Segments.{IsCompacted};
+    ghost use Rattle.segment_store.specs.Trials.{IsAfter, IsKept, Leaves, one_more, tables_of};
+    ghost use Rattle.segment_store.specs.Trials.{version_of};
 
     /// The base, with nothing tried.
     pub fn new(alloc: Global, base: State, list: Vec<Refresh>) -> Result<Directory, AllocError>
@@ -101,20 +105,51 @@ impl Directory {
         self.done == self.list.len()
     }
 
-    /// The same version, whose tables lie in segments of which no row is deleted.
-    pub fn compacted(&self) -> Result<Directory, AllocError>
-        ensures { IfOk result (λ d. d ≡ self.now) }
+    /// A version of this base and this list, which is kept in this state.
+    pub(crate) fn at(
+        alloc: Global,
+        base: Arc<State>,
+        list: Arc<Vec<Refresh>>,
+        done: usize,
+        accepted: u64,
+        state: State,
+    ) -> Directory
+        requires { IsKept (record {
+          base = arc_value base;
+          list = (arc_value list).items;
+          done = done;
+        }) accepted state }
+        ensures { result ≡ record {
+          base = arc_value base;
+          list = (arc_value list).items;
+          done = done;
+        } }
     {
-        let state = self.state.compacted(self.alloc)?;
+        Directory {
+            alloc,
+            base,
+            list,
+            done,
+            accepted,
+            state,
+        }
+    }
+
+    /// The same version, whose tables lie in segments of which no row is deleted and no two
+    /// neighbours fit in one.
+    pub fn compacted(&self) -> Result<Compacted, AllocError>
+        ensures { IfOk result (IsCompacted self.now) }
+    {
+        let tables = joined_tables(self.alloc, &self.state, &TABLES)?;
         let base = Arc::try_clone(&self.base)?;
         let list = Arc::try_clone(&self.list)?;
-        Ok(Directory {
+        Ok(Compacted {
             alloc: self.alloc,
             base,
             list,
             done: self.done,
             accepted: self.accepted,
-            state,
+            tables,
         })
     }
 

@@ -14,7 +14,7 @@ use table_state::Part;
 use tpch_schema::TableName;
 
 /// A part's rows as a piece, of which nothing is copied.
-fn piece_of(alloc: Global, part: &Part) -> Result<Piece, AllocError>
+pub(crate) fn piece_of(alloc: Global, part: &Part) -> Result<Piece, AllocError>
     ensures { IfOk result (λ piece. piece ≡ part.now) }
 {
     let (segment, places) = part.stored(alloc)?;

@@ -7,9 +7,8 @@ use Rattle.snapshot_store.specs.declared.entry.Entered.{Entered}
 use Rattle.snapshot_store.specs.declared.entry.Entered.TheVariants.{Share, Refused, OutOfMemory}
 
 -- of an opening, with the number before and after, the entries before and after, and the refusals
--- before and after:
--- a share is of the new number, and only the entries rose; a refusal changes nothing else; out of
--- memory lowers nothing
+-- before and after: a share is of the new number, and only the entries rose; of a refusal only the
+-- refusals rose; out of memory may have raised the number alone
 abbrev pub Enters : Opening → ℕ → ℕ → ℕ → ℕ → ℕ → ℕ → Entered → Type 0
 Enters opening number new entries more refusals others (Share share) =
     IsOf opening (arc_value share) × (version_of (arc_value share) ≡ new) × (number ≤ new)
@@ -17,7 +16,7 @@ Enters opening number new entries more refusals others (Share share) =
 Enters opening number new entries more refusals others Refused = (new ≡ number) × (more ≡ entries)
     × HasRisen refusals others
 Enters opening number new entries more refusals others OutOfMemory = (number ≤ new)
-    × (entries ≤ more) × (refusals ≤ others)
+    × (more ≡ entries) × (others ≡ refusals)
 
 -- the same without the counts
 abbrev pub PassesUncounted : Opening → ℕ → ℕ → Entered → Type 0

@@ -10,7 +10,8 @@ pub record ReaderState (E : Type 0) : Type 0 where
 
 -- with the entry's number, its entries and refusals before and after, the number of the version
 -- seen before, and that of the snapshot: it was entered, or the entry was refused and it is the one
--- seen before
+-- seen before; the other count stays
 abbrev pub Began : ℕ → ℕ → ℕ → ℕ → ℕ → ℕ → ℕ → Type 0
 Began number entries more refusals others seen version =
-    (HasRisen entries more × (version ≡ number)) ⊎ (HasRisen refusals others × (version ≡ seen))
+    (HasRisen entries more × (version ≡ number) × (others ≡ refusals))
+    ⊎ (HasRisen refusals others × (version ≡ seen) × (more ≡ entries))

@@ -38,7 +38,7 @@ pub trait Entry {
 
     ghost note_number: { Self.Note → ℕ };
 
-    /// A share of the published version. Out of memory may have raised the number and the counts.
+    /// A share of the published version. Out of memory may have raised the number alone.
     fn enter(&mut self) -> Entered
         ensures opening { opening self.new ≡ opening self.old }
         ensures entered { Enters (opening self.old) (number self.old) (number self.new)

@@ -5,7 +5,7 @@ ghost use Rattle.segment_store.specs.Trials.{version_of};
 ghost use Rattle.snapshot_store.specs.Halls.{AreSeated, SeatsEnough, shown_in};
 ghost use Rattle.snapshot_store.specs.Ruled.{opening_of};
 
-use crate::hall::{Another, Hall, seat};
+use crate::hall::seat;
 use crate::reader::Reader;
 use crate::rule::{publish, start};
 use crate::ruled::{Note, RuledEntry};
@@ -141,11 +141,12 @@ impl Publisher {
         Ok(Note::at(&mut self.hall.writer, share))
     }
 
-    /// Shows readers the same version, in segments of which no row is deleted.
+    /// Shows readers the same version, in segments of which no row is deleted and no two neighbours
+    /// fit in one.
     pub fn compact<R: Wait>(&mut self, rt: &R) -> Result<(), AllocError>
         ensures { self.new ≡ self.old }
     {
-        let next = self.directory.compacted()?;
+        let next = self.directory.compacted()?.into_directory()?;
         self.show(rt, next)?;
         Ok(())
     }
@@ -220,8 +221,7 @@ fn seat_all(
     ensures enough { IfOk result
         (λ readers. SeatsEnough want (length readers.items) hall.old.refusals hall.new.refusals) }
 {
-    match hall.another() {
-        Another::Made(first) => seat(alloc, first, start, hall, want),
-        Another::Refused => Err(AllocError),
-    }
+    let first = hall.entry()?;
+    let readers = seat(alloc, first, start, hall, want)?;
+    Ok(readers)
 }

@@ -57,6 +57,7 @@ impl<E: Entry + Drop> Reader<E> {
             (λ s. Began (E.number self.new.entry) (E.entries self.old.entry)
             (E.entries self.new.entry) (E.refusals self.old.entry) (E.refusals self.new.entry)
             (version_of self.old.seen) (version_of s)) }
+        ensures number { E.number self.old.entry ≤ E.number self.new.entry }
         ensures err { OnErr result (self.new.seen ≡ self.old.seen) }
     {
         match self.entry.enter() {

@@ -1,11 +1,13 @@
 //! A hall under the rule.
-ghost use Rattle.std.specs.Prelude.{◌≡◌};
+ghost use Rattle.std.specs.Prelude.{◌≡◌, IfOk, max};
 ghost use Rattle.left_right.specs.Sides.{view};
+ghost use Rattle.snapshot_store.specs.Openings.{opening_at};
 ghost use Rattle.snapshot_store.specs.Rule.{on_shelf, own_view};
 
 use crate::hall::{Another, Hall};
 use crate::rule::{ShelfWriter, joined};
 use crate::ruled::RuledEntry;
+use std::alloc::AllocError;
 use std::sync::Wait;
 
 /// Makes entries to the shelf of a writer, which knows its opening.
@@ -28,6 +30,18 @@ impl RuledHall {
         }
     }
 
+    /// An entry of number 0 to what the writer shows. An error is the shelf's, and isn't counted.
+    pub(crate) fn entry(&mut self) -> Result<RuledEntry, AllocError>
+        ensures opening { IfOk result (λ e. (view e.reader.place).opening
+            ≡ opening_at (on_shelf self.old.writer.desk.shown.value)) }
+        ensures number { IfOk result (λ e. max (view e.reader.place).number e.told ≡ 0) }
+        ensures shown { self.new.writer.desk.shown ≡ self.old.writer.desk.shown }
+        ensures refusals { self.new.refusals ≡ self.old.refusals }
+    {
+        let reader = joined(&mut self.writer)?;
+        Ok(RuledEntry::over(reader, 0))
+    }
+
     /// Waits for the readers that are inside.
     pub(crate) fn close<R: Wait>(self, rt: &R) {
         let RuledHall {
@@ -44,8 +58,8 @@ impl Hall<RuledEntry> for RuledHall {
     ghost refused = { λ h. h.refusals };
 
     fn another(&mut self) -> Another<RuledEntry> {
-        match joined(&mut self.writer) {
-            Ok(reader) => Another::Made(RuledEntry::over(reader, 0)),
+        match self.entry() {
+            Ok(entry) => Another::Made(entry),
             Err(_) => {
                 self.refusals = self.refusals.saturating_add(1);
                 Another::Refused

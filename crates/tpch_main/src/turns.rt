@@ -21,7 +21,7 @@ fn settled(directory: Directory) -> Result<Directory, AllocError>
     ensures { IfOk result (λ d. d ≡ directory) }
 {
     if directory.version() % COMPACTED_AFTER == 0 {
-        let compacted = directory.compacted()?;
+        let compacted = directory.compacted()?.into_directory()?;
         return Ok(compacted);
     }
     Ok(directory)
