@@ -1,5 +1,5 @@
 //! The plans of a script's statements, as they are printed. No statement is answered.
-ghost use Rattle.std.specs.Prelude.{◌≡◌, ◌++◌, List, [], IfOk, OnOk};
+ghost use Rattle.std.specs.Prelude.{◌≡◌, ◌++◌, ℕ, List, [], IfOk, OnOk};
 ghost use Rattle.refusals.specs.declared.statement.Refusal.TheVariants.{Bind};
 ghost use Rattle.sql_ast.specs.declared.statement.Statement.{Statement};
 ghost use Rattle.sql_binder.specs.Binding.{bound_query};
