@@ -4,9 +4,3 @@ mod Texts
 mod Expanded
 mod Once
 mod Explaining
-mod JobSets
-mod JobDeals
-mod JobRuns
-mod JobReports
-mod JobTexts
-mod JobParts
