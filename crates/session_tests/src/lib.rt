@@ -13,7 +13,7 @@ mod queries;
 #[cfg(test)]
 mod refreshes;
 #[cfg(test)]
-mod refusals;
+mod refused;
 #[cfg(test)]
 mod runs;
 #[cfg(test)]

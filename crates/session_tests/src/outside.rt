@@ -5,7 +5,8 @@ use std::process::Abort;
 use std::sync::Wait;
 use std::test::Fail;
 use std::thread::Threads;
-use tpch_main::Status;
+use tpch_main::{Status, tpch};
+use tpch_outside::{MemFiles, MemSink, OpenGate};
 
 #[test]
 fn refuses_absent_files(rt: HostRuntime) -> Result<(), Fail> {

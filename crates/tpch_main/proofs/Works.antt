@@ -1,11 +1,10 @@
 -- What a session prints, from what was read of its inputs one after another.
 use Rattle.std.proofs.Common.{◌≡◌, ℕ, List, Option, None, Some, refl, subst, sym}
-use Rattle.std.specs.declared.result.Result.{Result}
 use Rattle.std.specs.declared.result.Result.TheVariants.{Ok, Err}
 use Rattle.query_streams.specs.Expansion.{ExpandAll}
 use Rattle.sql_ast.specs.declared.statement.Statement.{Statement}
 use Rattle.tpch_outside.specs.Outside.{Folder}
-use Rattle.tpch_main.specs.Inputs.{AreSteps, BadInput, IsScriptOf, Work, file_bytes, script_limit, work_of}
+use Rattle.tpch_main.specs.Inputs.{AreSteps, IsScriptOf, Work, file_bytes, script_limit, work_of}
 use Rattle.tpch_main.specs.Meaning.{MeansSession, Prints}
 use Rattle.tpch_main.specs.ScriptPlans.{MeansExplained}
 use Rattle.tpch_main.specs.Views.{Explains, Finds, IfKnown, IsTextOf, refused_view}

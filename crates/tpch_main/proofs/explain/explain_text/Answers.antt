@@ -1,4 +1,3 @@
-use Rattle.std.proofs.Common.{refl}
 use Rattle.std.proofs.lemmas.Result.{err_from_is_err_and}
 use Rattle.tpch_main.proofs.Complete.{explained_done}
 use Rattle.tpch_main.proofs.Works.{explained_printed, explained_refused}
