@@ -1,0 +1,5 @@
+//! Statements as texts, planned.
+#![tactic(auto)]
+
+#[cfg(test)]
+mod tests;
