@@ -65,3 +65,11 @@ query_lines number said plan old new lines written (q, is, of) text same appende
   subst (λ (s : Checked BoundQuery). IsQueryExplained number s (numbered number (text_of_plan plan.nodes))) (sym is) (plan, of, refl),
   appended ∙ ap (λ l. old ++ numbered number l) (same ∙ text),
 )
+
+-- the same, of a statement that was read at its place
+pub explaining_next : (steps : List Statement) (k : ℕ) (x : Statement) (views later : List View) (text more first : List ℕ) (clean refused : Bool) → k < length steps → x ≡ slice_index_or steps k x
+    → Explaining steps k views text clean → IsExplained (k + 1) views x first → more ≡ text ++ first → refused ≡ is_refused views x → later ≡ views_after views x
+    → Explaining steps (k + 1) later more (clean && not refused)
+explaining_next steps k x views later text more first clean refused inside at before is text_is refused_is views_are =
+    explaining_more steps k x views later text more first clean refused inside before
+    (subst (λ s. IsExplained (k + 1) views s first) at is) text_is (refused_is ∙ ap (is_refused views) at) (views_are ∙ ap (views_after views) at)
