@@ -11,9 +11,9 @@ use crate::input_error::{InputError, InputFault, ReadError, refused};
 use crate::refresh_file::read_refresh_rows;
 use columns::Rows;
 use itoa::Buffer;
+use refusals::{LineRefusal, RefreshFile};
 use std::alloc::{AllocError, Global};
 use tpch_outside::{Files, Open};
-use tpch_schema::{LineRefusal, RefreshFile};
 
 /// A file of a refresh set that was read.
 #[derive(Drop)]
