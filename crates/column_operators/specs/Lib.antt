@@ -1,3 +1,4 @@
 pub mod Choices
+pub mod Constants
 pub mod Exact
 pub mod Zips

@@ -1,7 +1,7 @@
 -- What the definitions of decimals amount to.
 use Rattle.std.specs.Prelude.{◌≡◌, ℕ, ◌+◌, ◌*◌, ◌≤◌, ◌<◌, true, ◌^◌, ℤ, pos, ◌-ℤ◌, ◌*ℤ◌, Ok, List}
-use Rattle.std.specs.Prelude.{[], ◌∷◌, ◌++◌}
-use Rattle.fixed_decimal.specs.Decimal.{fits, rescaled, nearest_of}
+use Rattle.std.specs.Prelude.{[], ◌∷◌, ◌++◌, unsigned_abs}
+use Rattle.fixed_decimal.specs.Decimal.{fits, rescaled, nearest, nearest_of}
 use Rattle.fixed_decimal.specs.Written.{decimal_read, decimal_written}
 use Rattle.fixed_decimal.specs.Tally.{sums_of, with_term, joined, added}
 
@@ -20,6 +20,13 @@ RescalingKeepsTheValue = (c x : ℤ) (s t : ℕ) → s ≤ t → rescaled c s t 
 abbrev pub RoundsToNearest : Type 0
 RoundsToNearest = (m n : ℕ) → 0 < n → (2 * nearest_of m n * n ≤ 2 * m + n)
     × (2 * m + n < 2 * nearest_of m n * n + 2 * n)
+
+-- the quotient q of signed numbers x and y is the whole number nearest to x / y: q * y is within half
+-- of y's size of x, and at just a half it is further from zero than x
+abbrev pub QuotientIsNearest : Type 0
+QuotientIsNearest = (x y : ℤ) → 0 < unsigned_abs y → let error = unsigned_abs (nearest x y *ℤ y -ℤ x) in
+    (2 * error ≤ unsigned_abs y)
+    × (2 * error ≡ unsigned_abs y → unsigned_abs x < unsigned_abs (nearest x y *ℤ y))
 
 -- a term behind a list of terms
 abbrev pub PutIsOneTermMore : Type 0

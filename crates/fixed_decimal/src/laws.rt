@@ -1,6 +1,7 @@
 //! Laws of the definitions that the contracts cite. Each function does nothing: its contract is
 //! the law.
 ghost use Rattle.fixed_decimal.specs.Laws.{ReadsBack, RescalingKeepsTheValue, RoundsToNearest};
+ghost use Rattle.fixed_decimal.specs.Laws.{QuotientIsNearest};
 ghost use Rattle.fixed_decimal.specs.Laws.{PutIsOneTermMore, MergeIsBothLists, TotalIsTheSum};
 ghost use Rattle.fixed_decimal.specs.Cases.{Thirds, ZeroDivisor, SumPastTheEnd, AcrossScales};
 ghost use Rattle.fixed_decimal.specs.Cases.{SumsAtTheEnd, AverageOfThree, Spelled};
@@ -10,12 +11,12 @@ pub fn written_is_read()
     ensures { ReadsBack }
 {}
 
-/// Numbers are rescaled without a change of their values. A quotient's size is the whole number
-/// nearest to the quotient of the sizes, a half upwards; its sign is that of the exact quotient, so
-/// a half goes away from zero.
+/// Numbers are rescaled without a change of their values. A quotient is the whole number nearest to
+/// the exact one, a half away from zero; of sizes alone a half goes up.
 pub fn arithmetic_by_value()
     ensures rescale { RescalingKeepsTheValue }
-    ensures quotient { RoundsToNearest }
+    ensures quotient { QuotientIsNearest }
+    ensures sizes { RoundsToNearest }
 {}
 
 /// A tally counts and adds the terms of a list, however they came.

@@ -1,10 +1,8 @@
-pub mod Good
 pub mod Gather
 pub mod Scans
 pub mod Steps
 pub mod Collected
-pub mod Apart
-pub mod SameNodes
-pub mod Sinking
-pub mod OnParts
 pub mod OfOrs
+pub mod Narrowing
+pub mod Regrouping
+pub mod Totals

@@ -1,10 +1,9 @@
 -- What an OR implies of one input may be asked besides.
-use Rattle.std.proofs.Common.{◌≡◌, ℕ, ◌+◌, ◌<◌, ◌≤◌, List, [], ◌∷◌, ◌++◌, refl, sym, ◌∙◌, ap, subst}
+use Rattle.std.proofs.Common.{◌≡◌, ℕ, ◌+◌, ◌<◌, ◌≤◌, List, [], ◌∷◌, ◌++◌, sym, ◌∙◌, ap, subst}
 use Rattle.std.proofs.Common.{arith, zero, suc, length, take, get_or}
 use Rattle.std.specs.Prelude.{min, max}
 use Rattle.std.proofs.lemmas.List.{take_more, take_all}
-use Rattle.row_laws.specs.Ranked.{Ranked, true_rank}
-use Rattle.row_laws.specs.Bags.{SameBag, top}
+use Rattle.row_laws.specs.Bags.{SameBag}
 use Rattle.row_laws.specs.Rows.{unit_row}
 use Rattle.row_laws.specs.Operators.{select}
 use Rattle.row_laws.specs.JoinGroups.{chain}

@@ -1,19 +1,12 @@
 -- The tables that trees and groups scan.
-use Rattle.std.proofs.Common.{◌≡◌, ℕ, ◌+◌, List, [], ◌∷◌, ◌++◌, refl, sym, ap, subst, arith}
+use Rattle.std.proofs.Common.{◌≡◌, ℕ, ◌+◌, List, [], ◌∷◌, ◌++◌, refl, ap, arith}
 use Rattle.std.specs.List.{flat_map}
 use Rattle.row_laws.specs.Bags.{weigh, SameBag}
-use Rattle.row_laws.proofs.Bags.{weigh-append, SameBag-refl}
+use Rattle.row_laws.proofs.Bags.{weigh-append}
 use Rattle.tpch_schema.specs.declared.table.TableName.{TableName}
 use Rattle.algebra.specs.declared.tree.DepTree.{DepTree}
 use Rattle.algebra.specs.Trees.{scans_of}
 use Rattle.join_order.specs.Groups.{scans_in}
-
-pub as_bags : {p q r s : List TableName} → p ≡ q → s ≡ r → SameBag q r → SameBag p s
-as_bags {p} {q} {r} {s} i j b =
-    subst (λ l. SameBag l s) (sym i) (subst (λ l. SameBag q l) (sym j) b)
-
-pub same_list : {p q : List TableName} → p ≡ q → SameBag p q
-same_list {p} {q} i = subst (λ l. SameBag p l) i (SameBag-refl p)
 
 pub scans_none : scans_in [] ≡ []
 unfolding scans_in

@@ -1,5 +1,3 @@
-pub mod Arranged
 pub mod Groups
-pub mod Own
-pub mod Sink
+pub mod Narrow
 pub mod Implied

@@ -6,12 +6,12 @@ ghost use Rattle.conditions.specs.Ranks.{IsBelow};
 ghost use Rattle.join_order.specs.Implied.{AreImplied, PutImplied, SaysSame};
 
 use crate::group::Collected;
-use crate::joined::reads_own;
 use algebra::{DepTree, copy_expr, width};
 use conditions::copy_of;
 use scalar_expr::Expr;
 use sqlite_items::{Boxed, Items};
 use std::alloc::{AllocError, Global};
+use tree_moves::reads_own;
 
 // Puts a part of an AND, where it reads columns from a place on and below another only.
 fn put_own(

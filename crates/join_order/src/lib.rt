@@ -5,8 +5,7 @@ mod choice;
 mod collect;
 mod group;
 mod implied;
-mod joined;
-mod nodes;
-mod sink;
+mod narrow;
+mod regroup;
 
 pub use collect::arrange;

@@ -20,7 +20,7 @@ module _ (before : List Value → List Value → Bool) (order : IsOrder before) 
   inserted_bag x [] h = refl
   inserted_bag x (y ∷ ys) h = let ih = inserted_bag x ys h in elim (cases_Bool (before x y)) [ inl t ↦ rw t refl | inr f ↦ rw f (omega (arith, ih)) ]
 
-  in_order_bag : (xs : List (List Value)) → SameBag (in_order before xs) xs
+  pub in_order_bag : (xs : List (List Value)) → SameBag (in_order before xs) xs
   in_order_bag [] = SameBag-refl []
   in_order_bag (x ∷ xs) = let ih = in_order_bag xs in record { weighs = λ h. inserted_bag x (in_order before xs) h ∙ ap (λ n. h x + n) (ih.weighs h) }
 
@@ -35,7 +35,7 @@ module _ (before : List Value → List Value → Bool) (order : IsOrder before) 
     | inr f ↦ rw f (inserted_each (λ z. before y z ≡ true) x ys (order.either x y f) o.0, inserted_in_order x ys o.1)
   ]
 
-  in_order_is : (xs : List (List Value)) → InOrder before (in_order before xs)
+  pub in_order_is : (xs : List (List Value)) → InOrder before (in_order before xs)
   in_order_is [] = tt
   in_order_is (x ∷ xs) = inserted_in_order x (in_order before xs) (in_order_is xs)
 

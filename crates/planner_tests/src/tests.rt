@@ -121,15 +121,16 @@ fn the_queries_have_no_products(rt: HostRuntime) {
 fn plans_are_printed(rt: HostRuntime) {
     let alloc = rt.alloc();
     let joined = b"select r_name from region, nation where r_regionkey = n_regionkey;";
-    let wanted = b"plan nodes 5 reads 2\n0 scan nation\n1 scan region\n2 join 0 1\n3 project 2\n\
-4 project 3\n";
+    let wanted = b"plan nodes 6 reads 2\n0 scan nation\n1 project 0\n2 scan region\n3 project 2\n\
+4 join 1 3\n5 project 4\n";
     assert!(rt; matches!(is_planned(alloc, joined, wanted), Ok(true)));
     let combined = b"select a.r_name from region a, region b;";
-    let wanted = b"plan nodes 4 reads 2\n0 scan region\n1 scan region\n2 join 0 1\n3 project 2\n";
+    let wanted = b"plan nodes 5 reads 2\n0 scan region\n1 project 0\n2 scan region\n3 project 2\n\
+4 join 1 3\n";
     assert!(rt; matches!(is_planned(alloc, combined, wanted), Ok(true)));
     let marked = b"select r_name from region where exists (select * from nation where \
 n_regionkey = r_regionkey);";
-    let wanted = b"plan nodes 8 reads 2\n0 scan region\n1 domain 0\n2 scan nation\n3 join 1 2\n\
-4 project 3\n5 mark 0 4\n6 select 5\n7 project 6\n";
+    let wanted = b"plan nodes 9 reads 2\n0 scan region\n1 project 0\n2 domain 1\n3 scan nation\n\
+4 join 2 3\n5 mark 1 4\n6 project 5\n7 select 6\n8 project 7\n";
     assert!(rt; matches!(is_planned(alloc, marked, wanted), Ok(true)));
 }

@@ -12,7 +12,7 @@ use Rattle.algebra.specs.declared.tree.DepTree.{DepTree}
 use Rattle.algebra.specs.Plans.{plan_rows, plan_scans}
 use Rattle.algebra.specs.Trees.{tree_rows, scans_of}
 use Rattle.dependent_plan.specs.Dependence.{IsTreeOf}
-use Rattle.join_order.specs.Arranged.{SameRows}
+use Rattle.tree_moves.specs.Arranged.{SameRows}
 use Rattle.unnesting.specs.declared.domain.Domain.{Domain}
 use Rattle.unnesting.specs.declared.domain.DomainRows.TheVariants.{One}
 use Rattle.unnesting.specs.Lowerings.{Answered, KeepsNodes}

@@ -4,3 +4,10 @@ mod Texts
 mod Expanded
 mod Once
 mod Explaining
+mod JobSets
+mod JobDeals
+mod JobRuns
+mod JobReports
+mod JobTexts
+mod JobParts
+mod Crossing

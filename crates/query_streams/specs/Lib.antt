@@ -5,3 +5,9 @@ pub mod Sessions
 pub mod Explained
 pub mod Laws
 pub mod Examples
+pub mod Counts
+pub mod Reports
+pub mod Jobs
+pub mod Asked
+pub mod Works
+pub mod Gathered

@@ -33,11 +33,12 @@ are_clean views (statement ∷ statements) (moment ∷ moments) =
     && are_clean (views_after views statement) statements moments
 
 -- The course of a session: the statements that its script stands for, how many of them have their
--- lines, its views, its text, whether no line is a refusal, whether rows are printed, and whether
--- memory ran out.
+-- lines, the versions that these were asked at, its views, its text, whether no line is a refusal,
+-- whether rows are printed, and whether memory ran out.
 pub record Course : Type 0 where
   pub steps : List Statement
   pub answered : ℕ
+  pub versions : List ℕ
   pub views : List View
   pub text : List ℕ
   pub is_clean : Bool
@@ -49,6 +50,7 @@ abbrev pub course_of : Session → Course
 course_of session = record {
   steps = session.steps;
   answered = session.answered;
+  versions = session.versions.items;
   views = session.views.all;
   text = session.text.items;
   is_clean = session.is_clean;
@@ -60,10 +62,12 @@ course_of session = record {
 pub record Begins (statements : List Statement) (with_rows : Bool) (course : Course) : Type 0 where
   pub expanded : ExpandAll statements course.steps
   pub answered : course.answered ≡ 0
+  pub versions : course.versions ≡ []
   pub views : course.views ≡ []
   pub text : course.text ≡ []
   pub is_clean : course.is_clean ≡ true
   pub shows_rows : course.shows_rows ≡ with_rows
+  pub going : course.is_lost ≡ false
 
 -- the statement whose turn it is
 abbrev pub next_of : Course → Option Statement
@@ -73,6 +77,7 @@ next_of course = slice_get course.steps course.answered
 abbrev pub with_lines : Course → ℕ → Outcome → Course
 with_lines course version outcome = record course {
   answered = course.answered + 1;
+  versions = course.versions ++ version ∷ [];
   text = course.text ++ outcome_text course.shows_rows (course.answered + 1) version outcome;
   is_clean = course.is_clean && not (is_refusal outcome);
 }

@@ -1,16 +1,25 @@
 //! Sessions: the statements of a script, answered one by one over the versions that they are asked
-//! at, and their text.
+//! at, and their text. Jobs: sessions that run beside a publisher.
 #![tactic(auto)]
 
+mod counts;
 mod expansion;
 mod explained;
+mod job;
+mod job_text;
 pub mod laws;
 mod outcome;
 mod query;
+mod report;
 mod runs;
 mod session;
 mod text;
 mod views;
+mod work;
+mod works;
 
+pub use counts::push_counts;
 pub use explained::{Explained, explain};
+pub use job::run_job;
+pub use job_text::JobText;
 pub use session::{Session, Turn};

@@ -1,6 +1,6 @@
 //! A session: a script's statements in their order, with views of their own, and the text so far.
 ghost use Rattle.std.specs.Prelude.{◌≡◌, ◌<◌, ℕ, length, IfOk, IsTrue, OnOk, Result, Err, Some};
-ghost use Rattle.std.specs.Prelude.{true};
+ghost use Rattle.std.specs.Prelude.{is_none, true};
 ghost use Rattle.refusals.specs.declared.refresh.Cause.{Cause};
 ghost use Rattle.segment_store.specs.Trials.{tables_of, version_of};
 ghost use Rattle.query_streams.specs.Outcomes.{is_printable, outcome_of, refreshed};
@@ -39,6 +39,7 @@ pub struct Session {
     alloc: Global,
     steps: Items<Statement>,
     answered: usize,
+    versions: Vec<u64>,
     views: Views,
     text: Vec<u8>,
     is_clean: bool,
@@ -104,6 +105,7 @@ impl Session {
             alloc,
             steps,
             answered: 0,
+            versions: Vec::new(alloc),
             views: Views {
                 all: Items::new(alloc),
             },
@@ -119,6 +121,20 @@ impl Session {
         ensures { result.now ≡ (course_of self.now).steps }
     {
         self.steps.as_slice()
+    }
+
+    /// Whether each statement had its turn.
+    pub fn is_ended(&self) -> bool
+        ensures { result ≡ is_none (next_of (course_of self.now)) }
+    {
+        self.steps.get(self.answered).is_none()
+    }
+
+    /// The versions at which the statements were asked that had their turn.
+    pub fn versions(&self) -> &[u64]
+        ensures { result.now ≡ (course_of self.now).versions }
+    {
+        self.versions.as_slice()
     }
 
     /// The text of the statements that had their turn.
@@ -152,6 +168,7 @@ impl Session {
             outcome,
         )?;
         self.text.append(&mut lines)?;
+        self.versions.push(version)?;
         self.is_clean = self.is_clean && !outcome.is_refusal();
         self.answered += 1;
         Ok(())

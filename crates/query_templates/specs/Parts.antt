@@ -41,16 +41,19 @@ with_quoted b p = (b ∷ p.0, p.1)
 
 -- The parts of a template: outside quotes and places, inside quotes, and in the digits of a place.
 unfoldable mutual
+  -- the parts of bytes that stand outside quotes and places
   pub outside : List ℕ → Parts
   outside [] = record { first = []; holes = [] }
   outside (b ∷ bs) =
       if b == 39 then with_hole (quoted (inside bs).0) (inside bs).1
       else if b == 58 then digits 0 bs else with_byte b (outside bs)
 
+  -- the bytes up to the quote that closes a text, and the parts after it
   pub inside : List ℕ → List ℕ × Parts
   inside [] = ([], record { first = []; holes = [] })
   inside (b ∷ bs) = if b == 39 then ([], outside bs) else with_quoted b (inside bs)
 
+  -- the parts from within a place, of which the digits so far make this number
   pub digits : ℕ → List ℕ → Parts
   digits n [] = record { first = []; holes = (place n, []) ∷ [] }
   digits n (b ∷ bs) =

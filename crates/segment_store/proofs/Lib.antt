@@ -1,2 +1,3 @@
 pub mod Neighbours
 pub mod Next
+pub mod Rest

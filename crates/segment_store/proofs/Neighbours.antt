@@ -23,7 +23,7 @@ use Rattle.columns.proofs.RowLists.{one_list-push}
 use Rattle.segment_store.specs.Segments.{AreApart, AreJoined, FitsNoNext, IsShort}
 use Rattle.segment_store.specs.Joining.{HasRoom, IsJoining}
 use Rattle.table_state.specs.Lists.{IsOfKinds, state_of}
-use Rattle.table_state.proofs.Compaction.{open_joined, rows_joined}
+use Rattle.segment_store.proofs.Rest.{open_joined, plain_standing, rows_joined}
 
 -- the last segment grows
 pub apart-grows : (segments : List (List (List Value))) (last more : List (List Value))
@@ -111,10 +111,6 @@ pub same-width : (rows : List (List Value)) (m n : ℕ) → 0 < length rows
 same-width [] m n some are be = absurd (omega (arith, some))
 same-width (row ∷ rows) m n some are be =
     sym (are 0 row (omega arith)) ∙ be 0 row (omega arith)
-
-plain-standing : (rows : List (List Value)) → plain_rows (standing_rows rows) ≡ rows
-plain-standing [] = refl
-plain-standing (r ∷ rows) = ap (λ l. r ∷ l) (plain-standing rows)
 
 pub standing-wide : (rows : List (List Value)) (n : ℕ) → All (λ row. length row ≡ n) rows
     → All (λ r. length r.values ≡ n) (standing_rows rows)
@@ -205,7 +201,7 @@ part-joined count full new rest next batch after part has long stand width wide 
           (sym (ap plain_rows rows
           ∙ map-append (λ (r : Ranked Value). r.values) next.rows batch.rows
           ∙ ap (λ (r : List (Ranked Value)). plain_rows next.rows ++ plain_rows r) stand
-          ∙ ap (λ (r : List (List Value)). plain_rows next.rows ++ r) (plain-standing part)))
+          ∙ ap (λ (r : List (List Value)). plain_rows next.rows ++ r) (plain_standing part)))
           (has.apart part (sym long));
     }
 

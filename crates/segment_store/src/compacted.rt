@@ -1,11 +1,12 @@
 //! A version in whole segments.
-ghost use Rattle.std.specs.Prelude.{◌≡◌, IfOk, OnOk, length, map};
+ghost use Rattle.std.specs.Prelude.{◌≡◌, ◌≤◌, ◌↔◌, IfOk, IsTrue, OnOk, length, map};
 ghost use Rattle.std.specs.List.{All};
 ghost use Rattle.columns.specs.Lists.{one_list};
 ghost use Rattle.tpch_schema.specs.Kinds.{RowsAreOf};
 ghost use Rattle.tpch_schema.specs.State.{table_rows};
 ghost use Rattle.table_state.specs.Lists.{IsOfKinds, state_of};
 ghost use Rattle.segment_store.specs.Segments.{AreJoined};
+ghost use Rattle.segment_store.specs.Trials.{version_of};
 
 use crate::directory::Directory;
 use crate::joining::joined;
@@ -57,20 +58,44 @@ impl Model for Compacted {
 }
 
 impl Compacted {
+    /// How many refreshes were accepted.
+    pub fn version(&self) -> u64
+        ensures { result ≡ version_of self.now.version }
+    {
+        self.accepted
+    }
+
+    /// How many refreshes the list has.
+    pub fn listed(&self) -> usize
+        ensures { result ≡ length self.now.version.list }
+    {
+        self.list.len()
+    }
+
+    /// Whether each refresh of the list was tried.
+    pub fn is_done(&self) -> bool
+        ensures done { IsTrue result ↔ (self.now.version.done ≡ length self.now.version.list) }
+        ensures within { self.now.version.done ≤ length self.now.version.list }
+    {
+        self.done == self.list.len()
+    }
+
+    /// The same version as a directory, whose tables' parts are these segments.
+    pub fn directory(&self) -> Result<Directory, AllocError>
+        ensures { IfOk result (λ d. d ≡ self.now.version) }
+    {
+        let state = state_over(self.alloc, self.tables.as_slice())?;
+        let base = Arc::try_clone(&self.base)?;
+        let list = Arc::try_clone(&self.list)?;
+        Ok(Directory::at(self.alloc, base, list, self.done, self.accepted, state))
+    }
+
     /// The same version, whose tables' parts are these segments.
     pub fn into_directory(self) -> Result<Directory, AllocError>
         ensures { IfOk result (λ d. d ≡ self.version) }
     {
-        let Compacted {
-            alloc,
-            base,
-            list,
-            done,
-            accepted,
-            tables,
-        } = self;
-        let state = state_over(alloc, tables.as_slice())?;
-        Ok(Directory::at(alloc, base, list, done, accepted, state))
+        let directory = self.directory()?;
+        Ok(directory)
     }
 }
 

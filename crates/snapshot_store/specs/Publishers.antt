@@ -1,27 +1,55 @@
 -- What a publisher is seen as.
-use Rattle.std.specs.Prelude.{◌≡◌, ℕ, ◌<◌, Ok, Err, length}
+use Rattle.std.specs.Prelude.{◌≡◌, ℕ, ◌<◌, List, Option, Some, None, Ok, Err, length}
+use Rattle.sql_value.specs.declared.value.Value.{Value}
 use Rattle.table_state.specs.declared.applied.RefreshError.TheVariants.{Refused as RefusedBy}
+use Rattle.segment_store.specs.Segments.{IsCompacted}
 use Rattle.segment_store.specs.Trials.{IsAfter, Trials, version_of}
 use Rattle.snapshot_store.specs.Openings.{opening_at}
 use Rattle.snapshot_store.specs.Rule.{on_shelf}
 use Rattle.snapshot_store.specs.Ruled.{note_number, note_opening}
+use Rattle.snapshot_store.specs.declared.latest.Latest.{Latest}
+use Rattle.snapshot_store.specs.declared.latest.Latest.TheVariants.{Tried, Joined}
 use Rattle.snapshot_store.specs.declared.publisher.Publisher.TheInside.{Inside}
 use Rattle.snapshot_store.specs.declared.publisher.Published.{Published as Answer}
 use Rattle.snapshot_store.specs.declared.publisher.Published.TheVariants.{Published, Refused}
 use Rattle.snapshot_store.specs.declared.publisher.Published.TheVariants.{NoMore, OutOfMemory}
 use Rattle.snapshot_store.specs.declared.ruled.Note.{Note}
 
--- the last version, and how often the hall refused an entry
+-- the segments of each table, in the schema's order of tables
+abbrev pub Cut : Type 0
+Cut = List (List (List (List Value)))
+
+-- the last version, how often the hall refused an entry, and the segments of the version, where
+-- they are joined
 pub record Edition : Type 0 where
   pub version : Trials
   pub refused : ℕ
+  pub joined : Option Cut
 
--- the version that is shown is that of the publisher's directory
+-- a publisher's version, however it is kept
+abbrev pub version_in : Latest → Trials
+version_in (Tried version) = version
+version_in (Joined compaction) = compaction.version
+
+-- the segments that it is known to lie in
+abbrev pub joined_in : Latest → Option Cut
+joined_in (Tried version) = None
+joined_in (Joined compaction) = Some compaction.tables
+
+-- a version's tables lie in joined segments
+abbrev pub LiesJoined : Trials → Option Cut → Type 0
+LiesJoined version None = ⊥
+LiesJoined version (Some tables) =
+    IsCompacted version (record { version = version; tables = tables })
+
+-- the version that is shown is that of the publisher
 pub record IsInStep (publisher : Inside) : Type 0 where
-  pub base : (on_shelf publisher.hall.writer.desk.shown.value).base ≡ publisher.directory.base
-  pub list : (on_shelf publisher.hall.writer.desk.shown.value).list ≡ publisher.directory.list
+  pub base : (on_shelf publisher.hall.writer.desk.shown.value).base
+      ≡ (version_in publisher.latest).base
+  pub list : (on_shelf publisher.hall.writer.desk.shown.value).list
+      ≡ (version_in publisher.latest).list
   pub version : version_of (on_shelf publisher.hall.writer.desk.shown.value)
-      ≡ version_of publisher.directory
+      ≡ version_of (version_in publisher.latest)
 
 -- a note tells of the version
 abbrev pub TellsVersion : Trials → Note → Type 0

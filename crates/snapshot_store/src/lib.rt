@@ -3,6 +3,7 @@
 
 mod entry;
 mod hall;
+mod latest;
 mod publisher;
 mod reader;
 mod rule;

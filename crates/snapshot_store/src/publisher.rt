@@ -3,9 +3,11 @@ ghost use Rattle.std.specs.Prelude.{◌≡◌, ◌≤◌, ◌↔◌, IfOk, IsTru
 ghost use Rattle.std.specs.Arc.{arc_value};
 ghost use Rattle.segment_store.specs.Trials.{version_of};
 ghost use Rattle.snapshot_store.specs.Halls.{AreSeated, SeatsEnough, shown_in};
+ghost use Rattle.snapshot_store.specs.Publishers.{joined_in, version_in};
 ghost use Rattle.snapshot_store.specs.Ruled.{opening_of};
 
 use crate::hall::seat;
+use crate::latest::Latest;
 use crate::reader::Reader;
 use crate::rule::{publish, start};
 use crate::ruled::{Note, RuledEntry};
@@ -20,19 +22,24 @@ use std::sync::{Arc, Wait};
 use table_state::{Refresh, RefreshError, State};
 
 /// Tries the refreshes of a list one after the other and shows readers the versions. It is seen as
-/// its last version, with how often its hall refused an entry. It is not dropped: `close` ends it.
+/// its last version, with how often its hall refused an entry, and with the version's segments
+/// from a compaction up to the next refresh that is tried. It is not dropped: `close` ends it.
 pub struct Publisher {
     alloc: Global,
     hall: RuledHall,
-    directory: Directory,
+    latest: Latest,
 }
 
 impl Model for Publisher {
-    ghost use Rattle.snapshot_store.specs.Publishers.{Edition, IsInStep};
+    ghost use Rattle.snapshot_store.specs.Publishers.{Edition, IsInStep, joined_in, version_in};
 
     ghost Value = { Edition };
 
-    ghost view = { λ p. record { version = p.directory; refused = p.hall.refusals } };
+    ghost view = { λ p. record {
+      version = version_in p.latest;
+      refused = p.hall.refusals;
+      joined = joined_in p.latest;
+    } };
 
     ghost invariant = { IsInStep };
 }
@@ -51,41 +58,53 @@ pub enum Published {
 }
 
 impl Publisher {
-    ghost use Rattle.snapshot_store.specs.Publishers.{TellsVersion, Tries};
+    ghost use Rattle.snapshot_store.specs.Publishers.{LiesJoined, TellsVersion, Tries};
 
     /// Tries the next refresh of the list. Where memory runs out all stays as it was.
     pub fn publish_next<R: Wait>(&mut self, rt: &R) -> Published
         ensures tries { Tries self.old.version self.new.version result }
         ensures refused { self.new.refused ≡ self.old.refused }
     {
-        if self.directory.is_done() {
+        if self.latest.is_done() {
             return Published::NoMore;
         }
-        match self.directory.after_next() {
+        let Ok(mut tried) = self.latest.directory() else {
+            return Published::OutOfMemory;
+        };
+        match tried.after_next() {
             Ok(next) => match self.show_next(rt, next) {
                 Ok(note) => Published::Published(note),
                 Err(_) => Published::OutOfMemory,
             },
-            Err(RefreshError::Refused(cause)) => Published::Refused(cause),
+            Err(RefreshError::Refused(cause)) => {
+                self.latest = Latest::Tried(tried);
+                Published::Refused(cause)
+            }
             Err(RefreshError::OutOfMemory) => Published::OutOfMemory,
         }
     }
 
-    /// Shows readers a version that is no earlier one.
-    fn show<R: Wait>(&mut self, rt: &R, next: Directory) -> Result<Arc<Directory>, AllocError>
-        requires base { next.base ≡ self.old.version.base }
-        requires list { next.list ≡ self.old.version.list }
-        requires later { version_of self.old.version ≤ version_of next }
-        ensures ok { OnOk result
-            (self.new ≡ record { version = next; refused = self.old.refused }) }
-        ensures share { IfOk result (λ share. arc_value share ≡ next) }
+    /// Shows readers a share of a version that is no earlier one, and keeps that version.
+    fn show<R: Wait>(
+        &mut self,
+        rt: &R,
+        share: Arc<Directory>,
+        latest: Latest,
+    ) -> Result<(), AllocError>
+        requires share { arc_value share ≡ version_in latest }
+        requires base { (version_in latest).base ≡ self.old.version.base }
+        requires list { (version_in latest).list ≡ self.old.version.list }
+        requires later { version_of self.old.version ≤ version_of (version_in latest) }
+        ensures ok { OnOk result (self.new ≡ record {
+          version = version_in latest;
+          refused = self.old.refused;
+          joined = joined_in latest;
+        }) }
         ensures err { OnErr result (self.new ≡ self.old) }
     {
-        let share = Arc::new(self.alloc, next.another()?)?;
-        let mine = Arc::try_clone(&share)?;
         replace_with(&mut self.hall.writer, (rt, share), publish::<R>)?;
-        self.directory = next;
-        Ok(mine)
+        self.latest = latest;
+        Ok(())
     }
 
     /// Shows readers the next version, and tells of it.
@@ -93,35 +112,37 @@ impl Publisher {
         requires base { next.base ≡ self.old.version.base }
         requires list { next.list ≡ self.old.version.list }
         requires later { version_of self.old.version ≤ version_of next }
-        ensures ok { OnOk result
-            (self.new ≡ record { version = next; refused = self.old.refused }) }
+        ensures version { OnOk result (self.new.version ≡ next) }
+        ensures refused { self.new.refused ≡ self.old.refused }
         ensures note { IfOk result (TellsVersion next) }
         ensures err { OnErr result (self.new ≡ self.old) }
     {
-        let share = self.show(rt, next)?;
-        Ok(Note::at(&mut self.hall.writer, share))
+        let share = Arc::new(self.alloc, next.another()?)?;
+        let mine = Arc::try_clone(&share)?;
+        self.show(rt, share, Latest::Tried(next))?;
+        Ok(Note::at(&mut self.hall.writer, mine))
     }
 
     /// How many refreshes were accepted.
     pub fn version(&self) -> u64
         ensures { result ≡ version_of self.now.version }
     {
-        self.directory.version()
+        self.latest.version()
     }
 
     /// A snapshot of the last version, of whose rows nothing is copied.
     pub fn snapshot(&self) -> Result<Snapshot, AllocError>
         ensures { IfOk result (λ snapshot. snapshot ≡ self.now.version) }
     {
-        let snapshot = Snapshot::of(self.alloc, &self.directory)?;
-        Ok(snapshot)
+        let share = Arc::new(self.alloc, self.latest.directory()?)?;
+        Ok(Snapshot::over(share))
     }
 
     /// How many refreshes the list has.
     pub fn listed(&self) -> usize
         ensures { result ≡ length self.now.version.list }
     {
-        self.directory.listed()
+        self.latest.listed()
     }
 
     /// Whether each refresh of the list was tried.
@@ -129,7 +150,7 @@ impl Publisher {
         ensures done { IsTrue result ↔ (self.now.version.done ≡ length self.now.version.list) }
         ensures within { self.now.version.done ≤ length self.now.version.list }
     {
-        self.directory.is_done()
+        self.latest.is_done()
     }
 
     /// A note of the last version. The publisher stays as it is.
@@ -142,12 +163,17 @@ impl Publisher {
     }
 
     /// Shows readers the same version, in segments of which no row is deleted and no two neighbours
-    /// fit in one.
+    /// fit in one, and keeps it so. Where memory runs out all stays as it was.
     pub fn compact<R: Wait>(&mut self, rt: &R) -> Result<(), AllocError>
-        ensures { self.new ≡ self.old }
+        ensures version { self.new.version ≡ self.old.version }
+        ensures refused { self.new.refused ≡ self.old.refused }
+        ensures joined { OnOk result (LiesJoined self.old.version self.new.joined) }
+        ensures err { OnErr result (self.new ≡ self.old) }
     {
-        let next = self.directory.compacted()?.into_directory()?;
-        self.show(rt, next)?;
+        let directory = self.latest.directory()?;
+        let compacted = directory.compacted()?;
+        let share = Arc::new(self.alloc, compacted.directory()?)?;
+        self.show(rt, share, Latest::Joined(compacted))?;
         Ok(())
     }
 
@@ -156,7 +182,7 @@ impl Publisher {
         let Publisher {
             alloc: _alloc,
             hall,
-            directory: _directory,
+            latest: _latest,
         } = self;
         hall.close(rt);
     }
@@ -194,7 +220,7 @@ pub fn open<R: Wait>(
             Publisher {
                 alloc,
                 hall,
-                directory,
+                latest: Latest::Tried(directory),
             },
             readers,
         )),

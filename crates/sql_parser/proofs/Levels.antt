@@ -24,8 +24,10 @@ use Rattle.grammar_laws.proofs.Lawful.{Line, Deeper, Sample-then, Sample-map, Sa
 use Rattle.grammar_laws.proofs.OneMeaning.{one_meaning}
 use Rattle.sql_parser.specs.Kinds.{kinds}
 use Rattle.sql_parser.specs.Values.{product, sum, tested, second, pair, cons, constant, plain_selection, joined, filters, block}
-use Rattle.sql_parser.specs.Grammar.{UnaryLine, PartLine, QueryLine, TestTail, SelectLine, JoinedLine, WhereTail, GroupTail, HavingTail, Unary, NotPart, Query, Ended}
-use Rattle.sql_parser.specs.Readings.{read_unary_line, read_part_line, read_query_line, unary_at, part_at, query_at, inner_unary, inner_part, inner_query, ended_at}
+use Rattle.sql_parser.specs.Expressions.{UnaryLine, PartLine, TestTail}
+use Rattle.sql_parser.specs.Grammar.{QueryLine, SelectLine, JoinedLine, WhereTail, GroupTail, HavingTail, Unary, NotPart, Query, Ended}
+use Rattle.sql_parser.specs.ExpressionReadings.{read_unary_line, read_part_line}
+use Rattle.sql_parser.specs.Readings.{read_query_line, unary_at, part_at, query_at, inner_unary, inner_part, inner_query, ended_at}
 use Rattle.sql_parser.proofs.KindLists.{leaf_first, unary_first, part_first, on_unary, on_part, on_query, alias_words}
 use Rattle.sql_parser.proofs.LineLaws.{law-TableLine, law-Leaf, law-UnaryLine, law-PartLine, law-QueryLine, law-EndedLine}
 use Rattle.sql_parser.proofs.LiftLaws.{lift-UnaryLine, lift-PartLine, lift-QueryLine, lift-EndedLine}

@@ -1,6 +1,8 @@
 pub mod Kinds
 pub mod Values
+pub mod Expressions
 pub mod Grammar
+pub mod ExpressionReadings
 pub mod Readings
 pub mod Nests
 pub mod Reads

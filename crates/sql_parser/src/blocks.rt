@@ -18,7 +18,7 @@ use crate::parts::{block_of, join_of, joined_of};
 use grammar_laws::SyntaxError;
 use sql_ast::{Block, Expr, FromItem, Join, Joined};
 use sql_lexer::Kind;
-use sqlite_items::{Boxed, Items};
+use sqlite_items::Items;
 use std::alloc::Global;
 
 /// What holds expressions of one level, and queries of the level below. `part` reads the parts of
@@ -49,7 +49,7 @@ impl<
             part: self.part,
             query: self.query,
         };
-        let query = Boxed::new(self.alloc, nested.subquery(parser)?)?;
+        let query = nested.subquery(parser)?;
         let alias = parser.derived_alias(self.alloc)?;
         let columns = column_names(self.alloc, parser, self.room)?;
         Ok(FromItem::Derived(query, alias, columns))

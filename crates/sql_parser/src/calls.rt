@@ -1,7 +1,7 @@
 //! What opens a level and holds expressions there: CASE, and words with parentheses.
 ghost use Rattle.grammar_laws.specs.Readings.{Reads};
 ghost use Rattle.sql_parser.specs.Nests.{Below};
-ghost use Rattle.sql_parser.specs.Readings as readings;
+ghost use Rattle.sql_parser.specs.ExpressionReadings as readings;
 ghost use Rattle.sql_parser.specs.Readings.{inner_part, part_at};
 
 use crate::level::Level;
@@ -23,7 +23,7 @@ pub(crate) struct Calls<P> {
 
 impl<P: Copy + Fn(Global, &mut Parser<'_>, usize) -> Result<Expr, SyntaxError>> Calls<P> {
     /// `case .. end`.
-    #[tactic(auto, using(crate::proofs::Inner::rules_inner), unfolding(crate::specs::Readings::read_case))]
+    #[tactic(auto, using(crate::proofs::Inner::rules_inner), unfolding(crate::specs::ExpressionReadings::read_case))]
     pub(crate) fn case(&self, parser: &mut Parser<'_>) -> Result<Expr, SyntaxError>
         requires { Below (part_at 1023) self.now.room (P.pre self.now.part) (P.post self.now.part) }
         ensures { Reads (readings.read_case 1023 self.now.room (inner_part 1023 self.now.room)
@@ -36,12 +36,13 @@ impl<P: Copy + Fn(Global, &mut Parser<'_>, usize) -> Result<Expr, SyntaxError>> 
             part: self.part,
         };
         let inner = level.case_body(parser)?;
+        let inner = Boxed::new(self.alloc, inner)?;
         parser.one(Kind::End)?;
-        Ok(inner)
+        Ok(inner.into_inner())
     }
 
     /// `extract "(" .. ")"`.
-    #[tactic(auto, using(crate::proofs::Inner::rules_inner), unfolding(crate::specs::Readings::read_extract))]
+    #[tactic(auto, using(crate::proofs::Inner::rules_inner), unfolding(crate::specs::ExpressionReadings::read_extract))]
     fn extract(&self, parser: &mut Parser<'_>) -> Result<Expr, SyntaxError>
         requires { Below (part_at 1023) self.now.room (P.pre self.now.part) (P.post self.now.part) }
         ensures { Reads (readings.read_extract 1023 self.now.room (inner_part 1023 self.now.room)
@@ -55,12 +56,13 @@ impl<P: Copy + Fn(Global, &mut Parser<'_>, usize) -> Result<Expr, SyntaxError>> 
             part: self.part,
         };
         let inner = level.extract_inside(parser)?;
+        let inner = Boxed::new(self.alloc, inner)?;
         parser.one(Kind::CloseParen)?;
-        Ok(inner)
+        Ok(inner.into_inner())
     }
 
     /// `substring "(" .. ")"`.
-    #[tactic(auto, using(crate::proofs::Inner::rules_inner), unfolding(crate::specs::Readings::read_substring))]
+    #[tactic(auto, using(crate::proofs::Inner::rules_inner), unfolding(crate::specs::ExpressionReadings::read_substring))]
     fn substring(&self, parser: &mut Parser<'_>) -> Result<Expr, SyntaxError>
         requires { Below (part_at 1023) self.now.room (P.pre self.now.part) (P.post self.now.part) }
         ensures { Reads (readings.read_substring 1023 self.now.room (inner_part 1023 self.now.room)
@@ -74,12 +76,13 @@ impl<P: Copy + Fn(Global, &mut Parser<'_>, usize) -> Result<Expr, SyntaxError>> 
             part: self.part,
         };
         let inner = level.substring_inside(parser)?;
+        let inner = Boxed::new(self.alloc, inner)?;
         parser.one(Kind::CloseParen)?;
-        Ok(inner)
+        Ok(inner.into_inner())
     }
 
     /// `count "(" .. ")"`.
-    #[tactic(auto, using(crate::proofs::Inner::rules_inner), unfolding(crate::specs::Readings::read_count))]
+    #[tactic(auto, using(crate::proofs::Inner::rules_inner), unfolding(crate::specs::ExpressionReadings::read_count))]
     fn count(&self, parser: &mut Parser<'_>) -> Result<Expr, SyntaxError>
         requires { Below (part_at 1023) self.now.room (P.pre self.now.part) (P.post self.now.part) }
         ensures { Reads (readings.read_count 1023 self.now.room (inner_part 1023 self.now.room)
@@ -93,12 +96,13 @@ impl<P: Copy + Fn(Global, &mut Parser<'_>, usize) -> Result<Expr, SyntaxError>> 
             part: self.part,
         };
         let inner = level.count_inside(parser)?;
+        let inner = Boxed::new(self.alloc, inner)?;
         parser.one(Kind::CloseParen)?;
-        Ok(inner)
+        Ok(inner.into_inner())
     }
 
     /// `sum(e)` and its like.
-    #[tactic(auto, using(crate::proofs::Inner::rules_inner), unfolding(crate::specs::Readings::read_aggregate))]
+    #[tactic(auto, using(crate::proofs::Inner::rules_inner), unfolding(crate::specs::ExpressionReadings::read_aggregate))]
     fn aggregate(&self, parser: &mut Parser<'_>) -> Result<Expr, SyntaxError>
         requires { Below (part_at 1023) self.now.room (P.pre self.now.part) (P.post self.now.part) }
         ensures { Reads (readings.read_aggregate 1023 self.now.room (inner_part 1023 self.now.room)
@@ -111,13 +115,13 @@ impl<P: Copy + Fn(Global, &mut Parser<'_>, usize) -> Result<Expr, SyntaxError>> 
             room: self.room - 1,
             part: self.part,
         };
-        let inner = level.whole(parser)?;
+        let inner = Boxed::new(self.alloc, level.whole(parser)?)?;
         parser.one(Kind::CloseParen)?;
-        Ok(Expr::Aggregate(function, Boxed::new(self.alloc, inner)?))
+        Ok(Expr::Aggregate(function, inner))
     }
 
     /// What a word and parentheses make.
-    #[tactic(auto, unfolding(crate::specs::Readings::read_call))]
+    #[tactic(auto, unfolding(crate::specs::ExpressionReadings::read_call))]
     pub(crate) fn call(&self, parser: &mut Parser<'_>) -> Result<Expr, SyntaxError>
         requires { Below (part_at 1023) self.now.room (P.pre self.now.part) (P.post self.now.part) }
         ensures { Reads (readings.read_call 1023 self.now.room (inner_part 1023 self.now.room)

@@ -3,6 +3,7 @@ ghost use Rattle.std.specs.Prelude.{◌∷◌};
 ghost use Rattle.grammar_laws.specs.Readings.{Reads, links, mapped, one};
 ghost use Rattle.sql_lexer.specs.Kinds.{is};
 ghost use Rattle.sql_lexer.specs.declared.kind.Kind.TheVariants as k;
+ghost use Rattle.sql_parser.specs.ExpressionReadings as expressions;
 ghost use Rattle.sql_parser.specs.Readings as readings;
 ghost use Rattle.sql_parser.specs.Values as values;
 
@@ -138,7 +139,7 @@ fn more_columns(
     first: Column,
 ) -> Result<Items<Column>, SyntaxError>
     ensures { Reads (mapped (λ xs. first ∷ xs) (links (is k.Comma) (one (is k.Comma)) values.second
-        readings.read_column 1023) parser.old) result parser.new }
+        expressions.read_column 1023) parser.old) result parser.new }
 {
     let mut found = Items::new(alloc);
     found.push(first)?;
@@ -216,7 +217,7 @@ fn more_names(
     first: Name,
 ) -> Result<Items<Name>, SyntaxError>
     ensures { Reads (mapped (λ xs. first ∷ xs) (links (is k.Comma) (one (is k.Comma)) values.second
-        readings.read_name 1023) parser.old) result parser.new }
+        expressions.read_name 1023) parser.old) result parser.new }
 {
     let mut found = Items::new(alloc);
     found.push(first)?;

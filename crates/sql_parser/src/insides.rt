@@ -4,7 +4,7 @@ ghost use Rattle.grammar_laws.specs.Readings.{Reads, links, mapped, nothing};
 ghost use Rattle.sql_lexer.specs.Kinds.{is};
 ghost use Rattle.sql_lexer.specs.declared.kind.Kind.TheVariants as k;
 ghost use Rattle.sql_parser.specs.Nests.{At};
-ghost use Rattle.sql_parser.specs.Readings as readings;
+ghost use Rattle.sql_parser.specs.ExpressionReadings as readings;
 ghost use Rattle.sql_parser.specs.Readings.{part_at};
 ghost use Rattle.sql_parser.specs.Values as values;
 
@@ -19,17 +19,17 @@ use std::alloc::Global;
 
 impl<P: Fn(Global, &mut Parser<'_>, usize) -> Result<Expr, SyntaxError>> Level<P> {
     /// `when e then e`.
-    #[tactic(auto, unfolding(crate::specs::Readings::read_arm))]
+    #[tactic(auto, unfolding(crate::specs::ExpressionReadings::read_arm))]
     fn arm(&self, parser: &mut Parser<'_>) -> Result<Arm, SyntaxError>
         requires { At (part_at 1023) self.now.room (P.pre self.now.part) (P.post self.now.part) }
         ensures { Reads (readings.read_arm 1023 (part_at 1023 self.now.room) parser.old) result
             parser.new }
     {
         parser.one(Kind::When)?;
-        let condition = self.whole(parser)?;
+        let condition = Boxed::new(self.alloc, self.whole(parser)?)?;
         parser.one(Kind::Then)?;
         let value = self.whole(parser)?;
-        Ok(arm_of(condition, value))
+        Ok(arm_of(condition.into_inner(), value))
     }
 
     /// The arms, of which the first is read.
@@ -56,7 +56,7 @@ impl<P: Fn(Global, &mut Parser<'_>, usize) -> Result<Expr, SyntaxError>> Level<P
     }
 
     /// `when e then e {when e then e}`.
-    #[tactic(auto, unfolding(crate::specs::Readings::read_arms))]
+    #[tactic(auto, unfolding(crate::specs::ExpressionReadings::read_arms))]
     fn arms(&self, parser: &mut Parser<'_>) -> Result<Items<Arm>, SyntaxError>
         requires { At (part_at 1023) self.now.room (P.pre self.now.part) (P.post self.now.part) }
         ensures { Reads (readings.read_arms 1023 (part_at 1023 self.now.room) parser.old) result
@@ -67,7 +67,7 @@ impl<P: Fn(Global, &mut Parser<'_>, usize) -> Result<Expr, SyntaxError>> Level<P
     }
 
     /// `[else e]`.
-    #[tactic(auto, unfolding(crate::specs::Readings::read_else))]
+    #[tactic(auto, unfolding(crate::specs::ExpressionReadings::read_else))]
     fn otherwise(&self, parser: &mut Parser<'_>) -> Result<Option<Expr>, SyntaxError>
         requires { At (part_at 1023) self.now.room (P.pre self.now.part) (P.post self.now.part) }
         ensures { Reads (readings.read_else 1023 (part_at 1023 self.now.room) parser.old) result
@@ -82,7 +82,7 @@ impl<P: Fn(Global, &mut Parser<'_>, usize) -> Result<Expr, SyntaxError>> Level<P
     }
 
     /// The arms, and what stands after ELSE.
-    #[tactic(auto, unfolding(crate::specs::Readings::read_case_body))]
+    #[tactic(auto, unfolding(crate::specs::ExpressionReadings::read_case_body))]
     pub(crate) fn case_body(&self, parser: &mut Parser<'_>) -> Result<Expr, SyntaxError>
         requires { At (part_at 1023) self.now.room (P.pre self.now.part) (P.post self.now.part) }
         ensures { Reads (readings.read_case_body 1023 (part_at 1023 self.now.room) parser.old)
@@ -94,7 +94,7 @@ impl<P: Fn(Global, &mut Parser<'_>, usize) -> Result<Expr, SyntaxError>> Level<P
     }
 
     /// `(year|month|day) from e`.
-    #[tactic(auto, unfolding(crate::specs::Readings::read_extract_inside))]
+    #[tactic(auto, unfolding(crate::specs::ExpressionReadings::read_extract_inside))]
     pub(crate) fn extract_inside(&self, parser: &mut Parser<'_>) -> Result<Expr, SyntaxError>
         requires { At (part_at 1023) self.now.room (P.pre self.now.part) (P.post self.now.part) }
         ensures { Reads (readings.read_extract_inside 1023 (part_at 1023 self.now.room) parser.old)
@@ -107,7 +107,7 @@ impl<P: Fn(Global, &mut Parser<'_>, usize) -> Result<Expr, SyntaxError>> Level<P
     }
 
     /// `e from N for N`.
-    #[tactic(auto, unfolding(crate::specs::Readings::read_substring_inside))]
+    #[tactic(auto, unfolding(crate::specs::ExpressionReadings::read_substring_inside))]
     pub(crate) fn substring_inside(&self, parser: &mut Parser<'_>) -> Result<Expr, SyntaxError>
         requires { At (part_at 1023) self.now.room (P.pre self.now.part) (P.post self.now.part) }
         ensures { Reads (readings.read_substring_inside 1023 (part_at 1023 self.now.room)
@@ -119,7 +119,7 @@ impl<P: Fn(Global, &mut Parser<'_>, usize) -> Result<Expr, SyntaxError>> Level<P
     }
 
     /// `"*" | [distinct] e`.
-    #[tactic(auto, unfolding(crate::specs::Readings::read_count_inside))]
+    #[tactic(auto, unfolding(crate::specs::ExpressionReadings::read_count_inside))]
     pub(crate) fn count_inside(&self, parser: &mut Parser<'_>) -> Result<Expr, SyntaxError>
         requires { At (part_at 1023) self.now.room (P.pre self.now.part) (P.post self.now.part) }
         ensures { Reads (readings.read_count_inside 1023 (part_at 1023 self.now.room) parser.old)

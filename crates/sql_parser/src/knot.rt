@@ -17,7 +17,7 @@ use std::alloc::Global;
 
 /// What a sign, parentheses or a word may begin, or a name, number or text.
 #[cycle(knot)]
-#[tactic(auto, using(crate::proofs::Unfold::unary_is), unfolding(crate::specs::Readings::read_unary_line))]
+#[tactic(auto, using(crate::proofs::Unfold::unary_is), unfolding(crate::specs::ExpressionReadings::read_unary_line))]
 pub(crate) fn unary(
     alloc: Global,
     parser: &mut Parser<'_>,
@@ -42,7 +42,7 @@ pub(crate) fn unary(
 
 /// `not not-part`, or a predicate.
 #[cycle(knot)]
-#[tactic(auto, using(crate::proofs::Unfold::part_is), unfolding(crate::specs::Readings::read_part_line))]
+#[tactic(auto, using(crate::proofs::Unfold::part_is), unfolding(crate::specs::ExpressionReadings::read_part_line))]
 pub(crate) fn part(alloc: Global, parser: &mut Parser<'_>, room: usize) -> Result<Expr, SyntaxError>
     ensures { Reads (part_at 1023 room parser.old) result parser.new }
 {

@@ -4,7 +4,7 @@ ghost use Rattle.grammar_laws.specs.Readings.{Reads, links, mapped, one};
 ghost use Rattle.sql_lexer.specs.Kinds.{is};
 ghost use Rattle.sql_lexer.specs.declared.kind.Kind.TheVariants as k;
 ghost use Rattle.sql_parser.specs.Nests.{At};
-ghost use Rattle.sql_parser.specs.Readings as readings;
+ghost use Rattle.sql_parser.specs.ExpressionReadings as readings;
 ghost use Rattle.sql_parser.specs.Readings.{part_at};
 ghost use Rattle.sql_parser.specs.Values as values;
 
@@ -13,7 +13,7 @@ use crate::parts::{all_of, any_of};
 use grammar_laws::SyntaxError;
 use sql_ast::Expr;
 use sql_lexer::Kind;
-use sqlite_items::Items;
+use sqlite_items::{Boxed, Items};
 use std::alloc::Global;
 
 /// What holds not-parts of one level. `part` reads such a part where `room` levels may still be
@@ -56,15 +56,15 @@ impl<P: Fn(Global, &mut Parser<'_>, usize) -> Result<Expr, SyntaxError>> Level<P
     }
 
     /// `not-part {and not-part}`.
-    #[tactic(auto, unfolding(crate::specs::Readings::read_conjunction))]
+    #[tactic(auto, unfolding(crate::specs::ExpressionReadings::read_conjunction))]
     fn conjunction(&self, parser: &mut Parser<'_>) -> Result<Expr, SyntaxError>
         requires { At (part_at 1023) self.now.room (P.pre self.now.part) (P.post self.now.part) }
         ensures { Reads (readings.read_conjunction 1023 (part_at 1023 self.now.room) parser.old)
             result parser.new }
     {
-        let first = self.part(parser)?;
+        let first = Boxed::new(self.alloc, self.part(parser)?)?;
         let others = self.conjuncts(parser)?;
-        Ok(all_of(self.alloc, first, others)?)
+        Ok(all_of(first, others))
     }
 
     /// `{or and-part}`.
@@ -90,15 +90,15 @@ impl<P: Fn(Global, &mut Parser<'_>, usize) -> Result<Expr, SyntaxError>> Level<P
     }
 
     /// An expression: `and-part {or and-part}`.
-    #[tactic(auto, unfolding(crate::specs::Readings::read_whole))]
+    #[tactic(auto, unfolding(crate::specs::ExpressionReadings::read_whole))]
     pub(crate) fn whole(&self, parser: &mut Parser<'_>) -> Result<Expr, SyntaxError>
         requires { At (part_at 1023) self.now.room (P.pre self.now.part) (P.post self.now.part) }
         ensures { Reads (readings.read_whole 1023 (part_at 1023 self.now.room) parser.old) result
             parser.new }
     {
-        let first = self.conjunction(parser)?;
+        let first = Boxed::new(self.alloc, self.conjunction(parser)?)?;
         let others = self.disjuncts(parser)?;
-        Ok(any_of(self.alloc, first, others)?)
+        Ok(any_of(first, others))
     }
 
     /// The list, of which the first expression is read.
@@ -126,7 +126,7 @@ impl<P: Fn(Global, &mut Parser<'_>, usize) -> Result<Expr, SyntaxError>> Level<P
     }
 
     /// `e {"," e}`.
-    #[tactic(auto, unfolding(crate::specs::Readings::read_expr_list))]
+    #[tactic(auto, unfolding(crate::specs::ExpressionReadings::read_expr_list))]
     pub(crate) fn expr_list(&self, parser: &mut Parser<'_>) -> Result<Items<Expr>, SyntaxError>
         requires { At (part_at 1023) self.now.room (P.pre self.now.part) (P.post self.now.part) }
         ensures { Reads (readings.read_expr_list 1023 (part_at 1023 self.now.room) parser.old)

@@ -3,7 +3,7 @@ ghost use Rattle.grammar_laws.specs.Readings.{Reads, both, one};
 ghost use Rattle.sql_lexer.specs.Kinds.{is};
 ghost use Rattle.sql_lexer.specs.declared.kind.Kind.TheVariants as k;
 ghost use Rattle.sql_parser.specs.Nests.{Below};
-ghost use Rattle.sql_parser.specs.Readings as readings;
+ghost use Rattle.sql_parser.specs.ExpressionReadings as readings;
 ghost use Rattle.sql_parser.specs.Readings.{inner_part, inner_query, part_at, query_at};
 ghost use Rattle.sql_parser.specs.Values as values;
 ghost use Rattle.std.specs.Prelude.{◌<◌};
@@ -33,7 +33,7 @@ impl<
     Q: Fn(Global, &mut Parser<'_>, usize) -> Result<Block, SyntaxError>,
 > Nested<P, Q> {
     /// `query | e`, where `room` levels may still be opened.
-    #[tactic(auto, unfolding(crate::specs::Readings::read_parens_inside))]
+    #[tactic(auto, unfolding(crate::specs::ExpressionReadings::read_parens_inside))]
     fn parens_inside(&self, parser: &mut Parser<'_>, room: usize) -> Result<Expr, SyntaxError>
         requires room { room < self.now.room }
         requires part { Below (part_at 1023) self.now.room (P.pre self.now.part)
@@ -57,7 +57,7 @@ impl<
     }
 
     /// `"(" (query | e) ")"`.
-    #[tactic(auto, using(crate::proofs::Inner::rules_inner), unfolding(crate::specs::Readings::read_parens))]
+    #[tactic(auto, using(crate::proofs::Inner::rules_inner), unfolding(crate::specs::ExpressionReadings::read_parens))]
     fn parens(&self, parser: &mut Parser<'_>) -> Result<Expr, SyntaxError>
         requires part { Below (part_at 1023) self.now.room (P.pre self.now.part)
             (P.post self.now.part) }
@@ -67,13 +67,13 @@ impl<
             (inner_query 1023 self.now.room) parser.old) result parser.new }
     {
         parser.opens(self.room, Kind::OpenParen)?;
-        let value = self.parens_inside(parser, self.room - 1)?;
+        let value = Boxed::new(self.alloc, self.parens_inside(parser, self.room - 1)?)?;
         parser.one(Kind::CloseParen)?;
-        Ok(value)
+        Ok(value.into_inner())
     }
 
     /// What a unary part is without a sign.
-    #[tactic(auto, unfolding(crate::specs::Readings::read_operand))]
+    #[tactic(auto, unfolding(crate::specs::ExpressionReadings::read_operand))]
     pub(crate) fn operand(&self, parser: &mut Parser<'_>) -> Result<Expr, SyntaxError>
         requires part { Below (part_at 1023) self.now.room (P.pre self.now.part)
             (P.post self.now.part) }
@@ -111,7 +111,7 @@ impl<
     }
 
     /// `(query | e {"," e}) ")"`, where `room` levels may still be opened.
-    #[tactic(auto, unfolding(crate::specs::Readings::read_in_inside))]
+    #[tactic(auto, unfolding(crate::specs::ExpressionReadings::read_in_inside))]
     fn in_inside(&self, parser: &mut Parser<'_>, room: usize) -> Result<Test, SyntaxError>
         requires room { room < self.now.room }
         requires part { Below (part_at 1023) self.now.room (P.pre self.now.part)
@@ -138,7 +138,7 @@ impl<
     }
 
     /// `in "(" (query | e {"," e}) ")"`.
-    #[tactic(auto, using(crate::proofs::Inner::rules_inner), unfolding(crate::specs::Readings::read_in))]
+    #[tactic(auto, using(crate::proofs::Inner::rules_inner), unfolding(crate::specs::ExpressionReadings::read_in))]
     pub(crate) fn in_test(&self, parser: &mut Parser<'_>) -> Result<Test, SyntaxError>
         requires part { Below (part_at 1023) self.now.room (P.pre self.now.part)
             (P.post self.now.part) }

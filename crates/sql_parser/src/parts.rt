@@ -1,13 +1,13 @@
 //! What the parts of expressions and queries make together.
+//!
+//! A tree that is held while more is read is boxed: where reading fails it is dropped by one call.
 ghost use Rattle.std.specs.Prelude.{◌≡◌, IfOk};
-ghost use Rattle.sql_ast.specs.declared.tree.Expr.TheVariants as e;
 ghost use Rattle.sql_parser.specs.Values as values;
 
 use crate::queries::Filters;
 use crate::test::Test;
 use sql_ast::{
-    Adding, Arm, Block, Comparison, Expr, Factor, FromItem, Join, JoinKind, Joined, Multiplying,
-    Selected, Term,
+    Adding, Arm, Block, Expr, Factor, FromItem, Join, JoinKind, Joined, Multiplying, Selected, Term,
 };
 use sqlite_items::{Boxed, Items};
 use std::alloc::{AllocError, Global};
@@ -67,46 +67,46 @@ pub(crate) fn block_of(selected: (bool, Selected), from: Items<Joined>, filters:
 }
 
 /// The product of factors; the first alone where there is no other.
-pub(crate) fn product(alloc: Global, first: Expr, others: Items<Factor>) -> Result<Expr, AllocError>
-    ensures { IfOk result (λ x. x ≡ values.product first others) }
+pub(crate) fn product(first: Boxed<Expr>, others: Items<Factor>) -> Expr
+    ensures { result ≡ values.product first others }
 {
     if others.is_empty() {
-        Ok(first)
+        first.into_inner()
     } else {
-        Ok(Expr::Product(Boxed::new(alloc, first)?, others))
+        Expr::Product(first, others)
     }
 }
 
 /// The sum of terms; the first alone where there is no other.
-pub(crate) fn sum(alloc: Global, first: Expr, others: Items<Term>) -> Result<Expr, AllocError>
-    ensures { IfOk result (λ x. x ≡ values.sum first others) }
+pub(crate) fn sum(first: Boxed<Expr>, others: Items<Term>) -> Expr
+    ensures { result ≡ values.sum first others }
 {
     if others.is_empty() {
-        Ok(first)
+        first.into_inner()
     } else {
-        Ok(Expr::Sum(Boxed::new(alloc, first)?, others))
+        Expr::Sum(first, others)
     }
 }
 
 /// The conditions joined by AND; the first alone where there is no other.
-pub(crate) fn all_of(alloc: Global, first: Expr, others: Items<Expr>) -> Result<Expr, AllocError>
-    ensures { IfOk result (λ x. x ≡ values.all_of first others) }
+pub(crate) fn all_of(first: Boxed<Expr>, others: Items<Expr>) -> Expr
+    ensures { result ≡ values.all_of first others }
 {
     if others.is_empty() {
-        Ok(first)
+        first.into_inner()
     } else {
-        Ok(Expr::And(Boxed::new(alloc, first)?, others))
+        Expr::And(first, others)
     }
 }
 
 /// The conditions joined by OR; the first alone where there is no other.
-pub(crate) fn any_of(alloc: Global, first: Expr, others: Items<Expr>) -> Result<Expr, AllocError>
-    ensures { IfOk result (λ x. x ≡ values.any_of first others) }
+pub(crate) fn any_of(first: Boxed<Expr>, others: Items<Expr>) -> Expr
+    ensures { result ≡ values.any_of first others }
 {
     if others.is_empty() {
-        Ok(first)
+        first.into_inner()
     } else {
-        Ok(Expr::Or(Boxed::new(alloc, first)?, others))
+        Expr::Or(first, others)
     }
 }
 
@@ -150,59 +150,19 @@ pub(crate) fn deny(alloc: Global, is_denied: bool, value: Expr) -> Result<Expr, 
     }
 }
 
-/// A comparison of two values.
-fn compared(
-    alloc: Global,
-    value: Expr,
-    comparison: Comparison,
-    other: Expr,
-) -> Result<Expr, AllocError>
-    ensures { IfOk result (λ x. x ≡ e.Compare comparison value other) }
-{
-    let value = Boxed::new(alloc, value)?;
-    let other = Boxed::new(alloc, other)?;
-    Ok(Expr::Compare(comparison, value, other))
-}
-
-/// A BETWEEN, denied or not.
-fn within(
-    alloc: Global,
-    is_denied: bool,
-    value: Expr,
-    low: Expr,
-    high: Expr,
-) -> Result<Expr, AllocError>
-    ensures { IfOk result (λ x. x ≡ values.deny is_denied (e.Between value low high)) }
-{
-    let value = Boxed::new(alloc, value)?;
-    let low = Boxed::new(alloc, low)?;
-    let high = Boxed::new(alloc, high)?;
-    deny(alloc, is_denied, Expr::Between(value, low, high))
-}
-
 /// The condition that a test of a value is.
-pub(crate) fn tested(alloc: Global, value: Expr, test: Test) -> Result<Expr, AllocError>
+pub(crate) fn tested(alloc: Global, value: Boxed<Expr>, test: Test) -> Result<Expr, AllocError>
     ensures { IfOk result (λ x. x ≡ values.tested value test) }
 {
     match test {
-        Test::Absent => Ok(value),
-        Test::Compare(comparison, other) => compared(alloc, value, comparison, other),
-        Test::IsNull(is_denied) => {
-            let value = Boxed::new(alloc, value)?;
-            deny(alloc, is_denied, Expr::IsNull(value))
+        Test::Absent => Ok(value.into_inner()),
+        Test::Compare(comparison, other) => Ok(Expr::Compare(comparison, value, other)),
+        Test::IsNull(is_denied) => deny(alloc, is_denied, Expr::IsNull(value)),
+        Test::Between(is_denied, low, high) => {
+            deny(alloc, is_denied, Expr::Between(value, low, high))
         }
-        Test::Between(is_denied, low, high) => within(alloc, is_denied, value, low, high),
-        Test::Like(is_denied, pattern) => {
-            let value = Boxed::new(alloc, value)?;
-            deny(alloc, is_denied, Expr::Like(value, pattern))
-        }
-        Test::InList(is_denied, list) => {
-            let value = Boxed::new(alloc, value)?;
-            deny(alloc, is_denied, Expr::InList(value, list))
-        }
-        Test::InQuery(is_denied, query) => {
-            let value = Boxed::new(alloc, value)?;
-            deny(alloc, is_denied, Expr::InQuery(value, query))
-        }
+        Test::Like(is_denied, pattern) => deny(alloc, is_denied, Expr::Like(value, pattern)),
+        Test::InList(is_denied, list) => deny(alloc, is_denied, Expr::InList(value, list)),
+        Test::InQuery(is_denied, query) => deny(alloc, is_denied, Expr::InQuery(value, query)),
     }
 }

@@ -1,7 +1,7 @@
 //! Predicates: a sum, and what is asked of it.
 ghost use Rattle.grammar_laws.specs.Readings.{Reads};
 ghost use Rattle.sql_parser.specs.Nests.{At, Below};
-ghost use Rattle.sql_parser.specs.Readings as readings;
+ghost use Rattle.sql_parser.specs.ExpressionReadings as readings;
 ghost use Rattle.sql_parser.specs.Readings.{inner_part, inner_query, part_at, query_at, unary_at};
 
 use crate::nested::Nested;
@@ -12,6 +12,7 @@ use crate::test::Test;
 use grammar_laws::SyntaxError;
 use sql_ast::{Block, Expr};
 use sql_lexer::Kind;
+use sqlite_items::Boxed;
 use std::alloc::Global;
 
 /// What holds unary parts of one level, and parts of levels below. `room` is how many levels may
@@ -31,7 +32,7 @@ impl<
     Q: Copy + Fn(Global, &mut Parser<'_>, usize) -> Result<Block, SyntaxError>,
 > Predicates<U, P, Q> {
     /// What a NOT may stand before.
-    #[tactic(auto, unfolding(crate::specs::Readings::read_deny_test))]
+    #[tactic(auto, unfolding(crate::specs::ExpressionReadings::read_deny_test))]
     fn deny_test(&self, parser: &mut Parser<'_>) -> Result<Test, SyntaxError>
         requires unary { At (unary_at 1023) self.now.room (U.pre self.now.unary)
             (U.post self.now.unary) }
@@ -64,7 +65,7 @@ impl<
     }
 
     /// What is asked of a sum.
-    #[tactic(auto, unfolding(crate::specs::Readings::read_test))]
+    #[tactic(auto, unfolding(crate::specs::ExpressionReadings::read_test))]
     fn test(&self, parser: &mut Parser<'_>) -> Result<Test, SyntaxError>
         requires unary { At (unary_at 1023) self.now.room (U.pre self.now.unary)
             (U.post self.now.unary) }
@@ -106,7 +107,7 @@ impl<
     }
 
     /// A sum, and what is asked of it.
-    #[tactic(auto, unfolding(crate::specs::Readings::read_predicate))]
+    #[tactic(auto, unfolding(crate::specs::ExpressionReadings::read_predicate))]
     pub(crate) fn predicate(&self, parser: &mut Parser<'_>) -> Result<Expr, SyntaxError>
         requires unary { At (unary_at 1023) self.now.room (U.pre self.now.unary)
             (U.post self.now.unary) }
@@ -123,7 +124,7 @@ impl<
             room: self.room,
             unary: self.unary,
         };
-        let value = sums.sum(parser)?;
+        let value = Boxed::new(self.alloc, sums.sum(parser)?)?;
         let test = self.test(parser)?;
         Ok(tested(self.alloc, value, test)?)
     }

@@ -43,9 +43,9 @@ impl<P: Fn(Global, &mut Parser<'_>, usize) -> Result<Expr, SyntaxError>> Level<P
         ensures { Reads (readings.read_item 1023 (part_at 1023 self.now.room) parser.old) result
             parser.new }
     {
-        let value = self.whole(parser)?;
+        let value = Boxed::new(self.alloc, self.whole(parser)?)?;
         let alias = parser.alias(self.alloc)?;
-        Ok(item_of(value, alias))
+        Ok(item_of(value.into_inner(), alias))
     }
 
     /// The items, of which the first is read.

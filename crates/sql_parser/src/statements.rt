@@ -13,7 +13,7 @@ use crate::parser::{MAX_MORE, Parser};
 use grammar_laws::SyntaxError;
 use sql_ast::{Name, Query, RefreshKind, Statement, TemplateValue};
 use sql_lexer::Kind;
-use sqlite_items::Items;
+use sqlite_items::{Boxed, Items};
 use std::alloc::Global;
 
 /// `query [order by ..] [limit ..]`.
@@ -21,11 +21,11 @@ use std::alloc::Global;
 fn ordered(alloc: Global, parser: &mut Parser<'_>, room: usize) -> Result<Statement, SyntaxError>
     ensures { Reads (readings.read_ordered 1023 (query_at 1023 room) parser.old) result parser.new }
 {
-    let block = query(alloc, parser, room)?;
+    let block = Boxed::new(alloc, query(alloc, parser, room)?)?;
     let order = order(alloc, parser)?;
     let limit = parser.limit()?;
     Ok(Statement::Query(Query {
-        block,
+        block: block.into_inner(),
         order,
         limit,
     }))
@@ -186,7 +186,7 @@ pub(crate) fn ended_statement(
 ) -> Result<Statement, SyntaxError>
     ensures { Reads (ended_at 1023 room parser.old) result parser.new }
 {
-    let statement = statement(alloc, parser, room)?;
+    let statement = Boxed::new(alloc, statement(alloc, parser, room)?)?;
     parser.one(Kind::Semicolon)?;
-    Ok(statement)
+    Ok(statement.into_inner())
 }

@@ -1,7 +1,7 @@
 //! Queries in parentheses, one level further in.
 ghost use Rattle.grammar_laws.specs.Readings.{Reads};
 ghost use Rattle.sql_parser.specs.Nests.{Below};
-ghost use Rattle.sql_parser.specs.Readings as readings;
+ghost use Rattle.sql_parser.specs.ExpressionReadings as readings;
 ghost use Rattle.sql_parser.specs.Readings.{inner_query, query_at};
 
 use crate::nested::Nested;
@@ -17,8 +17,8 @@ impl<
     Q: Fn(Global, &mut Parser<'_>, usize) -> Result<Block, SyntaxError>,
 > Nested<P, Q> {
     /// `"(" query ")"`.
-    #[tactic(auto, using(crate::proofs::Inner::rules_inner), unfolding(crate::specs::Readings::read_subquery))]
-    pub(crate) fn subquery(&self, parser: &mut Parser<'_>) -> Result<Block, SyntaxError>
+    #[tactic(auto, using(crate::proofs::Inner::rules_inner), unfolding(crate::specs::ExpressionReadings::read_subquery))]
+    pub(crate) fn subquery(&self, parser: &mut Parser<'_>) -> Result<Boxed<Block>, SyntaxError>
         requires query { Below (query_at 1023) self.now.room (Q.pre self.now.query)
             (Q.post self.now.query) }
         ensures { Reads (readings.read_subquery self.now.room (inner_query 1023 self.now.room)
@@ -26,12 +26,13 @@ impl<
     {
         parser.opens(self.room, Kind::OpenParen)?;
         let query = (self.query)(self.alloc, parser, self.room - 1)?;
+        let query = Boxed::new(self.alloc, query)?;
         parser.one(Kind::CloseParen)?;
         Ok(query)
     }
 
     /// `exists "(" query ")"`.
-    #[tactic(auto, unfolding(crate::specs::Readings::read_exists))]
+    #[tactic(auto, unfolding(crate::specs::ExpressionReadings::read_exists))]
     pub(crate) fn exists(&self, parser: &mut Parser<'_>) -> Result<Expr, SyntaxError>
         requires query { Below (query_at 1023) self.now.room (Q.pre self.now.query)
             (Q.post self.now.query) }
@@ -40,6 +41,6 @@ impl<
     {
         parser.one(Kind::Exists)?;
         let query = self.subquery(parser)?;
-        Ok(Expr::Exists(Boxed::new(self.alloc, query)?))
+        Ok(Expr::Exists(query))
     }
 }

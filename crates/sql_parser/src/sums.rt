@@ -5,7 +5,7 @@ ghost use Rattle.grammar_laws.specs.Readings.{Reads, links};
 ghost use Rattle.sql_lexer.specs.declared.kind.Kind.TheVariants as k;
 ghost use Rattle.sql_parser.specs.Kinds.{kinds};
 ghost use Rattle.sql_parser.specs.Nests.{At};
-ghost use Rattle.sql_parser.specs.Readings as readings;
+ghost use Rattle.sql_parser.specs.ExpressionReadings as readings;
 ghost use Rattle.sql_parser.specs.Readings.{unary_at};
 ghost use Rattle.sql_parser.specs.Values as values;
 
@@ -15,7 +15,7 @@ use crate::test::Test;
 use grammar_laws::SyntaxError;
 use sql_ast::{Expr, Factor, Term};
 use sql_lexer::Kind;
-use sqlite_items::Items;
+use sqlite_items::{Boxed, Items};
 use std::alloc::Global;
 
 /// What holds unary parts of one level. `unary` reads such a part where `room` levels may still be
@@ -58,15 +58,15 @@ impl<U: Fn(Global, &mut Parser<'_>, usize) -> Result<Expr, SyntaxError>> Sums<U>
     }
 
     /// `unary {(*|/) unary}`.
-    #[tactic(auto, unfolding(crate::specs::Readings::read_product))]
+    #[tactic(auto, unfolding(crate::specs::ExpressionReadings::read_product))]
     fn product(&self, parser: &mut Parser<'_>) -> Result<Expr, SyntaxError>
         requires { At (unary_at 1023) self.now.room (U.pre self.now.unary) (U.post self.now.unary) }
         ensures { Reads (readings.read_product 1023 (unary_at 1023 self.now.room) parser.old) result
             parser.new }
     {
-        let first = self.unary(parser)?;
+        let first = Boxed::new(self.alloc, self.unary(parser)?)?;
         let others = self.factors(parser)?;
-        Ok(product(self.alloc, first, others)?)
+        Ok(product(first, others))
     }
 
     /// `{(+|-) product}`.
@@ -92,40 +92,40 @@ impl<U: Fn(Global, &mut Parser<'_>, usize) -> Result<Expr, SyntaxError>> Sums<U>
     }
 
     /// `product {(+|-) product}`.
-    #[tactic(auto, unfolding(crate::specs::Readings::read_sum))]
+    #[tactic(auto, unfolding(crate::specs::ExpressionReadings::read_sum))]
     pub(crate) fn sum(&self, parser: &mut Parser<'_>) -> Result<Expr, SyntaxError>
         requires { At (unary_at 1023) self.now.room (U.pre self.now.unary) (U.post self.now.unary) }
         ensures { Reads (readings.read_sum 1023 (unary_at 1023 self.now.room) parser.old) result
             parser.new }
     {
-        let first = self.product(parser)?;
+        let first = Boxed::new(self.alloc, self.product(parser)?)?;
         let others = self.terms(parser)?;
-        Ok(sum(self.alloc, first, others)?)
+        Ok(sum(first, others))
     }
 
     /// A comparison and its right side.
-    #[tactic(auto, unfolding(crate::specs::Readings::read_compare))]
+    #[tactic(auto, unfolding(crate::specs::ExpressionReadings::read_compare))]
     pub(crate) fn compare(&self, parser: &mut Parser<'_>) -> Result<Test, SyntaxError>
         requires { At (unary_at 1023) self.now.room (U.pre self.now.unary) (U.post self.now.unary) }
         ensures { Reads (readings.read_compare 1023 (unary_at 1023 self.now.room) parser.old) result
             parser.new }
     {
         let comparison = parser.comparison()?;
-        let value = self.sum(parser)?;
+        let value = Boxed::new(self.alloc, self.sum(parser)?)?;
         Ok(Test::Compare(comparison, value))
     }
 
     /// `between sum and sum`.
-    #[tactic(auto, unfolding(crate::specs::Readings::read_between))]
+    #[tactic(auto, unfolding(crate::specs::ExpressionReadings::read_between))]
     pub(crate) fn between(&self, parser: &mut Parser<'_>) -> Result<Test, SyntaxError>
         requires { At (unary_at 1023) self.now.room (U.pre self.now.unary) (U.post self.now.unary) }
         ensures { Reads (readings.read_between 1023 (unary_at 1023 self.now.room) parser.old) result
             parser.new }
     {
         parser.one(Kind::Between)?;
-        let low = self.sum(parser)?;
+        let low = Boxed::new(self.alloc, self.sum(parser)?)?;
         parser.one(Kind::And)?;
-        let high = self.sum(parser)?;
+        let high = Boxed::new(self.alloc, self.sum(parser)?)?;
         Ok(Test::Between(false, low, high))
     }
 }

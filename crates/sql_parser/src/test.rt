@@ -9,11 +9,11 @@ pub enum Test {
     /// Nothing is asked.
     Absent,
     /// A comparison with its right side.
-    Compare(Comparison, Expr),
+    Compare(Comparison, Boxed<Expr>),
     /// `is null`.
     IsNull(bool),
     /// `between`, with the least and the greatest that the sum may be.
-    Between(bool, Expr, Expr),
+    Between(bool, Boxed<Expr>, Boxed<Expr>),
     /// `like`, with its pattern.
     Like(bool, Text),
     /// `in`, with the list.

@@ -2,6 +2,7 @@
 ghost use Rattle.std.specs.Prelude.{◌≡◌, true, IfOk};
 ghost use Rattle.grammar_laws.specs.Readings.{Reads};
 ghost use Rattle.sql_parser.specs.Values as values;
+ghost use Rattle.sql_parser.specs.ExpressionReadings as expressions;
 ghost use Rattle.sql_parser.specs.Readings as readings;
 
 use crate::parser::Parser;
@@ -126,27 +127,27 @@ fn column_of(first: Name, tail: Option<Name>) -> Column
 
 impl<'a> Parser<'a> {
     /// A name.
-    #[tactic(auto, unfolding(crate::specs::Readings::read_name))]
+    #[tactic(auto, unfolding(crate::specs::ExpressionReadings::read_name))]
     pub(crate) fn name(&mut self, alloc: Global) -> Result<Name, SyntaxError>
-        ensures { Reads (readings.read_name self.old) result self.new }
+        ensures { Reads (expressions.read_name self.old) result self.new }
     {
         let token = self.one(Kind::Name)?;
         Ok(text_of(alloc, token)?)
     }
 
     /// A text.
-    #[tactic(auto, unfolding(crate::specs::Readings::read_literal))]
+    #[tactic(auto, unfolding(crate::specs::ExpressionReadings::read_literal))]
     pub(crate) fn literal(&mut self, alloc: Global) -> Result<Name, SyntaxError>
-        ensures { Reads (readings.read_literal self.old) result self.new }
+        ensures { Reads (expressions.read_literal self.old) result self.new }
     {
         let token = self.one(Kind::Text)?;
         Ok(text_of(alloc, token)?)
     }
 
     /// A number without a point of at most 999999999.
-    #[tactic(auto, unfolding(crate::specs::Readings::read_number))]
+    #[tactic(auto, unfolding(crate::specs::ExpressionReadings::read_number))]
     pub(crate) fn number(&mut self) -> Result<u32, SyntaxError>
-        ensures { Reads (readings.read_number self.old) result self.new }
+        ensures { Reads (expressions.read_number self.old) result self.new }
     {
         match self.rest {
             [token, rest @ ..] if is_count(token) => {
@@ -158,9 +159,9 @@ impl<'a> Parser<'a> {
     }
 
     /// A text of one to six digits.
-    #[tactic(auto, unfolding(crate::specs::Readings::read_digits))]
+    #[tactic(auto, unfolding(crate::specs::ExpressionReadings::read_digits))]
     fn digits(&mut self, alloc: Global) -> Result<Name, SyntaxError>
-        ensures { Reads (readings.read_digits self.old) result self.new }
+        ensures { Reads (expressions.read_digits self.old) result self.new }
     {
         match self.rest {
             [token, rest @ ..] if is_digits(token) => {
@@ -172,9 +173,9 @@ impl<'a> Parser<'a> {
     }
 
     /// `year`, `month` or `day`.
-    #[tactic(auto, unfolding(crate::specs::Readings::read_span))]
+    #[tactic(auto, unfolding(crate::specs::ExpressionReadings::read_span))]
     pub(crate) fn span(&mut self) -> Result<Span, SyntaxError>
-        ensures { Reads (readings.read_span self.old) result self.new }
+        ensures { Reads (expressions.read_span self.old) result self.new }
     {
         if self.starts(Kind::Year) {
             self.one(Kind::Year)?;
@@ -189,9 +190,9 @@ impl<'a> Parser<'a> {
     }
 
     /// `*` or `/`.
-    #[tactic(auto, unfolding(crate::specs::Readings::read_multiply))]
+    #[tactic(auto, unfolding(crate::specs::ExpressionReadings::read_multiply))]
     pub(crate) fn multiply(&mut self) -> Result<Multiplying, SyntaxError>
-        ensures { Reads (readings.read_multiply self.old) result self.new }
+        ensures { Reads (expressions.read_multiply self.old) result self.new }
     {
         if self.starts(Kind::Star) {
             self.one(Kind::Star)?;
@@ -202,9 +203,9 @@ impl<'a> Parser<'a> {
     }
 
     /// `+` or `-`.
-    #[tactic(auto, unfolding(crate::specs::Readings::read_add))]
+    #[tactic(auto, unfolding(crate::specs::ExpressionReadings::read_add))]
     pub(crate) fn add(&mut self) -> Result<Adding, SyntaxError>
-        ensures { Reads (readings.read_add self.old) result self.new }
+        ensures { Reads (expressions.read_add self.old) result self.new }
     {
         if self.starts(Kind::Plus) {
             self.one(Kind::Plus)?;
@@ -215,9 +216,9 @@ impl<'a> Parser<'a> {
     }
 
     /// `=`, `<>`, `<`, `<=`, `>` or `>=`.
-    #[tactic(auto, unfolding(crate::specs::Readings::read_comparison))]
+    #[tactic(auto, unfolding(crate::specs::ExpressionReadings::read_comparison))]
     pub(crate) fn comparison(&mut self) -> Result<Comparison, SyntaxError>
-        ensures { Reads (readings.read_comparison self.old) result self.new }
+        ensures { Reads (expressions.read_comparison self.old) result self.new }
     {
         if self.starts(Kind::Equal) {
             self.one(Kind::Equal)?;
@@ -244,9 +245,9 @@ impl<'a> Parser<'a> {
     }
 
     /// `sum`, `avg`, `min` or `max`.
-    #[tactic(auto, unfolding(crate::specs::Readings::read_aggregate_word))]
+    #[tactic(auto, unfolding(crate::specs::ExpressionReadings::read_aggregate_word))]
     pub(crate) fn aggregate_word(&mut self) -> Result<Aggregate, SyntaxError>
-        ensures { Reads (readings.read_aggregate_word self.old) result self.new }
+        ensures { Reads (expressions.read_aggregate_word self.old) result self.new }
     {
         if self.starts(Kind::Sum) {
             self.one(Kind::Sum)?;
@@ -265,9 +266,9 @@ impl<'a> Parser<'a> {
     }
 
     /// `["." name]`.
-    #[tactic(auto, unfolding(crate::specs::Readings::read_column_tail))]
+    #[tactic(auto, unfolding(crate::specs::ExpressionReadings::read_column_tail))]
     fn column_tail(&mut self, alloc: Global) -> Result<Option<Name>, SyntaxError>
-        ensures { Reads (readings.read_column_tail self.old) result self.new }
+        ensures { Reads (expressions.read_column_tail self.old) result self.new }
     {
         if self.starts(Kind::Point) {
             self.one(Kind::Point)?;
@@ -278,9 +279,9 @@ impl<'a> Parser<'a> {
     }
 
     /// `name ["." name]`.
-    #[tactic(auto, unfolding(crate::specs::Readings::read_column))]
+    #[tactic(auto, unfolding(crate::specs::ExpressionReadings::read_column))]
     pub(crate) fn column(&mut self, alloc: Global) -> Result<Column, SyntaxError>
-        ensures { Reads (readings.read_column self.old) result self.new }
+        ensures { Reads (expressions.read_column self.old) result self.new }
     {
         let first = self.name(alloc)?;
         let tail = self.column_tail(alloc)?;
@@ -288,9 +289,9 @@ impl<'a> Parser<'a> {
     }
 
     /// `T | "(" T ")"`.
-    #[tactic(auto, unfolding(crate::specs::Readings::read_date_text))]
+    #[tactic(auto, unfolding(crate::specs::ExpressionReadings::read_date_text))]
     fn date_text(&mut self, alloc: Global, room: usize) -> Result<Name, SyntaxError>
-        ensures { Reads (readings.read_date_text room self.old) result self.new }
+        ensures { Reads (expressions.read_date_text room self.old) result self.new }
     {
         if self.starts(Kind::OpenParen) {
             self.opens(room, Kind::OpenParen)?;
@@ -302,9 +303,9 @@ impl<'a> Parser<'a> {
     }
 
     /// `date T | date "(" T ")"`.
-    #[tactic(auto, unfolding(crate::specs::Readings::read_date))]
+    #[tactic(auto, unfolding(crate::specs::ExpressionReadings::read_date))]
     fn date(&mut self, alloc: Global, room: usize) -> Result<Expr, SyntaxError>
-        ensures { Reads (readings.read_date room self.old) result self.new }
+        ensures { Reads (expressions.read_date room self.old) result self.new }
     {
         self.one(Kind::Date)?;
         let text = self.date_text(alloc, room)?;
@@ -312,9 +313,9 @@ impl<'a> Parser<'a> {
     }
 
     /// `["(" N ")"]`, which means nothing.
-    #[tactic(auto, unfolding(crate::specs::Readings::read_precision))]
+    #[tactic(auto, unfolding(crate::specs::ExpressionReadings::read_precision))]
     fn precision(&mut self, room: usize) -> Result<(), SyntaxError>
-        ensures { Reads (readings.read_precision room self.old) result self.new }
+        ensures { Reads (expressions.read_precision room self.old) result self.new }
     {
         if !self.starts(Kind::OpenParen) {
             return Ok(());
@@ -326,9 +327,9 @@ impl<'a> Parser<'a> {
     }
 
     /// `interval T (day|month|year) ["(" N ")"]`, the text of one to six digits.
-    #[tactic(auto, unfolding(crate::specs::Readings::read_interval))]
+    #[tactic(auto, unfolding(crate::specs::ExpressionReadings::read_interval))]
     fn interval(&mut self, alloc: Global, room: usize) -> Result<Expr, SyntaxError>
-        ensures { Reads (readings.read_interval room self.old) result self.new }
+        ensures { Reads (expressions.read_interval room self.old) result self.new }
     {
         self.one(Kind::Interval)?;
         let digits = self.digits(alloc)?;
@@ -338,9 +339,9 @@ impl<'a> Parser<'a> {
     }
 
     /// `from N for N`.
-    #[tactic(auto, unfolding(crate::specs::Readings::read_places))]
+    #[tactic(auto, unfolding(crate::specs::ExpressionReadings::read_places))]
     pub(crate) fn places(&mut self) -> Result<(u32, u32), SyntaxError>
-        ensures { Reads (readings.read_places self.old) result self.new }
+        ensures { Reads (expressions.read_places self.old) result self.new }
     {
         self.one(Kind::From)?;
         let first = self.number()?;
@@ -350,9 +351,9 @@ impl<'a> Parser<'a> {
     }
 
     /// `is [not] null`.
-    #[tactic(auto, unfolding(crate::specs::Readings::read_null))]
+    #[tactic(auto, unfolding(crate::specs::ExpressionReadings::read_null))]
     pub(crate) fn null(&mut self) -> Result<Test, SyntaxError>
-        ensures { Reads (readings.read_null self.old) result self.new }
+        ensures { Reads (expressions.read_null self.old) result self.new }
     {
         self.one(Kind::Is)?;
         if self.starts(Kind::Not) {
@@ -365,9 +366,9 @@ impl<'a> Parser<'a> {
     }
 
     /// `like T`.
-    #[tactic(auto, unfolding(crate::specs::Readings::read_like))]
+    #[tactic(auto, unfolding(crate::specs::ExpressionReadings::read_like))]
     pub(crate) fn like(&mut self, alloc: Global) -> Result<Test, SyntaxError>
-        ensures { Reads (readings.read_like self.old) result self.new }
+        ensures { Reads (expressions.read_like self.old) result self.new }
     {
         self.one(Kind::Like)?;
         let pattern = self.literal(alloc)?;
@@ -389,9 +390,9 @@ impl<'a> Parser<'a> {
     }
 
     /// What holds no expression.
-    #[tactic(auto, unfolding(crate::specs::Readings::read_leaf))]
+    #[tactic(auto, unfolding(crate::specs::ExpressionReadings::read_leaf))]
     pub(crate) fn leaf(&mut self, alloc: Global, room: usize) -> Result<Expr, SyntaxError>
-        ensures { Reads (readings.read_leaf room self.old) result self.new }
+        ensures { Reads (expressions.read_leaf room self.old) result self.new }
     {
         if self.starts(Kind::Number) {
             let token = self.one(Kind::Number)?;

@@ -9,7 +9,7 @@ use Rattle.tpch_main.specs.Inputs.{BadInput, and_then, changes_in, refresh_in}
 use Rattle.tpch_main.specs.Views.{Explains, IfKnown, refused_view}
 use Rattle.tpch_main.specs.declared.input_error.InputError.{InputError}
 use Rattle.tpch_main.specs.declared.input_error.InputError.TheVariants as error
-use Rattle.tpch_main.specs.declared.refreshes.Mention.{Mention}
+use Rattle.job_file.specs.declared.job.Mention.{Mention}
 
 -- what further refreshes are, after those before
 abbrev pub changes_behind : List Change → Result (List Change) BadInput → Result (List Change) BadInput

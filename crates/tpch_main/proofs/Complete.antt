@@ -1,6 +1,6 @@
 -- What a command's text says of the run; an accepted command is answered, where nothing but memory stands in its way.
 use Rattle.std.proofs.Common.{◌≡◌, ◌≢◌, ◌∙◌, ◌⊎◌, ℕ, List, [], Option, None, Some, Bool, true, false, inl, inr, refl, subst, sym}
-use Rattle.std.specs.Prelude.{if◌then◌else◌}
+use Rattle.std.specs.Prelude.{codes, if◌then◌else◌}
 use Rattle.std.specs.Io.KnownBytes.{Appends}
 use Rattle.std.specs.Result.{result_err}
 use Rattle.std.specs.declared.result.Result.{Result}
@@ -14,8 +14,12 @@ use Rattle.tpch_main.specs.Meaning.{IsAccepted, MeansCheck, MeansSession, Prints
 use Rattle.tpch_main.specs.Printing.{IsAnswer, IsDone, PrintsOf}
 use Rattle.tpch_main.specs.ScriptPlans.{MeansExplained}
 use Rattle.tpch_main.specs.Turns.{first_trials, moments, session_status}
+use Rattle.tpch_main.specs.JobInputs.{JobWork}
+use Rattle.tpch_main.specs.JobMeaning.{MeansJob}
+use Rattle.tpch_main.specs.Trial.{IsTrialAccepted, PrintsTrial, trial_files}
 use Rattle.tpch_main.specs.Words.{Command}
-use Rattle.tpch_main.specs.Words.Command.{check, explain, session}
+use Rattle.tpch_main.proofs.JobAlike.{job_inputs_alike}
+use Rattle.tpch_main.specs.Words.Command.{check, explain, session, throughput, trial}
 use Rattle.tpch_main.specs.declared.input_error.InputFault.TheVariants as fault
 use Rattle.tpch_main.specs.declared.status.Status.{Status}
 use Rattle.tpch_main.specs.declared.status.Status.TheVariants as status
@@ -36,6 +40,10 @@ session_done work text s means = subst IsDone (sym means.1) (by_cleanness (are_c
 pub explained_done : (steps : List Statement) (text : List ℕ) (s : Status) → MeansExplained steps text s → IsDone s
 explained_done steps text s means = subst IsDone (sym means.1) (by_cleanness (are_taken [] steps))
 
+-- what a job's inputs mean has such a status
+pub job_done : (shows : Bool) (work : JobWork) (text : List ℕ) (s : Status) → MeansJob shows work text s → IsDone s
+job_done shows work text s (job, is, same, status_is) = subst IsDone (sym status_is) (by_cleanness job.is_clean)
+
 -- inputs of which none is refused are there
 there : {A : Type 0} → (inputs : Result A BadInput) → None ≡ result_err inputs → (a : A) × (inputs ≡ Ok a)
 there (Ok a) e = (a, refl)
@@ -53,9 +61,19 @@ accepted_alike {A} Means ends inputs others text s alike none prints =
     at (Err refused) (inl e) a is means = absurd (cc)
     at (Err refused) (inr (first, second, one, two, p, q)) a is means = absurd (cc)
 
+-- a trial whose files are accepted is answered
+trial_done : (number : ℕ) (text : List ℕ) (s : Status) → PrintsTrial number text s → IsTrialAccepted number → IsDone s
+trial_done number text s (inputs, are, prints) (others, are', none) =
+    accepted_alike (MeansJob false) (job_done false) inputs others text s (job_inputs_alike (codes "made") (codes "job") (trial_files number) inputs others are are') none prints
+
 -- what an accepted command prints, it prints with the status of an answer
 pub accepted_done : (command : Command) (held : Option Folder) (text : List ℕ) (s : Status) → Prints (Some command) held text s → IsAccepted (Some command) held → IsDone s
-accepted_done command None text s prints accepted = absurd accepted
+accepted_done (session dir script) None text s prints accepted = absurd accepted
+accepted_done (throughput dir job) None text s prints accepted = absurd accepted
+accepted_done (explain script) None text s prints accepted = absurd accepted
+accepted_done (check dir) None text s prints accepted = absurd accepted
+accepted_done (trial number) None text s prints accepted = trial_done number text s prints accepted
+accepted_done (trial number) (Some folder) text s prints (none, accepted) = trial_done number text s prints accepted
 accepted_done (check dir) (Some folder) text s prints accepted = at (state_in dir folder) prints accepted
   where
     at : (read : Result _ BadInput) → PrintsOf MeansCheck read text s → None ≡ result_err read → IsDone s
@@ -63,6 +81,8 @@ accepted_done (check dir) (Some folder) text s prints accepted = at (state_in di
     at (Err refused) means none = absurd (no_refusal refused none)
 accepted_done (session dir script) (Some folder) text s (inputs, are, prints) (others, are', none) =
     accepted_alike MeansSession session_done inputs others text s (inputs_alike dir script folder inputs others are are') none prints
+accepted_done (throughput dir job) (Some folder) text s (inputs, are, prints) (others, are', none) =
+    accepted_alike (MeansJob true) (job_done true) inputs others text s (job_inputs_alike dir job folder inputs others are are') none prints
 accepted_done (explain script) (Some folder) text s (steps, are, prints) (others, are', none) =
     accepted_alike MeansExplained explained_done steps others text s (script_steps_alike script folder steps others are are') none prints
 

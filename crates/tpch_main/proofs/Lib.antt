@@ -22,3 +22,11 @@ mod OneText
 mod Changes
 mod SetFiles
 mod SharedRows
+mod TrialNumber
+mod JobScripts
+mod JobAlike
+mod JobPlayed
+mod JobReading
+mod JobHeld
+mod TrialFiles
+mod ScriptFaults

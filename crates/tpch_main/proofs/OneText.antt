@@ -10,7 +10,7 @@ use Rattle.tpch_main.specs.Laws.{TextLaw}
 use Rattle.tpch_main.specs.Meaning.{MeansCheck, MeansSession}
 use Rattle.tpch_main.specs.Printing.{PrintsOf}
 use Rattle.tpch_main.specs.Turns.{session_status, session_text}
-use Rattle.tpch_main.specs.Words.Command.{check, explain, session}
+use Rattle.tpch_main.specs.Words.Command.{check, explain, session, throughput, trial}
 use Rattle.tpch_main.specs.declared.input_error.InputFault.TheVariants as fault
 use Rattle.tpch_main.specs.declared.status.Status.{Status}
 use Rattle.tpch_main.proofs.OneWork.{inputs_alike}
@@ -29,6 +29,8 @@ same_inputs a b none (inr (first, second, one, two, p, q)) = absurd (cc)
 
 pub text_law : TextLaw
 text_law (explain script) folder text other s r one accepted x y = absurd one
+text_law (throughput dir job) folder text other s r one accepted x y = absurd one
+text_law (trial number) folder text other s r one accepted x y = absurd one
 text_law (check dir) folder text other s r one accepted x y =
     one_text MeansCheck (λ state a b p q m n. (m.0 ∙ sym n.0, m.1 ∙ sym n.1)) (state_in dir folder) text other s r accepted x y
 text_law (session dir script) folder text other s r only (inputs, are, none) (one, is, x) (two, is', y) =

@@ -1,18 +1,22 @@
 -- The text of a command, from what its inputs mean, and what is printed of its first refused input.
 use Rattle.std.proofs.Common.{◌≡◌, ◌≢◌, ◌∙◌, ◌⊎◌, ℕ, List, Option, None, Some, Bool, true, false, ap, inl, inr, refl, subst, sym}
+use Rattle.std.specs.Global.{Vec}
 use Rattle.std.specs.Result.{result_err}
 use Rattle.std.specs.declared.result.Result.{Result}
 use Rattle.std.specs.declared.result.Result.TheVariants.{Ok, Err}
 use Rattle.tpch_outside.specs.Outside.{Folder}
 use Rattle.tpch_schema.specs.State.{State}
-use Rattle.tpch_main.specs.Counts.{counts_text}
+use Rattle.query_streams.specs.Counts.{counts_text}
 use Rattle.tpch_main.specs.Inputs.{AreInputs, BadInput, Work, refusal_line, state_in}
 use Rattle.tpch_main.specs.Meaning.{IsAbsentInput, IsFirstRefused, MeansCheck, MeansSession, Prints, PrintsFrom}
 use Rattle.tpch_main.specs.Printing.{IsAnswer, IsDone, PrintsOf}
 use Rattle.tpch_main.specs.ScriptPlans.{MeansExplained}
 use Rattle.tpch_main.specs.Views.{Explains, IfKnown, IsAbsence, IsTextOf, refused_view}
-use Rattle.tpch_main.specs.Words.{Command}
-use Rattle.tpch_main.specs.Words.Command.{check, explain, session}
+use Rattle.tpch_main.specs.JobMeaning.{MeansJob, PrintsJob}
+use Rattle.tpch_main.specs.JobViews.{IsTextOfJob}
+use Rattle.tpch_main.specs.Words.{Command, IsOverFiles}
+use Rattle.tpch_main.proofs.JobAlike.{job_inputs_alike}
+use Rattle.tpch_main.specs.Words.Command.{check, explain, session, throughput, trial}
 use Rattle.tpch_main.specs.declared.input_error.InputFault.TheVariants as fault
 use Rattle.tpch_main.specs.declared.input_error.InputError.{InputError}
 use Rattle.tpch_main.specs.declared.input_error.InputError.TheVariants as error
@@ -44,6 +48,12 @@ explained_may_end script None text s (inl e) told = inl e
 explained_may_end script None text s (inr e) told = inr (inl e)
 explained_may_end script (Some folder) text s done told = told
 
+-- a job's status
+pub job_may_end : (dir job : List ℕ) (held : Option Folder) (text : List ℕ) (s : Status) → IsDone s → IfKnown held (λ folder. PrintsJob true dir job folder text s) → Prints (Some (throughput dir job)) held text s
+job_may_end dir job None text s (inl e) told = inl e
+job_may_end dir job None text s (inr e) told = inr (inl e)
+job_may_end dir job (Some folder) text s done told = told
+
 -- a text was printed whole with such a status
 pub done_answers : (s : Status) → IsDone s → IsAnswer s
 done_answers s (inl e) = subst IsAnswer (sym e) tt
@@ -59,14 +69,18 @@ line_printed Means (Err refused) first is =
 first_printed : (command : Command) (folder : Folder) (first : BadInput) → IsFirstRefused command folder (Some first) → PrintsFrom command folder (refusal_line first) status.InputRefused
 first_printed (session dir script) folder first (inputs, are, is) = (inputs, are, line_printed MeansSession inputs first is)
 first_printed (explain script) folder first (steps, are, is) = (steps, are, line_printed MeansExplained steps first is)
+first_printed (throughput dir job) folder first (inputs, are, is) = (inputs, are, line_printed (MeansJob true) inputs first is)
+first_printed (trial number) folder first (none, accepted) = absurd (cc)
 first_printed (check dir) folder first is = line_printed MeansCheck (state_in dir folder) first is
 
 -- the line of a command's first refused input is printed
-pub refusal_printed : (command : Command) (held : Option Folder) (refusal : RefusedInput) → IsTextOf command held (Err (error.Refused refusal)) → Prints (Some command) held (refusal_line (refused_view refusal)) status.InputRefused
-refusal_printed (session dir script) None refusal is = inr (inr refl)
-refusal_printed (explain script) None refusal is = inr (inr refl)
-refusal_printed (check dir) None refusal is = inr refl
-refusal_printed command (Some folder) refusal is = first_printed command folder (refused_view refusal) is
+pub refusal_printed : (command : Command) (held : Option Folder) (refusal : RefusedInput) → IsOverFiles command → IsTextOf command held (Err (error.Refused refusal)) → Prints (Some command) held (refusal_line (refused_view refusal)) status.InputRefused
+refusal_printed (session dir script) None refusal over is = inr (inr refl)
+refusal_printed (throughput dir job) None refusal over is = inr (inr refl)
+refusal_printed (explain script) None refusal over is = inr (inr refl)
+refusal_printed (check dir) None refusal over is = inr refl
+refusal_printed (trial number) None refusal over is = absurd over
+refusal_printed command (Some folder) refusal over is = first_printed command folder (refused_view refusal) is
 
 -- a status is not two
 not_refused : (s : Status) → IsDone s → s ≡ status.InputRefused → ⊥
@@ -94,6 +108,10 @@ text_without_absence (check dir) (Some folder) text s prints done (name, is) = a
 text_without_absence (session dir script) (Some folder) text s (inputs, are, prints) done (name, (others, are', is)) =
     let gone = refused_is others (record { name = name; fault = fault.Absent }) is in
     answered_alike MeansSession inputs others text s _ (inputs_alike dir script folder inputs others are are') prints done gone
+text_without_absence (throughput dir job) (Some folder) text s (inputs, are, prints) done (name, (others, are', is)) =
+    let gone = refused_is others (record { name = name; fault = fault.Absent }) is in
+    answered_alike (MeansJob true) inputs others text s _ (job_inputs_alike dir job folder inputs others are are') prints done gone
+text_without_absence (trial number) (Some folder) text s prints done (name, (none, accepted)) = cc
 text_without_absence (explain script) (Some folder) text s (steps, are, prints) done (name, (others, are', is)) =
     let gone = refused_is others (record { name = name; fault = fault.Absent }) is in
     answered_alike MeansExplained steps others text s _ (script_steps_alike script folder steps others are are') prints done gone
@@ -112,5 +130,14 @@ refusal_of_absence command None refusal is absent = absurd absent
 refusal_of_absence (check dir) (Some folder) refusal is (name, absent) = fault_of_input (refused_view refusal) (record { name = name; fault = fault.Absent }) (is ∙ sym absent)
 refusal_of_absence (session dir script) (Some folder) refusal (inputs, are, is) (name, (others, are', absent)) =
     absence_alike inputs others (refused_view refusal) (record { name = name; fault = fault.Absent }) (inputs_alike dir script folder inputs others are are') refl is absent
+refusal_of_absence (throughput dir job) (Some folder) refusal (inputs, are, is) (name, (others, are', absent)) =
+    absence_alike inputs others (refused_view refusal) (record { name = name; fault = fault.Absent }) (job_inputs_alike dir job folder inputs others are are') refl is absent
+refusal_of_absence (trial number) (Some folder) refusal is (name, (none, accepted)) = absurd (cc)
 refusal_of_absence (explain script) (Some folder) refusal (steps, are, is) (name, (others, are', absent)) =
     absence_alike steps others (refused_view refusal) (record { name = name; fault = fault.Absent }) (script_steps_alike script folder steps others are are') refl is absent
+
+-- the text of a job's file, as that of the command
+pub job_text_of : (dir job : List ℕ) (held : Option Folder) (result : Result (Vec ℕ × Status) InputError) → IsTextOfJob true dir job held result → IsTextOf (throughput dir job) held result
+job_text_of dir job held (Ok printed) (prints, done) = (job_may_end dir job held printed.0.items printed.1 done prints, done)
+job_text_of dir job held (Err (error.Unread unread)) is = tt
+job_text_of dir job held (Err (error.Refused refusal)) is = is

@@ -13,7 +13,7 @@ use Rattle.clap.specs.Lexer.{long_of_rest, short_of_rest, strip_byte}
 use Rattle.clap.specs.Simple.{names_of}
 use Rattle.clap.specs.Walk.{Text, Walk, idle, is_empty, nothing_held, subcommand_met}
 use Rattle.tpch_main.proofs.WordsGiven.{given, is_flag_word, or_else_some}
-use Rattle.tpch_main.proofs.WordsMeaning.{Means, check_means, explain_means, refused_means, session_means}
+use Rattle.tpch_main.proofs.WordsMeaning.{Means, check_means, explain_means, refused_means, session_means, throughput_means, trial_means}
 use Rattle.tpch_main.proofs.WordsTop.{faults_at, start, top_placed, whole}
 use Rattle.tpch_main.proofs.WordsWalk.{dashes_turn, flag_turn, value_turn}
 use Rattle.tpch_main.specs.Subcommands.{program_app}
@@ -45,9 +45,9 @@ other_fault name words none dashes =
     at true flag = flag_turn whole.top (names_of whole) top_placed name nothing_held 1 refl none dashes flag
     at false flag = ap is_empty (value_turn whole.top (names_of whole) top_placed name nothing_held 1 refl none dashes flag).0
 
-unknown_fault : (name : Text) (words : List Text) → bytes_eq (codes "session") name ≡ false → bytes_eq (codes "explain") name ≡ false → bytes_eq (codes "check") name ≡ false → bytes_eq (codes "help") name ≡ false
+unknown_fault : (name : Text) (words : List Text) → bytes_eq (codes "session") name ≡ false → bytes_eq (codes "throughput") name ≡ false → bytes_eq (codes "explain") name ≡ false → bytes_eq (codes "check") name ≡ false → bytes_eq (codes "trial") name ≡ false → bytes_eq (codes "help") name ≡ false
     → is_empty (fault_of program_app (name ∷ words)) ≡ false
-unknown_fault name words no_session no_explain no_check no_help = at (bytes_eq name (45 ∷ 45 ∷ [])) refl (rw (no_session, no_explain, no_check, no_help) refl)
+unknown_fault name words no_session no_throughput no_explain no_check no_trial no_help = at (bytes_eq name (45 ∷ 45 ∷ [])) refl (rw (no_session, no_throughput, no_explain, no_check, no_trial, no_help) refl)
   where
     at : (dashes : Bool) → bytes_eq name (45 ∷ 45 ∷ []) ≡ dashes → subcommand_met (names_of whole) idle name ≡ None → is_empty (fault_of program_app (name ∷ words)) ≡ false
     at true dashes none = dashes_fault name words none dashes
@@ -67,9 +67,9 @@ swapped a b apart = at (bytes_eq b a) refl
     at true same = absurd (true≢false (sym ((bytes_eq-Decides a b).1 (sym ((bytes_eq-Decides b a).0 same))) ∙ apart))
     at false same = refl
 
-no_command : (name : Text) → bytes_eq name (codes "session") ≡ false → bytes_eq name (codes "explain") ≡ false → bytes_eq name (codes "check") ≡ false → (values : Option (List Text)) → option_and_then (command_with name) values ≡ None
-no_command name no_session no_explain no_check None = refl
-no_command name no_session no_explain no_check (Some values) = rw (no_session, no_explain, no_check) refl
+no_command : (name : Text) → bytes_eq name (codes "session") ≡ false → bytes_eq name (codes "throughput") ≡ false → bytes_eq name (codes "explain") ≡ false → bytes_eq name (codes "check") ≡ false → bytes_eq name (codes "trial") ≡ false → (values : Option (List Text)) → option_and_then (command_with name) values ≡ None
+no_command name no_session no_throughput no_explain no_check no_trial None = refl
+no_command name no_session no_throughput no_explain no_check no_trial (Some values) = rw (no_session, no_throughput, no_explain, no_check, no_trial) refl
 
 no_words : is_empty (fault_of program_app []) ≡ false
 unfolding clap_on_literals
@@ -77,24 +77,30 @@ no_words = refl
 
 means : (words : List Text) → Means words (by_given words)
 means [] = refused_means [] None no_words refl
-means (name ∷ words) = at (bytes_eq (codes "session") name) (bytes_eq (codes "explain") name) (bytes_eq (codes "check") name) (bytes_eq (codes "help") name) refl refl refl refl
+means (name ∷ words) = at (bytes_eq (codes "session") name) (bytes_eq (codes "throughput") name) (bytes_eq (codes "explain") name) (bytes_eq (codes "check") name) (bytes_eq (codes "trial") name) (bytes_eq (codes "help") name) refl refl refl refl refl refl
   where
-    at : (is_session is_explain is_check is_help : Bool) → bytes_eq (codes "session") name ≡ is_session → bytes_eq (codes "explain") name ≡ is_explain → bytes_eq (codes "check") name ≡ is_check → bytes_eq (codes "help") name ≡ is_help
+    at : (is_session is_throughput is_explain is_check is_trial is_help : Bool) → bytes_eq (codes "session") name ≡ is_session → bytes_eq (codes "throughput") name ≡ is_throughput → bytes_eq (codes "explain") name ≡ is_explain → bytes_eq (codes "check") name ≡ is_check → bytes_eq (codes "trial") name ≡ is_trial → bytes_eq (codes "help") name ≡ is_help
         → Means (name ∷ words) (option_and_then (command_with name) (given words))
-    at true b_explain b_check b_help e_session e_explain e_check e_help =
+    at true b_throughput b_explain b_check b_trial b_help e_session e_throughput e_explain e_check e_trial e_help =
         let P : Text → Type 0 = λ n. Means (n ∷ words) (option_and_then (command_with n) (given words)) in
         subst P ((bytes_eq-Decides (codes "session") name).0 e_session) (session_means words)
-    at false true b_check b_help e_session e_explain e_check e_help =
+    at false true b_explain b_check b_trial b_help e_session e_throughput e_explain e_check e_trial e_help =
+        let P : Text → Type 0 = λ n. Means (n ∷ words) (option_and_then (command_with n) (given words)) in
+        subst P ((bytes_eq-Decides (codes "throughput") name).0 e_throughput) (throughput_means words)
+    at false false true b_check b_trial b_help e_session e_throughput e_explain e_check e_trial e_help =
         let P : Text → Type 0 = λ n. Means (n ∷ words) (option_and_then (command_with n) (given words)) in
         subst P ((bytes_eq-Decides (codes "explain") name).0 e_explain) (explain_means words)
-    at false false true b_help e_session e_explain e_check e_help =
+    at false false false true b_trial b_help e_session e_throughput e_explain e_check e_trial e_help =
         let P : Text → Type 0 = λ n. Means (n ∷ words) (option_and_then (command_with n) (given words)) in
         subst P ((bytes_eq-Decides (codes "check") name).0 e_check) (check_means words)
-    at false false false true e_session e_explain e_check e_help =
+    at false false false false true b_help e_session e_throughput e_explain e_check e_trial e_help =
         let P : Text → Type 0 = λ n. Means (n ∷ words) (option_and_then (command_with n) (given words)) in
-        subst P ((bytes_eq-Decides (codes "help") name).0 e_help) (refused_means _ _ (help_fault words) (no_command (codes "help") refl refl refl (given words)))
-    at false false false false e_session e_explain e_check e_help =
-        refused_means _ _ (unknown_fault name words e_session e_explain e_check e_help) (no_command name (swapped (codes "session") name e_session) (swapped (codes "explain") name e_explain) (swapped (codes "check") name e_check) (given words))
+        subst P ((bytes_eq-Decides (codes "trial") name).0 e_trial) (trial_means words)
+    at false false false false false true e_session e_throughput e_explain e_check e_trial e_help =
+        let P : Text → Type 0 = λ n. Means (n ∷ words) (option_and_then (command_with n) (given words)) in
+        subst P ((bytes_eq-Decides (codes "help") name).0 e_help) (refused_means _ _ (help_fault words) (no_command (codes "help") refl refl refl refl refl (given words)))
+    at false false false false false false e_session e_throughput e_explain e_check e_trial e_help =
+        refused_means _ _ (unknown_fault name words e_session e_throughput e_explain e_check e_trial e_help) (no_command name (swapped (codes "session") name e_session) (swapped (codes "throughput") name e_throughput) (swapped (codes "explain") name e_explain) (swapped (codes "check") name e_check) (swapped (codes "trial") name e_trial) (given words))
 
 no_fault : (faults : Kinds) (command : Option Command) → IsSome (cond (is_empty faults) command None) → faults ≡ []
 no_fault [] command some = refl

@@ -1,17 +1,20 @@
 -- What words mean, by the values that are given.
-use Rattle.std.proofs.Common.{◌≡◌, ◌∙◌, List, [], ◌∷◌, Option, None, Some, IsSome, false, true≢false, ap, ap₂, codes, cond, refl, sym}
+use Rattle.std.proofs.Common.{◌≡◌, ◌∙◌, List, [], ◌∷◌, Option, None, Some, IsSome, Bool, true, false, true≢false, ap, ap₂, codes, cond, refl, sym}
 use Rattle.std.specs.Option.{option_and_then}
+use Rattle.std.specs.Str.Parse.{digits_value, without_leading_plus}
 use Rattle.clap.proofs.OnLiterals.{clap_on_literals}
 use Rattle.clap.specs.Faults.{fault_of, level_fault, walk_fault}
 use Rattle.clap.specs.Kinds.{Kinds, or_else}
 use Rattle.clap.specs.Simple.{Shape, subcommand_of}
+use Rattle.clap.specs.ValueTests.{is_unsigned_in}
 use Rattle.clap.specs.Walk.{Held, Row, Text, finished, is_empty, nothing_held, rows_after}
 use Rattle.tpch_main.proofs.WordsGiven.{given, or_else_some, values_fault, values_held}
-use Rattle.tpch_main.proofs.WordsTop.{check_faults, check_placed, check_rows, end_fault, explain_faults, explain_placed, explain_rows, leaf, session_faults, session_placed, session_rows, start}
+use Rattle.tpch_main.proofs.WordsTop.{check_faults, check_placed, check_rows, end_fault, explain_faults, explain_placed, explain_rows, leaf, session_faults, session_placed, session_rows, start, throughput_faults, throughput_placed, throughput_rows, trial_faults, trial_placed, trial_rows}
 use Rattle.tpch_main.proofs.WordsWalk.{Walks, WalksAs, walks}
 use Rattle.tpch_main.specs.Subcommands.{program_app}
 use Rattle.tpch_main.specs.WordLaws.{command_with}
 use Rattle.tpch_main.specs.Words.{Command, command_in, command_of}
+use Rattle.tpch_main.specs.Words.Command.{trial}
 
 -- the words are that command, and where clap finds no fault they are one
 pub record Means (words : List Text) (command : Option Command) : Type 0 where
@@ -58,6 +61,22 @@ session_means words = by (given words) (walks (leaf (codes "session")) session_p
     by None fault = refused_means _ _ (ap is_empty (session_faults words) ∙ or_else_some (walk_fault (leaf (codes "session")) [] start words) _ fault) refl
     by (Some values) walk = session_values words values walk
 
+throughput_values : (words values : List Text) → WalksAs (leaf (codes "throughput")) nothing_held 1 words (Some values) → Means (codes "throughput" ∷ words) (command_with (codes "throughput") values)
+unfolding clap_on_literals
+throughput_values words [] walk = refused_means _ _ (ap is_empty (throughput_faults words ∙ by_values (leaf (codes "throughput")) words [] walk)) refl
+throughput_values words (folder ∷ []) walk = refused_means _ _ (ap is_empty (throughput_faults words ∙ by_values (leaf (codes "throughput")) words (folder ∷ []) walk)) refl
+throughput_values words (folder ∷ job ∷ []) walk =
+    taken_means _ _ (throughput_faults words ∙ by_values (leaf (codes "throughput")) words (folder ∷ job ∷ []) walk)
+    (ap (option_and_then command_in) (throughput_rows words) ∙ ap (λ (rows : List Row). command_in (codes "throughput", rows)) (rows_by_values (leaf (codes "throughput")) words (folder ∷ job ∷ []) walk))
+throughput_values words (folder ∷ job ∷ more ∷ others) walk = refused_means _ _ (ap is_empty (throughput_faults words ∙ by_values (leaf (codes "throughput")) words (folder ∷ job ∷ more ∷ others) walk)) refl
+
+pub throughput_means : (words : List Text) → Means (codes "throughput" ∷ words) (option_and_then (command_with (codes "throughput")) (given words))
+throughput_means words = by (given words) (walks (leaf (codes "throughput")) throughput_placed words nothing_held 1 refl)
+  where
+    by : (values : Option (List Text)) → WalksAs (leaf (codes "throughput")) nothing_held 1 words values → Means (codes "throughput" ∷ words) (option_and_then (command_with (codes "throughput")) values)
+    by None fault = refused_means _ _ (ap is_empty (throughput_faults words) ∙ or_else_some (walk_fault (leaf (codes "throughput")) [] start words) _ fault) refl
+    by (Some values) walk = throughput_values words values walk
+
 explain_values : (words values : List Text) → WalksAs (leaf (codes "explain")) nothing_held 1 words (Some values) → Means (codes "explain" ∷ words) (command_with (codes "explain") values)
 unfolding clap_on_literals
 explain_values words [] walk = refused_means _ _ (ap is_empty (explain_faults words ∙ by_values (leaf (codes "explain")) words [] walk)) refl
@@ -89,3 +108,23 @@ check_means words = by (given words) (walks (leaf (codes "check")) check_placed 
     by : (values : Option (List Text)) → WalksAs (leaf (codes "check")) nothing_held 1 words values → Means (codes "check" ∷ words) (option_and_then (command_with (codes "check")) values)
     by None fault = refused_means _ _ (ap is_empty (check_faults words) ∙ or_else_some (walk_fault (leaf (codes "check")) [] start words) _ fault) refl
     by (Some values) walk = check_values words values walk
+
+trial_values : (words values : List Text) → WalksAs (leaf (codes "trial")) nothing_held 1 words (Some values) → Means (codes "trial" ∷ words) (command_with (codes "trial") values)
+unfolding clap_on_literals
+trial_values words [] walk = refused_means _ _ (ap is_empty (trial_faults words ∙ by_values (leaf (codes "trial")) words [] walk)) refl
+trial_values words (number ∷ []) walk = at (is_unsigned_in 1 1000 number) refl
+  where
+    at : (fits : Bool) → is_unsigned_in 1 1000 number ≡ fits → Means (codes "trial" ∷ words) (command_with (codes "trial") (number ∷ []))
+    at true fits =
+        rw fits (taken_means (codes "trial" ∷ words) (trial (digits_value 10 (without_leading_plus number))) (trial_faults words ∙ by_values (leaf (codes "trial")) words (number ∷ []) walk ∙ rw fits refl)
+        (ap (option_and_then command_in) (trial_rows words) ∙ ap (λ (rows : List Row). command_in (codes "trial", rows)) (rows_by_values (leaf (codes "trial")) words (number ∷ []) walk) ∙ rw fits refl))
+    at false fits = refused_means _ _ (ap is_empty (trial_faults words ∙ by_values (leaf (codes "trial")) words (number ∷ []) walk) ∙ rw fits refl) (rw fits refl)
+trial_values words (number ∷ more ∷ []) walk = refused_means _ _ (ap is_empty (trial_faults words ∙ by_values (leaf (codes "trial")) words (number ∷ more ∷ []) walk)) refl
+trial_values words (number ∷ more ∷ again ∷ others) walk = refused_means _ _ (ap is_empty (trial_faults words ∙ by_values (leaf (codes "trial")) words (number ∷ more ∷ again ∷ others) walk)) refl
+
+pub trial_means : (words : List Text) → Means (codes "trial" ∷ words) (option_and_then (command_with (codes "trial")) (given words))
+trial_means words = by (given words) (walks (leaf (codes "trial")) trial_placed words nothing_held 1 refl)
+  where
+    by : (values : Option (List Text)) → WalksAs (leaf (codes "trial")) nothing_held 1 words values → Means (codes "trial" ∷ words) (option_and_then (command_with (codes "trial")) values)
+    by None fault = refused_means _ _ (ap is_empty (trial_faults words) ∙ or_else_some (walk_fault (leaf (codes "trial")) [] start words) _ fault) refl
+    by (Some values) walk = trial_values words values walk

@@ -60,6 +60,15 @@ pub session_rows : (words : List Text) → subcommand_of program_app (codes "ses
 unfolding clap_on_literals
 session_rows words = ap (λ (w : Walk). entered whole w.stopped) (left (codes "session") words)
 
+pub throughput_faults : (words : List Text) → fault_of program_app (codes "throughput" ∷ words) ≡ leaf_faults (codes "throughput") words
+unfolding clap_on_literals
+throughput_faults words =
+    ap₂ faults_at (stopped_fault whole.top (names_of whole) start (codes "throughput", []) words) (left (codes "throughput") words) ∙ or_else-nil (leaf_faults (codes "throughput") words)
+
+pub throughput_rows : (words : List Text) → subcommand_of program_app (codes "throughput" ∷ words) ≡ Some (rows_at (leaf (codes "throughput")) words)
+unfolding clap_on_literals
+throughput_rows words = ap (λ (w : Walk). entered whole w.stopped) (left (codes "throughput") words)
+
 pub explain_faults : (words : List Text) → fault_of program_app (codes "explain" ∷ words) ≡ leaf_faults (codes "explain") words
 unfolding clap_on_literals
 explain_faults words =
@@ -78,16 +87,31 @@ pub check_rows : (words : List Text) → subcommand_of program_app (codes "check
 unfolding clap_on_literals
 check_rows words = ap (λ (w : Walk). entered whole w.stopped) (left (codes "check") words)
 
+pub trial_faults : (words : List Text) → fault_of program_app (codes "trial" ∷ words) ≡ leaf_faults (codes "trial") words
+unfolding clap_on_literals
+trial_faults words =
+    ap₂ faults_at (stopped_fault whole.top (names_of whole) start (codes "trial", []) words) (left (codes "trial") words) ∙ or_else-nil (leaf_faults (codes "trial") words)
+
+pub trial_rows : (words : List Text) → subcommand_of program_app (codes "trial" ∷ words) ≡ Some (rows_at (leaf (codes "trial")) words)
+unfolding clap_on_literals
+trial_rows words = ap (λ (w : Walk). entered whole w.stopped) (left (codes "trial") words)
+
 -- ---- the arguments are known by their places
 
 pub session_placed : is_placed (leaf (codes "session")).rules ≡ true
 session_placed = refl
+
+pub throughput_placed : is_placed (leaf (codes "throughput")).rules ≡ true
+throughput_placed = refl
 
 pub explain_placed : is_placed (leaf (codes "explain")).rules ≡ true
 explain_placed = refl
 
 pub check_placed : is_placed (leaf (codes "check")).rules ≡ true
 check_placed = refl
+
+pub trial_placed : is_placed (leaf (codes "trial")).rules ≡ true
+trial_placed = refl
 
 pub top_placed : is_placed whole.top.rules ≡ true
 top_placed = refl

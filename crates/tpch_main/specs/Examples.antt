@@ -5,7 +5,7 @@ use Rattle.sql_value.specs.declared.value.Value.{Value}
 use Rattle.sql_value.specs.declared.value.Value.TheVariants as value
 use Rattle.tpch_outside.specs.Outside.{Folder}
 use Rattle.tpch_schema.specs.State.{State}
-use Rattle.tpch_main.specs.Counts.{counts_text}
+use Rattle.query_streams.specs.Counts.{counts_text}
 use Rattle.tpch_main.specs.Inputs.{AreInputs, BadInput, refusal_line, state_in}
 use Rattle.tpch_main.specs.declared.input_error.InputFault.{InputFault}
 use Rattle.tpch_main.specs.declared.input_error.InputFault.TheVariants as fault

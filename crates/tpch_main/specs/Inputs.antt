@@ -30,7 +30,9 @@ use Rattle.tpch_schema.specs.declared.table.TableName.{TableName}
 use Rattle.tpch_main.specs.ScriptRefusals.{script_refusal_name, script_refusal_number}
 use Rattle.tpch_main.specs.declared.input_error.InputFault.{InputFault}
 use Rattle.tpch_main.specs.declared.input_error.InputFault.TheVariants as fault
-use Rattle.tpch_main.specs.declared.refreshes.Mention.{Mention}
+use Rattle.job_file.specs.Files.{job_refusal_name, job_refusal_number}
+use Rattle.job_file.specs.declared.job.Mention.{Mention}
+use Rattle.job_file.specs.declared.refusal.RefusedLine.{RefusedLine}
 
 -- an input that is refused: its name and why
 pub record BadInput : Type 0 where
@@ -200,11 +202,24 @@ byte_text refusal place = codes " byte " ++ decimal place ++ codes " "
     ++ decimal (script_refusal_number refusal) ++ codes " " ++ script_refusal_name refusal
     ++ codes "\n"
 
+-- the byte of a refresh in a script of a job
+abbrev pub refresh_text : ℕ → List ℕ
+refresh_text place = codes " byte " ++ decimal place ++ codes " 9 RefreshHere\n"
+
+-- the line of a job, its refusal's number and its refusal's name
+abbrev pub job_line_text : RefusedLine → List ℕ
+job_line_text refused =
+    codes " line " ++ decimal refused.line ++ codes " "
+    ++ decimal (job_refusal_number refused.refusal) ++ codes " "
+    ++ job_refusal_name refused.refusal ++ codes "\n"
+
 -- why an input is refused, as it is printed after the input's name
 abbrev pub fault_text : InputFault → List ℕ
 fault_text fault.Absent = codes " absent\n"
 fault_text (fault.Byte refusal place) = byte_text refusal place
 fault_text (fault.Line first) = line_text first
+fault_text (fault.RefreshHere place) = refresh_text place
+fault_text (fault.JobLine refused) = job_line_text refused
 
 -- the line for a refused input
 abbrev pub refusal_line : BadInput → List ℕ

@@ -10,7 +10,7 @@ use Rattle.tpch_main.specs.Inputs.{AreInputs, AreSteps, BadInput, Work, refreshe
 use Rattle.tpch_main.specs.Inputs.{table_in}
 use Rattle.tpch_main.specs.Meaning.{IsAccepted, Prints}
 use Rattle.tpch_main.specs.Words.{Command}
-use Rattle.tpch_main.specs.Words.Command.{check, explain, session}
+use Rattle.tpch_main.specs.Words.Command.{check, explain, session, throughput, trial}
 use Rattle.tpch_main.specs.declared.status.Status.{Status}
 
 -- one of the tables is refused so, and those before it are there and of their form
@@ -42,11 +42,14 @@ SessionAcceptedLaw = (dir script : List ℕ) (folder : Folder) (work : Work)
     ↔ (AreSteps folder script (Ok work.steps) × (state_in dir folder ≡ Ok work.base)
     × (refreshes_in dir work.steps folder ≡ Ok work.list))
 
--- the command has one text: no plan of a query is any other
+-- the command has one text: no plan of a query is any other, and the versions of a job are chosen by
+-- the run
 abbrev pub HasOneText : Command → Type 0
 HasOneText (session dir script) = ⊤
+HasOneText (throughput dir job) = ⊥
 HasOneText (explain script) = ⊥
 HasOneText (check dir) = ⊤
+HasOneText (trial number) = ⊥
 
 -- two texts that such an accepted command prints are one text, with one status
 abbrev pub TextLaw : Type 0

@@ -2,7 +2,6 @@ pub mod Subcommands
 pub mod Words
 pub mod Status
 pub mod WordLaws
-pub mod Counts
 pub mod Inputs
 pub mod Printing
 pub mod ScriptPlans
@@ -18,3 +17,7 @@ pub mod ScriptRefusals
 pub mod Turns
 pub mod SetFile
 pub mod KnownFiles
+pub mod JobInputs
+pub mod JobMeaning
+pub mod JobViews
+pub mod Trial

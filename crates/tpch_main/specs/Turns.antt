@@ -2,6 +2,7 @@
 use Rattle.std.specs.Prelude.{ℕ, ◌+◌, ◌≡◌, ◌&&◌, List, [], ◌∷◌, ◌++◌, drop, length, Bool, true}
 use Rattle.std.specs.Prelude.{Option, None, Some, Result, Ok, Err, slice_get, if◌then◌else◌}
 use Rattle.query_streams.specs.Outcomes.{Moment}
+use Rattle.query_streams.specs.Reports.{tried_next}
 use Rattle.query_streams.specs.Sessions.{Course, are_clean, lines_of}
 use Rattle.refusals.specs.declared.refresh.Cause.{Cause}
 use Rattle.segment_store.specs.Trials.{Trials, one_more, tables_of, version_of}
@@ -12,17 +13,6 @@ use Rattle.tpch_schema.specs.State.{State}
 use Rattle.tpch_main.specs.Inputs.{Work, mentions_of}
 use Rattle.tpch_main.specs.declared.status.Status.{Status}
 use Rattle.tpch_main.specs.declared.status.Status.TheVariants.{Done, SomeRefused}
-
--- the version that a refresh makes, or its first cause
-abbrev pub version_or_cause : ℕ → Result State Cause → Result ℕ Cause
-version_or_cause before (Ok tables) = Ok (before + 1)
-version_or_cause before (Err cause) = Err cause
-
--- what comes of the next refresh of a list; nothing is left to try past its end
-abbrev pub tried_next : Trials → Option Change → Result ℕ Cause
-tried_next trials (Some change) =
-    version_or_cause (version_of trials) (after (tables_of trials) change)
-tried_next trials None = Ok (version_of trials)
 
 -- the moment of a statement after the refreshes that were tried
 abbrev pub moment_after : Trials → Moment

@@ -9,7 +9,7 @@ use Rattle.tpch_main.specs.Inputs.{BadInput}
 use Rattle.tpch_main.specs.Meaning.{IsFirstRefused, Prints}
 use Rattle.tpch_main.specs.Printing.{IsDone}
 use Rattle.tpch_main.specs.Words.{Command}
-use Rattle.tpch_main.specs.Words.Command.{check, explain, session}
+use Rattle.tpch_main.specs.Words.Command.{check, explain, session, throughput, trial}
 use Rattle.tpch_main.specs.declared.input_error.InputFault.{InputFault}
 use Rattle.tpch_main.specs.declared.input_error.InputFault.TheVariants as fault
 use Rattle.tpch_main.specs.declared.input_error.InputError.{InputError}
@@ -23,8 +23,10 @@ use Rattle.tpch_main.specs.declared.words.Command.TheVariants as word
 -- the command that the words were read as
 abbrev pub command_view : code.Command → Command
 command_view (word.Session folder script) = session folder.now script.now
+command_view (word.Throughput folder job) = throughput folder.now job.now
 command_view (word.Explain script) = explain script.now
 command_view (word.Check folder) = check folder.now
+command_view (word.Trial number) = trial number
 
 -- the refused input with its name as bytes
 abbrev pub refused_view : RefusedInput → BadInput

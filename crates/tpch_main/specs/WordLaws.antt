@@ -6,8 +6,8 @@ use Rattle.std.specs.Option.{option_and_then}
 use Rattle.std.specs.Str.{IsUtf8, bytes_eq}
 use Rattle.clap.specs.Words.{Text, fault_of}
 use Rattle.tpch_main.specs.Subcommands.{program_app}
-use Rattle.tpch_main.specs.Words.{Command, command_of}
-use Rattle.tpch_main.specs.Words.Command.{check, explain, session}
+use Rattle.tpch_main.specs.Words.{Command, command_of, trial_number}
+use Rattle.tpch_main.specs.Words.Command.{check, explain, session, throughput, trial}
 
 -- words are a command exactly where clap finds no fault in them
 abbrev pub AcceptedLaw : Type 0
@@ -32,6 +32,11 @@ abbrev pub session_with : List Text → Option Command
 session_with (folder ∷ script ∷ []) = Some (session folder script)
 session_with values = None
 
+-- `throughput` with its two values
+abbrev pub throughput_with : List Text → Option Command
+throughput_with (folder ∷ job ∷ []) = Some (throughput folder job)
+throughput_with values = None
+
 -- `explain` with its one value
 abbrev pub explain_with : List Text → Option Command
 explain_with (script ∷ []) = Some (explain script)
@@ -42,12 +47,19 @@ abbrev pub check_with : List Text → Option Command
 check_with (folder ∷ []) = Some (check folder)
 check_with values = None
 
+-- `trial` with its one value, which is a number from 1 to 1000
+abbrev pub trial_with : List Text → Option Command
+trial_with (number ∷ []) = option_map trial (trial_number number)
+trial_with values = None
+
 -- the command of a subcommand's name and of its values
 abbrev pub command_with : Text → List Text → Option Command
 command_with name values =
     if bytes_eq name (codes "session") then session_with values
+    else if bytes_eq name (codes "throughput") then throughput_with values
     else if bytes_eq name (codes "explain") then explain_with values
     else if bytes_eq name (codes "check") then check_with values
+    else if bytes_eq name (codes "trial") then trial_with values
     else None
 
 -- the command that the words are, said without clap
@@ -66,6 +78,12 @@ pub record WordExamples : Type 0 where
       ≡ Some (session (codes "d") (codes "s"))
   pub check_read : command_of (codes "check" ∷ codes "d" ∷ []) ≡ Some (check (codes "d"))
   pub explain_read : command_of (codes "explain" ∷ codes "s" ∷ []) ≡ Some (explain (codes "s"))
+  pub throughput_read : command_of (codes "throughput" ∷ codes "d" ∷ codes "j" ∷ [])
+      ≡ Some (throughput (codes "d") (codes "j"))
+  pub trial_read : command_of (codes "trial" ∷ codes "10" ∷ []) ≡ Some (trial 10)
+  pub no_trial : command_of (codes "trial" ∷ codes "0" ∷ []) ≡ None
+  pub trial_too_high : command_of (codes "trial" ∷ codes "1001" ∷ []) ≡ None
+  pub trial_of_no_number : command_of (codes "trial" ∷ codes "one" ∷ []) ≡ None
   pub none_given : command_of [] ≡ None
   pub too_few : command_of (codes "session" ∷ codes "d" ∷ []) ≡ None
   pub no_folder : command_of (codes "check" ∷ []) ≡ None

@@ -58,7 +58,7 @@ pub(crate) fn front<F: Files>(
 }
 
 /// All bytes of the open file, or `None` where they are more than the limit.
-fn collect<F: Files>(
+pub(crate) fn collect<F: Files>(
     alloc: Global,
     files: &mut F,
     limit: usize,

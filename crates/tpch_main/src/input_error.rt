@@ -2,6 +2,7 @@
 ghost use Rattle.std.specs.Prelude.{◌≡◌};
 ghost use Rattle.tpch_main.specs.Views.{Refuses};
 
+use job_file::RefusedLine;
 use refusals::LineRefusal;
 use sql_parser::ScriptRefusal;
 use std::alloc::{AllocError, AllocFailed, Global};
@@ -15,6 +16,10 @@ pub enum InputFault {
     Byte(ScriptRefusal, usize),
     /// This is the first bad line of a table's file.
     Line(LineRefusal),
+    /// The script of a job's session has its first refresh at this byte, counted from 0.
+    RefreshHere(usize),
+    /// The job is refused so.
+    JobLine(RefusedLine),
 }
 
 /// An input that is refused.

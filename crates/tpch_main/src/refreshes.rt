@@ -12,20 +12,12 @@ ghost use Rattle.tpch_main.specs.Views.{Reads};
 use crate::input_error::InputError;
 use crate::set_files::{SetFile, set_rows};
 use columns::Rows;
+use job_file::Mention;
 use refusals::{LineRefusal, RefreshFile};
 use sql_ast::{RefreshKind, Statement};
 use std::alloc::{AllocError, Global};
 use table_state::Refresh;
 use tpch_outside::Files;
-
-/// A refresh that a statement names.
-#[derive(Clone, Copy, Debug, PartialEq, Eq)]
-pub struct Mention {
-    /// What it does.
-    pub change: RefreshKind,
-    /// The number of its set.
-    pub set: u32,
-}
 
 /// An insert of what these files hold: a bad line of the orders comes before one of the lineitems.
 fn insert_of(

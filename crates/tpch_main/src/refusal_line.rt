@@ -1,11 +1,12 @@
 //! The line that is printed of a refused input.
 ghost use Rattle.std.specs.Prelude.{◌≡◌, ◌++◌, IfOk, OnOk};
-ghost use Rattle.tpch_main.specs.Inputs.{byte_text, line_text, refusal_line};
+ghost use Rattle.tpch_main.specs.Inputs.{byte_text, job_line_text, line_text, refresh_text, refusal_line};
 ghost use Rattle.tpch_main.specs.Views.{refused_view};
 
 use crate::input_error::{InputFault, RefusedInput};
 use crate::script_refusal::{refusal_name, refusal_number};
 use itoa::Buffer;
+use job_file::RefusedLine;
 use refusals::LineRefusal;
 use sql_parser::ScriptRefusal;
 use std::alloc::{AllocError, Global};
@@ -20,6 +21,8 @@ pub fn line_of_refusal(alloc: Global, refused: &RefusedInput) -> Result<Vec<u8>,
         InputFault::Absent => line.extend_from_slice(b" absent\n")?,
         InputFault::Byte(refusal, place) => push_byte(&mut line, refusal, place)?,
         InputFault::Line(first) => push_line(&mut line, first)?,
+        InputFault::RefreshHere(place) => push_refresh(&mut line, place)?,
+        InputFault::JobLine(refused) => push_job_line(&mut line, refused)?,
     }
     Ok(line)
 }
@@ -50,6 +53,32 @@ fn push_line(line: &mut Vec<u8>, first: LineRefusal) -> Result<(), AllocError>
     line.extend_from_slice(buffer.format(first.fault.number()).as_bytes())?;
     line.push(b' ')?;
     line.extend_from_slice(first.fault.name().as_bytes())?;
+    line.push(b'\n')?;
+    Ok(())
+}
+
+/// Appends the place of a refresh in a script of a job.
+fn push_refresh(line: &mut Vec<u8>, place: usize) -> Result<(), AllocError>
+    ensures { OnOk result (line.new.items ≡ line.old.items ++ refresh_text place) }
+{
+    let mut buffer = Buffer::new();
+    line.extend_from_slice(b" byte ")?;
+    line.extend_from_slice(buffer.format(place).as_bytes())?;
+    line.extend_from_slice(b" 9 RefreshHere\n")?;
+    Ok(())
+}
+
+/// Appends the place and the refusal of a job's line.
+fn push_job_line(line: &mut Vec<u8>, refused: RefusedLine) -> Result<(), AllocError>
+    ensures { OnOk result (line.new.items ≡ line.old.items ++ job_line_text refused) }
+{
+    let mut buffer = Buffer::new();
+    line.extend_from_slice(b" line ")?;
+    line.extend_from_slice(buffer.format(refused.line).as_bytes())?;
+    line.push(b' ')?;
+    line.extend_from_slice(buffer.format(refused.refusal.number()).as_bytes())?;
+    line.push(b' ')?;
+    line.extend_from_slice(refused.refusal.name().as_bytes())?;
     line.push(b'\n')?;
     Ok(())
 }

@@ -1,4 +1,4 @@
-//! A run from its words to its text. Nothing here waits, so each call is proved to return.
+//! A run from its words to its text. A job may wait for its readers and its threads.
 ghost use Rattle.std.specs.Prelude.{◌≡◌, ◌≢◌, ◌≤◌, ◌⊎◌, ℕ, List, Some, IfOk, map};
 ghost use Rattle.std.specs.Io.KnownBytes.{Keeps};
 ghost use Rattle.std.specs.String.{string_bytes};
@@ -8,7 +8,7 @@ ghost use Rattle.tpch_main.specs.Meaning.{IsAbsentInput, IsAccepted, Prints, Tak
 ghost use Rattle.tpch_main.specs.Printing.{IsAnswer};
 ghost use Rattle.tpch_main.specs.Meaning.{TakesWhole};
 ghost use Rattle.tpch_main.specs.Views.{IsTextOf, command_view};
-ghost use Rattle.tpch_main.specs.Words.{command_of};
+ghost use Rattle.tpch_main.specs.Words.{IsInRange, IsOverFiles, command_of};
 ghost use Rattle.tpch_main.specs.Words.Command.{check};
 
 use crate::Status;
@@ -18,10 +18,13 @@ use crate::input_error::{InputError, ReadError};
 use crate::output::write_text;
 use crate::refusal_line::line_of_refusal;
 use crate::session::session_text;
+use crate::throughput::throughput_text;
+use crate::trial::trial_printed;
 use crate::words::{Command, read_words};
 use std::alloc::Global;
+use std::sync::Wait;
 use std::thread::Threads;
-use tpch_outside::{Files, Sink};
+use tpch_outside::{Files, Gate, Sink};
 
 static USAGE: &[u8] =
     b"usage: tpch session DIR SCRIPT, throughput DIR JOB, explain SCRIPT, check DIR, trial N\n";
@@ -42,29 +45,38 @@ fn check_printed<F: Files>(
 }
 
 /// The text of a command over its files.
-fn command_text<R: Threads, F: Files>(
+fn command_text<R: Threads + Wait + Sync, F: Files, G: Gate + Sync>(
     rt: &R,
     alloc: Global,
     files: &mut F,
+    gate: &G,
     command: &Command<'_>,
 ) -> Result<(Vec<u8>, Status), InputError>
+    requires { IsOverFiles (command_view command.now) }
     ensures text { IsTextOf (command_view command.now) (F.held files.old) result }
     ensures files { FilesAfterInput F.held F.faults F.misses result files.old files.new }
 {
     match command {
         Command::Session { folder, script } => session_text(rt, alloc, files, folder, script),
+        Command::Throughput { folder, job } => {
+            throughput_text(rt, alloc, files, folder, job, gate)
+        }
         Command::Explain { script } => explain_text(alloc, files, script),
         Command::Check { folder } => check_printed(alloc, files, folder),
+        Command::Trial { .. } => unreachable!(),
     }
 }
 
-/// What a command prints, and its status: its text, or the line of its first refused input.
-fn printed<R: Threads, F: Files>(
+/// What a command over files prints, and its status: its text, or the line of its first refused
+/// input.
+fn printed_over<R: Threads + Wait + Sync, F: Files, G: Gate + Sync>(
     rt: &R,
     alloc: Global,
     files: &mut F,
+    gate: &G,
     command: &Command<'_>,
 ) -> Result<(Vec<u8>, Status), ReadError>
+    requires { IsOverFiles (command_view command.now) }
     ensures prints { IfOk result (λ printed. IsAnswer printed.1
         × Prints (Some (command_view command.now)) (F.held files.old) printed.0.items printed.1) }
     ensures absent { IfOk result (λ printed. IsAbsentInput (Some (command_view command.now))
@@ -72,7 +84,7 @@ fn printed<R: Threads, F: Files>(
         → Rose (F.misses files.old) (F.misses files.new)) }
     ensures files { FilesAfterRead F.held F.faults F.misses result files.old files.new }
 {
-    match command_text(rt, alloc, files, command) {
+    match command_text(rt, alloc, files, gate, command) {
         Ok(printed) => Ok(printed),
         Err(InputError::Refused(refused)) => {
             let text = line_of_refusal(alloc, &refused)?;
@@ -82,14 +94,40 @@ fn printed<R: Threads, F: Files>(
     }
 }
 
+/// What a command prints, and its status.
+fn printed<R: Threads + Wait + Sync, F: Files, G: Gate + Sync>(
+    rt: &R,
+    alloc: Global,
+    files: &mut F,
+    gate: &G,
+    command: &Command<'_>,
+) -> Result<(Vec<u8>, Status), ReadError>
+    requires { IsInRange (command_view command.now) }
+    ensures prints { IfOk result (λ printed. IsAnswer printed.1
+        × Prints (Some (command_view command.now)) (F.held files.old) printed.0.items printed.1) }
+    ensures absent { IfOk result (λ printed. IsAbsentInput (Some (command_view command.now))
+        (F.held files.old)
+        → Rose (F.misses files.old) (F.misses files.new)) }
+    ensures files { FilesAfterRead F.held F.faults F.misses result files.old files.new }
+{
+    match command {
+        Command::Trial { number } => trial_printed(rt, alloc, *number, gate),
+        Command::Session { .. }
+        | Command::Throughput { .. }
+        | Command::Explain { .. }
+        | Command::Check { .. } => printed_over(rt, alloc, files, gate, command),
+    }
+}
+
 /// Reads the words and the files that they name, and writes one text. The clauses are those of
 /// `tpch`.
-pub fn run<R: Threads, F: Files, S: Sink>(
+pub fn run<R: Threads + Wait + Sync, F: Files, S: Sink, G: Gate + Sync>(
     rt: &R,
     alloc: Global,
     words: &[String],
     files: &mut F,
     out: &mut S,
+    gate: &G,
 ) -> Status
     ensures answer { TakesWhole (command_of (map string_bytes words.now)) (F.held files.old)
         (S.taken out.old) (S.taken out.new) result }
@@ -119,7 +157,7 @@ pub fn run<R: Threads, F: Files, S: Sink>(
     let Some(command) = read else {
         return write_text(out, USAGE, Status::Usage);
     };
-    match printed(rt, alloc, files, &command) {
+    match printed(rt, alloc, files, gate, &command) {
         Ok((text, status)) => write_text(out, text.as_slice(), status),
         Err(ReadError::Fault) => Status::ReadFault,
         Err(ReadError::OutOfMemory) => Status::OutOfMemory,

@@ -63,5 +63,5 @@ pub fn tpch<R: Threads + Wait + Sync, F: Files, S: Sink, G: Gate + Sync>(
         × (F.misses files.old ≤ F.misses files.new)
         × (S.faults out.old ≤ S.faults out.new) }
 {
-    run(rt, alloc, words, files, out)
+    run(rt, alloc, words, files, out, gate)
 }

@@ -5,4 +5,6 @@ use Rattle.order_limit.proofs.Bags.{Put}
 use Rattle.order_limit.proofs.answer.collected.Given as goal
 
 abbrev pub invariant-loop-batch : goal.invariant-loop-batch
-invariant-loop-batch l = Put [] 5 (bag_rows (take l.batch-index l.batches)) l.rows.items (standing_rank l.least)
+invariant-loop-batch l =
+    Put l.keys l.limit [] 5 (bag_rows (take l.batch-index l.batches)) l.rows.items
+    (standing_rank l.least)

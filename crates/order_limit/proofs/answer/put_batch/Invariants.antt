@@ -4,4 +4,6 @@ use Rattle.order_limit.proofs.Bags.{Put}
 use Rattle.order_limit.proofs.answer.put_batch.Given as goal
 
 abbrev pub invariant-loop-i : goal.invariant-loop-i
-invariant-loop-i l = Put l.fn.rows.items (standing_rank l.fn.least) (take l.i l.batch.rows) l.rows.items (standing_rank l.least)
+invariant-loop-i l =
+    Put l.keys l.limit l.fn.rows.items (standing_rank l.fn.least) (take l.i l.batch.rows)
+    l.rows.items (standing_rank l.least)

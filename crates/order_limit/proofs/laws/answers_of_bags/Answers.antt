@@ -1,4 +1,4 @@
-use Rattle.std.proofs.Common.{◌≡◌, ℕ, List, ap, ◌∙◌}
+use Rattle.std.proofs.Common.{◌≡◌, ap, ◌∙◌}
 use Rattle.std.specs.Prelude.{map, nat_lt, Ok, Err, if◌then◌else◌}
 use Rattle.row_laws.specs.Ranked.{true_rank}
 use Rattle.row_laws.proofs.Bags.{SameBag-map}

@@ -3,7 +3,7 @@ use Rattle.std.specs.List.{All}
 use Rattle.sql_value.specs.declared.value.Value.{Value}
 use Rattle.columns.specs.Lists.{one_list}
 use Rattle.columns.specs.Tables.{standing_rows}
-use Rattle.table_state.proofs.Compaction.{rows_joined}
+use Rattle.segment_store.proofs.Rest.{rows_joined}
 use Rattle.segment_store.proofs.Neighbours.{part-joined, same-width}
 use Rattle.segment_store.proofs.joining.put_part.Goals as goal
 

@@ -1,5 +1,6 @@
 use Rattle.std.proofs.Common.{subst, sym}
 use Rattle.tpch_main.specs.Views.{IsTextOf, command_view}
+use Rattle.tpch_main.specs.Words.{IsOverFiles}
 use Rattle.tpch_main.specs.declared.words.Command.{Command}
 use Rattle.tpch_main.proofs.run.command_text.Goals as goal
 
@@ -17,3 +18,11 @@ pub returns-in-Check-clause-text : goal.returns-in-Check-clause-text
 returns-in-Check-clause-text g c =
     let held = g.F.Files.held c.args.files.now in
     subst (λ (command : Command). IsTextOf (command_view command) held c.check_printed.result) (sym c.in-Check.is) c.check_printed.ensures.text
+
+pub returns-in-Throughput-clause-text : goal.returns-in-Throughput-clause-text
+returns-in-Throughput-clause-text g c =
+    let held = g.F.Files.held c.args.files.now in
+    subst (λ (command : Command). IsTextOf (command_view command) held c.throughput_text.result) (sym c.in-Throughput.is) c.throughput_text.ensures.text
+
+pub unreachable-requires : goal.unreachable-requires
+unreachable-requires g c = subst (λ (command : Command). IsOverFiles (command_view command)) c.in-Trial.is c.requires

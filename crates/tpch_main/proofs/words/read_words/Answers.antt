@@ -8,16 +8,16 @@ use Rattle.tpch_main.specs.Subcommands.{program_app}
 use Rattle.tpch_main.specs.Words.{command_in}
 use Rattle.tpch_main.proofs.words.read_words.Goals as goal
 
-pub returns-in-Ok : goal.returns-in-Ok
-returns-in-Ok c =
+pub returns-in-Ok-clause-command : goal.returns-in-Ok-clause-command
+returns-in-Ok-clause-command c =
     let words = map string_bytes c.args.words.now in
     let is = c.in_ok-program.ensures in
     let none = ap (λ a. fault_of a words) (sym is) ∙ c.in-Ok.ensures.kinds (ap is_simple_and_free is ∙ simple_and_free) in
     let found = (c.in-Ok.ensures.matches (ap is_simple is ∙ simple)).1 ∙ ap (λ a. subcommand_of a words) is in
-    c.command_found.ensures ∙ ap (option_and_then command_in) found ∙ taken (fault_of program_app words) (subcommand_of program_app words) none
+    c.command_found.ensures.command ∙ ap (option_and_then command_in) found ∙ taken (fault_of program_app words) (subcommand_of program_app words) none
 
-pub returns : goal.returns
-returns c =
+pub returns-clause-command : goal.returns-clause-command
+returns-clause-command c =
     let words = map string_bytes c.args.words.now in
     let is = c.in_ok-program.ensures in
     let kind = c.in-Err.ensures.kinds (ap is_simple_and_free is ∙ simple_and_free) in

@@ -3,7 +3,7 @@ use Rattle.grammar_laws.specs.Readings.{links, mapped, nothing}
 use Rattle.grammar_laws.proofs.Loop.{with_front}
 use Rattle.sql_lexer.specs.Kinds.{is}
 use Rattle.sql_lexer.specs.declared.kind.Kind.TheVariants as k
-use Rattle.sql_parser.specs.Readings as readings
+use Rattle.sql_parser.specs.ExpressionReadings as readings
 use Rattle.sql_parser.specs.Readings.{part_at}
 use Rattle.sql_parser.specs.Values as values
 use Rattle.sql_parser.proofs.level.Level.more_arms.Given as goal

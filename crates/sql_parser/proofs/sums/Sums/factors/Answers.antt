@@ -7,7 +7,7 @@ use Rattle.sql_lexer.specs.declared.kind.Kind.TheVariants as k
 use Rattle.sql_lexer.specs.declared.token.Token.{Token}
 use Rattle.sql_ast.specs.declared.tree.Expr.{Expr}
 use Rattle.sql_parser.specs.Kinds.{kinds}
-use Rattle.sql_parser.specs.Readings as readings
+use Rattle.sql_parser.specs.ExpressionReadings as readings
 use Rattle.sql_parser.specs.Readings.{unary_at}
 use Rattle.sql_parser.specs.Values as values
 use Rattle.sql_parser.proofs.sums.Sums.factors.Goals as goal

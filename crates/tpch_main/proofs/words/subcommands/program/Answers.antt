@@ -13,5 +13,7 @@ returns c =
     ap app_of_fields c.subcommand_required.ensures ∙ ap (on_top (λ s. record s { subcommand_required = true })) unnamed in
     let top = λ (a : App). a.top in
     let one = c.in_ok-subcommand.ensures.shape c.in_ok-session.ensures.local ∙ ap₂ with_subcommand bare_is (ap top c.in_ok-session.ensures.app) in
-    let two = c.in_ok-subcommand-2.ensures.shape c.in_ok-explain.ensures.local ∙ ap₂ with_subcommand one (ap top c.in_ok-explain.ensures.app) in
-    IfOk-weaker c.subcommand-3.result _ _ (λ r h. h.shape c.in_ok-check.ensures.local ∙ ap₂ with_subcommand two (ap top c.in_ok-check.ensures.app)) c.subcommand-3.ensures
+    let two = c.in_ok-subcommand-2.ensures.shape c.in_ok-throughput.ensures.local ∙ ap₂ with_subcommand one (ap top c.in_ok-throughput.ensures.app) in
+    let three = c.in_ok-subcommand-3.ensures.shape c.in_ok-explain.ensures.local ∙ ap₂ with_subcommand two (ap top c.in_ok-explain.ensures.app) in
+    let four = c.in_ok-subcommand-4.ensures.shape c.in_ok-check.ensures.local ∙ ap₂ with_subcommand three (ap top c.in_ok-check.ensures.app) in
+    IfOk-weaker c.subcommand-5.result _ _ (λ r h. h.shape c.in_ok-trial.ensures.local ∙ ap₂ with_subcommand four (ap top c.in_ok-trial.ensures.app)) c.subcommand-5.ensures

@@ -1,0 +1,23 @@
+-- Each of the 22 queries by its number, with other values than its text beside this file has.
+run 1 (60);
+run 2 (22, 'STEEL', 'ASIA');
+run 3 ('MACHINERY', '1995-06-20');
+run 4 ('1995-05-01');
+run 5 ('AMERICA', '1996-01-01');
+run 6 ('1993-01-01', 0.04, 35);
+run 7 ('CHINA', 'INDIA');
+run 8 ('KENYA', 'AMERICA', 'STANDARD BURNISHED COPPER');
+run 9 ('plum');
+run 10 ('1994-02-01');
+run 11 ('FRANCE', 0.01);
+run 12 ('RAIL', 'FOB', '1995-01-01');
+run 13 ('l', 'n');
+run 14 ('1996-03-01');
+run 15 ('1994-07-01');
+run 16 ('Brand#12', 'PROMO BRUSHED', 1, 2, 3, 4, 5, 6, 7, 8);
+run 17 ('Brand#31', 'LG CASE');
+run 18 (150);
+run 19 (3, 15, 25, 'Brand#25', 'Brand#32', 'Brand#31');
+run 20 ('navy', '1995-01-01', 'JAPAN');
+run 21 ('EGYPT');
+run 22 ('10', '11', '12', '14', '15', '16', '19');

@@ -1,0 +1,1 @@
+select r_name from region where r_name = "ASIA";

@@ -1,0 +1,1 @@
+select 0.1234567890123456789 from region;
