@@ -7,8 +7,7 @@ ghost use Rattle.accumulators.specs.Accumulators.{added_all};
 use crate::accumulator::Accumulator;
 use crate::term::{is_null, least_with, unless_fault};
 use fixed_decimal::Scale;
-use indexmap::IndexSet;
-use key_tables::put_key;
+use key_tables::KeySet;
 use sql_value::{Standing, Value};
 use std::alloc::{AllocError, Global};
 
@@ -16,7 +15,7 @@ use std::alloc::{AllocError, Global};
 #[derive(Drop)]
 pub struct CountDistinct {
     least: Standing,
-    seen: IndexSet<Value>,
+    seen: KeySet<Value>,
 }
 
 impl Accumulator for CountDistinct {
@@ -28,7 +27,7 @@ impl Accumulator for CountDistinct {
 
     ghost has_taken = { λ s aggregate vs.
         GiveTheSame aggregate (count_distinct_of (reading 0) same_value)
-        × CountedDistinct (standing_rank s.least) s.seen.keys vs };
+        × CountedDistinct (standing_rank s.least) s.seen vs };
 
     ghost terms = { λ s. 0 };
 
@@ -37,7 +36,7 @@ impl Accumulator for CountDistinct {
     fn new(alloc: Global, _scale: Scale) -> CountDistinct {
         CountDistinct {
             least: Standing::AtTrue,
-            seen: IndexSet::new(alloc),
+            seen: KeySet::new(alloc),
         }
     }
 
@@ -63,17 +62,17 @@ impl Accumulator for CountDistinct {
 }
 
 // Puts a value after the others, if it isn't there yet.
-fn put_value(seen: &mut IndexSet<Value>, value: &Value) -> Result<(), AllocError>
-    ensures { OnOk result (seen.new.keys ≡ added same_value seen.old.keys value.now) }
+fn put_value(seen: &mut KeySet<Value>, value: &Value) -> Result<(), AllocError>
+    ensures { OnOk result (seen.new ≡ added same_value seen.old value.now) }
 {
     let value = value.clone()?;
-    put_key(seen, value)?;
+    seen.put(value)?;
     Ok(())
 }
 
 // The same of each of the values.
-fn put_values(seen: &mut IndexSet<Value>, values: &[Value]) -> Result<(), AllocError>
-    ensures { OnOk result (seen.new.keys ≡ added_all same_value seen.old.keys values.now) }
+fn put_values(seen: &mut KeySet<Value>, values: &[Value]) -> Result<(), AllocError>
+    ensures { OnOk result (seen.new ≡ added_all same_value seen.old values.now) }
 {
     for value in values {
         put_value(seen, value)?;

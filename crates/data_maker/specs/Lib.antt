@@ -2,3 +2,4 @@ pub mod Choices
 pub mod Fields
 pub mod Lines
 pub mod Texts
+pub mod Numbers

@@ -3,6 +3,7 @@ ghost use Rattle.std.specs.Prelude.{◌≡◌, ◌<◌, ◌≤◌, ◌+◌, ◌*
 ghost use Rattle.data_maker.specs.Choices.{market_segments, word};
 ghost use Rattle.data_maker.specs.Fields.{draw, field};
 ghost use Rattle.data_maker.specs.Lines.{customer_line, customer_tail, lines};
+ghost use Rattle.data_maker.specs.Numbers.{IsDataNumber};
 
 use crate::choices::{MARKET_SEGMENTS, word};
 use crate::draw::draw;
@@ -21,7 +22,7 @@ fn market_segment(place: u64) -> &'static str
 
 /// Appends the field of a customer's market segment.
 fn push_segment(text: &mut Vec<u8>, number: u64, key: u64) -> Result<(), AllocError>
-    requires number { (1 ≤ number) × (number ≤ 1000) }
+    requires number { IsDataNumber number }
     requires key { key < 2 ^ 16 }
     ensures { OnOk result (text.new.items ≡ text.old.items
         ++ field (word market_segments (draw number 17 key 5))) }
@@ -33,7 +34,7 @@ fn push_segment(text: &mut Vec<u8>, number: u64, key: u64) -> Result<(), AllocEr
 /// Appends the last fields of a customer.
 #[tactic(auto, unfolding(crate::specs::Lines::customer_tail))]
 fn push_customer_tail(text: &mut Vec<u8>, number: u64, key: u64) -> Result<(), AllocError>
-    requires number { (1 ≤ number) × (number ≤ 1000) }
+    requires number { IsDataNumber number }
     requires key { key < 2 ^ 16 }
     ensures { OnOk result (text.new.items ≡ text.old.items ++ customer_tail number key) }
 {
@@ -46,7 +47,7 @@ fn push_customer_tail(text: &mut Vec<u8>, number: u64, key: u64) -> Result<(), A
 /// Appends a customer's line.
 #[tactic(auto, unfolding(crate::specs::Lines::customer_line))]
 fn push_customer(text: &mut Vec<u8>, number: u64, key: u64) -> Result<(), AllocError>
-    requires number { (1 ≤ number) × (number ≤ 1000) }
+    requires number { IsDataNumber number }
     requires key { key < 2 ^ 16 }
     ensures { OnOk result (text.new.items ≡ text.old.items ++ customer_line number key) }
 {
@@ -60,7 +61,7 @@ fn push_customer(text: &mut Vec<u8>, number: u64, key: u64) -> Result<(), AllocE
 
 /// The text of the customers.
 pub fn customer_text(alloc: Global, number: u64) -> Result<Vec<u8>, AllocError>
-    requires { (1 ≤ number) × (number ≤ 1000) }
+    requires { IsDataNumber number }
     ensures { IfOk result (λ text. text.items ≡ lines (customer_line number) 1 (15 * number + 1)) }
 {
     let mut text = Vec::new(alloc);

@@ -1,6 +1,7 @@
 //! Values that look random, and numbers made of them.
 ghost use Rattle.std.specs.Prelude.{◌≡◌, ◌<◌, ◌≤◌, ◌^◌, ◌*◌, ◌+◌};
 ghost use Rattle.data_maker.specs.Fields.{draw, supplier_of, not_third};
+ghost use Rattle.data_maker.specs.Numbers.{IsDataNumber};
 
 /// A value below `count` for a column and a key of the data of that number.
 #[tactic(auto, unfolding(crate::specs::Fields::draw))]
@@ -18,7 +19,7 @@ pub fn draw(number: u64, column: u64, key: u64, count: u64) -> u64
 /// The supplier of a part at one of its four places, from 0.
 #[tactic(auto, unfolding(crate::specs::Fields::supplier_of))]
 pub fn supplier_of(number: u64, part: u64, place: u64) -> u64
-    requires number { (1 ≤ number) × (number ≤ 1000) }
+    requires number { IsDataNumber number }
     requires part { part < 2 ^ 20 }
     requires place { place < 4 }
     ensures { result ≡ supplier_of number part place }

@@ -16,6 +16,7 @@ ghost use Rattle.data_maker.specs.Lines.{
   order_lineitems,
   ship_day,
 };
+ghost use Rattle.data_maker.specs.Numbers.{IsDataNumber};
 
 use crate::choices::{LINE_STATUSES, RETURN_FLAGS, SHIP_INSTRUCTIONS, SHIP_MODES, word};
 use crate::dates::push_date;
@@ -28,7 +29,7 @@ use std::alloc::{AllocError, Global};
 /// The part of a line.
 #[tactic(auto, unfolding(crate::specs::Lines::line_part))]
 fn line_part(number: u64, place: u64) -> u64
-    requires number { (1 ≤ number) × (number ≤ 1000) }
+    requires number { IsDataNumber number }
     requires place { place < 2 ^ 19 }
     ensures value { result ≡ line_part number place }
     ensures below { result < 2 ^ 15 }
@@ -39,7 +40,7 @@ fn line_part(number: u64, place: u64) -> u64
 /// The quantity of a line.
 #[tactic(auto, unfolding(crate::specs::Lines::line_quantity))]
 fn line_quantity(number: u64, place: u64) -> u64
-    requires number { (1 ≤ number) × (number ≤ 1000) }
+    requires number { IsDataNumber number }
     requires place { place < 2 ^ 19 }
     ensures value { result ≡ line_quantity number place }
     ensures below { result ≤ 50 }
@@ -56,7 +57,7 @@ fn push_keys(
     line: u64,
     place: u64,
 ) -> Result<(), AllocError>
-    requires number { (1 ≤ number) × (number ≤ 1000) }
+    requires number { IsDataNumber number }
     requires place { place < 2 ^ 19 }
     ensures { OnOk result (text.new.items ≡ text.old.items ++ lineitem_keys number key line place) }
 {
@@ -71,7 +72,7 @@ fn push_keys(
 /// Appends the fields of a line's amounts.
 #[tactic(auto, unfolding(crate::specs::Lines::lineitem_amounts))]
 fn push_amounts(text: &mut Vec<u8>, number: u64, place: u64) -> Result<(), AllocError>
-    requires number { (1 ≤ number) × (number ≤ 1000) }
+    requires number { IsDataNumber number }
     requires place { place < 2 ^ 19 }
     ensures { OnOk result (text.new.items ≡ text.old.items ++ lineitem_amounts number place) }
 {
@@ -94,7 +95,7 @@ fn return_flag(place: u64) -> &'static str
 
 /// Appends the field of a line's return flag.
 fn push_flag(text: &mut Vec<u8>, number: u64, place: u64) -> Result<(), AllocError>
-    requires number { (1 ≤ number) × (number ≤ 1000) }
+    requires number { IsDataNumber number }
     requires place { place < 2 ^ 19 }
     ensures { OnOk result (text.new.items ≡ text.old.items
         ++ field (word return_flags (draw number 29 place 3))) }
@@ -113,7 +114,7 @@ fn line_status(place: u64) -> &'static str
 
 /// Appends the field of a line's status.
 fn push_status(text: &mut Vec<u8>, number: u64, place: u64) -> Result<(), AllocError>
-    requires number { (1 ≤ number) × (number ≤ 1000) }
+    requires number { IsDataNumber number }
     requires place { place < 2 ^ 19 }
     ensures { OnOk result (text.new.items ≡ text.old.items
         ++ field (word line_statuses (draw number 30 place 2))) }
@@ -125,7 +126,7 @@ fn push_status(text: &mut Vec<u8>, number: u64, place: u64) -> Result<(), AllocE
 /// Appends the fields of a line's flag and status.
 #[tactic(auto, unfolding(crate::specs::Lines::lineitem_statuses))]
 fn push_statuses(text: &mut Vec<u8>, number: u64, place: u64) -> Result<(), AllocError>
-    requires number { (1 ≤ number) × (number ≤ 1000) }
+    requires number { IsDataNumber number }
     requires place { place < 2 ^ 19 }
     ensures { OnOk result (text.new.items ≡ text.old.items ++ lineitem_statuses number place) }
 {
@@ -138,7 +139,7 @@ fn push_statuses(text: &mut Vec<u8>, number: u64, place: u64) -> Result<(), Allo
 #[tactic(auto, unfolding(crate::specs::Lines::ship_day))]
 fn ship_day(number: u64, key: u64, place: u64) -> u64
     requires key { key < 2 ^ 16 }
-    requires number { (1 ≤ number) × (number ≤ 1000) }
+    requires number { IsDataNumber number }
     requires place { place < 2 ^ 19 }
     ensures value { result ≡ ship_day number key place }
     ensures below { result < 2527 }
@@ -150,7 +151,7 @@ fn ship_day(number: u64, key: u64, place: u64) -> u64
 #[tactic(auto, unfolding(crate::specs::Lines::lineitem_dates))]
 fn push_dates(text: &mut Vec<u8>, number: u64, key: u64, place: u64) -> Result<(), AllocError>
     requires key { key < 2 ^ 16 }
-    requires number { (1 ≤ number) × (number ≤ 1000) }
+    requires number { IsDataNumber number }
     requires place { place < 2 ^ 19 }
     ensures { OnOk result (text.new.items ≡ text.old.items ++ lineitem_dates number key place) }
 {
@@ -174,7 +175,7 @@ fn ship_instruction(place: u64) -> &'static str
 
 /// Appends the field of a line's instruction.
 fn push_instruction(text: &mut Vec<u8>, number: u64, place: u64) -> Result<(), AllocError>
-    requires number { (1 ≤ number) × (number ≤ 1000) }
+    requires number { IsDataNumber number }
     requires place { place < 2 ^ 19 }
     ensures { OnOk result (text.new.items ≡ text.old.items
         ++ field (word ship_instructions (draw number 34 place 4))) }
@@ -193,7 +194,7 @@ fn ship_mode(place: u64) -> &'static str
 
 /// Appends the field of a line's mode.
 fn push_mode(text: &mut Vec<u8>, number: u64, place: u64) -> Result<(), AllocError>
-    requires number { (1 ≤ number) × (number ≤ 1000) }
+    requires number { IsDataNumber number }
     requires place { place < 2 ^ 19 }
     ensures { OnOk result (text.new.items ≡ text.old.items
         ++ field (word ship_modes (draw number 35 place 7))) }
@@ -205,7 +206,7 @@ fn push_mode(text: &mut Vec<u8>, number: u64, place: u64) -> Result<(), AllocErr
 /// Appends the fields of a line's shipping, and its empty comment.
 #[tactic(auto, unfolding(crate::specs::Lines::lineitem_shipping))]
 fn push_shipping(text: &mut Vec<u8>, number: u64, place: u64) -> Result<(), AllocError>
-    requires number { (1 ≤ number) × (number ≤ 1000) }
+    requires number { IsDataNumber number }
     requires place { place < 2 ^ 19 }
     ensures { OnOk result (text.new.items ≡ text.old.items ++ lineitem_shipping number place) }
 {
@@ -218,7 +219,7 @@ fn push_shipping(text: &mut Vec<u8>, number: u64, place: u64) -> Result<(), Allo
 /// Appends one line of an order.
 #[tactic(auto, unfolding(crate::specs::Lines::lineitem_line))]
 fn push_lineitem(text: &mut Vec<u8>, number: u64, key: u64, line: u64) -> Result<(), AllocError>
-    requires number { (1 ≤ number) × (number ≤ 1000) }
+    requires number { IsDataNumber number }
     requires key { key < 2 ^ 16 }
     requires line { line < 2 ^ 16 }
     ensures { OnOk result (text.new.items ≡ text.old.items ++ lineitem_line number key line) }
@@ -235,7 +236,7 @@ fn push_lineitem(text: &mut Vec<u8>, number: u64, key: u64, line: u64) -> Result
 
 /// Appends the lines of an order.
 fn push_order_lineitems(text: &mut Vec<u8>, number: u64, key: u64) -> Result<(), AllocError>
-    requires number { (1 ≤ number) × (number ≤ 1000) }
+    requires number { IsDataNumber number }
     requires key { key < 2 ^ 16 }
     ensures { OnOk result (text.new.items ≡ text.old.items ++ order_lineitems number key) }
 {
@@ -252,7 +253,7 @@ pub fn lineitem_text(
     first: u64,
     end: u64,
 ) -> Result<Vec<u8>, AllocError>
-    requires number { (1 ≤ number) × (number ≤ 1000) }
+    requires number { IsDataNumber number }
     requires keys { (first ≤ end) × (end ≤ 2 ^ 16) }
     ensures { IfOk result (λ text. text.items ≡ lines (order_lineitems number) first end) }
 {

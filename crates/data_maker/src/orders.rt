@@ -4,6 +4,7 @@ ghost use Rattle.data_maker.specs.Choices.{order_priorities, order_statuses, wor
 ghost use Rattle.data_maker.specs.Fields.{draw, field};
 ghost use Rattle.data_maker.specs.Lines.{delete_line, lines, order_comment, order_day, order_head};
 ghost use Rattle.data_maker.specs.Lines.{order_line, order_tail};
+ghost use Rattle.data_maker.specs.Numbers.{IsDataNumber};
 
 use crate::choices::{ORDER_PRIORITIES, ORDER_STATUSES, word};
 use crate::dates::push_date;
@@ -14,7 +15,7 @@ use std::alloc::{AllocError, Global};
 /// The days from the first one to the order.
 #[tactic(auto, unfolding(crate::specs::Lines::order_day))]
 pub fn order_day(number: u64, key: u64) -> u64
-    requires number { (1 ≤ number) × (number ≤ 1000) }
+    requires number { IsDataNumber number }
     requires key { key < 2 ^ 16 }
     ensures value { result ≡ order_day number key }
     ensures below { result < 2406 }
@@ -44,7 +45,7 @@ fn order_status(place: u64) -> &'static str
 
 /// Appends the field of an order's status.
 fn push_status(text: &mut Vec<u8>, number: u64, key: u64) -> Result<(), AllocError>
-    requires number { (1 ≤ number) × (number ≤ 1000) }
+    requires number { IsDataNumber number }
     requires key { key < 2 ^ 16 }
     ensures { OnOk result (text.new.items ≡ text.old.items
         ++ field (word order_statuses (draw number 19 key 3))) }
@@ -63,7 +64,7 @@ fn order_priority(place: u64) -> &'static str
 
 /// Appends the field of an order's priority.
 fn push_priority(text: &mut Vec<u8>, number: u64, key: u64) -> Result<(), AllocError>
-    requires number { (1 ≤ number) × (number ≤ 1000) }
+    requires number { IsDataNumber number }
     requires key { key < 2 ^ 16 }
     ensures { OnOk result (text.new.items ≡ text.old.items
         ++ field (word order_priorities (draw number 22 key 5))) }
@@ -75,7 +76,7 @@ fn push_priority(text: &mut Vec<u8>, number: u64, key: u64) -> Result<(), AllocE
 /// Appends the fields of an order up to its price.
 #[tactic(auto, unfolding(crate::specs::Lines::order_head))]
 fn push_head(text: &mut Vec<u8>, number: u64, key: u64) -> Result<(), AllocError>
-    requires number { (1 ≤ number) × (number ≤ 1000) }
+    requires number { IsDataNumber number }
     requires key { key < 2 ^ 16 }
     ensures { OnOk result (text.new.items ≡ text.old.items ++ order_head number key) }
 {
@@ -89,7 +90,7 @@ fn push_head(text: &mut Vec<u8>, number: u64, key: u64) -> Result<(), AllocError
 /// Appends the last fields of an order.
 #[tactic(auto, unfolding(crate::specs::Lines::order_tail))]
 fn push_order_tail(text: &mut Vec<u8>, number: u64, key: u64) -> Result<(), AllocError>
-    requires number { (1 ≤ number) × (number ≤ 1000) }
+    requires number { IsDataNumber number }
     requires key { key < 2 ^ 16 }
     ensures { OnOk result (text.new.items ≡ text.old.items ++ order_tail number key) }
 {
@@ -103,7 +104,7 @@ fn push_order_tail(text: &mut Vec<u8>, number: u64, key: u64) -> Result<(), Allo
 /// Appends an order's line.
 #[tactic(auto, unfolding(crate::specs::Lines::order_line))]
 fn push_order(text: &mut Vec<u8>, number: u64, key: u64) -> Result<(), AllocError>
-    requires number { (1 ≤ number) × (number ≤ 1000) }
+    requires number { IsDataNumber number }
     requires key { key < 2 ^ 16 }
     ensures { OnOk result (text.new.items ≡ text.old.items ++ order_line number key) }
 {
@@ -116,7 +117,7 @@ fn push_order(text: &mut Vec<u8>, number: u64, key: u64) -> Result<(), AllocErro
 
 /// The text of the orders from the first key to the one before the end.
 pub fn order_text(alloc: Global, number: u64, first: u64, end: u64) -> Result<Vec<u8>, AllocError>
-    requires number { (1 ≤ number) × (number ≤ 1000) }
+    requires number { IsDataNumber number }
     requires keys { (first ≤ end) × (end ≤ 2 ^ 16) }
     ensures { IfOk result (λ text. text.items ≡ lines (order_line number) first end) }
 {

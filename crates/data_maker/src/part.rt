@@ -23,6 +23,7 @@ ghost use Rattle.data_maker.specs.Lines.{
   part_type,
   retail_price,
 };
+ghost use Rattle.data_maker.specs.Numbers.{IsDataNumber};
 
 use crate::choices::{
     COLOURS, CONTAINER_KINDS, CONTAINER_SIZES, TYPE_FINISHES, TYPE_METALS, TYPE_SIZES, word,
@@ -82,7 +83,7 @@ fn container_kind(place: u64) -> &'static str
 /// Appends the field of a part's name: two colours.
 #[tactic(auto, unfolding(crate::specs::Lines::part_name, crate::specs::Fields::field))]
 fn push_name(text: &mut Vec<u8>, number: u64, key: u64) -> Result<(), AllocError>
-    requires number { (1 ≤ number) × (number ≤ 1000) }
+    requires number { IsDataNumber number }
     requires key { key < 2 ^ 16 }
     ensures { OnOk result (text.new.items ≡ text.old.items ++ field (part_name number key)) }
 {
@@ -94,7 +95,7 @@ fn push_name(text: &mut Vec<u8>, number: u64, key: u64) -> Result<(), AllocError
 
 /// The digit of a part's maker, from 1 to 5.
 fn maker_of(number: u64, key: u64) -> u64
-    requires number { (1 ≤ number) × (number ≤ 1000) }
+    requires number { IsDataNumber number }
     requires key { key < 2 ^ 16 }
     ensures { result ≡ maker_of number key }
 {
@@ -104,7 +105,7 @@ fn maker_of(number: u64, key: u64) -> u64
 /// Appends the field of a part's manufacturer.
 #[tactic(auto, unfolding(crate::specs::Lines::manufacturer, crate::specs::Fields::field))]
 fn push_manufacturer(text: &mut Vec<u8>, number: u64, key: u64) -> Result<(), AllocError>
-    requires number { (1 ≤ number) × (number ≤ 1000) }
+    requires number { IsDataNumber number }
     requires key { key < 2 ^ 16 }
     ensures { OnOk result (text.new.items ≡ text.old.items ++ field (manufacturer number key)) }
 {
@@ -116,7 +117,7 @@ fn push_manufacturer(text: &mut Vec<u8>, number: u64, key: u64) -> Result<(), Al
 /// Appends the field of a part's brand.
 #[tactic(auto, unfolding(crate::specs::Lines::brand, crate::specs::Fields::field))]
 fn push_brand(text: &mut Vec<u8>, number: u64, key: u64) -> Result<(), AllocError>
-    requires number { (1 ≤ number) × (number ≤ 1000) }
+    requires number { IsDataNumber number }
     requires key { key < 2 ^ 16 }
     ensures { OnOk result (text.new.items ≡ text.old.items ++ field (brand number key)) }
 {
@@ -129,7 +130,7 @@ fn push_brand(text: &mut Vec<u8>, number: u64, key: u64) -> Result<(), AllocErro
 /// Appends the field of a part's type: three words.
 #[tactic(auto, unfolding(crate::specs::Lines::part_type, crate::specs::Fields::field))]
 fn push_type(text: &mut Vec<u8>, number: u64, key: u64) -> Result<(), AllocError>
-    requires number { (1 ≤ number) × (number ≤ 1000) }
+    requires number { IsDataNumber number }
     requires key { key < 2 ^ 16 }
     ensures { OnOk result (text.new.items ≡ text.old.items ++ field (part_type number key)) }
 {
@@ -144,7 +145,7 @@ fn push_type(text: &mut Vec<u8>, number: u64, key: u64) -> Result<(), AllocError
 /// Appends the field of a part's container: two words.
 #[tactic(auto, unfolding(crate::specs::Lines::part_container, crate::specs::Fields::field))]
 fn push_container(text: &mut Vec<u8>, number: u64, key: u64) -> Result<(), AllocError>
-    requires number { (1 ≤ number) × (number ≤ 1000) }
+    requires number { IsDataNumber number }
     requires key { key < 2 ^ 16 }
     ensures { OnOk result (text.new.items ≡ text.old.items ++ field (part_container number key)) }
 {
@@ -165,7 +166,7 @@ pub fn retail_price(part: u64) -> u64
 /// Appends the fields of a part up to its brand.
 #[tactic(auto, unfolding(crate::specs::Lines::part_head))]
 fn push_part_head(text: &mut Vec<u8>, number: u64, key: u64) -> Result<(), AllocError>
-    requires number { (1 ≤ number) × (number ≤ 1000) }
+    requires number { IsDataNumber number }
     requires key { key < 2 ^ 16 }
     ensures { OnOk result (text.new.items ≡ text.old.items ++ part_head number key) }
 {
@@ -179,7 +180,7 @@ fn push_part_head(text: &mut Vec<u8>, number: u64, key: u64) -> Result<(), Alloc
 /// Appends the fields of a part from its type on.
 #[tactic(auto, unfolding(crate::specs::Lines::part_tail))]
 fn push_part_tail(text: &mut Vec<u8>, number: u64, key: u64) -> Result<(), AllocError>
-    requires number { (1 ≤ number) × (number ≤ 1000) }
+    requires number { IsDataNumber number }
     requires key { key < 2 ^ 16 }
     ensures { OnOk result (text.new.items ≡ text.old.items ++ part_tail number key) }
 {
@@ -194,7 +195,7 @@ fn push_part_tail(text: &mut Vec<u8>, number: u64, key: u64) -> Result<(), Alloc
 /// Appends a part's line.
 #[tactic(auto, unfolding(crate::specs::Lines::part_line))]
 fn push_part_line(text: &mut Vec<u8>, number: u64, key: u64) -> Result<(), AllocError>
-    requires number { (1 ≤ number) × (number ≤ 1000) }
+    requires number { IsDataNumber number }
     requires key { key < 2 ^ 16 }
     ensures { OnOk result (text.new.items ≡ text.old.items ++ part_line number key) }
 {
@@ -206,7 +207,7 @@ fn push_part_line(text: &mut Vec<u8>, number: u64, key: u64) -> Result<(), Alloc
 
 /// The text of the parts.
 pub fn part_text(alloc: Global, number: u64) -> Result<Vec<u8>, AllocError>
-    requires { (1 ≤ number) × (number ≤ 1000) }
+    requires { IsDataNumber number }
     ensures { IfOk result (λ text. text.items ≡ lines (part_line number) 1 (20 * number + 1)) }
 {
     let mut text = Vec::new(alloc);

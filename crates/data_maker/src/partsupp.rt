@@ -1,6 +1,7 @@
 //! Parts with their suppliers.
 ghost use Rattle.std.specs.Prelude.{◌≡◌, ◌<◌, ◌≤◌, ◌+◌, ◌*◌, ◌^◌, ◌++◌, ◌∷◌, [], OnOk, IfOk};
 ghost use Rattle.data_maker.specs.Lines.{by_supplier, lines, partsupp_line, partsupp_lines};
+ghost use Rattle.data_maker.specs.Numbers.{IsDataNumber};
 
 use crate::draw::{draw, supplier_of};
 use crate::fields::{end_line, push_money, push_number, push_word};
@@ -10,7 +11,7 @@ use std::alloc::{AllocError, Global};
 /// ring of all suppliers apart, so the lowest is the first one past the ring's end.
 #[tactic(auto, using(crate::proofs::Ring::none_past, crate::proofs::Ring::one_past, crate::proofs::Ring::two_past, crate::proofs::Ring::three_past))]
 fn by_supplier(number: u64, part: u64) -> (u64, u64, u64, u64)
-    requires number { (1 ≤ number) × (number ≤ 1000) }
+    requires number { IsDataNumber number }
     requires part { part < 2 ^ 16 }
     ensures order { result.0 ∷ result.1 ∷ result.2 ∷ result.3 ∷ [] ≡ by_supplier number part }
     ensures below { (result.0 < 4) × (result.1 < 4) × (result.2 < 4) × (result.3 < 4) }
@@ -30,7 +31,7 @@ fn by_supplier(number: u64, part: u64) -> (u64, u64, u64, u64)
 /// Appends the line of a part with the supplier at one of its places.
 #[tactic(auto, unfolding(crate::specs::Lines::partsupp_line))]
 fn push_partsupp(text: &mut Vec<u8>, number: u64, key: u64, place: u64) -> Result<(), AllocError>
-    requires number { (1 ≤ number) × (number ≤ 1000) }
+    requires number { IsDataNumber number }
     requires key { key < 2 ^ 16 }
     requires place { place < 4 }
     ensures { OnOk result (text.new.items ≡ text.old.items ++ partsupp_line number key place) }
@@ -47,7 +48,7 @@ fn push_partsupp(text: &mut Vec<u8>, number: u64, key: u64, place: u64) -> Resul
 
 /// Appends the lines of a part, by ascending supplier.
 fn push_partsupps(text: &mut Vec<u8>, number: u64, key: u64) -> Result<(), AllocError>
-    requires number { (1 ≤ number) × (number ≤ 1000) }
+    requires number { IsDataNumber number }
     requires key { key < 2 ^ 16 }
     ensures { OnOk result (text.new.items ≡ text.old.items ++ partsupp_lines number key) }
 {
@@ -61,7 +62,7 @@ fn push_partsupps(text: &mut Vec<u8>, number: u64, key: u64) -> Result<(), Alloc
 
 /// The text of the parts with their suppliers.
 pub fn partsupp_text(alloc: Global, number: u64) -> Result<Vec<u8>, AllocError>
-    requires { (1 ≤ number) × (number ≤ 1000) }
+    requires { IsDataNumber number }
     ensures { IfOk result (λ text. text.items ≡ lines (partsupp_lines number) 1 (20 * number + 1)) }
 {
     let mut text = Vec::new(alloc);

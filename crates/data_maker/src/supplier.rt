@@ -2,6 +2,7 @@
 ghost use Rattle.std.specs.Prelude.{◌≡◌, ◌<◌, ◌≤◌, ◌+◌, ◌*◌, ◌^◌, ◌++◌, OnOk, IfOk};
 ghost use Rattle.data_maker.specs.Fields.{field};
 ghost use Rattle.data_maker.specs.Lines.{lines, supplier_comment, supplier_line, supplier_tail};
+ghost use Rattle.data_maker.specs.Numbers.{IsDataNumber};
 
 use crate::fields::{
     end_line, push_balance, push_labelled, push_number, push_residence, push_word,
@@ -23,7 +24,7 @@ fn supplier_comment(key: u64) -> &'static str
 /// Appends the last fields of a supplier.
 #[tactic(auto, unfolding(crate::specs::Lines::supplier_tail))]
 fn push_supplier_tail(text: &mut Vec<u8>, number: u64, key: u64) -> Result<(), AllocError>
-    requires number { (1 ≤ number) × (number ≤ 1000) }
+    requires number { IsDataNumber number }
     requires key { key < 2 ^ 16 }
     ensures { OnOk result (text.new.items ≡ text.old.items ++ supplier_tail number key) }
 {
@@ -35,7 +36,7 @@ fn push_supplier_tail(text: &mut Vec<u8>, number: u64, key: u64) -> Result<(), A
 /// Appends a supplier's line.
 #[tactic(auto, unfolding(crate::specs::Lines::supplier_line))]
 fn push_supplier(text: &mut Vec<u8>, number: u64, key: u64) -> Result<(), AllocError>
-    requires number { (1 ≤ number) × (number ≤ 1000) }
+    requires number { IsDataNumber number }
     requires key { key < 2 ^ 16 }
     ensures { OnOk result (text.new.items ≡ text.old.items ++ supplier_line number key) }
 {
@@ -49,7 +50,7 @@ fn push_supplier(text: &mut Vec<u8>, number: u64, key: u64) -> Result<(), AllocE
 
 /// The text of the suppliers.
 pub fn supplier_text(alloc: Global, number: u64) -> Result<Vec<u8>, AllocError>
-    requires { (1 ≤ number) × (number ≤ 1000) }
+    requires { IsDataNumber number }
     ensures { IfOk result (λ text. text.items ≡ lines (supplier_line number) 1 (10 * number + 1)) }
 {
     let mut text = Vec::new(alloc);

@@ -1,6 +1,7 @@
 //! The eleven texts.
 ghost use Rattle.std.specs.Prelude.{◌≡◌, ◌≤◌, ◌++◌, ◌∷◌, [], OnOk, IfOk};
 ghost use Rattle.data_maker.specs.Texts.{lasting, made, named, ordered, refresh_set};
+ghost use Rattle.data_maker.specs.Numbers.{IsDataNumber};
 
 use crate::customer::customer_text;
 use crate::lineitem::lineitem_text;
@@ -31,7 +32,7 @@ fn add(
 /// Adds the tables that have parts, suppliers and customers, and those of places.
 #[tactic(auto, unfolding(crate::specs::Texts::lasting))]
 fn add_lasting(alloc: Global, texts: &mut Vec<NamedText>, number: u64) -> Result<(), AllocError>
-    requires { (1 ≤ number) × (number ≤ 1000) }
+    requires { IsDataNumber number }
     ensures { OnOk result (named texts.new.items ≡ named texts.old.items ++ lasting number) }
 {
     add(alloc, texts, "region.tbl", region_text(alloc)?)?;
@@ -46,7 +47,7 @@ fn add_lasting(alloc: Global, texts: &mut Vec<NamedText>, number: u64) -> Result
 /// Adds the tables of orders and lineitems.
 #[tactic(auto, unfolding(crate::specs::Texts::ordered))]
 fn add_orders(alloc: Global, texts: &mut Vec<NamedText>, number: u64) -> Result<(), AllocError>
-    requires { (1 ≤ number) × (number ≤ 1000) }
+    requires { IsDataNumber number }
     ensures { OnOk result (named texts.new.items ≡ named texts.old.items ++ ordered number) }
 {
     let end = 30 * number + 1;
@@ -68,7 +69,7 @@ fn add_orders(alloc: Global, texts: &mut Vec<NamedText>, number: u64) -> Result<
 /// Adds the files of the refresh set.
 #[tactic(auto, unfolding(crate::specs::Texts::refresh_set))]
 fn add_refresh_set(alloc: Global, texts: &mut Vec<NamedText>, number: u64) -> Result<(), AllocError>
-    requires { (1 ≤ number) × (number ≤ 1000) }
+    requires { IsDataNumber number }
     ensures { OnOk result (named texts.new.items ≡ named texts.old.items ++ refresh_set number) }
 {
     let first = 30 * number + 1;
@@ -99,7 +100,7 @@ fn add_refresh_set(alloc: Global, texts: &mut Vec<NamedText>, number: u64) -> Re
 /// are 30 times the number, and the set's 3 times. The only error is out of memory.
 #[tactic(auto, unfolding(crate::specs::Texts::made, crate::specs::Texts::named))]
 pub fn make(alloc: Global, number: u64) -> Result<Vec<NamedText>, AllocError>
-    requires { (1 ≤ number) × (number ≤ 1000) }
+    requires { IsDataNumber number }
     ensures { IfOk result (λ texts. named texts.items ≡ made number) }
 {
     let mut texts = Vec::new(alloc);

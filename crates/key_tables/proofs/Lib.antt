@@ -1,3 +1,5 @@
 pub mod Seeks
 pub mod PlaceLists
 pub mod NumberSteps
+pub mod Linking
+pub mod HeadLists

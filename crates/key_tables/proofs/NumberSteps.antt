@@ -1,6 +1,6 @@
 -- Distinct elements, their numbers and their first places, an element at a time.
 use Rattle.std.proofs.Common.{◌≡◌, ℕ, zero, suc, ◌+◌, ◌<◌, ◌≤◌, List, [], ◌∷◌, ◌++◌, Bool, true, false, cond, take, map, length, Some, None, refl, sym, ◌∙◌, ap, arith, inl, inr}
-use Rattle.std.specs.Prelude.{slice_get, not, ◌||◌}
+use Rattle.std.specs.Prelude.{slice_get, not, ◌||◌, Option, is_some}
 use Rattle.std.specs.List.{filter, list_any}
 use Rattle.std.proofs.lemmas.Bool.{cases_Bool, true≢false}
 use Rattle.std.proofs.lemmas.List.{append-nil, map-append, length-append}
@@ -9,7 +9,7 @@ use Rattle.std.proofs.lemmas.Option.{slice_get_within}
 use Rattle.row_laws.specs.Bags.{IsIdentity, has, each_once}
 use Rattle.row_laws.specs.Numbers.{place_in, numbers_of}
 use Rattle.row_laws.proofs.Classes.{apart}
-use Rattle.row_laws.proofs.NumberLists.{place_found, distinct_each_once}
+use Rattle.row_laws.proofs.NumberLists.{has_there, place_found, distinct_each_once}
 use Rattle.key_tables.specs.Distinct.{added, first_places}
 
 -- std's test is the definition's
@@ -72,7 +72,7 @@ module _ {X : Type 0} (same : X → X → Bool) (is : IsIdentity same) where
             ]))
       ]
 
-  place_before : (ds es : List X) (z : X) → has same z ds ≡ true → place_in same (ds ++ es) z ≡ place_in same ds z
+  pub place_before : (ds es : List X) (z : X) → has same z ds ≡ true → place_in same (ds ++ es) z ≡ place_in same ds z
   place_before [] es z h = absurd (true≢false (sym h))
   place_before (d ∷ ds) es z h = elim (cases_Bool (same z d)) [
     | inl t ↦ rw t refl
@@ -104,7 +104,7 @@ module _ {X : Type 0} (same : X → X → Bool) (is : IsIdentity same) where
       map-append f xs (x ∷ [])
       ∙ ap (λ l. l ++ f x ∷ []) (map_has f (place_in same e) xs (λ z h. ap (λ ds. place_in same ds z) (each_once_push xs x) ∙ place_added e x z (has_each_once z xs ∙ h)))
 
-  place_new : (ds : List X) (x : X) → has same x ds ≡ false → place_in same (ds ++ x ∷ []) x ≡ length ds
+  pub place_new : (ds : List X) (x : X) → has same x ds ≡ false → place_in same (ds ++ x ∷ []) x ≡ length ds
   place_new [] x h = rw (is.meets x) refl
   place_new (d ∷ ds) x h = elim (cases_Bool (same x d)) [
     | inl t ↦ absurd (true≢false (rw t at h))
@@ -162,3 +162,30 @@ module _ {X : Type 0} (same : X → X → Bool) (is : IsIdentity same) where
         | inl t ↦ (let e : new ≡ old = is ∙ rw t refl in let l = ap length e in omega (arith, l))
         | inr f ↦ (let e : new ≡ old ++ x ∷ [] = is ∙ rw f refl in let l : length new ≡ length old + 1 = ap length e ∙ length-append old (x ∷ []) in omega (arith, l))
       ]
+
+-- an element that stands in a list isn't put again
+pub added_there : {X : Type 0} (same : X → X → Bool) → IsIdentity same → (ds : List X) (i : ℕ) (x : X) → slice_get ds i ≡ Some x → ds ≡ added same ds x
+added_there same is ds i x e = let h = has_there same is ds x i e in sym (rw h refl)
+
+-- the element put last
+pub last_there : {X : Type 0} (ds : List X) (x : X) → slice_get (ds ++ x ∷ []) (length ds) ≡ Some x
+last_there [] x = refl
+last_there (d ∷ ds) x = last_there ds x
+
+-- a key put, in std's words
+pub put_as_set : {X : Type 0} (same : X → X → Bool) (ds new : List X) (x : X) (is_new : Bool) → new ≡ added same ds x → is_new ≡ not (has same x ds)
+    → (is_new ≡ not (list_any (same x) ds)) × (new ≡ cond is_new (ds ++ x ∷ []) ds)
+put_as_set same ds new x is_new more tells =
+    (tells ∙ ap not (sym (any_is_has same x ds)), more ∙ turned (has same x ds) ∙ ap (λ b. cond b (ds ++ x ∷ []) ds) (sym tells))
+  where
+    turned : (b : Bool) → cond b ds (ds ++ x ∷ []) ≡ cond (not b) (ds ++ x ∷ []) ds
+    turned true = refl
+    turned false = refl
+
+-- a place given or not, in std's words
+pub place_as_set : {X : Type 0} (same : X → X → Bool) (ds : List X) (x : X) (place : Option ℕ) → place ≡ cond (has same x ds) (Some (place_in same ds x)) None
+    → is_some place ≡ list_any (same x) ds
+place_as_set same ds x place e = elim (cases_Bool (has same x ds)) [
+  | inl t ↦ (let e' : place ≡ Some (place_in same ds x) = rw t at e in ap is_some e' ∙ sym (any_is_has same x ds ∙ t))
+  | inr f ↦ (let e' : place ≡ None = rw f at e in ap is_some e' ∙ sym (any_is_has same x ds ∙ f))
+]

@@ -4,13 +4,16 @@
 //! in the order of first occurrences.
 #![tactic(auto)]
 
+mod buckets;
 mod chains;
 mod joined;
+mod key_set;
 mod numbering;
 
 pub use chains::Chains;
 pub use joined::{pairs, put_pairs, put_partners};
-pub use numbering::{Numbered, numbers, put_key};
+pub use key_set::KeySet;
+pub use numbering::{Numbered, numbers};
 
 #[cfg(test)]
 mod tests;

@@ -5,7 +5,7 @@ ghost use Rattle.row_laws.specs.Bags.{IsIdentity, has};
 ghost use Rattle.row_laws.specs.Numbers.{numbers_of};
 ghost use Rattle.key_tables.specs.Distinct.{added, first_places};
 
-use indexmap::IndexSet;
+use crate::key_set::KeySet;
 use std::alloc::{AllocError, Global};
 use std::hash::Hash;
 
@@ -16,22 +16,6 @@ pub struct Numbered {
     pub numbers: Vec<u32>,
     /// For each number the first place at which it stands.
     pub firsts: Vec<u32>,
-}
-
-/// Puts a key after the others, if it isn't there yet: its number, and whether it is new.
-pub fn put_key<K: Eq + Hash + Drop>(
-    seen: &mut IndexSet<K>,
-    key: K,
-) -> Result<(usize, bool), AllocError>
-    requires { IsIdentity K.eq }
-    ensures keys { OnOk result (seen.new.keys ≡ added K.eq seen.old.keys key) }
-    ensures number { IfOk result (λ n. slice_get seen.new.keys n.0 ≡ Some key) }
-    ensures is_new { IfOk result (λ n. n.1 ≡ not (has K.eq key seen.old.keys)) }
-{
-    match seen.insert_full(key) {
-        Ok(put) => Ok(put),
-        Err(_) => Err(AllocError),
-    }
 }
 
 // Notes the place of a key that is new.
@@ -55,11 +39,11 @@ pub fn numbers<K: Copy + Eq + Hash + Drop>(
     ensures numbers { IfOk result (λ n. n.numbers.items ≡ numbers_of K.eq keys.now) }
     ensures firsts { IfOk result (λ n. n.firsts.items ≡ first_places K.eq keys.now) }
 {
-    let mut seen = IndexSet::new(alloc);
+    let mut seen = KeySet::new(alloc);
     let mut numbers = Vec::with_capacity(alloc, keys.len())?;
     let mut firsts = Vec::new(alloc);
     for row in 0..keys.len() {
-        let (number, is_new) = put_key(&mut seen, keys[row])?;
+        let (number, is_new) = seen.put(keys[row])?;
         numbers.push(number as u32)?;
         note_first(&mut firsts, is_new, row as u32)?;
     }

@@ -11,8 +11,7 @@ use ascii_text::Text;
 use civil_date::CivilDate;
 use columns::{Column, Dictionary};
 use fixed_decimal::Scale;
-use indexmap::IndexSet;
-use key_tables::put_key;
+use key_tables::KeySet;
 use sql_value::Value;
 use std::alloc::{AllocError, Global};
 
@@ -98,10 +97,10 @@ fn value_codes(alloc: Global, values: &[Value]) -> Result<Vec<i64>, AllocError>
     if values.len() > u32::MAX as usize {
         return Err(AllocError);
     }
-    let mut seen = IndexSet::new(alloc);
+    let mut seen = KeySet::new(alloc);
     let mut codes = Vec::with_capacity(alloc, values.len())?;
     for i in 0..values.len() {
-        let (number, _) = put_key(&mut seen, ValueKey::new(&values[i]))?;
+        let (number, _) = seen.put(ValueKey::new(&values[i]))?;
         codes.push(number as i64)?;
     }
     Ok(codes)

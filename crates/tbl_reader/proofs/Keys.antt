@@ -10,6 +10,7 @@ use Rattle.std.proofs.lemmas.Int.{ints}
 use Rattle.std.proofs.lemmas.List.{map-append, take_more}
 use Rattle.std.proofs.lemmas.List.Elements.{All-push, All-head, All-tail}
 use Rattle.std.proofs.lemmas.List.Folds.{list_any-append, list_any_none}
+use Rattle.row_laws.specs.Bags.{IsIdentity}
 use Rattle.sql_value.specs.declared.value.Value.{Value}
 use Rattle.sql_value.specs.declared.value.Value.TheVariants as value
 use Rattle.sql_value.specs.Value.{same_row}
@@ -40,6 +41,9 @@ key_decides k l = (
       λ i. record { first = first i; second = second i },
   λ e. and_from _ _ ((Decides-int_eq k.first l.first).1 (ap (λ (m : Key). m.first) e)) ((Decides-int_eq k.second l.second).1 (ap (λ (m : Key). m.second) e)),
 )
+
+pub key_identity : IsIdentity eq-key.it
+key_identity = record { meets = λ k. (key_decides k k).1 refl; tells = λ k l. (key_decides k l).0 }
 
 not_higher : (a b c d e f : ℤ) → (int_lt e c || (int_le e c && int_lt f d)) ≡ true → (int_lt e a || (int_le e a && int_lt f b)) ≡ false
     → (int_lt c a || (int_le c a && int_lt d b)) ≡ false

@@ -44,5 +44,5 @@ pub record SameKeys (some others : List Key) : Type 0 where
 abbrev pub AreKeys : Keys → List Key → Type 0
 AreKeys (Ascending None) keys = keys ≡ []
 AreKeys (Ascending (Some last)) keys = All (λ k. is_above k last ≡ false) keys
-AreKeys (Hashed set) keys = SameKeys set.keys keys
+AreKeys (Hashed set) keys = SameKeys set keys
 AreKeys Lost keys = ⊤

@@ -10,9 +10,8 @@ ghost use Rattle.tbl_reader.specs.Key.{key_number, row_key, is_above, comes_afte
 ghost use Rattle.tbl_reader.specs.Key.{SameKeys, AreKeys};
 
 use columns::{Field, RowsBuilder};
-use indexmap::IndexSet;
+use key_tables::KeySet;
 use std::alloc::{AllocError, Global};
-use std::hash::Hash;
 use tpch_schema::DataFile;
 
 /// The numbers of a row's key, 0 in place of a second one that there is not.
@@ -112,22 +111,20 @@ pub enum Keys {
     /// The last key, if there is one; each key was above the one before it.
     Ascending(Option<Key>),
     /// The set of all keys.
-    Hashed(IndexSet<Key>),
+    Hashed(KeySet<Key>),
     /// Nothing, since memory ran out when a row was to be added.
     Lost,
 }
 
 // Puts a key after the others, if none of them is the same; whether it was put there.
-fn insert_key<K: Eq + Hash + Drop>(keys: &mut IndexSet<K>, key: K) -> Result<bool, AllocError>
-    ensures added { IfOk result (λ added. added ≡ not (list_any (K.eq key) keys.old.keys)) }
+fn insert_key(keys: &mut KeySet<Key>, key: Key) -> Result<bool, AllocError>
+    ensures added { IfOk result (λ added. added ≡ not (list_any (same_key key) keys.old)) }
     ensures keys { IfOk result
-        (λ added. keys.new.keys ≡ (if added then keys.old.keys ++ key ∷ [] else keys.old.keys)) }
-    ensures err { OnErr result (keys.new.keys ≡ keys.old.keys) }
+        (λ added. keys.new ≡ (if added then keys.old ++ key ∷ [] else keys.old)) }
+    ensures err { OnErr result (keys.new ≡ keys.old) }
 {
-    match keys.insert_full(key) {
-        Ok((_, added)) => Ok(added),
-        Err(_) => Err(AllocError),
-    }
+    let added = keys.insert(key)?;
+    Ok(added)
 }
 
 // The set of the keys of these rows.
@@ -136,12 +133,12 @@ fn keys_of_rows(
     alloc: Global,
     file: DataFile,
     rows: &RowsBuilder,
-) -> Result<IndexSet<Key>, AllocError>
+) -> Result<KeySet<Key>, AllocError>
     requires { rows.now.width ≡ length (file_form file).columns }
     ensures { IfOk result (λ set.
-        SameKeys set.keys (map (row_key (file_form file)) rows.now.rows)) }
+        SameKeys set (map (row_key (file_form file)) rows.now.rows)) }
 {
-    let mut set = IndexSet::new(alloc);
+    let mut set = KeySet::new(alloc);
     for i in 0..rows.len() {
         insert_key(&mut set, Key::at(file, rows, i))?;
     }

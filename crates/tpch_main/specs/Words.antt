@@ -7,6 +7,7 @@ use Rattle.clap.specs.ValueTests.{is_unsigned_in}
 use Rattle.clap.specs.Walk.{is_empty}
 use Rattle.clap.specs.Words.{Row, Text, fault_of, first_of, subcommand_of}
 use Rattle.tpch_main.specs.Subcommands.{program_app}
+use Rattle.data_maker.specs.Numbers.{IsDataNumber}
 
 -- what the program is asked to do
 pub data Command : Type 0 where
@@ -70,7 +71,7 @@ command_of words =
 
 -- the number of a trial is from 1 to 1000
 abbrev pub IsInRange : Command → Type 0
-IsInRange (trial number) = (1 ≤ number) × (number ≤ 1000)
+IsInRange (trial number) = IsDataNumber number
 IsInRange other = ⊤
 
 -- the command names files

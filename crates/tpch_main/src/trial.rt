@@ -5,6 +5,7 @@ ghost use Rattle.data_maker.specs.Texts.{named};
 ghost use Rattle.tpch_outside.specs.Memory.{folder_of};
 ghost use Rattle.tpch_main.specs.Printing.{IsAnswer};
 ghost use Rattle.tpch_main.specs.Trial.{PrintsTrial, in_made, trial_files};
+ghost use Rattle.data_maker.specs.Numbers.{IsDataNumber};
 
 use crate::Status;
 use crate::input_error::{InputError, ReadError};
@@ -81,7 +82,7 @@ fn put_made(alloc: Global, files: &mut Vec<MemFile>, texts: &[NamedText]) -> Res
 
 /// The files of the trial.
 fn trial_files(alloc: Global, number: u64) -> Result<Vec<MemFile>, AllocError>
-    requires { (1 ≤ number) × (number ≤ 1000) }
+    requires { IsDataNumber number }
     ensures { IfOk result (λ files. folder_of files.items ≡ trial_files number) }
 {
     let texts = make(alloc, number)?;
@@ -99,7 +100,7 @@ pub fn trial_printed<R: Threads + Wait + Sync, G: Gate + Sync>(
     number: u64,
     gate: &G,
 ) -> Result<(Vec<u8>, Status), ReadError>
-    requires { (1 ≤ number) × (number ≤ 1000) }
+    requires { IsDataNumber number }
     ensures answer { IfOk result (λ printed. IsAnswer printed.1) }
     ensures prints { IfOk result (λ printed. PrintsTrial number printed.0.items printed.1) }
     ensures memory { IfErr result (λ e. e ≡ ReadError.OutOfMemory) }

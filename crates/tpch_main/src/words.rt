@@ -5,6 +5,7 @@ ghost use Rattle.std.specs.String.{string_bytes};
 ghost use Rattle.clap.specs.Words.{first_of, found_of, rows_of, subcommand_rows_of};
 ghost use Rattle.tpch_main.specs.Words.{IsInRange, command_in, command_of, trial_number};
 ghost use Rattle.tpch_main.specs.Views.{command_view};
+ghost use Rattle.data_maker.specs.Numbers.{IsDataNumber};
 
 mod subcommands;
 
@@ -39,7 +40,7 @@ fn value<'a>(found: &ArgMatches<'a>, name: &str) -> Option<&'a str>
 /// The number of a trial that a text is, from 1 to 1000.
 fn trial_number(text: &str) -> Option<u64>
     ensures number { result ≡ trial_number text.now }
-    ensures range { IfSome result (λ number. (1 ≤ number) × (number ≤ 1000)) }
+    ensures range { IfSome result IsDataNumber }
 {
     match text.parse::<u64>() {
         Ok(number) if number >= 1 && number <= 1000 => Some(number),

@@ -6,6 +6,6 @@ use Rattle.key_tables.proofs.numbering.numbers.Given as goal
 
 abbrev pub invariant-loop-row : goal.invariant-loop-row
 invariant-loop-row g l =
-    (l.seen.keys ≡ each_once g.K.PartialEq.eq (take l.row l.keys))
+    (l.seen ≡ each_once g.K.PartialEq.eq (take l.row l.keys))
     × (l.numbers.items ≡ numbers_of g.K.PartialEq.eq (take l.row l.keys))
     × (l.firsts.items ≡ first_places g.K.PartialEq.eq (take l.row l.keys))

@@ -7,5 +7,5 @@ use Rattle.row_keys.proofs.column_codes.value_codes.Given as goal
 
 abbrev pub invariant-loop-i : goal.invariant-loop-i
 invariant-loop-i l =
-    (l.seen.keys ≡ each_once eq-value.it (take l.i l.values))
+    (l.seen ≡ each_once eq-value.it (take l.i l.values))
     × (l.codes.items ≡ map pos (numbers_of eq-value.it (take l.i l.values)))

@@ -6,7 +6,7 @@ use Rattle.tbl_reader.proofs.key.keys_of_rows.Goals as goal
 
 pub loop-i-preserved : goal.loop-i-preserved
 loop-i-preserved c =
-    set_more (row_key (file_form c.args.file)) c.args.rows.now.rows c.loop-i.i [] c.loop-i.set.keys c.insert_key.new.keys.keys c.at.result c.in_ok-insert_key.field-0
+    set_more (row_key (file_form c.args.file)) c.args.rows.now.rows c.loop-i.i [] c.loop-i.set c.insert_key.new.keys c.at.result c.in_ok-insert_key.field-0
     (search rules)
     c.at.ensures
     c.loop-i.invariant

@@ -8,6 +8,6 @@ pub returns-clause-taken : goal.returns-clause-taken
 returns-clause-taken c =
     λ aggregate vs ws h j. (
       h.0,
-      distinct_joined _ _ _ _ c.args.other.seen.keys _ vs ws h.1 j.1 c.lesser-self.ensures.rank
-          (c.in_ok-put_values.ensures ∙ ap (added_all same_value c.args.self.now.seen.keys) c.as_slice.ensures.keys),
+      distinct_joined _ _ _ _ c.args.other.seen _ vs ws h.1 j.1 c.lesser-self.ensures.rank
+          (c.in_ok-put_values.ensures ∙ ap (added_all same_value c.args.self.now.seen) c.as_slice.ensures),
     )
