@@ -66,3 +66,11 @@ Tries old new (Refused cause) = (old.done < length old.list)
     × IsAfter old new (Err (RefusedBy cause))
 Tries old new NoMore = (old.done ≡ length old.list) × (new ≡ old)
 Tries old new OutOfMemory = new ≡ old
+
+-- with no more refreshes, or out of memory, all stays: the segments that the version is known to
+-- lie in too
+abbrev pub StaysUntried : Edition → Edition → Answer → Type 0
+StaysUntried old new (Published note) = Unit {0}
+StaysUntried old new (Refused cause) = Unit {0}
+StaysUntried old new NoMore = new ≡ old
+StaysUntried old new OutOfMemory = new ≡ old

@@ -44,11 +44,13 @@ pub trait Entry {
         ensures entered { Enters (opening self.old) (number self.old) (number self.new)
             (entries self.old) (entries self.new) (refusals self.old) (refusals self.new) result };
 
-    /// The note's version, which its number is from now on at least.
+    /// The note's version, which its number is from now on at least. Nothing is counted.
     fn learn(&mut self, note: Self::Note) -> Arc<Directory>
         requires { note_opening note ≡ opening self.old }
         ensures opening { opening self.new ≡ opening self.old }
         ensures number { number self.new ≡ max (number self.old) (note_number note) }
         ensures of_opening { IsOf (opening self.old) (arc_value result) }
-        ensures version { version_of (arc_value result) ≡ note_number note };
+        ensures version { version_of (arc_value result) ≡ note_number note }
+        ensures entries { entries self.new ≡ entries self.old }
+        ensures refusals { refusals self.new ≡ refusals self.old };
 }

@@ -58,11 +58,16 @@ pub enum Published {
 }
 
 impl Publisher {
-    ghost use Rattle.snapshot_store.specs.Publishers.{LiesJoined, TellsVersion, Tries};
+    ghost use Rattle.snapshot_store.specs.Publishers.{LiesJoined, StaysUntried, TellsVersion};
+    ghost use Rattle.snapshot_store.specs.Publishers.{Tries};
 
-    /// Tries the next refresh of the list. Where memory runs out all stays as it was.
+    /// Tries the next refresh of the list. Where memory runs out all stays as it was. Where each
+    /// refresh was tried, no memory is taken.
     pub fn publish_next<R: Wait>(&mut self, rt: &R) -> Published
         ensures tries { Tries self.old.version self.new.version result }
+        ensures none { self.old.version.done ≡ length self.old.version.list
+            → result ≡ Published.NoMore }
+        ensures untried { StaysUntried self.old self.new result }
         ensures refused { self.new.refused ≡ self.old.refused }
     {
         if self.latest.is_done() {

@@ -81,6 +81,10 @@ impl<E: Entry + Drop> Reader<E> {
         ensures of_opening { IsOf (E.opening self.new.entry) self.new.seen }
         ensures seen { version_of self.new.seen
             ≡ max (version_of self.old.seen) (E.note_number note) }
+        ensures number { E.number self.new.entry
+            ≡ max (E.number self.old.entry) (E.note_number note) }
+        ensures entries { E.entries self.new.entry ≡ E.entries self.old.entry }
+        ensures refusals { E.refusals self.new.entry ≡ E.refusals self.old.entry }
     {
         let share = self.entry.learn(note);
         if share.version() > self.seen.version() {

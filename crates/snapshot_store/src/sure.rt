@@ -45,6 +45,7 @@ impl SureEntry {
     pub fn new(first: Arc<Directory>, versions: Vec<Arc<Directory>>) -> SureEntry
         requires { All (λ v. IsOf (opening_at (arc_value first)) (arc_value v)) versions.items }
         ensures last { result.last ≡ first }
+        ensures given { (result.versions ≡ versions) × (result.next ≡ 0) }
     {
         SureEntry {
             versions,
