@@ -1,0 +1,249 @@
+//! Files with each fault, and one file cut at every byte.
+use ascii_text::Text;
+use fixed_decimal::Scale;
+use refusals::{LineFault, LineRefusal, RefreshFile};
+use sql_value::{Row, Value};
+use std::alloc::Global;
+use std::test::Fail;
+use tbl_reader::{RefreshReader, TableError, TableReader, read_pieces};
+use tpch_schema::{DataFile, TableName};
+
+const LINEITEM: &[u8] =
+    b"9|1|1|1|1.00|5.00|0.00|-0.5|N|O|1996-02-01|1996-02-02|1996-02-29|NONE|MAIL|w|";
+
+fn refusal_of(alloc: Global, table: TableName, pieces: &[&[u8]]) -> Option<(u64, LineFault)> {
+    match read_pieces(alloc, DataFile::Table(table), pieces) {
+        Err(TableError::Refused(LineRefusal { line, fault })) => Some((line, fault)),
+        _ => None,
+    }
+}
+
+fn refusal(alloc: Global, table: TableName, text: &[u8]) -> Option<(u64, LineFault)> {
+    refusal_of(alloc, table, &[text])
+}
+
+fn count(alloc: Global, table: TableName, text: &[u8]) -> Result<usize, TableError> {
+    let rows = read_pieces(alloc, DataFile::Table(table), &[text])?;
+    Ok(rows.len())
+}
+
+#[test]
+fn reads_rows(rt: HostRuntime) -> Result<(), Fail> {
+    let alloc = rt.alloc();
+    let text = b"0|AFRICA|a|\r\n1|AMERICA||\n2|A|b\r";
+    let rows = read_pieces(alloc, DataFile::Table(TableName::Region), &[text])?;
+    assert_eq!(rt; rows.len(), 3);
+    let rows = rows.to_rows(alloc)?;
+    let whole = Scale::new(0);
+    let first = [
+        Value::Number(whole, 0),
+        Value::Text(Text::new(alloc, b"AFRICA")?),
+        Value::Text(Text::new(alloc, b"a")?),
+    ];
+    let last = [
+        Value::Number(whole, 2),
+        Value::Text(Text::new(alloc, b"A")?),
+        Value::Text(Text::new(alloc, b"b")?),
+    ];
+    assert!(rt; rows[0].values() == first.as_slice());
+    assert!(rt; rows[2].values() == last.as_slice());
+    Ok(())
+}
+
+#[test]
+fn reads_each_kind(rt: HostRuntime) -> Result<(), Fail> {
+    let alloc = rt.alloc();
+    let rows = read_pieces(alloc, DataFile::Table(TableName::Lineitem), &[LINEITEM])?;
+    assert_eq!(rt; rows.len(), 1);
+    let values = rows.row(alloc, 0)?;
+    assert_eq!(rt; values.len(), 16);
+    assert!(rt; values[4] == Value::Number(Scale::new(2), 100));
+    assert!(rt; values[7] == Value::Number(Scale::new(2), -50));
+    match &values[12] {
+        Value::Date(date) => assert_eq!(rt; date.number(), 19_960_229),
+        _ => assert!(rt; false),
+    }
+    Ok(())
+}
+
+#[test]
+fn takes_empty_files(rt: HostRuntime) -> Result<(), Fail> {
+    assert_eq!(rt; count(rt.alloc(), TableName::Nation, b"")?, 0);
+    assert_eq!(rt; count(rt.alloc(), TableName::Region, b"0|AFRICA|")?, 1);
+    assert_eq!(rt; count(rt.alloc(), TableName::Region, b"0|AFRICA||")?, 1);
+    assert_eq!(rt;
+        count(rt.alloc(), TableName::Region, b"0|A|a|\r\n1|B|b|")?,
+        2
+    );
+    assert_eq!(rt;
+        count(
+            rt.alloc(),
+            TableName::Region,
+            b"9223372036854775807|A||\n-0|B||\n"
+        )?,
+        2
+    );
+    Ok(())
+}
+
+#[test]
+fn refuses_fields(rt: HostRuntime) {
+    let alloc = rt.alloc();
+    let region = TableName::Region;
+    assert!(rt; refusal(alloc, region, b"0|AFRICA") == Some((1, LineFault::FieldCount)));
+    assert!(rt; refusal(alloc, region, b"0|A|a|\n1|AM") == Some((2, LineFault::FieldCount)));
+    assert!(rt; refusal(alloc, region, b"0|A|a|\n\n") == Some((2, LineFault::FieldCount)));
+    assert!(rt; refusal(alloc, region, b"x|A|a|b|") == Some((1, LineFault::FieldCount)));
+    assert!(rt; refusal(alloc, region, b"x|A|y|") == Some((1, LineFault::BadNumber)));
+    assert!(rt; refusal(alloc, region, b"0.0|\t|y|") == Some((1, LineFault::BadNumber)));
+    assert!(rt; refusal(alloc, region, b"-1|A|y|") == Some((1, LineFault::NumberTooWide)));
+    assert!(rt;
+        refusal(alloc, region, b"9223372036854775808|A|y|") == Some((1, LineFault::NumberTooWide))
+    );
+    assert!(rt; refusal(alloc, region, b"0|A|a\r\r\n") == Some((1, LineFault::BadText)));
+    assert!(rt;
+        refusal(alloc, region, b"0|abcdefghijklmnopqrstuvwxy\x7f|a|")
+            == Some((1, LineFault::BadText))
+    );
+    assert!(rt;
+        refusal(alloc, region, b"0|abcdefghijklmnopqrstuvwxyz|a|")
+            == Some((1, LineFault::TextTooLong))
+    );
+}
+
+#[test]
+fn refuses_dates_and_keys(rt: HostRuntime) {
+    let alloc = rt.alloc();
+    assert!(rt;
+        refusal(alloc, TableName::Orders, b"1|1|O|1.00|1900-02-29|1|K|0|x|")
+            == Some((1, LineFault::BadDate))
+    );
+    assert!(rt;
+        refusal(alloc, TableName::Region, b"0|A|x|\n00|B|y|") == Some((2, LineFault::DuplicateKey))
+    );
+    assert!(rt;
+        refusal(
+            alloc,
+            TableName::Partsupp,
+            b"1|1|1|1|a|\n1|2|1|1|a|\n2|1|1|1|a|\n1|02|1|1|a|"
+        ) == Some((4, LineFault::DuplicateKey))
+    );
+}
+
+#[test]
+fn ends_at_the_limit(rt: HostRuntime) -> Result<(), Fail> {
+    let text = b"0|A|a|\n1|B|b|\nx";
+    let mut reader = TableReader::with_limit(rt.alloc(), TableName::Region, 14)?;
+    assert!(rt; reader.feed(&text[..14]) == Ok(()));
+    let too_long = TableError::Refused(LineRefusal {
+        line: 3,
+        fault: LineFault::FileTooLong,
+    });
+    assert!(rt; reader.feed(&text[14..]) == Err(too_long));
+    assert!(rt; reader.feed(b"") == Err(too_long));
+    match reader.finish() {
+        Ok(_) => assert!(rt; false),
+        Err(fault) => assert!(rt; fault == too_long),
+    }
+    let mut reader = TableReader::with_limit(rt.alloc(), TableName::Region, 13)?;
+    let too_long = TableError::Refused(LineRefusal {
+        line: 2,
+        fault: LineFault::FileTooLong,
+    });
+    assert!(rt; reader.feed(text) == Err(too_long));
+    Ok(())
+}
+
+fn table_rows(alloc: Global, pieces: &[&[u8]]) -> Result<Vec<Row>, TableError> {
+    let rows = read_pieces(alloc, DataFile::Table(TableName::Region), pieces)?;
+    let rows = rows.to_rows(alloc)?;
+    Ok(rows)
+}
+
+fn are_same(left: &[Row], right: &[Row]) -> bool {
+    left.len() == right.len() && left.iter().zip(right).all(|(a, b)| a.is_identical(b))
+}
+
+#[test]
+fn is_cut_anywhere(rt: HostRuntime) -> Result<(), Fail> {
+    let text = b"0|AFRICA|a|\r\n1|AMERICA||\n2|A|b\r";
+    let whole = table_rows(rt.alloc(), &[text])?;
+    for at in 0..text.len() + 1 {
+        let cut = table_rows(rt.alloc(), &[&text[..at], &text[at..]])?;
+        assert!(rt; are_same(cut.as_slice(), whole.as_slice()));
+    }
+    Ok(())
+}
+
+// Regions in lines of 17 bytes that end in CR and LF, after one that is longer by so many bytes.
+fn long_text(alloc: Global, more: usize) -> Result<Vec<u8>, Fail> {
+    let mut text = Vec::new(alloc);
+    text.extend_from_slice(b"1|A|")?;
+    for _ in 0..more {
+        text.push(b'x')?;
+    }
+    text.extend_from_slice(b"|\r\n")?;
+    for key in 10_000..13_860 {
+        let line = format!(in alloc; "{key}|R{key}|c|\r\n")?;
+        text.extend_from_slice(line.as_bytes())?;
+    }
+    Ok(text)
+}
+
+// Each byte of a line, bars, CR and LF among them, stands at the end of a piece of 64 KiB and at the
+// beginning of the next.
+#[test]
+fn reads_lines_across_pieces(rt: HostRuntime) -> Result<(), Fail> {
+    let alloc = rt.alloc();
+    for more in 0..17 {
+        let text = long_text(alloc, more)?;
+        let whole = table_rows(alloc, &[text.as_slice()])?;
+        assert_eq!(rt; whole.len(), 3861);
+        let cut = text.len().min(65_536);
+        let (first, rest) = text.as_slice().split_at(cut);
+        let rows = table_rows(alloc, &[first, rest])?;
+        assert!(rt; are_same(rows.as_slice(), whole.as_slice()));
+    }
+    Ok(())
+}
+
+#[test]
+fn refuses_however_cut(rt: HostRuntime) {
+    let text = b"0|AFRICA|a|\r\n1|AMERICA||\n00|ASIA|b|\nx";
+    for at in 0..text.len() + 1 {
+        let pieces = [&text[..at], &text[at..]];
+        assert!(rt;
+            refusal_of(rt.alloc(), TableName::Region, &pieces) == Some((3, LineFault::DuplicateKey))
+        );
+    }
+}
+
+#[test]
+fn reads_refresh_files(rt: HostRuntime) -> Result<(), Fail> {
+    let alloc = rt.alloc();
+    let order = b"9|2|O|5.00|1996-01-04|5-LOW|K|0|z|\n";
+    let mut orders = RefreshReader::new(alloc, RefreshFile::Orders)?;
+    assert!(rt; orders.feed(order) == Ok(()));
+    assert!(rt; orders.feed(order) == Ok(()));
+    let rows = orders.finish()?;
+    assert_eq!(rt; rows.len(), 2);
+    let mut keys = RefreshReader::with_limit(alloc, RefreshFile::Delete, 5)?;
+    assert!(rt; keys.feed(b"7|\n7") == Ok(()));
+    let bad = TableError::Refused(LineRefusal {
+        line: 3,
+        fault: LineFault::FileTooLong,
+    });
+    assert!(rt; keys.feed(b"\n\n") == Err(bad));
+    Ok(())
+}
+
+#[test]
+fn takes_keys_in_any_order(rt: HostRuntime) -> Result<(), Fail> {
+    let text = b"1|1|1|1|a|\n2|1|1|1|a|\n1|2|1|1|a|\n1|3|1|1|a|\n3|1|1|1|a|\n";
+    assert_eq!(rt; count(rt.alloc(), TableName::Partsupp, text)?, 5);
+    let again = b"1|1|1|1|a|\n2|1|1|1|a|\n1|2|1|1|a|\n1|3|1|1|a|\n2|1|1|1|a|\n";
+    assert!(rt;
+        refusal(rt.alloc(), TableName::Partsupp, again) == Some((5, LineFault::DuplicateKey))
+    );
+    Ok(())
+}

@@ -1,0 +1,149 @@
+//! The forms that columns change to, stored rows, and batches.
+ghost use Rattle.std.specs.Prelude.{IsTrue};
+ghost use Rattle.columns.specs.Lists.{AreBelow};
+
+use ascii_text::Text;
+use civil_date::CivilDate;
+use columns::{
+    Bag, Batch, BatchBuilder, Column, ColumnBuilder, ColumnForm, Field, Rows, RowsBuilder,
+    stored_rows,
+};
+use fixed_decimal::Scale;
+use sql_value::{Fault, Standing, Truth, Value};
+use std::alloc::Global;
+use std::test::Fail;
+
+fn is_at(alloc: Global, column: &Column, i: usize, value: &Value) -> Result<bool, Fail> {
+    if i >= column.len() {
+        return Ok(false);
+    }
+    let found = column.at(alloc, i)?;
+    Ok(found.is_identical(value))
+}
+
+fn are_below(most: usize, places: &[u32]) -> bool
+    ensures { IsTrue result → AreBelow most places.now }
+{
+    places.iter().all(|place| (*place as usize) < most)
+}
+
+fn picked(alloc: Global, column: &Column, places: &[u32]) -> Result<Column, Fail> {
+    if !are_below(column.len(), places) {
+        return Ok(Column::from_values(Vec::new(alloc)));
+    }
+    let column = column.gather(alloc, places)?;
+    Ok(column)
+}
+
+#[test]
+fn takes_any_value(rt: HostRuntime) -> Result<(), Fail> {
+    let alloc = rt.alloc();
+    let money = Scale::new(2);
+    let price = Value::Number(money, 125);
+    let mut builder = ColumnBuilder::new(alloc, ColumnForm::Numbers(money))?;
+    builder.push_field(alloc, &Field::Number(money, 125))?;
+    let numbers = builder.finish();
+    assert!(rt; numbers.as_numbers().is_some());
+    let mut builder = ColumnBuilder::new(alloc, ColumnForm::Numbers(money))?;
+    builder.append(alloc, &numbers)?;
+    builder.push(alloc, &Value::Null)?;
+    let turned = picked(alloc, &builder.finish(), &[1, 0])?;
+    assert!(rt; is_at(alloc, &turned, 0, &Value::Null)?);
+    let mut all = ColumnBuilder::new(alloc, ColumnForm::Dates)?;
+    all.append(alloc, &turned)?;
+    assert!(rt; is_at(alloc, &all.finish().share(alloc)?, 1, &price)?);
+    assert!(rt; is_at(alloc, &Column::repeated(alloc, &price, 3)?, 2, &price)?);
+    Ok(())
+}
+
+// Texts of two letters, 25 times so many.
+fn many_texts(alloc: Global, seconds: u8) -> Result<Batch, Fail> {
+    let mut builder = BatchBuilder::new(alloc, &[ColumnForm::Texts])?;
+    for first in b'A'..b'Z' {
+        for second in 0..seconds {
+            let text = Text::new(alloc, &[first, b'a'.wrapping_add(second)])?;
+            let row = [Value::Text(text)];
+            if builder.width() == row.len() {
+                builder.push_row(alloc, &row, Standing::AtTrue)?;
+            }
+        }
+    }
+    let batch = builder.finish(alloc)?;
+    Ok(batch)
+}
+
+// A dictionary has at most 256 texts.
+#[test]
+fn spells_many_texts(rt: HostRuntime) -> Result<(), Fail> {
+    let alloc = rt.alloc();
+    let coded = many_texts(alloc, 10)?;
+    assert!(rt; coded.width() == 1 && coded.column(0).as_codes().is_some());
+    let spelled = many_texts(alloc, 11)?;
+    assert!(rt; spelled.width() == 1 && spelled.column(0).as_codes().is_none());
+    let text = Text::new(alloc, b"Yk")?;
+    assert!(rt; spelled.width() == 1 && is_at(alloc, spelled.column(0), 274, &Value::Text(text))?);
+    Ok(())
+}
+
+fn many_rows(alloc: Global, n: u16) -> Result<Rows, Fail> {
+    let forms = [ColumnForm::Numbers(Scale::WHOLE), ColumnForm::Dates];
+    let day = CivilDate::read(b"1996-02-29")?;
+    let mut builder = RowsBuilder::new(alloc, &forms)?;
+    for i in 0..n {
+        let row = [Field::Number(Scale::WHOLE, i64::from(i)), Field::Date(day)];
+        if builder.width() == row.len() {
+            builder.push(alloc, &row)?;
+        }
+    }
+    let rows = builder.finish(alloc)?;
+    Ok(rows)
+}
+
+#[test]
+fn stores_rows(rt: HostRuntime) -> Result<(), Fail> {
+    let alloc = rt.alloc();
+    let rows = many_rows(alloc, 4097)?;
+    assert_eq!(rt; rows.len(), 4097);
+    assert_eq!(rt; rows.segments().len(), 2);
+    let again = stored_rows(alloc, rows.clone()?.to_rows(alloc)?.as_slice())?;
+    assert_eq!(rt; again.len(), 4097);
+    if again.len() == 4097 {
+        let number = Value::Number(Scale::WHOLE, 4096);
+        assert!(rt;
+            matches!(again.row(alloc, 4096)?.first(), Some(found) if found.is_identical(&number))
+        );
+    }
+    Ok(())
+}
+
+fn two_rows(alloc: Global) -> Result<Batch, Fail> {
+    let mut builder = BatchBuilder::new(alloc, &[ColumnForm::Values])?;
+    let fault = Standing::AtFault(Fault::NumberRange);
+    if builder.width() == 1 {
+        builder.push_row(alloc, &[Value::Null], Standing::AtTrue)?;
+    }
+    if builder.width() == 1 {
+        builder.push_row(alloc, &[Value::Fault(Fault::DivideByZero)], fault)?;
+    }
+    let batch = builder.finish(alloc)?;
+    Ok(batch)
+}
+
+#[test]
+fn selects_rows(rt: HostRuntime) -> Result<(), Fail> {
+    let alloc = rt.alloc();
+    let batch = two_rows(alloc)?.share(alloc)?;
+    let truths = [Truth::Unknown, Truth::Stands(Standing::AtTrue)];
+    assert_eq!(rt; batch.len(), 2);
+    if batch.len() == truths.len() {
+        let kept = batch.select(alloc, &truths)?;
+        assert_eq!(rt; kept.len(), 1);
+        if kept.len() == 1 {
+            assert!(rt; kept.standing(0) == Standing::AtFault(Fault::NumberRange));
+        }
+        let mut bag = Bag::new(alloc, kept.width());
+        bag.push(kept)?;
+        assert_eq!(rt; bag.len(), 1);
+    }
+    Ok(())
+}
