@@ -190,8 +190,8 @@ fn long_text(alloc: Global, more: usize) -> Result<Vec<u8>, Fail> {
     Ok(text)
 }
 
-// Each byte of a line, bars, CR and LF among them, stands at the end of a piece of 64 KiB and at the
-// beginning of the next.
+// Each byte of a line, bars, CR and LF among them, stands at the end of a piece of 64 KiB and at
+// the beginning of the next.
 #[test]
 fn reads_lines_across_pieces(rt: HostRuntime) -> Result<(), Fail> {
     let alloc = rt.alloc();

@@ -1,5 +1,5 @@
-//! Tests of columns that grow, of stored rows, of the readers of files and of states, through public
-//! calls. No other crate uses this one.
+//! Tests of columns that grow, of stored rows, of the readers of files and of states, through
+//! public calls. No other crate uses this one.
 #![tactic(auto)]
 
 #[cfg(test)]

@@ -1,0 +1,42 @@
+//! Tables by name, and a row of a table's kinds.
+use ascii_text::Text;
+use civil_date::CivilDate;
+use fixed_decimal::Scale;
+use sql_value::{Fault, Value};
+use std::test::Fail;
+use tpch_schema::{ColumnKind, TABLES, TableName, are_of_kinds};
+
+#[test]
+fn finds_tables_and_columns(rt: HostRuntime) {
+    assert!(rt; TableName::from_name(b"lineitem") == Some(TableName::Lineitem));
+    assert!(rt; TableName::from_name(b"line") == None);
+    assert!(rt; TableName::Partsupp.name() == "partsupp");
+    let names = TableName::Lineitem.column_names();
+    let kinds = TableName::Lineitem.kinds();
+    assert!(rt; names.len() == 16 && kinds.len() == 16);
+    assert!(rt; names[10] == "l_shipdate" && kinds[10] == ColumnKind::Date);
+    assert!(rt; names[15] == "l_comment" && kinds[15] == ColumnKind::Text(44));
+    assert!(rt; TableName::Lineitem.key_columns().len() == 2);
+    assert!(rt; TABLES.len() == 8);
+}
+
+#[test]
+fn tells_rows_of_kinds(rt: HostRuntime) -> Result<(), Fail> {
+    let name = Text::new(rt.alloc(), b"ASIA")?;
+    let comment = Text::new(rt.alloc(), b"")?;
+    let row = [
+        Value::Number(Scale::new(0), 2),
+        Value::Text(name),
+        Value::Text(comment),
+    ];
+    assert!(rt; are_of_kinds(TableName::Region.kinds(), &row));
+    assert!(rt; !are_of_kinds(TableName::Nation.kinds(), &row));
+    assert!(rt; !are_of_kinds(TableName::Region.kinds(), &row[..2]));
+    assert!(rt; ColumnKind::Date.admits(&Value::Date(CivilDate::read(b"1996-02-29")?)));
+    assert!(rt; !ColumnKind::Key.admits(&Value::Number(Scale::new(0), -1)));
+    assert!(rt; ColumnKind::Whole.admits(&Value::Number(Scale::new(0), -1)));
+    assert!(rt; !ColumnKind::Decimal.admits(&Value::Number(Scale::new(0), 1)));
+    assert!(rt; !ColumnKind::Key.admits(&Value::Null));
+    assert!(rt; !ColumnKind::Key.admits(&Value::Fault(Fault::NumberRange)));
+    Ok(())
+}
