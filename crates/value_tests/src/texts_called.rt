@@ -8,12 +8,6 @@ fn text(alloc: Global, bytes: &[u8]) -> Result<Text, Fail> {
     Ok(text)
 }
 
-fn is_like(alloc: Global, bytes: &[u8], pattern: &[u8]) -> Result<bool, Fail> {
-    let bytes = text(alloc, bytes)?;
-    let pattern = text(alloc, pattern)?;
-    Ok(like(&bytes, &pattern))
-}
-
 #[test]
 fn makes_texts(rt: HostRuntime) -> Result<(), Fail> {
     let alloc = rt.alloc();
@@ -22,46 +16,75 @@ fn makes_texts(rt: HostRuntime) -> Result<(), Fail> {
     assert!(rt; made.clone()? == made);
     assert!(rt; Text::of_printable(alloc, b"AFRICA ~")? == made);
     assert!(rt; Text::from_vec(Vec::from_slice(alloc, b"AFRICA ~")?)? == made);
-    assert!(rt; made.share(1, 4)?.share(1, 3)? == text(alloc, b"RI")?);
-    assert!(rt; matches!(Text::new(alloc, b"a\x1fb\x7f"), Err(TextFault::BadText(1))));
-    assert!(rt; matches!(Text::new(alloc, b"a\x7f"), Err(TextFault::BadText(1))));
-    assert!(rt; text(alloc, b"AB")? < text(alloc, b"B")?);
-    assert!(rt; text(alloc, b"A")? < text(alloc, b"A ")?);
+    Ok(())
+}
+
+#[test]
+fn shares_parts(rt: HostRuntime) -> Result<(), Fail> {
+    let alloc = rt.alloc();
+    let whole = text(alloc, b"AFRICA")?;
+    assert!(rt; whole.share(1, 4)?.share(1, 3)? == text(alloc, b"RI")?);
+    Ok(())
+}
+
+#[test]
+fn refuses_bytes(rt: HostRuntime) {
+    for bytes in [b"a\x1fb\x7f".as_slice(), b"a\x7f".as_slice()] {
+        assert!(rt; matches!(Text::new(rt.alloc(), bytes), Err(TextFault::BadText(1))));
+    }
+}
+
+#[test]
+fn orders_texts(rt: HostRuntime) -> Result<(), Fail> {
+    for (less, greater) in [("AB", "B"), ("A", "A ")] {
+        let less = text(rt.alloc(), less.as_bytes())?;
+        let greater = text(rt.alloc(), greater.as_bytes())?;
+        assert!(rt; less < greater);
+    }
     Ok(())
 }
 
 #[test]
 fn meets_patterns(rt: HostRuntime) -> Result<(), Fail> {
-    let alloc = rt.alloc();
-    assert!(rt; is_like(alloc, b"green forest", b"green%")?);
-    assert!(rt; is_like(alloc, b"green", b"green%")?);
-    assert!(rt; !is_like(alloc, b"the green", b"green%")?);
-    assert!(rt; is_like(alloc, b"the special requests", b"%special%requests%")?);
-    assert!(rt; !is_like(alloc, b"requests special", b"%special%requests%")?);
-    assert!(rt; is_like(alloc, b"aab", b"%ab")?);
-    assert!(rt; is_like(alloc, b"abab", b"%ab")?);
-    assert!(rt; !is_like(alloc, b"aba", b"%ab")?);
-    assert!(rt; is_like(alloc, b"", b"%")?);
-    assert!(rt; is_like(alloc, b"", b"")?);
-    assert!(rt; !is_like(alloc, b"", b"_")?);
-    assert!(rt; is_like(alloc, b"%", b"_")?);
-    assert!(rt; !is_like(alloc, b"ab", b"_")?);
-    assert!(rt; is_like(alloc, b"abc", b"a_c")?);
-    assert!(rt; is_like(alloc, b"mississippi", b"m%iss%ip_i")?);
-    assert!(rt; is_like(alloc, b"a%b", b"a%%b")?);
+    for (bytes, pattern, wanted) in [
+        ("green forest", "green%", true),
+        ("green", "green%", true),
+        ("the green", "green%", false),
+        ("the special requests", "%special%requests%", true),
+        ("requests special", "%special%requests%", false),
+        ("aab", "%ab", true),
+        ("abab", "%ab", true),
+        ("aba", "%ab", false),
+        ("", "%", true),
+        ("", "", true),
+        ("", "_", false),
+        ("%", "_", true),
+        ("ab", "_", false),
+        ("abc", "a_c", true),
+        ("mississippi", "m%iss%ip_i", true),
+        ("a%b", "a%%b", true),
+    ] {
+        let whole = text(rt.alloc(), bytes.as_bytes())?;
+        let like_it = text(rt.alloc(), pattern.as_bytes())?;
+        assert!(rt; like(&whole, &like_it) == wanted, "{bytes} {pattern}");
+    }
     Ok(())
 }
 
 #[test]
 fn takes_parts(rt: HostRuntime) -> Result<(), Fail> {
-    let alloc = rt.alloc();
-    let phone = text(alloc, b"13-100-200-3000")?;
-    assert!(rt; substring(&phone, 1, 2)?.bytes() == b"13".as_slice());
-    assert!(rt; substring(&phone, 4, 3)?.bytes() == b"100".as_slice());
-    assert!(rt; substring(&phone, 12, 99)?.bytes() == b"3000".as_slice());
-    assert!(rt; substring(&phone, 16, 1)?.bytes() == b"".as_slice());
-    assert!(rt; substring(&phone, 0, 2)?.bytes() == b"1".as_slice());
-    assert!(rt; substring(&phone, 0, 0)?.bytes() == b"".as_slice());
-    assert!(rt; substring(&phone, u32::MAX, u32::MAX)?.bytes() == b"".as_slice());
+    let phone = text(rt.alloc(), b"13-100-200-3000")?;
+    for (from, count, wanted) in [
+        (1, 2, "13"),
+        (4, 3, "100"),
+        (12, 99, "3000"),
+        (16, 1, ""),
+        (0, 2, "1"),
+        (0, 0, ""),
+        (u32::MAX, u32::MAX, ""),
+    ] {
+        let part = substring(&phone, from, count)?;
+        assert!(rt; part.bytes() == wanted.as_bytes(), "{from} {count}");
+    }
     Ok(())
 }

@@ -54,130 +54,123 @@ fn is_text(alloc: Global, script: &[u8], bytes: &[u8]) -> bool {
 }
 
 #[test]
-fn kinds(rt: HostRuntime) -> Result<(), Fail> {
-    let alloc = rt.alloc();
-    assert!(rt; has_kinds(alloc, b"", &[]));
-    assert!(rt; has_kinds(alloc, b" \t\r\n-- nothing", &[]));
-    assert!(rt;
-        has_kinds(
-            alloc,
-            b"SELECT a_1,Between",
-            &[Kind::Select, Kind::Name, Kind::Comma, Kind::Between]
-        )
-    );
-    assert!(rt;
-        has_kinds(
-            alloc,
-            b"a<=b<>c< =d>=e",
+fn cuts_tokens(rt: HostRuntime) {
+    for (script, kinds) in [
+        ("", &[][..]),
+        (" \t\r\n-- nothing", &[][..]),
+        (
+            "SELECT a_1,Between",
+            &[Kind::Select, Kind::Name, Kind::Comma, Kind::Between][..],
+        ),
+        (
+            "a<=b<>c",
             &[
                 Kind::Name,
                 Kind::LessOrEqual,
                 Kind::Name,
                 Kind::NotEqual,
                 Kind::Name,
+            ][..],
+        ),
+        (
+            "c< =d>=e",
+            &[
+                Kind::Name,
                 Kind::Less,
                 Kind::Equal,
                 Kind::Name,
                 Kind::GreaterOrEqual,
-                Kind::Name
-            ]
-        )
-    );
-    assert!(rt;
-        has_kinds(
-            alloc,
-            b"(1.).5*-/+;",
+                Kind::Name,
+            ][..],
+        ),
+        (
+            "(1.).5",
             &[
                 Kind::OpenParen,
                 Kind::Number,
                 Kind::Point,
                 Kind::CloseParen,
                 Kind::Number,
+            ][..],
+        ),
+        (
+            "*-/+;",
+            &[
                 Kind::Star,
                 Kind::Minus,
                 Kind::Slash,
                 Kind::Plus,
-                Kind::Semicolon
-            ]
-        )
-    );
-    assert!(rt;
-        has_kinds(
-            alloc,
-            b"1.5.5 a.1",
-            &[Kind::Number, Kind::Number, Kind::Name, Kind::Number]
-        )
-    );
-    assert!(rt;
-        has_kinds(
-            alloc,
-            b"--1\n- -1",
-            &[Kind::Minus, Kind::Minus, Kind::Number]
-        )
-    );
-    assert!(rt;
-        has_kinds(
-            alloc,
-            b"value offset cross",
-            &[Kind::Name, Kind::Name, Kind::Name]
-        )
-    );
-    Ok(())
+                Kind::Semicolon,
+            ][..],
+        ),
+        (
+            "1.5.5 a.1",
+            &[Kind::Number, Kind::Number, Kind::Name, Kind::Number][..],
+        ),
+        ("--1\n- -1", &[Kind::Minus, Kind::Minus, Kind::Number][..]),
+        (
+            "value offset cross",
+            &[Kind::Name, Kind::Name, Kind::Name][..],
+        ),
+    ] {
+        assert!(rt; has_kinds(rt.alloc(), script.as_bytes(), kinds), "{script}");
+    }
 }
 
 #[test]
-fn contents(rt: HostRuntime) -> Result<(), Fail> {
-    let alloc = rt.alloc();
-    assert!(rt; is_number(alloc, b"007", 7, 0));
-    assert!(rt; is_number(alloc, b"12.50", 1250, 2));
-    assert!(rt; is_number(alloc, b".000000000000000001", 1, 18));
-    assert!(rt;
-        is_number(
-            alloc,
-            b"170141183460469231731687303715884105727",
-            i128::MAX,
-            0
-        )
-    );
-    assert!(rt; is_text(alloc, b"Region_Name", b"region_name"));
-    assert!(rt; is_text(alloc, b"'It''s '", b"It's "));
-    assert!(rt; is_text(alloc, b"''''", b"'"));
-    assert!(rt; is_text(alloc, b"''", b""));
-    Ok(())
+fn reads_numbers(rt: HostRuntime) {
+    for (script, coefficient, places) in [
+        ("007", 7, 0),
+        ("12.50", 1250, 2),
+        (".000000000000000001", 1, 18),
+        ("170141183460469231731687303715884105727", i128::MAX, 0),
+    ] {
+        assert!(rt;
+            is_number(rt.alloc(), script.as_bytes(), coefficient, places),
+            "{script}"
+        );
+    }
 }
 
 #[test]
-fn refusals(rt: HostRuntime) -> Result<(), Fail> {
-    let alloc = rt.alloc();
-    assert!(rt; is_refused(alloc, b"select 'a", LexRefusal::OpenText, 7));
-    assert!(rt; is_refused(alloc, b"select 'a''\x01b", LexRefusal::OpenText, 7));
-    assert!(rt; is_refused(alloc, b"select 'a\x01b'", LexRefusal::BadByte, 9));
-    assert!(rt; is_refused(alloc, b"select a # b", LexRefusal::BadByte, 9));
-    assert!(rt; is_refused(alloc, b"select 12x", LexRefusal::BadByte, 9));
-    assert!(rt;
-        is_refused(
-            alloc,
-            b"select 170141183460469231731687303715884105728 from region;",
+fn reads_texts(rt: HostRuntime) {
+    for (script, text) in [
+        ("Region_Name", "region_name"),
+        ("'It''s '", "It's "),
+        ("''''", "'"),
+        ("''", ""),
+    ] {
+        assert!(rt;
+            is_text(rt.alloc(), script.as_bytes(), text.as_bytes()),
+            "{script}"
+        );
+    }
+}
+
+#[test]
+fn refuses_tokens(rt: HostRuntime) {
+    for (script, refusal, place) in [
+        ("select 'a", LexRefusal::OpenText, 7),
+        ("select 'a''\x01b", LexRefusal::OpenText, 7),
+        ("select 'a\x01b'", LexRefusal::BadByte, 9),
+        ("select a # b", LexRefusal::BadByte, 9),
+        ("select 12x", LexRefusal::BadByte, 9),
+        (
+            "select 170141183460469231731687303715884105728 from region;",
             LexRefusal::NumberTooWide,
-            7
-        )
-    );
-    assert!(rt;
-        is_refused(
-            alloc,
-            b" .0000000000000000001x",
+            7,
+        ),
+        (" .0000000000000000001x", LexRefusal::ScaleTooWide, 1),
+        (
+            "9999999999999999999999999999999999999999.0000000000000000001",
             LexRefusal::ScaleTooWide,
-            1
-        )
-    );
-    assert!(rt;
-        is_refused(
-            alloc,
-            b"9999999999999999999999999999999999999999.0000000000000000001",
-            LexRefusal::ScaleTooWide,
-            0
-        )
-    );
-    assert!(rt; is_refused(alloc, b"1x 'a", LexRefusal::BadByte, 1));
-    Ok(())
+            0,
+        ),
+        ("1x 'a", LexRefusal::BadByte, 1),
+    ] {
+        assert!(rt;
+            is_refused(rt.alloc(), script.as_bytes(), refusal, place),
+            "{script}"
+        );
+    }
 }
