@@ -22,7 +22,8 @@ fn makes_texts(rt: HostRuntime) -> Result<(), Fail> {
 #[test]
 fn shares_parts(rt: HostRuntime) -> Result<(), Fail> {
     let alloc = rt.alloc();
-    let whole = text(alloc, b"AFRICA")?;
+    let whole = text(alloc, b"AFRICA ~")?;
+    assert!(rt; whole.bytes() == b"AFRICA ~".as_slice());
     assert!(rt; whole.share(1, 4)?.share(1, 3)? == text(alloc, b"RI")?);
     Ok(())
 }
