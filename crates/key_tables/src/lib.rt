@@ -11,6 +11,3 @@ mod numbering;
 pub use chains::Chains;
 pub use joined::{pairs, put_pairs, put_partners};
 pub use numbering::{Numbered, numbers, put_key};
-
-#[cfg(test)]
-mod tests;
