@@ -14,6 +14,3 @@ pub use count::{Count, CountRows};
 pub use distinct::CountDistinct;
 pub use extreme::{Greatest, Least};
 pub use sum::{Average, Sum};
-
-#[cfg(test)]
-mod tests;

@@ -21,6 +21,3 @@ pub use steps::Steps;
 pub use tables::Tables;
 pub use tree::{DepTree, Side, width};
 pub use whole::{WholeTables, rows_are_of};
-
-#[cfg(test)]
-mod tests;

@@ -2,6 +2,7 @@
 use crate::asked::are_long;
 use crate::words::{column, is_column};
 use columns::Column;
+use key_tables::{Chains, pairs};
 use row_keys::{both_sides, codes, end_to_end, keys_of_columns, keys_of_two};
 use std::alloc::Global;
 use std::test::Fail;
@@ -118,5 +119,17 @@ fn puts_columns_end_to_end(rt: HostRuntime) -> Result<(), Fail> {
     assert!(rt; meet(alloc, "1996-02-29", "AIR 3", "1996-02-29 AIR 3")?);
     assert!(rt; meet(alloc, "", "1.50", "1.50")?);
     assert!(rt; last_meet(alloc, &LEFT, &RIGHT, "null 0 null null 0")?);
+    Ok(())
+}
+
+#[test]
+fn joins_pairs_of_numbers(rt: HostRuntime) -> Result<(), Fail> {
+    let alloc = rt.alloc();
+    let right = [(5i64, 0i64), (7, 0), (5, 0), (5, 1), (7, 0), (5, 0)];
+    let left = [(7i64, 0i64), (9, 0), (5, 0)];
+    let chains = Chains::new(alloc, &right)?;
+    let (lefts, rights) = pairs(alloc, &left, &chains)?;
+    assert!(rt; *lefts.as_slice() == *[0u32, 0, 2, 2, 2].as_slice());
+    assert!(rt; *rights.as_slice() == *[1u32, 4, 0, 2, 5].as_slice());
     Ok(())
 }

@@ -1,10 +1,12 @@
-//! Tests of columns, of expressions and keys over them, of groups and of order, through public
-//! calls.
+//! Tests of columns, of expressions over rows and over columns, of keys, of groups, of order and of
+//! trees, through public calls.
 //!
 //! Rows are written as words, a line a row, and expressions as words in postfix order. No other
 //! crate uses this one.
 #![tactic(auto)]
 
+#[cfg(test)]
+mod accumulators_called;
 #[cfg(test)]
 mod asked;
 #[cfg(test)]
@@ -19,5 +21,9 @@ mod groups_called;
 mod keys_called;
 #[cfg(test)]
 mod postfix;
+#[cfg(test)]
+mod row_called;
+#[cfg(test)]
+mod trees_called;
 #[cfg(test)]
 mod words;

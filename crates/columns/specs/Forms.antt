@@ -15,6 +15,10 @@ is_of_form Texts (Text t) = true
 is_of_form Values v = true
 is_of_form form v = false
 
+-- whether a value is a text
+abbrev pub is_text : Value → Bool
+is_text v = is_of_form Texts v
+
 -- each value is of the form
 abbrev pub AreOfForm : ColumnForm → List Value → Type 0
 AreOfForm form vs = All (λ v. is_of_form form v ≡ true) vs

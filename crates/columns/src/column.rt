@@ -1,17 +1,19 @@
 //! A column of values of one kind, or of any.
 ghost use Rattle.std.specs.Prelude.{◌≡◌, ◌<◌, ◌==◌, ℕ, IfOk, IfSome, length, slice_index_or, map};
-ghost use Rattle.std.specs.Prelude.{[], replicate};
+ghost use Rattle.std.specs.Prelude.{[], replicate, IsNone, false};
 ghost use Rattle.std.specs.Arc.{arc_value};
 ghost use Rattle.sql_value.specs.declared.value.Value.TheVariants.{Null, Number, Date as DateOf};
 ghost use Rattle.sql_value.specs.declared.value.Value.TheVariants.{Text as TextOf};
-ghost use Rattle.columns.specs.Forms.{AreOfForm};
+ghost use Rattle.columns.specs.Forms.{AreOfForm, is_text};
 ghost use Rattle.columns.specs.Lists.{gathered, AreBelow};
 ghost use Rattle.columns.specs.Numbers.{small_number};
 ghost use Rattle.columns.specs.Shown.{shown, kept_values};
 
 use crate::column_builder::ColumnForm;
 use crate::dictionary::Dictionary;
-use crate::form::{Form, form_at, form_len, form_number, form_type, gather, repeated, stored};
+use crate::form::{
+    Form, form_at, form_len, form_number, form_text, form_type, gather, repeated, stored,
+};
 use civil_date::CivilDate;
 use fixed_decimal::Scale;
 use sql_value::Value;
@@ -63,7 +65,7 @@ impl Column {
         ensures { IfOk result (λ c. c ≡ replicate n value.now) }
     {
         let form = repeated(alloc, value, n)?;
-        Ok(Column::own(form))
+        Column::shared(alloc, form)
     }
 
     // A column that shares nothing.
@@ -73,6 +75,16 @@ impl Column {
         Column {
             kept: Kept::Own(form),
         }
+    }
+
+    // A column whose further shares copy nothing.
+    fn shared(alloc: Global, form: Form) -> Result<Column, AllocError>
+        ensures { IfOk result (λ c. c ≡ shown form) }
+    {
+        let form = Arc::new(alloc, form)?;
+        Ok(Column {
+            kept: Kept::Shared(form),
+        })
     }
 
     // The values' form, own or shared.
@@ -147,20 +159,13 @@ impl Column {
         }
     }
 
-    /// The bytes of the text at a place, of which nothing is copied, where the column keeps texts.
+    /// The bytes of the text at a place, of which nothing is copied, where it is a text.
     pub fn text(&self, i: usize) -> Option<&[u8]>
         requires { i < length self.now }
-        ensures { IfSome result (λ b. TextOf b.now ≡ slice_index_or self.now i Null) }
+        ensures value { IfSome result (λ b. TextOf b.now ≡ slice_index_or self.now i Null) }
+        ensures none { IsNone result → is_text (slice_index_or self.now i Null) ≡ false }
     {
-        match self.form() {
-            Form::Texts(texts) => Some(texts.bytes(i)),
-            Form::Coded(codes) => Some(codes.text(i).bytes()),
-            Form::Values(values) => match &values[i] {
-                Value::Text(text) => Some(text.bytes()),
-                _ => None,
-            },
-            _ => None,
-        }
+        form_text(self.form(), i)
     }
 
     /// The number at a place, where it is one of 64 bits.
@@ -177,18 +182,16 @@ impl Column {
         ensures { IfOk result (λ c. c ≡ gathered Null self.now places.now) }
     {
         let form = gather(alloc, self.form(), places)?;
-        Ok(Column::own(form))
+        Column::shared(alloc, form)
     }
 
-    /// The same values: a further share of a stored column, a copy of another one.
+    /// The same values: a further share of a stored or gathered column, else a copy, of which later
+    /// ones are shares.
     pub fn share(&self, alloc: Global) -> Result<Column, AllocError>
         ensures { IfOk result (λ c. c ≡ self.now) }
     {
         match &self.kept {
-            Kept::Own(form) => {
-                let form = stored(alloc, form)?;
-                Ok(Column::own(form))
-            }
+            Kept::Own(form) => stored_column(alloc, form),
             Kept::Shared(form) => {
                 let form = form.clone()?;
                 Ok(Column {
@@ -204,8 +207,5 @@ pub(crate) fn stored_column(alloc: Global, form: &Form) -> Result<Column, AllocE
     ensures { IfOk result (λ c. c ≡ shown form.now) }
 {
     let form = stored(alloc, form)?;
-    let form = Arc::new(alloc, form)?;
-    Ok(Column {
-        kept: Kept::Shared(form),
-    })
+    Column::shared(alloc, form)
 }

@@ -1,9 +1,9 @@
 //! How a column keeps its values, and how they are read.
 ghost use Rattle.std.specs.Prelude.{◌≡◌, ◌<◌, ◌≤◌, ◌++◌, ◌∷◌, [], IfOk, IfSome, OnErr, length};
-ghost use Rattle.std.specs.Prelude.{take, slice_index_or, map, replicate};
+ghost use Rattle.std.specs.Prelude.{take, slice_index_or, map, replicate, IsNone, false};
 ghost use Rattle.sql_value.specs.declared.value.Value.TheVariants.{Null, Number, Date as DateOf};
 ghost use Rattle.sql_value.specs.declared.value.Value.TheVariants.{Text as TextOf};
-ghost use Rattle.columns.specs.Forms.{AreOfForm};
+ghost use Rattle.columns.specs.Forms.{AreOfForm, is_text};
 ghost use Rattle.columns.specs.Lists.{gathered, AreBelow};
 ghost use Rattle.columns.specs.Fields.{field_value, IsPrintableField};
 ghost use Rattle.columns.specs.Numbers.{small_number};
@@ -88,6 +88,33 @@ pub(crate) fn form_number(form: &Form, i: usize) -> Option<i64>
         Form::Dates(_) => None,
         Form::Texts(_) => None,
         Form::Coded(_) => None,
+    }
+}
+
+/// The bytes of the text at a place, where it is a text.
+#[tactic(auto, using(crate::proofs::ColumnLists::texts))]
+pub(crate) fn form_text(form: &Form, i: usize) -> Option<&[u8]>
+    requires { i < length (shown form.now) }
+    ensures value { IfSome result (λ b. TextOf b.now ≡ slice_index_or (shown form.now) i Null) }
+    ensures none { IsNone result → is_text (slice_index_or (shown form.now) i Null) ≡ false }
+{
+    match form {
+        Form::Texts(texts) => Some(texts.bytes(i)),
+        Form::Coded(codes) => Some(codes.text(i).bytes()),
+        Form::Values(values) => text_bytes(&values[i]),
+        Form::Numbers(_, _) => None,
+        Form::Dates(_) => None,
+    }
+}
+
+// The bytes of a value, where it is a text.
+fn text_bytes(value: &Value) -> Option<&[u8]>
+    ensures value { IfSome result (λ b. TextOf b.now ≡ value.now) }
+    ensures none { IsNone result → is_text value.now ≡ false }
+{
+    match value {
+        Value::Text(text) => Some(text.bytes()),
+        Value::Number(_, _) | Value::Date(_) | Value::Fault(_) | Value::Null => None,
     }
 }
 

@@ -31,6 +31,3 @@ pub use field::Field;
 pub use rows::Rows;
 pub use rows_builder::RowsBuilder;
 pub use segment::{SEGMENT_ROWS, Segment};
-
-#[cfg(test)]
-mod tests;

@@ -14,6 +14,3 @@ pub use chains::Chains;
 pub use joined::{pairs, put_pairs, put_partners};
 pub use key_set::KeySet;
 pub use numbering::{Numbered, numbers};
-
-#[cfg(test)]
-mod tests;

@@ -9,6 +9,3 @@ mod rows;
 pub use head::{accepted_text, done_text, header, refusal_text};
 pub use refusal::push_refusal;
 pub use rows::{answer_text, push_row};
-
-#[cfg(test)]
-mod tests;

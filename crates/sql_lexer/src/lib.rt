@@ -13,6 +13,3 @@ pub use fault::{LexFault, LexRefusal};
 pub use front::Form;
 pub use kind::Kind;
 pub use token::{Content, Token};
-
-#[cfg(test)]
-mod tests;

@@ -19,6 +19,3 @@ pub use applied::{RefreshError, apply};
 pub use part::Part;
 pub use refresh::Refresh;
 pub use state::{State, place};
-
-#[cfg(test)]
-mod tests;

@@ -23,6 +23,3 @@ pub use pieces::read_pieces;
 pub use reader::MOST_BYTES;
 pub use refresh_reader::RefreshReader;
 pub use table_reader::TableReader;
-
-#[cfg(test)]
-mod tests;

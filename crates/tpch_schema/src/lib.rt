@@ -9,6 +9,3 @@ mod table;
 pub use column::{ColumnKind, are_of_kinds};
 pub use file::DataFile;
 pub use table::{TABLES, TableName};
-
-#[cfg(test)]
-mod tests;

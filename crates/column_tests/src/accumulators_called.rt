@@ -1,5 +1,5 @@
-//! Each accumulator once.
-use super::*;
+//! An accumulator that merges with another.
+use accumulators::{Accumulator, CountDistinct};
 use fixed_decimal::Scale;
 use sql_value::Value;
 use std::alloc::Global;

@@ -1,8 +1,11 @@
-//! Each call once with ample memory.
+//! Trees, aggregates of no rows, and tables that are put and scanned.
 ghost use Rattle.std.specs.Prelude.{◌≡◌, ◌<◌};
 
-use super::*;
 use aggregates::AggregateFunction;
+use algebra::{
+    Aggregate, DepTree, Side, Steps, Tables, WholeTables, copy_aggregates, rows_are_of,
+    values_of_none, width,
+};
 use ascii_text::Text;
 use columns::stored_rows;
 use fixed_decimal::Scale;

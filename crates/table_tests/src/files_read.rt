@@ -1,11 +1,11 @@
 //! Files with each fault, and one file cut at every byte.
-use super::*;
 use ascii_text::Text;
 use fixed_decimal::Scale;
 use refusals::{LineFault, LineRefusal, RefreshFile};
 use sql_value::{Row, Value};
 use std::alloc::Global;
 use std::test::Fail;
+use tbl_reader::{RefreshReader, TableError, TableReader, read_pieces};
 use tpch_schema::{DataFile, TableName};
 
 const LINEITEM: &[u8] =
@@ -67,67 +67,67 @@ fn reads_each_kind(rt: HostRuntime) -> Result<(), Fail> {
 }
 
 #[test]
-fn takes_empty_files(rt: HostRuntime) -> Result<(), Fail> {
-    assert_eq!(rt; count(rt.alloc(), TableName::Nation, b"")?, 0);
-    assert_eq!(rt; count(rt.alloc(), TableName::Region, b"0|AFRICA|")?, 1);
-    assert_eq!(rt; count(rt.alloc(), TableName::Region, b"0|AFRICA||")?, 1);
-    assert_eq!(rt;
-        count(rt.alloc(), TableName::Region, b"0|A|a|\r\n1|B|b|")?,
-        2
-    );
-    assert_eq!(rt;
-        count(
-            rt.alloc(),
-            TableName::Region,
-            b"9223372036854775807|A||\n-0|B||\n"
-        )?,
-        2
-    );
+fn counts_lines(rt: HostRuntime) -> Result<(), Fail> {
+    for (text, wanted) in [
+        ("", 0),
+        ("0|AFRICA|", 1),
+        ("0|AFRICA||", 1),
+        ("0|A|a|\r\n1|B|b|", 2),
+        ("9223372036854775807|A||\n-0|B||\n", 2),
+    ] {
+        let count = count(rt.alloc(), TableName::Region, text.as_bytes())?;
+        assert_eq!(rt; count, wanted, "{text}");
+    }
     Ok(())
 }
 
 #[test]
-fn refuses_fields(rt: HostRuntime) {
-    let alloc = rt.alloc();
+fn refuses_lines(rt: HostRuntime) {
     let region = TableName::Region;
-    assert!(rt; refusal(alloc, region, b"0|AFRICA") == Some((1, LineFault::FieldCount)));
-    assert!(rt; refusal(alloc, region, b"0|A|a|\n1|AM") == Some((2, LineFault::FieldCount)));
-    assert!(rt; refusal(alloc, region, b"0|A|a|\n\n") == Some((2, LineFault::FieldCount)));
-    assert!(rt; refusal(alloc, region, b"x|A|a|b|") == Some((1, LineFault::FieldCount)));
-    assert!(rt; refusal(alloc, region, b"x|A|y|") == Some((1, LineFault::BadNumber)));
-    assert!(rt; refusal(alloc, region, b"0.0|\t|y|") == Some((1, LineFault::BadNumber)));
-    assert!(rt; refusal(alloc, region, b"-1|A|y|") == Some((1, LineFault::NumberTooWide)));
-    assert!(rt;
-        refusal(alloc, region, b"9223372036854775808|A|y|") == Some((1, LineFault::NumberTooWide))
-    );
-    assert!(rt; refusal(alloc, region, b"0|A|a\r\r\n") == Some((1, LineFault::BadText)));
-    assert!(rt;
-        refusal(alloc, region, b"0|abcdefghijklmnopqrstuvwxy\x7f|a|")
-            == Some((1, LineFault::BadText))
-    );
-    assert!(rt;
-        refusal(alloc, region, b"0|abcdefghijklmnopqrstuvwxyz|a|")
-            == Some((1, LineFault::TextTooLong))
-    );
-}
-
-#[test]
-fn refuses_dates_and_keys(rt: HostRuntime) {
-    let alloc = rt.alloc();
-    assert!(rt;
-        refusal(alloc, TableName::Orders, b"1|1|O|1.00|1900-02-29|1|K|0|x|")
-            == Some((1, LineFault::BadDate))
-    );
-    assert!(rt;
-        refusal(alloc, TableName::Region, b"0|A|x|\n00|B|y|") == Some((2, LineFault::DuplicateKey))
-    );
-    assert!(rt;
-        refusal(
-            alloc,
+    for (table, text, line, fault) in [
+        (region, "0|AFRICA", 1, LineFault::FieldCount),
+        (region, "0|A|a|\n1|AM", 2, LineFault::FieldCount),
+        (region, "0|A|a|\n\n", 2, LineFault::FieldCount),
+        (region, "x|A|a|b|", 1, LineFault::FieldCount),
+        (region, "x|A|y|", 1, LineFault::BadNumber),
+        (region, "0.0|\t|y|", 1, LineFault::BadNumber),
+        (region, "-1|A|y|", 1, LineFault::NumberTooWide),
+        (
+            region,
+            "9223372036854775808|A|y|",
+            1,
+            LineFault::NumberTooWide,
+        ),
+        (region, "0|A|a\r\r\n", 1, LineFault::BadText),
+        (
+            region,
+            "0|abcdefghijklmnopqrstuvwxy\x7f|a|",
+            1,
+            LineFault::BadText,
+        ),
+        (
+            region,
+            "0|abcdefghijklmnopqrstuvwxyz|a|",
+            1,
+            LineFault::TextTooLong,
+        ),
+        (
+            TableName::Orders,
+            "1|1|O|1.00|1900-02-29|1|K|0|x|",
+            1,
+            LineFault::BadDate,
+        ),
+        (region, "0|A|x|\n00|B|y|", 2, LineFault::DuplicateKey),
+        (
             TableName::Partsupp,
-            b"1|1|1|1|a|\n1|2|1|1|a|\n2|1|1|1|a|\n1|02|1|1|a|"
-        ) == Some((4, LineFault::DuplicateKey))
-    );
+            "1|1|1|1|a|\n1|2|1|1|a|\n2|1|1|1|a|\n1|02|1|1|a|",
+            4,
+            LineFault::DuplicateKey,
+        ),
+    ] {
+        let found = refusal(rt.alloc(), table, text.as_bytes());
+        assert!(rt; found == Some((line, fault)), "{text}");
+    }
 }
 
 #[test]
@@ -171,6 +171,38 @@ fn is_cut_anywhere(rt: HostRuntime) -> Result<(), Fail> {
     for at in 0..text.len() + 1 {
         let cut = table_rows(rt.alloc(), &[&text[..at], &text[at..]])?;
         assert!(rt; are_same(cut.as_slice(), whole.as_slice()));
+    }
+    Ok(())
+}
+
+// Regions in lines of 17 bytes that end in CR and LF, after one that is longer by so many bytes.
+fn long_text(alloc: Global, more: usize) -> Result<Vec<u8>, Fail> {
+    let mut text = Vec::new(alloc);
+    text.extend_from_slice(b"1|A|")?;
+    for _ in 0..more {
+        text.push(b'x')?;
+    }
+    text.extend_from_slice(b"|\r\n")?;
+    for key in 10_000..13_860 {
+        let line = format!(in alloc; "{key}|R{key}|c|\r\n")?;
+        text.extend_from_slice(line.as_bytes())?;
+    }
+    Ok(text)
+}
+
+// Each byte of a line, bars, CR and LF among them, stands at the end of a piece of 64 KiB and at
+// the beginning of the next.
+#[test]
+fn reads_lines_across_pieces(rt: HostRuntime) -> Result<(), Fail> {
+    let alloc = rt.alloc();
+    for more in 0..17 {
+        let text = long_text(alloc, more)?;
+        let whole = table_rows(alloc, &[text.as_slice()])?;
+        assert_eq!(rt; whole.len(), 3861);
+        let cut = text.len().min(65_536);
+        let (first, rest) = text.as_slice().split_at(cut);
+        let rows = table_rows(alloc, &[first, rest])?;
+        assert!(rt; are_same(rows.as_slice(), whole.as_slice()));
     }
     Ok(())
 }

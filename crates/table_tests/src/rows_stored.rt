@@ -1,10 +1,13 @@
-//! Each call that takes memory once, and the forms that columns change to.
+//! The forms that columns change to, stored rows, and batches.
 ghost use Rattle.std.specs.Prelude.{IsTrue};
 ghost use Rattle.columns.specs.Lists.{AreBelow};
 
-use super::*;
 use ascii_text::Text;
 use civil_date::CivilDate;
+use columns::{
+    Bag, Batch, BatchBuilder, Column, ColumnBuilder, ColumnForm, Field, Rows, RowsBuilder,
+    stored_rows,
+};
 use fixed_decimal::Scale;
 use sql_value::{Fault, Standing, Truth, Value};
 use std::alloc::Global;
@@ -39,7 +42,10 @@ fn takes_any_value(rt: HostRuntime) -> Result<(), Fail> {
     let price = Value::Number(money, 125);
     let mut builder = ColumnBuilder::new(alloc, ColumnForm::Numbers(money))?;
     builder.push_field(alloc, &Field::Number(money, 125))?;
-    assert!(rt; builder.stored(alloc)?.as_numbers().is_some());
+    let numbers = builder.finish();
+    assert!(rt; numbers.as_numbers().is_some());
+    let mut builder = ColumnBuilder::new(alloc, ColumnForm::Numbers(money))?;
+    builder.append(alloc, &numbers)?;
     builder.push(alloc, &Value::Null)?;
     let turned = picked(alloc, &builder.finish(), &[1, 0])?;
     assert!(rt; is_at(alloc, &turned, 0, &Value::Null)?);
@@ -50,25 +56,32 @@ fn takes_any_value(rt: HostRuntime) -> Result<(), Fail> {
     Ok(())
 }
 
-fn many_texts(alloc: Global, texts: u8) -> Result<ColumnBuilder, Fail> {
-    let mut builder = ColumnBuilder::new(alloc, ColumnForm::Texts)?;
+// Texts of two letters, 25 times so many.
+fn many_texts(alloc: Global, seconds: u8) -> Result<Batch, Fail> {
+    let mut builder = BatchBuilder::new(alloc, &[ColumnForm::Texts])?;
     for first in b'A'..b'Z' {
-        for second in 0..texts {
+        for second in 0..seconds {
             let text = Text::new(alloc, &[first, b'a'.wrapping_add(second)])?;
-            builder.push(alloc, &Value::Text(text))?;
+            let row = [Value::Text(text)];
+            if builder.width() == row.len() {
+                builder.push_row(alloc, &row, Standing::AtTrue)?;
+            }
         }
     }
-    Ok(builder)
+    let batch = builder.finish(alloc)?;
+    Ok(batch)
 }
 
+// A dictionary has at most 256 texts.
 #[test]
 fn spells_many_texts(rt: HostRuntime) -> Result<(), Fail> {
     let alloc = rt.alloc();
-    assert!(rt; many_texts(alloc, 10)?.stored(alloc)?.as_codes().is_some());
-    let column = many_texts(alloc, 11)?.stored(alloc)?;
-    assert!(rt; column.as_codes().is_none());
+    let coded = many_texts(alloc, 10)?;
+    assert!(rt; coded.width() == 1 && coded.column(0).as_codes().is_some());
+    let spelled = many_texts(alloc, 11)?;
+    assert!(rt; spelled.width() == 1 && spelled.column(0).as_codes().is_none());
     let text = Text::new(alloc, b"Yk")?;
-    assert!(rt; is_at(alloc, &column, 274, &Value::Text(text))?);
+    assert!(rt; spelled.width() == 1 && is_at(alloc, spelled.column(0), 274, &Value::Text(text))?);
     Ok(())
 }
 

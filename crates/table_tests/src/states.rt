@@ -1,9 +1,9 @@
 //! A state of eight lists, one of which has rows.
-use super::*;
 use columns::{Rows, stored_rows};
 use fixed_decimal::Scale;
 use sql_value::{Row, Value};
 use std::test::Fail;
+use table_state::State;
 use tpch_schema::TableName;
 
 #[test]
