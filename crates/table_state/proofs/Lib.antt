@@ -1,4 +1,3 @@
-pub mod Compaction
 pub mod DeleteKeys
 pub mod FoundKeys
 pub mod KeyRanges

@@ -5,7 +5,6 @@
 
 mod applied;
 mod cause;
-mod compacted;
 mod found;
 mod key_range;
 mod keys;

@@ -3,14 +3,13 @@ ghost use Rattle.std.specs.Prelude.{◌≡◌, false, ◌<◌, ◌≤◌, ◌++�
 ghost use Rattle.std.specs.Prelude.{IfNone, IfOk, IfSome, OnOk, length, slice_index_or};
 ghost use Rattle.std.specs.List.Sorted.{IsNonDecreasing};
 ghost use Rattle.columns.specs.Lists.{AreBelow, gathered};
-ghost use Rattle.columns.specs.Tables.{standing_rows};
 ghost use Rattle.table_state.specs.Keys.{has_key, line_key, line_keys, order_key, order_keys};
 ghost use Rattle.table_state.specs.Parts.{HasNone, IsLeft, IsWithout, has_place, left_rows};
 ghost use Rattle.table_state.specs.Refresh.{without_keys};
 
 use crate::key_range::KeyRange;
 use crate::keys::{LineKey, has_key, number_at};
-use columns::{Batch, Segment};
+use columns::Segment;
 use indexmap::IndexSet;
 use sql_value::Row;
 use std::alloc::{AllocError, Global};
@@ -228,25 +227,6 @@ fn left_places(alloc: Global, segment: &Segment, deleted: &[u32]) -> Result<Vec<
     Ok(places)
 }
 
-/// All rows of a segment, as a batch of which nothing is copied.
-fn whole_batch(alloc: Global, segment: &Segment) -> Result<Batch, AllocError>
-    ensures { IfOk result (λ batch. batch.rows ≡ standing_rows segment.now) }
-{
-    let batch = segment.batch().share(alloc)?;
-    Ok(batch)
-}
-
-/// The rows of a segment at these places, as a batch.
-#[tactic(auto, using(crate::proofs::Compaction::gathered_stand))]
-fn batch_at(alloc: Global, segment: &Segment, places: &[u32]) -> Result<Batch, AllocError>
-    requires { AreBelow (length segment.now) places.now }
-    ensures { IfOk result (λ batch. batch.rows
-        ≡ standing_rows (gathered [] segment.now places.now)) }
-{
-    let batch = segment.batch().gather(alloc, places)?;
-    Ok(batch)
-}
-
 #[tactic(auto, using(crate::proofs::LeftRows::parts))]
 impl Part {
     /// All rows of a segment.
@@ -313,17 +293,6 @@ impl Part {
         }
         let places = left_places(alloc, &self.segment, self.deleted.as_slice())?;
         Ok((segment, Some(places)))
-    }
-
-    /// The rows as a batch, all at True. Where no row is deleted, nothing is copied.
-    pub(crate) fn batch(&self, alloc: Global) -> Result<Batch, AllocError>
-        ensures { IfOk result (λ batch. batch.rows ≡ standing_rows self.now) }
-    {
-        let (segment, places) = self.stored(alloc)?;
-        match places {
-            None => whole_batch(alloc, &segment),
-            Some(places) => batch_at(alloc, &segment, &places),
-        }
     }
 
     /// The rows of none of the orders of these keys. Where no row has one, it is another share of
