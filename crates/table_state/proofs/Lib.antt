@@ -5,4 +5,5 @@ pub mod Order
 pub mod PartLists
 pub mod LeftRows
 pub mod Sales
+pub mod Searches
 pub mod VersionSteps

@@ -12,6 +12,7 @@ pub mod laws;
 mod part;
 mod parts;
 mod refresh;
+mod search;
 mod state;
 
 pub use applied::{RefreshError, apply};
