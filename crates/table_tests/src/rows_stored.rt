@@ -35,24 +35,40 @@ fn picked(alloc: Global, column: &Column, places: &[u32]) -> Result<Column, Fail
     Ok(column)
 }
 
+const CENTS: i64 = 125;
+
+// A column of one number.
+fn one_number(alloc: Global) -> Result<Column, Fail> {
+    let money = Scale::new(2);
+    let mut builder = ColumnBuilder::new(alloc, ColumnForm::Numbers(money))?;
+    builder.push_field(alloc, &Field::Number(money, CENTS))?;
+    Ok(builder.finish())
+}
+
+// The same column after a null.
+fn after_null(alloc: Global) -> Result<Column, Fail> {
+    let mut builder = ColumnBuilder::new(alloc, ColumnForm::Dates)?;
+    builder.push(alloc, &Value::Null)?;
+    builder.append(alloc, &one_number(alloc)?)?;
+    Ok(builder.finish())
+}
+
 #[test]
 fn takes_any_value(rt: HostRuntime) -> Result<(), Fail> {
     let alloc = rt.alloc();
-    let money = Scale::new(2);
-    let price = Value::Number(money, 125);
-    let mut builder = ColumnBuilder::new(alloc, ColumnForm::Numbers(money))?;
-    builder.push_field(alloc, &Field::Number(money, 125))?;
-    let numbers = builder.finish();
-    assert!(rt; numbers.as_numbers().is_some());
-    let mut builder = ColumnBuilder::new(alloc, ColumnForm::Numbers(money))?;
-    builder.append(alloc, &numbers)?;
-    builder.push(alloc, &Value::Null)?;
-    let turned = picked(alloc, &builder.finish(), &[1, 0])?;
-    assert!(rt; is_at(alloc, &turned, 0, &Value::Null)?);
-    let mut all = ColumnBuilder::new(alloc, ColumnForm::Dates)?;
-    all.append(alloc, &turned)?;
-    assert!(rt; is_at(alloc, &all.finish().share(alloc)?, 1, &price)?);
-    assert!(rt; is_at(alloc, &Column::repeated(alloc, &price, 3)?, 2, &price)?);
+    assert!(rt; one_number(alloc)?.as_numbers().is_some());
+    let turned = picked(alloc, &after_null(alloc)?, &[1, 0])?;
+    assert!(rt; is_at(alloc, &turned, 1, &Value::Null)?);
+    let price = Value::Number(Scale::new(2), 125);
+    assert!(rt; is_at(alloc, &turned.share(alloc)?, 0, &price)?);
+    Ok(())
+}
+
+#[test]
+fn repeats_a_value(rt: HostRuntime) -> Result<(), Fail> {
+    let price = Value::Number(Scale::new(2), 125);
+    let prices = Column::repeated(rt.alloc(), &price, 3)?;
+    assert!(rt; is_at(rt.alloc(), &prices, 2, &price)?);
     Ok(())
 }
 
