@@ -1,17 +1,17 @@
 -- Keys outside the range of a part's keys.
-use Rattle.std.proofs.Common.{◌≡◌, ℕ, suc, ◌+◌, ◌<◌, Bool, true, false, cond, not, ◌&&◌, ◌||◌, List, [], ◌∷◌, ◌++◌, length, get_or, take, ℤ, refl, sym, ap, ◌∙◌, subst, arith}
-use Rattle.std.specs.List.{list_any}
+use Rattle.std.proofs.Common.{◌≡◌, ℕ, suc, ◌+◌, ◌<◌, Bool, true, false, cond, not, ◌&&◌, ◌||◌, List, [], ◌∷◌, ◌++◌, length, get_or, take, ℤ, refl, sym, ap, ◌∙◌, subst, arith, pos}
+use Rattle.std.specs.List.{filter, list_any}
 use Rattle.std.specs.Int.{int_max, int_min}
 use Rattle.std.specs.Ordering.{int_eq}
 use Rattle.std.proofs.lemmas.Bool.Decides.{Decides-int_eq}
 use Rattle.std.proofs.lemmas.Int.{ints}
-use Rattle.std.proofs.lemmas.List.{take_more}
-use Rattle.std.proofs.lemmas.List.Elements.{All-push, All-weaker}
+use Rattle.std.proofs.lemmas.List.{append-nil, take_more}
+use Rattle.std.proofs.lemmas.List.Elements.{All-push, All-weaker, filter-append}
 use Rattle.std.proofs.lemmas.List.Folds.{list_any-append, list_any_none}
 use Rattle.sql_value.specs.declared.value.Value.{Value}
 use Rattle.table_state.specs.Found.{TellsKeys, TellsLines}
 use Rattle.table_state.specs.Keys.{has_key, has_line, is_same_line, line_keys, number_at, order_key, order_keys}
-use Rattle.table_state.specs.Parts.{AreBetween, HasNone, IsStoredPart, has_place, is_between, left_from, left_rows}
+use Rattle.table_state.specs.Parts.{AreBetween, AreNear, HasNone, IsStoredPart, has_place, is_between, left_from, left_rows}
 use Rattle.table_state.specs.Refresh.{without_keys}
 
 or_parts : (a b : Bool) → (a || b) ≡ false → (a ≡ false) × (b ≡ false)
@@ -53,9 +53,9 @@ from_none keys deleted p (row ∷ rows) none =
     let both = or_parts (has_key keys (order_key row)) (list_any (λ r. has_key keys (order_key r)) rows) none in
     kept_none keys (has_place deleted p) row (left_from deleted (suc p) rows) both.0 (from_none keys deleted (suc p) rows both.1)
 
-pub part_has_none : (keys : List ℤ) (deleted : List ℕ) (least greatest : ℤ) (rows : List (List Value)) → IsStoredPart deleted least greatest rows
+pub part_has_none : (keys : List ℤ) (deleted : List ℕ) (least greatest : ℤ) (up : Bool) (rows : List (List Value)) → IsStoredPart deleted least greatest up rows
     → list_any (is_between least greatest) keys ≡ false → HasNone keys (left_rows deleted rows)
-part_has_none keys deleted least greatest rows part out =
+part_has_none keys deleted least greatest up rows part out =
     from_none keys deleted 0 rows (none_between keys least greatest rows part.between out)
 
 -- no row goes
@@ -112,3 +112,37 @@ range_more least greatest key rows i less is between =
     (All-weaker (λ row. is_between least greatest (order_key row) ≡ true) (λ row. is_between (int_min least key) (int_max greatest key) (order_key row) ≡ true)
     (λ row within. wider least greatest key (order_key row) within) (take i rows) between)
     (subst (λ k. is_between (int_min least key) (int_max greatest key) k ≡ true) is (itself least greatest key)))
+
+-- of a row between them, the keys between them tell as well as all
+near_step : (least greatest key k : ℤ) (keys : List ℤ) (b : Bool) → is_between least greatest k ≡ b → is_between least greatest key ≡ true
+    → has_key (filter (is_between least greatest) keys) key ≡ has_key keys key
+    → has_key (cond b (k ∷ filter (is_between least greatest) keys) (filter (is_between least greatest) keys)) key ≡ (int_eq key k || has_key keys key)
+near_step least greatest key k keys true e within same = ap (λ b. int_eq key k || b) same
+near_step least greatest key k keys false e within same =
+    same ∙ sym (ap (λ b. b || has_key keys key) (missed least greatest key k (int_eq key k) refl e within))
+
+near_same : (least greatest key : ℤ) (keys : List ℤ) → is_between least greatest key ≡ true → has_key (filter (is_between least greatest) keys) key ≡ has_key keys key
+near_same least greatest key [] within = refl
+near_same least greatest key (k ∷ keys) within =
+    near_step least greatest key k keys (is_between least greatest k) refl within (near_same least greatest key keys within)
+
+pub are_near : (keys : List ℤ) (least greatest : ℤ) (rows : List (List Value)) → AreBetween least greatest rows
+    → AreNear keys (filter (is_between least greatest) keys) rows
+are_near keys least greatest rows between = λ k d less. near_same least greatest (order_key (get_or rows k d)) keys (between k d less)
+
+-- one key more that may be near
+near_put : (least greatest key : ℤ) (b : Bool) → is_between least greatest key ≡ b → filter (is_between least greatest) (key ∷ []) ≡ cond b (key ∷ []) []
+near_put least greatest key b e = ap (λ c. cond c (key ∷ []) []) e
+
+pub near_more : (least greatest : ℤ) (keys near new : List ℤ) (k : ℕ) (b : Bool) → k < length keys → is_between least greatest (get_or keys k (pos 0)) ≡ b
+    → new ≡ cond b (near ++ get_or keys k (pos 0) ∷ []) near → near ≡ filter (is_between least greatest) (take k keys)
+    → new ≡ filter (is_between least greatest) (take (k + 1) keys)
+near_more least greatest keys near new k true less e is so_far =
+    is ∙ ap (λ l. l ++ get_or keys k (pos 0) ∷ []) so_far
+    ∙ sym (ap (filter (is_between least greatest)) (take_more keys k (pos 0) less) ∙ filter-append (is_between least greatest) (take k keys) (get_or keys k (pos 0) ∷ [])
+    ∙ ap (λ l. filter (is_between least greatest) (take k keys) ++ l) (near_put least greatest (get_or keys k (pos 0)) true e))
+near_more least greatest keys near new k false less e is so_far =
+    is ∙ so_far
+    ∙ sym (ap (filter (is_between least greatest)) (take_more keys k (pos 0) less) ∙ filter-append (is_between least greatest) (take k keys) (get_or keys k (pos 0) ∷ [])
+    ∙ ap (λ l. filter (is_between least greatest) (take k keys) ++ l) (near_put least greatest (get_or keys k (pos 0)) false e)
+    ∙ append-nil (filter (is_between least greatest) (take k keys)))

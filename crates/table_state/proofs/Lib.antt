@@ -1,4 +1,3 @@
-pub mod Compaction
 pub mod DeleteKeys
 pub mod FoundKeys
 pub mod KeyRanges
@@ -6,4 +5,5 @@ pub mod Order
 pub mod PartLists
 pub mod LeftRows
 pub mod Sales
+pub mod Searches
 pub mod VersionSteps

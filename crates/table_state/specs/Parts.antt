@@ -1,6 +1,6 @@
 -- Parts of a table: stored rows without those at deleted places.
-use Rattle.std.specs.Prelude.{◌≡◌, ℕ, ℤ, suc, ◌+◌, Bool, true, false, ◌&&◌, List, [], ◌∷◌, length}
-use Rattle.std.specs.Prelude.{nat_eq, int_le, if◌then◌else◌}
+use Rattle.std.specs.Prelude.{◌≡◌, ℕ, ℤ, suc, ◌+◌, ◌≤◌, ◌<◌, ◌≤ℤ◌, Bool, true, false, ◌&&◌, List, []}
+use Rattle.std.specs.Prelude.{◌∷◌, length, nat_eq, int_le, slice_index_or, if◌then◌else◌}
 use Rattle.std.specs.List.{All, list_any}
 use Rattle.std.specs.List.Sorted.{IsNonDecreasing}
 use Rattle.columns.specs.Lists.{AreBelow, gathered}
@@ -52,9 +52,19 @@ AreBetween least greatest rows = All (λ row. is_between least greatest (order_k
 abbrev pub HasNone : List ℤ → List (List Value) → Type 0
 HasNone keys rows = list_any (λ row. has_key keys (order_key row)) rows ≡ false
 
--- what a part keeps of a segment of these rows: the deleted places, and between which keys its
--- orders lie
-pub record IsStoredPart (deleted : List ℕ) (least greatest : ℤ) (rows : List (List Value)) : Type 0
-  where
-    pub are : AreDeleted deleted rows
-    pub between : AreBetween least greatest rows
+-- some keys tell as well as all whether a row is of an order of these keys
+abbrev pub AreNear : List ℤ → List ℤ → List (List Value) → Type 0
+AreNear keys near rows = All (λ row. has_key near (order_key row) ≡ has_key keys (order_key row)) rows
+
+-- the keys of the orders of the first so many rows ascend
+abbrev pub Ascend : ℕ → List (List Value) → Type 0
+Ascend count rows = (i j : ℕ) → i ≤ j → j < count
+    → order_key (slice_index_or rows i []) ≤ℤ order_key (slice_index_or rows j [])
+
+-- what a part keeps of a segment of these rows: the deleted places, between which keys its orders
+-- lie, and whether it is known that they ascend
+pub record IsStoredPart (deleted : List ℕ) (least greatest : ℤ) (up : Bool)
+    (rows : List (List Value)) : Type 0 where
+  pub are : AreDeleted deleted rows
+  pub between : AreBetween least greatest rows
+  pub ascend : up ≡ true → Ascend (length rows) rows

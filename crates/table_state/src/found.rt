@@ -64,14 +64,13 @@ fn find_part_orders(
     if !part.may_have(wanted) {
         return Ok(());
     }
-    keys.clear();
-    part.put_order_keys(keys)?;
+    part.tell_orders(wanted, keys)?;
     find_orders(keys.as_slice(), wanted, found)?;
     Ok(())
 }
 
-/// Those of the wanted keys that an order has. Each order in a part that may have one is looked up
-/// once.
+/// Those of the wanted keys that an order has. A part that may have one is searched where its keys
+/// ascend; else each of its orders is looked up once.
 pub(crate) fn orders_found(
     alloc: Global,
     orders: &Parts,
@@ -134,14 +133,13 @@ fn find_part_lines(
     if !part.may_have(wanted) {
         return Ok(());
     }
-    lines.clear();
-    part.put_line_keys(lines)?;
+    part.tell_lines(wanted, lines)?;
     find_lines(lines.as_slice(), wanted, found)?;
     Ok(())
 }
 
-/// The keys of the lineitems of the wanted orders. Each lineitem in a part that may have one is
-/// looked up once.
+/// The keys of the lineitems of the wanted orders. A part that may have one is searched where its
+/// keys ascend; else each of its lineitems is looked up once.
 pub(crate) fn lines_found(
     alloc: Global,
     lineitems: &Parts,

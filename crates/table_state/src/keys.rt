@@ -35,6 +35,33 @@ pub(crate) fn has_key(keys: &IndexSet<i64>, key: i64) -> bool
     keys.contains(&key)
 }
 
+/// The most keys that are compared one by one.
+const FEW: usize = 8;
+
+/// Whether the key is one of these, which are compared one by one.
+fn is_one_of(keys: &[i64], key: i64) -> bool
+    ensures { result ≡ has_key keys.now key }
+{
+    for other in keys {
+        if key == *other {
+            return true;
+        }
+    }
+    false
+}
+
+/// Whether the set has the key, as those of its keys tell that may be the same.
+pub(crate) fn has_near(keys: &IndexSet<i64>, near: &[i64], key: i64) -> bool
+    requires { has_key near.now key ≡ has_key keys.now.keys key }
+    ensures { result ≡ has_key keys.now.keys key }
+{
+    if near.len() <= FEW {
+        is_one_of(near, key)
+    } else {
+        has_key(keys, key)
+    }
+}
+
 /// The whole number in a column of a row; 0 where there is none of 64 bits.
 pub(crate) fn number_at(segment: &Segment, i: usize, column: usize) -> i64
     requires { i < length segment.now }

@@ -5,7 +5,6 @@
 
 mod applied;
 mod cause;
-mod compacted;
 mod found;
 mod key_range;
 mod keys;
@@ -13,6 +12,7 @@ pub mod laws;
 mod part;
 mod parts;
 mod refresh;
+mod search;
 mod state;
 
 pub use applied::{RefreshError, apply};

@@ -3,14 +3,16 @@ ghost use Rattle.std.specs.Prelude.{◌≡◌, false, ◌<◌, ◌≤◌, ◌++�
 ghost use Rattle.std.specs.Prelude.{IfNone, IfOk, IfSome, OnOk, length, slice_index_or};
 ghost use Rattle.std.specs.List.Sorted.{IsNonDecreasing};
 ghost use Rattle.columns.specs.Lists.{AreBelow, gathered};
-ghost use Rattle.columns.specs.Tables.{standing_rows};
+ghost use Rattle.table_state.specs.Found.{TellsKeys, TellsLines};
 ghost use Rattle.table_state.specs.Keys.{has_key, line_key, line_keys, order_key, order_keys};
-ghost use Rattle.table_state.specs.Parts.{HasNone, IsLeft, IsWithout, has_place, left_rows};
+ghost use Rattle.table_state.specs.Parts.{AreNear, HasNone, IsLeft, IsWithout, has_place};
+ghost use Rattle.table_state.specs.Parts.{left_rows};
 ghost use Rattle.table_state.specs.Refresh.{without_keys};
 
 use crate::key_range::KeyRange;
-use crate::keys::{LineKey, has_key, number_at};
-use columns::{Batch, Segment};
+use crate::keys::{LineKey, has_near, number_at};
+use crate::search::{put_lines_of, put_orders_of};
+use columns::Segment;
 use indexmap::IndexSet;
 use sql_value::Row;
 use std::alloc::{AllocError, Global};
@@ -22,7 +24,7 @@ use std::sync::Arc;
 #[derive(Drop)]
 pub struct Part {
     segment: Segment,
-    /// Between which keys the orders of the segment's rows lie.
+    /// Between which keys the orders of the segment's rows lie, and whether they ascend.
     range: KeyRange,
     /// The places of the deleted rows, ascending.
     deleted: Arc<Vec<u32>>,
@@ -39,11 +41,12 @@ impl Model for Part {
     ghost view = { λ p. left_rows (arc_value p.deleted).items p.segment };
 
     ghost invariant = { λ p.
-        IsStoredPart (arc_value p.deleted).items p.range.least p.range.greatest p.segment };
+        IsStoredPart (arc_value p.deleted).items p.range.least p.range.greatest p.range.ascends
+        p.segment };
 }
 
 /// Whether a place is one of these, which ascend.
-fn has_place(places: &[u32], place: u32) -> bool
+pub(crate) fn has_place(places: &[u32], place: u32) -> bool
     requires { IsNonDecreasing places.now }
     ensures { result ≡ has_place places.now place }
 {
@@ -63,10 +66,12 @@ fn put_place(
     segment: &Segment,
     deleted: &[u32],
     keys: &IndexSet<i64>,
+    near: &[i64],
     i: usize,
     places: &mut Vec<u32>,
 ) -> Result<(), AllocError>
     requires up { IsNonDecreasing deleted.now }
+    requires near { AreNear keys.now.keys near.now segment.now }
     requires within { i < length segment.now }
     requires short { i < 4096 }
     ensures { OnOk result (places.new.items
@@ -74,7 +79,7 @@ fn put_place(
         (order_key (slice_index_or segment.now i [])) then places.old.items
         ++ i ∷ [] else places.old.items)) }
 {
-    if has_place(deleted, i as u32) || has_key(keys, number_at(segment, i, 0)) {
+    if has_place(deleted, i as u32) || has_near(keys, near, number_at(segment, i, 0)) {
         places.push(i as u32)?;
     }
     Ok(())
@@ -86,13 +91,15 @@ fn places_without(
     segment: &Segment,
     deleted: &[u32],
     keys: &IndexSet<i64>,
+    near: &[i64],
 ) -> Result<Vec<u32>, AllocError>
-    requires { IsNonDecreasing deleted.now }
+    requires up { IsNonDecreasing deleted.now }
+    requires near { AreNear keys.now.keys near.now segment.now }
     ensures { IfOk result (λ places. IsWithout keys.now.keys deleted.now segment.now places.items) }
 {
     let mut places = Vec::new(alloc);
     for i in 0..segment.len() {
-        put_place(segment, deleted, keys, i, &mut places)?;
+        put_place(segment, deleted, keys, near, i, &mut places)?;
     }
     Ok(places)
 }
@@ -130,7 +137,7 @@ fn put_order_keys(segment: &Segment, deleted: &[u32], keys: &mut Vec<i64>) -> Re
 }
 
 /// Puts the key of the lineitem in a row after others, unless it is deleted.
-fn put_line_key(
+pub(crate) fn put_line_key(
     segment: &Segment,
     deleted: &[u32],
     i: usize,
@@ -228,25 +235,6 @@ fn left_places(alloc: Global, segment: &Segment, deleted: &[u32]) -> Result<Vec<
     Ok(places)
 }
 
-/// All rows of a segment, as a batch of which nothing is copied.
-fn whole_batch(alloc: Global, segment: &Segment) -> Result<Batch, AllocError>
-    ensures { IfOk result (λ batch. batch.rows ≡ standing_rows segment.now) }
-{
-    let batch = segment.batch().share(alloc)?;
-    Ok(batch)
-}
-
-/// The rows of a segment at these places, as a batch.
-#[tactic(auto, using(crate::proofs::Compaction::gathered_stand))]
-fn batch_at(alloc: Global, segment: &Segment, places: &[u32]) -> Result<Batch, AllocError>
-    requires { AreBelow (length segment.now) places.now }
-    ensures { IfOk result (λ batch. batch.rows
-        ≡ standing_rows (gathered [] segment.now places.now)) }
-{
-    let batch = segment.batch().gather(alloc, places)?;
-    Ok(batch)
-}
-
 #[tactic(auto, using(crate::proofs::LeftRows::parts))]
 impl Part {
     /// All rows of a segment.
@@ -291,6 +279,42 @@ impl Part {
         put_line_keys(&self.segment, self.deleted.as_slice(), keys)
     }
 
+    /// Keys, in place of others, that tell which of the wanted keys an order has. Where the keys of
+    /// the orders ascend they are searched.
+    pub(crate) fn tell_orders(
+        &self,
+        wanted: &IndexSet<i64>,
+        keys: &mut Vec<i64>,
+    ) -> Result<(), AllocError>
+        ensures { OnOk result (TellsKeys wanted.now.keys (order_keys self.now) keys.new.items) }
+    {
+        keys.clear();
+        let (segment, deleted) = (&self.segment, self.deleted.as_slice());
+        if self.range.ascends() {
+            put_orders_of(segment, deleted, self.range, wanted.as_slice(), keys)
+        } else {
+            put_order_keys(segment, deleted, keys)
+        }
+    }
+
+    /// Keys, in place of others, that tell which lineitems of the wanted orders there are. Where the
+    /// keys of the orders ascend they are searched.
+    pub(crate) fn tell_lines(
+        &self,
+        wanted: &IndexSet<i64>,
+        lines: &mut Vec<LineKey>,
+    ) -> Result<(), AllocError>
+        ensures { OnOk result (TellsLines wanted.now.keys (line_keys self.now) lines.new.items) }
+    {
+        lines.clear();
+        let (segment, deleted) = (&self.segment, self.deleted.as_slice());
+        if self.range.ascends() {
+            put_lines_of(segment, deleted, self.range, wanted.as_slice(), lines)
+        } else {
+            put_line_keys(segment, deleted, lines)
+        }
+    }
+
     /// Puts the rows after others, each as a row of its own.
     pub(crate) fn put_rows(&self, alloc: Global, rows: &mut Vec<Row>) -> Result<(), AllocError>
         ensures { OnOk result (rows.new.items ≡ rows.old.items ++ self.now) }
@@ -315,17 +339,6 @@ impl Part {
         Ok((segment, Some(places)))
     }
 
-    /// The rows as a batch, all at True. Where no row is deleted, nothing is copied.
-    pub(crate) fn batch(&self, alloc: Global) -> Result<Batch, AllocError>
-        ensures { IfOk result (λ batch. batch.rows ≡ standing_rows self.now) }
-    {
-        let (segment, places) = self.stored(alloc)?;
-        match places {
-            None => whole_batch(alloc, &segment),
-            Some(places) => batch_at(alloc, &segment, &places),
-        }
-    }
-
     /// The rows of none of the orders of these keys. Where no row has one, it is another share of
     /// the same places.
     pub(crate) fn without(&self, alloc: Global, keys: &IndexSet<i64>) -> Result<Part, AllocError>
@@ -334,7 +347,9 @@ impl Part {
         if !self.may_have(keys) {
             return self.clone();
         }
-        let places = places_without(alloc, &self.segment, self.deleted.as_slice(), keys)?;
+        let near = self.range.near(alloc, keys.as_slice())?;
+        let deleted = self.deleted.as_slice();
+        let places = places_without(alloc, &self.segment, deleted, keys, &near)?;
         if places.len() == self.deleted.len() {
             return self.clone();
         }

@@ -6,7 +6,6 @@ ghost use Rattle.tpch_schema.specs.State.{table_rows};
 ghost use Rattle.table_state.specs.Lists.{IsOfKinds, place_of, state_of};
 ghost use Rattle.table_state.specs.Refresh.{with_sales};
 
-use crate::compacted::compacted;
 use crate::part::Part;
 use crate::parts::Parts;
 use columns::Rows;
@@ -115,18 +114,6 @@ impl State {
     {
         self.tables[6] = orders;
         self.tables[7] = lineitems;
-    }
-
-    /// The same rows in segments of which no row is deleted. Neighbours that fit in one segment are
-    /// joined.
-    pub fn compacted(&self, alloc: Global) -> Result<State, AllocError>
-        ensures { IfOk result (λ state. state ≡ self.now) }
-    {
-        let mut tables = Vec::with_capacity(alloc, 8)?;
-        for table in &self.tables {
-            tables.push(compacted(alloc, table)?)?;
-        }
-        Ok(State { tables })
     }
 
     /// A share of the same rows.

@@ -1,6 +1,18 @@
+use Rattle.std.proofs.Common.{List, ℤ, subst, sym}
+use Rattle.table_state.specs.Found.{TellsKeys}
+use Rattle.table_state.specs.Keys.{order_keys}
 use Rattle.table_state.proofs.KeyRanges.{keys_passed}
+use Rattle.table_state.proofs.Searches.{keys_passed_on}
 use Rattle.table_state.proofs.found.find_part_orders.Goals as goal
 
 pub returns-then-not-may_have : goal.returns-then-not-may_have
 returns-then-not-may_have c = λ before tells.
     keys_passed c.args.wanted.now.keys before c.args.found.now.keys c.args.part.now (c.may_have.ensures c.if-not-may_have.true) tells
+
+pub returns : goal.returns
+returns c = λ before tells.
+    let wanted = c.args.wanted.now.keys in
+    let all = order_keys c.args.part.now in
+    keys_passed_on wanted all c.as_slice.result.now before c.find_orders.new.found.keys
+    (subst (λ (ks : List ℤ). TellsKeys wanted all ks) (sym c.as_slice.ensures.value) c.in_ok-tell_orders.ensures)
+    (c.in_ok-find_orders.ensures before tells)

@@ -12,4 +12,4 @@ returns c = λ no.
     let range = c.self.inside.range in
     let out : list_any (is_between range.least range.greatest) keys ≡ false =
     ap (list_any (is_between range.least range.greatest)) (sym c.as_slice.ensures.keys) ∙ sym c.has_one_of.ensures ∙ no in
-    subst (HasNone keys) c.self.view_is (part_has_none keys deleted range.least range.greatest c.self.inside.segment c.self.invariant out)
+    subst (HasNone keys) c.self.view_is (part_has_none keys deleted range.least range.greatest range.ascends c.self.inside.segment c.self.invariant out)

@@ -1,11 +1,21 @@
 use Rattle.std.proofs.Common.{rules, ◌≡◌, ◌∙◌, List, ℕ, IfOk, length, ap, subst, sym}
 use Rattle.std.specs.Arc.{arc_value}
+use Rattle.std.specs.List.{filter}
 use Rattle.sql_value.specs.declared.value.Value.{Value}
-use Rattle.table_state.specs.Parts.{IsWithout, left_rows}
+use Rattle.table_state.specs.Parts.{AreNear, IsWithout, is_between, left_rows}
 use Rattle.table_state.specs.Refresh.{without_keys}
-use Rattle.table_state.proofs.KeyRanges.{none_goes}
+use Rattle.table_state.proofs.KeyRanges.{are_near, none_goes}
 use Rattle.table_state.proofs.LeftRows.{without_same}
 use Rattle.table_state.proofs.part.Part.without.Goals as goal
+
+pub places_without-requires-clause-near : goal.places_without-requires-clause-near
+places_without-requires-clause-near c =
+    let range = c.self.inside.range in
+    let rows = c.self.inside.segment in
+    let keys = c.args.keys.now.keys in
+    let is : c.deref-2.result.now ≡ filter (is_between range.least range.greatest) keys =
+    c.deref-2.ensures.value ∙ c.in_ok-near.ensures ∙ ap (filter (is_between range.least range.greatest)) c.as_slice.ensures.keys in
+    subst (λ near. AreNear keys near rows) (sym is) (are_near keys range.least range.greatest rows c.self.invariant.between)
 
 pub returns-then-len : goal.returns-then-len
 returns-then-len c =
@@ -14,7 +24,7 @@ returns-then-len c =
     let keys = c.args.keys.now.keys in
     let more = c.in_ok-places.places.items in
     let without : IsWithout keys deleted rows more =
-    subst (λ (d : List ℕ). IsWithout keys d rows more) (c.as_slice.ensures.value ∙ ap (λ v. v.items) c.deref.ensures) c.in_ok-places.ensures in
+    subst (λ (d : List ℕ). IsWithout keys d rows more) (c.as_slice-deleted.ensures.value ∙ ap (λ v. v.items) c.deref.ensures) c.in_ok-places.ensures in
     let same : length more ≡ length deleted = search rules in
     let e : left_rows deleted rows ≡ without_keys keys (left_rows deleted rows) = without_same keys deleted more rows c.self.invariant.are without same in
     subst (λ (all : List (List Value)). IfOk c.clone-then-len.result (λ part. part ≡ all)) (sym c.self.view_is ∙ e ∙ ap (without_keys keys) c.self.view_is) c.clone-then-len.ensures
