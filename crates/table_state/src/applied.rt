@@ -14,7 +14,7 @@ use crate::parts::Parts;
 use crate::refresh::{Form, Refresh};
 use crate::state::State;
 use columns::Rows;
-use indexmap::IndexSet;
+use key_tables::KeySet;
 use refusals::Cause;
 use std::alloc::{AllocError, Global};
 use tpch_schema::TableName;
@@ -44,9 +44,9 @@ fn cause_of_orders(
     alloc: Global,
     state: &State,
     keys: &[i64],
-    wanted: &IndexSet<i64>,
+    wanted: &KeySet<i64>,
 ) -> Result<Option<Cause>, AllocError>
-    requires { HasSameKeys wanted.now.keys keys.now }
+    requires { HasSameKeys wanted.now keys.now }
     ensures { IfOk result (λ cause. cause
         ≡ first_cause (order_cause (order_keys state.now.orders)) [] keys.now) }
 {
@@ -60,11 +60,11 @@ fn cause_of_orders(
 fn cause_of_lines(
     alloc: Global,
     state: &State,
-    wanted: &IndexSet<i64>,
+    wanted: &KeySet<i64>,
     lines: &[LineKey],
 ) -> Result<Option<Cause>, AllocError>
     ensures { IfOk result (λ cause. cause
-        ≡ first_cause (line_cause wanted.now.keys (line_keys state.now.lineitem)) [] lines.now) }
+        ≡ first_cause (line_cause wanted.now (line_keys state.now.lineitem)) [] lines.now) }
 {
     let present = lines_found(alloc, state.table(TableName::Lineitem), wanted)?;
     let cause = first_line_cause(alloc, wanted, &present, lines)?;
@@ -76,9 +76,9 @@ fn cause_of_delete(
     alloc: Global,
     state: &State,
     keys: &[i64],
-    wanted: &IndexSet<i64>,
+    wanted: &KeySet<i64>,
 ) -> Result<Option<Cause>, AllocError>
-    requires { HasSameKeys wanted.now.keys keys.now }
+    requires { HasSameKeys wanted.now keys.now }
     ensures { IfOk result (λ cause. cause ≡ cause_of state.now (DeleteKeys keys.now)) }
 {
     let present = orders_found(alloc, state.table(TableName::Orders), wanted)?;
@@ -131,8 +131,8 @@ fn insert(orders: &Parts, lineitems: &Parts, state: &mut State) -> Result<(), Al
 }
 
 /// Removes the orders of these keys, which have no cause against them, with their lineitems.
-fn delete(alloc: Global, wanted: &IndexSet<i64>, state: &mut State) -> Result<(), AllocError>
-    ensures ok { OnOk result (state.new ≡ changed state.old (DeleteKeys wanted.now.keys)) }
+fn delete(alloc: Global, wanted: &KeySet<i64>, state: &mut State) -> Result<(), AllocError>
+    ensures ok { OnOk result (state.new ≡ changed state.old (DeleteKeys wanted.now)) }
     ensures err { OnErr result (state.new ≡ state.old) }
 {
     let orders = state.table(TableName::Orders).without(alloc, wanted)?;

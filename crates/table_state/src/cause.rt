@@ -2,23 +2,23 @@
 ghost use Rattle.std.specs.Prelude.{◌≡◌, [], IfOk};
 ghost use Rattle.table_state.specs.Refresh.{delete_cause, first_cause, line_cause, order_cause};
 
-use crate::keys::{LineKey, put_key};
-use indexmap::IndexSet;
+use crate::keys::{LineKey, has_key, has_line, put_key, put_line};
+use key_tables::KeySet;
 use refusals::Cause;
 use std::alloc::{AllocError, Global};
 
 /// The first cause of inserted orders with these keys, where the state has those that are present.
 pub(crate) fn first_order_cause(
     alloc: Global,
-    present: &IndexSet<i64>,
+    present: &KeySet<i64>,
     keys: &[i64],
 ) -> Result<Option<Cause>, AllocError>
     ensures { IfOk result (λ cause. cause
-        ≡ first_cause (order_cause present.now.keys) [] keys.now) }
+        ≡ first_cause (order_cause present.now) [] keys.now) }
 {
-    let mut earlier = IndexSet::new(alloc);
+    let mut earlier = KeySet::new(alloc);
     for key in keys {
-        if present.contains(key) {
+        if has_key(present, *key) {
             return Ok(Some(Cause::OrderExists(*key)));
         }
         if !put_key(&mut earlier, *key)? {
@@ -46,22 +46,22 @@ fn line_twice(line: &LineKey) -> Cause
 /// state has the lineitems that are present.
 pub(crate) fn first_line_cause(
     alloc: Global,
-    orders: &IndexSet<i64>,
-    present: &IndexSet<LineKey>,
+    orders: &KeySet<i64>,
+    present: &KeySet<LineKey>,
     lines: &[LineKey],
 ) -> Result<Option<Cause>, AllocError>
     ensures { IfOk result (λ cause. cause
-        ≡ first_cause (line_cause orders.now.keys present.now.keys) [] lines.now) }
+        ≡ first_cause (line_cause orders.now present.now) [] lines.now) }
 {
-    let mut earlier = IndexSet::new(alloc);
+    let mut earlier = KeySet::new(alloc);
     for line in lines {
-        if !orders.contains(&line.0) {
+        if !has_key(orders, line.0) {
             return Ok(Some(Cause::StrayLine(line.0)));
         }
-        if present.contains(line) {
+        if has_line(present, line) {
             return Ok(Some(line_exists(line)));
         }
-        if !put_key(&mut earlier, *line)? {
+        if !put_line(&mut earlier, *line)? {
             return Ok(Some(line_twice(line)));
         }
     }
@@ -71,15 +71,15 @@ pub(crate) fn first_line_cause(
 /// The first cause of keys that are to be deleted, where the state has the orders that are present.
 pub(crate) fn first_delete_cause(
     alloc: Global,
-    present: &IndexSet<i64>,
+    present: &KeySet<i64>,
     keys: &[i64],
 ) -> Result<Option<Cause>, AllocError>
     ensures { IfOk result (λ cause. cause
-        ≡ first_cause (delete_cause present.now.keys) [] keys.now) }
+        ≡ first_cause (delete_cause present.now) [] keys.now) }
 {
-    let mut earlier = IndexSet::new(alloc);
+    let mut earlier = KeySet::new(alloc);
     for key in keys {
-        if !present.contains(key) {
+        if !has_key(present, *key) {
             return Ok(Some(Cause::UnknownOrder(*key)));
         }
         if !put_key(&mut earlier, *key)? {

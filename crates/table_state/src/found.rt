@@ -3,17 +3,17 @@ ghost use Rattle.std.specs.Prelude.{◌≡◌, ◌++◌, ◌∷◌, [], List, �
 ghost use Rattle.table_state.specs.Found.{HasSameKeys, TellsKeys, TellsLines};
 ghost use Rattle.table_state.specs.Keys.{line_keys, order_keys};
 
-use crate::keys::{LineKey, has_key, put_key};
+use crate::keys::{LineKey, has_key, put_key, put_line};
 use crate::part::Part;
 use crate::parts::Parts;
-use indexmap::IndexSet;
+use key_tables::KeySet;
 use std::alloc::{AllocError, Global};
 
 /// The set of these keys.
-pub(crate) fn key_set(alloc: Global, keys: &[i64]) -> Result<IndexSet<i64>, AllocError>
-    ensures { IfOk result (λ set. HasSameKeys set.keys keys.now) }
+pub(crate) fn key_set(alloc: Global, keys: &[i64]) -> Result<KeySet<i64>, AllocError>
+    ensures { IfOk result (λ set. HasSameKeys set keys.now) }
 {
-    let mut set = IndexSet::new(alloc);
+    let mut set = KeySet::new(alloc);
     for key in keys {
         put_key(&mut set, *key)?;
     }
@@ -21,15 +21,11 @@ pub(crate) fn key_set(alloc: Global, keys: &[i64]) -> Result<IndexSet<i64>, Allo
 }
 
 /// Puts an order's key among the found ones, if it is wanted.
-fn find_order(
-    key: &i64,
-    wanted: &IndexSet<i64>,
-    found: &mut IndexSet<i64>,
-) -> Result<(), AllocError>
-    ensures { OnOk result ((keys : List ℤ) → TellsKeys wanted.now.keys keys found.old.keys
-        → TellsKeys wanted.now.keys (keys ++ key.now ∷ []) found.new.keys) }
+fn find_order(key: &i64, wanted: &KeySet<i64>, found: &mut KeySet<i64>) -> Result<(), AllocError>
+    ensures { OnOk result ((keys : List ℤ) → TellsKeys wanted.now keys found.old
+        → TellsKeys wanted.now (keys ++ key.now ∷ []) found.new) }
 {
-    if wanted.contains(key) {
+    if has_key(wanted, *key) {
         put_key(found, *key)?;
     }
     Ok(())
@@ -38,11 +34,11 @@ fn find_order(
 /// Puts those of some orders' keys among the found ones that are wanted.
 fn find_orders(
     keys: &[i64],
-    wanted: &IndexSet<i64>,
-    found: &mut IndexSet<i64>,
+    wanted: &KeySet<i64>,
+    found: &mut KeySet<i64>,
 ) -> Result<(), AllocError>
-    ensures { OnOk result ((before : List ℤ) → TellsKeys wanted.now.keys before found.old.keys
-        → TellsKeys wanted.now.keys (before ++ keys.now) found.new.keys) }
+    ensures { OnOk result ((before : List ℤ) → TellsKeys wanted.now before found.old
+        → TellsKeys wanted.now (before ++ keys.now) found.new) }
 {
     for key in keys {
         find_order(key, wanted, found)?;
@@ -54,12 +50,12 @@ fn find_orders(
 /// have none of them is not read.
 fn find_part_orders(
     part: &Part,
-    wanted: &IndexSet<i64>,
+    wanted: &KeySet<i64>,
     keys: &mut Vec<i64>,
-    found: &mut IndexSet<i64>,
+    found: &mut KeySet<i64>,
 ) -> Result<(), AllocError>
-    ensures { OnOk result ((before : List ℤ) → TellsKeys wanted.now.keys before found.old.keys
-        → TellsKeys wanted.now.keys (before ++ order_keys part.now) found.new.keys) }
+    ensures { OnOk result ((before : List ℤ) → TellsKeys wanted.now before found.old
+        → TellsKeys wanted.now (before ++ order_keys part.now) found.new) }
 {
     if !part.may_have(wanted) {
         return Ok(());
@@ -74,11 +70,11 @@ fn find_part_orders(
 pub(crate) fn orders_found(
     alloc: Global,
     orders: &Parts,
-    wanted: &IndexSet<i64>,
-) -> Result<IndexSet<i64>, AllocError>
-    ensures { IfOk result (λ found. TellsKeys wanted.now.keys (order_keys orders.now) found.keys) }
+    wanted: &KeySet<i64>,
+) -> Result<KeySet<i64>, AllocError>
+    ensures { IfOk result (λ found. TellsKeys wanted.now (order_keys orders.now) found) }
 {
-    let mut found = IndexSet::new(alloc);
+    let mut found = KeySet::new(alloc);
     let mut keys = Vec::new(alloc);
     let parts = orders.as_slice();
     for part in parts {
@@ -90,14 +86,14 @@ pub(crate) fn orders_found(
 /// Puts a lineitem's key among the found ones, if its order is wanted.
 fn find_line(
     line: LineKey,
-    wanted: &IndexSet<i64>,
-    found: &mut IndexSet<LineKey>,
+    wanted: &KeySet<i64>,
+    found: &mut KeySet<LineKey>,
 ) -> Result<(), AllocError>
-    ensures { OnOk result ((lines : List (ℤ × ℤ)) → TellsLines wanted.now.keys lines found.old.keys
-        → TellsLines wanted.now.keys (lines ++ line ∷ []) found.new.keys) }
+    ensures { OnOk result ((lines : List (ℤ × ℤ)) → TellsLines wanted.now lines found.old
+        → TellsLines wanted.now (lines ++ line ∷ []) found.new) }
 {
     if has_key(wanted, line.0) {
-        put_key(found, line)?;
+        put_line(found, line)?;
     }
     Ok(())
 }
@@ -105,12 +101,12 @@ fn find_line(
 /// Puts those of some lineitems' keys among the found ones whose orders are wanted.
 fn find_lines(
     lines: &[LineKey],
-    wanted: &IndexSet<i64>,
-    found: &mut IndexSet<LineKey>,
+    wanted: &KeySet<i64>,
+    found: &mut KeySet<LineKey>,
 ) -> Result<(), AllocError>
     ensures { OnOk result ((before : List (ℤ × ℤ))
-        → TellsLines wanted.now.keys before found.old.keys
-        → TellsLines wanted.now.keys (before ++ lines.now) found.new.keys) }
+        → TellsLines wanted.now before found.old
+        → TellsLines wanted.now (before ++ lines.now) found.new) }
 {
     for line in lines {
         find_line(*line, wanted, found)?;
@@ -122,13 +118,13 @@ fn find_lines(
 /// part that can have none of them is not read.
 fn find_part_lines(
     part: &Part,
-    wanted: &IndexSet<i64>,
+    wanted: &KeySet<i64>,
     lines: &mut Vec<LineKey>,
-    found: &mut IndexSet<LineKey>,
+    found: &mut KeySet<LineKey>,
 ) -> Result<(), AllocError>
     ensures { OnOk result ((before : List (ℤ × ℤ))
-        → TellsLines wanted.now.keys before found.old.keys
-        → TellsLines wanted.now.keys (before ++ line_keys part.now) found.new.keys) }
+        → TellsLines wanted.now before found.old
+        → TellsLines wanted.now (before ++ line_keys part.now) found.new) }
 {
     if !part.may_have(wanted) {
         return Ok(());
@@ -143,12 +139,12 @@ fn find_part_lines(
 pub(crate) fn lines_found(
     alloc: Global,
     lineitems: &Parts,
-    wanted: &IndexSet<i64>,
-) -> Result<IndexSet<LineKey>, AllocError>
+    wanted: &KeySet<i64>,
+) -> Result<KeySet<LineKey>, AllocError>
     ensures { IfOk result (λ found.
-        TellsLines wanted.now.keys (line_keys lineitems.now) found.keys) }
+        TellsLines wanted.now (line_keys lineitems.now) found) }
 {
-    let mut found = IndexSet::new(alloc);
+    let mut found = KeySet::new(alloc);
     let mut lines = Vec::new(alloc);
     let parts = lineitems.as_slice();
     for part in parts {

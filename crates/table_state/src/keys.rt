@@ -1,38 +1,49 @@
 //! The keys of orders and lineitems, and sets of them.
 ghost use Rattle.std.specs.Prelude.{◌≡◌, ◌<◌, ◌++◌, ◌∷◌, [], not, if◌then◌else◌, IfOk, OnErr};
 ghost use Rattle.std.specs.Prelude.{length, slice_index_or};
-ghost use Rattle.std.specs.List.{list_any};
-ghost use Rattle.table_state.specs.Keys.{has_key, number_at};
+ghost use Rattle.table_state.specs.Keys.{has_key, has_line, number_at};
 
 use columns::Segment;
-use indexmap::IndexSet;
+use key_tables::KeySet;
 use std::alloc::AllocError;
-use std::hash::Hash;
 
 /// The key of a lineitem: its order's key and its line number.
 pub(crate) type LineKey = (i64, i64);
 
-/// Puts a key after the others, if none of them is the same; whether it was put there.
-pub(crate) fn put_key<K: Eq + Hash + Drop>(
-    keys: &mut IndexSet<K>,
-    key: K,
-) -> Result<bool, AllocError>
-    ensures added { IfOk result (λ added. added ≡ not (list_any (K.eq key) keys.old.keys)) }
+/// Puts an order's key after the others, if it isn't there yet; whether it was put there.
+pub(crate) fn put_key(keys: &mut KeySet<i64>, key: i64) -> Result<bool, AllocError>
+    ensures added { IfOk result (λ added. added ≡ not (has_key keys.old key)) }
     ensures keys { IfOk result
-        (λ added. keys.new.keys ≡ (if added then keys.old.keys ++ key ∷ [] else keys.old.keys)) }
-    ensures err { OnErr result (keys.new.keys ≡ keys.old.keys) }
+        (λ added. keys.new ≡ (if added then keys.old ++ key ∷ [] else keys.old)) }
+    ensures err { OnErr result (keys.new ≡ keys.old) }
 {
-    match keys.insert_full(key) {
-        Ok((_, added)) => Ok(added),
-        Err(_) => Err(AllocError),
-    }
+    let added = keys.insert(key)?;
+    Ok(added)
 }
 
-/// Whether the set has the key.
-pub(crate) fn has_key(keys: &IndexSet<i64>, key: i64) -> bool
-    ensures { result ≡ has_key keys.now.keys key }
+/// Puts a lineitem's key after the others, if it isn't there yet; whether it was put there.
+pub(crate) fn put_line(lines: &mut KeySet<LineKey>, line: LineKey) -> Result<bool, AllocError>
+    ensures added { IfOk result (λ added. added ≡ not (has_line lines.old line)) }
+    ensures lines { IfOk result
+        (λ added. lines.new ≡ (if added then lines.old ++ line ∷ [] else lines.old)) }
+    ensures err { OnErr result (lines.new ≡ lines.old) }
+{
+    let added = lines.insert(line)?;
+    Ok(added)
+}
+
+/// Whether the set has the order's key.
+pub(crate) fn has_key(keys: &KeySet<i64>, key: i64) -> bool
+    ensures { result ≡ has_key keys.now key }
 {
     keys.contains(&key)
+}
+
+/// Whether the set has the lineitem's key.
+pub(crate) fn has_line(lines: &KeySet<LineKey>, line: &LineKey) -> bool
+    ensures { result ≡ has_line lines.now line.now }
+{
+    lines.contains(line)
 }
 
 /// The most keys that are compared one by one.
@@ -51,9 +62,9 @@ fn is_one_of(keys: &[i64], key: i64) -> bool
 }
 
 /// Whether the set has the key, as those of its keys tell that may be the same.
-pub(crate) fn has_near(keys: &IndexSet<i64>, near: &[i64], key: i64) -> bool
-    requires { has_key near.now key ≡ has_key keys.now.keys key }
-    ensures { result ≡ has_key keys.now.keys key }
+pub(crate) fn has_near(keys: &KeySet<i64>, near: &[i64], key: i64) -> bool
+    requires { has_key near.now key ≡ has_key keys.now key }
+    ensures { result ≡ has_key keys.now key }
 {
     if near.len() <= FEW {
         is_one_of(near, key)

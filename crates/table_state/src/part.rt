@@ -13,7 +13,7 @@ use crate::key_range::KeyRange;
 use crate::keys::{LineKey, has_near, number_at};
 use crate::search::{put_lines_of, put_orders_of};
 use columns::Segment;
-use indexmap::IndexSet;
+use key_tables::KeySet;
 use sql_value::Row;
 use std::alloc::{AllocError, Global};
 use std::marker::Model;
@@ -65,17 +65,17 @@ fn line_key(segment: &Segment, i: usize) -> LineKey
 fn put_place(
     segment: &Segment,
     deleted: &[u32],
-    keys: &IndexSet<i64>,
+    keys: &KeySet<i64>,
     near: &[i64],
     i: usize,
     places: &mut Vec<u32>,
 ) -> Result<(), AllocError>
     requires up { IsNonDecreasing deleted.now }
-    requires near { AreNear keys.now.keys near.now segment.now }
+    requires near { AreNear keys.now near.now segment.now }
     requires within { i < length segment.now }
     requires short { i < 4096 }
     ensures { OnOk result (places.new.items
-        ≡ (if has_place deleted.now i || has_key keys.now.keys
+        ≡ (if has_place deleted.now i || has_key keys.now
         (order_key (slice_index_or segment.now i [])) then places.old.items
         ++ i ∷ [] else places.old.items)) }
 {
@@ -90,12 +90,12 @@ fn places_without(
     alloc: Global,
     segment: &Segment,
     deleted: &[u32],
-    keys: &IndexSet<i64>,
+    keys: &KeySet<i64>,
     near: &[i64],
 ) -> Result<Vec<u32>, AllocError>
     requires up { IsNonDecreasing deleted.now }
-    requires near { AreNear keys.now.keys near.now segment.now }
-    ensures { IfOk result (λ places. IsWithout keys.now.keys deleted.now segment.now places.items) }
+    requires near { AreNear keys.now near.now segment.now }
+    ensures { IfOk result (λ places. IsWithout keys.now deleted.now segment.now places.items) }
 {
     let mut places = Vec::new(alloc);
     for i in 0..segment.len() {
@@ -259,8 +259,8 @@ impl Part {
     }
 
     /// Whether a row may be of an order of these keys.
-    pub(crate) fn may_have(&self, keys: &IndexSet<i64>) -> bool
-        ensures { result ≡ false → HasNone keys.now.keys self.now }
+    pub(crate) fn may_have(&self, keys: &KeySet<i64>) -> bool
+        ensures { result ≡ false → HasNone keys.now self.now }
     {
         self.range.has_one_of(keys.as_slice())
     }
@@ -283,10 +283,10 @@ impl Part {
     /// the orders ascend they are searched.
     pub(crate) fn tell_orders(
         &self,
-        wanted: &IndexSet<i64>,
+        wanted: &KeySet<i64>,
         keys: &mut Vec<i64>,
     ) -> Result<(), AllocError>
-        ensures { OnOk result (TellsKeys wanted.now.keys (order_keys self.now) keys.new.items) }
+        ensures { OnOk result (TellsKeys wanted.now (order_keys self.now) keys.new.items) }
     {
         keys.clear();
         let (segment, deleted) = (&self.segment, self.deleted.as_slice());
@@ -301,10 +301,10 @@ impl Part {
     /// keys of the orders ascend they are searched.
     pub(crate) fn tell_lines(
         &self,
-        wanted: &IndexSet<i64>,
+        wanted: &KeySet<i64>,
         lines: &mut Vec<LineKey>,
     ) -> Result<(), AllocError>
-        ensures { OnOk result (TellsLines wanted.now.keys (line_keys self.now) lines.new.items) }
+        ensures { OnOk result (TellsLines wanted.now (line_keys self.now) lines.new.items) }
     {
         lines.clear();
         let (segment, deleted) = (&self.segment, self.deleted.as_slice());
@@ -341,8 +341,8 @@ impl Part {
 
     /// The rows of none of the orders of these keys. Where no row has one, it is another share of
     /// the same places.
-    pub(crate) fn without(&self, alloc: Global, keys: &IndexSet<i64>) -> Result<Part, AllocError>
-        ensures { IfOk result (λ part. part ≡ without_keys keys.now.keys self.now) }
+    pub(crate) fn without(&self, alloc: Global, keys: &KeySet<i64>) -> Result<Part, AllocError>
+        ensures { IfOk result (λ part. part ≡ without_keys keys.now self.now) }
     {
         if !self.may_have(keys) {
             return self.clone();

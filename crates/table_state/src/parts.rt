@@ -7,7 +7,7 @@ ghost use Rattle.table_state.specs.Refresh.{without_keys};
 use crate::keys::LineKey;
 use crate::part::Part;
 use columns::Rows;
-use indexmap::IndexSet;
+use key_tables::KeySet;
 use sql_value::Row;
 use std::alloc::{AllocError, Global};
 use std::marker::Model;
@@ -131,8 +131,8 @@ impl Parts {
     }
 
     /// The rows of none of the orders of these keys, in order.
-    pub(crate) fn without(&self, alloc: Global, keys: &IndexSet<i64>) -> Result<Parts, AllocError>
-        ensures { IfOk result (λ kept. kept ≡ without_keys keys.now.keys self.now) }
+    pub(crate) fn without(&self, alloc: Global, keys: &KeySet<i64>) -> Result<Parts, AllocError>
+        ensures { IfOk result (λ kept. kept ≡ without_keys keys.now self.now) }
     {
         let mut kept = Parts::new(alloc);
         let parts = self.as_slice();

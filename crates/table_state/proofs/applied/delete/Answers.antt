@@ -7,8 +7,8 @@ use Rattle.table_state.proofs.applied.delete.Goals as goal
 
 pub replace_sales-requires-clause-orders : goal.replace_sales-requires-clause-orders
 replace_sales-requires-clause-orders c =
-    rw c.in_ok-orders.ensures (All-filter (λ row. not (has_key c.args.wanted.now.keys (order_key row))) (RowIsOf table.Orders) c.table.result.now c.table.ensures.kinds)
+    rw c.in_ok-orders.ensures (All-filter (λ row. not (has_key c.args.wanted.now (order_key row))) (RowIsOf table.Orders) c.table.result.now c.table.ensures.kinds)
 
 pub replace_sales-requires-clause-lineitems : goal.replace_sales-requires-clause-lineitems
 replace_sales-requires-clause-lineitems c =
-    rw c.in_ok-lineitems.ensures (All-filter (λ row. not (has_key c.args.wanted.now.keys (order_key row))) (RowIsOf table.Lineitem) c.table-2.result.now c.table-2.ensures.kinds)
+    rw c.in_ok-lineitems.ensures (All-filter (λ row. not (has_key c.args.wanted.now (order_key row))) (RowIsOf table.Lineitem) c.table-2.result.now c.table-2.ensures.kinds)

@@ -4,6 +4,6 @@ use Rattle.table_state.proofs.cause.first_line_cause.Given as goal
 
 abbrev pub invariant-loop-line : goal.invariant-loop-line
 invariant-loop-line l = record {
-  earlier : l.earlier.keys ≡ take l.line-index l.lines;
-  rest : first_cause (line_cause l.orders.keys l.present.keys) (take l.line-index l.lines) (drop l.line-index l.lines) ≡ first_cause (line_cause l.orders.keys l.present.keys) [] l.lines;
+  earlier : l.earlier ≡ take l.line-index l.lines;
+  rest : first_cause (line_cause l.orders l.present) (take l.line-index l.lines) (drop l.line-index l.lines) ≡ first_cause (line_cause l.orders l.present) [] l.lines;
 }

@@ -4,6 +4,6 @@ use Rattle.table_state.proofs.cause.first_order_cause.Given as goal
 
 abbrev pub invariant-loop-key : goal.invariant-loop-key
 invariant-loop-key l = record {
-  earlier : l.earlier.keys ≡ take l.key-index l.keys;
-  rest : first_cause (order_cause l.present.keys) (take l.key-index l.keys) (drop l.key-index l.keys) ≡ first_cause (order_cause l.present.keys) [] l.keys;
+  earlier : l.earlier ≡ take l.key-index l.keys;
+  rest : first_cause (order_cause l.present) (take l.key-index l.keys) (drop l.key-index l.keys) ≡ first_cause (order_cause l.present) [] l.keys;
 }

@@ -3,4 +3,4 @@ use Rattle.table_state.specs.Found.{TellsLines}
 use Rattle.table_state.proofs.found.find_lines.Given as goal
 
 abbrev pub invariant-loop-line : goal.invariant-loop-line
-invariant-loop-line l = (before : List (ℤ × ℤ)) → TellsLines l.wanted.keys before l.initial.found.keys → TellsLines l.wanted.keys (before ++ take l.line-index l.lines) l.found.keys
+invariant-loop-line l = (before : List (ℤ × ℤ)) → TellsLines l.wanted before l.initial.found → TellsLines l.wanted (before ++ take l.line-index l.lines) l.found

@@ -3,4 +3,4 @@ use Rattle.table_state.specs.Found.{TellsKeys}
 use Rattle.table_state.proofs.found.find_orders.Given as goal
 
 abbrev pub invariant-loop-key : goal.invariant-loop-key
-invariant-loop-key l = (before : List ℤ) → TellsKeys l.wanted.keys before l.initial.found.keys → TellsKeys l.wanted.keys (before ++ take l.key-index l.keys) l.found.keys
+invariant-loop-key l = (before : List ℤ) → TellsKeys l.wanted before l.initial.found → TellsKeys l.wanted (before ++ take l.key-index l.keys) l.found

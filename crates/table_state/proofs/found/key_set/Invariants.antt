@@ -3,4 +3,4 @@ use Rattle.table_state.specs.Found.{HasSameKeys}
 use Rattle.table_state.proofs.found.key_set.Given as goal
 
 abbrev pub invariant-loop-key : goal.invariant-loop-key
-invariant-loop-key l = HasSameKeys l.set.keys (take l.key-index l.keys)
+invariant-loop-key l = HasSameKeys l.set (take l.key-index l.keys)

@@ -11,5 +11,5 @@ loop-part-preserved c =
     let k = c.loop-part.part-index in
     let part = c.part-item.result in
     let before = order_keys (one_list (take k parts)) in
-    subst (λ (ks : List (ℤ)). TellsKeys c.args.wanted.now.keys ks c.find_part_orders.new.found.keys) (sym (order_keys_more parts k part c.loop-part-test.true c.part-item.is))
+    subst (λ (ks : List (ℤ)). TellsKeys c.args.wanted.now ks c.find_part_orders.new.found) (sym (order_keys_more parts k part c.loop-part-test.true c.part-item.is))
     (c.in_ok-find_part_orders.ensures before c.loop-part.invariant)

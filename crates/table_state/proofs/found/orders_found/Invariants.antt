@@ -5,4 +5,4 @@ use Rattle.table_state.specs.Keys.{order_keys}
 use Rattle.table_state.proofs.found.orders_found.Given as goal
 
 abbrev pub invariant-loop-part : goal.invariant-loop-part
-invariant-loop-part l = TellsKeys l.wanted.keys (order_keys (one_list (take l.part-index l.parts))) l.found.keys
+invariant-loop-part l = TellsKeys l.wanted (order_keys (one_list (take l.part-index l.parts))) l.found

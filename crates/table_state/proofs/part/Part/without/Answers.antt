@@ -12,16 +12,16 @@ pub places_without-requires-clause-near : goal.places_without-requires-clause-ne
 places_without-requires-clause-near c =
     let range = c.self.inside.range in
     let rows = c.self.inside.segment in
-    let keys = c.args.keys.now.keys in
+    let keys = c.args.keys.now in
     let is : c.deref-2.result.now ≡ filter (is_between range.least range.greatest) keys =
-    c.deref-2.ensures.value ∙ c.in_ok-near.ensures ∙ ap (filter (is_between range.least range.greatest)) c.as_slice.ensures.keys in
+    c.deref-2.ensures.value ∙ c.in_ok-near.ensures ∙ ap (filter (is_between range.least range.greatest)) c.as_slice.ensures in
     subst (λ near. AreNear keys near rows) (sym is) (are_near keys range.least range.greatest rows c.self.invariant.between)
 
 pub returns-then-len : goal.returns-then-len
 returns-then-len c =
     let deleted = (arc_value c.self.inside.deleted).items in
     let rows = c.self.inside.segment in
-    let keys = c.args.keys.now.keys in
+    let keys = c.args.keys.now in
     let more = c.in_ok-places.places.items in
     let without : IsWithout keys deleted rows more =
     subst (λ (d : List ℕ). IsWithout keys d rows more) (c.as_slice-deleted.ensures.value ∙ ap (λ v. v.items) c.deref.ensures) c.in_ok-places.ensures in
@@ -31,4 +31,4 @@ returns-then-len c =
 
 pub returns-then-not-may_have : goal.returns-then-not-may_have
 returns-then-not-may_have c =
-    subst (λ (all : List (List Value)). IfOk c.clone.result (λ part. part ≡ all)) (none_goes c.args.keys.now.keys c.args.self.now (c.may_have.ensures c.if-not-may_have.true)) c.clone.ensures
+    subst (λ (all : List (List Value)). IfOk c.clone.result (λ part. part ≡ all)) (none_goes c.args.keys.now c.args.self.now (c.may_have.ensures c.if-not-may_have.true)) c.clone.ensures
