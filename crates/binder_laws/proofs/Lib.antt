@@ -13,3 +13,4 @@ pub mod TypedTrees
 pub mod KeepsProofs
 pub mod NamesProofs
 pub mod SettledProofs
+pub mod AnsweredProofs

@@ -21,6 +21,7 @@ use Rattle.civil_date.specs.Move.{times}
 use Rattle.sql_binder.proofs.Applied.{computed}
 use Rattle.binder_laws.specs.Settled.{ItemsOfFrom, OrderOfIn, OperandsFirst, NamesFurtherOut}
 use Rattle.binder_laws.specs.Settled.{RepeatedKeys, OutputNames, PlacesOfAggregates}
+use Rattle.binder_laws.specs.Settled.{ValuesAsConditions, NamesOfOn, TurnsOfColumns}
 
 pub items_of_from : ItemsOfFrom
 unfolding input aggregate alone apart counted take_aggregates is_met ends means the_one key_of found
@@ -42,6 +43,28 @@ items_of_from = (
   simp computed,
 )
 
+pub values_as_conditions : ValuesAsConditions
+unfolding input aggregate alone apart counted take_aggregates is_met ends means the_one key_of found
+    resolved date_literal negative compared null_test between liked in_list denied extracted
+    substring operated shifted ended first_condition next_condition all_of any_of chosen case_of
+    case_else_of column inside within_on hiding among_rows grouped aggregated existing containing
+    only_value member table_headers named_item unused column_of renamed_headers distinct_names
+    listed_headers table_rows named_rows first_rows crossed joining joined_rows present holding
+    shown_part star keys_of plain closing once_each output_place order_of conditions operands chain
+    arm_conditions arm_values on_condition on_joining joins chained from_list condition shown_item
+    shown_items select is_grouped from_where over_rows group_lists over_groups clauses_of
+    is_grouped_block bound_query bound_view times
+values_as_conditions = (
+  simp computed,
+  simp computed,
+  simp computed,
+  simp computed,
+  simp computed,
+  simp computed,
+  simp computed,
+  simp computed,
+)
+
 pub order_of_in : OrderOfIn
 unfolding input aggregate alone apart counted take_aggregates is_met ends means the_one key_of found
     resolved date_literal negative compared null_test between liked in_list denied extracted
@@ -54,6 +77,9 @@ unfolding input aggregate alone apart counted take_aggregates is_met ends means 
     shown_items select is_grouped from_where over_rows group_lists over_groups clauses_of
     is_grouped_block bound_query bound_view times
 order_of_in = (
+  simp computed,
+  simp computed,
+  simp computed,
   simp computed,
   simp computed,
   simp computed,
@@ -87,7 +113,20 @@ unfolding input aggregate alone apart counted take_aggregates is_met ends means 
     arm_conditions arm_values on_condition on_joining joins chained from_list condition shown_item
     shown_items select is_grouped from_where over_rows group_lists over_groups clauses_of
     is_grouped_block bound_query bound_view times
-names_further_out = (simp computed, simp computed, simp computed)
+names_further_out = (simp computed, simp computed, simp computed, simp computed)
+
+pub names_of_on : NamesOfOn
+unfolding input aggregate alone apart counted take_aggregates is_met ends means the_one key_of found
+    resolved date_literal negative compared null_test between liked in_list denied extracted
+    substring operated shifted ended first_condition next_condition all_of any_of chosen case_of
+    case_else_of column inside within_on hiding among_rows grouped aggregated existing containing
+    only_value member table_headers named_item unused column_of renamed_headers distinct_names
+    listed_headers table_rows named_rows first_rows crossed joining joined_rows present holding
+    shown_part star keys_of plain closing once_each output_place order_of conditions operands chain
+    arm_conditions arm_values on_condition on_joining joins chained from_list condition shown_item
+    shown_items select is_grouped from_where over_rows group_lists over_groups clauses_of
+    is_grouped_block bound_query bound_view times
+names_of_on = simp computed
 
 pub repeated_keys : RepeatedKeys
 unfolding input aggregate alone apart counted take_aggregates is_met ends means the_one key_of found
@@ -126,4 +165,24 @@ unfolding input aggregate alone apart counted take_aggregates is_met ends means 
     arm_conditions arm_values on_condition on_joining joins chained from_list condition shown_item
     shown_items select is_grouped from_where over_rows group_lists over_groups clauses_of
     is_grouped_block bound_query bound_view times
-places_of_aggregates = (simp computed, simp computed, simp computed, simp computed, simp computed)
+places_of_aggregates = (
+  simp computed,
+  simp computed,
+  simp computed,
+  simp computed,
+  simp computed,
+  simp computed,
+)
+
+pub turns_of_columns : TurnsOfColumns
+unfolding input aggregate alone apart counted take_aggregates is_met ends means the_one key_of found
+    resolved date_literal negative compared null_test between liked in_list denied extracted
+    substring operated shifted ended first_condition next_condition all_of any_of chosen case_of
+    case_else_of column inside within_on hiding among_rows grouped aggregated existing containing
+    only_value member table_headers named_item unused column_of renamed_headers distinct_names
+    listed_headers table_rows named_rows first_rows crossed joining joined_rows present holding
+    shown_part star keys_of plain closing once_each output_place order_of conditions operands chain
+    arm_conditions arm_values on_condition on_joining joins chained from_list condition shown_item
+    shown_items select is_grouped from_where over_rows group_lists over_groups clauses_of
+    is_grouped_block bound_query bound_view times
+turns_of_columns = (simp computed, simp computed, simp computed, simp computed)

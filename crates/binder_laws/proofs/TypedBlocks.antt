@@ -12,7 +12,6 @@ use Rattle.nested_query.specs.declared.query.BoundExpr.{BoundExpr}
 use Rattle.nested_query.specs.Typing.{EnvKinds, KindMeaning, KindsMeaning, all_some}
 use Rattle.nested_query.specs.Typing.{block_kinds}
 use Rattle.nested_query.specs.Typing.{from_kinds, kind_of_aggregate}
-use Rattle.scalar_expr.specs.declared.expr.Expr.TheVariants as e
 use Rattle.scalar_expr.specs.declared.kind.Kind.{Kind}
 use Rattle.scalar_expr.specs.declared.kind.Kind.TheVariants.{Text}
 use Rattle.sql_ast.specs.declared.words.Column.{Column}

@@ -14,7 +14,6 @@ use Rattle.nested_query.specs.Typing.{kind_of_aggregate, typing_of}
 use Rattle.scalar_expr.specs.declared.expr.Expr.TheVariants as e
 use Rattle.scalar_expr.specs.declared.kind.Kind.{Kind}
 use Rattle.scalar_expr.specs.Typing.Sort.{Of}
-use Rattle.sql_ast.specs.declared.words.Column.{Column}
 use Rattle.sql_binder.specs.declared.collected.BoundKind.{BoundKind}
 use Rattle.sql_binder.specs.declared.collected.BoundKind.TheVariants.{Value, Condition}
 use Rattle.sql_binder.specs.declared.collected.Collected.{Collected}

@@ -11,7 +11,6 @@ use Rattle.nested_query.proofs.TypingOpened.{kinds_Cross, kinds_Inner}
 use Rattle.nested_query.proofs.TypingOpened.{kinds_Outer}
 use Rattle.nested_query.specs.declared.query.BoundExpr.{BoundExpr}
 use Rattle.nested_query.specs.declared.query.BoundSource.{BoundSource}
-use Rattle.nested_query.specs.declared.query.BoundSource.TheVariants as source
 use Rattle.nested_query.specs.Typing.{EnvKinds, KindsMeaning}
 use Rattle.nested_query.specs.Typing.{from_kinds}
 use Rattle.nested_query.specs.Typing.{typing_of}

@@ -19,7 +19,6 @@ use Rattle.sql_binder.specs.declared.collected.Conditions.{Conditions}
 use Rattle.sql_binder.specs.declared.collected.Operands.{Operands}
 use Rattle.sql_binder.specs.declared.collected.Typed.{Typed}
 use Rattle.sql_binder.specs.declared.scope.ColumnAt.{ColumnAt}
-use Rattle.sql_binder.specs.Kinds as kinds
 use Rattle.sql_binder.specs.Names.{Sight, resolved}
 use Rattle.sql_binder.specs.Steps.{Name, Checked, ◌>>=◌, pure, lift}
 use Rattle.sql_binder.specs.Steps.{input as one_input}

@@ -1,3 +1,4 @@
 pub mod WellTyped
 pub mod Names
 pub mod Settled
+pub mod AnsweredCases

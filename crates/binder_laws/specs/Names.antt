@@ -1,5 +1,5 @@
 -- What a name stands for, in the words of the queries around.
-use Rattle.std.specs.Prelude.{◌≡◌, ℕ, ◌-◌, ◌<◌, true, length, Option, Some, Ok, slice_get}
+use Rattle.std.specs.Prelude.{◌≡◌, ℕ, ◌-◌, ◌<◌, true, length, Some, Ok, slice_get}
 use Rattle.sql_ast.specs.declared.words.Column.{Column}
 use Rattle.sql_binder.specs.declared.scope.ColumnAt.{ColumnAt}
 use Rattle.sql_binder.specs.declared.scope.ScopeColumn.{ScopeColumn}

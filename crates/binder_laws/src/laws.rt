@@ -4,7 +4,12 @@ ghost use Rattle.binder_laws.specs.WellTyped.{BoundKeepsKinds};
 ghost use Rattle.binder_laws.specs.Names.{NamesStand};
 ghost use Rattle.binder_laws.specs.Settled.{ItemsOfFrom, OrderOfIn, OperandsFirst};
 ghost use Rattle.binder_laws.specs.Settled.{NamesFurtherOut, RepeatedKeys, OutputNames};
-ghost use Rattle.binder_laws.specs.Settled.{PlacesOfAggregates};
+ghost use Rattle.binder_laws.specs.Settled.{PlacesOfAggregates, ValuesAsConditions, NamesOfOn};
+ghost use Rattle.binder_laws.specs.Settled.{TurnsOfColumns};
+ghost use Rattle.binder_laws.specs.AnsweredCases.{PlainStatements, Balances, DividedConditions};
+ghost use Rattle.binder_laws.specs.AnsweredCases.{SumsOfLargest, CountsOfOrders, KeysNotIn};
+ghost use Rattle.binder_laws.specs.AnsweredCases.{OneOrder, RegionsOfOrders, GroupOfNoRows};
+ghost use Rattle.binder_laws.specs.AnsweredCases.{Distribution};
 
 /// Over views that are well typed, what is bound is well typed: a query's columns are of the kinds
 /// that are said of them, a view may stand beside the others, and a statement keeps the kinds and
@@ -24,10 +29,27 @@ pub fn names_stand_for_columns()
 /// What the order of binding settles, by small queries.
 pub fn settled_bindings()
     ensures items { ItemsOfFrom }
+    ensures conditions { ValuesAsConditions }
     ensures order_of_in { OrderOfIn }
     ensures operands { OperandsFirst }
     ensures names { NamesFurtherOut }
+    ensures names_of_on { NamesOfOn }
     ensures keys { RepeatedKeys }
     ensures outputs { OutputNames }
     ensures aggregates { PlacesOfAggregates }
+    ensures turns { TurnsOfColumns }
+{}
+
+/// Statements over small tables, bound and then answered.
+pub fn answered_statements()
+    ensures plain { PlainStatements }
+    ensures balances { Balances }
+    ensures divided { DividedConditions }
+    ensures sums { SumsOfLargest }
+    ensures counts { CountsOfOrders }
+    ensures not_in { KeysNotIn }
+    ensures one { OneOrder }
+    ensures nested { RegionsOfOrders }
+    ensures groups { GroupOfNoRows }
+    ensures distribution { Distribution }
 {}

@@ -33,6 +33,50 @@ create view w (a, a) as select r_name, r_name from region;
 create view w (a, b) as select r_name from region;
 ";
 
+/// Statements of which the order of binding, or what a part of a query may see, decides.
+const SETTLED: &[u8] = b"\
+select interval '1' day + date '1996-01-31' from region;
+select interval '1' day from region;
+select (date '1996-01-30' + interval '1' day) + interval '1' day from region;
+select 1 + 'x' + nope from region;
+select 1 from region where 1 and nope;
+select 1 from region where 1 in ('x', nope);
+select 1 from region where r_regionkey between r_name and nope;
+select case when r_regionkey = 0 then r_name + 1 when nope then 1 end from region;
+select r_name, nope, count(*) from region;
+select (select r_name from nation), count(*) from region;
+select * from region having 1 = 1;
+select 1 from region having 1 = 1;
+select 1 from region where sum(r_name) = 1;
+select 1 from region where sum(1) = 1;
+select (select sum(r_name) from nation) from region;
+select 1 from region where exists (select 1 from (select r_name from nation) as t);
+select 1 from (select r_name from nation) as t, region;
+select 1 from region, region b, (select r_name from nation) as t;
+select 1 from region, (select region.n_name from nation) as t;
+select 1 from region where exists (select 1 from nation region where region.r_name = r_name);
+select 1 from region join nation on s_nationkey = 1 join supplier on 1 = 1;
+select 1 from supplier where exists (select 1 from supplier b, region join nation
+ on s_nationkey = n_nationkey);
+select n_name from nation, nation m, region group by n_name;
+select r_name from region group by r_name, r_name;
+select 1 from region join nation on r_name in (select n_name, n_name from nation);
+select 1 from region join nation on 1 in (select n_name from nation);
+select 1 from region join nation on r_name in (select n_name from nation);
+select sum((select r_name, r_name from region)) from region;
+select sum((select r_regionkey from region)) from region;
+select r_name as a, r_comment as a from region order by a;
+select r_name as a from region order by r_name;
+select 1 from (select r_name from region) as t (a, a);
+select 1 from (select nope from region) as t (a, a);
+create view v (a, a) as select nope from region;
+create view v (a, b) as select nope from region;
+select substring(r_name from 0 for 1) from region;
+select 1 from region where r_name;
+select r_regionkey = 0 from region;
+select count(r_regionkey = 0) from region;
+";
+
 /// The number of a refusal: 0 where there is none, 99 where memory was refused.
 fn number_of<T: Drop>(answer: Result<T, BindFault>) -> u8 {
     match answer {
@@ -84,6 +128,16 @@ fn gives(alloc: Global, script: &[u8], wanted: &[u8]) -> bool {
 fn the_queries_are_bound(rt: HostRuntime) {
     let alloc = rt.alloc();
     assert!(rt; gives(alloc, QUERIES, &[0; 24]));
+}
+
+#[test]
+fn the_first_refusal_is_given(rt: HostRuntime) {
+    let alloc = rt.alloc();
+    let numbers = [
+        12, 12, 0, 5, 2, 2, 2, 2, 6, 6, 6, 0, 5, 7, 5, 9, 2, 3, 2, 2, 2, 0, 3, 0, 10, 5, 15, 10,
+        15, 3, 2, 4, 2, 4, 2, 5, 5, 5, 5,
+    ];
+    assert!(rt; gives(alloc, SETTLED, &numbers));
 }
 
 #[test]
