@@ -1,6 +1,6 @@
 use Rattle.std.proofs.Common.{◌≡◌, [], take, drop}
 use Rattle.table_state.specs.Refresh.{first_cause, order_cause}
-use Rattle.table_state.proofs.cause.first_order_cause.Given as goal
+use Rattle.table_state.proofs.cause.find_order_cause.Given as goal
 
 abbrev pub invariant-loop-key : goal.invariant-loop-key
 invariant-loop-key l = record {

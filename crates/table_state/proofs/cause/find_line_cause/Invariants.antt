@@ -1,6 +1,6 @@
 use Rattle.std.proofs.Common.{◌≡◌, [], take, drop}
 use Rattle.table_state.specs.Refresh.{first_cause, line_cause}
-use Rattle.table_state.proofs.cause.first_line_cause.Given as goal
+use Rattle.table_state.proofs.cause.find_line_cause.Given as goal
 
 abbrev pub invariant-loop-line : goal.invariant-loop-line
 invariant-loop-line l = record {
