@@ -1,5 +1,5 @@
 //! Files with each fault, and one file cut at every byte.
-use ascii_text::Text;
+use civil_date::CivilDate;
 use fixed_decimal::Scale;
 use refusals::{LineFault, LineRefusal, RefreshFile};
 use sql_value::{Row, Value};
@@ -27,42 +27,61 @@ fn count(alloc: Global, table: TableName, text: &[u8]) -> Result<usize, TableErr
     Ok(rows.len())
 }
 
+// Whether a row is this region.
+fn is_region(row: &Row, key: i128, name: &str, comment: &str) -> bool {
+    match row.values() {
+        [
+            Value::Number(_, number),
+            Value::Text(first),
+            Value::Text(second),
+        ] => {
+            *number == key
+                && first.bytes() == name.as_bytes()
+                && second.bytes() == comment.as_bytes()
+        }
+        _ => false,
+    }
+}
+
 #[test]
 fn reads_rows(rt: HostRuntime) -> Result<(), Fail> {
-    let alloc = rt.alloc();
-    let text = b"0|AFRICA|a|\r\n1|AMERICA||\n2|A|b\r";
-    let rows = read_pieces(alloc, DataFile::Table(TableName::Region), &[text])?;
+    let rows = table_rows(rt.alloc(), &[b"0|AFRICA|a|\r\n1|AMERICA||\n2|A|b\r"])?;
     assert_eq!(rt; rows.len(), 3);
+    assert!(rt; is_region(&rows[0], 0, "AFRICA", "a"));
+    assert!(rt; is_region(&rows[1], 1, "AMERICA", ""));
+    assert!(rt; is_region(&rows[2], 2, "A", "b"));
+    Ok(())
+}
+
+// The value of a column in the row of the lineitem.
+fn value_in(alloc: Global, j: usize) -> Result<Value, Fail> {
+    let rows = read_pieces(alloc, DataFile::Table(TableName::Lineitem), &[LINEITEM])?;
     let rows = rows.to_rows(alloc)?;
-    let whole = Scale::new(0);
-    let first = [
-        Value::Number(whole, 0),
-        Value::Text(Text::new(alloc, b"AFRICA")?),
-        Value::Text(Text::new(alloc, b"a")?),
-    ];
-    let last = [
-        Value::Number(whole, 2),
-        Value::Text(Text::new(alloc, b"A")?),
-        Value::Text(Text::new(alloc, b"b")?),
-    ];
-    assert!(rt; rows[0].values() == first.as_slice());
-    assert!(rt; rows[2].values() == last.as_slice());
+    let Some(row) = rows.first() else {
+        return Ok(Value::Null);
+    };
+    match row.values().get(j) {
+        Some(value) => {
+            let value = value.clone()?;
+            Ok(value)
+        }
+        None => Ok(Value::Null),
+    }
+}
+
+#[test]
+fn reads_decimals(rt: HostRuntime) -> Result<(), Fail> {
+    for (j, cents) in [(4, 100), (7, -50)] {
+        let value = value_in(rt.alloc(), j)?;
+        assert!(rt; value.is_identical(&Value::Number(Scale::new(2), cents)));
+    }
     Ok(())
 }
 
 #[test]
-fn reads_each_kind(rt: HostRuntime) -> Result<(), Fail> {
-    let alloc = rt.alloc();
-    let rows = read_pieces(alloc, DataFile::Table(TableName::Lineitem), &[LINEITEM])?;
-    assert_eq!(rt; rows.len(), 1);
-    let values = rows.row(alloc, 0)?;
-    assert_eq!(rt; values.len(), 16);
-    assert!(rt; values[4] == Value::Number(Scale::new(2), 100));
-    assert!(rt; values[7] == Value::Number(Scale::new(2), -50));
-    match &values[12] {
-        Value::Date(date) => assert_eq!(rt; date.number(), 19_960_229),
-        _ => assert!(rt; false),
-    }
+fn reads_dates(rt: HostRuntime) -> Result<(), Fail> {
+    let date = CivilDate::read(b"1996-02-29")?;
+    assert!(rt; value_in(rt.alloc(), 12)?.is_identical(&Value::Date(date)));
     Ok(())
 }
 
@@ -130,27 +149,37 @@ fn refuses_lines(rt: HostRuntime) {
     }
 }
 
+// What a reader of regions of at most `limit` bytes answers to the last of these pieces.
+fn last_answer(
+    alloc: Global,
+    limit: u64,
+    pieces: &[&[u8]],
+) -> Result<Result<(), TableError>, Fail> {
+    let mut reader = TableReader::with_limit(alloc, TableName::Region, limit)?;
+    let mut last = Ok(());
+    for piece in pieces {
+        last = reader.feed(piece);
+    }
+    Ok(last)
+}
+
+fn too_long(line: u64) -> Result<(), TableError> {
+    let fault = LineFault::FileTooLong;
+    Err(TableError::Refused(LineRefusal { line, fault }))
+}
+
 #[test]
 fn ends_at_the_limit(rt: HostRuntime) -> Result<(), Fail> {
-    let text = b"0|A|a|\n1|B|b|\nx";
-    let mut reader = TableReader::with_limit(rt.alloc(), TableName::Region, 14)?;
-    assert!(rt; reader.feed(&text[..14]) == Ok(()));
-    let too_long = TableError::Refused(LineRefusal {
-        line: 3,
-        fault: LineFault::FileTooLong,
-    });
-    assert!(rt; reader.feed(&text[14..]) == Err(too_long));
-    assert!(rt; reader.feed(b"") == Err(too_long));
-    match reader.finish() {
-        Ok(_) => assert!(rt; false),
-        Err(fault) => assert!(rt; fault == too_long),
+    let lines = b"0|A|a|\n1|B|b|\n".as_slice();
+    for (limit, pieces, wanted) in [
+        (14, &[lines][..], Ok(())),
+        (14, &[lines, b"x"][..], too_long(3)),
+        (14, &[lines, b"x", b""][..], too_long(3)),
+        (13, &[lines, b"x"][..], too_long(2)),
+    ] {
+        let answer = last_answer(rt.alloc(), limit, pieces)?;
+        assert!(rt; answer == wanted, "{limit}");
     }
-    let mut reader = TableReader::with_limit(rt.alloc(), TableName::Region, 13)?;
-    let too_long = TableError::Refused(LineRefusal {
-        line: 2,
-        fault: LineFault::FileTooLong,
-    });
-    assert!(rt; reader.feed(text) == Err(too_long));
     Ok(())
 }
 
@@ -219,21 +248,21 @@ fn refuses_however_cut(rt: HostRuntime) {
 }
 
 #[test]
-fn reads_refresh_files(rt: HostRuntime) -> Result<(), Fail> {
-    let alloc = rt.alloc();
+fn takes_keys_of_refreshes_again(rt: HostRuntime) -> Result<(), Fail> {
     let order = b"9|2|O|5.00|1996-01-04|5-LOW|K|0|z|\n";
-    let mut orders = RefreshReader::new(alloc, RefreshFile::Orders)?;
+    let mut orders = RefreshReader::new(rt.alloc(), RefreshFile::Orders)?;
     assert!(rt; orders.feed(order) == Ok(()));
     assert!(rt; orders.feed(order) == Ok(()));
     let rows = orders.finish()?;
     assert_eq!(rt; rows.len(), 2);
-    let mut keys = RefreshReader::with_limit(alloc, RefreshFile::Delete, 5)?;
+    Ok(())
+}
+
+#[test]
+fn limits_refresh_files(rt: HostRuntime) -> Result<(), Fail> {
+    let mut keys = RefreshReader::with_limit(rt.alloc(), RefreshFile::Delete, 5)?;
     assert!(rt; keys.feed(b"7|\n7") == Ok(()));
-    let bad = TableError::Refused(LineRefusal {
-        line: 3,
-        fault: LineFault::FileTooLong,
-    });
-    assert!(rt; keys.feed(b"\n\n") == Err(bad));
+    assert!(rt; keys.feed(b"\n\n") == too_long(3));
     Ok(())
 }
 

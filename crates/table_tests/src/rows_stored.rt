@@ -1,15 +1,14 @@
-//! The forms that columns change to, stored rows, and batches.
+//! The forms that columns change to, and stored rows.
 ghost use Rattle.std.specs.Prelude.{IsTrue};
 ghost use Rattle.columns.specs.Lists.{AreBelow};
 
 use ascii_text::Text;
 use civil_date::CivilDate;
 use columns::{
-    Bag, Batch, BatchBuilder, Column, ColumnBuilder, ColumnForm, Field, Rows, RowsBuilder,
-    stored_rows,
+    Batch, BatchBuilder, Column, ColumnBuilder, ColumnForm, Field, Rows, RowsBuilder, stored_rows,
 };
 use fixed_decimal::Scale;
-use sql_value::{Fault, Standing, Truth, Value};
+use sql_value::{Standing, Value};
 use std::alloc::Global;
 use std::test::Fail;
 
@@ -128,38 +127,6 @@ fn stores_rows(rt: HostRuntime) -> Result<(), Fail> {
         assert!(rt;
             matches!(again.row(alloc, 4096)?.first(), Some(found) if found.is_identical(&number))
         );
-    }
-    Ok(())
-}
-
-fn two_rows(alloc: Global) -> Result<Batch, Fail> {
-    let mut builder = BatchBuilder::new(alloc, &[ColumnForm::Values])?;
-    let fault = Standing::AtFault(Fault::NumberRange);
-    if builder.width() == 1 {
-        builder.push_row(alloc, &[Value::Null], Standing::AtTrue)?;
-    }
-    if builder.width() == 1 {
-        builder.push_row(alloc, &[Value::Fault(Fault::DivideByZero)], fault)?;
-    }
-    let batch = builder.finish(alloc)?;
-    Ok(batch)
-}
-
-#[test]
-fn selects_rows(rt: HostRuntime) -> Result<(), Fail> {
-    let alloc = rt.alloc();
-    let batch = two_rows(alloc)?.share(alloc)?;
-    let truths = [Truth::Unknown, Truth::Stands(Standing::AtTrue)];
-    assert_eq!(rt; batch.len(), 2);
-    if batch.len() == truths.len() {
-        let kept = batch.select(alloc, &truths)?;
-        assert_eq!(rt; kept.len(), 1);
-        if kept.len() == 1 {
-            assert!(rt; kept.standing(0) == Standing::AtFault(Fault::NumberRange));
-        }
-        let mut bag = Bag::new(alloc, kept.width());
-        bag.push(kept)?;
-        assert_eq!(rt; bag.len(), 1);
     }
     Ok(())
 }
