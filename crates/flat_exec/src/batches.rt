@@ -4,13 +4,13 @@ ghost use Rattle.row_laws.specs.Operators.{select, project};
 ghost use Rattle.conditions.specs.Ranks.{rank_of};
 ghost use Rattle.scalar_expr.specs.Meaning.{values};
 
-use column_expr::{projected, selected};
+use column_expr::{projected, truths_of};
 use columns::{Bag, Batch};
 use scalar_expr::Expr;
 use std::alloc::{AllocError, Global};
 
-// The rows of a batch that a condition keeps. 2^32 rows or more are an error, as memory that isn't
-// there.
+// The rows of a batch that a condition keeps: a share of the batch where it is True for each row.
+// 2^32 rows or more are an error, as memory that isn't there.
 fn selected_batch(alloc: Global, e: &Expr, batch: &Batch) -> Result<Batch, AllocError>
     ensures width { IfOk result (λ b. b.width ≡ batch.now.width) }
     ensures rows { IfOk result (λ b. b.rows ≡ select (rank_of e.now) batch.now.rows) }
@@ -18,7 +18,9 @@ fn selected_batch(alloc: Global, e: &Expr, batch: &Batch) -> Result<Batch, Alloc
     if batch.len() >= 1 << 32 {
         return Err(AllocError);
     }
-    let kept = selected(alloc, e, batch)?;
+    let truths = truths_of(alloc, e, batch)?;
+    let all = batch.share(alloc)?;
+    let kept = all.keep(alloc, truths.as_slice())?;
     Ok(kept)
 }
 
