@@ -10,7 +10,6 @@ pub fn trials_are_accepted()
 
 /// Words that ask for a trial are accepted. So `tpch` ends with Done or SomeRefused for them, unless
 /// memory runs out or the sink fails.
-#[tactic(auto, using(crate::proofs::Trials::trial_words_are_accepted))]
 pub fn trial_words_are_accepted()
     ensures { TrialWordsAreAccepted }
 {}
