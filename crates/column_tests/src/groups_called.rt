@@ -137,8 +137,8 @@ fn takes_identical_rows_once(rt: HostRuntime) -> Result<(), Fail> {
     Ok(())
 }
 
-// What the answer by the keys is: its rows one after the other, or the fault.
-fn answers(
+/// What the answer by the keys is: its rows one after the other, or the fault.
+pub fn answers(
     alloc: Global,
     rows: &Bag,
     keys: &[OrderKey],
@@ -200,8 +200,8 @@ fn orders_rows(rt: HostRuntime) -> Result<(), Fail> {
     Ok(())
 }
 
-// The rows that expressions make.
-fn made(alloc: Global, rows: &Batch, words: &str) -> Result<Bag, Fail> {
+/// The rows that expressions make.
+pub fn made(alloc: Global, rows: &Batch, words: &str) -> Result<Bag, Fail> {
     let es = expressions(alloc, words)?;
     let made = projected(alloc, es.as_slice(), rows)?;
     let mut bag = Bag::new(alloc, made.width());
@@ -209,8 +209,8 @@ fn made(alloc: Global, rows: &Batch, words: &str) -> Result<Bag, Fail> {
     Ok(bag)
 }
 
-// The rows that a condition keeps.
-fn kept(alloc: Global, rows: &Bag, words: &str) -> Result<Batch, Fail> {
+/// The rows that a condition keeps.
+pub fn kept(alloc: Global, rows: &Bag, words: &str) -> Result<Batch, Fail> {
     let all = rows.whole(alloc)?;
     if all.len() > 1000 {
         return Err("more rows than a test has")?;
