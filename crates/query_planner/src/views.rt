@@ -6,6 +6,7 @@ use sql_ast::{Block, Name};
 use sql_binder::{BindFault, View, Views, bind_view};
 use sqlite_items::Items;
 use std::alloc::Global;
+use std::marker::Model;
 
 /// The views of a session in the order in which they were made. Each was bound over those that
 /// stood then, so its query is well typed.
