@@ -20,8 +20,12 @@ impl Model for SessionViews {
     ghost use Rattle.std.specs.Prelude.{List};
     ghost use Rattle.sql_binder.specs.declared.view.View.{View};
     ghost use Rattle.binder_laws.specs.WellTyped.{ViewsAreTyped};
+    ghost use Rattle.nested_query.specs.contracts.query.BoundBlock as block;
+    ghost use Rattle.std.specs.Coded.{codes};
 
     ghost Value = { List View };
+
+    ghost coded = { Prim.hlevel (codes, block.the_row.coded) };
 
     ghost view = { λ v. v.views.all };
 
