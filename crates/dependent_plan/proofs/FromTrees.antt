@@ -1,32 +1,27 @@
--- The trees of FROM's items, and of whole queries.
-use Rattle.std.proofs.Common.{◌≡◌, ℕ, zero, suc, ◌+◌, ◌-◌, List, [], ◌∷◌, ◌++◌, Bool, true, ◌&&◌}
-use Rattle.std.proofs.Common.{map, refl, sym, ap, ◌∙◌, subst, arith, length, replicate}
-use Rattle.std.specs.Prelude.{IsTrue, slice_index_or}
-use Rattle.std.specs.Cmp.{first_so, second_so}
-use Rattle.std.specs.Cmp.Lexicographic.{pointwise}
+-- The trees of FROM's items.
+use Rattle.std.proofs.Common.{◌≡◌, ℕ, zero, suc, ◌+◌, ◌-◌, List, [], ◌∷◌, ◌++◌, true}
+use Rattle.std.proofs.Common.{map, refl, sym, ap, ◌∙◌, subst, arith, length}
+use Rattle.std.specs.Prelude.{slice_index_or}
+use Rattle.std.specs.Cmp.{second_so}
 use Rattle.std.specs.List.{All}
-use Rattle.std.proofs.lemmas.List.{append-nil, append_assoc, length-append, length-replicate}
+use Rattle.std.proofs.lemmas.List.{length-append}
 use Rattle.std.proofs.lemmas.List.{length-map}
-use Rattle.row_laws.specs.Aggregates.{aggregated}
 use Rattle.row_laws.specs.Bags.{Each}
 use Rattle.row_laws.specs.JoinGroups.{Width}
-use Rattle.row_laws.specs.Operators.{select, project, cross, join_loop, outer_loop, distinct}
+use Rattle.row_laws.specs.Operators.{select, project, cross, join_loop}
 use Rattle.row_laws.specs.Ranked.{Ranked, ranked, true_rank}
-use Rattle.row_laws.specs.Rows.{scanned, columns}
+use Rattle.row_laws.specs.Rows.{scanned}
 use Rattle.row_laws.specs.StandingLaws.{Stands}
-use Rattle.row_laws.specs.Trees.{side_row}
 use Rattle.row_laws.proofs.Lists.{Each-map, Each-all, Each-weaker}
 use Rattle.row_laws.proofs.Standings as stands
 use Rattle.sql_value.specs.declared.value.Value.{Value}
 use Rattle.sql_value.specs.declared.value.Value.TheVariants.{Null}
-use Rattle.sql_value.specs.Truth.{truth_rank}
-use Rattle.sql_value.specs.Value.{same_value}
 use Rattle.scalar_expr.specs.declared.expr.Expr.{Expr}
 use Rattle.scalar_expr.specs.declared.expr.Expr.TheVariants.{Column, All as all_of}
-use Rattle.scalar_expr.specs.Meaning.{values, value, truth}
+use Rattle.scalar_expr.specs.Meaning.{values, value}
 use Rattle.scalar_expr.specs.Rename.{gathered}
 use Rattle.scalar_expr.proofs.Opened.{value_Column}
-use Rattle.conditions.specs.Ranks.{rank_of, says, columns_from}
+use Rattle.conditions.specs.Ranks.{says, columns_from}
 use Rattle.conditions.proofs.Ranks.{rank_All}
 use Rattle.conditions.proofs.Gather.{gather_at}
 use Rattle.tpch_schema.specs.declared.column.ColumnKind.{ColumnKind}
@@ -34,48 +29,37 @@ use Rattle.tpch_schema.specs.declared.table.TableName.{TableName}
 use Rattle.tpch_schema.specs.Kinds.{is_of_kind, are_of_kinds, RowIsOf}
 use Rattle.tpch_schema.specs.State.{State, table_rows}
 use Rattle.tpch_schema.specs.Tables.{kinds_of}
-use Rattle.nested_query.specs.declared.query.BoundAggregate.{BoundAggregate}
 use Rattle.nested_query.specs.declared.query.BoundBlock.{BoundBlock}
-use Rattle.nested_query.specs.declared.query.BoundBlock.TheVariants as block
 use Rattle.nested_query.specs.declared.query.BoundExpr.{BoundExpr}
 use Rattle.nested_query.specs.declared.query.BoundSource.{BoundSource}
 use Rattle.nested_query.specs.declared.query.BoundSource.TheVariants as source
-use Rattle.nested_query.specs.declared.query.Input.{Input}
-use Rattle.nested_query.specs.Meaning.{Env, ExprMeaning, AggregateMeaning, holds_for, groups}
-use Rattle.nested_query.specs.Meaning.{expr_meaning, aggregate_meaning, block_meaning}
+use Rattle.nested_query.specs.Meaning.{Env, holds_for}
+use Rattle.nested_query.specs.Meaning.{expr_meaning, block_meaning}
 use Rattle.nested_query.specs.Meaning.{source_meaning}
-use Rattle.nested_query.specs.Meaning as query
-use Rattle.nested_query.specs.Reads.{tables, tables_of_source, tables_of_expr, tables_of_aggregate}
-use Rattle.nested_query.specs.Reads.{joined_tables}
+use Rattle.nested_query.specs.Reads.{tables, tables_of_source, tables_of_expr}
 use Rattle.nested_query.specs.Typing.{StateIsOf}
 use Rattle.nested_query.proofs.KeptRows as kept
 use Rattle.nested_query.proofs.Opened.{source_Table_at, source_Derived_at, source_Cross_at}
-use Rattle.nested_query.proofs.Opened.{source_Inner_at, source_Outer_at, block_Plain_at}
-use Rattle.nested_query.proofs.Opened.{block_Grouped_at, block_Distinct_at}
-use Rattle.nested_query.proofs.TablesOpened.{of_Table, of_Derived, of_Cross, of_Inner, of_Outer}
-use Rattle.nested_query.proofs.TablesOpened.{of_Plain, of_Grouped, of_Distinct}
-use Rattle.algebra.specs.declared.aggregate.Aggregate.{Aggregate}
+use Rattle.nested_query.proofs.Opened.{source_Inner_at}
+use Rattle.nested_query.proofs.TablesOpened.{of_Table, of_Derived, of_Cross, of_Inner}
 use Rattle.algebra.specs.declared.tree.DepTree.{DepTree}
 use Rattle.algebra.specs.declared.tree.DepTree.TheVariants as t
 use Rattle.algebra.specs.declared.tree.Side.{Side}
 use Rattle.algebra.specs.declared.tree.Side.TheVariants.{Closed, Shared, Dependent}
-use Rattle.algebra.specs.Trees.{tree_rows, scans_of, width_of, right_row, side_of, listed}
-use Rattle.algebra.proofs.Opened.{rows_Scan, rows_Project, rows_Join, rows_Outer, rows_Select}
-use Rattle.algebra.proofs.Opened.{scans_Scan, scans_Project, scans_Join, scans_Outer, scans_Select}
-use Rattle.algebra.proofs.Opened.{width_Scan, width_Project, width_Join, width_Outer, width_Select}
+use Rattle.algebra.specs.Trees.{tree_rows, scans_of, width_of, right_row, listed}
+use Rattle.algebra.proofs.Opened.{rows_Scan, rows_Project, rows_Join}
+use Rattle.algebra.proofs.Opened.{scans_Scan, scans_Project, scans_Join}
+use Rattle.algebra.proofs.Opened.{width_Scan, width_Project, width_Join}
 use Rattle.dependent_plan.specs.declared.sight.OuterColumn.{OuterColumn}
-use Rattle.dependent_plan.specs.Dependence.{domain_row, IsTreeOf}
-use Rattle.dependent_plan.specs.Growth.{IsDomain, Sees, Attaches, Reading, RowsOf, AreRows, IsTree}
-use Rattle.dependent_plan.specs.Growth.{IsRightTree, IsSubquery, AreAt, AreKeys, ExprAt, ListAt}
-use Rattle.dependent_plan.specs.Growth.{AggregatesAt, SameFunctions, IsTrimmed, source_of, block_of}
-use Rattle.dependent_plan.specs.Growth.{widened}
-use Rattle.dependent_plan.proofs.Places.{sees_row, sees_right, domain_wider, domain_none}
+use Rattle.dependent_plan.specs.Dependence.{domain_row}
+use Rattle.dependent_plan.specs.Growth.{IsDomain, Attaches, Reading, RowsOf, IsTree}
+use Rattle.dependent_plan.specs.Growth.{IsRightTree, IsSubquery, AreAt, ExprAt}
+use Rattle.dependent_plan.specs.Growth.{IsTrimmed, source_of, block_of}
+use Rattle.dependent_plan.proofs.Places.{domain_none}
 use Rattle.dependent_plan.proofs.Places.{domain_whole}
-use Rattle.dependent_plan.proofs.Widenings.{select_widened, widened_none, project_widened}
-use Rattle.dependent_plan.proofs.Widenings.{join_is_select, join_agrees, outer_agrees}
-use Rattle.dependent_plan.proofs.Widenings.{outer_lowered}
+use Rattle.dependent_plan.proofs.Widenings.{widened_none, project_widened}
+use Rattle.dependent_plan.proofs.Widenings.{join_is_select, join_agrees}
 use Rattle.dependent_plan.proofs.QueryTrees.{Stage, Anything, stage_begin, stage_more, stage_select}
-use Rattle.dependent_plan.proofs.QueryTrees.{stage_project, stage_group, distinct_tree}
 
 -- ---- the same rows by another name
 
@@ -214,7 +198,7 @@ subquery_closed q outer start w tree s = record { scans = s.scans; rows = s.rows
 
 -- ---- joins
 
-always_holds : (d r : List Value) → says (all_of []) d r ≡ true_rank
+pub always_holds : (d r : List Value) → says (all_of []) d r ≡ true_rank
 unfolding says
 always_holds d r = rank_All [] (d ++ r)
 
@@ -282,7 +266,7 @@ length-columns_from : (k n : ℕ) → length (columns_from k n) ≡ n
 length-columns_from k zero = refl
 length-columns_from k (suc n) = ap suc (length-columns_from (suc k) n)
 
-nothing : (xs : List Value) → length xs ≡ 0 → xs ≡ []
+pub nothing : (xs : List Value) → length xs ≡ 0 → xs ≡ []
 nothing [] e = refl
 nothing (x ∷ xs) e = cc
 
@@ -367,287 +351,3 @@ inner_arm outer start x y on a b n begin left right side grown last c new l r e 
     ∙ sym (source_Inner_at state x y on env))
 
 -- ---- outer joins
-
-outer_rows : (x y : BoundSource) (on : BoundExpr) (outer : List OuterColumn) (start a b n : ℕ)
-    (left right : DepTree) → IsTree (tables_of_source x) (source_of x) outer start left a
-    → AreRows (source_of y) b → n ≡ a + b
-    → AreRows (λ state env. outer_loop (replicate b Null) (holds_for (expr_meaning state on) env)
-    (source_meaning state x env) (λ l. source_meaning state y env)) n
-outer_rows x y on outer start a b n left right l r e = record {
-  stand = λ state env.
-      stands.outer_stands (replicate b Null) (holds_for (expr_meaning state on) env)
-      (source_meaning state x env) (λ l. source_meaning state y env) (l.are_rows.stand state env);
-  wide = λ state ok env.
-      kept.outer_each (λ v. length v ≡ a) (λ v. length v ≡ b) (λ v. length v ≡ n) (replicate b Null)
-      (holds_for (expr_meaning state on) env) (source_meaning state x env)
-      (source_meaning state y env)
-      (λ u v p q. length-append u v ∙ ap (λ k. k + length v) p ∙ ap (λ k. a + k) q ∙ sym e)
-      (length-replicate b Null) (l.are_rows.wide state ok env) (r.wide state ok env);
-}
-
-says_on : (on : BoundExpr) (c : Expr) (state : State) (env : Env) (d v : List Value)
-    → ExprAt on c state env v (d ++ v) → says c d v ≡ holds_for (expr_meaning state on) env v
-unfolding ExprAt says rank_of
-says_on on c state env d v p = ap truth_rank p.1
-
--- under a condition that reads columns only
-pub plain_outer_arm : (outer : List OuterColumn) (start : ℕ) (x y : BoundSource) (on : BoundExpr)
-    (a b n : ℕ) (left right : DepTree) (side : Side) (c : Expr)
-    → IsTree (tables_of_source x) (source_of x) outer start left a
-    → IsRightTree (tables_of_source y) (source_of y) outer start right side b → n ≡ a + b
-    → tables_of_expr on ≡ []
-    → ((state : State) (env : Env) (r flat : List Value) → Sees outer start n env r flat
-    → ExprAt on c state env r flat)
-    → IsTree (tables_of_source (source.Outer x y b on)) (source_of (source.Outer x y b on)) outer
-    start (t.Outer left right side c) n
-plain_outer_arm outer start x y on a b n left right side c l r e none at =
-    let As : List TableName = tables_of_source x in
-    let Bs : List TableName = tables_of_source y in
-    let K : RowsOf = λ state env.
-    outer_loop (replicate b Null) (holds_for (expr_meaning state on) env)
-    (source_meaning state x env) (λ l. source_meaning state y env) in
-    tree_as (As ++ Bs) (tables_of_source (source.Outer x y b on)) K
-    (source_of (source.Outer x y b on)) outer start (t.Outer left right side c) n
-    (record {
-      are_rows = outer_rows x y on outer start a b n left right l r.are_rows e;
-      scans = scans_Outer left right side c ∙ ap (λ k. k ++ scans_of right) l.scans
-          ∙ ap (λ k. As ++ k) r.scans;
-      width = width_Outer left right side c ∙ ap (λ k. k + width_of right) l.width
-          ∙ ap (λ k. a + k) r.width ∙ sym e;
-      rows = λ state ok env d i.
-          let R : List Value → List (Ranked Value) =
-          λ u. tree_rows right (table_rows state) (right_row side d u) in
-          rows_Outer left right side c (table_rows state) d
-          ∙ ap (λ xs. outer_loop (replicate (width_of right) Null) (says c d) xs R)
-          (l.rows state ok env d i)
-          ∙ ap (λ k. outer_loop (replicate k Null) (says c d) (source_meaning state x env) R)
-          r.width
-          ∙ outer_agrees (λ (u : Ranked Value). length u.values ≡ a)
-          (λ (v : Ranked Value). length v.values ≡ b) (replicate b Null) (says c d)
-          (holds_for (expr_meaning state on) env)
-          (source_meaning state x env) (source_meaning state y env) R
-          (λ u v p q. says_on on c state env d (u.values ++ v.values)
-          (at state env (u.values ++ v.values) (d ++ (u.values ++ v.values))
-          (sees_row outer start n env d (u.values ++ v.values) i
-          (length-append u.values v.values ∙ ap (λ k. k + length v.values) p ∙ ap (λ k. a + k) q
-          ∙ sym e))))
-          (λ u. r.rows state ok env d i u) (l.are_rows.wide state ok env)
-          (r.are_rows.wide state ok env);
-    })
-    (sym (append-nil (As ++ Bs)) ∙ ap (λ k. (As ++ Bs) ++ k) (sym none) ∙ sym (of_Outer x y b on))
-    (λ state env. sym (source_Outer_at state x y b on env))
-
--- the domain row of a right side that depends on all columns
-all_columns : (d l : List Value) (places : List ℕ) (n : ℕ) → places ≡ columns_from 0 n
-    → length (d ++ l) ≡ n → right_row (Dependent places) d l ≡ d ++ l
-unfolding right_row gathered
-all_columns d l [] zero is e = sym (nothing (d ++ l) e)
-all_columns d l [] (suc n) is e = cc
-all_columns d l (p ∷ places) n is e = ap (λ cs. columns Null cs (d ++ l)) is
-    ∙ gather_at 0 n (d ++ l) [] (d ++ l) [] (sym (append-nil (d ++ l))) refl e
-
-on_said : (on : BoundExpr) (c : Expr) (state : State) (env : Env) (d v f r : List Value)
-    → ExprAt on c state env r (d ++ (v ++ f))
-    → says c d (v ++ f) ≡ holds_for (expr_meaning state on) env r
-unfolding ExprAt says rank_of
-on_said on c state env d v f r p = ap truth_rank p.1
-
--- under any condition, over the domain row and the left row
-pub lateral_outer_arm : (outer : List OuterColumn) (start : ℕ) (x y : BoundSource) (on : BoundExpr)
-    (a b n m begin end last : ℕ) (left right grown : DepTree) (c : Expr) (trimmed : DepTree)
-    (places : List ℕ)
-    → IsTree (tables_of_source x) (source_of x) outer start left a → m ≡ start + a
-    → IsTree (tables_of_source y) (source_of y) outer m right b → n ≡ a + b
-    → begin ≡ m + b → Attaches outer start n (tables_of_expr on) (ExprAt on c) right begin grown
-    last
-    → IsTrimmed (t.Select grown c) m b last trimmed → places ≡ columns_from 0 m
-    → IsTree (tables_of_source (source.Outer x y b on)) (source_of (source.Outer x y b on)) outer
-    start (t.Outer left trimmed (Dependent places) (all_of [])) n
-lateral_outer_arm outer start x y on a b n m begin end last left right grown c trimmed places l sm r
-    e g at trim cols =
-    let As : List TableName = tables_of_source x in
-    let Bs : List TableName = tables_of_source y in
-    let side : Side = Dependent places in
-    let K : RowsOf = λ state env.
-    outer_loop (replicate b Null) (holds_for (expr_meaning state on) env)
-    (source_meaning state x env) (λ l. source_meaning state y env) in
-    let grown_width : width_of (t.Select grown c) + m ≡ last =
-    ap (λ k. k + m) (width_Select grown c)
-    ∙ at.width m (let k : width_of right ≡ b = r.width in omega (arith, k, g)) in
-    let width : width_of trimmed ≡ b = trim.width grown_width in
-    tree_as (As ++ (Bs ++ tables_of_expr on)) (tables_of_source (source.Outer x y b on)) K
-    (source_of (source.Outer x y b on)) outer start (t.Outer left trimmed side (all_of [])) n
-    (record {
-      are_rows = outer_rows x y on outer start a b n left right l r.are_rows e;
-      scans = scans_Outer left trimmed side (all_of []) ∙ ap (λ k. k ++ scans_of trimmed) l.scans
-          ∙ ap (λ k. As ++ k) (trim.scans ∙ scans_Select grown c ∙ at.scans
-          ∙ ap (λ k. k ++ tables_of_expr on) r.scans);
-      width = width_Outer left trimmed side (all_of []) ∙ ap (λ k. k + width_of trimmed) l.width
-          ∙ ap (λ k. a + k) width ∙ sym e;
-      rows = λ state ok env d i.
-          let R : List Value → List (Ranked Value) =
-          λ u. tree_rows trimmed (table_rows state) (right_row side d u) in
-          let p : List Value → ℕ = holds_for (expr_meaning state on) env in
-          let B : List (Ranked Value) = source_meaning state y env in
-          let f : List Value → List Value → List Value = λ u. at.adds state (d ++ u) in
-          let domain : (u : List Value) → length u ≡ a → IsDomain outer m env (d ++ u) =
-          λ u h. subst (λ k. IsDomain outer k env (d ++ u)) (sym sm)
-          (domain_wider outer start a env d u i h) in
-          let wide : Width b B = r.are_rows.wide state ok env in
-          let kept_on : (u : Ranked Value) → length u.values ≡ a
-          → R u.values ≡ select (λ v. p (u.values ++ v)) B =
-          λ u h.
-          ap (tree_rows trimmed (table_rows state))
-          (all_columns d u.values places m cols (domain u.values h).size)
-          ∙ trim.rows state (d ++ u.values) (f u.values) (select (λ v. p (u.values ++ v)) B)
-          (domain u.values h).size
-          (kept.select_each (λ v. length v ≡ b) (λ v. p (u.values ++ v)) B wide)
-          (λ v. ap (λ k. k + length (f u.values v)) (sym g) ∙ at.count state (d ++ u.values) v)
-          (rows_Select grown c (table_rows state) (d ++ u.values)
-          ∙ ap (select (says c (d ++ u.values)))
-          (at.rows state (d ++ u.values)
-          ∙ ap (map (widened (f u.values)))
-          (r.rows state ok env (d ++ u.values) (domain u.values h)))
-          ∙ select_widened (f u.values) (says c (d ++ u.values)) (λ v. p (u.values ++ v)) B
-          (Each-weaker (λ (v : Ranked Value). length v.values ≡ b)
-          (λ (v : Ranked Value). says c (d ++ u.values) (v.values ++ f u.values v.values)
-          ≡ p (u.values ++ v.values)) B
-          (λ v k. on_said on c state env (d ++ u.values) v.values (f u.values v.values)
-          (u.values ++ v.values)
-          (subst (ExprAt on c state env (u.values ++ v.values))
-          (append-nil ((d ++ u.values) ++ (v.values ++ f u.values v.values)))
-          (at.reads state ok env (d ++ u.values) v.values (u.values ++ v.values)
-          (subst (λ z. Sees outer start z env (u.values ++ v.values) ((d ++ u.values) ++ v.values))
-          (sym e) (sees_right outer start a b env d u.values v.values i h k))
-          (length-append (d ++ u.values) v.values
-          ∙ ap (λ z. z + length v.values) (domain u.values h).size ∙ ap (λ z. m + z) k ∙ sym g)
-          []))) wide))
-          in
-          rows_Outer left trimmed side (all_of []) (table_rows state) d
-          ∙ ap (λ xs. outer_loop (replicate (width_of trimmed) Null) (says (all_of []) d) xs R)
-          (l.rows state ok env d i)
-          ∙ ap (λ k. outer_loop (replicate k Null) (says (all_of []) d) (source_meaning state x env)
-          R) width
-          ∙ outer_lowered (λ (u : Ranked Value). length u.values ≡ a) (replicate b Null)
-          (says (all_of []) d) p (source_meaning state x env) B R
-          (always_holds d) kept_on (l.are_rows.wide state ok env) (l.are_rows.stand state env);
-    })
-    (sym (append_assoc As Bs (tables_of_expr on)) ∙ sym (of_Outer x y b on))
-    (λ state env. sym (source_Outer_at state x y b on env))
-
--- ---- whole queries
-
-pub plain_arm : (outer : List OuterColumn) (start : ℕ) (from : BoundSource) (condition : BoundExpr)
-    (list : List BoundExpr) (w n : ℕ) (source : DepTree) (end : ℕ) (kept' : DepTree) (between : ℕ)
-    (c : Expr) (grown : DepTree) (last : ℕ) (xs : List Expr)
-    → IsTree (tables_of_source from) (source_of from) outer start source w → end ≡ start + w
-    → Attaches outer start w (tables_of_expr condition) (ExprAt condition c) source end kept'
-    between
-    → Attaches outer start w (joined_tables (map tables_of_expr list)) (ListAt list xs)
-    (t.Select kept' c) between grown last
-    → n ≡ length xs → length xs ≡ length list
-    → IsTree (tables (block.Plain from condition list)) (block_of (block.Plain from condition list))
-    outer start (t.Project grown xs) n
-plain_arm outer start from condition list w n source end kept' between c grown last xs is e a b m
-    same =
-    let S : List TableName = tables_of_source from in
-    let C : List TableName = tables_of_expr condition in
-    let Ls : List TableName = joined_tables (map tables_of_expr list) in
-    let K : RowsOf = source_of from in
-    let L : RowsOf = λ state env.
-    select (holds_for (expr_meaning state condition) env) (K state env) in
-    tree_as ((S ++ C) ++ Ls) (tables (block.Plain from condition list))
-    (λ state env. project (query.listed (map (expr_meaning state) list) env) (L state env))
-    (block_of (block.Plain from condition list)) outer start (t.Project grown xs) n
-    (stage_project ((S ++ C) ++ Ls) L outer start w list xs grown last n
-    (stage_more (S ++ C) L outer start w Ls Anything (ListAt list xs) (t.Select kept' c) between
-    grown last
-    (stage_select (S ++ C) K outer start w condition c kept' between
-    (stage_more S K outer start w C Anything (ExprAt condition c) source end kept' between
-    (stage_begin S K outer start w source end is e) a)) b)
-    m same)
-    (sym (of_Plain from condition list))
-    (λ state env. sym (block_Plain_at state from condition list env))
-
-pub grouped_arm : (outer : List OuterColumn) (start : ℕ) (from : BoundSource)
-    (condition : BoundExpr) (keys : List ℕ) (as' : List BoundAggregate) (having : BoundExpr)
-    (list : List BoundExpr)
-    (w v n : ℕ) (source : DepTree) (end : ℕ) (kept' : DepTree) (between : ℕ) (c : Expr)
-    (places : List ℕ) (counted : DepTree) (next : ℕ) (gs : List Aggregate)
-    (begin : ℕ) (had : DepTree) (later : ℕ) (h : Expr) (grown : DepTree) (last : ℕ) (xs : List Expr)
-    → IsTree (tables_of_source from) (source_of from) outer start source w → end ≡ start + w
-    → Attaches outer start w (tables_of_expr condition) (ExprAt condition c) source end kept'
-    between
-    → AreKeys outer start w keys places
-    → Attaches outer start w (joined_tables (map tables_of_aggregate as')) (AggregatesAt as' gs)
-    (t.Select kept' c) between counted next
-    → SameFunctions as' gs → length gs ≡ length as' → v ≡ length places + length gs
-    → begin ≡ start + v
-    → Attaches outer start v (tables_of_expr having) (ExprAt having h) (t.Group counted places gs)
-    begin had later
-    → Attaches outer start v (joined_tables (map tables_of_expr list)) (ListAt list xs)
-    (t.Select had h) later grown last
-    → n ≡ length xs → length xs ≡ length list
-    → IsTree (tables (block.Grouped from condition keys as' having list))
-    (block_of (block.Grouped from condition keys as' having list)) outer start (t.Project grown xs)
-    n
-grouped_arm outer start from condition keys as' having list w v n source end kept' between c places
-    counted next gs begin had later h grown last xs is e a k b same many u g p q m count =
-    let S : List TableName = tables_of_source from in
-    let C : List TableName = tables_of_expr condition in
-    let As : List TableName = joined_tables (map tables_of_aggregate as') in
-    let H : List TableName = tables_of_expr having in
-    let Ls : List TableName = joined_tables (map tables_of_expr list) in
-    let K : RowsOf = source_of from in
-    let L : RowsOf = λ state env.
-    select (holds_for (expr_meaning state condition) env) (K state env) in
-    let G : RowsOf = λ state env.
-    groups keys (aggregated (map (λ (x : AggregateMeaning). x env)
-    (map (aggregate_meaning state) as'))) (L state env) in
-    let M : RowsOf = λ state env.
-    select (holds_for (expr_meaning state having) env) (G state env) in
-    let grouped : IsTree ((S ++ C) ++ As) G outer start (t.Group counted places gs) v =
-    stage_group ((S ++ C) ++ As) L outer start w keys places as' gs counted next v
-    (stage_more (S ++ C) L outer start w As Anything (AggregatesAt as' gs) (t.Select kept' c)
-    between counted next
-    (stage_select (S ++ C) K outer start w condition c kept' between
-    (stage_more S K outer start w C Anything (ExprAt condition c) source end kept' between
-    (stage_begin S K outer start w source end is e) a)) b)
-    k same u many in
-    let all : List TableName = (((S ++ C) ++ As) ++ H) ++ Ls in
-    tree_as all (tables (block.Grouped from condition keys as' having list))
-    (λ state env. project (query.listed (map (expr_meaning state) list) env) (M state env))
-    (block_of (block.Grouped from condition keys as' having list)) outer start (t.Project grown xs)
-    n
-    (stage_project all M outer start v list xs grown last n
-    (stage_more (((S ++ C) ++ As) ++ H) M outer start v Ls Anything (ListAt list xs)
-    (t.Select had h) later grown last
-    (stage_select (((S ++ C) ++ As) ++ H) G outer start v having h had later
-    (stage_more ((S ++ C) ++ As) G outer start v H Anything (ExprAt having h)
-    (t.Group counted places gs) begin had later
-    (stage_begin ((S ++ C) ++ As) G outer start v (t.Group counted places gs) begin grouped g) p))
-    q)
-    m count)
-    (sym (of_Grouped from condition keys as' having list))
-    (λ state env. sym (block_Grouped_at state from condition keys as' having list env))
-
-pub distinct_arm : (outer : List OuterColumn) (start : ℕ) (q : BoundBlock) (w : ℕ) (tree : DepTree)
-    → IsTree (tables q) (block_of q) outer start tree w
-    → IsTree (tables (block.Distinct q)) (block_of (block.Distinct q)) outer start (t.Distinct tree)
-    w
-distinct_arm outer start q w tree is =
-    tree_as (tables q) (tables (block.Distinct q))
-    (λ state env. distinct same_value (block_meaning state q env)) (block_of (block.Distinct q))
-    outer start (t.Distinct tree) w
-    (distinct_tree (tables q) (block_of q) outer start w tree is)
-    (sym (of_Distinct q)) (λ state env. sym (block_Distinct_at state q env))
-
-pub whole : (q : BoundBlock) (outer : List OuterColumn) (start w : ℕ) (tree : DepTree)
-    → IsTree (tables q) (block_of q) outer start tree w → start ≡ length outer
-    → IsTreeOf q outer tree
-unfolding query.rows
-whole q outer start w tree is e = record {
-  rows = λ state ok env. is.rows state ok env (domain_row outer env)
-      (subst (λ k. IsDomain outer k env (domain_row outer env)) (sym e) (domain_whole outer env));
-  scans = is.scans;
-}

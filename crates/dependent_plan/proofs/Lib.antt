@@ -5,4 +5,13 @@ pub mod InputTrees
 pub mod PlaceLists
 pub mod QueryTrees
 pub mod FromTrees
+pub mod OuterTrees
+pub mod BlockTrees
 pub mod SeenArms
+pub mod SeeksOpened
+pub mod TypedParts
+pub mod Within
+pub mod Supplies
+pub mod SuppliedSources
+pub mod SuppliedClauses
+pub mod Found

@@ -33,8 +33,10 @@ use Rattle.dependent_plan.specs.Growth.{InputsAt, ExprAt, ListAt, AggregatesAt, 
 use Rattle.dependent_plan.specs.Growth.{source_of, block_of}
 use Rattle.dependent_plan.proofs.InputTrees.{column_arm, exists_arm, scalar_arm, in_arm, expr_arm}
 use Rattle.dependent_plan.proofs.FromTrees.{table_arm, derived_arm, cross_arm, inner_arm}
-use Rattle.dependent_plan.proofs.FromTrees.{plain_outer_arm, lateral_outer_arm, plain_arm}
-use Rattle.dependent_plan.proofs.FromTrees.{grouped_arm, distinct_arm, right_shared, right_closed}
+use Rattle.dependent_plan.proofs.OuterTrees.{plain_outer_arm, lateral_outer_arm}
+use Rattle.dependent_plan.proofs.BlockTrees.{plain_arm}
+use Rattle.dependent_plan.proofs.BlockTrees.{grouped_arm, distinct_arm}
+use Rattle.dependent_plan.proofs.FromTrees.{right_shared, right_closed}
 use Rattle.dependent_plan.proofs.FromTrees.{subquery_dependent, subquery_closed}
 
 -- a tree by another name

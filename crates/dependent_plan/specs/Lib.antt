@@ -1,2 +1,4 @@
 pub mod Dependence
 pub mod Growth
+pub mod Seeks
+pub mod Supplied

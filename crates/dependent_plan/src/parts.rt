@@ -1,5 +1,6 @@
 //! The nodes of a tree that stand above what a query's parts became.
-ghost use Rattle.std.specs.Prelude.{◌≡◌, ◌+◌, [], length, map, IfOk};
+ghost use Rattle.std.specs.Prelude.{◌≡◌, ◌+◌, ◌<◌, [], length, map, IfOk};
+ghost use Rattle.std.specs.List.{All};
 ghost use Rattle.scalar_expr.specs.declared.expr.Expr.TheVariants.{Column as column_of};
 ghost use Rattle.scalar_expr.specs.declared.expr.Expr.TheVariants.{All as all_of};
 ghost use Rattle.scalar_expr.specs.declared.expr.Expr.TheVariants.{Compare as compare_of};
@@ -9,6 +10,7 @@ ghost use Rattle.conditions.specs.Ranks.{columns_from};
 ghost use Rattle.algebra.specs.declared.aggregate.Aggregate.TheVariants as aggregate;
 ghost use Rattle.algebra.specs.declared.tree.DepTree.TheVariants as node;
 ghost use Rattle.dependent_plan.specs.Growth.{AreAt, AreKeys, IsTrimmed};
+ghost use Rattle.dependent_plan.specs.Supplied.{AreSeen};
 
 use crate::sight::{OuterColumn, Sight, place_of};
 use aggregates::AggregateFunction;
@@ -247,7 +249,8 @@ pub fn trimmed(alloc: Global, grown: Grown, start: u32, width: u32) -> Result<Ro
 
 // The places of the GROUP BY columns.
 pub fn key_places(alloc: Global, sight: &Sight, keys: &[u32]) -> Result<Items<u32>, AllocError>
-    ensures { IfOk result (AreKeys sight.now.outer.now sight.now.start sight.now.width keys.now) }
+    ensures { IfOk result (λ ps. All (λ key. key < sight.now.width) keys.now
+        → AreKeys sight.now.outer.now sight.now.start sight.now.width keys.now ps) }
 {
     let mut places = Items::new(alloc);
     for key in keys {
@@ -285,7 +288,8 @@ pub fn outer_places(
     sight: &Sight,
     outer: &[OuterColumn],
 ) -> Result<Items<u32>, AllocError>
-    ensures { IfOk result (AreAt sight.now.outer.now sight.now.start sight.now.width outer.now) }
+    ensures { IfOk result (λ ps. AreSeen sight.now.outer.now sight.now.width outer.now
+        → AreAt sight.now.outer.now sight.now.start sight.now.width outer.now ps) }
 {
     let mut places = Items::new(alloc);
     for column in outer {

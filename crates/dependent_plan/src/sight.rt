@@ -1,6 +1,8 @@
 //! Where an expression of a query finds its columns in a flat row.
-ghost use Rattle.std.specs.Prelude.{◌≡◌, Some, IfOk, slice_get};
+ghost use Rattle.std.specs.Prelude.{◌≡◌, Some, IfOk, IsTrue, slice_get};
 ghost use Rattle.dependent_plan.specs.Growth.{IsAt};
+ghost use Rattle.dependent_plan.specs.Seeks.{has};
+ghost use Rattle.dependent_plan.specs.Supplied.{IsSeen};
 
 use std::alloc::AllocError;
 
@@ -25,22 +27,23 @@ pub struct Sight<'a> {
     pub width: u32,
 }
 
-// The place of a column of the rows around. It is there: these are the columns that the query
-// reads.
+// The place of a column of the rows around, or 0 where the list has no such column.
 fn place_in(outer: &[OuterColumn], column: OuterColumn) -> Result<u32, AllocError>
-    ensures { IfOk result (λ at. slice_get outer.now at ≡ Some column) }
+    ensures { IfOk result (λ at. IsTrue (has outer.now column.level column.place)
+        → slice_get outer.now at ≡ Some column) }
 {
     for (i, other) in outer.iter().enumerate() {
         if *other == column {
             return u32::try_from(i).map_err(|_| AllocError);
         }
     }
-    Err(AllocError)
+    Ok(0)
 }
 
-// The place of a column that an expression reads.
+// The place of a column that an expression reads. A well-typed one reads only what it sees.
 pub fn place_of(sight: &Sight, level: u32, place: u32) -> Result<u32, AllocError>
-    ensures { IfOk result (IsAt sight.now.outer.now sight.now.start sight.now.width level place) }
+    ensures { IfOk result (λ at. IsSeen sight.now.outer.now sight.now.width level place
+        → IsAt sight.now.outer.now sight.now.start sight.now.width level place at) }
 {
     if level > 0 {
         let column = OuterColumn {
@@ -49,10 +52,8 @@ pub fn place_of(sight: &Sight, level: u32, place: u32) -> Result<u32, AllocError
         };
         let at = place_in(sight.outer, column)?;
         Ok(at)
-    } else if place < sight.width {
+    } else {
         let at = sight.start.checked_add(place).ok_or(AllocError)?;
         Ok(at)
-    } else {
-        Err(AllocError)
     }
 }

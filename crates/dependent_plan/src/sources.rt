@@ -7,6 +7,7 @@ ghost use Rattle.nested_query.specs.Reads.{tables_of_expr};
 ghost use Rattle.algebra.specs.declared.tree.DepTree.TheVariants as node;
 ghost use Rattle.algebra.specs.declared.tree.Side.TheVariants.{Dependent as dependent_of};
 ghost use Rattle.dependent_plan.specs.Growth.{IsPlain, ArePlain, DependsOn};
+ghost use Rattle.dependent_plan.specs.Supplied.{ExprIsSupplied, InputsAreSupplied};
 
 use crate::parts::{Right, Rows, always};
 use crate::sight::{Sight, place_of};
@@ -69,8 +70,8 @@ fn plain_places(
     inputs: &[Input],
     sight: &Sight,
 ) -> Result<Option<Items<u32>>, AllocError>
-    ensures { IfOk result (ArePlain sight.now.outer.now sight.now.start sight.now.width
-        inputs.now) }
+    ensures { IfOk result (λ o. InputsAreSupplied inputs.now sight.now.outer.now sight.now.width
+        → ArePlain sight.now.outer.now sight.now.start sight.now.width inputs.now o) }
 {
     let mut places = Items::new(alloc);
     for input in inputs {
@@ -91,7 +92,8 @@ pub fn plain_condition(
     on: &BoundExpr,
     sight: &Sight,
 ) -> Result<Option<Boxed<Expr>>, AllocError>
-    ensures { IfOk result (IsPlain sight.now.outer.now sight.now.start sight.now.width on.now) }
+    ensures { IfOk result (λ o. ExprIsSupplied on.now sight.now.outer.now sight.now.width
+        → IsPlain sight.now.outer.now sight.now.start sight.now.width on.now o) }
 {
     match plain_places(alloc, on.inputs.as_slice(), sight)? {
         Some(places) => {
@@ -112,11 +114,8 @@ pub fn outer_joined(
     condition: Boxed<Expr>,
 ) -> Result<Rows, AllocError>
     ensures { IfOk result (λ r. (r.tree ≡ node.Outer left.tree right.rows.tree right.side condition)
-        × (r.width ≡ left.width + nulls) × (right.rows.width ≡ nulls)) }
+        × (r.width ≡ left.width + nulls)) }
 {
-    if right.rows.width != nulls {
-        return Err(AllocError);
-    }
     let width = left.width.checked_add(nulls).ok_or(AllocError)?;
     let tree = DepTree::Outer(left.tree, right.rows.tree, right.side, condition);
     let tree = Boxed::new(alloc, tree)?;
@@ -144,7 +143,7 @@ pub fn lateral_outer(
 ) -> Result<Rows, AllocError>
     ensures { IfOk result (λ r.
         (r.tree ≡ node.Outer left.tree right.tree (dependent_of (columns_from 0 begin)) (all_of []))
-        × (r.width ≡ left.width + nulls) × (right.width ≡ nulls)) }
+        × (r.width ≡ left.width + nulls)) }
 {
     let columns = first_columns(alloc, begin)?;
     let side = Side::Dependent(columns);

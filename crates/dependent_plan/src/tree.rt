@@ -1,5 +1,7 @@
 //! The tree of each part of a query.
-ghost use Rattle.std.specs.Prelude.{◌≡◌, [], length, map, IfOk};
+ghost use Rattle.std.specs.Prelude.{◌≡◌, List, [], length, map, IfOk};
+ghost use Rattle.scalar_expr.specs.declared.kind.Kind.{Kind};
+ghost use Rattle.nested_query.specs.Typing.{IsWellTyped, block_kinds, from_kinds};
 ghost use Rattle.nested_query.specs.Reads.{tables, tables_of_source, tables_of_input};
 ghost use Rattle.nested_query.specs.Reads.{tables_of_expr, tables_of_aggregate, joined_tables};
 ghost use Rattle.dependent_plan.specs.Dependence.{IsTreeOf};
@@ -7,6 +9,10 @@ ghost use Rattle.dependent_plan.specs.Growth.{source_of, block_of, IsTree, IsRig
 ghost use Rattle.dependent_plan.specs.Growth.{Attaches, InputAt, InputsAt, ExprAt, ListAt};
 ghost use Rattle.dependent_plan.specs.Growth.{AggregateAt, AggregatesAt, SameFunction};
 ghost use Rattle.dependent_plan.specs.Growth.{SameFunctions};
+ghost use Rattle.dependent_plan.specs.Supplied.{AggregateIsSupplied, AggregatesAreSupplied};
+ghost use Rattle.dependent_plan.specs.Supplied.{ExprIsSupplied, InputIsSupplied, IsWidthOf};
+ghost use Rattle.dependent_plan.specs.Supplied.{InputsAreSupplied, ListIsSupplied, QueryIsSupplied};
+ghost use Rattle.dependent_plan.specs.Supplied.{SourceIsSupplied, SubqueryIsSupplied};
 
 use crate::outer::{outer_columns, reads_outer};
 use crate::parts::{
@@ -29,6 +35,7 @@ use std::alloc::{AllocError, Global};
 /// after the other; an expression is then read from the flat row of the domain's columns, the row's
 /// own and these. A subquery's domain row has just the columns of the rows around that it reads.
 pub fn depend(alloc: Global, query: &BoundQuery) -> Result<Boxed<DepTree>, AllocError>
+    requires { (kinds : List Kind) × IsWellTyped query.now.block kinds }
     ensures { IfOk result (IsTreeOf query.now.block []) }
 {
     let tree = depend_under(alloc, query.block.get(), &[])?;
@@ -42,6 +49,7 @@ pub fn depend_under(
     q: &BoundBlock,
     outer: &[OuterColumn],
 ) -> Result<Boxed<DepTree>, AllocError>
+    requires { QueryIsSupplied q.now outer.now }
     ensures { IfOk result (IsTreeOf q.now outer.now) }
 {
     let start = u32::try_from(outer.len()).map_err(|_| AllocError)?;
@@ -56,8 +64,9 @@ fn block(
     outer: &[OuterColumn],
     start: u32,
 ) -> Result<Rows, AllocError>
-    ensures { IfOk result (λ r.
-        IsTree (tables q.now) (block_of q.now) outer.now start r.tree r.width) }
+    ensures tree { IfOk result (λ r. QueryIsSupplied q.now outer.now
+        → IsTree (tables q.now) (block_of q.now) outer.now start r.tree r.width) }
+    ensures width { IfOk result (λ r. IsWidthOf (block_kinds q.now) r.width) }
 {
     match q {
         BoundBlock::Plain(from, condition, list) => {
@@ -117,8 +126,9 @@ fn source(
     outer: &[OuterColumn],
     start: u32,
 ) -> Result<Rows, AllocError>
-    ensures { IfOk result (λ r.
-        IsTree (tables_of_source s.now) (source_of s.now) outer.now start r.tree r.width) }
+    ensures tree { IfOk result (λ r. SourceIsSupplied s.now outer.now
+        → IsTree (tables_of_source s.now) (source_of s.now) outer.now start r.tree r.width) }
+    ensures width { IfOk result (λ r. IsWidthOf (from_kinds s.now) r.width) }
 {
     match s {
         BoundSource::Table(table) => {
@@ -195,11 +205,13 @@ fn right_source(
     outer: &[OuterColumn],
     start: u32,
 ) -> Result<RightRows, AllocError>
-    ensures { IfOk result (λ r.
-        IsRightTree (tables_of_source s.now) (source_of s.now) outer.now start r.rows.tree r.side
+    ensures tree { IfOk result (λ r. SourceIsSupplied s.now outer.now
+        → IsRightTree (tables_of_source s.now) (source_of s.now) outer.now start r.rows.tree r.side
         r.rows.width) }
+    ensures width { IfOk result (λ r. IsWidthOf (from_kinds s.now) r.rows.width) }
 {
-    if reads_outer(alloc, s.get())? {
+    let reads = reads_outer(alloc, s.get())?;
+    if reads {
         let rows = source(alloc, s.get(), outer, start)?;
         let side = Side::Shared;
         Ok(RightRows { rows, side })
@@ -213,8 +225,8 @@ fn right_source(
 // A subquery, over the domain of the columns of the rows around that it reads.
 #[cycle(depend)]
 fn subquery(alloc: Global, q: &Boxed<BoundBlock>, sight: &Sight) -> Result<Right, AllocError>
-    ensures { IfOk result (λ r.
-        IsSubquery q.now sight.now.outer.now sight.now.start sight.now.width r.tree r.side) }
+    ensures { IfOk result (λ r. SubqueryIsSupplied q.now sight.now.outer.now sight.now.width
+        → IsSubquery q.now sight.now.outer.now sight.now.start sight.now.width r.tree r.side) }
 {
     let outer = outer_columns(alloc, q.get())?;
     let columns = outer_places(alloc, sight, outer.as_slice())?;
@@ -231,8 +243,8 @@ fn attach_input(
     sight: &Sight,
     grown: Grown,
 ) -> Result<Attached, AllocError>
-    ensures { IfOk result (λ a.
-        Attaches sight.now.outer.now sight.now.start sight.now.width (tables_of_input input.now)
+    ensures { IfOk result (λ a. InputIsSupplied input.now sight.now.outer.now sight.now.width
+        → Attaches sight.now.outer.now sight.now.start sight.now.width (tables_of_input input.now)
         (InputAt input.now a.column)
         grown.tree grown.end a.grown.tree a.grown.end) }
 {
@@ -267,8 +279,8 @@ fn attach_inputs(
     sight: &Sight,
     grown: Grown,
 ) -> Result<Placed, AllocError>
-    ensures { IfOk result (λ p.
-        Attaches sight.now.outer.now sight.now.start sight.now.width
+    ensures { IfOk result (λ p. InputsAreSupplied inputs.now sight.now.outer.now sight.now.width
+        → Attaches sight.now.outer.now sight.now.start sight.now.width
         (joined_tables (map tables_of_input inputs.now)) (InputsAt inputs.now p.columns)
         grown.tree grown.end p.grown.tree p.grown.end) }
 {
@@ -289,8 +301,8 @@ fn attach_expr(
     sight: &Sight,
     grown: Grown,
 ) -> Result<Read, AllocError>
-    ensures { IfOk result (λ r.
-        Attaches sight.now.outer.now sight.now.start sight.now.width (tables_of_expr e.now)
+    ensures { IfOk result (λ r. ExprIsSupplied e.now sight.now.outer.now sight.now.width
+        → Attaches sight.now.outer.now sight.now.start sight.now.width (tables_of_expr e.now)
         (ExprAt e.now r.expr)
         grown.tree grown.end r.grown.tree r.grown.end) }
 {
@@ -307,7 +319,8 @@ fn attach_list(
     grown: Grown,
 ) -> Result<Listed, AllocError>
     ensures attaches { IfOk result
-        (λ l. Attaches sight.now.outer.now sight.now.start sight.now.width
+        (λ l. ListIsSupplied list.now sight.now.outer.now sight.now.width
+        → Attaches sight.now.outer.now sight.now.start sight.now.width
         (joined_tables (map tables_of_expr list.now)) (ListAt list.now l.exprs)
         grown.tree grown.end l.grown.tree l.grown.end) }
     ensures count { IfOk result (λ l. length l.exprs ≡ length list.now) }
@@ -330,7 +343,8 @@ fn attach_aggregate(
     grown: Grown,
 ) -> Result<Counted, AllocError>
     ensures attaches { IfOk result
-        (λ c. Attaches sight.now.outer.now sight.now.start sight.now.width
+        (λ c. AggregateIsSupplied a.now sight.now.outer.now sight.now.width
+        → Attaches sight.now.outer.now sight.now.start sight.now.width
         (tables_of_aggregate a.now) (AggregateAt a.now c.aggregate)
         grown.tree grown.end c.grown.tree c.grown.end) }
     ensures function { IfOk result (λ c. SameFunction a.now c.aggregate) }
@@ -356,7 +370,8 @@ fn attach_aggregates(
     grown: Grown,
 ) -> Result<Summed, AllocError>
     ensures attaches { IfOk result
-        (λ s. Attaches sight.now.outer.now sight.now.start sight.now.width
+        (λ s. AggregatesAreSupplied all.now sight.now.outer.now sight.now.width
+        → Attaches sight.now.outer.now sight.now.start sight.now.width
         (joined_tables (map tables_of_aggregate all.now)) (AggregatesAt all.now s.aggregates)
         grown.tree grown.end s.grown.tree s.grown.end) }
     ensures functions { IfOk result (λ s. SameFunctions all.now s.aggregates) }

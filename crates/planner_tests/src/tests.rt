@@ -1,13 +1,15 @@
 //! Plans with ample memory: their texts, and how the 22 queries of the benchmark join.
-use algebra::{FlatPlan, Node};
+use algebra::{Builder, FlatPlan, Node};
 use parser_tests::QUERIES;
-use query_planner::{plan, plan_text};
+use query_planner::{SessionViews, plan, plan_text};
 use scalar_expr::{Comparison, Expr};
 use sql_ast::Statement;
-use sql_binder::{BindFault, Views, bind_view};
+use sql_binder::BindFault;
 use sql_parser::read_script;
 use sqlite_items::Items;
 use std::alloc::Global;
+use std::test::Fail;
+use tpch_schema::TableName;
 
 /// Whether a condition says that two columns are equal.
 fn is_equality(e: &Expr) -> bool {
@@ -59,7 +61,7 @@ fn products(plan: &FlatPlan) -> u8 {
 fn statement_products(
     alloc: Global,
     statement: &Statement,
-    views: &mut Views,
+    views: &mut SessionViews,
 ) -> Result<u8, BindFault> {
     match statement {
         Statement::Query(query) => {
@@ -67,8 +69,7 @@ fn statement_products(
             Ok(products(&plan))
         }
         Statement::CreateView(name, names, block) => {
-            let view = bind_view(alloc, name, names.as_slice(), block, views)?;
-            views.all.push(view)?;
+            views.make(alloc, name, names.as_slice(), block)?;
             Ok(0)
         }
         _ => Ok(0),
@@ -80,9 +81,7 @@ fn has_no_product(alloc: Global, script: &[u8]) -> Result<bool, BindFault> {
     let Ok(statements) = read_script(alloc, script) else {
         return Ok(false);
     };
-    let mut views = Views {
-        all: Items::new(alloc),
-    };
+    let mut views = SessionViews::new(alloc);
     for statement in statements.as_slice() {
         if statement_products(alloc, statement, &mut views)? > 0 {
             return Ok(false);
@@ -96,9 +95,7 @@ fn is_planned(alloc: Global, script: &[u8], wanted: &[u8]) -> Result<bool, BindF
     let Ok(statements) = read_script(alloc, script) else {
         return Ok(false);
     };
-    let views = Views {
-        all: Items::new(alloc),
-    };
+    let views = SessionViews::new(alloc);
     match statements.as_slice() {
         [Statement::Query(query)] => {
             let plan = plan(alloc, query, &views)?;
@@ -133,4 +130,18 @@ n_regionkey = r_regionkey);";
     let wanted = b"plan nodes 9 reads 2\n0 scan region\n1 project 0\n2 domain 1\n3 scan nation\n\
 4 join 2 3\n5 mark 1 4\n6 project 5\n7 select 6\n8 project 7\n";
     assert!(rt; matches!(is_planned(alloc, marked, wanted), Ok(true)));
+}
+
+#[test]
+#[tactic(auto, using(algebra::proofs::Fits::scan_fits, algebra::proofs::Fits::distinct_fits))]
+fn distinct_rows_of_a_table(rt: HostRuntime) -> Result<(), Fail> {
+    let alloc = rt.alloc();
+    let mut builder = Builder::new(alloc);
+    let region = builder.put(Node::Scan(TableName::Region))?;
+    builder.put(Node::Distinct(region))?;
+    let plan = builder.finish(Items::new(alloc), None);
+    let text = plan_text(alloc, &plan)?;
+    let wanted = b"plan nodes 2 reads 1\n0 scan region\n1 distinct 0\n";
+    assert!(rt; text.as_slice() == wanted.as_slice());
+    Ok(())
 }

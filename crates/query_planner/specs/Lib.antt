@@ -1,3 +1,4 @@
 pub mod PlanText
 pub mod Planned
 pub mod Examples
+pub mod Made

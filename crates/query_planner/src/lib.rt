@@ -4,9 +4,8 @@
 pub mod laws;
 mod planning;
 mod text;
+mod views;
 
 pub use planning::{plan, plan_bound};
 pub use text::plan_text;
-
-#[cfg(test)]
-mod tests;
+pub use views::SessionViews;

@@ -1,14 +1,17 @@
 //! From a bound query to its flat plan.
-ghost use Rattle.std.specs.Prelude.{◌≡◌, IfOk};
+ghost use Rattle.std.specs.Prelude.{◌≡◌, List, IfOk};
+ghost use Rattle.scalar_expr.specs.declared.kind.Kind.{Kind};
+ghost use Rattle.nested_query.specs.Typing.{IsWellTyped};
 ghost use Rattle.sql_binder.specs.Binding.{bound_query};
 ghost use Rattle.query_planner.specs.Planned.{IsPlanOf, Plans};
 
+use crate::views::SessionViews;
 use algebra::{Builder, FlatPlan};
 use dependent_plan::depend;
 use join_order::arrange;
 use nested_query::BoundQuery;
 use sql_ast::Query;
-use sql_binder::{BindFault, Views, bind};
+use sql_binder::{BindFault, bind};
 use std::alloc::{AllocError, Global};
 use unnesting::{Domain, lower};
 
@@ -17,17 +20,18 @@ use unnesting::{Domain, lower};
 /// # Errors
 ///
 /// `Refused` exactly as binding is; `OutOfMemory`.
-pub fn plan(alloc: Global, query: &Query, views: &Views) -> Result<FlatPlan, BindFault>
-    ensures { Plans (bound_query query.now views.now.all) result }
+pub fn plan(alloc: Global, query: &Query, views: &SessionViews) -> Result<FlatPlan, BindFault>
+    ensures { Plans (bound_query query.now views.now) result }
 {
-    let bound = bind(alloc, query, views)?;
+    let bound = bind(alloc, query, &views.views)?;
     let plan = plan_bound(alloc, bound)?;
     Ok(plan)
 }
 
-/// The flat plan of a bound query: its dependent tree, with joins and conditions moved to where
-/// they cost least, lowered to nodes none of which depends on the rows of another.
+/// The flat plan of a well-typed query: its dependent tree, with joins and conditions moved to
+/// where they cost least, lowered to nodes none of which depends on the rows of another.
 pub fn plan_bound(alloc: Global, query: BoundQuery) -> Result<FlatPlan, AllocError>
+    requires { (kinds : List Kind) × IsWellTyped query.block kinds }
     ensures { IfOk result (IsPlanOf query) }
 {
     let tree = depend(alloc, &query)?;

@@ -14,6 +14,7 @@ use Rattle.sql_ast.specs.contracts.statement.Statement as Statement
 use Rattle.sql_ast.specs.contracts.tree.Block as Tree
 use Rattle.snapshot_store.proofs.reader.Reader.TheSendSync.{the_send as reader_send}
 use Rattle.snapshot_store.specs.declared.entry.Entry.{Ghosts}
+use Rattle.query_planner.specs.contracts.views.SessionViews as Views
 use Rattle.query_streams.specs.contracts.session.Session as Session
 use Rattle.query_streams.specs.contracts.work.Work as Work
 
@@ -35,9 +36,13 @@ query_field = search (tree_field, text_send, sendable, crosses) depth 60 fits 20
 pub statement_send : IsSend Statement.the_row
 statement_send = search (query_field, tree_field, text_send, sendable, crosses) depth 60 fits 20000
 
+pub views_send : IsSend Views.the_row
+views_send = search (block_send, text_send, sendable, crosses) depth 60 fits 20000
+
 pub session_send : IsSend Session.the_row
 session_send =
-    search (statement_send, block_send, text_send, sendable, crosses) depth 60 fits 20000
+    search (statement_send, views_send, block_send, text_send, sendable, crosses) depth 60
+    fits 20000
 
 pub work_send : (E N : RattleType) (g : Ghosts E.Denot N.Denot) → IsSend E → IsSend (Work.the_row E N g)
 work_send E N g s = declared_send (Work.the_type E N g) (

@@ -15,11 +15,11 @@ use crate::outcome::Outcome;
 use crate::runs::run_outcome;
 use crate::views::{drop_view, make_view};
 use itoa::Buffer;
-use query_planner::{plan, plan_text};
+use query_planner::{SessionViews, plan, plan_text};
 use refusals::Refusal;
 use result_text::push_refusal;
 use sql_ast::{Query, Statement};
-use sql_binder::{BindFault, Views};
+use sql_binder::BindFault;
 use sqlite_items::Items;
 use std::alloc::{AllocError, Global};
 
@@ -83,13 +83,13 @@ fn push_query(
     text: &mut Vec<u8>,
     number: u64,
     query: &Query,
-    views: &Views,
+    views: &SessionViews,
 ) -> Result<bool, AllocError>
     ensures lines { OnOk result ((lines : List ℕ)
-        × IsQueryExplained number (bound_query query.now views.now.all) lines
+        × IsQueryExplained number (bound_query query.now views.now) lines
         × (text.new.items ≡ text.old.items ++ lines)) }
     ensures refused { IfOk result (λ refused. refused
-        ≡ is_unbound (bound_query query.now views.now.all)) }
+        ≡ is_unbound (bound_query query.now views.now)) }
 {
     match plan(alloc, query, views) {
         Ok(plan) => {
@@ -112,14 +112,14 @@ fn push_statement(
     text: &mut Vec<u8>,
     number: u64,
     statement: &Statement,
-    views: &mut Views,
+    views: &mut SessionViews,
 ) -> Result<bool, AllocError>
     ensures lines { OnOk result ((lines : List ℕ)
-        × IsExplained number views.old.all statement.now lines
+        × IsExplained number views.old statement.now lines
         × (text.new.items ≡ text.old.items ++ lines)) }
     ensures refused { IfOk result (λ refused. refused
-        ≡ is_refused views.old.all statement.now) }
-    ensures views { OnOk result (views.new.all ≡ views_after views.old.all statement.now) }
+        ≡ is_refused views.old statement.now) }
+    ensures views { OnOk result (views.new ≡ views_after views.old statement.now) }
 {
     match statement {
         Statement::Query(query) => push_query(alloc, text, number, query, views),
@@ -147,9 +147,7 @@ fn explained_steps(alloc: Global, steps: &[Statement]) -> Result<Explained, Allo
     ensures lines { IfOk result (λ e. AreExplained 1 [] steps.now e.text.items) }
     ensures clean { IfOk result (λ e. e.is_clean ≡ are_taken [] steps.now) }
 {
-    let mut views = Views {
-        all: Items::new(alloc),
-    };
+    let mut views = SessionViews::new(alloc);
     let mut text = Vec::new(alloc);
     let mut is_clean = true;
     for (place, statement) in steps.iter().enumerate() {

@@ -15,11 +15,11 @@ use algebra::{FlatPlan, Steps, Tables};
 use columns::Bag;
 use flat_exec::run;
 use order_limit::finish;
-use query_planner::plan_bound;
+use query_planner::{SessionViews, plan};
 use refusals::Refusal;
 use snapshot_store::Snapshot;
 use sql_ast::Query;
-use sql_binder::{BindFault, Views, bind};
+use sql_binder::BindFault;
 use sqlite_items::Items;
 use std::alloc::{AllocError, Global};
 use std::marker::Brand;
@@ -91,16 +91,15 @@ pub(crate) fn query_outcome<R: Threads>(
     rt: &R,
     alloc: Global,
     query: &Query,
-    views: &Views,
+    views: &SessionViews,
     snapshot: &Snapshot,
 ) -> Result<Outcome, AllocError>
     ensures outcome { IfOk result (λ o. o
-        ≡ query_outcome (bound_query query.now views.now.all) (tables_of snapshot.now)) }
+        ≡ query_outcome (bound_query query.now views.now) (tables_of snapshot.now)) }
     ensures printable { IfOk result (λ o. IsTrue (is_printable o)) }
 {
-    match bind(alloc, query, views) {
-        Ok(bound) => {
-            let plan = plan_bound(alloc, bound)?;
+    match plan(alloc, query, views) {
+        Ok(plan) => {
             let outcome = counted_outcome::<R, Brand>(rt, alloc, &plan, snapshot, Blank::new(1))?;
             Ok(outcome)
         }

@@ -13,10 +13,10 @@ use crate::query::query_outcome;
 use crate::runs::run_outcome;
 use crate::text::outcome_text;
 use crate::views::{drop_view, make_view};
+use query_planner::SessionViews;
 use refusals::{Cause, Refusal};
 use snapshot_store::Snapshot;
 use sql_ast::{RefreshKind, Statement};
-use sql_binder::Views;
 use sqlite_items::Items;
 use std::alloc::{AllocError, Global};
 use std::thread::Threads;
@@ -40,7 +40,7 @@ pub struct Session {
     steps: Items<Statement>,
     answered: usize,
     versions: Vec<u64>,
-    views: Views,
+    views: SessionViews,
     text: Vec<u8>,
     is_clean: bool,
     shows_rows: bool,
@@ -52,7 +52,7 @@ fn outcome_of<R: Threads>(
     rt: &R,
     alloc: Global,
     statement: &Statement,
-    views: &mut Views,
+    views: &mut SessionViews,
     snapshot: &Snapshot,
 ) -> Result<Outcome, AllocError>
     requires { IsRefresh (Some statement.now) → ⊥ }
@@ -61,8 +61,8 @@ fn outcome_of<R: Threads>(
           version = version_of snapshot.now;
           tables = tables_of snapshot.now;
           tried = tried;
-        }) views.old.all statement.now) }
-    ensures views { OnOk result (views.new.all ≡ views_after views.old.all statement.now) }
+        }) views.old statement.now) }
+    ensures views { OnOk result (views.new ≡ views_after views.old statement.now) }
     ensures printable { IfOk result (λ o. IsTrue (is_printable o)) }
 {
     match statement {
@@ -106,9 +106,7 @@ impl Session {
             steps,
             answered: 0,
             versions: Vec::new(alloc),
-            views: Views {
-                all: Items::new(alloc),
-            },
+            views: SessionViews::new(alloc),
             text: Vec::new(alloc),
             is_clean: true,
             shows_rows,

@@ -5,9 +5,10 @@ ghost use Rattle.query_streams.specs.Views.{is_taken, is_view, made_view, place_
 ghost use Rattle.query_streams.specs.Views.{without_view};
 
 use crate::outcome::Outcome;
+use query_planner::SessionViews;
 use refusals::Refusal;
 use sql_ast::{Block, Name};
-use sql_binder::{BindFault, View, Views, bind_view};
+use sql_binder::{BindFault, View};
 use std::alloc::{AllocError, Global};
 use tpch_schema::TableName;
 
@@ -30,39 +31,36 @@ fn is_taken(views: &[View], name: &Name) -> bool
 /// Makes a view, where its name is new and its query is bound.
 pub(crate) fn make_view(
     alloc: Global,
-    views: &mut Views,
+    views: &mut SessionViews,
     name: &Name,
     names: &[Name],
     query: &Block,
 ) -> Result<Outcome, AllocError>
     ensures outcome { IfOk result (λ o. o
-        ≡ made (made_view name.now names.now query.now views.old.all)) }
+        ≡ made (made_view name.now names.now query.now views.old)) }
     ensures printable { IfOk result (λ o. IsTrue (is_printable o)) }
-    ensures views { OnOk result (views.new.all
-        ≡ with_made views.old.all (made_view name.now names.now query.now views.old.all)) }
+    ensures views { OnOk result (views.new
+        ≡ with_made views.old (made_view name.now names.now query.now views.old)) }
 {
-    if is_taken(views.all.as_slice(), name) {
+    if is_taken(views.as_slice(), name) {
         return Ok(Outcome::Refused(Refusal::ViewExists));
     }
-    match bind_view(alloc, name, names, query, views) {
-        Ok(view) => {
-            views.all.push(view)?;
-            Ok(Outcome::Done)
-        }
+    match views.make(alloc, name, names, query) {
+        Ok(()) => Ok(Outcome::Done),
         Err(BindFault::Refused(why)) => Ok(Outcome::Refused(Refusal::Bind(why))),
         Err(BindFault::OutOfMemory) => Err(AllocError),
     }
 }
 
 /// Drops the view of that name, where there is one.
-pub(crate) fn drop_view(views: &mut Views, name: &Name) -> Outcome
-    ensures outcome { result ≡ dropped (is_view name.now views.old.all) }
+pub(crate) fn drop_view(views: &mut SessionViews, name: &Name) -> Outcome
+    ensures outcome { result ≡ dropped (is_view name.now views.old) }
     ensures printable { IsTrue (is_printable result) }
-    ensures views { views.new.all ≡ without_view name.now views.old.all }
+    ensures views { views.new ≡ without_view name.now views.old }
 {
-    match place_of(views.all.as_slice(), name) {
+    match place_of(views.as_slice(), name) {
         Some(place) => {
-            views.all.remove(place);
+            views.remove(place);
             Outcome::Done
         }
         None => Outcome::Refused(Refusal::UnknownView),

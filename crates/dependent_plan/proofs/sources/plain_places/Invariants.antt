@@ -1,9 +1,11 @@
 use Rattle.std.proofs.Common.{take}
 use Rattle.std.specs.Prelude.{Some}
 use Rattle.dependent_plan.specs.Growth.{ArePlain}
+use Rattle.dependent_plan.specs.Supplied.{InputsAreSupplied}
 use Rattle.dependent_plan.proofs.sources.plain_places.Given as goal
 
 abbrev pub invariant-loop-input : goal.invariant-loop-input
 invariant-loop-input l =
-    ArePlain l.sight.outer.now l.sight.start l.sight.width (take l.input-index l.inputs)
+    InputsAreSupplied l.inputs l.sight.outer.now l.sight.width
+    → ArePlain l.sight.outer.now l.sight.start l.sight.width (take l.input-index l.inputs)
     (Some l.places)
