@@ -1,5 +1,5 @@
-//! Tests of reading scripts, through public calls, and the 22 queries as one script for the tests
-//! of other crates.
+//! Tests of reading scripts, through public calls, and the texts of the 22 queries for the tests of
+//! other crates.
 #![tactic(auto)]
 
 #[cfg(test)]

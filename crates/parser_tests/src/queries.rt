@@ -1,8 +1,11 @@
-//! The 22 queries of TPC Benchmark H with their validation values, as one script.
+//! Each query as a `run` statement with the values that validate it (TPC-H, section 2.4), and its
+//! text with them.
 
-/// The 22 queries, of which the fifteenth is three statements.
-pub const QUERIES: &[u8] = b"\
-select l_returnflag, l_linestatus, sum(l_quantity) as sum_qty,
+/// The statements, and the texts, each one statement but that of query 15, which is three.
+pub const QUERIES: [(&str, &str); 22] = [
+    (
+        "run 1 (90);",
+        "select l_returnflag, l_linestatus, sum(l_quantity) as sum_qty,
 sum(l_extendedprice) as sum_base_price,
 sum(l_extendedprice * (1 - l_discount)) as sum_disc_price,
 sum(l_extendedprice * (1 - l_discount) * (1 + l_tax)) as sum_charge,
@@ -10,7 +13,11 @@ avg(l_quantity) as avg_qty, avg(l_extendedprice) as avg_price,
 avg(l_discount) as avg_disc, count(*) as count_order
 from lineitem where l_shipdate <= date '1998-12-01' - interval '90' day (3)
 group by l_returnflag, l_linestatus order by l_returnflag, l_linestatus;
-select s_acctbal, s_name, n_name, p_partkey, p_mfgr, s_address, s_phone, s_comment
+",
+    ),
+    (
+        "run 2 (15, 'BRASS', 'EUROPE');",
+        "select s_acctbal, s_name, n_name, p_partkey, p_mfgr, s_address, s_phone, s_comment
 from part, supplier, partsupp, nation, region
 where p_partkey = ps_partkey and s_suppkey = ps_suppkey and p_size = 15
 and p_type like '%BRASS' and s_nationkey = n_nationkey
@@ -20,28 +27,48 @@ and ps_supplycost = (select min(ps_supplycost)
  where p_partkey = ps_partkey and s_suppkey = ps_suppkey
  and s_nationkey = n_nationkey and n_regionkey = r_regionkey and r_name = 'EUROPE')
 order by s_acctbal desc, n_name, s_name, p_partkey limit 100;
-select l_orderkey, sum(l_extendedprice * (1 - l_discount)) as revenue,
+",
+    ),
+    (
+        "run 3 ('BUILDING', '1995-03-15');",
+        "select l_orderkey, sum(l_extendedprice * (1 - l_discount)) as revenue,
 o_orderdate, o_shippriority from customer, orders, lineitem
 where c_mktsegment = 'BUILDING' and c_custkey = o_custkey and l_orderkey = o_orderkey
 and o_orderdate < date '1995-03-15' and l_shipdate > date '1995-03-15'
 group by l_orderkey, o_orderdate, o_shippriority
 order by revenue desc, o_orderdate limit 10;
-select o_orderpriority, count(*) as order_count from orders
+",
+    ),
+    (
+        "run 4 ('1993-07-01');",
+        "select o_orderpriority, count(*) as order_count from orders
 where o_orderdate >= date '1993-07-01' and o_orderdate < date '1993-07-01' + interval '3' month
 and exists (select * from lineitem
  where l_orderkey = o_orderkey and l_commitdate < l_receiptdate)
 group by o_orderpriority order by o_orderpriority;
-select n_name, sum(l_extendedprice * (1 - l_discount)) as revenue
+",
+    ),
+    (
+        "run 5 ('ASIA', '1994-01-01');",
+        "select n_name, sum(l_extendedprice * (1 - l_discount)) as revenue
 from customer, orders, lineitem, supplier, nation, region
 where c_custkey = o_custkey and l_orderkey = o_orderkey
 and l_suppkey = s_suppkey and c_nationkey = s_nationkey
 and s_nationkey = n_nationkey and n_regionkey = r_regionkey and r_name = 'ASIA'
 and o_orderdate >= date '1994-01-01' and o_orderdate < date '1994-01-01' + interval '1' year
 group by n_name order by revenue desc;
-select sum(l_extendedprice * l_discount) as revenue from lineitem
+",
+    ),
+    (
+        "run 6 ('1994-01-01', 0.06, 24);",
+        "select sum(l_extendedprice * l_discount) as revenue from lineitem
 where l_shipdate >= date '1994-01-01' and l_shipdate < date '1994-01-01' + interval '1' year
 and l_discount between 0.06 - 0.01 and 0.06 + 0.01 and l_quantity < 24;
-select supp_nation, cust_nation, l_year, sum(volume) as revenue from (
+",
+    ),
+    (
+        "run 7 ('FRANCE', 'GERMANY');",
+        "select supp_nation, cust_nation, l_year, sum(volume) as revenue from (
  select n1.n_name as supp_nation, n2.n_name as cust_nation,
  extract(year from l_shipdate) as l_year,
  l_extendedprice * (1 - l_discount) as volume
@@ -54,7 +81,11 @@ select supp_nation, cust_nation, l_year, sum(volume) as revenue from (
  and l_shipdate between date '1995-01-01' and date '1996-12-31') as shipping
 group by supp_nation, cust_nation, l_year
 order by supp_nation, cust_nation, l_year;
-select o_year, sum(case when nation = 'BRAZIL' then volume else 0 end)
+",
+    ),
+    (
+        "run 8 ('BRAZIL', 'AMERICA', 'ECONOMY ANODIZED STEEL');",
+        "select o_year, sum(case when nation = 'BRAZIL' then volume else 0 end)
  / sum(volume) as mkt_share from (
  select extract(year from o_orderdate) as o_year,
  l_extendedprice * (1 - l_discount) as volume, n2.n_name as nation
@@ -66,7 +97,11 @@ select o_year, sum(case when nation = 'BRAZIL' then volume else 0 end)
  and o_orderdate between date '1995-01-01' and date '1996-12-31'
  and p_type = 'ECONOMY ANODIZED STEEL') as all_nations
 group by o_year order by o_year;
-select nation, o_year, sum(amount) as sum_profit from (
+",
+    ),
+    (
+        "run 9 ('green');",
+        "select nation, o_year, sum(amount) as sum_profit from (
  select n_name as nation, extract(year from o_orderdate) as o_year,
  l_extendedprice * (1 - l_discount) - ps_supplycost * l_quantity as amount
  from part, supplier, lineitem, partsupp, orders, nation
@@ -75,7 +110,11 @@ select nation, o_year, sum(amount) as sum_profit from (
  and o_orderkey = l_orderkey and s_nationkey = n_nationkey
  and p_name like '%green%') as profit
 group by nation, o_year order by nation, o_year desc;
-select c_custkey, c_name, sum(l_extendedprice * (1 - l_discount)) as revenue,
+",
+    ),
+    (
+        "run 10 ('1993-10-01');",
+        "select c_custkey, c_name, sum(l_extendedprice * (1 - l_discount)) as revenue,
 c_acctbal, n_name, c_address, c_phone, c_comment
 from customer, orders, lineitem, nation
 where c_custkey = o_custkey and l_orderkey = o_orderkey
@@ -83,14 +122,22 @@ and o_orderdate >= date '1993-10-01' and o_orderdate < date '1993-10-01' + inter
 and l_returnflag = 'R' and c_nationkey = n_nationkey
 group by c_custkey, c_name, c_acctbal, c_phone, n_name, c_address, c_comment
 order by revenue desc limit 20;
-select ps_partkey, sum(ps_supplycost * ps_availqty) as value
+",
+    ),
+    (
+        "run 11 ('GERMANY', 0.0001);",
+        "select ps_partkey, sum(ps_supplycost * ps_availqty) as value
 from partsupp, supplier, nation
 where ps_suppkey = s_suppkey and s_nationkey = n_nationkey and n_name = 'GERMANY'
 group by ps_partkey having sum(ps_supplycost * ps_availqty) > (
  select sum(ps_supplycost * ps_availqty) * 0.0001 from partsupp, supplier, nation
  where ps_suppkey = s_suppkey and s_nationkey = n_nationkey and n_name = 'GERMANY')
 order by value desc;
-select l_shipmode, sum(case when o_orderpriority = '1-URGENT'
+",
+    ),
+    (
+        "run 12 ('MAIL', 'SHIP', '1994-01-01');",
+        "select l_shipmode, sum(case when o_orderpriority = '1-URGENT'
  or o_orderpriority = '2-HIGH' then 1 else 0 end) as high_line_count,
 sum(case when o_orderpriority <> '1-URGENT'
  and o_orderpriority <> '2-HIGH' then 1 else 0 end) as low_line_count
@@ -99,17 +146,29 @@ where o_orderkey = l_orderkey and l_shipmode in ('MAIL', 'SHIP')
 and l_commitdate < l_receiptdate and l_shipdate < l_commitdate
 and l_receiptdate >= date '1994-01-01' and l_receiptdate < date '1994-01-01' + interval '1' year
 group by l_shipmode order by l_shipmode;
-select c_count, count(*) as custdist from (
+",
+    ),
+    (
+        "run 13 ('special', 'requests');",
+        "select c_count, count(*) as custdist from (
  select c_custkey, count(o_orderkey) from customer left outer join orders
  on c_custkey = o_custkey and o_comment not like '%special%requests%'
  group by c_custkey) as c_orders (c_custkey, c_count)
 group by c_count order by custdist desc, c_count desc;
-select 100.00 * sum(case when p_type like 'PROMO%'
+",
+    ),
+    (
+        "run 14 ('1995-09-01');",
+        "select 100.00 * sum(case when p_type like 'PROMO%'
  then l_extendedprice * (1 - l_discount) else 0 end)
  / sum(l_extendedprice * (1 - l_discount)) as promo_revenue
 from lineitem, part where l_partkey = p_partkey
 and l_shipdate >= date '1995-09-01' and l_shipdate < date '1995-09-01' + interval '1' month;
-create view revenue0 (supplier_no, total_revenue) as
+",
+    ),
+    (
+        "run 15 ('1996-01-01');",
+        "create view revenue0 (supplier_no, total_revenue) as
  select l_suppkey, sum(l_extendedprice * (1 - l_discount)) from lineitem
  where l_shipdate >= date '1996-01-01' and l_shipdate < date '1996-01-01' + interval '3' month
  group by l_suppkey;
@@ -118,25 +177,41 @@ from supplier, revenue0 where s_suppkey = supplier_no
 and total_revenue = (select max(total_revenue) from revenue0)
 order by s_suppkey;
 drop view revenue0;
-select p_brand, p_type, p_size, count(distinct ps_suppkey) as supplier_cnt
+",
+    ),
+    (
+        "run 16 ('Brand#45', 'MEDIUM POLISHED', 49, 14, 23, 45, 19, 3, 36, 9);",
+        "select p_brand, p_type, p_size, count(distinct ps_suppkey) as supplier_cnt
 from partsupp, part where p_partkey = ps_partkey and p_brand <> 'Brand#45'
 and p_type not like 'MEDIUM POLISHED%' and p_size in (49, 14, 23, 45, 19, 3, 36, 9)
 and ps_suppkey not in (select s_suppkey from supplier
  where s_comment like '%Customer%Complaints%')
 group by p_brand, p_type, p_size
 order by supplier_cnt desc, p_brand, p_type, p_size;
-select sum(l_extendedprice) / 7.0 as avg_yearly from lineitem, part
+",
+    ),
+    (
+        "run 17 ('Brand#23', 'MED BOX');",
+        "select sum(l_extendedprice) / 7.0 as avg_yearly from lineitem, part
 where p_partkey = l_partkey and p_brand = 'Brand#23' and p_container = 'MED BOX'
 and l_quantity < (select 0.2 * avg(l_quantity) from lineitem
  where l_partkey = p_partkey);
-select c_name, c_custkey, o_orderkey, o_orderdate, o_totalprice, sum(l_quantity)
+",
+    ),
+    (
+        "run 18 (300);",
+        "select c_name, c_custkey, o_orderkey, o_orderdate, o_totalprice, sum(l_quantity)
 from customer, orders, lineitem where o_orderkey in (
  select l_orderkey from lineitem group by l_orderkey
  having sum(l_quantity) > 300)
 and c_custkey = o_custkey and o_orderkey = l_orderkey
 group by c_name, c_custkey, o_orderkey, o_orderdate, o_totalprice
 order by o_totalprice desc, o_orderdate limit 100;
-select sum(l_extendedprice * (1 - l_discount)) as revenue from lineitem, part
+",
+    ),
+    (
+        "run 19 (1, 10, 20, 'Brand#12', 'Brand#23', 'Brand#34');",
+        "select sum(l_extendedprice * (1 - l_discount)) as revenue from lineitem, part
 where (p_partkey = l_partkey and p_brand = 'Brand#12'
  and p_container in ('SM CASE', 'SM BOX', 'SM PACK', 'SM PKG')
  and l_quantity >= 1 and l_quantity <= 1 + 10 and p_size between 1 and 5
@@ -152,7 +227,11 @@ or (p_partkey = l_partkey and p_brand = 'Brand#34'
  and l_quantity >= 20 and l_quantity <= 20 + 10 and p_size between 1 and 15
  and l_shipmode in ('AIR', 'AIR REG')
  and l_shipinstruct = 'DELIVER IN PERSON');
-select s_name, s_address from supplier, nation
+",
+    ),
+    (
+        "run 20 ('forest', '1994-01-01', 'CANADA');",
+        "select s_name, s_address from supplier, nation
 where s_suppkey in (select ps_suppkey from partsupp
  where ps_partkey in (select p_partkey from part where p_name like 'forest%')
  and ps_availqty > (select 0.5 * sum(l_quantity) from lineitem
@@ -160,7 +239,11 @@ where s_suppkey in (select ps_suppkey from partsupp
   and l_shipdate >= date('1994-01-01')
   and l_shipdate < date('1994-01-01') + interval '1' year))
 and s_nationkey = n_nationkey and n_name = 'CANADA' order by s_name;
-select s_name, count(*) as numwait from supplier, lineitem l1, orders, nation
+",
+    ),
+    (
+        "run 21 ('SAUDI ARABIA');",
+        "select s_name, count(*) as numwait from supplier, lineitem l1, orders, nation
 where s_suppkey = l1.l_suppkey and o_orderkey = l1.l_orderkey
 and o_orderstatus = 'F' and l1.l_receiptdate > l1.l_commitdate
 and exists (select * from lineitem l2 where l2.l_orderkey = l1.l_orderkey
@@ -169,7 +252,11 @@ and not exists (select * from lineitem l3 where l3.l_orderkey = l1.l_orderkey
  and l3.l_suppkey <> l1.l_suppkey and l3.l_receiptdate > l3.l_commitdate)
 and s_nationkey = n_nationkey and n_name = 'SAUDI ARABIA'
 group by s_name order by numwait desc, s_name limit 100;
-select cntrycode, count(*) as numcust, sum(c_acctbal) as totacctbal from (
+",
+    ),
+    (
+        "run 22 ('13', '31', '23', '29', '30', '18', '17');",
+        "select cntrycode, count(*) as numcust, sum(c_acctbal) as totacctbal from (
  select substring(c_phone from 1 for 2) as cntrycode, c_acctbal from customer
  where substring(c_phone from 1 for 2)
   in ('13', '31', '23', '29', '30', '18', '17')
@@ -178,4 +265,6 @@ select cntrycode, count(*) as numcust, sum(c_acctbal) as totacctbal from (
   in ('13', '31', '23', '29', '30', '18', '17'))
  and not exists (select * from orders where o_custkey = c_custkey)) as custsale
 group by cntrycode order by cntrycode;
-";
+",
+    ),
+];

@@ -36,5 +36,9 @@ fn scripts_are_read(rt: HostRuntime) {
 #[test]
 fn the_queries_are_read(rt: HostRuntime) {
     let alloc = rt.alloc();
-    assert!(rt; has_statements(alloc, QUERIES, 24));
+    for (place, (run, text)) in QUERIES.iter().enumerate() {
+        let count = if place == 14 { 3 } else { 1 };
+        assert!(rt; has_statements(alloc, run.as_bytes(), 1));
+        assert!(rt; has_statements(alloc, text.as_bytes(), count));
+    }
 }

@@ -167,7 +167,8 @@ fn has_subqueries(condition: &Clause) -> bool {
 fn joins_and_subqueries(rt: HostRuntime) -> Result<(), Fail> {
     let alloc = rt.alloc();
     let script =
-        b"select * from a left outer join b on c = 1 join (select * from e) as d (e, f) on g where not exists (select * from h) and a < (select b from c) and d not in (select e from f);";
+        b"select * from a left outer join b on c = 1 join (select * from e) as d (e, f) on g
+where not exists (select * from h) and a < (select b from c) and d not in (select e from f);";
     let found = read_script(alloc, script)?;
     match first_block(&found) {
         Some(block) => {
@@ -209,8 +210,8 @@ fn are_others(statements: &[Statement]) -> bool {
 #[test]
 fn other_statements(rt: HostRuntime) -> Result<(), Fail> {
     let alloc = rt.alloc();
-    let script =
-        b"create view v (a, b) as select c, d from e; drop view w; refresh insert 007; refresh delete 999999999; run 6 ('it''s', 0.06); run 1 ();";
+    let script = b"create view v (a, b) as select c, d from e; drop view w; refresh insert 007;
+refresh delete 999999999; run 6 ('it''s', 0.06); run 1 ();";
     let found = read_script(alloc, script)?;
     assert!(rt; are_others(found.as_slice()));
     Ok(())

@@ -111,7 +111,9 @@ fn is_planned(alloc: Global, script: &[u8], wanted: &[u8]) -> Result<bool, BindF
 #[test]
 fn the_queries_have_no_products(rt: HostRuntime) {
     let alloc = rt.alloc();
-    assert!(rt; matches!(has_no_product(alloc, QUERIES), Ok(true)));
+    for (_, text) in &QUERIES {
+        assert!(rt; matches!(has_no_product(alloc, text.as_bytes()), Ok(true)));
+    }
 }
 
 #[test]

@@ -11,6 +11,3 @@ pub use fault::TemplateFault;
 pub use filling::fill;
 pub use kind::ValueKind;
 pub use laws::{filled_is_script, filled_is_tokens};
-
-#[cfg(test)]
-mod tests;
