@@ -1,11 +1,13 @@
 //! Refreshes that are read from their files, and states of such rows.
-ghost use Rattle.std.specs.Prelude.{IfOk};
+ghost use Rattle.std.specs.Prelude.{◌≡◌, ◌<◌, IfOk};
 ghost use Rattle.tpch_schema.specs.Kinds.{RowsAreOf};
 
+use algebra::{Steps, Tables};
 use columns::Rows;
 use refusals::RefreshFile;
 use sql_value::{Row, Value};
-use std::alloc::Global;
+use std::alloc::{AllocError, Global};
+use std::sync::ledger::{Blank, Ledger};
 use std::test::Fail;
 use table_state::{Refresh, State};
 use tbl_reader::{RefreshReader, TableReader};
@@ -116,6 +118,32 @@ pub(crate) fn keys(alloc: Global, rows: &[Row]) -> Result<Vec<i128>, Fail> {
         }
     }
     Ok(keys)
+}
+
+/// The keys of a table's rows, piece by piece as a scan hands them out, and how many pieces it has.
+pub(crate) fn scanned<T: Tables, L: Ledger>(
+    alloc: Global,
+    tables: &T,
+    table: TableName,
+    blank: Blank,
+) -> Result<(Vec<i128>, usize), AllocError>
+    requires name { blank.name ≡ L.name }
+    requires parts { blank.parts ≡ L.parts }
+    requires some { 0 < blank.parts }
+{
+    let mut steps = Steps::<L>::new(blank);
+    let pieces = tables.scan(alloc, table, &mut steps)?;
+    let mut keys = Vec::new(alloc);
+    for piece in &pieces {
+        let batch = piece.batch(alloc)?;
+        for i in 0..batch.len() {
+            let row = batch.row(alloc, i)?;
+            if let [Value::Number(_, key), ..] = row.as_slice() {
+                keys.push(*key)?;
+            }
+        }
+    }
+    Ok((keys, pieces.len()))
 }
 
 /// Whether the keys of a state's orders, and of its lineitems' orders, are these.

@@ -7,6 +7,12 @@ mod causes_called;
 #[cfg(test)]
 mod files;
 #[cfg(test)]
+mod machine_called;
+#[cfg(test)]
+mod pieces_called;
+#[cfg(test)]
 mod snapshots_called;
 #[cfg(test)]
 mod versions_called;
+#[cfg(test)]
+mod worked_rows;

@@ -1,12 +1,13 @@
 //! Readers of two orders and of what refreshes make of them.
 ghost use denote.Param.Send.{IsSync};
 
-use crate::files::{NINE, NINE_ONE, ORDERS, delete, insert, state};
+use crate::files::{NINE, NINE_ONE, ORDERS, delete, insert, scanned, state};
 use crate::versions_called::next;
-use algebra::Tables;
 use segment_store::Directory;
-use snapshot_store::{Published, Publisher, Reader, RuledEntry, SureEntry, open};
+use snapshot_store::{Published, Publisher, Reader, RuledEntry, Snapshot, SureEntry, open};
 use std::alloc::Global;
+use std::marker::Brand;
+use std::sync::ledger::Blank;
 use std::sync::{Arc, Wait};
 use std::test::Fail;
 use std::thread::{Threads, for_each_mut, join_mut};
@@ -73,18 +74,26 @@ fn begins_at_the_published_version(rt: HostRuntime) -> Result<(), Fail> {
     Ok(())
 }
 
+/// Whether a snapshot has the two orders of the base.
+fn has_base(alloc: Global, snapshot: &Snapshot) -> Result<bool, Fail> {
+    let scan = scanned::<Snapshot, Brand>(alloc, snapshot, TableName::Orders, Blank::new(1))?;
+    Ok(snapshot.version() == 0 && scan.0.as_slice() == [7, 8].as_slice())
+}
+
 /// A snapshot of the base keeps its rows while twenty refreshes and a compaction are published.
 fn hold<R: Wait>(
     rt: &R,
+    alloc: Global,
     publisher: &mut Publisher,
     reader: &mut Reader<RuledEntry>,
 ) -> Result<bool, Fail> {
     let held = reader.begin()?;
+    let was_kept = has_base(alloc, &held)?;
     let accepted = publish(rt, publisher, 20);
     publisher.compact(rt)?;
     let last = version_begun(reader)?;
-    let is_kept = held.version() == 0 && held.count(TableName::Orders) == 2;
-    Ok(is_kept && accepted == 20 && last == 20)
+    let is_kept = has_base(alloc, &held)?;
+    Ok(was_kept && is_kept && accepted == 20 && last == 20)
 }
 
 #[test]
@@ -98,7 +107,7 @@ fn holds_a_snapshot(rt: HostRuntime) -> Result<(), Fail> {
         1,
     )?;
     let good = match readers.first_mut() {
-        Some(reader) => hold(&rt, &mut publisher, reader),
+        Some(reader) => hold(&rt, alloc, &mut publisher, reader),
         None => Ok(false),
     };
     publisher.close(&rt);

@@ -1,5 +1,5 @@
 //! Versions of a base under refreshes that are tried in order.
-ghost use Rattle.std.specs.Prelude.{◌≡◌, ◌<◌, IfOk, OnOk};
+ghost use Rattle.std.specs.Prelude.{◌≡◌, IfOk, OnOk};
 
 use crate::files::{EIGHT_TWO, NINE, NINE_ONE, ORDERS, delete, insert, keys, state};
 use refusals::Cause;
@@ -61,43 +61,5 @@ fn keeps_earlier_versions(rt: HostRuntime) -> Result<(), Fail> {
     assert!(rt; orders.as_slice() == [7].as_slice());
     assert_eq!(rt; last.count(TableName::Lineitem), 0);
     assert_eq!(rt; first.count(TableName::Lineitem), 1);
-    Ok(())
-}
-
-/// The keys of a base's orders and of those of these lines, which are inserted so many at a time.
-fn inserted(alloc: Global, lines: &[&[u8]], size: usize) -> Result<Vec<i128>, Fail>
-    requires { 0 < size }
-{
-    let mut list = Vec::new(alloc);
-    for piece in lines.chunks(size) {
-        list.push(insert(alloc, piece, &[])?)?;
-    }
-    let mut directory = Directory::new(alloc, state(alloc, &[ORDERS], &[])?, list)?;
-    for _piece in lines {
-        if !directory.is_done() {
-            directory = next(&mut directory)?;
-        }
-    }
-    keys(alloc, &directory.rows(TableName::Orders)?)
-}
-
-#[test]
-fn has_the_same_rows_however_they_are_cut(rt: HostRuntime) -> Result<(), Fail> {
-    let alloc = rt.alloc();
-    let lines: [&[u8]; 8] = [
-        NINE,
-        b"10|2|O|5.00|1996-01-04|5-LOW|K|0|z|\n",
-        b"11|2|O|5.00|1996-01-04|5-LOW|K|0|z|\n",
-        b"12|2|O|5.00|1996-01-04|5-LOW|K|0|z|\n",
-        b"13|2|O|5.00|1996-01-04|5-LOW|K|0|z|\n",
-        b"14|2|O|5.00|1996-01-04|5-LOW|K|0|z|\n",
-        b"15|2|O|5.00|1996-01-04|5-LOW|K|0|z|\n",
-        b"16|2|O|5.00|1996-01-04|5-LOW|K|0|z|\n",
-    ];
-    for size in [1, 7, 4096] {
-        let keys = inserted(alloc, &lines, size)?;
-        let expected = [7, 8, 9, 10, 11, 12, 13, 14, 15, 16];
-        assert!(rt; keys.as_slice() == expected.as_slice());
-    }
     Ok(())
 }
