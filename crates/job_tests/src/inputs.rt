@@ -65,23 +65,3 @@ fn refuses_lines(rt: HostRuntime) -> Result<(), Fail> {
     }
     Ok(())
 }
-
-// A job of the most bytes is read to its end, and one of a byte more is refused as a whole.
-#[test]
-fn refuses_a_long_job(rt: HostRuntime) -> Result<(), Fail> {
-    let alloc = rt.alloc();
-    let mut lines = String::new(alloc);
-    for _ in 0..1024 {
-        lines.push_str("\n")?;
-    }
-    let mut job = String::new(alloc);
-    for _ in 0..1024 {
-        job.push_str(lines.as_str())?;
-    }
-    let most = [("j", job.as_str())];
-    expect_refused(&rt, alloc, &most, "input refused j line 0 4 NoSession\n")?;
-    job.push_str("\n")?;
-    let more = [("j", job.as_str())];
-    expect_refused(&rt, alloc, &more, "input refused j line 0 5 TooLong\n")?;
-    Ok(())
-}

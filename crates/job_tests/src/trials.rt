@@ -4,10 +4,6 @@ use std::test::Fail;
 use tpch_main::Status;
 use tpch_outside::OpenGate;
 
-/// The line for words that are no command.
-const USAGE: &str =
-    "usage: tpch session DIR SCRIPT, throughput DIR JOB, explain SCRIPT, check DIR, trial N\n";
-
 #[test]
 fn ends_with_its_counts(rt: HostRuntime) -> Result<(), Fail> {
     let alloc = rt.alloc();
@@ -39,7 +35,6 @@ fn refuses_other_numbers(rt: HostRuntime) -> Result<(), Fail> {
     for number in ["0", "1001", "-1", "x", ""] {
         let run = run_words(&rt, alloc, &["trial", number], &[], &OpenGate)?;
         assert_eq!(rt; run.status, Status::Usage);
-        assert_eq!(rt; run.text.as_slice(), USAGE.as_bytes());
     }
     Ok(())
 }
