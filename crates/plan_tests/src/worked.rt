@@ -322,3 +322,45 @@ fn each_table_is_scanned_once(rt: HostRuntime) -> Result<(), Fail> {
     assert!(rt; tables.count(TableName::Region) == 5 && tables.count(TableName::Nation) == 0);
     Ok(())
 }
+
+// How many of a tree's nodes are domains, and how many are joins.
+fn domains_and_joins(alloc: Global, tree: &DepTree) -> Result<(usize, usize), AllocError> {
+    let mut builder = Builder::new(alloc);
+    let _last = lower(alloc, &mut builder, tree, Domain::one(alloc))?;
+    let nodes = builder.nodes.as_slice();
+    let domains = nodes
+        .iter()
+        .filter(|node| matches!(node, Node::Domain(..)))
+        .count();
+    let joins = nodes
+        .iter()
+        .filter(|node| matches!(node, Node::Join(..)))
+        .count();
+    Ok((domains, joins))
+}
+
+#[test]
+fn a_key_of_its_own_needs_no_domain(rt: HostRuntime) -> Result<(), Fail> {
+    let alloc = rt.alloc();
+    let tree = regions_with_nations(alloc)?;
+    assert!(rt; domains_and_joins(alloc, tree.get())? == (0, 0));
+    Ok(())
+}
+
+#[test]
+fn a_fill_keeps_its_domain(rt: HostRuntime) -> Result<(), Fail> {
+    let alloc = rt.alloc();
+    let tree = counts_of_customers(alloc)?;
+    assert!(rt; domains_and_joins(alloc, tree.get())? == (1, 0));
+    Ok(())
+}
+
+#[test]
+fn scales_and_computed_columns_keep_the_join(rt: HostRuntime) -> Result<(), Fail> {
+    let alloc = rt.alloc();
+    let balances = counts_of_balances(alloc)?;
+    let quotients = counts_of_quotients(alloc)?;
+    assert!(rt; domains_and_joins(alloc, balances.get())? == (1, 1));
+    assert!(rt; domains_and_joins(alloc, quotients.get())? == (1, 1));
+    Ok(())
+}

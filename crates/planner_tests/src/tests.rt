@@ -129,8 +129,8 @@ fn plans_are_printed(rt: HostRuntime) {
     assert!(rt; matches!(is_planned(alloc, combined, wanted), Ok(true)));
     let marked = b"select r_name from region where exists (select * from nation where \
 n_regionkey = r_regionkey);";
-    let wanted = b"plan nodes 9 reads 2\n0 scan region\n1 project 0\n2 domain 1\n3 scan nation\n\
-4 join 2 3\n5 mark 1 4\n6 project 5\n7 select 6\n8 project 7\n";
+    let wanted = b"plan nodes 9 reads 2\n0 scan region\n1 project 0\n2 scan nation\n3 project 2\n\
+4 select 3\n5 mark 1 4\n6 project 5\n7 select 6\n8 project 7\n";
     assert!(rt; matches!(is_planned(alloc, marked, wanted), Ok(true)));
 }
 

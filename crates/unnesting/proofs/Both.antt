@@ -20,120 +20,103 @@ use Rattle.aggregates.specs.Values.{written, value_rank}
 use Rattle.tpch_schema.specs.declared.table.TableName.{TableName}
 use Rattle.algebra.specs.declared.node.Node.{Node}
 use Rattle.algebra.specs.declared.node.Node.TheVariants as node
-use Rattle.algebra.specs.declared.tree.DepTree.TheOpen as f
+use Rattle.algebra.specs.declared.tree.DepTree.TheOpen as t
 use Rattle.algebra.specs.declared.tree.Side.{Side}
 use Rattle.conditions.specs.Ranks.{rank_of, says}
 use Rattle.algebra.specs.Trees.{Database, TreeMeaning, tree_step, side_of, own_domains, right_row, mark_under, scalar_at}
 use Rattle.algebra.specs.Plans.{node_rows, node_width, plan_rows, plan_width, made_from}
-use Rattle.unnesting.specs.declared.domain.Domain.{Domain as DomainData}
-use Rattle.unnesting.specs.declared.domain.DomainRows.{DomainRows}
-use Rattle.unnesting.specs.declared.domain.DomainRows.TheVariants.{One, Node as AtNode}
-use Rattle.unnesting.specs.Domains.{domain_width, domain_rows, IsInPlan, DomainHolds, KeepsNotes}
-use Rattle.unnesting.specs.Lowerings.{Grows, IsPut, Lowers, IsSideDomain, LowersSides}
+use Rattle.unnesting.specs.declared.footing.Footing.{Footing}
+use Rattle.unnesting.specs.Footings.{footing_width, footing_rows}
+use Rattle.unnesting.specs.Growth.{IsPut}
+use Rattle.unnesting.specs.Lowerings.{Lowers, LowersRight, LowersSides}
 use Rattle.unnesting.proofs.Columns.{side_length}
-use Rattle.unnesting.proofs.Grown.{both_more, kept_rows, kept_width}
-use Rattle.unnesting.proofs.Arms.{grows_as, puts}
+use Rattle.unnesting.proofs.Grown.{grown_length, both_more, kept_rows, kept_width}
+use Rattle.unnesting.proofs.Kept.{both_same, holds_later}
+use Rattle.unnesting.proofs.Arms.{puts}
 
-grown_length : {before after : List Node} {tables : List TableName} {most : ℕ} → Grows before after tables most → length before ≤ length after
-grown_length {before = before} g = let e = ap length g.grows in let l = length-append before g.more in omega (arith, e, l)
-
--- a domain of the plan keeps its rows
-kept_domain : {before after : List Node} {tables : List TableName} {most : ℕ} (db : Database) (r : DomainRows) → Grows before after tables most → IsInPlan before r
-    → domain_rows db after r ≡ domain_rows db before r
-kept_domain db One g w = refl
-kept_domain db (AtNode d width) g w = kept_rows db d g w.0
-
-pub kept_in_plan : {before after : List Node} {tables : List TableName} {most : ℕ} (r : DomainRows) → Grows before after tables most → IsInPlan before r → IsInPlan after r
-kept_in_plan One g w = tt
-kept_in_plan (AtNode d width) g w = (let l = grown_length g in let h = w.0 in omega arith, kept_width d g w.0 ∙ w.1)
-
-pub sides : (before a b c : List Node) (l r : TreeMeaning) (side : Side) (domain inner : DomainData) (outer rows : ℕ) → IsInPlan before domain.rows
-    → Lowers before a l domain outer → IsSideDomain a b outer side domain inner → Lowers b c r inner rows → LowersSides before c l r side domain outer rows
-sides before a b c l r side domain inner outer rows within left own right =
-    let more = both_more own.plan right.plan in
-    let h : outer < length a = let e = left.last in omega arith in
+-- two sides
+pub sides : (before a c : List Node) (l r : TreeMeaning) (side : Side) (f g h : Footing) (outer rows : ℕ)
+    → Lowers before a l f g outer → LowersRight a c r side g h outer rows → LowersSides before c l r side f h outer rows
+sides before a c l r side f g h outer rows left right =
+    let there : outer < length a = let e = left.last in omega arith in
     record {
-      plan = grows_as (both_more (both_more left.plan own.plan) right.plan) (ap (λ t. t ++ r.scans) (append-nil l.scans)) (omega arith);
-      outer_within = let k = grown_length more in omega arith;
+      most = left.most + right.most;
+      plan = both_more left.plan right.plan;
+      few = let x = left.few in let y = right.few in omega (arith, x, y);
+      same = both_same left.same right.same;
+      outer_within = let k = grown_length right.plan in omega arith;
       last = right.last;
-      outer_width = kept_width outer more h ∙ left.width;
-      rows_width = right.width ∙ ap (λ k. k + r.width) own.width;
+      outer_width = kept_width outer right.plan there ∙ left.width;
+      rows_width = right.width ∙ ap (λ n. side_width (side_of side) n + r.width) left.same.width;
       answers = λ db holds.
-          let ds = domain_rows db before domain.rows in
+          let ds = footing_rows db before f.rows in
           let xs = plan_rows db a outer in
-          let same : domain_rows db a domain.rows ≡ ds = kept_domain db domain.rows left.plan within in
-          let inner_rows : domain_rows db b inner.rows ≡ side_domain same_value Null (side_of side) ds xs =
-          own.rows db ∙ ap (λ e. side_domain same_value Null (side_of side) e xs) same in
-          let kept : plan_rows db c outer ≡ xs = kept_rows db outer more h in
-          let is : IsDomain same_value (domain_width inner.rows) (domain_rows db b inner.rows) =
-          subst (λ e. IsDomain same_value (domain_width inner.rows) e) (sym inner_rows)
-          (subst (λ n. IsDomain same_value n (side_domain same_value Null (side_of side) ds xs)) (sym own.width)
-          (side_is same_value value_identity Null (side_of side) (domain_width domain.rows) ds xs holds.is_domain)) in
-          let notes : KeepsNotes inner.unchanged (domain_rows db b inner.rows) = own.noted db (subst (λ e. KeepsNotes domain.unchanged e) (sym same) holds.noted) in
+          let kept : plan_rows db c outer ≡ xs = kept_rows db outer right.plan there in
           record {
             domain = holds.is_domain;
             left = subst (λ z. Answers same_value ds z (l.rows db)) (sym kept) (left.answers db holds);
             right = subst (λ z. Answers same_value (side_domain same_value Null (side_of side) ds z) (plan_rows db c rows) (r.rows db)) (sym kept)
-                (subst (λ e. Answers same_value e (plan_rows db c rows) (r.rows db)) inner_rows (right.answers db (record { kinds = holds.kinds; is_domain = is; noted = notes })));
+                (subst (λ e. Answers same_value (side_domain same_value Null (side_of side) e xs) (plan_rows db c rows) (r.rows db)) (left.same.rows db)
+                (right.answers db (holds_later db left.same holds)));
           };
     }
 
 matched_width : (side : Side) (n w o p q : ℕ) → p ≡ n + o → q ≡ side_width (side_of side) n + w → p + (q - length (side_matched (side_of side) n)) ≡ n + (o + w)
 matched_width side n w o p q e g = let k = side_length side n in omega (arith, e, g, k)
 
-pub join_lowers : (before c new : List Node) (l r : TreeMeaning) (side : Side) (domain : DomainData) (outer rows id : ℕ) (e : Expr)
-    → LowersSides before c l r side domain outer rows → IsPut c new (node.Join outer rows (side_matched (side_of side) (domain_width domain.rows)) e) id
-    → Lowers before new (tree_step (f.Join l r side e)) domain id
+pub join_lowers : (before c new : List Node) (l r : TreeMeaning) (side : Side) (f h : Footing) (outer rows id : ℕ) (e : Expr)
+    → LowersSides before c l r side f h outer rows → IsPut c new (node.Join outer rows (side_matched (side_of side) (footing_width f.rows)) e) id
+    → Lowers before new (tree_step (t.Join l r side e)) f h id
 unfolding says right_row plan_rows plan_width
-join_lowers before c new l r side domain outer rows id e s p =
-    let n = domain_width domain.rows in
-    puts before c new (l.scans ++ r.scans) (l.domains + r.domains + own_domains (side_of side)) (tree_step (f.Join l r side e)) domain id
-    (node.Join outer rows (side_matched (side_of side) n) e) s.plan p (append-nil (l.scans ++ r.scans)) (omega arith)
+join_lowers before c new l r side f h outer rows id e s p =
+    let n = footing_width f.rows in
+    puts before c new (l.scans ++ r.scans) s.most (tree_step (t.Join l r side e)) f h id
+    (node.Join outer rows (side_matched (side_of side) n) e) s.plan s.same p (append-nil (l.scans ++ r.scans)) (let d = s.few in omega arith)
     (matched_width side n r.width l.width (plan_width c outer) (plan_width c rows) s.outer_width s.rows_width)
-    (λ db h.
-    let a = s.answers db h in
-    inner_side same_value value_identity Null (side_of side) (rank_of e) n (domain_rows db before domain.rows) (plan_rows db c outer) (plan_rows db c rows)
+    (λ db k.
+    let a = s.answers db k in
+    inner_side same_value value_identity Null (side_of side) (rank_of e) n (footing_rows db before f.rows) (plan_rows db c outer) (plan_rows db c rows)
     (l.rows db) (r.rows db) a.domain a.left a.right)
 
-pub outer_lowers : (before c new : List Node) (l r : TreeMeaning) (side : Side) (domain : DomainData) (outer rows nulls id : ℕ) (e : Expr)
-    → LowersSides before c l r side domain outer rows → nulls ≡ r.width → IsPut c new (node.Outer outer rows (side_matched (side_of side) (domain_width domain.rows)) nulls e) id
-    → Lowers before new (tree_step (f.Outer l r side e)) domain id
+pub outer_lowers : (before c new : List Node) (l r : TreeMeaning) (side : Side) (f h : Footing) (outer rows nulls id : ℕ) (e : Expr)
+    → LowersSides before c l r side f h outer rows → nulls ≡ r.width → IsPut c new (node.Outer outer rows (side_matched (side_of side) (footing_width f.rows)) nulls e) id
+    → Lowers before new (tree_step (t.Outer l r side e)) f h id
 unfolding says right_row plan_rows plan_width
-outer_lowers before c new l r side domain outer rows nulls id e s w p =
-    let n = domain_width domain.rows in
-    puts before c new (l.scans ++ r.scans) (l.domains + r.domains + own_domains (side_of side)) (tree_step (f.Outer l r side e)) domain id
-    (node.Outer outer rows (side_matched (side_of side) n) nulls e) s.plan p (append-nil (l.scans ++ r.scans)) (omega arith)
+outer_lowers before c new l r side f h outer rows nulls id e s w p =
+    let n = footing_width f.rows in
+    puts before c new (l.scans ++ r.scans) s.most (tree_step (t.Outer l r side e)) f h id
+    (node.Outer outer rows (side_matched (side_of side) n) nulls e) s.plan s.same p (append-nil (l.scans ++ r.scans)) (let d = s.few in omega arith)
     (let o = s.outer_width in omega (arith, o, w))
-    (λ db h.
-    let a = s.answers db h in
-    subst (λ k. Answers same_value (domain_rows db before domain.rows) (node_rows db (made_from (node_rows db) [] c) (node.Outer outer rows (side_matched (side_of side) n) k e)) ((tree_step (f.Outer l r side e)).rows db)) (sym w)
-    (outer_side same_value value_identity Null (side_of side) (replicate r.width Null) (rank_of e) n (domain_rows db before domain.rows) (plan_rows db c outer) (plan_rows db c rows)
+    (λ db k.
+    let a = s.answers db k in
+    subst (λ w. Answers same_value (footing_rows db before f.rows) (node_rows db (made_from (node_rows db) [] c) (node.Outer outer rows (side_matched (side_of side) n) w e)) ((tree_step (t.Outer l r side e)).rows db)) (sym w)
+    (outer_side same_value value_identity Null (side_of side) (replicate r.width Null) (rank_of e) n (footing_rows db before f.rows) (plan_rows db c outer) (plan_rows db c rows)
     (l.rows db) (r.rows db) a.domain a.left a.right))
 
-pub mark_lowers : (before c new : List Node) (l r : TreeMeaning) (side : Side) (domain : DomainData) (outer rows id : ℕ) (e : Expr)
-    → LowersSides before c l r side domain outer rows → IsPut c new (node.Mark outer rows (side_matched (side_of side) (domain_width domain.rows)) e) id
-    → Lowers before new (tree_step (f.Mark l r side e)) domain id
+pub mark_lowers : (before c new : List Node) (l r : TreeMeaning) (side : Side) (f h : Footing) (outer rows id : ℕ) (e : Expr)
+    → LowersSides before c l r side f h outer rows → IsPut c new (node.Mark outer rows (side_matched (side_of side) (footing_width f.rows)) e) id
+    → Lowers before new (tree_step (t.Mark l r side e)) f h id
 unfolding mark_under right_row plan_rows plan_width
-mark_lowers before c new l r side domain outer rows id e s p =
-    let n = domain_width domain.rows in
-    puts before c new (l.scans ++ r.scans) (l.domains + r.domains + own_domains (side_of side)) (tree_step (f.Mark l r side e)) domain id
-    (node.Mark outer rows (side_matched (side_of side) n) e) s.plan p (append-nil (l.scans ++ r.scans)) (omega arith)
+mark_lowers before c new l r side f h outer rows id e s p =
+    let n = footing_width f.rows in
+    puts before c new (l.scans ++ r.scans) s.most (tree_step (t.Mark l r side e)) f h id
+    (node.Mark outer rows (side_matched (side_of side) n) e) s.plan s.same p (append-nil (l.scans ++ r.scans)) (let d = s.few in omega arith)
     (let o = s.outer_width in omega (arith, o))
-    (λ db h.
-    let a = s.answers db h in
-    attach_side same_value value_identity Null (side_of side) (mark_of written (rank_of e)) (mark_bag written (rank_of e)) n (domain_rows db before domain.rows)
+    (λ db k.
+    let a = s.answers db k in
+    attach_side same_value value_identity Null (side_of side) (mark_of written (rank_of e)) (mark_bag written (rank_of e)) n (footing_rows db before f.rows)
     (plan_rows db c outer) (plan_rows db c rows) (l.rows db) (r.rows db) a.domain a.left a.right)
 
-pub single_lowers : (before c new : List Node) (l r : TreeMeaning) (side : Side) (domain : DomainData) (outer rows id column : ℕ)
-    → LowersSides before c l r side domain outer rows → IsPut c new (node.Single outer rows (side_matched (side_of side) (domain_width domain.rows)) column) id
-    → Lowers before new (tree_step (f.Single l r side column)) domain id
+pub single_lowers : (before c new : List Node) (l r : TreeMeaning) (side : Side) (f h : Footing) (outer rows id column : ℕ)
+    → LowersSides before c l r side f h outer rows → IsPut c new (node.Single outer rows (side_matched (side_of side) (footing_width f.rows)) column) id
+    → Lowers before new (tree_step (t.Single l r side column)) f h id
 unfolding scalar_at right_row plan_rows plan_width
-single_lowers before c new l r side domain outer rows id column s p =
-    let n = domain_width domain.rows in
-    puts before c new (l.scans ++ r.scans) (l.domains + r.domains + own_domains (side_of side)) (tree_step (f.Single l r side column)) domain id
-    (node.Single outer rows (side_matched (side_of side) n) column) s.plan p (append-nil (l.scans ++ r.scans)) (omega arith)
+single_lowers before c new l r side f h outer rows id column s p =
+    let n = footing_width f.rows in
+    puts before c new (l.scans ++ r.scans) s.most (tree_step (t.Single l r side column)) f h id
+    (node.Single outer rows (side_matched (side_of side) n) column) s.plan s.same p (append-nil (l.scans ++ r.scans)) (let d = s.few in omega arith)
     (let o = s.outer_width in omega (arith, o))
-    (λ db h.
-    let a = s.answers db h in
+    (λ db k.
+    let a = s.answers db k in
     attach_side same_value value_identity Null (side_of side) (λ x us. scalar_of written value_rank column us) (λ x. scalar_bag same_value value_identity written value_rank column) n
-    (domain_rows db before domain.rows) (plan_rows db c outer) (plan_rows db c rows) (l.rows db) (r.rows db) a.domain a.left a.right)
+    (footing_rows db before f.rows) (plan_rows db c outer) (plan_rows db c rows) (l.rows db) (r.rows db) a.domain a.left a.right)

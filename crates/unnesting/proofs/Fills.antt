@@ -9,8 +9,7 @@ use Rattle.algebra.specs.declared.node.Node.TheVariants as node
 use Rattle.algebra.specs.Aggregates.{aggregates_of}
 use Rattle.algebra.specs.Plans.{plan_width, fits}
 use Rattle.algebra.proofs.Fits.{fill_fits}
-use Rattle.unnesting.specs.Lowerings.{IsPut, IsFilled, IsGrouped}
-use Rattle.unnesting.specs.declared.domain.DomainRows.TheVariants.{One, Node as AtNode}
+use Rattle.unnesting.specs.Growth.{IsPut}
 use Rattle.unnesting.proofs.Grown.{same_plan, put_more, put_last, kept_width}
 
 last_get : (ns : List Node) (n : Node) → slice_get (ns ++ n ∷ []) (length ns) ≡ Some n
@@ -28,9 +27,3 @@ fill_suits old now rows groups domain width by computed aggregates empty h w col
     (ap (λ ns. slice_get ns groups) nodes ∙ ap (slice_get (old ++ node.Group rows by computed ∷ [])) number ∙ last_get old (node.Group rows by computed))
     (columns ∙ ap (range_with_len 0) (sym w ∙ sym kept))
     (none ∙ ap (λ a. aggregates_of a []) (sym same))
-
--- groups by some columns of their own need no fill
-pub grouped_by : (old new : List Node) (rows : ℕ) (by : List ℕ) (aggregates : List Aggregate) (domain width id : ℕ) → (by ≡ [] → ⊥)
-    → IsPut old new (node.Group rows (range_with_len 0 width ++ by) aggregates) id → IsGrouped old new rows by aggregates (AtNode domain width) id
-grouped_by old new rows [] aggregates domain width id some p = absurd (some refl)
-grouped_by old new rows (c ∷ cs) aggregates domain width id some p = p

@@ -17,20 +17,23 @@ use Rattle.sql_value.proofs.Identity.{value_identity}
 use Rattle.algebra.specs.declared.aggregate.Aggregate.{Aggregate}
 use Rattle.algebra.specs.declared.node.Node.{Node}
 use Rattle.algebra.specs.declared.node.Node.TheVariants as node
-use Rattle.algebra.specs.declared.tree.DepTree.TheOpen as f
+use Rattle.algebra.specs.declared.tree.DepTree.TheOpen as t
 use Rattle.algebra.specs.Aggregates.{aggregates_of}
 use Rattle.algebra.specs.Trees.{Database, TreeMeaning, tree_step, keys_under, aggregates_under, groups_under}
 use Rattle.algebra.specs.Plans.{groups, plan_rows, plan_width}
 use Rattle.algebra.proofs.NoRows.{aggregates_bag, length-aggregates_of}
-use Rattle.unnesting.specs.declared.domain.Domain.{Domain as DomainData}
 use Rattle.unnesting.specs.declared.domain.DomainRows.{DomainRows}
-use Rattle.unnesting.specs.declared.domain.DomainRows.TheVariants.{One, Node as AtNode}
-use Rattle.unnesting.specs.Domains.{domain_width, domain_rows, IsInPlan, DomainHolds}
-use Rattle.unnesting.specs.Lowerings.{IsPut, Lowers, IsFilled, IsGrouped}
-use Rattle.unnesting.proofs.Grown.{put_more, kept_rows, kept_width, put_rows, put_width}
+use Rattle.unnesting.specs.declared.domain.DomainRows.TheVariants as domain
+use Rattle.unnesting.specs.declared.footing.Footing.{Footing}
+use Rattle.unnesting.specs.declared.footing.FootingRows.TheVariants.{One, Node as AtNode}
+use Rattle.unnesting.specs.Domains.{IsInPlan}
+use Rattle.unnesting.specs.Footings.{footing_width, footing_rows, as_footing, IsFooting, Settles}
+use Rattle.unnesting.specs.Growth.{IsPut}
+use Rattle.unnesting.specs.Lowerings.{Lowers, IsFilled, IsTotal}
+use Rattle.unnesting.proofs.Grown.{same_plan, grown_length, put_more, kept_rows, kept_width, put_rows, put_width}
+use Rattle.unnesting.proofs.Kept.{same_later, settled_first}
 use Rattle.unnesting.proofs.Wide.{over_wide, grouped_wide, keyed_wide, groups_some}
 use Rattle.unnesting.proofs.Arms.{puts}
-use Rattle.unnesting.proofs.Both.{kept_in_plan}
 
 -- by columns of their own
 some_groups : (c : ℕ) (cs : List ℕ) (aggregates : List Aggregate) (n : ℕ) (ds xs : List (Ranked Value)) (L : List Value → List (Ranked Value)) → IsDomain same_value n ds → Answers same_value ds xs L
@@ -77,66 +80,75 @@ group_width : (n : ℕ) (by : List ℕ) (aggregates : List Aggregate) → length
 group_width n by aggregates = let a = length-append (range_with_len 0 n) by in let b = length-range_with_len 0 n in omega (arith, a, b)
 
 -- over the one row
-group_alone : (before old new : List Node) (m : TreeMeaning) (domain : DomainData) (rows id : ℕ) (by : List ℕ) (aggregates : List Aggregate) → domain.rows ≡ One
-    → Lowers before old m domain rows → IsPut old new (node.Group rows by aggregates) id → Lowers before new (tree_step (f.Group m by aggregates)) domain id
+total_alone_lowers : (before old new : List Node) (m : TreeMeaning) (f g : Footing) (rows id : ℕ) (aggregates : List Aggregate) → f.rows ≡ One
+    → Lowers before old m f g rows → IsPut old new (node.Group rows [] aggregates) id → Lowers before new (tree_step (t.Group m [] aggregates)) f g id
 unfolding aggregates_under plan_rows plan_width
-group_alone before old new m domain rows id by aggregates e l p =
-    puts before old new m.scans m.domains (tree_step (f.Group m by aggregates)) domain id (node.Group rows by aggregates) l.plan p (append-nil m.scans) (omega arith)
-    (let z = ap domain_width e in omega (arith, z))
-    (λ db h. subst (λ r. Answers same_value (domain_rows db before r) (groups by aggregates (plan_rows db old rows)) ((tree_step (f.Group m by aggregates)).rows db)) (sym e)
-    (go db by (subst (λ r. IsDomain same_value (domain_width r) (domain_rows db before r)) e h.is_domain)
-    (subst (λ r. Answers same_value (domain_rows db before r) (plan_rows db old rows) (m.rows db)) e (l.answers db h))))
-  where
-    go : (db : Database) (by : List ℕ) → IsDomain same_value 0 unit_row → Answers same_value unit_row (plan_rows db old rows) (m.rows db)
-        → Answers same_value unit_row (groups by aggregates (plan_rows db old rows)) (λ d. groups_under by aggregates d (m.rows db d))
-    go db [] dom a = total_alone same_value value_identity (aggregates_of aggregates) (plan_rows db old rows) (m.rows db) (aggregates_bag aggregates) a
-    go db (c ∷ cs) dom a = some_groups c cs aggregates 0 unit_row (plan_rows db old rows) (m.rows db) dom a
+total_alone_lowers before old new m f g rows id aggregates e l p =
+    puts before old new m.scans l.most (tree_step (t.Group m [] aggregates)) f g id (node.Group rows [] aggregates) l.plan l.same p (append-nil m.scans) (let d = l.few in omega arith)
+    (let z = ap footing_width e in omega (arith, z))
+    (λ db h. subst (λ r. Answers same_value (footing_rows db before r) (groups [] aggregates (plan_rows db old rows)) ((tree_step (t.Group m [] aggregates)).rows db)) (sym e)
+    (total_alone same_value value_identity (aggregates_of aggregates) (plan_rows db old rows) (m.rows db) (aggregates_bag aggregates)
+    (subst (λ r. Answers same_value (footing_rows db before r) (plan_rows db old rows) (m.rows db)) e (l.answers db h))))
 
--- over a node, by columns of their own
-group_some : (before old new : List Node) (m : TreeMeaning) (domain : DomainData) (rows id c : ℕ) (cs : List ℕ) (aggregates : List Aggregate)
-    → Lowers before old m domain rows → IsPut old new (node.Group rows (range_with_len 0 (domain_width domain.rows) ++ c ∷ cs) aggregates) id
-    → Lowers before new (tree_step (f.Group m (c ∷ cs) aggregates)) domain id
+-- by columns of their own
+group_some : (before old new : List Node) (m : TreeMeaning) (f g : Footing) (rows id c : ℕ) (cs : List ℕ) (aggregates : List Aggregate)
+    → Lowers before old m f g rows → IsPut old new (node.Group rows (range_with_len 0 (footing_width f.rows) ++ c ∷ cs) aggregates) id
+    → Lowers before new (tree_step (t.Group m (c ∷ cs) aggregates)) f g id
 unfolding plan_rows plan_width
-group_some before old new m domain rows id c cs aggregates l p =
-    let n = domain_width domain.rows in
-    puts before old new m.scans m.domains (tree_step (f.Group m (c ∷ cs) aggregates)) domain id (node.Group rows (range_with_len 0 n ++ c ∷ cs) aggregates) l.plan p
-    (append-nil m.scans) (omega arith) (group_width n (c ∷ cs) aggregates)
-    (λ db h. some_groups c cs aggregates n (domain_rows db before domain.rows) (plan_rows db old rows) (m.rows db) h.is_domain (l.answers db h))
+group_some before old new m f g rows id c cs aggregates l p =
+    let n = footing_width f.rows in
+    puts before old new m.scans l.most (tree_step (t.Group m (c ∷ cs) aggregates)) f g id (node.Group rows (range_with_len 0 n ++ c ∷ cs) aggregates) l.plan l.same p
+    (append-nil m.scans) (let d = l.few in omega arith) (group_width n (c ∷ cs) aggregates)
+    (λ db h. some_groups c cs aggregates n (footing_rows db before f.rows) (plan_rows db old rows) (m.rows db) h.is_domain (l.answers db h))
+
+pub group_lowers : (before old new : List Node) (m : TreeMeaning) (f g : Footing) (rows id : ℕ) (by : List ℕ) (aggregates : List Aggregate) → (by ≡ [] → ⊥)
+    → Lowers before old m f g rows → IsPut old new (node.Group rows (range_with_len 0 (footing_width f.rows) ++ by) aggregates) id
+    → Lowers before new (tree_step (t.Group m by aggregates)) f g id
+group_lowers before old new m f g rows id [] aggregates some l p = absurd (some refl)
+group_lowers before old new m f g rows id (c ∷ cs) aggregates some l p = group_some before old new m f g rows id c cs aggregates l p
 
 -- over a node, without
-group_filled : (before old new : List Node) (m : TreeMeaning) (domain : DomainData) (rows d width id : ℕ) (aggregates : List Aggregate) → domain.rows ≡ AtNode d width → IsInPlan before (AtNode d width)
-    → Lowers before old m domain rows → IsFilled old new rows aggregates d width id → Lowers before new (tree_step (f.Group m [] aggregates)) domain id
+total_filled : (before old new : List Node) (m : TreeMeaning) (f g : Footing) (rows d width id : ℕ) (aggregates : List Aggregate) → f.rows ≡ AtNode d width → IsFooting before f.rows
+    → Lowers before old m f g rows → IsFilled old new rows aggregates d width id → Lowers before new (tree_step (t.Group m [] aggregates)) f g id
 unfolding plan_rows plan_width
-group_filled before old new m domain rows d width id aggregates e within l p =
+total_filled before old new m f g rows d width id aggregates e within l p =
     let A = aggregates_of aggregates in
     let group = node.Group rows (range_with_len 0 width) aggregates in
     let mid = old ++ group ∷ [] in
     let q : IsPut old mid group (length old) = record { number = refl; nodes = refl } in
-    let g = put_more l.plan q in
-    let dw : plan_width mid d ≡ width = kept_width d g within.0 ∙ within.1 in
+    let more = put_more l.plan q in
+    let there : IsFooting before (AtNode d width) = subst (IsFooting before) e within in
+    let dw : plan_width mid d ≡ width = kept_width d more there.0 ∙ there.1 in
     let wide = length-aggregates_of aggregates [] in
-    puts before mid new (m.scans ++ []) (m.domains + 0) (tree_step (f.Group m [] aggregates)) domain id (node.Fill (length old) d (A [])) g p
-    (append-nil (m.scans ++ []) ∙ append-nil m.scans) (omega arith)
-    (let z = ap domain_width e in omega (arith, dw, wide, z))
+    puts before mid new (m.scans ++ []) (l.most + 0) (tree_step (t.Group m [] aggregates)) f g id (node.Fill (length old) d (A [])) more
+    (same_later l.same (put_more (same_plan old) q)) p
+    (append-nil (m.scans ++ []) ∙ append-nil m.scans) (let z = l.few in omega arith)
+    (let z = ap footing_width e in omega (arith, dw, wide, z))
     (λ db h.
-    let kept : plan_rows db mid d ≡ plan_rows db before d = kept_rows db d g within.0 in
+    let kept : plan_rows db mid d ≡ plan_rows db before d = kept_rows db d more there.0 in
     let xs = plan_rows db old rows in
     let here : plan_rows db mid (length old) ≡ groups (range_with_len 0 width) aggregates xs = put_rows db q in
     let ds = plan_rows db before d in
-    let dom : IsDomain same_value width ds = subst (λ r. IsDomain same_value (domain_width r) (domain_rows db before r)) e h.is_domain in
-    let a : Answers same_value ds xs (m.rows db) = subst (λ r. Answers same_value (domain_rows db before r) xs (m.rows db)) e (l.answers db h) in
-    let M : List Value → List (Ranked Value) = (tree_step (f.Group m [] aggregates)).rows db in
-    subst (λ r. Answers same_value (domain_rows db before r) (fill same_value (A []) (plan_rows db mid d) (plan_rows db mid (length old))) M) (sym e)
+    let dom : IsDomain same_value width ds = subst (λ r. IsDomain same_value (footing_width r) (footing_rows db before r)) e h.is_domain in
+    let a : Answers same_value ds xs (m.rows db) = subst (λ r. Answers same_value (footing_rows db before r) xs (m.rows db)) e (l.answers db h) in
+    let M : List Value → List (Ranked Value) = (tree_step (t.Group m [] aggregates)).rows db in
+    subst (λ r. Answers same_value (footing_rows db before r) (fill same_value (A []) (plan_rows db mid d) (plan_rows db mid (length old))) M) (sym e)
     (subst (λ z. Answers same_value ds (fill same_value (A []) z (plan_rows db mid (length old))) M) (sym kept)
     (subst (λ z. Answers same_value ds (fill same_value (A []) ds z) M) (sym here)
     (total_groups aggregates width ds xs (m.rows db) dom a))))
 
-pub group_lowers : (before old new : List Node) (m : TreeMeaning) (domain : DomainData) (rows id : ℕ) (by : List ℕ) (aggregates : List Aggregate) → IsInPlan before domain.rows
-    → Lowers before old m domain rows → IsGrouped old new rows by aggregates domain.rows id → Lowers before new (tree_step (f.Group m by aggregates)) domain id
-group_lowers before old new m domain rows id by aggregates within l p = go domain.rows refl by within p
-  where
-    go : (r : DomainRows) → domain.rows ≡ r → (by : List ℕ) → IsInPlan before r → IsGrouped old new rows by aggregates r id → Lowers before new (tree_step (f.Group m by aggregates)) domain id
-    go One e by w q = group_alone before old new m domain rows id by aggregates e l q
-    go (AtNode d width) e [] w q = group_filled before old new m domain rows d width id aggregates e w l q
-    go (AtNode d width) e (c ∷ cs) w q =
-        group_some before old new m domain rows id c cs aggregates l (subst (λ n. IsPut old new (node.Group rows (range_with_len 0 n ++ c ∷ cs) aggregates) id) (sym (ap domain_width e)) q)
+total_lowers : (before old new : List Node) (m : TreeMeaning) (f g : Footing) (r : DomainRows) (rows id : ℕ) (aggregates : List Aggregate) → f.rows ≡ as_footing r → IsFooting before f.rows
+    → Lowers before old m f g rows → IsTotal old new rows aggregates r id → Lowers before new (tree_step (t.Group m [] aggregates)) f g id
+total_lowers before old new m f g domain.One rows id aggregates e w l p = total_alone_lowers before old new m f g rows id aggregates e l p
+total_lowers before old new m f g (domain.Node d width) rows id aggregates e w l p = total_filled before old new m f g rows d width id aggregates e w l p
+
+-- over rows that were settled
+pub total_put : {before mid old new : List Node} {m : TreeMeaning} {f g h : Footing} {r : DomainRows} {rows id : ℕ} (aggregates : List Aggregate) → Settles before mid f g r
+    → Lowers mid old m g h rows → IsTotal old new rows aggregates r id → Lowers before new (tree_step (t.Group m [] aggregates)) f h id
+total_put {mid = mid} {old = old} {new = new} {m = m} {g = g} {h = h} {r = r} {rows = rows} {id = id} aggregates s l p =
+    settled_first s (total_lowers mid old new m g h r rows id aggregates s.settled s.same.in_plan l p)
+
+-- the domain of a total stays in the plan
+pub total_in_plan : {mid old : List Node} {m : TreeMeaning} {g h : Footing} {rows : ℕ} (r : DomainRows) → IsInPlan mid r → Lowers mid old m g h rows → IsInPlan old r
+total_in_plan domain.One w l = tt
+total_in_plan (domain.Node d width) w l = (let k = grown_length l.plan in let z = w.0 in omega arith, kept_width d l.plan w.0 ∙ w.1)

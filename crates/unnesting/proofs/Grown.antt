@@ -11,7 +11,7 @@ use Rattle.algebra.specs.declared.node.Node.{Node}
 use Rattle.algebra.specs.Trees.{Database}
 use Rattle.algebra.specs.Plans.{made_from, node_rows, node_width, plan_rows, plan_width, scan_of, plan_scans, is_domain, plan_domains}
 use Rattle.algebra.proofs.Made.{kept_at, put_at}
-use Rattle.unnesting.specs.Lowerings.{Grows, IsPut}
+use Rattle.unnesting.specs.Growth.{Grows, IsPut}
 
 pub kept_rows : {before after : List Node} {tables : List TableName} {most : ℕ} (db : Database) (i : ℕ) → Grows before after tables most → i < length before
     → plan_rows db after i ≡ plan_rows db before i
@@ -33,6 +33,10 @@ put_width {old = old} {new = new} {n = n} {id = id} p = put_at node_width 0 old 
 
 pub put_last : {old new : List Node} {n : Node} {id : ℕ} → IsPut old new n id → length new ≡ id + 1
 put_last {old = old} {n = n} p = ap length p.nodes ∙ length-append old (n ∷ []) ∙ omega (arith, p.number)
+
+-- the node that was put is in the plan
+pub put_within : (old : List Node) (n : Node) {new : List Node} {id : ℕ} → id ≡ length old → new ≡ old ++ n ∷ [] → id < length new
+put_within old n e g = let l = ap length g in let m = length-append old (n ∷ []) in omega (arith, e, l, m)
 
 one_scan : (n : Node) → plan_scans (n ∷ []) ≡ scan_of n
 one_scan n = append-nil (scan_of n)
@@ -59,3 +63,9 @@ both_more {a = a} {tables = tables} g h = record {
   scans = flat_map-append scan_of g.more h.more ∙ ap (λ l. l ++ plan_scans h.more) g.scans ∙ ap (λ l. tables ++ l) h.scans;
   domains = let e = sum_by-append is_domain g.more h.more in omega (arith, e, g.domains, h.domains);
 }
+
+pub grown_length : {before after : List Node} {tables : List TableName} {most : ℕ} → Grows before after tables most → length before ≤ length after
+grown_length {before = before} g = let e = ap length g.grows in let l = length-append before g.more in omega (arith, e, l)
+
+pub grows_as : {before after : List Node} {tables others : List TableName} {most least : ℕ} → Grows before after tables most → tables ≡ others → most ≤ least → Grows before after others least
+grows_as g e h = record { more = g.more; grows = g.grows; scans = g.scans ∙ e; domains = let d = g.domains in omega arith }

@@ -1,9 +1,16 @@
 pub mod Arms
+pub mod Asked
 pub mod Both
 pub mod Columns
 pub mod Fills
+pub mod FitKinds
 pub mod Groups
 pub mod Grown
+pub mod Kept
+pub mod KindNodes
+pub mod Turns
+pub mod OwnNodes
+pub mod Owned
 pub mod Sides
 pub mod Steps
 pub mod Whole

@@ -1,67 +1,126 @@
--- The domain of a right side, for each kind of side.
+-- The right side of each kind of side.
 use Rattle.std.proofs.Common.{◌≡◌, ℕ, ◌+◌, ◌<◌, ◌≤◌, List, [], ◌∷◌, ◌++◌, refl, sym, ap, ◌∙◌, subst, arith, length}
+use Rattle.std.specs.Prelude.{Bool, true, false, ◌==◌}
+use Rattle.std.proofs.lemmas.Bool.{true≢false, eqb-true}
 use Rattle.row_laws.specs.Ranked.{Ranked}
 use Rattle.row_laws.specs.Bags.{Each}
+use Rattle.row_laws.specs.Rows.{unit_row}
+use Rattle.row_laws.specs.Domains.{IsDomain, Answers}
+use Rattle.row_laws.specs.Trees.{side_width, side_domain}
 use Rattle.row_laws.proofs.Lists.{Each-all}
+use Rattle.row_laws.proofs.Trees.{unit_is, side_is}
 use Rattle.sql_value.specs.declared.value.Value.{Value}
+use Rattle.sql_value.specs.declared.value.Value.TheVariants.{Null}
+use Rattle.sql_value.specs.Value.{same_value}
+use Rattle.sql_value.proofs.Identity.{value_identity}
 use Rattle.algebra.specs.declared.node.Node.{Node}
-use Rattle.algebra.specs.declared.node.Node.TheVariants as node
 use Rattle.algebra.specs.declared.tree.Side.{Side}
 use Rattle.algebra.specs.declared.tree.Side.TheVariants.{Closed, Shared, Dependent}
-use Rattle.algebra.specs.Trees.{Database, side_of}
-use Rattle.algebra.specs.Plans.{plan_rows, plan_width}
-use Rattle.unnesting.specs.declared.domain.Domain.{Domain as DomainData}
-use Rattle.unnesting.specs.declared.domain.DomainRows.{DomainRows}
-use Rattle.unnesting.specs.declared.domain.DomainRows.TheVariants.{One, Node as AtNode}
+use Rattle.algebra.specs.Trees.{Database, HasKinds, TreeMeaning, side_of, own_domains}
+use Rattle.algebra.specs.Plans.{plan_rows}
 use Rattle.unnesting.specs.declared.domain.Origin.{Origin}
-use Rattle.unnesting.specs.Domains.{domain_width, domain_rows, IsInPlan, KeepsNotes}
-use Rattle.unnesting.specs.Lowerings.{Grows, IsPut, IsOwnDomain, IsSideDomain}
-use Rattle.unnesting.proofs.Grown.{same_plan, put_more, put_rows, put_width, put_last}
+use Rattle.unnesting.specs.declared.footing.Footing.{Footing}
+use Rattle.unnesting.specs.declared.footing.FootingRows.TheVariants.{One, Due}
+use Rattle.unnesting.specs.Domains.{KeepsNotes}
+use Rattle.unnesting.specs.Footings.{footing_width, footing_rows, is_due, IsFooting, FootingHolds}
+use Rattle.unnesting.specs.Lowerings.{Lowers, LowersRight, IsOwnFooting}
+use Rattle.unnesting.specs.PlanKinds.{AreOrigins}
+use Rattle.unnesting.proofs.Kept.{same_footing}
 
-no_notes : (notes : List Origin) (rows : List (Ranked Value)) → notes ≡ [] → KeepsNotes notes rows
+pub no_notes : (notes : List Origin) (rows : List (Ranked Value)) → notes ≡ [] → KeepsNotes notes rows
 no_notes notes rows e = subst (λ n. KeepsNotes n rows) (sym e) (Each-all (λ r. Unit {0}) rows (λ r. tt))
 
--- a domain of one row of no columns serves a closed side
-pub closed_side : (nodes : List Node) (outer : ℕ) (domain inner : DomainData) → inner.rows ≡ One → inner.unchanged ≡ [] → IsSideDomain nodes nodes outer Closed domain inner
-closed_side nodes outer domain inner e n = record {
-  plan = same_plan nodes;
-  in_plan = subst (λ r. IsInPlan nodes r) (sym e) tt;
-  width = ap domain_width e;
-  rows = λ db. ap (domain_rows db nodes) e;
-  noted = λ db k. no_notes inner.unchanged (domain_rows db nodes inner.rows) n;
+-- the one row of no columns
+pub one_holds : (db : Database) (nodes : List Node) (f : Footing) → f.rows ≡ One → f.unchanged ≡ [] → HasKinds db → FootingHolds db nodes f
+one_holds db nodes f e n kinds = record {
+  kinds = kinds;
+  is_domain = subst (λ r. IsDomain same_value (footing_width r) (footing_rows db nodes r)) (sym e) (unit_is same_value value_identity);
+  noted = no_notes f.unchanged (footing_rows db nodes f.rows) n;
 }
 
--- and one that depends on no columns
-pub empty_side : (nodes : List Node) (outer : ℕ) (domain inner : DomainData) → inner.rows ≡ One → inner.unchanged ≡ [] → IsSideDomain nodes nodes outer (Dependent []) domain inner
-empty_side nodes outer domain inner e n = record {
-  plan = same_plan nodes;
-  in_plan = subst (λ r. IsInPlan nodes r) (sym e) tt;
-  width = ap domain_width e;
-  rows = λ db. ap (domain_rows db nodes) e;
-  noted = λ db k. no_notes inner.unchanged (domain_rows db nodes inner.rows) n;
+-- a shared side is lowered over the same rows
+pub shared_right : {before after : List Node} {m : TreeMeaning} {f g : Footing} {id : ℕ} (outer : ℕ) → Lowers before after m f g id → LowersRight before after m Shared f g outer id
+shared_right outer l = record {
+  most = l.most;
+  plan = l.plan;
+  few = let d = l.few in omega arith;
+  same = l.same;
+  last = l.last;
+  width = l.width;
+  answers = λ db h. l.answers db h;
 }
 
--- the same domain serves a shared side
-pub shared_side : (nodes : List Node) (outer : ℕ) (domain inner : DomainData) → inner ≡ domain → IsInPlan nodes domain.rows → IsSideDomain nodes nodes outer Shared domain inner
-shared_side nodes outer domain inner e in_plan = subst (λ d. IsSideDomain nodes nodes outer Shared domain d) (sym e) (record {
-  plan = same_plan nodes;
-  in_plan = in_plan;
-  width = refl;
-  rows = λ db. refl;
-  noted = λ db k. k;
+-- a closed one over the one row of no columns
+pub closed_right : {before after : List Node} {m : TreeMeaning} {o p : Footing} {id : ℕ} (f : Footing) (outer : ℕ) → IsFooting before f.rows → o.rows ≡ One → o.unchanged ≡ []
+    → Lowers before after m o p id → LowersRight before after m Closed f f outer id
+closed_right {before} {after} {m} {o} {p} {id} f outer within e n l = record {
+  most = l.most;
+  plan = l.plan;
+  few = let d = l.few in let z = ap is_due e in omega (arith, d, z);
+  same = same_footing f l.plan within;
+  last = l.last;
+  width = l.width ∙ ap (λ r. footing_width r + m.width) e;
+  answers = λ db h.
+      subst (λ r. Answers same_value (footing_rows db before r) (plan_rows db after id) (m.rows db)) e (l.answers db (one_holds db before o e n h.kinds));
+}
+
+dependent_width : (cs : List ℕ) (n : ℕ) → length cs ≡ side_width (side_of (Dependent cs)) n
+dependent_width [] n = refl
+dependent_width (c ∷ cs) n = refl
+
+-- one that depends on some columns over the values at these
+pub own_right : {before after : List Node} {m : TreeMeaning} {o p : Footing} {cs : List ℕ} {id : ℕ} (f : Footing) (outer : ℕ) → IsFooting before f.rows
+    → IsOwnFooting before outer cs o → Lowers before after m o p id → LowersRight before after m (Dependent cs) f f outer id
+own_right {before} {after} {m} {o} {p} {cs} {id} f outer within own l =
+    let side = side_of (Dependent cs) in
+    let n = footing_width f.rows in
+    let wide : footing_width o.rows ≡ side_width side n = own.width ∙ dependent_width cs n in
+    record {
+      most = l.most;
+      plan = l.plan;
+      few = let d = l.few in let z = own.few in omega (arith, d, z);
+      same = same_footing f l.plan within;
+      last = l.last;
+      width = l.width ∙ ap (λ k. k + m.width) wide;
+      answers = λ db h.
+          let ds = footing_rows db before f.rows in
+          let xs = plan_rows db before outer in
+          let is : footing_rows db before o.rows ≡ side_domain same_value Null side ds xs = own.rows db ds in
+          let dom : IsDomain same_value (footing_width o.rows) (footing_rows db before o.rows) =
+          subst (λ e. IsDomain same_value (footing_width o.rows) e) (sym is)
+          (subst (λ k. IsDomain same_value k (side_domain same_value Null side ds xs)) (sym wide)
+          (side_is same_value value_identity Null side n ds xs h.is_domain)) in
+          subst (λ e. Answers same_value e (plan_rows db after id) (m.rows db)) is
+          (l.answers db (record { kinds = h.kinds; is_domain = dom; noted = own.noted db h.kinds }));
+    }
+
+-- a list that is tested for having no element
+pub none_of : (cs : List ℕ) → (length cs == 0) ≡ true → cs ≡ []
+none_of [] h = refl
+none_of (c ∷ cs) h = let l = eqb-true (length (c ∷ cs)) 0 h in absurd (omega (arith, l))
+
+pub some_of : (cs : List ℕ) → (length cs == 0) ≡ false → cs ≡ [] → ⊥
+some_of [] h e = true≢false h
+some_of (c ∷ cs) h e = let l = ap length e in omega (arith, l)
+
+-- the rows of a side that depends on no columns
+pub own_none : (nodes : List Node) (outer : ℕ) (cs : List ℕ) (o : Footing) → cs ≡ [] → o.rows ≡ One → o.unchanged ≡ [] → IsOwnFooting nodes outer cs o
+own_none nodes outer cs o none e n = subst (λ l. IsOwnFooting nodes outer l o) (sym none) (record {
+  in_plan = subst (IsFooting nodes) (sym e) tt;
+  few = let z = ap is_due e in omega (arith, z);
+  width = ap footing_width e;
+  rows = λ db ds. ap (footing_rows db nodes) e;
+  noted = λ db k. no_notes o.unchanged (footing_rows db nodes o.rows) n;
 })
 
--- a domain of its own serves a side that depends on some columns
-pub own_side : (old new : List Node) (outer c : ℕ) (cs : List ℕ) (domain inner : DomainData) → IsOwnDomain old new outer (c ∷ cs) inner → IsSideDomain old new outer (Dependent (c ∷ cs)) domain inner
-unfolding plan_rows plan_width
-own_side old new outer c cs domain inner own = record {
-  plan = put_more (same_plan old) own.node;
-  in_plan = subst (λ r. IsInPlan new r) (sym own.rows) (let l = put_last own.node in omega arith, put_width own.node);
-  width = ap domain_width own.rows;
-  rows = λ db. ap (domain_rows db new) own.rows ∙ put_rows db own.node;
-  noted = λ db k. no_notes inner.unchanged (domain_rows db new inner.rows) own.unchanged;
+-- those of one that depends on some
+pub own_due : (nodes : List Node) (outer : ℕ) (cs : List ℕ) (o : Footing) → (cs ≡ [] → ⊥) → outer < length nodes → o.rows ≡ Due outer cs → AreOrigins nodes outer cs o.unchanged
+    → IsOwnFooting nodes outer cs o
+own_due nodes outer [] o some h e a = absurd (some refl)
+own_due nodes outer (c ∷ cs) o some h e a = record {
+  in_plan = subst (IsFooting nodes) (sym e) h;
+  few = let z = ap is_due e in omega (arith, z);
+  width = ap footing_width e;
+  rows = λ db ds. ap (footing_rows db nodes) e;
+  noted = λ db k. subst (λ r. KeepsNotes o.unchanged (footing_rows db nodes r)) (sym e) (a.noted db k);
 }
-
-pub dependent_side : (old new : List Node) (outer : ℕ) (cs : List ℕ) (domain inner : DomainData) → (cs ≡ [] → ⊥) → IsOwnDomain old new outer cs inner → IsSideDomain old new outer (Dependent cs) domain inner
-dependent_side old new outer [] domain inner some own = absurd (some refl)
-dependent_side old new outer (c ∷ cs) domain inner some own = own_side old new outer c cs domain inner own

@@ -21,13 +21,13 @@ use Rattle.algebra.specs.declared.aggregate.Aggregate.{Aggregate}
 use Rattle.algebra.specs.Aggregates.{aggregates_of}
 use Rattle.algebra.specs.Plans.{groups}
 
-taken_from : (i n : ℕ) (x : List Value) → i + n ≤ length x → columns Null (range_with_len i n) x ≡ take n (drop i x)
+pub taken_from : (i n : ℕ) (x : List Value) → i + n ≤ length x → columns Null (range_with_len i n) x ≡ take n (drop i x)
 taken_from i zero x h = refl
 taken_from i (suc n) x h =
     let l : i < length x = omega arith in
     rw (drop_more x i Null l) (ap (λ r. slice_index_or x i Null ∷ r) (taken_from (i + 1) n x (omega arith)))
 
-taken : (n : ℕ) (x : List Value) → n ≤ length x → columns Null (range_with_len 0 n) x ≡ take n x
+pub taken : (n : ℕ) (x : List Value) → n ≤ length x → columns Null (range_with_len 0 n) x ≡ take n x
 taken n x h = let whole : take n (drop 0 x) ≡ take n x = refl in taken_from 0 n x (omega arith) ∙ whole
 
 -- what holds of wide rows may be used where the domain has a row
@@ -37,7 +37,7 @@ over_wide n [] xs ys zs L M dom a e b = tt
 over_wide n (d ∷ ds) xs ys zs L M dom a e b =
     subst (λ l. Answers same_value (d ∷ ds) l M) (sym (e (subst (λ k. Wide k xs) dom.widths.0 a.0.wide))) b
 
-column_values : (cs : List ℕ) (row : List Value) → values (map Column cs) row ≡ columns Null cs row
+pub column_values : (cs : List ℕ) (row : List Value) → values (map Column cs) row ≡ columns Null cs row
 unfolding values
 column_values [] row = refl
 column_values (c ∷ cs) row = ap (λ v. v ∷ values (map Column cs) row) (value_Column c row) ∙ ap (λ l. slice_index_or row c Null ∷ l) (column_values cs row)
@@ -54,7 +54,7 @@ projected_wide n es xs w =
     (Each-weaker (λ x. n ≤ length x.values) (λ x. values (map Column (range_with_len 0 n) ++ es) x.values ≡ take n x.values ++ values es x.values) xs
     (λ x h. values-append (map Column (range_with_len 0 n)) es x.values ∙ ap (λ l. l ++ values es x.values) (column_values (range_with_len 0 n) x.values ∙ taken n x.values h)) w)
 
-columns-append : (some more : List ℕ) (row : List Value) → columns Null (some ++ more) row ≡ columns Null some row ++ columns Null more row
+pub columns-append : (some more : List ℕ) (row : List Value) → columns Null (some ++ more) row ≡ columns Null some row ++ columns Null more row
 columns-append some more row = map-append (λ c. slice_index_or row c Null) some more
 
 -- groups by the first columns and others

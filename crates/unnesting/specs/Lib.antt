@@ -1,3 +1,7 @@
 pub mod Domains
+pub mod Footings
+pub mod Growth
 pub mod Lowerings
+pub mod OwnColumns
+pub mod PlanKinds
 pub mod WorkedRows

@@ -1,5 +1,5 @@
 -- What it is for a plan's node to stand for a dependent tree over a domain.
-use Rattle.std.specs.Prelude.{◌≡◌, ℕ, ◌+◌, ◌≤◌, ◌<◌, List, [], ◌∷◌, ◌++◌, length}
+use Rattle.std.specs.Prelude.{◌≡◌, ℕ, ◌+◌, ◌≤◌, ◌<◌, List, [], ◌∷◌, ◌++◌, length, map}
 use Rattle.std.specs.List.{range_with_len}
 use Rattle.row_laws.specs.Ranked.{Ranked}
 use Rattle.row_laws.specs.Bags.{SameBag}
@@ -11,19 +11,25 @@ use Rattle.sql_value.specs.declared.value.Value.TheVariants.{Null}
 use Rattle.sql_value.specs.Value.{same_value}
 use Rattle.tpch_schema.specs.declared.table.TableName.{TableName}
 use Rattle.scalar_expr.specs.declared.expr.Expr.{Expr}
-use Rattle.scalar_expr.specs.declared.expr.Expr.TheVariants.{All}
+use Rattle.scalar_expr.specs.declared.expr.Expr.TheVariants.{All, Column}
 use Rattle.algebra.specs.declared.aggregate.Aggregate.{Aggregate}
 use Rattle.algebra.specs.declared.node.Node.{Node}
-use Rattle.algebra.specs.declared.node.Node.TheVariants.{Scan, Domain, Select, Join, Group, Fill}
+use Rattle.algebra.specs.declared.node.Node.TheVariants.{Scan, Select, Project, Join, Group, Fill}
 use Rattle.algebra.specs.Aggregates.{aggregates_of}
 use Rattle.algebra.specs.declared.tree.DepTree.{DepTree}
 use Rattle.algebra.specs.declared.tree.Side.{Side}
+use Rattle.algebra.specs.declared.tree.Side.TheVariants.{Dependent}
 use Rattle.algebra.specs.Trees.{Database, HasKinds, TreeMeaning, tree_rows, side_of, own_domains}
-use Rattle.algebra.specs.Plans.{plan_rows, plan_width, plan_scans, plan_domains}
+use Rattle.algebra.specs.Plans.{plan_rows, plan_width}
 use Rattle.unnesting.specs.declared.domain.Domain.{Domain as DomainData}
 use Rattle.unnesting.specs.declared.domain.DomainRows.{DomainRows}
 use Rattle.unnesting.specs.declared.domain.DomainRows.TheVariants.{One, Node as AtNode}
-use Rattle.unnesting.specs.Domains.{domain_width, domain_rows, IsInPlan, DomainHolds, KeepsNotes}
+use Rattle.unnesting.specs.declared.footing.Footing.{Footing}
+use Rattle.unnesting.specs.Domains.{domain_rows, DomainHolds, KeepsNotes}
+use Rattle.unnesting.specs.Footings.{footing_width, footing_rows, is_due, IsFooting}
+use Rattle.unnesting.specs.Footings.{FootingHolds, SameFooting}
+use Rattle.unnesting.specs.Growth.{Grows, IsPut}
+use Rattle.unnesting.specs.OwnColumns.{with_own}
 
 -- Unnesting. Let T be any dependent tree, of any depth, and D the rows of a domain whose columns
 -- hold what T uses freely.
@@ -51,56 +57,62 @@ pub record KeepsNodes (before after : List Node) (id : ℕ) : Type 0 where
   pub grows : after ≡ before ++ more
   pub last : length after ≡ id + 1
 
--- a plan that grew by some nodes, which scan these tables, and of which at most so many are domains
-pub record Grows (before after : List Node) (tables : List TableName) (most : ℕ) : Type 0 where
-  pub more : List Node
-  pub grows : after ≡ before ++ more
-  pub scans : plan_scans more ≡ tables
-  pub domains : plan_domains more ≤ most
-
--- the plan grew by one node, of this number
-pub record IsPut (old new : List Node) (node : Node) (id : ℕ) : Type 0 where
-  pub number : id ≡ length old
-  pub nodes : new ≡ old ++ node ∷ []
-
--- The plan grew, and its last node answers, for each row of a domain, the loops of a tree's
--- meaning.
-pub record Lowers (before after : List Node) (m : TreeMeaning) (domain : DomainData)
+-- The plan grew, and its last node answers, for each row of a footing, the loops of a tree's
+-- meaning. The footing's domain may have been put.
+pub record Lowers (before after : List Node) (m : TreeMeaning) (old new : Footing)
     (id : ℕ) : Type 0 where
-  pub plan : Grows before after m.scans m.domains
+  pub most : ℕ
+  pub plan : Grows before after m.scans most
+  pub few : most + is_due new.rows ≤ m.domains + is_due old.rows
+  pub same : SameFooting before after old new
   pub last : length after ≡ id + 1
-  pub width : plan_width after id ≡ domain_width domain.rows + m.width
-  pub answers : (db : Database) → DomainHolds db before domain
-      → Answers same_value (domain_rows db before domain.rows) (plan_rows db after id) (m.rows db)
+  pub width : plan_width after id ≡ footing_width old.rows + m.width
+  pub answers : (db : Database) → FootingHolds db before old
+      → Answers same_value (footing_rows db before old.rows) (plan_rows db after id) (m.rows db)
 
--- the plan may have grown by the domain of a right side, of a left side that is the node `outer`
--- over a domain
-pub record IsSideDomain (before after : List Node) (outer : ℕ) (side : Side)
-    (domain inner : DomainData) : Type 0 where
-  pub plan : Grows before after [] (own_domains (side_of side))
-  pub in_plan : IsInPlan after inner.rows
-  pub width : domain_width inner.rows ≡ side_width (side_of side) (domain_width domain.rows)
-  pub rows : (db : Database)
-      → domain_rows db after inner.rows
-      ≡ side_domain same_value Null (side_of side) (domain_rows db before domain.rows)
-      (plan_rows db before outer)
-  pub noted : (db : Database) → KeepsNotes domain.unchanged (domain_rows db before domain.rows)
-      → KeepsNotes inner.unchanged (domain_rows db after inner.rows)
+-- The plan grew by a right side, of a left side that is the node `outer` over a footing: its last
+-- node answers the loops of the right meaning over the right side's domain.
+pub record LowersRight (before after : List Node) (m : TreeMeaning) (side : Side)
+    (old new : Footing) (outer id : ℕ) : Type 0 where
+  pub most : ℕ
+  pub plan : Grows before after m.scans most
+  pub few : most + is_due new.rows ≤ m.domains + own_domains (side_of side) + is_due old.rows
+  pub same : SameFooting before after old new
+  pub last : length after ≡ id + 1
+  pub width : plan_width after id ≡ side_width (side_of side) (footing_width old.rows) + m.width
+  pub answers : (db : Database) → FootingHolds db before old
+      → Answers same_value
+      (side_domain same_value Null (side_of side) (footing_rows db before old.rows)
+      (plan_rows db before outer)) (plan_rows db after id) (m.rows db)
 
--- The plan grew by two sides: the node `outer` answers a left meaning over the domain, the last
+-- the rows of a right side that depends on these columns of the left side, the node `outer`
+pub record IsOwnFooting (nodes : List Node) (outer : ℕ) (cs : List ℕ) (f : Footing) : Type 0 where
+  pub in_plan : IsFooting nodes f.rows
+  pub few : is_due f.rows ≤ own_domains (side_of (Dependent cs))
+  pub width : footing_width f.rows ≡ length cs
+  pub rows : (db : Database) (ds : List (Ranked Value))
+      → footing_rows db nodes f.rows
+      ≡ side_domain same_value Null (side_of (Dependent cs)) ds (plan_rows db nodes outer)
+  pub noted : (db : Database) → HasKinds db
+      → KeepsNotes f.unchanged (footing_rows db nodes f.rows)
+
+-- The plan grew by two sides: the node `outer` answers a left meaning over the footing, the last
 -- one, `rows`, a right meaning over the right side's domain.
 pub record LowersSides (before after : List Node) (l r : TreeMeaning) (side : Side)
-    (domain : DomainData) (outer rows : ℕ) : Type 0 where
-  pub plan : Grows before after (l.scans ++ r.scans)
-      (l.domains + r.domains + own_domains (side_of side))
+    (old new : Footing) (outer rows : ℕ) : Type 0 where
+  pub most : ℕ
+  pub plan : Grows before after (l.scans ++ r.scans) most
+  pub few : most + is_due new.rows
+      ≤ l.domains + r.domains + own_domains (side_of side) + is_due old.rows
+  pub same : SameFooting before after old new
   pub outer_within : outer < length after
   pub last : length after ≡ rows + 1
-  pub outer_width : plan_width after outer ≡ domain_width domain.rows + l.width
+  pub outer_width : plan_width after outer ≡ footing_width old.rows + l.width
   pub rows_width : plan_width after rows
-      ≡ side_width (side_of side) (domain_width domain.rows) + r.width
-  pub answers : (db : Database) → DomainHolds db before domain
-      → SidesAnswer same_value Null (side_of side) (domain_width domain.rows)
-      (domain_rows db before domain.rows)
+      ≡ side_width (side_of side) (footing_width old.rows) + r.width
+  pub answers : (db : Database) → FootingHolds db before old
+      → SidesAnswer same_value Null (side_of side) (footing_width old.rows)
+      (footing_rows db before old.rows)
       (plan_rows db after outer) (plan_rows db after rows) (l.rows db) (r.rows db)
 
 -- the plan grew by a scan of a table, and where the domain is a node by all combinations of its
@@ -125,19 +137,16 @@ IsFilled old new rows aggregates d width id =
     IsPut (old ++ Group rows (range_with_len 0 width) aggregates ∷ []) new
     (Fill (length old) d (aggregates_of aggregates [])) id
 
--- The plan grew by the groups of the node `rows` by a domain's columns and by others; and where
--- there are no others and the domain is a node, by the fill over these groups.
-abbrev pub IsGrouped : (old new : List Node) (rows : ℕ) → List ℕ → List Aggregate → DomainRows → ℕ
-    → Type 0
-IsGrouped old new rows by aggregates One id = IsPut old new (Group rows by aggregates) id
-IsGrouped old new rows [] aggregates (AtNode d width) id =
+-- the plan grew by the one group of the node `rows`; where the domain is a node, by the fill over
+-- the groups by its columns
+abbrev pub IsTotal : (old new : List Node) (rows : ℕ) → List Aggregate → DomainRows → ℕ → Type 0
+IsTotal old new rows aggregates One id = IsPut old new (Group rows [] aggregates) id
+IsTotal old new rows aggregates (AtNode d width) id =
     IsFilled old new rows aggregates d width id
-IsGrouped old new rows (c ∷ cs) aggregates (AtNode d width) id =
-    IsPut old new (Group rows (range_with_len 0 width ++ c ∷ cs) aggregates) id
 
--- the plan grew by a domain of these columns of the node `outer`, which is `inner`
-pub record IsOwnDomain (old new : List Node) (outer : ℕ) (cs : List ℕ)
-    (inner : DomainData) : Type 0 where
-  pub node : IsPut old new (Domain outer cs) (length old)
-  pub rows : inner.rows ≡ AtNode (length old) (length cs)
-  pub unchanged : inner.unchanged ≡ []
+-- The plan grew by a scan of a table, by its columns `own` before all of its columns, and by those
+-- of these rows that a condition keeps: it reads the table's own columns in the place of a domain's.
+abbrev pub IsOwnSelection : (old new : List Node) → TableName → Expr → List ℕ → ℕ → Type 0
+IsOwnSelection old new table c own id =
+    IsPut (old ++ Scan table ∷ Project (length old) (map Column (with_own own table)) ∷ []) new
+    (Select (length old + 1) c) id

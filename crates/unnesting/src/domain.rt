@@ -1,12 +1,12 @@
 //! Domains: the rows that a tree is lowered over.
-ghost use Rattle.std.specs.Prelude.{◌≡◌, [], IfOk};
+ghost use Rattle.std.specs.Prelude.{◌≡◌, []};
 ghost use Rattle.unnesting.specs.Domains.{domain_width};
 ghost use Rattle.unnesting.specs.declared.domain.DomainRows.TheVariants.{One as OneRow};
 
 use algebra::NodeId;
 use scalar_expr::Kind;
 use sqlite_items::Items;
-use std::alloc::{AllocError, Global};
+use std::alloc::Global;
 
 /// Where a domain's rows are.
 #[derive(Clone, Copy)]
@@ -67,14 +67,5 @@ impl Domain {
             rows,
             unchanged: Items::new(alloc),
         }
-    }
-
-    // The same domain once more.
-    pub(crate) fn copy(&self, alloc: Global) -> Result<Domain, AllocError>
-        ensures { IfOk result (λ d. d ≡ self.now) }
-    {
-        let rows = self.rows;
-        let unchanged = Items::from_slice(alloc, self.unchanged.as_slice())?;
-        Ok(Domain { rows, unchanged })
     }
 }

@@ -2,8 +2,11 @@
 #![tactic(auto)]
 
 mod domain;
+mod footing;
 mod lists;
 mod lowering;
+mod origins;
+mod own_columns;
 mod put;
 mod worked;
 

@@ -4,11 +4,13 @@ ghost use Rattle.std.specs.List.{range_with_len};
 ghost use Rattle.row_laws.specs.Matched.{numbered, side_matched};
 ghost use Rattle.scalar_expr.specs.declared.expr.Expr.TheVariants.{Column as column_of};
 ghost use Rattle.algebra.specs.Trees.{side_of};
+ghost use Rattle.unnesting.specs.OwnColumns.{with_own};
 
 use algebra::{Side, copy_exprs};
 use scalar_expr::Expr;
 use sqlite_items::Items;
 use std::alloc::{AllocError, Global};
+use tpch_schema::TableName;
 
 // The first columns.
 pub(crate) fn first_columns(alloc: Global, width: u32) -> Result<Items<u32>, AllocError>
@@ -45,6 +47,32 @@ pub(crate) fn select_list(alloc: Global, width: u32, es: &[Expr]) -> Result<Item
     }
     let more = copy_exprs(alloc, es)?;
     all.append(more)?;
+    Ok(all)
+}
+
+// These columns of a table, and after them all of its columns.
+pub(crate) fn own_and_all(
+    alloc: Global,
+    own: &[u32],
+    table: TableName,
+) -> Result<Items<u32>, AllocError>
+    ensures { IfOk result (λ all. all ≡ with_own own.now table) }
+{
+    let width = u32::try_from(table.kinds().len()).map_err(|_| AllocError)?;
+    let mut all = Items::from_slice(alloc, own)?;
+    let more = first_columns(alloc, width)?;
+    all.append(more)?;
+    Ok(all)
+}
+
+// A select list of these columns.
+pub(crate) fn column_list(alloc: Global, columns: &[u32]) -> Result<Items<Expr>, AllocError>
+    ensures { IfOk result (λ all. all ≡ map column_of columns.now) }
+{
+    let mut all = Items::new(alloc);
+    for column in columns {
+        all.push(Expr::Column(*column))?;
+    }
     Ok(all)
 }
 

@@ -1,16 +1,19 @@
 //! From dependent trees to flat nodes.
-ghost use Rattle.std.specs.Prelude.{◌≡◌, ◌+◌, ◌≤◌, ◌++◌, length, IfOk, OnOk};
+ghost use Rattle.std.specs.Prelude.{◌≡◌, ◌+◌, ◌<◌, ◌≤◌, ◌++◌, length, IfOk, OnOk};
 ghost use Rattle.algebra.specs.Trees.{tree_meaning, scans_of, domains_of};
 ghost use Rattle.algebra.specs.Plans.{plan_scans, plan_domains};
 ghost use Rattle.unnesting.specs.Domains.{IsInPlan};
-ghost use Rattle.unnesting.specs.Lowerings.{Unnests, Answered, KeepsNodes, Lowers};
+ghost use Rattle.unnesting.specs.Footings.{IsFooting};
+ghost use Rattle.unnesting.specs.Lowerings.{Unnests, Answered, KeepsNodes, Lowers, LowersRight};
 
 use crate::domain::Domain;
+use crate::footing::Footing;
 use crate::put::{
-    put_distinct, put_group, put_join, put_mark, put_outer, put_project, put_scan, put_select,
-    put_selection, put_single, side_domain,
+    own_footing, put_distinct, put_group_by, put_join, put_mark, put_outer, put_project, put_scan,
+    put_select, put_selection, put_single, put_total,
 };
-use algebra::{Builder, DepTree, NodeId, width};
+use algebra::{Builder, DepTree, NodeId, Side, width};
+use sqlite_items::Boxed;
 use std::alloc::{AllocError, Global};
 
 /// Adds to a plan the nodes of a tree over a domain, and says which node has its rows: the last
@@ -20,7 +23,6 @@ use std::alloc::{AllocError, Global};
 /// columns that it reads, identical rows once. The left side is lowered once, and read by the
 /// domain and by the operator. Domain columns are matched by identity, so null meets null, and a
 /// fault the same fault.
-#[tactic(auto, using(crate::proofs::Whole::unnested, crate::proofs::Whole::answered, crate::proofs::Whole::nodes_kept, crate::proofs::Whole::scans_added, crate::proofs::Whole::domains_added))]
 pub fn lower(
     alloc: Global,
     builder: &mut Builder,
@@ -47,82 +49,123 @@ pub fn lower(
     ensures domains { OnOk result
         (plan_domains builder.new.nodes ≤ plan_domains builder.old.nodes + domains_of tree.now) }
 {
-    let id = lowered(alloc, builder, tree, &domain)?;
+    let mut footing = Footing::of(domain);
+    let id = lowered(alloc, builder, tree, &mut footing)?;
     Ok(id)
 }
 
 // The same for each row of the domain by itself.
+#[cycle(lower)]
 fn lowered(
     alloc: Global,
     builder: &mut Builder,
     tree: &DepTree,
-    domain: &Domain,
+    footing: &mut Footing,
 ) -> Result<NodeId, AllocError>
-    requires { IsInPlan builder.old.nodes domain.now.rows }
+    requires { IsFooting builder.old.nodes footing.old.rows }
     ensures { IfOk result
-        (Lowers builder.old.nodes builder.new.nodes (tree_meaning tree.now) domain.now) }
+        (Lowers builder.old.nodes builder.new.nodes (tree_meaning tree.now)
+        footing.old footing.new) }
 {
     match tree {
         DepTree::Scan(table) => {
-            let id = put_scan(alloc, builder, *table, domain)?;
+            let id = put_scan(alloc, builder, *table, footing)?;
             Ok(id)
         }
         DepTree::Select(input, condition) => {
             if let DepTree::Scan(table) = input.get() {
-                let id = put_selection(alloc, builder, *table, condition.get(), domain)?;
+                let id = put_selection(alloc, builder, *table, condition.get(), footing)?;
                 return Ok(id);
             }
-            let rows = lowered(alloc, builder, input.get(), domain)?;
+            let rows = lowered(alloc, builder, input.get(), footing)?;
             let id = put_select(alloc, builder, rows, condition.get())?;
             Ok(id)
         }
         DepTree::Project(input, es) => {
-            let rows = lowered(alloc, builder, input.get(), domain)?;
-            let id = put_project(alloc, builder, rows, domain.rows.width(), es.as_slice())?;
+            let width = footing.width()?;
+            let rows = lowered(alloc, builder, input.get(), footing)?;
+            let id = put_project(alloc, builder, rows, width, es.as_slice())?;
             Ok(id)
         }
         DepTree::Join(left, right, side, on) => {
-            let outer = lowered(alloc, builder, left.get(), domain)?;
-            let inner = side_domain(alloc, builder, outer, side, domain)?;
-            let rows = lowered(alloc, builder, right.get(), &inner)?;
-            let width = domain.rows.width();
+            let width = footing.width()?;
+            let outer = lowered(alloc, builder, left.get(), footing)?;
+            let rows = lowered_right(alloc, builder, outer, right, side, footing)?;
             let id = put_join(alloc, builder, outer, rows, side, width, on.get())?;
             Ok(id)
         }
         DepTree::Outer(left, right, side, on) => {
-            let outer = lowered(alloc, builder, left.get(), domain)?;
-            let inner = side_domain(alloc, builder, outer, side, domain)?;
-            let rows = lowered(alloc, builder, right.get(), &inner)?;
+            let own = footing.width()?;
+            let outer = lowered(alloc, builder, left.get(), footing)?;
+            let rows = lowered_right(alloc, builder, outer, right, side, footing)?;
             let nulls = width(right.get())?;
-            let width = domain.rows.width();
-            let id = put_outer(alloc, builder, outer, rows, side, width, nulls, on.get())?;
+            let id = put_outer(alloc, builder, outer, rows, side, own, nulls, on.get())?;
             Ok(id)
         }
         DepTree::Mark(left, right, side, condition) => {
-            let outer = lowered(alloc, builder, left.get(), domain)?;
-            let inner = side_domain(alloc, builder, outer, side, domain)?;
-            let rows = lowered(alloc, builder, right.get(), &inner)?;
-            let width = domain.rows.width();
+            let width = footing.width()?;
+            let outer = lowered(alloc, builder, left.get(), footing)?;
+            let rows = lowered_right(alloc, builder, outer, right, side, footing)?;
             let id = put_mark(alloc, builder, outer, rows, side, width, condition.get())?;
             Ok(id)
         }
         DepTree::Single(left, right, side, column) => {
-            let outer = lowered(alloc, builder, left.get(), domain)?;
-            let inner = side_domain(alloc, builder, outer, side, domain)?;
-            let rows = lowered(alloc, builder, right.get(), &inner)?;
-            let width = domain.rows.width();
+            let width = footing.width()?;
+            let outer = lowered(alloc, builder, left.get(), footing)?;
+            let rows = lowered_right(alloc, builder, outer, right, side, footing)?;
             let id = put_single(alloc, builder, outer, rows, side, width, *column)?;
             Ok(id)
         }
         DepTree::Group(input, by, aggregates) => {
-            let rows = lowered(alloc, builder, input.get(), domain)?;
             let by = by.as_slice();
-            let id = put_group(alloc, builder, rows, by, aggregates.as_slice(), domain)?;
+            if by.is_empty() {
+                let domain = footing.settled(alloc, builder)?;
+                let rows = lowered(alloc, builder, input.get(), footing)?;
+                let id = put_total(alloc, builder, rows, aggregates.as_slice(), domain)?;
+                return Ok(id);
+            }
+            let width = footing.width()?;
+            let rows = lowered(alloc, builder, input.get(), footing)?;
+            let id = put_group_by(alloc, builder, rows, width, by, aggregates.as_slice())?;
             Ok(id)
         }
         DepTree::Distinct(input) => {
-            let rows = lowered(alloc, builder, input.get(), domain)?;
+            let rows = lowered(alloc, builder, input.get(), footing)?;
             let id = put_distinct(builder, rows)?;
+            Ok(id)
+        }
+    }
+}
+
+// A right side, over what it reads of its left side, which is the node `outer` over the footing.
+#[cycle(lower)]
+fn lowered_right(
+    alloc: Global,
+    builder: &mut Builder,
+    outer: NodeId,
+    right: &Boxed<DepTree>,
+    side: &Side,
+    footing: &mut Footing,
+) -> Result<NodeId, AllocError>
+    requires footing { IsFooting builder.old.nodes footing.old.rows }
+    requires outer { outer < length builder.old.nodes }
+    ensures { IfOk result
+        (LowersRight builder.old.nodes builder.new.nodes (tree_meaning right.now) side.now
+        footing.old footing.new outer) }
+{
+    match side {
+        Side::Shared => {
+            let id = lowered(alloc, builder, right.get(), footing)?;
+            Ok(id)
+        }
+        Side::Closed => {
+            let mut none = Footing::one(alloc);
+            let id = lowered(alloc, builder, right.get(), &mut none)?;
+            Ok(id)
+        }
+        Side::Dependent(columns) => {
+            let mut own = own_footing(alloc, builder, outer, columns.as_slice())?;
+            let id = lowered(alloc, builder, right.get(), &mut own)?;
             Ok(id)
         }
     }

@@ -5,13 +5,29 @@ ghost use Rattle.row_laws.specs.Matched.{side_matched};
 ghost use Rattle.row_laws.specs.Trees.{side_width};
 ghost use Rattle.scalar_expr.specs.declared.expr.Expr.TheVariants.{Column as column_of, All as all_of};
 ghost use Rattle.algebra.specs.declared.node.Node.TheVariants as node;
-ghost use Rattle.algebra.specs.Trees.{side_of};
+ghost use Rattle.algebra.specs.declared.tree.DepTree.TheOpen as tree;
+ghost use Rattle.algebra.specs.Trees.{side_of, tree_step};
 ghost use Rattle.algebra.specs.Plans.{plan_width};
-ghost use Rattle.unnesting.specs.Domains.{domain_width, IsInPlan};
-ghost use Rattle.unnesting.specs.Lowerings.{IsPut, IsScanned, IsSelection, IsFilled, IsGrouped, IsOwnDomain, IsSideDomain};
+ghost use Rattle.unnesting.specs.Domains.{IsInPlan};
+ghost use Rattle.unnesting.specs.Footings.{IsFooting};
+ghost use Rattle.unnesting.specs.Growth.{IsPut};
+ghost use Rattle.unnesting.specs.Lowerings.{
+  IsScanned,
+  IsSelection,
+  IsOwnSelection,
+  IsFilled,
+  IsTotal,
+  IsOwnFooting,
+  Lowers,
+};
 
-use crate::domain::{Domain, DomainRows};
-use crate::lists::{first_columns, matched_columns, select_list, with_first_columns};
+use crate::domain::DomainRows;
+use crate::footing::{Footing, FootingRows};
+use crate::lists::{
+    column_list, first_columns, matched_columns, own_and_all, select_list, with_first_columns,
+};
+use crate::origins::origins;
+use crate::own_columns::own_columns;
 use algebra::{Aggregate, Builder, Node, NodeId, Side, copy_aggregates, copy_expr, values_of_none};
 use scalar_expr::Expr;
 use sqlite_items::{Boxed, Items};
@@ -54,19 +70,37 @@ fn put_combinations(
     Ok(id)
 }
 
-// A table's rows under each row of the domain.
-#[tactic(auto, using(algebra::proofs::Fits::scan_fits))]
+// A table's rows under each row that a tree is lowered over.
+#[tactic(auto, using(crate::proofs::Kept::settled_in_plan, crate::proofs::Arms::scan_put))]
 pub(crate) fn put_scan(
     alloc: Global,
     builder: &mut Builder,
     table: TableName,
-    domain: &Domain,
+    footing: &mut Footing,
 ) -> Result<NodeId, AllocError>
-    requires { IsInPlan builder.old.nodes domain.now.rows }
-    ensures { IfOk result (IsScanned builder.old.nodes builder.new.nodes table domain.now.rows) }
+    requires { IsFooting builder.old.nodes footing.old.rows }
+    ensures { IfOk result
+        (Lowers builder.old.nodes builder.new.nodes (tree_step (tree.Scan table))
+        footing.old footing.new) }
+{
+    let domain = footing.settled(alloc, builder)?;
+    let id = put_table(alloc, builder, table, domain)?;
+    Ok(id)
+}
+
+// A table's rows under each row of a domain.
+#[tactic(auto, using(algebra::proofs::Fits::scan_fits))]
+fn put_table(
+    alloc: Global,
+    builder: &mut Builder,
+    table: TableName,
+    domain: DomainRows,
+) -> Result<NodeId, AllocError>
+    requires { IsInPlan builder.old.nodes domain }
+    ensures { IfOk result (IsScanned builder.old.nodes builder.new.nodes table domain) }
 {
     let rows = builder.put(Node::Scan(table))?;
-    match domain.rows {
+    match domain {
         DomainRows::One => Ok(rows),
         DomainRows::Node(id, _) => {
             let id = put_cross(alloc, builder, id, rows)?;
@@ -75,22 +109,73 @@ pub(crate) fn put_scan(
     }
 }
 
-// A table's rows that a condition keeps, under each row of the domain. The table is joined with the
-// domain under the condition, so that a combination which it drops is never a row.
-#[tactic(auto, using(algebra::proofs::Fits::scan_fits))]
+// A table's rows that a condition keeps, under each row that a tree is lowered over. Where columns
+// of the table's own stand for all of the domain's, its rows need no domain.
+#[tactic(auto, using(crate::proofs::Kept::settled_in_plan, crate::proofs::Arms::selection_put))]
 pub(crate) fn put_selection(
     alloc: Global,
     builder: &mut Builder,
     table: TableName,
     condition: &Expr,
-    domain: &Domain,
+    footing: &mut Footing,
 ) -> Result<NodeId, AllocError>
-    requires { IsInPlan builder.old.nodes domain.now.rows }
+    requires { IsFooting builder.old.nodes footing.old.rows }
     ensures { IfOk result
-        (IsSelection builder.old.nodes builder.new.nodes table condition.now domain.now.rows) }
+        (Lowers builder.old.nodes builder.new.nodes
+        (tree_step (tree.Select (tree_step (tree.Scan table)) condition.now))
+        footing.old footing.new) }
+{
+    let width = footing.width()?;
+    if width > 0 {
+        let notes = footing.unchanged.as_slice();
+        if let Some(own) = own_columns(alloc, condition, table, width, notes)? {
+            let id = put_own_selection(alloc, builder, table, condition, own.as_slice())?;
+            return Ok(id);
+        }
+    }
+    let domain = footing.settled(alloc, builder)?;
+    let id = put_table_selection(alloc, builder, table, condition, domain)?;
+    Ok(id)
+}
+
+// The rows of a table, these of its columns before all of them, that a condition keeps: it reads
+// them in the place of a domain's. The columns are only shared before the condition is asked.
+#[tactic(auto, using(algebra::proofs::Fits::scan_fits))]
+fn put_own_selection(
+    alloc: Global,
+    builder: &mut Builder,
+    table: TableName,
+    condition: &Expr,
+    own: &[u32],
+) -> Result<NodeId, AllocError>
+    ensures { IfOk result
+        (IsOwnSelection builder.old.nodes builder.new.nodes table condition.now own.now) }
+{
+    let columns = own_and_all(alloc, own, table)?;
+    let listed = column_list(alloc, columns.as_slice())?;
+    let condition = copy_expr(alloc, condition)?;
+    let rows = builder.put(Node::Scan(table))?;
+    let rows = builder.put(Node::Project(rows, listed))?;
+    let id = builder.put(Node::Select(rows, condition))?;
+    Ok(id)
+}
+
+// A table's rows that a condition keeps, under each row of a domain. The table is joined with the
+// domain under the condition, so that a combination which it drops is never a row.
+#[tactic(auto, using(algebra::proofs::Fits::scan_fits))]
+fn put_table_selection(
+    alloc: Global,
+    builder: &mut Builder,
+    table: TableName,
+    condition: &Expr,
+    domain: DomainRows,
+) -> Result<NodeId, AllocError>
+    requires { IsInPlan builder.old.nodes domain }
+    ensures { IfOk result
+        (IsSelection builder.old.nodes builder.new.nodes table condition.now domain) }
 {
     let rows = builder.put(Node::Scan(table))?;
-    match domain.rows {
+    match domain {
         DomainRows::One => {
             let id = put_select(alloc, builder, rows, condition)?;
             Ok(id)
@@ -270,7 +355,7 @@ fn put_fill(
 
 // The groups of a node's rows by a domain's columns and by others.
 #[tactic(auto, using(algebra::proofs::Fits::group_fits))]
-fn put_group_by(
+pub(crate) fn put_group_by(
     alloc: Global,
     builder: &mut Builder,
     rows: NodeId,
@@ -289,78 +374,47 @@ fn put_group_by(
     Ok(id)
 }
 
-// The groups of a node's rows under each row of the domain.
-pub(crate) fn put_group(
+// The one group of a node's rows under each row of a domain.
+pub(crate) fn put_total(
     alloc: Global,
     builder: &mut Builder,
     rows: NodeId,
-    by: &[u32],
     aggregates: &[Aggregate],
-    domain: &Domain,
+    domain: DomainRows,
 ) -> Result<NodeId, AllocError>
     requires rows { rows < length builder.old.nodes }
-    requires domain { IsInPlan builder.old.nodes domain.now.rows }
+    requires domain { IsInPlan builder.old.nodes domain }
     ensures { IfOk result
-        (IsGrouped builder.old.nodes builder.new.nodes rows by.now aggregates.now domain.now.rows) }
+        (IsTotal builder.old.nodes builder.new.nodes rows aggregates.now domain) }
 {
-    match domain.rows {
+    match domain {
         DomainRows::One => {
-            let id = put_group_by(alloc, builder, rows, 0, by, aggregates)?;
+            let id = put_group_by(alloc, builder, rows, 0, &[], aggregates)?;
             Ok(id)
         }
         DomainRows::Node(domain, width) => {
-            if by.is_empty() {
-                let id = put_fill(alloc, builder, rows, aggregates, domain, width)?;
-                return Ok(id);
-            }
-            let id = put_group_by(alloc, builder, rows, width, by, aggregates)?;
+            let id = put_fill(alloc, builder, rows, aggregates, domain, width)?;
             Ok(id)
         }
     }
 }
 
-// A domain of these columns of a left side's rows.
-#[tactic(auto, using(algebra::proofs::Fits::domain_fits))]
-fn put_domain(
+// The rows of a right side that depends on these columns of its left side, with notes of those that
+// come unchanged from a table. One that depends on no columns is closed.
+pub(crate) fn own_footing(
     alloc: Global,
-    builder: &mut Builder,
+    builder: &Builder,
     outer: NodeId,
     columns: &[u32],
-) -> Result<Domain, AllocError>
-    requires { outer < length builder.old.nodes }
-    ensures { IfOk result (IsOwnDomain builder.old.nodes builder.new.nodes outer columns.now) }
+) -> Result<Footing, AllocError>
+    requires { outer < length builder.now.nodes }
+    ensures { IfOk result (IsOwnFooting builder.now.nodes outer columns.now) }
 {
-    let width = u32::try_from(columns.len()).map_err(|_| AllocError)?;
-    let columns = Items::from_slice(alloc, columns)?;
-    let id = builder.put(Node::Domain(outer, columns))?;
-    Ok(Domain::of(alloc, DomainRows::Node(id, width)))
-}
-
-// The domain of a right side. One that depends on no columns is closed, and gets none.
-pub(crate) fn side_domain(
-    alloc: Global,
-    builder: &mut Builder,
-    outer: NodeId,
-    side: &Side,
-    domain: &Domain,
-) -> Result<Domain, AllocError>
-    requires outer { outer < length builder.old.nodes }
-    requires domain { IsInPlan builder.old.nodes domain.now.rows }
-    ensures { IfOk result
-        (IsSideDomain builder.old.nodes builder.new.nodes outer side.now domain.now) }
-{
-    match side {
-        Side::Closed => Ok(Domain::one(alloc)),
-        Side::Shared => {
-            let same = domain.copy(alloc)?;
-            Ok(same)
-        }
-        Side::Dependent(columns) => {
-            if columns.is_empty() {
-                return Ok(Domain::one(alloc));
-            }
-            let inner = put_domain(alloc, builder, outer, columns.as_slice())?;
-            Ok(inner)
-        }
+    if columns.is_empty() {
+        return Ok(Footing::one(alloc));
     }
+    let unchanged = origins(alloc, builder.nodes.as_slice(), outer, columns)?;
+    let columns = Items::from_slice(alloc, columns)?;
+    let rows = FootingRows::Due(outer, columns);
+    Ok(Footing { rows, unchanged })
 }

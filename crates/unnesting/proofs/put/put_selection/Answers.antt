@@ -1,0 +1,6 @@
+use Rattle.unnesting.proofs.OwnNodes.{own_selection_put}
+use Rattle.unnesting.proofs.put.put_selection.Goals as goal
+
+pub returns-in-Some : goal.returns-in-Some
+returns-in-Some c =
+    own_selection_put c.requires c.in_ok-width.ensures c.as_slice-notes.ensures (rw c.in-Some.is at c.in_ok-own.ensures) c.as_slice.ensures c.in_ok-id.ensures
