@@ -309,7 +309,8 @@ fn scanned_tables(alloc: Global, tree: &DepTree) -> Result<usize, AllocError> {
     Ok(scans.count())
 }
 
-// So a run of the first tree takes four steps, and one of the second five.
+// So a run of the first tree takes four steps, one of the second five, of the third six and of the
+// last nine.
 #[test]
 fn each_table_is_scanned_once(rt: HostRuntime) -> Result<(), Fail> {
     let alloc = rt.alloc();
@@ -317,6 +318,10 @@ fn each_table_is_scanned_once(rt: HostRuntime) -> Result<(), Fail> {
     assert!(rt; scanned_tables(alloc, customers.get())? == 2);
     let regions = regions_with_nations(alloc)?;
     assert!(rt; scanned_tables(alloc, regions.get())? == 2);
+    let keys = counts_of_keys(alloc)?;
+    assert!(rt; scanned_tables(alloc, keys.get())? == 3);
+    let nested = customers_beside_regions(alloc)?;
+    assert!(rt; scanned_tables(alloc, nested.get())? == 3);
     let tables = small_tables(alloc)?;
     assert!(rt; tables.count(TableName::Customer) == 2 && tables.count(TableName::Orders) == 2);
     assert!(rt; tables.count(TableName::Region) == 5 && tables.count(TableName::Nation) == 0);

@@ -6,7 +6,7 @@ use Rattle.unnesting.proofs.Steps.{scan_arm, selection_arm, select_arm, project_
 use Rattle.unnesting.proofs.lowering.+lower.Goals as goal
 
 pub lowered-put_total-requires-clause-domain : goal.lowered-put_total-requires-clause-domain
-lowered-put_total-requires-clause-domain t c = total_in_plan c.in_ok-domain.domain (settled_in_plan c.in_ok-domain.ensures) c.in_ok-rows-in-Group.ensures
+lowered-put_total-requires-clause-domain t c = total_in_plan c.in_ok-domain-in-Group.domain (settled_in_plan c.in_ok-domain-in-Group.ensures) c.in_ok-rows-in-Group.ensures
 
 pub lowered-put_join-requires-clause-width : goal.lowered-put_join-requires-clause-width
 lowered-put_join-requires-clause-width t c = right_wide c.in_ok-width-in-Join.ensures c.in_ok-outer-in-Join.ensures c.in_ok-rows-in-Join.ensures
@@ -19,7 +19,7 @@ lowered-put_single-requires-clause-width t c = right_wide c.in_ok-width-in-Singl
 
 pub lowered-put_outer-requires-clause-width : goal.lowered-put_outer-requires-clause-width
 lowered-put_outer-requires-clause-width t c =
-    outer_wide c.in_ok-own.ensures c.in_ok-outer-in-Outer.ensures refl c.in_ok-rows-in-Outer.ensures c.get-in-Outer-2.ensures c.in_ok-nulls-in-Outer.ensures
+    outer_wide c.in_ok-own-in-Outer.ensures c.in_ok-outer-in-Outer.ensures refl c.in_ok-rows-in-Outer.ensures c.get-in-Outer-2.ensures c.in_ok-nulls-in-Outer.ensures
 
 pub lowered-returns-in_ok-id-in-Scan : goal.lowered-returns-in_ok-id-in-Scan
 lowered-returns-in_ok-id-in-Scan t c = scan_arm c.in-Scan.is c.in_ok-id-in-Scan.ensures
@@ -33,7 +33,7 @@ lowered-returns-in_ok-id-in-Select-2 t c =
 
 pub lowered-returns-in_ok-id-in-Project : goal.lowered-returns-in_ok-id-in-Project
 lowered-returns-in_ok-id-in-Project t c =
-    project_arm c.in-Project.is c.get-in-Project.ensures c.in_ok-rows-in-Project.ensures c.in_ok-width.ensures c.as_slice.ensures c.in_ok-id-in-Project.ensures
+    project_arm c.in-Project.is c.get-in-Project.ensures c.in_ok-rows-in-Project.ensures c.in_ok-width-in-Project.ensures c.as_slice.ensures c.in_ok-id-in-Project.ensures
 
 pub lowered-returns-in_ok-id-in-Join : goal.lowered-returns-in_ok-id-in-Join
 lowered-returns-in_ok-id-in-Join t c =
@@ -42,7 +42,7 @@ lowered-returns-in_ok-id-in-Join t c =
 
 pub lowered-returns-in_ok-id-in-Outer : goal.lowered-returns-in_ok-id-in-Outer
 lowered-returns-in_ok-id-in-Outer t c =
-    outer_arm c.in-Outer.is c.in_ok-own.ensures c.get-in-Outer.ensures c.in_ok-outer-in-Outer.ensures refl c.in_ok-rows-in-Outer.ensures c.get-in-Outer-2.ensures
+    outer_arm c.in-Outer.is c.in_ok-own-in-Outer.ensures c.get-in-Outer.ensures c.in_ok-outer-in-Outer.ensures refl c.in_ok-rows-in-Outer.ensures c.get-in-Outer-2.ensures
     c.in_ok-nulls-in-Outer.ensures c.get-in-Outer-3.ensures c.in_ok-id-in-Outer.ensures
 
 pub lowered-returns-in_ok-id-in-Mark : goal.lowered-returns-in_ok-id-in-Mark
@@ -57,13 +57,13 @@ lowered-returns-in_ok-id-in-Single t c =
 
 pub lowered-returns-then-is_empty : goal.lowered-returns-then-is_empty
 lowered-returns-then-is_empty t c =
-    total_arm (none_of c.as_slice-by.result.now (sym c.is_empty.ensures ∙ c.if-is_empty.true)) c.in-Group.is c.in_ok-domain.ensures c.get-in-Group.ensures c.in_ok-rows-in-Group.ensures c.as_slice-by.ensures
-    c.as_slice-in-Group.ensures c.in_ok-id-in-Group.ensures
+    total_arm (none_of c.as_slice-by.result.now (sym c.is_empty.ensures ∙ c.if-is_empty.true)) c.in-Group.is c.in_ok-domain-in-Group.ensures c.get-then-is_empty.ensures c.in_ok-rows-in-Group.ensures c.as_slice-by.ensures
+    c.as_slice-then-is_empty.ensures c.in_ok-id-in-Group.ensures
 
 pub lowered-returns-in_ok-id-in-Group-2 : goal.lowered-returns-in_ok-id-in-Group-2
 lowered-returns-in_ok-id-in-Group-2 t c =
-    group_arm (some_of c.as_slice-by.result.now (sym c.is_empty.ensures ∙ c.if-is_empty.false)) c.in-Group.is c.in_ok-width-in-Group.ensures c.get-in-Group-2.ensures c.in_ok-rows-in-Group-2.ensures
-    c.as_slice-by.ensures c.as_slice-in-Group-2.ensures c.in_ok-id-in-Group-2.ensures
+    group_arm (some_of c.as_slice-by.result.now (sym c.is_empty.ensures ∙ c.if-is_empty.false)) c.in-Group.is c.in_ok-width-in-Group.ensures c.get-in-Group.ensures c.in_ok-rows-in-Group-2.ensures
+    c.as_slice-by.ensures c.as_slice-in-Group.ensures c.in_ok-id-in-Group-2.ensures
 
 pub lowered-returns-in_ok-id-in-Distinct : goal.lowered-returns-in_ok-id-in-Distinct
 lowered-returns-in_ok-id-in-Distinct t c =
@@ -78,4 +78,4 @@ lowered_right-returns-in_ok-id-in-Closed t c =
 
 pub lowered_right-returns-in_ok-id-in-Dependent : goal.lowered_right-returns-in_ok-id-in-Dependent
 lowered_right-returns-in_ok-id-in-Dependent t c =
-    own_arm c.args.footing.now c.args.outer c.requires.footing c.in-Dependent.is c.as_slice.ensures c.get-in-Dependent.ensures c.in_ok-own.ensures c.in_ok-id-in-Dependent.ensures
+    own_arm c.args.footing.now c.args.outer c.requires.footing c.in-Dependent.is c.as_slice.ensures c.get-in-Dependent.ensures c.in_ok-own-in-Dependent.ensures c.in_ok-id-in-Dependent.ensures
