@@ -1,4 +1,4 @@
-use Rattle.std.proofs.Common.{arith, rules, ◌≡◌, ◌+◌, ◌<◌, ◌≤◌, length}
+use Rattle.std.proofs.Common.{arith, rules, ◌+◌}
 use Rattle.std.proofs.lemmas.List.{length-drop, take_rest}
 use Rattle.tbl_reader.proofs.FieldEnds.{cents_end}
 use Rattle.tbl_reader.proofs.PlainNumbers.{cents_is}
