@@ -19,7 +19,7 @@ cuts (suc n) text = before_first is_bar text ∷ cuts n (after_first is_bar text
 abbrev pub HasNoBar : List ℕ → Type 0
 HasNoBar field = list_any is_bar field ≡ false
 
-neither : (a b : Bool) → (a || b) ≡ false → (a ≡ false) × (b ≡ false)
+pub neither : (a b : Bool) → (a || b) ≡ false → (a ≡ false) × (b ≡ false)
 neither true b e = cc
 neither false b e = (refl, e)
 
@@ -68,7 +68,7 @@ none_counted : (field : List ℕ) → count_by is_bar field ≡ 0 → HasNoBar f
 none_counted [] h = refl
 none_counted (b ∷ field) h = none_at (b == 124) b field refl (none_counted field) h
 
-none-cons : (b : ℕ) (field : List ℕ) → (b == 124) ≡ false → HasNoBar field → HasNoBar (b ∷ field)
+pub none-cons : (b : ℕ) (field : List ℕ) → (b == 124) ≡ false → HasNoBar field → HasNoBar (b ∷ field)
 none-cons b field e none = rw e none
 
 -- a text that has a bar

@@ -13,4 +13,6 @@ pub mod FileLaws
 pub mod Readers
 pub mod Held
 pub mod PlainNumbers
+pub mod FieldEnds
+pub mod FirstBytes
 pub mod BarCuts

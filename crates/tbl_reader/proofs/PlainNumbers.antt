@@ -1,26 +1,55 @@
 -- What plainly spelled numbers are.
-use Rattle.std.proofs.Common.{◌≡◌, ℕ, zero, suc, ◌+◌, ◌-◌, ◌*◌, ◌^◌, ◌<◌, ◌≤◌, Bool, true, false, cond, ◌==◌, ℤ, pos, List, [], ◌∷◌, ◌++◌, length, take, drop, get_or, position, refl, sym, ◌∙◌, ap, arith, Option, Some, None, Result, Ok, Err, w64}
+use Rattle.std.proofs.Common.{◌≡◌, ℕ, suc, ◌+◌, ◌-◌, ◌*◌, ◌^◌, ◌<◌, ◌≤◌, Bool, true, false, cond, ◌==◌, ℤ, pos, List, [], ◌∷◌, ◌++◌, length, take, drop, get_or, position, refl, sym, ◌∙◌, ap, arith, add-one, Option, Some, None, Result, Ok, Err, w64}
 use Rattle.std.specs.Prelude.{nat_lt, nat_le}
-use Rattle.std.specs.Char.{is_ascii_digit}
+use Rattle.std.specs.Char.{is_ascii_digit, digit_value}
 use Rattle.std.specs.List.{position_or_len}
 use Rattle.std.specs.Str.{all_ascii_digits}
 use Rattle.std.specs.Str.Parse.{digits_value_after}
+use Rattle.std.proofs.Math.Seq.{drop-cons, take-add}
 use Rattle.std.proofs.lemmas.Bool.{and_parts, and_from, lt-ltb, le-ltb, le-leb}
 use Rattle.std.proofs.lemmas.Bool.Decides.{nat_tests}
 use Rattle.std.proofs.lemmas.Int.{to_z_pos}
 use mir.Val.{to_z}
-use Rattle.std.proofs.lemmas.List.{append-nil, length-append, length-drop}
+use Rattle.std.proofs.lemmas.List.{append-nil, length-append, length-drop, length-take-le, take_more}
 use Rattle.refusals.specs.declared.line.LineFault.{LineFault}
 use Rattle.refusals.specs.declared.line.LineFault.TheVariants.{NumberTooWide}
 use Rattle.sql_value.specs.declared.value.Value.{Value}
 use Rattle.sql_value.specs.declared.value.Value.TheVariants as value
 use Rattle.fixed_decimal.specs.Written.{is_digits, coefficient_of, read_size, decimal_read}
-use Rattle.fixed_decimal.proofs.Digits.{digits_more, value_more, value_join}
+use Rattle.fixed_decimal.proofs.Digits.{value_join}
 use Rattle.tpch_schema.specs.declared.column.ColumnKind.TheVariants.{Key, Whole, Decimal}
 use Rattle.tbl_reader.specs.Field.{kind_field}
 use Rattle.tbl_reader.specs.Natural.{IsNatural}
 
-pub ruleset steps = (digits_more, value_more)
+-- one digit more
+
+digits_append : (xs : List ℕ) (b : ℕ) → all_ascii_digits xs ≡ true → is_ascii_digit b ≡ true → all_ascii_digits (xs ++ b ∷ []) ≡ true
+digits_append [] b e digit = rw digit refl
+digits_append (x ∷ xs) b e digit =
+    let parts = and_parts _ _ e in
+    and_from _ _ parts.0 (digits_append xs b parts.1 digit)
+
+pub digits_more : (text : List ℕ) (i : ℕ) → i < length text → all_ascii_digits (take i text) ≡ true → is_ascii_digit (get_or text i 0) ≡ true
+    → all_ascii_digits (take (i + 1) text) ≡ true
+digits_more text i h e digit = rw (take_more text i 0 h) (digits_append (take i text) (get_or text i 0) e digit)
+
+digit_is : (b : ℕ) → is_ascii_digit b ≡ true → digit_value b ≡ b - 48
+digit_is b e =
+    let low : 48 ≤ b = grind (arith, nat_tests) in
+    let high : b < 58 = grind (arith, nat_tests) in
+    rw (le-ltb b 48 low, lt-ltb b 58 high) refl
+
+value_after : (text : List ℕ) (before i n : ℕ) → i < length text → n ≡ digits_value_after 10 before (take i text)
+    → n * 10 + digit_value (get_or text i 0) ≡ digits_value_after 10 before (take (i + 1) text)
+value_after text before i n h e =
+    rw (take_more text i 0 h, value_join before (take i text) (get_or text i 0 ∷ []), ← e) refl
+
+pub value_more : (text : List ℕ) (before i n : ℕ) → i < length text → is_ascii_digit (get_or text i 0) ≡ true → n ≡ digits_value_after 10 before (take i text)
+    → n * 10 + (get_or text i 0 - 48) ≡ digits_value_after 10 before (take (i + 1) text)
+value_more text before i n h digit e =
+    ap (λ v. n * 10 + v) (sym (digit_is (get_or text i 0) digit)) ∙ value_after text before i n h e
+
+pub ruleset digits = (digits_more, value_more)
 
 -- digits are no minus and no point
 
@@ -109,48 +138,46 @@ cents_of whole fraction n some digits more two e h =
     first_of [] more some e = absurd (omega (arith, some))
     first_of (b ∷ rest) more some e = (and_parts _ _ e).0
 
-parts_at : (text : List ℕ) (i : ℕ) → i < length text → text ≡ take i text ++ get_or text i 0 ∷ drop (i + 1) text
-parts_at [] i h = absurd (omega (arith, h))
-parts_at (b ∷ text) zero h = refl
-parts_at (b ∷ text) (suc i) h =
-    let one : suc i + 1 ≡ suc (i + 1) = omega arith in
-    rw one (ap (λ l. b ∷ l) (parts_at text i (omega (arith, h))))
+-- a point and two digits more
+pub point_after_digits : (text : List ℕ) (point : ℕ) → point < length text → get_or text point 0 ≡ 46
+    → take (point + 3) text ≡ take point text ++ 46 ∷ take 2 (drop (point + 1) text)
+point_after_digits text point h is =
+    let rest : take 3 (drop point text) ≡ 46 ∷ take 2 (drop (point + 1) text) = rw (add-one, drop-cons text point 0 h, is) refl in
+    take-add point 3 text ∙ ap (λ l. take point text ++ l) rest
 
-cents_number : (text : List ℕ) (point n : ℕ) → point + 3 ≡ length text → 0 < point → get_or text point 0 ≡ 46
-    → all_ascii_digits (take point text) ≡ true → all_ascii_digits (drop (point + 1) text) ≡ true
-    → n ≡ digits_value_after 10 (digits_value_after 10 0 (take point text)) (drop (point + 1) text) → n < 2 ^ 63
-    → decimal_read text 2 ≡ Ok (pos n)
-cents_number text point n long some is digits more e h =
-    let whole : text ≡ take point text ++ 46 ∷ drop (point + 1) text = parts_at text point (omega (arith, long)) ∙ ap (λ b. take point text ++ b ∷ drop (point + 1) text) is in
-    let front : length (take point text) ≡ point = length-take point text (omega (arith, long)) in
-    let rest : length (drop (point + 1) text) ≡ 2 = omega (arith, length-drop (point + 1) text, long) in
-    ap (λ t. decimal_read t 2) whole ∙ cents_of (take point text) (drop (point + 1) text) n (omega (arith, front, some)) digits more rest e h
-  where
-    length-take : (i : ℕ) (xs : List ℕ) → i ≤ length xs → length (take i xs) ≡ i
-    length-take zero xs h = refl
-    length-take (suc i) [] h = absurd (omega (arith, h))
-    length-take (suc i) (x ∷ xs) h = ap suc (length-take i xs (omega (arith, h)))
+cents_number : (text : List ℕ) (point n : ℕ) → 0 < point → point + 3 ≤ length text → get_or text point 0 ≡ 46
+    → all_ascii_digits (take point text) ≡ true → all_ascii_digits (take 2 (drop (point + 1) text)) ≡ true
+    → n ≡ digits_value_after 10 (digits_value_after 10 0 (take point text)) (take 2 (drop (point + 1) text)) → n < 2 ^ 63
+    → decimal_read (take (point + 3) text) 2 ≡ Ok (pos n)
+cents_number text point n some long is digits more e h =
+    let front : length (take point text) ≡ point = length-take-le point text (omega (arith, long)) in
+    let two : length (take 2 (drop (point + 1) text)) ≡ 2 = length-take-le 2 (drop (point + 1) text) (omega (arith, length-drop (point + 1) text, long)) in
+    rw (point_after_digits text point (omega (arith, long)) is)
+    (cents_of (take point text) (take 2 (drop (point + 1) text)) n (omega (arith, front, some)) digits more two e h)
 
 natural : (n : ℕ) → n < 2 ^ 63 → IsNatural (pos n)
 natural n h = record { sign = le-ltb n 0 (omega arith); narrow = lt-ltb n (2 ^ 63) h }
 
 -- the same of the number as it is cast
 
-pub whole_is : (text : List ℕ) (n : ℕ) → 0 < length text → all_ascii_digits text ≡ true → n ≡ digits_value_after 10 0 text → n < 2 ^ 63
-    → decimal_read text 0 ≡ Ok (to_z w64 n)
-whole_is text n some digits e h = rw (to_z_pos w64 n h) (whole_number text n some digits e h)
+pub whole_is : (text : List ℕ) (end n : ℕ) → 0 < end → end ≤ length text → all_ascii_digits (take end text) ≡ true
+    → n ≡ digits_value_after 10 0 (take end text) → n < 2 ^ 63 → decimal_read (take end text) 0 ≡ Ok (to_z w64 n)
+whole_is text end n some inside digits e h =
+    let size : length (take end text) ≡ end = length-take-le end text inside in
+    rw (to_z_pos w64 n h) (whole_number (take end text) n (omega (arith, size, some)) digits e h)
 
-pub cents_is : (text : List ℕ) (point n whole : ℕ) → point + 3 ≡ length text → 0 < point → get_or text point 0 ≡ 46
-    → all_ascii_digits (take point text) ≡ true → all_ascii_digits (drop (point + 1) text) ≡ true
-    → whole ≡ digits_value_after 10 0 (take point text) → n ≡ digits_value_after 10 whole (drop (point + 1) text) → n < 2 ^ 63
-    → decimal_read text 2 ≡ Ok (to_z w64 n)
-cents_is text point n whole long some is digits more w e h =
-    rw (to_z_pos w64 n h) (cents_number text point n long some is digits more (e ∙ ap (λ v. digits_value_after 10 v (drop (point + 1) text)) w) h)
+pub cents_is : (text : List ℕ) (point n whole : ℕ) → 0 < point → point + 3 ≤ length text → get_or text point 0 ≡ 46
+    → all_ascii_digits (take point text) ≡ true → all_ascii_digits (take 2 (drop (point + 1) text)) ≡ true
+    → whole ≡ digits_value_after 10 0 (take point text) → n ≡ digits_value_after 10 whole (take 2 (drop (point + 1) text)) → n < 2 ^ 63
+    → decimal_read (take (point + 3) text) 2 ≡ Ok (to_z w64 n)
+cents_is text point n whole some long is digits more w e h =
+    rw (to_z_pos w64 n h)
+    (cents_number text point n some long is digits more (e ∙ ap (λ v. digits_value_after 10 v (take 2 (drop (point + 1) text))) w) h)
 
 pub natural_is : (n : ℕ) → n < 2 ^ 63 → IsNatural (to_z w64 n)
 natural_is n h = rw (to_z_pos w64 n h) (natural n h)
 
-pub ruleset read = (whole_is, cents_is, natural_is)
+pub ruleset read = (whole_is, natural_is)
 
 -- columns hold natural numbers
 

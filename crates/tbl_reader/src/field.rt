@@ -9,7 +9,6 @@ ghost use Rattle.tpch_schema.specs.declared.column.ColumnKind.TheVariants.{Text 
 ghost use Rattle.tpch_schema.specs.Kinds.{is_of_kind};
 ghost use Rattle.tbl_reader.specs.Field.{kind_field, number_field, text_field, date_field};
 
-use crate::plain::plain_number;
 use civil_date::CivilDate;
 use columns::Field;
 use fixed_decimal::{Scale, Spelling, read_decimal};
@@ -23,9 +22,6 @@ pub fn read_field(kind: ColumnKind, bytes: &[u8]) -> Result<Field<'_>, LineFault
         (λ fault. kind_field kind bytes.now ≡ Err fault) }
     ensures printable { IfOk result IsPrintableField }
 {
-    if let Some(field) = plain_number(kind, bytes) {
-        return Ok(field);
-    }
     match kind {
         ColumnKind::Key | ColumnKind::Whole => read_number(kind, Scale::new(0), bytes),
         ColumnKind::Decimal => read_number(kind, Scale::new(2), bytes),

@@ -6,13 +6,16 @@ ghost use Rattle.columns.specs.Fields.{field_value, IsPrintableField};
 ghost use Rattle.tbl_reader.specs.declared.error.FieldsError.{FieldsError};
 ghost use Rattle.tbl_reader.specs.Error.{Blames};
 ghost use Rattle.tpch_schema.specs.LineForm.{file_form, fits, never_null};
+ghost use Rattle.tbl_reader.specs.Field.{kind_field};
 ghost use Rattle.tbl_reader.specs.File.{line_row};
 ghost use Rattle.tbl_reader.specs.Line.{is_bar, has_fields, IsWholeCut, without_end, line_text};
 ghost use Rattle.tbl_reader.specs.Line.{values_of, row_of};
 
 use crate::error::FieldsError;
 use crate::field::read_field;
+use crate::plain::plain_field;
 use columns::Field;
+use memchr::memchr;
 use refusals::LineFault;
 use tpch_schema::{ColumnKind, DataFile};
 
@@ -93,19 +96,51 @@ fn put_good<'a>(
     let mut rest = line;
     let mut bars: usize = 0;
     for kind in kinds {
-        let (bytes, more, found) = cut_at_bar(rest);
-        match read_field(*kind, bytes) {
-            Ok(field) => {
-                if fields.push(field).is_err() {
-                    return Err(FieldsError::OutOfMemory);
-                }
-            }
-            Err(_) => return Ok(false),
+        let Some((field, more, found)) = next_field(*kind, rest) else {
+            return Ok(false);
+        };
+        if fields.push(field).is_err() {
+            return Err(FieldsError::OutOfMemory);
         }
         rest = more;
         bars += usize::from(found);
     }
     Ok(are_whole(kinds.len(), bars, rest))
+}
+
+// The field before the first bar in a column of that kind, the bytes after that bar, and whether
+// there is one; none where the field is bad.
+#[tactic(auto, using(crate::proofs::FieldEnds::cuts))]
+fn next_field(kind: ColumnKind, text: &[u8]) -> Option<(Field<'_>, &[u8], bool)>
+    ensures value { IfSome result
+        (λ f. kind_field kind (before_first is_bar text.now) ≡ Ok (field_value f.0)) }
+    ensures printable { IfSome result (λ f. IsPrintableField f.0) }
+    ensures rest { IfSome result (λ f. f.1.now ≡ after_first is_bar text.now) }
+    ensures found { IfSome result (λ f. f.2 ≡ is_some (position is_bar text.now)) }
+{
+    let Some((field, end)) = plain_field(kind, text) else {
+        return other_field(kind, text);
+    };
+    if end < text.len() {
+        Some((field, &text[end + 1..], true))
+    } else {
+        Some((field, &[], false))
+    }
+}
+
+// The same of a field in whatever spelling.
+fn other_field(kind: ColumnKind, text: &[u8]) -> Option<(Field<'_>, &[u8], bool)>
+    ensures value { IfSome result
+        (λ f. kind_field kind (before_first is_bar text.now) ≡ Ok (field_value f.0)) }
+    ensures printable { IfSome result (λ f. IsPrintableField f.0) }
+    ensures rest { IfSome result (λ f. f.1.now ≡ after_first is_bar text.now) }
+    ensures found { IfSome result (λ f. f.2 ≡ is_some (position is_bar text.now)) }
+{
+    let (bytes, more, found) = cut_at_bar(text);
+    match read_field(kind, bytes) {
+        Ok(field) => Some((field, more, found)),
+        Err(_) => None,
+    }
 }
 
 // Whether so many bars part that many fields, before this rest.
@@ -171,10 +206,11 @@ fn cut_at_bar(text: &[u8]) -> (&[u8], &[u8], bool)
 }
 
 /// The first place of a byte.
+#[tactic(auto, using(crate::proofs::FirstBytes::first_byte))]
 pub fn place_of(sought: u8, text: &[u8]) -> Option<usize>
     ensures value { result ≡ position (λ byte. byte == sought) text.now }
     ensures bound { IfSome result (λ place. place < length text.now) }
     ensures fits { IfSome result (λ place. place + 1 < 2 ^ 64) }
 {
-    text.iter().position(|byte| *byte == sought)
+    memchr(sought, text)
 }

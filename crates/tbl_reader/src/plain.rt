@@ -1,83 +1,158 @@
-//! Numbers in their usual spelling, which are read at once.
-ghost use Rattle.std.specs.Prelude.{◌≡◌, ◌^◌, ◌<◌, IfSome, true};
+//! Fields in their usual spelling, which are cut and read in one pass.
+ghost use Rattle.std.specs.Prelude.{◌≡◌, ◌^◌, ◌<◌, ◌≤◌, IfSome, Some, true, length, take};
+ghost use Rattle.std.specs.Prelude.{slice_index};
+ghost use Rattle.std.specs.List.{position_or_len};
 ghost use Rattle.std.specs.Str.{all_ascii_digits};
 ghost use Rattle.std.specs.Str.Parse.{digits_value_after};
+ghost use Rattle.ascii_text.specs.Printable.{AllPrintable};
+ghost use Rattle.civil_date.specs.Date.{date_of};
 ghost use Rattle.columns.specs.Fields.{field_value, IsPrintableField};
 ghost use Rattle.fixed_decimal.specs.Written.{decimal_read};
 ghost use Rattle.tbl_reader.specs.Field.{kind_field};
+ghost use Rattle.tbl_reader.specs.Line.{is_bar};
 ghost use Rattle.tbl_reader.specs.Natural.{IsNatural};
 
+use civil_date::CivilDate;
 use columns::Field;
 use fixed_decimal::Scale;
 use tpch_schema::ColumnKind;
 
-/// The number of a column of that kind, where the bytes are so many digits that 63 bits hold it,
-/// for a decimal with a point before the last two. Other spellings, and other kinds, are for
-/// [`crate::field::read_field`].
-#[tactic(auto, using(crate::proofs::PlainNumbers::held))]
-pub fn plain_number(kind: ColumnKind, bytes: &[u8]) -> Option<Field<'_>>
-    ensures value { IfSome result (λ f. kind_field kind bytes.now ≡ Ok (field_value f)) }
-    ensures printable { IfSome result IsPrintableField }
+/// What the bytes before the first bar say in a column of that kind, and where they end, where they
+/// are spelled as usual: digits that 63 bits hold, for a decimal with a point before the last two;
+/// a date; a text. Other spellings, and bad fields, are for [`crate::field::read_field`].
+#[tactic(auto, using(crate::proofs::PlainNumbers::held, crate::proofs::FieldEnds::holds))]
+pub fn plain_field(kind: ColumnKind, text: &[u8]) -> Option<(Field<'_>, usize)>
+    ensures value { IfSome result (λ f. kind_field kind (take f.1 text.now) ≡ Ok (field_value f.0)) }
+    ensures end { IfSome result (λ f. position_or_len is_bar text.now ≡ f.1) }
+    ensures inside { IfSome result (λ f. f.1 ≤ length text.now) }
+    ensures printable { IfSome result (λ f. IsPrintableField f.0) }
 {
     match kind {
         ColumnKind::Key | ColumnKind::Whole => {
-            let number = plain_whole(bytes)?;
-            Some(Field::Number(Scale::new(0), number))
+            let (number, end) = plain_whole(text)?;
+            Some((Field::Number(Scale::new(0), number), end))
         }
         ColumnKind::Decimal => {
-            let number = plain_cents(bytes)?;
-            Some(Field::Number(Scale::new(2), number))
+            let (number, end) = plain_cents(text)?;
+            Some((Field::Number(Scale::new(2), number), end))
         }
-        ColumnKind::Date | ColumnKind::Text(_) => None,
+        ColumnKind::Date => {
+            let (date, end) = plain_date(text)?;
+            Some((Field::Date(date), end))
+        }
+        ColumnKind::Text(most) => {
+            let end = plain_text(text)?;
+            if end > most as usize {
+                return None;
+            }
+            Some((Field::Text(&text[..end]), end))
+        }
     }
 }
 
-// The number that one digit or more write.
-#[tactic(auto, using(crate::proofs::PlainNumbers::read))]
-fn plain_whole(bytes: &[u8]) -> Option<i64>
-    ensures value { IfSome result (λ number. decimal_read bytes.now 0 ≡ Ok number) }
-    ensures natural { IfSome result IsNatural }
+// The number that one digit or more before the first bar write, and where they end.
+#[tactic(auto, using(crate::proofs::PlainNumbers::read, crate::proofs::FieldEnds::digits_end))]
+fn plain_whole(text: &[u8]) -> Option<(i64, usize)>
+    ensures value { IfSome result (λ n. decimal_read (take n.1 text.now) 0 ≡ Ok n.0) }
+    ensures natural { IfSome result (λ n. IsNatural n.0) }
+    ensures end { IfSome result (λ n. position_or_len is_bar text.now ≡ n.1) }
+    ensures inside { IfSome result (λ n. n.1 ≤ length text.now) }
 {
-    if bytes.is_empty() {
+    let (value, end) = digits_from(0, text)?;
+    if end == 0 || !ends_at(text, end) {
         return None;
     }
-    let value = digits_after(0, bytes)?;
-    Some(value as i64)
+    Some((value as i64, end))
 }
 
-// The coefficient at scale 2 of digits, a point and two digits.
-#[tactic(auto, using(crate::proofs::PlainNumbers::read))]
-fn plain_cents(bytes: &[u8]) -> Option<i64>
-    ensures value { IfSome result (λ number. decimal_read bytes.now 2 ≡ Ok number) }
-    ensures natural { IfSome result IsNatural }
+// The coefficient at scale 2 of digits, a point and two digits before the first bar, and where they
+// end.
+#[tactic(auto, using(crate::proofs::PlainNumbers::natural_is))]
+fn plain_cents(text: &[u8]) -> Option<(i64, usize)>
+    ensures value { IfSome result (λ n. decimal_read (take n.1 text.now) 2 ≡ Ok n.0) }
+    ensures natural { IfSome result (λ n. IsNatural n.0) }
+    ensures end { IfSome result (λ n. position_or_len is_bar text.now ≡ n.1) }
+    ensures inside { IfSome result (λ n. n.1 ≤ length text.now) }
 {
-    let point = bytes.len().checked_sub(3)?;
-    if point == 0 || bytes[point] != b'.' {
+    let (whole, point) = digits_from(0, text)?;
+    if point == 0 || point == text.len() || text[point] != b'.' {
         return None;
     }
-    let whole = digits_after(0, &bytes[..point])?;
-    let value = digits_after(whole, &bytes[point + 1..])?;
-    Some(value as i64)
+    let (value, places) = digits_from(whole, &text[point + 1..])?;
+    if places != 2 || !ends_at(text, point + 3) {
+        return None;
+    }
+    Some((value as i64, point + 3))
+}
+
+// How many bytes a date has.
+const DATE_BYTES: usize = 10;
+
+// The date that the bytes before the first bar spell, and where they end.
+#[tactic(auto, using(crate::proofs::FieldEnds::date_end))]
+fn plain_date(text: &[u8]) -> Option<(CivilDate, usize)>
+    ensures value { IfSome result (λ d. date_of (take d.1 text.now) ≡ Some d.0) }
+    ensures end { IfSome result (λ d. position_or_len is_bar text.now ≡ d.1) }
+    ensures inside { IfSome result (λ d. d.1 ≤ length text.now) }
+{
+    if text.len() < DATE_BYTES || !ends_at(text, DATE_BYTES) {
+        return None;
+    }
+    match CivilDate::read(&text[..DATE_BYTES]) {
+        Ok(date) => Some((date, DATE_BYTES)),
+        Err(_) => None,
+    }
+}
+
+// Where the bytes before the first bar end, where all of them are printable.
+#[tactic(auto, using(crate::proofs::FieldEnds::texts))]
+fn plain_text(text: &[u8]) -> Option<usize>
+    ensures printable { IfSome result (λ end. AllPrintable (take end text.now)) }
+    ensures end { IfSome result (λ end. position_or_len is_bar text.now ≡ end) }
+    ensures inside { IfSome result (λ end. end ≤ length text.now) }
+{
+    for (place, byte) in text.iter().enumerate() {
+        if *byte == b'|' {
+            return Some(place);
+        }
+        if !(0x20..=0x7e).contains(byte) {
+            return None;
+        }
+    }
+    Some(text.len())
+}
+
+// Whether a field may end there: before a bar, or where the text ends.
+fn ends_at(text: &[u8], end: usize) -> bool
+    requires { end ≤ length text.now }
+    ensures { result ≡ true → end < length text.now → is_bar (slice_index text.now end) ≡ true }
+{
+    end == text.len() || text[end] == b'|'
 }
 
 // The most that one digit more leaves below 2^63.
 const MOST_BEFORE: u64 = 922_337_203_685_477_579;
 
-// The number that the digits write after those of another, where all are digits and 63 bits hold
-// it.
-#[tactic(auto, using(crate::proofs::PlainNumbers::steps))]
-fn digits_after(before: u64, digits: &[u8]) -> Option<u64>
+// The number that the digits at the front write after those of another, and how many there are,
+// where 63 bits hold it.
+#[tactic(auto, using(crate::proofs::PlainNumbers::digits))]
+fn digits_from(before: u64, text: &[u8]) -> Option<(u64, usize)>
     requires { before < 2 ^ 63 }
-    ensures digits { IfSome result (λ value. all_ascii_digits digits.now ≡ true) }
-    ensures value { IfSome result (λ value. value ≡ digits_value_after 10 before digits.now) }
-    ensures small { IfSome result (λ value. value < 2 ^ 63) }
+    ensures inside { IfSome result (λ d. d.1 ≤ length text.now) }
+    ensures digits { IfSome result (λ d. all_ascii_digits (take d.1 text.now) ≡ true) }
+    ensures value { IfSome result
+        (λ d. d.0 ≡ digits_value_after 10 before (take d.1 text.now)) }
+    ensures small { IfSome result (λ d. d.0 < 2 ^ 63) }
 {
     let mut value = before;
-    for digit in digits {
-        if !digit.is_ascii_digit() || value > MOST_BEFORE {
+    for (place, byte) in text.iter().enumerate() {
+        if !byte.is_ascii_digit() {
+            return Some((value, place));
+        }
+        if value > MOST_BEFORE {
             return None;
         }
-        value = value * 10 + (*digit - b'0') as u64;
+        value = value * 10 + (*byte - b'0') as u64;
     }
-    Some(value)
+    Some((value, text.len()))
 }
