@@ -1,44 +1,34 @@
 -- Each kind of tree: the node that is put for it answers its loops, where its inputs answer theirs.
-use Rattle.std.proofs.Common.{◌≡◌, ℕ, zero, suc, ◌+◌, ◌-◌, ◌≤◌, ◌<◌, List, [], ◌∷◌, ◌++◌, map, refl, sym, ◌∙◌, ap, subst, arith, length, take}
-use Rattle.std.specs.Prelude.{replicate, min}
-use Rattle.std.specs.List.{range_with_len, flat_map, filter}
+use Rattle.std.proofs.Common.{◌≡◌, ℕ, ◌+◌, ◌≤◌, List, [], ◌∷◌, ◌++◌, map, refl, sym, ◌∙◌, ap, subst, arith, length}
+use Rattle.std.specs.List.{range_with_len, flat_map}
 use Rattle.std.proofs.lemmas.List.{append-nil, length-append, length-map}
 use Rattle.std.proofs.lemmas.List.FromFn.{length-range_with_len}
 use Rattle.row_laws.specs.Ranked.{Ranked, ranked, true_rank}
-use Rattle.row_laws.specs.Bags.{Each, OfBag}
-use Rattle.row_laws.specs.Rows.{after, columns, scanned, unit_row}
-use Rattle.row_laws.specs.Operators.{select, pair, mark_of, scalar_of, total, group_by, fill, or_else, partners, join_loop}
+use Rattle.row_laws.specs.Rows.{scanned, unit_row}
+use Rattle.row_laws.specs.Operators.{select, pair, join_loop}
 use Rattle.row_laws.specs.Domains.{IsDomain, Answers}
-use Rattle.row_laws.specs.Matched.{side_matched, inner_matched}
-use Rattle.row_laws.specs.Trees.{side_width}
+use Rattle.row_laws.specs.Matched.{inner_matched}
 use Rattle.row_laws.specs.Trees.Side.{Closed as ClosedKind}
-use Rattle.row_laws.proofs.Lists.{flat_map-ext_each}
 use Rattle.row_laws.proofs.Domains.{domain_alone}
-use Rattle.row_laws.proofs.Sides.{inner_side, outer_side, attach_side}
-use Rattle.row_laws.proofs.Trees.{unit_is, closed_meets, total_alone, without_fill, select_step, project_step, group_step, total_step, distinct_step}
-use Rattle.row_laws.proofs.Values.{mark_bag, scalar_bag}
+use Rattle.row_laws.proofs.Sides.{inner_side}
+use Rattle.row_laws.proofs.Trees.{closed_meets, select_step, project_step, distinct_step}
 use Rattle.sql_value.specs.declared.value.Value.{Value}
 use Rattle.sql_value.specs.declared.value.Value.TheVariants.{Null}
 use Rattle.sql_value.specs.Value.{same_value}
 use Rattle.sql_value.proofs.Identity.{value_identity}
 use Rattle.scalar_expr.specs.declared.expr.Expr.{Expr}
 use Rattle.scalar_expr.specs.declared.expr.Expr.TheVariants.{Column, All}
-use Rattle.scalar_expr.specs.Meaning.{truth, truths, values}
+use Rattle.scalar_expr.specs.Meaning.{truths, values}
 use Rattle.scalar_expr.proofs.Opened.{truth_All}
-use Rattle.aggregates.specs.Values.{written, value_rank}
 use Rattle.tpch_schema.specs.declared.table.TableName.{TableName}
 use Rattle.tpch_schema.specs.Tables.{kinds_of}
 use Rattle.sql_value.specs.Truth.{truth_rank}
-use Rattle.algebra.specs.declared.aggregate.Aggregate.{Aggregate}
 use Rattle.algebra.specs.declared.node.Node.{Node}
 use Rattle.algebra.specs.declared.node.Node.TheVariants as node
 use Rattle.algebra.specs.declared.tree.DepTree.TheOpen as t
-use Rattle.algebra.specs.declared.tree.Side.{Side}
-use Rattle.algebra.specs.Aggregates.{aggregates_of}
 use Rattle.conditions.specs.Ranks.{rank_of, says}
-use Rattle.algebra.specs.Trees.{Database, TreeMeaning, tree_step, side_of, own_domains, right_row, listed, mark_under, scalar_at, keys_under, aggregates_under}
-use Rattle.algebra.specs.Plans.{groups, made_from, node_rows, node_width, plan_rows, plan_width, scan_of, is_domain}
-use Rattle.algebra.proofs.NoRows.{aggregates_bag}
+use Rattle.algebra.specs.Trees.{Database, TreeMeaning, tree_step, listed}
+use Rattle.algebra.specs.Plans.{made_from, node_rows, node_width, plan_rows, plan_width, scan_of, is_domain}
 use Rattle.unnesting.specs.declared.domain.DomainRows.{DomainRows}
 use Rattle.unnesting.specs.declared.domain.DomainRows.TheVariants as domain
 use Rattle.unnesting.specs.declared.footing.Footing.{Footing}
@@ -48,7 +38,7 @@ use Rattle.unnesting.specs.Growth.{Grows, IsPut}
 use Rattle.unnesting.specs.Lowerings.{Lowers, IsScanned, IsSelection}
 use Rattle.unnesting.proofs.Grown.{grows_as, same_plan, put_more, kept_rows, kept_width, put_rows, put_width, put_last}
 use Rattle.unnesting.proofs.Kept.{same_footing, same_later, settled_first}
-use Rattle.unnesting.proofs.Wide.{over_wide, projected_wide, grouped_wide, keyed_wide, groups_some}
+use Rattle.unnesting.proofs.Wide.{over_wide, projected_wide}
 
 -- one node more
 pub puts : (before old new : List Node) (tables : List TableName) (most : ℕ) (k : TreeMeaning) (f g : Footing) (id : ℕ) (n : Node)

@@ -1,6 +1,6 @@
 -- Columns of a table that a condition asks to be equal to a domain's.
-use Rattle.std.proofs.Common.{◌≡◌, ℕ, zero, suc, ◌+◌, ◌<◌, ◌≤◌, ◌⊎◌, List, [], ◌∷◌, Bool, true, false, refl, sym, ◌∙◌, ap, subst, arith, inl, inr, length, get_or}
-use Rattle.std.specs.Prelude.{map, min, max, not, int_lt, pos, IsTrue, Option, Some, None, slice_get, slice_index_or, ◌==◌, ◌&&◌}
+use Rattle.std.proofs.Common.{◌≡◌, ℕ, zero, suc, ◌+◌, ◌<◌, ◌≤◌, ◌⊎◌, List, [], ◌∷◌, true, false, refl, sym, ◌∙◌, ap, subst, arith, inl, inr, length, get_or}
+use Rattle.std.specs.Prelude.{map, max, not, int_lt, pos, IsTrue, Some, slice_get, slice_index_or, ◌==◌, ◌&&◌}
 use Rattle.std.specs.Cmp.Lexicographic.{pointwise}
 use Rattle.std.proofs.lemmas.Bool.{true≢false, eqb-true}
 use Rattle.row_laws.specs.Ranked.{Ranked}
@@ -23,7 +23,7 @@ use Rattle.conditions.proofs.Ranks.{rank_All}
 use Rattle.tpch_schema.specs.declared.column.ColumnKind.{ColumnKind}
 use Rattle.tpch_schema.specs.declared.column.ColumnKind.TheVariants as column
 use Rattle.tpch_schema.specs.declared.table.TableName.{TableName}
-use Rattle.tpch_schema.specs.Kinds.{is_narrow, is_of_kind, RowIsOf}
+use Rattle.tpch_schema.specs.Kinds.{is_narrow, is_of_kind}
 use Rattle.tpch_schema.specs.Tables.{kinds_of}
 use Rattle.algebra.proofs.Fits.{first_of_both, second_of_both}
 use Rattle.unnesting.specs.declared.domain.Origin.{Origin}

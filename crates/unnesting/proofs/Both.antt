@@ -1,30 +1,25 @@
 -- The kinds of tree with two sides.
-use Rattle.std.proofs.Common.{◌≡◌, ℕ, zero, suc, ◌+◌, ◌-◌, ◌≤◌, ◌<◌, List, [], ◌∷◌, ◌++◌, refl, sym, ◌∙◌, ap, subst, arith, length}
+use Rattle.std.proofs.Common.{◌≡◌, ℕ, ◌+◌, ◌-◌, ◌<◌, List, [], ◌++◌, sym, ◌∙◌, ap, subst, arith, length}
 use Rattle.std.specs.Prelude.{replicate}
-use Rattle.std.proofs.lemmas.List.{append-nil, length-append}
-use Rattle.row_laws.specs.Ranked.{Ranked}
-use Rattle.row_laws.specs.Domains.{IsDomain, Answers}
-use Rattle.row_laws.specs.DomainLaws.{SidesAnswer}
+use Rattle.std.proofs.lemmas.List.{append-nil}
+use Rattle.row_laws.specs.Domains.{Answers}
 use Rattle.row_laws.specs.Operators.{mark_of, scalar_of}
 use Rattle.row_laws.specs.Matched.{side_matched}
 use Rattle.row_laws.specs.Trees.{side_width, side_domain}
 use Rattle.row_laws.proofs.Sides.{inner_side, outer_side, attach_side}
-use Rattle.row_laws.proofs.Trees.{side_is}
 use Rattle.row_laws.proofs.Values.{mark_bag, scalar_bag}
-use Rattle.sql_value.specs.declared.value.Value.{Value}
 use Rattle.sql_value.specs.declared.value.Value.TheVariants.{Null}
 use Rattle.sql_value.specs.Value.{same_value}
 use Rattle.sql_value.proofs.Identity.{value_identity}
 use Rattle.scalar_expr.specs.declared.expr.Expr.{Expr}
 use Rattle.aggregates.specs.Values.{written, value_rank}
-use Rattle.tpch_schema.specs.declared.table.TableName.{TableName}
 use Rattle.algebra.specs.declared.node.Node.{Node}
 use Rattle.algebra.specs.declared.node.Node.TheVariants as node
 use Rattle.algebra.specs.declared.tree.DepTree.TheOpen as t
 use Rattle.algebra.specs.declared.tree.Side.{Side}
 use Rattle.conditions.specs.Ranks.{rank_of, says}
-use Rattle.algebra.specs.Trees.{Database, TreeMeaning, tree_step, side_of, own_domains, right_row, mark_under, scalar_at}
-use Rattle.algebra.specs.Plans.{node_rows, node_width, plan_rows, plan_width, made_from}
+use Rattle.algebra.specs.Trees.{TreeMeaning, tree_step, side_of, right_row, mark_under, scalar_at}
+use Rattle.algebra.specs.Plans.{node_rows, plan_rows, plan_width, made_from}
 use Rattle.unnesting.specs.declared.footing.Footing.{Footing}
 use Rattle.unnesting.specs.Footings.{footing_width, footing_rows}
 use Rattle.unnesting.specs.Growth.{IsPut}

@@ -1,5 +1,5 @@
 -- Rows whose columns keep their kinds, through each operator of a plan.
-use Rattle.std.proofs.Common.{◌≡◌, ℕ, zero, suc, ◌+◌, ◌≤◌, ◌<◌, List, [], ◌∷◌, ◌++◌, Bool, true, false, cond, refl, sym, ◌∙◌, ap, subst, arith, inl, inr, length, drop}
+use Rattle.std.proofs.Common.{◌≡◌, ℕ, zero, suc, ◌+◌, List, [], ◌∷◌, ◌++◌, true, false, cond, refl, sym, ◌∙◌, ap, subst, arith, inl, inr, length, drop}
 use Rattle.std.specs.Prelude.{map, min, nat_lt, replicate, IsTrue, Option, Some, None, slice_index_or}
 use Rattle.std.specs.List.{filter, flat_map}
 use Rattle.std.proofs.lemmas.List.{get_or-drop}
@@ -9,13 +9,12 @@ use Rattle.row_laws.specs.Rows.{columns, keep}
 use Rattle.row_laws.specs.Rows.{same_row as identical}
 use Rattle.row_laws.specs.Operators.{select, project, pair, or_else, least, greatest, group_by, distinct, domain_node}
 use Rattle.row_laws.specs.Matched.{right_places, without, glue_matched, matches_of, inner_matched, outer_matched, attach_matched}
-use Rattle.row_laws.proofs.Lists.{Each-map, Each-filter, Each-weaker, Each-flat_map, Each-all, Each-both, Each-each_once}
+use Rattle.row_laws.proofs.Lists.{Each-map, Each-filter, Each-weaker, Each-flat_map, Each-all, Each-each_once}
 use Rattle.row_laws.proofs.Nodes.{Each-or_else}
 use Rattle.sql_value.specs.declared.value.Value.{Value}
 use Rattle.sql_value.specs.declared.value.Value.TheVariants.{Null}
 use Rattle.sql_value.specs.Value.{same_value}
 use Rattle.scalar_expr.specs.declared.expr.Expr.{Expr}
-use Rattle.scalar_expr.specs.declared.expr.Expr.TheVariants.{Column}
 use Rattle.scalar_expr.specs.declared.kind.Kind.{Kind}
 use Rattle.scalar_expr.specs.declared.kind.Kind.TheVariants.{Number, Text, Date}
 use Rattle.scalar_expr.specs.Meaning.{value, values}

@@ -1,11 +1,10 @@
 -- Groups under each row of a domain.
-use Rattle.std.proofs.Common.{◌≡◌, ℕ, zero, suc, ◌+◌, ◌≤◌, ◌<◌, List, [], ◌∷◌, ◌++◌, map, refl, sym, ◌∙◌, ap, subst, arith, length, take}
+use Rattle.std.proofs.Common.{◌≡◌, ℕ, zero, suc, ◌+◌, List, [], ◌∷◌, ◌++◌, refl, sym, ◌∙◌, ap, subst, arith, length, take}
 use Rattle.std.specs.List.{range_with_len}
 use Rattle.std.proofs.lemmas.List.{append-nil, length-append}
 use Rattle.std.proofs.lemmas.List.FromFn.{length-range_with_len}
 use Rattle.row_laws.specs.Ranked.{Ranked, ranked, true_rank}
-use Rattle.row_laws.specs.Bags.{Each}
-use Rattle.row_laws.specs.Rows.{after, columns, unit_row}
+use Rattle.row_laws.specs.Rows.{columns}
 use Rattle.row_laws.specs.Operators.{total, group_by, fill, or_else, partners}
 use Rattle.row_laws.specs.Domains.{IsDomain, Answers}
 use Rattle.row_laws.proofs.Lists.{flat_map-ext_each}
@@ -19,7 +18,7 @@ use Rattle.algebra.specs.declared.node.Node.{Node}
 use Rattle.algebra.specs.declared.node.Node.TheVariants as node
 use Rattle.algebra.specs.declared.tree.DepTree.TheOpen as t
 use Rattle.algebra.specs.Aggregates.{aggregates_of}
-use Rattle.algebra.specs.Trees.{Database, TreeMeaning, tree_step, keys_under, aggregates_under, groups_under}
+use Rattle.algebra.specs.Trees.{TreeMeaning, tree_step, keys_under, aggregates_under, groups_under}
 use Rattle.algebra.specs.Plans.{groups, plan_rows, plan_width}
 use Rattle.algebra.proofs.NoRows.{aggregates_bag, length-aggregates_of}
 use Rattle.unnesting.specs.declared.domain.DomainRows.{DomainRows}
@@ -30,7 +29,7 @@ use Rattle.unnesting.specs.Domains.{IsInPlan}
 use Rattle.unnesting.specs.Footings.{footing_width, footing_rows, as_footing, IsFooting, Settles}
 use Rattle.unnesting.specs.Growth.{IsPut}
 use Rattle.unnesting.specs.Lowerings.{Lowers, IsFilled, IsTotal}
-use Rattle.unnesting.proofs.Grown.{same_plan, grown_length, put_more, kept_rows, kept_width, put_rows, put_width}
+use Rattle.unnesting.proofs.Grown.{same_plan, grown_length, put_more, kept_rows, kept_width, put_rows}
 use Rattle.unnesting.proofs.Kept.{same_later, settled_first}
 use Rattle.unnesting.proofs.Wide.{over_wide, grouped_wide, keyed_wide, groups_some}
 use Rattle.unnesting.proofs.Arms.{puts}

@@ -1,10 +1,8 @@
 -- Footings while a plan grows.
-use Rattle.std.proofs.Common.{◌≡◌, ℕ, ◌+◌, ◌<◌, ◌≤◌, List, [], ◌∷◌, ◌++◌, refl, sym, ap, ◌∙◌, subst, arith, length}
-use Rattle.row_laws.specs.Ranked.{Ranked}
+use Rattle.std.proofs.Common.{◌≡◌, ℕ, ◌+◌, List, refl, sym, ap, ◌∙◌, subst, arith, length}
 use Rattle.row_laws.specs.Rows.{columns}
 use Rattle.row_laws.specs.Operators.{domain_node}
 use Rattle.row_laws.specs.Domains.{IsDomain, Answers}
-use Rattle.sql_value.specs.declared.value.Value.{Value}
 use Rattle.sql_value.specs.declared.value.Value.TheVariants.{Null}
 use Rattle.sql_value.specs.Value.{same_value}
 use Rattle.tpch_schema.specs.declared.table.TableName.{TableName}
@@ -21,7 +19,7 @@ use Rattle.unnesting.specs.Domains.{IsInPlan, KeepsNotes}
 use Rattle.unnesting.specs.Footings.{footing_width, footing_rows, is_due, as_footing, IsFooting, FootingHolds, SameFooting, Settles}
 use Rattle.unnesting.specs.Growth.{Grows, IsPut}
 use Rattle.unnesting.specs.Lowerings.{Lowers}
-use Rattle.unnesting.proofs.Grown.{kept_rows, kept_width, grown_length, grows_as, same_plan, put_more, put_rows, put_width, put_last, both_more}
+use Rattle.unnesting.proofs.Grown.{kept_rows, kept_width, grown_length, same_plan, put_more, put_rows, put_width, put_last, both_more}
 
 -- the rows of a footing stay as the plan grows
 pub kept_footing : {before after : List Node} {tables : List TableName} {most : ℕ} (db : Database) (r : FootingRows) → Grows before after tables most → IsFooting before r

@@ -1,23 +1,19 @@
 -- The kinds of the columns of a plan's nodes, node by node.
-use Rattle.std.proofs.Common.{◌≡◌, ℕ, zero, suc, ◌+◌, ◌-◌, ◌<◌, ◌≤◌, List, [], ◌∷◌, ◌++◌, Bool, true, false, refl, sym, ◌∙◌, ap, subst, arith, length, take, drop, get_or}
-use Rattle.std.specs.Prelude.{map, replicate, IsTrue, Option, Some, None, slice_index, slice_index_or, nat_lt, nat_le, ◌&&◌, ◌==◌}
+use Rattle.std.proofs.Common.{◌≡◌, ℕ, zero, suc, ◌+◌, ◌<◌, ◌≤◌, List, [], ◌∷◌, ◌++◌, refl, sym, ◌∙◌, ap, subst, arith, length, take, drop, get_or}
+use Rattle.std.specs.Prelude.{map, replicate, IsTrue, Option, None, slice_index_or, nat_lt, nat_le, ◌==◌}
 use Rattle.std.specs.List.{list_all, range_with_len}
 use Rattle.std.specs.Cmp.Lexicographic.{pointwise, bytes_decides}
 use Rattle.std.proofs.lemmas.Bool.{ltb-true, leb-true, le-leb, eqb-true}
 use Rattle.std.proofs.lemmas.List.{append_assoc, append-nil, take-append-drop, drop_more, length-take-le, length-append, length-map, length-replicate, length-drop}
 use Rattle.row_laws.specs.Ranked.{Ranked, ranked}
 use Rattle.row_laws.specs.Bags.{Each}
-use Rattle.row_laws.specs.Rows.{columns, scanned}
 use Rattle.row_laws.specs.Operators.{total, mark_of, scalar_of}
 use Rattle.row_laws.specs.Matched.{numbered, left_places, right_places, without}
 use Rattle.row_laws.proofs.Lists.{Each-map, Each-weaker, Each-both}
 use Rattle.row_laws.proofs.Pairs.{rest_is}
 use Rattle.sql_value.specs.declared.value.Value.{Value}
-use Rattle.sql_value.specs.declared.value.Value.TheVariants.{Null}
-use Rattle.sql_value.specs.Value.{same_value}
 use Rattle.scalar_expr.specs.declared.expr.Expr.{Expr}
 use Rattle.scalar_expr.specs.declared.kind.Kind.{Kind}
-use Rattle.scalar_expr.specs.Meaning.{values}
 use Rattle.conditions.specs.Ranks.{rank_of}
 use Rattle.aggregates.specs.Values.{written, value_rank}
 use Rattle.tpch_schema.specs.declared.table.TableName.{TableName}
@@ -28,16 +24,15 @@ use Rattle.algebra.specs.declared.node.Node.{Node}
 use Rattle.algebra.specs.declared.node.Node.TheVariants as node
 use Rattle.algebra.specs.Aggregates.{aggregates_of}
 use Rattle.algebra.specs.Trees.{Database, HasKinds}
-use Rattle.algebra.specs.Plans.{groups, rows_at, node_rows, node_width, made_from, plan_rows, plan_width, inputs_of, matches_first, suits, fits, all_fit, is_formed}
+use Rattle.algebra.specs.Plans.{groups, node_rows, node_width, made_from, plan_rows, plan_width, inputs_of, matches_first, suits, fits, all_fit, is_formed}
 use Rattle.algebra.proofs.Fits.{first_of_both, second_of_both}
 use Rattle.algebra.proofs.Made.{kept_at, made_at}
-use Rattle.algebra.proofs.NoRows.{length-aggregates_of}
-use Rattle.algebra.proofs.Widths.{rows_are_wide, group_width}
+use Rattle.algebra.proofs.Widths.{rows_are_wide}
 use Rattle.unnesting.specs.declared.domain.Origin.{Origin}
 use Rattle.unnesting.specs.PlanKinds.{ColumnKinds, known_as, kinds_at, picked, FitsKinds, AreListed, has_matched, AreMade, AreKindsOf, AreKindsOfFirst, AreNotesOf, AreOrigins}
 use Rattle.unnesting.proofs.Asked.{kinds_fit}
 use Rattle.unnesting.proofs.Columns.{right-numbered_from}
-use Rattle.unnesting.proofs.FitKinds.{Fit, none_fit, select_fits, project_fits, domain_fits, noted_domain, distinct_fits, group_fits, unknown_rows, inner_fits, outer_fits, attach_fits}
+use Rattle.unnesting.proofs.FitKinds.{Fit, select_fits, project_fits, domain_fits, noted_domain, distinct_fits, group_fits, unknown_rows, inner_fits, outer_fits, attach_fits}
 use Rattle.unnesting.proofs.OwnNodes.{each_of_all}
 
 all_fit_at : (before ns : List Node) (i : ℕ) (d : Node) → IsTrue (all_fit before ns) → i < length ns → IsTrue (fits (before ++ take i ns) (get_or ns i d))

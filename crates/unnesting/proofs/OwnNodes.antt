@@ -1,10 +1,10 @@
 -- The nodes of a table whose own columns stand for a domain's.
-use Rattle.std.proofs.Common.{◌≡◌, ℕ, zero, suc, ◌+◌, ◌≤◌, ◌<◌, List, [], ◌∷◌, ◌++◌, refl, sym, ◌∙◌, ap, subst, arith, length, take}
-use Rattle.std.specs.Prelude.{map, slice_index_or}
+use Rattle.std.proofs.Common.{◌≡◌, ℕ, suc, ◌+◌, List, [], ◌∷◌, ◌++◌, refl, sym, ◌∙◌, ap, subst, arith, length}
+use Rattle.std.specs.Prelude.{map}
 use Rattle.std.specs.List.{All, range_with_len}
 use Rattle.std.proofs.lemmas.List.{append_assoc, length-append, length-map, take_all}
 use Rattle.std.proofs.lemmas.List.FromFn.{length-range_with_len}
-use Rattle.row_laws.specs.Ranked.{Ranked, ranked, true_rank}
+use Rattle.row_laws.specs.Ranked.{ranked, true_rank}
 use Rattle.row_laws.specs.Bags.{Each}
 use Rattle.row_laws.specs.Rows.{columns, scanned}
 use Rattle.row_laws.specs.Operators.{select, project}
@@ -17,12 +17,12 @@ use Rattle.scalar_expr.specs.declared.expr.Expr.TheVariants.{Column}
 use Rattle.scalar_expr.specs.Meaning.{values}
 use Rattle.conditions.specs.Ranks.{rank_of, says}
 use Rattle.tpch_schema.specs.declared.table.TableName.{TableName}
-use Rattle.tpch_schema.specs.Kinds.{RowIsOf, RowsAreOf}
+use Rattle.tpch_schema.specs.Kinds.{RowIsOf}
 use Rattle.tpch_schema.specs.Tables.{kinds_of}
 use Rattle.algebra.specs.declared.node.Node.{Node}
 use Rattle.algebra.specs.declared.node.Node.TheVariants as node
 use Rattle.algebra.specs.declared.tree.DepTree.TheOpen as t
-use Rattle.algebra.specs.Trees.{Database, tree_step}
+use Rattle.algebra.specs.Trees.{tree_step}
 use Rattle.algebra.specs.Plans.{plan_rows, plan_width}
 use Rattle.unnesting.specs.declared.domain.Origin.{Origin}
 use Rattle.unnesting.specs.declared.footing.Footing.{Footing}

@@ -1,17 +1,16 @@
 -- A right side whose own columns stand for a domain's needs no domain.
-use Rattle.std.proofs.Common.{◌≡◌, ℕ, zero, suc, ◌+◌, ◌-◌, ◌≤◌, ◌<◌, ◌⊎◌, List, [], ◌∷◌, ◌++◌, Bool, true, false, cond, refl, sym, ◌∙◌, ap, subst, arith, inl, inr, length, take, drop, ℤ, ◌&&◌, get_or}
+use Rattle.std.proofs.Common.{◌≡◌, ℕ, zero, suc, ◌+◌, ◌≤◌, ◌<◌, ◌⊎◌, List, [], ◌∷◌, ◌++◌, Bool, true, false, cond, refl, sym, ◌∙◌, ap, subst, arith, inl, inr, length, ℤ, ◌&&◌}
 use Rattle.std.proofs.Math.Dec.{ltb}
-use Rattle.std.specs.Prelude.{map, min, max, nat_lt, IsTrue, slice_index_or, ◌==◌}
+use Rattle.std.specs.Prelude.{min, IsTrue, slice_index_or}
 use Rattle.std.specs.Ordering.{int_eq, int_cmp, nat_cmp, is_eq}
 use Rattle.std.specs.Cmp.{unsigned_ties}
 use Rattle.std.specs.Cmp.Lexicographic.{texts_ties}
-use Rattle.std.specs.List.{All, flat_map, range_with_len}
 use Rattle.std.proofs.lemmas.Bool.{cases_Bool, true≢false, eq-eqb, eqb-true, le-ltb}
-use Rattle.std.proofs.lemmas.List.{get_or_append_left, get_or-append_right, length-append, length-map}
+use Rattle.std.proofs.lemmas.List.{get_or_append_left, get_or-append_right}
 use Rattle.fixed_decimal.proofs.Powers.{scaled_alike}
-use Rattle.row_laws.specs.Ranked.{Ranked, ranked, unknown_rank, true_rank}
+use Rattle.row_laws.specs.Ranked.{Ranked, ranked, true_rank}
 use Rattle.row_laws.specs.Bags.{Each}
-use Rattle.row_laws.specs.Rows.{columns, keep, scanned, after}
+use Rattle.row_laws.specs.Rows.{columns, keep, scanned}
 use Rattle.row_laws.specs.Rows.{same_row as identical}
 use Rattle.row_laws.specs.Operators.{select, project}
 use Rattle.row_laws.specs.Domains.{IsDomain, Meets, Answers}
@@ -20,7 +19,6 @@ use Rattle.row_laws.proofs.Lists.{Each-map, Each-all, Each-weaker, Each-both, fl
 use Rattle.row_laws.proofs.Local.{local_answers}
 use Rattle.sql_value.specs.declared.value.Value.{Value}
 use Rattle.sql_value.specs.declared.value.Value.TheVariants.{Null, Fault as Failed, Number, Text, Date}
-use Rattle.sql_value.specs.declared.truth.Fault.{Fault}
 use Rattle.sql_value.specs.declared.truth.Fault.TheVariants.{TooManyRows, DivideByZero, NumberRange}
 use Rattle.sql_value.specs.declared.truth.Truth.{Truth}
 use Rattle.sql_value.specs.declared.truth.Truth.TheVariants.{False, Unknown, Stands}
@@ -34,12 +32,12 @@ use Rattle.scalar_expr.specs.declared.expr.Expr.{Expr}
 use Rattle.scalar_expr.specs.declared.kind.Kind.{Kind}
 use Rattle.scalar_expr.specs.declared.kind.Kind.TheVariants as kind
 use Rattle.scalar_expr.specs.Meaning.{truth}
-use Rattle.conditions.specs.Ranks.{rank_of, says}
+use Rattle.conditions.specs.Ranks.{rank_of}
 use Rattle.tpch_schema.specs.declared.table.TableName.{TableName}
-use Rattle.tpch_schema.specs.Kinds.{RowIsOf, RowsAreOf}
+use Rattle.tpch_schema.specs.Kinds.{RowIsOf}
 use Rattle.unnesting.specs.declared.domain.Origin.{Origin}
 use Rattle.unnesting.specs.Domains.{is_unchanged, KeepsNotes}
-use Rattle.unnesting.specs.OwnColumns.{either_equal, AreNoted, StandsFor, StandForAll}
+use Rattle.unnesting.specs.OwnColumns.{either_equal, StandForAll}
 
 no : {A : Type 0} → false ≡ true → A
 no h = absurd (true≢false (sym h))

@@ -1,10 +1,8 @@
 -- The right side of each kind of side.
-use Rattle.std.proofs.Common.{◌≡◌, ℕ, ◌+◌, ◌<◌, ◌≤◌, List, [], ◌∷◌, ◌++◌, refl, sym, ap, ◌∙◌, subst, arith, length}
-use Rattle.std.specs.Prelude.{Bool, true, false, ◌==◌}
+use Rattle.std.proofs.Common.{◌≡◌, ℕ, ◌+◌, ◌<◌, List, [], ◌∷◌, refl, sym, ap, ◌∙◌, subst, arith, length}
+use Rattle.std.specs.Prelude.{true, false, ◌==◌}
 use Rattle.std.proofs.lemmas.Bool.{true≢false, eqb-true}
 use Rattle.row_laws.specs.Ranked.{Ranked}
-use Rattle.row_laws.specs.Bags.{Each}
-use Rattle.row_laws.specs.Rows.{unit_row}
 use Rattle.row_laws.specs.Domains.{IsDomain, Answers}
 use Rattle.row_laws.specs.Trees.{side_width, side_domain}
 use Rattle.row_laws.proofs.Lists.{Each-all}
@@ -14,9 +12,8 @@ use Rattle.sql_value.specs.declared.value.Value.TheVariants.{Null}
 use Rattle.sql_value.specs.Value.{same_value}
 use Rattle.sql_value.proofs.Identity.{value_identity}
 use Rattle.algebra.specs.declared.node.Node.{Node}
-use Rattle.algebra.specs.declared.tree.Side.{Side}
 use Rattle.algebra.specs.declared.tree.Side.TheVariants.{Closed, Shared, Dependent}
-use Rattle.algebra.specs.Trees.{Database, HasKinds, TreeMeaning, side_of, own_domains}
+use Rattle.algebra.specs.Trees.{Database, HasKinds, TreeMeaning, side_of}
 use Rattle.algebra.specs.Plans.{plan_rows}
 use Rattle.unnesting.specs.declared.domain.Origin.{Origin}
 use Rattle.unnesting.specs.declared.footing.Footing.{Footing}

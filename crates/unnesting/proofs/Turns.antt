@@ -1,5 +1,5 @@
 -- Lists that grow by one element a turn.
-use Rattle.std.proofs.Common.{◌≡◌, ◌⊎◌, inl, inr, ℕ, zero, suc, add-one, ◌+◌, ◌<◌, ◌≤◌, List, [], ◌∷◌, ◌++◌, map, refl, sym, ap, ◌∙◌, subst, arith, length, take, get_or}
+use Rattle.std.proofs.Common.{◌≡◌, ◌⊎◌, inl, inr, ℕ, zero, suc, ◌+◌, ◌<◌, List, [], ◌∷◌, ◌++◌, map, refl, sym, ap, ◌∙◌, subst, arith, length, take, get_or}
 use Rattle.std.specs.Prelude.{replicate, IsTrue, Option, Some, None, slice_get, slice_index_or}
 use Rattle.std.proofs.lemmas.Bool.{cases_lt}
 use Rattle.std.proofs.lemmas.List.{append_assoc, take_more, map-append, length-append, get_or_append_left, get_or_push}
@@ -15,7 +15,7 @@ use Rattle.algebra.specs.declared.node.Node.{Node}
 use Rattle.unnesting.specs.declared.domain.Origin.{Origin}
 use Rattle.unnesting.specs.Domains.{is_unchanged}
 use Rattle.unnesting.specs.OwnColumns.{StandsFor, StandForAll}
-use Rattle.unnesting.specs.PlanKinds.{ColumnKinds, can_stand, FitsKinds, IsListed, AreListed, AreKindsOf, AreKindsOfFirst, AreNotesOf}
+use Rattle.unnesting.specs.PlanKinds.{ColumnKinds, can_stand, IsListed, AreListed, AreKindsOf, AreKindsOfFirst, AreNotesOf}
 
 -- f of one element more
 pub map_put : {X Y : Type 0} (f : X → Y) (xs : List X) (i : ℕ) (x : X) (all now : List Y) → i < length xs → x ≡ get_or xs i x → all ≡ map f (take i xs) → now ≡ all ++ f x ∷ []

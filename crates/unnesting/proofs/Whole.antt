@@ -1,24 +1,19 @@
 -- From each row of a domain to the whole domain.
 use Rattle.std.proofs.Common.{◌≡◌, ℕ, ◌+◌, ◌≤◌, List, [], ◌++◌, refl, sym, ◌∙◌, ap, subst, arith, length}
-use Rattle.std.specs.List.{flat_map, sum_by}
 use Rattle.std.proofs.lemmas.Grind.{flat_map-append}
 use Rattle.std.proofs.lemmas.List.Sums.{sum_by-append}
-use Rattle.row_laws.specs.Ranked.{Ranked}
-use Rattle.row_laws.specs.Bags.{Each}
-use Rattle.row_laws.specs.Rows.{unit_row}
 use Rattle.row_laws.specs.Domains.{values_of, Meets, Answers, IsDomain}
 use Rattle.row_laws.proofs.Lists.{Each-map, Each-all}
 use Rattle.row_laws.proofs.Domains.{under_meets}
 use Rattle.row_laws.proofs.Trees.{unit_is, root_bag}
-use Rattle.sql_value.specs.declared.value.Value.{Value}
 use Rattle.sql_value.specs.declared.value.Value.TheVariants.{Null}
 use Rattle.sql_value.specs.Value.{same_value}
 use Rattle.sql_value.proofs.Identity.{value_identity}
 use Rattle.std.specs.Prelude.{IsTrue, slice_index_or}
 use Rattle.algebra.specs.declared.node.Node.{Node}
 use Rattle.algebra.specs.declared.tree.DepTree.{DepTree}
-use Rattle.algebra.specs.Trees.{Database, HasKinds, tree_meaning, tree_rows, scans_of, domains_of, width_of}
-use Rattle.algebra.specs.Plans.{plan_rows, plan_width, plan_scans, scan_of, plan_domains, is_domain}
+use Rattle.algebra.specs.Trees.{Database, HasKinds, tree_meaning, tree_rows, scans_of, domains_of}
+use Rattle.algebra.specs.Plans.{plan_rows, plan_scans, scan_of, plan_domains, is_domain}
 use Rattle.unnesting.specs.declared.domain.Domain.{Domain as DomainData}
 use Rattle.unnesting.specs.declared.domain.DomainRows.{DomainRows}
 use Rattle.unnesting.specs.declared.domain.DomainRows.TheVariants as domain

@@ -1,10 +1,9 @@
 -- Rows that are wide enough: their first columns are their beginning.
 use Rattle.std.proofs.Common.{◌≡◌, ℕ, zero, suc, ◌+◌, ◌≤◌, ◌<◌, List, [], ◌∷◌, ◌++◌, map, refl, sym, ◌∙◌, ap, subst, arith, length, take, drop}
 use Rattle.std.specs.Prelude.{slice_index_or}
-use Rattle.std.specs.List.{filter, range_with_len}
+use Rattle.std.specs.List.{range_with_len}
 use Rattle.std.proofs.lemmas.List.{drop_more, map-append}
 use Rattle.row_laws.specs.Ranked.{Ranked}
-use Rattle.row_laws.specs.Bags.{Each}
 use Rattle.row_laws.specs.Rows.{columns}
 use Rattle.row_laws.specs.Operators.{project, group_by}
 use Rattle.row_laws.specs.Domains.{Wide, IsDomain, Answers}

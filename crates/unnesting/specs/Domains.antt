@@ -1,5 +1,5 @@
 -- Domains of a plan that is being built.
-use Rattle.std.specs.Prelude.{◌≡◌, ℕ, ◌<◌, Bool, true, false, List, length, IsTrue, slice_index_or}
+use Rattle.std.specs.Prelude.{◌≡◌, ℕ, ◌<◌, Bool, false, List, length, IsTrue, slice_index_or}
 use Rattle.row_laws.specs.Ranked.{Ranked}
 use Rattle.row_laws.specs.Bags.{Each}
 use Rattle.row_laws.specs.Rows.{unit_row}

@@ -1,7 +1,6 @@
 -- Which columns of a plan's nodes come unchanged from a table, and of which kind.
 use Rattle.std.specs.Prelude.{◌≡◌, ◌⊎◌, ℕ, ◌<◌, Bool, true, List, [], ◌∷◌, ◌++◌, length, map, drop}
 use Rattle.std.specs.Prelude.{replicate, nat_le, Option, Some, None, IsTrue, slice_index_or}
-use Rattle.row_laws.specs.Ranked.{Ranked}
 use Rattle.row_laws.specs.Bags.{Each}
 use Rattle.row_laws.specs.Rows.{columns}
 use Rattle.row_laws.specs.Operators.{domain_node}

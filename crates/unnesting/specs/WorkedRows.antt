@@ -11,7 +11,6 @@ use Rattle.operators.specs.declared.operator.Comparison.TheVariants.{Equal}
 use Rattle.scalar_expr.specs.Cases.{whole}
 use Rattle.scalar_expr.specs.declared.expr.Expr.{Expr}
 use Rattle.scalar_expr.specs.declared.expr.Expr.TheVariants.{Column, Literal, Arithmetic, Compare, All, IsMarked}
-use Rattle.tpch_schema.specs.declared.table.TableName.{TableName}
 use Rattle.tpch_schema.specs.declared.table.TableName.TheVariants as table
 use Rattle.algebra.specs.declared.aggregate.Aggregate.TheVariants.{CountRows}
 use Rattle.algebra.specs.declared.tree.DepTree.{DepTree}

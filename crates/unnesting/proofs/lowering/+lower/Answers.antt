@@ -1,4 +1,4 @@
-use Rattle.std.proofs.Common.{refl, ◌∙◌, sym, ap, arith}
+use Rattle.std.proofs.Common.{refl, ◌∙◌, sym}
 use Rattle.unnesting.proofs.Kept.{settled_in_plan}
 use Rattle.unnesting.proofs.Groups.{total_in_plan}
 use Rattle.unnesting.proofs.Sides.{none_of, some_of}
