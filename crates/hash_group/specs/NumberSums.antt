@@ -1,6 +1,6 @@
 -- Sums of numbers, group by group.
-use Rattle.std.specs.Prelude.{◌≡◌, ℕ, ◌<◌, ◌≤◌, ◌*◌, ◌^◌, ◌==◌, List, length, ℤ, pos, ◌-ℤ◌, ◌≤ℤ◌, cond}
-use Rattle.std.specs.Prelude.{slice_index_or}
+use Rattle.std.specs.Prelude.{◌≡◌, ℕ, ◌<◌, ◌≤◌, ◌*◌, ◌^◌, ◌==◌, List, length, ℤ, pos, ◌-ℤ◌}
+use Rattle.std.specs.Prelude.{◌≤ℤ◌, cond, slice_index_or}
 use Rattle.row_laws.specs.Ranked.{true_rank}
 use Rattle.row_laws.specs.Bags.{weigh}
 use Rattle.row_laws.specs.TableLaws.{with_number}

@@ -1,7 +1,7 @@
 //! Numbers of keys of 64 bits. Those that ascend need no table: each run of equal keys has the
 //! next number.
-ghost use Rattle.std.specs.Prelude.{◌≡◌, ◌<◌, ◌-◌, ◌^◌, not, pos, length, slice_index_or, IfOk, IsTrue};
-ghost use Rattle.std.specs.Prelude.{OnOk, ◌++◌, ◌∷◌, [], if◌then◌else◌, true};
+ghost use Rattle.std.specs.Prelude.{◌≡◌, ◌<◌, ◌-◌, ◌^◌, ◌++◌, ◌∷◌, [], not, pos, true, length};
+ghost use Rattle.std.specs.Prelude.{slice_index_or, IfOk, OnOk, IsTrue, if◌then◌else◌};
 ghost use Rattle.std.specs.Ordering.{int_eq};
 ghost use Rattle.row_laws.specs.Numbers.{numbers_of};
 ghost use Rattle.key_tables.specs.Distinct.{first_places};

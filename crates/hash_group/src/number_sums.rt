@@ -1,6 +1,6 @@
 //! Sums of numbers of 64 bits, group by group.
-ghost use Rattle.std.specs.Prelude.{◌≡◌, ◌<◌, ◌+◌, ◌+ℤ◌, ◌^◌, pos, map, set, length, slice_index_or};
-ghost use Rattle.std.specs.Prelude.{IfOk};
+ghost use Rattle.std.specs.Prelude.{◌≡◌, ◌<◌, ◌+◌, ◌+ℤ◌, ◌^◌, pos, map, set, length};
+ghost use Rattle.std.specs.Prelude.{slice_index_or, IfOk};
 ghost use Rattle.sql_value.specs.declared.value.Value.TheVariants.{Number};
 ghost use Rattle.row_laws.specs.Aggregates.{sum_of};
 ghost use Rattle.aggregates.specs.Values.{reading};
