@@ -1,10 +1,10 @@
 -- The rows of a domain with their groups, by places.
-use Rattle.std.proofs.Common.{◌≡◌, ℕ, ℤ, zero, suc, ◌+◌, ◌-◌, ◌<◌, ◌≤◌, List, [], ◌∷◌, ◌++◌, Bool, true, false, cond, map, length, get_or, take, replicate, refl, sym, ◌∙◌, ap, subst, arith, inl, inr, append_assoc}
+use Rattle.std.proofs.Common.{◌≡◌, ℕ, ℤ, zero, suc, ◌+◌, ◌-◌, ◌<◌, ◌≤◌, List, [], ◌∷◌, ◌++◌, Bool, true, false, map, length, get_or, take, replicate, refl, sym, ◌∙◌, ap, subst, arith, inl, inr, append_assoc}
 use Rattle.std.specs.Prelude.{◌&&◌, ◌⊎◌}
 use Rattle.std.specs.List.{All, filter, flat_map, range_with_len}
 use Rattle.std.proofs.lemmas.Bool.{cases_Bool, cases_lt}
-use Rattle.std.proofs.lemmas.List.{length-map, get_or-map, get_or_default, same_lists, length-append, map-append, append-nil, get_or_append_left, get_or-append_right, get_or-append-add, length-replicate, get_or-replicate, take-map, length-take-le}
-use Rattle.std.proofs.lemmas.List.FromFn.{length-range_with_len, get_or-range_with_len}
+use Rattle.std.proofs.lemmas.List.{length-map, get_or-map, get_or_default, same_lists, length-append, map-append, append-nil, get_or_append_left, get_or-append-add, length-replicate, get_or-replicate, take-map, length-take-le}
+use Rattle.std.proofs.lemmas.List.FromFn.{length-range_with_len}
 use Rattle.row_laws.specs.Ranked.{Ranked, Relation, ranked, true_rank}
 use Rattle.row_laws.specs.Rows.{same_row, starts, columns}
 use Rattle.row_laws.specs.Operators.{partners, or_else, fill}
@@ -22,7 +22,7 @@ use Rattle.columns.proofs.BatchRows.{relation-at, relation-length, relation-widt
 use Rattle.row_keys.specs.Keys.{AreKeysOfTwo, end_to_end}
 use Rattle.row_keys.proofs.KeyLists.{cells_left, cells_right, ends_long, long_take}
 use Rattle.hash_group.specs.Filled.{or_place, places_from, filled_row, AreFilled, AreColumns}
-use Rattle.hash_group.specs.Keys.{key_rows, key_columns}
+use Rattle.hash_group.specs.Keys.{key_columns}
 use Rattle.hash_group.specs.Standings.{ranks, row_ranks}
 use Rattle.hash_group.proofs.KeyCells.{cells_of_keys, long_keys}
 use Rattle.hash_group.proofs.Ranks.{all_keys}

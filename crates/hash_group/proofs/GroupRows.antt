@@ -1,11 +1,10 @@
 -- The rows of GROUP BY, from columns.
-use Rattle.std.proofs.Common.{◌≡◌, ℕ, zero, suc, ◌+◌, ◌<◌, ◌≤◌, List, [], ◌∷◌, ◌++◌, Bool, true, map, length, get_or, take, replicate, refl, sym, ◌∙◌, ap, subst, arith}
-use Rattle.std.specs.Prelude.{nat_eq}
-use Rattle.std.proofs.lemmas.List.{length-map, get_or-map, get_or_default, same_lists, length-replicate, get_or-replicate, length-append, map-append, take_more}
+use Rattle.std.proofs.Common.{◌≡◌, ℕ, zero, suc, ◌+◌, ◌<◌, List, [], ◌∷◌, ◌++◌, map, length, get_or, take, replicate, refl, sym, ◌∙◌, ap, subst, arith}
+use Rattle.std.proofs.lemmas.List.{length-map, get_or-map, same_lists, length-replicate, get_or-replicate, length-append, map-append, take_more}
 use Rattle.row_laws.specs.Ranked.{Ranked, Relation, ranked, true_rank}
-use Rattle.row_laws.specs.Bags.{each_once, bottom}
+use Rattle.row_laws.specs.Bags.{bottom}
 use Rattle.row_laws.specs.Rows.{same_row, columns}
-use Rattle.row_laws.specs.Operators.{group_by, total, least}
+use Rattle.row_laws.specs.Operators.{least}
 use Rattle.row_laws.specs.Aggregates.{aggregated, count_rows}
 use Rattle.row_laws.specs.Numbers.{numbers_of}
 use Rattle.row_laws.specs.TableLaws.{with_number}

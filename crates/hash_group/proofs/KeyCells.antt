@@ -1,9 +1,10 @@
 -- The columns that rows are grouped by, and their values at the first places.
-use Rattle.std.proofs.Common.{◌≡◌, ℕ, ℤ, zero, suc, ◌+◌, ◌<◌, ◌≤◌, List, [], ◌∷◌, ◌++◌, Bool, true, map, length, get_or, replicate, refl, sym, ◌∙◌, ap, subst, arith, inl, inr}
-use Rattle.std.specs.Prelude.{slice_get, Some}
-use Rattle.std.specs.List.{All, range_with_len}
+use Rattle.std.proofs.Common.{◌≡◌, ℕ, ℤ, ◌<◌, ◌≤◌, List, [], ◌∷◌, Bool, true, map, length, get_or, replicate, refl, sym, ◌∙◌, ap, subst, arith, inl, inr}
+use Rattle.std.specs.Prelude.{false, ◌&&◌}
+use Rattle.std.specs.Ordering.{int_eq}
+use Rattle.std.specs.List.{All}
 use Rattle.std.proofs.lemmas.Bool.{cases_Bool, true≢false}
-use Rattle.std.proofs.lemmas.List.{length-map, get_or-map, get_or_default, get_or_past, same_lists, length-replicate, get_or-replicate}
+use Rattle.std.proofs.lemmas.List.{length-map, get_or-map, get_or_past, same_lists, length-replicate, get_or-replicate}
 use Rattle.std.proofs.lemmas.Option.{slice_get-get_or}
 use Rattle.row_laws.specs.Ranked.{Ranked, ranked, true_rank}
 use Rattle.row_laws.specs.Bags.{IsIdentity, has, each_once}
@@ -13,18 +14,19 @@ use Rattle.row_laws.specs.Operators.{domain_node}
 use Rattle.row_laws.proofs.Rows.{same_row_is}
 use Rattle.row_laws.proofs.NumberLists.{has_there, place_found, distinct_each_once}
 use Rattle.key_tables.specs.Distinct.{first_places}
-use Rattle.key_tables.proofs.NumberSteps.{has_each_once, each_once-length}
+use Rattle.key_tables.proofs.NumberSteps.{has_each_once}
 use Rattle.sql_value.specs.declared.truth.Standing.{Standing}
 use Rattle.sql_value.specs.declared.truth.Standing.TheVariants.{AtTrue}
 use Rattle.sql_value.specs.declared.value.Value.{Value}
-use Rattle.sql_value.specs.declared.value.Value.TheVariants.{Null}
+use Rattle.sql_value.specs.declared.value.Value.TheVariants.{Null, Number}
 use Rattle.sql_value.specs.Truth.{standing_rank}
 use Rattle.sql_value.specs.Value.{same_value}
 use Rattle.sql_value.proofs.Identity.{value_identity}
 use Rattle.columns.specs.Lists.{gathered, AreBelow}
 use Rattle.columns.specs.Batches.{cells, AreLong, column_at, column_relation, row_at}
 use Rattle.columns.proofs.BatchRows.{cells_gathered, long_below, relation-at, relation-length, relation-width, long_gathered}
-use Rattle.row_keys.specs.Keys.{Tells, same_at, AreKeys}
+use Rattle.row_keys.specs.Keys.{Tells, same_at, AreCodes, AreKeys}
+use Rattle.row_keys.proofs.CodeLists.{number_codes}
 use Rattle.row_keys.proofs.Told.{numbers_told, firsts_told}
 use Rattle.key_tables.specs.Keys.{same_two}
 use Rattle.hash_group.specs.Keys.{key_rows, key_columns}
@@ -68,6 +70,48 @@ keys_told rows by keys k =
           ∙ ap (λ r. same_row same_value (get_or xs i []) r) (cells_of_keys rows by j [] lj);
     } in
     (numbers_told (same_row same_value) same_two [] xs keys t, firsts_told (same_row same_value) same_two [] xs keys t)
+
+-- codes of a column's values have their numbers
+pub codes_told : (column : List Value) (codes : List ℤ) → AreCodes column codes → (numbers_of int_eq codes ≡ numbers_of same_value column) × (first_places int_eq codes ≡ first_places same_value column)
+codes_told column codes t = (numbers_told same_value int_eq Null column codes t, firsts_told same_value int_eq Null column codes t)
+
+pub coefficients_told : (column : List Value) (scale : ℕ) (ns : List ℤ) → column ≡ map (Number scale) ns
+    → (numbers_of int_eq ns ≡ numbers_of same_value column) × (first_places int_eq ns ≡ first_places same_value column)
+coefficients_told column scale ns e =
+    let A : List Value → Type 0 = λ vs. AreCodes vs ns in codes_told column ns (subst A (sym e) (number_codes scale ns))
+
+alone : (b : Bool) → b ≡ (b && true)
+alone true = refl
+alone false = refl
+
+-- the values of one column have the numbers of the rows
+one_told : (rows : List (Ranked Value)) (c : ℕ)
+    → (numbers_of same_value (column_at rows c) ≡ numbers_of (same_row same_value) (key_rows (c ∷ []) rows))
+    × (first_places same_value (column_at rows c) ≡ first_places (same_row same_value) (key_rows (c ∷ []) rows))
+one_told rows c =
+    let xs : List (List Value) = key_rows (c ∷ []) rows in
+    let column : List Value = column_at rows c in
+    let n : length xs ≡ length rows = length-map rows (λ r. columns Null (c ∷ []) r.values) in
+    let m : length column ≡ length rows = length-map rows (λ r. get_or r.values c Null) in
+    let key_at : (i : ℕ) → i < length rows → get_or xs i [] ≡ get_or (row_at rows i).values c Null ∷ [] =
+    λ i l. get_or-map (λ (r : Ranked Value). columns Null (c ∷ []) r.values) rows i (ranked [] true_rank) [] l in
+    let value_at : (i : ℕ) (d : Value) → i < length rows → get_or column i d ≡ get_or (row_at rows i).values c Null =
+    λ i d l. get_or-map (λ (r : Ranked Value). get_or r.values c Null) rows i (ranked [] true_rank) d l in
+    let t : Tells same_value (same_at (same_row same_value) [] xs) (length xs) column = record {
+      long = m ∙ sym n;
+      tells = λ i j d e l k.
+          let li : i < length rows = omega (arith, l, n) in
+          let lj : j < length rows = omega (arith, k, n) in
+          rw (value_at i d li, value_at j e lj, key_at i li, key_at j lj) (alone (same_value (get_or (row_at rows i).values c Null) (get_or (row_at rows j).values c Null)));
+    } in
+    (numbers_told (same_row same_value) same_value [] xs column t, firsts_told (same_row same_value) same_value [] xs column t)
+
+pub column_told : (rows : List (Ranked Value)) (by : List ℕ) (cs : List (List Value)) (d : List Value) → cs ≡ key_columns rows by → length cs ≡ 1
+    → (numbers_of same_value (get_or cs 0 d) ≡ numbers_of (same_row same_value) (key_rows by rows))
+    × (first_places same_value (get_or cs 0 d) ≡ first_places (same_row same_value) (key_rows by rows))
+column_told rows [] cs d is n = absurd (let l = ap length is in omega (arith, l, n))
+column_told rows (c ∷ []) cs d is n = rw is (one_told rows c)
+column_told rows (c ∷ b ∷ by) cs d is n = absurd (let l = ap length is in omega (arith, l, n))
 
 module _ {X : Type 0} (same : X → X → Bool) (is : IsIdentity same) where
   place_within : (xs : List X) (x : X) → has same x xs ≡ true → place_in same xs x < length xs

@@ -4,3 +4,5 @@ pub mod KeyCells
 pub mod Ranks
 pub mod FilledRows
 pub mod GroupRows
+pub mod Runs
+pub mod NumberSums

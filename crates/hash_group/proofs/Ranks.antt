@@ -1,8 +1,8 @@
 -- The standings of groups, row by row.
 use Rattle.std.proofs.Common.{◌≡◌, ℕ, zero, suc, ◌+◌, ◌<◌, ◌≤◌, List, [], ◌∷◌, ◌++◌, Bool, true, false, cond, map, take, set, length, get_or, replicate, refl, sym, ◌∙◌, ap, subst, arith, inl, inr, append_assoc}
-use Rattle.std.specs.Prelude.{min, max, nat_eq, slice_get, Some}
+use Rattle.std.specs.Prelude.{min, max, nat_eq}
 use Rattle.std.specs.List.{All, range_with_len}
-use Rattle.std.proofs.lemmas.Bool.{cases_Bool, true≢false, eqb-true, eqb-false, eq-eqb, ne_eqb}
+use Rattle.std.proofs.lemmas.Bool.{cases_Bool, eqb-true, eqb-false, eq-eqb, ne_eqb}
 use Rattle.std.proofs.lemmas.List.{length-map, get_or-map, get_or_default, same_lists, length-set, get_or-set_same, get_or-set_other, append-nil, take_all, length-replicate, get_or-replicate, map-set, map-append, map_push, take_more}
 use Rattle.std.proofs.lemmas.List.FromFn.{length-range_with_len, get_or-range_with_len}
 use Rattle.std.proofs.lemmas.Option.{slice_get-get_or}
@@ -21,7 +21,7 @@ use Rattle.sql_value.specs.declared.value.Value.TheVariants.{Null}
 use Rattle.sql_value.specs.Truth.{standing_rank}
 use Rattle.sql_value.specs.Value.{same_value}
 use Rattle.sql_value.proofs.Identity.{value_identity}
-use Rattle.columns.specs.Lists.{gathered, AreBelow}
+use Rattle.columns.specs.Lists.{gathered}
 use Rattle.columns.specs.Bags.{bag_rows}
 use Rattle.columns.specs.Batches.{cells, column_relation, row_at}
 use Rattle.columns.proofs.BagLists.{bag_rows-push}

@@ -3,4 +3,6 @@ pub mod Filled
 pub mod GroupLaws
 pub mod Grouping
 pub mod Keys
+pub mod NumberSums
+pub mod Runs
 pub mod Standings

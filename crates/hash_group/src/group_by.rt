@@ -3,18 +3,23 @@ ghost use Rattle.std.specs.Prelude.{◌≡◌, ◌+◌, ◌<◌, ◌^◌, ◌++�
 ghost use Rattle.scalar_expr.specs.Meaning.{value};
 ghost use Rattle.columns.specs.Lists.{AreBelow};
 ghost use Rattle.algebra.specs.Plans.{groups};
+ghost use Rattle.aggregates.specs.Values.{aggregate_of};
+ghost use Rattle.hash_group.specs.ByNumber.{values_by_number};
 ghost use Rattle.hash_group.specs.Grouping.{AreGroups, aggregate_column};
 
 use crate::aggregate::{accumulated_by_number, aggregated_by_number, column_of};
 use crate::grouping::{at_places, group_numbers, key_columns, one_batch};
+use crate::number_sums::sum_column;
 use crate::standings::{least_standings, row_standings};
-use crate::values::{ColumnValues, Nulls};
+use crate::values::{ColumnValues, Nulls, NumberValues};
 use accumulators::CountRows;
+use aggregates::AggregateFunction;
 use algebra::Aggregate;
 use column_expr::values_of;
 use columns::{Bag, Batch, Column, ColumnBuilder, ColumnForm};
 use fixed_decimal::Scale;
 use scalar_expr::Expr;
+use sql_value::Value;
 use std::alloc::{AllocError, Global};
 
 // The groups of rows: columns of their keys, the number of each row's group, and how many groups
@@ -81,6 +86,63 @@ fn argument_column(alloc: Global, rows: &Bag, e: &Expr, scale: Scale) -> Result<
     Ok(column.finish())
 }
 
+// For each of `count` numbers the aggregate of a column's values in the rows with that number, by
+// accumulators.
+fn aggregated(
+    alloc: Global,
+    function: AggregateFunction,
+    scale: Scale,
+    numbers: &[u32],
+    count: usize,
+    arguments: &Column,
+) -> Result<Vec<Value>, AllocError>
+    requires rows { length numbers.now ≡ length arguments.now }
+    requires small { length numbers.now < 2 ^ 32 }
+    requires numbers { AreBelow count numbers.now }
+    ensures { IfOk result (λ v. v.items
+        ≡ values_by_number (aggregate_of function scale) numbers.now arguments.now 0 count) }
+{
+    match arguments.as_numbers() {
+        Some((own, coefficients)) => {
+            let typed = NumberValues::new(own, coefficients);
+            let values = aggregated_by_number(alloc, function, scale, numbers, count, &typed)?;
+            Ok(values)
+        }
+        None => {
+            let any = ColumnValues::new(alloc, arguments);
+            let values = aggregated_by_number(alloc, function, scale, numbers, count, &any)?;
+            Ok(values)
+        }
+    }
+}
+
+// The same as a column.
+fn argument_aggregates(
+    alloc: Global,
+    function: AggregateFunction,
+    scale: Scale,
+    numbers: &[u32],
+    count: usize,
+    arguments: &Column,
+) -> Result<Column, AllocError>
+    requires rows { length numbers.now ≡ length arguments.now }
+    requires small { length numbers.now < 2 ^ 32 }
+    requires numbers { AreBelow count numbers.now }
+    ensures { IfOk result (λ c. c
+        ≡ values_by_number (aggregate_of function scale) numbers.now arguments.now 0 count) }
+{
+    if let (AggregateFunction::Sum, Some((own, coefficients))) = (
+        function,
+        arguments.as_numbers(),
+    ) {
+        let sums = sum_column(alloc, scale, own, numbers, count, coefficients)?;
+        return Ok(sums);
+    }
+    let values = aggregated(alloc, function, scale, numbers, count, arguments)?;
+    let column = column_of(alloc, values.as_slice())?;
+    Ok(column)
+}
+
 // An aggregate of each group.
 fn aggregate_column(
     alloc: Global,
@@ -110,9 +172,7 @@ fn aggregate_column(
         }
         Aggregate::Of(function, scale, e) => {
             let arguments = argument_column(alloc, rows, e.get(), *scale)?;
-            let argument = ColumnValues::new(alloc, &arguments);
-            let values = aggregated_by_number(alloc, *function, *scale, numbers, count, &argument)?;
-            let column = column_of(alloc, values.as_slice())?;
+            let column = argument_aggregates(alloc, *function, *scale, numbers, count, &arguments)?;
             Ok(column)
         }
     }

@@ -10,9 +10,10 @@ ghost use Rattle.columns.specs.Lists.{gathered, AreBelow};
 ghost use Rattle.columns.specs.Batches.{column_at};
 ghost use Rattle.hash_group.specs.Keys.{key_rows, key_columns};
 
+use crate::key_runs::key_numbers;
 use columns::{Bag, Batch, Column};
 use key_tables::{Numbered, numbers};
-use row_keys::keys_of_columns;
+use row_keys::{codes, keys_of_columns};
 use sql_value::Value;
 use std::alloc::{AllocError, Global};
 
@@ -62,6 +63,20 @@ pub(crate) fn all_places(alloc: Global, bag: &Bag) -> Result<Vec<u32>, AllocErro
     }
 }
 
+// The number of each value of a column, and where each number first stands.
+fn column_numbers(alloc: Global, column: &Column) -> Result<Numbered, AllocError>
+    ensures numbers { IfOk result (λ n. n.numbers.items ≡ numbers_of same_value column.now) }
+    ensures firsts { IfOk result (λ n. n.firsts.items ≡ first_places same_value column.now) }
+{
+    if let Some((_, coefficients)) = column.as_numbers() {
+        let numbered = key_numbers(alloc, coefficients)?;
+        return Ok(numbered);
+    }
+    let codes = codes(alloc, column)?;
+    let coded = key_numbers(alloc, codes.as_slice())?;
+    Ok(coded)
+}
+
 /// The number of each row's group, by these columns of theirs, and where each group first comes.
 pub(crate) fn group_numbers(
     alloc: Global,
@@ -75,6 +90,10 @@ pub(crate) fn group_numbers(
     ensures firsts { IfOk result
         (λ n. n.firsts.items ≡ first_places (same_row same_value) (key_rows by.now bag.now.rows)) }
 {
+    if columns.len() == 1 {
+        let alone = column_numbers(alloc, &columns[0])?;
+        return Ok(alone);
+    }
     let keys = keys_of_columns(alloc, columns, bag.len())?;
     if keys.len() > u32::MAX as usize {
         return Err(AllocError);

@@ -7,7 +7,9 @@ mod group_by;
 mod grouping;
 mod groups;
 mod identical;
+mod key_runs;
 pub mod laws;
+mod number_sums;
 mod standings;
 mod values;
 

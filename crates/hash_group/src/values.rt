@@ -1,9 +1,10 @@
 //! A list of values that are read one by one, as those of a column.
-ghost use Rattle.std.specs.Prelude.{◌≡◌, ◌<◌, List, length, replicate, slice_get, Some, IfOk};
+ghost use Rattle.std.specs.Prelude.{◌≡◌, ◌<◌, List, length, map, replicate, slice_get, Some, IfOk};
 ghost use Rattle.sql_value.specs.declared.value.Value.{Value as Datum};
-ghost use Rattle.sql_value.specs.declared.value.Value.TheVariants.{Null};
+ghost use Rattle.sql_value.specs.declared.value.Value.TheVariants.{Null, Number};
 
 use columns::Column;
+use fixed_decimal::Scale;
 use sql_value::Value;
 use std::alloc::{AllocError, Global};
 
@@ -61,6 +62,30 @@ impl<'a> ValueList for ColumnValues<'a> {
 
     fn value(&self, i: usize) -> Result<Value, AllocError> {
         self.column.at(self.alloc, i)
+    }
+}
+
+/// Numbers of one scale.
+#[derive(Drop)]
+pub struct NumberValues<'a> {
+    scale: Scale,
+    numbers: &'a [i64],
+}
+
+impl<'a> NumberValues<'a> {
+    /// The numbers of these coefficients.
+    pub fn new(scale: Scale, numbers: &'a [i64]) -> NumberValues<'a>
+        ensures { ⟦<NumberValues<'a> as ValueList>⟧.shown result ≡ map (Number scale) numbers.now }
+    {
+        NumberValues { scale, numbers }
+    }
+}
+
+impl<'a> ValueList for NumberValues<'a> {
+    ghost shown = { λ s. map (Number s.scale) s.numbers.now };
+
+    fn value(&self, i: usize) -> Result<Value, AllocError> {
+        Ok(Value::Number(self.scale, i128::from(self.numbers[i])))
     }
 }
 

@@ -1,4 +1,4 @@
-use Rattle.std.proofs.Common.{◌++◌, replicate, ap, ◌∙◌}
+use Rattle.std.proofs.Common.{◌++◌, ap, ◌∙◌}
 use Rattle.std.proofs.lemmas.List.{map-append}
 use Rattle.sql_value.specs.Truth.{standing_rank}
 use Rattle.hash_group.specs.Standings.{ranks, row_ranks}

@@ -1,6 +1,4 @@
-use Rattle.std.proofs.Common.{◌≡◌, length, map, ap, ◌∙◌, arith}
-use Rattle.sql_value.specs.declared.value.Value.TheVariants.{Null}
-use Rattle.columns.specs.Lists.{gathered}
+use Rattle.std.proofs.Common.{◌≡◌, length, ◌∙◌, arith}
 use Rattle.hash_group.proofs.KeyCells.{keys_below}
 use Rattle.hash_group.proofs.GroupRows.{groups_by_any}
 use Rattle.hash_group.proofs.group_by.groups_by.Goals as goal

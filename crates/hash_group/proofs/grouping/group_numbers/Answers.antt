@@ -1,12 +1,12 @@
-use Rattle.std.proofs.Common.{ℕ, List, length, ap, sym, subst, ◌∙◌}
+use Rattle.std.proofs.Common.{ℕ, List, length, ap, sym, subst, arith, ◌∙◌}
 use Rattle.row_laws.specs.Numbers.{numbers_of}
 use Rattle.key_tables.specs.Distinct.{first_places}
 use Rattle.key_tables.specs.Keys.{same_two}
 use Rattle.sql_value.specs.declared.value.Value.{Value}
+use Rattle.sql_value.specs.Value.{same_value}
 use Rattle.columns.specs.Batches.{AreLong}
 use Rattle.row_keys.specs.Keys.{AreKeys}
-use Rattle.hash_group.specs.Keys.{key_columns}
-use Rattle.hash_group.proofs.KeyCells.{long_keys, keys_told}
+use Rattle.hash_group.proofs.KeyCells.{long_keys, keys_told, column_told}
 use Rattle.hash_group.proofs.grouping.group_numbers.Goals as goal
 
 pub keys_of_columns-requires : goal.keys_of_columns-requires
@@ -28,3 +28,13 @@ returns-clause-firsts c =
     let M : List (List Value) → Type 0 = λ cs. AreKeys cs (length c.args.bag.now.rows) c.in_ok-keys.keys.items in
     c.in_ok-numbered.ensures.firsts ∙ ap (first_places same_two) c.as_slice.ensures.value
     ∙ (keys_told c.args.bag.now.rows c.args.by.now c.in_ok-keys.keys.items (subst M c.requires (subst K c.len.ensures c.in_ok-keys.ensures))).1
+
+pub returns-then-columns-eq1-clause-numbers : goal.returns-then-columns-eq1-clause-numbers
+returns-then-columns-eq1-clause-numbers c =
+    c.in_ok-alone.ensures.numbers ∙ ap (numbers_of same_value) c.index-columns-0.is
+    ∙ (column_told c.args.bag.now.rows c.args.by.now c.args.columns.now c.index-columns-0.result c.requires (omega arith)).0
+
+pub returns-then-columns-eq1-clause-firsts : goal.returns-then-columns-eq1-clause-firsts
+returns-then-columns-eq1-clause-firsts c =
+    c.in_ok-alone.ensures.firsts ∙ ap (first_places same_value) c.index-columns-0.is
+    ∙ (column_told c.args.bag.now.rows c.args.by.now c.args.columns.now c.index-columns-0.result c.requires (omega arith)).1
