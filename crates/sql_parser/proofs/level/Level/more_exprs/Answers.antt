@@ -21,7 +21,7 @@ returns g c = loop_ends (is k.Comma) (one (is k.Comma)) values.second (readings.
 
 pub more-preserved : goal.more-preserved
 more-preserved g c =
-    let pushed : c.push-2.new.self ≡ c.more.found ++ c.in_ok-element.field-0 ∷ [] = c.in_ok-push-2.ensures.ok ∙ ap (λ x. c.more.found ++ x ∷ []) c.into_inner.ensures in
+    let pushed : c.push-in-more.new.self ≡ c.more.found ++ c.in_ok-element.field-0 ∷ [] = c.in_ok-push-2.ensures.ok ∙ ap (λ x. c.more.found ++ x ∷ []) c.into_inner.ensures in
     rw pushed (loop_goes_on (is k.Comma) (one (is k.Comma)) values.second (readings.read_whole 1023 (part_at 1023 c.args.self.now.room)) _ c.more.found c.more.width c.more.parser c.more.invariant (sym c.starts.ensures ∙ c.more-test.true) (omega arith) _ _ c.in_ok-one.ensures _ _ c.in_ok-element.ensures)
 
 pub returns-in_err-element : goal.returns-in_err-element
