@@ -18,7 +18,7 @@ use crate::parts::{block_of, join_of, joined_of};
 use grammar_laws::SyntaxError;
 use sql_ast::{Block, Expr, FromItem, Join, Joined};
 use sql_lexer::Kind;
-use sqlite_items::Items;
+use sqlite_items::{Boxed, Items};
 use std::alloc::Global;
 
 /// What holds expressions of one level, and queries of the level below. `part` reads the parts of
@@ -32,8 +32,8 @@ pub(crate) struct Blocks<P, Q> {
 }
 
 impl<
-    P: Copy + Fn(Global, &mut Parser<'_>, usize) -> Result<Expr, SyntaxError>,
-    Q: Copy + Fn(Global, &mut Parser<'_>, usize) -> Result<Block, SyntaxError>,
+    P: Copy + Fn(Global, &mut Parser<'_>, usize) -> Result<Boxed<Expr>, SyntaxError>,
+    Q: Copy + Fn(Global, &mut Parser<'_>, usize) -> Result<Boxed<Block>, SyntaxError>,
 > Blocks<P, Q> {
     /// `"(" query ")" [as] name ["(" name {"," name} ")"]`.
     #[tactic(auto, unfolding(crate::specs::Readings::read_derived))]
@@ -81,7 +81,7 @@ impl<
 
     /// `item on e`.
     #[tactic(auto, unfolding(crate::specs::Readings::read_joined_item))]
-    fn joined_item(&self, parser: &mut Parser<'_>) -> Result<(FromItem, Expr), SyntaxError>
+    fn joined_item(&self, parser: &mut Parser<'_>) -> Result<(FromItem, Boxed<Expr>), SyntaxError>
         requires part { At (part_at 1023) self.now.room (P.pre self.now.part)
             (P.post self.now.part) }
         requires query { Below (query_at 1023) self.now.room (Q.pre self.now.query)
@@ -189,7 +189,7 @@ impl<
 
     /// `select .. from .. [where ..] [group by ..] [having ..]`.
     #[tactic(auto, unfolding(crate::specs::Readings::read_query_line))]
-    pub(crate) fn block(&self, parser: &mut Parser<'_>) -> Result<Block, SyntaxError>
+    pub(crate) fn block(&self, parser: &mut Parser<'_>) -> Result<Boxed<Block>, SyntaxError>
         requires part { At (part_at 1023) self.now.room (P.pre self.now.part)
             (P.post self.now.part) }
         requires query { Below (query_at 1023) self.now.room (Q.pre self.now.query)
@@ -205,6 +205,6 @@ impl<
         let selected = level.select(parser)?;
         let from = self.from(parser)?;
         let filters = level.filters(parser)?;
-        Ok(block_of(selected, from, filters))
+        Ok(Boxed::new(self.alloc, block_of(selected, from, filters))?)
     }
 }

@@ -21,10 +21,10 @@ pub(crate) struct Calls<P> {
     pub(crate) part: P,
 }
 
-impl<P: Copy + Fn(Global, &mut Parser<'_>, usize) -> Result<Expr, SyntaxError>> Calls<P> {
+impl<P: Copy + Fn(Global, &mut Parser<'_>, usize) -> Result<Boxed<Expr>, SyntaxError>> Calls<P> {
     /// `case .. end`.
     #[tactic(auto, using(crate::proofs::Inner::rules_inner), unfolding(crate::specs::ExpressionReadings::read_case))]
-    pub(crate) fn case(&self, parser: &mut Parser<'_>) -> Result<Expr, SyntaxError>
+    pub(crate) fn case(&self, parser: &mut Parser<'_>) -> Result<Boxed<Expr>, SyntaxError>
         requires { Below (part_at 1023) self.now.room (P.pre self.now.part) (P.post self.now.part) }
         ensures { Reads (readings.read_case 1023 self.now.room (inner_part 1023 self.now.room)
             parser.old) result parser.new }
@@ -36,14 +36,13 @@ impl<P: Copy + Fn(Global, &mut Parser<'_>, usize) -> Result<Expr, SyntaxError>> 
             part: self.part,
         };
         let inner = level.case_body(parser)?;
-        let inner = Boxed::new(self.alloc, inner)?;
         parser.one(Kind::End)?;
-        Ok(inner.into_inner())
+        Ok(inner)
     }
 
     /// `extract "(" .. ")"`.
     #[tactic(auto, using(crate::proofs::Inner::rules_inner), unfolding(crate::specs::ExpressionReadings::read_extract))]
-    fn extract(&self, parser: &mut Parser<'_>) -> Result<Expr, SyntaxError>
+    fn extract(&self, parser: &mut Parser<'_>) -> Result<Boxed<Expr>, SyntaxError>
         requires { Below (part_at 1023) self.now.room (P.pre self.now.part) (P.post self.now.part) }
         ensures { Reads (readings.read_extract 1023 self.now.room (inner_part 1023 self.now.room)
             parser.old) result parser.new }
@@ -56,14 +55,13 @@ impl<P: Copy + Fn(Global, &mut Parser<'_>, usize) -> Result<Expr, SyntaxError>> 
             part: self.part,
         };
         let inner = level.extract_inside(parser)?;
-        let inner = Boxed::new(self.alloc, inner)?;
         parser.one(Kind::CloseParen)?;
-        Ok(inner.into_inner())
+        Ok(inner)
     }
 
     /// `substring "(" .. ")"`.
     #[tactic(auto, using(crate::proofs::Inner::rules_inner), unfolding(crate::specs::ExpressionReadings::read_substring))]
-    fn substring(&self, parser: &mut Parser<'_>) -> Result<Expr, SyntaxError>
+    fn substring(&self, parser: &mut Parser<'_>) -> Result<Boxed<Expr>, SyntaxError>
         requires { Below (part_at 1023) self.now.room (P.pre self.now.part) (P.post self.now.part) }
         ensures { Reads (readings.read_substring 1023 self.now.room (inner_part 1023 self.now.room)
             parser.old) result parser.new }
@@ -76,14 +74,13 @@ impl<P: Copy + Fn(Global, &mut Parser<'_>, usize) -> Result<Expr, SyntaxError>> 
             part: self.part,
         };
         let inner = level.substring_inside(parser)?;
-        let inner = Boxed::new(self.alloc, inner)?;
         parser.one(Kind::CloseParen)?;
-        Ok(inner.into_inner())
+        Ok(inner)
     }
 
     /// `count "(" .. ")"`.
     #[tactic(auto, using(crate::proofs::Inner::rules_inner), unfolding(crate::specs::ExpressionReadings::read_count))]
-    fn count(&self, parser: &mut Parser<'_>) -> Result<Expr, SyntaxError>
+    fn count(&self, parser: &mut Parser<'_>) -> Result<Boxed<Expr>, SyntaxError>
         requires { Below (part_at 1023) self.now.room (P.pre self.now.part) (P.post self.now.part) }
         ensures { Reads (readings.read_count 1023 self.now.room (inner_part 1023 self.now.room)
             parser.old) result parser.new }
@@ -96,14 +93,13 @@ impl<P: Copy + Fn(Global, &mut Parser<'_>, usize) -> Result<Expr, SyntaxError>> 
             part: self.part,
         };
         let inner = level.count_inside(parser)?;
-        let inner = Boxed::new(self.alloc, inner)?;
         parser.one(Kind::CloseParen)?;
-        Ok(inner.into_inner())
+        Ok(inner)
     }
 
     /// `sum(e)` and its like.
     #[tactic(auto, using(crate::proofs::Inner::rules_inner), unfolding(crate::specs::ExpressionReadings::read_aggregate))]
-    fn aggregate(&self, parser: &mut Parser<'_>) -> Result<Expr, SyntaxError>
+    fn aggregate(&self, parser: &mut Parser<'_>) -> Result<Boxed<Expr>, SyntaxError>
         requires { Below (part_at 1023) self.now.room (P.pre self.now.part) (P.post self.now.part) }
         ensures { Reads (readings.read_aggregate 1023 self.now.room (inner_part 1023 self.now.room)
             parser.old) result parser.new }
@@ -115,14 +111,14 @@ impl<P: Copy + Fn(Global, &mut Parser<'_>, usize) -> Result<Expr, SyntaxError>> 
             room: self.room - 1,
             part: self.part,
         };
-        let inner = Boxed::new(self.alloc, level.whole(parser)?)?;
+        let inner = level.whole(parser)?;
         parser.one(Kind::CloseParen)?;
-        Ok(Expr::Aggregate(function, inner))
+        Ok(Boxed::new(self.alloc, Expr::Aggregate(function, inner))?)
     }
 
     /// What a word and parentheses make.
     #[tactic(auto, unfolding(crate::specs::ExpressionReadings::read_call))]
-    pub(crate) fn call(&self, parser: &mut Parser<'_>) -> Result<Expr, SyntaxError>
+    pub(crate) fn call(&self, parser: &mut Parser<'_>) -> Result<Boxed<Expr>, SyntaxError>
         requires { Below (part_at 1023) self.now.room (P.pre self.now.part) (P.post self.now.part) }
         ensures { Reads (readings.read_call 1023 self.now.room (inner_part 1023 self.now.room)
             parser.old) result parser.new }

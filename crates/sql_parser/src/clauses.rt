@@ -49,8 +49,7 @@ impl<'a> Parser<'a> {
         ensures { Reads (readings.read_inner_words self.old) result self.new }
     {
         if self.starts(Kind::Join) {
-            self.one(Kind::Join)?;
-            return Ok(JoinKind::Inner);
+            return self.word(Kind::Join, JoinKind::Inner);
         }
         self.one(Kind::Inner)?;
         self.one(Kind::Join)?;
@@ -87,12 +86,10 @@ impl<'a> Parser<'a> {
         ensures { Reads (readings.read_direction self.old) result self.new }
     {
         if self.starts(Kind::Asc) {
-            self.one(Kind::Asc)?;
-            return Ok(false);
+            return self.word(Kind::Asc, false);
         }
         if self.starts(Kind::Desc) {
-            self.one(Kind::Desc)?;
-            return Ok(true);
+            return self.word(Kind::Desc, true);
         }
         Ok(false)
     }

@@ -17,7 +17,7 @@ use sql_lexer::Kind;
 use sqlite_items::{Boxed, Items};
 use std::alloc::Global;
 
-impl<P: Fn(Global, &mut Parser<'_>, usize) -> Result<Expr, SyntaxError>> Level<P> {
+impl<P: Fn(Global, &mut Parser<'_>, usize) -> Result<Boxed<Expr>, SyntaxError>> Level<P> {
     /// `when e then e`.
     #[tactic(auto, unfolding(crate::specs::ExpressionReadings::read_arm))]
     fn arm(&self, parser: &mut Parser<'_>) -> Result<Arm, SyntaxError>
@@ -26,10 +26,10 @@ impl<P: Fn(Global, &mut Parser<'_>, usize) -> Result<Expr, SyntaxError>> Level<P
             parser.new }
     {
         parser.one(Kind::When)?;
-        let condition = Boxed::new(self.alloc, self.whole(parser)?)?;
+        let condition = self.whole(parser)?;
         parser.one(Kind::Then)?;
         let value = self.whole(parser)?;
-        Ok(arm_of(condition.into_inner(), value))
+        Ok(arm_of(condition, value))
     }
 
     /// The arms, of which the first is read.
@@ -68,7 +68,7 @@ impl<P: Fn(Global, &mut Parser<'_>, usize) -> Result<Expr, SyntaxError>> Level<P
 
     /// `[else e]`.
     #[tactic(auto, unfolding(crate::specs::ExpressionReadings::read_else))]
-    fn otherwise(&self, parser: &mut Parser<'_>) -> Result<Option<Expr>, SyntaxError>
+    fn otherwise(&self, parser: &mut Parser<'_>) -> Result<Option<Boxed<Expr>>, SyntaxError>
         requires { At (part_at 1023) self.now.room (P.pre self.now.part) (P.post self.now.part) }
         ensures { Reads (readings.read_else 1023 (part_at 1023 self.now.room) parser.old) result
             parser.new }
@@ -83,7 +83,7 @@ impl<P: Fn(Global, &mut Parser<'_>, usize) -> Result<Expr, SyntaxError>> Level<P
 
     /// The arms, and what stands after ELSE.
     #[tactic(auto, unfolding(crate::specs::ExpressionReadings::read_case_body))]
-    pub(crate) fn case_body(&self, parser: &mut Parser<'_>) -> Result<Expr, SyntaxError>
+    pub(crate) fn case_body(&self, parser: &mut Parser<'_>) -> Result<Boxed<Expr>, SyntaxError>
         requires { At (part_at 1023) self.now.room (P.pre self.now.part) (P.post self.now.part) }
         ensures { Reads (readings.read_case_body 1023 (part_at 1023 self.now.room) parser.old)
             result parser.new }
@@ -95,7 +95,7 @@ impl<P: Fn(Global, &mut Parser<'_>, usize) -> Result<Expr, SyntaxError>> Level<P
 
     /// `(year|month|day) from e`.
     #[tactic(auto, unfolding(crate::specs::ExpressionReadings::read_extract_inside))]
-    pub(crate) fn extract_inside(&self, parser: &mut Parser<'_>) -> Result<Expr, SyntaxError>
+    pub(crate) fn extract_inside(&self, parser: &mut Parser<'_>) -> Result<Boxed<Expr>, SyntaxError>
         requires { At (part_at 1023) self.now.room (P.pre self.now.part) (P.post self.now.part) }
         ensures { Reads (readings.read_extract_inside 1023 (part_at 1023 self.now.room) parser.old)
             result parser.new }
@@ -103,38 +103,41 @@ impl<P: Fn(Global, &mut Parser<'_>, usize) -> Result<Expr, SyntaxError>> Level<P
         let part = parser.span()?;
         parser.one(Kind::From)?;
         let inner = self.whole(parser)?;
-        Ok(Expr::Extract(part, Boxed::new(self.alloc, inner)?))
+        Ok(Boxed::new(self.alloc, Expr::Extract(part, inner))?)
     }
 
     /// `e from N for N`.
     #[tactic(auto, unfolding(crate::specs::ExpressionReadings::read_substring_inside))]
-    pub(crate) fn substring_inside(&self, parser: &mut Parser<'_>) -> Result<Expr, SyntaxError>
+    pub(crate) fn substring_inside(
+        &self,
+        parser: &mut Parser<'_>,
+    ) -> Result<Boxed<Expr>, SyntaxError>
         requires { At (part_at 1023) self.now.room (P.pre self.now.part) (P.post self.now.part) }
         ensures { Reads (readings.read_substring_inside 1023 (part_at 1023 self.now.room)
             parser.old) result parser.new }
     {
-        let inner = Boxed::new(self.alloc, self.whole(parser)?)?;
+        let inner = self.whole(parser)?;
         let (first, count) = parser.places()?;
-        Ok(Expr::Substring(inner, first, count))
+        Ok(Boxed::new(self.alloc, Expr::Substring(inner, first, count))?)
     }
 
     /// `"*" | [distinct] e`.
     #[tactic(auto, unfolding(crate::specs::ExpressionReadings::read_count_inside))]
-    pub(crate) fn count_inside(&self, parser: &mut Parser<'_>) -> Result<Expr, SyntaxError>
+    pub(crate) fn count_inside(&self, parser: &mut Parser<'_>) -> Result<Boxed<Expr>, SyntaxError>
         requires { At (part_at 1023) self.now.room (P.pre self.now.part) (P.post self.now.part) }
         ensures { Reads (readings.read_count_inside 1023 (part_at 1023 self.now.room) parser.old)
             result parser.new }
     {
         if parser.starts(Kind::Star) {
             parser.one(Kind::Star)?;
-            return Ok(Expr::CountRows);
+            return Ok(Boxed::new(self.alloc, Expr::CountRows)?);
         }
         if parser.starts(Kind::Distinct) {
             parser.one(Kind::Distinct)?;
             let inner = self.whole(parser)?;
-            return Ok(Expr::CountDistinct(Boxed::new(self.alloc, inner)?));
+            return Ok(Boxed::new(self.alloc, Expr::CountDistinct(inner))?);
         }
         let inner = self.whole(parser)?;
-        Ok(Expr::Count(Boxed::new(self.alloc, inner)?))
+        Ok(Boxed::new(self.alloc, Expr::Count(inner))?)
     }
 }

@@ -7,7 +7,6 @@ ghost use Rattle.sql_parser.specs.Readings.{part_at, query_at, unary_at};
 use crate::blocks::Blocks;
 use crate::nested::Nested;
 use crate::parser::Parser;
-use crate::parts::deny;
 use crate::predicates::Predicates;
 use grammar_laws::SyntaxError;
 use sql_ast::{Block, Expr};
@@ -22,13 +21,13 @@ pub(crate) fn unary(
     alloc: Global,
     parser: &mut Parser<'_>,
     room: usize,
-) -> Result<Expr, SyntaxError>
+) -> Result<Boxed<Expr>, SyntaxError>
     ensures { Reads (unary_at 1023 room parser.old) result parser.new }
 {
     if parser.starts(Kind::Minus) {
         parser.opens(room, Kind::Minus)?;
         let inner = unary(alloc, parser, room - 1)?;
-        return Ok(Expr::Negative(Boxed::new(alloc, inner)?));
+        return Ok(Boxed::new(alloc, Expr::Negative(inner))?);
     }
     let nested = Nested {
         alloc,
@@ -43,13 +42,17 @@ pub(crate) fn unary(
 /// `not not-part`, or a predicate.
 #[cycle(knot)]
 #[tactic(auto, using(crate::proofs::Unfold::part_is), unfolding(crate::specs::ExpressionReadings::read_part_line))]
-pub(crate) fn part(alloc: Global, parser: &mut Parser<'_>, room: usize) -> Result<Expr, SyntaxError>
+pub(crate) fn part(
+    alloc: Global,
+    parser: &mut Parser<'_>,
+    room: usize,
+) -> Result<Boxed<Expr>, SyntaxError>
     ensures { Reads (part_at 1023 room parser.old) result parser.new }
 {
     if parser.starts(Kind::Not) {
         parser.opens(room, Kind::Not)?;
         let inner = part(alloc, parser, room - 1)?;
-        return Ok(deny(alloc, true, inner)?);
+        return Ok(Boxed::new(alloc, Expr::Not(inner))?);
     }
     let predicates = Predicates {
         alloc,
@@ -69,7 +72,7 @@ pub(crate) fn query(
     alloc: Global,
     parser: &mut Parser<'_>,
     room: usize,
-) -> Result<Block, SyntaxError>
+) -> Result<Boxed<Block>, SyntaxError>
     ensures { Reads (query_at 1023 room parser.old) result parser.new }
 {
     let blocks = Blocks {

@@ -25,9 +25,9 @@ pub(crate) struct Level<P> {
     pub(crate) part: P,
 }
 
-impl<P: Fn(Global, &mut Parser<'_>, usize) -> Result<Expr, SyntaxError>> Level<P> {
+impl<P: Fn(Global, &mut Parser<'_>, usize) -> Result<Boxed<Expr>, SyntaxError>> Level<P> {
     /// A not-part.
-    fn part(&self, parser: &mut Parser<'_>) -> Result<Expr, SyntaxError>
+    fn part(&self, parser: &mut Parser<'_>) -> Result<Boxed<Expr>, SyntaxError>
         requires { At (part_at 1023) self.now.room (P.pre self.now.part) (P.post self.now.part) }
         ensures { Reads (part_at 1023 self.now.room parser.old) result parser.new }
     {
@@ -49,7 +49,7 @@ impl<P: Fn(Global, &mut Parser<'_>, usize) -> Result<Expr, SyntaxError>> Level<P
             if width == 0 {
                 return Err(parser.one_too_many(here, element));
             }
-            found.push(element?)?;
+            found.push(element?.into_inner())?;
             width -= 1;
         }
         Ok(found)
@@ -57,14 +57,14 @@ impl<P: Fn(Global, &mut Parser<'_>, usize) -> Result<Expr, SyntaxError>> Level<P
 
     /// `not-part {and not-part}`.
     #[tactic(auto, unfolding(crate::specs::ExpressionReadings::read_conjunction))]
-    fn conjunction(&self, parser: &mut Parser<'_>) -> Result<Expr, SyntaxError>
+    fn conjunction(&self, parser: &mut Parser<'_>) -> Result<Boxed<Expr>, SyntaxError>
         requires { At (part_at 1023) self.now.room (P.pre self.now.part) (P.post self.now.part) }
         ensures { Reads (readings.read_conjunction 1023 (part_at 1023 self.now.room) parser.old)
             result parser.new }
     {
-        let first = Boxed::new(self.alloc, self.part(parser)?)?;
+        let first = self.part(parser)?;
         let others = self.conjuncts(parser)?;
-        Ok(all_of(first, others))
+        Ok(all_of(self.alloc, first, others)?)
     }
 
     /// `{or and-part}`.
@@ -83,7 +83,7 @@ impl<P: Fn(Global, &mut Parser<'_>, usize) -> Result<Expr, SyntaxError>> Level<P
             if width == 0 {
                 return Err(parser.one_too_many(here, element));
             }
-            found.push(element?)?;
+            found.push(element?.into_inner())?;
             width -= 1;
         }
         Ok(found)
@@ -91,14 +91,14 @@ impl<P: Fn(Global, &mut Parser<'_>, usize) -> Result<Expr, SyntaxError>> Level<P
 
     /// An expression: `and-part {or and-part}`.
     #[tactic(auto, unfolding(crate::specs::ExpressionReadings::read_whole))]
-    pub(crate) fn whole(&self, parser: &mut Parser<'_>) -> Result<Expr, SyntaxError>
+    pub(crate) fn whole(&self, parser: &mut Parser<'_>) -> Result<Boxed<Expr>, SyntaxError>
         requires { At (part_at 1023) self.now.room (P.pre self.now.part) (P.post self.now.part) }
         ensures { Reads (readings.read_whole 1023 (part_at 1023 self.now.room) parser.old) result
             parser.new }
     {
-        let first = Boxed::new(self.alloc, self.conjunction(parser)?)?;
+        let first = self.conjunction(parser)?;
         let others = self.disjuncts(parser)?;
-        Ok(any_of(first, others))
+        Ok(any_of(self.alloc, first, others)?)
     }
 
     /// The list, of which the first expression is read.
@@ -119,7 +119,7 @@ impl<P: Fn(Global, &mut Parser<'_>, usize) -> Result<Expr, SyntaxError>> Level<P
             if width == 0 {
                 return Err(parser.one_too_many(here, element));
             }
-            found.push(element?)?;
+            found.push(element?.into_inner())?;
             width -= 1;
         }
         Ok(found)
@@ -133,6 +133,6 @@ impl<P: Fn(Global, &mut Parser<'_>, usize) -> Result<Expr, SyntaxError>> Level<P
             result parser.new }
     {
         let first = self.whole(parser)?;
-        self.more_exprs(parser, first)
+        self.more_exprs(parser, first.into_inner())
     }
 }

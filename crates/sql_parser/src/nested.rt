@@ -29,12 +29,16 @@ pub(crate) struct Nested<P, Q> {
 }
 
 impl<
-    P: Copy + Fn(Global, &mut Parser<'_>, usize) -> Result<Expr, SyntaxError>,
-    Q: Fn(Global, &mut Parser<'_>, usize) -> Result<Block, SyntaxError>,
+    P: Copy + Fn(Global, &mut Parser<'_>, usize) -> Result<Boxed<Expr>, SyntaxError>,
+    Q: Fn(Global, &mut Parser<'_>, usize) -> Result<Boxed<Block>, SyntaxError>,
 > Nested<P, Q> {
     /// `query | e`, where `room` levels may still be opened.
     #[tactic(auto, unfolding(crate::specs::ExpressionReadings::read_parens_inside))]
-    fn parens_inside(&self, parser: &mut Parser<'_>, room: usize) -> Result<Expr, SyntaxError>
+    fn parens_inside(
+        &self,
+        parser: &mut Parser<'_>,
+        room: usize,
+    ) -> Result<Boxed<Expr>, SyntaxError>
         requires room { room < self.now.room }
         requires part { Below (part_at 1023) self.now.room (P.pre self.now.part)
             (P.post self.now.part) }
@@ -45,7 +49,7 @@ impl<
     {
         if parser.starts(Kind::Select) {
             let query = (self.query)(self.alloc, parser, room)?;
-            return Ok(Expr::Scalar(Boxed::new(self.alloc, query)?));
+            return Ok(Boxed::new(self.alloc, Expr::Scalar(query))?);
         }
         let level = Level {
             alloc: self.alloc,
@@ -58,7 +62,7 @@ impl<
 
     /// `"(" (query | e) ")"`.
     #[tactic(auto, using(crate::proofs::Inner::rules_inner), unfolding(crate::specs::ExpressionReadings::read_parens))]
-    fn parens(&self, parser: &mut Parser<'_>) -> Result<Expr, SyntaxError>
+    fn parens(&self, parser: &mut Parser<'_>) -> Result<Boxed<Expr>, SyntaxError>
         requires part { Below (part_at 1023) self.now.room (P.pre self.now.part)
             (P.post self.now.part) }
         requires query { Below (query_at 1023) self.now.room (Q.pre self.now.query)
@@ -67,14 +71,14 @@ impl<
             (inner_query 1023 self.now.room) parser.old) result parser.new }
     {
         parser.opens(self.room, Kind::OpenParen)?;
-        let value = Boxed::new(self.alloc, self.parens_inside(parser, self.room - 1)?)?;
+        let value = self.parens_inside(parser, self.room - 1)?;
         parser.one(Kind::CloseParen)?;
-        Ok(value.into_inner())
+        Ok(value)
     }
 
     /// What a unary part is without a sign.
     #[tactic(auto, unfolding(crate::specs::ExpressionReadings::read_operand))]
-    pub(crate) fn operand(&self, parser: &mut Parser<'_>) -> Result<Expr, SyntaxError>
+    pub(crate) fn operand(&self, parser: &mut Parser<'_>) -> Result<Boxed<Expr>, SyntaxError>
         requires part { Below (part_at 1023) self.now.room (P.pre self.now.part)
             (P.post self.now.part) }
         requires query { Below (query_at 1023) self.now.room (Q.pre self.now.query)
@@ -107,7 +111,8 @@ impl<
         ]) {
             return calls.call(parser);
         }
-        parser.leaf(self.alloc, self.room)
+        let leaf = parser.leaf(self.alloc, self.room)?;
+        Ok(Boxed::new(self.alloc, leaf)?)
     }
 
     /// `(query | e {"," e}) ")"`, where `room` levels may still be opened.
@@ -123,7 +128,6 @@ impl<
     {
         if parser.starts(Kind::Select) {
             let query = (self.query)(self.alloc, parser, room)?;
-            let query = Boxed::new(self.alloc, query)?;
             parser.one(Kind::CloseParen)?;
             return Ok(Test::InQuery(false, query));
         }

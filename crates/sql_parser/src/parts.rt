@@ -1,6 +1,7 @@
 //! What the parts of expressions and queries make together.
 //!
-//! A tree that is held while more is read is boxed: where reading fails it is dropped by one call.
+//! An expression is boxed from the moment that it is read: where reading fails it is dropped by one
+//! call.
 ghost use Rattle.std.specs.Prelude.{◌≡◌, IfOk};
 ghost use Rattle.sql_parser.specs.Values as values;
 
@@ -13,35 +14,44 @@ use sqlite_items::{Boxed, Items};
 use std::alloc::{AllocError, Global};
 
 /// A factor with what joins it to those before.
-pub(crate) fn factor(operator: Multiplying, value: Expr) -> Factor
+pub(crate) fn factor(operator: Multiplying, value: Boxed<Expr>) -> Factor
     ensures { result ≡ values.factor operator value }
 {
-    Factor { operator, value }
+    Factor {
+        operator,
+        value: value.into_inner(),
+    }
 }
 
 /// A term with what joins it to those before.
-pub(crate) fn term(operator: Adding, value: Expr) -> Term
+pub(crate) fn term(operator: Adding, value: Boxed<Expr>) -> Term
     ensures { result ≡ values.term operator value }
 {
-    Term { operator, value }
+    Term {
+        operator,
+        value: value.into_inner(),
+    }
 }
 
 /// `when condition then value`.
-pub(crate) fn arm_of(condition: Expr, value: Expr) -> Arm
+pub(crate) fn arm_of(condition: Boxed<Expr>, value: Boxed<Expr>) -> Arm
     ensures { result ≡ values.arm condition value }
 {
-    Arm { condition, value }
+    Arm {
+        condition: condition.into_inner(),
+        value: value.into_inner(),
+    }
 }
 
 /// An item joined to those before it, and its condition.
-pub(crate) fn join_of(kind: JoinKind, joined: (FromItem, Expr)) -> Join
+pub(crate) fn join_of(kind: JoinKind, joined: (FromItem, Boxed<Expr>)) -> Join
     ensures { result ≡ values.join kind joined }
 {
     let (item, condition) = joined;
     Join {
         kind,
         item,
-        condition,
+        condition: condition.into_inner(),
     }
 }
 
@@ -67,46 +77,62 @@ pub(crate) fn block_of(selected: (bool, Selected), from: Items<Joined>, filters:
 }
 
 /// The product of factors; the first alone where there is no other.
-pub(crate) fn product(first: Boxed<Expr>, others: Items<Factor>) -> Expr
-    ensures { result ≡ values.product first others }
+pub(crate) fn product(
+    alloc: Global,
+    first: Boxed<Expr>,
+    others: Items<Factor>,
+) -> Result<Boxed<Expr>, AllocError>
+    ensures { IfOk result (λ x. x ≡ values.product first others) }
 {
     if others.is_empty() {
-        first.into_inner()
+        Ok(first)
     } else {
-        Expr::Product(first, others)
+        Boxed::new(alloc, Expr::Product(first, others))
     }
 }
 
 /// The sum of terms; the first alone where there is no other.
-pub(crate) fn sum(first: Boxed<Expr>, others: Items<Term>) -> Expr
-    ensures { result ≡ values.sum first others }
+pub(crate) fn sum(
+    alloc: Global,
+    first: Boxed<Expr>,
+    others: Items<Term>,
+) -> Result<Boxed<Expr>, AllocError>
+    ensures { IfOk result (λ x. x ≡ values.sum first others) }
 {
     if others.is_empty() {
-        first.into_inner()
+        Ok(first)
     } else {
-        Expr::Sum(first, others)
+        Boxed::new(alloc, Expr::Sum(first, others))
     }
 }
 
 /// The conditions joined by AND; the first alone where there is no other.
-pub(crate) fn all_of(first: Boxed<Expr>, others: Items<Expr>) -> Expr
-    ensures { result ≡ values.all_of first others }
+pub(crate) fn all_of(
+    alloc: Global,
+    first: Boxed<Expr>,
+    others: Items<Expr>,
+) -> Result<Boxed<Expr>, AllocError>
+    ensures { IfOk result (λ x. x ≡ values.all_of first others) }
 {
     if others.is_empty() {
-        first.into_inner()
+        Ok(first)
     } else {
-        Expr::And(first, others)
+        Boxed::new(alloc, Expr::And(first, others))
     }
 }
 
 /// The conditions joined by OR; the first alone where there is no other.
-pub(crate) fn any_of(first: Boxed<Expr>, others: Items<Expr>) -> Expr
-    ensures { result ≡ values.any_of first others }
+pub(crate) fn any_of(
+    alloc: Global,
+    first: Boxed<Expr>,
+    others: Items<Expr>,
+) -> Result<Boxed<Expr>, AllocError>
+    ensures { IfOk result (λ x. x ≡ values.any_of first others) }
 {
     if others.is_empty() {
-        first.into_inner()
+        Ok(first)
     } else {
-        Expr::Or(first, others)
+        Boxed::new(alloc, Expr::Or(first, others))
     }
 }
 
@@ -114,13 +140,13 @@ pub(crate) fn any_of(first: Boxed<Expr>, others: Items<Expr>) -> Expr
 pub(crate) fn case_of(
     alloc: Global,
     arms: Items<Arm>,
-    otherwise: Option<Expr>,
-) -> Result<Expr, AllocError>
+    otherwise: Option<Boxed<Expr>>,
+) -> Result<Boxed<Expr>, AllocError>
     ensures { IfOk result (λ x. x ≡ values.case_of arms otherwise) }
 {
     match otherwise {
-        None => Ok(Expr::Case(arms)),
-        Some(value) => Ok(Expr::CaseElse(arms, Boxed::new(alloc, value)?)),
+        None => Boxed::new(alloc, Expr::Case(arms)),
+        Some(value) => Boxed::new(alloc, Expr::CaseElse(arms, value)),
     }
 }
 
@@ -140,23 +166,30 @@ pub(crate) fn opposite(test: Test) -> Test
 }
 
 /// The condition, denied or not.
-pub(crate) fn deny(alloc: Global, is_denied: bool, value: Expr) -> Result<Expr, AllocError>
-    ensures { IfOk result (λ x. x ≡ values.deny is_denied value) }
+fn deny(alloc: Global, is_denied: bool, condition: Expr) -> Result<Boxed<Expr>, AllocError>
+    ensures { IfOk result (λ x. x ≡ values.deny is_denied condition) }
 {
+    let condition = Boxed::new(alloc, condition)?;
     if is_denied {
-        Ok(Expr::Not(Boxed::new(alloc, value)?))
+        Boxed::new(alloc, Expr::Not(condition))
     } else {
-        Ok(value)
+        Ok(condition)
     }
 }
 
 /// The condition that a test of a value is.
-pub(crate) fn tested(alloc: Global, value: Boxed<Expr>, test: Test) -> Result<Expr, AllocError>
+pub(crate) fn tested(
+    alloc: Global,
+    value: Boxed<Expr>,
+    test: Test,
+) -> Result<Boxed<Expr>, AllocError>
     ensures { IfOk result (λ x. x ≡ values.tested value test) }
 {
     match test {
-        Test::Absent => Ok(value.into_inner()),
-        Test::Compare(comparison, other) => Ok(Expr::Compare(comparison, value, other)),
+        Test::Absent => Ok(value),
+        Test::Compare(comparison, other) => {
+            Boxed::new(alloc, Expr::Compare(comparison, value, other))
+        }
         Test::IsNull(is_denied) => deny(alloc, is_denied, Expr::IsNull(value)),
         Test::Between(is_denied, low, high) => {
             deny(alloc, is_denied, Expr::Between(value, low, high))

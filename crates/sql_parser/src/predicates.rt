@@ -27,9 +27,9 @@ pub(crate) struct Predicates<U, P, Q> {
 }
 
 impl<
-    U: Copy + Fn(Global, &mut Parser<'_>, usize) -> Result<Expr, SyntaxError>,
-    P: Copy + Fn(Global, &mut Parser<'_>, usize) -> Result<Expr, SyntaxError>,
-    Q: Copy + Fn(Global, &mut Parser<'_>, usize) -> Result<Block, SyntaxError>,
+    U: Copy + Fn(Global, &mut Parser<'_>, usize) -> Result<Boxed<Expr>, SyntaxError>,
+    P: Copy + Fn(Global, &mut Parser<'_>, usize) -> Result<Boxed<Expr>, SyntaxError>,
+    Q: Copy + Fn(Global, &mut Parser<'_>, usize) -> Result<Boxed<Block>, SyntaxError>,
 > Predicates<U, P, Q> {
     /// What a NOT may stand before.
     #[tactic(auto, unfolding(crate::specs::ExpressionReadings::read_deny_test))]
@@ -108,7 +108,7 @@ impl<
 
     /// A sum, and what is asked of it.
     #[tactic(auto, unfolding(crate::specs::ExpressionReadings::read_predicate))]
-    pub(crate) fn predicate(&self, parser: &mut Parser<'_>) -> Result<Expr, SyntaxError>
+    pub(crate) fn predicate(&self, parser: &mut Parser<'_>) -> Result<Boxed<Expr>, SyntaxError>
         requires unary { At (unary_at 1023) self.now.room (U.pre self.now.unary)
             (U.post self.now.unary) }
         requires part { Below (part_at 1023) self.now.room (P.pre self.now.part)
@@ -124,7 +124,7 @@ impl<
             room: self.room,
             unary: self.unary,
         };
-        let value = Boxed::new(self.alloc, sums.sum(parser)?)?;
+        let value = sums.sum(parser)?;
         let test = self.test(parser)?;
         Ok(tested(self.alloc, value, test)?)
     }

@@ -29,13 +29,16 @@ pub struct Filters {
 }
 
 /// An item of a select list.
-fn item_of(value: Expr, alias: Option<Name>) -> Item
+fn item_of(value: Boxed<Expr>, alias: Option<Name>) -> Item
     ensures { result ≡ values.item value alias }
 {
-    Item { value, alias }
+    Item {
+        value: value.into_inner(),
+        alias,
+    }
 }
 
-impl<P: Fn(Global, &mut Parser<'_>, usize) -> Result<Expr, SyntaxError>> Level<P> {
+impl<P: Fn(Global, &mut Parser<'_>, usize) -> Result<Boxed<Expr>, SyntaxError>> Level<P> {
     /// `e [[as] name]`.
     #[tactic(auto, unfolding(crate::specs::Readings::read_item))]
     fn item(&self, parser: &mut Parser<'_>) -> Result<Item, SyntaxError>
@@ -43,9 +46,9 @@ impl<P: Fn(Global, &mut Parser<'_>, usize) -> Result<Expr, SyntaxError>> Level<P
         ensures { Reads (readings.read_item 1023 (part_at 1023 self.now.room) parser.old) result
             parser.new }
     {
-        let value = Boxed::new(self.alloc, self.whole(parser)?)?;
+        let value = self.whole(parser)?;
         let alias = parser.alias(self.alloc)?;
-        Ok(item_of(value.into_inner(), alias))
+        Ok(item_of(value, alias))
     }
 
     /// The items, of which the first is read.
@@ -126,7 +129,7 @@ impl<P: Fn(Global, &mut Parser<'_>, usize) -> Result<Expr, SyntaxError>> Level<P
         if parser.starts(Kind::Where) {
             parser.one(Kind::Where)?;
             let condition = self.whole(parser)?;
-            return Ok(Clause::Condition(Boxed::new(self.alloc, condition)?));
+            return Ok(Clause::Condition(condition));
         }
         Ok(Clause::Absent)
     }
@@ -141,7 +144,7 @@ impl<P: Fn(Global, &mut Parser<'_>, usize) -> Result<Expr, SyntaxError>> Level<P
         if parser.starts(Kind::Having) {
             parser.one(Kind::Having)?;
             let condition = self.whole(parser)?;
-            return Ok(Clause::Condition(Boxed::new(self.alloc, condition)?));
+            return Ok(Clause::Condition(condition));
         }
         Ok(Clause::Absent)
     }

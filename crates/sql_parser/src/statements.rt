@@ -21,7 +21,7 @@ use std::alloc::Global;
 fn ordered(alloc: Global, parser: &mut Parser<'_>, room: usize) -> Result<Statement, SyntaxError>
     ensures { Reads (readings.read_ordered 1023 (query_at 1023 room) parser.old) result parser.new }
 {
-    let block = Boxed::new(alloc, query(alloc, parser, room)?)?;
+    let block = query(alloc, parser, room)?;
     let order = order(alloc, parser)?;
     let limit = parser.limit()?;
     Ok(Statement::Query(Query {
@@ -56,7 +56,7 @@ fn create(alloc: Global, parser: &mut Parser<'_>, room: usize) -> Result<Stateme
     let (name, columns) = view_name(alloc, parser, room)?;
     parser.one(Kind::As)?;
     let block = query(alloc, parser, room)?;
-    Ok(Statement::CreateView(name, columns, block))
+    Ok(Statement::CreateView(name, columns, block.into_inner()))
 }
 
 impl<'a> Parser<'a> {
@@ -77,11 +77,9 @@ impl<'a> Parser<'a> {
         ensures { Reads (readings.read_refresh_word self.old) result self.new }
     {
         if self.starts(Kind::Insert) {
-            self.one(Kind::Insert)?;
-            return Ok(RefreshKind::Insert);
+            return self.word(Kind::Insert, RefreshKind::Insert);
         }
-        self.one(Kind::Delete)?;
-        Ok(RefreshKind::Delete)
+        self.word(Kind::Delete, RefreshKind::Delete)
     }
 
     /// `refresh (insert|delete) N`.

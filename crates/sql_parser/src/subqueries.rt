@@ -13,8 +13,8 @@ use sqlite_items::Boxed;
 use std::alloc::Global;
 
 impl<
-    P: Copy + Fn(Global, &mut Parser<'_>, usize) -> Result<Expr, SyntaxError>,
-    Q: Fn(Global, &mut Parser<'_>, usize) -> Result<Block, SyntaxError>,
+    P: Copy + Fn(Global, &mut Parser<'_>, usize) -> Result<Boxed<Expr>, SyntaxError>,
+    Q: Fn(Global, &mut Parser<'_>, usize) -> Result<Boxed<Block>, SyntaxError>,
 > Nested<P, Q> {
     /// `"(" query ")"`.
     #[tactic(auto, using(crate::proofs::Inner::rules_inner), unfolding(crate::specs::ExpressionReadings::read_subquery))]
@@ -26,14 +26,13 @@ impl<
     {
         parser.opens(self.room, Kind::OpenParen)?;
         let query = (self.query)(self.alloc, parser, self.room - 1)?;
-        let query = Boxed::new(self.alloc, query)?;
         parser.one(Kind::CloseParen)?;
         Ok(query)
     }
 
     /// `exists "(" query ")"`.
     #[tactic(auto, unfolding(crate::specs::ExpressionReadings::read_exists))]
-    pub(crate) fn exists(&self, parser: &mut Parser<'_>) -> Result<Expr, SyntaxError>
+    pub(crate) fn exists(&self, parser: &mut Parser<'_>) -> Result<Boxed<Expr>, SyntaxError>
         requires query { Below (query_at 1023) self.now.room (Q.pre self.now.query)
             (Q.post self.now.query) }
         ensures { Reads (readings.read_exists self.now.room (inner_query 1023 self.now.room)
@@ -41,6 +40,6 @@ impl<
     {
         parser.one(Kind::Exists)?;
         let query = self.subquery(parser)?;
-        Ok(Expr::Exists(query))
+        Ok(Boxed::new(self.alloc, Expr::Exists(query))?)
     }
 }

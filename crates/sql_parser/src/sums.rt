@@ -27,9 +27,9 @@ pub(crate) struct Sums<U> {
     pub(crate) unary: U,
 }
 
-impl<U: Fn(Global, &mut Parser<'_>, usize) -> Result<Expr, SyntaxError>> Sums<U> {
+impl<U: Fn(Global, &mut Parser<'_>, usize) -> Result<Boxed<Expr>, SyntaxError>> Sums<U> {
     /// A unary part.
-    fn unary(&self, parser: &mut Parser<'_>) -> Result<Expr, SyntaxError>
+    fn unary(&self, parser: &mut Parser<'_>) -> Result<Boxed<Expr>, SyntaxError>
         requires { At (unary_at 1023) self.now.room (U.pre self.now.unary) (U.post self.now.unary) }
         ensures { Reads (unary_at 1023 self.now.room parser.old) result parser.new }
     {
@@ -59,14 +59,14 @@ impl<U: Fn(Global, &mut Parser<'_>, usize) -> Result<Expr, SyntaxError>> Sums<U>
 
     /// `unary {(*|/) unary}`.
     #[tactic(auto, unfolding(crate::specs::ExpressionReadings::read_product))]
-    fn product(&self, parser: &mut Parser<'_>) -> Result<Expr, SyntaxError>
+    fn product(&self, parser: &mut Parser<'_>) -> Result<Boxed<Expr>, SyntaxError>
         requires { At (unary_at 1023) self.now.room (U.pre self.now.unary) (U.post self.now.unary) }
         ensures { Reads (readings.read_product 1023 (unary_at 1023 self.now.room) parser.old) result
             parser.new }
     {
-        let first = Boxed::new(self.alloc, self.unary(parser)?)?;
+        let first = self.unary(parser)?;
         let others = self.factors(parser)?;
-        Ok(product(first, others))
+        Ok(product(self.alloc, first, others)?)
     }
 
     /// `{(+|-) product}`.
@@ -93,14 +93,14 @@ impl<U: Fn(Global, &mut Parser<'_>, usize) -> Result<Expr, SyntaxError>> Sums<U>
 
     /// `product {(+|-) product}`.
     #[tactic(auto, unfolding(crate::specs::ExpressionReadings::read_sum))]
-    pub(crate) fn sum(&self, parser: &mut Parser<'_>) -> Result<Expr, SyntaxError>
+    pub(crate) fn sum(&self, parser: &mut Parser<'_>) -> Result<Boxed<Expr>, SyntaxError>
         requires { At (unary_at 1023) self.now.room (U.pre self.now.unary) (U.post self.now.unary) }
         ensures { Reads (readings.read_sum 1023 (unary_at 1023 self.now.room) parser.old) result
             parser.new }
     {
-        let first = Boxed::new(self.alloc, self.product(parser)?)?;
+        let first = self.product(parser)?;
         let others = self.terms(parser)?;
-        Ok(sum(first, others))
+        Ok(sum(self.alloc, first, others)?)
     }
 
     /// A comparison and its right side.
@@ -111,7 +111,7 @@ impl<U: Fn(Global, &mut Parser<'_>, usize) -> Result<Expr, SyntaxError>> Sums<U>
             parser.new }
     {
         let comparison = parser.comparison()?;
-        let value = Boxed::new(self.alloc, self.sum(parser)?)?;
+        let value = self.sum(parser)?;
         Ok(Test::Compare(comparison, value))
     }
 
@@ -123,9 +123,9 @@ impl<U: Fn(Global, &mut Parser<'_>, usize) -> Result<Expr, SyntaxError>> Sums<U>
             parser.new }
     {
         parser.one(Kind::Between)?;
-        let low = Boxed::new(self.alloc, self.sum(parser)?)?;
+        let low = self.sum(parser)?;
         parser.one(Kind::And)?;
-        let high = Boxed::new(self.alloc, self.sum(parser)?)?;
+        let high = self.sum(parser)?;
         Ok(Test::Between(false, low, high))
     }
 }

@@ -1,6 +1,7 @@
 //! Names, numbers and words: the parts of a line that hold no expression.
 ghost use Rattle.std.specs.Prelude.{◌≡◌, true, IfOk};
-ghost use Rattle.grammar_laws.specs.Readings.{Reads};
+ghost use Rattle.grammar_laws.specs.Readings.{Reads, mapped, one};
+ghost use Rattle.sql_lexer.specs.Kinds.{is};
 ghost use Rattle.sql_parser.specs.Values as values;
 ghost use Rattle.sql_parser.specs.ExpressionReadings as expressions;
 ghost use Rattle.sql_parser.specs.Readings as readings;
@@ -172,21 +173,26 @@ impl<'a> Parser<'a> {
         }
     }
 
+    /// One token of this kind, which means this value.
+    pub(crate) fn word<T: Copy>(&mut self, kind: Kind, value: T) -> Result<T, SyntaxError>
+        ensures { Reads (mapped (values.constant value) (one (is kind)) self.old) result self.new }
+    {
+        self.one(kind)?;
+        Ok(value)
+    }
+
     /// `year`, `month` or `day`.
     #[tactic(auto, unfolding(crate::specs::ExpressionReadings::read_span))]
     pub(crate) fn span(&mut self) -> Result<Span, SyntaxError>
         ensures { Reads (expressions.read_span self.old) result self.new }
     {
         if self.starts(Kind::Year) {
-            self.one(Kind::Year)?;
-            return Ok(Span::Year);
+            return self.word(Kind::Year, Span::Year);
         }
         if self.starts(Kind::Month) {
-            self.one(Kind::Month)?;
-            return Ok(Span::Month);
+            return self.word(Kind::Month, Span::Month);
         }
-        self.one(Kind::Day)?;
-        Ok(Span::Day)
+        self.word(Kind::Day, Span::Day)
     }
 
     /// `*` or `/`.
@@ -195,11 +201,9 @@ impl<'a> Parser<'a> {
         ensures { Reads (expressions.read_multiply self.old) result self.new }
     {
         if self.starts(Kind::Star) {
-            self.one(Kind::Star)?;
-            return Ok(Multiplying::Times);
+            return self.word(Kind::Star, Multiplying::Times);
         }
-        self.one(Kind::Slash)?;
-        Ok(Multiplying::Divide)
+        self.word(Kind::Slash, Multiplying::Divide)
     }
 
     /// `+` or `-`.
@@ -208,11 +212,9 @@ impl<'a> Parser<'a> {
         ensures { Reads (expressions.read_add self.old) result self.new }
     {
         if self.starts(Kind::Plus) {
-            self.one(Kind::Plus)?;
-            return Ok(Adding::Plus);
+            return self.word(Kind::Plus, Adding::Plus);
         }
-        self.one(Kind::Minus)?;
-        Ok(Adding::Minus)
+        self.word(Kind::Minus, Adding::Minus)
     }
 
     /// `=`, `<>`, `<`, `<=`, `>` or `>=`.
@@ -221,27 +223,21 @@ impl<'a> Parser<'a> {
         ensures { Reads (expressions.read_comparison self.old) result self.new }
     {
         if self.starts(Kind::Equal) {
-            self.one(Kind::Equal)?;
-            return Ok(Comparison::Equal);
+            return self.word(Kind::Equal, Comparison::Equal);
         }
         if self.starts(Kind::NotEqual) {
-            self.one(Kind::NotEqual)?;
-            return Ok(Comparison::NotEqual);
+            return self.word(Kind::NotEqual, Comparison::NotEqual);
         }
         if self.starts(Kind::Less) {
-            self.one(Kind::Less)?;
-            return Ok(Comparison::Less);
+            return self.word(Kind::Less, Comparison::Less);
         }
         if self.starts(Kind::LessOrEqual) {
-            self.one(Kind::LessOrEqual)?;
-            return Ok(Comparison::LessOrEqual);
+            return self.word(Kind::LessOrEqual, Comparison::LessOrEqual);
         }
         if self.starts(Kind::Greater) {
-            self.one(Kind::Greater)?;
-            return Ok(Comparison::Greater);
+            return self.word(Kind::Greater, Comparison::Greater);
         }
-        self.one(Kind::GreaterOrEqual)?;
-        Ok(Comparison::GreaterOrEqual)
+        self.word(Kind::GreaterOrEqual, Comparison::GreaterOrEqual)
     }
 
     /// `sum`, `avg`, `min` or `max`.
@@ -250,19 +246,15 @@ impl<'a> Parser<'a> {
         ensures { Reads (expressions.read_aggregate_word self.old) result self.new }
     {
         if self.starts(Kind::Sum) {
-            self.one(Kind::Sum)?;
-            return Ok(Aggregate::Sum);
+            return self.word(Kind::Sum, Aggregate::Sum);
         }
         if self.starts(Kind::Avg) {
-            self.one(Kind::Avg)?;
-            return Ok(Aggregate::Avg);
+            return self.word(Kind::Avg, Aggregate::Avg);
         }
         if self.starts(Kind::Min) {
-            self.one(Kind::Min)?;
-            return Ok(Aggregate::Min);
+            return self.word(Kind::Min, Aggregate::Min);
         }
-        self.one(Kind::Max)?;
-        Ok(Aggregate::Max)
+        self.word(Kind::Max, Aggregate::Max)
     }
 
     /// `["." name]`.

@@ -1,4 +1,4 @@
-use Rattle.std.proofs.Common.{◌∙◌, sym, subst, List, arith}
+use Rattle.std.proofs.Common.{◌∙◌, sym, subst, List, arith, ◌≡◌, ap, ◌++◌, ◌∷◌, []}
 use Rattle.std.proofs.lemmas.Result.{err_from_is_err_and}
 use Rattle.grammar_laws.specs.Readings.{one, Reads, crowded, is_err}
 use Rattle.grammar_laws.proofs.Loop.{loop_ends, loop_goes_on, full_reads, fails_reads}
@@ -20,7 +20,9 @@ pub returns : goal.returns
 returns g c = loop_ends (is k.Or) (one (is k.Or)) values.second (readings.read_conjunction 1023 (part_at 1023 c.args.self.now.room)) _ c.more.found c.more.width c.more.parser c.more.invariant (sym c.starts.ensures ∙ c.more-test.false)
 
 pub more-preserved : goal.more-preserved
-more-preserved g c = rw c.in_ok-push.ensures.ok (loop_goes_on (is k.Or) (one (is k.Or)) values.second (readings.read_conjunction 1023 (part_at 1023 c.args.self.now.room)) _ c.more.found c.more.width c.more.parser c.more.invariant (sym c.starts.ensures ∙ c.more-test.true) (omega arith) _ _ c.in_ok-one.ensures _ _ c.in_ok-element.ensures)
+more-preserved g c =
+    let pushed : c.push.new.self ≡ c.more.found ++ c.in_ok-element.field-0 ∷ [] = c.in_ok-push.ensures.ok ∙ ap (λ x. c.more.found ++ x ∷ []) c.into_inner.ensures in
+    rw pushed (loop_goes_on (is k.Or) (one (is k.Or)) values.second (readings.read_conjunction 1023 (part_at 1023 c.args.self.now.room)) _ c.more.found c.more.width c.more.parser c.more.invariant (sym c.starts.ensures ∙ c.more-test.true) (omega arith) _ _ c.in_ok-one.ensures _ _ c.in_ok-element.ensures)
 
 pub returns-in_err-element : goal.returns-in_err-element
 returns-in_err-element g c =
