@@ -1,5 +1,5 @@
 //! Jobs of which an input is refused.
-use crate::runs::{COUNTS, JOB, run_job_of};
+use crate::runs::{COUNTS, JOB, run_failing, run_job_of};
 use std::alloc::{AllocError, Global};
 use std::process::Abort;
 use std::sync::Wait;
@@ -63,5 +63,34 @@ fn refuses_lines(rt: HostRuntime) -> Result<(), Fail> {
         let text = format!(in alloc; "input refused j line {line}\n")?;
         expect_refused(&rt, alloc, &[("j", job)], text.as_str())?;
     }
+    Ok(())
+}
+
+#[test]
+fn refuses_a_long_job(rt: HostRuntime) -> Result<(), Fail> {
+    let alloc = rt.alloc();
+    let mut job = String::from_str(alloc, "session a")?;
+    for _ in 0..1_048_568 {
+        job.push_str("\n")?;
+    }
+    let text = "input refused j line 0 5 TooLong\n";
+    expect_refused(&rt, alloc, &[("j", job.as_str())], text)?;
+    Ok(())
+}
+
+// The job, its scripts and three tables and refresh files with bytes are read by three calls each,
+// five empty tables by two each.
+#[test]
+fn ends_at_a_reading_fault(rt: HostRuntime) -> Result<(), Fail> {
+    let alloc = rt.alloc();
+    let files = [("j", JOB), ("a", COUNTS), ("b", COUNTS)];
+    let words = ["throughput", "d", "j"];
+    for call in 1..38 {
+        let run = run_failing(&rt, alloc, &words, &files, &[call], &OpenGate)?;
+        assert_eq!(rt; run.status, Status::ReadFault);
+        assert!(rt; run.text.is_empty());
+    }
+    let run = run_failing(&rt, alloc, &words, &files, &[38], &OpenGate)?;
+    assert_eq!(rt; run.status, Status::Done);
     Ok(())
 }

@@ -60,12 +60,13 @@ fn put_file(
     Ok(())
 }
 
-/// Runs words over these files and then the tables.
-pub(crate) fn run_words<R: Threads + Wait + Sync, G: Gate + Sync>(
+/// Runs words over these files and then the tables. The calls of the files that are named fail.
+pub(crate) fn run_failing<R: Threads + Wait + Sync, G: Gate + Sync>(
     rt: &R,
     alloc: Global,
     words: &[&str],
     files: &[(&str, &str)],
+    failing: &[u64],
     gate: &G,
 ) -> Result<Run, AllocError> {
     let mut held = Vec::new(alloc);
@@ -79,13 +80,24 @@ pub(crate) fn run_words<R: Threads + Wait + Sync, G: Gate + Sync>(
     for word in words {
         owned.push(String::from_str(alloc, word)?)?;
     }
-    let mut files = MemFiles::new(held, Vec::new(alloc));
+    let mut files = MemFiles::new(held, Vec::from_slice(alloc, failing)?);
     let mut out = MemSink::new(Vec::new(alloc), usize::MAX, Vec::new(alloc));
     let status = tpch(rt, alloc, &owned, &mut files, &mut out, gate);
     Ok(Run {
         status,
         text: out.bytes,
     })
+}
+
+/// Runs words over these files and then the tables.
+pub(crate) fn run_words<R: Threads + Wait + Sync, G: Gate + Sync>(
+    rt: &R,
+    alloc: Global,
+    words: &[&str],
+    files: &[(&str, &str)],
+    gate: &G,
+) -> Result<Run, AllocError> {
+    run_failing(rt, alloc, words, files, &[], gate)
 }
 
 /// Runs the job `j` over the folder `d` and these other files.

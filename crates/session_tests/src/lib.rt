@@ -7,6 +7,8 @@ mod answers;
 #[cfg(test)]
 mod explanations;
 #[cfg(test)]
+mod limits;
+#[cfg(test)]
 mod outside;
 #[cfg(test)]
 mod queries;
@@ -16,6 +18,8 @@ mod refreshes;
 mod refused;
 #[cfg(test)]
 mod runs;
+#[cfg(test)]
+mod sure;
 #[cfg(test)]
 mod tables;
 #[cfg(test)]

@@ -96,31 +96,33 @@ fn opens_no_other_file(rt: HostRuntime) -> Result<(), Fail> {
     Ok(())
 }
 
+// The text has 36 bytes, which a sink of five bytes a call takes by eight calls.
 #[test]
 fn ends_at_a_writing_fault(rt: HostRuntime) -> Result<(), Fail> {
     let alloc = rt.alloc();
     let words = ["session", "d", "s"];
     let table = [("d/region.tbl", REGIONS)];
-    for (most, failing, status, text) in [
+    let text = "[1] version 0 rows 2\nAFRICA\nAMERICA\n";
+    for (most, failing, status, taken) in [
+        (5, 1, Status::WriteFault, ""),
         (5, 2, Status::WriteFault, "[1] v"),
-        (0, 2, Status::WriteFault, ""),
+        (5, 3, Status::WriteFault, "[1] versio"),
+        (5, 4, Status::WriteFault, "[1] version 0 r"),
+        (5, 5, Status::WriteFault, "[1] version 0 rows 2"),
+        (5, 6, Status::WriteFault, "[1] version 0 rows 2\nAFRI"),
+        (5, 7, Status::WriteFault, "[1] version 0 rows 2\nAFRICA\nAM"),
         (
             5,
-            100,
-            Status::Done,
-            "[1] version 0 rows 2\nAFRICA\nAMERICA\n",
+            8,
+            Status::WriteFault,
+            "[1] version 0 rows 2\nAFRICA\nAMERICA",
         ),
+        (5, 9, Status::Done, text),
+        (0, 9, Status::WriteFault, ""),
     ] {
         let out = MemSink::new(Vec::new(alloc), most, Vec::from_slice(alloc, &[failing])?);
-        expect_run(
-            &rt,
-            alloc,
-            &words,
-            folder_of(alloc, SCRIPT, &table, &[])?,
-            out,
-            status,
-            text,
-        )?;
+        let files = folder_of(alloc, SCRIPT, &table, &[])?;
+        expect_run(&rt, alloc, &words, files, out, status, taken)?;
     }
     Ok(())
 }

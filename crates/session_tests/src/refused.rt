@@ -20,6 +20,11 @@ fn faults_are_refused(rt: HostRuntime) -> Result<(), Fail> {
             "[1] version 0 refused 22 Fault 1 NumberRange\n",
         ),
         (
+            "select sum(case when r_regionkey = 0 then -170141183460469231731687303715884105727 - 1 \
+            else 1 end) from region where r_regionkey < 2;",
+            "[1] version 0 refused 22 Fault 1 NumberRange\n",
+        ),
+        (
             "select c_custkey from customer where \
             7 = (select o_orderkey from orders where o_custkey = c_custkey);",
             "[1] version 0 refused 22 Fault 3 TooManyRows\n",

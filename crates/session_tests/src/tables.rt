@@ -1,5 +1,5 @@
 //! Checks, and tables that are refused.
-use crate::runs::{REGIONS, SCRIPT, expect_over};
+use crate::runs::{REGIONS, SCRIPT, expect_over, expect_sessions};
 use std::alloc::{AllocError, Global};
 use std::process::Abort;
 use std::sync::Wait;
@@ -47,6 +47,16 @@ fn counts_rows(rt: HostRuntime) -> Result<(), Fail> {
             Status::Done,
             &text,
         )?;
+    }
+    Ok(())
+}
+
+#[test]
+fn reads_an_empty_comment(rt: HostRuntime) -> Result<(), Fail> {
+    for regions in ["0|AFRICA|", "0|AFRICA||"] {
+        let tables = [("d/region.tbl", regions)];
+        let cases = [("select * from region;", "[1] version 0 rows 1\n0|AFRICA|\n")];
+        expect_sessions(&rt, rt.alloc(), &tables, Status::Done, &cases)?;
     }
     Ok(())
 }
