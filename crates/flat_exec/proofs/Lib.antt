@@ -1,4 +1,4 @@
+pub mod LateRows
 pub mod Next
 pub mod PlanReads
 pub mod Released
-pub mod Scans

@@ -1,22 +1,40 @@
-//! The bags of a plan's nodes, each as long as a later node reads it.
-ghost use Rattle.std.specs.Prelude.{◌≡◌, ◌<◌, ◌≤◌, length, drop, slice_index, nat_lt, IsTrue};
+//! The rows of a plan's nodes, each as long as a later node reads it.
+ghost use Rattle.std.specs.Prelude.{◌≡◌, ◌<◌, ◌≤◌, length, drop, slice_index, nat_lt, IsTrue, IfOk};
 ghost use Rattle.std.specs.List.{list_all};
 ghost use Rattle.algebra.specs.Plans.{rows_at, inputs_of};
 ghost use Rattle.flat_exec.specs.Kept.{all_rows, all_widths, is_there, reads_node, is_read, released, Spares};
 
+use crate::lent::LentBag;
+use crate::node_rows::NodeRows;
 use algebra::{Node, NodeId};
-use columns::Bag;
+use std::alloc::{AllocError, Global};
+use std::thread::Threads;
 
-// The bag of a node.
-pub(crate) fn bag_at(bags: &[Option<Bag>], id: NodeId) -> &Bag
+// The rows of a node.
+pub(crate) fn rows_at<'b, 'a>(bags: &'b [Option<NodeRows<'a>>], id: NodeId) -> &'b NodeRows<'a>
     requires { IsTrue (is_there bags.now id) }
     ensures rows { result.now.rows ≡ rows_at (all_rows bags.now) id }
     ensures width { result.now.width ≡ slice_index (all_widths bags.now) id }
 {
     match &bags[id] {
-        Some(bag) => bag,
+        Some(rows) => rows,
         None => unreachable!(),
     }
+}
+
+// The rows of a node as a bag.
+pub(crate) fn bag_at<'b, 'a, R: Threads + Sync>(
+    rt: &R,
+    alloc: Global,
+    bags: &'b [Option<NodeRows<'a>>],
+    id: NodeId,
+) -> Result<LentBag<'b>, AllocError>
+    requires { IsTrue (is_there bags.now id) }
+    ensures rows { IfOk result (λ b. b.rows ≡ rows_at (all_rows bags.now) id) }
+    ensures width { IfOk result (λ b. b.width ≡ slice_index (all_widths bags.now) id) }
+{
+    let bag = rows_at(bags, id).bag(rt, alloc)?;
+    Ok(bag)
 }
 
 // Whether a node reads the node of this number.
@@ -50,8 +68,23 @@ fn is_read(nodes: &[Node], id: NodeId) -> bool
     false
 }
 
+// Whether at most one of the nodes reads the node of this number: then a scan may leave its rows for
+// that one to compute.
+pub(crate) fn is_read_once(nodes: &[Node], id: NodeId) -> bool {
+    let mut is_found = false;
+    for node in nodes {
+        if reads_node(node, id) {
+            if is_found {
+                return false;
+            }
+            is_found = true;
+        }
+    }
+    true
+}
+
 // Lets the bag of a node go that none of the nodes from the k-th on reads.
-fn release(bags: &mut Vec<Option<Bag>>, id: NodeId, nodes: &[Node], k: usize)
+fn release(bags: &mut Vec<Option<NodeRows<'_>>>, id: NodeId, nodes: &[Node], k: usize)
     requires id { id < length bags.old.items }
     requires k { k ≤ length nodes.now }
     ensures { bags.new.items ≡ released (drop k nodes.now) id bags.old.items }
@@ -63,7 +96,12 @@ fn release(bags: &mut Vec<Option<Bag>>, id: NodeId, nodes: &[Node], k: usize)
 
 // Lets the bags go that a node has read as the last one: none of the nodes from the k-th on reads
 // them.
-pub(crate) fn release_read(bags: &mut Vec<Option<Bag>>, node: &Node, nodes: &[Node], k: usize)
+pub(crate) fn release_read(
+    bags: &mut Vec<Option<NodeRows<'_>>>,
+    node: &Node,
+    nodes: &[Node],
+    k: usize,
+)
     requires inputs { IsTrue
         (list_all (λ i. nat_lt i (length bags.old.items)) (inputs_of node.now)) }
     requires k { k ≤ length nodes.now }

@@ -1,9 +1,10 @@
-//! Flat plans run over tables, node by node.
+//! Flat plans run over tables, node by node, by several threads.
 #![tactic(auto)]
 
-mod batches;
 mod kept;
+mod lent;
 mod node;
+mod node_rows;
 mod plan;
 mod scan;
 

@@ -1,44 +1,111 @@
-//! The rows of tables as bags.
-ghost use Rattle.std.specs.Prelude.{◌≡◌, ◌+◌, ◌≤◌, length, IfOk, OnOk};
+//! The rows of tables, which are computed when they are asked for.
+ghost use Rattle.std.specs.Prelude.{◌≡◌, ◌+◌, ◌≤◌, ◌++◌, ◌∷◌, [], length, IfOk, OnOk};
 ghost use Rattle.std.specs.List.{All};
 ghost use Rattle.row_laws.specs.Rows.{scanned};
 ghost use Rattle.columns.specs.Lists.{one_list};
 ghost use Rattle.tpch_schema.specs.Tables.{kinds_of};
+ghost use Rattle.parallel_scan.specs.Stages.{stage_rows, stage_width, staged, staged_width};
 
 use algebra::{Piece, Steps, Tables};
 use columns::Bag;
+use parallel_scan::{Stage, staged_scan};
 use std::alloc::{AllocError, Global};
+use std::marker::Model;
+use std::sync::Arc;
 use std::sync::ledger::Ledger;
+use std::thread::Threads;
 use tpch_schema::TableName;
 
-// The rows of all pieces of a table of that width. Pieces of whole segments share their columns.
-fn bag_of_pieces(alloc: Global, width: usize, pieces: &[Piece]) -> Result<Bag, AllocError>
-    requires { All (λ row. length row ≡ width) (one_list pieces.now) }
-    ensures width { IfOk result (λ b. b.width ≡ width) }
-    ensures rows { IfOk result (λ b. b.rows ≡ scanned (one_list pieces.now)) }
-{
-    let mut bag = Bag::new(alloc, width);
-    for piece in pieces {
-        if piece.len() > 0 {
-            let batch = piece.batch(alloc)?;
-            bag.push(batch)?;
-        }
-    }
-    Ok(bag)
+/// The pieces of a table of some width, and the stages that its rows still go through. It is seen
+/// as the rows after them.
+#[derive(Drop)]
+pub(crate) struct LateScan<'a> {
+    width: usize,
+    pieces: Arc<Vec<Piece>>,
+    stages: Vec<Stage<'a>>,
 }
 
-// The rows of a table, with a step for each.
-pub(crate) fn table_bag<T: Tables, L: Ledger>(
+impl<'a> Model for LateScan<'a> {
+    ghost use Rattle.std.specs.Prelude.{◌≡◌, length};
+    ghost use Rattle.std.specs.List.{All};
+    ghost use Rattle.std.specs.Arc.{arc_value};
+    ghost use Rattle.row_laws.specs.Ranked.{Relation};
+    ghost use Rattle.sql_value.specs.declared.value.Value.{Value as Datum};
+    ghost use Rattle.columns.specs.Lists.{one_list};
+    ghost use Rattle.flat_exec.specs.Late.{late_relation};
+
+    ghost Value = { Relation Datum };
+
+    ghost view = { λ s. late_relation s.width (arc_value s.pieces).items s.stages.items };
+
+    ghost invariant = { λ s. All (λ row. length row ≡ s.width)
+        (one_list (arc_value s.pieces).items) };
+}
+
+#[tactic(auto, using(crate::proofs::LateRows::late))]
+impl<'a> LateScan<'a> {
+    /// The rows of these pieces.
+    pub(crate) fn new(
+        alloc: Global,
+        width: usize,
+        pieces: Vec<Piece>,
+    ) -> Result<LateScan<'a>, AllocError>
+        requires { All (λ row. length row ≡ width) (one_list pieces.items) }
+        ensures width { IfOk result (λ s. s.width ≡ width) }
+        ensures rows { IfOk result (λ s. s.rows ≡ scanned (one_list pieces.items)) }
+    {
+        let pieces = Arc::new(alloc, pieces)?;
+        Ok(LateScan {
+            width,
+            pieces,
+            stages: Vec::new(alloc),
+        })
+    }
+
+    /// The rows after one stage more. The pieces are shared.
+    pub(crate) fn then(&self, alloc: Global, stage: Stage<'a>) -> Result<LateScan<'a>, AllocError>
+        ensures width { IfOk result (λ s. s.width ≡ stage_width stage self.now.width) }
+        ensures rows { IfOk result (λ s. s.rows ≡ stage_rows stage self.now.rows) }
+    {
+        let pieces = self.pieces.clone()?;
+        let mut stages = Vec::from_slice(alloc, self.stages.as_slice())?;
+        stages.push(stage)?;
+        Ok(LateScan {
+            width: self.width,
+            pieces,
+            stages,
+        })
+    }
+
+    /// The rows as a bag.
+    pub(crate) fn bag<R: Threads + Sync>(&self, rt: &R, alloc: Global) -> Result<Bag, AllocError>
+        ensures { IfOk result (λ b. b ≡ self.now) }
+    {
+        let pieces = &*self.pieces;
+        let bag = staged_scan(
+            rt,
+            alloc,
+            self.width,
+            pieces.as_slice(),
+            self.stages.as_slice(),
+        )?;
+        Ok(bag)
+    }
+}
+
+/// The rows of a table, with a step for each.
+pub(crate) fn table_scan<'a, T: Tables, L: Ledger>(
     alloc: Global,
     table: TableName,
     tables: &T,
     steps: &mut Steps<L>,
-) -> Result<Bag, AllocError>
-    ensures width { IfOk result (λ b. b.width ≡ length (kinds_of table)) }
-    ensures rows { IfOk result (λ b. b.rows ≡ scanned (T.rows tables.now table)) }
+) -> Result<LateScan<'a>, AllocError>
+    ensures width { IfOk result (λ s. s.width ≡ length (kinds_of table)) }
+    ensures rows { IfOk result (λ s. s.rows ≡ scanned (T.rows tables.now table)) }
     ensures steps { OnOk result (steps.new ≡ steps.old + length (T.rows tables.now table)) }
     ensures most { steps.new ≤ steps.old + length (T.rows tables.now table) }
 {
     let pieces = tables.scan(alloc, table, steps)?;
-    bag_of_pieces(alloc, table.kinds().len(), pieces.as_slice())
+    let scan = LateScan::new(alloc, table.kinds().len(), pieces)?;
+    Ok(scan)
 }

@@ -28,7 +28,7 @@ use unnesting::{Domain, lower};
 
 // The rows of a tree by the plan that it is lowered to, with a step for each row of each table that
 // it names.
-fn rows_of_tree<R: Threads, L: Ledger>(
+fn rows_of_tree<R: Threads + Sync, L: Ledger>(
     rt: &R,
     alloc: Global,
     tree: &DepTree,
@@ -49,7 +49,7 @@ fn rows_of_tree<R: Threads, L: Ledger>(
 }
 
 // Its rows in order, or its least fault.
-fn counted_answer<R: Threads, L: Ledger>(
+fn counted_answer<R: Threads + Sync, L: Ledger>(
     rt: &R,
     alloc: Global,
     tree: &DepTree,
@@ -67,7 +67,7 @@ fn counted_answer<R: Threads, L: Ledger>(
 }
 
 // The same where nobody counts.
-fn answer<R: Threads>(
+fn answer<R: Threads + Sync>(
     rt: &R,
     alloc: Global,
     tree: &DepTree,
@@ -92,7 +92,7 @@ fn gives(found: &Result<Vec<Row>, Fault>, expected: &[&[Value]]) -> bool {
 }
 
 // Whether a tree over the small tables answers just these rows.
-fn answers<R: Threads>(
+fn answers<R: Threads + Sync>(
     rt: &R,
     alloc: Global,
     tree: &DepTree,

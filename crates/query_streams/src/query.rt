@@ -47,7 +47,7 @@ fn has_kinds(snapshot: &Snapshot)
 }
 
 /// The answer of the query of a plan over a version's tables. Each row that is read is a step.
-fn plan_outcome<R: Threads, L: Ledger>(
+fn plan_outcome<R: Threads + Sync, L: Ledger>(
     rt: &R,
     alloc: Global,
     plan: &FlatPlan,
@@ -67,7 +67,7 @@ fn plan_outcome<R: Threads, L: Ledger>(
 }
 
 /// The same where the steps have a ledger of their own.
-fn counted_outcome<R: Threads, L: Ledger>(
+fn counted_outcome<R: Threads + Sync, L: Ledger>(
     rt: &R,
     alloc: Global,
     plan: &FlatPlan,
@@ -87,7 +87,7 @@ fn counted_outcome<R: Threads, L: Ledger>(
 }
 
 /// What comes of a query over a version's tables: its answer, or why it is refused.
-pub(crate) fn query_outcome<R: Threads>(
+pub(crate) fn query_outcome<R: Threads + Sync>(
     rt: &R,
     alloc: Global,
     query: &Query,

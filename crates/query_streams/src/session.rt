@@ -48,7 +48,7 @@ pub struct Session {
 }
 
 /// What comes of a statement that is no refresh, and what it does to the views.
-fn outcome_of<R: Threads>(
+fn outcome_of<R: Threads + Sync>(
     rt: &R,
     alloc: Global,
     statement: &Statement,
@@ -173,7 +173,7 @@ impl Session {
     }
 
     /// Takes the next turn over a version.
-    fn go<R: Threads>(&mut self, rt: &R, snapshot: &Snapshot) -> Result<Turn, AllocError>
+    fn go<R: Threads + Sync>(&mut self, rt: &R, snapshot: &Snapshot) -> Result<Turn, AllocError>
         ensures { IfOk result (Takes (course_of self.old) (version_of snapshot.now)
             (tables_of snapshot.now) (course_of self.new)) }
     {
@@ -189,7 +189,11 @@ impl Session {
     }
 
     /// Answers the next statement over a version, or asks for the refresh that it is.
-    pub fn run_next<R: Threads>(&mut self, rt: &R, snapshot: &Snapshot) -> Result<Turn, AllocError>
+    pub fn run_next<R: Threads + Sync>(
+        &mut self,
+        rt: &R,
+        snapshot: &Snapshot,
+    ) -> Result<Turn, AllocError>
         ensures { Goes (course_of self.old) (version_of snapshot.now) (tables_of snapshot.now)
             (course_of self.new) result }
     {

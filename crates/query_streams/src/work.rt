@@ -1,5 +1,6 @@
 //! What one thread of a job does: it runs the sessions of one reader, one after another.
 ghost use Rattle.std.specs.Prelude.{◌≡◌, ◌≤◌, OnOk};
+ghost use denote.Param.Send.{IsSync};
 ghost use Rattle.segment_store.specs.Trials.{version_of};
 ghost use Rattle.snapshot_store.specs.Openings.{IsOf};
 ghost use Rattle.query_streams.specs.Asked.{IsOverOf, IsUnasked, job_session};
@@ -28,7 +29,7 @@ pub struct Work<E: Entry + Drop> {
 
 /// Runs a session to its end, and takes the published version anew for each statement. Before and
 /// after each statement it passes the gate.
-fn run_session<E: Entry + Drop, G: Gate, R: Threads>(
+fn run_session<E: Entry + Drop, G: Gate, R: Threads + Sync>(
     rt: &R,
     gate: &G,
     who: u32,
@@ -59,7 +60,7 @@ fn run_session<E: Entry + Drop, G: Gate, R: Threads>(
 }
 
 /// Runs the sessions of a work, one after another. Where memory runs out it stops and says so.
-pub fn run_work<E: Entry + Drop, G: Gate, R: Threads>(rt: &R, gate: &G, work: &mut Work<E>)
+pub fn run_work<E: Entry + Drop, G: Gate, R: Threads + Sync>(rt: &R, gate: &G, work: &mut Work<E>)
     requires { IsReady E.opening work.old }
     ensures { HasRun E.opening work.old work.new }
 {
@@ -88,7 +89,7 @@ pub fn run_works<E: Entry + Drop + Send, G: Gate + Sync, R: Threads + Sync>(
         works,
         count,
         &|_: usize, work: &mut Work<E>|
-            requires { IsReady E.opening work.old }
+            requires { IsSync R.row × IsReady E.opening work.old }
             ensures { HasRun E.opening work.old work.new }
         { run_work(rt, gate, work) },
     );

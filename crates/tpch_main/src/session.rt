@@ -77,7 +77,7 @@ fn opened<F: Files>(
 }
 
 /// The text of a session at its beginning over a version, and its status.
-fn played<R: Threads>(
+fn played<R: Threads + Sync>(
     rt: &R,
     alloc: Global,
     session: Session,
@@ -100,7 +100,7 @@ fn played<R: Threads>(
 }
 
 /// The text of a session of that script over the tables of that folder, and its status.
-pub fn session_text<R: Threads, F: Files>(
+pub fn session_text<R: Threads + Sync, F: Files>(
     rt: &R,
     alloc: Global,
     files: &mut F,

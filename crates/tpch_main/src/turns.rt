@@ -55,7 +55,7 @@ fn refresh(session: &mut Session, directory: Directory) -> Result<Directory, All
 }
 
 /// Takes all turns of a session, the first over this version.
-pub fn take_turns<R: Threads>(
+pub fn take_turns<R: Threads + Sync>(
     rt: &R,
     alloc: Global,
     session: &mut Session,

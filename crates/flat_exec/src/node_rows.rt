@@ -1,0 +1,115 @@
+//! The rows of a node, as they are held.
+ghost use Rattle.std.specs.Prelude.{◌≡◌, IfOk};
+ghost use Rattle.parallel_scan.specs.Stages.{stage_rows, stage_width};
+
+use crate::lent::LentBag;
+use crate::scan::LateScan;
+use columns::Bag;
+use parallel_scan::{Stage, staged_bag};
+use std::alloc::{AllocError, Global};
+use std::marker::Model;
+use std::thread::Threads;
+
+// A bag, or a scan whose rows are computed when they are asked for.
+#[derive(Drop)]
+enum Held<'a> {
+    Made(Bag),
+    Late(LateScan<'a>),
+}
+
+/// The rows of a node, seen as their width and their list.
+#[derive(Drop)]
+pub(crate) struct NodeRows<'a> {
+    held: Held<'a>,
+}
+
+impl<'a> Model for NodeRows<'a> {
+    ghost use Rattle.row_laws.specs.Ranked.{Relation};
+    ghost use Rattle.sql_value.specs.declared.value.Value.{Value as Datum};
+    ghost use Rattle.flat_exec.specs.Late.{held_relation};
+
+    ghost Value = { Relation Datum };
+
+    ghost view = { λ r. held_relation r.held };
+}
+
+impl<'a> NodeRows<'a> {
+    /// The rows of a bag.
+    pub(crate) fn made(bag: Bag) -> NodeRows<'a>
+        ensures { result ≡ bag }
+    {
+        NodeRows {
+            held: Held::Made(bag),
+        }
+    }
+
+    /// The rows of a scan.
+    pub(crate) fn late(scan: LateScan<'a>) -> NodeRows<'a>
+        ensures { result ≡ scan }
+    {
+        NodeRows {
+            held: Held::Late(scan),
+        }
+    }
+
+    /// The rows as a bag, which is lent where there is one.
+    pub(crate) fn bag<R: Threads + Sync>(
+        &self,
+        rt: &R,
+        alloc: Global,
+    ) -> Result<LentBag<'_>, AllocError>
+        ensures { IfOk result (λ b. b ≡ self.now) }
+    {
+        match &self.held {
+            Held::Made(bag) => Ok(LentBag::lent(bag)),
+            Held::Late(scan) => {
+                let bag = scan.bag(rt, alloc)?;
+                Ok(LentBag::own(bag))
+            }
+        }
+    }
+
+    /// The rows as a bag of its own.
+    pub(crate) fn into_bag<R: Threads + Sync>(
+        self,
+        rt: &R,
+        alloc: Global,
+    ) -> Result<Bag, AllocError>
+        ensures { IfOk result (λ b. b ≡ self) }
+    {
+        match self.held {
+            Held::Made(bag) => Ok(bag),
+            Held::Late(scan) => {
+                let bag = scan.bag(rt, alloc)?;
+                Ok(bag)
+            }
+        }
+    }
+
+    /// The rows after one stage more, which a scan leaves for later where that is asked.
+    pub(crate) fn then<R: Threads + Sync>(
+        &self,
+        rt: &R,
+        alloc: Global,
+        stage: Stage<'a>,
+        is_late: bool,
+    ) -> Result<NodeRows<'a>, AllocError>
+        ensures width { IfOk result (λ r. r.width ≡ stage_width stage self.now.width) }
+        ensures rows { IfOk result (λ r. r.rows ≡ stage_rows stage self.now.rows) }
+    {
+        match &self.held {
+            Held::Made(bag) => {
+                let after = staged_bag(rt, alloc, bag, &[stage])?;
+                Ok(NodeRows::made(after))
+            }
+            Held::Late(scan) => {
+                let after = scan.then(alloc, stage)?;
+                if is_late {
+                    return Ok(NodeRows::late(after));
+                }
+                let bag = after.bag(rt, alloc)?;
+                Ok(NodeRows::made(bag))
+            }
+        }
+    }
+}

@@ -1,0 +1,3 @@
+pub mod Chunks
+pub mod PartRows
+pub mod StageRows
