@@ -2,7 +2,8 @@
 ghost use Rattle.std.specs.Prelude.{◌≡◌, ◌<◌, ◌≤◌, length, drop, slice_index, nat_lt, IsTrue, IfOk};
 ghost use Rattle.std.specs.List.{list_all};
 ghost use Rattle.algebra.specs.Plans.{rows_at, inputs_of};
-ghost use Rattle.flat_exec.specs.Kept.{all_rows, all_widths, is_there, reads_node, is_read, released, Spares};
+ghost use Rattle.flat_exec.specs.Kept.{all_rows, all_widths, is_there, reads_node, is_read};
+ghost use Rattle.flat_exec.specs.Kept.{released, Spares};
 
 use crate::lent::LentBag;
 use crate::node_rows::NodeRows;
@@ -68,8 +69,8 @@ fn is_read(nodes: &[Node], id: NodeId) -> bool
     false
 }
 
-// Whether at most one of the nodes reads the node of this number: then a scan may leave its rows for
-// that one to compute.
+// Whether at most one of the nodes reads the node of this number: then a scan may leave its rows
+// for that one to compute.
 pub(crate) fn is_read_once(nodes: &[Node], id: NodeId) -> bool {
     let mut is_found = false;
     for node in nodes {

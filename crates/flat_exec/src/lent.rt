@@ -20,7 +20,7 @@ pub(crate) struct LentBag<'b> {
 impl<'b> Model for LentBag<'b> {
     ghost use Rattle.row_laws.specs.Ranked.{Relation};
     ghost use Rattle.sql_value.specs.declared.value.Value.{Value as Datum};
-    ghost use Rattle.flat_exec.specs.Late.{lent_relation};
+    ghost use Rattle.flat_exec.specs.Holding.{lent_relation};
 
     ghost Value = { Relation Datum };
 

@@ -5,6 +5,7 @@ mod kept;
 mod lent;
 mod node;
 mod node_rows;
+mod operators;
 mod plan;
 mod scan;
 

@@ -26,7 +26,7 @@ pub(crate) struct NodeRows<'a> {
 impl<'a> Model for NodeRows<'a> {
     ghost use Rattle.row_laws.specs.Ranked.{Relation};
     ghost use Rattle.sql_value.specs.declared.value.Value.{Value as Datum};
-    ghost use Rattle.flat_exec.specs.Late.{held_relation};
+    ghost use Rattle.flat_exec.specs.Holding.{held_relation};
 
     ghost Value = { Relation Datum };
 
@@ -45,7 +45,7 @@ impl<'a> NodeRows<'a> {
 
     /// The rows of a scan.
     pub(crate) fn late(scan: LateScan<'a>) -> NodeRows<'a>
-        ensures { result ≡ scan }
+        ensures { result ≡ scan.entry }
     {
         NodeRows {
             held: Held::Late(scan),
@@ -75,7 +75,7 @@ impl<'a> NodeRows<'a> {
         rt: &R,
         alloc: Global,
     ) -> Result<Bag, AllocError>
-        ensures { IfOk result (λ b. b ≡ self) }
+        ensures { IfOk result (λ b. b ≡ self.entry) }
     {
         match self.held {
             Held::Made(bag) => Ok(bag),
@@ -94,8 +94,8 @@ impl<'a> NodeRows<'a> {
         stage: Stage<'a>,
         is_late: bool,
     ) -> Result<NodeRows<'a>, AllocError>
-        ensures width { IfOk result (λ r. r.width ≡ stage_width stage self.now.width) }
-        ensures rows { IfOk result (λ r. r.rows ≡ stage_rows stage self.now.rows) }
+        ensures width { IfOk result (λ r. r.width ≡ stage_width stage.entry self.now.width) }
+        ensures rows { IfOk result (λ r. r.rows ≡ stage_rows stage.entry self.now.rows) }
     {
         match &self.held {
             Held::Made(bag) => {

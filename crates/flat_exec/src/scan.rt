@@ -64,8 +64,8 @@ impl<'a> LateScan<'a> {
 
     /// The rows after one stage more. The pieces are shared.
     pub(crate) fn then(&self, alloc: Global, stage: Stage<'a>) -> Result<LateScan<'a>, AllocError>
-        ensures width { IfOk result (λ s. s.width ≡ stage_width stage self.now.width) }
-        ensures rows { IfOk result (λ s. s.rows ≡ stage_rows stage self.now.rows) }
+        ensures width { IfOk result (λ s. s.width ≡ stage_width stage.entry self.now.width) }
+        ensures rows { IfOk result (λ s. s.rows ≡ stage_rows stage.entry self.now.rows) }
     {
         let pieces = self.pieces.clone()?;
         let mut stages = Vec::from_slice(alloc, self.stages.as_slice())?;
