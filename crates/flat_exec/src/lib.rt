@@ -4,8 +4,8 @@
 mod kept;
 mod lent;
 mod node;
+mod node_bags;
 mod node_rows;
-mod operators;
 mod plan;
 mod scan;
 
