@@ -1,5 +1,5 @@
 -- Stages over rows, one after the other.
-use Rattle.std.proofs.Common.{◌≡◌, ℕ, zero, suc, ◌+◌, ◌<◌, List, [], ◌∷◌, ◌++◌, refl, sym, ap, ◌∙◌, subst, arith, length, take, get_or}
+use Rattle.std.proofs.Common.{◌≡◌, ℕ, ◌+◌, ◌<◌, List, [], ◌∷◌, ◌++◌, refl, sym, ap, ◌∙◌, subst, arith, length, take, get_or}
 use Rattle.std.specs.Prelude.{map, min}
 use Rattle.std.specs.List.{All}
 use Rattle.std.specs.Fork.{IsChunk}
@@ -7,7 +7,6 @@ use Rattle.std.proofs.lemmas.List.{map-append, append-nil, append_assoc, take_mo
 use Rattle.std.proofs.lemmas.Grind.{flat_map-append}
 use Rattle.row_laws.specs.Ranked.{Ranked, ranked, Relation, true_rank}
 use Rattle.row_laws.specs.Rows.{keep, scanned}
-use Rattle.row_laws.specs.Operators.{select, project}
 use Rattle.sql_value.specs.declared.value.Value.{Value}
 use Rattle.columns.specs.Bags.{bag_rows, AreWide}
 use Rattle.columns.specs.Lists.{one_list}

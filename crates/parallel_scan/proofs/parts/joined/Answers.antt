@@ -5,7 +5,7 @@ use Rattle.std.specs.Vec.Iter.{into_iter_items}
 use Rattle.std.proofs.lemmas.List.{nil_from_length}
 use Rattle.columns.specs.Bags.{AreWide}
 use Rattle.parallel_scan.specs.Parts.{AreJoined, IsPartWide, is_made, part_rows}
-use Rattle.parallel_scan.proofs.PartRows.{at_mid, joined_none, joined_push}
+use Rattle.parallel_scan.proofs.PartRows.{at_mid, joined_push}
 use Rattle.parallel_scan.proofs.parts.joined.Goals as goal
 
 pub put_batches-requires : goal.put_batches-requires
