@@ -13,10 +13,11 @@ abbrev pub shown_in : RuledHall → Trials
 shown_in hall = on_shelf hall.writer.desk.shown.value
 
 -- by the openings and the numbers of entries, of the version that is shown, with the refusals
--- before and after: an entry of that opening and of number 0, or none, and the refusals rose
+-- before and after: an entry of that opening and of number 0, and no refusal more; or none, and the
+-- refusals rose
 abbrev pub MakesEntry : {E : Type 0} → (E → Opening) → (E → ℕ) → Trials → ℕ → ℕ → Another E → Type 0
 MakesEntry opening number shown refused more (Made entry) = (opening entry ≡ opening_at shown)
-    × (number entry ≡ 0) × (refused ≤ more)
+    × (number entry ≡ 0) × (more ≡ refused)
 MakesEntry opening number shown refused more Refused = HasRisen refused more
 
 -- each reader is of the version's opening, and has seen that version

@@ -27,7 +27,7 @@ pub trait Hall<E: Entry> {
 
     ghost refused: { Self → ℕ };
 
-    /// One entry more, of number 0.
+    /// One entry more, of number 0; or none, and that alone is counted.
     fn another(&mut self) -> Another<E>
         ensures shown { shown self.new ≡ shown self.old }
         ensures made { MakesEntry E.opening E.number (shown self.old) (refused self.old)

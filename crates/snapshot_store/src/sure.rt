@@ -46,6 +46,7 @@ impl SureEntry {
         requires { All (λ v. IsOf (opening_at (arc_value first)) (arc_value v)) versions.items }
         ensures last { result.last ≡ first }
         ensures given { (result.versions ≡ versions) × (result.next ≡ 0) }
+        ensures entries { result.entries ≡ 0 }
     {
         SureEntry {
             versions,
