@@ -1,0 +1,2 @@
+select count(*) from orders;
+refresh insert 1;
