@@ -18,6 +18,3 @@ mod texts;
 
 pub use text::NamedText;
 pub use texts::make;
-
-#[cfg(test)]
-mod tests;

@@ -11,8 +11,6 @@ mod memory;
 mod real;
 mod sink;
 mod sure;
-#[cfg(test)]
-mod tests;
 
 pub use files::{Files, Got, Open};
 pub use folder::{MemFile, MemFolder, Place};

@@ -1,11 +1,11 @@
 //! Each file and sink once, with ample memory.
-use crate::{
-    Files, Got, MemFile, MemFiles, MemSink, Open, Put, RealFiles, RealSink, Sink, SureFiles,
-    SureSink,
-};
 use std::alloc::{AllocError, Global};
 use std::process::Abort;
 use std::test::Fail;
+use tpch_outside::{
+    Files, Got, MemFile, MemFiles, MemSink, Open, Put, RealFiles, RealSink, Sink, SureFiles,
+    SureSink,
+};
 
 /// Two files of one name, of which the first counts.
 fn two_files(alloc: Global) -> Result<Vec<MemFile>, AllocError> {
@@ -35,30 +35,47 @@ fn expect_puts<S: Sink>(rt: &impl Abort, out: &mut S, first: Put, second: Put) {
 
 #[test]
 fn reads_files(rt: HostRuntime) -> Result<(), Fail> {
-    let alloc = rt.alloc();
-    let mut sure = SureFiles::new(two_files(alloc)?);
-    assert_eq!(rt; first_bytes(&mut sure, "name"), Some(*b"firs"));
-    assert_eq!(rt; sure.open("other"), Open::Absent);
-    assert_eq!(rt; sure.misses, 1);
-    let mut files = MemFiles::new(two_files(alloc)?, Vec::from_slice(alloc, &[3])?);
+    let mut files = SureFiles::new(two_files(rt.alloc())?);
     assert_eq!(rt; first_bytes(&mut files, "name"), Some(*b"firs"));
-    assert_eq!(rt; files.open("name"), Open::Failed);
-    assert_eq!(rt; files.faults, 1);
-    let mut real = RealFiles::new(&rt);
-    assert_eq!(rt; real.open("no file of this name"), Open::Absent);
+    assert_eq!(rt; files.open("other"), Open::Absent);
+    assert_eq!(rt; files.misses, 1);
     Ok(())
 }
 
 #[test]
-fn writes_to_sinks(rt: HostRuntime) -> Result<(), Fail> {
+fn fails_at_a_named_call(rt: HostRuntime) -> Result<(), Fail> {
     let alloc = rt.alloc();
-    let mut sure = SureSink::new(Vec::new(alloc));
-    expect_puts(&rt, &mut sure, Put::Took(4), Put::Took(4));
-    assert_eq!(rt; sure.bytes.as_slice(), b"sometext".as_slice());
-    let mut short = MemSink::new(Vec::new(alloc), 3, Vec::from_slice(alloc, &[2])?);
-    expect_puts(&rt, &mut short, Put::Took(3), Put::Failed);
-    assert_eq!(rt; short.bytes.as_slice(), b"som".as_slice());
-    let mut real = RealSink::new(&rt);
-    expect_puts(&rt, &mut real, Put::Took(4), Put::Took(4));
+    let mut files = MemFiles::new(two_files(alloc)?, Vec::from_slice(alloc, &[3])?);
+    assert_eq!(rt; first_bytes(&mut files, "name"), Some(*b"firs"));
+    assert_eq!(rt; files.open("name"), Open::Failed);
+    assert_eq!(rt; files.faults, 1);
     Ok(())
+}
+
+#[test]
+fn finds_no_file(rt: HostRuntime) {
+    let mut files = RealFiles::new(&rt);
+    assert_eq!(rt; files.open("no file of this name"), Open::Absent);
+}
+
+#[test]
+fn puts_all(rt: HostRuntime) {
+    let mut out = SureSink::new(Vec::new(rt.alloc()));
+    expect_puts(&rt, &mut out, Put::Took(4), Put::Took(4));
+    assert_eq!(rt; out.bytes.as_slice(), b"sometext".as_slice());
+}
+
+#[test]
+fn puts_until_a_failure(rt: HostRuntime) -> Result<(), Fail> {
+    let alloc = rt.alloc();
+    let mut out = MemSink::new(Vec::new(alloc), 3, Vec::from_slice(alloc, &[2])?);
+    expect_puts(&rt, &mut out, Put::Took(3), Put::Failed);
+    assert_eq!(rt; out.bytes.as_slice(), b"som".as_slice());
+    Ok(())
+}
+
+#[test]
+fn puts_to_the_machine(rt: HostRuntime) {
+    let mut out = RealSink::new(&rt);
+    expect_puts(&rt, &mut out, Put::Took(4), Put::Took(4));
 }
