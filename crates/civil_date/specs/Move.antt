@@ -39,12 +39,12 @@ day_before d =
     else if nat_lt 1 d.month then day_at d.year (d.month - 1) (month_days d.year (d.month - 1)) else
     day_at (d.year - 1) 12 31
 
--- a step taken so many times
+-- a step taken n times
 unfoldable pub times : ℕ → (Day → Day) → Day → Day
 times zero step d = d
 times (suc n) step d = times n step (step d)
 
--- so many days later, or earlier
+-- n days later, or earlier
 abbrev pub days_moved : Day → ℤ → Day
 days_moved d (pos n) = times n day_after d
 days_moved d (negsuc n) = times (suc n) day_before d
@@ -67,7 +67,7 @@ abbrev pub in_years : Day → Result ℕ DateFault
 in_years d = if is_day d.year d.month d.day then Ok (date_number d.year d.month d.day) else Err
     DateRange
 
--- so many months later, or earlier
+-- n months later, or earlier
 abbrev pub months_moved : Day → ℤ → Result ℕ DateFault
 months_moved d (pos n) = in_years (day_in_month n d.day)
 months_moved d (negsuc n) = Err DateRange
