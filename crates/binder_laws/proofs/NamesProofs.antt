@@ -16,7 +16,7 @@ use Rattle.sql_binder.proofs.OnlyProofs.{only_column}
 use Rattle.binder_laws.specs.Names.{NamesStand}
 use Rattle.binder_laws.proofs.TypedOperands.{went, ok_is}
 
--- the place is that of a column that passes a test, so many columns after a number
+-- the place is that of a column that passes a test, n columns after a number
 record Stood (test : ScopeColumn → Bool) (at : ℕ) (cs : List ScopeColumn) (p : Place)
     : Type 0 where
   n : ℕ
@@ -105,7 +105,7 @@ found_is wanted q out seen c h =
       at = v.is;
     })
 
--- a query so many levels out, the first that has the name
+-- a query n levels out, the first that has the name
 record Reached (wanted : Column) (out seen : ℕ) (levels : List Around) (c : ColumnAt)
     : Type 0 where
   n : ℕ

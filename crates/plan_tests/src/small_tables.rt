@@ -27,7 +27,7 @@ fn region(alloc: Global, key: i128) -> Result<Row, Fail> {
     Ok(row)
 }
 
-// Puts so many texts after the other values.
+// Puts `count` texts after the other values.
 fn put_texts(alloc: Global, values: &mut Vec<Value>, count: u8) -> Result<(), Fail> {
     for _ in 0..count {
         let text = text(alloc)?;

@@ -25,7 +25,7 @@ fn put_pieces(alloc: Global, lines: &[u8], pieces: &mut Vec<Piece>) -> Result<()
     Ok(())
 }
 
-// The rows of these lines in pieces of so many.
+// The rows of these lines in pieces of at most `most` rows.
 fn pieces_of(alloc: Global, text: &[u8], most: usize) -> Result<Vec<Piece>, Fail> {
     let mut pieces = Vec::new(alloc);
     let mut lines = Vec::new(alloc);

@@ -204,7 +204,7 @@ fn is_cut_anywhere(rt: HostRuntime) -> Result<(), Fail> {
     Ok(())
 }
 
-// Regions in lines of 17 bytes that end in CR and LF, after one that is longer by so many bytes.
+// Regions in lines of 17 bytes that end in CR and LF, after one that is longer by `more` bytes.
 fn long_text(alloc: Global, more: usize) -> Result<Vec<u8>, Fail> {
     let mut text = Vec::new(alloc);
     text.extend_from_slice(b"1|A|")?;
