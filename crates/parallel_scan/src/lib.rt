@@ -3,12 +3,16 @@
 #![tactic(auto)]
 
 mod bags;
+mod expression_groups;
 mod groups;
+mod made;
+mod merged;
 mod parts;
 mod scan;
 mod stages;
 
 pub use bags::staged_bag;
+pub use expression_groups::scan_groups;
 pub use groups::{bag_groups, staged_groups};
 pub use scan::{scan_rows, staged_scan};
 pub use stages::Stage;
