@@ -1,3 +1,5 @@
 pub mod Chunks
 pub mod PartRows
 pub mod StageRows
+pub mod ByExpressions
+pub mod MergedParts

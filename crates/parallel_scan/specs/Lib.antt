@@ -1,2 +1,3 @@
+pub mod ExpressionGroups
 pub mod Parts
 pub mod Stages

@@ -1,6 +1,6 @@
 use Rattle.std.proofs.Common.{◌≡◌, [], length}
 use Rattle.hash_group.specs.ByNumber.{AtEach}
-use Rattle.hash_group.proofs.aggregate.starts.Given as goal
+use Rattle.hash_group.proofs.groups.starts.Given as goal
 
 abbrev pub invariant-loop-i : goal.invariant-loop-i
 invariant-loop-i g l =
