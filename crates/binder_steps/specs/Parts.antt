@@ -26,7 +26,7 @@ use Rattle.refusals.specs.declared.bind.BindRefusal.TheVariants.{SubqueryPlace}
 use Rattle.scalar_expr.specs.declared.expr.Expr.TheVariants as e
 use Rattle.scalar_expr.specs.declared.kind.Kind.{Kind}
 use Rattle.scalar_expr.specs.declared.kind.Kind.TheVariants as kind
-use Rattle.sql_ast.specs.declared.statement.OrderKey.{OrderKey as NamedKey}
+use Rattle.sql_ast.specs.declared.statement.NamedKey.{NamedKey}
 use Rattle.sql_ast.specs.declared.words.Aggregate.{Aggregate}
 use Rattle.sql_ast.specs.declared.words.Aggregate.TheVariants as named
 use Rattle.sql_ast.specs.declared.words.Column.{Column}

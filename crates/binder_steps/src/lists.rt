@@ -13,7 +13,7 @@ use nested_query::{BoundBlock, BoundExpr, Input};
 use order_limit::OrderKey;
 use refusals::BindRefusal;
 use scalar_expr::{Expr, Kind};
-use sql_ast::{Column, Name};
+use sql_ast::{Column, Name, NamedKey};
 use sqlite_items::{Boxed, Items};
 use std::alloc::{AllocError, Global};
 
@@ -211,7 +211,7 @@ fn output_place(name: &Name, headers: &[Header]) -> Result<u32, BindFault>
 pub fn order_of(
     alloc: Global,
     headers: &[Header],
-    order: &[sql_ast::OrderKey],
+    order: &[NamedKey],
 ) -> Result<Items<OrderKey>, BindFault>
     ensures { Gives (spec.order_of headers.now order.now) result }
 {

@@ -7,7 +7,7 @@ use Rattle.grammar_laws.specs.declared.SyntaxError.{SyntaxError}
 use Rattle.grammar_laws.specs.Readings.{Reading, Reads}
 use Rattle.sql_lexer.specs.declared.token.Token.{Token}
 
--- The function may be called where so many levels may still be opened, and then reads the part
+-- The function may be called where `room` levels may still be opened, and then reads the part
 -- there.
 pub record At {A : Type 0} (part : ℕ → Reading Token A) (room : ℕ)
     (pre : Global → MutBor (List Token) → ℕ → Type 0)

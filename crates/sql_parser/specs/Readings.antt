@@ -11,7 +11,7 @@ use Rattle.sql_ast.specs.declared.tree.FromItem.{FromItem}
 use Rattle.sql_ast.specs.declared.tree.FromItem.TheVariants as from_item
 use Rattle.sql_ast.specs.declared.tree.Clause.{Clause}
 use Rattle.sql_ast.specs.declared.tree.Clause.TheVariants as clause
-use Rattle.sql_ast.specs.declared.statement.OrderKey.{OrderKey}
+use Rattle.sql_ast.specs.declared.statement.NamedKey.{NamedKey}
 use Rattle.sql_ast.specs.declared.statement.Statement.{Statement}
 use Rattle.sql_ast.specs.declared.words.JoinKind.{JoinKind}
 use Rattle.sql_ast.specs.declared.words.JoinKind.TheVariants as join_kind
@@ -29,7 +29,7 @@ use Rattle.grammar_laws.specs.Readings.{links}
 use Rattle.sql_parser.specs.Kinds.{kinds}
 use Rattle.sql_parser.specs.Values.{Name, first, second, pair, cons, constant, after_word, item}
 use Rattle.sql_parser.specs.Values.{distinct, plain_selection, derived, join, joined, condition}
-use Rattle.sql_parser.specs.Values.{filters, block, order_key, ordered, create_view, text_value}
+use Rattle.sql_parser.specs.Values.{filters, block, named_key, ordered, create_view, text_value}
 use Rattle.sql_parser.specs.Values.{number_value}
 use Rattle.sql_parser.specs.ExpressionReadings.{read_name, read_number, read_column, read_whole}
 use Rattle.sql_parser.specs.ExpressionReadings.{read_subquery, read_unary_line, read_part_line}
@@ -161,14 +161,14 @@ read_direction = either (is k.Asc) (mapped (constant false) (one (is k.Asc)))
     (either (is k.Desc) (mapped (constant true) (one (is k.Desc))) (nothing false))
 
 -- a name and perhaps its direction
-unfoldable pub read_order_key : Reading Token OrderKey
-read_order_key = both order_key read_name read_direction
+unfoldable pub read_named_key : Reading Token NamedKey
+read_named_key = both named_key read_name read_direction
 
 -- ORDER BY and keys with commas between them, where ORDER comes next
-unfoldable pub read_order : ℕ → Reading Token (List OrderKey)
+unfoldable pub read_order : ℕ → Reading Token (List NamedKey)
 read_order wide = either (is k.Order)
     (both second (both second (one (is k.Order)) (one (is k.By)))
-    (both cons read_order_key (links (is k.Comma) (one (is k.Comma)) second read_order_key wide)))
+    (both cons read_named_key (links (is k.Comma) (one (is k.Comma)) second read_named_key wide)))
     (nothing [])
 
 -- ROWS ONLY
@@ -247,8 +247,7 @@ unfoldable pub read_ended : ℕ → ℕ → Reading Token Block → Reading Toke
 read_ended wide room query = both first (read_statement wide room query) (one (is k.Semicolon))
 
 unfoldable mutual
-  -- a unary part, where so many levels may still be opened; with no room, nothing is read further
-  -- in
+  -- a unary part, where `room` levels may still be opened; with no room, nothing is read further in
   pub unary_at : ℕ → ℕ → Reading Token Expr
   unary_at wide zero = read_unary_line wide zero never never never
   unary_at wide (suc room) =
@@ -289,6 +288,6 @@ abbrev pub inner_query : ℕ → ℕ → Reading Token Block
 inner_query wide zero = never
 inner_query wide (suc room) = query_at wide room
 
--- a statement with its semicolon, where so many levels may be opened
+-- a statement with its semicolon, where `room` levels may be opened
 abbrev pub ended_at : ℕ → ℕ → Reading Token Statement
 ended_at wide room = read_ended wide room (query_at wide room)

@@ -26,7 +26,7 @@ use Rattle.sql_ast.specs.declared.tree.Joined.{Joined, roll-Joined}
 use Rattle.sql_ast.specs.declared.tree.Block.{Block, roll-Block}
 use Rattle.sql_ast.specs.declared.tree.Clause.{Clause}
 use Rattle.sql_ast.specs.declared.tree.Clause.TheVariants as clause
-use Rattle.sql_ast.specs.declared.statement.OrderKey.{OrderKey}
+use Rattle.sql_ast.specs.declared.statement.NamedKey.{NamedKey}
 use Rattle.sql_ast.specs.declared.statement.TemplateValue.{TemplateValue}
 use Rattle.sql_ast.specs.declared.statement.TemplateValue.TheVariants as template_value
 use Rattle.sql_ast.specs.declared.statement.Statement.{Statement}
@@ -192,7 +192,7 @@ case_of arms (Some x) = e.CaseElse arms x
 abbrev pub date : Token → Name → Expr
 date word bytes = e.Date bytes
 
--- so many of a unit
+-- an interval: a number of years, months or days
 abbrev pub interval : Name → Span → Expr
 interval digits unit = e.Interval digits unit
 
@@ -313,11 +313,11 @@ block s f = roll-Block
 -- ---- statements
 
 -- an output column to order by, and whether it descends
-abbrev pub order_key : Name → Bool → OrderKey
-order_key column is_descending = record { column = column; is_descending = is_descending }
+abbrev pub named_key : Name → Bool → NamedKey
+named_key column is_descending = record { column = column; is_descending = is_descending }
 
 -- the query with its order and its row limit
-abbrev pub ordered : Block → List OrderKey × Option ℕ → Statement
+abbrev pub ordered : Block → List NamedKey × Option ℕ → Statement
 ordered query o = statements.Query (record { block = query; order = o.0; limit = o.1 })
 
 -- a view: its name, the names of its columns, and its query

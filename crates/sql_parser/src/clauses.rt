@@ -9,7 +9,7 @@ ghost use Rattle.sql_parser.specs.Values as values;
 
 use crate::parser::{MAX_MORE, Parser};
 use grammar_laws::SyntaxError;
-use sql_ast::{Column, JoinKind, Name, OrderKey};
+use sql_ast::{Column, JoinKind, Name, NamedKey};
 use sql_lexer::Kind;
 use sqlite_items::Items;
 use std::alloc::Global;
@@ -95,13 +95,13 @@ impl<'a> Parser<'a> {
     }
 
     /// `name [asc|desc]`.
-    #[tactic(auto, unfolding(crate::specs::Readings::read_order_key))]
-    fn order_key(&mut self, alloc: Global) -> Result<OrderKey, SyntaxError>
-        ensures { Reads (readings.read_order_key self.old) result self.new }
+    #[tactic(auto, unfolding(crate::specs::Readings::read_named_key))]
+    fn named_key(&mut self, alloc: Global) -> Result<NamedKey, SyntaxError>
+        ensures { Reads (readings.read_named_key self.old) result self.new }
     {
         let column = self.name(alloc)?;
         let is_descending = self.direction()?;
-        Ok(OrderKey {
+        Ok(NamedKey {
             column,
             is_descending,
         })
@@ -169,13 +169,13 @@ pub(crate) fn group(alloc: Global, parser: &mut Parser<'_>) -> Result<Items<Colu
 }
 
 /// The keys, of which the first is read.
-fn more_order_keys(
+fn more_named_keys(
     alloc: Global,
     parser: &mut Parser<'_>,
-    first: OrderKey,
-) -> Result<Items<OrderKey>, SyntaxError>
+    first: NamedKey,
+) -> Result<Items<NamedKey>, SyntaxError>
     ensures { Reads (mapped (λ xs. first ∷ xs) (links (is k.Comma) (one (is k.Comma)) values.second
-        readings.read_order_key 1023) parser.old) result parser.new }
+        readings.read_named_key 1023) parser.old) result parser.new }
 {
     let mut found = Items::new(alloc);
     found.push(first)?;
@@ -183,7 +183,7 @@ fn more_order_keys(
     'more: while parser.starts(Kind::Comma) {
         parser.one(Kind::Comma)?;
         let here = parser.rest();
-        let element = parser.order_key(alloc);
+        let element = parser.named_key(alloc);
         if width == 0 {
             return Err(parser.one_too_many(here, element));
         }
@@ -195,14 +195,14 @@ fn more_order_keys(
 
 /// `[order by key {"," key}]`.
 #[tactic(auto, unfolding(crate::specs::Readings::read_order))]
-pub(crate) fn order(alloc: Global, parser: &mut Parser<'_>) -> Result<Items<OrderKey>, SyntaxError>
+pub(crate) fn order(alloc: Global, parser: &mut Parser<'_>) -> Result<Items<NamedKey>, SyntaxError>
     ensures { Reads (readings.read_order 1023 parser.old) result parser.new }
 {
     if parser.starts(Kind::Order) {
         parser.one(Kind::Order)?;
         parser.one(Kind::By)?;
-        let first = parser.order_key(alloc)?;
-        return more_order_keys(alloc, parser, first);
+        let first = parser.named_key(alloc)?;
+        return more_named_keys(alloc, parser, first);
     }
     Ok(Items::new(alloc))
 }

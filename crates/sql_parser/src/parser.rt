@@ -94,7 +94,7 @@ impl<'a> Parser<'a> {
         }
     }
 
-    /// One token that opens a level, where there is room for so many.
+    /// One token that opens a level, where `room` levels may still be opened.
     pub(crate) fn opens(&mut self, room: usize, kind: Kind) -> Result<&'a Token, SyntaxError>
         ensures { Reads (opens room (is kind) self.old) (seen result) self.new }
     {
