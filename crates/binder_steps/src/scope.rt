@@ -2,8 +2,8 @@
 ghost use Rattle.std.specs.Prelude.{◌≡◌, IfOk};
 ghost use Rattle.std.specs.Str.{bytes_eq};
 ghost use Rattle.binder_steps.specs.Steps.{Gives};
-ghost use Rattle.binder_steps.specs.Names.{sight_of, level_of, ends, is_met, means, key_of, the_one};
-ghost use Rattle.binder_steps.specs.Names.{placed, resolved};
+ghost use Rattle.binder_steps.specs.Names.{sight_of, level_of, ends, is_met, means, key_of};
+ghost use Rattle.binder_steps.specs.Names.{placed, resolved, the_one};
 ghost use Rattle.binder_steps.specs.Names as spec;
 
 use crate::fault::BindFault;

@@ -1,6 +1,6 @@
 -- What stands inside, where a level was opened.
 use Rattle.std.proofs.Common.{◌≡◌, ℕ, zero, suc, ◌-◌, ◌<◌, ap, arith}
-use Rattle.sql_parser.specs.Readings.{unary_at, part_at, query_at, inner_unary, inner_part, inner_query}
+use Rattle.parser_steps.specs.Readings.{unary_at, part_at, query_at, inner_unary, inner_part, inner_query}
 
 pub unary_inner : (room : ℕ) → 0 < room → inner_unary 1023 room ≡ unary_at 1023 (room - 1)
 unary_inner zero h = absurd (let no : ⊥ = omega (arith, h) in no)

@@ -2,9 +2,9 @@
 ghost use Rattle.std.specs.Prelude.{◌≡◌, true, IfOk};
 ghost use Rattle.grammar_laws.specs.Readings.{Reads, mapped, one};
 ghost use Rattle.sql_lexer.specs.Kinds.{is};
-ghost use Rattle.sql_parser.specs.Values as values;
-ghost use Rattle.sql_parser.specs.ExpressionReadings as expressions;
-ghost use Rattle.sql_parser.specs.Readings as readings;
+ghost use Rattle.parser_steps.specs.Values as values;
+ghost use Rattle.parser_steps.specs.ExpressionReadings as expressions;
+ghost use Rattle.parser_steps.specs.Readings as readings;
 
 use crate::parser::Parser;
 use crate::test::Test;
@@ -129,7 +129,7 @@ fn column_of(first: Name, tail: Option<Name>) -> Column
 impl<'a> Parser<'a> {
     /// A name.
     #[tactic(auto, unfolding(crate::specs::ExpressionReadings::read_name))]
-    pub(crate) fn name(&mut self, alloc: Global) -> Result<Name, SyntaxError>
+    pub fn name(&mut self, alloc: Global) -> Result<Name, SyntaxError>
         ensures { Reads (expressions.read_name self.old) result self.new }
     {
         let token = self.one(Kind::Name)?;
@@ -183,7 +183,7 @@ impl<'a> Parser<'a> {
 
     /// `year`, `month` or `day`.
     #[tactic(auto, unfolding(crate::specs::ExpressionReadings::read_span))]
-    pub(crate) fn span(&mut self) -> Result<Span, SyntaxError>
+    pub fn span(&mut self) -> Result<Span, SyntaxError>
         ensures { Reads (expressions.read_span self.old) result self.new }
     {
         if self.starts(Kind::Year) {
@@ -197,7 +197,7 @@ impl<'a> Parser<'a> {
 
     /// `*` or `/`.
     #[tactic(auto, unfolding(crate::specs::ExpressionReadings::read_multiply))]
-    pub(crate) fn multiply(&mut self) -> Result<Multiplying, SyntaxError>
+    pub fn multiply(&mut self) -> Result<Multiplying, SyntaxError>
         ensures { Reads (expressions.read_multiply self.old) result self.new }
     {
         if self.starts(Kind::Star) {
@@ -208,7 +208,7 @@ impl<'a> Parser<'a> {
 
     /// `+` or `-`.
     #[tactic(auto, unfolding(crate::specs::ExpressionReadings::read_add))]
-    pub(crate) fn add(&mut self) -> Result<Adding, SyntaxError>
+    pub fn add(&mut self) -> Result<Adding, SyntaxError>
         ensures { Reads (expressions.read_add self.old) result self.new }
     {
         if self.starts(Kind::Plus) {
@@ -219,7 +219,7 @@ impl<'a> Parser<'a> {
 
     /// `=`, `<>`, `<`, `<=`, `>` or `>=`.
     #[tactic(auto, unfolding(crate::specs::ExpressionReadings::read_comparison))]
-    pub(crate) fn comparison(&mut self) -> Result<Comparison, SyntaxError>
+    pub fn comparison(&mut self) -> Result<Comparison, SyntaxError>
         ensures { Reads (expressions.read_comparison self.old) result self.new }
     {
         if self.starts(Kind::Equal) {
@@ -242,7 +242,7 @@ impl<'a> Parser<'a> {
 
     /// `sum`, `avg`, `min` or `max`.
     #[tactic(auto, unfolding(crate::specs::ExpressionReadings::read_aggregate_word))]
-    pub(crate) fn aggregate_word(&mut self) -> Result<Aggregate, SyntaxError>
+    pub fn aggregate_word(&mut self) -> Result<Aggregate, SyntaxError>
         ensures { Reads (expressions.read_aggregate_word self.old) result self.new }
     {
         if self.starts(Kind::Sum) {
@@ -332,7 +332,7 @@ impl<'a> Parser<'a> {
 
     /// `from N for N`.
     #[tactic(auto, unfolding(crate::specs::ExpressionReadings::read_places))]
-    pub(crate) fn places(&mut self) -> Result<(u32, u32), SyntaxError>
+    pub fn places(&mut self) -> Result<(u32, u32), SyntaxError>
         ensures { Reads (expressions.read_places self.old) result self.new }
     {
         self.one(Kind::From)?;
@@ -344,7 +344,7 @@ impl<'a> Parser<'a> {
 
     /// `is [not] null`.
     #[tactic(auto, unfolding(crate::specs::ExpressionReadings::read_null))]
-    pub(crate) fn null(&mut self) -> Result<Test, SyntaxError>
+    pub fn null(&mut self) -> Result<Test, SyntaxError>
         ensures { Reads (expressions.read_null self.old) result self.new }
     {
         self.one(Kind::Is)?;
@@ -359,7 +359,7 @@ impl<'a> Parser<'a> {
 
     /// `like T`.
     #[tactic(auto, unfolding(crate::specs::ExpressionReadings::read_like))]
-    pub(crate) fn like(&mut self, alloc: Global) -> Result<Test, SyntaxError>
+    pub fn like(&mut self, alloc: Global) -> Result<Test, SyntaxError>
         ensures { Reads (expressions.read_like self.old) result self.new }
     {
         self.one(Kind::Like)?;
@@ -383,7 +383,7 @@ impl<'a> Parser<'a> {
 
     /// What holds no expression.
     #[tactic(auto, unfolding(crate::specs::ExpressionReadings::read_leaf))]
-    pub(crate) fn leaf(&mut self, alloc: Global, room: usize) -> Result<Expr, SyntaxError>
+    pub fn leaf(&mut self, alloc: Global, room: usize) -> Result<Expr, SyntaxError>
         ensures { Reads (expressions.read_leaf room self.old) result self.new }
     {
         if self.starts(Kind::Number) {

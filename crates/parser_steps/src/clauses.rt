@@ -3,9 +3,9 @@ ghost use Rattle.std.specs.Prelude.{◌∷◌};
 ghost use Rattle.grammar_laws.specs.Readings.{Reads, links, mapped, one};
 ghost use Rattle.sql_lexer.specs.Kinds.{is};
 ghost use Rattle.sql_lexer.specs.declared.kind.Kind.TheVariants as k;
-ghost use Rattle.sql_parser.specs.ExpressionReadings as expressions;
-ghost use Rattle.sql_parser.specs.Readings as readings;
-ghost use Rattle.sql_parser.specs.Values as values;
+ghost use Rattle.parser_steps.specs.ExpressionReadings as expressions;
+ghost use Rattle.parser_steps.specs.Readings as readings;
+ghost use Rattle.parser_steps.specs.Values as values;
 
 use crate::parser::{MAX_MORE, Parser};
 use grammar_laws::SyntaxError;
@@ -17,7 +17,7 @@ use std::alloc::Global;
 impl<'a> Parser<'a> {
     /// `[[as] name]`.
     #[tactic(auto, unfolding(crate::specs::Readings::read_alias))]
-    pub(crate) fn alias(&mut self, alloc: Global) -> Result<Option<Name>, SyntaxError>
+    pub fn alias(&mut self, alloc: Global) -> Result<Option<Name>, SyntaxError>
         ensures { Reads (readings.read_alias self.old) result self.new }
     {
         if self.starts(Kind::As) {
@@ -34,7 +34,7 @@ impl<'a> Parser<'a> {
 
     /// `[as] name`.
     #[tactic(auto, unfolding(crate::specs::Readings::read_derived_alias))]
-    pub(crate) fn derived_alias(&mut self, alloc: Global) -> Result<Name, SyntaxError>
+    pub fn derived_alias(&mut self, alloc: Global) -> Result<Name, SyntaxError>
         ensures { Reads (readings.read_derived_alias self.old) result self.new }
     {
         if self.starts(Kind::As) {
@@ -71,7 +71,7 @@ impl<'a> Parser<'a> {
 
     /// `[inner] join | left [outer] join`.
     #[tactic(auto, unfolding(crate::specs::Readings::read_join_words))]
-    pub(crate) fn join_words(&mut self) -> Result<JoinKind, SyntaxError>
+    pub fn join_words(&mut self) -> Result<JoinKind, SyntaxError>
         ensures { Reads (readings.read_join_words self.old) result self.new }
     {
         if self.starts(Kind::Left) {
@@ -109,7 +109,7 @@ impl<'a> Parser<'a> {
 
     /// `[limit N | fetch first N rows only]`.
     #[tactic(auto, unfolding(crate::specs::Readings::read_limit, crate::specs::Readings::read_rows_only))]
-    pub(crate) fn limit(&mut self) -> Result<Option<u32>, SyntaxError>
+    pub fn limit(&mut self) -> Result<Option<u32>, SyntaxError>
         ensures { Reads (readings.read_limit self.old) result self.new }
     {
         if self.starts(Kind::Limit) {
@@ -156,7 +156,7 @@ fn more_columns(
 
 /// `[group by column {"," column}]`.
 #[tactic(auto, unfolding(crate::specs::Readings::read_group))]
-pub(crate) fn group(alloc: Global, parser: &mut Parser<'_>) -> Result<Items<Column>, SyntaxError>
+pub fn group(alloc: Global, parser: &mut Parser<'_>) -> Result<Items<Column>, SyntaxError>
     ensures { Reads (readings.read_group 1023 parser.old) result parser.new }
 {
     if parser.starts(Kind::Group) {
@@ -195,7 +195,7 @@ fn more_named_keys(
 
 /// `[order by key {"," key}]`.
 #[tactic(auto, unfolding(crate::specs::Readings::read_order))]
-pub(crate) fn order(alloc: Global, parser: &mut Parser<'_>) -> Result<Items<NamedKey>, SyntaxError>
+pub fn order(alloc: Global, parser: &mut Parser<'_>) -> Result<Items<NamedKey>, SyntaxError>
     ensures { Reads (readings.read_order 1023 parser.old) result parser.new }
 {
     if parser.starts(Kind::Order) {
@@ -243,7 +243,7 @@ fn names(alloc: Global, parser: &mut Parser<'_>) -> Result<Items<Name>, SyntaxEr
 
 /// `["(" name {"," name} ")"]`; no names where no parenthesis stands.
 #[tactic(auto, unfolding(crate::specs::Readings::read_column_names))]
-pub(crate) fn column_names(
+pub fn column_names(
     alloc: Global,
     parser: &mut Parser<'_>,
     room: usize,

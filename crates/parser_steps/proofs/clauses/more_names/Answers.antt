@@ -5,10 +5,10 @@ use Rattle.grammar_laws.proofs.Loop.{loop_ends, loop_goes_on, full_reads, fails_
 use Rattle.sql_lexer.specs.Kinds.{is}
 use Rattle.sql_lexer.specs.declared.kind.Kind.TheVariants as k
 use Rattle.sql_lexer.specs.declared.token.Token.{Token}
-use Rattle.sql_parser.specs.Values.{Name}
-use Rattle.sql_parser.specs.ExpressionReadings as readings
-use Rattle.sql_parser.specs.Values as values
-use Rattle.sql_parser.proofs.clauses.more_names.Goals as goal
+use Rattle.parser_steps.specs.Values.{Name}
+use Rattle.parser_steps.specs.ExpressionReadings as readings
+use Rattle.parser_steps.specs.Values as values
+use Rattle.parser_steps.proofs.clauses.more_names.Goals as goal
 
 pub returns-then-width-eq0 : goal.returns-then-width-eq0
 returns-then-width-eq0 c =

@@ -1,10 +1,9 @@
 //! Queries in parentheses, one level further in.
 ghost use Rattle.grammar_laws.specs.Readings.{Reads};
-ghost use Rattle.sql_parser.specs.Nests.{Below};
-ghost use Rattle.sql_parser.specs.ExpressionReadings as readings;
-ghost use Rattle.sql_parser.specs.Readings.{inner_query, query_at};
+ghost use Rattle.parser_steps.specs.Nests.{Below};
+ghost use Rattle.parser_steps.specs.ExpressionReadings as readings;
+ghost use Rattle.parser_steps.specs.Readings.{inner_query, query_at};
 
-use crate::nested::Nested;
 use crate::parser::Parser;
 use grammar_laws::SyntaxError;
 use sql_ast::{Block, Expr};
@@ -12,13 +11,22 @@ use sql_lexer::Kind;
 use sqlite_items::Boxed;
 use std::alloc::Global;
 
-impl<
-    P: Copy + Fn(Global, &mut Parser<'_>, usize) -> Result<Boxed<Expr>, SyntaxError>,
-    Q: Fn(Global, &mut Parser<'_>, usize) -> Result<Boxed<Block>, SyntaxError>,
-> Nested<P, Q> {
+/// What holds a query of the level below. `query` reads it; `room` is how many levels may still be
+/// opened.
+#[derive(Clone, Copy)]
+pub struct Subqueries<Q> {
+    /// The allocator of what is read.
+    pub alloc: Global,
+    /// How many levels may still be opened.
+    pub room: usize,
+    /// Reads a query.
+    pub query: Q,
+}
+
+impl<Q: Fn(Global, &mut Parser<'_>, usize) -> Result<Boxed<Block>, SyntaxError>> Subqueries<Q> {
     /// `"(" query ")"`.
     #[tactic(auto, using(crate::proofs::Inner::rules_inner), unfolding(crate::specs::ExpressionReadings::read_subquery))]
-    pub(crate) fn subquery(&self, parser: &mut Parser<'_>) -> Result<Boxed<Block>, SyntaxError>
+    pub fn subquery(&self, parser: &mut Parser<'_>) -> Result<Boxed<Block>, SyntaxError>
         requires query { Below (query_at 1023) self.now.room (Q.pre self.now.query)
             (Q.post self.now.query) }
         ensures { Reads (readings.read_subquery self.now.room (inner_query 1023 self.now.room)
@@ -32,7 +40,7 @@ impl<
 
     /// `exists "(" query ")"`.
     #[tactic(auto, unfolding(crate::specs::ExpressionReadings::read_exists))]
-    pub(crate) fn exists(&self, parser: &mut Parser<'_>) -> Result<Boxed<Expr>, SyntaxError>
+    pub fn exists(&self, parser: &mut Parser<'_>) -> Result<Boxed<Expr>, SyntaxError>
         requires query { Below (query_at 1023) self.now.room (Q.pre self.now.query)
             (Q.post self.now.query) }
         ensures { Reads (readings.read_exists self.now.room (inner_query 1023 self.now.room)

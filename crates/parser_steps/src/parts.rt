@@ -3,9 +3,9 @@
 //! An expression is boxed from the moment that it is read: where reading fails it is dropped by one
 //! call.
 ghost use Rattle.std.specs.Prelude.{◌≡◌, IfOk};
-ghost use Rattle.sql_parser.specs.Values as values;
+ghost use Rattle.parser_steps.specs.Values as values;
 
-use crate::queries::Filters;
+use crate::filters::Filters;
 use crate::test::Test;
 use sql_ast::{
     Adding, Arm, Block, Expr, Factor, FromItem, Join, JoinKind, Joined, Multiplying, Selected, Term,
@@ -14,7 +14,7 @@ use sqlite_items::{Boxed, Items};
 use std::alloc::{AllocError, Global};
 
 /// A factor with what joins it to those before.
-pub(crate) fn factor(operator: Multiplying, value: Boxed<Expr>) -> Factor
+pub fn factor(operator: Multiplying, value: Boxed<Expr>) -> Factor
     ensures { result ≡ values.factor operator value }
 {
     Factor {
@@ -24,7 +24,7 @@ pub(crate) fn factor(operator: Multiplying, value: Boxed<Expr>) -> Factor
 }
 
 /// A term with what joins it to those before.
-pub(crate) fn term(operator: Adding, value: Boxed<Expr>) -> Term
+pub fn term(operator: Adding, value: Boxed<Expr>) -> Term
     ensures { result ≡ values.term operator value }
 {
     Term {
@@ -34,7 +34,7 @@ pub(crate) fn term(operator: Adding, value: Boxed<Expr>) -> Term
 }
 
 /// `when condition then value`.
-pub(crate) fn arm_of(condition: Boxed<Expr>, value: Boxed<Expr>) -> Arm
+pub fn arm_of(condition: Boxed<Expr>, value: Boxed<Expr>) -> Arm
     ensures { result ≡ values.arm condition value }
 {
     Arm {
@@ -44,7 +44,7 @@ pub(crate) fn arm_of(condition: Boxed<Expr>, value: Boxed<Expr>) -> Arm
 }
 
 /// An item joined to those before it, and its condition.
-pub(crate) fn join_of(kind: JoinKind, joined: (FromItem, Boxed<Expr>)) -> Join
+pub fn join_of(kind: JoinKind, joined: (FromItem, Boxed<Expr>)) -> Join
     ensures { result ≡ values.join kind joined }
 {
     let (item, condition) = joined;
@@ -56,14 +56,14 @@ pub(crate) fn join_of(kind: JoinKind, joined: (FromItem, Boxed<Expr>)) -> Join
 }
 
 /// An item, and those that are joined to it.
-pub(crate) fn joined_of(first: FromItem, joins: Items<Join>) -> Joined
+pub fn joined_of(first: FromItem, joins: Items<Join>) -> Joined
     ensures { result ≡ values.joined first joins }
 {
     Joined { first, joins }
 }
 
 /// A query of its select list, FROM and the clauses after it.
-pub(crate) fn block_of(selected: (bool, Selected), from: Items<Joined>, filters: Filters) -> Block
+pub fn block_of(selected: (bool, Selected), from: Items<Joined>, filters: Filters) -> Block
     ensures { result ≡ values.block selected (from, filters) }
 {
     Block {
@@ -77,7 +77,7 @@ pub(crate) fn block_of(selected: (bool, Selected), from: Items<Joined>, filters:
 }
 
 /// The product of factors; the first alone where there is no other.
-pub(crate) fn product(
+pub fn product(
     alloc: Global,
     first: Boxed<Expr>,
     others: Items<Factor>,
@@ -92,7 +92,7 @@ pub(crate) fn product(
 }
 
 /// The sum of terms; the first alone where there is no other.
-pub(crate) fn sum(
+pub fn sum(
     alloc: Global,
     first: Boxed<Expr>,
     others: Items<Term>,
@@ -107,7 +107,7 @@ pub(crate) fn sum(
 }
 
 /// The conditions joined by AND; the first alone where there is no other.
-pub(crate) fn all_of(
+pub fn all_of(
     alloc: Global,
     first: Boxed<Expr>,
     others: Items<Expr>,
@@ -122,7 +122,7 @@ pub(crate) fn all_of(
 }
 
 /// The conditions joined by OR; the first alone where there is no other.
-pub(crate) fn any_of(
+pub fn any_of(
     alloc: Global,
     first: Boxed<Expr>,
     others: Items<Expr>,
@@ -137,7 +137,7 @@ pub(crate) fn any_of(
 }
 
 /// A CASE, with ELSE or without.
-pub(crate) fn case_of(
+pub fn case_of(
     alloc: Global,
     arms: Items<Arm>,
     otherwise: Option<Boxed<Expr>>,
@@ -151,7 +151,7 @@ pub(crate) fn case_of(
 }
 
 /// The denial of a test that a NOT may stand before.
-pub(crate) fn opposite(test: Test) -> Test
+pub fn opposite(test: Test) -> Test
     ensures { result ≡ values.opposite test }
 {
     match test {
@@ -178,11 +178,7 @@ fn deny(alloc: Global, is_denied: bool, condition: Expr) -> Result<Boxed<Expr>, 
 }
 
 /// The condition that a test of a value is.
-pub(crate) fn tested(
-    alloc: Global,
-    value: Boxed<Expr>,
-    test: Test,
-) -> Result<Boxed<Expr>, AllocError>
+pub fn tested(alloc: Global, value: Boxed<Expr>, test: Test) -> Result<Boxed<Expr>, AllocError>
     ensures { IfOk result (λ x. x ≡ values.tested value test) }
 {
     match test {

@@ -21,18 +21,18 @@ use Rattle.sql_ast.specs.declared.statement.RefreshKind.{RefreshKind}
 use Rattle.sql_ast.specs.declared.statement.RefreshKind.TheVariants as refresh_kind
 use Rattle.sql_ast.specs.declared.statement.TemplateValue.{TemplateValue}
 use Rattle.sql_ast.specs.declared.statement.Statement.TheVariants as statements
-use Rattle.sql_parser.specs.declared.queries.Filters.{Filters}
+use Rattle.parser_steps.specs.declared.filters.Filters.{Filters}
 use Rattle.sql_lexer.specs.Kinds.{is}
 use Rattle.grammar_laws.specs.Kinds.{among}
 use Rattle.grammar_laws.specs.Readings.{Reading, one, opens, nothing, never, both, mapped, either}
 use Rattle.grammar_laws.specs.Readings.{links}
-use Rattle.sql_parser.specs.Kinds.{kinds}
-use Rattle.sql_parser.specs.Values.{Name, first, second, pair, cons, constant, after_word, item}
-use Rattle.sql_parser.specs.Values.{distinct, plain_selection, derived, join, joined, condition}
-use Rattle.sql_parser.specs.Values.{filters, block, named_key, ordered, create_view, text_value}
-use Rattle.sql_parser.specs.Values.{number_value}
-use Rattle.sql_parser.specs.ExpressionReadings.{read_name, read_number, read_column, read_whole}
-use Rattle.sql_parser.specs.ExpressionReadings.{read_subquery, read_unary_line, read_part_line}
+use Rattle.parser_steps.specs.Kinds.{kinds}
+use Rattle.parser_steps.specs.Values.{Name, first, second, pair, cons, constant, after_word, item}
+use Rattle.parser_steps.specs.Values.{distinct, plain_selection, derived, join, joined, condition}
+use Rattle.parser_steps.specs.Values.{filters, block, named_key, ordered, create_view, text_value}
+use Rattle.parser_steps.specs.Values.{number_value}
+use Rattle.parser_steps.specs.ExpressionReadings.{read_name, read_number, read_column, read_whole}
+use Rattle.parser_steps.specs.ExpressionReadings.{read_subquery, read_unary_line, read_part_line}
 
 -- AS and a name, or a name, or nothing, told by the next token
 unfoldable pub read_alias : Reading Token (Option Name)

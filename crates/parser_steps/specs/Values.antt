@@ -31,9 +31,9 @@ use Rattle.sql_ast.specs.declared.statement.TemplateValue.{TemplateValue}
 use Rattle.sql_ast.specs.declared.statement.TemplateValue.TheVariants as template_value
 use Rattle.sql_ast.specs.declared.statement.Statement.{Statement}
 use Rattle.sql_ast.specs.declared.statement.Statement.TheVariants as statements
-use Rattle.sql_parser.specs.declared.test.Test.{Test}
-use Rattle.sql_parser.specs.declared.test.Test.TheVariants as t
-use Rattle.sql_parser.specs.declared.queries.Filters.{Filters}
+use Rattle.parser_steps.specs.declared.test.Test.{Test}
+use Rattle.parser_steps.specs.declared.test.Test.TheVariants as t
+use Rattle.parser_steps.specs.declared.filters.Filters.{Filters}
 use Rattle.sql_lexer.specs.Kinds.{is}
 
 -- a name in lower case, or a text, as its bytes

@@ -4,22 +4,22 @@ ghost use Rattle.std.specs.List.{list_any};
 ghost use Rattle.grammar_laws.specs.Kinds.{among};
 ghost use Rattle.grammar_laws.specs.Readings.{Outcome, Reads, crowded, is_err, one, opens, starts};
 ghost use Rattle.sql_lexer.specs.Kinds.{is};
-ghost use Rattle.sql_parser.specs.Kinds.{kinds};
-ghost use Rattle.sql_parser.specs.Reads.{seen};
+ghost use Rattle.parser_steps.specs.Kinds.{kinds};
+ghost use Rattle.parser_steps.specs.Reads.{seen};
 
 use grammar_laws::{SyntaxError, SyntaxFault};
 use sql_lexer::{Kind, Token};
 use std::marker::Model;
 
 /// How many elements a list or a chain has at most, without its first one.
-pub(crate) const MAX_MORE: usize = 1023;
+pub const MAX_MORE: usize = 1023;
 
 /// How many levels a statement nests at most.
-pub(crate) const MAX_DEPTH: usize = 64;
+pub const MAX_DEPTH: usize = 64;
 
 /// The tokens that are still to be read.
 #[derive(Drop)]
-pub(crate) struct Parser<'a> {
+pub struct Parser<'a> {
     pub(crate) rest: &'a [Token],
 }
 
@@ -41,28 +41,28 @@ fn is_any(token: &Token, choice: &[Kind]) -> bool
 
 impl<'a> Parser<'a> {
     /// All of these tokens.
-    pub(crate) fn new(rest: &'a [Token]) -> Parser<'a>
+    pub fn new(rest: &'a [Token]) -> Parser<'a>
         ensures { result ≡ rest.now }
     {
         Parser { rest }
     }
 
     /// The tokens that are still to be read.
-    pub(crate) fn rest(&self) -> &'a [Token]
+    pub fn rest(&self) -> &'a [Token]
         ensures { result.now ≡ self.now }
     {
         self.rest
     }
 
     /// Whether all tokens are read.
-    pub(crate) fn is_done(&self) -> bool
+    pub fn is_done(&self) -> bool
         ensures { result ≡ (length self.now == 0) }
     {
         self.rest.is_empty()
     }
 
     /// Whether a token of this kind comes next.
-    pub(crate) fn starts(&self, kind: Kind) -> bool
+    pub fn starts(&self, kind: Kind) -> bool
         ensures { result ≡ starts (is kind) self.now }
     {
         match self.rest {
@@ -72,7 +72,7 @@ impl<'a> Parser<'a> {
     }
 
     /// Whether a token of one of these kinds comes next.
-    pub(crate) fn starts_any(&self, choice: &[Kind]) -> bool
+    pub fn starts_any(&self, choice: &[Kind]) -> bool
         ensures { result ≡ starts (among kinds choice.now) self.now }
     {
         match self.rest {
@@ -82,7 +82,7 @@ impl<'a> Parser<'a> {
     }
 
     /// One token of this kind.
-    pub(crate) fn one(&mut self, kind: Kind) -> Result<&'a Token, SyntaxError>
+    pub fn one(&mut self, kind: Kind) -> Result<&'a Token, SyntaxError>
         ensures { Reads (one (is kind) self.old) (seen result) self.new }
     {
         match self.rest {
@@ -95,7 +95,7 @@ impl<'a> Parser<'a> {
     }
 
     /// One token that opens a level, where `room` levels may still be opened.
-    pub(crate) fn opens(&mut self, room: usize, kind: Kind) -> Result<&'a Token, SyntaxError>
+    pub fn opens(&mut self, room: usize, kind: Kind) -> Result<&'a Token, SyntaxError>
         ensures { Reads (opens room (is kind) self.old) (seen result) self.new }
     {
         if room == 0 && self.starts(kind) {
@@ -105,7 +105,7 @@ impl<'a> Parser<'a> {
     }
 
     /// What is wrong with an element that is one too many.
-    pub(crate) fn one_too_many<T: Drop>(
+    pub fn one_too_many<T: Drop>(
         &mut self,
         here: &'a [Token],
         element: Result<T, SyntaxError>,
