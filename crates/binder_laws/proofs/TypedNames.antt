@@ -14,12 +14,12 @@ use Rattle.nested_query.specs.declared.query.Input.TheVariants as input
 use Rattle.refusals.specs.declared.bind.BindRefusal.TheVariants.{LateralReference}
 use Rattle.scalar_expr.specs.declared.kind.Kind.{Kind}
 use Rattle.sql_ast.specs.declared.words.Column.{Column}
-use Rattle.sql_binder.specs.declared.scope.ColumnAt.{ColumnAt}
-use Rattle.sql_binder.specs.declared.scope.Place.{Place}
-use Rattle.sql_binder.specs.declared.scope.ScopeColumn.{ScopeColumn}
-use Rattle.sql_binder.specs.Steps.{Checked, and_then}
-use Rattle.sql_binder.specs.Names.{Around, Sight, places, only, the_one, key_at, key_of, placed}
-use Rattle.sql_binder.specs.Names.{found, ends, means, resolved, resolved_from}
+use Rattle.binder_steps.specs.declared.scope.ColumnAt.{ColumnAt}
+use Rattle.binder_steps.specs.declared.scope.Place.{Place}
+use Rattle.binder_steps.specs.declared.scope.ScopeColumn.{ScopeColumn}
+use Rattle.binder_steps.specs.Steps.{Checked, and_then}
+use Rattle.binder_steps.specs.Names.{Around, Sight, places, only, the_one, key_at, key_of, placed}
+use Rattle.binder_steps.specs.Names.{found, ends, means, resolved, resolved_from}
 use Rattle.binder_laws.proofs.TypedOperands.{went, ok_is}
 use Rattle.binder_laws.proofs.TypedSteps.{row_kinds, RowFits, Fits}
 
