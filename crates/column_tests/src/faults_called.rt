@@ -34,15 +34,19 @@ fn counts(
     answers(alloc, &counted, &[], None, wanted)
 }
 
+const COUNTS: [(&str, Result<&str, Fault>); 5] = [
+    ("$1 $2 = $2 0 < and", Ok("0")),
+    ("$1 $2 = $0 0 > and", Ok("1")),
+    ("$1 $2 =", BY_ZERO),
+    ("1 $0 / $2 = $2 0 < and", Ok("0")),
+    ("1 $0 / $2 =", BY_ZERO),
+];
+
 #[test]
 fn joins_at_faults(rt: HostRuntime) -> Result<(), Fail> {
-    let alloc = rt.alloc();
-    for others in [&[KEYS][..], &[KEYS, "9"][..]] {
-        assert!(rt; counts(alloc, others, "$1 $2 = $2 0 < and", Ok("0"))?);
-        assert!(rt; counts(alloc, others, "$1 $2 = $0 0 > and", Ok("1"))?);
-        assert!(rt; counts(alloc, others, "$1 $2 =", BY_ZERO)?);
-        assert!(rt; counts(alloc, others, "1 $0 / $2 = $2 0 < and", Ok("0"))?);
-        assert!(rt; counts(alloc, others, "1 $0 / $2 =", BY_ZERO)?);
+    for (on, wanted) in &COUNTS {
+        assert!(rt; counts(rt.alloc(), &[KEYS], on, *wanted)?, "{on}");
+        assert!(rt; counts(rt.alloc(), &[KEYS, "9"], on, *wanted)?, "{on}");
     }
     Ok(())
 }
