@@ -1,3 +1,4 @@
 pub mod Chunks
+pub mod Narrowing
 pub mod PartRows
 pub mod StageRows

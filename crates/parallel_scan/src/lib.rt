@@ -3,6 +3,7 @@
 #![tactic(auto)]
 
 mod bags;
+mod kept;
 mod parts;
 mod scan;
 mod stages;
