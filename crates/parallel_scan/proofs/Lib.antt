@@ -1,4 +1,5 @@
 pub mod Chunks
+pub mod Narrowing
 pub mod PartRows
 pub mod StageRows
 pub mod ByExpressions

@@ -5,6 +5,7 @@
 mod bags;
 mod expression_groups;
 mod groups;
+mod kept;
 mod made;
 mod merged;
 mod parts;
