@@ -1,5 +1,6 @@
 -- Each kind of tree: the node that is put for it answers its loops, where its inputs answer theirs.
 use Rattle.std.proofs.Common.{◌≡◌, ℕ, ◌+◌, ◌≤◌, List, [], ◌∷◌, ◌++◌, map, refl, sym, ◌∙◌, ap, subst, arith, length}
+use Rattle.std.specs.Prelude.{min}
 use Rattle.std.specs.List.{range_with_len, flat_map}
 use Rattle.std.proofs.lemmas.List.{append-nil, length-append, length-map}
 use Rattle.std.proofs.lemmas.List.FromFn.{length-range_with_len}
@@ -38,6 +39,7 @@ use Rattle.unnesting.specs.Growth.{Grows, IsPut}
 use Rattle.unnesting.specs.Lowerings.{Lowers, IsScanned, IsSelection}
 use Rattle.unnesting.proofs.Grown.{grows_as, same_plan, put_more, kept_rows, kept_width, put_rows, put_width, put_last}
 use Rattle.unnesting.proofs.Kept.{same_footing, same_later, settled_first}
+use Rattle.unnesting.proofs.Owned.{rank_within}
 use Rattle.unnesting.proofs.Wide.{over_wide, projected_wide}
 
 -- one node more
@@ -115,23 +117,26 @@ scan_alone before new table f id e within p =
     (λ db h. subst (λ r. Answers same_value (footing_rows db before r) (scanned (db table)) (λ d. scanned (db table))) (sym e)
     (closed_meets same_value value_identity (scanned (db table)), tt))
 
--- a table's rows that a condition keeps, under each row of a domain
-kept_table : (c : List Value → ℕ) → (rows : List (List Value))
-    → flat_map (λ r. pair c (λ x y. x ++ y) (ranked [] true_rank) r) (scanned rows) ≡ select c (scanned rows)
-kept_table c [] = refl
-kept_table c (r ∷ rows) = rw (kept_table c rows) refl
+-- rows that a condition keeps, under each row of a domain
+kept_table : (c : List Value → ℕ) → ((row : List Value) → c row ≤ true_rank) → (xs : List (Ranked Value))
+    → flat_map (λ r. pair c (λ x y. x ++ y) (ranked [] true_rank) r) xs ≡ select c xs
+kept_table c le [] = refl
+kept_table c le (x ∷ xs) =
+    let l = le x.values in
+    let e : min (min true_rank x.standing) (c x.values) ≡ min x.standing (c x.values) = omega (arith, l) in
+    rw (e, kept_table c le xs) refl
 
-kept_loop : (c : List Value → ℕ) → (rows : List (List Value)) → join_loop c unit_row (λ l. scanned rows) ≡ select c (scanned rows)
-kept_loop c rows = append-nil (flat_map (λ r. pair c (λ x y. x ++ y) (ranked [] true_rank) r) (scanned rows)) ∙ kept_table c rows
+kept_loop : (c : List Value → ℕ) → ((row : List Value) → c row ≤ true_rank) → (xs : List (Ranked Value)) → join_loop c unit_row (λ l. xs) ≡ select c xs
+kept_loop c le xs = append-nil (flat_map (λ r. pair c (λ x y. x ++ y) (ranked [] true_rank) r) xs) ∙ kept_table c le xs
 
-selection_over : (n : ℕ) (ds : List (Ranked Value)) (rows : List (List Value)) (c : Expr) → IsDomain same_value n ds
-    → Answers same_value ds (inner_matched same_value Null [] (rank_of c) ds (scanned rows)) (λ d. select (λ t. rank_of c (d ++ t)) (scanned rows))
-selection_over n ds rows c dom =
-    let all : Answers same_value ds (inner_matched same_value Null [] (rank_of c) ds (scanned rows)) (λ d. join_loop (λ t. rank_of c (d ++ t)) unit_row (λ l. scanned rows)) =
-    inner_side same_value value_identity Null ClosedKind (rank_of c) n ds ds (scanned rows) (λ d. unit_row) (λ d. scanned rows) dom
-    (domain_alone same_value value_identity n ds dom) (closed_meets same_value value_identity (scanned rows), tt) in
-    subst (λ (M : List Value → List (Ranked Value)). Answers same_value ds (inner_matched same_value Null [] (rank_of c) ds (scanned rows)) M)
-    (λ i d. kept_loop (λ t. rank_of c (d ++ t)) rows i) all
+pub selection_over : (n : ℕ) (ds xs : List (Ranked Value)) (c : Expr) → IsDomain same_value n ds
+    → Answers same_value ds (inner_matched same_value Null [] (rank_of c) ds xs) (λ d. select (λ t. rank_of c (d ++ t)) xs)
+selection_over n ds xs c dom =
+    let all : Answers same_value ds (inner_matched same_value Null [] (rank_of c) ds xs) (λ d. join_loop (λ t. rank_of c (d ++ t)) unit_row (λ l. xs)) =
+    inner_side same_value value_identity Null ClosedKind (rank_of c) n ds ds xs (λ d. unit_row) (λ d. xs) dom
+    (domain_alone same_value value_identity n ds dom) (closed_meets same_value value_identity xs, tt) in
+    subst (λ (M : List Value → List (Ranked Value)). Answers same_value ds (inner_matched same_value Null [] (rank_of c) ds xs) M)
+    (λ i d. kept_loop (λ t. rank_of c (d ++ t)) (λ t. rank_within c (d ++ t)) xs i) all
 
 -- a table joined with a domain under a condition, where its rows are those of a meaning
 joined_scan : (before new : List Node) (table : TableName) (c : Expr) (k : TreeMeaning) (f : Footing) (d width id : ℕ) → f.rows ≡ AtNode d width → IsFooting before f.rows
@@ -168,7 +173,7 @@ selection_joined : (before new : List Node) (table : TableName) (c : Expr) (f : 
     → IsPut (before ++ node.Scan table ∷ []) new (node.Join d (length before) [] c) id → Lowers before new (tree_step (t.Select (tree_step (t.Scan table)) c)) f f id
 unfolding says
 selection_joined before new table c f d width id e within p =
-    joined_scan before new table c (tree_step (t.Select (tree_step (t.Scan table)) c)) f d width id e within p refl refl (λ db ds dom. selection_over width ds (db table) c dom)
+    joined_scan before new table c (tree_step (t.Select (tree_step (t.Scan table)) c)) f d width id e within p refl refl (λ db ds dom. selection_over width ds (scanned (db table)) c dom)
 
 selection_alone : (before new : List Node) (table : TableName) (c : Expr) (f : Footing) (id : ℕ) → f.rows ≡ One → IsFooting before f.rows
     → IsPut (before ++ node.Scan table ∷ []) new (node.Select (length before) c) id → Lowers before new (tree_step (t.Select (tree_step (t.Scan table)) c)) f f id

@@ -1,6 +1,6 @@
--- Columns of a table that a condition asks to be equal to a domain's.
+-- Columns of rows that a condition asks to be equal to a domain's.
 use Rattle.std.proofs.Common.{◌≡◌, ℕ, zero, suc, ◌+◌, ◌<◌, ◌≤◌, ◌⊎◌, List, [], ◌∷◌, true, false, refl, sym, ◌∙◌, ap, subst, arith, inl, inr, length, get_or}
-use Rattle.std.specs.Prelude.{map, max, not, int_lt, pos, IsTrue, Some, slice_get, slice_index_or, ◌==◌, ◌&&◌}
+use Rattle.std.specs.Prelude.{map, max, not, int_lt, pos, IsTrue, Option, Some, None, slice_index_or, ◌==◌, ◌&&◌}
 use Rattle.std.specs.Cmp.Lexicographic.{pointwise}
 use Rattle.std.proofs.lemmas.Bool.{true≢false, eqb-true}
 use Rattle.row_laws.specs.Ranked.{Ranked}
@@ -22,13 +22,11 @@ use Rattle.conditions.specs.Ranks.{rank_of, all_rank}
 use Rattle.conditions.proofs.Ranks.{rank_All}
 use Rattle.tpch_schema.specs.declared.column.ColumnKind.{ColumnKind}
 use Rattle.tpch_schema.specs.declared.column.ColumnKind.TheVariants as column
-use Rattle.tpch_schema.specs.declared.table.TableName.{TableName}
 use Rattle.tpch_schema.specs.Kinds.{is_narrow, is_of_kind}
-use Rattle.tpch_schema.specs.Tables.{kinds_of}
 use Rattle.algebra.proofs.Fits.{first_of_both, second_of_both}
 use Rattle.unnesting.specs.declared.domain.Origin.{Origin}
 use Rattle.unnesting.specs.Domains.{is_unchanged, KeepsNotes}
-use Rattle.unnesting.specs.OwnColumns.{stored_as, KeepsKind, AreNoted, columns_equal, IsStoredAs, IsAskedOf, IsAskedOfAll, StandsFor}
+use Rattle.unnesting.specs.OwnColumns.{stored_as, KeepsKind, AreNoted, columns_equal, IsAskedOf, IsAskedOfAll, StandsFor}
 use Rattle.unnesting.specs.PlanKinds.{known_as, FitsKinds}
 
 rank_equal : (a b : ℕ) (row : List Value) → rank_of (e.Compare Equal (e.Column a) (e.Column b)) row ≡ truth_rank (compared Equal (get_or row a Null) (get_or row b Null))
@@ -63,8 +61,8 @@ compared_columns : (c first second u v : Expr) (o : Comparison) (i j : ℕ) → 
 compared_columns c first second u v o i j is same f p g q =
     is ∙ ap (λ d. e.Compare d first second) same ∙ ap (λ z. e.Compare Equal z second) (sym f ∙ p) ∙ ap (e.Compare Equal (e.Column i)) (sym g ∙ q)
 
-pub equality_asks : {table : TableName} {n k : ℕ} {q : Kind} {c first second u v : Expr} {o : Comparison} {i j x : ℕ} → c ≡ e.Compare o first second → o ≡ Equal
-    → u ≡ first → u ≡ e.Column i → v ≡ second → v ≡ e.Column j → ((i ≡ k) × (j ≡ n + x)) ⊎ ((j ≡ k) × (i ≡ n + x)) → IsStoredAs table x q → IsAskedOf table n k q c x
+pub equality_asks : {ks : List (Option Kind)} {n k : ℕ} {q : Kind} {c first second u v : Expr} {o : Comparison} {i j x : ℕ} → c ≡ e.Compare o first second → o ≡ Equal
+    → u ≡ first → u ≡ e.Column i → v ≡ second → v ≡ e.Column j → ((i ≡ k) × (j ≡ n + x)) ⊎ ((j ≡ k) × (i ≡ n + x)) → slice_index_or ks x None ≡ Some q → IsAskedOf ks n k q c x
 equality_asks {n = n} {k = k} {c = c} {first = first} {second = second} {u = u} {v = v} {o = o} {i = i} {j = j} {x = x} is same f p g q either stored = record {
   stored = stored;
   asks = equality_says c i j n k x (compared_columns c first second u v o i j is same f p g q) either;
@@ -76,8 +74,8 @@ all_rank-at [] i d row h = absurd (omega arith)
 all_rank-at (x ∷ es) zero d row h = omega arith
 all_rank-at (x ∷ es) (suc i) d row h = let ih = all_rank-at es i d row (omega arith) in omega (arith, ih)
 
-pub all_ask : {table : TableName} {n k : ℕ} {q : Kind} (es : List Expr) (i : ℕ) (x : Expr) {b : ℕ} → i < length es → x ≡ get_or es i x → IsAskedOf table n k q x b
-    → IsAskedOfAll table n k q es b
+pub all_ask : {ks : List (Option Kind)} {n k : ℕ} {q : Kind} (es : List Expr) (i : ℕ) (x : Expr) {b : ℕ} → i < length es → x ≡ get_or es i x → IsAskedOf ks n k q x b
+    → IsAskedOfAll ks n k q es b
 all_ask {n = n} {k = k} es i x {b = b} h is a = record {
   stored = a.stored;
   asks = λ row.
@@ -87,7 +85,7 @@ all_ask {n = n} {k = k} es i x {b = b} h is a = record {
       omega (arith, r, l, m);
 }
 
-pub and_asks : {table : TableName} {n k : ℕ} {q : Kind} {c : Expr} {es seen : List Expr} {b : ℕ} → c ≡ e.All es → seen ≡ es → IsAskedOfAll table n k q seen b → IsAskedOf table n k q c b
+pub and_asks : {ks : List (Option Kind)} {n k : ℕ} {q : Kind} {c : Expr} {es seen : List Expr} {b : ℕ} → c ≡ e.All es → seen ≡ es → IsAskedOfAll ks n k q seen b → IsAskedOf ks n k q c b
 and_asks {n = n} {k = k} {c = c} {seen = seen} {b = b} is same a = record {
   stored = a.stored;
   asks = λ row.
@@ -97,7 +95,7 @@ and_asks {n = n} {k = k} {c = c} {seen = seen} {b = b} is same a = record {
 }
 
 -- a kind that is noted, and a column that is asked for
-pub stands_for : {table : TableName} {notes : List Origin} {n : ℕ} {c : Expr} {k b : ℕ} {q : Kind} → AreNoted notes k q → IsAskedOf table n k q c b → StandsFor table notes n c k b
+pub stands_for : {ks : List (Option Kind)} {notes : List Origin} {n : ℕ} {c : Expr} {k b : ℕ} {q : Kind} → AreNoted notes k q → IsAskedOf ks n k q c b → StandsFor ks notes n c k b
 stands_for {q = q} a s = record { kind = q; noted = a; asked = s }
 
 no : {A : Type 0} → false ≡ true → A
@@ -132,13 +130,6 @@ stored_unchanged (column.Text most) (Date t) h = no h
 stored_unchanged (column.Text most) (Fault t) h = no h
 stored_unchanged (column.Text most) Null h = no h
 
-row_kept : (kinds : List ColumnKind) (row : List Value) (b : ℕ) (k : ColumnKind) → IsTrue (pointwise is_of_kind kinds row) → Some k ≡ slice_get kinds b → IsTrue (is_unchanged (stored_as k) (slice_index_or row b Null))
-row_kept [] row b k h g = cc
-row_kept (x ∷ kinds) [] b k h g = no h
-row_kept (x ∷ kinds) (v ∷ row) zero k h g =
-    let same : x ≡ k = cc in subst (λ y. IsTrue (is_unchanged (stored_as y) v)) same (stored_unchanged x v (first_of_both (is_of_kind x v) (pointwise is_of_kind kinds row) h))
-row_kept (x ∷ kinds) (v ∷ row) (suc b) k h g = row_kept kinds row b k (second_of_both (is_of_kind x v) (pointwise is_of_kind kinds row) h) g
-
 one_kind : (j k : Kind) → IsTrue (same_kind j k) → j ≡ k
 one_kind (kind.Number s) (kind.Number t) h = ap kind.Number (eqb-true s t h)
 one_kind kind.Text kind.Text h = refl
@@ -150,12 +141,9 @@ one_kind kind.Text kind.Date h = no h
 one_kind kind.Date (kind.Number t) h = no h
 one_kind kind.Date kind.Text h = no h
 
--- a column whose kind is this one holds its values only
-pub is_stored : {table : TableName} {b : ℕ} (k : ColumnKind) (j : Kind) {q : Kind} → Some k ≡ slice_get (kinds_of table) b → j ≡ stored_as k → same_kind j q ≡ true → IsStoredAs table b q
-is_stored {table = table} {b = b} k j {q = q} g e h = record {
-  keeps = λ row of_table.
-      subst (λ x. IsTrue (is_unchanged x (slice_index_or row b Null))) (sym e ∙ one_kind j q h) (row_kept (kinds_of table) row b k of_table g);
-}
+-- a column that is known to be of this kind
+pub is_stored : (ks : List (Option Kind)) (b : ℕ) (j q : Kind) {o : Option Kind} → o ≡ slice_index_or ks b None → o ≡ Some j → same_kind j q ≡ true → slice_index_or ks b None ≡ Some q
+is_stored ks b j q g e h = sym g ∙ e ∙ ap (λ k. Some k) (one_kind j q h)
 
 -- a table's row keeps the kinds of its columns
 pub kinds_fit : (kinds : List ColumnKind) (row : List Value) → IsTrue (pointwise is_of_kind kinds row) → FitsKinds (map known_as kinds) row

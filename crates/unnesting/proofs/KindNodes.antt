@@ -340,3 +340,8 @@ origins_are {nodes = nodes} {i = i} {kinds = kinds} {seen = seen} {cs = cs} {not
   noted = λ db k.
       noted_domain (kinds_at kinds i) cs notes (plan_rows db nodes i) (subst (λ ks. AreNotesOf ks cs notes) (is ∙ ap (λ ks. kinds_at ks i) same) made) ((a.each i h).kept db k);
 }
+
+-- the kinds of one node
+pub column_kinds_are : {nodes : List Node} {i : ℕ} {kinds read : List ColumnKinds} {seen own : ColumnKinds} → AreKindsOfFirst nodes (length nodes) kinds → i < length nodes
+    → read ≡ kinds → seen ≡ kinds_at read i → own ≡ seen → AreKindsOf nodes i own
+column_kinds_are {nodes = nodes} {i = i} a h same is copied = subst (AreKindsOf nodes i) (sym (copied ∙ is ∙ ap (λ ks. kinds_at ks i) same)) (a.each i h)

@@ -1,3 +1,6 @@
+pub mod ApartArms
+pub mod ApartNodes
+pub mod ApartRows
 pub mod Arms
 pub mod Asked
 pub mod Both

@@ -1,21 +1,21 @@
 -- A right side whose own columns stand for a domain's needs no domain.
 use Rattle.std.proofs.Common.{◌≡◌, ℕ, zero, suc, ◌+◌, ◌≤◌, ◌<◌, ◌⊎◌, List, [], ◌∷◌, ◌++◌, Bool, true, false, cond, refl, sym, ◌∙◌, ap, subst, arith, inl, inr, length, ℤ, ◌&&◌}
 use Rattle.std.proofs.Math.Dec.{ltb}
-use Rattle.std.specs.Prelude.{min, IsTrue, slice_index_or}
+use Rattle.std.specs.Prelude.{min, IsTrue, Option, slice_index_or}
 use Rattle.std.specs.Ordering.{int_eq, int_cmp, nat_cmp, is_eq}
 use Rattle.std.specs.Cmp.{unsigned_ties}
 use Rattle.std.specs.Cmp.Lexicographic.{texts_ties}
 use Rattle.std.proofs.lemmas.Bool.{cases_Bool, true≢false, eq-eqb, eqb-true, le-ltb}
 use Rattle.std.proofs.lemmas.List.{get_or_append_left, get_or-append_right}
 use Rattle.fixed_decimal.proofs.Powers.{scaled_alike}
-use Rattle.row_laws.specs.Ranked.{Ranked, ranked, true_rank}
+use Rattle.row_laws.specs.Ranked.{Ranked, ranked}
 use Rattle.row_laws.specs.Bags.{Each}
-use Rattle.row_laws.specs.Rows.{columns, keep, scanned}
+use Rattle.row_laws.specs.Rows.{columns, keep}
 use Rattle.row_laws.specs.Rows.{same_row as identical}
 use Rattle.row_laws.specs.Operators.{select, project}
 use Rattle.row_laws.specs.Domains.{IsDomain, Meets, Answers}
 use Rattle.row_laws.specs.LoopLaws.{local_node, Equates}
-use Rattle.row_laws.proofs.Lists.{Each-map, Each-all, Each-weaker, Each-both, flat_map-ext_each}
+use Rattle.row_laws.proofs.Lists.{Each-all, Each-weaker, Each-both, flat_map-ext_each}
 use Rattle.row_laws.proofs.Local.{local_answers}
 use Rattle.sql_value.specs.declared.value.Value.{Value}
 use Rattle.sql_value.specs.declared.value.Value.TheVariants.{Null, Fault as Failed, Number, Text, Date}
@@ -33,11 +33,10 @@ use Rattle.scalar_expr.specs.declared.kind.Kind.{Kind}
 use Rattle.scalar_expr.specs.declared.kind.Kind.TheVariants as kind
 use Rattle.scalar_expr.specs.Meaning.{truth}
 use Rattle.conditions.specs.Ranks.{rank_of}
-use Rattle.tpch_schema.specs.declared.table.TableName.{TableName}
-use Rattle.tpch_schema.specs.Kinds.{RowIsOf}
 use Rattle.unnesting.specs.declared.domain.Origin.{Origin}
 use Rattle.unnesting.specs.Domains.{is_unchanged, KeepsNotes}
 use Rattle.unnesting.specs.OwnColumns.{either_equal, StandForAll}
+use Rattle.unnesting.specs.PlanKinds.{can_stand, FitsKinds}
 
 no : {A : Type 0} → false ≡ true → A
 no h = absurd (true≢false (sym h))
@@ -98,7 +97,7 @@ apart k u v a b n =
     let other = asked_apart k v u (unchanged k v b) (unchanged k u a) (other_way u v n) in
     omega (arith, one, other)
 
-rank_within : (c : Expr) (row : List Value) → rank_of c row ≤ 5
+pub rank_within : (c : Expr) (row : List Value) → rank_of c row ≤ 5
 unfolding rank_of
 rank_within c row = go (truth c row)
   where
@@ -128,14 +127,18 @@ differ (v ∷ d) (b ∷ own) t w h = elim (cases_Bool (same_value v (slice_index
 abbrev Noted : ℕ → List Origin → Ranked Value → Type 0
 Noted n notes e = (length e.values ≡ n) × KeepsNotes notes (e ∷ [])
 
--- the rows of a table, each after its values at these columns
-abbrev pub beside_own : List ℕ → List (List Value) → List (Ranked Value)
-beside_own own rows = project (λ t. columns Null own t ++ t) (scanned rows)
+-- rows, each after its values at these columns
+abbrev pub beside_own : List ℕ → List (Ranked Value) → List (Ranked Value)
+beside_own own ts = project (λ t. columns Null own t ++ t) ts
 
-module _ (table : TableName) (notes : List Origin) (n : ℕ) (c : Expr) (own : List ℕ) (stand : StandForAll table notes n c own) where
-  -- a row of the table is dropped under a domain row whose values its own are not
-  dropped : (e : Ranked Value) (t : List Value) → Noted n notes e → RowIsOf table t → identical same_value e.values (columns Null own t) ≡ false → rank_of c (e.values ++ t) ≤ 1
-  dropped e t here row f =
+-- rows whose columns are of these kinds
+abbrev pub OfKinds : List (Option Kind) → Ranked Value → Type 0
+OfKinds ks t = FitsKinds ks t.values
+
+module _ (ks : List (Option Kind)) (notes : List Origin) (n : ℕ) (c : Expr) (own : List ℕ) (stand : StandForAll ks notes n c own) where
+  -- a row is dropped under a domain row whose values its own are not
+  dropped : (e : Ranked Value) (t : List Value) → Noted n notes e → FitsKinds ks t → identical same_value e.values (columns Null own t) ≡ false → rank_of c (e.values ++ t) ≤ 1
+  dropped e t here fit f =
       let w : length e.values ≡ length own = here.0 ∙ sym stand.long in
       let d = differ e.values own t w f in
       let s = stand.each d.0 d.1 in
@@ -143,8 +146,9 @@ module _ (table : TableName) (notes : List Origin) (n : ℕ) (c : Expr) (own : L
       let left : slice_index_or (e.values ++ t) d.0 Null ≡ slice_index_or e.values d.0 Null = get_or_append_left e.values t Null d.0 (let l = d.1 in omega (arith, l, w)) in
       let right : slice_index_or (e.values ++ t) (n + b) Null ≡ slice_index_or t b Null =
       get_or-append_right e.values t n (n + b) Null here.0 (omega arith) ∙ ap (λ j. slice_index_or t j Null) (omega arith) in
+      let stored : IsTrue (is_unchanged s.kind (slice_index_or t b Null)) = subst (λ o. IsTrue (can_stand o (slice_index_or t b Null))) s.asked.stored (fit b) in
       let a : either_equal (slice_index_or e.values d.0 Null) (slice_index_or t b Null) ≤ 1 =
-      apart s.kind (slice_index_or e.values d.0 Null) (slice_index_or t b Null) (s.noted.keeps (e ∷ []) here.1).0 (s.asked.stored.keeps t row) d.2 in
+      apart s.kind (slice_index_or e.values d.0 Null) (slice_index_or t b Null) (s.noted.keeps (e ∷ []) here.1).0 stored d.2 in
       let r : rank_of c (e.values ++ t) ≤ either_equal (slice_index_or (e.values ++ t) d.0 Null) (slice_index_or (e.values ++ t) (n + b) Null) = s.asked.asks (e.values ++ t) in
       let same : either_equal (slice_index_or (e.values ++ t) d.0 Null) (slice_index_or (e.values ++ t) (n + b) Null) ≡ either_equal (slice_index_or e.values d.0 Null) (slice_index_or t b Null) =
       ap (λ u. either_equal u (slice_index_or (e.values ++ t) (n + b) Null)) left ∙ ap (either_equal (slice_index_or e.values d.0 Null)) right in
@@ -160,28 +164,26 @@ module _ (table : TableName) (notes : List Origin) (n : ℕ) (c : Expr) (own : L
       let b : ltb 1 (min t.standing k) ≡ false = le-ltb 1 (min t.standing k) (let l = low.1 in omega (arith, l)) in
       ap (λ z. cond z (ranked t.values (min t.standing m) ∷ []) []) a ∙ sym (ap (λ z. cond z (ranked t.values (min t.standing k) ∷ []) []) b)
 
-  both_say : (e : Ranked Value) (t : List Value) → Noted n notes e → RowIsOf table t
+  both_say : (e : Ranked Value) (t : List Value) → Noted n notes e → FitsKinds ks t
       → (min (equal e.values (columns Null own t)) (rank_of c (e.values ++ t)) ≡ rank_of c (e.values ++ t))
       ⊎ ((min (equal e.values (columns Null own t)) (rank_of c (e.values ++ t)) ≤ 1) × (rank_of c (e.values ++ t) ≤ 1))
-  both_say e t here row = elim (cases_Bool (identical same_value e.values (columns Null own t))) [
+  both_say e t here fit = elim (cases_Bool (identical same_value e.values (columns Null own t))) [
     | inl y ↦ inl (let l = rank_within c (e.values ++ t) in rw y (omega (arith, l)))
-    | inr f ↦ let l = dropped e t here row f in inr (rw f (omega (arith, l)), l)
+    | inr f ↦ let l = dropped e t here fit f in inr (rw f (omega (arith, l)), l)
   ]
 
   -- the loop with the equality apart is the loop
-  loop_is : (rows : List (List Value)) (e : Ranked Value) → Each (RowIsOf table) rows → Noted n notes e
-      → select (λ t. min (equal e.values (columns Null own t)) (rank_of c (e.values ++ t))) (scanned rows) ≡ select (λ t. rank_of c (e.values ++ t)) (scanned rows)
-  loop_is rows e all here =
-      flat_map-ext_each (λ t. RowIsOf table t.values)
+  loop_is : (ts : List (Ranked Value)) (e : Ranked Value) → Each (OfKinds ks) ts → Noted n notes e
+      → select (λ t. min (equal e.values (columns Null own t)) (rank_of c (e.values ++ t))) ts ≡ select (λ t. rank_of c (e.values ++ t)) ts
+  loop_is ts e all here =
+      flat_map-ext_each (OfKinds ks)
       (λ t. keep t.values (min t.standing (min (equal e.values (columns Null own t.values)) (rank_of c (e.values ++ t.values)))))
-      (λ t. keep t.values (min t.standing (rank_of c (e.values ++ t.values)))) (scanned rows)
-      (Each-map (λ (t : Ranked Value). RowIsOf table t.values) (λ r. ranked r true_rank) rows all)
-      (λ t row. kept_alike t _ _ (both_say e t.values here row))
+      (λ t. keep t.values (min t.standing (rank_of c (e.values ++ t.values)))) ts all
+      (λ t fit. kept_alike t _ _ (both_say e t.values here fit))
 
-  pub own_answers : (ds : List (Ranked Value)) (rows : List (List Value)) → IsDomain same_value n ds → KeepsNotes notes ds → Each (RowIsOf table) rows
-      → Answers same_value ds (select (rank_of c) (beside_own own rows)) (λ d. select (λ t. rank_of c (d ++ t)) (scanned rows))
-  own_answers ds rows dom noted all =
-      let ts = scanned rows in
+  pub own_answers : (ds ts : List (Ranked Value)) → IsDomain same_value n ds → KeepsNotes notes ds → Each (OfKinds ks) ts
+      → Answers same_value ds (select (rank_of c) (beside_own own ts)) (λ d. select (λ t. rank_of c (d ++ t)) ts)
+  own_answers ds ts dom noted all =
       let local : Answers same_value ds (local_node Null own n (λ v. 5) (rank_of c) ts) (λ d. select (λ t. min (equal d (columns Null own t)) (rank_of c (d ++ t))) ts) =
       local_answers same_value value_identity Null own (λ v. 5) (rank_of c) equal n ds ts dom stand.long
       (Each-all (λ (e : Ranked Value). Each (λ (t : Ranked Value). Equates same_value equal (λ v. 5) e.values (columns Null own t.values)) ts) ds
@@ -190,16 +192,16 @@ module _ (table : TableName) (notes : List Origin) (n : ℕ) (c : Expr) (own : L
         where_same = λ y. inl (rw y refl);
         elsewhere = λ f. rw f (omega arith);
       }))) in
-      let node : local_node Null own n (λ v. 5) (rank_of c) ts ≡ select (rank_of c) (beside_own own rows) =
-      flat_map-ext_each (λ x. Unit {0}) (λ x. keep x.values (min x.standing (min 5 (rank_of c x.values)))) (λ x. keep x.values (min x.standing (rank_of c x.values))) (beside_own own rows)
-      (Each-all (λ x. Unit {0}) (beside_own own rows) (λ x. tt))
+      let node : local_node Null own n (λ v. 5) (rank_of c) ts ≡ select (rank_of c) (beside_own own ts) =
+      flat_map-ext_each (λ x. Unit {0}) (λ x. keep x.values (min x.standing (min 5 (rank_of c x.values)))) (λ x. keep x.values (min x.standing (rank_of c x.values))) (beside_own own ts)
+      (Each-all (λ x. Unit {0}) (beside_own own ts) (λ x. tt))
       (λ x u. let l = rank_within c x.values in ap (λ z. keep x.values (min x.standing z)) (omega (arith, l))) in
-      let xs = select (rank_of c) (beside_own own rows) in
+      let xs = select (rank_of c) (beside_own own ts) in
       let M : List Value → List (Ranked Value) = λ d. select (λ t. min (equal d (columns Null own t)) (rank_of c (d ++ t))) ts in
       let L : List Value → List (Ranked Value) = λ d. select (λ t. rank_of c (d ++ t)) ts in
       let here : Answers same_value ds xs M = subst (λ l. Answers same_value ds l M) node local in
       Each-weaker (λ e. Meets same_value e.values xs (M e.values) × Noted n notes e) (λ e. Meets same_value e.values xs (L e.values)) ds
-      (λ e p. subst (λ l. Meets same_value e.values xs l) (loop_is rows e all p.1) p.0)
+      (λ e p. subst (λ l. Meets same_value e.values xs l) (loop_is ts e all p.1) p.0)
       (Each-both (λ e. Meets same_value e.values xs (M e.values)) (λ e. Noted n notes e) ds here
       (Each-both (λ (e : Ranked Value). length e.values ≡ n) (λ e. KeepsNotes notes (e ∷ [])) ds dom.widths
       (Each-weaker (λ (e : Ranked Value). Each (λ (o : Origin). IsTrue (is_unchanged o.kind (slice_index_or e.values o.column Null))) notes) (λ e. KeepsNotes notes (e ∷ [])) ds (λ e h. (h, tt)) noted)))

@@ -10,7 +10,6 @@ use Rattle.sql_value.specs.declared.value.Value.{Value}
 use Rattle.sql_value.specs.declared.value.Value.TheVariants.{Null}
 use Rattle.scalar_expr.specs.declared.expr.Expr.{Expr}
 use Rattle.scalar_expr.specs.declared.kind.Kind.{Kind}
-use Rattle.tpch_schema.specs.declared.table.TableName.{TableName}
 use Rattle.algebra.specs.declared.node.Node.{Node}
 use Rattle.unnesting.specs.declared.domain.Origin.{Origin}
 use Rattle.unnesting.specs.Domains.{is_unchanged}
@@ -45,32 +44,32 @@ listed_put ks es i e k all now h is a l g =
     subst (λ x. AreListed ks x now) (ap (λ y. take i es ++ y ∷ []) is ∙ sym (take_more es i e h)) (subst (AreListed ks (take i es ++ e ∷ [])) (sym g) (listed_more ks (take i es) all e k a l))
 
 -- columns that stand for the first ones, and one more
-pub record StandSoFar (table : TableName) (notes : List Origin) (n : ℕ) (c : Expr) (count : ℕ) (own : List ℕ) : Type 0 where
+pub record StandSoFar (ks : List (Option Kind)) (notes : List Origin) (n : ℕ) (c : Expr) (count : ℕ) (own : List ℕ) : Type 0 where
   pub long : length own ≡ count
-  pub each : (k : ℕ) → k < length own → StandsFor table notes n c k (slice_index_or own k 0)
+  pub each : (k : ℕ) → k < length own → StandsFor ks notes n c k (slice_index_or own k 0)
 
-pub none_stand : (table : TableName) (notes : List Origin) (n : ℕ) (c : Expr) → StandSoFar table notes n c 0 []
-none_stand table notes n c = record { long = refl; each = λ k h. absurd (omega (arith, h)) }
+pub none_stand : (ks : List (Option Kind)) (notes : List Origin) (n : ℕ) (c : Expr) → StandSoFar ks notes n c 0 []
+none_stand ks notes n c = record { long = refl; each = λ k h. absurd (omega (arith, h)) }
 
-pub stand_put : (table : TableName) (notes : List Origin) (n : ℕ) (c : Expr) (count : ℕ) (own now : List ℕ) (b : ℕ) → StandSoFar table notes n c count own → StandsFor table notes n c count b
-    → now ≡ own ++ b ∷ [] → StandSoFar table notes n c (count + 1) now
-stand_put table notes n c count own now b s f e = subst (StandSoFar table notes n c (count + 1)) (sym e) (record {
+pub stand_put : (ks : List (Option Kind)) (notes : List Origin) (n : ℕ) (c : Expr) (count : ℕ) (own now : List ℕ) (b : ℕ) → StandSoFar ks notes n c count own → StandsFor ks notes n c count b
+    → now ≡ own ++ b ∷ [] → StandSoFar ks notes n c (count + 1) now
+stand_put ks notes n c count own now b s f e = subst (StandSoFar ks notes n c (count + 1)) (sym e) (record {
   long = length-append own (b ∷ []) ∙ ap (λ k. k + 1) s.long;
   each = λ k h.
       let l = length-append own (b ∷ []) in
       elim (split k (length own) (omega (arith, h, l))) [
-        | inl g ↦ subst (StandsFor table notes n c k) (sym (get_or_append_left own (b ∷ []) 0 k g)) (s.each k g)
+        | inl g ↦ subst (StandsFor ks notes n c k) (sym (get_or_append_left own (b ∷ []) 0 k g)) (s.each k g)
         | inr g ↦
-            subst (StandsFor table notes n c k) (sym (get_or_push own b 0 k (sym g)))
-            (subst (λ j. StandsFor table notes n c j b) (sym (g ∙ s.long)) f)
+            subst (StandsFor ks notes n c k) (sym (get_or_push own b 0 k (sym g)))
+            (subst (λ j. StandsFor ks notes n c j b) (sym (g ∙ s.long)) f)
       ];
 })
   where
     split : (k m : ℕ) → k < m + 1 → (k < m) ⊎ (k ≡ m)
     split k m h = elim (cases_lt k m) [ inl l ↦ inl l | inr l ↦ inr (omega (arith, h, l)) ]
 
-pub all_stand : (table : TableName) (notes : List Origin) (n : ℕ) (c : Expr) (count : ℕ) (own : List ℕ) → count ≡ n → StandSoFar table notes n c count own → StandForAll table notes n c own
-all_stand table notes n c count own e s = record { long = s.long ∙ e; each = s.each }
+pub all_stand : (ks : List (Option Kind)) (notes : List Origin) (n : ℕ) (c : Expr) (count : ℕ) (own : List ℕ) → count ≡ n → StandSoFar ks notes n c count own → StandForAll ks notes n c own
+all_stand ks notes n c count own e s = record { long = s.long ∙ e; each = s.each }
 
 -- the kinds of one node more
 pub no_kinds : (nodes : List Node) → AreKindsOfFirst nodes 0 []

@@ -1,5 +1,6 @@
 pub mod Domains
 pub mod Footings
+pub mod FromRows
 pub mod Growth
 pub mod Lowerings
 pub mod OwnColumns

@@ -10,6 +10,7 @@ use Rattle.sql_value.specs.declared.value.Value.{Value}
 use Rattle.sql_value.specs.declared.value.Value.TheVariants.{Null}
 use Rattle.sql_value.specs.Value.{same_value}
 use Rattle.tpch_schema.specs.declared.table.TableName.{TableName}
+use Rattle.tpch_schema.specs.Tables.{kinds_of}
 use Rattle.scalar_expr.specs.declared.expr.Expr.{Expr}
 use Rattle.scalar_expr.specs.declared.expr.Expr.TheVariants.{All, Column}
 use Rattle.algebra.specs.declared.aggregate.Aggregate.{Aggregate}
@@ -144,9 +145,14 @@ IsTotal old new rows aggregates One id = IsPut old new (Group rows [] aggregates
 IsTotal old new rows aggregates (AtNode d width) id =
     IsFilled old new rows aggregates d width id
 
--- The plan grew by a scan of a table, by its columns `own` before all of its columns, and by those
--- of these rows that a condition keeps: it reads the table's own columns in the place of a domain's.
+-- The plan grew by rows of the node `rows`, of w columns: its columns `own` before all of its
+-- columns, and those of these rows that a condition keeps. It reads the rows' own columns in the
+-- place of a domain's.
+abbrev pub IsOwn : (old new : List Node) → (rows w : ℕ) → Expr → List ℕ → ℕ → Type 0
+IsOwn old new rows w c own id =
+    IsPut (old ++ Project rows (map Column (with_own own w)) ∷ []) new (Select (length old) c) id
+
+-- the same of the rows of a table, by a scan of it
 abbrev pub IsOwnSelection : (old new : List Node) → TableName → Expr → List ℕ → ℕ → Type 0
 IsOwnSelection old new table c own id =
-    IsPut (old ++ Scan table ∷ Project (length old) (map Column (with_own own table)) ∷ []) new
-    (Select (length old + 1) c) id
+    IsOwn (old ++ Scan table ∷ []) new (length old) (length (kinds_of table)) c own id

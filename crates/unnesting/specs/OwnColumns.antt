@@ -1,6 +1,6 @@
--- Columns of a table that stand for a domain's: a condition asks that they are equal to them.
+-- Columns of rows that stand for a domain's: a condition asks that they are equal to them.
 use Rattle.std.specs.Prelude.{◌≡◌, ℕ, ◌+◌, ◌<◌, ◌≤◌, max, List, ◌++◌, length, IsTrue}
-use Rattle.std.specs.Prelude.{slice_index_or}
+use Rattle.std.specs.Prelude.{Option, Some, None, slice_index_or}
 use Rattle.std.specs.List.{range_with_len}
 use Rattle.row_laws.specs.Ranked.{Ranked}
 use Rattle.row_laws.specs.Bags.{Each}
@@ -16,9 +16,6 @@ use Rattle.conditions.specs.Ranks.{rank_of, all_rank}
 use Rattle.tpch_schema.specs.declared.column.ColumnKind.{ColumnKind}
 use Rattle.tpch_schema.specs.declared.column.ColumnKind.TheVariants.{Key, Whole, Decimal, Date}
 use Rattle.tpch_schema.specs.declared.column.ColumnKind.TheVariants.{Text}
-use Rattle.tpch_schema.specs.declared.table.TableName.{TableName}
-use Rattle.tpch_schema.specs.Kinds.{RowIsOf}
-use Rattle.tpch_schema.specs.Tables.{kinds_of}
 use Rattle.unnesting.specs.declared.domain.Origin.{Origin}
 use Rattle.unnesting.specs.Domains.{is_unchanged, KeepsNotes}
 
@@ -47,38 +44,34 @@ either_equal u v = max (truth_rank (compared Equal u v)) (truth_rank (compared E
 abbrev pub columns_equal : ℕ → ℕ → List Value → ℕ
 columns_equal i j row = either_equal (slice_index_or row i Null) (slice_index_or row j Null)
 
--- the column b of a table holds only values of that kind and scale
-pub record IsStoredAs (table : TableName) (b : ℕ) (k : Kind) : Type 0 where
-  pub keeps : (row : List Value) → RowIsOf table row
-      → IsTrue (is_unchanged k (slice_index_or row b Null))
-
--- The column b of a table, of that kind, is asked to be equal to the column k of a domain of n
--- columns: a condition over a row of both is at most what their equality says.
-pub record IsAskedOf (table : TableName) (n k : ℕ) (kind : Kind) (c : Expr) (b : ℕ)
+-- The column b of rows whose columns have these kinds, which is of that kind, is asked to be equal
+-- to the column k of a domain of n columns: a condition over a row of both is at most what their
+-- equality says.
+pub record IsAskedOf (ks : List (Option Kind)) (n k : ℕ) (kind : Kind) (c : Expr) (b : ℕ)
     : Type 0 where
-  pub stored : IsStoredAs table b kind
+  pub stored : slice_index_or ks b None ≡ Some kind
   pub asks : (row : List Value) → rank_of c row ≤ columns_equal k (n + b) row
 
 -- the same of an AND of conditions
-pub record IsAskedOfAll (table : TableName) (n k : ℕ) (kind : Kind) (es : List Expr) (b : ℕ)
+pub record IsAskedOfAll (ks : List (Option Kind)) (n k : ℕ) (kind : Kind) (es : List Expr) (b : ℕ)
     : Type 0 where
-  pub stored : IsStoredAs table b kind
+  pub stored : slice_index_or ks b None ≡ Some kind
   pub asks : (row : List Value) → all_rank es row ≤ columns_equal k (n + b) row
 
--- The column b of a table stands for the column k of a domain of n columns: a condition over a row
--- of both asks that they are equal, and both hold only nulls and values of one kind and scale.
-pub record StandsFor (table : TableName) (notes : List Origin) (n : ℕ) (c : Expr)
+-- The column b of rows stands for the column k of a domain of n columns: a condition over a row of
+-- both asks that they are equal, and both hold only nulls and values of one kind and scale.
+pub record StandsFor (ks : List (Option Kind)) (notes : List Origin) (n : ℕ) (c : Expr)
     (k b : ℕ) : Type 0 where
   pub kind : Kind
   pub noted : AreNoted notes k kind
-  pub asked : IsAskedOf table n k kind c b
+  pub asked : IsAskedOf ks n k kind c b
 
 -- such columns for each of the domain's columns
-pub record StandForAll (table : TableName) (notes : List Origin) (n : ℕ) (c : Expr) (own : List ℕ)
-    : Type 0 where
+pub record StandForAll (ks : List (Option Kind)) (notes : List Origin) (n : ℕ) (c : Expr)
+    (own : List ℕ) : Type 0 where
   pub long : length own ≡ n
-  pub each : (k : ℕ) → k < length own → StandsFor table notes n c k (slice_index_or own k 0)
+  pub each : (k : ℕ) → k < length own → StandsFor ks notes n c k (slice_index_or own k 0)
 
--- these columns of a table, and after them all of its columns
-abbrev pub with_own : List ℕ → TableName → List ℕ
-with_own own table = own ++ range_with_len 0 (length (kinds_of table))
+-- these columns of rows of w columns, and after them all of their columns
+abbrev pub with_own : List ℕ → ℕ → List ℕ
+with_own own w = own ++ range_with_len 0 w

@@ -1,8 +1,10 @@
 //! Dependent trees lowered to flat plans, in which no node depends on the rows of another.
 #![tactic(auto)]
 
+mod carried;
 mod domain;
 mod footing;
+mod from_rows;
 mod lists;
 mod lowering;
 mod origins;

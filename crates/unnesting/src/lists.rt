@@ -10,7 +10,6 @@ use algebra::{Side, copy_exprs};
 use scalar_expr::Expr;
 use sqlite_items::Items;
 use std::alloc::{AllocError, Global};
-use tpch_schema::TableName;
 
 // The first columns.
 pub(crate) fn first_columns(alloc: Global, width: u32) -> Result<Items<u32>, AllocError>
@@ -50,15 +49,10 @@ pub(crate) fn select_list(alloc: Global, width: u32, es: &[Expr]) -> Result<Item
     Ok(all)
 }
 
-// These columns of a table, and after them all of its columns.
-pub(crate) fn own_and_all(
-    alloc: Global,
-    own: &[u32],
-    table: TableName,
-) -> Result<Items<u32>, AllocError>
-    ensures { IfOk result (λ all. all ≡ with_own own.now table) }
+// These columns of rows of this width, and after them all of their columns.
+pub(crate) fn own_and_all(alloc: Global, own: &[u32], width: u32) -> Result<Items<u32>, AllocError>
+    ensures { IfOk result (λ all. all ≡ with_own own.now width) }
 {
-    let width = u32::try_from(table.kinds().len()).map_err(|_| AllocError)?;
     let mut all = Items::from_slice(alloc, own)?;
     let more = first_columns(alloc, width)?;
     all.append(more)?;

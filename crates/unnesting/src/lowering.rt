@@ -4,10 +4,13 @@ ghost use Rattle.algebra.specs.Trees.{tree_meaning, scans_of, domains_of};
 ghost use Rattle.algebra.specs.Plans.{plan_scans, plan_domains};
 ghost use Rattle.unnesting.specs.Domains.{IsInPlan};
 ghost use Rattle.unnesting.specs.Footings.{IsFooting};
+ghost use Rattle.unnesting.specs.FromRows.{IsPart};
 ghost use Rattle.unnesting.specs.Lowerings.{Unnests, Answered, KeepsNodes, Lowers, LowersRight};
 
+use crate::carried::is_carried;
 use crate::domain::Domain;
 use crate::footing::Footing;
+use crate::from_rows::{Part, put_apart_join, put_apart_select, put_apart_table, put_whole};
 use crate::put::{
     own_footing, put_distinct, put_group_by, put_join, put_mark, put_outer, put_project, put_scan,
     put_select, put_selection, put_single, put_total,
@@ -45,7 +48,8 @@ pub fn lower(
     ensures scans { OnOk result
         (plan_scans builder.new.nodes ≡ plan_scans builder.old.nodes ++ scans_of tree.now) }
 
-    // No more domains than dependent right sides: a closed or shared one gets none.
+    // At most one domain for each right side that depends on columns of its left side: the shared
+    // sides in it use the same one.
     ensures domains { OnOk result
         (plan_domains builder.new.nodes ≤ plan_domains builder.old.nodes + domains_of tree.now) }
 {
@@ -57,6 +61,95 @@ pub fn lower(
 // The same for each row of the domain by itself.
 #[cycle(lower)]
 fn lowered(
+    alloc: Global,
+    builder: &mut Builder,
+    tree: &DepTree,
+    footing: &mut Footing,
+) -> Result<NodeId, AllocError>
+    requires { IsFooting builder.old.nodes footing.old.rows }
+    ensures { IfOk result
+        (Lowers builder.old.nodes builder.new.nodes (tree_meaning tree.now)
+        footing.old footing.new) }
+{
+    if !is_carried(alloc, tree, footing)? {
+        let id = lowered_node(alloc, builder, tree, footing)?;
+        return Ok(id);
+    }
+    let part = lowered_part(alloc, builder, tree, footing)?;
+    match part {
+        Part::Whole(id) => Ok(id),
+        Part::Apart(part) => {
+            let id = put_whole(alloc, builder, part, footing)?;
+            Ok(id)
+        }
+    }
+}
+
+// A part of FROM, without the domain where it is tables joined.
+#[cycle(lower)]
+fn lowered_part(
+    alloc: Global,
+    builder: &mut Builder,
+    tree: &DepTree,
+    footing: &mut Footing,
+) -> Result<Part, AllocError>
+    requires { IsFooting builder.old.nodes footing.old.rows }
+    ensures { IfOk result
+        (IsPart builder.old.nodes builder.new.nodes (tree_meaning tree.now)
+        footing.old footing.new) }
+{
+    match tree {
+        DepTree::Scan(table) => {
+            let part = put_apart_table(alloc, builder, *table)?;
+            Ok(Part::Apart(part))
+        }
+        DepTree::Select(input, condition) => {
+            let n = footing.width()?;
+            let part = lowered_part(alloc, builder, input.get(), footing)?;
+            match part {
+                Part::Whole(rows) => {
+                    let id = put_select(alloc, builder, rows, condition.get())?;
+                    Ok(Part::Whole(id))
+                }
+                Part::Apart(part) => {
+                    let part = put_apart_select(alloc, builder, n, part, condition.get())?;
+                    Ok(Part::Apart(part))
+                }
+            }
+        }
+        DepTree::Join(left, right, side, on) => match side {
+            Side::Closed => {
+                let n = footing.width()?;
+                let outer = lowered_part(alloc, builder, left.get(), footing)?;
+                let mut none = Footing::one(alloc);
+                let rows = lowered(alloc, builder, right.get(), &mut none)?;
+                match outer {
+                    Part::Whole(outer) => {
+                        let id = put_join(alloc, builder, outer, rows, side, n, on.get())?;
+                        Ok(Part::Whole(id))
+                    }
+                    Part::Apart(part) => {
+                        let more = width(right.get())?;
+                        let part = put_apart_join(alloc, builder, n, part, rows, more, on.get())?;
+                        Ok(Part::Apart(part))
+                    }
+                }
+            }
+            _ => {
+                let id = lowered_node(alloc, builder, tree, footing)?;
+                Ok(Part::Whole(id))
+            }
+        },
+        _ => {
+            let id = lowered_node(alloc, builder, tree, footing)?;
+            Ok(Part::Whole(id))
+        }
+    }
+}
+
+// A tree, from its inputs over their rows.
+#[cycle(lower)]
+fn lowered_node(
     alloc: Global,
     builder: &mut Builder,
     tree: &DepTree,

@@ -5,7 +5,7 @@ ghost use Rattle.std.specs.List.{list_all};
 ghost use Rattle.algebra.specs.Plans.{inputs_of, is_formed};
 ghost use Rattle.unnesting.specs.PlanKinds.{known_as, kinds_at, picked, has_matched};
 ghost use Rattle.unnesting.specs.PlanKinds.{IsListed, AreListed, AreMade, AreKindsOfFirst};
-ghost use Rattle.unnesting.specs.PlanKinds.{AreOrigins, AreNotesOf};
+ghost use Rattle.unnesting.specs.PlanKinds.{AreOrigins, AreNotesOf, AreKindsOf};
 
 use crate::domain::Origin;
 use crate::own_columns::stored_kind;
@@ -31,6 +31,22 @@ pub(crate) fn origins(
     let kinds = plan_kinds(alloc, nodes)?;
     let notes = notes_of(alloc, kinds_at(kinds.as_slice(), id), columns)?;
     Ok(notes)
+}
+
+/// The kinds of the columns of one node.
+#[tactic(auto, using(crate::proofs::KindNodes::column_kinds_are))]
+pub(crate) fn column_kinds(
+    alloc: Global,
+    nodes: &[Node],
+    id: NodeId,
+) -> Result<Items<Option<Kind>>, AllocError>
+    requires formed { IsTrue (is_formed nodes.now) }
+    requires id { id < length nodes.now }
+    ensures { IfOk result (AreKindsOf nodes.now id) }
+{
+    let kinds = plan_kinds(alloc, nodes)?;
+    let own = Items::from_slice(alloc, kinds_at(kinds.as_slice(), id))?;
+    Ok(own)
 }
 
 // Notes of these columns, as far as their kinds are known.
@@ -67,8 +83,8 @@ fn put_note(
     Ok(())
 }
 
-// The kind of a column, where it is there and known.
-fn kind_at(kinds: &[Option<Kind>], column: u32) -> Option<Kind>
+/// The kind of a column, where it is there and known.
+pub(crate) fn kind_at(kinds: &[Option<Kind>], column: u32) -> Option<Kind>
     ensures { result ≡ slice_index_or kinds.now column None }
 {
     match at(kinds, column as usize) {
@@ -162,8 +178,11 @@ fn kinds_at(kinds: &[Items<Option<Kind>>], id: NodeId) -> &[Option<Kind>]
     kinds[id].as_slice()
 }
 
-// The kinds of a table's columns.
-fn known_kinds(alloc: Global, kinds: &[ColumnKind]) -> Result<Items<Option<Kind>>, AllocError>
+/// The kinds of a table's columns.
+pub(crate) fn known_kinds(
+    alloc: Global,
+    kinds: &[ColumnKind],
+) -> Result<Items<Option<Kind>>, AllocError>
     ensures { IfOk result (λ own. own ≡ map known_as kinds.now) }
 {
     let mut own = Items::new(alloc);
@@ -198,8 +217,8 @@ fn listed_kinds(
     Ok(own)
 }
 
-// Puts so many columns of unknown kinds after the others.
-fn put_unknown(to: &mut Items<Option<Kind>>, count: usize) -> Result<(), AllocError>
+/// Puts so many columns of unknown kinds after the others.
+pub(crate) fn put_unknown(to: &mut Items<Option<Kind>>, count: usize) -> Result<(), AllocError>
     ensures { OnOk result (to.new ≡ to.old ++ replicate count None) }
 {
     for _i in 0..count {
@@ -223,8 +242,8 @@ fn picked_kinds(
     Ok(own)
 }
 
-// The kinds of two rows beside one another.
-fn joined_kinds(
+/// The kinds of two rows beside one another.
+pub(crate) fn joined_kinds(
     alloc: Global,
     left: &[Option<Kind>],
     right: &[Option<Kind>],

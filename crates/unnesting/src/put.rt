@@ -15,6 +15,7 @@ ghost use Rattle.unnesting.specs.Lowerings.{
   IsScanned,
   IsSelection,
   IsOwnSelection,
+  IsOwn,
   IsFilled,
   IsTotal,
   IsOwnFooting,
@@ -26,7 +27,7 @@ use crate::footing::{Footing, FootingRows};
 use crate::lists::{
     column_list, first_columns, matched_columns, own_and_all, select_list, with_first_columns,
 };
-use crate::origins::origins;
+use crate::origins::{known_kinds, origins};
 use crate::own_columns::own_columns;
 use algebra::{Aggregate, Builder, Node, NodeId, Side, copy_aggregates, copy_expr, values_of_none};
 use scalar_expr::Expr;
@@ -51,9 +52,9 @@ fn put_cross(
     Ok(id)
 }
 
-// The rows of two nodes, the combinations that a condition keeps.
+/// The rows of two nodes, the combinations that a condition keeps.
 #[tactic(auto, using(algebra::proofs::Fits::join_fits, crate::proofs::Columns::none_matched))]
-fn put_combinations(
+pub(crate) fn put_combinations(
     alloc: Global,
     builder: &mut Builder,
     left: NodeId,
@@ -128,7 +129,8 @@ pub(crate) fn put_selection(
     let width = footing.width()?;
     if width > 0 {
         let notes = footing.unchanged.as_slice();
-        if let Some(own) = own_columns(alloc, condition, table, width, notes)? {
+        let kinds = known_kinds(alloc, table.kinds())?;
+        if let Some(own) = own_columns(alloc, condition, kinds.as_slice(), width, notes)? {
             let id = put_own_selection(alloc, builder, table, condition, own.as_slice())?;
             return Ok(id);
         }
@@ -138,8 +140,7 @@ pub(crate) fn put_selection(
     Ok(id)
 }
 
-// The rows of a table, these of its columns before all of them, that a condition keeps: it reads
-// them in the place of a domain's. The columns are only shared before the condition is asked.
+// The rows of a table, these of its columns before all of them, that a condition keeps.
 #[tactic(auto, using(algebra::proofs::Fits::scan_fits))]
 fn put_own_selection(
     alloc: Global,
@@ -151,10 +152,30 @@ fn put_own_selection(
     ensures { IfOk result
         (IsOwnSelection builder.old.nodes builder.new.nodes table condition.now own.now) }
 {
-    let columns = own_and_all(alloc, own, table)?;
+    let width = u32::try_from(table.kinds().len()).map_err(|_| AllocError)?;
+    let rows = builder.put(Node::Scan(table))?;
+    let id = put_own(alloc, builder, rows, width, condition, own)?;
+    Ok(id)
+}
+
+/// The rows of a node of this width, these of its columns before all of them, that a condition
+/// keeps: it reads them in the place of a domain's. The columns are only shared before the condition
+/// is asked.
+pub(crate) fn put_own(
+    alloc: Global,
+    builder: &mut Builder,
+    rows: NodeId,
+    width: u32,
+    condition: &Expr,
+    own: &[u32],
+) -> Result<NodeId, AllocError>
+    requires { rows < length builder.old.nodes }
+    ensures { IfOk result
+        (IsOwn builder.old.nodes builder.new.nodes rows width condition.now own.now) }
+{
+    let columns = own_and_all(alloc, own, width)?;
     let listed = column_list(alloc, columns.as_slice())?;
     let condition = copy_expr(alloc, condition)?;
-    let rows = builder.put(Node::Scan(table))?;
     let rows = builder.put(Node::Project(rows, listed))?;
     let id = builder.put(Node::Select(rows, condition))?;
     Ok(id)

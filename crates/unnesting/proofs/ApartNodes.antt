@@ -1,0 +1,147 @@
+-- The nodes of rows without a domain.
+use Rattle.std.proofs.Common.{◌≡◌, ℕ, ◌+◌, List, [], ◌∷◌, ◌++◌, refl, sym, ◌∙◌, ap, subst, arith, length}
+use Rattle.std.specs.Prelude.{min, IsTrue}
+use Rattle.std.proofs.lemmas.List.{length-append}
+use Rattle.row_laws.specs.Ranked.{true_rank}
+use Rattle.row_laws.specs.Bags.{SameBag, Each}
+use Rattle.row_laws.specs.Rows.{scanned}
+use Rattle.row_laws.specs.Operators.{select, join}
+use Rattle.row_laws.specs.MoveLaws.{OfLeft}
+use Rattle.row_laws.proofs.Bags.{SameBag-refl, SameBag-sym, SameBag-trans}
+use Rattle.row_laws.proofs.Lists.{Each-all, Each-weaker}
+use Rattle.row_laws.proofs.AtHand.{select_at_hand, join_at_hand}
+use Rattle.row_laws.proofs.Moves.{select_twice, select_into_join, select_below_left}
+use Rattle.row_laws.proofs.Pairs.{inner_of_none}
+use Rattle.sql_value.specs.declared.value.Value.{Value}
+use Rattle.sql_value.specs.declared.value.Value.TheVariants.{Null}
+use Rattle.sql_value.specs.Value.{same_value}
+use Rattle.tpch_schema.specs.declared.table.TableName.{TableName}
+use Rattle.tpch_schema.specs.Tables.{kinds_of}
+use Rattle.scalar_expr.specs.declared.expr.Expr.{Expr}
+use Rattle.scalar_expr.specs.declared.expr.Expr.TheVariants as e
+use Rattle.conditions.specs.Ranks.{rank_of, all_rank, says}
+use Rattle.conditions.proofs.Ranks.{rank_All, all_rank-le}
+use Rattle.algebra.specs.declared.node.Node.{Node}
+use Rattle.algebra.specs.declared.node.Node.TheVariants as node
+use Rattle.algebra.specs.declared.tree.DepTree.TheOpen as t
+use Rattle.algebra.specs.Trees.{Database, HasKinds, tree_step}
+use Rattle.algebra.specs.Plans.{plan_rows, plan_width, is_formed}
+use Rattle.algebra.proofs.Widths.{rows_are_wide}
+use Rattle.unnesting.specs.declared.from_rows.Apart.{Apart}
+use Rattle.unnesting.specs.Growth.{IsPut}
+use Rattle.unnesting.specs.FromRows.{GivesApart, IsGrown, IsSplit, IsKept, SelectsApart, JoinsApart}
+use Rattle.unnesting.proofs.Grown.{same_plan, put_more, put_rows, put_width, put_last}
+
+same_list : {X : Type 0} {xs ys : List X} → xs ≡ ys → SameBag xs ys
+same_list {xs = xs} e = subst (λ l. SameBag xs l) e (SameBag-refl xs)
+
+-- each row of a node is as wide as the node
+pub rows_wide : (db : Database) (nodes : List Node) (i w : ℕ) → IsTrue (is_formed nodes) → HasKinds db → plan_width nodes i ≡ w → Each (λ x. length x.values ≡ w) (plan_rows db nodes i)
+rows_wide db nodes i w formed kinds is = subst (λ n. Each (λ x. length x.values ≡ n) (plan_rows db nodes i)) is (rows_are_wide db nodes i kinds formed)
+
+-- a table
+all_scanned : (c : List Value → ℕ) → ((row : List Value) → c row ≡ true_rank) → (rows : List (List Value)) → select c (scanned rows) ≡ scanned rows
+all_scanned c e [] = refl
+all_scanned c e (r ∷ rows) = rw (e r, all_scanned c e rows) refl
+
+pub scan_apart : {before new : List Node} {table : TableName} (part : Apart) (n : ℕ) → IsPut before new (node.Scan table) part.rows → part.width ≡ length (kinds_of table) → part.conditions ≡ []
+    → GivesApart before new (tree_step (t.Scan table)) n part
+unfolding plan_width plan_rows
+scan_apart {before = before} {new = new} {table = table} part n p w none = record {
+  most = 0;
+  plan = put_more (same_plan before) p;
+  few = omega arith;
+  last = put_last p;
+  wide = put_width p ∙ sym w;
+  width = w;
+  rows = λ db k d ld.
+      same_list (ap (select (λ t. all_rank part.conditions (d ++ t))) (put_rows db p)
+      ∙ all_scanned (λ t. all_rank part.conditions (d ++ t)) (λ t. ap (λ es. all_rank es (d ++ t)) none) (db table));
+}
+
+-- the rows that no conditions keep are all
+pub kept_none : (nodes : List Node) (rows : ℕ) (conditions : List Expr) → conditions ≡ [] → length nodes ≡ rows + 1 → IsKept nodes nodes rows conditions rows
+kept_none nodes rows conditions none last = record {
+  plan = same_plan nodes;
+  last = last;
+  width = refl;
+  rows = λ db c le.
+      same_list (select_at_hand c (λ t. min (all_rank conditions t) (c t)) (plan_rows db nodes rows)
+      (Each-all (λ x. c x.values ≡ min (all_rank conditions x.values) (c x.values)) (plan_rows db nodes rows)
+      (λ x. let l = le x.values in let z = ap (λ es. all_rank es x.values) none in omega (arith, l, z))));
+}
+
+pub kept_some : (old new : List Node) (rows : ℕ) (conditions : List Expr) (c : Expr) (id : ℕ) → c ≡ e.All conditions → IsPut old new (node.Select rows c) id → IsKept old new rows conditions id
+unfolding plan_width plan_rows
+kept_some old new rows conditions c id is p = record {
+  plan = put_more (same_plan old) p;
+  last = put_last p;
+  width = put_width p;
+  rows = λ db q le.
+      let X = plan_rows db old rows in
+      SameBag-trans (same_list (ap (select q) (put_rows db p)))
+      (SameBag-trans (select_twice (rank_of c) q X)
+      (same_list (select_at_hand (λ t. min (rank_of c t) (q t)) (λ t. min (all_rank conditions t) (q t)) X
+      (Each-all (λ x. min (rank_of c x.values) (q x.values) ≡ min (all_rank conditions x.values) (q x.values)) X
+      (λ x. ap (λ k. min k (q x.values)) (ap (λ o. rank_of o x.values) is ∙ rank_All conditions x.values))))));
+}
+
+-- the rows that a condition keeps
+pub selects_apart : (old new : List Node) (n : ℕ) (part next : Apart) (c : Expr) (covered : List Expr) → IsTrue (is_formed old) → plan_width old part.rows ≡ part.width
+    → IsSplit n part.width part.conditions c covered next.conditions → IsKept old new part.rows covered next.rows → next.width ≡ part.width → SelectsApart old new n part c next
+unfolding says
+selects_apart old new n part next c covered formed wide split kept width = record {
+  plan = kept.plan;
+  last = kept.last;
+  wide = kept.width ∙ wide ∙ sym width;
+  width = width;
+  rows = λ db k d ld.
+      let X = plan_rows db old part.rows in
+      let E : List Value → ℕ = λ t. all_rank next.conditions (d ++ t) in
+      let P : List Value → ℕ = λ t. all_rank part.conditions (d ++ t) in
+      let C : List Value → ℕ = λ t. rank_of c (d ++ t) in
+      SameBag-trans (kept.rows db E (λ t. all_rank-le next.conditions (d ++ t)))
+      (SameBag-trans (same_list (select_at_hand (λ t. min (all_rank covered t) (E t)) (λ t. min (P t) (C t)) X
+      (Each-weaker (λ x. length x.values ≡ part.width) (λ x. min (all_rank covered x.values) (E x.values) ≡ min (P x.values) (C x.values)) X
+      (λ x l. split.says d x.values ld l) (rows_wide db old part.rows part.width formed k wide))))
+      (SameBag-sym (select_twice P C X)));
+}
+
+-- the rows joined with others
+pub joins_apart : (old new : List Node) (n : ℕ) (part next : Apart) (right more : ℕ) (c on : Expr) (grown covered : List Expr) → IsTrue (is_formed old) → plan_width old part.rows ≡ part.width
+    → plan_width old right ≡ more → IsGrown n part.width part.conditions grown → next.width ≡ part.width + more → IsSplit n next.width grown c covered next.conditions → on ≡ e.All covered
+    → IsPut old new (node.Join part.rows right [] on) next.rows → JoinsApart old new n part right more c next
+unfolding says plan_width plan_rows
+joins_apart old new n part next right more c on grown covered formed wide others g width split is p = record {
+  plan = put_more (same_plan old) p;
+  last = put_last p;
+  wide = let z = put_width p in omega (arith, z, wide, others, width);
+  width = width;
+  rows = λ db k d ld.
+      let X = plan_rows db old part.rows in
+      let Y = plan_rows db old right in
+      let K : List Value → ℕ = rank_of on in
+      let E : List Value → ℕ = λ t. all_rank next.conditions (d ++ t) in
+      let G : List Value → ℕ = λ t. all_rank grown (d ++ t) in
+      let P : List Value → ℕ = λ t. all_rank part.conditions (d ++ t) in
+      let C : List Value → ℕ = λ t. rank_of c (d ++ t) in
+      let wx : Each (λ x. length x.values ≡ part.width) X = rows_wide db old part.rows part.width formed k wide in
+      let wy : Each (λ y. length y.values ≡ more) Y = rows_wide db old right more formed k others in
+      let here : plan_rows db new next.rows ≡ join K X Y = put_rows db p ∙ inner_of_none same_value Null K X Y in
+      let long : (l r : List Value) → length l ≡ part.width → length r ≡ more → length (l ++ r) ≡ next.width = λ l r a b. let z = length-append l r in omega (arith, z, a, b, width) in
+      SameBag-trans (same_list (ap (select E) here))
+      (SameBag-trans (select_into_join K E X (λ l. Y))
+      (SameBag-trans (same_list (join_at_hand (λ r. min (K r) (E r)) (λ r. min (C r) (G r)) X (λ l. Y)
+      (Each-weaker (λ x. length x.values ≡ part.width) (λ x. Each (λ y. min (K (x.values ++ y.values)) (E (x.values ++ y.values)) ≡ min (C (x.values ++ y.values)) (G (x.values ++ y.values))) Y) X
+      (λ x lx. Each-weaker (λ y. length y.values ≡ more) (λ y. min (K (x.values ++ y.values)) (E (x.values ++ y.values)) ≡ min (C (x.values ++ y.values)) (G (x.values ++ y.values))) Y
+      (λ y ly.
+      let row = x.values ++ y.values in
+      let a : rank_of on row ≡ all_rank covered row = ap (λ o. rank_of o row) is ∙ rank_All covered row in
+      ap (λ m. min m (E row)) a ∙ split.says d row ld (long x.values y.values lx ly) ∙ turned (G row) (C row)) wy) wx)))
+      (SameBag-trans (SameBag-sym (select_into_join C G X (λ l. Y)))
+      (select_below_left C G P X (λ l. Y)
+      (Each-weaker (λ x. length x.values ≡ part.width) (OfLeft G P) X (λ x lx r. g.says d x.values r ld lx) wx)))));
+}
+  where
+    turned : (a b : ℕ) → min a b ≡ min b a
+    turned a b = omega arith
