@@ -52,7 +52,7 @@ module _ (es : List Expr) (aggregates : List Aggregate) where
   abbrev items : List Expr
   items = es ++ map argument_of aggregates
 
-  listed : Ranked Value → Ranked Value
+  abbrev listed : Ranked Value → Ranked Value
   listed x = ranked (values items x.values) x.standing
 
   key_listed : (x : Ranked Value) → columns Null (range_with_len 0 (length es)) (listed x).values ≡ values es x.values
@@ -160,8 +160,8 @@ grouped_width es aggregates moved by is_b is_m =
     let m : length moved ≡ length aggregates = ap length is_m ∙ places-length (length es) aggregates in
     omega (arith, b, m)
 
-pub grouped_rows : (es items : List Expr) (aggregates moved : List Aggregate) (by : List ℕ) (xs rows : List (Ranked Value)) → by ≡ range_with_len 0 (length es) → moved ≡ at_places (length es) aggregates
-    → items ≡ es ++ map argument_of aggregates → rows ≡ project (values items) xs → groups by moved rows ≡ expression_groups es aggregates xs
-grouped_rows es items aggregates moved by xs rows is_b is_m is_i is_r =
+pub grouped_rows : (es list : List Expr) (aggregates moved : List Aggregate) (by : List ℕ) (xs rows : List (Ranked Value)) → by ≡ range_with_len 0 (length es) → moved ≡ at_places (length es) aggregates
+    → list ≡ es ++ map argument_of aggregates → rows ≡ project (values list) xs → groups by moved rows ≡ expression_groups es aggregates xs
+grouped_rows es list aggregates moved by xs rows is_b is_m is_i is_r =
     ap (λ b. groups b moved rows) is_b ∙ ap (λ m. groups (range_with_len 0 (length es)) m rows) is_m
     ∙ ap (groups (range_with_len 0 (length es)) (at_places (length es) aggregates)) (is_r ∙ ap (λ l. project (values l) xs) is_i) ∙ by_expressions es aggregates xs

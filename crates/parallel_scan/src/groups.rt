@@ -49,6 +49,16 @@ fn grouped_parts<R: Threads + Sync>(
     Ok(parts)
 }
 
+// A bag of one batch.
+fn bag_of_one(alloc: Global, batch: Batch) -> Result<Bag, AllocError>
+    ensures width { IfOk result (λ b. b.width ≡ batch.width) }
+    ensures rows { IfOk result (λ b. b.rows ≡ batch.rows) }
+{
+    let mut bag = Bag::new(alloc, batch.width());
+    bag.push(batch)?;
+    Ok(bag)
+}
+
 // The groups of all parts.
 fn merged_bag<R: Threads + Sync>(
     rt: &R,
@@ -75,8 +85,7 @@ fn merged_bag<R: Threads + Sync>(
         aggregates,
     )?;
     let batch = Batch::of(columns, merged.least);
-    let mut bag = Bag::new(alloc, batch.width());
-    bag.push(batch)?;
+    let bag = bag_of_one(alloc, batch)?;
     Ok(bag)
 }
 

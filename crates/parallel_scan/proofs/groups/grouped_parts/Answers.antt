@@ -3,19 +3,15 @@ use Rattle.std.specs.Prelude.{IfOk, Ok}
 use Rattle.std.specs.Vec.{vec_len}
 use Rattle.std.specs.Fork.{slice_chunk}
 use Rattle.std.proofs.lemmas.List.{length-map}
-use Rattle.columns.specs.Bags.{bag_rows, AreWide}
+use Rattle.columns.specs.Bags.{bag_rows}
 use Rattle.hash_group.specs.declared.part.GroupedPart.{GroupedPart}
 use Rattle.hash_group.specs.PartGroups.{IsGrouped}
 use Rattle.parallel_scan.proofs.MergedParts.{all_rows, made_at}
-use Rattle.parallel_scan.proofs.StageRows.{chunk_wide}
 use Rattle.parallel_scan.proofs.groups.grouped_parts.Goals as goal
-
-pub map_chunks-made-requires-clause-accepts : goal.map_chunks-made-requires-clause-accepts
-map_chunks-made-requires-clause-accepts g c = λ start p is. chunk_wide c.width.result c.args.size start c.batches.result.now p.now c.batches.ensures.width is
 
 pub returns-clause-rows : goal.returns-clause-rows
 returns-clause-rows g c =
-    let batches = c.batches.result.now in
+    let batches = c.batches-batches.result.now in
     let size = c.args.size in
     let by = c.args.by.now in
     let made = c.in_ok-made.made.items in
@@ -29,7 +25,7 @@ returns-clause-rows g c =
     let m = k.call in
     let h : IfOk (get_or made n e) (λ p. (p.rows.rows ≡ bag_rows k.argument.now) × IsGrouped by p) = search rules in
     subst (λ bs. IfOk (get_or made n e) (λ p. (p.rows.rows ≡ bag_rows bs) × IsGrouped by p)) k.argument_is.value h)).0)
-    ∙ sym c.batches.ensures.rows
+    ∙ sym c.batches-batches.ensures.rows
 
 pub returns-clause-groups : goal.returns-clause-groups
 returns-clause-groups g c = λ n d l.
