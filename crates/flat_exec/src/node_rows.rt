@@ -1,11 +1,13 @@
 //! The rows of a node, as they are held.
-ghost use Rattle.std.specs.Prelude.{◌≡◌, IfOk};
+ghost use Rattle.std.specs.Prelude.{◌≡◌, ◌+◌, IfOk, length};
+ghost use Rattle.algebra.specs.Plans.{groups};
 ghost use Rattle.parallel_scan.specs.Stages.{stage_rows, stage_width};
 
 use crate::lent::LentBag;
 use crate::scan::LateScan;
+use algebra::Aggregate;
 use columns::Bag;
-use parallel_scan::{Stage, staged_bag};
+use parallel_scan::{Stage, bag_groups, staged_bag};
 use std::alloc::{AllocError, Global};
 use std::marker::Model;
 use std::thread::Threads;
@@ -109,6 +111,28 @@ impl<'a> NodeRows<'a> {
                 }
                 let bag = after.bag(rt, alloc)?;
                 Ok(NodeRows::made(bag))
+            }
+        }
+    }
+    /// The groups of the rows.
+    pub(crate) fn grouped<R: Threads + Sync>(
+        &self,
+        rt: &R,
+        alloc: Global,
+        by: &[u32],
+        aggregates: &[Aggregate],
+    ) -> Result<Bag, AllocError>
+        ensures width { IfOk result (λ b. b.width ≡ length by.now + length aggregates.now) }
+        ensures rows { IfOk result (λ b. b.rows ≡ groups by.now aggregates.now self.now.rows) }
+    {
+        match &self.held {
+            Held::Made(bag) => {
+                let made = bag_groups(rt, alloc, bag, by, aggregates)?;
+                Ok(made)
+            }
+            Held::Late(scan) => {
+                let made = scan.grouped(rt, alloc, by, aggregates)?;
+                Ok(made)
             }
         }
     }

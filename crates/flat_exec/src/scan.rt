@@ -3,12 +3,13 @@ ghost use Rattle.std.specs.Prelude.{◌≡◌, ◌+◌, ◌≤◌, ◌++◌, ◌
 ghost use Rattle.std.specs.List.{All};
 ghost use Rattle.row_laws.specs.Rows.{scanned};
 ghost use Rattle.columns.specs.Lists.{one_list};
+ghost use Rattle.algebra.specs.Plans.{groups};
 ghost use Rattle.tpch_schema.specs.Tables.{kinds_of};
 ghost use Rattle.parallel_scan.specs.Stages.{stage_rows, stage_width, staged, staged_width};
 
-use algebra::{Piece, Steps, Tables};
+use algebra::{Aggregate, Piece, Steps, Tables};
 use columns::Bag;
-use parallel_scan::{Stage, staged_scan};
+use parallel_scan::{Stage, staged_groups, staged_scan};
 use std::alloc::{AllocError, Global};
 use std::marker::Model;
 use std::sync::Arc;
@@ -88,6 +89,30 @@ impl<'a> LateScan<'a> {
             self.width,
             pieces.as_slice(),
             self.stages.as_slice(),
+        )?;
+        Ok(bag)
+    }
+
+    /// The groups of the rows.
+    pub(crate) fn grouped<R: Threads + Sync>(
+        &self,
+        rt: &R,
+        alloc: Global,
+        by: &[u32],
+        aggregates: &[Aggregate],
+    ) -> Result<Bag, AllocError>
+        ensures width { IfOk result (λ b. b.width ≡ length by.now + length aggregates.now) }
+        ensures rows { IfOk result (λ b. b.rows ≡ groups by.now aggregates.now self.now.rows) }
+    {
+        let pieces = &*self.pieces;
+        let bag = staged_groups(
+            rt,
+            alloc,
+            self.width,
+            pieces.as_slice(),
+            self.stages.as_slice(),
+            by,
+            aggregates,
         )?;
         Ok(bag)
     }
