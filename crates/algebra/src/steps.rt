@@ -34,7 +34,7 @@ impl<L: Ledger> Steps<L> {
         Steps { book, share }
     }
 
-    /// So many steps more.
+    /// Counts `steps` steps more.
     pub fn add(&mut self, steps: u64)
         ensures { self.new ≡ self.old + steps }
     {

@@ -6,17 +6,17 @@ use Rattle.std.proofs.lemmas.Bool.{ltb-true}
 use Rattle.row_laws.specs.Bags.{Each}
 use Rattle.refusals.specs.declared.bind.BindRefusal.TheVariants.{LateralReference}
 use Rattle.sql_ast.specs.declared.words.Column.{Column}
-use Rattle.sql_binder.specs.declared.scope.ColumnAt.{ColumnAt}
-use Rattle.sql_binder.specs.declared.scope.Place.{Place}
-use Rattle.sql_binder.specs.declared.scope.ScopeColumn.{ScopeColumn}
-use Rattle.sql_binder.specs.Names.{Around, ends, means, places, only, the_one, placed, found}
-use Rattle.sql_binder.specs.Names.{resolved_from, resolved}
-use Rattle.sql_binder.specs.Steps.{Checked, and_then}
+use Rattle.binder_steps.specs.declared.scope.ColumnAt.{ColumnAt}
+use Rattle.binder_steps.specs.declared.scope.Place.{Place}
+use Rattle.binder_steps.specs.declared.scope.ScopeColumn.{ScopeColumn}
+use Rattle.binder_steps.specs.Names.{Around, ends, means, places, only, the_one, placed, found}
+use Rattle.binder_steps.specs.Names.{resolved_from, resolved}
+use Rattle.binder_steps.specs.Steps.{Checked, and_then}
 use Rattle.sql_binder.proofs.OnlyProofs.{only_column}
 use Rattle.binder_laws.specs.Names.{NamesStand}
 use Rattle.binder_laws.proofs.TypedOperands.{went, ok_is}
 
--- the place is that of a column that passes a test, so many columns after a number
+-- the place is that of a column that passes a test, n columns after a number
 record Stood (test : ScopeColumn → Bool) (at : ℕ) (cs : List ScopeColumn) (p : Place)
     : Type 0 where
   n : ℕ
@@ -105,7 +105,7 @@ found_is wanted q out seen c h =
       at = v.is;
     })
 
--- a query so many levels out, the first that has the name
+-- a query n levels out, the first that has the name
 record Reached (wanted : Column) (out seen : ℕ) (levels : List Around) (c : ColumnAt)
     : Type 0 where
   n : ℕ

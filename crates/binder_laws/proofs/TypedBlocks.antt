@@ -15,11 +15,11 @@ use Rattle.nested_query.specs.Typing.{from_kinds, kind_of_aggregate}
 use Rattle.scalar_expr.specs.declared.kind.Kind.{Kind}
 use Rattle.scalar_expr.specs.declared.kind.Kind.TheVariants.{Text}
 use Rattle.sql_ast.specs.declared.words.Column.{Column}
-use Rattle.sql_binder.specs.declared.collected.BoundTable.{BoundTable}
-use Rattle.sql_binder.specs.declared.collected.Collected.{Collected}
-use Rattle.sql_binder.specs.declared.collected.FromRows.{FromRows}
-use Rattle.sql_binder.specs.declared.collected.Shown.{Shown}
-use Rattle.sql_binder.specs.declared.scope.ScopeColumn.{ScopeColumn}
+use Rattle.binder_steps.specs.declared.collected.BoundTable.{BoundTable}
+use Rattle.binder_steps.specs.declared.collected.Collected.{Collected}
+use Rattle.binder_steps.specs.declared.collected.FromRows.{FromRows}
+use Rattle.binder_steps.specs.declared.collected.Shown.{Shown}
+use Rattle.binder_steps.specs.declared.scope.ScopeColumn.{ScopeColumn}
 use Rattle.sql_binder.specs.Blocks.{is_grouped, from_where, over_rows, group_lists, over_groups}
 use Rattle.sql_binder.specs.Blocks.{clauses, block_step}
 use Rattle.sql_binder.specs.Clauses.{condition_in, condition}
@@ -27,11 +27,11 @@ use Rattle.sql_binder.specs.Clauses.{select_in, select}
 use Rattle.sql_binder.specs.FromLists.{from_list}
 use Rattle.sql_binder.specs.Meanings.{SelectedMeaning, ClauseMeaning}
 use Rattle.sql_binder.specs.Meanings.{JoinedMeaning, BlockNode}
-use Rattle.sql_binder.specs.Names.{Sight, the_one}
-use Rattle.sql_binder.specs.Parts.{inside}
-use Rattle.sql_binder.specs.Parts.{keys_from, keys_of, plain, closing, once_each}
-use Rattle.sql_binder.specs.Steps.{Binding, ◌>>=◌, pure, lift}
-use Rattle.sql_binder.specs.Steps.{apart, take_aggregates}
+use Rattle.binder_steps.specs.Names.{Sight, the_one}
+use Rattle.binder_steps.specs.Parts.{inside}
+use Rattle.binder_steps.specs.Parts.{keys_from, keys_of, plain, closing, once_each}
+use Rattle.binder_steps.specs.Steps.{Binding, ◌>>=◌, pure, lift}
+use Rattle.binder_steps.specs.Steps.{apart, take_aggregates}
 use Rattle.binder_laws.specs.WellTyped.{header_kinds}
 use Rattle.binder_laws.proofs.TypedOperands.{went, ok_is}
 use Rattle.binder_laws.proofs.TypedNames.{the_one_kind}

@@ -20,10 +20,10 @@ use Rattle.scalar_expr.specs.Typing.{all_sorts, branches_sorts}
 use Rattle.scalar_expr.specs.Typing.{is_condition as is_test}
 use Rattle.scalar_expr.proofs.Typed.{branch_sort_is}
 use Rattle.sql_value.specs.declared.value.Value.TheVariants as value
-use Rattle.sql_binder.specs.declared.collected.BoundKind.{BoundKind}
-use Rattle.sql_binder.specs.declared.collected.BoundKind.TheVariants.{Value, Condition}
-use Rattle.sql_binder.specs.Kinds as kinds
-use Rattle.sql_binder.specs.Values.{branches}
+use Rattle.binder_steps.specs.declared.collected.BoundKind.{BoundKind}
+use Rattle.binder_steps.specs.declared.collected.BoundKind.TheVariants.{Value, Condition}
+use Rattle.binder_steps.specs.Kinds as kinds
+use Rattle.binder_steps.specs.Values.{branches}
 use Rattle.binder_laws.proofs.TypedOperands.{IsOf, went, ok_is, case_is, null_is, AreTests, test_of}
 use Rattle.binder_laws.proofs.TypedOperands.{AreOf}
 

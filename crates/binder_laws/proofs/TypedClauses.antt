@@ -14,21 +14,21 @@ use Rattle.nested_query.specs.Typing.{kind_of_aggregate, typing_of}
 use Rattle.scalar_expr.specs.declared.expr.Expr.TheVariants as e
 use Rattle.scalar_expr.specs.declared.kind.Kind.{Kind}
 use Rattle.scalar_expr.specs.Typing.Sort.{Of}
-use Rattle.sql_binder.specs.declared.collected.BoundKind.{BoundKind}
-use Rattle.sql_binder.specs.declared.collected.BoundKind.TheVariants.{Value, Condition}
-use Rattle.sql_binder.specs.declared.collected.Collected.{Collected}
-use Rattle.sql_binder.specs.declared.collected.Part.{Part}
-use Rattle.sql_binder.specs.declared.collected.Shown.{Shown}
-use Rattle.sql_binder.specs.declared.collected.Typed.{Typed}
-use Rattle.sql_binder.specs.declared.scope.ScopeColumn.{ScopeColumn}
-use Rattle.sql_binder.specs.declared.view.Header.{Header}
+use Rattle.binder_steps.specs.declared.collected.BoundKind.{BoundKind}
+use Rattle.binder_steps.specs.declared.collected.BoundKind.TheVariants.{Value, Condition}
+use Rattle.binder_steps.specs.declared.collected.Collected.{Collected}
+use Rattle.binder_steps.specs.declared.collected.Part.{Part}
+use Rattle.binder_steps.specs.declared.collected.Shown.{Shown}
+use Rattle.binder_steps.specs.declared.collected.Typed.{Typed}
+use Rattle.binder_steps.specs.declared.scope.ScopeColumn.{ScopeColumn}
+use Rattle.binder_steps.specs.declared.view.Header.{Header}
 use Rattle.sql_binder.specs.Clauses.{condition_in, shown_item, items_from, shown_items}
 use Rattle.sql_binder.specs.Clauses.{select_in}
 use Rattle.sql_binder.specs.Meanings.{ItemMeaning, SelectedMeaning, ClauseMeaning}
-use Rattle.sql_binder.specs.Names.{Sight, placed}
-use Rattle.sql_binder.specs.Parts.{keys_by, inside, no_condition, holding, listed, shown_by}
-use Rattle.sql_binder.specs.Parts.{shown_part, nothing_shown, one_column, star_from, star}
-use Rattle.sql_binder.specs.Steps.{Name, Checked, Binding, ◌>>=◌, pure, lift, alone}
+use Rattle.binder_steps.specs.Names.{Sight, placed}
+use Rattle.binder_steps.specs.Parts.{keys_by, inside, no_condition, holding, listed, shown_by}
+use Rattle.binder_steps.specs.Parts.{shown_part, nothing_shown, one_column, star_from, star}
+use Rattle.binder_steps.specs.Steps.{Name, Checked, Binding, ◌>>=◌, pure, lift, alone}
 use Rattle.binder_laws.specs.WellTyped.{header_kinds}
 use Rattle.binder_laws.proofs.TypedOperands.{went, ok_is, column_typed, all_typed}
 use Rattle.binder_laws.proofs.TypedNames.{placed_kind}

@@ -17,22 +17,22 @@ use Rattle.nested_query.specs.Typing.{typing_of}
 use Rattle.scalar_expr.specs.declared.kind.Kind.{Kind}
 use Rattle.sql_ast.specs.declared.words.JoinKind.{JoinKind}
 use Rattle.sql_ast.specs.declared.words.JoinKind.TheVariants.{Inner, LeftOuter}
-use Rattle.sql_binder.specs.declared.collected.BoundKind.{BoundKind}
-use Rattle.sql_binder.specs.declared.collected.BoundKind.TheVariants.{Value, Condition}
-use Rattle.sql_binder.specs.declared.collected.Collected.{Collected}
-use Rattle.sql_binder.specs.declared.collected.FromRows.{FromRows}
-use Rattle.sql_binder.specs.declared.collected.Part.{Part as Bound}
-use Rattle.sql_binder.specs.declared.from.Joining.{Joining}
-use Rattle.sql_binder.specs.declared.scope.ScopeColumn.{ScopeColumn}
+use Rattle.binder_steps.specs.declared.collected.BoundKind.{BoundKind}
+use Rattle.binder_steps.specs.declared.collected.BoundKind.TheVariants.{Value, Condition}
+use Rattle.binder_steps.specs.declared.collected.Collected.{Collected}
+use Rattle.binder_steps.specs.declared.collected.FromRows.{FromRows}
+use Rattle.binder_steps.specs.declared.collected.Part.{Part as Bound}
+use Rattle.binder_steps.specs.declared.from.Joining.{Joining}
+use Rattle.binder_steps.specs.declared.scope.ScopeColumn.{ScopeColumn}
 use Rattle.sql_binder.specs.FromLists.{on_condition, on_joining, joins_from, joins, chained}
 use Rattle.sql_binder.specs.FromLists.{from_list_after, from_list}
-use Rattle.sql_binder.specs.Kinds.{is_condition}
+use Rattle.binder_steps.specs.Kinds.{is_condition}
 use Rattle.sql_binder.specs.Meanings.{Meaning, FromItemMeaning, JoinMeaning, JoinedMeaning}
-use Rattle.sql_binder.specs.Names.{Around, Sight}
-use Rattle.sql_binder.specs.Parts.{keys_by, within_on}
-use Rattle.sql_binder.specs.Parts.{columns_so_far, first_rows, crossed, joining, joined_rows}
-use Rattle.sql_binder.specs.Parts.{present, holding}
-use Rattle.sql_binder.specs.Steps.{◌>>=◌, alone}
+use Rattle.binder_steps.specs.Names.{Around, Sight}
+use Rattle.binder_steps.specs.Parts.{keys_by, within_on}
+use Rattle.binder_steps.specs.Parts.{columns_so_far, first_rows, crossed, joining, joined_rows}
+use Rattle.binder_steps.specs.Parts.{present, holding}
+use Rattle.binder_steps.specs.Steps.{◌>>=◌, alone}
 use Rattle.binder_laws.proofs.TypedOperands.{went, ok_is, fit}
 use Rattle.binder_laws.proofs.TypedSteps.{Ready, row_kinds, RowFits, Fits, BoundIs, same_pair}
 use Rattle.binder_laws.proofs.TypedSteps.{closed_part}

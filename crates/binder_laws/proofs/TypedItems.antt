@@ -18,20 +18,20 @@ use Rattle.tpch_schema.specs.declared.table.TableName.TheVariants.{Region, Natio
 use Rattle.tpch_schema.specs.declared.table.TableName.TheVariants.{Partsupp, Customer, Orders}
 use Rattle.tpch_schema.specs.declared.table.TableName.TheVariants.{Lineitem}
 use Rattle.tpch_schema.specs.Tables.{table_of}
-use Rattle.sql_binder.specs.declared.collected.Collected.{Collected}
-use Rattle.sql_binder.specs.declared.collected.FromRows.{FromRows}
-use Rattle.sql_binder.specs.declared.from.NamedItem.{NamedItem}
-use Rattle.sql_binder.specs.declared.scope.ScopeColumn.{ScopeColumn}
-use Rattle.sql_binder.specs.declared.view.Header.{Header}
-use Rattle.sql_binder.specs.declared.view.View.{View}
+use Rattle.binder_steps.specs.declared.collected.Collected.{Collected}
+use Rattle.binder_steps.specs.declared.collected.FromRows.{FromRows}
+use Rattle.binder_steps.specs.declared.from.NamedItem.{NamedItem}
+use Rattle.binder_steps.specs.declared.scope.ScopeColumn.{ScopeColumn}
+use Rattle.binder_steps.specs.declared.view.Header.{Header}
+use Rattle.binder_steps.specs.declared.view.View.{View}
 use Rattle.sql_binder.specs.Meanings.{FromItemMeaning}
 use Rattle.sql_binder.specs.Meanings.{BlockMeaning}
-use Rattle.sql_binder.specs.Names.{Sight}
-use Rattle.sql_binder.specs.Parts.{hiding, table_headers, view_named, named_by}
-use Rattle.sql_binder.specs.Parts.{named_item, unused, column_of, under_names, renamed_headers}
-use Rattle.sql_binder.specs.Parts.{distinct_names, listed_headers, table_rows, named_rows}
-use Rattle.sql_binder.specs.Steps.{Name, Checked, ◌>>=◌, lift}
-use Rattle.sql_binder.specs.Steps.{counted}
+use Rattle.binder_steps.specs.Names.{Sight}
+use Rattle.binder_steps.specs.Parts.{hiding, table_headers, view_named, named_by}
+use Rattle.binder_steps.specs.Parts.{named_item, unused, column_of, under_names, renamed_headers}
+use Rattle.binder_steps.specs.Parts.{distinct_names, listed_headers, table_rows, named_rows}
+use Rattle.binder_steps.specs.Steps.{Name, Checked, ◌>>=◌, lift}
+use Rattle.binder_steps.specs.Steps.{counted}
 use Rattle.binder_laws.specs.WellTyped.{header_kinds, ViewsAreTyped}
 use Rattle.binder_laws.proofs.TypedOperands.{went, ok_is}
 use Rattle.binder_laws.proofs.TypedSteps.{Ready, row_kinds, Fits, same_pair}

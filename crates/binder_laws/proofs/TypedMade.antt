@@ -11,19 +11,19 @@ use Rattle.scalar_expr.specs.declared.kind.Kind.{Kind}
 use Rattle.sql_ast.specs.declared.words.Adding.{Adding}
 use Rattle.sql_ast.specs.declared.words.Comparison.{Comparison as Compared}
 use Rattle.sql_ast.specs.declared.words.Span.{Span}
-use Rattle.sql_binder.specs.declared.collected.BoundKind.{BoundKind}
-use Rattle.sql_binder.specs.declared.collected.Chain.{Chain}
-use Rattle.sql_binder.specs.declared.collected.Conditions.{Conditions}
-use Rattle.sql_binder.specs.declared.collected.Operands.{Operands}
-use Rattle.sql_binder.specs.declared.collected.Typed.{Typed}
-use Rattle.sql_binder.specs.Kinds as kinds
-use Rattle.sql_binder.specs.Steps.{Checked}
-use Rattle.sql_binder.specs.Values.{negative, compared}
-use Rattle.sql_binder.specs.Values.{comparison_of, null_test, between, liked, in_list, denied}
-use Rattle.sql_binder.specs.Values.{extracted, part_of, substring, begun, operated, moved_by}
-use Rattle.sql_binder.specs.Values.{interval_count, shifted, ended_by, ended, first_condition}
-use Rattle.sql_binder.specs.Values.{next_condition, all_of, any_of}
-use Rattle.sql_binder.specs.Values.{case_of, case_else_of, chosen}
+use Rattle.binder_steps.specs.declared.collected.BoundKind.{BoundKind}
+use Rattle.binder_steps.specs.declared.collected.Chain.{Chain}
+use Rattle.binder_steps.specs.declared.collected.Conditions.{Conditions}
+use Rattle.binder_steps.specs.declared.collected.Operands.{Operands}
+use Rattle.binder_steps.specs.declared.collected.Typed.{Typed}
+use Rattle.binder_steps.specs.Kinds as kinds
+use Rattle.binder_steps.specs.Steps.{Checked}
+use Rattle.binder_steps.specs.Values.{negative, compared}
+use Rattle.binder_steps.specs.Values.{comparison_of, null_test, between, liked, in_list, denied}
+use Rattle.binder_steps.specs.Values.{extracted, part_of, substring, begun, operated, moved_by}
+use Rattle.binder_steps.specs.Values.{interval_count, shifted, ended_by, ended, first_condition}
+use Rattle.binder_steps.specs.Values.{next_condition, all_of, any_of}
+use Rattle.binder_steps.specs.Values.{case_of, case_else_of, chosen}
 use Rattle.binder_laws.proofs.TypedOperands.{went, ok_is, fit, IsOf, IsChain, AreOf, AreTests}
 use Rattle.binder_laws.proofs.TypedOperands.{negative_typed, compared_typed}
 use Rattle.binder_laws.proofs.TypedOperands.{null_test_typed, between_typed, liked_typed}

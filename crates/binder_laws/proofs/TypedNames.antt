@@ -14,16 +14,16 @@ use Rattle.nested_query.specs.declared.query.Input.TheVariants as input
 use Rattle.refusals.specs.declared.bind.BindRefusal.TheVariants.{LateralReference}
 use Rattle.scalar_expr.specs.declared.kind.Kind.{Kind}
 use Rattle.sql_ast.specs.declared.words.Column.{Column}
-use Rattle.sql_binder.specs.declared.scope.ColumnAt.{ColumnAt}
-use Rattle.sql_binder.specs.declared.scope.Place.{Place}
-use Rattle.sql_binder.specs.declared.scope.ScopeColumn.{ScopeColumn}
-use Rattle.sql_binder.specs.Steps.{Checked, and_then}
-use Rattle.sql_binder.specs.Names.{Around, Sight, places, only, the_one, key_at, key_of, placed}
-use Rattle.sql_binder.specs.Names.{found, ends, means, resolved, resolved_from}
+use Rattle.binder_steps.specs.declared.scope.ColumnAt.{ColumnAt}
+use Rattle.binder_steps.specs.declared.scope.Place.{Place}
+use Rattle.binder_steps.specs.declared.scope.ScopeColumn.{ScopeColumn}
+use Rattle.binder_steps.specs.Steps.{Checked, and_then}
+use Rattle.binder_steps.specs.Names.{Around, Sight, places, only, the_one, key_at, key_of, placed}
+use Rattle.binder_steps.specs.Names.{found, ends, means, resolved, resolved_from}
 use Rattle.binder_laws.proofs.TypedOperands.{went, ok_is}
 use Rattle.binder_laws.proofs.TypedSteps.{row_kinds, RowFits, Fits}
 
--- a place has the kind that is said, so many columns after a number
+-- a place has the kind that is said, n columns after a number
 abbrev PlaceIs : ℕ → List ScopeColumn → Place → Type 0
 PlaceIs at cs p = (n : ℕ) × (p.at ≡ at + n) × (slice_get (row_kinds cs) n ≡ Some p.kind)
 
@@ -77,7 +77,7 @@ placed_kind None cs row at j k h fits is = ap (λ r. slice_get r j) fits
 placed_kind (Some keys) cs row at j k h fits is =
     fits j at k (key_stands keys at j (key_is (key_of keys at) j h)) is
 
--- a column that was found, so many levels out
+-- a column that was found, `out` levels out
 record FoundIs (keys : Option (List ℕ)) (columns : List ScopeColumn) (out seen : ℕ) (c : ColumnAt) :
     Type 0 where
   level : c.level ≡ out

@@ -12,27 +12,27 @@ use Rattle.scalar_expr.specs.declared.kind.Kind.TheVariants.{Number}
 use Rattle.sql_ast.specs.declared.words.Column.{Column}
 use Rattle.sql_ast.specs.declared.words.Comparison.{Comparison as Compared}
 use Rattle.sql_ast.specs.declared.words.Span.{Span}
-use Rattle.sql_binder.specs.declared.collected.BoundKind.TheVariants.{Value, Condition}
-use Rattle.sql_binder.specs.declared.collected.Chain.{Chain}
-use Rattle.sql_binder.specs.declared.collected.Collected.{Collected}
-use Rattle.sql_binder.specs.declared.collected.Conditions.{Conditions}
-use Rattle.sql_binder.specs.declared.collected.Operands.{Operands}
-use Rattle.sql_binder.specs.declared.collected.Typed.{Typed}
-use Rattle.sql_binder.specs.declared.scope.ColumnAt.{ColumnAt}
-use Rattle.sql_binder.specs.Names.{Sight, resolved}
-use Rattle.sql_binder.specs.Steps.{Name, Checked, ◌>>=◌, pure, lift}
-use Rattle.sql_binder.specs.Steps.{input as one_input}
-use Rattle.sql_binder.specs.Values.{typed, negative, compared}
-use Rattle.sql_binder.specs.Values.{null_test, between, liked, in_list, denied}
-use Rattle.sql_binder.specs.Values.{extracted, substring, begun}
-use Rattle.sql_binder.specs.Values.{ended, first_condition}
-use Rattle.sql_binder.specs.Values.{next_condition, all_of, any_of, with_operand, no_operands}
-use Rattle.sql_binder.specs.Values.{case_of, case_else_of}
+use Rattle.binder_steps.specs.declared.collected.BoundKind.TheVariants.{Value, Condition}
+use Rattle.binder_steps.specs.declared.collected.Chain.{Chain}
+use Rattle.binder_steps.specs.declared.collected.Collected.{Collected}
+use Rattle.binder_steps.specs.declared.collected.Conditions.{Conditions}
+use Rattle.binder_steps.specs.declared.collected.Operands.{Operands}
+use Rattle.binder_steps.specs.declared.collected.Typed.{Typed}
+use Rattle.binder_steps.specs.declared.scope.ColumnAt.{ColumnAt}
+use Rattle.binder_steps.specs.Names.{Sight, resolved}
+use Rattle.binder_steps.specs.Steps.{Name, Checked, ◌>>=◌, pure, lift}
+use Rattle.binder_steps.specs.Steps.{input as one_input}
+use Rattle.binder_steps.specs.Values.{typed, negative, compared}
+use Rattle.binder_steps.specs.Values.{null_test, between, liked, in_list, denied}
+use Rattle.binder_steps.specs.Values.{extracted, substring, begun}
+use Rattle.binder_steps.specs.Values.{ended, first_condition}
+use Rattle.binder_steps.specs.Values.{next_condition, all_of, any_of, with_operand, no_operands}
+use Rattle.binder_steps.specs.Values.{case_of, case_else_of}
 use Rattle.sql_binder.specs.Meanings.{Meaning, ChainMeaning, ArmMeaning}
 use Rattle.sql_binder.specs.Operands.{conditions_from, conditions, operands_from, operands}
 use Rattle.sql_binder.specs.Operands.{chain_from, chain, conditions_of_arms, arm_conditions}
 use Rattle.sql_binder.specs.Operands.{values_of_arms, arm_values}
-use Rattle.sql_binder.specs.Parts.{column}
+use Rattle.binder_steps.specs.Parts.{column}
 use Rattle.binder_laws.proofs.TypedOperands.{AreOf}
 use Rattle.binder_laws.proofs.TypedOperands.{column_typed, mark_typed}
 use Rattle.binder_laws.proofs.TypedOperands.{are_more}

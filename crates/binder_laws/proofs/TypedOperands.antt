@@ -28,11 +28,11 @@ use Rattle.scalar_expr.specs.Typing.{is_condition as is_test}
 use Rattle.scalar_expr.proofs.Typed.{sort_at_node, test_at_node, operation_sort_is}
 use Rattle.sql_value.specs.declared.value.Value.{Value as Datum}
 use Rattle.sql_value.specs.declared.value.Value.TheVariants as value
-use Rattle.sql_binder.specs.declared.collected.BoundKind.{BoundKind}
-use Rattle.sql_binder.specs.declared.collected.BoundKind.TheVariants.{Value, Condition}
-use Rattle.sql_binder.specs.Steps.{Checked, and_then}
-use Rattle.sql_binder.specs.Kinds as kinds
-use Rattle.sql_binder.specs.Kinds.{where_fit, fits}
+use Rattle.binder_steps.specs.declared.collected.BoundKind.{BoundKind}
+use Rattle.binder_steps.specs.declared.collected.BoundKind.TheVariants.{Value, Condition}
+use Rattle.binder_steps.specs.Steps.{Checked, and_then}
+use Rattle.binder_steps.specs.Kinds as kinds
+use Rattle.binder_steps.specs.Kinds.{where_fit, fits}
 
 -- an expression is of this kind over inputs of these kinds
 abbrev pub IsOf : Expr → BoundKind → List Kind → Type 0

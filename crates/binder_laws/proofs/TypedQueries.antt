@@ -22,23 +22,23 @@ use Rattle.scalar_expr.specs.declared.expr.Expr.TheVariants as e
 use Rattle.scalar_expr.specs.declared.kind.Kind.{Kind}
 use Rattle.scalar_expr.specs.declared.kind.Kind.TheVariants.{Number, Text, Date}
 use Rattle.scalar_expr.specs.Typing.{Of, comparable}
-use Rattle.sql_binder.specs.declared.collected.BoundKind.{BoundKind}
-use Rattle.sql_binder.specs.declared.collected.BoundKind.TheVariants.{Value, Condition}
-use Rattle.sql_binder.specs.declared.collected.BoundTable.{BoundTable}
-use Rattle.sql_binder.specs.declared.collected.Collected.{Collected}
-use Rattle.sql_binder.specs.declared.collected.Part.{Part}
-use Rattle.sql_binder.specs.declared.collected.Typed.{Typed}
-use Rattle.sql_binder.specs.declared.view.Header.{Header}
-use Rattle.sql_binder.specs.Kinds as kinds
-use Rattle.sql_binder.specs.Kinds.{fits}
+use Rattle.binder_steps.specs.declared.collected.BoundKind.{BoundKind}
+use Rattle.binder_steps.specs.declared.collected.BoundKind.TheVariants.{Value, Condition}
+use Rattle.binder_steps.specs.declared.collected.BoundTable.{BoundTable}
+use Rattle.binder_steps.specs.declared.collected.Collected.{Collected}
+use Rattle.binder_steps.specs.declared.collected.Part.{Part}
+use Rattle.binder_steps.specs.declared.collected.Typed.{Typed}
+use Rattle.binder_steps.specs.declared.view.Header.{Header}
+use Rattle.binder_steps.specs.Kinds as kinds
+use Rattle.binder_steps.specs.Kinds.{fits}
 use Rattle.sql_binder.specs.Meanings.{Meaning, BlockMeaning}
-use Rattle.sql_binder.specs.Names.{Around, Sight}
-use Rattle.sql_binder.specs.Parts.{keys_by, rows_of, among_rows, grouped_by, grouped, aggregated}
-use Rattle.sql_binder.specs.Parts.{reads_groups, any_outer, place_of, single, member, existing}
-use Rattle.sql_binder.specs.Parts.{containing, only_value, mark}
-use Rattle.sql_binder.specs.Steps.{Binding, ◌>>=◌, pure, refuse, lift, alone}
-use Rattle.sql_binder.specs.Steps.{aggregate as one_aggregate, input as one_input}
-use Rattle.sql_binder.specs.Values.{typed}
+use Rattle.binder_steps.specs.Names.{Around, Sight}
+use Rattle.binder_steps.specs.Parts.{keys_by, rows_of, among_rows, grouped_by, grouped, aggregated}
+use Rattle.binder_steps.specs.Parts.{reads_groups, any_outer, place_of, single, member, existing}
+use Rattle.binder_steps.specs.Parts.{containing, only_value, mark}
+use Rattle.binder_steps.specs.Steps.{Binding, ◌>>=◌, pure, refuse, lift, alone}
+use Rattle.binder_steps.specs.Steps.{aggregate as one_aggregate, input as one_input}
+use Rattle.binder_steps.specs.Values.{typed}
 use Rattle.binder_laws.specs.WellTyped.{header_kinds}
 use Rattle.binder_laws.proofs.TypedOperands.{went, ok_is, fit}
 use Rattle.binder_laws.proofs.TypedSteps.{Ready, row_kinds, RowFits, Fits, own_rows, Counted}

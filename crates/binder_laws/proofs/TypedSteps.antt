@@ -12,16 +12,16 @@ use Rattle.nested_query.specs.declared.query.Input.{Input}
 use Rattle.scalar_expr.specs.Typing.Sort.{Of}
 use Rattle.scalar_expr.specs.declared.expr.Expr.{Expr}
 use Rattle.scalar_expr.specs.declared.kind.Kind.{Kind}
-use Rattle.sql_binder.specs.declared.collected.BoundKind.{BoundKind}
-use Rattle.sql_binder.specs.declared.collected.BoundKind.TheVariants.{Value, Condition}
-use Rattle.sql_binder.specs.declared.collected.Collected.{Collected}
-use Rattle.sql_binder.specs.declared.collected.Part.{Part}
-use Rattle.sql_binder.specs.declared.collected.Typed.{Typed}
-use Rattle.sql_binder.specs.declared.scope.ScopeColumn.{ScopeColumn}
-use Rattle.sql_binder.specs.Steps.{Checked, Binding, ◌>>=◌, pure, lift, input, aggregate}
-use Rattle.sql_binder.specs.Steps.{alone}
-use Rattle.sql_binder.specs.Names.{Around, Sight}
-use Rattle.sql_binder.specs.Parts.{keys_by}
+use Rattle.binder_steps.specs.declared.collected.BoundKind.{BoundKind}
+use Rattle.binder_steps.specs.declared.collected.BoundKind.TheVariants.{Value, Condition}
+use Rattle.binder_steps.specs.declared.collected.Collected.{Collected}
+use Rattle.binder_steps.specs.declared.collected.Part.{Part}
+use Rattle.binder_steps.specs.declared.collected.Typed.{Typed}
+use Rattle.binder_steps.specs.declared.scope.ScopeColumn.{ScopeColumn}
+use Rattle.binder_steps.specs.Steps.{Checked, Binding, ◌>>=◌, pure, lift, input, aggregate}
+use Rattle.binder_steps.specs.Steps.{alone}
+use Rattle.binder_steps.specs.Names.{Around, Sight}
+use Rattle.binder_steps.specs.Parts.{keys_by}
 use Rattle.binder_laws.specs.WellTyped.{ViewsAreTyped}
 use Rattle.binder_laws.proofs.TypedOperands.{went, ok_is, IsOf}
 

@@ -3,8 +3,8 @@ use Rattle.std.proofs.Common.{◌≡◌, ℕ, List, [], ◌∷◌, map, sym, ap,
 use Rattle.std.specs.Prelude.{Option, Some, None, unwrap_or, Result, Ok, Err, ok_or}
 use Rattle.scalar_expr.specs.declared.kind.Kind.{Kind}
 use Rattle.nested_query.specs.Typing.{block_kinds}
-use Rattle.sql_binder.specs.declared.collected.BoundTable.{BoundTable}
-use Rattle.sql_binder.specs.declared.view.View.{View}
+use Rattle.binder_steps.specs.declared.collected.BoundTable.{BoundTable}
+use Rattle.binder_steps.specs.declared.view.View.{View}
 use Rattle.row_laws.specs.Bags.{Each}
 use Rattle.civil_date.specs.Date.{date_of}
 use Rattle.civil_date.specs.declared.DateFault.{DateFault}
@@ -33,21 +33,21 @@ use Rattle.sql_ast.specs.declared.tree.Clause.TheFolds.{map-Joined, map-Term}
 use Rattle.sql_ast.specs.declared.words.Adding.{Adding}
 use Rattle.sql_ast.specs.declared.words.Span.{Span}
 use Rattle.nested_query.specs.declared.query.BoundQuery.{BoundQuery}
-use Rattle.sql_binder.specs.declared.collected.Chain.{Chain}
-use Rattle.sql_binder.specs.declared.collected.Collected.{Collected}
-use Rattle.sql_binder.specs.declared.collected.Typed.{Typed}
+use Rattle.binder_steps.specs.declared.collected.Chain.{Chain}
+use Rattle.binder_steps.specs.declared.collected.Collected.{Collected}
+use Rattle.binder_steps.specs.declared.collected.Typed.{Typed}
 use Rattle.sql_binder.specs.Binding.{bound_view, clause_meaning, meaning, from_item_meaning}
 use Rattle.sql_binder.specs.Binding.{selected_meaning, arm_meaning, block_meaning, factor_meaning}
 use Rattle.sql_binder.specs.Binding.{item_meaning, join_meaning, joined_meaning, term_meaning}
 use Rattle.sql_binder.specs.Binding.{bound_query, bound_table, counted_table, start}
 use Rattle.sql_binder.specs.Meanings.{Meaning}
-use Rattle.sql_binder.specs.Names.{Sight}
+use Rattle.binder_steps.specs.Names.{Sight}
 use Rattle.sql_binder.specs.Operands.{term_by}
-use Rattle.sql_binder.specs.Parts.{function_of, order_of, outermost, distinct_names}
-use Rattle.sql_binder.specs.Parts.{renamed_headers}
-use Rattle.sql_binder.specs.Steps.{Name, lift}
-use Rattle.sql_binder.specs.Values.{adding_of, multiplying_of, date_literal, dated_by, shifted}
-use Rattle.sql_binder.specs.Values.{operated}
+use Rattle.binder_steps.specs.Parts.{function_of, order_of, outermost, distinct_names}
+use Rattle.binder_steps.specs.Parts.{renamed_headers}
+use Rattle.binder_steps.specs.Steps.{Name, lift}
+use Rattle.binder_steps.specs.Values.{adding_of, multiplying_of, date_literal, dated_by, shifted}
+use Rattle.binder_steps.specs.Values.{operated}
 use Rattle.sql_binder.proofs.Opened.{clause_meaning_at, clause_meaning_is, meaning_at, meaning_is}
 use Rattle.sql_binder.proofs.Opened.{from_item_meaning_at, from_item_meaning_is}
 use Rattle.sql_binder.proofs.Opened.{selected_meaning_at, selected_meaning_is, arm_meaning_at}

@@ -22,7 +22,7 @@ use Rattle.sql_value.specs.declared.value.Value.{Value}
 use Rattle.sql_value.specs.declared.value.Value.TheVariants.{Null, Fault as Failed, Number, Text}
 use Rattle.sql_value.specs.declared.value.Value.TheVariants.{Date}
 use Rattle.tpch_schema.specs.State.{State}
-use Rattle.sql_binder.specs.Steps.{Name, Checked, and_then}
+use Rattle.binder_steps.specs.Steps.{Name, Checked, and_then}
 use Rattle.sql_binder.specs.Binding.{bound_query}
 use Rattle.sql_binder.specs.Examples.{named, number, plus, minus, item, from_table, from_derived}
 use Rattle.sql_binder.specs.Examples.{select_from, select_where, statement, r_name}

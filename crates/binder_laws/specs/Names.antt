@@ -1,10 +1,10 @@
 -- What a name stands for, in the words of the queries around.
 use Rattle.std.specs.Prelude.{◌≡◌, ℕ, ◌-◌, ◌<◌, true, length, Some, Ok, slice_get}
 use Rattle.sql_ast.specs.declared.words.Column.{Column}
-use Rattle.sql_binder.specs.declared.scope.ColumnAt.{ColumnAt}
-use Rattle.sql_binder.specs.declared.scope.ScopeColumn.{ScopeColumn}
+use Rattle.binder_steps.specs.declared.scope.ColumnAt.{ColumnAt}
+use Rattle.binder_steps.specs.declared.scope.ScopeColumn.{ScopeColumn}
 use Rattle.sql_binder.specs.Laws.{IsInnermost}
-use Rattle.sql_binder.specs.Names.{Around, Sight, means, placed, resolved}
+use Rattle.binder_steps.specs.Names.{Around, Sight, means, placed, resolved}
 
 -- The name stands for this column: its query is the innermost around that has the name, no derived
 -- table hides it, and the column is the only one there that the name means; over groups it is a

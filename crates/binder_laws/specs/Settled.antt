@@ -24,7 +24,7 @@ use Rattle.sql_ast.specs.declared.tree.Selected.TheVariants.{Items}
 use Rattle.sql_ast.specs.declared.words.Aggregate.TheVariants.{Sum, Avg}
 use Rattle.sql_value.specs.declared.value.Value.TheVariants as value
 use Rattle.tpch_schema.specs.declared.table.TableName.TheVariants as table
-use Rattle.sql_binder.specs.Steps.{Name}
+use Rattle.binder_steps.specs.Steps.{Name}
 use Rattle.sql_binder.specs.Binding.{bound_query}
 use Rattle.sql_binder.specs.Examples.{named, of_item, number, plus, item, from_table, from_alias}
 use Rattle.sql_binder.specs.Examples.{from_derived, select_from, select_where, statement}

@@ -11,12 +11,12 @@ use Rattle.sql_ast.specs.declared.statement.Query.{Query}
 use Rattle.sql_ast.specs.declared.tree.Block.{Block}
 use Rattle.sql_value.specs.declared.value.Value.{Value}
 use Rattle.tpch_schema.specs.State.{State}
-use Rattle.sql_binder.specs.declared.collected.BoundTable.{BoundTable}
-use Rattle.sql_binder.specs.declared.view.Header.{Header}
-use Rattle.sql_binder.specs.declared.view.View.{View}
+use Rattle.binder_steps.specs.declared.collected.BoundTable.{BoundTable}
+use Rattle.binder_steps.specs.declared.view.Header.{Header}
+use Rattle.binder_steps.specs.declared.view.View.{View}
 use Rattle.sql_binder.specs.Binding.{counted_table, bound_view}
 use Rattle.sql_binder.specs.Laws.{IsBound}
-use Rattle.sql_binder.specs.Steps.{Name}
+use Rattle.binder_steps.specs.Steps.{Name}
 
 -- the kinds of columns
 abbrev pub header_kinds : List Header → List Kind

@@ -1,8 +1,9 @@
 //! Statements with their refusals, by the rules of the dialect.
+use binder_steps::{BindFault, Views};
 use parser_tests::QUERIES;
 use sql_ast::Statement;
 use sql_binder::laws::{bound_or_refused, names_are_innermost, worked_bindings, worked_refusals};
-use sql_binder::{BindFault, Views, bind, bind_view};
+use sql_binder::{bind, bind_view};
 use sql_parser::read_script;
 use sqlite_items::Items;
 use std::alloc::Global;

@@ -17,22 +17,24 @@ fn gathers(alloc: Global, words: &str, wanted: &str) -> Result<bool, Fail> {
     is_column(alloc, &gathered, wanted)
 }
 
+const GATHERED: [(&str, &str); 5] = [
+    ("1.50 0.06 -2.00", "-2.00 1.50 -2.00"),
+    (
+        "1996-02-29 1994-01-01 1998-12-01",
+        "1998-12-01 1996-02-29 1998-12-01",
+    ),
+    ("MAIL AIR MAIL RAIL", "MAIL MAIL MAIL"),
+    ("null 3 #zero", "#zero null #zero"),
+    (
+        "7 null 9223372036854775808",
+        "9223372036854775808 7 9223372036854775808",
+    ),
+];
+
 #[test]
 fn gathers_each_form(rt: HostRuntime) -> Result<(), Fail> {
     let alloc = rt.alloc();
-    for (words, wanted) in [
-        ("1.50 0.06 -2.00", "-2.00 1.50 -2.00"),
-        (
-            "1996-02-29 1994-01-01 1998-12-01",
-            "1998-12-01 1996-02-29 1998-12-01",
-        ),
-        ("MAIL AIR MAIL RAIL", "MAIL MAIL MAIL"),
-        ("null 3 #zero", "#zero null #zero"),
-        (
-            "7 null 9223372036854775808",
-            "9223372036854775808 7 9223372036854775808",
-        ),
-    ] {
+    for (words, wanted) in &GATHERED {
         assert!(rt; gathers(alloc, words, wanted)?, "{words}");
     }
     Ok(())
@@ -49,44 +51,47 @@ fn form_number(alloc: Global, words: &str) -> Result<u8, Fail> {
     }
 }
 
+const FORMS: [(&str, u8); 5] = [
+    ("1.50 0.06", 5),
+    ("1996-02-29", 2),
+    ("MAIL AIR", 1),
+    ("1.50 0.6", 0),
+    ("1 null", 0),
+];
+
 #[test]
 fn tells_forms(rt: HostRuntime) -> Result<(), Fail> {
-    let alloc = rt.alloc();
-    assert_eq!(rt; form_number(alloc, "1.50 0.06")?, 5);
-    assert_eq!(rt; form_number(alloc, "1996-02-29")?, 2);
-    assert_eq!(rt; form_number(alloc, "MAIL AIR")?, 1);
-    assert_eq!(rt; form_number(alloc, "1.50 0.6")?, 0);
-    assert_eq!(rt; form_number(alloc, "1 null")?, 0);
+    for (words, number) in &FORMS {
+        assert_eq!(rt; form_number(rt.alloc(), words)?, *number, "{words}");
+    }
     Ok(())
 }
 
-// Whether the batches of these texts, of two columns, are together these rows.
-fn put_together(alloc: Global, texts: &[&str], wanted: &str) -> Result<bool, Fail> {
+// Whether the batches of these texts, of two columns, are together these rows, and whether their
+// columns have these values.
+fn are_together(
+    alloc: Global,
+    texts: &[&str],
+    wanted: &str,
+    columns: &[&str],
+) -> Result<bool, Fail> {
     let all = bag(alloc, 2, texts)?;
+    for (j, words) in columns.iter().enumerate() {
+        if j >= all.width() || !is_column(alloc, &all.column(alloc, j)?, words)? {
+            return Ok(false);
+        }
+    }
     is_bag(alloc, &all, wanted)
 }
-
-// Whether a column of the batches of these texts, of two columns, has these values.
-fn has_column(alloc: Global, texts: &[&str], j: usize, wanted: &str) -> Result<bool, Fail> {
-    let all = bag(alloc, 2, texts)?;
-    if j >= all.width() {
-        return Ok(false);
-    }
-    let column = all.column(alloc, j)?;
-    is_column(alloc, &column, wanted)
-}
-
-const TEXTS: [&str; 3] = ["a 1\nb 2", "a 3 @zero\ncd 4", "null 5\nb #range @range"];
 
 #[test]
 fn puts_batches_end_to_end(rt: HostRuntime) -> Result<(), Fail> {
     let alloc = rt.alloc();
+    let texts = ["a 1\nb 2", "a 3 @zero\ncd 4", "null 5\nb #range @range"];
     let all = "a 1\nb 2\na 3 @zero\ncd 4\nnull 5\nb #range @range";
-    assert!(rt; put_together(alloc, &TEXTS, all)?);
-    assert!(rt; has_column(alloc, &TEXTS, 0, "a b a cd null b")?);
-    assert!(rt; has_column(alloc, &TEXTS, 1, "1 2 3 4 5 #range")?);
-    assert!(rt; put_together(alloc, &[], "")?);
-    assert!(rt; has_column(alloc, &[], 1, "")?);
+    let columns = ["a b a cd null b", "1 2 3 4 5 #range"];
+    assert!(rt; are_together(alloc, &texts, all, &columns)?);
+    assert!(rt; are_together(alloc, &[], "", &["", ""])?);
     Ok(())
 }
 

@@ -41,33 +41,64 @@ fn are(alloc: Global, es: &Items<Expr>, words: &str) -> Result<bool, Fail> {
     Ok(same)
 }
 
+// Whether the conjuncts of a condition over other columns are these.
+fn puts(alloc: Global, words: &str, places: &[u32], wanted: &str) -> Result<bool, Fail> {
+    let condition = expression(alloc, words)?;
+    let mut put = Items::new(alloc);
+    put_condition(alloc, condition.get(), places, &mut put)?;
+    are(alloc, &put, wanted)
+}
+
+const PLACES: [u32; 9] = [0, 1, 2, 3, 4, 5, 6, 7, 9];
+
+// Whether the conditions over the columns of PLACES, the first nine of which are covered, are
+// these, and the others those.
+fn parts(alloc: Global, words: &str, covered: &str, rest: &str) -> Result<bool, Fail> {
+    let conditions = expressions(alloc, words)?;
+    let parts = in_parts(alloc, conditions.as_slice(), &PLACES, 9)?;
+    let is_covered = are(alloc, &parts.covered, covered)?;
+    Ok(is_covered && are(alloc, &parts.rest, rest)?)
+}
+
+// Whether the conditions with the columns of PLACES are these.
+fn renames(alloc: Global, words: &str, wanted: &str) -> Result<bool, Fail> {
+    let conditions = expressions(alloc, words)?;
+    let renamed = renamed_all(alloc, conditions.as_slice(), &PLACES)?;
+    are(alloc, &renamed, wanted)
+}
+
+// Whether a condition reads columns below n alone.
+fn reads(alloc: Global, words: &str, n: u32) -> Result<bool, Fail> {
+    let condition = expression(alloc, words)?;
+    let is_below = reads_below(alloc, condition.get(), n)?;
+    Ok(is_below)
+}
+
+// Whether these factors of conditions over other columns are taken out.
+fn takes_out(alloc: Global, words: &str, places: &[u32], wanted: &str) -> Result<bool, Fail> {
+    let parts = expressions(alloc, words)?;
+    let mut put = Items::new(alloc);
+    put_factors(alloc, parts.as_slice(), places, &mut put)?;
+    are(alloc, &put, wanted)
+}
+
+const BOTH: &str = "$0 1 = $1 2 = and";
+
 #[test]
 fn puts_conditions_over_other_columns(rt: HostRuntime) -> Result<(), Fail> {
     let alloc = rt.alloc();
     let mut places = Vec::new(alloc);
     put_run(&mut places, 7, 2)?;
-    assert!(rt; *places.as_slice() == *[7u32, 8].as_slice());
-    let both = expression(alloc, "$0 1 = $1 2 = and")?;
-    let mut put = Items::new(alloc);
-    put_condition(alloc, both.get(), places.as_slice(), &mut put)?;
-    assert!(rt; are(alloc, &put, "$7 1 = $8 2 =")?);
-    let own = [0u32, 1, 2, 3, 4, 5, 6, 7, 9];
-    let parts = in_parts(alloc, put.as_slice(), &own, 9)?;
-    assert!(rt; are(alloc, &parts.covered, "$7 1 =")?);
-    assert!(rt; are(alloc, &parts.rest, "$9 2 =")?);
-    assert!(rt; reads_below(alloc, both.get(), 2)?);
-    assert!(rt; !reads_below(alloc, both.get(), 1)?);
-    let renamed = renamed_all(alloc, put.as_slice(), &own)?;
-    assert!(rt; are(alloc, &renamed, "$7 1 = $9 2 =")?);
+    assert!(rt; puts(alloc, BOTH, places.as_slice(), "$7 1 = $8 2 =")?);
+    assert!(rt; parts(alloc, "$7 1 = $8 2 =", "$7 1 =", "$9 2 =")?);
+    assert!(rt; renames(alloc, "$7 1 = $8 2 =", "$7 1 = $9 2 =")?);
+    assert!(rt; takes_out(alloc, "$0 1 = $1 2 = and $0 1 = $1 3 = and", &[5], "$5 1 =")?);
     Ok(())
 }
 
 #[test]
-fn takes_out_factors(rt: HostRuntime) -> Result<(), Fail> {
-    let alloc = rt.alloc();
-    let parts = expressions(alloc, "$0 1 = $1 2 = and $0 1 = $1 3 = and")?;
-    let mut put = Items::new(alloc);
-    put_factors(alloc, parts.as_slice(), &[5], &mut put)?;
-    assert!(rt; are(alloc, &put, "$5 1 =")?);
+fn tells_columns_below(rt: HostRuntime) -> Result<(), Fail> {
+    assert!(rt; reads(rt.alloc(), BOTH, 2)?);
+    assert!(rt; !reads(rt.alloc(), BOTH, 1)?);
     Ok(())
 }

@@ -74,51 +74,32 @@ fn gives(alloc: Global, words: &str, text: &str, wanted: &str) -> Result<bool, F
     is_column(alloc, &column, wanted)
 }
 
+const COMPUTED: [(&str, &str, &str); 6] = [
+    ("2 3 /", "0", "0.666667"),
+    ("2 negative $0 /", "3\n0\nnull", "-0.666667 #zero null"),
+    (
+        "170141183460469231731687303715884105727 $0 +",
+        "1\n0",
+        "#range 170141183460469231731687303715884105727",
+    ),
+    (
+        "$0 $0 *",
+        "9223372036854775807",
+        "85070591730234615847396907784232501249",
+    ),
+    ("$1 1 $2 - *", "7 10.00 0.05\n8 0.10 null", "9.5000 null"),
+    (
+        "$0 0 > $1 $0 0 < 1 null case:2",
+        "1 1.50\n-1 2.00\n0 3.00",
+        "1.50 1.00 null",
+    ),
+];
+
 #[test]
 fn computes(rt: HostRuntime) -> Result<(), Fail> {
-    let alloc = rt.alloc();
-    assert!(rt; gives(alloc, "2 3 /", "0", "0.666667")?);
-    assert!(rt;
-        gives(
-            alloc,
-            "2 negative $0 /",
-            "3\n0\nnull",
-            "-0.666667 #zero null"
-        )?
-    );
-    let most = "170141183460469231731687303715884105727 $0 +";
-    assert!(rt;
-        gives(
-            alloc,
-            most,
-            "1\n0",
-            "#range 170141183460469231731687303715884105727"
-        )?
-    );
-    assert!(rt;
-        gives(
-            alloc,
-            "$0 $0 *",
-            "9223372036854775807",
-            "85070591730234615847396907784232501249"
-        )?
-    );
-    assert!(rt;
-        gives(
-            alloc,
-            "$1 1 $2 - *",
-            "7 10.00 0.05\n8 0.10 null",
-            "9.5000 null"
-        )?
-    );
-    assert!(rt;
-        gives(
-            alloc,
-            "$0 0 > $1 $0 0 < 1 null case:2",
-            "1 1.50\n-1 2.00\n0 3.00",
-            "1.50 1.00 null"
-        )?
-    );
+    for (words, text, wanted) in &COMPUTED {
+        assert!(rt; gives(rt.alloc(), words, text, wanted)?, "{words}");
+    }
     Ok(())
 }
 
@@ -135,15 +116,21 @@ fn keeps(alloc: Global, words: &str, text: &str, wanted: &str) -> Result<bool, F
 
 const FIVE: &str = "0\n1\n2\n3\n4";
 
+// A condition, rows, and those that it keeps.
+const KEPT: [(&str, &str, &str); 6] = [
+    ("1 0 = 1 0 / 1 = and", FIVE, ""),
+    ("$0 2 > 1 0 / 1 = 1 1 = or and", FIVE, "3\n4"),
+    ("1 0 / 1 =", "0\n1 @rows", "0 @zero\n1 @rows"),
+    ("1 0 / 1 =", "", ""),
+    ("1 $0 / 1 =", FIVE, "0 @zero\n1"),
+    ("$0 0 =", "0 @range\nnull\n1", "0 @range"),
+];
+
 #[test]
 fn keeps_rows(rt: HostRuntime) -> Result<(), Fail> {
-    let alloc = rt.alloc();
-    assert!(rt; keeps(alloc, "1 0 = 1 0 / 1 = and", FIVE, "")?);
-    assert!(rt; keeps(alloc, "$0 2 > 1 0 / 1 = 1 1 = or and", FIVE, "3\n4")?);
-    assert!(rt; keeps(alloc, "1 0 / 1 =", "0\n1 @rows", "0 @zero\n1 @rows")?);
-    assert!(rt; keeps(alloc, "1 0 / 1 =", "", "")?);
-    assert!(rt; keeps(alloc, "1 $0 / 1 =", FIVE, "0 @zero\n1")?);
-    assert!(rt; keeps(alloc, "$0 0 =", "0 @range\nnull\n1", "0 @range")?);
+    for (words, text, wanted) in &KEPT {
+        assert!(rt; keeps(rt.alloc(), words, text, wanted)?, "{words}");
+    }
     Ok(())
 }
 

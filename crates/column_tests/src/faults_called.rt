@@ -12,13 +12,15 @@ use outer_mark::{mark, outer, single};
 use sql_value::Fault;
 use std::alloc::Global;
 use std::test::Fail;
+use std::thread::Threads;
 
 const KEYS: &str = "0\n1\n2\n3\n4";
 
 const BY_ZERO: Result<&str, Fault> = Err(Fault::DivideByZero);
 
 // select count(*) from a, b where ..: $0 and $1 are a's key and 1 divided by it, $2 is b's key
-fn counts(
+fn counts<R: Threads + Sync>(
+    rt: &R,
     alloc: Global,
     others: &[&str],
     on: &str,
@@ -27,32 +29,41 @@ fn counts(
     let left = made(alloc, &batch(alloc, KEYS)?, "$0 1 $0 /")?;
     let right = bag(alloc, 1, others)?;
     let on = expression(alloc, on)?;
-    let joined = inner(alloc, &left, &right, &[], on.get())?;
+    let joined = inner(rt, alloc, &left, &right, &[], on.get())?;
     let mut aggregates = Vec::new(alloc);
     aggregates.push(Aggregate::CountRows)?;
     let counted = group(alloc, &joined, &[], aggregates.as_slice())?;
     answers(alloc, &counted, &[], None, wanted)
 }
 
+const COUNTS: [(&str, Result<&str, Fault>); 5] = [
+    ("$1 $2 = $2 0 < and", Ok("0")),
+    ("$1 $2 = $0 0 > and", Ok("1")),
+    ("$1 $2 =", BY_ZERO),
+    ("1 $0 / $2 = $2 0 < and", Ok("0")),
+    ("1 $0 / $2 =", BY_ZERO),
+];
+
 #[test]
 fn joins_at_faults(rt: HostRuntime) -> Result<(), Fail> {
-    let alloc = rt.alloc();
-    for others in [&[KEYS][..], &[KEYS, "9"][..]] {
-        assert!(rt; counts(alloc, others, "$1 $2 = $2 0 < and", Ok("0"))?);
-        assert!(rt; counts(alloc, others, "$1 $2 = $0 0 > and", Ok("1"))?);
-        assert!(rt; counts(alloc, others, "$1 $2 =", BY_ZERO)?);
-        assert!(rt; counts(alloc, others, "1 $0 / $2 = $2 0 < and", Ok("0"))?);
-        assert!(rt; counts(alloc, others, "1 $0 / $2 =", BY_ZERO)?);
+    for (on, wanted) in &COUNTS {
+        assert!(rt; counts(&rt, rt.alloc(), &[KEYS], on, *wanted)?, "{on}");
+        assert!(rt; counts(&rt, rt.alloc(), &[KEYS, "9"], on, *wanted)?, "{on}");
     }
     Ok(())
 }
 
 // select k from a where .. in (select 1 / k from a)
-fn marks(alloc: Global, x: &str, wanted: Result<&str, Fault>) -> Result<bool, Fail> {
+fn marks<R: Threads + Sync>(
+    rt: &R,
+    alloc: Global,
+    x: &str,
+    wanted: Result<&str, Fault>,
+) -> Result<bool, Fail> {
     let left = made(alloc, &batch(alloc, KEYS)?, x)?;
     let right = made(alloc, &batch(alloc, KEYS)?, "1 $0 /")?;
     let on = expression(alloc, "$1 $2 =")?;
-    let marked = mark(alloc, &left, &right, &[], on.get())?;
+    let marked = mark(rt, alloc, &left, &right, &[], on.get())?;
     let answer = made(alloc, &kept(alloc, &marked, "$2 marked")?, "$0")?;
     answers(alloc, &answer, &[], None, wanted)
 }
@@ -60,21 +71,26 @@ fn marks(alloc: Global, x: &str, wanted: Result<&str, Fault>) -> Result<bool, Fa
 #[test]
 fn marks_at_faults(rt: HostRuntime) -> Result<(), Fail> {
     let alloc = rt.alloc();
-    assert!(rt; marks(alloc, "$0 1", Ok(KEYS))?);
-    assert!(rt; marks(alloc, "$0 2", BY_ZERO)?);
-    assert!(rt; marks(alloc, "$0 1 $0 /", BY_ZERO)?);
+    assert!(rt; marks(&rt, alloc, "$0 1", Ok(KEYS))?);
+    assert!(rt; marks(&rt, alloc, "$0 2", BY_ZERO)?);
+    assert!(rt; marks(&rt, alloc, "$0 1 $0 /", BY_ZERO)?);
     Ok(())
 }
 
 // select a.k, b.n from a left outer join b on .., where $2 is 1 divided by b's key
-fn fills(alloc: Global, on: &str, wanted: Result<&str, Fault>) -> Result<bool, Fail> {
+fn fills<R: Threads + Sync>(
+    rt: &R,
+    alloc: Global,
+    on: &str,
+    wanted: Result<&str, Fault>,
+) -> Result<bool, Fail> {
     let left = made(alloc, &batch(alloc, "0\n1\n9")?, "$0 7")?;
     let right = made(alloc, &batch(alloc, KEYS)?, "1 $0 /")?;
     if right.width() != 1 {
         return Ok(false);
     }
     let on = expression(alloc, on)?;
-    let joined = outer(alloc, &left, &right, &[], 1, on.get())?;
+    let joined = outer(rt, alloc, &left, &right, &[], 1, on.get())?;
     answers(alloc, &joined, &[], None, wanted)
 }
 
@@ -82,8 +98,8 @@ fn fills(alloc: Global, on: &str, wanted: Result<&str, Fault>) -> Result<bool, F
 fn fills_at_faults(rt: HostRuntime) -> Result<(), Fail> {
     let alloc = rt.alloc();
     let lone = "0 7 null\n1 7 null\n9 7 null";
-    assert!(rt; fills(alloc, "$0 $2 = $0 9 > and", Ok(lone))?);
-    assert!(rt; fills(alloc, "$0 $2 =", BY_ZERO)?);
+    assert!(rt; fills(&rt, alloc, "$0 $2 = $0 9 > and", Ok(lone))?);
+    assert!(rt; fills(&rt, alloc, "$0 $2 =", BY_ZERO)?);
     Ok(())
 }
 

@@ -44,16 +44,19 @@ fn are_groups(
     is_bag(alloc, &groups, wanted)
 }
 
-#[test]
-fn groups_rows(rt: HostRuntime) -> Result<(), Fail> {
-    let alloc = rt.alloc();
-    let first = "7 1.00\nnull 2.00 @zero\n7 1.00 @range\nAIR null";
-    let second = "null 0.50\n#zero 3.00\n7 2.00\n#zero #range\nnull #zero @rows";
-    let wanted = "7 3 2 4.00 1.333333 1.00 2.00 3 @range
+const FIRST: &str = "7 1.00\nnull 2.00 @zero\n7 1.00 @range\nAIR null";
+
+const SECOND: &str = "null 0.50\n#zero 3.00\n7 2.00\n#zero #range\nnull #zero @rows";
+
+const GROUPS: &str = "7 3 2 4.00 1.333333 1.00 2.00 3 @range
 null #zero #zero #zero #zero #zero #zero 3 @rows
 AIR 0 0 null null null null 1
 #zero #range #range #range #range #range #range 2";
-    assert!(rt; are_groups(alloc, &[first, second], &[0], 2, wanted)?);
+
+#[test]
+fn groups_rows(rt: HostRuntime) -> Result<(), Fail> {
+    let alloc = rt.alloc();
+    assert!(rt; are_groups(alloc, &[FIRST, SECOND], &[0], 2, GROUPS)?);
     assert!(rt; are_groups(alloc, &["a 1\na 4", "b 4"], &[], 0, "3 2 9 3.0000 1 4 3")?);
     assert!(rt; are_groups(alloc, &[], &[], 0, "0 0 null null null null 0")?);
     assert!(rt; are_groups(alloc, &[], &[0], 0, "")?);
@@ -70,25 +73,20 @@ fn sums_to(alloc: Global, text: &str, wanted: &str) -> Result<bool, Fail> {
     is_bag(alloc, &sum, wanted)
 }
 
+const SUMS: [(&str, &str); 3] = [
+    (
+        "170141183460469231731687303715884105727\n-1",
+        "170141183460469231731687303715884105726",
+    ),
+    ("170141183460469231731687303715884105727\n1\n-1", "#range"),
+    ("-170141183460469231731687303715884105728\n1", "#range"),
+];
+
 #[test]
 fn sums_up_to_the_range(rt: HostRuntime) -> Result<(), Fail> {
-    let alloc = rt.alloc();
-    let most = "170141183460469231731687303715884105727\n-1";
-    assert!(rt; sums_to(alloc, most, "170141183460469231731687303715884105726")?);
-    assert!(rt;
-        sums_to(
-            alloc,
-            "170141183460469231731687303715884105727\n1\n-1",
-            "#range"
-        )?
-    );
-    assert!(rt;
-        sums_to(
-            alloc,
-            "-170141183460469231731687303715884105728\n1",
-            "#range"
-        )?
-    );
+    for (text, wanted) in &SUMS {
+        assert!(rt; sums_to(rt.alloc(), text, wanted)?, "{text}");
+    }
     Ok(())
 }
 
@@ -160,7 +158,7 @@ pub fn answers(
     }
 }
 
-// What the answer of the batches of these texts is.
+// Whether the answer of the batches of these texts is this.
 fn ordered(
     alloc: Global,
     width: usize,
@@ -183,20 +181,38 @@ const DOWN: OrderKey = OrderKey {
     is_descending: true,
 };
 
+const TWO: [&str; 2] = ["2 b\nnull a\n10 c", "2 a\n1 null"];
+
+const RISING: &str = "1 null\n2 a\n2 b\n10 c\nnull a";
+
+const FALLING: &str = "null a\n10 c\n2 a\n2 b\n1 null";
+
+// Keys, a limit, and the rows of TWO that are the answer.
+const ORDERED: [(&[OrderKey], Option<u64>, &str); 5] = [
+    (&[], None, RISING),
+    (&[UP], Some(9), RISING),
+    (&[DOWN], None, FALLING),
+    (&[DOWN], Some(2), "null a\n10 c"),
+    (&[], Some(0), ""),
+];
+
 #[test]
 fn orders_rows(rt: HostRuntime) -> Result<(), Fail> {
+    for (keys, limit, wanted) in &ORDERED {
+        assert!(rt;
+            ordered(rt.alloc(), 2, &TWO, keys, *limit, Ok(wanted))?,
+            "{wanted}"
+        );
+    }
+    Ok(())
+}
+
+#[test]
+fn answers_the_least_fault(rt: HostRuntime) -> Result<(), Fail> {
     let alloc = rt.alloc();
-    let texts = ["2 b\nnull a\n10 c", "2 a\n1 null"];
-    let all = "1 null\n2 a\n2 b\n10 c\nnull a";
-    let turned = "null a\n10 c\n2 a\n2 b\n1 null";
-    assert!(rt; ordered(alloc, 2, &texts, &[], None, Ok(all))?);
-    assert!(rt; ordered(alloc, 2, &texts, &[UP], Some(9), Ok(all))?);
-    assert!(rt; ordered(alloc, 2, &texts, &[DOWN], None, Ok(turned))?);
-    assert!(rt; ordered(alloc, 2, &texts, &[DOWN], Some(2), Ok("null a\n10 c"))?);
-    assert!(rt; ordered(alloc, 2, &texts, &[], Some(0), Ok(""))?);
-    let faulty = ["1\n2 @range", "#zero"];
-    assert!(rt; ordered(alloc, 1, &faulty, &[], Some(1), Err(Fault::DivideByZero))?);
-    assert!(rt; ordered(alloc, 1, &faulty, &[UP], Some(0), Err(Fault::DivideByZero))?);
+    let texts = ["1\n2 @range", "#zero"];
+    assert!(rt; ordered(alloc, 1, &texts, &[], Some(1), Err(Fault::DivideByZero))?);
+    assert!(rt; ordered(alloc, 1, &texts, &[UP], Some(0), Err(Fault::DivideByZero))?);
     Ok(())
 }
 

@@ -17,16 +17,19 @@ fn firsts<K: PartialEq>(alloc: Global, keys: &[K]) -> Result<Vec<usize>, Fail> {
     Ok(firsts)
 }
 
+// The first value and the third are the same, the second and the last each another.
+const FIRST_AND_THIRD: [&str; 5] = [
+    "3 4 3 -1",
+    "AIR RAIL AIR MAIL",
+    "1996-02-29 1994-01-01 1996-02-29 1998-12-01",
+    "null #zero null #range",
+    "1.0 1 1.0 1.00",
+];
+
 #[test]
 fn tells_identical_values(rt: HostRuntime) -> Result<(), Fail> {
     let alloc = rt.alloc();
-    for words in [
-        "3 4 3 -1",
-        "AIR RAIL AIR MAIL",
-        "1996-02-29 1994-01-01 1996-02-29 1998-12-01",
-        "null #zero null #range",
-        "1.0 1 1.0 1.00",
-    ] {
+    for words in &FIRST_AND_THIRD {
         let codes = codes(alloc, &column(alloc, words)?)?;
         let firsts = firsts(alloc, codes.as_slice())?;
         assert!(rt; *firsts.as_slice() == *[0, 1, 0, 3].as_slice(), "{words}");

@@ -85,6 +85,25 @@ fn between(alloc: Global, stack: &mut Items<Expr>) -> Result<Expr, Fail> {
     Ok(Expr::Between(x, least, greatest))
 }
 
+// The branch of the last two operands, a condition and what it gives.
+fn branch(alloc: Global, stack: &mut Items<Expr>) -> Result<Branch, Fail> {
+    let gives = last(alloc, stack)?;
+    let when = last(alloc, stack)?;
+    Ok(Branch {
+        when: when.into_inner(),
+        gives: gives.into_inner(),
+    })
+}
+
+// The last two branches.
+fn two_branches(alloc: Global, stack: &mut Items<Expr>) -> Result<Items<Branch>, Fail> {
+    let second = branch(alloc, stack)?;
+    let mut branches = Items::new(alloc);
+    branches.push(branch(alloc, stack)?)?;
+    branches.push(second)?;
+    Ok(branches)
+}
+
 // Two conditions, each before what it gives, and what else is given. Numbers have this scale.
 fn case(alloc: Global, places: &str, stack: &mut Items<Expr>) -> Result<Expr, Fail> {
     let scale = match places {
@@ -92,19 +111,7 @@ fn case(alloc: Global, places: &str, stack: &mut Items<Expr>) -> Result<Expr, Fa
         _ => Scale::new(2),
     };
     let other = last(alloc, stack)?;
-    let second_gives = last(alloc, stack)?;
-    let second_when = last(alloc, stack)?;
-    let gives = last(alloc, stack)?;
-    let when = last(alloc, stack)?;
-    let mut branches = Items::new(alloc);
-    branches.push(Branch {
-        when: when.into_inner(),
-        gives: gives.into_inner(),
-    })?;
-    branches.push(Branch {
-        when: second_when.into_inner(),
-        gives: second_gives.into_inner(),
-    })?;
+    let branches = two_branches(alloc, stack)?;
     Ok(Expr::Case(scale, branches, other))
 }
 

@@ -37,60 +37,66 @@ fn truth_of(alloc: Global, words: &str) -> Result<Truth, Fail> {
     Ok(truth)
 }
 
+const COMPUTED: [(&str, &str); 14] = [
+    ("$0", "3"),
+    ("$9", "null"),
+    ("2 3 /", "0.666667"),
+    ("2 negative 3 /", "-0.666667"),
+    ("$1 $1 *", "2.2500"),
+    ("170141183460469231731687303715884105727 1 +", "#range"),
+    ("$4 1 -", "null"),
+    ("$1 negative", "-1.50"),
+    ("$3 year", "1996"),
+    ("$2 part", "AI"),
+    ("1 1 = 1 1 1 = 2 $1 case:2", "1.00"),
+    ("1 0 = 1 1 1 = 2 $1 case:2", "2.00"),
+    ("1 0 = 1 0 1 = 2 $1 case:2", "1.50"),
+    ("1 0 / 1 = 1 1 1 = 2 $1 case:2", "#zero"),
+];
+
 #[test]
 fn computes_over_a_row(rt: HostRuntime) -> Result<(), Fail> {
-    for (words, wanted) in [
-        ("$0", "3"),
-        ("$9", "null"),
-        ("2 3 /", "0.666667"),
-        ("2 negative 3 /", "-0.666667"),
-        ("$1 $1 *", "2.2500"),
-        ("170141183460469231731687303715884105727 1 +", "#range"),
-        ("$4 1 -", "null"),
-        ("$1 negative", "-1.50"),
-        ("$3 year", "1996"),
-        ("$2 part", "AI"),
-        ("1 1 = 1 1 1 = 2 $1 case:2", "1.00"),
-        ("1 0 = 1 1 1 = 2 $1 case:2", "2.00"),
-        ("1 0 = 1 0 1 = 2 $1 case:2", "1.50"),
-        ("1 0 / 1 = 1 1 1 = 2 $1 case:2", "#zero"),
-    ] {
+    for (words, wanted) in &COMPUTED {
         assert!(rt; gives(rt.alloc(), words, wanted)?, "{words}");
     }
     Ok(())
 }
 
+const DECIDED: [(&str, Truth); 8] = [
+    ("1 0 = 1 0 / 1 = and", Truth::False),
+    ("1 0 / 1 =", ZERO_DIVIDES),
+    ("1 0 / 1 = not", ZERO_DIVIDES),
+    ("$0 3 $1 between", Truth::False),
+    ("$2 like:_A%", YES),
+    ("$0 9 $4 in", Truth::Unknown),
+    ("$4 isnull", YES),
+    ("$0", Truth::Unknown),
+];
+
 #[test]
 fn decides_over_a_row(rt: HostRuntime) -> Result<(), Fail> {
-    for (words, wanted) in [
-        ("1 0 = 1 0 / 1 = and", Truth::False),
-        ("1 0 / 1 =", ZERO_DIVIDES),
-        ("1 0 / 1 = not", ZERO_DIVIDES),
-        ("$0 3 $1 between", Truth::False),
-        ("$2 like:_A%", YES),
-        ("$0 9 $4 in", Truth::Unknown),
-        ("$4 isnull", YES),
-        ("$0", Truth::Unknown),
-    ] {
-        assert!(rt; truth_of(rt.alloc(), words)? == wanted, "{words}");
+    for (words, wanted) in &DECIDED {
+        assert!(rt; truth_of(rt.alloc(), words)? == *wanted, "{words}");
     }
     Ok(())
 }
+
+const KEYS: [(&str, Truth); 4] = [
+    ("0", Truth::False),
+    ("2", Truth::False),
+    ("3", YES),
+    ("4", YES),
+];
 
 // Of the rows with the keys 0 to 4, those of 3 and 4 are kept.
 #[test]
 fn keeps_a_row(rt: HostRuntime) -> Result<(), Fail> {
     let alloc = rt.alloc();
     let condition = expression(alloc, "$0 2 > 1 0 / 1 = 1 1 = or and")?;
-    for (key, wanted) in [
-        ("0", Truth::False),
-        ("2", Truth::False),
-        ("3", YES),
-        ("4", YES),
-    ] {
+    for (key, wanted) in &KEYS {
         let row = values(alloc, key)?;
         let found = truth_slice(alloc, condition.get(), row.as_slice())?;
-        assert!(rt; found == wanted, "{key}");
+        assert!(rt; found == *wanted, "{key}");
     }
     Ok(())
 }
@@ -147,14 +153,16 @@ fn renames_columns(rt: HostRuntime) -> Result<(), Fail> {
     Ok(())
 }
 
+const PARTS: [(&str, &str); 3] = [
+    ("13-100-200-3000", "13-"),
+    ("#range", "#range"),
+    ("null", "null"),
+];
+
 #[test]
 fn takes_parts(rt: HostRuntime) -> Result<(), Fail> {
     let alloc = rt.alloc();
-    for (whole, wanted) in [
-        ("13-100-200-3000", "13-"),
-        ("#range", "#range"),
-        ("null", "null"),
-    ] {
+    for (whole, wanted) in &PARTS {
         let part = part_of(&value(alloc, whole)?, 1, 3)?;
         assert!(rt; part.is_identical(&value(alloc, wanted)?), "{whole}");
     }

@@ -147,7 +147,7 @@ fn count_with(count: usize, batch: &Batch) -> Result<usize, AllocError>
     count.checked_add(batch.len()).ok_or(AllocError)
 }
 
-// The values of one column of batches, end to end, which are so many.
+// The values of one column of batches, end to end, `count` in all.
 fn whole_column(
     alloc: Global,
     batches: &[Batch],

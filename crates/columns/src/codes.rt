@@ -47,7 +47,7 @@ impl Codes {
         })
     }
 
-    /// The same text so many times.
+    /// The same text n times.
     pub(crate) fn repeated(alloc: Global, text: &[u8], n: usize) -> Result<Codes, AllocError>
         requires { AllPrintable text.now }
         ensures { IfOk result (λ c. c ≡ replicate n text.now) }
@@ -141,7 +141,7 @@ impl Codes {
         Ok(true)
     }
 
-    /// No texts, with room for so many with the same dictionary.
+    /// No texts, with room for n with the same dictionary.
     pub(crate) fn emptied(&self, alloc: Global, n: usize) -> Result<Codes, AllocError>
         ensures { IfOk result (λ c. c ≡ []) }
     {

@@ -60,7 +60,7 @@ impl Column {
         Column::own(Form::Values(values))
     }
 
-    /// The same value so many times.
+    /// The same value n times.
     pub fn repeated(alloc: Global, value: &Value, n: usize) -> Result<Column, AllocError>
         ensures { IfOk result (λ c. c ≡ replicate n value.now) }
     {

@@ -64,7 +64,7 @@ impl ColumnBuilder {
         Ok(ColumnBuilder { form })
     }
 
-    /// No values, with room for so many as that column keeps its own.
+    /// No values, with room for n in the form that the column has.
     pub(crate) fn like(
         alloc: Global,
         column: &Column,

@@ -128,7 +128,7 @@ fn small_number(value: &Value) -> Option<i64>
     }
 }
 
-/// The same value so many times.
+/// The same value n times.
 pub(crate) fn repeated(alloc: Global, value: &Value, n: usize) -> Result<Form, AllocError>
     ensures { IfOk result (λ f. shown f ≡ replicate n value.now) }
 {
@@ -141,7 +141,7 @@ pub(crate) fn repeated(alloc: Global, value: &Value, n: usize) -> Result<Form, A
     }
 }
 
-// The same field so many times.
+// The same field n times.
 #[tactic(auto, using(crate::proofs::ColumnLists::repeats))]
 fn repeated_field(alloc: Global, field: &Field<'_>, n: usize) -> Result<Form, AllocError>
     requires { IsPrintableField field.now }
@@ -163,7 +163,7 @@ fn repeated_field(alloc: Global, field: &Field<'_>, n: usize) -> Result<Form, Al
     }
 }
 
-// The same value so many times, each a value of its own.
+// The same value n times, each a value of its own.
 #[tactic(auto, using(crate::proofs::ColumnLists::repeats))]
 fn repeated_value(alloc: Global, value: &Value, n: usize) -> Result<Vec<Value>, AllocError>
     ensures { IfOk result (λ v. v.items ≡ replicate n value.now) }
@@ -203,7 +203,7 @@ pub(crate) fn truncate(form: &mut Form, n: usize)
     }
 }
 
-/// No values, with room for so many in the same form.
+/// No values, with room for n in the same form.
 pub(crate) fn empty_like(alloc: Global, form: &Form, n: usize) -> Result<Form, AllocError>
     ensures { IfOk result (λ f. shown f ≡ []) }
 {

@@ -40,7 +40,7 @@ impl Rows {
         }
     }
 
-    // The rows of these segments, of which there are so many.
+    // The rows of these segments, `count` in all.
     pub(crate) fn from_segments(segments: Vec<Segment>, count: usize) -> Rows
         requires { count ≡ length (one_list segments.items) }
         ensures { result ≡ one_list segments.items }

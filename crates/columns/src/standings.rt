@@ -36,7 +36,7 @@ impl Model for Standings {
 
 #[tactic(auto, using(crate::proofs::StandingLists::standings), unfolding(crate::specs::Standings::standings_of))]
 impl Standings {
-    /// So many rows at True.
+    /// n rows at True.
     pub(crate) fn all_true(n: usize) -> Standings
         ensures { result ≡ replicate n True }
     {

@@ -91,7 +91,7 @@ impl Texts {
         }
     }
 
-    /// No texts, with room for so many.
+    /// No texts, with room for n.
     pub(crate) fn with_room(alloc: Global, n: usize) -> Result<Texts, AllocError>
         ensures { IfOk result (λ t. t ≡ []) }
     {
@@ -200,7 +200,7 @@ impl Texts {
         Ok(Some((ends, total)))
     }
 
-    // The bytes of the texts at these places, one after the other, which are so many.
+    // The bytes of the texts at these places, one after the other, `count` in all.
     fn bytes_at(&self, alloc: Global, places: &[u32], count: usize) -> Result<Vec<u8>, AllocError>
         requires { AreBelow (length self.now) places.now }
         ensures { IfOk result (λ v. v.items ≡ one_list (gathered [] self.now places.now)) }

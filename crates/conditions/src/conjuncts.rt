@@ -1,6 +1,7 @@
 //! Conditions over other columns, in parts.
 ghost use Rattle.std.specs.Prelude.{◌≡◌, ◌++◌, ◌<◌, IfOk, OnOk, IsTrue, map};
-ghost use Rattle.conditions.specs.Ranks.{columns_from, PutInto, PutAll, IsParted, PutPart, AreRenamed, ReadsBelow};
+ghost use Rattle.conditions.specs.Ranks.{columns_from, PutInto, PutAll, IsParted, PutPart};
+ghost use Rattle.conditions.specs.Ranks.{AreRenamed, ReadsBelow};
 
 use crate::factors::put_factors;
 use scalar_expr::{Expr, rename, used_columns};

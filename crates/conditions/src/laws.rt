@@ -1,5 +1,6 @@
 //! Laws of conditions, and rules that fail with faults.
-ghost use Rattle.conditions.specs.ConditionLaws.{AndFlattens, OrFlattens, InAnyOrder, FactorOut, ImpliedByOr, NoDeMorgan, NoEqualityThroughFaults};
+ghost use Rattle.conditions.specs.ConditionLaws.{AndFlattens, OrFlattens, InAnyOrder, FactorOut};
+ghost use Rattle.conditions.specs.ConditionLaws.{ImpliedByOr, NoDeMorgan, NoEqualityThroughFaults};
 
 /// An AND within an AND is one AND.
 pub fn and_flattens()

@@ -17,13 +17,13 @@ year_case d false false a b e = omega arith
 year_after : (d : Day) → (day_after d).year ≤ d.year + 1
 year_after d = year_case d (nat_lt d.day (month_days d.year d.month)) (nat_lt d.month 12) (d.day + 1) (d.month + 1) 1
 
--- so many days later it is at most so many years later
+-- n days later it is at most n years later
 year_later : (n : ℕ) (d : Day) → (times n day_after d).year ≤ d.year + n
 unfolding times
 year_later zero d = omega arith
 year_later (suc n) d = let next = year_after d in let rest = year_later n (day_after d) in omega arith
 
--- the day so many days after 1992-01-01
+-- the day n days after 1992-01-01
 abbrev reached_day : ℕ → Day
 reached_day days = days_moved (day_at 1992 1 1) (pos days)
 

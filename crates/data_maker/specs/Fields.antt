@@ -32,7 +32,7 @@ phone nation = decimal (10 + nation) ++ codes "-100-200-3000"
 unfoldable pub day_text : Day → List ℕ
 day_text d = last_digits 4 d.year ++ 45 ∷ last_digits 2 d.month ++ 45 ∷ last_digits 2 d.day
 
--- the day so many days after 1992-01-01
+-- the day n days after 1992-01-01
 unfoldable pub date_text : ℕ → List ℕ
 date_text days = day_text (days_moved (day_at 1992 1 1) (pos days))
 

@@ -26,7 +26,7 @@ fn signed(days: u64) -> i32
     days as i32
 }
 
-/// The day so many days after the first one, where the calendar has it.
+/// The day `days` days after the first one, where the calendar has it.
 fn moved_by(days: u64) -> Result<CivilDate, DateFault>
     requires { days ≤ 4000 }
     ensures { result ≡ in_years (days_moved (day_at 1992 1 1) (pos days)) }
@@ -38,7 +38,7 @@ fn moved_by(days: u64) -> Result<CivilDate, DateFault>
     first_day().plus(by)
 }
 
-/// The day so many days after the first one. None of these days leaves the calendar.
+/// The day `days` days after the first one. None of these days leaves the calendar.
 fn day_after_first(days: u64) -> CivilDate
     requires { days ≤ 4000 }
     ensures { day_of_date result ≡ days_moved (day_at 1992 1 1) (pos days) }
@@ -63,7 +63,7 @@ fn push_day(text: &mut Vec<u8>, day: CivilDate) -> Result<(), AllocError>
     Ok(())
 }
 
-/// Appends a field of the date so many days after the first one.
+/// Appends a field of the date `days` days after the first one.
 #[tactic(auto, unfolding(crate::specs::Fields::date_text))]
 pub fn push_date(text: &mut Vec<u8>, days: u64) -> Result<(), AllocError>
     requires { days ≤ 4000 }

@@ -13,11 +13,12 @@ use Rattle.nested_query.specs.declared.query.BoundSource.{BoundSource}
 use Rattle.nested_query.specs.declared.query.Input.{Input}
 use Rattle.dependent_plan.specs.declared.sight.OuterColumn.{OuterColumn}
 
--- whether a column stands in a list: the row so many rows out that it is of, and its place there
+-- whether a column stands in a list: how many rows out its row is, and its place there
 abbrev pub has : List OuterColumn → ℕ → ℕ → Bool
-has outer level place = list_any (λ (c : OuterColumn). (c.level == level) && (c.place == place)) outer
+has outer level place =
+    list_any (λ (c : OuterColumn). (c.level == level) && (c.place == place)) outer
 
--- whether a part of a query reads the column at a place of the row so many rows out
+-- whether a part of a query reads the column at a place of the row n rows out
 abbrev pub Seeks : Type 0
 Seeks = ℕ → ℕ → Bool
 

@@ -1,5 +1,6 @@
 -- Well-typed parts of a query whose columns of the rows around are all at hand.
-use Rattle.std.specs.Prelude.{◌≡◌, ℕ, suc, ◌+◌, ◌-◌, ◌<◌, ◌||◌, List, ◌∷◌, length, Option, Some, IsTrue}
+use Rattle.std.specs.Prelude.{◌≡◌, ℕ, suc, ◌+◌, ◌-◌, ◌<◌, ◌||◌, List, ◌∷◌, length, Option, Some}
+use Rattle.std.specs.Prelude.{IsTrue}
 use Rattle.std.specs.List.{All}
 use Rattle.scalar_expr.specs.declared.kind.Kind.{Kind}
 use Rattle.nested_query.specs.declared.query.BoundAggregate.{BoundAggregate}
@@ -84,7 +85,7 @@ pub record IsWidthOf (typing : KindsMeaning) (w : ℕ) : Type 0 where
   pub is : (around : EnvKinds) (kinds : List Kind) → typing around ≡ Some kinds
       → w ≡ length kinds
 
--- A list of columns grew by just those that a part reads, seen from so many rows further in.
+-- A list of columns grew by just those that a part reads, seen from `within` rows further in.
 pub record Finds (seeks : Seeks) (within : ℕ) (old new : List OuterColumn) : Type 0 where
   pub grows : (level place : ℕ)
       → has new level place ≡ (has old level place || seeks (within + level) place)

@@ -44,7 +44,7 @@ fn put(column: OuterColumn, found: &mut Items<OuterColumn>) -> Result<(), AllocE
     }
 }
 
-// A column that is read in a query so many queries within.
+// A column that is read in a query `within` queries further in.
 fn column(
     level: u32,
     place: u32,
@@ -63,7 +63,8 @@ fn column(
 
 #[cycle(outer)]
 fn inputs(all: &[Input], within: u32, found: &mut Items<OuterColumn>) -> Result<(), AllocError>
-    ensures { OnOk result (Finds (any_seeks (map seeks_of_input all.now)) (within + 1) found.old found.new) }
+    ensures { OnOk result
+        (Finds (any_seeks (map seeks_of_input all.now)) (within + 1) found.old found.new) }
 {
     for i in all {
         input(i, within, found)?;
@@ -109,7 +110,8 @@ fn expr(e: &BoundExpr, within: u32, found: &mut Items<OuterColumn>) -> Result<()
 
 #[cycle(outer)]
 fn exprs(all: &[BoundExpr], within: u32, found: &mut Items<OuterColumn>) -> Result<(), AllocError>
-    ensures { OnOk result (Finds (any_seeks (map seeks_of_expr all.now)) (within + 1) found.old found.new) }
+    ensures { OnOk result
+        (Finds (any_seeks (map seeks_of_expr all.now)) (within + 1) found.old found.new) }
 {
     for e in all {
         expr(e, within, found)?;
@@ -123,7 +125,8 @@ fn aggregates(
     within: u32,
     found: &mut Items<OuterColumn>,
 ) -> Result<(), AllocError>
-    ensures { OnOk result (Finds (any_seeks (map seeks_of_aggregate all.now)) (within + 1) found.old found.new) }
+    ensures { OnOk result
+        (Finds (any_seeks (map seeks_of_aggregate all.now)) (within + 1) found.old found.new) }
 {
     for a in all {
         aggregate(a, within, found)?;

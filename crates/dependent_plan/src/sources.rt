@@ -105,7 +105,7 @@ pub fn plain_condition(
     }
 }
 
-// LEFT OUTER JOIN under a condition, whose right side has so many columns.
+// LEFT OUTER JOIN under a condition, whose right side has `nulls` columns.
 pub fn outer_joined(
     alloc: Global,
     left: Rows,

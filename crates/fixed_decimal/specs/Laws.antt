@@ -21,19 +21,20 @@ abbrev pub RoundsToNearest : Type 0
 RoundsToNearest = (m n : ℕ) → 0 < n → (2 * nearest_of m n * n ≤ 2 * m + n)
     × (2 * m + n < 2 * nearest_of m n * n + 2 * n)
 
--- the quotient q of signed numbers x and y is the whole number nearest to x / y: q * y is within half
--- of y's size of x, and at just a half it is further from zero than x
+-- the quotient q of signed numbers x and y is the whole number nearest to x / y: q * y is within
+-- half of y's size of x, and at just a half it is further from zero than x
 abbrev pub QuotientIsNearest : Type 0
-QuotientIsNearest = (x y : ℤ) → 0 < unsigned_abs y → let error = unsigned_abs (nearest x y *ℤ y -ℤ x) in
+QuotientIsNearest = (x y : ℤ) → 0 < unsigned_abs y
+    → let error = unsigned_abs (nearest x y *ℤ y -ℤ x) in
     (2 * error ≤ unsigned_abs y)
     × (2 * error ≡ unsigned_abs y → unsigned_abs x < unsigned_abs (nearest x y *ℤ y))
 
--- a term behind a list of terms
+-- a term after a list of terms
 abbrev pub PutIsOneTermMore : Type 0
 PutIsOneTermMore = (terms : List ℤ) (term : ℤ) → sums_of (terms ++ term ∷ [])
     ≡ with_term (sums_of terms) term
 
--- two lists of terms, one behind the other
+-- two lists of terms, one after the other
 abbrev pub MergeIsBothLists : Type 0
 MergeIsBothLists = (terms more : List ℤ) → sums_of (terms ++ more)
     ≡ joined (sums_of terms) (sums_of more)

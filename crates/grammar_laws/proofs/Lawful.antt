@@ -310,7 +310,7 @@ module _ {T K : Type 0} {c : Kinds T K} {P S : Type 0} where
   element_heads : {A : Type 0} {G : List (Mark T) → A → Type 0} {p : List T → Outcome T A} (first on : List K) → Line c P S first on G p → (room : ℕ) (ms : List (Mark T)) (a : A) → Element room G ms a → Starts c first ms
   element_heads first on g room ms a x = subst (Starts c first) (sym x.text) (Starts-element c first room x.inner (g.heads x.inner a x.part))
 
-  -- elements behind what joins them
+  -- elements after what joins them
   pub tail_links : {A B D : Type 0} {J : List (Mark T) → D → Type 0} {G : List (Mark T) → A → Type 0} {join : List T → Outcome T D} {p : List T → Outcome T A} {f1 o1 f2 o2 on : List K} (width : ℕ) (test : T → Bool) (link : D → A → B)
       → ((t : T) → test t ≡ among c f1 t) → Line c P S f1 o1 J join → Line c P S f2 o2 G p → apart c f2 o1 ≡ true → apart c f1 o2 ≡ true → within c f1 on ≡ true → within c o2 on ≡ true → Tail c P S f1 on (Links J link G width) (links test join link p width)
   tail_links {A} {B} {D} {J} {G} {join} {p} {f1} {o1} {f2} {o2} {on} width test link agree j g clear goes w1 w2 = record {

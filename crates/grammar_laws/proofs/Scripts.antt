@@ -55,7 +55,7 @@ module _ {T S : Type 0} (G : ℕ → List (Mark T) → S → Type 0) (read : Lis
   Stable-script zero = Stable-fixed (Ok [])
   Stable-script (suc n) = step_stable n (Stable-both (λ s ss. s ∷ ss) law.stable (Stable-script n))
 
-  -- a script of at most so many tokens
+  -- a script of at most n tokens
   pub record Short (h n : ℕ) (ms : List (Mark T)) (ss : List S) : Type 0 where
     pub script : Script G h ss ms
     pub length_le : length (tokens ms) ≤ n

@@ -45,7 +45,7 @@ pub record Stops {T A : Type 0} (G : List (Mark T) → A → Type 0) (ts : List 
   pub begins : Begins G (front ++ shown r rest)
   pub there : IsThere r rest
 
--- A value read has a text of the grammar before the rest; a refusal stands behind tokens that begin
+-- A value read has a text of the grammar before the rest; a refusal stands after tokens that begin
 -- one.
 abbrev pub Meets : {T A : Type 0} → (List (Mark T) → A → Type 0) → List T → Outcome T A → Type 0
 Meets G ts (Ok a, rest) = Takes G ts a rest

@@ -50,14 +50,14 @@ abbrev pub less : ℕ → ℕ
 less zero = zero
 less (suc n) = n
 
--- an element of a list that has room for so many more
+-- an element of a list that has room for n more
 pub record Element {T A : Type 0} (room : ℕ) (G : List (Mark T) → A → Type 0) (ms : List (Mark T))
     (a : A) : Type 0 where
   pub inner : List (Mark T)
   pub part : G inner a
   pub text : ms ≡ element room inner
 
--- elements, each behind what joins it to those before
+-- elements, each after what joins it to those before
 pub data Links {T A B D : Type 0} (J : List (Mark T) → D → Type 0) (link : D → A → B)
     (G : List (Mark T) → A → Type 0) : ℕ → List (Mark T) → List B → Type 0 where
   none : {room : ℕ} → Links J link G room [] []

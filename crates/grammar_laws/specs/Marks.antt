@@ -28,7 +28,7 @@ tokens (m ∷ ms) = m.token ∷ tokens ms
 abbrev pub plain : {T : Type 0} → T → Mark T
 plain t = record { token = t; passes = None }
 
--- The token opens one more level, where there is room for so many.
+-- The token opens one more level: it passes the limit where there is no room for one.
 abbrev pub opening : {T : Type 0} → ℕ → T → Mark T
 opening zero t = record { token = t; passes = Some deep }
 opening (suc room) t = plain t
@@ -38,7 +38,7 @@ abbrev pub or_wide : Option Limit → Option Limit
 or_wide None = Some wide
 or_wide (Some r) = Some r
 
--- the text of an element of a list that has room for so many more
+-- the text of an element of a list that has room for n more
 abbrev pub element : {T : Type 0} → ℕ → List (Mark T) → List (Mark T)
 element (suc room) ms = ms
 element zero [] = []

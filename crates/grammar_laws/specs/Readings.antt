@@ -71,7 +71,7 @@ crowded ts (Err r, us) = if length us == length ts then (Err r, ts) else (Err To
 abbrev pub crowd : {T A : Type 0} → Reading T A → Reading T A
 crowd p ts = crowded ts (p ts)
 
--- elements, each behind what joins it to those before, which begins with a token that passes the
+-- elements, each after what joins it to those before, which begins with a token that passes the
 -- test
 unfoldable pub links : {T A B D : Type 0} → (T → Bool) → Reading T D → (D → A → B) → Reading T A → ℕ
     → Reading T (List B)

@@ -40,7 +40,7 @@ use Rattle.hash_group.proofs.Grouped.{group_by_numbers}
 use Rattle.hash_group.proofs.KeyCells.{picked_key, firsts_are_once, all_numbers_below}
 
 -- one group of all rows
-with_zeros : {R : Type 0} (xs : List R) (n : ℕ) → n ≡ length xs → with_number (replicate n 0) xs 0 ≡ xs
+pub with_zeros : {R : Type 0} (xs : List R) (n : ℕ) → n ≡ length xs → with_number (replicate n 0) xs 0 ≡ xs
 with_zeros [] zero e = refl
 with_zeros [] (suc n) e = absurd (omega (arith, e))
 with_zeros (x ∷ xs) zero e = absurd (omega (arith, e))

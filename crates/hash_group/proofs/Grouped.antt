@@ -18,7 +18,7 @@ use Rattle.row_laws.proofs.LoopLists.{classes_by_numbers}
 use Rattle.hash_group.specs.GroupLaws.{grouped_rows, distinct_rows, GroupByNumbers, DistinctByNumbers, KeysAtFirstPlaces}
 
 -- images of the elements with a number
-with_images : {X Y : Type 0} (f : X → Y) (is : List ℕ) (xs : List X) (n : ℕ) → map f (with_number is xs n) ≡ with_number is (map f xs) n
+pub with_images : {X Y : Type 0} (f : X → Y) (is : List ℕ) (xs : List X) (n : ℕ) → map f (with_number is xs n) ≡ with_number is (map f xs) n
 with_images f [] xs n = refl
 with_images f (i ∷ is) [] n = refl
 with_images f (i ∷ is) (x ∷ xs) n = elim (cases_Bool (nat_eq i n)) [ inl t ↦ rw t (ap (λ l. f x ∷ l) (with_images f is xs n)) | inr g ↦ rw g (with_images f is xs n) ]

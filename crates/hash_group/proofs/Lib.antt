@@ -6,3 +6,6 @@ pub mod FilledRows
 pub mod GroupRows
 pub mod Runs
 pub mod NumberSums
+pub mod Regrouped
+pub mod Merging
+pub mod PartLists

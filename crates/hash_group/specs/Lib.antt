@@ -4,5 +4,8 @@ pub mod GroupLaws
 pub mod Grouping
 pub mod Keys
 pub mod NumberSums
+pub mod PartGroups
+pub mod Regrouping
 pub mod Runs
 pub mod Standings
+pub mod States

@@ -1,10 +1,10 @@
 //! One aggregate of each group.
-ghost use Rattle.std.specs.Prelude.{◌≡◌, ℕ, ◌<◌, ◌^◌, [], length, IfOk};
+ghost use Rattle.std.specs.Prelude.{◌≡◌, ◌<◌, ◌^◌, length, IfOk};
 ghost use Rattle.aggregates.specs.Values.{aggregate_of};
 ghost use Rattle.columns.specs.Lists.{AreBelow};
-ghost use Rattle.hash_group.specs.ByNumber.{values_by_number, AtEach};
+ghost use Rattle.hash_group.specs.ByNumber.{values_by_number};
 
-use crate::groups::accumulated;
+use crate::groups::{states_by_number, values_of};
 use crate::values::ValueList;
 use accumulators::{Accumulator, Average, Count, CountDistinct, Greatest, Least, Sum};
 use aggregates::AggregateFunction;
@@ -12,21 +12,6 @@ use columns::{Column, ColumnBuilder, ColumnForm};
 use fixed_decimal::Scale;
 use sql_value::Value;
 use std::alloc::{AllocError, Global};
-
-// So many accumulators of no values.
-fn starts<A: Accumulator>(alloc: Global, scale: Scale, count: usize) -> Result<Vec<A>, AllocError>
-    ensures count { IfOk result (λ v. length v.items ≡ count) }
-    ensures terms { IfOk result (λ v. AtEach (λ i s. A.terms s ≡ 0) v.items) }
-    ensures taken { IfOk result
-        (λ v. AtEach (λ i s. A.has_taken s (A.aggregate scale) []) v.items) }
-{
-    let mut states = Vec::with_capacity(alloc, count)?;
-    for _i in 0..count {
-        let state = A::new(alloc, scale);
-        states.push(state)?;
-    }
-    Ok(states)
-}
 
 /// For each of `count` numbers the accumulator's aggregate of the values of the rows with that
 /// number.
@@ -43,8 +28,9 @@ pub fn accumulated_by_number<A: Accumulator, L: ValueList>(
     ensures { IfOk result (λ v. v.items
         ≡ values_by_number (A.aggregate scale) numbers.now (L.shown values.now) 0 count) }
 {
-    let states = starts::<A>(alloc, scale, count)?;
-    accumulated(alloc, states, numbers, values)
+    let states = states_by_number::<A, L>(alloc, scale, numbers, count, values)?;
+    let values = values_of(alloc, states.as_slice())?;
+    Ok(values)
 }
 
 /// For each of `count` numbers the aggregate of the values of the rows with that number, numbers
@@ -96,7 +82,7 @@ fn form_of(value: Option<&Value>) -> ColumnForm {
 }
 
 /// The values as a column, in little room where they are alike.
-pub(crate) fn column_of(alloc: Global, values: &[Value]) -> Result<Column, AllocError>
+pub fn column_of(alloc: Global, values: &[Value]) -> Result<Column, AllocError>
     ensures { IfOk result (λ c. c ≡ values.now) }
 {
     let mut builder = ColumnBuilder::new(alloc, form_of(values.first()))?;

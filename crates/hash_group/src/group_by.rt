@@ -22,13 +22,13 @@ use scalar_expr::Expr;
 use sql_value::Value;
 use std::alloc::{AllocError, Global};
 
-// The groups of rows: columns of their keys, the number of each row's group, and how many groups
-// there are.
+/// The groups of rows: columns of their keys, the number of each row's group, and how many groups
+/// there are.
 #[derive(Drop)]
-struct Groups {
-    keys: Vec<Column>,
-    numbers: Vec<u32>,
-    count: usize,
+pub(crate) struct Groups {
+    pub(crate) keys: Vec<Column>,
+    pub(crate) numbers: Vec<u32>,
+    pub(crate) count: usize,
 }
 
 // All rows as one group.
@@ -60,8 +60,8 @@ fn groups_by(alloc: Global, rows: &Bag, by: &[u32]) -> Result<Groups, AllocError
     })
 }
 
-// The groups by these columns, or one group where there are none.
-fn groups_of(alloc: Global, rows: &Bag, by: &[u32]) -> Result<Groups, AllocError>
+/// The groups by these columns, or one group where there are none.
+pub(crate) fn groups_of(alloc: Global, rows: &Bag, by: &[u32]) -> Result<Groups, AllocError>
     ensures { IfOk result (λ g.
         AreGroups by.now rows.now.rows g.keys.items g.numbers.items g.count) }
 {
@@ -73,8 +73,13 @@ fn groups_of(alloc: Global, rows: &Bag, by: &[u32]) -> Result<Groups, AllocError
     Ok(groups)
 }
 
-// The values of an expression over the rows of a bag, whose numbers have this scale.
-fn argument_column(alloc: Global, rows: &Bag, e: &Expr, scale: Scale) -> Result<Column, AllocError>
+/// The values of an expression over the rows of a bag, whose numbers have this scale.
+pub(crate) fn argument_column(
+    alloc: Global,
+    rows: &Bag,
+    e: &Expr,
+    scale: Scale,
+) -> Result<Column, AllocError>
     ensures { IfOk result (λ c. c ≡ map (λ r. value e.now r.values) rows.now.rows) }
 {
     let mut column = ColumnBuilder::new(alloc, ColumnForm::Numbers(scale))?;

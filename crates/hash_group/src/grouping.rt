@@ -41,8 +41,8 @@ pub(crate) fn key_columns(alloc: Global, bag: &Bag, by: &[u32]) -> Result<Vec<Co
     Ok(columns)
 }
 
-// The places from 0 on, so many.
-fn places_below(alloc: Global, n: u32) -> Result<Vec<u32>, AllocError>
+/// The places from 0 on, so many.
+pub fn places_below(alloc: Global, n: u32) -> Result<Vec<u32>, AllocError>
     ensures { IfOk result (λ v. v.items ≡ range_with_len 0 n) }
 {
     let mut places = Vec::with_capacity(alloc, n as usize)?;

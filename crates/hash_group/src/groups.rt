@@ -1,13 +1,31 @@
-//! The aggregates of groups.
-ghost use Rattle.std.specs.Prelude.{◌≡◌, ℕ, ◌+◌, ◌<◌, ◌^◌, [], length, IfOk, OnOk};
-ghost use Rattle.std.specs.List.{All};
-ghost use Rattle.accumulators.specs.Accumulators.{OfValues};
-ghost use Rattle.hash_group.specs.ByNumber.{values_by_number, AtEach, PutAt, AreValues};
+//! The accumulators of groups.
+ghost use Rattle.std.specs.Prelude.{◌≡◌, ℕ, ◌+◌, ◌<◌, ◌^◌, List, [], map, length, IfOk, OnOk};
+ghost use Rattle.sql_value.specs.declared.value.Value.{Value as Datum};
+ghost use Rattle.columns.specs.Lists.{AreBelow, one_list};
+ghost use Rattle.hash_group.specs.ByNumber.{AtEach, PutAt, AreValues};
+ghost use Rattle.hash_group.specs.Regrouping.{lists_by_number};
+ghost use Rattle.hash_group.specs.States.{HaveTaken, MergedAt};
 
 use crate::values::ValueList;
 use accumulators::Accumulator;
+use fixed_decimal::Scale;
 use sql_value::Value;
 use std::alloc::{AllocError, Global};
+
+// So many accumulators of no values.
+fn starts<A: Accumulator>(alloc: Global, scale: Scale, count: usize) -> Result<Vec<A>, AllocError>
+    ensures count { IfOk result (λ v. length v.items ≡ count) }
+    ensures terms { IfOk result (λ v. AtEach (λ i s. A.terms s ≡ 0) v.items) }
+    ensures taken { IfOk result
+        (λ v. AtEach (λ i s. A.has_taken s (A.aggregate scale) []) v.items) }
+{
+    let mut states = Vec::with_capacity(alloc, count)?;
+    for _i in 0..count {
+        let state = A::new(alloc, scale);
+        states.push(state)?;
+    }
+    Ok(states)
+}
 
 // Puts a value into the accumulator of its group.
 fn put_at<A: Accumulator>(
@@ -23,8 +41,21 @@ fn put_at<A: Accumulator>(
     states[number].put(value)
 }
 
-// The values of the accumulators.
-fn values_of<A: Accumulator>(alloc: Global, states: &[A]) -> Result<Vec<Value>, AllocError>
+// Merges an accumulator into that of its group.
+fn merge_at<A: Accumulator>(states: &mut Vec<A>, number: usize, other: A) -> Result<(), AllocError>
+    requires number { number < length states.old.items }
+    requires terms { AtEach (λ i s. A.terms s + A.terms other < 2 ^ 64) states.old.items }
+    ensures { OnOk result (MergedAt A.has_taken A.terms number other states.old.items
+        states.new.items) }
+{
+    states[number].merge(other)
+}
+
+/// The values of the accumulators.
+pub(crate) fn values_of<A: Accumulator>(
+    alloc: Global,
+    states: &[A],
+) -> Result<Vec<Value>, AllocError>
     ensures { IfOk result (λ v. AreValues A.has_taken states.now v.items) }
 {
     let mut values = Vec::with_capacity(alloc, states.len())?;
@@ -35,27 +66,52 @@ fn values_of<A: Accumulator>(alloc: Global, states: &[A]) -> Result<Vec<Value>, 
     Ok(values)
 }
 
-/// For each accumulator, which stands for the group of its place, the aggregate of the values of
-/// the rows with that number.
-pub fn accumulated<A: Accumulator, L: ValueList>(
+/// For each of `count` numbers an accumulator that has taken the values of the rows with that
+/// number, in their order.
+pub(crate) fn states_by_number<A: Accumulator, L: ValueList>(
     alloc: Global,
-    states: Vec<A>,
+    scale: Scale,
     numbers: &[u32],
+    count: usize,
     values: &L,
-) -> Result<Vec<Value>, AllocError>
+) -> Result<Vec<A>, AllocError>
     requires rows { length numbers.now ≡ length (L.shown values.now) }
     requires small { length numbers.now < 2 ^ 32 }
-    requires numbers { All (λ n. n < length states.items) numbers.now }
-    requires terms { AtEach (λ i s. A.terms s ≡ 0) states.items }
-    ensures { IfOk result (λ v. (aggregate : OfValues)
-        → AtEach (λ i s. A.has_taken s aggregate []) states.items
-        → v.items ≡ values_by_number aggregate numbers.now (L.shown values.now) 0
-        (length states.items)) }
+    requires numbers { AreBelow count numbers.now }
+    ensures { IfOk result (λ v. HaveTaken A.has_taken A.terms (A.aggregate scale)
+        (lists_by_number numbers.now (L.shown values.now) 0 count) v.items) }
 {
-    let mut states = states;
+    let mut states = starts::<A>(alloc, scale, count)?;
     for row in 0..numbers.len() {
         let value = values.value(row)?;
         put_at(&mut states, numbers[row] as usize, &value)?;
+    }
+    Ok(states)
+}
+
+/// Accumulators merged by their numbers, in their order: for each of `count` numbers the aggregate
+/// of the values that those with that number have taken.
+pub fn merged_by_number<A: Accumulator>(
+    alloc: Global,
+    scale: Scale,
+    numbers: &[u32],
+    count: usize,
+    parts: Vec<A>,
+) -> Result<Vec<Value>, AllocError>
+    requires rows { length numbers.now ≡ length parts.items }
+    requires small { length numbers.now < 2 ^ 32 }
+    requires numbers { AreBelow count numbers.now }
+    requires terms { AtEach (λ i s. A.terms s < 2 ^ 32) parts.items }
+    ensures { IfOk result (λ v. (lists : List (List Datum))
+        → HaveTaken A.has_taken A.terms (A.aggregate scale) lists parts.items
+        → v.items ≡ map (λ ls. A.aggregate scale (one_list ls))
+        (lists_by_number numbers.now lists 0 count)) }
+{
+    let mut states = starts::<A>(alloc, scale, count)?;
+    let mut row = 0;
+    for part in parts {
+        merge_at(&mut states, numbers[row] as usize, part)?;
+        row += 1;
     }
     let values = values_of(alloc, states.as_slice())?;
     Ok(values)

@@ -1,5 +1,6 @@
 -- What a job's file asks for, and its first refusal.
-use Rattle.std.specs.Prelude.{◌≡◌, ⊤, ℕ, ◌<◌, ◌≤◌, ◌+◌, List, [], ◌∷◌, ◌++◌, codes, length, nat_lt, ◌==◌, Option, None, Some}
+use Rattle.std.specs.Prelude.{◌≡◌, ⊤, ℕ, ◌<◌, ◌≤◌, ◌+◌, List, [], ◌∷◌, ◌++◌, codes, length, nat_lt}
+use Rattle.std.specs.Prelude.{◌==◌, Option, None, Some}
 use Rattle.std.specs.Prelude.{map, Result, Ok, Err, if◌then◌else◌}
 use Rattle.std.specs.String.{string_bytes}
 use Rattle.tbl_reader.specs.File.{cut_lines}
@@ -69,7 +70,7 @@ with_script parts name =
     then Ok (record parts { scripts = parts.scripts ++ name ∷ [] })
     else Err TooMany
 
--- one refresh more, but for the one that is too many, with so many of them before the sessions
+-- one refresh more, but for the one that is too many, with n of them before the sessions
 abbrev pub with_refresh : JobParts → Mention → ℕ → Result JobParts JobRefusal
 with_refresh parts mention before =
     if nat_lt (length parts.refreshes) most_refreshes
@@ -133,7 +134,7 @@ Puts number made new (Err (Refused refused)) =
     (made ≡ Err refused.refusal) × (refused.line ≡ number)
 Puts number made new (Err OutOfMemory) = ⊤
 
--- a job within its limits, with so many refreshes before the sessions as it has
+-- a job within its limits, with no more refreshes before the sessions than it has
 pub record IsWithin (job : Job) : Type 0 where
   pub few : length job.scripts.items ≤ most_sessions
   pub before : job.before ≤ length job.refreshes.items

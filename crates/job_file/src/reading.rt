@@ -62,7 +62,8 @@ fn refused(refusal: JobRefusal, line: usize) -> JobError
 /// Adds a session, unless it is one too many.
 fn put_script(alloc: Global, job: &mut Job, number: usize, name: &str) -> Result<(), JobError>
     requires { IsWithin job.old }
-    ensures script { Puts number (with_script (parts_of job.old) name.now) (parts_of job.new) result }
+    ensures script { Puts number (with_script (parts_of job.old) name.now)
+        (parts_of job.new) result }
     ensures within { IsWithin job.new }
 {
     if job.scripts.len() >= MOST_SESSIONS {
@@ -73,7 +74,7 @@ fn put_script(alloc: Global, job: &mut Job, number: usize, name: &str) -> Result
     Ok(())
 }
 
-/// Adds a refresh, unless it is one too many; with it so many are tried before the sessions.
+/// Adds a refresh, unless it is one too many; with it `before` are tried before the sessions.
 fn put_refresh(
     job: &mut Job,
     number: usize,

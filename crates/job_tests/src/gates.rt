@@ -5,8 +5,8 @@ use tpch_outside::Gate;
 /// How often one asks for the others before it gives up.
 const MOST_TURNS: u64 = 100_000_000;
 
-/// Keeps the publisher at turn 4 until both sessions are at turn 3, and each session there until the
-/// other is there and the publisher has come to turn 5. It counts how often one waited in vain.
+/// Keeps the publisher at turn 4 until both sessions are at turn 3, and each session there until
+/// the other is there and the publisher has come to turn 5. It counts how often one waited in vain.
 #[derive(Drop)]
 pub(crate) struct MeetGate {
     publisher: AtomicU64,

@@ -21,45 +21,52 @@ fn expect_refused<R: Threads + Wait + Sync + Abort>(
     Ok(())
 }
 
+const INPUTS: [(&[(&str, &str)], &str); 5] = [
+    (&[], "input refused j absent\n"),
+    (&[("j", JOB), ("a", COUNTS)], "input refused b absent\n"),
+    (
+        &[("j", JOB), ("a", "select from region;")],
+        "input refused a byte 7 5 Unexpected\n",
+    ),
+    (
+        &[
+            ("j", JOB),
+            (
+                "a",
+                "select r_name from region; -- refresh\n refresh insert 1;",
+            ),
+        ],
+        "input refused a byte 39 9 RefreshHere\n",
+    ),
+    (
+        &[("j", "session a\nbeside insert 2"), ("a", COUNTS)],
+        "input refused d/orders.tbl.u2 absent\n",
+    ),
+];
+
 #[test]
 fn refuses_inputs(rt: HostRuntime) -> Result<(), Fail> {
-    let alloc = rt.alloc();
-    expect_refused(&rt, alloc, &[], "input refused j absent\n")?;
-    let without_b = [("j", JOB), ("a", COUNTS)];
-    expect_refused(&rt, alloc, &without_b, "input refused b absent\n")?;
-    let unread = [("j", JOB), ("a", "select from region;")];
-    expect_refused(&rt, alloc, &unread, "input refused a byte 7 5 Unexpected\n")?;
-    let refresh = "select r_name from region; -- refresh\n refresh insert 1;";
-    let refreshes = [("j", JOB), ("a", refresh)];
-    expect_refused(
-        &rt,
-        alloc,
-        &refreshes,
-        "input refused a byte 39 9 RefreshHere\n",
-    )?;
-    let second = [("j", "session a\nbeside insert 2"), ("a", COUNTS)];
-    expect_refused(
-        &rt,
-        alloc,
-        &second,
-        "input refused d/orders.tbl.u2 absent\n",
-    )?;
+    for (files, text) in &INPUTS {
+        expect_refused(&rt, rt.alloc(), files, text)?;
+    }
     Ok(())
 }
+
+const LINES: [(&str, &str); 8] = [
+    ("sesion a\n", "1 1 BadLine"),
+    ("session a\n\nsession  b\n", "3 1 BadLine"),
+    ("session a\r\nbefore insert 0123456789\r\n", "2 1 BadLine"),
+    ("session a\nbefore delete \n", "2 1 BadLine"),
+    ("session a b\n", "1 1 BadLine"),
+    ("beside delete 1\nbefore insert 1\n", "2 2 LateBefore"),
+    ("\n\nbeside delete 1\n", "0 4 NoSession"),
+    ("", "0 4 NoSession"),
+];
 
 #[test]
 fn refuses_lines(rt: HostRuntime) -> Result<(), Fail> {
     let alloc = rt.alloc();
-    for (job, line) in [
-        ("sesion a\n", "1 1 BadLine"),
-        ("session a\n\nsession  b\n", "3 1 BadLine"),
-        ("session a\r\nbefore insert 0123456789\r\n", "2 1 BadLine"),
-        ("session a\nbefore delete \n", "2 1 BadLine"),
-        ("session a b\n", "1 1 BadLine"),
-        ("beside delete 1\nbefore insert 1\n", "2 2 LateBefore"),
-        ("\n\nbeside delete 1\n", "0 4 NoSession"),
-        ("", "0 4 NoSession"),
-    ] {
+    for (job, line) in &LINES {
         let text = format!(in alloc; "input refused j line {line}\n")?;
         expect_refused(&rt, alloc, &[("j", job)], text.as_str())?;
     }

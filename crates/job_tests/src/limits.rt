@@ -5,7 +5,7 @@ use std::test::Fail;
 use tpch_main::Status;
 use tpch_outside::OpenGate;
 
-/// The lines of so many sessions and so many pairs of refreshes.
+/// The lines of these counts of sessions and of pairs of refreshes.
 fn job_of(alloc: Global, sessions: u32, pairs: u32) -> Result<String, AllocError> {
     let mut job = String::new(alloc);
     for _ in 0..sessions {

@@ -52,7 +52,7 @@ in_years_is : (b : Bool) (n : ℕ) → ◌≡◌ {A = Result ℕ DateFault} (con
 in_years_is true n e = refl
 in_years_is false n e = cc
 
--- the day so many days after the first
+-- the day n days after the first
 abbrev pub made_day : ℕ → Day
 made_day days = days_moved (day_at 1992 1 1) (pos days)
 

@@ -32,7 +32,8 @@ use Rattle.data_maker.specs.Lines.{fields}
 use Rattle.made_tables.proofs.Dates.{made_date, date_read, day_is_text}
 use Rattle.made_tables.proofs.Texts.{IsText, is_plain, text_more, short_decimal, money_text}
 
--- A field of a made line: a key or a whole number, an amount, a text for a column of so many bytes, or a date.
+-- A field of a made line: a key or a whole number, an amount, a text for a column of n bytes, or a
+-- date.
 pub data Made : Type 0 where
   key : (n : ℕ) → Made
   whole : (n : ℕ) → Made

@@ -52,7 +52,7 @@ differ form low high (row ∷ rows) a =
     AllPairs-cons ◌≢◌ (key_of form row) (map (key_of form) rows) (apart form (key_of form row) (suc (place_of (key_of form row))) high rows (omega arith) a.1)
     (differ form (suc (place_of (key_of form row))) high rows a.1)
 
--- a part of a file: whole lines, their rows, and at most so many bytes
+-- a part of a file: whole lines, their rows, and at most `most` bytes
 pub record Part (form : LineForm) (low high most : ℕ) (text : List ℕ) : Type 0 where
   pub cuts : List (List ℕ)
   pub rows : List (List Value)

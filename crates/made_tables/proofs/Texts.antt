@@ -21,7 +21,7 @@ use Rattle.data_maker.specs.Fields.{draw, labelled, address, phone, money}
 abbrev pub is_plain : ℕ → Bool
 is_plain b = is_printable b && not (b == 124)
 
--- a text of such bytes, of at most so many
+-- a text of at most n of such bytes
 pub record IsText (most : ℕ) (text : List ℕ) : Type 0 where
   pub plain : list_all is_plain text ≡ true
   pub short : length text ≤ most

@@ -30,7 +30,7 @@ use Rattle.aggregates.specs.Values.{written, value_rank, reading, aggregate_of}
 abbrev pub Env : Type 0
 Env = List (List Value)
 
--- the value of a column so many levels out; null where it is not there
+-- the value of a column n levels out; null where it is not there
 abbrev pub column : Env → ℕ → ℕ → Value
 column env level place = slice_index_or (slice_index_or env level []) place Null
 

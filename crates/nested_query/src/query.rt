@@ -1,5 +1,4 @@
-//! Queries whose names are bound: a column is so many levels out and at a place of that query's
-//! row.
+//! Queries whose names are bound: a column is n levels out and at a place of that query's row.
 use aggregates::AggregateFunction;
 use fixed_decimal::Scale;
 use order_limit::OrderKey;

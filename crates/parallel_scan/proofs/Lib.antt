@@ -1,3 +1,6 @@
 pub mod Chunks
+pub mod Narrowing
 pub mod PartRows
 pub mod StageRows
+pub mod ByExpressions
+pub mod MergedParts

@@ -1,2 +1,4 @@
+pub mod ExpressionGroups
+pub mod Kept
 pub mod Parts
 pub mod Stages

@@ -1,13 +1,11 @@
 //! Selections and select lists, one after the other.
 ghost use Rattle.std.specs.Prelude.{◌≡◌, IfOk};
-ghost use Rattle.row_laws.specs.Operators.{select};
-ghost use Rattle.conditions.specs.Ranks.{rank_of};
 ghost use Rattle.parallel_scan.specs.Stages.{stage_rows, stage_width, staged, staged_width};
 
-use column_expr::{projected, truths_of};
+use crate::kept::kept_batch;
+use column_expr::projected;
 use columns::Batch;
 use scalar_expr::Expr;
-use sql_value::{Standing, Truth};
 use std::alloc::{AllocError, Global};
 
 /// A selection or a select list.
@@ -38,35 +36,6 @@ pub(crate) fn staged_width(stages: &[Stage<'_>], width: usize) -> usize
         after = stage_width(stage, after);
     }
     after
-}
-
-// Whether each truth is True: then columns are shared and not gathered.
-fn are_all_true(truths: &[Truth]) -> bool {
-    for truth in truths {
-        if *truth != Truth::Stands(Standing::AtTrue) {
-            return false;
-        }
-    }
-    true
-}
-
-// The rows of a batch that a condition keeps: a share of the batch where it is True for each row.
-// 2^32 rows or more are an error, as memory that isn't there.
-fn kept_batch(alloc: Global, e: &Expr, batch: &Batch) -> Result<Batch, AllocError>
-    ensures width { IfOk result (λ b. b.width ≡ batch.now.width) }
-    ensures rows { IfOk result (λ b. b.rows ≡ select (rank_of e.now) batch.now.rows) }
-{
-    if batch.len() >= 1 << 32 {
-        return Err(AllocError);
-    }
-    let truths = truths_of(alloc, e, batch)?;
-    if are_all_true(truths.as_slice()) {
-        let all = batch.share(alloc)?;
-        let kept = all.keep(alloc, truths.as_slice())?;
-        return Ok(kept);
-    }
-    let kept = batch.select(alloc, truths.as_slice())?;
-    Ok(kept)
 }
 
 // The rows of a batch after one stage.

@@ -1,67 +1,26 @@
 //! Small tables: two customers, of whom the first has the two orders; five regions, and no nation.
 use algebra::{WholeTables, rows_are_of};
-use ascii_text::Text;
-use civil_date::CivilDate;
 use columns::stored_rows;
-use fixed_decimal::Scale;
-use sql_value::{Row, Value};
+use sql_value::Row;
 use std::alloc::Global;
 use std::test::Fail;
-use tpch_schema::TableName;
+use tbl_reader::read_pieces;
+use tpch_schema::{DataFile, TableName};
 
-pub(crate) fn whole(n: i128) -> Value {
-    Value::Number(Scale::WHOLE, n)
-}
-
-fn money() -> Value {
-    Value::Number(Scale::new(2), 0)
-}
-
-fn text(alloc: Global) -> Result<Value, Fail> {
-    let text = Text::new(alloc, b"x")?;
-    Ok(Value::Text(text))
-}
-
-fn region(alloc: Global, key: i128) -> Result<Row, Fail> {
-    let row = Row::new(vec![in alloc; whole(key), text(alloc)?, text(alloc)?]?)?;
-    Ok(row)
-}
-
-// Puts so many texts after the other values.
-fn put_texts(alloc: Global, values: &mut Vec<Value>, count: u8) -> Result<(), Fail> {
-    for _ in 0..count {
-        let text = text(alloc)?;
-        values.push(text)?;
-    }
-    Ok(())
-}
-
-fn customer(alloc: Global, key: i128) -> Result<Row, Fail> {
-    let mut values = Vec::new(alloc);
-    values.push(whole(key))?;
-    put_texts(alloc, &mut values, 2)?;
-    values.push(whole(0))?;
-    put_texts(alloc, &mut values, 1)?;
-    values.push(money())?;
-    put_texts(alloc, &mut values, 2)?;
-    let row = Row::new(values)?;
-    Ok(row)
-}
-
-fn order(alloc: Global, key: i128) -> Result<Row, Fail> {
-    let day = CivilDate::read(b"1996-01-02")?;
-    let mut values = Vec::new(alloc);
-    values.push(whole(key))?;
-    values.push(whole(1))?;
-    put_texts(alloc, &mut values, 1)?;
-    values.push(money())?;
-    values.push(Value::Date(day))?;
-    put_texts(alloc, &mut values, 2)?;
-    values.push(whole(0))?;
-    put_texts(alloc, &mut values, 1)?;
-    let row = Row::new(values)?;
-    Ok(row)
-}
+const TABLES: [(TableName, &str); 3] = [
+    (
+        TableName::Region,
+        "0|x|x|\n1|x|x|\n2|x|x|\n3|x|x|\n4|x|x|\n",
+    ),
+    (
+        TableName::Customer,
+        "1|x|x|0|x|0.00|x|x|\n2|x|x|0|x|0.00|x|x|\n",
+    ),
+    (
+        TableName::Orders,
+        "7|1|x|0.00|1996-01-02|x|x|0|x|\n8|1|x|0.00|1996-01-02|x|x|0|x|\n",
+    ),
+];
 
 fn put(
     alloc: Global,
@@ -75,37 +34,12 @@ fn put(
     Ok(())
 }
 
-fn put_regions(alloc: Global, tables: &mut WholeTables) -> Result<(), Fail> {
-    let mut regions = Vec::new(alloc);
-    for key in 0..5u8 {
-        let row = region(alloc, i128::from(key))?;
-        regions.push(row)?;
-    }
-    put(alloc, tables, TableName::Region, regions.as_slice())
-}
-
-fn put_customers(alloc: Global, tables: &mut WholeTables) -> Result<(), Fail> {
-    let mut customers = Vec::new(alloc);
-    for key in 1..3u8 {
-        let row = customer(alloc, i128::from(key))?;
-        customers.push(row)?;
-    }
-    put(alloc, tables, TableName::Customer, customers.as_slice())
-}
-
-fn put_orders(alloc: Global, tables: &mut WholeTables) -> Result<(), Fail> {
-    let mut orders = Vec::new(alloc);
-    for key in 7..9u8 {
-        let row = order(alloc, i128::from(key))?;
-        orders.push(row)?;
-    }
-    put(alloc, tables, TableName::Orders, orders.as_slice())
-}
-
 pub(crate) fn small_tables(alloc: Global) -> Result<WholeTables, Fail> {
     let mut tables = WholeTables::new(alloc);
-    put_regions(alloc, &mut tables)?;
-    put_customers(alloc, &mut tables)?;
-    put_orders(alloc, &mut tables)?;
+    for (table, text) in &TABLES {
+        let rows = read_pieces(alloc, DataFile::Table(*table), &[text.as_bytes()])?;
+        let rows = rows.to_rows(alloc)?;
+        put(alloc, &mut tables, *table, rows.as_slice())?;
+    }
     Ok(tables)
 }

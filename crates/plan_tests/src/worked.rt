@@ -5,13 +5,14 @@ ghost use Rattle.tpch_schema.specs.State.{table_rows};
 ghost use Rattle.algebra.specs.Trees.{tree_rows, scans_of};
 ghost use Rattle.algebra.specs.Plans.{reads_of};
 
-use crate::small_tables::{small_tables, whole};
+use crate::small_tables::small_tables;
 use crate::trees::{
     both, boxed, columns_equal, computed, count_of, count_of_orders, equal, exists, listed, marked,
     project, scan, select, single,
 };
 use algebra::{Builder, DepTree, Node, Side, Steps, Tables, WholeTables};
 use columns::Bag;
+use fixed_decimal::Scale;
 use flat_exec::run;
 use operators::Arithmetic;
 use order_limit::finish;
@@ -76,15 +77,38 @@ fn answer<R: Threads + Sync>(
     counted_answer::<R, Brand>(rt, alloc, tree, tables, Blank::new(1))
 }
 
-fn gives(found: &Result<Vec<Row>, Fault>, expected: &[&[Value]]) -> bool {
-    let Ok(rows) = found else {
-        return false;
-    };
-    if rows.len() != expected.len() {
+// A value: a whole number, or else null.
+type Whole = Option<i128>;
+
+fn whole(n: i128) -> Value {
+    Value::Number(Scale::WHOLE, n)
+}
+
+fn is_whole(value: &Value, wanted: Whole) -> bool {
+    match wanted {
+        Some(n) => *value == whole(n),
+        None => *value == Value::Null,
+    }
+}
+
+fn is_row(values: &[Value], wanted: &[Whole]) -> bool {
+    if values.len() != wanted.len() {
         return false;
     }
-    for (row, values) in rows.iter().zip(expected) {
-        if row.values() != *values {
+    for (value, n) in values.iter().zip(wanted) {
+        if !is_whole(value, *n) {
+            return false;
+        }
+    }
+    true
+}
+
+fn are_rows(rows: &[Row], wanted: &[&[Whole]]) -> bool {
+    if rows.len() != wanted.len() {
+        return false;
+    }
+    for (row, values) in rows.iter().zip(wanted) {
+        if !is_row(row.values(), values) {
             return false;
         }
     }
@@ -95,12 +119,28 @@ fn gives(found: &Result<Vec<Row>, Fault>, expected: &[&[Value]]) -> bool {
 fn answers<R: Threads + Sync>(
     rt: &R,
     alloc: Global,
-    tree: &DepTree,
-    rows: &[&[Value]],
+    tree: Boxed<DepTree>,
+    wanted: &[&[Whole]],
 ) -> Result<bool, Fail> {
     let tables = small_tables(alloc)?;
-    let found = answer(rt, alloc, tree, &tables)?;
-    Ok(gives(&found, rows))
+    match answer(rt, alloc, tree.get(), &tables)? {
+        Ok(rows) => Ok(are_rows(rows.as_slice(), wanted)),
+        Err(_) => Ok(false),
+    }
+}
+
+// Whether a tree over the small tables answers just this fault.
+fn faults<R: Threads + Sync>(
+    rt: &R,
+    alloc: Global,
+    tree: Boxed<DepTree>,
+    wanted: Fault,
+) -> Result<bool, Fail> {
+    let tables = small_tables(alloc)?;
+    match answer(rt, alloc, tree.get(), &tables)? {
+        Ok(_) => Ok(false),
+        Err(fault) => Ok(fault == wanted),
+    }
 }
 
 // select c_custkey, (select count(*) from orders where o_custkey = c_custkey) from customer
@@ -114,9 +154,14 @@ fn counts_of_customers(alloc: Global) -> Result<Boxed<DepTree>, Fail> {
 fn a_customer_without_orders_counts_none(rt: HostRuntime) -> Result<(), Fail> {
     let alloc = rt.alloc();
     let tree = counts_of_customers(alloc)?;
-    let rows = [&[whole(1), whole(2)][..], &[whole(2), whole(0)][..]];
-    let holds = answers(&rt, alloc, tree.get(), &rows)?;
-    assert!(rt; holds);
+    assert!(rt;
+        answers(
+            &rt,
+            alloc,
+            tree,
+            &[&[Some(1), Some(2)], &[Some(2), Some(0)]]
+        )?
+    );
     Ok(())
 }
 
@@ -140,13 +185,14 @@ fn counts_of_keys(alloc: Global) -> Result<Boxed<DepTree>, Fail> {
 fn a_null_key_counts_none(rt: HostRuntime) -> Result<(), Fail> {
     let alloc = rt.alloc();
     let tree = counts_of_keys(alloc)?;
-    let rows = [
-        &[whole(7), whole(1)][..],
-        &[whole(8), whole(1)][..],
-        &[Value::Null, whole(0)][..],
-    ];
-    let holds = answers(&rt, alloc, tree.get(), &rows)?;
-    assert!(rt; holds);
+    assert!(rt;
+        answers(
+            &rt,
+            alloc,
+            tree,
+            &[&[Some(7), Some(1)], &[Some(8), Some(1)], &[None, Some(0)]]
+        )?
+    );
     Ok(())
 }
 
@@ -173,11 +219,8 @@ fn is_second_with_seven(alloc: Global) -> Result<Expr, Fail> {
 #[test]
 fn a_scalar_subquery_of_two_rows_is_a_fault(rt: HostRuntime) -> Result<(), Fail> {
     let alloc = rt.alloc();
-    let keyed = keyed_customers(alloc)?;
-    let tree = select(alloc, keyed, is_order_seven(alloc)?)?;
-    let tables = small_tables(alloc)?;
-    let found = answer(&rt, alloc, tree.get(), &tables)?;
-    assert!(rt; matches!(found, Err(Fault::TooManyRows)));
+    let tree = select(alloc, keyed_customers(alloc)?, is_order_seven(alloc)?)?;
+    assert!(rt; faults(&rt, alloc, tree, Fault::TooManyRows)?);
     Ok(())
 }
 
@@ -185,10 +228,8 @@ fn a_scalar_subquery_of_two_rows_is_a_fault(rt: HostRuntime) -> Result<(), Fail>
 #[test]
 fn a_false_condition_hides_a_fault(rt: HostRuntime) -> Result<(), Fail> {
     let alloc = rt.alloc();
-    let keyed = keyed_customers(alloc)?;
-    let tree = select(alloc, keyed, is_second_with_seven(alloc)?)?;
-    let holds = answers(&rt, alloc, tree.get(), &[])?;
-    assert!(rt; holds);
+    let tree = select(alloc, keyed_customers(alloc)?, is_second_with_seven(alloc)?)?;
+    assert!(rt; answers(&rt, alloc, tree, &[])?);
     Ok(())
 }
 
@@ -228,9 +269,7 @@ fn customers_beside_regions(alloc: Global) -> Result<Boxed<DepTree>, Fail> {
 fn a_subquery_reads_two_queries_further_out(rt: HostRuntime) -> Result<(), Fail> {
     let alloc = rt.alloc();
     let tree = customers_beside_regions(alloc)?;
-    let rows = [&[whole(1)][..]];
-    let holds = answers(&rt, alloc, tree.get(), &rows)?;
-    assert!(rt; holds);
+    assert!(rt; answers(&rt, alloc, tree, &[&[Some(1)]])?);
     Ok(())
 }
 
@@ -249,8 +288,7 @@ fn regions_with_nations(alloc: Global) -> Result<Boxed<DepTree>, Fail> {
 fn a_region_without_nations_is_dropped(rt: HostRuntime) -> Result<(), Fail> {
     let alloc = rt.alloc();
     let tree = regions_with_nations(alloc)?;
-    let holds = answers(&rt, alloc, tree.get(), &[])?;
-    assert!(rt; holds);
+    assert!(rt; answers(&rt, alloc, tree, &[])?);
     Ok(())
 }
 
@@ -265,9 +303,14 @@ fn counts_of_balances(alloc: Global) -> Result<Boxed<DepTree>, Fail> {
 fn numbers_of_two_scales_are_equal(rt: HostRuntime) -> Result<(), Fail> {
     let alloc = rt.alloc();
     let tree = counts_of_balances(alloc)?;
-    let rows = [&[whole(1), whole(1)][..], &[whole(2), whole(1)][..]];
-    let holds = answers(&rt, alloc, tree.get(), &rows)?;
-    assert!(rt; holds);
+    assert!(rt;
+        answers(
+            &rt,
+            alloc,
+            tree,
+            &[&[Some(1), Some(1)], &[Some(2), Some(1)]]
+        )?
+    );
     Ok(())
 }
 
@@ -294,16 +337,14 @@ fn counts_of_quotients(alloc: Global) -> Result<Boxed<DepTree>, Fail> {
 fn a_fault_in_a_computed_column_meets_every_row(rt: HostRuntime) -> Result<(), Fail> {
     let alloc = rt.alloc();
     let tree = counts_of_quotients(alloc)?;
-    let tables = small_tables(alloc)?;
-    let found = answer(&rt, alloc, tree.get(), &tables)?;
-    assert!(rt; matches!(found, Err(Fault::DivideByZero)));
+    assert!(rt; faults(&rt, alloc, tree, Fault::DivideByZero)?);
     Ok(())
 }
 
 // How many tables the plan of a tree scans.
-fn scanned_tables(alloc: Global, tree: &DepTree) -> Result<usize, AllocError> {
+fn scanned_tables(alloc: Global, tree: Boxed<DepTree>) -> Result<usize, AllocError> {
     let mut builder = Builder::new(alloc);
-    let _last = lower(alloc, &mut builder, tree, Domain::one(alloc))?;
+    let _last = lower(alloc, &mut builder, tree.get(), Domain::one(alloc))?;
     let nodes = builder.nodes.as_slice();
     let scans = nodes.iter().filter(|node| matches!(node, Node::Scan(_)));
     Ok(scans.count())
@@ -314,24 +355,33 @@ fn scanned_tables(alloc: Global, tree: &DepTree) -> Result<usize, AllocError> {
 #[test]
 fn each_table_is_scanned_once(rt: HostRuntime) -> Result<(), Fail> {
     let alloc = rt.alloc();
-    let customers = counts_of_customers(alloc)?;
-    assert!(rt; scanned_tables(alloc, customers.get())? == 2);
-    let regions = regions_with_nations(alloc)?;
-    assert!(rt; scanned_tables(alloc, regions.get())? == 2);
-    let keys = counts_of_keys(alloc)?;
-    assert!(rt; scanned_tables(alloc, keys.get())? == 3);
-    let nested = customers_beside_regions(alloc)?;
-    assert!(rt; scanned_tables(alloc, nested.get())? == 3);
-    let tables = small_tables(alloc)?;
-    assert!(rt; tables.count(TableName::Customer) == 2 && tables.count(TableName::Orders) == 2);
-    assert!(rt; tables.count(TableName::Region) == 5 && tables.count(TableName::Nation) == 0);
+    assert!(rt; scanned_tables(alloc, counts_of_customers(alloc)?)? == 2);
+    assert!(rt; scanned_tables(alloc, regions_with_nations(alloc)?)? == 2);
+    assert!(rt; scanned_tables(alloc, counts_of_keys(alloc)?)? == 3);
+    assert!(rt; scanned_tables(alloc, customers_beside_regions(alloc)?)? == 3);
+    Ok(())
+}
+
+const COUNTS: [(TableName, u64); 4] = [
+    (TableName::Customer, 2),
+    (TableName::Orders, 2),
+    (TableName::Region, 5),
+    (TableName::Nation, 0),
+];
+
+#[test]
+fn the_tables_have_their_rows(rt: HostRuntime) -> Result<(), Fail> {
+    let tables = small_tables(rt.alloc())?;
+    for (table, count) in &COUNTS {
+        assert_eq!(rt; tables.count(*table), *count);
+    }
     Ok(())
 }
 
 // How many of a tree's nodes are domains, and how many are joins.
-fn domains_and_joins(alloc: Global, tree: &DepTree) -> Result<(usize, usize), AllocError> {
+fn domains_and_joins(alloc: Global, tree: Boxed<DepTree>) -> Result<(usize, usize), AllocError> {
     let mut builder = Builder::new(alloc);
-    let _last = lower(alloc, &mut builder, tree, Domain::one(alloc))?;
+    let _last = lower(alloc, &mut builder, tree.get(), Domain::one(alloc))?;
     let nodes = builder.nodes.as_slice();
     let domains = nodes
         .iter()
@@ -347,25 +397,21 @@ fn domains_and_joins(alloc: Global, tree: &DepTree) -> Result<(usize, usize), Al
 #[test]
 fn a_key_of_its_own_needs_no_domain(rt: HostRuntime) -> Result<(), Fail> {
     let alloc = rt.alloc();
-    let tree = regions_with_nations(alloc)?;
-    assert!(rt; domains_and_joins(alloc, tree.get())? == (0, 0));
+    assert!(rt; domains_and_joins(alloc, regions_with_nations(alloc)?)? == (0, 0));
     Ok(())
 }
 
 #[test]
 fn a_fill_keeps_its_domain(rt: HostRuntime) -> Result<(), Fail> {
     let alloc = rt.alloc();
-    let tree = counts_of_customers(alloc)?;
-    assert!(rt; domains_and_joins(alloc, tree.get())? == (1, 0));
+    assert!(rt; domains_and_joins(alloc, counts_of_customers(alloc)?)? == (1, 0));
     Ok(())
 }
 
 #[test]
 fn scales_and_computed_columns_keep_the_join(rt: HostRuntime) -> Result<(), Fail> {
     let alloc = rt.alloc();
-    let balances = counts_of_balances(alloc)?;
-    let quotients = counts_of_quotients(alloc)?;
-    assert!(rt; domains_and_joins(alloc, balances.get())? == (1, 1));
-    assert!(rt; domains_and_joins(alloc, quotients.get())? == (1, 1));
+    assert!(rt; domains_and_joins(alloc, counts_of_balances(alloc)?)? == (1, 1));
+    assert!(rt; domains_and_joins(alloc, counts_of_quotients(alloc)?)? == (1, 1));
     Ok(())
 }

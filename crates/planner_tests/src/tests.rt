@@ -1,10 +1,10 @@
 //! Plans with ample memory: their texts, and how the 22 queries of the benchmark join.
 use algebra::{Builder, FlatPlan, Node};
+use binder_steps::BindFault;
 use parser_tests::QUERIES;
 use query_planner::{SessionViews, plan, plan_text};
 use scalar_expr::{Comparison, Expr};
 use sql_ast::Statement;
-use sql_binder::BindFault;
 use sql_parser::read_script;
 use sqlite_items::Items;
 use std::alloc::Global;

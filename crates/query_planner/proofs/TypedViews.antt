@@ -8,9 +8,9 @@ use Rattle.nested_query.specs.declared.query.BoundQuery.{BoundQuery}
 use Rattle.nested_query.specs.Typing.{IsWellTyped}
 use Rattle.sql_ast.specs.declared.statement.Query.{Query}
 use Rattle.sql_ast.specs.declared.tree.Block.{Block}
-use Rattle.sql_binder.specs.declared.view.View.{View}
+use Rattle.binder_steps.specs.declared.view.View.{View}
 use Rattle.sql_binder.specs.Binding.{bound_query, bound_view}
-use Rattle.sql_binder.specs.Steps.{Name}
+use Rattle.binder_steps.specs.Steps.{Name}
 use Rattle.binder_laws.specs.WellTyped.{ViewsAreTyped, header_kinds}
 use Rattle.binder_laws.proofs.TypedTrees.{bound_is_well_typed, view_is_well_typed}
 

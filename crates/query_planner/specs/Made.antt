@@ -1,8 +1,8 @@
 -- What making a view answers.
 use Rattle.std.specs.Prelude.{◌≡◌, List, [], ◌∷◌, ◌++◌, Result, Ok, Err}
-use Rattle.sql_binder.specs.declared.fault.BindFault.{BindFault}
-use Rattle.sql_binder.specs.declared.view.View.{View}
-use Rattle.sql_binder.specs.Steps.{Checked, Gives}
+use Rattle.binder_steps.specs.declared.fault.BindFault.{BindFault}
+use Rattle.binder_steps.specs.declared.view.View.{View}
+use Rattle.binder_steps.specs.Steps.{Checked, Gives}
 
 -- The bound view stands after the others; one that is refused, as its binding is, leaves them, and
 -- so does one for which memory ran out.

@@ -6,8 +6,8 @@ use Rattle.nested_query.specs.declared.query.BoundQuery.{BoundQuery}
 use Rattle.nested_query.specs.Meaning.{rows}
 use Rattle.nested_query.specs.Reads.{tables}
 use Rattle.nested_query.specs.Typing.{StateIsOf}
-use Rattle.sql_binder.specs.declared.fault.BindFault.{BindFault}
-use Rattle.sql_binder.specs.Steps.{Checked, Gives}
+use Rattle.binder_steps.specs.declared.fault.BindFault.{BindFault}
+use Rattle.binder_steps.specs.Steps.{Checked, Gives}
 use Rattle.algebra.specs.declared.plan.FlatPlan.{FlatPlan}
 use Rattle.algebra.specs.Plans.{result_rows, plan_scans}
 

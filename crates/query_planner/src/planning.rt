@@ -7,11 +7,12 @@ ghost use Rattle.query_planner.specs.Planned.{IsPlanOf, Plans};
 
 use crate::views::SessionViews;
 use algebra::{Builder, FlatPlan};
+use binder_steps::BindFault;
 use dependent_plan::depend;
 use join_order::arrange;
 use nested_query::BoundQuery;
 use sql_ast::Query;
-use sql_binder::{BindFault, bind};
+use sql_binder::bind;
 use std::alloc::{AllocError, Global};
 use unnesting::{Domain, lower};
 

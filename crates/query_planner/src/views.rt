@@ -2,8 +2,9 @@
 ghost use Rattle.sql_binder.specs.Binding.{bound_view};
 ghost use Rattle.query_planner.specs.Made.{Makes};
 
+use binder_steps::{BindFault, View, Views};
 use sql_ast::{Block, Name};
-use sql_binder::{BindFault, View, Views, bind_view};
+use sql_binder::bind_view;
 use sqlite_items::Items;
 use std::alloc::Global;
 use std::marker::Model;
@@ -18,7 +19,7 @@ pub struct SessionViews {
 
 impl Model for SessionViews {
     ghost use Rattle.std.specs.Prelude.{List};
-    ghost use Rattle.sql_binder.specs.declared.view.View.{View};
+    ghost use Rattle.binder_steps.specs.declared.view.View.{View};
     ghost use Rattle.binder_laws.specs.WellTyped.{ViewsAreTyped};
     ghost use Rattle.nested_query.specs.contracts.query.BoundBlock as block;
     ghost use Rattle.std.specs.Coded.{codes};

@@ -8,8 +8,8 @@ use Rattle.nested_query.specs.declared.query.BoundQuery.{BoundQuery}
 use Rattle.query_planner.specs.PlanText.{text_of_plan}
 use Rattle.query_planner.specs.Planned.{Plans}
 use Rattle.sql_ast.specs.declared.statement.Statement.{Statement}
-use Rattle.sql_binder.specs.Steps.{Checked}
-use Rattle.sql_binder.specs.declared.view.View.{View}
+use Rattle.binder_steps.specs.Steps.{Checked}
+use Rattle.binder_steps.specs.declared.view.View.{View}
 use Rattle.query_streams.specs.Explained.{AreExplained, IsExplained, IsQueryExplained, are_taken, is_refused, numbered}
 use Rattle.query_streams.specs.Views.{views_after}
 

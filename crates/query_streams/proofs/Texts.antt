@@ -4,7 +4,7 @@ use Rattle.std.specs.Prelude.{◌&&◌, Some, None, slice_get}
 use Rattle.std.proofs.lemmas.List.{append-nil, drop_all}
 use Rattle.std.proofs.lemmas.Option.{slice_get_cases}
 use Rattle.sql_ast.specs.declared.statement.Statement.{Statement}
-use Rattle.sql_binder.specs.declared.view.View.{View}
+use Rattle.binder_steps.specs.declared.view.View.{View}
 use Rattle.query_streams.specs.Laws.{SessionsText, course_through, turn_or_end}
 use Rattle.query_streams.specs.Outcomes.{Moment}
 use Rattle.query_streams.specs.Sessions.{Course, are_clean, course_after, lines_of}

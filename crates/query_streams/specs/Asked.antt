@@ -38,11 +38,13 @@ pub record IsUnasked (session : Session) : Type 0 where
 
 -- so are all of them
 abbrev pub AllUnasked : List Session → Type 0
-AllUnasked sessions = (i : ℕ) (d : Session) → i < length sessions → IsUnasked (slice_index_or sessions i d)
+AllUnasked sessions = (i : ℕ) (d : Session) → i < length sessions
+    → IsUnasked (slice_index_or sessions i d)
 
--- A session that began so and was asked at its versions, which never fall from one on up to another,
--- is what the moments at these versions make of it.
-pub record IsAsked (base : State) (list : List Change) (low high : ℕ) (start course : Course) : Type 0 where
+-- A session that began so and was asked at its versions, which never fall from one on up to
+-- another, is what the moments at these versions make of it.
+pub record IsAsked (base : State) (list : List Change) (low high : ℕ) (start course : Course)
+    : Type 0 where
   pub made : course ≡ course_through start (moments_at base list course.versions)
   pub run : IsRun low high course.versions
   pub count : length course.versions ≡ course.answered
@@ -52,10 +54,12 @@ pub record IsAsked (base : State) (list : List Change) (low high : ℕ) (start c
 
 -- the same over the base and the list of an opening
 abbrev pub IsAskedOf : Opening → ℕ → ℕ → Course → Course → Type 0
-IsAskedOf opening low high start course = ForSome opening (λ o. IsAsked o.0 o.1 low high start course)
+IsAskedOf opening low high start course =
+    ForSome opening (λ o. IsAsked o.0 o.1 low high start course)
 
 -- A session of which each statement had its turn, at versions that never fall, has this text.
-pub record IsOver (base : State) (list : List Change) (low high : ℕ) (session : JobSession) (course : Course) : Type 0 where
+pub record IsOver (base : State) (list : List Change) (low high : ℕ) (session : JobSession)
+    (course : Course) : Type 0 where
   pub text : course.text ≡ session_lines base list session course.versions
   pub clean : course.is_clean ≡ are_clean [] session.steps (moments_at base list course.versions)
   pub run : IsRun low high course.versions

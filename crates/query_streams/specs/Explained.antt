@@ -13,8 +13,8 @@ use Rattle.result_text.specs.Refusal.{refusal_written}
 use Rattle.sql_ast.specs.declared.statement.Statement.{Statement}
 use Rattle.sql_ast.specs.declared.statement.Statement.TheVariants as statement
 use Rattle.sql_binder.specs.Binding.{bound_query}
-use Rattle.sql_binder.specs.Steps.{Checked}
-use Rattle.sql_binder.specs.declared.view.View.{View}
+use Rattle.binder_steps.specs.Steps.{Checked}
+use Rattle.binder_steps.specs.declared.view.View.{View}
 use Rattle.query_streams.specs.Outcomes.{dropped, is_refusal, made, run_outcome}
 use Rattle.query_streams.specs.Views.{is_view, made_view, views_after}
 use Rattle.query_streams.specs.declared.outcome.Outcome.{Outcome}

@@ -1,5 +1,6 @@
--- A job: sessions that run beside a publisher, and their text for the versions that they were asked at.
-use Rattle.std.specs.Prelude.{◌≡◌, ℕ, ◌+◌, ◌≤◌, ⊤, Bool, true, ◌&&◌, List, [], ◌∷◌, ◌++◌, codes, decimal}
+-- A job: sessions that run beside a publisher, and their text at the versions they were asked at.
+use Rattle.std.specs.Prelude.{◌≡◌, ℕ, ◌+◌, ◌≤◌, ⊤, Bool, true, ◌&&◌, List, [], ◌∷◌, ◌++◌, codes}
+use Rattle.std.specs.Prelude.{decimal}
 use Rattle.std.specs.Prelude.{Ok, length, map}
 use Rattle.sql_ast.specs.declared.statement.Statement.{Statement}
 use Rattle.table_state.specs.Refresh.{Change}
@@ -40,7 +41,8 @@ sessions_text base list number [] lists = []
 sessions_text base list number (session ∷ sessions) [] = []
 sessions_text base list number (session ∷ sessions) (versions ∷ lists) =
     session_head number
-    ++ (session_lines base list session versions ++ sessions_text base list (number + 1) sessions lists)
+    ++ (session_lines base list session versions
+    ++ sessions_text base list (number + 1) sessions lists)
 
 -- none of their statements is refused
 abbrev pub are_sessions_clean : State → List Change → List JobSession → List (List ℕ) → Bool
@@ -97,7 +99,9 @@ pub record JobAnswer : Type 0 where
 
 -- The text of a job for the versions in it. They go from the number accepted of the first `before`
 -- refreshes, which were told of before the sessions began, up to the closing version.
-pub record IsJobText (base : State) (list : List Change) (before : ℕ) (sessions : List JobSession) (job : JobAnswer) : Type 0 where
-  pub versions : ArePermitted (accepted base list before) (last_version base list) sessions job.versions
+pub record IsJobText (base : State) (list : List Change) (before : ℕ) (sessions : List JobSession)
+    (job : JobAnswer) : Type 0 where
+  pub versions : ArePermitted (accepted base list before) (last_version base list)
+      sessions job.versions
   pub text : job.text ≡ job_text base list sessions job.versions
   pub clean : job.is_clean ≡ is_job_clean base list sessions job.versions

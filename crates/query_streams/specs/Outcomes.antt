@@ -15,8 +15,8 @@ use Rattle.result_text.specs.Lines.{accepted_text, done_text, refusal_text}
 use Rattle.sql_ast.specs.declared.statement.Statement.{Statement}
 use Rattle.sql_ast.specs.declared.statement.Statement.TheVariants as statement
 use Rattle.sql_binder.specs.Binding.{bound_query}
-use Rattle.sql_binder.specs.Steps.{Checked, Name}
-use Rattle.sql_binder.specs.declared.view.View.{View}
+use Rattle.binder_steps.specs.Steps.{Checked, Name}
+use Rattle.binder_steps.specs.declared.view.View.{View}
 use Rattle.sql_value.specs.declared.truth.Fault.{Fault}
 use Rattle.sql_value.specs.declared.truth.Fault.TheVariants as fault
 use Rattle.sql_value.specs.declared.value.Value.{Value}

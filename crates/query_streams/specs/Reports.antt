@@ -1,5 +1,6 @@
 -- What comes of the refreshes of a list, and how a job prints it.
-use Rattle.std.specs.Prelude.{◌≡◌, ℕ, ◌+◌, suc, zero, Bool, true, ◌&&◌, is_ok, List, [], ◌++◌, codes, decimal}
+use Rattle.std.specs.Prelude.{◌≡◌, ℕ, ◌+◌, suc, zero, Bool, true, ◌&&◌, is_ok, List, [], ◌++◌}
+use Rattle.std.specs.Prelude.{codes, decimal}
 use Rattle.std.specs.Prelude.{Option, None, Some, Result, Ok, Err, slice_get}
 use Rattle.refusals.specs.declared.refresh.Cause.{Cause}
 use Rattle.refusals.specs.declared.statement.Refusal.TheVariants.{Refresh}
@@ -20,7 +21,7 @@ tried_next trials (Some change) =
     version_or_cause (version_of trials) (after (tables_of trials) change)
 tried_next trials None = Ok (version_of trials)
 
--- the first so many refreshes of a list, tried on a base
+-- the first n refreshes of a list, tried on a base
 abbrev pub first_tried : State → List Change → ℕ → Trials
 first_tried base list done = record { base = base; list = list; done = done }
 
@@ -38,13 +39,13 @@ abbrev pub refresh_line : ℕ → Result ℕ Cause → List ℕ
 refresh_line number tried =
     codes "refresh " ++ decimal number ++ codes " " ++ result_written tried ++ codes "\n"
 
--- the lines of the first so many refreshes
+-- the lines of the first n refreshes
 abbrev pub report_text : State → List Change → ℕ → List ℕ
 report_text base list zero = []
 report_text base list (suc place) =
     report_text base list place ++ refresh_line (place + 1) (result_at base list place)
 
--- none of the first so many refreshes is refused
+-- none of the first n refreshes is refused
 abbrev pub are_accepted : State → List Change → ℕ → Bool
 are_accepted base list zero = true
 are_accepted base list (suc place) =

@@ -6,7 +6,7 @@ use Rattle.refusals.specs.declared.refresh.Cause.{Cause}
 use Rattle.sql_ast.specs.declared.statement.Statement.{Statement}
 use Rattle.sql_ast.specs.declared.statement.Statement.TheVariants.{Refresh}
 use Rattle.sql_ast.specs.declared.statement.RefreshKind.{RefreshKind}
-use Rattle.sql_binder.specs.declared.view.View.{View}
+use Rattle.binder_steps.specs.declared.view.View.{View}
 use Rattle.tpch_schema.specs.State.{State}
 use Rattle.query_streams.specs.Expansion.{ExpandAll}
 use Rattle.query_streams.specs.Outcomes.{Moment, is_refusal, outcome_of, outcome_text}

@@ -8,8 +8,8 @@ use Rattle.sql_ast.specs.declared.statement.Statement.{Statement}
 use Rattle.sql_ast.specs.declared.statement.Statement.TheVariants.{CreateView, DropView}
 use Rattle.sql_ast.specs.declared.tree.Block.{Block}
 use Rattle.sql_binder.specs.Binding.{bound_view}
-use Rattle.sql_binder.specs.Steps.{Checked, Name}
-use Rattle.sql_binder.specs.declared.view.View.{View}
+use Rattle.binder_steps.specs.Steps.{Checked, Name}
+use Rattle.binder_steps.specs.declared.view.View.{View}
 use Rattle.tpch_schema.specs.Tables.{table_of}
 
 -- the place of the first view of that name, counted from 0

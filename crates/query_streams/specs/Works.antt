@@ -1,12 +1,14 @@
 -- What the threads of a job do: each has a reader and the sessions that it serves.
-use Rattle.std.specs.Prelude.{◌≡◌, ℕ, ◌+◌, ◌<◌, ◌≤◌, zero, suc, nat_lt, if◌then◌else◌, List, [], length}
+use Rattle.std.specs.Prelude.{◌≡◌, ℕ, ◌+◌, ◌<◌, ◌≤◌, zero, suc, nat_lt, if◌then◌else◌, List, []}
+use Rattle.std.specs.Prelude.{length}
 use Rattle.std.specs.Prelude.{false, slice_index_or, Some}
 use Rattle.segment_store.specs.Trials.{Trials, version_of}
 use Rattle.snapshot_store.specs.Openings.{Opening, IsOf, opening_at}
 use Rattle.snapshot_store.specs.Seen.{ReaderState}
 use Rattle.table_state.specs.Refresh.{Change}
 use Rattle.tpch_schema.specs.State.{State}
-use Rattle.query_streams.specs.Asked.{AllOver, AllUnasked, IsOver, SameSessions, job_session, job_sessions}
+use Rattle.query_streams.specs.Asked.{AllOver, AllUnasked, IsOver, SameSessions, job_session}
+use Rattle.query_streams.specs.Asked.{job_sessions}
 use Rattle.query_streams.specs.Jobs.{JobSession}
 use Rattle.query_streams.specs.Sessions.{course_of}
 use Rattle.query_streams.specs.declared.session.Session.{Session}
@@ -22,8 +24,8 @@ pub record IsReady {E N : Type 0} (opening : E → Opening) (work : Work E N) : 
   pub unasked : AllUnasked (sessions_of work)
   pub going : work.is_lost ≡ false
 
--- a work that has run: where memory did not run out, its sessions have the statements that they had,
--- and each of these had its turn, at the version that its reader had seen or at later ones
+-- a work that has run: where memory did not run out, its sessions have the statements that they
+-- had, and each of these had its turn, at the version that its reader had seen or at later ones
 pub record HasRun {E N : Type 0} (opening : E → Opening) (old new : Work E N) : Type 0 where
   pub len : length (sessions_of new) ≡ length (sessions_of old)
   pub same : new.is_lost ≡ false → SameSessions (sessions_of old) (sessions_of new)
@@ -37,7 +39,8 @@ AllReady {E} {N} opening works =
     (i : ℕ) (d : Work E N) → i < length works → IsReady opening (slice_index_or works i d)
 
 -- so each of them has run
-pub record AllHaveRun {E N : Type 0} (opening : E → Opening) (olds news : List (Work E N)) : Type 0 where
+pub record AllHaveRun {E N : Type 0} (opening : E → Opening) (olds news : List (Work E N))
+    : Type 0 where
   pub len : length news ≡ length olds
   pub each :
       (i : ℕ) (d : Work E N) → i < length olds
@@ -49,14 +52,16 @@ NoneIsLost {E} {N} works =
     (i : ℕ) (d : Work E N) → i < length works → (slice_index_or works i d).is_lost ≡ false
 
 -- a work whose reader has seen at least that version of the opening
-pub record IsHired {E N : Type 0} (opening : E → Opening) (o : State × List Change) (low : ℕ) (work : Work E N) : Type 0 where
+pub record IsHired {E N : Type 0} (opening : E → Opening) (o : State × List Change) (low : ℕ)
+    (work : Work E N) : Type 0 where
   pub opened : opening work.reader.entry ≡ Some o
   pub seen : IsOf (opening work.reader.entry) work.reader.seen
   pub least : low ≤ version_of work.reader.seen
   pub going : work.is_lost ≡ false
 
 -- so are all of them
-abbrev pub AllHired : {E N : Type 0} → (E → Opening) → State × List Change → ℕ → List (Work E N) → Type 0
+abbrev pub AllHired : {E N : Type 0} → (E → Opening) → State × List Change → ℕ → List (Work E N)
+    → Type 0
 AllHired {E} {N} opening o low works =
     (i : ℕ) (d : Work E N) → i < length works → IsHired opening o low (slice_index_or works i d)
 
@@ -71,7 +76,7 @@ abbrev pub AllIdle : {E N : Type 0} → List (Work E N) → Type 0
 AllIdle {E} {N} works =
     (i : ℕ) (d : Work E N) → i < length works → sessions_of (slice_index_or works i d) ≡ []
 
--- the next place in turn among so many works: a work, and how many sessions it then has
+-- the next place in turn among n works: a work, and how many sessions it then has
 abbrev pub next_place : ℕ → ℕ × ℕ → ℕ × ℕ
 next_place count place =
     if nat_lt (place.0 + 1) count then (place.0 + 1, place.1) else (0, place.1 + 1)
@@ -82,11 +87,13 @@ place_of count zero = (0, 0)
 place_of count (suc k) = next_place count (place_of count k)
 
 -- P holds of the session at this place
-pub record IsPlaced {W : Type 0} (sessions : W → List Session) (works : List W) (place : ℕ × ℕ) (P : Session → Type 0) : Type 0 where
+pub record IsPlaced {W : Type 0} (sessions : W → List Session) (works : List W) (place : ℕ × ℕ)
+    (P : Session → Type 0) : Type 0 where
   pub turn : place.0 < length works
   pub round : (d : W) → place.1 < length (sessions (slice_index_or works place.0 d))
   pub session :
-      (d : W) (s : Session) → P (slice_index_or (sessions (slice_index_or works place.0 d)) place.1 s)
+      (d : W) (s : Session)
+      → P (slice_index_or (sessions (slice_index_or works place.0 d)) place.1 s)
 
 -- no session
 abbrev pub no_session : JobSession
@@ -96,8 +103,9 @@ no_session = record { steps = []; shows_rows = false }
 abbrev pub IsNumber : List JobSession → ℕ → Session → Type 0
 IsNumber all k session = job_session session ≡ slice_index_or all k no_session
 
--- the first so many sessions stand at their places, none was asked, and the works are as before
-pub record AreDealt {E N : Type 0} (sessions : List Session) (olds news : List (Work E N)) (count : ℕ) : Type 0 where
+-- the first n sessions stand at their places, none was asked, and the works are as before
+pub record AreDealt {E N : Type 0} (sessions : List Session) (olds news : List (Work E N))
+    (count : ℕ) : Type 0 where
   pub len : length news ≡ length olds
   pub reader :
       (i : ℕ) (d : Work E N) → i < length olds
@@ -112,6 +120,7 @@ pub record AreDealt {E N : Type 0} (sessions : List Session) (olds news : List (
       → IsPlaced sessions_of news (place_of (length olds) k) (IsNumber (job_sessions sessions) k)
 
 -- it is the session of this number, and each of its statements had its turn
-pub record IsNumberOver (o : State × List Change) (low high : ℕ) (all : List JobSession) (k : ℕ) (session : Session) : Type 0 where
+pub record IsNumberOver (o : State × List Change) (low high : ℕ) (all : List JobSession) (k : ℕ)
+    (session : Session) : Type 0 where
   pub number : IsNumber all k session
   pub over : IsOver o.0 o.1 low high (job_session session) (course_of session)

@@ -14,12 +14,12 @@ use crate::expansion::expanded;
 use crate::outcome::Outcome;
 use crate::runs::run_outcome;
 use crate::views::{drop_view, make_view};
+use binder_steps::BindFault;
 use itoa::Buffer;
 use query_planner::{SessionViews, plan, plan_text};
 use refusals::Refusal;
 use result_text::push_refusal;
 use sql_ast::{Query, Statement};
-use sql_binder::BindFault;
 use sqlite_items::Items;
 use std::alloc::{AllocError, Global};
 

@@ -1,5 +1,6 @@
 //! A job: sessions that run beside a publisher.
-ghost use Rattle.std.specs.Prelude.{◌≡◌, ℕ, ◌<◌, ◌≤◌, ◌++◌, ◌^◌, false, IfOk, OnOk, length, vec_len};
+ghost use Rattle.std.specs.Prelude.{◌≡◌, ℕ, ◌<◌, ◌≤◌, ◌++◌, ◌^◌, false, IfOk, OnOk, length};
+ghost use Rattle.std.specs.Prelude.{vec_len};
 ghost use denote.Param.Send.{IsSync};
 ghost use Rattle.segment_store.specs.Trials.{version_of};
 ghost use Rattle.snapshot_store.specs.Ruled.{opening_of};

@@ -1,5 +1,6 @@
 //! The text of a job.
-ghost use Rattle.std.specs.Prelude.{◌≡◌, ℕ, ◌+◌, ◌<◌, ◌^◌, ◌&&◌, [], ◌∷◌, ◌++◌, true, ⊤, IfOk, OnOk};
+ghost use Rattle.std.specs.Prelude.{◌≡◌, ℕ, ◌+◌, ◌<◌, ◌^◌, ◌&&◌, [], ◌∷◌, ◌++◌, true, ⊤, IfOk};
+ghost use Rattle.std.specs.Prelude.{OnOk};
 ghost use Rattle.std.specs.Prelude.{length};
 ghost use Rattle.query_streams.specs.Gathered.{Gathers, HavePlaces};
 ghost use Rattle.query_streams.specs.Jobs.{session_head};
@@ -29,7 +30,11 @@ impl Model for JobText {
 
     ghost Value = { JobAnswer };
 
-    ghost view = { λ t. record { text = t.text.items; versions = map vec_items t.versions.items; is_clean = t.is_clean } };
+    ghost view = { λ t. record {
+      text = t.text.items;
+      versions = map vec_items t.versions.items;
+      is_clean = t.is_clean;
+    } };
 }
 
 impl JobText {
@@ -120,7 +125,7 @@ impl JobText {
     }
 }
 
-/// The place of the session after one, in turn among so many works.
+/// The place of the session after one, in turn among `count` works.
 fn place_after(turn: usize, round: usize, count: usize) -> (usize, usize)
     requires turn { turn < count }
     requires round { round + 1 < 2 ^ 64 }

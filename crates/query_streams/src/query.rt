@@ -12,6 +12,7 @@ ghost use Rattle.query_planner.specs.Planned.{IsPlanOf};
 
 use crate::outcome::{Outcome, kind_of_fault};
 use algebra::{FlatPlan, Steps, Tables};
+use binder_steps::BindFault;
 use columns::Bag;
 use flat_exec::run;
 use order_limit::finish;
@@ -19,7 +20,6 @@ use query_planner::{SessionViews, plan};
 use refusals::Refusal;
 use snapshot_store::Snapshot;
 use sql_ast::Query;
-use sql_binder::BindFault;
 use sqlite_items::Items;
 use std::alloc::{AllocError, Global};
 use std::marker::Brand;

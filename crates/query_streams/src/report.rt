@@ -10,7 +10,7 @@ use std::alloc::{AllocError, Global};
 use std::sync::Wait;
 use tpch_outside::Gate;
 
-/// After so many accepted refreshes the segments are put together.
+/// The segments are put together at each version that this number divides.
 const COMPACTED_AFTER: u64 = 16;
 
 /// What is told of the first refreshes of a list.
@@ -126,7 +126,7 @@ fn publish_one<R: Wait>(
     Ok(())
 }
 
-/// Tries the first so many refreshes of a list of which none was tried, and tells of them.
+/// Tries the first `count` refreshes of a list of which none was tried, and tells of them.
 pub fn publish_first<R: Wait>(
     rt: &R,
     count: usize,

@@ -5,10 +5,10 @@ ghost use Rattle.query_streams.specs.Views.{is_taken, is_view, made_view, place_
 ghost use Rattle.query_streams.specs.Views.{without_view};
 
 use crate::outcome::Outcome;
+use binder_steps::{BindFault, View};
 use query_planner::SessionViews;
 use refusals::Refusal;
 use sql_ast::{Block, Name};
-use sql_binder::{BindFault, View};
 use std::alloc::{AllocError, Global};
 use tpch_schema::TableName;
 

@@ -16,11 +16,11 @@ use Rattle.sql_ast.specs.declared.tree.Block.{Block}
 use Rattle.sql_ast.specs.declared.words.JoinKind.TheVariants as join_kind
 use Rattle.sql_ast.specs.declared.statement.RefreshKind.TheVariants as refresh_kind
 use Rattle.sql_ast.specs.declared.statement.Statement.TheVariants as statements
-use Rattle.sql_parser.specs.declared.test.Test.TheVariants as t
+use Rattle.parser_steps.specs.declared.test.Test.TheVariants as t
 use Rattle.grammar_laws.specs.Readings.{Reading}
-use Rattle.sql_parser.specs.Values.{text_of, count_of, number, text, first, second, pair, cons, constant, after_word, after_point, column, negative, negation, factor, term, product, sum, all_of, any_of, arm, case_of, date, interval, extract, substring, distinct_count, between, like, in_list, in_query, is_null, is_not_null, denied, tested, item, distinct, plain_selection, derived, join, joined, condition, filters, block, order_key, ordered, create_view, text_value, number_value}
-use Rattle.sql_parser.specs.ExpressionReadings.{read_name, read_literal, read_number, read_digits, read_span, read_column_tail, read_column, read_multiply, read_add, read_product, read_sum, read_conjunction, read_whole, read_expr_list, read_arm, read_arms, read_else, read_case_body, read_case, read_date_text, read_date, read_precision, read_interval, read_extract_inside, read_extract, read_places, read_substring_inside, read_substring, read_count_inside, read_count, read_aggregate_word, read_aggregate, read_call, read_leaf, read_parens_inside, read_parens, read_subquery, read_exists, read_operand, read_unary_line, read_comparison, read_compare, read_null, read_between, read_like, read_in_inside, read_in, read_deny_test, read_test, read_predicate, read_part_line}
-use Rattle.sql_parser.specs.Readings.{read_alias, read_item, read_selection, read_select, read_names, read_column_names, read_table, read_derived_alias, read_derived, read_from_item, read_inner_words, read_left_words, read_join_words, read_joined_item, read_joined, read_from, read_where, read_group, read_having, read_filters, read_query_line, read_direction, read_order_key, read_order, read_rows_only, read_limit, read_ordered, read_view_name, read_create, read_drop, read_refresh_word, read_refresh, read_value, read_values, read_run_inside, read_run, read_statement, read_ended, unary_at, part_at, query_at, ended_at}
+use Rattle.parser_steps.specs.Values.{text_of, count_of, number, text, first, second, pair, cons, constant, after_word, after_point, column, negative, negation, factor, term, product, sum, all_of, any_of, arm, case_of, date, interval, extract, substring, distinct_count, between, like, in_list, in_query, is_null, is_not_null, denied, tested, item, distinct, plain_selection, derived, join, joined, condition, filters, block, named_key, ordered, create_view, text_value, number_value}
+use Rattle.parser_steps.specs.ExpressionReadings.{read_name, read_literal, read_number, read_digits, read_span, read_column_tail, read_column, read_multiply, read_add, read_product, read_sum, read_conjunction, read_whole, read_expr_list, read_arm, read_arms, read_else, read_case_body, read_case, read_date_text, read_date, read_precision, read_interval, read_extract_inside, read_extract, read_places, read_substring_inside, read_substring, read_count_inside, read_count, read_aggregate_word, read_aggregate, read_call, read_leaf, read_parens_inside, read_parens, read_subquery, read_exists, read_operand, read_unary_line, read_comparison, read_compare, read_null, read_between, read_like, read_in_inside, read_in, read_deny_test, read_test, read_predicate, read_part_line}
+use Rattle.parser_steps.specs.Readings.{read_alias, read_item, read_selection, read_select, read_names, read_column_names, read_table, read_derived_alias, read_derived, read_from_item, read_inner_words, read_left_words, read_join_words, read_joined_item, read_joined, read_from, read_where, read_group, read_having, read_filters, read_query_line, read_direction, read_named_key, read_order, read_rows_only, read_limit, read_ordered, read_view_name, read_create, read_drop, read_refresh_word, read_refresh, read_value, read_values, read_run_inside, read_run, read_statement, read_ended, unary_at, part_at, query_at, ended_at}
 use Rattle.query_templates.proofs.Readings.{Follows, same_is, same_among, tests_is, tests_count, tests_digits, follow_one, follow_opens, follow_nothing, follow_never, follow_mapped, follow_both, follow_either, follow_links}
 
 pub follow_name : Follows read_name
@@ -315,13 +315,13 @@ pub follow_direction : Follows read_direction
 unfolding read_direction
 follow_direction = follow_either (same_is k.Asc) (follow_mapped (constant false) (follow_one (tests_is k.Asc))) (follow_either (same_is k.Desc) (follow_mapped (constant true) (follow_one (tests_is k.Desc))) (follow_nothing false))
 
-pub follow_order_key : Follows read_order_key
-unfolding read_order_key
-follow_order_key = follow_both order_key follow_name follow_direction
+pub follow_named_key : Follows read_named_key
+unfolding read_named_key
+follow_named_key = follow_both named_key follow_name follow_direction
 
 pub follow_order : (wide : ℕ) → Follows (read_order wide)
 unfolding read_order
-follow_order wide = follow_either (same_is k.Order) (follow_both second (follow_both second (follow_one (tests_is k.Order)) (follow_one (tests_is k.By))) (follow_both cons follow_order_key (follow_links second (same_is k.Comma) (follow_one (tests_is k.Comma)) follow_order_key wide))) (follow_nothing [])
+follow_order wide = follow_either (same_is k.Order) (follow_both second (follow_both second (follow_one (tests_is k.Order)) (follow_one (tests_is k.By))) (follow_both cons follow_named_key (follow_links second (same_is k.Comma) (follow_one (tests_is k.Comma)) follow_named_key wide))) (follow_nothing [])
 
 pub follow_rows_only : Follows read_rows_only
 unfolding read_rows_only

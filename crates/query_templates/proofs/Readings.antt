@@ -10,8 +10,8 @@ use Rattle.sql_lexer.specs.contracts.kind.Kind.{the_type}
 use Rattle.sql_lexer.specs.declared.kind.Kind.{Kind}
 use Rattle.sql_lexer.specs.declared.token.Token.{Token}
 use Rattle.sql_lexer.specs.Kinds.{is}
-use Rattle.sql_parser.specs.Kinds.{kinds}
-use Rattle.sql_parser.specs.Values.{is_count, is_digits}
+use Rattle.parser_steps.specs.Kinds.{kinds}
+use Rattle.parser_steps.specs.Values.{is_count, is_digits}
 use Rattle.query_templates.specs.Standing.{Beside}
 
 -- A token may stand for another: it is of the same kind, and passes each test of what tokens hold that the other passes.

@@ -8,7 +8,7 @@ use Rattle.sql_ast.specs.declared.statement.Statement.{Statement}
 use Rattle.sql_ast.specs.declared.statement.TemplateValue.{TemplateValue}
 use Rattle.sql_lexer.specs.declared.token.Token.{Token}
 use Rattle.sql_parser.specs.Grammar.{Ended}
-use Rattle.sql_parser.specs.Readings.{ended_at}
+use Rattle.parser_steps.specs.Readings.{ended_at}
 use Rattle.sql_parser.specs.Script.{Sql, max_script}
 use Rattle.sql_parser.proofs.Levels.{is_read}
 use Rattle.query_templates.specs.Laws.{FilledIsScript}

@@ -90,7 +90,7 @@ short_at [] s (suc n) = omega arith
 short_at (v ∷ values) s zero = s.0
 short_at (v ∷ values) s (suc n) = short_at values s.1 n
 
--- how long a template is at most where each place takes so many bytes
+-- how long a template is at most where each place takes 2000 bytes
 abbrev pub longest : List ℕ → ℕ
 longest [] = 0
 longest (b ∷ bs) = if b == 58 then 2000 + longest bs else 1 + longest bs

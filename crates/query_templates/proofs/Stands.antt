@@ -13,7 +13,7 @@ use Rattle.sql_lexer.specs.declared.token.Content.{Content}
 use Rattle.sql_lexer.specs.declared.token.Content.TheVariants as content
 use Rattle.sql_lexer.specs.declared.token.Token.{Token}
 use Rattle.sql_lexer.specs.Kinds.{is}
-use Rattle.sql_parser.specs.Values.{is_count, is_digits, is_small_whole, content_text, all_digits}
+use Rattle.parser_steps.specs.Values.{is_count, is_digits, is_small_whole, content_text, all_digits}
 use Rattle.query_templates.specs.Cutting.{bare}
 use Rattle.query_templates.proofs.Fronts.{never}
 use Rattle.query_templates.proofs.Numbers.{decimal_digits, decimal_some}

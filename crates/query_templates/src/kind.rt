@@ -50,7 +50,7 @@ impl ValueKind {
         }
     }
 
-    /// Whether a place of this kind takes a number with so many digits after the point.
+    /// Whether a place of this kind takes a number with `places` digits after the point.
     fn fits_number(self, number: i128, places: u8) -> bool
         ensures { result ≡ fits self (value.Number number places) }
     {

@@ -74,7 +74,7 @@ room-apart full rest more joining =
     apart-grows full (plain_rows rest.rows) (plain_rows rest.rows ++ more) joining.apart
     (omega (arith, long))
 
--- the rows under way became a segment, since so many more did not fit with them
+-- the rows under way became a segment, since n more did not fit with them
 pub full-apart : (full new : List (List (List Value))) (rest after : Relation Value)
     (more : List (List Value)) (count : ℕ) → IsJoining full rest
     → 4096 < length rest.rows + count → length more ≡ count

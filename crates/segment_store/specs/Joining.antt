@@ -13,7 +13,7 @@ pub record IsJoining (full : List (List (List Value))) (rest : Relation Value) :
   pub short : All IsShort full
   pub apart : AreApart (full ++ plain_rows rest.rows ∷ [])
 
--- the same rows, now with room for so many more in the next segment, which does not fit in one with
+-- the same rows, now with room for n more in the next segment, which does not fit in one with
 -- the segment before it
 pub record HasRoom (count : ℕ) (full : List (List (List Value))) (rest : Relation Value)
     (new : List (List (List Value))) (next : Relation Value) : Type 0 where

@@ -107,8 +107,10 @@ pub(crate) fn joined_tables(
 ) -> Result<Vec<Vec<Segment>>, AllocError>
     ensures rows { IfOk result (λ tables. map (λ segments. one_list segments.items) tables.items
         ≡ map (table_rows state.now) names.now) }
-    ensures joined { IfOk result (λ tables. All (λ segments. AreJoined segments.items) tables.items) }
-    ensures kinds { OnOk result (All (λ table. RowsAreOf table (table_rows state.now table)) names.now) }
+    ensures joined { IfOk result (λ tables.
+        All (λ segments. AreJoined segments.items) tables.items) }
+    ensures kinds { OnOk result
+        (All (λ table. RowsAreOf table (table_rows state.now table)) names.now) }
 {
     let mut tables = Vec::with_capacity(alloc, names.len())?;
     for name in names {

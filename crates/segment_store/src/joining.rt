@@ -34,7 +34,7 @@ fn close_rest(alloc: Global, full: &mut Vec<Segment>, rest: &mut Bag) -> Result<
     Ok(())
 }
 
-/// Makes room for so many rows after those that are not stored yet: these become a segment of their
+/// Makes room for `count` rows after those that are not stored yet: these become a segment of their
 /// own, if they don't fit in one with them.
 #[tactic(auto, using(crate::proofs::Neighbours::neighbours))]
 fn make_room(

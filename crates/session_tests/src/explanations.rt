@@ -33,25 +33,27 @@ fn expect_reads<R: Threads + Wait + Sync + Abort>(
     Ok(())
 }
 
+const SCANS: [(&str, &str); 5] = [
+    (
+        "select r_name from region where r_regionkey < 2;",
+        " reads 1",
+    ),
+    (
+        "select r_name from region, nation where r_regionkey = n_regionkey;",
+        " reads 2",
+    ),
+    ("select a.r_name from region a, region b;", " reads 2"),
+    (
+        "select r_name from region where exists \
+        (select * from nation where n_regionkey = r_regionkey);",
+        " reads 2",
+    ),
+    ("run 21 ('SAUDI ARABIA');", " reads 6"),
+];
+
 #[test]
 fn scans_are_counted(rt: HostRuntime) -> Result<(), Fail> {
-    for (script, reads) in [
-        (
-            "select r_name from region where r_regionkey < 2;",
-            " reads 1",
-        ),
-        (
-            "select r_name from region, nation where r_regionkey = n_regionkey;",
-            " reads 2",
-        ),
-        ("select a.r_name from region a, region b;", " reads 2"),
-        (
-            "select r_name from region where exists \
-            (select * from nation where n_regionkey = r_regionkey);",
-            " reads 2",
-        ),
-        ("run 21 ('SAUDI ARABIA');", " reads 6"),
-    ] {
+    for (script, reads) in &SCANS {
         expect_reads(&rt, rt.alloc(), script, reads)?;
     }
     Ok(())

@@ -4,7 +4,7 @@ use std::alloc::{AllocError, Global};
 use std::test::Fail;
 use tpch_main::Status;
 
-/// The first text, then so many times the second one, then the last.
+/// The first text, then the second one `count` times, then the last.
 fn around(
     alloc: Global,
     first: &str,
@@ -20,13 +20,13 @@ fn around(
     Ok(text)
 }
 
-/// A query with so many parentheses around a number.
+/// A query with `count` parentheses around a number.
 fn nested(alloc: Global, count: usize) -> Result<String, AllocError> {
     let left = around(alloc, "select ", "(", count, "1")?;
     around(alloc, &left, ")", count, " from region;")
 }
 
-/// A query with a list of so many numbers and one more.
+/// A query with a list of `count` numbers and one more.
 fn listed(alloc: Global, count: usize) -> Result<String, AllocError> {
     let start = "select r_name from region where r_regionkey in (";
     around(alloc, start, "1,", count, "1);")

@@ -25,20 +25,21 @@ const ANSWERS: &str = "\
     [19] version 0 rows 1\n\\N\n[20] version 0 rows 0\n[21] version 0 rows 1\n\\N\n\
     [22] version 0 rows 0\n[23] version 0 rows 0\n[24] version 0 rows 0\n";
 
+const RUNS: [(&str, &str); 3] = [
+    (QUERIES, ANSWERS),
+    (
+        "run 15 ('1996-01-01');",
+        "[1] version 0 done\n[2] version 0 rows 0\n[3] version 0 done\n",
+    ),
+    (
+        "run 6 ('1994-01-01', 0.06, 24);",
+        "[1] version 0 rows 1\n\\N\n",
+    ),
+];
+
 #[test]
 fn queries_over_empty_tables(rt: HostRuntime) -> Result<(), Fail> {
-    let cases = [
-        (QUERIES, ANSWERS),
-        (
-            "run 15 ('1996-01-01');",
-            "[1] version 0 done\n[2] version 0 rows 0\n[3] version 0 done\n",
-        ),
-        (
-            "run 6 ('1994-01-01', 0.06, 24);",
-            "[1] version 0 rows 1\n\\N\n",
-        ),
-    ];
-    expect_sessions(&rt, rt.alloc(), &[], Status::Done, &cases)?;
+    expect_sessions(&rt, rt.alloc(), &[], Status::Done, &RUNS)?;
     Ok(())
 }
 

@@ -38,30 +38,24 @@ fn sure_files(alloc: Global, script: &str) -> Result<SureFiles, AllocError> {
     Ok(SureFiles::new(files.folder.files))
 }
 
+const STATUSES: [(&[&str], &str, Status); 5] = [
+    (&["session", "d", "s"], SCRIPT, Status::Done),
+    (&["session", "d", "s"], "drop view v;", Status::SomeRefused),
+    (&["session", "d", "s"], "select", Status::InputRefused),
+    (&["session", "d"], SCRIPT, Status::Usage),
+    (&["check", "e"], SCRIPT, Status::InputRefused),
+];
+
 #[test]
 fn statuses_without_faults(rt: HostRuntime) -> Result<(), Fail> {
     let alloc = rt.alloc();
-    for (words, script, status) in [
-        (["session", "d", "s"].as_slice(), SCRIPT, Status::Done),
-        (
-            ["session", "d", "s"].as_slice(),
-            "drop view v;",
-            Status::SomeRefused,
-        ),
-        (
-            ["session", "d", "s"].as_slice(),
-            "select",
-            Status::InputRefused,
-        ),
-        (["session", "d"].as_slice(), SCRIPT, Status::Usage),
-        (["check", "e"].as_slice(), SCRIPT, Status::InputRefused),
-    ] {
+    for (words, script, status) in &STATUSES {
         let words = words_of(alloc, words)?;
         let mut files = sure_files(alloc, script)?;
         let mut out = SureSink::new(Vec::new(alloc));
         assert_eq!(rt;
             run_surely(&rt, alloc, &words, &mut files, &mut out),
-            status
+            *status
         );
         assert!(rt; !out.bytes.is_empty());
     }

@@ -88,35 +88,37 @@ fn counts_customers(rt: HostRuntime) -> Result<(), Fail> {
     Ok(())
 }
 
+const REFUSED: [(&str, &str, &str); 9] = [
+    ("region", "0|AFRICA", "line 1 1 FieldCount"),
+    ("region", "0|AFRICA|a|\n1|AM", "line 2 1 FieldCount"),
+    ("region", "x|A|y|", "line 1 2 BadNumber"),
+    (
+        "region",
+        "9223372036854775808|A|y|",
+        "line 1 3 NumberTooWide",
+    ),
+    (
+        "orders",
+        "7|1|O|10.00|1996-02-29|1-URGENT|K|0|x|\n8|1|F|20.00|1995-02-29|5-LOW|K|0|y|\n",
+        "line 2 4 BadDate",
+    ),
+    ("customer", "1|C\t1|a|0|p|0.00|B|c|\n", "line 1 5 BadText"),
+    (
+        "nation",
+        "0|abcdefghijklmnopqrstuvwxy|0|c|\n1|abcdefghijklmnopqrstuvwxyz|0|d|\n",
+        "line 2 6 TextTooLong",
+    ),
+    ("region", "0|A|x|\n00|B|y|\n", "line 2 7 DuplicateKey"),
+    (
+        "partsupp",
+        "1|2|3|4.00|a|\n1|3|3|4.00|a|\n2|2|3|4.00|a|\n1|2|5|6.00|b|\n",
+        "line 4 7 DuplicateKey",
+    ),
+];
+
 #[test]
 fn refuses_lines(rt: HostRuntime) -> Result<(), Fail> {
-    for (table, lines, refusal) in [
-        ("region", "0|AFRICA", "line 1 1 FieldCount"),
-        ("region", "0|AFRICA|a|\n1|AM", "line 2 1 FieldCount"),
-        ("region", "x|A|y|", "line 1 2 BadNumber"),
-        (
-            "region",
-            "9223372036854775808|A|y|",
-            "line 1 3 NumberTooWide",
-        ),
-        (
-            "orders",
-            "7|1|O|10.00|1996-02-29|1-URGENT|K|0|x|\n8|1|F|20.00|1995-02-29|5-LOW|K|0|y|\n",
-            "line 2 4 BadDate",
-        ),
-        ("customer", "1|C\t1|a|0|p|0.00|B|c|\n", "line 1 5 BadText"),
-        (
-            "nation",
-            "0|abcdefghijklmnopqrstuvwxy|0|c|\n1|abcdefghijklmnopqrstuvwxyz|0|d|\n",
-            "line 2 6 TextTooLong",
-        ),
-        ("region", "0|A|x|\n00|B|y|\n", "line 2 7 DuplicateKey"),
-        (
-            "partsupp",
-            "1|2|3|4.00|a|\n1|3|3|4.00|a|\n2|2|3|4.00|a|\n1|2|5|6.00|b|\n",
-            "line 4 7 DuplicateKey",
-        ),
-    ] {
+    for (table, lines, refusal) in &REFUSED {
         expect_refused(&rt, rt.alloc(), table, lines, refusal)?;
     }
     Ok(())

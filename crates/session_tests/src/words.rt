@@ -37,78 +37,86 @@ fn expect_missing<R: Threads + Wait + Sync + Abort>(
     )
 }
 
+const COMMANDS: [(&[&str], &str); 8] = [
+    (&["session", "d", "s"], "d/region.tbl"),
+    (&["session", "d", "t"], "t"),
+    (&["session", "", "s"], "/region.tbl"),
+    (&["session", "help", "s"], "help/region.tbl"),
+    (&["session", "check", "s"], "check/region.tbl"),
+    (&["explain", "t"], "t"),
+    (&["check", "d"], "d/region.tbl"),
+    (&["check", ""], "/region.tbl"),
+];
+
 #[test]
 fn reads_commands(rt: HostRuntime) -> Result<(), Fail> {
-    for (words, missing) in [
-        (["session", "d", "s"].as_slice(), "d/region.tbl"),
-        (["session", "d", "t"].as_slice(), "t"),
-        (["session", "", "s"].as_slice(), "/region.tbl"),
-        (["session", "help", "s"].as_slice(), "help/region.tbl"),
-        (["session", "check", "s"].as_slice(), "check/region.tbl"),
-        (["explain", "t"].as_slice(), "t"),
-        (["check", "d"].as_slice(), "d/region.tbl"),
-        (["check", ""].as_slice(), "/region.tbl"),
-    ] {
+    for (words, missing) in &COMMANDS {
         expect_missing(&rt, rt.alloc(), words, missing)?;
     }
     Ok(())
 }
 
+const AFTER_DASHES: [(&[&str], &str); 7] = [
+    (&["session", "-", "s"], "-/region.tbl"),
+    (&["session", "--", "d", "s"], "d/region.tbl"),
+    (&["session", "d", "--", "-s"], "d/region.tbl"),
+    (&["session", "--", "-d", "-s"], "-d/region.tbl"),
+    (&["session", "--", "--", "s"], "--/region.tbl"),
+    (&["session", "d", "s", "--"], "d/region.tbl"),
+    (&["check", "--", "--help"], "--help/region.tbl"),
+];
+
 #[test]
 fn reads_words_after_dashes(rt: HostRuntime) -> Result<(), Fail> {
-    for (words, missing) in [
-        (["session", "-", "s"].as_slice(), "-/region.tbl"),
-        (["session", "--", "d", "s"].as_slice(), "d/region.tbl"),
-        (["session", "d", "--", "-s"].as_slice(), "d/region.tbl"),
-        (["session", "--", "-d", "-s"].as_slice(), "-d/region.tbl"),
-        (["session", "--", "--", "s"].as_slice(), "--/region.tbl"),
-        (["session", "d", "s", "--"].as_slice(), "d/region.tbl"),
-        (["check", "--", "--help"].as_slice(), "--help/region.tbl"),
-    ] {
+    for (words, missing) in &AFTER_DASHES {
         expect_missing(&rt, rt.alloc(), words, missing)?;
     }
     Ok(())
 }
+
+const NO_COMMANDS: [&[&str]; 12] = [
+    &[""],
+    &["session"],
+    &["session", "d"],
+    &["session", "d", "s", "t"],
+    &["check"],
+    &["check", "d", "s"],
+    &["count", "d"],
+    &["sessions", "d", "s"],
+    &["Check", "d"],
+    &["d", "check"],
+    &["explain"],
+    &["explain", "s", "t"],
+];
 
 #[test]
 fn refuses_words(rt: HostRuntime) -> Result<(), Fail> {
     expect_usage(&rt, rt.alloc(), &[])?;
-    for words in [
-        [""].as_slice(),
-        ["session"].as_slice(),
-        ["session", "d"].as_slice(),
-        ["session", "d", "s", "t"].as_slice(),
-        ["check"].as_slice(),
-        ["check", "d", "s"].as_slice(),
-        ["count", "d"].as_slice(),
-        ["sessions", "d", "s"].as_slice(),
-        ["Check", "d"].as_slice(),
-        ["d", "check"].as_slice(),
-        ["explain"].as_slice(),
-        ["explain", "s", "t"].as_slice(),
-    ] {
+    for words in &NO_COMMANDS {
         expect_usage(&rt, rt.alloc(), words)?;
     }
     Ok(())
 }
 
+const FLAGS: [&[&str]; 13] = [
+    &["--help"],
+    &["-h"],
+    &["help"],
+    &["help", "check"],
+    &["check", "--help"],
+    &["session", "d", "s", "-h"],
+    &["--version"],
+    &["session", "-d", "s"],
+    &["session", "d", "-1"],
+    &["check", "--dir=d"],
+    &["check", "--"],
+    &["check", "--", "d", "s"],
+    &["--", "check", "d"],
+];
+
 #[test]
 fn refuses_help_and_flags(rt: HostRuntime) -> Result<(), Fail> {
-    for words in [
-        ["--help"].as_slice(),
-        ["-h"].as_slice(),
-        ["help"].as_slice(),
-        ["help", "check"].as_slice(),
-        ["check", "--help"].as_slice(),
-        ["session", "d", "s", "-h"].as_slice(),
-        ["--version"].as_slice(),
-        ["session", "-d", "s"].as_slice(),
-        ["session", "d", "-1"].as_slice(),
-        ["check", "--dir=d"].as_slice(),
-        ["check", "--"].as_slice(),
-        ["check", "--", "d", "s"].as_slice(),
-        ["--", "check", "d"].as_slice(),
-    ] {
+    for words in &FLAGS {
         expect_usage(&rt, rt.alloc(), words)?;
     }
     Ok(())

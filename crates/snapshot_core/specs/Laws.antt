@@ -19,7 +19,7 @@ abbrev pub seen_of : World → ℕ → ℕ
 seen_of world number = (session_of world number).seen
 
 -- whatever happened meanwhile, a finished scan of a table has the table's rows in the version that
--- the session pins: the base after just so many accepted refreshes
+-- the session pins: the base after just that number of accepted refreshes
 abbrev pub ScanLaw : Type 0
 ScanLaw = (base : State) (list : List Change) (sessions : ℕ) (steps : List Step) (session : ℕ)
     (table : TableName)

@@ -40,7 +40,7 @@ pub record World : Type 0 where
 abbrev pub new_session : SessionState
 new_session = record { seen = 0; pin = None; cuts = []; pieces = [] }
 
--- nothing tried, and so many new sessions
+-- nothing tried, and n new sessions
 abbrev pub start : State → List Change → ℕ → World
 start base list sessions =
     record { base = base; list = list; done = 0; sessions = replicate sessions new_session }

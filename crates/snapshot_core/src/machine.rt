@@ -59,7 +59,7 @@ impl Model for Machine {
 }
 
 impl Machine {
-    /// Nothing tried, and so many sessions that have done nothing.
+    /// Nothing tried, and a number of sessions that have done nothing.
     pub fn new(
         alloc: Global,
         base: State,

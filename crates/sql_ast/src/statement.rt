@@ -5,9 +5,9 @@ use ascii_text::Text;
 use fixed_decimal::Scale;
 use sqlite_items::Items;
 
-/// An output column by which an answer is ordered.
+/// A key of ORDER BY: an output column by its name.
 #[derive(Drop)]
-pub struct OrderKey {
+pub struct NamedKey {
     /// The output column's name.
     pub column: Name,
     /// Whether DESC stands after it.
@@ -20,7 +20,7 @@ pub struct Query {
     /// The query from SELECT to HAVING.
     pub block: Block,
     /// The keys of ORDER BY; none where it is absent.
-    pub order: Items<OrderKey>,
+    pub order: Items<NamedKey>,
     /// How many rows the answer has at most, itself at most 999999999; nothing where no limit
     /// stands.
     pub limit: Option<u32>,

@@ -7,9 +7,9 @@ use Rattle.refusals.specs.declared.bind.BindRefusal.{BindRefusal}
 use Rattle.refusals.specs.declared.bind.BindRefusal.TheVariants.{UnknownColumn}
 use Rattle.sql_ast.specs.declared.statement.Query.{Query}
 use Rattle.sql_ast.specs.declared.words.Column.{Column}
-use Rattle.sql_binder.specs.declared.view.View.{View}
-use Rattle.sql_binder.specs.Steps.{Checked}
-use Rattle.sql_binder.specs.Names.{Around, ends, found, resolved, resolved_from}
+use Rattle.binder_steps.specs.declared.view.View.{View}
+use Rattle.binder_steps.specs.Steps.{Checked}
+use Rattle.binder_steps.specs.Names.{Around, ends, found, resolved, resolved_from}
 use Rattle.sql_binder.specs.Binding.{bound_query}
 use Rattle.sql_binder.specs.Laws.{Resolution, IsBound, IsRefused}
 use Rattle.sql_binder.specs.Laws.{BoundOrRefused, NotBoth, OneWay}

@@ -29,7 +29,7 @@ use Rattle.sql_ast.specs.declared.words.JoinKind.TheVariants.{Inner}
 use Rattle.sql_ast.specs.declared.words.Span.TheVariants.{Month, Day}
 use Rattle.sql_value.specs.declared.value.Value.TheVariants as value
 use Rattle.tpch_schema.specs.declared.table.TableName.TheVariants as table
-use Rattle.sql_binder.specs.Steps.{Name}
+use Rattle.binder_steps.specs.Steps.{Name}
 use Rattle.sql_binder.specs.Binding.{bound_query, bound_view}
 use Rattle.sql_binder.specs.Examples.{named, of_item, number, plus, minus, item, from_table}
 use Rattle.sql_binder.specs.Examples.{from_alias, from_derived, select_from, select_where}

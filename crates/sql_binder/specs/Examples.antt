@@ -32,8 +32,8 @@ use Rattle.sql_ast.specs.declared.words.Multiplying.TheVariants.{Times}
 use Rattle.sql_ast.specs.declared.words.Span.TheVariants.{Day}
 use Rattle.sql_value.specs.declared.value.Value.TheVariants as value
 use Rattle.tpch_schema.specs.declared.table.TableName.TheVariants as table
-use Rattle.sql_binder.specs.declared.view.View.{View}
-use Rattle.sql_binder.specs.Steps.{Name}
+use Rattle.binder_steps.specs.declared.view.View.{View}
+use Rattle.binder_steps.specs.Steps.{Name}
 use Rattle.sql_binder.specs.Binding.{bound_query}
 
 -- a bare name as a column
@@ -159,7 +159,7 @@ on_exists = roll-Joined (record {
   } ∷ [];
 })
 
--- a view of region's names whose query counts so many FROM items
+-- a view of region's names whose query counts that number of FROM items
 abbrev pub view_of : ℕ → View
 view_of items = record {
   name = codes "v";

@@ -1,8 +1,3 @@
-pub mod Steps
-pub mod Names
-pub mod Kinds
-pub mod Values
-pub mod Parts
 pub mod Meanings
 pub mod Operands
 pub mod Expressions

@@ -1,17 +1,17 @@
 //! Whole queries.
 ghost use Rattle.sql_binder.specs.Blocks as spec;
 ghost use Rattle.sql_binder.specs.Binding.{block_meaning, clauses_of, opened_block};
-ghost use Rattle.sql_binder.specs.Names.{sight_of};
+ghost use Rattle.binder_steps.specs.Names.{sight_of};
 ghost use Rattle.sql_binder.specs.Nests.{Below, BindsParts};
 ghost use Rattle.sql_binder.specs.Sizes.{block_size};
-ghost use Rattle.sql_binder.specs.Steps.{Binds, apart};
+ghost use Rattle.binder_steps.specs.Steps.{Binds, apart};
 
-use crate::collected::{BoundTable, Collected, FromRows, Shown, Typed};
-use crate::fault::BindFault;
-use crate::lists::{closing, keys_of, once_each, plain};
-use crate::scope::{ScopeColumn, Site};
 use crate::subqueries::QueryBinder;
 use crate::syntax::is_grouped;
+use binder_steps::BindFault;
+use binder_steps::collected::{BoundTable, Collected, FromRows, Shown, Typed};
+use binder_steps::lists::{closing, keys_of, once_each, plain};
+use binder_steps::scope::{ScopeColumn, Site};
 use nested_query::BoundExpr;
 use sql_ast::{Block, Expr};
 use sqlite_items::Items;
@@ -129,7 +129,7 @@ impl<
     }
 
     /// The clauses of a query, with aggregates of its own.
-    #[tactic(auto, unfolding(crate::specs::Steps::apart))]
+    #[tactic(auto, unfolding(binder_steps::specs::Steps::apart))]
     fn own_clauses(
         &self,
         site: &Site<'_>,

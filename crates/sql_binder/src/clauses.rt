@@ -4,17 +4,17 @@ ghost use Rattle.row_laws.specs.Bags.{Each};
 ghost use Rattle.sql_binder.specs.Clauses as clauses;
 ghost use Rattle.sql_binder.specs.FromLists as from;
 ghost use Rattle.sql_binder.specs.Binding.{meaning, clause_meaning, item_meaning, selected_meaning};
-ghost use Rattle.sql_binder.specs.Names.{sight_of};
+ghost use Rattle.binder_steps.specs.Names.{sight_of};
 ghost use Rattle.sql_binder.specs.Nests.{BindsExpr, BindsItem, BindsSelected, BindsClause};
-ghost use Rattle.sql_binder.specs.Steps.{Binds};
+ghost use Rattle.binder_steps.specs.Steps.{Binds};
 
-use crate::collected::{Collected, Shown, Typed};
 use crate::exprs::ExprBinder;
-use crate::fault::BindFault;
-use crate::lists::{holding, no_condition, nothing_shown, shown_part, star};
-use crate::scope::{Level, ScopeColumn, Site};
-use crate::steps::before;
 use crate::syntax::item_name;
+use binder_steps::BindFault;
+use binder_steps::collected::{Collected, Shown, Typed};
+use binder_steps::lists::{holding, no_condition, nothing_shown, shown_part, star};
+use binder_steps::scope::{Level, ScopeColumn, Site};
+use binder_steps::steps::before;
 use nested_query::BoundExpr;
 use sql_ast::{Clause, Expr, Item, Selected};
 use sqlite_items::Items;
@@ -22,7 +22,7 @@ use std::alloc::Global;
 
 impl<E: Fn(Global, &Site<'_>, &mut Collected, &Expr) -> Result<Typed, BindFault>> ExprBinder<E> {
     /// ON, over the rows of its own join, where no subquery may stand.
-    #[tactic(auto, unfolding(crate::specs::FromLists::on_condition, crate::specs::Parts::within_on))]
+    #[tactic(auto, unfolding(crate::specs::FromLists::on_condition, binder_steps::specs::Parts::within_on))]
     pub(crate) fn on_condition(
         &self,
         site: &Site<'_>,
@@ -74,7 +74,7 @@ impl<E: Fn(Global, &Site<'_>, &mut Collected, &Expr) -> Result<Typed, BindFault>
     }
 
     /// WHERE over a FROM list, or HAVING over its groups.
-    #[tactic(auto, unfolding(crate::specs::Clauses::condition, crate::specs::Parts::inside))]
+    #[tactic(auto, unfolding(crate::specs::Clauses::condition, binder_steps::specs::Parts::inside))]
     pub(crate) fn condition(
         &self,
         site: &Site<'_>,
@@ -164,7 +164,7 @@ impl<E: Fn(Global, &Site<'_>, &mut Collected, &Expr) -> Result<Typed, BindFault>
     }
 
     /// A select list over a FROM list, or over its groups.
-    #[tactic(auto, unfolding(crate::specs::Clauses::select, crate::specs::Parts::inside))]
+    #[tactic(auto, unfolding(crate::specs::Clauses::select, binder_steps::specs::Parts::inside))]
     pub(crate) fn select(
         &self,
         site: &Site<'_>,

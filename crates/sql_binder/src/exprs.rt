@@ -3,18 +3,20 @@
 ghost use Rattle.sql_ast.specs.declared.tree.Clause.TheOpen.{Expr-F};
 ghost use Rattle.sql_binder.specs.Expressions as spec;
 ghost use Rattle.sql_binder.specs.Binding.{meaning};
-ghost use Rattle.sql_binder.specs.Names.{sight_of};
+ghost use Rattle.binder_steps.specs.Names.{sight_of};
 ghost use Rattle.sql_binder.specs.Nests.{BindsExpr};
-ghost use Rattle.sql_binder.specs.Parts.{among_rows};
-ghost use Rattle.sql_binder.specs.Steps.{Binds, alone};
+ghost use Rattle.binder_steps.specs.Parts.{among_rows};
+ghost use Rattle.binder_steps.specs.Steps.{Binds, alone};
 
-use crate::collected::{Collected, Part, Typed};
-use crate::fault::BindFault;
-use crate::scope::{Level, Site};
-use crate::steps::{aggregated, before, function_of};
-use crate::values::{between, compared, denied, extracted, liked, negative, null_test, substring};
 use aggregates::AggregateFunction;
 use ascii_text::Text;
+use binder_steps::BindFault;
+use binder_steps::collected::{Collected, Part, Typed};
+use binder_steps::scope::{Level, Site};
+use binder_steps::steps::{aggregated, before, function_of};
+use binder_steps::values::{
+    between, compared, denied, extracted, liked, negative, null_test, substring,
+};
 use nested_query::BoundExpr;
 use sql_ast::{Aggregate, Comparison, Expr, Span};
 use sqlite_items::{Boxed, Items};
@@ -55,7 +57,7 @@ impl<E: Fn(Global, &Site<'_>, &mut Collected, &Expr) -> Result<Typed, BindFault>
     }
 
     /// An expression with inputs of its own.
-    #[tactic(auto, unfolding(crate::specs::Steps::alone))]
+    #[tactic(auto, unfolding(binder_steps::specs::Steps::alone))]
     pub(crate) fn part(
         &self,
         site: &Site<'_>,
@@ -79,7 +81,7 @@ impl<E: Fn(Global, &Site<'_>, &mut Collected, &Expr) -> Result<Typed, BindFault>
     }
 
     /// The argument of an aggregate, over the rows of the groups.
-    #[tactic(auto, unfolding(crate::specs::Parts::among_rows))]
+    #[tactic(auto, unfolding(binder_steps::specs::Parts::among_rows))]
     fn argument(
         &self,
         site: &Site<'_>,

@@ -3,17 +3,17 @@ ghost use Rattle.std.specs.Prelude.{map, length};
 ghost use Rattle.row_laws.specs.Bags.{Each};
 ghost use Rattle.sql_binder.specs.FromLists as spec;
 ghost use Rattle.sql_binder.specs.Binding.{meaning, join_meaning, joined_meaning};
-ghost use Rattle.sql_binder.specs.Names.{sight_of};
+ghost use Rattle.binder_steps.specs.Names.{sight_of};
 ghost use Rattle.sql_binder.specs.Nests.{BindsExpr, BindsJoin, BindsJoined};
-ghost use Rattle.sql_binder.specs.Steps.{Binds};
+ghost use Rattle.binder_steps.specs.Steps.{Binds};
 
-use crate::collected::{BoundTable, Collected, FromRows, Typed};
-use crate::fault::BindFault;
-use crate::from::{
+use crate::subqueries::QueryBinder;
+use binder_steps::BindFault;
+use binder_steps::collected::{BoundTable, Collected, FromRows, Typed};
+use binder_steps::from::{
     Joining, begin_join, columns_from, columns_so_far, crossed, first_rows, joined_rows, present,
 };
-use crate::scope::Site;
-use crate::subqueries::QueryBinder;
+use binder_steps::scope::Site;
 use nested_query::BoundSource;
 use sql_ast::{Block, Expr, Join, JoinKind, Joined};
 use sqlite_items::Boxed;

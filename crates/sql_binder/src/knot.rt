@@ -1,14 +1,14 @@
 //! Expressions and queries, which lead back to each other. All else is bound by rules that take
 //! these two functions as values, so that each rule is proved alone.
 ghost use Rattle.sql_binder.specs.Binding.{meaning, block_meaning};
-ghost use Rattle.sql_binder.specs.Names.{sight_of};
-ghost use Rattle.sql_binder.specs.Steps.{Binds};
+ghost use Rattle.binder_steps.specs.Names.{sight_of};
+ghost use Rattle.binder_steps.specs.Steps.{Binds};
 
-use crate::collected::{BoundTable, Collected, Typed};
 use crate::exprs::ExprBinder;
-use crate::fault::BindFault;
-use crate::scope::Site;
 use crate::subqueries::QueryBinder;
+use binder_steps::BindFault;
+use binder_steps::collected::{BoundTable, Collected, Typed};
+use binder_steps::scope::Site;
 use sql_ast::{Block, Expr};
 use std::alloc::Global;
 

@@ -5,17 +5,17 @@ ghost use Rattle.sql_ast.specs.declared.tree.Clause.TheOpen.{Expr-F};
 ghost use Rattle.sql_binder.specs.Operands as operands;
 ghost use Rattle.sql_binder.specs.Expressions as exprs;
 ghost use Rattle.sql_binder.specs.Binding.{meaning, term_meaning, factor_meaning, arm_meaning};
-ghost use Rattle.sql_binder.specs.Names.{sight_of};
+ghost use Rattle.binder_steps.specs.Names.{sight_of};
 ghost use Rattle.sql_binder.specs.Nests.{BindsExpr, BindsExprs, BindsTerm, BindsFactor, BindsArm};
-ghost use Rattle.sql_binder.specs.Steps.{Binds};
+ghost use Rattle.binder_steps.specs.Steps.{Binds};
 
-use crate::chain::{adding_of, begun, ended, multiplying_of, operated, shifted};
-use crate::collected::{Chain, Collected, Conditions, Operands, Typed};
 use crate::exprs::ExprBinder;
-use crate::fault::BindFault;
-use crate::scope::Site;
 use crate::syntax::interval_of;
-use crate::values::{
+use binder_steps::BindFault;
+use binder_steps::chain::{adding_of, begun, ended, multiplying_of, operated, shifted};
+use binder_steps::collected::{Chain, Collected, Conditions, Operands, Typed};
+use binder_steps::scope::Site;
+use binder_steps::values::{
     all_of, any_of, case_else_of, case_of, first_condition, in_list, next_condition, no_operands,
     with_operand,
 };

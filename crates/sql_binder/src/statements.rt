@@ -1,14 +1,13 @@
 //! Queries and views, bound.
 ghost use Rattle.sql_binder.specs.Binding as spec;
-ghost use Rattle.sql_binder.specs.Steps.{Gives};
+ghost use Rattle.binder_steps.specs.Steps.{Gives};
 
-use crate::collected::{BoundTable, Collected};
-use crate::fault::BindFault;
 use crate::knot::query;
-use crate::lists::order_of;
-use crate::names::{distinct_names, renamed_headers, share};
-use crate::scope::Site;
-use crate::view::{View, Views};
+use binder_steps::collected::{BoundTable, Collected};
+use binder_steps::lists::order_of;
+use binder_steps::names::{distinct_names, renamed_headers, share};
+use binder_steps::scope::Site;
+use binder_steps::{BindFault, View, Views};
 use nested_query::BoundQuery;
 use sql_ast::{Block, Name, Query};
 use sqlite_items::Items;

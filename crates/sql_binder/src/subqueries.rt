@@ -3,18 +3,18 @@
 ghost use Rattle.sql_ast.specs.declared.tree.Clause.TheOpen.{Expr-F};
 ghost use Rattle.sql_binder.specs.Expressions as spec;
 ghost use Rattle.sql_binder.specs.Binding.{meaning, block_meaning, from_item_meaning};
-ghost use Rattle.sql_binder.specs.Names.{sight_of};
+ghost use Rattle.binder_steps.specs.Names.{sight_of};
 ghost use Rattle.sql_binder.specs.Nests.{BindsExpr, BindsBlock, BindsFromItem};
-ghost use Rattle.sql_binder.specs.Parts.{hiding};
-ghost use Rattle.sql_binder.specs.Steps.{Binds, alone};
+ghost use Rattle.binder_steps.specs.Parts.{hiding};
+ghost use Rattle.binder_steps.specs.Steps.{Binds, alone};
 
-use crate::collected::{BoundTable, Collected, FromRows, Typed};
 use crate::exprs::ExprBinder;
-use crate::fault::BindFault;
-use crate::from::{named_rows, table_rows};
-use crate::names::alias_of;
-use crate::scope::{Level, ScopeColumn, Site};
-use crate::steps::{before, containing, existing, only_value};
+use binder_steps::BindFault;
+use binder_steps::collected::{BoundTable, Collected, FromRows, Typed};
+use binder_steps::from::{named_rows, table_rows};
+use binder_steps::names::alias_of;
+use binder_steps::scope::{Level, ScopeColumn, Site};
+use binder_steps::steps::{before, containing, existing, only_value};
 use sql_ast::{Block, Expr, FromItem};
 use sqlite_items::Boxed;
 use std::alloc::Global;
@@ -96,7 +96,7 @@ impl<
 
     /// A query that may use no name around it: neither of what stands left of it nor of the queries
     /// around.
-    #[tactic(auto, unfolding(crate::specs::Parts::hiding))]
+    #[tactic(auto, unfolding(binder_steps::specs::Parts::hiding))]
     fn hidden(
         &self,
         site: &Site<'_>,

@@ -6,8 +6,8 @@ ghost use Rattle.sql_binder.specs.Binding as trees;
 ghost use Rattle.sql_binder.specs.Binding.{meaning, term_meaning, factor_meaning, arm_meaning};
 ghost use Rattle.sql_binder.specs.Binding.{item_meaning, selected_meaning};
 
-use crate::names::share;
 use ascii_text::Text;
+use binder_steps::names::share;
 use sql_ast::{Arm, Block, Clause, Expr, Factor, Item, Name, Selected, Span, Term};
 use std::alloc::{AllocError, Global};
 

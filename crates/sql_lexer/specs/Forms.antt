@@ -139,7 +139,7 @@ abbrev pub word_made : Option Kind → List ℕ → Kind × Content
 word_made (Some kind) word = (kind, content.Nothing)
 word_made None word = (k.Name, content.Text word)
 
--- a number with so many digits after the point: more than 18 of them are refused first, then a
+-- a number with n digits after the point: more than 18 of them are refused first, then a
 -- value of 2^127 or more
 abbrev pub number_made : ℕ → ℕ → Result (Kind × Content) (LexRefusal × ℕ)
 number_made value places =

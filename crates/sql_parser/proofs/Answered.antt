@@ -13,7 +13,7 @@ use Rattle.sql_parser.specs.declared.fault.ScriptRefusal.{ScriptRefusal}
 use Rattle.sql_parser.specs.declared.fault.ScriptRefusal.TheVariants as script
 use Rattle.sql_parser.specs.Faults.{of_lexer, of_parser}
 use Rattle.sql_parser.specs.Grammar.{Ended}
-use Rattle.sql_parser.specs.Readings.{ended_at}
+use Rattle.parser_steps.specs.Readings.{ended_at}
 use Rattle.sql_parser.specs.Script.{Sql, IsReadScript, IsRefusedScript, max_script, byte_at}
 use Rattle.sql_parser.proofs.Levels.{is_read}
 use Rattle.sql_parser.proofs.Whole.{lexer_kind, parser_kind}

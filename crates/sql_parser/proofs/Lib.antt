@@ -4,7 +4,6 @@ pub mod LineLaws
 pub mod LiftLaws
 pub mod Levels
 pub mod Unfold
-pub mod Inner
 pub mod Whole
 pub mod Answered
 pub mod Parentheses

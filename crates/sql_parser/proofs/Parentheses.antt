@@ -10,8 +10,8 @@ use Rattle.sql_lexer.specs.declared.kind.Kind.TheVariants as k
 use Rattle.sql_lexer.specs.declared.token.Token.{Token}
 use Rattle.sql_lexer.specs.Kinds.{is}
 use Rattle.sql_ast.specs.declared.tree.Expr.{Expr}
-use Rattle.sql_parser.specs.Values.{first, second}
-use Rattle.sql_parser.specs.Readings.{part_at, inner_part}
+use Rattle.parser_steps.specs.Values.{first, second}
+use Rattle.parser_steps.specs.Readings.{part_at, inner_part}
 
 abbrev out : {A : Type 0} → Result A SyntaxFault → List Token → Outcome Token A
 out r ts = (r, ts)

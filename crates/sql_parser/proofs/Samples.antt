@@ -9,8 +9,8 @@ use Rattle.grammar_laws.specs.Lines.{One}
 use Rattle.grammar_laws.specs.Marks.{plain}
 use Rattle.grammar_laws.specs.Readings.{one}
 use Rattle.grammar_laws.proofs.Lawful.{Line, line_one}
-use Rattle.sql_parser.specs.Kinds.{kinds}
-use Rattle.sql_parser.specs.Values.{is_count, is_digits}
+use Rattle.parser_steps.specs.Kinds.{kinds}
+use Rattle.parser_steps.specs.Values.{is_count, is_digits}
 
 kind_first : (k : Kind) (t : Token) (b : Bool) → is k t && b ≡ true → is k t || false ≡ true
 kind_first k t b h = by (is k t) h

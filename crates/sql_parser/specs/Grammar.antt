@@ -13,7 +13,7 @@ use Rattle.sql_ast.specs.declared.tree.FromItem.{FromItem}
 use Rattle.sql_ast.specs.declared.tree.FromItem.TheVariants as from_item
 use Rattle.sql_ast.specs.declared.tree.Clause.{Clause}
 use Rattle.sql_ast.specs.declared.tree.Clause.TheVariants as clause
-use Rattle.sql_ast.specs.declared.statement.OrderKey.{OrderKey}
+use Rattle.sql_ast.specs.declared.statement.NamedKey.{NamedKey}
 use Rattle.sql_ast.specs.declared.statement.Statement.{Statement}
 use Rattle.sql_ast.specs.declared.words.JoinKind.{JoinKind}
 use Rattle.sql_ast.specs.declared.words.JoinKind.TheVariants as join_kind
@@ -23,13 +23,13 @@ use Rattle.sql_ast.specs.declared.statement.RefreshKind.{RefreshKind}
 use Rattle.sql_ast.specs.declared.statement.RefreshKind.TheVariants as refresh_kind
 use Rattle.sql_ast.specs.declared.statement.TemplateValue.{TemplateValue}
 use Rattle.sql_ast.specs.declared.statement.Statement.TheVariants as statements
-use Rattle.sql_parser.specs.declared.queries.Filters.{Filters}
+use Rattle.parser_steps.specs.declared.filters.Filters.{Filters}
 use Rattle.sql_lexer.specs.Kinds.{is}
 use Rattle.grammar_laws.specs.Lines.{Part, One, Opens, Empty, Never, Then, Or, Map, less, Links}
-use Rattle.sql_parser.specs.Values.{Name, first, second, pair, cons, constant, after_word, item}
-use Rattle.sql_parser.specs.Values.{distinct, plain_selection, derived, join, joined, condition}
-use Rattle.sql_parser.specs.Values.{filters, block, order_key, ordered, create_view, text_value}
-use Rattle.sql_parser.specs.Values.{number_value}
+use Rattle.parser_steps.specs.Values.{Name, first, second, pair, cons, constant, after_word, item}
+use Rattle.parser_steps.specs.Values.{distinct, plain_selection, derived, join, joined, condition}
+use Rattle.parser_steps.specs.Values.{filters, block, named_key, ordered, create_view, text_value}
+use Rattle.parser_steps.specs.Values.{number_value}
 use Rattle.sql_parser.specs.Expressions.{NameLine, Number, ColumnLine, Whole, Subquery, UnaryLine}
 use Rattle.sql_parser.specs.Expressions.{PartLine}
 
@@ -147,11 +147,11 @@ Direction = Or (Map (constant false) (One (is k.Asc)))
     (Or (Map (constant true) (One (is k.Desc))) (Empty false))
 
 -- name [asc|desc]
-abbrev pub KeyLine : Part Token OrderKey
-KeyLine = Then order_key NameLine Direction
+abbrev pub KeyLine : Part Token NamedKey
+KeyLine = Then named_key NameLine Direction
 
 -- [order by .. {"," ..}]
-abbrev pub OrderTail : ℕ → Part Token (List OrderKey)
+abbrev pub OrderTail : ℕ → Part Token (List NamedKey)
 OrderTail wide = Or
     (Then second (Then second (One (is k.Order)) (One (is k.By)))
     (Then cons KeyLine (Links (One (is k.Comma)) second KeyLine wide))) (Empty [])
@@ -249,7 +249,7 @@ unfoldable mutual
       (Query h wide (less room)))
       (Query h wide (less room))
 
--- A statement with its semicolon, where so many levels may be opened, and a list may have so many
+-- A statement with its semicolon, where `room` levels may be opened, and a list may have `wide`
 -- elements after its first.
 abbrev pub Ended : ℕ → ℕ → ℕ → Part Token Statement
 Ended wide room h = EndedLine wide room (Query h wide room)

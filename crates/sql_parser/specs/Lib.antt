@@ -1,10 +1,4 @@
-pub mod Kinds
-pub mod Values
 pub mod Expressions
 pub mod Grammar
-pub mod ExpressionReadings
-pub mod Readings
-pub mod Nests
-pub mod Reads
 pub mod Faults
 pub mod Script

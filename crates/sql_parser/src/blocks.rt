@@ -4,18 +4,17 @@ ghost use Rattle.grammar_laws.specs.Kinds.{among};
 ghost use Rattle.grammar_laws.specs.Readings.{Reads, links, mapped, one};
 ghost use Rattle.sql_lexer.specs.Kinds.{is};
 ghost use Rattle.sql_lexer.specs.declared.kind.Kind.TheVariants as k;
-ghost use Rattle.sql_parser.specs.Kinds.{kinds};
-ghost use Rattle.sql_parser.specs.Nests.{At, Below};
-ghost use Rattle.sql_parser.specs.Readings as readings;
-ghost use Rattle.sql_parser.specs.Readings.{inner_query, part_at, query_at};
-ghost use Rattle.sql_parser.specs.Values as values;
+ghost use Rattle.parser_steps.specs.Kinds.{kinds};
+ghost use Rattle.parser_steps.specs.Nests.{At, Below};
+ghost use Rattle.parser_steps.specs.Readings as readings;
+ghost use Rattle.parser_steps.specs.Readings.{inner_query, part_at, query_at};
+ghost use Rattle.parser_steps.specs.Values as values;
 
-use crate::clauses::column_names;
 use crate::level::Level;
-use crate::nested::Nested;
-use crate::parser::{MAX_MORE, Parser};
-use crate::parts::{block_of, join_of, joined_of};
 use grammar_laws::SyntaxError;
+use parser_steps::clauses::column_names;
+use parser_steps::parts::{block_of, join_of, joined_of};
+use parser_steps::{MAX_MORE, Parser, Subqueries};
 use sql_ast::{Block, Expr, FromItem, Join, Joined};
 use sql_lexer::Kind;
 use sqlite_items::{Boxed, Items};
@@ -36,27 +35,26 @@ impl<
     Q: Copy + Fn(Global, &mut Parser<'_>, usize) -> Result<Boxed<Block>, SyntaxError>,
 > Blocks<P, Q> {
     /// `"(" query ")" [as] name ["(" name {"," name} ")"]`.
-    #[tactic(auto, unfolding(crate::specs::Readings::read_derived))]
+    #[tactic(auto, unfolding(parser_steps::specs::Readings::read_derived))]
     fn derived(&self, parser: &mut Parser<'_>) -> Result<FromItem, SyntaxError>
         requires query { Below (query_at 1023) self.now.room (Q.pre self.now.query)
             (Q.post self.now.query) }
         ensures { Reads (readings.read_derived 1023 self.now.room (inner_query 1023 self.now.room)
             parser.old) result parser.new }
     {
-        let nested = Nested {
+        let subqueries = Subqueries {
             alloc: self.alloc,
             room: self.room,
-            part: self.part,
             query: self.query,
         };
-        let query = nested.subquery(parser)?;
+        let query = subqueries.subquery(parser)?;
         let alias = parser.derived_alias(self.alloc)?;
         let columns = column_names(self.alloc, parser, self.room)?;
         Ok(FromItem::Derived(query, alias, columns))
     }
 
     /// `name [[as] name]`.
-    #[tactic(auto, unfolding(crate::specs::Readings::read_table))]
+    #[tactic(auto, unfolding(parser_steps::specs::Readings::read_table))]
     fn table(&self, parser: &mut Parser<'_>) -> Result<FromItem, SyntaxError>
         ensures { Reads (readings.read_table parser.old) result parser.new }
     {
@@ -66,7 +64,7 @@ impl<
     }
 
     /// A derived table or a table.
-    #[tactic(auto, unfolding(crate::specs::Readings::read_from_item))]
+    #[tactic(auto, unfolding(parser_steps::specs::Readings::read_from_item))]
     fn from_item(&self, parser: &mut Parser<'_>) -> Result<FromItem, SyntaxError>
         requires query { Below (query_at 1023) self.now.room (Q.pre self.now.query)
             (Q.post self.now.query) }
@@ -80,7 +78,7 @@ impl<
     }
 
     /// `item on e`.
-    #[tactic(auto, unfolding(crate::specs::Readings::read_joined_item))]
+    #[tactic(auto, unfolding(parser_steps::specs::Readings::read_joined_item))]
     fn joined_item(&self, parser: &mut Parser<'_>) -> Result<(FromItem, Boxed<Expr>), SyntaxError>
         requires part { At (part_at 1023) self.now.room (P.pre self.now.part)
             (P.post self.now.part) }
@@ -127,7 +125,7 @@ impl<
     }
 
     /// `item {([inner] join | left [outer] join) item on e}`.
-    #[tactic(auto, unfolding(crate::specs::Readings::read_joined))]
+    #[tactic(auto, unfolding(parser_steps::specs::Readings::read_joined))]
     fn joined(&self, parser: &mut Parser<'_>) -> Result<Joined, SyntaxError>
         requires part { At (part_at 1023) self.now.room (P.pre self.now.part)
             (P.post self.now.part) }
@@ -173,7 +171,7 @@ impl<
     }
 
     /// `from joined {"," joined}`.
-    #[tactic(auto, unfolding(crate::specs::Readings::read_from))]
+    #[tactic(auto, unfolding(parser_steps::specs::Readings::read_from))]
     fn from(&self, parser: &mut Parser<'_>) -> Result<Items<Joined>, SyntaxError>
         requires part { At (part_at 1023) self.now.room (P.pre self.now.part)
             (P.post self.now.part) }
@@ -188,7 +186,7 @@ impl<
     }
 
     /// `select .. from .. [where ..] [group by ..] [having ..]`.
-    #[tactic(auto, unfolding(crate::specs::Readings::read_query_line))]
+    #[tactic(auto, unfolding(parser_steps::specs::Readings::read_query_line))]
     pub(crate) fn block(&self, parser: &mut Parser<'_>) -> Result<Boxed<Block>, SyntaxError>
         requires part { At (part_at 1023) self.now.room (P.pre self.now.part)
             (P.post self.now.part) }

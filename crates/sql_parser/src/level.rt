@@ -3,14 +3,14 @@ ghost use Rattle.std.specs.Prelude.{◌∷◌};
 ghost use Rattle.grammar_laws.specs.Readings.{Reads, links, mapped, one};
 ghost use Rattle.sql_lexer.specs.Kinds.{is};
 ghost use Rattle.sql_lexer.specs.declared.kind.Kind.TheVariants as k;
-ghost use Rattle.sql_parser.specs.Nests.{At};
-ghost use Rattle.sql_parser.specs.ExpressionReadings as readings;
-ghost use Rattle.sql_parser.specs.Readings.{part_at};
-ghost use Rattle.sql_parser.specs.Values as values;
+ghost use Rattle.parser_steps.specs.Nests.{At};
+ghost use Rattle.parser_steps.specs.ExpressionReadings as readings;
+ghost use Rattle.parser_steps.specs.Readings.{part_at};
+ghost use Rattle.parser_steps.specs.Values as values;
 
-use crate::parser::{MAX_MORE, Parser};
-use crate::parts::{all_of, any_of};
 use grammar_laws::SyntaxError;
+use parser_steps::parts::{all_of, any_of};
+use parser_steps::{MAX_MORE, Parser};
 use sql_ast::Expr;
 use sql_lexer::Kind;
 use sqlite_items::{Boxed, Items};
@@ -56,7 +56,7 @@ impl<P: Fn(Global, &mut Parser<'_>, usize) -> Result<Boxed<Expr>, SyntaxError>> 
     }
 
     /// `not-part {and not-part}`.
-    #[tactic(auto, unfolding(crate::specs::ExpressionReadings::read_conjunction))]
+    #[tactic(auto, unfolding(parser_steps::specs::ExpressionReadings::read_conjunction))]
     fn conjunction(&self, parser: &mut Parser<'_>) -> Result<Boxed<Expr>, SyntaxError>
         requires { At (part_at 1023) self.now.room (P.pre self.now.part) (P.post self.now.part) }
         ensures { Reads (readings.read_conjunction 1023 (part_at 1023 self.now.room) parser.old)
@@ -90,7 +90,7 @@ impl<P: Fn(Global, &mut Parser<'_>, usize) -> Result<Boxed<Expr>, SyntaxError>> 
     }
 
     /// An expression: `and-part {or and-part}`.
-    #[tactic(auto, unfolding(crate::specs::ExpressionReadings::read_whole))]
+    #[tactic(auto, unfolding(parser_steps::specs::ExpressionReadings::read_whole))]
     pub(crate) fn whole(&self, parser: &mut Parser<'_>) -> Result<Boxed<Expr>, SyntaxError>
         requires { At (part_at 1023) self.now.room (P.pre self.now.part) (P.post self.now.part) }
         ensures { Reads (readings.read_whole 1023 (part_at 1023 self.now.room) parser.old) result
@@ -126,7 +126,7 @@ impl<P: Fn(Global, &mut Parser<'_>, usize) -> Result<Boxed<Expr>, SyntaxError>> 
     }
 
     /// `e {"," e}`.
-    #[tactic(auto, unfolding(crate::specs::ExpressionReadings::read_expr_list))]
+    #[tactic(auto, unfolding(parser_steps::specs::ExpressionReadings::read_expr_list))]
     pub(crate) fn expr_list(&self, parser: &mut Parser<'_>) -> Result<Items<Expr>, SyntaxError>
         requires { At (part_at 1023) self.now.room (P.pre self.now.part) (P.post self.now.part) }
         ensures { Reads (readings.read_expr_list 1023 (part_at 1023 self.now.room) parser.old)

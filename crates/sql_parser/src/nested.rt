@@ -2,17 +2,16 @@
 ghost use Rattle.grammar_laws.specs.Readings.{Reads, both, one};
 ghost use Rattle.sql_lexer.specs.Kinds.{is};
 ghost use Rattle.sql_lexer.specs.declared.kind.Kind.TheVariants as k;
-ghost use Rattle.sql_parser.specs.Nests.{Below};
-ghost use Rattle.sql_parser.specs.ExpressionReadings as readings;
-ghost use Rattle.sql_parser.specs.Readings.{inner_part, inner_query, part_at, query_at};
-ghost use Rattle.sql_parser.specs.Values as values;
+ghost use Rattle.parser_steps.specs.Nests.{Below};
+ghost use Rattle.parser_steps.specs.ExpressionReadings as readings;
+ghost use Rattle.parser_steps.specs.Readings.{inner_part, inner_query, part_at, query_at};
+ghost use Rattle.parser_steps.specs.Values as values;
 ghost use Rattle.std.specs.Prelude.{◌<◌};
 
 use crate::calls::Calls;
 use crate::level::Level;
-use crate::parser::Parser;
-use crate::test::Test;
 use grammar_laws::SyntaxError;
+use parser_steps::{Parser, Subqueries, Test};
 use sql_ast::{Block, Expr};
 use sql_lexer::Kind;
 use sqlite_items::Boxed;
@@ -30,10 +29,10 @@ pub(crate) struct Nested<P, Q> {
 
 impl<
     P: Copy + Fn(Global, &mut Parser<'_>, usize) -> Result<Boxed<Expr>, SyntaxError>,
-    Q: Fn(Global, &mut Parser<'_>, usize) -> Result<Boxed<Block>, SyntaxError>,
+    Q: Copy + Fn(Global, &mut Parser<'_>, usize) -> Result<Boxed<Block>, SyntaxError>,
 > Nested<P, Q> {
     /// `query | e`, where `room` levels may still be opened.
-    #[tactic(auto, unfolding(crate::specs::ExpressionReadings::read_parens_inside))]
+    #[tactic(auto, unfolding(parser_steps::specs::ExpressionReadings::read_parens_inside))]
     fn parens_inside(
         &self,
         parser: &mut Parser<'_>,
@@ -61,7 +60,7 @@ impl<
     }
 
     /// `"(" (query | e) ")"`.
-    #[tactic(auto, using(crate::proofs::Inner::rules_inner), unfolding(crate::specs::ExpressionReadings::read_parens))]
+    #[tactic(auto, using(parser_steps::proofs::Inner::rules_inner), unfolding(parser_steps::specs::ExpressionReadings::read_parens))]
     fn parens(&self, parser: &mut Parser<'_>) -> Result<Boxed<Expr>, SyntaxError>
         requires part { Below (part_at 1023) self.now.room (P.pre self.now.part)
             (P.post self.now.part) }
@@ -77,7 +76,7 @@ impl<
     }
 
     /// What a unary part is without a sign.
-    #[tactic(auto, unfolding(crate::specs::ExpressionReadings::read_operand))]
+    #[tactic(auto, unfolding(parser_steps::specs::ExpressionReadings::read_operand))]
     pub(crate) fn operand(&self, parser: &mut Parser<'_>) -> Result<Boxed<Expr>, SyntaxError>
         requires part { Below (part_at 1023) self.now.room (P.pre self.now.part)
             (P.post self.now.part) }
@@ -90,7 +89,12 @@ impl<
             return self.parens(parser);
         }
         if parser.starts(Kind::Exists) {
-            return self.exists(parser);
+            let subqueries = Subqueries {
+                alloc: self.alloc,
+                room: self.room,
+                query: self.query,
+            };
+            return subqueries.exists(parser);
         }
         let calls = Calls {
             alloc: self.alloc,
@@ -116,7 +120,7 @@ impl<
     }
 
     /// `(query | e {"," e}) ")"`, where `room` levels may still be opened.
-    #[tactic(auto, unfolding(crate::specs::ExpressionReadings::read_in_inside))]
+    #[tactic(auto, unfolding(parser_steps::specs::ExpressionReadings::read_in_inside))]
     fn in_inside(&self, parser: &mut Parser<'_>, room: usize) -> Result<Test, SyntaxError>
         requires room { room < self.now.room }
         requires part { Below (part_at 1023) self.now.room (P.pre self.now.part)
@@ -142,7 +146,7 @@ impl<
     }
 
     /// `in "(" (query | e {"," e}) ")"`.
-    #[tactic(auto, using(crate::proofs::Inner::rules_inner), unfolding(crate::specs::ExpressionReadings::read_in))]
+    #[tactic(auto, using(parser_steps::proofs::Inner::rules_inner), unfolding(parser_steps::specs::ExpressionReadings::read_in))]
     pub(crate) fn in_test(&self, parser: &mut Parser<'_>) -> Result<Test, SyntaxError>
         requires part { Below (part_at 1023) self.now.room (P.pre self.now.part)
             (P.post self.now.part) }

@@ -5,14 +5,14 @@ ghost use Rattle.grammar_laws.specs.Readings.{Reads};
 ghost use Rattle.grammar_laws.specs.Scripts as scripts;
 ghost use Rattle.grammar_laws.specs.Scripts.{IsFirst, IsRead};
 ghost use Rattle.sql_parser.specs.declared.fault.ScriptRefusal.{ScriptRefusal};
-ghost use Rattle.sql_parser.specs.Readings.{ended_at};
+ghost use Rattle.parser_steps.specs.Readings.{ended_at};
 ghost use Rattle.sql_parser.specs.Script.{IsReadScript, IsRefusedScript, NeverBoth, OneMeaning};
 ghost use Rattle.sql_parser.specs.Script.{OneScript, SomeMeaning, SomeScript, Sql, byte_at};
 
 use crate::fault::{ParseFault, ScriptFault, ScriptRefusal, of_lexer, of_parser};
-use crate::parser::{MAX_DEPTH, Parser};
 use crate::statements::ended_statement;
 use grammar_laws::{SyntaxError, SyntaxFault};
+use parser_steps::{MAX_DEPTH, Parser};
 use sql_ast::Statement;
 use sql_lexer::{LexFault, Token, lex};
 use sqlite_items::Items;

@@ -1,5 +1,6 @@
 -- Parts of a table: stored rows without those at deleted places.
-use Rattle.std.specs.Prelude.{◌≡◌, ℕ, ℤ, suc, ◌+◌, ◌≤◌, ◌<◌, ◌≤ℤ◌, Bool, true, false, ◌&&◌, List, []}
+use Rattle.std.specs.Prelude.{◌≡◌, ℕ, ℤ, suc, ◌+◌, ◌≤◌, ◌<◌, ◌≤ℤ◌, Bool, true, false, ◌&&◌}
+use Rattle.std.specs.Prelude.{List, []}
 use Rattle.std.specs.Prelude.{◌∷◌, length, nat_eq, int_le, slice_index_or, if◌then◌else◌}
 use Rattle.std.specs.List.{All, list_any}
 use Rattle.std.specs.List.Sorted.{IsNonDecreasing}
@@ -54,9 +55,10 @@ HasNone keys rows = list_any (λ row. has_key keys (order_key row)) rows ≡ fal
 
 -- some keys tell as well as all whether a row is of an order of these keys
 abbrev pub AreNear : List ℤ → List ℤ → List (List Value) → Type 0
-AreNear keys near rows = All (λ row. has_key near (order_key row) ≡ has_key keys (order_key row)) rows
+AreNear keys near rows =
+    All (λ row. has_key near (order_key row) ≡ has_key keys (order_key row)) rows
 
--- the keys of the orders of the first so many rows ascend
+-- the keys of the orders of the first n rows ascend
 abbrev pub Ascend : ℕ → List (List Value) → Type 0
 Ascend count rows = (i j : ℕ) → i ≤ j → j < count
     → order_key (slice_index_or rows i []) ≤ℤ order_key (slice_index_or rows j [])

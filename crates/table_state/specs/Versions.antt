@@ -23,10 +23,10 @@ taken base (change ∷ changes) =
 abbrev pub replayed : State → List Change → State
 replayed = fold changed
 
--- how many of the first so many refreshes of a list are accepted
+-- how many of the first n refreshes of a list are accepted
 abbrev pub accepted : State → List Change → ℕ → ℕ
 accepted base list done = length (taken base (take done list))
 
--- the state of a version: the base after just so many accepted refreshes of a list
+-- the state of version n: the base after the first n accepted refreshes of a list
 abbrev pub version_state : State → List Change → ℕ → State
 version_state base list version = replayed base (take version (taken base list))

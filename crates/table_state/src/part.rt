@@ -297,8 +297,8 @@ impl Part {
         }
     }
 
-    /// Keys, in place of others, that tell which lineitems of the wanted orders there are. Where the
-    /// keys of the orders ascend they are searched.
+    /// Keys, in place of others, that tell which lineitems of the wanted orders there are. Where
+    /// the keys of the orders ascend they are searched.
     pub(crate) fn tell_lines(
         &self,
         wanted: &KeySet<i64>,

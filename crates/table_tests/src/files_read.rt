@@ -85,67 +85,75 @@ fn reads_dates(rt: HostRuntime) -> Result<(), Fail> {
     Ok(())
 }
 
+const LINES: [(&str, usize); 5] = [
+    ("", 0),
+    ("0|AFRICA|", 1),
+    ("0|AFRICA||", 1),
+    ("0|A|a|\r\n1|B|b|", 2),
+    ("9223372036854775807|A||\n-0|B||\n", 2),
+];
+
 #[test]
 fn counts_lines(rt: HostRuntime) -> Result<(), Fail> {
-    for (text, wanted) in [
-        ("", 0),
-        ("0|AFRICA|", 1),
-        ("0|AFRICA||", 1),
-        ("0|A|a|\r\n1|B|b|", 2),
-        ("9223372036854775807|A||\n-0|B||\n", 2),
-    ] {
+    for (text, wanted) in &LINES {
         let count = count(rt.alloc(), TableName::Region, text.as_bytes())?;
-        assert_eq!(rt; count, wanted, "{text}");
+        assert_eq!(rt; count, *wanted, "{text}");
     }
     Ok(())
 }
 
+const REFUSED: [(TableName, &str, u64, LineFault); 14] = [
+    (TableName::Region, "0|AFRICA", 1, LineFault::FieldCount),
+    (TableName::Region, "0|A|a|\n1|AM", 2, LineFault::FieldCount),
+    (TableName::Region, "0|A|a|\n\n", 2, LineFault::FieldCount),
+    (TableName::Region, "x|A|a|b|", 1, LineFault::FieldCount),
+    (TableName::Region, "x|A|y|", 1, LineFault::BadNumber),
+    (TableName::Region, "0.0|\t|y|", 1, LineFault::BadNumber),
+    (TableName::Region, "-1|A|y|", 1, LineFault::NumberTooWide),
+    (
+        TableName::Region,
+        "9223372036854775808|A|y|",
+        1,
+        LineFault::NumberTooWide,
+    ),
+    (TableName::Region, "0|A|a\r\r\n", 1, LineFault::BadText),
+    (
+        TableName::Region,
+        "0|abcdefghijklmnopqrstuvwxy\x7f|a|",
+        1,
+        LineFault::BadText,
+    ),
+    (
+        TableName::Region,
+        "0|abcdefghijklmnopqrstuvwxyz|a|",
+        1,
+        LineFault::TextTooLong,
+    ),
+    (
+        TableName::Orders,
+        "1|1|O|1.00|1900-02-29|1|K|0|x|",
+        1,
+        LineFault::BadDate,
+    ),
+    (
+        TableName::Region,
+        "0|A|x|\n00|B|y|",
+        2,
+        LineFault::DuplicateKey,
+    ),
+    (
+        TableName::Partsupp,
+        "1|1|1|1|a|\n1|2|1|1|a|\n2|1|1|1|a|\n1|02|1|1|a|",
+        4,
+        LineFault::DuplicateKey,
+    ),
+];
+
 #[test]
 fn refuses_lines(rt: HostRuntime) {
-    let region = TableName::Region;
-    for (table, text, line, fault) in [
-        (region, "0|AFRICA", 1, LineFault::FieldCount),
-        (region, "0|A|a|\n1|AM", 2, LineFault::FieldCount),
-        (region, "0|A|a|\n\n", 2, LineFault::FieldCount),
-        (region, "x|A|a|b|", 1, LineFault::FieldCount),
-        (region, "x|A|y|", 1, LineFault::BadNumber),
-        (region, "0.0|\t|y|", 1, LineFault::BadNumber),
-        (region, "-1|A|y|", 1, LineFault::NumberTooWide),
-        (
-            region,
-            "9223372036854775808|A|y|",
-            1,
-            LineFault::NumberTooWide,
-        ),
-        (region, "0|A|a\r\r\n", 1, LineFault::BadText),
-        (
-            region,
-            "0|abcdefghijklmnopqrstuvwxy\x7f|a|",
-            1,
-            LineFault::BadText,
-        ),
-        (
-            region,
-            "0|abcdefghijklmnopqrstuvwxyz|a|",
-            1,
-            LineFault::TextTooLong,
-        ),
-        (
-            TableName::Orders,
-            "1|1|O|1.00|1900-02-29|1|K|0|x|",
-            1,
-            LineFault::BadDate,
-        ),
-        (region, "0|A|x|\n00|B|y|", 2, LineFault::DuplicateKey),
-        (
-            TableName::Partsupp,
-            "1|1|1|1|a|\n1|2|1|1|a|\n2|1|1|1|a|\n1|02|1|1|a|",
-            4,
-            LineFault::DuplicateKey,
-        ),
-    ] {
-        let found = refusal(rt.alloc(), table, text.as_bytes());
-        assert!(rt; found == Some((line, fault)), "{text}");
+    for (table, text, line, fault) in &REFUSED {
+        let found = refusal(rt.alloc(), *table, text.as_bytes());
+        assert!(rt; found == Some((*line, *fault)), "{text}");
     }
 }
 
@@ -204,7 +212,7 @@ fn is_cut_anywhere(rt: HostRuntime) -> Result<(), Fail> {
     Ok(())
 }
 
-// Regions in lines of 17 bytes that end in CR and LF, after one that is longer by so many bytes.
+// Regions in lines of 17 bytes that end in CR and LF, after one that is longer by `more` bytes.
 fn long_text(alloc: Global, more: usize) -> Result<Vec<u8>, Fail> {
     let mut text = Vec::new(alloc);
     text.extend_from_slice(b"1|A|")?;

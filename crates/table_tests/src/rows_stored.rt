@@ -71,7 +71,7 @@ fn repeats_a_value(rt: HostRuntime) -> Result<(), Fail> {
     Ok(())
 }
 
-// Texts of two letters, 25 times so many.
+// Texts of two letters, with `seconds` second letters for each of 25 first ones.
 fn many_texts(alloc: Global, seconds: u8) -> Result<Batch, Fail> {
     let mut builder = BatchBuilder::new(alloc, &[ColumnForm::Texts])?;
     for first in b'A'..b'Z' {

@@ -61,7 +61,8 @@ bar_at text place e =
           ∙ rw none (omega (arith, bars-cons 124 (drop (place + 1) text)));
     }
 
--- a line of which so many columns were cut: so many bars stood before the rest, which is empty where one was missing
+-- a line of which `columns` columns were cut: `bars` bars stood before the rest, which is empty
+-- where one was missing
 pub record CutSoFar (line rest : List ℕ) (bars columns : ℕ) : Type 0 where
   pub front : List ℕ
   pub is : line ≡ front ++ rest

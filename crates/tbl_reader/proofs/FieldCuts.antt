@@ -11,7 +11,7 @@ use Rattle.std.proofs.lemmas.Slice.Eq.{ends_is}
 use Rattle.tbl_reader.specs.Line.{is_bar, has_fields}
 use Rattle.tbl_reader.specs.LineLaws.{AreFieldsOf}
 
--- so many fields, cut from the left
+-- n fields, cut from the left
 abbrev pub cuts : ℕ → List ℕ → List (List ℕ)
 cuts zero text = []
 cuts (suc n) text = before_first is_bar text ∷ cuts n (after_first is_bar text)

@@ -21,13 +21,13 @@ line_text line = without_end 13 (without_end 10 line)
 abbrev pub is_bar : ℕ → Bool
 is_bar byte = byte == 124
 
--- a line of so many fields: as many bars with nothing after the last, or one bar fewer
+-- a line of n fields: n bars with nothing after the last, or one bar fewer
 abbrev pub has_fields : ℕ → List ℕ → Bool
 has_fields columns line =
     (count_by is_bar line + 1 == columns)
     || ((count_by is_bar line == columns) && ends_with nat_eq line (124 ∷ []))
 
--- a line's columns were cut at so many bars, and this rest stands after them: one bar fewer than
+-- a line's columns were cut at `bars` bars, and this rest stands after them: one bar fewer than
 -- columns, or as many bars and no rest
 abbrev pub IsWholeCut : ℕ → ℕ → List ℕ → Type 0
 IsWholeCut columns bars rest = (bars + 1 ≡ columns) ⊎ ((0 < bars) × (bars ≡ columns) × (rest ≡ []))

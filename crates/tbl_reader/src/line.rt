@@ -143,7 +143,7 @@ fn other_field(kind: ColumnKind, text: &[u8]) -> Option<(Field<'_>, &[u8], bool)
     }
 }
 
-// Whether so many bars part that many fields, before this rest.
+// Whether `bars` bars part `columns` fields, before this rest.
 fn are_whole(columns: usize, bars: usize, rest: &[u8]) -> bool
     requires { bars ≤ columns }
     ensures { result ≡ true → IsWholeCut columns bars rest.now }

@@ -22,7 +22,8 @@ use tpch_schema::ColumnKind;
 /// a date; a text. Other spellings, and bad fields, are for [`crate::field::read_field`].
 #[tactic(auto, using(crate::proofs::PlainNumbers::held, crate::proofs::FieldEnds::holds))]
 pub fn plain_field(kind: ColumnKind, text: &[u8]) -> Option<(Field<'_>, usize)>
-    ensures value { IfSome result (λ f. kind_field kind (take f.1 text.now) ≡ Ok (field_value f.0)) }
+    ensures value { IfSome result
+        (λ f. kind_field kind (take f.1 text.now) ≡ Ok (field_value f.0)) }
     ensures end { IfSome result (λ f. position_or_len is_bar text.now ≡ f.1) }
     ensures inside { IfSome result (λ f. f.1 ≤ length text.now) }
     ensures printable { IfSome result (λ f. IsPrintableField f.0) }

@@ -16,7 +16,7 @@ use Rattle.tpch_main.specs.Views.{Explains, IfKnown, refused_view}
 use Rattle.tpch_main.specs.declared.input_error.InputError.{InputError}
 use Rattle.tpch_main.specs.declared.input_error.InputError.TheVariants as error
 
--- what is read of further tables, behind what was read of those before
+-- what is read of further tables, after what was read of those before
 abbrev pub behind : List (List (List Value)) → Result (List (List (List Value))) BadInput → Result (List (List (List Value))) BadInput
 behind before further = and_then further (λ lists. Ok (before ++ lists))
 

@@ -1,4 +1,4 @@
--- Facts of told files, from one step of reading to the next.
+-- Facts of files with known contents, from one step of reading to the next.
 use Rattle.std.proofs.Common.{◌≡◌, ◌∙◌, ℕ, List, Option, None, Some, ap, subst, sym}
 use Rattle.std.specs.declared.result.Result.{Result}
 use Rattle.std.specs.declared.result.Result.TheVariants.{Ok, Err}

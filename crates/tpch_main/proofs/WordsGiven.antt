@@ -23,7 +23,7 @@ abbrev pub held_with : List Rule → Option Rule → Text → Held → Held
 held_with c None word h = h
 held_with c (Some a) word h = positional_held c a word h
 
--- the place behind the argument
+-- the place after the argument
 abbrev pub place_after : Option Rule → ℕ → ℕ
 place_after None place = place
 place_after (Some a) place = next_position a place
@@ -41,7 +41,7 @@ values_held c h place (word ∷ words) = values_held c (held_with c (arg_by_inde
 
 -- ---- the words
 
--- the word is a flag: `--name`, or a minus and characters behind it
+-- the word is a flag: `--name`, or a minus and characters after it
 abbrev pub is_flag_word : Text → Bool
 is_flag_word word = is_some (long_of word) || option_map_or (λ flags. is_some (slice_get (chars flags) 0)) (short_of word) false
 

@@ -120,7 +120,7 @@ first_char d ds utf8 = at (chars (d ∷ ds)) (encodes-chars (d ∷ ds) (IsUtf8-p
     at [] spelled = absurd (cc)
     at (c ∷ cs) spelled = refl
 
--- behind a first byte
+-- after a first byte
 abbrev flag_behind : Option Text → Bool
 flag_behind rest = is_some (option_and_then long_of_rest (option_and_then (strip_byte 45) rest)) || option_map_or (λ flags. is_some (slice_get (chars flags) 0)) (option_and_then short_of_rest rest) false
 

@@ -47,7 +47,7 @@ pub or_else-nil : (a : Kinds) → or_else a [] ≡ a
 or_else-nil [] = refl
 or_else-nil (k ∷ ks) = refl
 
--- behind its name the words are the subcommand's
+-- after its name the words are the subcommand's
 left : (name : Text) (words : List Text) → fold (walked whole.top.rules (names_of whole)) (stopped name []) words ≡ stopped name words
 left name words = sym (walk_stopped whole.top.rules (names_of whole) start name [] words)
 

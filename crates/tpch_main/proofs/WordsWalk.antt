@@ -15,7 +15,7 @@ or_false : (b : Bool) → (b || false) ≡ b
 or_false true = refl
 or_false false = refl
 
--- the walk behind a value
+-- the walk after a value
 value_taken : (c : List Rule) (found : Option Rule) (word : Text) (h : Held) (place : ℕ) (is_trailing : Bool) → option_map_or takes_one found true ≡ true
     → to_positional c found word (between h place is_trailing) h ≡ between (held_with c found word h) (place_after found place) is_trailing
 value_taken c None word h place is_trailing one = refl
@@ -39,7 +39,7 @@ pub record Walks (s : Shape) (names : Names) (from : Walk) (words : List Text) (
   pub fault : walk_fault s names from words ≡ faults
   pub held : (fold (walked s.rules names) from words).held ≡ last
 
--- behind `--` each word is a value
+-- after `--` each word is a value
 pub trailing : (s : Shape) (names : Names) → is_placed s.rules ≡ true → (words : List Text) (h : Held) (place : ℕ)
     → Walks s names (between h place true) words (values_fault s h place words) (values_held s.rules h place words)
 unfolding walk_fault walked
@@ -78,7 +78,7 @@ abbrev pub WalksAs : Shape → Held → ℕ → List Text → Option (List Text)
 WalksAs s h place words None = is_empty (walk_fault s [] (between h place false) words) ≡ false
 WalksAs s h place words (Some values) = Walks s [] (between h place false) words (values_fault s h place values) (values_held s.rules h place values)
 
--- the walk behind a value, by the walk over the rest
+-- the walk after a value, by the walk over the rest
 walks_on : (s : Shape) → is_placed s.rules ≡ true → (word : Text) (words : List Text) (h : Held) (place : ℕ) → h.skip ≡ 0 → bytes_eq word (45 ∷ 45 ∷ []) ≡ false → is_flag_word word ≡ false → (values : Option (List Text))
     → WalksAs s (held_with s.rules (arg_by_index s.rules place) word h) (place_after (arg_by_index s.rules place) place) words values
     → WalksAs s h place (word ∷ words) (option_map (λ values. word ∷ values) values)

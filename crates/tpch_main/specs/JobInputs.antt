@@ -1,5 +1,6 @@
 -- What the files of a job hold, and which of them is refused first.
-use Rattle.std.specs.Prelude.{◌≡◌, ℕ, Bool, true, false, List, [], ◌∷◌, length, nat_lt, Option, None, Some}
+use Rattle.std.specs.Prelude.{◌≡◌, ℕ, Bool, true, false, List, [], ◌∷◌, length, nat_lt, Option}
+use Rattle.std.specs.Prelude.{None, Some}
 use Rattle.std.specs.Prelude.{if◌then◌else◌}
 use Rattle.std.specs.List.{list_any}
 use Rattle.std.specs.declared.result.Result.{Result}
@@ -16,7 +17,8 @@ use Rattle.sql_lexer.specs.declared.token.Token.{Token}
 use Rattle.table_state.specs.Refresh.{Change}
 use Rattle.tpch_outside.specs.Outside.{Folder, file_of}
 use Rattle.tpch_schema.specs.State.{State}
-use Rattle.tpch_main.specs.Inputs.{AreSteps, BadInput, and_then, changes_in, file_bytes, script_limit}
+use Rattle.tpch_main.specs.Inputs.{AreSteps, BadInput, and_then, changes_in, file_bytes}
+use Rattle.tpch_main.specs.Inputs.{script_limit}
 use Rattle.tpch_main.specs.Inputs.{state_in}
 use Rattle.tpch_main.specs.declared.input_error.InputFault.TheVariants as fault
 

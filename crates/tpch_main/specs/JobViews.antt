@@ -1,5 +1,6 @@
 -- What the code's values of a job stand for.
-use Rattle.std.specs.Prelude.{◌≡◌, ◌≢◌, ⊤, ℕ, ◌<◌, ◌≤◌, Bool, true, false, List, length, map, slice_index_or}
+use Rattle.std.specs.Prelude.{◌≡◌, ◌≢◌, ⊤, ℕ, ◌<◌, ◌≤◌, Bool, true, false, List, length, map}
+use Rattle.std.specs.Prelude.{slice_index_or}
 use Rattle.std.specs.Prelude.{Option, None, Some}
 use Rattle.std.specs.Global.{Vec}
 use Rattle.std.specs.List.{list_any}
@@ -88,8 +89,8 @@ work_view sources = record {
   before = sources.before;
 }
 
--- a job that can be run: it has sessions, not too many, which are at their beginning, and so many
--- refreshes before them as it has
+-- a job that can be run: it has sessions, not too many, which are at their beginning, and no more
+-- refreshes before them than it has
 pub record IsPlayable (shows_rows : Bool) (sources : JobSources) : Type 0 where
   pub some : 0 < length sources.sessions.items
   pub few : length sources.sessions.items ≤ most_sessions

@@ -42,8 +42,8 @@ SessionAcceptedLaw = (dir script : List ℕ) (folder : Folder) (work : Work)
     ↔ (AreSteps folder script (Ok work.steps) × (state_in dir folder ≡ Ok work.base)
     × (refreshes_in dir work.steps folder ≡ Ok work.list))
 
--- the command has one text: no plan of a query is any other, and the versions of a job are chosen by
--- the run
+-- the command has one text: no plan of a query is any other, and the versions of a job are chosen
+-- by the run
 abbrev pub HasOneText : Command → Type 0
 HasOneText (session dir script) = ⊤
 HasOneText (throughput dir job) = ⊥

@@ -49,4 +49,5 @@ program_app =
     (with_subcommand
     (with_subcommand
     (with_subcommand
-    (with_subcommand bare_app session_app.top) throughput_app.top) explain_app.top) check_app.top) trial_app.top
+    (with_subcommand bare_app session_app.top) throughput_app.top) explain_app.top) check_app.top)
+    trial_app.top

@@ -8,8 +8,10 @@ ghost use Rattle.sql_ast.specs.declared.statement.Statement.{Statement};
 ghost use Rattle.sql_parser.specs.Script.{IsReadScript};
 ghost use Rattle.tpch_outside.specs.Outside.{file_of};
 ghost use Rattle.tpch_main.specs.FilesAfter.{FilesAfterInput, FilesAfterRead};
-ghost use Rattle.tpch_main.specs.JobInputs.{AreJobScripts, IsJobScript, IsRefreshByte, is_refresh, job_in, refresh_start};
-ghost use Rattle.tpch_main.specs.JobViews.{IsJobOf, IsOfBytes, IsSessionOf, IsSessionOfBytes, ShowRows};
+ghost use Rattle.tpch_main.specs.JobInputs.{AreJobScripts, IsJobScript, IsRefreshByte, is_refresh};
+ghost use Rattle.tpch_main.specs.JobInputs.{job_in, refresh_start};
+ghost use Rattle.tpch_main.specs.JobViews.{IsJobOf, IsOfBytes, IsSessionOf, IsSessionOfBytes};
+ghost use Rattle.tpch_main.specs.JobViews.{ShowRows};
 ghost use Rattle.tpch_main.specs.JobViews.{steps_of};
 ghost use Rattle.tpch_main.specs.Views.{Finds, Reads};
 
@@ -163,7 +165,8 @@ fn read_session<F: Files>(
     name: &str,
     shows_rows: bool,
 ) -> Result<Session, InputError>
-    ensures input { Finds steps_of (F.held files.old) (λ folder. IsJobScript folder name.now) result }
+    ensures input { Finds steps_of (F.held files.old)
+        (λ folder. IsJobScript folder name.now) result }
     ensures unasked { IfOk result IsUnasked }
     ensures rows { IfOk result (λ s. s.shows_rows ≡ shows_rows) }
     ensures files { FilesAfterInput F.held F.faults F.misses result files.old files.new }

@@ -145,8 +145,8 @@ pub fn mentions_of(alloc: Global, steps: &[Statement]) -> Result<Vec<Mention>, A
     Ok(mentions)
 }
 
-/// These refreshes, of what their files in the folder hold. Each file is read once, where it is first
-/// named.
+/// These refreshes, of what their files in the folder hold. Each file is read once, where it is
+/// first named.
 pub fn read_refreshes<F: Files>(
     alloc: Global,
     files: &mut F,

@@ -1,6 +1,7 @@
 //! The line that is printed of a refused input.
 ghost use Rattle.std.specs.Prelude.{◌≡◌, ◌++◌, IfOk, OnOk};
-ghost use Rattle.tpch_main.specs.Inputs.{byte_text, job_line_text, line_text, refresh_text, refusal_line};
+ghost use Rattle.tpch_main.specs.Inputs.{byte_text, job_line_text, line_text, refresh_text};
+ghost use Rattle.tpch_main.specs.Inputs.{refusal_line};
 ghost use Rattle.tpch_main.specs.Views.{refused_view};
 
 use crate::input_error::{InputFault, RefusedInput};

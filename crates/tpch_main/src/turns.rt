@@ -13,7 +13,7 @@ use std::alloc::{AllocError, Global};
 use std::thread::Threads;
 use table_state::RefreshError;
 
-/// After so many accepted refreshes the segments are put together.
+/// The segments are put together at each version that this number divides.
 const COMPACTED_AFTER: u64 = 16;
 
 /// The same version, put together where it is due.

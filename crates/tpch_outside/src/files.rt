@@ -16,7 +16,7 @@ pub enum Open {
 /// What reading the next piece of the open file answers.
 #[derive(Clone, Copy, Debug, PartialEq, Eq)]
 pub enum Got {
-    /// So many bytes stand at the front of the slice; 0 only at the file's end.
+    /// How many bytes stand at the front of the slice; 0 only at the file's end.
     Got(usize),
     /// The piece could not be read.
     Failed,

@@ -5,7 +5,7 @@ ghost use Rattle.tpch_outside.specs.Outside.{Counts, IsPutFault, Takes};
 /// What putting a piece answers.
 #[derive(Clone, Copy, Debug, PartialEq, Eq)]
 pub enum Put {
-    /// So many bytes from the piece's front were taken. None of a piece that isn't empty is a
+    /// How many bytes from the piece's front were taken. None of a piece that isn't empty is a
     /// fault.
     Took(usize),
     /// Nothing was taken.

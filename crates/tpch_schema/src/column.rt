@@ -15,7 +15,7 @@ pub enum ColumnKind {
     Decimal,
     /// A date.
     Date,
-    /// A text of at most so many bytes.
+    /// A text of at most n bytes.
     Text(u8),
 }
 

@@ -1,5 +1,5 @@
-//! Steps from a dependent tree to another one of the same rows: conditions moved down to where their
-//! columns are first at hand, and columns dropped that nobody reads.
+//! Steps from a dependent tree to another one of the same rows: conditions moved down to where
+//! their columns are first at hand, and columns dropped that nobody reads.
 #![tactic(auto)]
 
 mod below;

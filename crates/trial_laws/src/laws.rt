@@ -8,8 +8,8 @@ pub fn trials_are_accepted()
     ensures { TrialsAreAccepted }
 {}
 
-/// Words that ask for a trial are accepted. So `tpch` ends with Done or SomeRefused for them, unless
-/// memory runs out or the sink fails.
+/// Words that ask for a trial are accepted. So `tpch` ends with Done or SomeRefused for them,
+/// unless memory runs out or the sink fails.
 pub fn trial_words_are_accepted()
     ensures { TrialWordsAreAccepted }
 {}

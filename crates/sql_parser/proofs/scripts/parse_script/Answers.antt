@@ -8,7 +8,7 @@ use Rattle.grammar_laws.proofs.Verdict.{read_is, refusal_is_first}
 use Rattle.sql_ast.specs.declared.statement.Statement.{Statement}
 use Rattle.sql_lexer.specs.declared.token.Token.{Token}
 use Rattle.sql_parser.specs.Grammar.{Ended}
-use Rattle.sql_parser.specs.Readings.{ended_at}
+use Rattle.parser_steps.specs.Readings.{ended_at}
 use Rattle.sql_parser.specs.Script.{Sql}
 use Rattle.sql_parser.proofs.Levels.{is_read}
 use Rattle.sql_parser.proofs.scripts.parse_script.Goals as goal

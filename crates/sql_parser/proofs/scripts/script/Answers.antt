@@ -5,7 +5,7 @@ use Rattle.std.proofs.lemmas.List.{nil_from_length}
 use Rattle.grammar_laws.proofs.Scripts.{script_goes_on, script_fails, script_ends, Ended-shorter}
 use Rattle.sql_lexer.specs.declared.token.Token.{Token}
 use Rattle.sql_parser.specs.Grammar.{Ended}
-use Rattle.sql_parser.specs.Readings.{ended_at}
+use Rattle.parser_steps.specs.Readings.{ended_at}
 use Rattle.sql_parser.proofs.Levels.{is_read}
 use Rattle.sql_parser.proofs.scripts.script.Goals as goal
 

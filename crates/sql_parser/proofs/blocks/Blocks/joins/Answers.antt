@@ -7,10 +7,10 @@ use Rattle.sql_lexer.specs.declared.kind.Kind.TheVariants as k
 use Rattle.sql_lexer.specs.declared.token.Token.{Token}
 use Rattle.sql_ast.specs.declared.tree.Expr.{Expr}
 use Rattle.sql_ast.specs.declared.tree.FromItem.{FromItem}
-use Rattle.sql_parser.specs.Kinds.{kinds}
-use Rattle.sql_parser.specs.Readings as readings
-use Rattle.sql_parser.specs.Readings.{part_at, inner_query}
-use Rattle.sql_parser.specs.Values as values
+use Rattle.parser_steps.specs.Kinds.{kinds}
+use Rattle.parser_steps.specs.Readings as readings
+use Rattle.parser_steps.specs.Readings.{part_at, inner_query}
+use Rattle.parser_steps.specs.Values as values
 use Rattle.sql_parser.proofs.blocks.Blocks.joins.Goals as goal
 
 pub returns-then-width-eq0 : goal.returns-then-width-eq0

@@ -3,10 +3,10 @@ use Rattle.grammar_laws.specs.Kinds.{among}
 use Rattle.grammar_laws.specs.Readings.{links}
 use Rattle.grammar_laws.proofs.Loop.{with_front}
 use Rattle.sql_lexer.specs.declared.kind.Kind.TheVariants as k
-use Rattle.sql_parser.specs.Kinds.{kinds}
-use Rattle.sql_parser.specs.Readings as readings
-use Rattle.sql_parser.specs.Readings.{part_at, inner_query}
-use Rattle.sql_parser.specs.Values as values
+use Rattle.parser_steps.specs.Kinds.{kinds}
+use Rattle.parser_steps.specs.Readings as readings
+use Rattle.parser_steps.specs.Readings.{part_at, inner_query}
+use Rattle.parser_steps.specs.Values as values
 use Rattle.sql_parser.proofs.blocks.Blocks.joins.Given as goal
 
 abbrev pub invariant-more : goal.invariant-more

@@ -6,9 +6,9 @@ use Rattle.sql_lexer.specs.Kinds.{is}
 use Rattle.sql_lexer.specs.declared.kind.Kind.TheVariants as k
 use Rattle.sql_lexer.specs.declared.token.Token.{Token}
 use Rattle.sql_ast.specs.declared.tree.Joined.{Joined}
-use Rattle.sql_parser.specs.Readings as readings
-use Rattle.sql_parser.specs.Readings.{part_at, inner_query}
-use Rattle.sql_parser.specs.Values as values
+use Rattle.parser_steps.specs.Readings as readings
+use Rattle.parser_steps.specs.Readings.{part_at, inner_query}
+use Rattle.parser_steps.specs.Values as values
 use Rattle.sql_parser.proofs.blocks.Blocks.more_joined.Goals as goal
 
 pub returns-then-width-eq0 : goal.returns-then-width-eq0

@@ -3,9 +3,9 @@ use Rattle.grammar_laws.specs.Readings.{links, mapped, one}
 use Rattle.grammar_laws.proofs.Loop.{with_front}
 use Rattle.sql_lexer.specs.Kinds.{is}
 use Rattle.sql_lexer.specs.declared.kind.Kind.TheVariants as k
-use Rattle.sql_parser.specs.Readings as readings
-use Rattle.sql_parser.specs.Readings.{part_at, inner_query}
-use Rattle.sql_parser.specs.Values as values
+use Rattle.parser_steps.specs.Readings as readings
+use Rattle.parser_steps.specs.Readings.{part_at, inner_query}
+use Rattle.parser_steps.specs.Values as values
 use Rattle.sql_parser.proofs.blocks.Blocks.more_joined.Given as goal
 
 abbrev pub invariant-more : goal.invariant-more

@@ -6,8 +6,8 @@ use Rattle.sql_lexer.specs.Kinds.{is}
 use Rattle.sql_lexer.specs.declared.kind.Kind.TheVariants as k
 use Rattle.sql_lexer.specs.declared.token.Token.{Token}
 use Rattle.sql_ast.specs.declared.tree.Expr.{Expr}
-use Rattle.sql_parser.specs.Readings.{part_at}
-use Rattle.sql_parser.specs.Values as values
+use Rattle.parser_steps.specs.Readings.{part_at}
+use Rattle.parser_steps.specs.Values as values
 use Rattle.sql_parser.proofs.level.Level.conjuncts.Goals as goal
 
 pub returns-then-width-eq0 : goal.returns-then-width-eq0

@@ -3,8 +3,8 @@ use Rattle.grammar_laws.specs.Readings.{links, one}
 use Rattle.grammar_laws.proofs.Loop.{with_front}
 use Rattle.sql_lexer.specs.Kinds.{is}
 use Rattle.sql_lexer.specs.declared.kind.Kind.TheVariants as k
-use Rattle.sql_parser.specs.Readings.{part_at}
-use Rattle.sql_parser.specs.Values as values
+use Rattle.parser_steps.specs.Readings.{part_at}
+use Rattle.parser_steps.specs.Values as values
 use Rattle.sql_parser.proofs.level.Level.conjuncts.Given as goal
 
 abbrev pub invariant-more : goal.invariant-more

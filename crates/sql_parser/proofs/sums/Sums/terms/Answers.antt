@@ -6,10 +6,10 @@ use Rattle.grammar_laws.proofs.Loop.{loop_ends, loop_goes_on, full_reads, fails_
 use Rattle.sql_lexer.specs.declared.kind.Kind.TheVariants as k
 use Rattle.sql_lexer.specs.declared.token.Token.{Token}
 use Rattle.sql_ast.specs.declared.tree.Expr.{Expr}
-use Rattle.sql_parser.specs.Kinds.{kinds}
-use Rattle.sql_parser.specs.ExpressionReadings as readings
-use Rattle.sql_parser.specs.Readings.{unary_at}
-use Rattle.sql_parser.specs.Values as values
+use Rattle.parser_steps.specs.Kinds.{kinds}
+use Rattle.parser_steps.specs.ExpressionReadings as readings
+use Rattle.parser_steps.specs.Readings.{unary_at}
+use Rattle.parser_steps.specs.Values as values
 use Rattle.sql_parser.proofs.sums.Sums.terms.Goals as goal
 
 pub returns-then-width-eq0 : goal.returns-then-width-eq0

@@ -1,0 +1,18 @@
+//! A part of rows with its own groups.
+ghost use Rattle.std.specs.Prelude.{◌≡◌, ◌<◌, ◌^◌, length};
+ghost use Rattle.columns.specs.Lists.{AreBelow};
+
+use columns::{Bag, Batch};
+
+/// A part of rows, with its groups.
+#[derive(Drop)]
+pub struct GroupedPart {
+    pub(crate) rows: Bag,
+    // The number of each row's group.
+    pub(crate) numbers: Vec<u32>,
+    // The key of each group, at the least standing of its rows.
+    pub(crate) keys: Batch,
+    ghost long: { length numbers.items ≡ length rows.rows },
+    ghost few: { length numbers.items < 2 ^ 32 },
+    ghost below: { AreBelow (length keys.rows) numbers.items },
+}

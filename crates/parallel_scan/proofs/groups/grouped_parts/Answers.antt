@@ -1,0 +1,46 @@
+use Rattle.std.proofs.Common.{rules, ◌≡◌, ◌<◌, ℕ, List, map, sym, ap, subst, ◌∙◌, arith, length, get_or}
+use Rattle.std.specs.Prelude.{IfOk, Ok}
+use Rattle.std.specs.Vec.{vec_len}
+use Rattle.std.specs.Fork.{slice_chunk}
+use Rattle.std.proofs.lemmas.List.{length-map}
+use Rattle.columns.specs.Bags.{bag_rows, AreWide}
+use Rattle.hash_group.specs.declared.part.GroupedPart.{GroupedPart}
+use Rattle.hash_group.specs.PartGroups.{IsGrouped}
+use Rattle.parallel_scan.proofs.MergedParts.{all_rows, made_at}
+use Rattle.parallel_scan.proofs.StageRows.{chunk_wide}
+use Rattle.parallel_scan.proofs.groups.grouped_parts.Goals as goal
+
+pub map_chunks-made-requires-clause-accepts : goal.map_chunks-made-requires-clause-accepts
+map_chunks-made-requires-clause-accepts g c = λ start p is. chunk_wide c.width.result c.args.size start c.batches.result.now p.now c.batches.ensures.width is
+
+pub returns-clause-rows : goal.returns-clause-rows
+returns-clause-rows g c =
+    let batches = c.batches.result.now in
+    let size = c.args.size in
+    let by = c.args.by.now in
+    let made = c.in_ok-made.made.items in
+    let xs = c.in_ok-parts.parts.items in
+    let is : made ≡ map (λ x. Ok x) xs = c.in_ok-parts.ensures in
+    let long : length made ≡ length xs = ap length is ∙ length-map xs (λ x. Ok x) in
+    let v : length made ≡ vec_len c.in_ok-made.made = omega arith in
+    all_rows size batches xs c.requires (sym long ∙ v ∙ c.in_ok-made.ensures.len)
+    (λ n d l. (made_at (λ p. (p.rows.rows ≡ bag_rows (slice_chunk batches size n)) × IsGrouped by p) made xs n d is l
+    (λ e. let k = (c.in_ok-made.ensures.each n e (omega (arith, l, long))).1 in
+    let m = k.call in
+    let h : IfOk (get_or made n e) (λ p. (p.rows.rows ≡ bag_rows k.argument.now) × IsGrouped by p) = search rules in
+    subst (λ bs. IfOk (get_or made n e) (λ p. (p.rows.rows ≡ bag_rows bs) × IsGrouped by p)) k.argument_is.value h)).0)
+    ∙ sym c.batches.ensures.rows
+
+pub returns-clause-groups : goal.returns-clause-groups
+returns-clause-groups g c = λ n d l.
+    let by = c.args.by.now in
+    let made = c.in_ok-made.made.items in
+    let xs = c.in_ok-parts.parts.items in
+    let is : made ≡ map (λ x. Ok x) xs = c.in_ok-parts.ensures in
+    let long : length made ≡ length xs = ap length is ∙ length-map xs (λ x. Ok x) in
+    let k = (c.in_ok-made.ensures.each n (Ok d) (omega (arith, l, long))).1 in
+    (made_at (λ p. (p.rows.rows ≡ bag_rows k.argument.now) × IsGrouped by p) made xs n d is l
+    (λ e. let j = (c.in_ok-made.ensures.each n e (omega (arith, l, long))).1 in
+    let m = j.call in
+    let h : IfOk (get_or made n e) (λ p. (p.rows.rows ≡ bag_rows j.argument.now) × IsGrouped by p) = search rules in
+    subst (λ bs. IfOk (get_or made n e) (λ p. (p.rows.rows ≡ bag_rows bs) × IsGrouped by p)) (j.argument_is.value ∙ sym k.argument_is.value) h)).1

@@ -1,0 +1,36 @@
+-- Groups by the values of expressions.
+use Rattle.std.specs.Prelude.{ℕ, suc, List, [], ◌∷◌}
+use Rattle.row_laws.specs.Ranked.{Ranked}
+use Rattle.row_laws.specs.Operators.{group_by, total}
+use Rattle.sql_value.specs.declared.value.Value.{Value}
+use Rattle.sql_value.specs.declared.value.Value.TheVariants.{Null}
+use Rattle.sql_value.specs.Value.{same_value}
+use Rattle.scalar_expr.specs.declared.expr.Expr.{Expr}
+use Rattle.scalar_expr.specs.declared.expr.Expr.TheVariants.{Column, Literal}
+use Rattle.scalar_expr.specs.Meaning.{values}
+use Rattle.algebra.specs.declared.aggregate.Aggregate.{Aggregate}
+use Rattle.algebra.specs.declared.aggregate.Aggregate.TheVariants.{CountRows, Of}
+use Rattle.algebra.specs.Aggregates.{aggregates_of}
+
+-- GROUP BY these expressions, with aggregates; without any one group of all rows, also where there
+-- are none
+abbrev pub expression_groups : List Expr → List Aggregate → List (Ranked Value)
+    → List (Ranked Value)
+expression_groups [] aggregates rows = total (aggregates_of aggregates) rows
+expression_groups (e ∷ es) aggregates rows =
+    group_by same_value (values (e ∷ es)) (aggregates_of aggregates) rows
+
+-- an aggregate's argument; count(*) reads none
+abbrev pub argument_of : Aggregate → Expr
+argument_of CountRows = Literal Null
+argument_of (Of function scale e) = e
+
+-- the aggregate of what stands at a place
+abbrev pub at_place : ℕ → Aggregate → Aggregate
+at_place place CountRows = CountRows
+at_place place (Of function scale e) = Of function scale (Column place)
+
+-- the aggregates of what stands at the places from this one on
+abbrev pub at_places : ℕ → List Aggregate → List Aggregate
+at_places place [] = []
+at_places place (a ∷ more) = at_place place a ∷ at_places (suc place) more

@@ -1,0 +1,6 @@
+pub mod Kinds
+pub mod Values
+pub mod ExpressionReadings
+pub mod Readings
+pub mod Nests
+pub mod Reads
