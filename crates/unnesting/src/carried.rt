@@ -1,15 +1,18 @@
 //! Whether the tables of a FROM have columns of their own for all of a domain's, but not the first
-//! ones of them alone. Whatever is said here, the rows are the same, so no clause speaks of it.
+//! ones of them alone, and are connected with one another. Whatever is said here, the rows are the
+//! same, so no clause speaks of it.
 use crate::domain::Origin;
 use crate::footing::Footing;
 use crate::origins::{joined_kinds, known_kinds, put_unknown};
 use crate::own_columns::{Sought, equal_column, noted_kind};
 use algebra::{DepTree, Side, width};
-use scalar_expr::Kind;
+use operators::Comparison;
+use scalar_expr::{Expr, Kind};
 use sqlite_items::Items;
 use std::alloc::{AllocError, Global};
 
-/// Whether a tree's tables have such columns, and the first input of its last join has not.
+/// Whether a tree's tables have such columns and are connected, and the first input of its last join
+/// has not all of these columns.
 pub(crate) fn is_carried(
     alloc: Global,
     tree: &DepTree,
@@ -25,7 +28,8 @@ pub(crate) fn is_carried(
     };
     let is_later = !has_own(alloc, first, n, notes)?;
     let has_all = has_own(alloc, tree, n, notes)?;
-    Ok(is_later && has_all)
+    let connected = is_joined(tree, n)?;
+    Ok(is_later && has_all && connected)
 }
 
 // The input whose rows come first in those of a part of FROM. A selection of one table has none: it
@@ -38,6 +42,55 @@ fn first_input(tree: &DepTree) -> Option<&DepTree> {
         },
         DepTree::Join(l, _, Side::Closed, _) => Some(l.get()),
         _ => None,
+    }
+}
+
+// Whether two columns are said to be equal, one of which stands after the domain's n and before
+// `at`, and the other from there on.
+fn equates(e: &Expr, n: u32, at: u32) -> bool {
+    match e {
+        Expr::Compare(Comparison::Equal, a, b) => match (a.get(), b.get()) {
+            (Expr::Column(i), Expr::Column(j)) => {
+                let low = (*i).min(*j);
+                let high = (*i).max(*j);
+                n <= low && low < at && at <= high
+            }
+            _ => false,
+        },
+        _ => false,
+    }
+}
+
+// Whether a condition, or one of its conjuncts, says so.
+fn connects(on: &Expr, n: u32, at: u32) -> bool {
+    match on {
+        Expr::All(es) => {
+            for e in es.as_slice() {
+                if equates(e, n, at) {
+                    return true;
+                }
+            }
+            false
+        }
+        _ => equates(on, n, at),
+    }
+}
+
+// Whether each table of a part of FROM is connected with those before it, so that its joins are no
+// products.
+fn is_joined(tree: &DepTree, n: u32) -> Result<bool, AllocError> {
+    match tree {
+        DepTree::Select(t, _) => {
+            let joined = is_joined(t.get(), n)?;
+            Ok(joined)
+        }
+        DepTree::Join(l, _, _, on) => {
+            let before = width(l.get())?;
+            let at = n.checked_add(before).ok_or(AllocError)?;
+            let joined = is_joined(l.get(), n)?;
+            Ok(joined && connects(on.get(), n, at))
+        }
+        _ => Ok(true),
     }
 }
 
