@@ -21,11 +21,11 @@ const COUNTS: [(&str, &str); 2] = [
 fn ends_with_its_counts(rt: HostRuntime) -> Result<(), Fail> {
     let alloc = rt.alloc();
     for (number, counts) in &COUNTS {
-        let run = run_words(&rt, alloc, &["trial", number], &[], &OpenGate)?;
+        let run = run_words(&rt, alloc, &["trial", *number], &[], &OpenGate)?;
         assert_eq!(rt; run.status, Status::Done);
         let end = format!(in alloc; "closing version 2\nregion rows 5\nnation rows 25\n{counts}")?;
         assert!(rt; run.text.ends_with(end.as_bytes()));
-        let again = run_words(&rt, alloc, &["trial", number], &[], &OpenGate)?;
+        let again = run_words(&rt, alloc, &["trial", *number], &[], &OpenGate)?;
         assert!(rt; run.text.as_slice() == again.text.as_slice());
     }
     Ok(())
