@@ -5,7 +5,7 @@ use std::alloc::Global;
 use std::test::Fail;
 use tpch_schema::TableName;
 
-/// One piece of each of the last two tables, of so many rows; the other tables have none.
+/// One piece of each of the last two tables, of these numbers of rows; the other tables have none.
 fn one_piece(alloc: Global, orders: usize, lineitems: usize) -> Result<Cuts, Fail> {
     let mut lengths = Vec::new(alloc);
     for _table in 0..6 {
@@ -39,7 +39,8 @@ fn machine(alloc: Global) -> Result<Machine, Fail> {
     Ok(machine)
 }
 
-/// Whether the session, which begins with so many rows in one piece each, has then scanned nothing.
+/// Whether the session, which begins with these numbers of rows in one piece each, has then scanned
+/// nothing.
 fn begins(
     alloc: Global,
     machine: &mut Machine,
@@ -95,5 +96,16 @@ fn pins_what_it_has_seen(rt: HostRuntime) -> Result<(), Fail> {
     step(&mut machine, Step::Again(1, one_piece(alloc, 2, 0)?))?;
     assert!(rt; scanned(alloc, &machine)?.is_none());
     assert!(rt; scans(alloc, &mut machine, &[7, 8])?);
+    Ok(())
+}
+
+#[test]
+fn pins_what_it_has_learnt(rt: HostRuntime) -> Result<(), Fail> {
+    let alloc = rt.alloc();
+    let mut machine = machine(alloc)?;
+    step(&mut machine, Step::Publish)?;
+    step(&mut machine, Step::Learn(1, 1))?;
+    step(&mut machine, Step::Again(1, one_piece(alloc, 3, 1)?))?;
+    assert!(rt; scans(alloc, &mut machine, &[7, 8, 9])?);
     Ok(())
 }

@@ -1,5 +1,8 @@
 //! Readers of two orders and of what refreshes make of them.
+ghost use Rattle.std.specs.Prelude.{◌≡◌};
 ghost use denote.Param.Send.{IsSync};
+ghost use Rattle.snapshot_store.specs.Openings.{opening_at};
+ghost use Rattle.snapshot_store.specs.Ruled.{opening_of};
 
 use crate::files::{NINE, NINE_ONE, ORDERS, delete, insert, scanned, state};
 use crate::versions_called::next;
@@ -14,7 +17,7 @@ use std::thread::{Threads, for_each_mut, join_mut};
 use table_state::Refresh;
 use tpch_schema::TableName;
 
-/// So many times an insert of an order and a delete of the same.
+/// An insert of an order and a delete of the same, `count` times.
 fn pairs(alloc: Global, count: usize) -> Result<Vec<Refresh>, Fail> {
     let mut list = Vec::new(alloc);
     for _pair in 0..count {
@@ -30,10 +33,13 @@ fn version_begun(reader: &mut Reader<RuledEntry>) -> Result<u64, Fail> {
     Ok(snapshot.version())
 }
 
-/// Publishes so many refreshes; how many of them were accepted.
-fn publish<R: Wait>(rt: &R, publisher: &mut Publisher, count: usize) -> u64 {
+/// Publishes `count` refreshes. Returns how many of the list were accepted.
+fn publish<R: Wait>(rt: &R, publisher: &mut Publisher, count: usize) -> u64
+    ensures base { publisher.new.version.base ≡ publisher.old.version.base }
+    ensures list { publisher.new.version.list ≡ publisher.old.version.list }
+{
     let mut accepted: u64 = 0;
-    for _refresh in 0..count {
+    'publishing: for _refresh in 0..count {
         if let Published::Published(note) = publisher.publish_next(rt) {
             accepted = note.version();
         }
@@ -74,26 +80,31 @@ fn begins_at_the_published_version(rt: HostRuntime) -> Result<(), Fail> {
     Ok(())
 }
 
-/// Whether a snapshot has the two orders of the base.
-fn has_base(alloc: Global, snapshot: &Snapshot) -> Result<bool, Fail> {
+/// Whether a snapshot of this version has the two orders of the base, in one piece.
+fn has_base(alloc: Global, snapshot: &Snapshot, version: u64) -> Result<bool, Fail> {
     let scan = scanned::<Snapshot, Brand>(alloc, snapshot, TableName::Orders, Blank::new(1))?;
-    Ok(snapshot.version() == 0 && scan.0.as_slice() == [7, 8].as_slice())
+    let (keys, pieces) = scan;
+    Ok(snapshot.version() == version && keys.as_slice() == [7, 8].as_slice() && pieces == 1)
 }
 
-/// A snapshot of the base keeps its rows while twenty refreshes and a compaction are published.
+/// A snapshot of the base keeps its rows while twenty refreshes and a compaction are published. The
+/// reader, once it has learnt the last note, begins at the last version, whose rows are joined.
 fn hold<R: Wait>(
     rt: &R,
     alloc: Global,
     publisher: &mut Publisher,
     reader: &mut Reader<RuledEntry>,
-) -> Result<bool, Fail> {
+) -> Result<bool, Fail>
+    requires { opening_of reader.old.entry ≡ opening_at publisher.old.version }
+{
     let held = reader.begin()?;
-    let was_kept = has_base(alloc, &held)?;
-    let accepted = publish(rt, publisher, 20);
+    let mut good = has_base(alloc, &held, 0)?;
+    good &= publish(rt, publisher, 20) == 20;
     publisher.compact(rt)?;
-    let last = version_begun(reader)?;
-    let is_kept = has_base(alloc, &held)?;
-    Ok(was_kept && is_kept && accepted == 20 && last == 20)
+    reader.learn(publisher.tell()?);
+    good &= has_base(alloc, &reader.begin()?, 20)?;
+    good &= has_base(alloc, &held, 0)?;
+    Ok(good)
 }
 
 #[test]
@@ -106,10 +117,7 @@ fn holds_a_snapshot(rt: HostRuntime) -> Result<(), Fail> {
         pairs(alloc, 10)?,
         1,
     )?;
-    let good = match readers.first_mut() {
-        Some(reader) => hold(&rt, alloc, &mut publisher, reader),
-        None => Ok(false),
-    };
+    let good = hold(&rt, alloc, &mut publisher, &mut readers[0]);
     publisher.close(&rt);
     assert!(rt; good?);
     Ok(())
