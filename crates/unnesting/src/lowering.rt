@@ -153,7 +153,7 @@ fn lowered_part(
     }
 }
 
-// A left outer join of such a part, where neither the right side nor the condition reads the domain.
+// A left outer join of such a part, where neither the right side nor the condition reads a domain.
 #[cycle(lower)]
 fn lowered_outer(
     alloc: Global,
