@@ -1,16 +1,17 @@
 -- Parts of FROM without the domain: what they are as a part of a tree, and as a whole.
 use Rattle.std.proofs.Common.{◌≡◌, ℕ, ◌+◌, ◌<◌, List, [], ◌++◌, refl, sym, ◌∙◌, ap, subst, arith, length}
-use Rattle.std.specs.Prelude.{IsTrue, Option}
+use Rattle.std.specs.Prelude.{IsTrue, Option, Some, None, IfSome, replicate}
 use Rattle.std.proofs.lemmas.List.{append-nil}
 use Rattle.row_laws.specs.Ranked.{Ranked}
 use Rattle.row_laws.specs.Bags.{SameBag, Each}
 use Rattle.row_laws.specs.Rows.{after}
-use Rattle.row_laws.specs.Operators.{select}
+use Rattle.row_laws.specs.Operators.{select, outer_loop}
 use Rattle.row_laws.specs.Matched.{inner_matched}
+use Rattle.row_laws.specs.Trees.{side_width}
 use Rattle.row_laws.specs.Domains.{IsDomain, Meets, Answers}
 use Rattle.row_laws.proofs.Bags.{SameBag-trans, SameBag-map}
 use Rattle.row_laws.proofs.Lists.{Each-all, Each-weaker, Each-both}
-use Rattle.row_laws.proofs.Alike.{select_alike, join_loop_alike}
+use Rattle.row_laws.proofs.Alike.{select_alike, join_loop_alike, outer_loop_alike}
 use Rattle.row_laws.proofs.AtHand.{select_at_hand}
 use Rattle.row_laws.proofs.Trees.{closed_meets, root_bag}
 use Rattle.sql_value.specs.declared.value.Value.{Value}
@@ -28,10 +29,11 @@ use Rattle.algebra.specs.declared.node.Node.TheVariants as node
 use Rattle.algebra.specs.declared.tree.DepTree.{DepTree}
 use Rattle.algebra.specs.declared.tree.DepTree.TheVariants as t
 use Rattle.algebra.specs.declared.tree.DepTree.TheOpen as o
+use Rattle.algebra.specs.declared.tree.Side.{Side}
 use Rattle.algebra.specs.declared.tree.Side.TheVariants.{Closed}
-use Rattle.algebra.specs.Trees.{Database, HasKinds, TreeMeaning, tree_step, tree_meaning, width_of, right_row}
+use Rattle.algebra.specs.Trees.{Database, HasKinds, TreeMeaning, tree_step, tree_meaning, width_of, side_of, right_row}
 use Rattle.algebra.specs.Plans.{plan_rows, plan_width, is_formed}
-use Rattle.algebra.proofs.Opened.{meaning_Scan, meaning_Select, meaning_Join}
+use Rattle.algebra.proofs.Opened.{meaning_Scan, meaning_Select, meaning_Join, meaning_Outer}
 use Rattle.unnesting.specs.declared.domain.DomainRows.{DomainRows}
 use Rattle.unnesting.specs.declared.domain.DomainRows.TheVariants as domain
 use Rattle.unnesting.specs.declared.domain.Origin.{Origin}
@@ -45,7 +47,7 @@ use Rattle.unnesting.specs.Growth.{IsPut}
 use Rattle.unnesting.specs.Lowerings.{Lowers, IsOwn}
 use Rattle.unnesting.specs.OwnColumns.{StandForAll}
 use Rattle.unnesting.specs.PlanKinds.{AreKindsOf}
-use Rattle.unnesting.specs.FromRows.{apart_rows, apart_meaning, GivesApart, IsPart, SelectsApart, JoinsApart, IsOver, LowersApart}
+use Rattle.unnesting.specs.FromRows.{apart_rows, apart_meaning, GivesApart, IsPart, IsOwnCondition, IsOwnOn, SelectsApart, JoinsApart, OutersApart, IsOver, LowersApart}
 use Rattle.unnesting.proofs.Arms.{puts, selection_over}
 use Rattle.unnesting.proofs.Grown.{same_plan, both_more, grows_as, grown_length, kept_rows, kept_width}
 use Rattle.unnesting.proofs.Kept.{kept_in_plan, same_footing, both_same, holds_later, settled_first}
@@ -212,6 +214,49 @@ join_part {before = before} {a = a} {c = c} {new = new} {left = left} {right = r
       }),
     )
 
+-- a left outer join with such a side, under a condition that reads none
+pub outer_part : {before a c new : List Node} {tree left right seen_left seen_right wide size room : DepTree} {side : Side} {on seen_on : Expr} {f g first last : Footing} {p : Part} {x next : Apart} {own : List Expr} {n rows more : ℕ}
+    → tree ≡ t.Outer left right side on → n ≡ footing_width f.rows → seen_left ≡ left → IsPart before a (tree_meaning seen_left) f g p → p ≡ part.Apart x
+    → first.rows ≡ One → first.unchanged ≡ [] → seen_right ≡ right → Lowers a c (tree_meaning seen_right) first last rows → wide ≡ right → more ≡ width_of wide
+    → size ≡ left → room ≡ right → seen_on ≡ on → IsOwnOn (footing_width f.rows) (width_of size + width_of room) side seen_on own
+    → ((k : Expr) → IsOwnCondition n (x.width + more) k own → OutersApart c new n x rows more k next) → IsPart before new (tree_meaning tree) f g (part.Apart next)
+unfolding says right_row width_of
+outer_part {before = before} {a = a} {c = c} {new = new} {left = left} {right = right} {size = size} {room = room} {side = side} {on = on} {f = f} {first = first} {last = last} {x = x} {next = next} {own = own} {n = n} {rows = rows} {more = more}
+    is wn el l apart one none er r ew m ez ed again o s =
+    let both = read_apart l apart in
+    let L = tree_meaning left in
+    let R = tree_meaning right in
+    let N = footing_width f.rows in
+    let given : GivesApart before a L N x = subst (λ y. GivesApart before a (tree_meaning y) N x) el both.1 in
+    let lowers : Lowers a c R first last rows = subst (λ y. Lowers a c (tree_meaning y) first last rows) er r in
+    let whole : width_of size + width_of room ≡ x.width + more =
+    let z = given.width in let y : width_of size ≡ L.width = ap (λ y. (tree_meaning y).width) ez in
+    let v : width_of room ≡ R.width = ap (λ y. (tree_meaning y).width) ed in let k : more ≡ R.width = m ∙ ap (λ y. (tree_meaning y).width) ew in omega (arith, z, y, v, k) in
+    let said : IsOwnCondition n (x.width + more) on own =
+    subst (λ k. IsOwnCondition k (x.width + more) on own) (sym wn) (subst (λ k. IsOwnCondition N k on own) whole
+    (subst (λ y. IsOwnCondition N (width_of size + width_of room) y own) again o.says)) in
+    let outers : OutersApart c new N x rows more on next = subst (λ k. OutersApart c new k x rows more on next) wn (s on said) in
+    let there : x.rows < length a = let z = given.last in omega (arith, z) in
+    let long : more ≡ R.width = m ∙ ap (λ y. (tree_meaning y).width) ew in (
+      both.0,
+      gives_as (ap tree_meaning (is ∙ ap (λ y. t.Outer left right y on) o.closed) ∙ meaning_Outer left right Closed on) (record {
+        most = given.most + lowers.most + 0;
+        plan = grows_as (both_more (both_more given.plan lowers.plan) outers.plan) (append-nil (L.scans ++ R.scans)) (omega arith);
+        few = let d = given.few in let y = lowers.few in let z = ap is_due one in omega (arith, d, y, z);
+        last = outers.last;
+        wide = outers.wide;
+        width = let y = outers.width in let z = given.width in omega (arith, y, z, long);
+        rows = λ db k d ld.
+            let kept : plan_rows db c x.rows ≡ plan_rows db a x.rows = kept_rows db x.rows lowers.plan there in
+            let left_bag : SameBag (apart_rows db c x d) (L.rows db d) = subst (λ l. SameBag (select (λ t. all_rank x.conditions (d ++ t)) l) (L.rows db d)) (sym kept) (given.rows db k d ld) in
+            let right_bag : SameBag (plan_rows db c rows) (R.rows db []) = closed_rows one none lowers db k in
+            subst (λ z. SameBag (apart_rows db new next d) (outer_loop (replicate z Null) (says on d) (L.rows db d) (λ l. R.rows db []))) long
+            (SameBag-trans (outers.rows db k d ld)
+            (outer_loop_alike (replicate more Null) (says on d) (apart_rows db c x d) (L.rows db d) (λ l. plan_rows db c rows) (λ l. R.rows db []) left_bag
+            (Each-all (λ l. SameBag (plan_rows db c rows) (R.rows db [])) (apart_rows db c x d) (λ l. right_bag))));
+      }),
+    )
+
 -- a part without a domain, as a whole
 pub whole_part : {before a new : List Node} {m : TreeMeaning} {f g h : Footing} {p : Part} {x : Apart} {id : ℕ} → IsFooting before f.rows → IsPart before a m f g p → p ≡ part.Apart x → LowersApart a new g h x id
     → Lowers before new m f h id
@@ -269,3 +314,23 @@ right_long {seen = seen} {wide = wide} {more = more} one er r ew m =
     let k : more ≡ (tree_meaning wide).width = m in
     let w = r.width in
     omega (arith, w, z, y, k)
+
+-- a closed side has its own columns alone
+pub closed_long : (side : Side) (n more w : ℕ) → side ≡ Closed → w ≡ more → w ≡ side_width (side_of side) n + more
+closed_long side n more w is e = subst (λ s. w ≡ side_width (side_of s) n + more) (sym is) (omega (arith, e))
+
+-- an outer join's condition that reads its own columns alone
+pub closed_on : {side : Side} {n first more whole m k l : ℕ} (c : Expr) → side ≡ Closed → n ≡ m → first ≡ k → more ≡ l → whole ≡ first + more → (own : Option (List Expr))
+    → IfSome own (IsOwnCondition n whole c) → IfSome own (IsOwnOn m (k + l) side c)
+closed_on c is a b d e None h = h
+closed_on {n = n} {m = m} {k = k} {l = l} c is a b d e (Some es) h = record {
+  closed = is;
+  says = subst (λ x. IsOwnCondition x (k + l) c es) a (subst (λ x. IsOwnCondition n x c es) (omega (arith, b, d, e)) h);
+}
+
+-- the conditions that were found, as the code reads them
+pub found_own : {n w : ℕ} {side : Side} {c : Expr} {o : Option (List Expr)} {es : List Expr} → IfSome o (IsOwnOn n w side c) → o ≡ Some es → IsOwnOn n w side c es
+found_own {n = n} {w = w} {side = side} {c = c} h is = subst (λ x. IfSome x (IsOwnOn n w side c)) is h
+
+pub found_closed : (n w : ℕ) (side : Side) (c : Expr) (o : Option (List Expr)) (es : List Expr) → IfSome o (IsOwnOn n w side c) → o ≡ Some es → side ≡ Closed
+found_closed n w side c o es h is = (found_own {n = n} {w = w} {side = side} {c = c} {o = o} {es = es} h is).closed

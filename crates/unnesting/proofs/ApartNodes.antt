@@ -1,17 +1,19 @@
 -- The nodes of rows without a domain.
 use Rattle.std.proofs.Common.{◌≡◌, ℕ, ◌+◌, List, [], ◌∷◌, ◌++◌, refl, sym, ◌∙◌, ap, subst, arith, length}
-use Rattle.std.specs.Prelude.{min, IsTrue}
+use Rattle.std.specs.Prelude.{true, min, IsTrue, replicate}
+use Rattle.std.specs.List.{filter, flat_map}
 use Rattle.std.proofs.lemmas.List.{length-append}
-use Rattle.row_laws.specs.Ranked.{true_rank}
+use Rattle.row_laws.specs.Ranked.{Ranked, ranked, true_rank}
 use Rattle.row_laws.specs.Bags.{SameBag, Each}
 use Rattle.row_laws.specs.Rows.{scanned}
-use Rattle.row_laws.specs.Operators.{select, join}
+use Rattle.row_laws.specs.Operators.{select, join, pair, or_else, outer_loop}
+use Rattle.row_laws.specs.Matched.{without_from, outer_matched}
 use Rattle.row_laws.specs.MoveLaws.{OfLeft}
 use Rattle.row_laws.proofs.Bags.{SameBag-refl, SameBag-sym, SameBag-trans}
-use Rattle.row_laws.proofs.Lists.{Each-all, Each-weaker}
-use Rattle.row_laws.proofs.AtHand.{select_at_hand, join_at_hand}
-use Rattle.row_laws.proofs.Moves.{select_twice, select_into_join, select_below_left}
-use Rattle.row_laws.proofs.Pairs.{inner_of_none}
+use Rattle.row_laws.proofs.Lists.{Each-all, Each-weaker, flat_map-ext_each}
+use Rattle.row_laws.proofs.AtHand.{select_at_hand, join_at_hand, outer_at_hand}
+use Rattle.row_laws.proofs.Moves.{select_twice, select_into_join, select_below_left, select_below_outer}
+use Rattle.row_laws.proofs.Pairs.{Agree, inner_of_none, outer_agrees}
 use Rattle.sql_value.specs.declared.value.Value.{Value}
 use Rattle.sql_value.specs.declared.value.Value.TheVariants.{Null}
 use Rattle.sql_value.specs.Value.{same_value}
@@ -29,8 +31,9 @@ use Rattle.algebra.specs.Plans.{plan_rows, plan_width, is_formed}
 use Rattle.algebra.proofs.Widths.{rows_are_wide}
 use Rattle.unnesting.specs.declared.from_rows.Apart.{Apart}
 use Rattle.unnesting.specs.Growth.{IsPut}
-use Rattle.unnesting.specs.FromRows.{GivesApart, IsGrown, IsSplit, IsKept, SelectsApart, JoinsApart}
+use Rattle.unnesting.specs.FromRows.{GivesApart, IsGrown, IsSplit, IsOwnCondition, IsKept, SelectsApart, JoinsApart, OutersApart}
 use Rattle.unnesting.proofs.Grown.{same_plan, put_more, put_rows, put_width, put_last}
+use Rattle.unnesting.proofs.Owned.{rank_within}
 
 same_list : {X : Type 0} {xs ys : List X} → xs ≡ ys → SameBag xs ys
 same_list {xs = xs} e = subst (λ l. SameBag xs l) e (SameBag-refl xs)
@@ -107,6 +110,18 @@ selects_apart old new n part next c covered formed wide split kept width = recor
       (SameBag-sym (select_twice P C X)));
 }
 
+-- a condition that does not read the domain
+pub own_says : {n w : ℕ} {old covered rest seen : List Expr} {c : Expr} → old ≡ [] → IsSplit n w old c covered rest → rest ≡ [] → seen ≡ covered → IsOwnCondition n w c seen
+own_says {n = n} {w = w} {old = old} {covered = covered} {rest = rest} {c = c} none split empty same = subst (IsOwnCondition n w c) (sym same) (record {
+  says = λ d t ld lt.
+      let a = split.says d t ld lt in
+      let b = ap (λ es. all_rank es (d ++ t)) empty in
+      let z = ap (λ es. all_rank es (d ++ t)) none in
+      let l = all_rank-le covered t in
+      let m = rank_within c (d ++ t) in
+      omega (arith, a, b, z, l, m);
+})
+
 -- the rows joined with others
 pub joins_apart : (old new : List Node) (n : ℕ) (part next : Apart) (right more : ℕ) (c on : Expr) (grown covered : List Expr) → IsTrue (is_formed old) → plan_width old part.rows ≡ part.width
     → plan_width old right ≡ more → IsGrown n part.width part.conditions grown → next.width ≡ part.width + more → IsSplit n next.width grown c covered next.conditions → on ≡ e.All covered
@@ -145,3 +160,53 @@ joins_apart old new n part next right more c on grown covered formed wide others
   where
     turned : (a b : ℕ) → min a b ≡ min b a
     turned a b = omega arith
+
+-- a left outer join without matched columns
+all_kept : {X : Type 0} (xs : List X) → filter (λ x. true) xs ≡ xs
+all_kept [] = refl
+all_kept (x ∷ xs) = ap (λ l. x ∷ l) (all_kept xs)
+
+none_out : (i : ℕ) (y : List Value) → without_from [] i y ≡ y
+none_out i [] = refl
+none_out i (v ∷ vs) = ap (λ l. v ∷ l) (none_out (i + 1) vs)
+
+outer_of_none : (nulls : List Value) (c : List Value → ℕ) (xs ys : List (Ranked Value)) → outer_matched same_value Null [] nulls c xs ys ≡ outer_loop nulls c xs (λ l. ys)
+outer_of_none nulls c xs ys =
+    outer_agrees same_value Null [] (λ x. []) nulls c xs ys (Each-all (Agree same_value Null [] (λ x. []) ys) xs (λ x. record { same_partners = refl; same_rest = λ y. none_out 0 y }))
+    ∙ flat_map-ext_each (λ x. Unit {0}) (λ x. or_else (flat_map (λ y. pair c (λ a b. a ++ b) x y) (filter (λ y. true) ys)) (ranked (x.values ++ nulls) x.standing))
+    (λ x. or_else (flat_map (λ y. pair c (λ a b. a ++ b) x y) ys) (ranked (x.values ++ nulls) x.standing)) xs (Each-all (λ x. Unit {0}) xs (λ x. tt))
+    (λ x u. ap (λ l. or_else (flat_map (λ y. pair c (λ a b. a ++ b) x y) l) (ranked (x.values ++ nulls) x.standing)) (all_kept ys))
+
+-- the rows joined with others, and those without a partner
+pub outers_apart : (old new : List Node) (n : ℕ) (part next : Apart) (right more : ℕ) (c on : Expr) (own : List Expr) → IsTrue (is_formed old) → plan_width old part.rows ≡ part.width
+    → plan_width old right ≡ more → IsGrown n part.width part.conditions next.conditions → next.width ≡ part.width + more → IsOwnCondition n (part.width + more) c own → on ≡ e.All own
+    → IsPut old new (node.Outer part.rows right [] more on) next.rows → OutersApart old new n part right more c next
+unfolding says plan_width plan_rows
+outers_apart old new n part next right more c on own formed wide others g width q is p = record {
+  plan = put_more (same_plan old) p;
+  last = put_last p;
+  wide = let z = put_width p in omega (arith, z, wide, width);
+  width = width;
+  rows = λ db k d ld.
+      let X = plan_rows db old part.rows in
+      let Y = plan_rows db old right in
+      let nulls : List Value = replicate more Null in
+      let K : List Value → ℕ = rank_of on in
+      let G : List Value → ℕ = λ t. all_rank next.conditions (d ++ t) in
+      let P : List Value → ℕ = λ t. all_rank part.conditions (d ++ t) in
+      let C : List Value → ℕ = λ t. rank_of c (d ++ t) in
+      let wx : Each (λ x. length x.values ≡ part.width) X = rows_wide db old part.rows part.width formed k wide in
+      let wy : Each (λ y. length y.values ≡ more) Y = rows_wide db old right more formed k others in
+      let long : (l r : List Value) → length l ≡ part.width → length r ≡ more → length (l ++ r) ≡ part.width + more = λ l r a b. let z = length-append l r in omega (arith, z, a, b) in
+      let said : outer_loop nulls K X (λ l. Y) ≡ outer_loop nulls C X (λ l. Y) =
+      outer_at_hand nulls K C X (λ l. Y)
+      (Each-weaker (λ x. length x.values ≡ part.width) (λ x. Each (λ y. K (x.values ++ y.values) ≡ C (x.values ++ y.values)) Y) X
+      (λ x lx. Each-weaker (λ y. length y.values ≡ more) (λ y. K (x.values ++ y.values) ≡ C (x.values ++ y.values)) Y
+      (λ y ly.
+      let row = x.values ++ y.values in
+      ap (λ o. rank_of o row) is ∙ rank_All own row ∙ q.says d row ld (long x.values y.values lx ly)) wy) wx) in
+      let here : plan_rows db new next.rows ≡ outer_loop nulls C X (λ l. Y) = put_rows db p ∙ outer_of_none nulls K X Y ∙ said in
+      SameBag-trans (same_list (ap (select G) here))
+      (select_below_outer C G P nulls X (λ l. Y)
+      (Each-weaker (λ x. length x.values ≡ part.width) (OfLeft G P) X (λ x lx r. g.says d x.values r ld lx) wx));
+}

@@ -1,13 +1,16 @@
 -- Rows of FROM without the domain, and what it is for them to stand for a part of a dependent tree.
-use Rattle.std.specs.Prelude.{◌≡◌, ℕ, ◌+◌, ◌≤◌, List, [], ◌++◌, length, min}
+use Rattle.std.specs.Prelude.{◌≡◌, ℕ, ◌+◌, ◌≤◌, List, [], ◌++◌, length, min, replicate}
 use Rattle.row_laws.specs.Ranked.{Ranked}
 use Rattle.row_laws.specs.Bags.{SameBag}
-use Rattle.row_laws.specs.Operators.{select, join_loop}
+use Rattle.row_laws.specs.Operators.{select, join_loop, outer_loop}
 use Rattle.sql_value.specs.declared.value.Value.{Value}
+use Rattle.sql_value.specs.declared.value.Value.TheVariants.{Null}
 use Rattle.scalar_expr.specs.declared.expr.Expr.{Expr}
 use Rattle.conditions.specs.Ranks.{rank_of, all_rank, says}
 use Rattle.algebra.specs.declared.node.Node.{Node}
 use Rattle.algebra.specs.declared.node.Node.TheVariants.{Select, Join}
+use Rattle.algebra.specs.declared.tree.Side.{Side}
+use Rattle.algebra.specs.declared.tree.Side.TheVariants.{Closed}
 use Rattle.algebra.specs.Trees.{Database, HasKinds, TreeMeaning}
 use Rattle.algebra.specs.Plans.{plan_rows, plan_width}
 use Rattle.unnesting.specs.declared.domain.DomainRows.{DomainRows}
@@ -66,6 +69,17 @@ pub record IsSplit (n w : ℕ) (old : List Expr) (c : Expr) (own rest : List Exp
       → min (all_rank own t) (all_rank rest (d ++ t))
       ≡ min (all_rank old (d ++ t)) (rank_of c (d ++ t))
 
+-- a condition over rows of n domain columns and w others says what conditions say of the others
+-- alone
+pub record IsOwnCondition (n w : ℕ) (c : Expr) (own : List Expr) : Type 0 where
+  pub says : (d t : List Value) → length d ≡ n → length t ≡ w
+      → all_rank own t ≡ rank_of c (d ++ t)
+
+-- the same of an outer join's condition, where the right side is closed
+pub record IsOwnOn (n w : ℕ) (side : Side) (c : Expr) (own : List Expr) : Type 0 where
+  pub closed : side ≡ Closed
+  pub says : IsOwnCondition n w c own
+
 -- the plan grew by the rows of its last node that conditions keep, as far as another condition
 -- keeps them too
 pub record IsKept (old new : List Node) (from : ℕ) (conditions : List Expr) (id : ℕ) : Type 0 where
@@ -97,6 +111,19 @@ pub record JoinsApart (old new : List Node) (n : ℕ) (part : Apart) (right more
   pub rows : (db : Database) → HasKinds db → (d : List Value) → length d ≡ n
       → SameBag (apart_rows db new next d)
       (join_loop (says c d) (apart_rows db old part d) (λ l. plan_rows db old right))
+
+-- the plan grew, and its last node is the left outer join of the rows without a domain with those
+-- of the node `right`, of so many columns
+pub record OutersApart (old new : List Node) (n : ℕ) (part : Apart) (right more : ℕ) (c : Expr)
+    (next : Apart) : Type 0 where
+  pub plan : Grows old new [] 0
+  pub last : length new ≡ next.rows + 1
+  pub wide : plan_width new next.rows ≡ next.width
+  pub width : next.width ≡ part.width + more
+  pub rows : (db : Database) → HasKinds db → (d : List Value) → length d ≡ n
+      → SameBag (apart_rows db new next d)
+      (outer_loop (replicate more Null) (says c d) (apart_rows db old part d)
+      (λ l. plan_rows db old right))
 
 -- the plan grew by the rows of a node that a condition keeps, where the domain is a node by the
 -- combinations of its rows with them

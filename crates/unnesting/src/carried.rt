@@ -84,7 +84,7 @@ fn is_joined(tree: &DepTree, n: u32) -> Result<bool, AllocError> {
             let joined = is_joined(t.get(), n)?;
             Ok(joined)
         }
-        DepTree::Join(l, _, _, on) => {
+        DepTree::Join(l, _, _, on) | DepTree::Outer(l, _, _, on) => {
             let before = width(l.get())?;
             let at = n.checked_add(before).ok_or(AllocError)?;
             let joined = is_joined(l.get(), n)?;
@@ -119,6 +119,7 @@ fn is_asked(tree: &DepTree, sought: &Sought, k: u32, kind: &Kind) -> bool {
         DepTree::Select(t, c) | DepTree::Join(t, _, Side::Closed, c) => {
             equal_column(c.get(), sought, k, kind).is_some() || is_asked(t.get(), sought, k, kind)
         }
+        DepTree::Outer(l, _, Side::Closed, _) => is_asked(l.get(), sought, k, kind),
         _ => false,
     }
 }

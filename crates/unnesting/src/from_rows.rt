@@ -1,19 +1,23 @@
 //! Rows of FROM without the domain: tables that are joined first, and asked for the domain's
 //! columns in the end.
-ghost use Rattle.std.specs.Prelude.{◌≡◌, ℕ, ◌+◌, ◌<◌, ◌++◌, length, IfOk};
+ghost use Rattle.std.specs.Prelude.{◌≡◌, ℕ, ◌+◌, ◌<◌, ◌++◌, length, IfOk, IfSome};
+ghost use Rattle.scalar_expr.specs.declared.expr.Expr.{Expr as Expression};
 ghost use Rattle.conditions.specs.Ranks.{columns_from};
 ghost use Rattle.algebra.specs.declared.tree.DepTree.TheOpen as tree;
-ghost use Rattle.algebra.specs.Trees.{tree_step};
+ghost use Rattle.algebra.specs.Trees.{tree_step, width_of};
 ghost use Rattle.algebra.specs.Plans.{plan_width};
 ghost use Rattle.unnesting.specs.Domains.{IsInPlan};
-ghost use Rattle.unnesting.specs.Footings.{IsFooting};
+ghost use Rattle.unnesting.specs.Footings.{footing_width, IsFooting};
 ghost use Rattle.unnesting.specs.FromRows.{
   GivesApart,
   IsSplit,
   IsGrown,
+  IsOwnCondition,
+  IsOwnOn,
   IsKept,
   SelectsApart,
   JoinsApart,
+  OutersApart,
   IsOver,
   LowersApart,
 };
@@ -22,8 +26,8 @@ use crate::domain::DomainRows;
 use crate::footing::Footing;
 use crate::origins::column_kinds;
 use crate::own_columns::own_columns;
-use crate::put::{put_combinations, put_own, put_select};
-use algebra::{Builder, Node, NodeId, copy_expr};
+use crate::put::{put_combinations, put_outer, put_own, put_select};
+use algebra::{Builder, DepTree, Node, NodeId, Side, copy_expr, width};
 use conditions::{Parted, in_parts, put_condition, put_run};
 use scalar_expr::Expr;
 use sqlite_items::{Boxed, Items};
@@ -202,6 +206,95 @@ pub(crate) fn put_apart_join(
     let on = Boxed::new(alloc, Expr::All(parts.covered))?;
     let rows = put_combinations(alloc, builder, rows, right, on)?;
     let conditions = parts.rest;
+    Ok(Apart {
+        rows,
+        width,
+        conditions,
+    })
+}
+
+// A condition on a domain's n columns and w others, over the others alone; nothing where it reads
+// the domain's.
+fn own_condition(
+    alloc: Global,
+    n: u32,
+    width: u32,
+    c: &Expr,
+) -> Result<Option<Items<Expr>>, AllocError>
+    ensures { IfOk result (λ own. IfSome own (IsOwnCondition n width c.now)) }
+{
+    let none = Items::new(alloc);
+    let parts = split(alloc, n, width, none, c)?;
+    if !parts.rest.is_empty() {
+        return Ok(None);
+    }
+    Ok(Some(parts.covered))
+}
+
+/// The condition of an outer join over its own columns alone; nothing where the right side is not
+/// closed, or the condition reads the domain.
+pub(crate) fn own_on(
+    alloc: Global,
+    footing: &Footing,
+    left: &DepTree,
+    right: &DepTree,
+    side: &Side,
+    on: &Expr,
+) -> Result<Option<Items<Expr>>, AllocError>
+    ensures { IfOk result (λ own. IfSome own
+        (IsOwnOn (footing_width footing.now.rows) (width_of left.now + width_of right.now)
+        side.now on.now)) }
+{
+    match side {
+        Side::Closed => {
+            let n = footing.width()?;
+            let first = width(left)?;
+            let more = width(right)?;
+            let both = first.checked_add(more).ok_or(AllocError)?;
+            let own = own_condition(alloc, n, both, on)?;
+            Ok(own)
+        }
+        _ => Ok(None),
+    }
+}
+
+/// The left outer join of the rows with those of another node, of so many columns, that reads no
+/// domain, under conditions that read none either.
+pub(crate) fn put_apart_outer(
+    alloc: Global,
+    builder: &mut Builder,
+    n: u32,
+    part: Apart,
+    right: NodeId,
+    more: u32,
+    own: Items<Expr>,
+) -> Result<Apart, AllocError>
+    requires left { part.rows < length builder.old.nodes }
+    requires right { right < length builder.old.nodes }
+    requires width { plan_width builder.old.nodes part.rows ≡ part.width }
+    requires more { plan_width builder.old.nodes right ≡ more }
+    ensures { IfOk result
+        (λ next. (c : Expression) → IsOwnCondition n (part.width + more) c own
+        → OutersApart builder.old.nodes builder.new.nodes n part right more c next) }
+{
+    let Apart {
+        rows,
+        width,
+        conditions,
+    } = part;
+    let conditions = grown(alloc, n, width, conditions)?;
+    let width = width.checked_add(more).ok_or(AllocError)?;
+    let on = Boxed::new(alloc, Expr::All(own))?;
+    let rows = put_outer(
+        alloc,
+        builder,
+        rows,
+        right,
+        &Side::Closed,
+        n,
+        more,
+        on.get(),
+    )?;
     Ok(Apart {
         rows,
         width,

@@ -10,7 +10,9 @@ ghost use Rattle.unnesting.specs.Lowerings.{Unnests, Answered, KeepsNodes, Lower
 use crate::carried::is_carried;
 use crate::domain::Domain;
 use crate::footing::Footing;
-use crate::from_rows::{Part, put_apart_join, put_apart_select, put_apart_table, put_whole};
+use crate::from_rows::{
+    Part, own_on, put_apart_join, put_apart_outer, put_apart_select, put_apart_table, put_whole,
+};
 use crate::put::{
     own_footing, put_distinct, put_group_by, put_join, put_mark, put_outer, put_project, put_scan,
     put_select, put_selection, put_single, put_total,
@@ -140,9 +142,52 @@ fn lowered_part(
                 Ok(Part::Whole(id))
             }
         },
+        DepTree::Outer(_, _, _, _) => {
+            let part = lowered_outer(alloc, builder, tree, footing)?;
+            Ok(part)
+        }
         _ => {
             let id = lowered_node(alloc, builder, tree, footing)?;
             Ok(Part::Whole(id))
+        }
+    }
+}
+
+// A left outer join of such a part, where neither the right side nor the condition reads a domain.
+#[cycle(lower)]
+fn lowered_outer(
+    alloc: Global,
+    builder: &mut Builder,
+    tree: &DepTree,
+    footing: &mut Footing,
+) -> Result<Part, AllocError>
+    requires { IsFooting builder.old.nodes footing.old.rows }
+    ensures { IfOk result
+        (IsPart builder.old.nodes builder.new.nodes (tree_meaning tree.now)
+        footing.old footing.new) }
+{
+    let DepTree::Outer(left, right, side, on) = tree else {
+        let id = lowered_node(alloc, builder, tree, footing)?;
+        return Ok(Part::Whole(id));
+    };
+    let found = own_on(alloc, footing, left.get(), right.get(), side, on.get())?;
+    let Some(own) = found else {
+        let id = lowered_node(alloc, builder, tree, footing)?;
+        return Ok(Part::Whole(id));
+    };
+    let n = footing.width()?;
+    let more = width(right.get())?;
+    let outer = lowered_part(alloc, builder, left.get(), footing)?;
+    let mut none = Footing::one(alloc);
+    let rows = lowered(alloc, builder, right.get(), &mut none)?;
+    match outer {
+        Part::Whole(outer) => {
+            let id = put_outer(alloc, builder, outer, rows, side, n, more, on.get())?;
+            Ok(Part::Whole(id))
+        }
+        Part::Apart(part) => {
+            let part = put_apart_outer(alloc, builder, n, part, rows, more, own)?;
+            Ok(Part::Apart(part))
         }
     }
 }

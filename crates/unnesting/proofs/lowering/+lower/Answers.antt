@@ -3,7 +3,7 @@ use Rattle.algebra.specs.declared.tree.DepTree.TheVariants as tree
 use Rattle.unnesting.proofs.Kept.{settled_in_plan}
 use Rattle.unnesting.proofs.Groups.{total_in_plan}
 use Rattle.unnesting.proofs.Sides.{none_of, some_of}
-use Rattle.unnesting.proofs.ApartArms.{read_whole, scan_part, select_part, join_part, whole_part, part_footing, part_last, part_within, part_wide, later_within, later_wide, right_long}
+use Rattle.unnesting.proofs.ApartArms.{read_whole, scan_part, select_part, join_part, whole_part, part_footing, part_last, part_within, part_wide, later_within, later_wide, right_long, outer_part, closed_long, found_own, found_closed}
 use Rattle.unnesting.proofs.Steps.{scan_arm, selection_arm, select_arm, project_arm, distinct_arm, group_arm, total_arm, join_arm, outer_arm, mark_arm, single_arm, outer_wide, right_wide, shared_arm, closed_arm, own_arm}
 use Rattle.unnesting.proofs.lowering.+lower.Goals as goal
 
@@ -138,3 +138,27 @@ lowered_part-returns-in-Closed t c =
     join_part (c.in-Join.is ∙ ap (λ s. tree.Join c.in-Join.left c.in-Join.right s c.in-Join.on) c.in-Closed.is) c.in_ok-n-in-Closed.ensures c.get-in-Closed.ensures c.in_ok-outer-in-Closed.ensures c.in-Apart-outer.is
     c.one-none.ensures.rows c.one-none.ensures.unchanged c.get-in-Closed-2.ensures c.in_ok-rows-in-Closed.ensures c.get-in-Apart-outer.ensures c.in_ok-more-in-Apart-outer.ensures c.get-in-Apart-outer-2.ensures
     c.in_ok-part-in-Apart-outer.ensures
+
+pub lowered_outer-put_outer-requires-clause-width : goal.lowered_outer-put_outer-requires-clause-width
+lowered_outer-put_outer-requires-clause-width t c =
+    closed_long c.in-Outer.side c.in_ok-n.n c.in_ok-more.more _ (found_closed _ _ c.in-Outer.side _ c.in_ok-found.found c.in-Some.own c.in_ok-found.ensures c.in-Some.is)
+    (right_long c.one-none.ensures.rows c.get-6.ensures c.in_ok-rows.ensures c.get-4.ensures c.in_ok-more.ensures)
+
+pub lowered_outer-put_apart_outer-requires-clause-width : goal.lowered_outer-put_apart_outer-requires-clause-width
+lowered_outer-put_apart_outer-requires-clause-width t c =
+    later_wide c.args.builder.now.nodes c.lowered_part.new.builder.nodes _ c.args.footing.now c.lowered_part.new.footing c.in_ok-outer.outer c.in-Apart.part c.in_ok-outer.ensures c.in-Apart.is c.in_ok-rows.ensures
+
+pub lowered_outer-put_apart_outer-requires-clause-more : goal.lowered_outer-put_apart_outer-requires-clause-more
+lowered_outer-put_apart_outer-requires-clause-more t c = right_long c.one-none.ensures.rows c.get-6.ensures c.in_ok-rows.ensures c.get-4.ensures c.in_ok-more.ensures
+
+pub lowered_outer-returns-in_ok-id-in-Whole : goal.lowered_outer-returns-in_ok-id-in-Whole
+lowered_outer-returns-in_ok-id-in-Whole t c =
+    let left = read_whole c.in_ok-outer.ensures c.in-Whole.is in
+    outer_arm c.in-Outer.is c.in_ok-n.ensures c.get-5.ensures left refl
+    (closed_arm c.lowered_part.new.footing c.in-Whole.outer left.same.in_plan (found_closed _ _ c.in-Outer.side _ c.in_ok-found.found c.in-Some.own c.in_ok-found.ensures c.in-Some.is) c.get-6.ensures c.one-none.ensures.rows c.one-none.ensures.unchanged c.in_ok-rows.ensures)
+    c.get-4.ensures c.in_ok-more.ensures c.get-in-Whole.ensures c.in_ok-id-in-Whole.ensures
+
+pub lowered_outer-returns-in_ok-part-in-Apart : goal.lowered_outer-returns-in_ok-part-in-Apart
+lowered_outer-returns-in_ok-part-in-Apart t c =
+    outer_part c.in-Outer.is c.in_ok-n.ensures c.get-5.ensures c.in_ok-outer.ensures c.in-Apart.is c.one-none.ensures.rows c.one-none.ensures.unchanged c.get-6.ensures c.in_ok-rows.ensures c.get-4.ensures
+    c.in_ok-more.ensures c.get.ensures c.get-2.ensures c.get-3.ensures (found_own c.in_ok-found.ensures c.in-Some.is) c.in_ok-part-in-Apart.ensures
