@@ -78,31 +78,33 @@ const MALFORMED: Cause = Cause::Malformed(
     },
 );
 
+const REFUSALS: [(Refusal, &str); 5] = [
+    (
+        Refusal::Refresh(MALFORMED),
+        "[12] version 3 refused 47 Malformed orders.tbl.u999999999 line 10 4 BadDate\n",
+    ),
+    (
+        Refusal::Refresh(Cause::StrayLine(i64::MAX)),
+        "[12] version 3 refused 44 StrayLine 9223372036854775807\n",
+    ),
+    (
+        Refusal::Fault(FaultKind::TooManyRows),
+        "[12] version 3 refused 22 Fault 3 TooManyRows\n",
+    ),
+    (
+        Refusal::Bind(BindRefusal::UnknownColumn),
+        "[12] version 3 refused 2 UnknownColumn\n",
+    ),
+    (
+        Refusal::Template(TemplateRefusal::WrongKind(16)),
+        "[12] version 3 refused 32 WrongKind 16\n",
+    ),
+];
+
 #[test]
 fn writes_refusals(rt: HostRuntime) -> Result<(), Fail> {
-    for (refusal, wanted) in [
-        (
-            Refusal::Refresh(MALFORMED),
-            "[12] version 3 refused 47 Malformed orders.tbl.u999999999 line 10 4 BadDate\n",
-        ),
-        (
-            Refusal::Refresh(Cause::StrayLine(i64::MAX)),
-            "[12] version 3 refused 44 StrayLine 9223372036854775807\n",
-        ),
-        (
-            Refusal::Fault(FaultKind::TooManyRows),
-            "[12] version 3 refused 22 Fault 3 TooManyRows\n",
-        ),
-        (
-            Refusal::Bind(BindRefusal::UnknownColumn),
-            "[12] version 3 refused 2 UnknownColumn\n",
-        ),
-        (
-            Refusal::Template(TemplateRefusal::WrongKind(16)),
-            "[12] version 3 refused 32 WrongKind 16\n",
-        ),
-    ] {
-        let text = refusal_text(rt.alloc(), 12, 3, &refusal)?;
+    for (refusal, wanted) in &REFUSALS {
+        let text = refusal_text(rt.alloc(), 12, 3, refusal)?;
         assert!(rt; text.as_slice() == wanted.as_bytes(), "{wanted}");
     }
     Ok(())

@@ -10,20 +10,22 @@ const MOST: i128 = 170141183460469231731687303715884105727;
 
 const OUT_OF_RANGE: Result<i128, NumberFault> = Err(NumberFault::NumberRange);
 
+const QUOTIENTS: [(i128, u8, i128, Result<i128, NumberFault>); 8] = [
+    (2, 0, 3, Ok(666_667)),
+    (-2, 0, 3, Ok(-666_667)),
+    (1, 0, 2_000_000, Ok(1)),
+    (-1, 0, 2_000_000, Ok(-1)),
+    (1, 0, 2_000_001, Ok(0)),
+    (MOST, 0, 0, Err(NumberFault::DivideByZero)),
+    (MOST, 0, MOST, OUT_OF_RANGE),
+    (100, 2, 3, Ok(333_333)),
+];
+
 #[test]
 fn divides(rt: HostRuntime) {
-    let whole = Scale::WHOLE;
-    for (a, s, b, wanted) in [
-        (2, whole, 3, Ok(666_667)),
-        (-2, whole, 3, Ok(-666_667)),
-        (1, whole, 2_000_000, Ok(1)),
-        (-1, whole, 2_000_000, Ok(-1)),
-        (1, whole, 2_000_001, Ok(0)),
-        (MOST, whole, 0, Err(NumberFault::DivideByZero)),
-        (MOST, whole, MOST, OUT_OF_RANGE),
-        (100, Scale::new(2), 3, Ok(333_333)),
-    ] {
-        assert!(rt; quotient(a, s, b, whole) == wanted, "{a} / {b}");
+    for (a, s, b, wanted) in &QUOTIENTS {
+        let found = quotient(*a, Scale::new((*s).min(18)), *b, Scale::WHOLE);
+        assert!(rt; found == *wanted, "{a} / {b}");
     }
 }
 
@@ -71,42 +73,39 @@ const NO_NUMBER: Result<i128, Spelling> = Err(Spelling::NotANumber);
 
 const TOO_WIDE: Result<i128, Spelling> = Err(Spelling::TooWide);
 
+const SPELLED: [(&str, u8, Result<i128, Spelling>); 17] = [
+    ("-0.5", 2, Ok(-50)),
+    ("-0", 0, Ok(0)),
+    ("007.1", 2, Ok(710)),
+    ("", 2, NO_NUMBER),
+    ("-", 2, NO_NUMBER),
+    ("--1", 2, NO_NUMBER),
+    ("+1", 2, NO_NUMBER),
+    ("1.", 2, NO_NUMBER),
+    (".5", 2, NO_NUMBER),
+    ("1.2.3", 2, NO_NUMBER),
+    ("1.234", 2, NO_NUMBER),
+    ("1.0", 0, NO_NUMBER),
+    ("170141183460469231731687303715884105727", 0, Ok(MOST)),
+    ("-170141183460469231731687303715884105728", 0, Ok(i128::MIN)),
+    ("170141183460469231731687303715884105728", 0, TOO_WIDE),
+    (
+        "1000000000000000000000000000000000000000000000000000x",
+        2,
+        NO_NUMBER,
+    ),
+    (
+        "1000000000000000000000000000000000000000000000000000",
+        2,
+        TOO_WIDE,
+    ),
+];
+
 #[test]
 fn reads_decimals(rt: HostRuntime) {
-    let whole = Scale::WHOLE;
-    let cents = Scale::new(2);
-    for (text, scale, wanted) in [
-        ("-0.5", cents, Ok(-50)),
-        ("-0", whole, Ok(0)),
-        ("007.1", cents, Ok(710)),
-        ("", cents, NO_NUMBER),
-        ("-", cents, NO_NUMBER),
-        ("--1", cents, NO_NUMBER),
-        ("+1", cents, NO_NUMBER),
-        ("1.", cents, NO_NUMBER),
-        (".5", cents, NO_NUMBER),
-        ("1.2.3", cents, NO_NUMBER),
-        ("1.234", cents, NO_NUMBER),
-        ("1.0", whole, NO_NUMBER),
-        ("170141183460469231731687303715884105727", whole, Ok(MOST)),
-        (
-            "-170141183460469231731687303715884105728",
-            whole,
-            Ok(i128::MIN),
-        ),
-        ("170141183460469231731687303715884105728", whole, TOO_WIDE),
-        (
-            "1000000000000000000000000000000000000000000000000000x",
-            cents,
-            NO_NUMBER,
-        ),
-        (
-            "1000000000000000000000000000000000000000000000000000",
-            cents,
-            TOO_WIDE,
-        ),
-    ] {
-        assert!(rt; read_decimal(text.as_bytes(), scale) == wanted, "{text}");
+    for (text, places, wanted) in &SPELLED {
+        let scale = Scale::new((*places).min(18));
+        assert!(rt; read_decimal(text.as_bytes(), scale) == *wanted, "{text}");
     }
 }
 

@@ -45,46 +45,50 @@ fn orders_texts(rt: HostRuntime) -> Result<(), Fail> {
     Ok(())
 }
 
+const PATTERNS: [(&str, &str, bool); 16] = [
+    ("green forest", "green%", true),
+    ("green", "green%", true),
+    ("the green", "green%", false),
+    ("the special requests", "%special%requests%", true),
+    ("requests special", "%special%requests%", false),
+    ("aab", "%ab", true),
+    ("abab", "%ab", true),
+    ("aba", "%ab", false),
+    ("", "%", true),
+    ("", "", true),
+    ("", "_", false),
+    ("%", "_", true),
+    ("ab", "_", false),
+    ("abc", "a_c", true),
+    ("mississippi", "m%iss%ip_i", true),
+    ("a%b", "a%%b", true),
+];
+
 #[test]
 fn meets_patterns(rt: HostRuntime) -> Result<(), Fail> {
-    for (bytes, pattern, wanted) in [
-        ("green forest", "green%", true),
-        ("green", "green%", true),
-        ("the green", "green%", false),
-        ("the special requests", "%special%requests%", true),
-        ("requests special", "%special%requests%", false),
-        ("aab", "%ab", true),
-        ("abab", "%ab", true),
-        ("aba", "%ab", false),
-        ("", "%", true),
-        ("", "", true),
-        ("", "_", false),
-        ("%", "_", true),
-        ("ab", "_", false),
-        ("abc", "a_c", true),
-        ("mississippi", "m%iss%ip_i", true),
-        ("a%b", "a%%b", true),
-    ] {
+    for (bytes, pattern, wanted) in &PATTERNS {
         let whole = text(rt.alloc(), bytes.as_bytes())?;
         let like_it = text(rt.alloc(), pattern.as_bytes())?;
-        assert!(rt; like(&whole, &like_it) == wanted, "{bytes} {pattern}");
+        assert!(rt; like(&whole, &like_it) == *wanted, "{bytes} {pattern}");
     }
     Ok(())
 }
 
+const PARTS: [(u32, u32, &str); 7] = [
+    (1, 2, "13"),
+    (4, 3, "100"),
+    (12, 99, "3000"),
+    (16, 1, ""),
+    (0, 2, "1"),
+    (0, 0, ""),
+    (u32::MAX, u32::MAX, ""),
+];
+
 #[test]
 fn takes_parts(rt: HostRuntime) -> Result<(), Fail> {
     let phone = text(rt.alloc(), b"13-100-200-3000")?;
-    for (from, count, wanted) in [
-        (1, 2, "13"),
-        (4, 3, "100"),
-        (12, 99, "3000"),
-        (16, 1, ""),
-        (0, 2, "1"),
-        (0, 0, ""),
-        (u32::MAX, u32::MAX, ""),
-    ] {
-        let part = substring(&phone, from, count)?;
+    for (from, count, wanted) in &PARTS {
+        let part = substring(&phone, *from, *count)?;
         assert!(rt; part.bytes() == wanted.as_bytes(), "{from} {count}");
     }
     Ok(())
