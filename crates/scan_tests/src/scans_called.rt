@@ -46,41 +46,63 @@ fn pieces_of(alloc: Global, text: &[u8], most: usize) -> Result<Vec<Piece>, Fail
     Ok(pieces)
 }
 
+// The lineitems of more pieces than this.
+fn more_than(alloc: Global, pieces: i128) -> Result<Expr, AllocError> {
+    let quantity = Boxed::new(alloc, Expr::Column(4))?;
+    let bound = Boxed::new(alloc, Expr::Literal(Value::Number(Scale::WHOLE, pieces)))?;
+    Ok(Expr::Compare(Comparison::Greater, quantity, bound))
+}
+
 // The rows of more than 20 pieces: their order, their quantity and their line.
 fn scanned<R: Threads + Sync>(rt: &R, alloc: Global, pieces: &[Piece]) -> Result<Bag, AllocError> {
-    let quantity = Boxed::new(alloc, Expr::Column(4))?;
-    let twenty = Boxed::new(alloc, Expr::Literal(Value::Number(Scale::WHOLE, 20)))?;
-    let condition = Expr::Compare(Comparison::Greater, quantity, twenty);
+    let condition = more_than(alloc, 20)?;
     let columns = [Expr::Column(0), Expr::Column(4), Expr::Column(3)];
     let bag = scan_rows(rt, alloc, pieces, &condition, &columns)?;
     Ok(bag)
 }
 
-// The rows of more than 20 pieces by the flag of their return and their status, or all as one group:
-// how many there are, the sum, the average, the least and the greatest of their quantities, and how
-// many lines they have.
+// An aggregate of a column.
+fn aggregate_of(
+    alloc: Global,
+    function: AggregateFunction,
+    scale: Scale,
+    column: u32,
+) -> Result<Aggregate, AllocError> {
+    let argument = Boxed::new(alloc, Expr::Column(column))?;
+    Ok(Aggregate::Of(function, scale, argument))
+}
+
+const FUNCTIONS: [AggregateFunction; 4] = [
+    AggregateFunction::Sum,
+    AggregateFunction::Avg,
+    AggregateFunction::Min,
+    AggregateFunction::Max,
+];
+
+// How many rows there are, the sum, the average, the least and the greatest of their quantities, and
+// how many lines they have.
+fn all_aggregates(alloc: Global) -> Result<Vec<Aggregate>, AllocError> {
+    let mut all = Vec::new(alloc);
+    all.push(Aggregate::CountRows)?;
+    for function in &FUNCTIONS {
+        let aggregate = aggregate_of(alloc, *function, Scale::new(2), 4)?;
+        all.push(aggregate)?;
+    }
+    let lines = aggregate_of(alloc, AggregateFunction::CountDistinct, Scale::WHOLE, 3)?;
+    all.push(lines)?;
+    Ok(all)
+}
+
+// The rows of more pieces than some by these columns, or all as one group, with their aggregates.
 fn grouped<R: Threads + Sync>(
     rt: &R,
     alloc: Global,
     pieces: &[Piece],
+    above: i128,
     by: &[Expr],
 ) -> Result<Bag, AllocError> {
-    let quantity = Boxed::new(alloc, Expr::Column(4))?;
-    let twenty = Boxed::new(alloc, Expr::Literal(Value::Number(Scale::WHOLE, 20)))?;
-    let condition = Expr::Compare(Comparison::Greater, quantity, twenty);
-    let mut aggregates = Vec::new(alloc);
-    aggregates.push(Aggregate::CountRows)?;
-    for function in [
-        AggregateFunction::Sum,
-        AggregateFunction::Avg,
-        AggregateFunction::Min,
-        AggregateFunction::Max,
-    ] {
-        let quantity = Boxed::new(alloc, Expr::Column(4))?;
-        aggregates.push(Aggregate::Of(function, Scale::new(2), quantity))?;
-    }
-    let line = Boxed::new(alloc, Expr::Column(3))?;
-    aggregates.push(Aggregate::Of(AggregateFunction::CountDistinct, Scale::WHOLE, line))?;
+    let condition = more_than(alloc, above)?;
+    let aggregates = all_aggregates(alloc)?;
     let bag = scan_groups(rt, alloc, pieces, &condition, by, aggregates.as_slice())?;
     Ok(bag)
 }
@@ -134,39 +156,52 @@ fn no_pieces(rt: HostRuntime) -> Result<(), Fail> {
     Ok(())
 }
 
+// Whether there are groups by these columns, the same from pieces of 4096 rows, of 7 and of one.
+fn are_alike<R: Threads + Sync>(
+    rt: &R,
+    alloc: Global,
+    text: &[u8],
+    above: i128,
+    by: &[Expr],
+) -> Result<bool, Fail> {
+    let whole = pieces_of(alloc, text, 4096)?;
+    let whole = grouped(rt, alloc, whole.as_slice(), above, by)?;
+    let whole = rows_of(alloc, &whole)?;
+    let sevens = pieces_of(alloc, text, 7)?;
+    let sevens = grouped(rt, alloc, sevens.as_slice(), above, by)?;
+    let sevens = rows_of(alloc, &sevens)?;
+    let ones = pieces_of(alloc, text, 1)?;
+    let ones = grouped(rt, alloc, ones.as_slice(), above, by)?;
+    let ones = rows_of(alloc, &ones)?;
+    Ok(
+        whole.len() > 0
+            && are_same(whole.as_slice(), sevens.as_slice())
+            && are_same(whole.as_slice(), ones.as_slice()),
+    )
+}
+
+// By the flag of the return few groups of all rows, which threads merge; by flag and status more
+// groups of fewer rows; and all as one group.
 #[test]
 fn groups_of_pieces(rt: HostRuntime) -> Result<(), Fail> {
     let text = made_lineitems(rt.alloc())?;
-    let whole = pieces_of(rt.alloc(), text.as_slice(), 4096)?;
+    let flag = [Expr::Column(8)];
     let flags = [Expr::Column(8), Expr::Column(9)];
-    let whole_groups = grouped(&rt, rt.alloc(), whole.as_slice(), &flags)?;
-    let whole_groups = rows_of(rt.alloc(), &whole_groups)?;
-    let total = grouped(&rt, rt.alloc(), whole.as_slice(), &[])?;
-    let total = rows_of(rt.alloc(), &total)?;
-    assert!(rt; whole_groups.len() > 1 && total.len() == 1, "groups");
-    for most in [1, 7] {
-        let pieces = pieces_of(rt.alloc(), text.as_slice(), most)?;
-        let found = grouped(&rt, rt.alloc(), pieces.as_slice(), &flags)?;
-        let found = rows_of(rt.alloc(), &found)?;
-        assert!(rt;
-            are_same(whole_groups.as_slice(), found.as_slice()),
-            "groups of pieces of {most}"
-        );
-        let one = grouped(&rt, rt.alloc(), pieces.as_slice(), &[])?;
-        let one = rows_of(rt.alloc(), &one)?;
-        assert!(rt;
-            are_same(total.as_slice(), one.as_slice()),
-            "one group of pieces of {most}"
-        );
-    }
+    let text = text.as_slice();
+    assert!(rt; are_alike(&rt, rt.alloc(), text, 0, &flag)?, "by flag");
+    assert!(rt;
+        are_alike(&rt, rt.alloc(), text, 20, &flags)?,
+        "by flag and status"
+    );
+    assert!(rt; are_alike(&rt, rt.alloc(), text, 20, &[])?, "one group");
     Ok(())
 }
 
 #[test]
 fn groups_of_no_pieces(rt: HostRuntime) -> Result<(), Fail> {
-    let none = grouped(&rt, rt.alloc(), &[], &[Expr::Column(8)])?;
+    let none = grouped(&rt, rt.alloc(), &[], 20, &[Expr::Column(8)])?;
     assert!(rt; none.is_empty() && none.width() == 7, "no group");
-    let one = grouped(&rt, rt.alloc(), &[], &[])?;
+    let one = grouped(&rt, rt.alloc(), &[], 20, &[])?;
     assert!(rt; one.len() == 1 && one.width() == 6, "one group of no rows");
     Ok(())
 }
