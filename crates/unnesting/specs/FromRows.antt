@@ -101,7 +101,7 @@ pub record SelectsApart (old new : List Node) (n : ℕ) (part : Apart) (c : Expr
       → SameBag (apart_rows db new next d) (select (says c d) (apart_rows db old part d))
 
 -- the plan grew, and its last node has the rows without a domain joined with those of the node
--- `right`, of so many columns
+-- `right`, of `more` columns
 pub record JoinsApart (old new : List Node) (n : ℕ) (part : Apart) (right more : ℕ) (c : Expr)
     (next : Apart) : Type 0 where
   pub plan : Grows old new [] 0
@@ -113,7 +113,7 @@ pub record JoinsApart (old new : List Node) (n : ℕ) (part : Apart) (right more
       (join_loop (says c d) (apart_rows db old part d) (λ l. plan_rows db old right))
 
 -- the plan grew, and its last node is the left outer join of the rows without a domain with those
--- of the node `right`, of so many columns
+-- of the node `right`, of `more` columns
 pub record OutersApart (old new : List Node) (n : ℕ) (part : Apart) (right more : ℕ) (c : Expr)
     (next : Apart) : Type 0 where
   pub plan : Grows old new [] 0

@@ -4,7 +4,8 @@ use Rattle.tpch_schema.specs.declared.table.TableName.{TableName}
 use Rattle.algebra.specs.declared.node.Node.{Node}
 use Rattle.algebra.specs.Plans.{plan_scans, plan_domains}
 
--- a plan that grew by some nodes, which scan these tables, and of which at most so many are domains
+-- a plan that grew by some nodes, which scan these tables, and of which at most this number are
+-- domains
 pub record Grows (before after : List Node) (tables : List TableName) (most : ℕ) : Type 0 where
   pub more : List Node
   pub grows : after ≡ before ++ more

@@ -13,8 +13,8 @@ use std::alloc::Global;
 pub enum DomainRows {
     /// The one row of no columns, for which no node stands.
     One,
-    /// The rows of the node of this number, of so many columns. No two are identical, and each
-    /// stands at True.
+    /// The rows of the node of this number, and how many columns they have. No two are identical,
+    /// and each stands at True.
     Node(NodeId, u32),
 }
 

@@ -15,7 +15,7 @@ use std::alloc::{AllocError, Global};
 pub(crate) enum FootingRows {
     // The one row of no columns, for which no node stands.
     One,
-    // The rows of the node of this number, of so many columns.
+    // The rows of the node of this number, and how many columns they have.
     Node(NodeId, u32),
     // The values of this node at these columns, identical ones once. Their node is put once another
     // node reads it.

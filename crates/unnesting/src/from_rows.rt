@@ -178,7 +178,7 @@ pub(crate) fn put_apart_select(
     })
 }
 
-/// The rows joined with those of another node, of so many columns, that reads no domain.
+/// The rows joined with those of another node, of `more` columns, that reads no domain.
 pub(crate) fn put_apart_join(
     alloc: Global,
     builder: &mut Builder,
@@ -258,7 +258,7 @@ pub(crate) fn own_on(
     }
 }
 
-/// The left outer join of the rows with those of another node, of so many columns, that reads no
+/// The left outer join of the rows with those of another node, of `more` columns, that reads no
 /// domain, under conditions that read none either.
 pub(crate) fn put_apart_outer(
     alloc: Global,

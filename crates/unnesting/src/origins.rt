@@ -217,7 +217,7 @@ fn listed_kinds(
     Ok(own)
 }
 
-/// Puts so many columns of unknown kinds after the others.
+/// Puts `count` columns of unknown kinds after the others.
 pub(crate) fn put_unknown(to: &mut Items<Option<Kind>>, count: usize) -> Result<(), AllocError>
     ensures { OnOk result (to.new ≡ to.old ++ replicate count None) }
 {
@@ -256,7 +256,7 @@ pub(crate) fn joined_kinds(
     Ok(own)
 }
 
-// These kinds, and so many unknown ones.
+// These kinds, and `more` unknown ones after them.
 fn padded_kinds(
     alloc: Global,
     kinds: &[Option<Kind>],

@@ -16,7 +16,7 @@ use std::test::Fail;
 use table_state::Refresh;
 use tpch_schema::TableName;
 
-/// So many orders from this key on, which lie in one segment.
+/// `count` orders from this key on, which lie in one segment.
 fn some_orders(alloc: Global, from: usize, count: usize) -> Result<Rows, Fail>
     ensures { IfOk result (RowsAreOf TableName.Orders) }
 {
@@ -41,7 +41,7 @@ fn put_rows(more: &Rows, all: &mut Rows) -> Result<(), AllocError>
     Ok(())
 }
 
-/// So many orders, in so many segments of this length, the last of which is of what is left.
+/// `count` orders in `pieces` segments of this length, the last of which has what is left.
 #[tactic(auto, using(crate::proofs::OrderRows::orders_more))]
 fn cut_orders(alloc: Global, count: usize, length: usize, pieces: usize) -> Result<Rows, Fail>
     ensures { IfOk result (RowsAreOf TableName.Orders) }
@@ -65,7 +65,7 @@ fn inserted(alloc: Global, count: usize, length: usize, pieces: usize) -> Result
     Ok(last)
 }
 
-/// Whether a scan of the orders hands out the keys from 0 on, in so many pieces.
+/// Whether a scan of the orders hands out the keys from 0 on, in this number of pieces.
 fn counts_up(
     alloc: Global,
     directory: &Directory,
@@ -103,7 +103,7 @@ fn left(alloc: Global) -> Result<Directory, Fail> {
     Ok(last)
 }
 
-/// Whether a scan of the lineitems hands out those of the orders 8 and 9, in so many pieces.
+/// Whether a scan of the lineitems hands out those of the orders 8 and 9, in this number of pieces.
 fn has_left(alloc: Global, directory: &Directory, pieces: usize) -> Result<bool, Fail> {
     let scan = scanned::<Directory, Brand>(alloc, directory, TableName::Lineitem, Blank::new(1))?;
     let (keys, parts) = scan;
