@@ -20,7 +20,7 @@ use Rattle.algebra.specs.declared.aggregate.Aggregate.{Aggregate}
 use Rattle.algebra.specs.declared.aggregate.Aggregate.TheVariants.{CountRows, Of}
 use Rattle.algebra.specs.Aggregates.{argument_and_function, aggregates_of}
 use Rattle.algebra.specs.Plans.{groups}
-use Rattle.parallel_scan.specs.ExpressionGroups.{expression_groups, argument_of, at_place, at_places}
+use Rattle.parallel_scan.specs.ExpressionGroups.{expression_groups, argument_of, at_place, place_aggregates}
 
 -- the values of a select list
 values-map : (es : List Expr) (row : List Value) → values es row ≡ map (λ e. value e row) es
@@ -87,7 +87,7 @@ module _ (es : List Expr) (aggregates : List Aggregate) where
   made xs a = (argument_and_function a).1 (map (λ y. (argument_and_function a).0 y.values) xs)
 
   aggregates_listed : (before after : List Aggregate) (n : ℕ) → before ++ after ≡ aggregates → n ≡ length es + length before → (xs : List (Ranked Value))
-      → map (made (map listed xs)) (at_places n after) ≡ map (made xs) after
+      → map (made (map listed xs)) (place_aggregates n after) ≡ map (made xs) after
   aggregates_listed before [] n is place xs = refl
   aggregates_listed before (a ∷ after) n is place xs =
       let arguments : map (λ y. (argument_and_function (at_place n a)).0 y.values) (map listed xs) ≡ map (λ y. (argument_and_function a).0 y.values) xs =
@@ -96,24 +96,24 @@ module _ (es : List Expr) (aggregates : List Aggregate) where
       let first : made (map listed xs) (at_place n a) ≡ made xs a =
       ap (argument_and_function (at_place n a)).1 arguments ∙ ap (λ f. f (map (λ y. (argument_and_function a).0 y.values) xs)) (function_kept a n) in
       let long : suc n ≡ length es + length (before ++ a ∷ []) = (let b = length-append before (a ∷ []) in omega (arith, place, b)) in
-      ap (λ v. v ∷ map (made (map listed xs)) (at_places (suc n) after)) first
+      ap (λ v. v ∷ map (made (map listed xs)) (place_aggregates (suc n) after)) first
       ∙ ap (λ l. made xs a ∷ l) (aggregates_listed (before ++ a ∷ []) after (suc n) (append_assoc before (a ∷ []) after ∙ is) long xs)
 
   aggregates-map : (all : List Aggregate) (xs : List (Ranked Value)) → aggregates_of all xs ≡ map (made xs) all
   unfolding aggregates_of
   aggregates-map all xs = map-map (λ a. a.1 (map (λ y. a.0 y.values) xs)) argument_and_function all
 
-  all_listed : (xs : List (Ranked Value)) → aggregates_of (at_places (length es) aggregates) (map listed xs) ≡ aggregates_of aggregates xs
+  all_listed : (xs : List (Ranked Value)) → aggregates_of (place_aggregates (length es) aggregates) (map listed xs) ≡ aggregates_of aggregates xs
   all_listed xs =
       let z : length es ≡ length es + 0 = omega arith in
-      aggregates-map (at_places (length es) aggregates) (map listed xs) ∙ aggregates_listed [] aggregates (length es) refl z xs ∙ sym (aggregates-map aggregates xs)
+      aggregates-map (place_aggregates (length es) aggregates) (map listed xs) ∙ aggregates_listed [] aggregates (length es) refl z xs ∙ sym (aggregates-map aggregates xs)
 
   least_listed : (xs : List (Ranked Value)) → least (map listed xs) ≡ least xs
   least_listed xs = bottom-map true_rank (λ (r : Ranked Value). r.standing) listed xs
 
 -- groups by the first columns of a select list
 pub by_expressions : (es : List Expr) (aggregates : List Aggregate) (xs : List (Ranked Value))
-    → groups (range_with_len 0 (length es)) (at_places (length es) aggregates) (project (values (es ++ map argument_of aggregates)) xs) ≡ expression_groups es aggregates xs
+    → groups (range_with_len 0 (length es)) (place_aggregates (length es) aggregates) (project (values (es ++ map argument_of aggregates)) xs) ≡ expression_groups es aggregates xs
 by_expressions [] aggregates xs =
     ap (λ vs. ranked vs (least (map (listed [] aggregates) xs)) ∷ []) (all_listed [] aggregates xs) ∙ ap (λ s. ranked (aggregates_of aggregates xs) s ∷ []) (least_listed [] aggregates xs)
 by_expressions (e ∷ more) aggregates xs =
@@ -124,7 +124,7 @@ by_expressions (e ∷ more) aggregates xs =
     let key : Ranked Value → List Value = λ x. values es x.values in
     let listed_key : Ranked Value → List Value = λ x. columns Null by x.values in
     let F : List Value → List (Ranked Value) → Ranked Value = λ k ys. ranked (k ++ aggregates_of aggregates ys) (least ys) in
-    let G : List Value → List (Ranked Value) → Ranked Value = λ k ys. ranked (k ++ aggregates_of (at_places (length es) aggregates) ys) (least ys) in
+    let G : List Value → List (Ranked Value) → Ranked Value = λ k ys. ranked (k ++ aggregates_of (place_aggregates (length es) aggregates) ys) (least ys) in
     let keys : map listed_key (map p xs) ≡ map key xs = map-map listed_key p xs ∙ map-ext (λ x. listed_key (p x)) key xs (key_listed es aggregates) in
     let each : (k : List Value) → G k (filter (λ x. S (listed_key x) k) (map p xs)) ≡ F k (filter (λ x. S (key x) k) xs) =
     λ k. let rows : filter (λ x. S (listed_key x) k) (map p xs) ≡ map p (filter (λ x. S (key x) k) xs) =
@@ -136,32 +136,32 @@ by_expressions (e ∷ more) aggregates xs =
     ∙ ap (λ ks. map (λ k. F k (filter (λ x. S (key x) k) xs)) (each_once S ks)) keys
 
 -- an aggregate more
-places-push : (first : ℕ) (all : List Aggregate) (a : Aggregate) → at_places first (all ++ a ∷ []) ≡ at_places first all ++ at_place (first + length all) a ∷ []
+places-push : (first : ℕ) (all : List Aggregate) (a : Aggregate) → place_aggregates first (all ++ a ∷ []) ≡ place_aggregates first all ++ at_place (first + length all) a ∷ []
 places-push first [] a = let z : first ≡ first + 0 = omega arith in ap (λ n. at_place n a ∷ []) z
 places-push first (b ∷ all) a =
     let m : suc first + length all ≡ first + suc (length all) = omega arith in
-    ap (λ l. at_place first b ∷ l) (places-push (suc first) all a ∙ ap (λ n. at_places (suc first) all ++ at_place n a ∷ []) m)
+    ap (λ l. at_place first b ∷ l) (places-push (suc first) all a ∙ ap (λ n. place_aggregates (suc first) all ++ at_place n a ∷ []) m)
 
-pub places_more : (first : ℕ) (all : List Aggregate) (i : ℕ) (a : Aggregate) → i < length all → a ≡ get_or all i a → at_places first (take (i + 1) all) ≡ at_places first (take i all) ++ at_place (first + i) a ∷ []
+pub places_more : (first : ℕ) (all : List Aggregate) (i : ℕ) (a : Aggregate) → i < length all → a ≡ get_or all i a → place_aggregates first (take (i + 1) all) ≡ place_aggregates first (take i all) ++ at_place (first + i) a ∷ []
 places_more first all i a l is =
     let n : length (take i all) ≡ i = (let t = length-take i all in omega (arith, t, l)) in
-    ap (at_places first) (take_more all i a l ∙ ap (λ x. take i all ++ x ∷ []) (sym is)) ∙ places-push first (take i all) a
-    ∙ ap (λ m. at_places first (take i all) ++ at_place (first + m) a ∷ []) n
+    ap (place_aggregates first) (take_more all i a l ∙ ap (λ x. take i all ++ x ∷ []) (sym is)) ∙ places-push first (take i all) a
+    ∙ ap (λ m. place_aggregates first (take i all) ++ at_place (first + m) a ∷ []) n
 
-places-length : (first : ℕ) (all : List Aggregate) → length (at_places first all) ≡ length all
+places-length : (first : ℕ) (all : List Aggregate) → length (place_aggregates first all) ≡ length all
 places-length first [] = refl
 places-length first (a ∷ all) = ap suc (places-length (suc first) all)
 
 -- in the words of the code
-pub grouped_width : (es : List Expr) (aggregates moved : List Aggregate) (by : List ℕ) → by ≡ range_with_len 0 (length es) → moved ≡ at_places (length es) aggregates
+pub grouped_width : (es : List Expr) (aggregates moved : List Aggregate) (by : List ℕ) → by ≡ range_with_len 0 (length es) → moved ≡ place_aggregates (length es) aggregates
     → length by + length moved ≡ length es + length aggregates
 grouped_width es aggregates moved by is_b is_m =
     let b : length by ≡ length es = ap length is_b ∙ length-range_with_len 0 (length es) in
     let m : length moved ≡ length aggregates = ap length is_m ∙ places-length (length es) aggregates in
     omega (arith, b, m)
 
-pub grouped_rows : (es list : List Expr) (aggregates moved : List Aggregate) (by : List ℕ) (xs rows : List (Ranked Value)) → by ≡ range_with_len 0 (length es) → moved ≡ at_places (length es) aggregates
+pub grouped_rows : (es list : List Expr) (aggregates moved : List Aggregate) (by : List ℕ) (xs rows : List (Ranked Value)) → by ≡ range_with_len 0 (length es) → moved ≡ place_aggregates (length es) aggregates
     → list ≡ es ++ map argument_of aggregates → rows ≡ project (values list) xs → groups by moved rows ≡ expression_groups es aggregates xs
 grouped_rows es list aggregates moved by xs rows is_b is_m is_i is_r =
     ap (λ b. groups b moved rows) is_b ∙ ap (λ m. groups (range_with_len 0 (length es)) m rows) is_m
-    ∙ ap (groups (range_with_len 0 (length es)) (at_places (length es) aggregates)) (is_r ∙ ap (λ l. project (values l) xs) is_i) ∙ by_expressions es aggregates xs
+    ∙ ap (groups (range_with_len 0 (length es)) (place_aggregates (length es) aggregates)) (is_r ∙ ap (λ l. project (values l) xs) is_i) ∙ by_expressions es aggregates xs

@@ -11,10 +11,10 @@ use Rattle.sql_value.specs.declared.value.Value.{Value}
 use Rattle.columns.specs.Bags.{bag_rows, AreWide}
 use Rattle.columns.specs.Lists.{one_list}
 use Rattle.columns.proofs.RowLists.{one_list-push}
-use Rattle.parallel_scan.specs.Parts.{part_rows, is_made, AreJoined, IsPartWide}
+use Rattle.parallel_scan.specs.Parts.{rows_of_part, is_made, ArePartsJoined, IsPartWide}
 use Rattle.parallel_scan.proofs.Chunks.{chunks_joined, mapped_at}
 
-made_rows : {E : Type 0} (part : Result (Vec (Relation Value)) E) (rows : List (Ranked Value)) → IsTrue (is_made part) → IfOk part (λ b. bag_rows b.items ≡ rows) → part_rows part ≡ rows
+made_rows : {E : Type 0} (part : Result (Vec (Relation Value)) E) (rows : List (Ranked Value)) → IsTrue (is_made part) → IfOk part (λ b. bag_rows b.items ≡ rows) → rows_of_part part ≡ rows
 made_rows (Ok b) rows t h = h
 made_rows (Err e) rows t h = cc
 
@@ -22,22 +22,22 @@ made_rows (Err e) rows t h = cc
 pub parts_joined : {X E : Type 0} (g : List X → List (Ranked Value)) (size : ℕ) (xs : List X) (parts : List (Result (Vec (Relation Value)) E)) (rows : List (Ranked Value))
     → ((ys zs : List X) → g (ys ++ zs) ≡ g ys ++ g zs) → g [] ≡ []
     → ((n : ℕ) (d : Result (Vec (Relation Value)) E) → n < length parts → IfOk (get_or parts n d) (λ b. bag_rows b.items ≡ g (slice_chunk xs size n)))
-    → 0 < size → length parts ≡ length xs / size + min 1 (length xs % size) → AreJoined parts rows → rows ≡ g xs
+    → 0 < size → length parts ≡ length xs / size + min 1 (length xs % size) → ArePartsJoined parts rows → rows ≡ g xs
 parts_joined g size xs parts rows joins none each p e j =
-    let l : length (map part_rows parts) ≡ length parts = length-map parts part_rows in
-    j.rows_are ∙ chunks_joined g size xs (map part_rows parts) joins none
-    (λ n h. mapped_at part_rows parts n (g (slice_chunk xs size n)) (omega (arith, h, l)) (λ d. made_rows (get_or parts n d) (g (slice_chunk xs size n)) (j.made n d (omega (arith, h, l))) (each n d (omega (arith, h, l)))))
+    let l : length (map rows_of_part parts) ≡ length parts = length-map parts rows_of_part in
+    j.rows_are ∙ chunks_joined g size xs (map rows_of_part parts) joins none
+    (λ n h. mapped_at rows_of_part parts n (g (slice_chunk xs size n)) (omega (arith, h, l)) (λ d. made_rows (get_or parts n d) (g (slice_chunk xs size n)) (j.made n d (omega (arith, h, l))) (each n d (omega (arith, h, l)))))
     p (l ∙ e)
 
 -- a part more
 pub joined_push : {E : Type 0} (parts : List (Result (Vec (Relation Value)) E)) (part : Result (Vec (Relation Value)) E) (rows now : List (Ranked Value))
-    → AreJoined parts rows → IsTrue (is_made part) → now ≡ rows ++ part_rows part → AreJoined (parts ++ part ∷ []) now
+    → ArePartsJoined parts rows → IsTrue (is_made part) → now ≡ rows ++ rows_of_part part → ArePartsJoined (parts ++ part ∷ []) now
 joined_push parts part rows now j t n = record {
   made = All-push (λ p. IsTrue (is_made p)) parts part j.made t;
   rows_are =
-      n ∙ ap (λ l. l ++ part_rows part) j.rows_are
-      ∙ sym (one_list-push (map part_rows parts) (part_rows part))
-      ∙ ap one_list (sym (map-append part_rows parts (part ∷ [])));
+      n ∙ ap (λ l. l ++ rows_of_part part) j.rows_are
+      ∙ sym (one_list-push (map rows_of_part parts) (rows_of_part part))
+      ∙ ap one_list (sym (map-append rows_of_part parts (part ∷ [])));
 }
 
 -- an element in the middle
@@ -45,7 +45,7 @@ pub at_mid : {X : Type 0} (P : X → Type 0) (xs : List X) (x : X) (ys : List X)
 at_mid P [] x ys a = a 0 x (omega arith)
 at_mid P (z ∷ xs) x ys a = at_mid P xs x ys (λ k d h. a (suc k) d (omega (arith, h)))
 
-pub joined_none : {E : Type 0} → AreJoined {E = E} [] []
+pub joined_none : {E : Type 0} → ArePartsJoined {E = E} [] []
 joined_none = record { made = λ k d h. absurd (omega (arith, h)); rows_are = refl }
 
 -- what each part's batches are, they have this width

@@ -31,6 +31,6 @@ at_place place CountRows = CountRows
 at_place place (Of function scale e) = Of function scale (Column place)
 
 -- the aggregates of what stands at the places from this one on
-abbrev pub at_places : ℕ → List Aggregate → List Aggregate
-at_places place [] = []
-at_places place (a ∷ more) = at_place place a ∷ at_places (suc place) more
+abbrev pub place_aggregates : ℕ → List Aggregate → List Aggregate
+place_aggregates place [] = []
+place_aggregates place (a ∷ more) = at_place place a ∷ place_aggregates (suc place) more

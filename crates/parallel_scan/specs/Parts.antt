@@ -12,9 +12,9 @@ abbrev pub IsPartWide : {E : Type 0} → ℕ → Result (Vec (Relation Value)) E
 IsPartWide width part = IfOk part (λ batches. AreWide width batches.items)
 
 -- the rows of a part; none where memory ran out
-abbrev pub part_rows : {E : Type 0} → Result (Vec (Relation Value)) E → List (Ranked Value)
-part_rows (Ok batches) = bag_rows batches.items
-part_rows (Err e) = []
+abbrev pub rows_of_part : {E : Type 0} → Result (Vec (Relation Value)) E → List (Ranked Value)
+rows_of_part (Ok batches) = bag_rows batches.items
+rows_of_part (Err e) = []
 
 -- whether memory sufficed for a part
 abbrev pub is_made : {E : Type 0} → Result (Vec (Relation Value)) E → Bool
@@ -22,7 +22,7 @@ is_made (Ok batches) = true
 is_made (Err e) = false
 
 -- memory sufficed for each part, and these are their rows in the order of the parts
-pub record AreJoined {E : Type 0} (parts : List (Result (Vec (Relation Value)) E))
+pub record ArePartsJoined {E : Type 0} (parts : List (Result (Vec (Relation Value)) E))
     (rows : List (Ranked Value)) : Type 0 where
   pub made : All (λ part. IsTrue (is_made part)) parts
-  pub rows_are : rows ≡ one_list (map part_rows parts)
+  pub rows_are : rows ≡ one_list (map rows_of_part parts)

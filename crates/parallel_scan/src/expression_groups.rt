@@ -5,7 +5,7 @@ ghost use Rattle.row_laws.specs.Operators.{select};
 ghost use Rattle.columns.specs.Lists.{one_list};
 ghost use Rattle.conditions.specs.Ranks.{rank_of};
 ghost use Rattle.parallel_scan.specs.ExpressionGroups.{expression_groups, argument_of, at_place};
-ghost use Rattle.parallel_scan.specs.ExpressionGroups.{at_places};
+ghost use Rattle.parallel_scan.specs.ExpressionGroups.{place_aggregates};
 
 use crate::groups::bag_groups;
 use crate::scan::scan_rows;
@@ -70,12 +70,12 @@ fn put_arguments(
 }
 
 // The aggregates of what stands at the places from this one on.
-fn at_places(
+fn place_aggregates(
     alloc: Global,
     first: usize,
     aggregates: &[Aggregate],
 ) -> Result<Vec<Aggregate>, AllocError>
-    ensures { IfOk result (λ v. v.items ≡ at_places first aggregates.now) }
+    ensures { IfOk result (λ v. v.items ≡ place_aggregates first aggregates.now) }
 {
     let mut moved = Vec::with_capacity(alloc, aggregates.len())?;
     let mut count = first;
@@ -105,7 +105,7 @@ pub fn scan_groups<R: Threads + Sync>(
 {
     let width = place_of(columns.len())?;
     let by = places_below(alloc, width)?;
-    let moved = at_places(alloc, columns.len(), aggregates)?;
+    let moved = place_aggregates(alloc, columns.len(), aggregates)?;
     let mut items = copy_exprs(alloc, columns)?;
     put_arguments(alloc, &mut items, aggregates)?;
     let rows = scan_rows(rt, alloc, pieces, condition, items.as_slice())?;

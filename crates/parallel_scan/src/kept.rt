@@ -67,7 +67,7 @@ fn rows_kept(alloc: Global, batch: &Batch, truths: &[Truth]) -> Result<Batch, Al
 }
 
 // What the first part of an AND says of the rows of a batch.
-fn begun(alloc: Global, e: &Expr, batch: &Batch) -> Result<Remaining, AllocError>
+fn asked_first(alloc: Global, e: &Expr, batch: &Batch) -> Result<Remaining, AllocError>
     ensures width { IfOk result (λ k. k.rows.width ≡ batch.now.width) }
     ensures rows { IfOk result
         (λ k. StandFor batch.now.rows (rank_of e.now) k.rows.rows k.truths.items) }
@@ -78,7 +78,7 @@ fn begun(alloc: Global, e: &Expr, batch: &Batch) -> Result<Remaining, AllocError
 }
 
 // What one part more says, of the rows that are left.
-fn narrowed(alloc: Global, kept: Remaining, e: &Expr) -> Result<Remaining, AllocError>
+fn asked_of_rest(alloc: Global, kept: Remaining, e: &Expr) -> Result<Remaining, AllocError>
     requires { length kept.truths.items ≡ length kept.rows.rows }
     ensures width { IfOk result (λ k. k.rows.width ≡ kept.rows.width) }
     ensures rows { IfOk result (λ k.
@@ -103,9 +103,9 @@ fn kept_by_all(alloc: Global, es: &[Expr], batch: &Batch) -> Result<Batch, Alloc
     ensures width { IfOk result (λ b. b.width ≡ batch.now.width) }
     ensures rows { IfOk result (λ b. b.rows ≡ select (all_rank es.now) batch.now.rows) }
 {
-    let mut kept = begun(alloc, &es[0], batch)?;
+    let mut kept = asked_first(alloc, &es[0], batch)?;
     for k in 1..es.len() {
-        kept = narrowed(alloc, kept, &es[k])?;
+        kept = asked_of_rest(alloc, kept, &es[k])?;
     }
     let rows = rows_kept(alloc, &kept.rows, kept.truths.as_slice())?;
     Ok(rows)

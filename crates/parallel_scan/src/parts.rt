@@ -2,7 +2,7 @@
 ghost use Rattle.std.specs.Prelude.{◌≡◌, ℕ, ◌<◌, ◌++◌, IfOk, OnOk};
 ghost use Rattle.std.specs.List.{All};
 ghost use Rattle.columns.specs.Bags.{bag_rows, AreWide};
-ghost use Rattle.parallel_scan.specs.Parts.{AreJoined, IsPartWide};
+ghost use Rattle.parallel_scan.specs.Parts.{ArePartsJoined, IsPartWide};
 
 use columns::{Bag, Batch};
 use std::alloc::{AllocError, Global};
@@ -59,7 +59,7 @@ pub(crate) fn joined(
 ) -> Result<Bag, AllocError>
     requires { All (IsPartWide width) parts.items }
     ensures width { IfOk result (λ b. b.width ≡ width) }
-    ensures rows { IfOk result (λ b. AreJoined parts.items b.rows) }
+    ensures rows { IfOk result (λ b. ArePartsJoined parts.items b.rows) }
 {
     let mut bag = Bag::new(alloc, width);
     for part in parts {

@@ -7,7 +7,7 @@ use Rattle.tpch_schema.specs.State.{State}
 use Rattle.table_state.specs.Refresh.{Change, changed}
 use Rattle.table_state.specs.Versions.{accepted, is_accepted, tried, version_state}
 use Rattle.table_state.proofs.VersionSteps.{accepted-more, state-more}
-use Rattle.snapshot_core.specs.Kept.{IsBelow, IsKept, IsTried}
+use Rattle.snapshot_core.specs.Kept.{IsBelow, AreVersionsKept, IsTried}
 use Rattle.snapshot_core.specs.Machine.{SessionState, World, changed_in, new_session, published}
 
 -- a list that is written past its end stays
@@ -50,10 +50,10 @@ pin_below most later (Some version) less h = omega (arith, less, h)
 not_below : (most later : ℕ) (session : SessionState) → most ≤ later → IsBelow most session → IsBelow later session
 not_below most later session less h = (let a = h.0 in omega (arith, a, less), pin_below most later session.pin less h.1)
 
-kept_accepted_at : (world : World) (versions : List State) (next : State) (change : Change) → IsKept world versions
+kept_accepted_at : (world : World) (versions : List State) (next : State) (change : Change) → AreVersionsKept world versions
     → slice_get world.list world.done ≡ Some change → is_accepted (version_state world.base world.list (published world)) change ≡ true
     → next ≡ changed (version_state world.base world.list (published world)) change
-    → IsKept (record world { done = world.done + 1 }) (versions ++ next ∷ [])
+    → AreVersionsKept (record world { done = world.done + 1 }) (versions ++ next ∷ [])
 kept_accepted_at world versions next change kept at is_taken is =
     let base = world.base in
     let list = world.list in
@@ -82,9 +82,9 @@ kept_accepted_at world versions next change kept at is_taken is =
       sessions = λ k other within. not_below (published world) (accepted base list (world.done + 1)) (get_or world.sessions k other) (omega (arith, more)) (kept.sessions k other within);
     }
 
-kept_refused_at : (world : World) (versions : List State) (change : Change) → IsKept world versions
+kept_refused_at : (world : World) (versions : List State) (change : Change) → AreVersionsKept world versions
     → slice_get world.list world.done ≡ Some change → is_accepted (version_state world.base world.list (published world)) change ≡ false
-    → IsKept (record world { done = world.done + 1 }) versions
+    → AreVersionsKept (record world { done = world.done + 1 }) versions
 kept_refused_at world versions change kept at is_refused =
     let less : world.done < length world.list = slice_get_within world.list world.done change at in
     let same : accepted world.base world.list (world.done + 1) ≡ published world =
@@ -105,16 +105,16 @@ refused_if : (b : Bool) (made : State) → None ≡ cond b (Some made) None → 
 refused_if true made e = cc
 refused_if false made e = refl
 
-pub kept_accepted : (world : World) (versions : List State) (next : State) → IsKept world versions → world.done < length world.list
-    → IsTried world (Some next) → IsKept (record world { done = world.done + 1 }) (versions ++ next ∷ [])
+pub kept_accepted : (world : World) (versions : List State) (next : State) → AreVersionsKept world versions → world.done < length world.list
+    → IsTried world (Some next) → AreVersionsKept (record world { done = world.done + 1 }) (versions ++ next ∷ [])
 kept_accepted world versions next kept less tried =
     let found = some_change world.list world.done less in
     let both = accepted_if (is_accepted (version_state world.base world.list (published world)) found.0) next
     (changed (version_state world.base world.list (published world)) found.0) (tried found.0 found.1) in
     kept_accepted_at world versions next found.0 kept found.1 both.0 both.1
 
-pub kept_refused : (world : World) (versions : List State) → IsKept world versions → world.done < length world.list
-    → IsTried world None → IsKept (record world { done = world.done + 1 }) versions
+pub kept_refused : (world : World) (versions : List State) → AreVersionsKept world versions → world.done < length world.list
+    → IsTried world None → AreVersionsKept (record world { done = world.done + 1 }) versions
 kept_refused world versions kept less tried =
     let found = some_change world.list world.done less in
     kept_refused_at world versions found.0 kept found.1

@@ -12,7 +12,7 @@ abbrev pub IsBelow : ℕ → SessionState → Type 0
 IsBelow most session = (session.seen ≤ most) × IfSome session.pin (λ version. version ≤ most)
 
 -- the versions so far are kept, the base first, and no session knows a later one
-pub record IsKept (world : World) (versions : List State) : Type 0 where
+pub record AreVersionsKept (world : World) (versions : List State) : Type 0 where
   pub within : world.done ≤ length world.list
   pub count : length versions ≡ published world + 1
   pub states : (version : ℕ) (other : State) → version ≤ published world

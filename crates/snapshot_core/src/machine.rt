@@ -38,7 +38,7 @@ pub struct Machine {
 
 impl Model for Machine {
     ghost use Rattle.snapshot_core.specs.Machine.{World};
-    ghost use Rattle.snapshot_core.specs.Kept.{IsKept};
+    ghost use Rattle.snapshot_core.specs.Kept.{AreVersionsKept};
 
     ghost Value = { World };
 
@@ -50,7 +50,7 @@ impl Model for Machine {
     } };
 
     ghost invariant = { λ m.
-        IsKept (record {
+        AreVersionsKept (record {
           base = m.base;
           list = m.list.items;
           done = m.done;

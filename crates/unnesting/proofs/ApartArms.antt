@@ -47,7 +47,7 @@ use Rattle.unnesting.specs.Growth.{IsPut}
 use Rattle.unnesting.specs.Lowerings.{Lowers, IsOwn}
 use Rattle.unnesting.specs.OwnColumns.{StandForAll}
 use Rattle.unnesting.specs.PlanKinds.{AreKindsOf}
-use Rattle.unnesting.specs.FromRows.{apart_rows, apart_meaning, GivesApart, IsPart, IsOwnCondition, IsOwnOn, SelectsApart, JoinsApart, OutersApart, IsOver, LowersApart}
+use Rattle.unnesting.specs.FromRows.{apart_rows, apart_meaning, GivesApart, IsPart, IsOwnCondition, IsOwnOn, SelectsApart, JoinsApart, OutersApart, IsOverDomain, LowersApart}
 use Rattle.unnesting.proofs.Arms.{puts, selection_over}
 use Rattle.unnesting.proofs.Grown.{same_plan, both_more, grows_as, grown_length, kept_rows, kept_width}
 use Rattle.unnesting.proofs.Kept.{kept_in_plan, same_footing, both_same, holds_later, settled_first}
@@ -129,12 +129,12 @@ module _ (old mid new : List Node) (p : Apart) (g : Footing) (c : Expr) (id : �
       subst (λ r. Answers same_value (footing_rows db mid r) xs (apart_rows db old p)) (sym e)
       (answers_same ds xs (λ d. select (λ t. rank_of c (d ++ t)) Y) (apart_rows db old p) (kept_same c p.conditions Y (plan_rows db old p.rows) is (kept db)) (selection_over width ds Y c dom)))
 
-  over_lowers : (r : DomainRows) → g.rows ≡ as_footing r → IsOver mid new p.rows c r id → Lowers mid new (apart_meaning old p) g g id
+  over_lowers : (r : DomainRows) → g.rows ≡ as_footing r → IsOverDomain mid new p.rows c r id → Lowers mid new (apart_meaning old p) g g id
   over_lowers domain.One e q = over_one e q
   over_lowers (domain.Node d width) e q = over_node d width e q
 
 pub over_apart : {old mid new : List Node} {f g : Footing} {r : DomainRows} {c : Expr} {id : ℕ} (p : Apart) → Settles old mid f g r → p.rows < length old → plan_width old p.rows ≡ p.width → c ≡ e.All p.conditions
-    → IsOver mid new p.rows c r id → LowersApart old new f g p id
+    → IsOverDomain mid new p.rows c r id → LowersApart old new f g p id
 over_apart {old = old} {mid = mid} {new = new} {g = g} {r = r} {c = c} {id = id} p s within wide is put =
     settled_first s (over_lowers old mid new p g c id is s.same.in_plan (kept_width p.rows s.plan within ∙ wide) (λ db. kept_rows db p.rows s.plan within) r s.settled put)
 

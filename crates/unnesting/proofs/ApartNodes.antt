@@ -31,7 +31,7 @@ use Rattle.algebra.specs.Plans.{plan_rows, plan_width, is_formed}
 use Rattle.algebra.proofs.Widths.{rows_are_wide}
 use Rattle.unnesting.specs.declared.from_rows.Apart.{Apart}
 use Rattle.unnesting.specs.Growth.{IsPut}
-use Rattle.unnesting.specs.FromRows.{GivesApart, IsGrown, IsSplit, IsOwnCondition, IsKept, SelectsApart, JoinsApart, OutersApart}
+use Rattle.unnesting.specs.FromRows.{GivesApart, IsGrown, AreOwnAndRest, IsOwnCondition, KeepsRows, SelectsApart, JoinsApart, OutersApart}
 use Rattle.unnesting.proofs.Grown.{same_plan, put_more, put_rows, put_width, put_last}
 use Rattle.unnesting.proofs.Owned.{rank_within}
 
@@ -63,7 +63,7 @@ scan_apart {before = before} {new = new} {table = table} part n p w none = recor
 }
 
 -- the rows that no conditions keep are all
-pub kept_none : (nodes : List Node) (rows : ℕ) (conditions : List Expr) → conditions ≡ [] → length nodes ≡ rows + 1 → IsKept nodes nodes rows conditions rows
+pub kept_none : (nodes : List Node) (rows : ℕ) (conditions : List Expr) → conditions ≡ [] → length nodes ≡ rows + 1 → KeepsRows nodes nodes rows conditions rows
 kept_none nodes rows conditions none last = record {
   plan = same_plan nodes;
   last = last;
@@ -74,7 +74,7 @@ kept_none nodes rows conditions none last = record {
       (λ x. let l = le x.values in let z = ap (λ es. all_rank es x.values) none in omega (arith, l, z))));
 }
 
-pub kept_some : (old new : List Node) (rows : ℕ) (conditions : List Expr) (c : Expr) (id : ℕ) → c ≡ e.All conditions → IsPut old new (node.Select rows c) id → IsKept old new rows conditions id
+pub kept_some : (old new : List Node) (rows : ℕ) (conditions : List Expr) (c : Expr) (id : ℕ) → c ≡ e.All conditions → IsPut old new (node.Select rows c) id → KeepsRows old new rows conditions id
 unfolding plan_width plan_rows
 kept_some old new rows conditions c id is p = record {
   plan = put_more (same_plan old) p;
@@ -91,7 +91,7 @@ kept_some old new rows conditions c id is p = record {
 
 -- the rows that a condition keeps
 pub selects_apart : (old new : List Node) (n : ℕ) (part next : Apart) (c : Expr) (covered : List Expr) → IsTrue (is_formed old) → plan_width old part.rows ≡ part.width
-    → IsSplit n part.width part.conditions c covered next.conditions → IsKept old new part.rows covered next.rows → next.width ≡ part.width → SelectsApart old new n part c next
+    → AreOwnAndRest n part.width part.conditions c covered next.conditions → KeepsRows old new part.rows covered next.rows → next.width ≡ part.width → SelectsApart old new n part c next
 unfolding says
 selects_apart old new n part next c covered formed wide split kept width = record {
   plan = kept.plan;
@@ -111,7 +111,7 @@ selects_apart old new n part next c covered formed wide split kept width = recor
 }
 
 -- a condition that does not read the domain
-pub own_says : {n w : ℕ} {old covered rest seen : List Expr} {c : Expr} → old ≡ [] → IsSplit n w old c covered rest → rest ≡ [] → seen ≡ covered → IsOwnCondition n w c seen
+pub own_says : {n w : ℕ} {old covered rest seen : List Expr} {c : Expr} → old ≡ [] → AreOwnAndRest n w old c covered rest → rest ≡ [] → seen ≡ covered → IsOwnCondition n w c seen
 own_says {n = n} {w = w} {old = old} {covered = covered} {rest = rest} {c = c} none split empty same = subst (IsOwnCondition n w c) (sym same) (record {
   says = λ d t ld lt.
       let a = split.says d t ld lt in
@@ -124,7 +124,7 @@ own_says {n = n} {w = w} {old = old} {covered = covered} {rest = rest} {c = c} n
 
 -- the rows joined with others
 pub joins_apart : (old new : List Node) (n : ℕ) (part next : Apart) (right more : ℕ) (c on : Expr) (grown covered : List Expr) → IsTrue (is_formed old) → plan_width old part.rows ≡ part.width
-    → plan_width old right ≡ more → IsGrown n part.width part.conditions grown → next.width ≡ part.width + more → IsSplit n next.width grown c covered next.conditions → on ≡ e.All covered
+    → plan_width old right ≡ more → IsGrown n part.width part.conditions grown → next.width ≡ part.width + more → AreOwnAndRest n next.width grown c covered next.conditions → on ≡ e.All covered
     → IsPut old new (node.Join part.rows right [] on) next.rows → JoinsApart old new n part right more c next
 unfolding says plan_width plan_rows
 joins_apart old new n part next right more c on grown covered formed wide others g width split is p = record {

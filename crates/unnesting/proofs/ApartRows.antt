@@ -15,7 +15,7 @@ use Rattle.scalar_expr.proofs.Uses.{used_columns_decide_lem}
 use Rattle.conditions.specs.Ranks.{columns_from, rank_of, all_rank, PutInto, IsParted, ReadsBelow}
 use Rattle.conditions.proofs.Gather.{gather_append, gather_at}
 use Rattle.conditions.proofs.Ranks.{rank_All}
-use Rattle.unnesting.specs.FromRows.{IsGrown, IsSplit}
+use Rattle.unnesting.specs.FromRows.{IsGrown, AreOwnAndRest}
 use Rattle.unnesting.proofs.Owned.{rank_within}
 
 -- two runs of columns that stand one after the other
@@ -72,7 +72,7 @@ grown_says {n = n} {w = w} {old = old} {new = new} {places = places} {all = all}
 -- the conjuncts of a condition in two parts
 pub split_says : {n w : ℕ} {old all covered left rest : List Expr} {c more : Expr} {last same first : List ℕ} → last ≡ columns_from w n ++ columns_from 0 w → PutInto last c [] all
     → same ≡ columns_from 0 w ++ columns_from w n → IsParted same w all covered left → first ≡ columns_from n w ++ columns_from 0 n → more ≡ e.All left → PutInto first more old rest
-    → IsSplit n w old c covered rest
+    → AreOwnAndRest n w old c covered rest
 split_says {n = n} {w = w} {old = old} {all = all} {covered = covered} {left = left} {rest = rest} {c = c} {more = more} {last = last} {same = same} {first = first} il p is q ip im r = record {
   says = λ d t ld lt.
       let row = t ++ d in

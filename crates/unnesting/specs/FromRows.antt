@@ -64,7 +64,7 @@ pub record IsGrown (n w : ℕ) (old new : List Expr) : Type 0 where
 
 -- The conditions `old` and c over rows of n domain columns and w others, in two parts: `own` reads
 -- the others alone.
-pub record IsSplit (n w : ℕ) (old : List Expr) (c : Expr) (own rest : List Expr) : Type 0 where
+pub record AreOwnAndRest (n w : ℕ) (old : List Expr) (c : Expr) (own rest : List Expr) : Type 0 where
   pub says : (d t : List Value) → length d ≡ n → length t ≡ w
       → min (all_rank own t) (all_rank rest (d ++ t))
       ≡ min (all_rank old (d ++ t)) (rank_of c (d ++ t))
@@ -82,7 +82,7 @@ pub record IsOwnOn (n w : ℕ) (side : Side) (c : Expr) (own : List Expr) : Type
 
 -- the plan grew by the rows of its last node that conditions keep, as far as another condition
 -- keeps them too
-pub record IsKept (old new : List Node) (from : ℕ) (conditions : List Expr) (id : ℕ) : Type 0 where
+pub record KeepsRows (old new : List Node) (from : ℕ) (conditions : List Expr) (id : ℕ) : Type 0 where
   pub plan : Grows old new [] 0
   pub last : length new ≡ id + 1
   pub width : plan_width new id ≡ plan_width old from
@@ -127,9 +127,9 @@ pub record OutersApart (old new : List Node) (n : ℕ) (part : Apart) (right mor
 
 -- the plan grew by the rows of a node that a condition keeps, where the domain is a node by the
 -- combinations of its rows with them
-abbrev pub IsOver : (old new : List Node) → (rows : ℕ) → Expr → DomainRows → ℕ → Type 0
-IsOver old new rows c One id = IsPut old new (Select rows c) id
-IsOver old new rows c (AtNode d width) id = IsPut old new (Join d rows [] c) id
+abbrev pub IsOverDomain : (old new : List Node) → (rows : ℕ) → Expr → DomainRows → ℕ → Type 0
+IsOverDomain old new rows c One id = IsPut old new (Select rows c) id
+IsOverDomain old new rows c (AtNode d width) id = IsPut old new (Join d rows [] c) id
 
 -- the plan grew, and its last node answers for each row of a footing the rows without a domain
 abbrev pub LowersApart : (old new : List Node) → (f g : Footing) → Apart → ℕ → Type 0

@@ -10,15 +10,15 @@ ghost use Rattle.unnesting.specs.Domains.{IsInPlan};
 ghost use Rattle.unnesting.specs.Footings.{footing_width, IsFooting};
 ghost use Rattle.unnesting.specs.FromRows.{
   GivesApart,
-  IsSplit,
+  AreOwnAndRest,
   IsGrown,
   IsOwnCondition,
   IsOwnOn,
-  IsKept,
+  KeepsRows,
   SelectsApart,
   JoinsApart,
   OutersApart,
-  IsOver,
+  IsOverDomain,
   LowersApart,
 };
 
@@ -117,7 +117,7 @@ fn split(
     conditions: Items<Expr>,
     c: &Expr,
 ) -> Result<Parted, AllocError>
-    ensures { IfOk result (λ p. IsSplit n width conditions c.now p.covered p.rest) }
+    ensures { IfOk result (λ p. AreOwnAndRest n width conditions c.now p.covered p.rest) }
 {
     let domain_last = two_runs(alloc, width, n, 0, width)?;
     let mut all = Items::new(alloc);
@@ -140,7 +140,7 @@ fn put_kept(
     conditions: Items<Expr>,
 ) -> Result<NodeId, AllocError>
     requires { length builder.old.nodes ≡ rows + 1 }
-    ensures { IfOk result (IsKept builder.old.nodes builder.new.nodes rows conditions) }
+    ensures { IfOk result (KeepsRows builder.old.nodes builder.new.nodes rows conditions) }
 {
     if conditions.is_empty() {
         return Ok(rows);
@@ -345,7 +345,7 @@ fn put_over(
     requires domain { IsInPlan builder.old.nodes domain }
     requires rows { rows < length builder.old.nodes }
     ensures { IfOk result
-        (IsOver builder.old.nodes builder.new.nodes rows condition.now domain) }
+        (IsOverDomain builder.old.nodes builder.new.nodes rows condition.now domain) }
 {
     match domain {
         DomainRows::One => {

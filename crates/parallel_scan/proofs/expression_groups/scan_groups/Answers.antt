@@ -5,7 +5,7 @@ use Rattle.row_laws.specs.Operators.{select}
 use Rattle.columns.specs.Lists.{one_list}
 use Rattle.conditions.specs.Ranks.{rank_of}
 use Rattle.scalar_expr.specs.declared.expr.Expr.{Expr}
-use Rattle.parallel_scan.specs.ExpressionGroups.{argument_of, at_places}
+use Rattle.parallel_scan.specs.ExpressionGroups.{argument_of, place_aggregates}
 use Rattle.parallel_scan.proofs.ByExpressions.{grouped_rows, grouped_width}
 use Rattle.parallel_scan.proofs.expression_groups.scan_groups.Goals as goal
 

@@ -4,7 +4,7 @@ use Rattle.std.specs.List.{All}
 use Rattle.std.specs.Vec.Iter.{into_iter_items}
 use Rattle.std.proofs.lemmas.List.{nil_from_length}
 use Rattle.columns.specs.Bags.{AreWide}
-use Rattle.parallel_scan.specs.Parts.{AreJoined, IsPartWide, is_made, part_rows}
+use Rattle.parallel_scan.specs.Parts.{ArePartsJoined, IsPartWide, is_made, rows_of_part}
 use Rattle.parallel_scan.proofs.PartRows.{at_mid, joined_push}
 use Rattle.parallel_scan.proofs.parts.joined.Goals as goal
 
@@ -30,7 +30,7 @@ loop-part-preserved c =
       left = let was = at.invariant.left in let gone = c.in-Some.ensures.steps.1 in let short = ap length steps in omega arith;
       width = c.in_ok-put_batches.ensures.width ∙ at.invariant.width;
       joined = joined_push at.yielded x at.bag.rows c.put_batches.new.bag.rows at.invariant.joined (subst (λ p. IsTrue (is_made p)) (sym is) refl)
-          (c.in_ok-put_batches.ensures.rows ∙ ap (λ p. at.bag.rows ++ part_rows p) (sym is));
+          (c.in_ok-put_batches.ensures.rows ∙ ap (λ p. at.bag.rows ++ rows_of_part p) (sym is));
     }
 
 pub returns-clause-rows : goal.returns-clause-rows
@@ -39,4 +39,4 @@ returns-clause-rows c =
     let none = c.in-None.ensures.steps in
     let empty : into_iter_items at.part-iterator ≡ [] = nil_from_length _ (sym at.invariant.left ∙ none.0) in
     let all = sym (append-nil at.yielded) ∙ rw empty at at.invariant.whole ∙ c.into_iter-part-iterator.ensures.into_iter_gives.0 in
-    subst (λ l. AreJoined l at.bag.rows) all at.invariant.joined
+    subst (λ l. ArePartsJoined l at.bag.rows) all at.invariant.joined

@@ -1,6 +1,6 @@
 use Rattle.std.proofs.Common.{◌≡◌, ◌++◌, length}
 use Rattle.std.specs.Vec.Iter.{into_iter_items, into_iter_len}
-use Rattle.parallel_scan.specs.Parts.{AreJoined}
+use Rattle.parallel_scan.specs.Parts.{ArePartsJoined}
 use Rattle.parallel_scan.proofs.parts.joined.Given as goal
 
 abbrev pub invariant-loop-part : goal.invariant-loop-part
@@ -9,5 +9,5 @@ invariant-loop-part l =
       whole : l.yielded ++ into_iter_items l.part-iterator ≡ into_iter_items l.initial.part-iterator;
       left : into_iter_len l.part-iterator ≡ length (into_iter_items l.part-iterator);
       width : l.bag.width ≡ l.width;
-      joined : AreJoined l.yielded l.bag.rows;
+      joined : ArePartsJoined l.yielded l.bag.rows;
     }

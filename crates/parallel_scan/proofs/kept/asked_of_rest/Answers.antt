@@ -5,7 +5,7 @@ use Rattle.column_operators.specs.Zips.{zip_with}
 use Rattle.conditions.specs.Ranks.{rank_of}
 use Rattle.parallel_scan.specs.Kept.{StandFor}
 use Rattle.parallel_scan.proofs.Narrowing.{stand_of_both, stand_of_left}
-use Rattle.parallel_scan.proofs.kept.narrowed.Goals as goal
+use Rattle.parallel_scan.proofs.kept.asked_of_rest.Goals as goal
 
 pub returns-then-keep_few-clause-rows : goal.returns-then-keep_few-clause-rows
 returns-then-keep_few-clause-rows c = λ f all s.

@@ -2,7 +2,7 @@ use Rattle.std.proofs.Common.{sym, subst}
 use Rattle.conditions.specs.Ranks.{rank_of}
 use Rattle.parallel_scan.specs.Kept.{StandFor}
 use Rattle.parallel_scan.proofs.Narrowing.{stand_at_first}
-use Rattle.parallel_scan.proofs.kept.begun.Goals as goal
+use Rattle.parallel_scan.proofs.kept.asked_first.Goals as goal
 
 pub returns-clause-rows : goal.returns-clause-rows
 returns-clause-rows c =
