@@ -7,7 +7,7 @@ use Rattle.tpch_schema.specs.State.{State}
 use Rattle.table_state.specs.Refresh.{Change, after, cause_of, changed, unless_cause}
 use Rattle.table_state.specs.Versions.{accepted, is_accepted, tried, version_state}
 use Rattle.table_state.proofs.VersionSteps.{accepted-more, state-more}
-use Rattle.segment_store.specs.Trials.{AreTrialsKept, Leaves, Trials, one_more, tables_of, version_of}
+use Rattle.segment_store.specs.Trials.{HasKept, Leaves, Trials, one_more, tables_of, version_of}
 
 some_change : (list : List Change) (place : ℕ) → place < length list → (change : Change) × (slice_get list place ≡ Some change)
 some_change [] place less = absurd (omega (arith, less))
@@ -26,9 +26,9 @@ refused_by : (cause : Option Cause) (made : State) (first : Cause) → unless_ca
 refused_by None made first e = cc
 refused_by (Some cause) made first e = refl
 
-pub kept_next : (trials : Trials) (number : ℕ) (before state : State) → AreTrialsKept trials number before → trials.done < length trials.list
+pub kept_next : (trials : Trials) (number : ℕ) (before state : State) → HasKept trials number before → trials.done < length trials.list
     → ((change : Change) → slice_get trials.list trials.done ≡ Some change → after (tables_of trials) change ≡ Ok state)
-    → AreTrialsKept (one_more trials) (number + 1) state
+    → HasKept (one_more trials) (number + 1) state
 kept_next trials number before state kept less leaves =
     let found = some_change trials.list trials.done less in
     let last = tables_of trials in
@@ -44,9 +44,9 @@ kept_next trials number before state kept less leaves =
       left = sym (state-more trials.base trials.list trials.done found.0 found.1 ∙ ap (λ b. cond b (changed last found.0) last) both.0 ∙ both.1);
     }
 
-pub kept_refused : (trials : Trials) (number : ℕ) (state : State) (cause : Cause) → AreTrialsKept trials number state → trials.done < length trials.list
+pub kept_refused : (trials : Trials) (number : ℕ) (state : State) (cause : Cause) → HasKept trials number state → trials.done < length trials.list
     → ((change : Change) → slice_get trials.list trials.done ≡ Some change → after (tables_of trials) change ≡ Err cause)
-    → AreTrialsKept (one_more trials) number state
+    → HasKept (one_more trials) number state
 kept_refused trials number state cause kept less leaves =
     let found = some_change trials.list trials.done less in
     let last = tables_of trials in

@@ -25,7 +25,7 @@ abbrev pub one_more : Trials → Trials
 one_more trials = record trials { done = trials.done + 1 }
 
 -- what a directory keeps beside that
-pub record AreTrialsKept (trials : Trials) (number : ℕ) (state : State) : Type 0 where
+pub record HasKept (trials : Trials) (number : ℕ) (state : State) : Type 0 where
   pub within : trials.done ≤ length trials.list
   pub counted : number ≡ version_of trials
   pub few : number ≤ trials.done

@@ -37,7 +37,7 @@ impl Model for Compacted {
     ghost use Rattle.columns.specs.Lists.{one_list};
     ghost use Rattle.table_state.specs.Lists.{IsOfKinds, state_of};
     ghost use Rattle.segment_store.specs.Segments.{Compaction};
-    ghost use Rattle.segment_store.specs.Trials.{AreTrialsKept};
+    ghost use Rattle.segment_store.specs.Trials.{HasKept};
 
     ghost Value = { Compaction };
 
@@ -51,7 +51,7 @@ impl Model for Compacted {
     } };
 
     ghost invariant = { λ c.
-        AreTrialsKept (record { base = arc_value c.base; list = (arc_value c.list).items; done = c.done })
+        HasKept (record { base = arc_value c.base; list = (arc_value c.list).items; done = c.done })
         c.accepted (state_of (map (λ segments. one_list segments.items) c.tables.items))
         × (length c.tables.items ≡ 8)
         × IsOfKinds (state_of (map (λ segments. one_list segments.items) c.tables.items)) };

@@ -27,7 +27,7 @@ pub struct Directory {
 
 impl Model for Directory {
     ghost use Rattle.std.specs.Arc.{arc_value};
-    ghost use Rattle.segment_store.specs.Trials.{AreTrialsKept, Trials};
+    ghost use Rattle.segment_store.specs.Trials.{HasKept, Trials};
 
     ghost Value = { Trials };
 
@@ -38,14 +38,14 @@ impl Model for Directory {
     } };
 
     ghost invariant = { λ d.
-        AreTrialsKept (record { base = arc_value d.base; list = (arc_value d.list).items; done = d.done })
+        HasKept (record { base = arc_value d.base; list = (arc_value d.list).items; done = d.done })
         d.accepted d.state };
 }
 
 impl Directory {
     ghost use Rattle.std.specs.Arc.{arc_value};
     ghost use Rattle.segment_store.specs.Segments.{IsCompacted};
-    ghost use Rattle.segment_store.specs.Trials.{IsAfter, AreTrialsKept, Leaves, one_more, tables_of};
+    ghost use Rattle.segment_store.specs.Trials.{IsAfter, HasKept, Leaves, one_more, tables_of};
     ghost use Rattle.segment_store.specs.Trials.{version_of};
 
     /// The base, with nothing tried.
@@ -114,7 +114,7 @@ impl Directory {
         accepted: u64,
         state: State,
     ) -> Directory
-        requires { AreTrialsKept (record {
+        requires { HasKept (record {
           base = arc_value base;
           list = (arc_value list).items;
           done = done;

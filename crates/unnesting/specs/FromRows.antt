@@ -64,7 +64,8 @@ pub record IsGrown (n w : ℕ) (old new : List Expr) : Type 0 where
 
 -- The conditions `old` and c over rows of n domain columns and w others, in two parts: `own` reads
 -- the others alone.
-pub record AreOwnAndRest (n w : ℕ) (old : List Expr) (c : Expr) (own rest : List Expr) : Type 0 where
+pub record AreOwnAndRest (n w : ℕ) (old : List Expr) (c : Expr) (own rest : List Expr)
+    : Type 0 where
   pub says : (d t : List Value) → length d ≡ n → length t ≡ w
       → min (all_rank own t) (all_rank rest (d ++ t))
       ≡ min (all_rank old (d ++ t)) (rank_of c (d ++ t))
@@ -82,7 +83,8 @@ pub record IsOwnOn (n w : ℕ) (side : Side) (c : Expr) (own : List Expr) : Type
 
 -- the plan grew by the rows of its last node that conditions keep, as far as another condition
 -- keeps them too
-pub record KeepsRows (old new : List Node) (from : ℕ) (conditions : List Expr) (id : ℕ) : Type 0 where
+pub record KeepsRows (old new : List Node) (from : ℕ) (conditions : List Expr) (id : ℕ)
+    : Type 0 where
   pub plan : Grows old new [] 0
   pub last : length new ≡ id + 1
   pub width : plan_width new id ≡ plan_width old from

@@ -1,6 +1,6 @@
 use Rattle.std.proofs.Common.{◌≡◌, ap}
 use Rattle.std.specs.Arc.{arc_value}
-use Rattle.segment_store.specs.Trials.{AreTrialsKept}
+use Rattle.segment_store.specs.Trials.{HasKept}
 use Rattle.segment_store.proofs.compacted.Compacted.directory.Goals as goal
 
 pub state_over-requires-clause-kinds : goal.state_over-requires-clause-kinds
@@ -11,7 +11,7 @@ at-requires c =
     let base : arc_value c.in_ok-base.base ≡ arc_value c.self.inside.base = c.in_ok-base.ensures in
     let list : (arc_value c.in_ok-list.list).items ≡ (arc_value c.self.inside.list).items =
     ap (λ v. v.items) c.in_ok-list.ensures in
-    let kept : AreTrialsKept (record {
+    let kept : HasKept (record {
       base = arc_value c.in_ok-base.base;
       list = (arc_value c.in_ok-list.list).items;
       done = c.self.inside.done;

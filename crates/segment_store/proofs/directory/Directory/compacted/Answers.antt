@@ -9,7 +9,7 @@ use Rattle.tpch_schema.specs.Tables.{all_tables}
 use Rattle.table_state.specs.Lists.{IsOfKinds, state_of}
 use Rattle.table_state.specs.Refresh.{Change}
 use Rattle.segment_store.specs.Segments.{AreJoined}
-use Rattle.segment_store.specs.Trials.{AreTrialsKept, Trials, tables_of}
+use Rattle.segment_store.specs.Trials.{HasKept, Trials, tables_of}
 use Rattle.segment_store.proofs.Neighbours.{all-of-kinds, fused}
 use Rattle.segment_store.proofs.directory.Directory.compacted.Goals as goal
 
