@@ -1,0 +1,11 @@
+//! Numbers of many keys by several threads: each thread numbers the keys of its own part of the
+//! hash.
+#![tactic(auto)]
+
+mod in_parts;
+mod leaders;
+mod made;
+mod parts;
+
+pub use in_parts::numbers_in_parts;
+pub use made::all_made;
