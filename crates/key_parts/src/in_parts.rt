@@ -44,7 +44,7 @@ fn all_leaders<R: Threads + Sync, K: Copy + Eq + Hash + Drop + Send + Sync>(
     Ok(leaders)
 }
 
-// The next leader of a part, of each of which so many were taken.
+// The next leader of a part; `taken` says how many of each part were taken.
 fn next_leader(leaders: &[Vec<u32>], taken: &mut Vec<usize>, part: usize) -> u32
     requires parts { length taken.old.items ≡ length leaders.now }
     requires part { part < length leaders.now }
