@@ -1,15 +1,14 @@
 -- What accumulators have of two lists one after the other, and what they give.
-use Rattle.std.proofs.Common.{◌≡◌, ℕ, ◌+◌, List, [], ◌∷◌, ◌++◌, sym, ◌∙◌, ap, arith, length}
+use Rattle.std.proofs.Common.{◌≡◌, ℕ, ◌+◌, List, [], ◌∷◌, ◌++◌, ◌∙◌, ap, arith, length}
 use Rattle.std.specs.Prelude.{min, not}
 use Rattle.std.proofs.lemmas.List.{length-append}
 use Rattle.std.proofs.lemmas.List.Elements.{filter-append}
-use Rattle.fixed_decimal.specs.Tally.{Sums, sums, joined}
 use Rattle.row_laws.specs.Bags.{weigh}
 use Rattle.row_laws.proofs.Bags.{weigh-append}
 use Rattle.row_laws.proofs.OfBags.{bottom-append, bottom_most}
 use Rattle.sql_value.specs.declared.value.Value.{Value}
 use Rattle.aggregates.specs.Values.{value_rank, is_null, above, below}
-use Rattle.accumulators.specs.Accumulators.{present, least_fault_rank, CountedRows, Counted, Summed}
+use Rattle.accumulators.specs.Accumulators.{present, least_fault_rank, capped, CountedRows, Counted, Summed}
 
 pub present-append : (vs ws : List Value) → present (vs ++ ws) ≡ present vs ++ present ws
 present-append vs ws = filter-append (λ v. not (is_null v)) vs ws
@@ -41,31 +40,26 @@ counted_joined l n m k p q vs ws h j is sum = record {
   terms = let e = h.terms in let f = j.terms in let a = length_both vs ws in omega (arith, e, f, a, sum);
 }
 
-sums_both : (vs ws : List Value) → joined (sums (length (present vs)) (weigh above vs) (weigh below vs)) (sums (length (present ws)) (weigh above ws) (weigh below ws))
-    ≡ sums (length (present (vs ++ ws))) (weigh above (vs ++ ws)) (weigh below (vs ++ ws))
-sums_both vs ws =
-    ap (λ n. sums n (weigh above vs + weigh above ws) (weigh below vs + weigh below ws)) (sym (length_both vs ws))
-    ∙ ap (λ n. sums (length (present (vs ++ ws))) n (weigh below vs + weigh below ws)) (sym (weigh-append above vs ws))
-    ∙ ap (λ n. sums (length (present (vs ++ ws))) (weigh above (vs ++ ws)) n) (sym (weigh-append below vs ws))
+capped_put : (f : Value → ℕ) (a x p : ℕ) (v : Value) (vs : List Value) → a ≡ capped (weigh f vs) → x ≡ f v → p ≡ capped (a + x) → p ≡ capped (weigh f (vs ++ v ∷ []))
+capped_put f a x p v vs e more is = let w = weigh-append f vs (v ∷ []) in omega (arith, e, more, is, w)
 
-one_weight : (f : Value → ℕ) (v : Value) → f v ≡ weigh f (v ∷ [])
-one_weight f v = omega arith
+capped_joined : (f : Value → ℕ) (a b p : ℕ) (vs ws : List Value) → a ≡ capped (weigh f vs) → b ≡ capped (weigh f ws) → p ≡ capped (a + b) → p ≡ capped (weigh f (vs ++ ws))
+capped_joined f a b p vs ws e g is = let w = weigh-append f vs ws in omega (arith, e, g, is, w)
 
-pub summed_put : (l n m k one : ℕ) (t u : Sums) (v : Value) (vs : List Value) → Summed l n t vs → m ≡ min l (value_rank v) → one ≡ length (present (v ∷ [])) → k ≡ n + one
-    → u ≡ joined t (sums (length (present (v ∷ []))) (above v) (below v)) → Summed m k u (vs ++ v ∷ [])
-summed_put l n m k one t u v vs h is o sum tally = record {
+pub summed_put : (l n m k one a b x y p q : ℕ) (v : Value) (vs : List Value) → Summed l n a b vs → m ≡ min l (value_rank v) → one ≡ length (present (v ∷ [])) → k ≡ n + one
+    → x ≡ above v → y ≡ below v → p ≡ capped (a + x) → q ≡ capped (b + y) → Summed m k p q (vs ++ v ∷ [])
+summed_put l n m k one a b x y p q v vs h is o sum more less up down = record {
   least = least_put l m v vs h.least is;
   terms = let e = h.terms in let a = length_both vs (v ∷ []) in omega (arith, e, a, o, sum);
-  tally =
-      tally ∙ ap (λ s. joined s (sums (length (present (v ∷ []))) (above v) (below v))) h.tally
-      ∙ ap (λ n. joined (sums (length (present vs)) (weigh above vs) (weigh below vs)) (sums (length (present (v ∷ []))) n (below v))) (one_weight above v)
-      ∙ ap (λ n. joined (sums (length (present vs)) (weigh above vs) (weigh below vs)) (sums (length (present (v ∷ []))) (weigh above (v ∷ [])) n)) (one_weight below v)
-      ∙ sums_both vs (v ∷ []);
+  above_is = capped_put above a x p v vs h.above_is more up;
+  below_is = capped_put below b y q v vs h.below_is less down;
 }
 
-pub summed_joined : (l n m k p q : ℕ) (t u w : Sums) (vs ws : List Value) → Summed l n t vs → Summed m k u ws → p ≡ min l m → q ≡ n + k → w ≡ joined t u → Summed p q w (vs ++ ws)
-summed_joined l n m k p q t u w vs ws h j is sum tally = record {
+pub summed_joined : (l n m k r t a b c d p q : ℕ) (vs ws : List Value) → Summed l n a b vs → Summed m k c d ws → r ≡ min l m → t ≡ n + k → p ≡ capped (a + c) → q ≡ capped (b + d)
+    → Summed r t p q (vs ++ ws)
+summed_joined l n m k r t a b c d p q vs ws h j is sum up down = record {
   least = let e = h.least in let f = j.least in let a = least-append vs ws in omega (arith, e, f, a, is);
   terms = let e = h.terms in let f = j.terms in let a = length_both vs ws in omega (arith, e, f, a, sum);
-  tally = tally ∙ ap (λ s. joined s u) h.tally ∙ ap (joined (sums (length (present vs)) (weigh above vs) (weigh below vs))) j.tally ∙ sums_both vs ws;
+  above_is = capped_joined above a c p vs ws h.above_is j.above_is up;
+  below_is = capped_joined below b d q vs ws h.below_is j.below_is down;
 }

@@ -1,3 +1,4 @@
 pub mod Joins
 pub mod Firsts
 pub mod DistinctValues
+mod Quotients

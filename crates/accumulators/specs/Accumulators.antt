@@ -1,12 +1,11 @@
 -- What accumulators have of the values that they took.
-use Rattle.std.specs.Prelude.{◌≡◌, ℕ, ◌==◌, List, [], ◌∷◌, length, Bool, cond}
-use Rattle.fixed_decimal.specs.Tally.{Sums, sums, total_of, average_of, average_scale}
+use Rattle.std.specs.Prelude.{◌≡◌, ℕ, ◌-◌, ◌^◌, ◌==◌, min, List, [], ◌∷◌, length, Bool, cond}
 use Rattle.row_laws.specs.Bags.{weigh, each_once}
 use Rattle.row_laws.specs.Aggregates.{not_null, least_fault, first_of}
 use Rattle.key_tables.specs.Distinct.{added}
 use Rattle.sql_value.specs.declared.value.Value.{Value}
 use Rattle.sql_value.specs.Value.{same_value}
-use Rattle.aggregates.specs.Values.{written, reading, above, below, is_before, number_or_fault}
+use Rattle.aggregates.specs.Values.{written, reading, above, below, is_before}
 
 -- a function of a list of values, as an aggregate is
 abbrev pub OfValues : Type 0
@@ -33,23 +32,20 @@ pub record Counted (rank n : ℕ) (vs : List Value) : Type 0 where
   pub least : rank ≡ least_fault_rank vs
   pub terms : n ≡ length (present vs)
 
--- the same with the sums of the numbers at or above 0, and of the others negated
-pub record Summed (rank n : ℕ) (added_up : Sums) (vs : List Value) : Type 0 where
+-- a sum, or 2^128 - 1 where it is more
+abbrev pub capped : ℕ → ℕ
+capped n = min n (2 ^ 128 - 1)
+
+-- the same with the sums of the numbers at or above 0, and of the others negated, both capped
+pub record Summed (rank n up down : ℕ) (vs : List Value) : Type 0 where
   pub least : rank ≡ least_fault_rank vs
   pub terms : n ≡ length (present vs)
-  pub tally : added_up ≡ sums (length (present vs)) (weigh above vs) (weigh below vs)
+  pub above_is : up ≡ capped (weigh above vs)
+  pub below_is : down ≡ capped (weigh below vs)
 
 -- null of no terms, else a number
 abbrev pub unless_empty : ℕ → Value → Value
 unless_empty terms v = cond (terms == 0) (written 1) v
-
--- what was added up, as a number of the scale
-abbrev pub total_value : ℕ → Sums → Value
-total_value scale tally = number_or_fault scale (total_of tally)
-
--- what was added up, divided by the number of terms
-abbrev pub average_value : ℕ → Sums → Value
-average_value scale tally = number_or_fault (average_scale scale) (average_of tally scale)
 
 -- the order in which the first is the least value, or the greatest
 abbrev pub extreme_order : Bool → Value → Value → Bool

@@ -1,8 +1,9 @@
 //! What an accumulator promises.
 ghost use Rattle.std.specs.Prelude.{◌≡◌, ℕ, ◌+◌, ◌<◌, ◌≤◌, ◌^◌, List, [], ◌∷◌, ◌++◌, length, OnOk};
-ghost use Rattle.std.specs.Prelude.{IfOk};
+ghost use Rattle.std.specs.Prelude.{IfOk, IfSome};
+ghost use Rattle.row_laws.specs.Ranked.{true_rank};
 ghost use Rattle.sql_value.specs.declared.value.Value.{Value as Datum};
-ghost use Rattle.accumulators.specs.Accumulators.{OfValues};
+ghost use Rattle.accumulators.specs.Accumulators.{OfValues, Summed};
 
 use fixed_decimal::Scale;
 use sql_value::Value;
@@ -24,6 +25,14 @@ pub trait Accumulator: Drop {
     fn new(alloc: Global, scale: Scale) -> Self
         ensures terms { terms result ≡ 0 }
         ensures taken { has_taken result (aggregate scale) [] };
+
+    /// Of `count` numbers of this scale, where those at or above 0 have the sum `above`, and the
+    /// others negated the sum `below`. None where it keeps more of numbers than that.
+    fn of_sums(scale: Scale, count: u64, above: u128, below: u128) -> Option<Self>
+        ensures terms { IfSome result (λ s. terms s ≡ count) }
+        ensures taken { IfSome result
+            (λ s. (vs : List Datum) → Summed true_rank count above below vs
+            → has_taken s (aggregate scale) vs) };
 
     /// Takes a value after those that it has.
     fn put(&mut self, value: &Value) -> Result<(), AllocError>

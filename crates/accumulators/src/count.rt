@@ -27,6 +27,10 @@ impl Accumulator for CountRows {
         CountRows { rows: 0 }
     }
 
+    fn of_sums(_scale: Scale, _count: u64, _above: u128, _below: u128) -> Option<CountRows> {
+        None
+    }
+
     fn put(&mut self, _value: &Value) -> Result<(), AllocError> {
         self.rows += 1;
         Ok(())
@@ -67,6 +71,13 @@ impl Accumulator for Count {
             least: Standing::AtTrue,
             terms: 0,
         }
+    }
+
+    fn of_sums(_scale: Scale, count: u64, _above: u128, _below: u128) -> Option<Count> {
+        Some(Count {
+            least: Standing::AtTrue,
+            terms: count,
+        })
     }
 
     fn put(&mut self, value: &Value) -> Result<(), AllocError> {

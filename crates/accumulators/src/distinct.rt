@@ -40,6 +40,10 @@ impl Accumulator for CountDistinct {
         }
     }
 
+    fn of_sums(_scale: Scale, _count: u64, _above: u128, _below: u128) -> Option<CountDistinct> {
+        None
+    }
+
     fn put(&mut self, value: &Value) -> Result<(), AllocError> {
         if is_null(value) {
             return Ok(());

@@ -36,6 +36,10 @@ impl Accumulator for Least {
         }
     }
 
+    fn of_sums(_scale: Scale, _count: u64, _above: u128, _below: u128) -> Option<Least> {
+        None
+    }
+
     fn put(&mut self, value: &Value) -> Result<(), AllocError> {
         self.standing = least_with(self.standing, value);
         if replaces(&self.best, value, false) {
@@ -84,6 +88,10 @@ impl Accumulator for Greatest {
             standing: Standing::AtTrue,
             best: Value::Null,
         }
+    }
+
+    fn of_sums(_scale: Scale, _count: u64, _above: u128, _below: u128) -> Option<Greatest> {
+        None
     }
 
     fn put(&mut self, value: &Value) -> Result<(), AllocError> {

@@ -18,7 +18,8 @@ impl Accumulator for Sum {
     ghost use Rattle.accumulators.specs.Accumulators.{GiveTheSame, Summed};
 
     ghost has_taken = { λ s aggregate vs. GiveTheSame aggregate (sum_of (reading s.terms.scale))
-        × Summed (standing_rank s.terms.least) s.terms.terms s.terms.tally vs };
+        × Summed (standing_rank s.terms.least) s.terms.terms s.terms.above
+        s.terms.below vs };
 
     ghost terms = { λ s. s.terms.terms };
 
@@ -28,6 +29,12 @@ impl Accumulator for Sum {
         Sum {
             terms: Terms::new(scale),
         }
+    }
+
+    fn of_sums(scale: Scale, count: u64, above: u128, below: u128) -> Option<Sum> {
+        Some(Sum {
+            terms: Terms::of_sums(scale, count, above, below),
+        })
     }
 
     fn put(&mut self, value: &Value) -> Result<(), AllocError> {
@@ -59,7 +66,8 @@ impl Accumulator for Average {
 
     ghost has_taken = { λ s aggregate vs. GiveTheSame aggregate
         (avg_of (reading s.terms.scale) (divided s.terms.scale))
-        × Summed (standing_rank s.terms.least) s.terms.terms s.terms.tally vs };
+        × Summed (standing_rank s.terms.least) s.terms.terms s.terms.above
+        s.terms.below vs };
 
     ghost terms = { λ s. s.terms.terms };
 
@@ -69,6 +77,12 @@ impl Accumulator for Average {
         Average {
             terms: Terms::new(scale),
         }
+    }
+
+    fn of_sums(scale: Scale, count: u64, above: u128, below: u128) -> Option<Average> {
+        Some(Average {
+            terms: Terms::of_sums(scale, count, above, below),
+        })
     }
 
     fn put(&mut self, value: &Value) -> Result<(), AllocError> {

@@ -1,14 +1,13 @@
 //! What each accumulator reads of a value.
-ghost use Rattle.std.specs.Prelude.{◌≡◌, ◌+◌, ◌<◌, ◌≤◌, ◌^◌, min, length, ◌∷◌, [], nat_lt};
+ghost use Rattle.std.specs.Prelude.{◌≡◌, ◌≤◌, min, length, ◌∷◌, [], nat_lt};
 ghost use Rattle.std.specs.Prelude.{if◌then◌else◌};
 ghost use Rattle.row_laws.specs.Ranked.{true_rank};
-ghost use Rattle.fixed_decimal.specs.Tally.{sums, joined};
 ghost use Rattle.sql_value.specs.Truth.{standing_rank};
 ghost use Rattle.aggregates.specs.Values.{written, value_rank, is_null, above, below};
 ghost use Rattle.aggregates.specs.Values.{number_or_fault};
 ghost use Rattle.accumulators.specs.Accumulators.{present};
 
-use fixed_decimal::{NumberFault, Scale, Tally};
+use fixed_decimal::{NumberFault, Scale};
 use sql_value::{Fault, Standing, Value};
 
 // The lesser of a standing and a value's fault.
@@ -39,16 +38,23 @@ pub(crate) fn terms_of(value: &Value) -> u64
     }
 }
 
-// Adds a value that isn't null: a number's coefficient, and 0 for any other.
-pub(crate) fn add_term(tally: &mut Tally, value: &Value)
-    requires { tally.old.terms + 1 < 2 ^ 64 }
-    ensures { tally.new ≡ joined tally.old
-        (sums (length (present (value.now ∷ []))) (above value.now) (below value.now)) }
+// A number's coefficient where it is above 0, else 0.
+pub(crate) fn above(value: &Value) -> u128
+    ensures { result ≡ above value.now }
 {
     match value {
-        Value::Null => {}
-        Value::Number(_, coefficient) => tally.put(*coefficient),
-        _ => tally.put(0),
+        Value::Number(_, coefficient) if *coefficient > 0 => *coefficient as u128,
+        _ => 0,
+    }
+}
+
+// How far a number's coefficient is below 0, where it is, else 0.
+pub(crate) fn below(value: &Value) -> u128
+    ensures { result ≡ below value.now }
+{
+    match value {
+        Value::Number(_, coefficient) if *coefficient < 0 => coefficient.unsigned_abs(),
+        _ => 0,
     }
 }
 

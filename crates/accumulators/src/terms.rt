@@ -1,14 +1,16 @@
 //! Terms that are added up.
-ghost use Rattle.std.specs.Prelude.{◌≡◌, [], ◌^◌, ◌<◌, ◌+◌, ◌≤◌, ◌∷◌, ◌++◌, min, List};
-ghost use Rattle.fixed_decimal.specs.Tally.{average_scale};
+ghost use Rattle.std.specs.Prelude.{◌≡◌, [], ◌^◌, ◌<◌, ◌+◌, ◌≤◌, ◌∷◌, ◌++◌, min, List, pos};
+ghost use Rattle.fixed_decimal.specs.Decimal.{in_range, nearest};
+ghost use Rattle.fixed_decimal.specs.Tally.{sums, total_of, average_of, average_scale};
+ghost use Rattle.row_laws.specs.Ranked.{true_rank};
+ghost use Rattle.row_laws.specs.Aggregates.{sum_of, avg_of};
 ghost use Rattle.sql_value.specs.declared.value.Value.{Value as Datum};
 ghost use Rattle.sql_value.specs.Truth.{standing_rank};
-ghost use Rattle.row_laws.specs.Aggregates.{sum_of, avg_of};
 ghost use Rattle.aggregates.specs.Values.{reading, divided};
-ghost use Rattle.accumulators.specs.Accumulators.{Summed, unless_empty, total_value, average_value};
+ghost use Rattle.accumulators.specs.Accumulators.{Summed, unless_empty};
 
-use crate::term::{add_term, least_with, number_or_fault, terms_of, unless_fault};
-use fixed_decimal::{Scale, Tally};
+use crate::term::{above, below, least_with, number_or_fault, terms_of, unless_fault};
+use fixed_decimal::{NumberFault, Scale, quotient, rescale};
 use sql_value::{Standing, Value};
 
 /// Terms of one scale, added up.
@@ -17,21 +19,34 @@ pub(crate) struct Terms {
     pub(crate) scale: Scale,
     pub(crate) least: Standing,
     pub(crate) terms: u64,
-    pub(crate) tally: Tally,
-    ghost agree: { tally.terms ≡ terms },
+    // The sums of the numbers at or above 0, and of the others negated: u128::MAX for more.
+    pub(crate) above: u128,
+    pub(crate) below: u128,
 }
 
 impl Terms {
     pub(crate) fn new(scale: Scale) -> Terms
         ensures scale { result.scale ≡ scale }
         ensures terms { result.terms ≡ 0 }
-        ensures taken { Summed (standing_rank result.least) result.terms result.tally [] }
+        ensures taken { Summed (standing_rank result.least) result.terms result.above result.below
+            [] }
+    {
+        Terms::of_sums(scale, 0, 0, 0)
+    }
+
+    // Of so many numbers with these sums.
+    pub(crate) fn of_sums(scale: Scale, terms: u64, above: u128, below: u128) -> Terms
+        ensures scale { result.scale ≡ scale }
+        ensures terms { result.terms ≡ terms }
+        ensures taken { (vs : List Datum) → Summed true_rank terms above below vs
+            → Summed (standing_rank result.least) result.terms result.above result.below vs }
     {
         Terms {
             scale,
             least: Standing::AtTrue,
-            terms: 0,
-            tally: Tally::new(),
+            terms,
+            above,
+            below,
         }
     }
 
@@ -40,13 +55,14 @@ impl Terms {
         ensures terms { self.new.terms ≤ self.old.terms + 1 }
         ensures scale { self.new.scale ≡ self.old.scale }
         ensures taken { (vs : List Datum)
-            → Summed (standing_rank self.old.least) self.old.terms self.old.tally vs
-            → Summed (standing_rank self.new.least) self.new.terms self.new.tally
+            → Summed (standing_rank self.old.least) self.old.terms self.old.above self.old.below vs
+            → Summed (standing_rank self.new.least) self.new.terms self.new.above self.new.below
             (vs ++ value.now ∷ []) }
     {
         self.least = least_with(self.least, value);
         self.terms += terms_of(value);
-        add_term(&mut self.tally, value);
+        self.above = self.above.saturating_add(above(value));
+        self.below = self.below.saturating_add(below(value));
     }
 
     pub(crate) fn merge(&mut self, other: &Terms)
@@ -54,13 +70,38 @@ impl Terms {
         ensures terms { self.new.terms ≤ self.old.terms + other.now.terms }
         ensures scale { self.new.scale ≡ self.old.scale }
         ensures taken { (vs ws : List Datum)
-            → Summed (standing_rank self.old.least) self.old.terms self.old.tally vs
-            → Summed (standing_rank other.now.least) other.now.terms other.now.tally ws
-            → Summed (standing_rank self.new.least) self.new.terms self.new.tally (vs ++ ws) }
+            → Summed (standing_rank self.old.least) self.old.terms self.old.above self.old.below vs
+            → Summed (standing_rank other.now.least) other.now.terms other.now.above
+            other.now.below ws
+            → Summed (standing_rank self.new.least) self.new.terms self.new.above self.new.below
+            (vs ++ ws) }
     {
         self.least = self.least.lesser(other.least);
         self.terms += other.terms;
-        self.tally.merge(&other.tally);
+        self.above = self.above.saturating_add(other.above);
+        self.below = self.below.saturating_add(other.below);
+    }
+
+    // Their sum, in range where both its parts are.
+    fn total(&self) -> Result<i128, NumberFault>
+        ensures { result ≡ total_of (sums self.now.terms self.now.above self.now.below) }
+    {
+        if self.above < 1 << 127 && self.below < 1 << 127 {
+            Ok(self.above as i128 - self.below as i128)
+        } else {
+            Err(NumberFault::NumberRange)
+        }
+    }
+
+    // The sum, rescaled to four places more (18 at most) and divided by the number of terms.
+    fn mean(&self) -> Result<i128, NumberFault>
+        requires { 1 ≤ self.now.terms }
+        ensures { result
+            ≡ average_of (sums self.now.terms self.now.above self.now.below) self.now.scale }
+    {
+        let total = self.total()?;
+        let scaled = rescale(total, self.scale, average_scale(self.scale))?;
+        whole_quotient(scaled, self.terms)
     }
 
     fn unless_empty(&self, value: Value) -> Value
@@ -71,29 +112,39 @@ impl Terms {
 
     pub(crate) fn sum(&self) -> Value
         ensures { (vs : List Datum)
-            → Summed (standing_rank self.now.least) self.now.terms self.now.tally vs
+            → Summed (standing_rank self.now.least) self.now.terms self.now.above self.now.below vs
             → result ≡ sum_of (reading self.now.scale) vs }
     {
-        let total = number_or_fault(self.scale, self.tally.total());
+        let total = number_or_fault(self.scale, self.total());
         unless_fault(self.least, self.unless_empty(total))
     }
 
     pub(crate) fn average(&self) -> Value
         ensures { (vs : List Datum)
-            → Summed (standing_rank self.now.least) self.now.terms self.now.tally vs
+            → Summed (standing_rank self.now.least) self.now.terms self.now.above self.now.below vs
             → result ≡ avg_of (reading self.now.scale) (divided self.now.scale) vs }
     {
         if self.terms == 0 {
             return unless_fault(self.least, Value::Null);
         }
-        let average = number_or_fault(average_scale(self.scale), self.tally.average(self.scale));
-        unless_fault(self.least, average)
+        let mean = number_or_fault(average_scale(self.scale), self.mean());
+        unless_fault(self.least, mean)
     }
+}
+
+// The whole number nearest to a / n, a half away from zero.
+fn whole_quotient(a: i128, n: u64) -> Result<i128, NumberFault>
+    requires { 1 ≤ n }
+    ensures { result ≡ in_range (nearest a (pos n)) }
+{
+    // A quotient has the scale of its dividend from six places on.
+    quotient(a, Scale::new(18), n as i128, Scale::WHOLE)
 }
 
 // Four places more, 18 at most.
 fn average_scale(scale: Scale) -> Scale
-    ensures { result ≡ average_scale scale }
+    ensures value { result ≡ average_scale scale }
+    ensures no_less { scale ≤ result }
 {
     Scale::new((scale.places() + 4).min(18))
 }

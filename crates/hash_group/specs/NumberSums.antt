@@ -1,36 +1,30 @@
 -- Sums of numbers, group by group.
-use Rattle.std.specs.Prelude.{◌≡◌, ℕ, ◌<◌, ◌≤◌, ◌*◌, ◌^◌, ◌==◌, List, length, ℤ, pos, ◌-ℤ◌}
-use Rattle.std.specs.Prelude.{◌≤ℤ◌, cond, slice_index_or}
+use Rattle.std.specs.Prelude.{◌≡◌, ℕ, ◌<◌, ◌≤◌, ◌*◌, ◌^◌, ◌==◌, List, length, pos, ◌-ℤ◌, cond}
+use Rattle.std.specs.Prelude.{slice_index_or}
 use Rattle.row_laws.specs.Ranked.{true_rank}
-use Rattle.row_laws.specs.Bags.{weigh}
 use Rattle.row_laws.specs.TableLaws.{with_number}
 use Rattle.sql_value.specs.declared.value.Value.{Value}
 use Rattle.sql_value.specs.declared.value.Value.TheVariants.{Null, Number}
-use Rattle.aggregates.specs.Values.{above, below}
-use Rattle.accumulators.specs.Accumulators.{present, least_fault_rank}
+use Rattle.accumulators.specs.Accumulators.{Summed}
 
--- far from the ends of 128 bits
-abbrev pub HasRoom : ℤ → Type 0
-HasRoom sum = ((pos 0 -ℤ pos (2 ^ 126)) ≤ℤ sum) × (sum ≤ℤ pos (2 ^ 126))
+-- The values are numbers of 64 bits: how many, the sum of those at or above 0, and of the others
+-- negated.
+pub record NumbersSummed (terms up down : ℕ) (values : List Value) : Type 0 where
+  pub summed : Summed true_rank terms up down values
+  pub above_small : up ≤ terms * 2 ^ 63
+  pub below_small : down ≤ terms * 2 ^ 63
 
--- The values are numbers of 64 bits: so many, with this sum.
-pub record IsSum (terms : ℕ) (sum : ℤ) (values : List Value) : Type 0 where
-  pub no_fault : least_fault_rank values ≡ true_rank
-  pub terms_are : terms ≡ length (present values)
-  pub sum_is : sum ≡ pos (weigh above values) -ℤ pos (weigh below values)
-  pub above_small : weigh above values ≤ terms * 2 ^ 63
-  pub below_small : weigh below values ≤ terms * 2 ^ 63
-
--- of each of `count` groups how many values it has, and their sum
-pub record AreSums (numbers : List ℕ) (values : List Value) (count : ℕ) (terms : List ℕ)
-    (sums : List ℤ) : Type 0 where
+-- the same of each of `count` groups
+pub record AreSums (numbers : List ℕ) (values : List Value) (count : ℕ) (terms ups downs : List ℕ)
+    : Type 0 where
   pub terms_long : length terms ≡ count
-  pub sums_long : length sums ≡ count
+  pub above_long : length ups ≡ count
+  pub below_long : length downs ≡ count
   pub few : (n : ℕ) → n < count → slice_index_or terms n 0 ≤ length numbers
   pub each : (n : ℕ) → n < count
-      → IsSum (slice_index_or terms n 0) (slice_index_or sums n (pos 0))
+      → NumbersSummed (slice_index_or terms n 0) (slice_index_or ups n 0) (slice_index_or downs n 0)
       (with_number numbers values n)
 
 -- null of no terms, else the sum as a number of the scale
-abbrev pub sum_value : ℕ → ℕ → ℤ → Value
-sum_value scale terms sum = cond (terms == 0) Null (Number scale sum)
+abbrev pub sum_value : ℕ → ℕ → ℕ → ℕ → Value
+sum_value scale terms up down = cond (terms == 0) Null (Number scale (pos up -ℤ pos down))

@@ -11,7 +11,7 @@ use crate::aggregate::{accumulated_by_number, aggregated_by_number, column_of};
 use crate::grouping::{at_places, group_numbers, key_columns, one_batch};
 use crate::number_sums::sum_column;
 use crate::standings::{least_standings, row_standings};
-use crate::values::{ColumnValues, Nulls, NumberValues};
+use crate::values::{ColumnValues, Nulls};
 use accumulators::CountRows;
 use aggregates::AggregateFunction;
 use algebra::Aggregate;
@@ -91,37 +91,7 @@ pub(crate) fn argument_column(
     Ok(column.finish())
 }
 
-// For each of `count` numbers the aggregate of a column's values in the rows with that number, by
-// accumulators.
-fn aggregated(
-    alloc: Global,
-    function: AggregateFunction,
-    scale: Scale,
-    numbers: &[u32],
-    count: usize,
-    arguments: &Column,
-) -> Result<Vec<Value>, AllocError>
-    requires rows { length numbers.now ≡ length arguments.now }
-    requires small { length numbers.now < 2 ^ 32 }
-    requires numbers { AreBelow count numbers.now }
-    ensures { IfOk result (λ v. v.items
-        ≡ values_by_number (aggregate_of function scale) numbers.now arguments.now 0 count) }
-{
-    match arguments.as_numbers() {
-        Some((own, coefficients)) => {
-            let typed = NumberValues::new(own, coefficients);
-            let values = aggregated_by_number(alloc, function, scale, numbers, count, &typed)?;
-            Ok(values)
-        }
-        None => {
-            let any = ColumnValues::new(alloc, arguments);
-            let values = aggregated_by_number(alloc, function, scale, numbers, count, &any)?;
-            Ok(values)
-        }
-    }
-}
-
-// The same as a column.
+// For each of `count` numbers the aggregate of a column's values in the rows with that number.
 fn argument_aggregates(
     alloc: Global,
     function: AggregateFunction,
@@ -143,8 +113,9 @@ fn argument_aggregates(
         let sums = sum_column(alloc, scale, own, numbers, count, coefficients)?;
         return Ok(sums);
     }
-    let values = aggregated(alloc, function, scale, numbers, count, arguments)?;
-    let column = column_of(alloc, values.as_slice())?;
+    let values = ColumnValues::new(alloc, arguments);
+    let aggregates = aggregated_by_number(alloc, function, scale, numbers, count, &values)?;
+    let column = column_of(alloc, aggregates.as_slice())?;
     Ok(column)
 }
 

@@ -1,12 +1,14 @@
 //! The accumulators of groups.
 ghost use Rattle.std.specs.Prelude.{◌≡◌, ℕ, ◌+◌, ◌<◌, ◌^◌, List, [], map, length, IfOk, OnOk};
 ghost use Rattle.sql_value.specs.declared.value.Value.{Value as Datum};
+ghost use Rattle.sql_value.specs.declared.value.Value.TheVariants.{Number};
 ghost use Rattle.columns.specs.Lists.{AreBelow, one_list};
 ghost use Rattle.hash_group.specs.ByNumber.{AtEach, PutAt, AreValues};
 ghost use Rattle.hash_group.specs.Regrouping.{lists_by_number};
 ghost use Rattle.hash_group.specs.States.{HaveTaken, MergedAt};
 
-use crate::values::ValueList;
+use crate::number_sums::summed_states;
+use crate::values::{NumberValues, ValueList};
 use accumulators::Accumulator;
 use fixed_decimal::Scale;
 use sql_value::Value;
@@ -66,9 +68,9 @@ pub(crate) fn values_of<A: Accumulator>(
     Ok(values)
 }
 
-/// For each of `count` numbers an accumulator that has taken the values of the rows with that
-/// number, in their order.
-pub(crate) fn states_by_number<A: Accumulator, L: ValueList>(
+// For each of `count` numbers an accumulator that has taken the values of the rows with that number
+// one by one, in their order.
+fn states_row_by_row<A: Accumulator, L: ValueList>(
     alloc: Global,
     scale: Scale,
     numbers: &[u32],
@@ -86,6 +88,53 @@ pub(crate) fn states_by_number<A: Accumulator, L: ValueList>(
         let value = values.value(row)?;
         put_at(&mut states, numbers[row] as usize, &value)?;
     }
+    Ok(states)
+}
+
+// The same for numbers: by their sums, where accumulators keep no more of them.
+fn number_states<A: Accumulator>(
+    alloc: Global,
+    scale: Scale,
+    own: Scale,
+    numbers: &[u32],
+    count: usize,
+    coefficients: &[i64],
+) -> Result<Vec<A>, AllocError>
+    requires rows { length numbers.now ≡ length coefficients.now }
+    requires small { length numbers.now < 2 ^ 32 }
+    requires numbers { AreBelow count numbers.now }
+    ensures { IfOk result (λ v. HaveTaken A.has_taken A.terms (A.aggregate scale)
+        (lists_by_number numbers.now (map (Number own) coefficients.now) 0 count) v.items) }
+{
+    let summed = summed_states::<A>(alloc, scale, own, numbers, count, coefficients)?;
+    if let Some(states) = summed {
+        return Ok(states);
+    }
+    let typed = NumberValues::new(own, coefficients);
+    let states = states_row_by_row::<A, NumberValues>(alloc, scale, numbers, count, &typed)?;
+    Ok(states)
+}
+
+/// For each of `count` numbers an accumulator that has taken the values of the rows with that
+/// number, in their order.
+pub(crate) fn states_by_number<A: Accumulator, L: ValueList>(
+    alloc: Global,
+    scale: Scale,
+    numbers: &[u32],
+    count: usize,
+    values: &L,
+) -> Result<Vec<A>, AllocError>
+    requires rows { length numbers.now ≡ length (L.shown values.now) }
+    requires small { length numbers.now < 2 ^ 32 }
+    requires numbers { AreBelow count numbers.now }
+    ensures { IfOk result (λ v. HaveTaken A.has_taken A.terms (A.aggregate scale)
+        (lists_by_number numbers.now (L.shown values.now) 0 count) v.items) }
+{
+    if let Some((own, coefficients)) = values.as_numbers() {
+        let states = number_states::<A>(alloc, scale, own, numbers, count, coefficients)?;
+        return Ok(states);
+    }
+    let states = states_row_by_row::<A, L>(alloc, scale, numbers, count, values)?;
     Ok(states)
 }
 

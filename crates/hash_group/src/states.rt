@@ -1,17 +1,14 @@
 //! What accumulators have of the groups of parts.
-ghost use Rattle.std.specs.Prelude.{◌≡◌, ◌<◌, ◌^◌, length, IfOk};
-ghost use Rattle.columns.specs.Lists.{AreBelow};
+ghost use Rattle.std.specs.Prelude.{◌≡◌, IfOk};
 ghost use Rattle.hash_group.specs.PartGroups.{group_arguments, part_arguments, scale_of};
-ghost use Rattle.hash_group.specs.Regrouping.{lists_by_number};
 ghost use Rattle.hash_group.specs.States.{HaveTaken};
 
 use crate::group_by::argument_column;
 use crate::groups::states_by_number;
 use crate::part::GroupedPart;
-use crate::values::{ColumnValues, Nulls, NumberValues};
+use crate::values::{ColumnValues, Nulls};
 use accumulators::Accumulator;
 use algebra::Aggregate;
-use columns::Column;
 use fixed_decimal::Scale;
 use std::alloc::{AllocError, Global};
 
@@ -22,35 +19,6 @@ pub fn scale_of(aggregate: &Aggregate) -> Scale
     match aggregate {
         Aggregate::CountRows => Scale::WHOLE,
         Aggregate::Of(_, scale, _) => *scale,
-    }
-}
-
-// For each of `count` numbers an accumulator that has taken a column's values in the rows with
-// that number.
-fn column_states<A: Accumulator>(
-    alloc: Global,
-    scale: Scale,
-    numbers: &[u32],
-    count: usize,
-    arguments: &Column,
-) -> Result<Vec<A>, AllocError>
-    requires rows { length numbers.now ≡ length arguments.now }
-    requires small { length numbers.now < 2 ^ 32 }
-    requires numbers { AreBelow count numbers.now }
-    ensures { IfOk result (λ v. HaveTaken A.has_taken A.terms (A.aggregate scale)
-        (lists_by_number numbers.now arguments.now 0 count) v.items) }
-{
-    match arguments.as_numbers() {
-        Some((own, coefficients)) => {
-            let typed = NumberValues::new(own, coefficients);
-            let states = states_by_number::<A, NumberValues>(alloc, scale, numbers, count, &typed)?;
-            Ok(states)
-        }
-        None => {
-            let any = ColumnValues::new(alloc, arguments);
-            let states = states_by_number::<A, ColumnValues>(alloc, scale, numbers, count, &any)?;
-            Ok(states)
-        }
     }
 }
 
@@ -79,7 +47,14 @@ fn group_states<A: Accumulator>(
         }
         Aggregate::Of(_, scale, e) => {
             let arguments = argument_column(alloc, &part.rows, e.get(), *scale)?;
-            let states = column_states::<A>(alloc, *scale, numbers, part.keys.len(), &arguments)?;
+            let values = ColumnValues::new(alloc, &arguments);
+            let states = states_by_number::<A, ColumnValues>(
+                alloc,
+                *scale,
+                numbers,
+                part.keys.len(),
+                &values,
+            )?;
             Ok(states)
         }
     }

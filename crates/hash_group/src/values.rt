@@ -1,5 +1,6 @@
 //! A list of values that are read one by one, as those of a column.
 ghost use Rattle.std.specs.Prelude.{◌≡◌, ◌<◌, List, length, map, replicate, slice_get, Some, IfOk};
+ghost use Rattle.std.specs.Prelude.{IfSome};
 ghost use Rattle.sql_value.specs.declared.value.Value.{Value as Datum};
 ghost use Rattle.sql_value.specs.declared.value.Value.TheVariants.{Null, Number};
 
@@ -17,6 +18,10 @@ pub trait ValueList {
     fn value(&self, i: usize) -> Result<Value, AllocError>
         requires { i < length (shown self.now) }
         ensures { IfOk result (λ v. slice_get (shown self.now) i ≡ Some v) };
+
+    /// The coefficients and their scale, where it keeps all values as numbers of 64 bits.
+    fn as_numbers(&self) -> Option<(Scale, &[i64])>
+        ensures { IfSome result (λ p. shown self.now ≡ map (Number p.0) p.1.now) };
 }
 
 /// The values of a slice.
@@ -38,6 +43,10 @@ impl<'a> ValueList for SliceValues<'a> {
 
     fn value(&self, i: usize) -> Result<Value, AllocError> {
         self.values[i].clone()
+    }
+
+    fn as_numbers(&self) -> Option<(Scale, &[i64])> {
+        None
     }
 }
 
@@ -63,6 +72,10 @@ impl<'a> ValueList for ColumnValues<'a> {
     fn value(&self, i: usize) -> Result<Value, AllocError> {
         self.column.at(self.alloc, i)
     }
+
+    fn as_numbers(&self) -> Option<(Scale, &[i64])> {
+        self.column.as_numbers()
+    }
 }
 
 /// Numbers of one scale.
@@ -87,6 +100,10 @@ impl<'a> ValueList for NumberValues<'a> {
     fn value(&self, i: usize) -> Result<Value, AllocError> {
         Ok(Value::Number(self.scale, i128::from(self.numbers[i])))
     }
+
+    fn as_numbers(&self) -> Option<(Scale, &[i64])> {
+        Some((self.scale, self.numbers))
+    }
 }
 
 /// So many nulls.
@@ -109,5 +126,9 @@ impl ValueList for Nulls {
 
     fn value(&self, _i: usize) -> Result<Value, AllocError> {
         Ok(Value::Null)
+    }
+
+    fn as_numbers(&self) -> Option<(Scale, &[i64])> {
+        None
     }
 }

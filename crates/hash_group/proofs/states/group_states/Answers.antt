@@ -1,4 +1,4 @@
-use Rattle.std.proofs.Common.{◌≡◌, List, ap, sym, subst, length}
+use Rattle.std.proofs.Common.{List, ap, sym, subst, length}
 use Rattle.sql_value.specs.declared.value.Value.{Value}
 use Rattle.algebra.specs.declared.aggregate.Aggregate.{Aggregate}
 use Rattle.hash_group.specs.PartGroups.{group_arguments, scale_of}

@@ -1,4 +1,4 @@
-use Rattle.std.proofs.Common.{◌≡◌, ◌++◌, ◌+◌, ℕ, List, ap, sym, subst, ◌∙◌, arith, take}
+use Rattle.std.proofs.Common.{◌++◌, ◌+◌, List, sym, subst, arith, take}
 use Rattle.std.proofs.lemmas.List.{take_all}
 use Rattle.sql_value.specs.declared.value.Value.{Value}
 use Rattle.hash_group.specs.PartGroups.{group_arguments, part_arguments, scale_of}

@@ -1,10 +1,10 @@
-use Rattle.std.proofs.Common.{◌≡◌, ◌<◌, ◌≤◌, ◌^◌, ℕ, length, get_or, arith, subst}
+use Rattle.std.proofs.Common.{◌<◌, ◌≤◌, ◌^◌, ℕ, length, get_or, arith, subst}
 use Rattle.std.proofs.lemmas.Option.{slice_get-get_or}
 use Rattle.hash_group.specs.Regrouping.{lists_by_number}
 use Rattle.hash_group.specs.States.{HaveTaken}
 use Rattle.hash_group.proofs.Steps.{taken_none, taken_more}
 use Rattle.hash_group.proofs.Merging.{taken_lists}
-use Rattle.hash_group.proofs.groups.states_by_number.Goals as goal
+use Rattle.hash_group.proofs.groups.states_row_by_row.Goals as goal
 
 pub loop-row-init : goal.loop-row-init
 loop-row-init g c =
