@@ -12,6 +12,7 @@ use crate::grouping::{at_places, group_numbers, key_columns, one_batch};
 use crate::number_sums::sum_column;
 use crate::standings::{least_standings, row_standings};
 use crate::values::{ColumnValues, Nulls};
+use crate::workers::{OneThread, Workers};
 use accumulators::CountRows;
 use aggregates::AggregateFunction;
 use algebra::Aggregate;
@@ -45,13 +46,19 @@ fn one_group(alloc: Global, rows: &Bag) -> Result<Groups, AllocError>
 }
 
 // The groups by these columns.
-fn groups_by(alloc: Global, rows: &Bag, by: &[u32]) -> Result<Groups, AllocError>
-    requires { 0 < length by.now }
+fn groups_by<W: Workers>(
+    workers: &W,
+    alloc: Global,
+    rows: &Bag,
+    by: &[u32],
+) -> Result<Groups, AllocError>
+    requires ready { W.ready workers.now }
+    requires some { 0 < length by.now }
     ensures { IfOk result (λ g.
         AreGroups by.now rows.now.rows g.keys.items g.numbers.items g.count) }
 {
     let columns = key_columns(alloc, rows, by)?;
-    let numbered = group_numbers(alloc, rows, by, columns.as_slice())?;
+    let numbered = group_numbers(workers, alloc, rows, by, columns.as_slice())?;
     let keys = at_places(alloc, columns.as_slice(), numbered.firsts.as_slice())?;
     Ok(Groups {
         keys,
@@ -61,7 +68,13 @@ fn groups_by(alloc: Global, rows: &Bag, by: &[u32]) -> Result<Groups, AllocError
 }
 
 /// The groups by these columns, or one group where there are none.
-pub(crate) fn groups_of(alloc: Global, rows: &Bag, by: &[u32]) -> Result<Groups, AllocError>
+pub(crate) fn groups_of<W: Workers>(
+    workers: &W,
+    alloc: Global,
+    rows: &Bag,
+    by: &[u32],
+) -> Result<Groups, AllocError>
+    requires { W.ready workers.now }
     ensures { IfOk result (λ g.
         AreGroups by.now rows.now.rows g.keys.items g.numbers.items g.count) }
 {
@@ -69,7 +82,7 @@ pub(crate) fn groups_of(alloc: Global, rows: &Bag, by: &[u32]) -> Result<Groups,
         let groups = one_group(alloc, rows)?;
         return Ok(groups);
     }
-    let groups = groups_by(alloc, rows, by)?;
+    let groups = groups_by(workers, alloc, rows, by)?;
     Ok(groups)
 }
 
@@ -119,8 +132,8 @@ fn argument_aggregates(
     Ok(column)
 }
 
-// An aggregate of each group.
-fn aggregate_column(
+/// An aggregate of each group.
+pub(crate) fn aggregate_column(
     alloc: Global,
     rows: &Bag,
     numbers: &[u32],
@@ -154,8 +167,8 @@ fn aggregate_column(
     }
 }
 
-// The aggregates of each group, as further columns.
-fn put_aggregates(
+/// The aggregates of each group, as further columns.
+pub(crate) fn put_aggregates(
     alloc: Global,
     columns: &mut Vec<Column>,
     rows: &Bag,
@@ -177,6 +190,41 @@ fn put_aggregates(
     Ok(())
 }
 
+/// GROUP BY, made by these workers.
+pub(crate) fn grouped<W: Workers>(
+    workers: &W,
+    alloc: Global,
+    rows: &Bag,
+    by: &[u32],
+    aggregates: &[Aggregate],
+) -> Result<Bag, AllocError>
+    requires { W.ready workers.now }
+    ensures width { IfOk result (λ b. b.width ≡ length by.now + length aggregates.now) }
+    ensures rows { IfOk result (λ b. b.rows ≡ groups by.now aggregates.now rows.now.rows) }
+{
+    if rows.len() > u32::MAX as usize {
+        return Err(AllocError);
+    }
+    let Groups {
+        keys,
+        numbers,
+        count,
+    } = groups_of(workers, alloc, rows, by)?;
+    let standings = row_standings(alloc, rows)?;
+    let least = least_standings(alloc, standings.as_slice(), numbers.as_slice(), count)?;
+    let mut columns = keys;
+    workers.put_aggregates(
+        alloc,
+        &mut columns,
+        rows,
+        numbers.as_slice(),
+        count,
+        aggregates,
+    )?;
+    let bag = one_batch(alloc, Batch::of(columns, least))?;
+    Ok(bag)
+}
+
 /// GROUP BY: for each group of rows that are identical in these columns its key and its aggregates,
 /// at the least of the rows' standings, in the order in which the keys first come. With no column
 /// all rows are one group, also where there are none. A column that isn't there is null.
@@ -189,25 +237,6 @@ pub fn group(
     ensures width { IfOk result (λ b. b.width ≡ length by.now + length aggregates.now) }
     ensures rows { IfOk result (λ b. b.rows ≡ groups by.now aggregates.now rows.now.rows) }
 {
-    if rows.len() > u32::MAX as usize {
-        return Err(AllocError);
-    }
-    let Groups {
-        keys,
-        numbers,
-        count,
-    } = groups_of(alloc, rows, by)?;
-    let standings = row_standings(alloc, rows)?;
-    let least = least_standings(alloc, standings.as_slice(), numbers.as_slice(), count)?;
-    let mut columns = keys;
-    put_aggregates(
-        alloc,
-        &mut columns,
-        rows,
-        numbers.as_slice(),
-        count,
-        aggregates,
-    )?;
-    let bag = one_batch(alloc, Batch::of(columns, least))?;
+    let bag = grouped(&OneThread, alloc, rows, by, aggregates)?;
     Ok(bag)
 }

@@ -11,8 +11,9 @@ ghost use Rattle.columns.specs.Batches.{column_at};
 ghost use Rattle.hash_group.specs.Keys.{key_rows, key_columns};
 
 use crate::key_runs::key_numbers;
+use crate::workers::Workers;
 use columns::{Bag, Batch, Column};
-use key_tables::{Numbered, numbers};
+use key_tables::Numbered;
 use row_keys::{codes, keys_of_columns};
 use sql_value::Value;
 use std::alloc::{AllocError, Global};
@@ -64,41 +65,48 @@ pub(crate) fn all_places(alloc: Global, bag: &Bag) -> Result<Vec<u32>, AllocErro
 }
 
 // The number of each value of a column, and where each number first stands.
-fn column_numbers(alloc: Global, column: &Column) -> Result<Numbered, AllocError>
+fn column_numbers<W: Workers>(
+    workers: &W,
+    alloc: Global,
+    column: &Column,
+) -> Result<Numbered, AllocError>
+    requires { W.ready workers.now }
     ensures numbers { IfOk result (λ n. n.numbers.items ≡ numbers_of same_value column.now) }
     ensures firsts { IfOk result (λ n. n.firsts.items ≡ first_places same_value column.now) }
 {
     if let Some((_, coefficients)) = column.as_numbers() {
-        let numbered = key_numbers(alloc, coefficients)?;
+        let numbered = key_numbers(workers, alloc, coefficients)?;
         return Ok(numbered);
     }
     let codes = codes(alloc, column)?;
-    let coded = key_numbers(alloc, codes.as_slice())?;
+    let coded = key_numbers(workers, alloc, codes.as_slice())?;
     Ok(coded)
 }
 
 /// The number of each row's group, by these columns of theirs, and where each group first comes.
-pub(crate) fn group_numbers(
+pub(crate) fn group_numbers<W: Workers>(
+    workers: &W,
     alloc: Global,
     bag: &Bag,
     by: &[u32],
     columns: &[Column],
 ) -> Result<Numbered, AllocError>
-    requires { columns.now ≡ key_columns bag.now.rows by.now }
+    requires ready { W.ready workers.now }
+    requires columns { columns.now ≡ key_columns bag.now.rows by.now }
     ensures numbers { IfOk result
         (λ n. n.numbers.items ≡ numbers_of (same_row same_value) (key_rows by.now bag.now.rows)) }
     ensures firsts { IfOk result
         (λ n. n.firsts.items ≡ first_places (same_row same_value) (key_rows by.now bag.now.rows)) }
 {
     if columns.len() == 1 {
-        let alone = column_numbers(alloc, &columns[0])?;
+        let alone = column_numbers(workers, alloc, &columns[0])?;
         return Ok(alone);
     }
     let keys = keys_of_columns(alloc, columns, bag.len())?;
     if keys.len() > u32::MAX as usize {
         return Err(AllocError);
     }
-    let numbered = numbers(alloc, keys.as_slice())?;
+    let numbered = workers.pair_numbers(alloc, keys.as_slice())?;
     Ok(numbered)
 }
 

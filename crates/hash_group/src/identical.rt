@@ -7,6 +7,7 @@ ghost use Rattle.sql_value.specs.Value.{same_value};
 
 use crate::grouping::{all_places, at_places, group_numbers, key_columns, one_batch};
 use crate::standings::{greatest_standings, row_standings};
+use crate::workers::OneThread;
 use columns::{Bag, Batch};
 use std::alloc::{AllocError, Global};
 
@@ -18,7 +19,7 @@ pub fn domain(alloc: Global, rows: &Bag, by: &[u32]) -> Result<Bag, AllocError>
         (λ b. b.rows ≡ domain_node same_value (columns Null by.now) rows.now.rows) }
 {
     let keys = key_columns(alloc, rows, by)?;
-    let numbered = group_numbers(alloc, rows, by, keys.as_slice())?;
+    let numbered = group_numbers(&OneThread, alloc, rows, by, keys.as_slice())?;
     let firsts = at_places(alloc, keys.as_slice(), numbered.firsts.as_slice())?;
     let bag = one_batch(alloc, Batch::of_true(firsts, numbered.firsts.len()))?;
     Ok(bag)
@@ -32,7 +33,7 @@ pub fn distinct(alloc: Global, rows: &Bag) -> Result<Bag, AllocError>
 {
     let all = all_places(alloc, rows)?;
     let keys = key_columns(alloc, rows, all.as_slice())?;
-    let numbered = group_numbers(alloc, rows, all.as_slice(), keys.as_slice())?;
+    let numbered = group_numbers(&OneThread, alloc, rows, all.as_slice(), keys.as_slice())?;
     let firsts = at_places(alloc, keys.as_slice(), numbered.firsts.as_slice())?;
     let standings = row_standings(alloc, rows)?;
     let greatest = greatest_standings(

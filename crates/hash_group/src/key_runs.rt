@@ -7,7 +7,8 @@ ghost use Rattle.row_laws.specs.Numbers.{numbers_of};
 ghost use Rattle.key_tables.specs.Distinct.{first_places};
 ghost use Rattle.hash_group.specs.Runs.{Ascend};
 
-use key_tables::{Numbered, numbers};
+use crate::workers::Workers;
+use key_tables::Numbered;
 use std::alloc::{AllocError, Global};
 
 // Whether no key is below the one before it.
@@ -62,7 +63,12 @@ fn run_numbers(alloc: Global, keys: &[i64]) -> Result<Numbered, AllocError>
 
 /// The number of each key, and where each number first stands. 2^32 keys or more are an error, as
 /// memory that isn't there.
-pub(crate) fn key_numbers(alloc: Global, keys: &[i64]) -> Result<Numbered, AllocError>
+pub(crate) fn key_numbers<W: Workers>(
+    workers: &W,
+    alloc: Global,
+    keys: &[i64],
+) -> Result<Numbered, AllocError>
+    requires { W.ready workers.now }
     ensures numbers { IfOk result (λ n. n.numbers.items ≡ numbers_of int_eq keys.now) }
     ensures firsts { IfOk result (λ n. n.firsts.items ≡ first_places int_eq keys.now) }
 {
@@ -73,6 +79,6 @@ pub(crate) fn key_numbers(alloc: Global, keys: &[i64]) -> Result<Numbered, Alloc
         let numbered = run_numbers(alloc, keys)?;
         return Ok(numbered);
     }
-    let numbered = numbers(alloc, keys)?;
+    let numbered = workers.table_numbers(alloc, keys)?;
     Ok(numbered)
 }

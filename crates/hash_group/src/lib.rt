@@ -2,6 +2,7 @@
 #![tactic(auto)]
 
 mod aggregate;
+mod by_threads;
 mod filling;
 mod group_by;
 mod grouping;
@@ -15,14 +16,16 @@ mod parts;
 mod standings;
 mod states;
 mod values;
+mod workers;
 
 pub use aggregate::{accumulated_by_number, aggregated_by_number, column_of};
+pub use by_threads::group_by_threads;
 pub use filling::fill;
 pub use group_by::group;
 pub use grouping::places_below;
 pub use groups::merged_by_number;
 pub use identical::{distinct, domain};
 pub use part::GroupedPart;
-pub use parts::{MergedGroups, count_of_groups, grouped_part, merged_groups};
+pub use parts::{MergedGroups, grouped_part, merged_groups};
 pub use states::{part_states, scale_of};
 pub use values::{ColumnValues, Nulls, SliceValues, ValueList};

@@ -16,3 +16,19 @@ pub struct GroupedPart {
     ghost few: { length numbers.items < 2 ^ 32 },
     ghost below: { AreBelow (length keys.rows) numbers.items },
 }
+
+impl GroupedPart {
+    /// How many rows the part has.
+    pub fn row_count(&self) -> usize
+        ensures { result ≡ length self.now.rows.rows }
+    {
+        self.rows.len()
+    }
+
+    /// How many groups its rows have.
+    pub fn group_count(&self) -> usize
+        ensures { result ≡ length self.now.keys.rows }
+    {
+        self.keys.len()
+    }
+}

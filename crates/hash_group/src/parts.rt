@@ -8,6 +8,7 @@ use crate::group_by::{Groups, groups_of};
 use crate::grouping::all_places;
 use crate::part::GroupedPart;
 use crate::standings::{least_standings, row_standings};
+use crate::workers::OneThread;
 use columns::{Bag, Batch, Column};
 use sql_value::Standing;
 use std::alloc::{AllocError, Global};
@@ -58,7 +59,7 @@ pub fn grouped_part(
         keys,
         numbers,
         count,
-    } = groups_of(alloc, &rows, by)?;
+    } = groups_of(&OneThread, alloc, &rows, by)?;
     let standings = row_standings(alloc, &rows)?;
     let least = least_standings(alloc, standings.as_slice(), numbers.as_slice(), count)?;
     let keys = Batch::of(keys, least);
@@ -67,15 +68,6 @@ pub fn grouped_part(
         numbers,
         keys,
     })
-}
-
-/// How many groups the parts have together.
-pub fn count_of_groups(parts: &[GroupedPart]) -> usize {
-    let mut count = 0usize;
-    for part in parts {
-        count = count.saturating_add(part.keys.len());
-    }
-    count
 }
 
 // The keys of all parts' groups, of so many columns.
@@ -112,7 +104,7 @@ pub fn merged_groups(
         keys,
         numbers,
         count,
-    } = groups_of(alloc, &entries, places.as_slice())?;
+    } = groups_of(&OneThread, alloc, &entries, places.as_slice())?;
     let standings = row_standings(alloc, &entries)?;
     let least = least_standings(alloc, standings.as_slice(), numbers.as_slice(), count)?;
     Ok(MergedGroups {

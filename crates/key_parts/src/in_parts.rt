@@ -61,8 +61,8 @@ fn next_leader(leaders: &[Vec<u32>], taken: &mut Vec<usize>, part: usize) -> u32
     leader
 }
 
-// Puts the number of the key at a place, which first stood at that other one, after those of the
-// keys before it.
+// Puts the number of the key at a place after those of the keys before it. It first stood at
+// `first`, which is the place itself where the key is new.
 fn put_number(
     numbers: &mut Vec<u32>,
     firsts: &mut Vec<u32>,
@@ -87,7 +87,7 @@ fn put_number(
     Ok(())
 }
 
-// The numbers of keys by the leaders of each part.
+// The numbers of keys by the leaders of each part: where its keys first stand among all.
 fn numbers_by_leaders<K: Copy + Eq + Hash + Drop>(
     alloc: Global,
     keys: &[K],

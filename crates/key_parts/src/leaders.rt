@@ -11,8 +11,8 @@ use key_tables::KeySet;
 use std::alloc::{AllocError, Global};
 use std::hash::Hash;
 
-// The place at which a key first stood, which is this one where the key isn't among those seen
-// before; these have first places in their order.
+// The place at which a key first stood: its own where it is new. The keys that were seen before have
+// their first places beside them.
 fn first_place<K: Copy + Eq + Hash + Drop>(
     seen: &mut KeySet<K>,
     firsts: &mut Vec<u32>,

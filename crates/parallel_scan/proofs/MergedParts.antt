@@ -26,17 +26,6 @@ use Rattle.hash_group.proofs.Regrouped.{lists-append, lists-length}
 use Rattle.parallel_scan.proofs.Chunks.{chunks_joined, mapped_at}
 use Rattle.parallel_scan.proofs.StageRows.{bag_rows-append}
 
--- what holds of what was made of a part, where memory sufficed for all
-pub made_at : {T E : Type 0} (P : T → Type 0) (made : List (Result T E)) (xs : List T) (n : ℕ) (d : T) → made ≡ map (λ x. Ok x) xs → n < length xs
-    → ((e : Result T E) → IfOk (get_or made n e) P) → P (get_or xs n d)
-made_at P made xs n d is l h = subst (λ r. IfOk r P) (ap (λ ms. get_or ms n (Ok d)) is ∙ get_or-map (λ x. Ok x) xs n d (Ok d) l) (h (Ok d))
-
--- the elements of a list of vectors
-pub items_have : {T : Type 0} (P : List T → Type 0) (xs : List (Vec T)) (n : ℕ) → n < length xs → ((d : Vec T) → P (get_or xs n d).items) → P (get_or (map (λ v. v.items) xs) n [])
-items_have P [] n l h = absurd (omega (arith, l))
-items_have P (x ∷ xs) zero l h = h x
-items_have P (x ∷ xs) (suc n) l h = items_have P xs n (omega (arith, l)) h
-
 arguments-append : (a : Aggregate) (ps qs : List GroupedPart) → part_arguments a (ps ++ qs) ≡ part_arguments a ps ++ part_arguments a qs
 arguments-append a ps qs = ap one_list (map-append (group_arguments a) ps qs) ∙ lists-append (map (group_arguments a) ps) (map (group_arguments a) qs)
 

@@ -8,14 +8,14 @@ ghost use Rattle.algebra.specs.Plans.{groups};
 ghost use Rattle.hash_group.specs.PartGroups.{IsGrouped, part_rows};
 ghost use Rattle.parallel_scan.specs.Stages.{staged};
 
-use crate::made::all_made;
 use crate::merged::put_merged;
 use crate::parts::part_len;
 use crate::scan::staged_scan;
 use crate::stages::Stage;
 use algebra::{Aggregate, Piece};
 use columns::{Bag, Batch};
-use hash_group::{GroupedPart, count_of_groups, group, grouped_part, merged_groups};
+use hash_group::{GroupedPart, group, group_by_threads, grouped_part, merged_groups};
+use key_parts::all_made;
 use std::alloc::{AllocError, Global};
 use std::thread::{Threads, map_chunks};
 
@@ -89,16 +89,23 @@ fn merged_bag<R: Threads + Sync>(
     Ok(bag)
 }
 
-// Whether so many groups of so many rows are too many for parts to have many rows each: then one
-// thread makes them at once.
-fn are_many(groups: usize, rows: usize) -> bool {
-    groups > rows / 4
+// So many groups are few, however many rows they have.
+const FEW: usize = 32;
+
+// Whether the rows have many groups: whether the first batches, one in 64, have more than an eighth
+// as many groups as rows, and a few more.
+fn have_many_groups(alloc: Global, rows: &Bag, by: &[u32]) -> Result<bool, AllocError> {
+    let batches = rows.batches();
+    let first = &batches[..batches.len().div_ceil(64)];
+    let part = grouped_part(alloc, rows.width(), first, by)?;
+    Ok(part.group_count() > part.row_count() / 8 + FEW)
 }
 
 /// GROUP BY over the rows of a bag: for each group of rows that are identical in these columns its
 /// key and its aggregates, in the order in which the keys first come. With no column all rows are
-/// one group, also where there are none. A column that isn't there is null. Several threads group
-/// parts of the bag, where it has more than a few batches and few groups.
+/// one group, also where there are none. A column that isn't there is null. Where the bag has more
+/// than a few batches several threads make the groups: of few groups each makes those of a part of
+/// the bag, and of many each numbers the keys of its own part of the hash.
 pub fn bag_groups<R: Threads + Sync>(
     rt: &R,
     alloc: Global,
@@ -111,14 +118,16 @@ pub fn bag_groups<R: Threads + Sync>(
 {
     let count = rows.batches().len();
     let size = part_len(rt, count);
-    if size < count {
-        let parts = grouped_parts(rt, alloc, rows, by, size)?;
-        if !are_many(count_of_groups(parts.as_slice()), rows.len()) {
-            let merged = merged_bag(rt, alloc, parts.as_slice(), by, aggregates)?;
-            return Ok(merged);
-        }
+    if size >= count {
+        let bag = group(alloc, rows, by, aggregates)?;
+        return Ok(bag);
     }
-    let bag = group(alloc, rows, by, aggregates)?;
+    if have_many_groups(alloc, rows, by)? {
+        let bag = group_by_threads(rt, alloc, rows, by, aggregates)?;
+        return Ok(bag);
+    }
+    let parts = grouped_parts(rt, alloc, rows, by, size)?;
+    let bag = merged_bag(rt, alloc, parts.as_slice(), by, aggregates)?;
     Ok(bag)
 }
 

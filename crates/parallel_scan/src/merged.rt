@@ -6,12 +6,13 @@ ghost use Rattle.hash_group.specs.PartGroups.{merged_column};
 ghost use Rattle.hash_group.specs.Regrouping.{lists_by_number};
 ghost use Rattle.hash_group.specs.States.{HaveTaken};
 
-use crate::made::{all_made, one_after_other};
+use crate::made::one_after_other;
 use accumulators::{Accumulator, Average, Count, CountDistinct, CountRows, Greatest, Least, Sum};
 use aggregates::AggregateFunction;
 use algebra::Aggregate;
 use columns::Column;
 use hash_group::{GroupedPart, column_of, merged_by_number, part_states, scale_of};
+use key_parts::all_made;
 use sql_value::Value;
 use std::alloc::{AllocError, Global};
 use std::thread::{Threads, map_chunks};

@@ -1,4 +1,6 @@
 //! The made lineitems, scanned in pieces of one row, of seven and of as many as there are.
+ghost use Rattle.data_maker.specs.Numbers.{IsDataNumber};
+
 use aggregates::AggregateFunction;
 use algebra::{Aggregate, Piece};
 use columns::{Bag, Rows};
@@ -120,8 +122,10 @@ fn are_same(left: &[Row], right: &[Row]) -> bool {
 }
 
 // The lines of the lineitems that are made for a number.
-fn made_lineitems(alloc: Global) -> Result<Vec<u8>, AllocError> {
-    let texts = make(alloc, 1)?;
+fn made_lineitems(alloc: Global, number: u64) -> Result<Vec<u8>, AllocError>
+    requires { IsDataNumber number }
+{
+    let texts = make(alloc, number)?;
     for text in texts {
         if text.name.as_str() == "lineitem.tbl" {
             return Ok(text.bytes);
@@ -132,7 +136,7 @@ fn made_lineitems(alloc: Global) -> Result<Vec<u8>, AllocError> {
 
 #[test]
 fn cut_into_pieces(rt: HostRuntime) -> Result<(), Fail> {
-    let text = made_lineitems(rt.alloc())?;
+    let text = made_lineitems(rt.alloc(), 1)?;
     let whole = pieces_of(rt.alloc(), text.as_slice(), 4096)?;
     let whole = scanned(&rt, rt.alloc(), whole.as_slice())?;
     let whole = rows_of(rt.alloc(), &whole)?;
@@ -184,7 +188,7 @@ fn are_alike<R: Threads + Sync>(
 // groups of fewer rows; and all as one group.
 #[test]
 fn groups_of_pieces(rt: HostRuntime) -> Result<(), Fail> {
-    let text = made_lineitems(rt.alloc())?;
+    let text = made_lineitems(rt.alloc(), 1)?;
     let flag = [Expr::Column(8)];
     let flags = [Expr::Column(8), Expr::Column(9)];
     let text = text.as_slice();
@@ -194,6 +198,38 @@ fn groups_of_pieces(rt: HostRuntime) -> Result<(), Fail> {
         "by flag and status"
     );
     assert!(rt; are_alike(&rt, rt.alloc(), text, 20, &[])?, "one group");
+    Ok(())
+}
+
+// Whether there are many groups by these columns, the same from one piece and from pieces of 200
+// rows.
+fn are_many_alike<R: Threads + Sync>(
+    rt: &R,
+    alloc: Global,
+    text: &[u8],
+    by: &[Expr],
+) -> Result<bool, Fail> {
+    let whole = pieces_of(alloc, text, 4096)?;
+    let whole = grouped(rt, alloc, whole.as_slice(), 0, by)?;
+    let whole = rows_of(alloc, &whole)?;
+    let parts = pieces_of(alloc, text, 200)?;
+    let parts = grouped(rt, alloc, parts.as_slice(), 0, by)?;
+    let parts = rows_of(alloc, &parts)?;
+    Ok(whole.len() > 100 && are_same(whole.as_slice(), parts.as_slice()))
+}
+
+// By the part, and by order and line: threads number the keys in parts of their own.
+#[test]
+fn many_groups(rt: HostRuntime) -> Result<(), Fail> {
+    let text = made_lineitems(rt.alloc(), 10)?;
+    let text = text.as_slice();
+    let part = [Expr::Column(1)];
+    let line = [Expr::Column(0), Expr::Column(3)];
+    assert!(rt; are_many_alike(&rt, rt.alloc(), text, &part)?, "by part");
+    assert!(rt;
+        are_many_alike(&rt, rt.alloc(), text, &line)?,
+        "by order and line"
+    );
     Ok(())
 }
 

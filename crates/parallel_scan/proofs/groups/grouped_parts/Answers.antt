@@ -6,7 +6,8 @@ use Rattle.std.proofs.lemmas.List.{length-map}
 use Rattle.columns.specs.Bags.{bag_rows}
 use Rattle.hash_group.specs.declared.part.GroupedPart.{GroupedPart}
 use Rattle.hash_group.specs.PartGroups.{IsGrouped}
-use Rattle.parallel_scan.proofs.MergedParts.{all_rows, made_at}
+use Rattle.key_parts.proofs.MadeParts.{made_at}
+use Rattle.parallel_scan.proofs.MergedParts.{all_rows}
 use Rattle.parallel_scan.proofs.groups.grouped_parts.Goals as goal
 
 pub returns-clause-rows : goal.returns-clause-rows

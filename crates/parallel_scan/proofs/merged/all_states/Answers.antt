@@ -7,7 +7,8 @@ use Rattle.std.proofs.lemmas.List.{length-map, get_or-map}
 use Rattle.columns.specs.Lists.{one_list}
 use Rattle.hash_group.specs.PartGroups.{part_arguments, scale_of}
 use Rattle.hash_group.specs.States.{HaveTaken}
-use Rattle.parallel_scan.proofs.MergedParts.{all_have, made_at, items_have}
+use Rattle.key_parts.proofs.MadeParts.{made_at, items_have}
+use Rattle.parallel_scan.proofs.MergedParts.{all_have}
 use Rattle.parallel_scan.proofs.merged.all_states.Goals as goal
 
 pub returns : goal.returns
