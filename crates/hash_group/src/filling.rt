@@ -72,7 +72,7 @@ fn put_repeated(
     Ok(())
 }
 
-// How the groups stand, and so many rows at True after them.
+// How the groups stand, and n rows at True after them.
 fn all_standings(alloc: Global, groups: &Bag, n: usize) -> Result<Vec<Standing>, AllocError>
     ensures { IfOk result (λ v. ranks v.items
         ≡ row_ranks groups.now.rows ++ replicate n true_rank) }

@@ -42,7 +42,7 @@ pub(crate) fn key_columns(alloc: Global, bag: &Bag, by: &[u32]) -> Result<Vec<Co
     Ok(columns)
 }
 
-/// The places from 0 on, so many.
+/// The n places from 0 on.
 pub fn places_below(alloc: Global, n: u32) -> Result<Vec<u32>, AllocError>
     ensures { IfOk result (λ v. v.items ≡ range_with_len 0 n) }
 {

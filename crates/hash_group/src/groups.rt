@@ -14,7 +14,7 @@ use fixed_decimal::Scale;
 use sql_value::Value;
 use std::alloc::{AllocError, Global};
 
-// So many accumulators of no values.
+// `count` accumulators of no values.
 fn starts<A: Accumulator>(alloc: Global, scale: Scale, count: usize) -> Result<Vec<A>, AllocError>
     ensures count { IfOk result (λ v. length v.items ≡ count) }
     ensures terms { IfOk result (λ v. AtEach (λ i s. A.terms s ≡ 0) v.items) }

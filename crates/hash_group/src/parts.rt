@@ -70,7 +70,7 @@ pub fn grouped_part(
     })
 }
 
-// The keys of all parts' groups, of so many columns.
+// The keys of all parts' groups, of `width` columns.
 fn keys_bag(alloc: Global, width: usize, parts: &[GroupedPart]) -> Result<Bag, AllocError>
     requires { All (λ p. p.keys.width ≡ width) parts.now }
     ensures width { IfOk result (λ b. b.width ≡ width) }

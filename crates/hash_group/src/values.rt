@@ -106,7 +106,7 @@ impl<'a> ValueList for NumberValues<'a> {
     }
 }
 
-/// So many nulls.
+/// A number of nulls.
 #[derive(Drop)]
 pub struct Nulls {
     count: usize,

@@ -10,7 +10,7 @@ use Rattle.std.proofs.lemmas.List.{take_all, take-take, drop-take, take-append-d
 use Rattle.columns.specs.Lists.{one_list}
 use Rattle.columns.proofs.RowLists.{one_list-more}
 
--- so many chunks reach the end
+-- this number of chunks reaches the end
 spans : (count len size : ℕ) → 0 < size → count ≡ len / size + min 1 (len % size) → len ≤ count * size
 spans count len size p is =
     let q = len / size in let r = len % size in

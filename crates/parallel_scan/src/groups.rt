@@ -19,7 +19,7 @@ use key_parts::all_made;
 use std::alloc::{AllocError, Global};
 use std::thread::{Threads, map_chunks};
 
-// The rows of a bag in parts of so many batches, each with its groups by these columns: a thread
+// The rows of a bag in parts of `size` batches, each with its groups by these columns: a thread
 // for each part.
 fn grouped_parts<R: Threads + Sync>(
     rt: &R,
@@ -89,7 +89,7 @@ fn merged_bag<R: Threads + Sync>(
     Ok(bag)
 }
 
-// So many groups are few, however many rows they have.
+// Up to this number of groups are few, however many rows they have.
 const FEW: usize = 32;
 
 // Whether the rows have many groups: whether the first batches, one in 64, have more than an eighth
