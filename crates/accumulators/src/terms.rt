@@ -34,7 +34,7 @@ impl Terms {
         Terms::of_sums(scale, 0, 0, 0)
     }
 
-    // Of `count` numbers with these sums.
+    // Of this number of terms, with these sums.
     pub(crate) fn of_sums(scale: Scale, terms: u64, above: u128, below: u128) -> Terms
         ensures scale { result.scale ≡ scale }
         ensures terms { result.terms ≡ terms }
