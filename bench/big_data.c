@@ -1,5 +1,5 @@
 // Makes the data that crates/make_data makes for a number from 1 to 1000, the same bytes, for any number up to 200000.
-// The lines are those of crates/data_maker/specs/Lines.antt, by the same names. For measurements: nothing here is proved.
+// The lines are those of crates/app_sample_data/specs/Lines.antt, by the same names. For measurements: nothing here is proved.
 #include <errno.h>
 #include <stdint.h>
 #include <stdio.h>

@@ -5,8 +5,8 @@ use Rattle.std.proofs.Math.Seq.{take-suc}
 use Rattle.std.specs.String.{string_bytes}
 use Rattle.std.specs.Fmt.{decimal}
 use Rattle.std.specs.Str.Parse.{digits_value}
-use Rattle.data_maker.specs.Texts.{made, named}
-use Rattle.data_maker.specs.declared.text.NamedText.{NamedText}
+use Rattle.app_sample_data.specs.Texts.{made, named}
+use Rattle.app_sample_data.specs.declared.text.NamedText.{NamedText}
 use Rattle.make_data.specs.Target.{Grows, GrowsInPart, Written, files_in}
 use Rattle.make_data.specs.Words.{Asks}
 use Rattle.make_data.proofs.Numbers.{decimal_value}

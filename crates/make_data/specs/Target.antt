@@ -1,6 +1,6 @@
 -- What a run writes.
 use Rattle.std.specs.Prelude.{◌≡◌, ℕ, List, [], ◌∷◌, ◌++◌, map, take, ⊤, Option, None, Some}
-use Rattle.data_maker.specs.Texts.{made}
+use Rattle.app_sample_data.specs.Texts.{made}
 use Rattle.make_data.specs.Words.{Asks}
 
 -- files by their paths, then their bytes

@@ -1,7 +1,7 @@
 //! The machine's files and standard output. They tell no bytes, so nothing is promised of what a
 //! file holds or a screen shows.
 ghost use Rattle.std.specs.Prelude.{◌≡◌, None};
-ghost use Rattle.tpch_outside.specs.Outside.{Counts};
+ghost use Rattle.base_io.specs.Outside.{Counts};
 
 use crate::target::{Target, TargetError};
 use std::io::{ErrorKind, Write};

@@ -2,8 +2,8 @@
 ghost use Rattle.std.specs.Prelude.{◌≡◌, ◌≢◌, ℕ, ◌≤◌, List, [], ◌∷◌, ◌++◌, IfOk, IsErrOf, OnOk};
 ghost use Rattle.std.specs.Prelude.{map};
 ghost use Rattle.std.specs.String.{string_bytes};
-ghost use Rattle.tpch_outside.specs.Outside.{Rose};
-ghost use Rattle.data_maker.specs.Texts.{made, named};
+ghost use Rattle.base_io.specs.Outside.{Rose};
+ghost use Rattle.app_sample_data.specs.Texts.{made, named};
 ghost use Rattle.make_data.specs.Target.{Grows, GrowsInPart, IsSilent, WritesAll, WritesFirst};
 ghost use Rattle.make_data.specs.Target.{files_in};
 ghost use Rattle.make_data.specs.Words.{AsksNothing, usage_line};
@@ -11,7 +11,7 @@ ghost use Rattle.make_data.specs.Words.{AsksNothing, usage_line};
 use crate::status::Status;
 use crate::target::{Target, TargetError};
 use crate::words::read_words;
-use data_maker::{NamedText, make};
+use app_sample_data::{NamedText, make};
 use std::alloc::{AllocError, Global};
 
 /// The line for words that ask for no data.

@@ -1,6 +1,6 @@
 //! Where a run writes.
 ghost use Rattle.std.specs.Prelude.{◌≡◌, ℕ, List, [], ◌∷◌, Option, IsErrOf, OnErr, OnOk};
-ghost use Rattle.tpch_outside.specs.Outside.{Counts};
+ghost use Rattle.base_io.specs.Outside.{Counts};
 ghost use Rattle.make_data.specs.Target.{Grows, Written};
 
 use std::alloc::AllocError;

@@ -2,15 +2,15 @@
 //! own files once.
 ghost use Rattle.std.specs.Prelude.{◌≡◌, Some, [], ◌∷◌, ◌++◌, IsErrOf, OnErr, OnOk, map};
 ghost use Rattle.std.specs.String.{string_bytes};
-ghost use Rattle.tpch_outside.specs.Outside.{Counts};
-ghost use Rattle.data_maker.specs.Texts.{named};
+ghost use Rattle.base_io.specs.Outside.{Counts};
+ghost use Rattle.app_sample_data.specs.Texts.{named};
 ghost use Rattle.make_data.specs.Target.{Grows};
 
 use crate::machine::Machine;
 use crate::run::make_data;
 use crate::status::Status;
 use crate::target::{Target, TargetError};
-use data_maker::NamedText;
+use app_sample_data::NamedText;
 use std::alloc::{AllocError, Global};
 use std::fs;
 use std::test::Fail;
@@ -56,7 +56,7 @@ impl Memory {
     }
 
     /// Keeps the file.
-    #[tactic(auto, unfolding(data_maker::specs::Texts::named))]
+    #[tactic(auto, unfolding(app_sample_data::specs::Texts::named))]
     fn keep(&mut self, path: &str, bytes: &[u8]) -> Result<(), AllocError>
         ensures kept { OnOk result (named self.new.files.items ≡ named self.old.files.items
             ++ (path.now, bytes.now) ∷ []) }

@@ -1,8 +1,8 @@
 //! Statements.
 use crate::tree::Block;
 use crate::words::Name;
-use ascii_text::Text;
-use fixed_decimal::Scale;
+use base_decimal::Scale;
+use base_text::Text;
 use sqlite_items::Items;
 
 /// A key of ORDER BY: an output column by its name.

@@ -1,7 +1,7 @@
 //! Expressions and queries, which hold each other.
 use crate::words::{Adding, Aggregate, Column, Comparison, JoinKind, Multiplying, Name, Span};
-use ascii_text::Text;
-use fixed_decimal::Scale;
+use base_decimal::Scale;
+use base_text::Text;
 use sqlite_items::{Boxed, Items};
 
 /// A value or a condition; which of the two is told when names are bound.

@@ -1,5 +1,5 @@
 //! Names, and what operators and words say.
-use ascii_text::Text;
+use base_text::Text;
 
 /// A name, in lower case.
 pub type Name = Text;

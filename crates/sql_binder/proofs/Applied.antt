@@ -6,13 +6,13 @@ use Rattle.sql_ast.specs.declared.tree.Clause.TheOpen.{FromItem-F}
 use Rattle.sql_ast.specs.declared.tree.FromItem.TheVariants as from_item
 use Rattle.sql_ast.specs.declared.tree.Join.{Join, out-Join}
 use Rattle.sql_ast.specs.declared.tree.Joined.{Joined, out-Joined, out-roll-Joined}
-use Rattle.binder_steps.specs.declared.collected.BoundTable.{BoundTable}
-use Rattle.binder_steps.specs.declared.collected.Collected.{Collected}
-use Rattle.binder_steps.specs.declared.collected.FromRows.{FromRows}
-use Rattle.binder_steps.specs.declared.scope.ScopeColumn.{ScopeColumn}
-use Rattle.binder_steps.specs.Steps.{Name, Binding, apart, pure, ◌>>=◌}
-use Rattle.binder_steps.specs.Names.{Sight}
-use Rattle.binder_steps.specs.Parts.{columns_so_far, first_rows, joining, once_each}
+use Rattle.sql_binder_steps.specs.declared.collected.BoundTable.{BoundTable}
+use Rattle.sql_binder_steps.specs.declared.collected.Collected.{Collected}
+use Rattle.sql_binder_steps.specs.declared.collected.FromRows.{FromRows}
+use Rattle.sql_binder_steps.specs.declared.scope.ScopeColumn.{ScopeColumn}
+use Rattle.sql_binder_steps.specs.Steps.{Name, Binding, apart, pure, ◌>>=◌}
+use Rattle.sql_binder_steps.specs.Names.{Sight}
+use Rattle.sql_binder_steps.specs.Parts.{columns_so_far, first_rows, joining, once_each}
 use Rattle.sql_binder.specs.Meanings.{FromItemMeaning}
 use Rattle.sql_binder.specs.FromLists.{from_item_step, on_joining, chained}
 use Rattle.sql_binder.specs.Binding.{from_item_meaning, join_meaning, joined_meaning, block_meaning}

@@ -2,12 +2,12 @@
 use Rattle.std.proofs.Common.{◌≡◌, ℕ, ◌≤◌, List, [], ◌∷◌, length, map, get_or, refl, sym}
 use Rattle.std.proofs.Common.{subst, arith}
 use Rattle.std.specs.Prelude.{None, true}
-use Rattle.row_laws.specs.Bags.{Each}
-use Rattle.binder_steps.specs.declared.scope.Level.{Level}
-use Rattle.binder_steps.specs.declared.scope.ScopeColumn.{ScopeColumn}
-use Rattle.binder_steps.specs.Names.{Sight, level_of}
-use Rattle.binder_steps.specs.Parts.{hiding}
-use Rattle.binder_steps.proofs.Small.{one_more}
+use Rattle.base_row_laws.specs.Bags.{Each}
+use Rattle.sql_binder_steps.specs.declared.scope.Level.{Level}
+use Rattle.sql_binder_steps.specs.declared.scope.ScopeColumn.{ScopeColumn}
+use Rattle.sql_binder_steps.specs.Names.{Sight, level_of}
+use Rattle.sql_binder_steps.specs.Parts.{hiding}
+use Rattle.sql_binder_steps.proofs.Small.{one_more}
 
 -- what holds of each item of a list holds of its first
 pub each_head : {X : Type 0} (P : X → Type 0) (xs : List X) (x : X) → 1 ≤ length xs

@@ -2,14 +2,14 @@
 use Rattle.std.proofs.Common.{ℕ, zero, suc, ◌+◌, ◌-◌, ◌<◌, ◌≡◌, ◌⊎◌, inl, inr, true, false}
 use Rattle.std.proofs.Common.{List, [], ◌∷◌, length, refl, ◌∙◌, ap, arith}
 use Rattle.std.specs.Prelude.{slice_get, Some, Ok, Err}
-use Rattle.nested_query.specs.declared.query.BoundQuery.{BoundQuery}
-use Rattle.refusals.specs.declared.bind.BindRefusal.{BindRefusal}
-use Rattle.refusals.specs.declared.bind.BindRefusal.TheVariants.{UnknownColumn}
+use Rattle.sql_bound_query.specs.declared.query.BoundQuery.{BoundQuery}
+use Rattle.base_refusals.specs.declared.bind.BindRefusal.{BindRefusal}
+use Rattle.base_refusals.specs.declared.bind.BindRefusal.TheVariants.{UnknownColumn}
 use Rattle.sql_ast.specs.declared.statement.Query.{Query}
 use Rattle.sql_ast.specs.declared.words.Column.{Column}
-use Rattle.binder_steps.specs.declared.view.View.{View}
-use Rattle.binder_steps.specs.Steps.{Checked}
-use Rattle.binder_steps.specs.Names.{Around, ends, found, resolved, resolved_from}
+use Rattle.sql_binder_steps.specs.declared.view.View.{View}
+use Rattle.sql_binder_steps.specs.Steps.{Checked}
+use Rattle.sql_binder_steps.specs.Names.{Around, ends, found, resolved, resolved_from}
 use Rattle.sql_binder.specs.Binding.{bound_query}
 use Rattle.sql_binder.specs.Laws.{Resolution, IsBound, IsRefused}
 use Rattle.sql_binder.specs.Laws.{BoundOrRefused, NotBoth, OneWay}

@@ -2,9 +2,9 @@
 use Rattle.std.proofs.Common.{ℕ, zero, suc, ◌+◌, ◌≡◌, Bool, true, false, List, [], ◌∷◌, refl}
 use Rattle.std.proofs.Common.{ap, arith}
 use Rattle.std.specs.Prelude.{slice_get, Some, Ok, if◌then◌else◌}
-use Rattle.binder_steps.specs.declared.scope.Place.{Place}
-use Rattle.binder_steps.specs.declared.scope.ScopeColumn.{ScopeColumn}
-use Rattle.binder_steps.specs.Names.{means, places, only, the_one}
+use Rattle.sql_binder_steps.specs.declared.scope.Place.{Place}
+use Rattle.sql_binder_steps.specs.declared.scope.ScopeColumn.{ScopeColumn}
+use Rattle.sql_binder_steps.specs.Names.{means, places, only, the_one}
 use Rattle.sql_binder.specs.Laws.{OnlyColumn}
 
 none_step : (b : Bool) (test : ScopeColumn → Bool) (c d : ScopeColumn) (cs : List ScopeColumn)

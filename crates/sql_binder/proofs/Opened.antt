@@ -32,10 +32,10 @@ use Rattle.sql_ast.specs.declared.words.Aggregate.{Aggregate}
 use Rattle.sql_ast.specs.declared.words.Column.{Column}
 use Rattle.sql_ast.specs.declared.words.Comparison.{Comparison}
 use Rattle.sql_ast.specs.declared.words.Span.{Span}
-use Rattle.binder_steps.specs.declared.collected.FromRows.{FromRows}
-use Rattle.binder_steps.specs.Steps.{Name, apart, pure, ◌>>=◌}
-use Rattle.binder_steps.specs.Names.{Sight}
-use Rattle.binder_steps.specs.Parts.{columns_so_far, first_rows, joining, once_each}
+use Rattle.sql_binder_steps.specs.declared.collected.FromRows.{FromRows}
+use Rattle.sql_binder_steps.specs.Steps.{Name, apart, pure, ◌>>=◌}
+use Rattle.sql_binder_steps.specs.Names.{Sight}
+use Rattle.sql_binder_steps.specs.Parts.{columns_so_far, first_rows, joining, once_each}
 use Rattle.sql_binder.specs.Meanings.{Meaning, ChainMeaning, ArmMeaning, ItemMeaning}
 use Rattle.sql_binder.specs.Meanings.{SelectedMeaning, ClauseMeaning, FromItemMeaning, JoinMeaning}
 use Rattle.sql_binder.specs.Meanings.{JoinedMeaning, BlockMeaning}

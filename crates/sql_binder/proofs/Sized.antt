@@ -30,7 +30,7 @@ use Rattle.sql_ast.specs.declared.tree.Clause.TheFolds.{map-Joined, map-Term}
 use Rattle.sql_ast.specs.declared.words.Aggregate.{Aggregate}
 use Rattle.sql_ast.specs.declared.words.Comparison.{Comparison}
 use Rattle.sql_ast.specs.declared.words.Span.{Span}
-use Rattle.binder_steps.specs.Steps.{Name}
+use Rattle.sql_binder_steps.specs.Steps.{Name}
 use Rattle.sql_binder.specs.Sizes.{total, clause_size_step, expr_size_step, from_item_size_step}
 use Rattle.sql_binder.specs.Sizes.{selected_size_step, arm_size_step, block_size_step}
 use Rattle.sql_binder.specs.Sizes.{factor_size_step, item_size_step, join_size_step}

@@ -1,6 +1,6 @@
 -- Functions that bind all that is smaller than a part bind what stands in it.
 use Rattle.std.proofs.Common.{◌≡◌, ℕ, ◌+◌, ◌<◌, List, [], ◌∷◌, map, subst, arith}
-use Rattle.row_laws.specs.Bags.{Each}
+use Rattle.base_row_laws.specs.Bags.{Each}
 use Rattle.sql_ast.specs.declared.tree.Arm.{Arm, out-Arm}
 use Rattle.sql_ast.specs.declared.tree.Block.{Block, out-Block}
 use Rattle.sql_ast.specs.declared.tree.Clause.{Clause}
@@ -12,10 +12,10 @@ use Rattle.sql_ast.specs.declared.tree.Join.{Join, out-Join}
 use Rattle.sql_ast.specs.declared.tree.Joined.{Joined, out-Joined}
 use Rattle.sql_ast.specs.declared.tree.Selected.{Selected}
 use Rattle.sql_ast.specs.declared.tree.Term.{Term, out-Term}
-use Rattle.binder_steps.specs.declared.collected.BoundTable.{BoundTable}
-use Rattle.binder_steps.specs.declared.collected.Typed.{Typed}
-use Rattle.binder_steps.specs.Steps.{Binds}
-use Rattle.binder_steps.specs.Names.{sight_of}
+use Rattle.sql_binder_steps.specs.declared.collected.BoundTable.{BoundTable}
+use Rattle.sql_binder_steps.specs.declared.collected.Typed.{Typed}
+use Rattle.sql_binder_steps.specs.Steps.{Binds}
+use Rattle.sql_binder_steps.specs.Names.{sight_of}
 use Rattle.sql_binder.specs.Binding.{meaning, block_meaning}
 use Rattle.sql_binder.specs.Nests.{Pre, Post, Below, BindsExpr, BindsBlock, BindsExprs, BindsTerm}
 use Rattle.sql_binder.specs.Nests.{BindsFactor, BindsArm, BindsItem, BindsSelected, BindsClause}

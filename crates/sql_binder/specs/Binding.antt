@@ -1,7 +1,7 @@
 -- What it is to bind a whole tree: a fold of the steps of its nodes. A statement and a view are
 -- bound so.
 use Rattle.std.specs.Prelude.{ℕ, Bool, List, [], map, Ok}
-use Rattle.nested_query.specs.declared.query.BoundQuery.{BoundQuery}
+use Rattle.sql_bound_query.specs.declared.query.BoundQuery.{BoundQuery}
 use Rattle.sql_ast.specs.declared.statement.Query.{Query}
 use Rattle.sql_ast.specs.declared.tree.Arm.{Arm}
 use Rattle.sql_ast.specs.declared.tree.Block.{Block, out-Block}
@@ -18,11 +18,11 @@ use Rattle.sql_ast.specs.declared.tree.Join.{Join}
 use Rattle.sql_ast.specs.declared.tree.Joined.{Joined}
 use Rattle.sql_ast.specs.declared.tree.Selected.{Selected}
 use Rattle.sql_ast.specs.declared.tree.Term.{Term}
-use Rattle.binder_steps.specs.declared.collected.BoundTable.{BoundTable}
-use Rattle.binder_steps.specs.declared.collected.Collected.{Collected}
-use Rattle.binder_steps.specs.declared.view.View.{View}
-use Rattle.binder_steps.specs.Steps.{Name, Checked, and_then}
-use Rattle.binder_steps.specs.Parts.{outermost, distinct_names, renamed_headers, order_of}
+use Rattle.sql_binder_steps.specs.declared.collected.BoundTable.{BoundTable}
+use Rattle.sql_binder_steps.specs.declared.collected.Collected.{Collected}
+use Rattle.sql_binder_steps.specs.declared.view.View.{View}
+use Rattle.sql_binder_steps.specs.Steps.{Name, Checked, and_then}
+use Rattle.sql_binder_steps.specs.Parts.{outermost, distinct_names, renamed_headers, order_of}
 use Rattle.sql_binder.specs.Meanings.{Meaning, ChainMeaning, ArmMeaning, ItemMeaning}
 use Rattle.sql_binder.specs.Meanings.{SelectedMeaning, ClauseMeaning, FromItemMeaning, JoinMeaning}
 use Rattle.sql_binder.specs.Meanings.{JoinedMeaning, BlockMeaning, BlockNode}

@@ -2,15 +2,15 @@
 use Rattle.std.specs.Prelude.{ℕ, Bool, true, false, not, ◌||◌, ◌==◌, List, length, Option, Some}
 use Rattle.std.specs.Prelude.{None, if◌then◌else◌}
 use Rattle.std.specs.List.{list_any}
-use Rattle.nested_query.specs.declared.query.BoundExpr.{BoundExpr}
+use Rattle.sql_bound_query.specs.declared.query.BoundExpr.{BoundExpr}
 use Rattle.sql_ast.specs.declared.words.Column.{Column}
-use Rattle.binder_steps.specs.declared.collected.BoundTable.{BoundTable}
-use Rattle.binder_steps.specs.declared.collected.FromRows.{FromRows}
-use Rattle.binder_steps.specs.declared.collected.Shown.{Shown}
-use Rattle.binder_steps.specs.declared.scope.ScopeColumn.{ScopeColumn}
-use Rattle.binder_steps.specs.Steps.{Binding, ◌>>=◌, pure, lift, apart}
-use Rattle.binder_steps.specs.Names.{Sight}
-use Rattle.binder_steps.specs.Parts.{keys_of, plain, closing, once_each}
+use Rattle.sql_binder_steps.specs.declared.collected.BoundTable.{BoundTable}
+use Rattle.sql_binder_steps.specs.declared.collected.FromRows.{FromRows}
+use Rattle.sql_binder_steps.specs.declared.collected.Shown.{Shown}
+use Rattle.sql_binder_steps.specs.declared.scope.ScopeColumn.{ScopeColumn}
+use Rattle.sql_binder_steps.specs.Steps.{Binding, ◌>>=◌, pure, lift, apart}
+use Rattle.sql_binder_steps.specs.Names.{Sight}
+use Rattle.sql_binder_steps.specs.Parts.{keys_of, plain, closing, once_each}
 use Rattle.sql_binder.specs.Meanings.{ItemMeaning, SelectedMeaning, ClauseMeaning, JoinedMeaning}
 use Rattle.sql_binder.specs.Meanings.{BlockMeaning, BlockNode}
 use Rattle.sql_binder.specs.FromLists.{from_list}

@@ -1,12 +1,12 @@
 -- What WHERE, HAVING and the select list mean.
 use Rattle.std.specs.Prelude.{ℕ, List, [], ◌∷◌, Option, Some, None, unwrap_or}
-use Rattle.nested_query.specs.declared.query.BoundExpr.{BoundExpr}
+use Rattle.sql_bound_query.specs.declared.query.BoundExpr.{BoundExpr}
 use Rattle.sql_ast.specs.declared.tree.Clause.TheOpen.{Selected-F, Clause-F}
-use Rattle.binder_steps.specs.declared.collected.Shown.{Shown}
-use Rattle.binder_steps.specs.declared.scope.ScopeColumn.{ScopeColumn}
-use Rattle.binder_steps.specs.Steps.{Binding, ◌>>=◌, pure, lift, alone}
-use Rattle.binder_steps.specs.Names.{Sight}
-use Rattle.binder_steps.specs.Parts.{inside, no_condition, holding, shown_part, nothing_shown, star}
+use Rattle.sql_binder_steps.specs.declared.collected.Shown.{Shown}
+use Rattle.sql_binder_steps.specs.declared.scope.ScopeColumn.{ScopeColumn}
+use Rattle.sql_binder_steps.specs.Steps.{Binding, ◌>>=◌, pure, lift, alone}
+use Rattle.sql_binder_steps.specs.Names.{Sight}
+use Rattle.sql_binder_steps.specs.Parts.{inside, no_condition, holding, shown_part, nothing_shown, star}
 use Rattle.sql_binder.specs.Meanings.{ItemMeaning, SelectedMeaning, ClauseMeaning, ItemNode}
 use Rattle.sql_binder.specs.Meanings.{SelectedNode, ClauseNode}
 

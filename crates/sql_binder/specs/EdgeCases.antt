@@ -1,18 +1,18 @@
 -- Where the order of binding or the sight of a part decides, one small query each.
 use Rattle.std.specs.Prelude.{◌≡◌, ℕ, List, [], ◌∷◌, map, None, Ok, Err, pos, codes, false}
-use Rattle.nested_query.specs.declared.query.BoundBlock.TheVariants as bound
-use Rattle.nested_query.specs.declared.query.BoundExpr.{BoundExpr}
-use Rattle.nested_query.specs.declared.query.BoundSource.TheVariants as source
-use Rattle.nested_query.specs.declared.query.Input.TheVariants as input
-use Rattle.operators.specs.declared.operator.Comparison.TheVariants as operator
-use Rattle.refusals.specs.declared.bind.BindRefusal.TheVariants.{UnknownColumn, AmbiguousColumn}
-use Rattle.refusals.specs.declared.bind.BindRefusal.TheVariants.{DuplicateAlias, TypeMismatch}
-use Rattle.refusals.specs.declared.bind.BindRefusal.TheVariants.{NotGrouped, NestedAggregate}
-use Rattle.refusals.specs.declared.bind.BindRefusal.TheVariants.{SubqueryColumns, IntervalOnColumn}
-use Rattle.refusals.specs.declared.bind.BindRefusal.TheVariants.{TooManyTables}
-use Rattle.scalar_expr.specs.declared.expr.Expr.{Expr as Scalar}
-use Rattle.scalar_expr.specs.declared.expr.Expr.TheVariants as scalar
-use Rattle.scalar_expr.specs.declared.kind.Kind.TheVariants as kind
+use Rattle.sql_bound_query.specs.declared.query.BoundBlock.TheVariants as bound
+use Rattle.sql_bound_query.specs.declared.query.BoundExpr.{BoundExpr}
+use Rattle.sql_bound_query.specs.declared.query.BoundSource.TheVariants as source
+use Rattle.sql_bound_query.specs.declared.query.Input.TheVariants as input
+use Rattle.expr_operators.specs.declared.operator.Comparison.TheVariants as operator
+use Rattle.base_refusals.specs.declared.bind.BindRefusal.TheVariants.{UnknownColumn, AmbiguousColumn}
+use Rattle.base_refusals.specs.declared.bind.BindRefusal.TheVariants.{DuplicateAlias, TypeMismatch}
+use Rattle.base_refusals.specs.declared.bind.BindRefusal.TheVariants.{NotGrouped, NestedAggregate}
+use Rattle.base_refusals.specs.declared.bind.BindRefusal.TheVariants.{SubqueryColumns, IntervalOnColumn}
+use Rattle.base_refusals.specs.declared.bind.BindRefusal.TheVariants.{TooManyTables}
+use Rattle.expr_scalar.specs.declared.expr.Expr.{Expr as Scalar}
+use Rattle.expr_scalar.specs.declared.expr.Expr.TheVariants as scalar
+use Rattle.expr_scalar.specs.declared.kind.Kind.TheVariants as kind
 use Rattle.sql_ast.specs.declared.tree.Block.{Block, roll-Block}
 use Rattle.sql_ast.specs.declared.tree.Clause.TheVariants.{Absent, Condition}
 use Rattle.sql_ast.specs.declared.tree.Expr.{Expr}
@@ -27,9 +27,9 @@ use Rattle.sql_ast.specs.declared.words.Aggregate.TheVariants.{Sum}
 use Rattle.sql_ast.specs.declared.words.Comparison.TheVariants as compared
 use Rattle.sql_ast.specs.declared.words.JoinKind.TheVariants.{Inner}
 use Rattle.sql_ast.specs.declared.words.Span.TheVariants.{Month, Day}
-use Rattle.sql_value.specs.declared.value.Value.TheVariants as value
-use Rattle.tpch_schema.specs.declared.table.TableName.TheVariants as table
-use Rattle.binder_steps.specs.Steps.{Name}
+use Rattle.base_value.specs.declared.value.Value.TheVariants as value
+use Rattle.base_schema.specs.declared.table.TableName.TheVariants as table
+use Rattle.sql_binder_steps.specs.Steps.{Name}
 use Rattle.sql_binder.specs.Binding.{bound_query, bound_view}
 use Rattle.sql_binder.specs.Examples.{named, of_item, number, plus, minus, item, from_table}
 use Rattle.sql_binder.specs.Examples.{from_alias, from_derived, select_from, select_where}

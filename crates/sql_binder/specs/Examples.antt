@@ -1,19 +1,19 @@
 -- Queries bound by hand, and one case for each refusal.
 use Rattle.std.specs.Prelude.{◌≡◌, ℕ, List, [], ◌∷◌, Some, None, Err, pos}
 use Rattle.std.specs.Prelude.{codes, false}
-use Rattle.nested_query.specs.declared.query.BoundBlock.TheVariants as bound
-use Rattle.nested_query.specs.declared.query.BoundSource.TheVariants as source
-use Rattle.refusals.specs.declared.bind.BindRefusal.{BindRefusal}
-use Rattle.refusals.specs.declared.bind.BindRefusal.TheVariants.{UnknownTable, UnknownColumn}
-use Rattle.refusals.specs.declared.bind.BindRefusal.TheVariants.{AmbiguousColumn, DuplicateAlias}
-use Rattle.refusals.specs.declared.bind.BindRefusal.TheVariants.{TypeMismatch, NotGrouped}
-use Rattle.refusals.specs.declared.bind.BindRefusal.TheVariants.{NestedAggregate, OuterAggregate}
-use Rattle.refusals.specs.declared.bind.BindRefusal.TheVariants.{LateralReference, SubqueryColumns}
-use Rattle.refusals.specs.declared.bind.BindRefusal.TheVariants.{ScaleTooWide, IntervalOnColumn}
-use Rattle.refusals.specs.declared.bind.BindRefusal.TheVariants.{BadDate, DateRange, SubqueryPlace}
-use Rattle.refusals.specs.declared.bind.BindRefusal.TheVariants.{TooManyTables}
-use Rattle.scalar_expr.specs.declared.expr.Expr.TheVariants as scalar
-use Rattle.scalar_expr.specs.declared.kind.Kind.TheVariants as kind
+use Rattle.sql_bound_query.specs.declared.query.BoundBlock.TheVariants as bound
+use Rattle.sql_bound_query.specs.declared.query.BoundSource.TheVariants as source
+use Rattle.base_refusals.specs.declared.bind.BindRefusal.{BindRefusal}
+use Rattle.base_refusals.specs.declared.bind.BindRefusal.TheVariants.{UnknownTable, UnknownColumn}
+use Rattle.base_refusals.specs.declared.bind.BindRefusal.TheVariants.{AmbiguousColumn, DuplicateAlias}
+use Rattle.base_refusals.specs.declared.bind.BindRefusal.TheVariants.{TypeMismatch, NotGrouped}
+use Rattle.base_refusals.specs.declared.bind.BindRefusal.TheVariants.{NestedAggregate, OuterAggregate}
+use Rattle.base_refusals.specs.declared.bind.BindRefusal.TheVariants.{LateralReference, SubqueryColumns}
+use Rattle.base_refusals.specs.declared.bind.BindRefusal.TheVariants.{ScaleTooWide, IntervalOnColumn}
+use Rattle.base_refusals.specs.declared.bind.BindRefusal.TheVariants.{BadDate, DateRange, SubqueryPlace}
+use Rattle.base_refusals.specs.declared.bind.BindRefusal.TheVariants.{TooManyTables}
+use Rattle.expr_scalar.specs.declared.expr.Expr.TheVariants as scalar
+use Rattle.expr_scalar.specs.declared.kind.Kind.TheVariants as kind
 use Rattle.sql_ast.specs.declared.statement.Query.{Query}
 use Rattle.sql_ast.specs.declared.tree.Block.{Block, roll-Block}
 use Rattle.sql_ast.specs.declared.tree.Clause.TheVariants.{Absent, Condition}
@@ -30,10 +30,10 @@ use Rattle.sql_ast.specs.declared.words.Column.{Column}
 use Rattle.sql_ast.specs.declared.words.JoinKind.TheVariants.{Inner}
 use Rattle.sql_ast.specs.declared.words.Multiplying.TheVariants.{Times}
 use Rattle.sql_ast.specs.declared.words.Span.TheVariants.{Day}
-use Rattle.sql_value.specs.declared.value.Value.TheVariants as value
-use Rattle.tpch_schema.specs.declared.table.TableName.TheVariants as table
-use Rattle.binder_steps.specs.declared.view.View.{View}
-use Rattle.binder_steps.specs.Steps.{Name}
+use Rattle.base_value.specs.declared.value.Value.TheVariants as value
+use Rattle.base_schema.specs.declared.table.TableName.TheVariants as table
+use Rattle.sql_binder_steps.specs.declared.view.View.{View}
+use Rattle.sql_binder_steps.specs.Steps.{Name}
 use Rattle.sql_binder.specs.Binding.{bound_query}
 
 -- a bare name as a column

@@ -2,24 +2,24 @@
 -- Within a case the steps stand in their order, and the first refusal counts.
 use Rattle.std.specs.Prelude.{Bool, true, false, ◌||◌, List, [], Option, Some, None}
 use Rattle.std.specs.List.{list_any}
-use Rattle.aggregates.specs.declared.function.AggregateFunction.TheVariants.{Count, CountDistinct}
-use Rattle.nested_query.specs.declared.query.BoundAggregate.TheVariants.{CountRows}
-use Rattle.refusals.specs.declared.bind.BindRefusal.TheVariants.{IntervalOnColumn}
-use Rattle.scalar_expr.specs.declared.expr.Expr.TheVariants as e
-use Rattle.scalar_expr.specs.declared.kind.Kind.TheVariants as kind
+use Rattle.expr_aggregates.specs.declared.function.AggregateFunction.TheVariants.{Count, CountDistinct}
+use Rattle.sql_bound_query.specs.declared.query.BoundAggregate.TheVariants.{CountRows}
+use Rattle.base_refusals.specs.declared.bind.BindRefusal.TheVariants.{IntervalOnColumn}
+use Rattle.expr_scalar.specs.declared.expr.Expr.TheVariants as e
+use Rattle.expr_scalar.specs.declared.kind.Kind.TheVariants as kind
 use Rattle.sql_ast.specs.declared.tree.Clause.TheOpen.{Expr-F}
 use Rattle.sql_ast.specs.declared.words.Column.{Column}
 use Rattle.sql_ast.specs.declared.words.Span.{Span}
-use Rattle.sql_value.specs.declared.value.Value.TheVariants as value
-use Rattle.binder_steps.specs.declared.collected.BoundKind.TheVariants.{Value}
-use Rattle.binder_steps.specs.declared.collected.Typed.{Typed}
-use Rattle.binder_steps.specs.Steps.{Name, Binding, ◌>>=◌, pure, refuse, lift, alone}
-use Rattle.binder_steps.specs.Names.{Sight}
-use Rattle.binder_steps.specs.Values.{typed, date_literal, negative, compared, null_test, between}
-use Rattle.binder_steps.specs.Values.{liked, in_list, denied, extracted, substring, operated}
-use Rattle.binder_steps.specs.Values.{multiplying_of, all_of, any_of, case_of, case_else_of}
-use Rattle.binder_steps.specs.Parts.{column, among_rows, grouped, aggregated, function_of, existing}
-use Rattle.binder_steps.specs.Parts.{containing, only_value}
+use Rattle.base_value.specs.declared.value.Value.TheVariants as value
+use Rattle.sql_binder_steps.specs.declared.collected.BoundKind.TheVariants.{Value}
+use Rattle.sql_binder_steps.specs.declared.collected.Typed.{Typed}
+use Rattle.sql_binder_steps.specs.Steps.{Name, Binding, ◌>>=◌, pure, refuse, lift, alone}
+use Rattle.sql_binder_steps.specs.Names.{Sight}
+use Rattle.sql_binder_steps.specs.Values.{typed, date_literal, negative, compared, null_test, between}
+use Rattle.sql_binder_steps.specs.Values.{liked, in_list, denied, extracted, substring, operated}
+use Rattle.sql_binder_steps.specs.Values.{multiplying_of, all_of, any_of, case_of, case_else_of}
+use Rattle.sql_binder_steps.specs.Parts.{column, among_rows, grouped, aggregated, function_of, existing}
+use Rattle.sql_binder_steps.specs.Parts.{containing, only_value}
 use Rattle.sql_binder.specs.Meanings.{Meaning, ChainMeaning, ArmMeaning, ExprNode, TermNode}
 use Rattle.sql_binder.specs.Meanings.{FactorNode, ArmNode}
 use Rattle.sql_binder.specs.Operands.{conditions, operands, chain, arm_conditions, arm_values}

@@ -1,16 +1,16 @@
 -- What FROM means: its items, joins and commas.
 use Rattle.std.specs.Prelude.{ℕ, List, [], ◌∷◌, length, drop, Option, Some, None, unwrap_or}
-use Rattle.nested_query.specs.declared.query.BoundExpr.{BoundExpr}
-use Rattle.nested_query.specs.declared.query.BoundSource.{BoundSource}
+use Rattle.sql_bound_query.specs.declared.query.BoundExpr.{BoundExpr}
+use Rattle.sql_bound_query.specs.declared.query.BoundSource.{BoundSource}
 use Rattle.sql_ast.specs.declared.tree.Clause.TheOpen.{FromItem-F}
 use Rattle.sql_ast.specs.declared.words.JoinKind.{JoinKind}
-use Rattle.binder_steps.specs.declared.collected.FromRows.{FromRows}
-use Rattle.binder_steps.specs.declared.from.Joining.{Joining}
-use Rattle.binder_steps.specs.declared.scope.ScopeColumn.{ScopeColumn}
-use Rattle.binder_steps.specs.Steps.{Binding, ◌>>=◌, pure, lift, alone, counted}
-use Rattle.binder_steps.specs.Names.{Sight}
-use Rattle.binder_steps.specs.Parts.{within_on, hiding, table_rows, named_rows, columns_so_far}
-use Rattle.binder_steps.specs.Parts.{crossed, first_rows, joining, joined_rows, present, holding}
+use Rattle.sql_binder_steps.specs.declared.collected.FromRows.{FromRows}
+use Rattle.sql_binder_steps.specs.declared.from.Joining.{Joining}
+use Rattle.sql_binder_steps.specs.declared.scope.ScopeColumn.{ScopeColumn}
+use Rattle.sql_binder_steps.specs.Steps.{Binding, ◌>>=◌, pure, lift, alone, counted}
+use Rattle.sql_binder_steps.specs.Names.{Sight}
+use Rattle.sql_binder_steps.specs.Parts.{within_on, hiding, table_rows, named_rows, columns_so_far}
+use Rattle.sql_binder_steps.specs.Parts.{crossed, first_rows, joining, joined_rows, present, holding}
 use Rattle.sql_binder.specs.Meanings.{Meaning, FromItemMeaning, JoinMeaning, JoinedMeaning}
 use Rattle.sql_binder.specs.Meanings.{FromItemNode, JoinNode, JoinedNode}
 

@@ -1,15 +1,15 @@
 -- What binding is, in the words of names and queries.
 use Rattle.std.specs.Prelude.{ℕ, ◌-◌, ◌<◌, ◌≡◌, ◌⊎◌, true, false, List, length, slice_get, Some, Ok}
 use Rattle.std.specs.Prelude.{Err}
-use Rattle.nested_query.specs.declared.query.BoundQuery.{BoundQuery}
-use Rattle.refusals.specs.declared.bind.BindRefusal.{BindRefusal}
-use Rattle.refusals.specs.declared.bind.BindRefusal.TheVariants.{UnknownColumn}
+use Rattle.sql_bound_query.specs.declared.query.BoundQuery.{BoundQuery}
+use Rattle.base_refusals.specs.declared.bind.BindRefusal.{BindRefusal}
+use Rattle.base_refusals.specs.declared.bind.BindRefusal.TheVariants.{UnknownColumn}
 use Rattle.sql_ast.specs.declared.statement.Query.{Query}
 use Rattle.sql_ast.specs.declared.words.Column.{Column}
-use Rattle.binder_steps.specs.declared.scope.Place.{Place}
-use Rattle.binder_steps.specs.declared.scope.ScopeColumn.{ScopeColumn}
-use Rattle.binder_steps.specs.declared.view.View.{View}
-use Rattle.binder_steps.specs.Names.{Around, Sight, ends, means, the_one, found, resolved}
+use Rattle.sql_binder_steps.specs.declared.scope.Place.{Place}
+use Rattle.sql_binder_steps.specs.declared.scope.ScopeColumn.{ScopeColumn}
+use Rattle.sql_binder_steps.specs.declared.view.View.{View}
+use Rattle.sql_binder_steps.specs.Names.{Around, Sight, ends, means, the_one, found, resolved}
 use Rattle.sql_binder.specs.Binding.{bound_query}
 
 -- this level is the first of the queries around that has the name

@@ -4,13 +4,13 @@ use Rattle.sql_ast.specs.declared.tree.Clause.TheOpen.{Expr-F, Term-F, Factor-F,
 use Rattle.sql_ast.specs.declared.tree.Clause.TheOpen.{Selected-F, FromItem-F, Join-F, Joined-F}
 use Rattle.sql_ast.specs.declared.tree.Clause.TheOpen.{Clause-F, Block-F}
 use Rattle.sql_ast.specs.declared.words.Span.{Span}
-use Rattle.binder_steps.specs.declared.collected.BoundTable.{BoundTable}
-use Rattle.binder_steps.specs.declared.collected.Chain.{Chain}
-use Rattle.binder_steps.specs.declared.collected.FromRows.{FromRows}
-use Rattle.binder_steps.specs.declared.collected.Typed.{Typed}
-use Rattle.binder_steps.specs.declared.scope.ScopeColumn.{ScopeColumn}
-use Rattle.binder_steps.specs.Steps.{Name, Binding}
-use Rattle.binder_steps.specs.Names.{Sight}
+use Rattle.sql_binder_steps.specs.declared.collected.BoundTable.{BoundTable}
+use Rattle.sql_binder_steps.specs.declared.collected.Chain.{Chain}
+use Rattle.sql_binder_steps.specs.declared.collected.FromRows.{FromRows}
+use Rattle.sql_binder_steps.specs.declared.collected.Typed.{Typed}
+use Rattle.sql_binder_steps.specs.declared.scope.ScopeColumn.{ScopeColumn}
+use Rattle.sql_binder_steps.specs.Steps.{Name, Binding}
+use Rattle.sql_binder_steps.specs.Names.{Sight}
 
 -- an expression: how it is bound; whether an aggregate stands in it, outside of subqueries;
 -- the name that it gives to an output column; and its digits and unit, where it is an interval

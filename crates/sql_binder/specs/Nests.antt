@@ -3,7 +3,7 @@
 use Rattle.std.specs.Prelude.{◌≡◌, ℕ, ◌<◌, List, Result}
 use Rattle.std.specs.declared.alloc.Global.{Global}
 use denote.Ref.{Bor, MutBor}
-use Rattle.row_laws.specs.Bags.{Each}
+use Rattle.base_row_laws.specs.Bags.{Each}
 use Rattle.sql_ast.specs.declared.tree.Arm.{Arm, out-Arm}
 use Rattle.sql_ast.specs.declared.tree.Block.{Block, out-Block}
 use Rattle.sql_ast.specs.declared.tree.Clause.{Clause}
@@ -18,13 +18,13 @@ use Rattle.sql_ast.specs.declared.tree.Joined.{Joined, out-Joined}
 use Rattle.sql_ast.specs.declared.tree.Selected.{Selected}
 use Rattle.sql_ast.specs.declared.tree.Selected.TheVariants as selected
 use Rattle.sql_ast.specs.declared.tree.Term.{Term, out-Term}
-use Rattle.binder_steps.specs.declared.collected.BoundTable.{BoundTable}
-use Rattle.binder_steps.specs.declared.collected.Collected.{Collected}
-use Rattle.binder_steps.specs.declared.collected.Typed.{Typed}
-use Rattle.binder_steps.specs.declared.fault.BindFault.{BindFault}
-use Rattle.binder_steps.specs.declared.scope.Site.{Site}
-use Rattle.binder_steps.specs.Steps.{Name, Binds}
-use Rattle.binder_steps.specs.Names.{sight_of}
+use Rattle.sql_binder_steps.specs.declared.collected.BoundTable.{BoundTable}
+use Rattle.sql_binder_steps.specs.declared.collected.Collected.{Collected}
+use Rattle.sql_binder_steps.specs.declared.collected.Typed.{Typed}
+use Rattle.sql_binder_steps.specs.declared.fault.BindFault.{BindFault}
+use Rattle.sql_binder_steps.specs.declared.scope.Site.{Site}
+use Rattle.sql_binder_steps.specs.Steps.{Name, Binds}
+use Rattle.sql_binder_steps.specs.Names.{sight_of}
 use Rattle.sql_binder.specs.Binding.{meaning, block_meaning}
 use Rattle.sql_binder.specs.Sizes.{size, block_size}
 

@@ -2,14 +2,14 @@
 use Rattle.std.specs.Prelude.{List, [], ◌∷◌, Option, Some, None}
 use Rattle.sql_ast.specs.declared.words.Adding.{Adding}
 use Rattle.sql_ast.specs.declared.words.Span.{Span}
-use Rattle.binder_steps.specs.declared.collected.Chain.{Chain}
-use Rattle.binder_steps.specs.declared.collected.Conditions.{Conditions}
-use Rattle.binder_steps.specs.declared.collected.Operands.{Operands}
-use Rattle.binder_steps.specs.declared.collected.Typed.{Typed}
-use Rattle.binder_steps.specs.Steps.{Name, Binding, ◌>>=◌, pure, lift}
-use Rattle.binder_steps.specs.Names.{Sight}
-use Rattle.binder_steps.specs.Values.{begun, operated, adding_of, shifted, ended, first_condition}
-use Rattle.binder_steps.specs.Values.{next_condition, no_operands, with_operand}
+use Rattle.sql_binder_steps.specs.declared.collected.Chain.{Chain}
+use Rattle.sql_binder_steps.specs.declared.collected.Conditions.{Conditions}
+use Rattle.sql_binder_steps.specs.declared.collected.Operands.{Operands}
+use Rattle.sql_binder_steps.specs.declared.collected.Typed.{Typed}
+use Rattle.sql_binder_steps.specs.Steps.{Name, Binding, ◌>>=◌, pure, lift}
+use Rattle.sql_binder_steps.specs.Names.{Sight}
+use Rattle.sql_binder_steps.specs.Values.{begun, operated, adding_of, shifted, ended, first_condition}
+use Rattle.sql_binder_steps.specs.Values.{next_condition, no_operands, with_operand}
 use Rattle.sql_binder.specs.Meanings.{Meaning, ChainMeaning, ArmMeaning}
 
 -- AND and OR: the first two operands are tested once both are bound, each further one once it is

@@ -1,19 +1,19 @@
 //! Whole queries.
 ghost use Rattle.sql_binder.specs.Blocks as spec;
 ghost use Rattle.sql_binder.specs.Binding.{block_meaning, clauses_of, opened_block};
-ghost use Rattle.binder_steps.specs.Names.{sight_of};
+ghost use Rattle.sql_binder_steps.specs.Names.{sight_of};
 ghost use Rattle.sql_binder.specs.Nests.{Below, BindsParts};
 ghost use Rattle.sql_binder.specs.Sizes.{block_size};
-ghost use Rattle.binder_steps.specs.Steps.{Binds, apart};
+ghost use Rattle.sql_binder_steps.specs.Steps.{Binds, apart};
 
 use crate::subqueries::QueryBinder;
 use crate::syntax::is_grouped;
-use binder_steps::BindFault;
-use binder_steps::collected::{BoundTable, Collected, FromRows, Shown, Typed};
-use binder_steps::lists::{closing, keys_of, once_each, plain};
-use binder_steps::scope::{ScopeColumn, Site};
-use nested_query::BoundExpr;
 use sql_ast::{Block, Expr};
+use sql_binder_steps::BindFault;
+use sql_binder_steps::collected::{BoundTable, Collected, FromRows, Shown, Typed};
+use sql_binder_steps::lists::{closing, keys_of, once_each, plain};
+use sql_binder_steps::scope::{ScopeColumn, Site};
+use sql_bound_query::BoundExpr;
 use sqlite_items::Items;
 use std::alloc::Global;
 
@@ -129,7 +129,7 @@ impl<
     }
 
     /// The clauses of a query, with aggregates of its own.
-    #[tactic(auto, unfolding(binder_steps::specs::Steps::apart))]
+    #[tactic(auto, unfolding(sql_binder_steps::specs::Steps::apart))]
     fn own_clauses(
         &self,
         site: &Site<'_>,

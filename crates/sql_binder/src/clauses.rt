@@ -1,28 +1,28 @@
 //! Clauses: WHERE, HAVING and ON, and the select list.
 ghost use Rattle.std.specs.Prelude.{map};
-ghost use Rattle.row_laws.specs.Bags.{Each};
+ghost use Rattle.base_row_laws.specs.Bags.{Each};
 ghost use Rattle.sql_binder.specs.Clauses as clauses;
 ghost use Rattle.sql_binder.specs.FromLists as from;
 ghost use Rattle.sql_binder.specs.Binding.{meaning, clause_meaning, item_meaning, selected_meaning};
-ghost use Rattle.binder_steps.specs.Names.{sight_of};
+ghost use Rattle.sql_binder_steps.specs.Names.{sight_of};
 ghost use Rattle.sql_binder.specs.Nests.{BindsExpr, BindsItem, BindsSelected, BindsClause};
-ghost use Rattle.binder_steps.specs.Steps.{Binds};
+ghost use Rattle.sql_binder_steps.specs.Steps.{Binds};
 
 use crate::exprs::ExprBinder;
 use crate::syntax::item_name;
-use binder_steps::BindFault;
-use binder_steps::collected::{Collected, Shown, Typed};
-use binder_steps::lists::{holding, no_condition, nothing_shown, shown_part, star};
-use binder_steps::scope::{Level, ScopeColumn, Site};
-use binder_steps::steps::before;
-use nested_query::BoundExpr;
 use sql_ast::{Clause, Expr, Item, Selected};
+use sql_binder_steps::BindFault;
+use sql_binder_steps::collected::{Collected, Shown, Typed};
+use sql_binder_steps::lists::{holding, no_condition, nothing_shown, shown_part, star};
+use sql_binder_steps::scope::{Level, ScopeColumn, Site};
+use sql_binder_steps::steps::before;
+use sql_bound_query::BoundExpr;
 use sqlite_items::Items;
 use std::alloc::Global;
 
 impl<E: Fn(Global, &Site<'_>, &mut Collected, &Expr) -> Result<Typed, BindFault>> ExprBinder<E> {
     /// ON, over the rows of its own join, where no subquery may stand.
-    #[tactic(auto, unfolding(crate::specs::FromLists::on_condition, binder_steps::specs::Parts::within_on))]
+    #[tactic(auto, unfolding(crate::specs::FromLists::on_condition, sql_binder_steps::specs::Parts::within_on))]
     pub(crate) fn on_condition(
         &self,
         site: &Site<'_>,
@@ -74,7 +74,7 @@ impl<E: Fn(Global, &Site<'_>, &mut Collected, &Expr) -> Result<Typed, BindFault>
     }
 
     /// WHERE over a FROM list, or HAVING over its groups.
-    #[tactic(auto, unfolding(crate::specs::Clauses::condition, binder_steps::specs::Parts::inside))]
+    #[tactic(auto, unfolding(crate::specs::Clauses::condition, sql_binder_steps::specs::Parts::inside))]
     pub(crate) fn condition(
         &self,
         site: &Site<'_>,
@@ -164,7 +164,7 @@ impl<E: Fn(Global, &Site<'_>, &mut Collected, &Expr) -> Result<Typed, BindFault>
     }
 
     /// A select list over a FROM list, or over its groups.
-    #[tactic(auto, unfolding(crate::specs::Clauses::select, binder_steps::specs::Parts::inside))]
+    #[tactic(auto, unfolding(crate::specs::Clauses::select, sql_binder_steps::specs::Parts::inside))]
     pub(crate) fn select(
         &self,
         site: &Site<'_>,

@@ -3,22 +3,22 @@
 ghost use Rattle.sql_ast.specs.declared.tree.Clause.TheOpen.{Expr-F};
 ghost use Rattle.sql_binder.specs.Expressions as spec;
 ghost use Rattle.sql_binder.specs.Binding.{meaning};
-ghost use Rattle.binder_steps.specs.Names.{sight_of};
+ghost use Rattle.sql_binder_steps.specs.Names.{sight_of};
 ghost use Rattle.sql_binder.specs.Nests.{BindsExpr};
-ghost use Rattle.binder_steps.specs.Parts.{among_rows};
-ghost use Rattle.binder_steps.specs.Steps.{Binds, alone};
+ghost use Rattle.sql_binder_steps.specs.Parts.{among_rows};
+ghost use Rattle.sql_binder_steps.specs.Steps.{Binds, alone};
 
-use aggregates::AggregateFunction;
-use ascii_text::Text;
-use binder_steps::BindFault;
-use binder_steps::collected::{Collected, Part, Typed};
-use binder_steps::scope::{Level, Site};
-use binder_steps::steps::{aggregated, before, function_of};
-use binder_steps::values::{
+use base_text::Text;
+use expr_aggregates::AggregateFunction;
+use sql_ast::{Aggregate, Comparison, Expr, Span};
+use sql_binder_steps::BindFault;
+use sql_binder_steps::collected::{Collected, Part, Typed};
+use sql_binder_steps::scope::{Level, Site};
+use sql_binder_steps::steps::{aggregated, before, function_of};
+use sql_binder_steps::values::{
     between, compared, denied, extracted, liked, negative, null_test, substring,
 };
-use nested_query::BoundExpr;
-use sql_ast::{Aggregate, Comparison, Expr, Span};
+use sql_bound_query::BoundExpr;
 use sqlite_items::{Boxed, Items};
 use std::alloc::Global;
 
@@ -57,7 +57,7 @@ impl<E: Fn(Global, &Site<'_>, &mut Collected, &Expr) -> Result<Typed, BindFault>
     }
 
     /// An expression with inputs of its own.
-    #[tactic(auto, unfolding(binder_steps::specs::Steps::alone))]
+    #[tactic(auto, unfolding(sql_binder_steps::specs::Steps::alone))]
     pub(crate) fn part(
         &self,
         site: &Site<'_>,
@@ -81,7 +81,7 @@ impl<E: Fn(Global, &Site<'_>, &mut Collected, &Expr) -> Result<Typed, BindFault>
     }
 
     /// The argument of an aggregate, over the rows of the groups.
-    #[tactic(auto, unfolding(binder_steps::specs::Parts::among_rows))]
+    #[tactic(auto, unfolding(sql_binder_steps::specs::Parts::among_rows))]
     fn argument(
         &self,
         site: &Site<'_>,

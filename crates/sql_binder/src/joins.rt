@@ -1,21 +1,21 @@
 //! FROM lists.
 ghost use Rattle.std.specs.Prelude.{map, length};
-ghost use Rattle.row_laws.specs.Bags.{Each};
+ghost use Rattle.base_row_laws.specs.Bags.{Each};
 ghost use Rattle.sql_binder.specs.FromLists as spec;
 ghost use Rattle.sql_binder.specs.Binding.{meaning, join_meaning, joined_meaning};
-ghost use Rattle.binder_steps.specs.Names.{sight_of};
+ghost use Rattle.sql_binder_steps.specs.Names.{sight_of};
 ghost use Rattle.sql_binder.specs.Nests.{BindsExpr, BindsJoin, BindsJoined};
-ghost use Rattle.binder_steps.specs.Steps.{Binds};
+ghost use Rattle.sql_binder_steps.specs.Steps.{Binds};
 
 use crate::subqueries::QueryBinder;
-use binder_steps::BindFault;
-use binder_steps::collected::{BoundTable, Collected, FromRows, Typed};
-use binder_steps::from::{
+use sql_ast::{Block, Expr, Join, JoinKind, Joined};
+use sql_binder_steps::BindFault;
+use sql_binder_steps::collected::{BoundTable, Collected, FromRows, Typed};
+use sql_binder_steps::from::{
     Joining, begin_join, columns_from, columns_so_far, crossed, first_rows, joined_rows, present,
 };
-use binder_steps::scope::Site;
-use nested_query::BoundSource;
-use sql_ast::{Block, Expr, Join, JoinKind, Joined};
+use sql_binder_steps::scope::Site;
+use sql_bound_query::BoundSource;
 use sqlite_items::Boxed;
 use std::alloc::Global;
 

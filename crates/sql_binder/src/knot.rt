@@ -1,15 +1,15 @@
 //! Expressions and queries, which lead back to each other. All else is bound by rules that take
 //! these two functions as values, so that each rule is proved alone.
 ghost use Rattle.sql_binder.specs.Binding.{meaning, block_meaning};
-ghost use Rattle.binder_steps.specs.Names.{sight_of};
-ghost use Rattle.binder_steps.specs.Steps.{Binds};
+ghost use Rattle.sql_binder_steps.specs.Names.{sight_of};
+ghost use Rattle.sql_binder_steps.specs.Steps.{Binds};
 
 use crate::exprs::ExprBinder;
 use crate::subqueries::QueryBinder;
-use binder_steps::BindFault;
-use binder_steps::collected::{BoundTable, Collected, Typed};
-use binder_steps::scope::Site;
 use sql_ast::{Block, Expr};
+use sql_binder_steps::BindFault;
+use sql_binder_steps::collected::{BoundTable, Collected, Typed};
+use sql_binder_steps::scope::Site;
 use std::alloc::Global;
 
 /// A bound expression, whose inputs are added to those of its clause.

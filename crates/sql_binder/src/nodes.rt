@@ -1,31 +1,31 @@
 //! Expressions of each kind.
 ghost use Rattle.std.specs.Prelude.{◌≡◌, IfOk};
-ghost use Rattle.nested_query.specs.declared.query.BoundAggregate.TheVariants.{CountRows};
-ghost use Rattle.scalar_expr.specs.declared.expr.Expr.TheVariants as e;
-ghost use Rattle.scalar_expr.specs.declared.kind.Kind.TheVariants as kind;
-ghost use Rattle.sql_value.specs.declared.value.Value.TheVariants as value;
-ghost use Rattle.binder_steps.specs.declared.collected.BoundKind.TheVariants as kinds;
-ghost use Rattle.binder_steps.specs.Values.{typed};
-ghost use Rattle.binder_steps.specs.Parts as spec;
+ghost use Rattle.sql_bound_query.specs.declared.query.BoundAggregate.TheVariants.{CountRows};
+ghost use Rattle.expr_scalar.specs.declared.expr.Expr.TheVariants as e;
+ghost use Rattle.expr_scalar.specs.declared.kind.Kind.TheVariants as kind;
+ghost use Rattle.base_value.specs.declared.value.Value.TheVariants as value;
+ghost use Rattle.sql_binder_steps.specs.declared.collected.BoundKind.TheVariants as kinds;
+ghost use Rattle.sql_binder_steps.specs.Values.{typed};
+ghost use Rattle.sql_binder_steps.specs.Parts as spec;
 ghost use Rattle.sql_binder.specs.Binding.{meaning};
-ghost use Rattle.binder_steps.specs.Names.{sight_of};
+ghost use Rattle.sql_binder_steps.specs.Names.{sight_of};
 ghost use Rattle.sql_binder.specs.Nests.{Below};
 ghost use Rattle.sql_binder.specs.Sizes.{size};
-ghost use Rattle.binder_steps.specs.Steps.{Binds};
+ghost use Rattle.sql_binder_steps.specs.Steps.{Binds};
 
 use crate::subqueries::QueryBinder;
-use ascii_text::Text;
-use binder_steps::BindFault;
-use binder_steps::collected::{BoundKind, BoundTable, Collected, Typed};
-use binder_steps::scope::Site;
-use binder_steps::steps::{column, grouped};
-use binder_steps::values::{date_literal, typed};
-use fixed_decimal::Scale;
-use nested_query::BoundAggregate;
-use refusals::BindRefusal;
-use scalar_expr::Kind;
+use base_decimal::Scale;
+use base_refusals::BindRefusal;
+use base_text::Text;
+use base_value::Value;
+use expr_scalar::Kind;
 use sql_ast::{Block, Expr};
-use sql_value::Value;
+use sql_binder_steps::BindFault;
+use sql_binder_steps::collected::{BoundKind, BoundTable, Collected, Typed};
+use sql_binder_steps::scope::Site;
+use sql_binder_steps::steps::{column, grouped};
+use sql_binder_steps::values::{date_literal, typed};
+use sql_bound_query::BoundAggregate;
 use std::alloc::{AllocError, Global};
 
 /// A number.
@@ -34,7 +34,7 @@ fn number(alloc: Global, coefficient: i128, scale: Scale) -> Result<Typed, Alloc
         (λ t. t ≡ typed (e.Literal (value.Number scale coefficient))
         (kinds.Value (kind.Number scale))) }
 {
-    let value = scalar_expr::Expr::Literal(Value::Number(scale, coefficient));
+    let value = expr_scalar::Expr::Literal(Value::Number(scale, coefficient));
     let t = typed(alloc, value, BoundKind::Value(Kind::Number(scale)))?;
     Ok(t)
 }
@@ -43,7 +43,7 @@ fn number(alloc: Global, coefficient: i128, scale: Scale) -> Result<Typed, Alloc
 fn text(alloc: Global, t: &Text) -> Result<Typed, AllocError>
     ensures { IfOk result (λ r. r ≡ typed (e.Literal (value.Text t.now)) (kinds.Value kind.Text)) }
 {
-    let value = scalar_expr::Expr::Literal(Value::Text(t.clone()?));
+    let value = expr_scalar::Expr::Literal(Value::Text(t.clone()?));
     let t = typed(alloc, value, BoundKind::Value(Kind::Text))?;
     Ok(t)
 }

@@ -1,25 +1,25 @@
 //! Lists of operands: AND and OR, IN lists, chains of operations, and CASE.
 ghost use Rattle.std.specs.Prelude.{map};
-ghost use Rattle.row_laws.specs.Bags.{Each};
+ghost use Rattle.base_row_laws.specs.Bags.{Each};
 ghost use Rattle.sql_ast.specs.declared.tree.Clause.TheOpen.{Expr-F};
 ghost use Rattle.sql_binder.specs.Operands as operands;
 ghost use Rattle.sql_binder.specs.Expressions as exprs;
 ghost use Rattle.sql_binder.specs.Binding.{meaning, term_meaning, factor_meaning, arm_meaning};
-ghost use Rattle.binder_steps.specs.Names.{sight_of};
+ghost use Rattle.sql_binder_steps.specs.Names.{sight_of};
 ghost use Rattle.sql_binder.specs.Nests.{BindsExpr, BindsExprs, BindsTerm, BindsFactor, BindsArm};
-ghost use Rattle.binder_steps.specs.Steps.{Binds};
+ghost use Rattle.sql_binder_steps.specs.Steps.{Binds};
 
 use crate::exprs::ExprBinder;
 use crate::syntax::interval_of;
-use binder_steps::BindFault;
-use binder_steps::chain::{adding_of, begun, ended, multiplying_of, operated, shifted};
-use binder_steps::collected::{Chain, Collected, Conditions, Operands, Typed};
-use binder_steps::scope::Site;
-use binder_steps::values::{
+use sql_ast::{Arm, Expr, Factor, Term};
+use sql_binder_steps::BindFault;
+use sql_binder_steps::chain::{adding_of, begun, ended, multiplying_of, operated, shifted};
+use sql_binder_steps::collected::{Chain, Collected, Conditions, Operands, Typed};
+use sql_binder_steps::scope::Site;
+use sql_binder_steps::values::{
     all_of, any_of, case_else_of, case_of, first_condition, in_list, next_condition, no_operands,
     with_operand,
 };
-use sql_ast::{Arm, Expr, Factor, Term};
 use sqlite_items::Boxed;
 use std::alloc::Global;
 

@@ -1,15 +1,15 @@
 //! Queries and views, bound.
 ghost use Rattle.sql_binder.specs.Binding as spec;
-ghost use Rattle.binder_steps.specs.Steps.{Gives};
+ghost use Rattle.sql_binder_steps.specs.Steps.{Gives};
 
 use crate::knot::query;
-use binder_steps::collected::{BoundTable, Collected};
-use binder_steps::lists::order_of;
-use binder_steps::names::{distinct_names, renamed_headers, share};
-use binder_steps::scope::Site;
-use binder_steps::{BindFault, View, Views};
-use nested_query::BoundQuery;
 use sql_ast::{Block, Name, Query};
+use sql_binder_steps::collected::{BoundTable, Collected};
+use sql_binder_steps::lists::order_of;
+use sql_binder_steps::names::{distinct_names, renamed_headers, share};
+use sql_binder_steps::scope::Site;
+use sql_binder_steps::{BindFault, View, Views};
+use sql_bound_query::BoundQuery;
 use sqlite_items::Items;
 use std::alloc::Global;
 

@@ -3,19 +3,19 @@
 ghost use Rattle.sql_ast.specs.declared.tree.Clause.TheOpen.{Expr-F};
 ghost use Rattle.sql_binder.specs.Expressions as spec;
 ghost use Rattle.sql_binder.specs.Binding.{meaning, block_meaning, from_item_meaning};
-ghost use Rattle.binder_steps.specs.Names.{sight_of};
+ghost use Rattle.sql_binder_steps.specs.Names.{sight_of};
 ghost use Rattle.sql_binder.specs.Nests.{BindsExpr, BindsBlock, BindsFromItem};
-ghost use Rattle.binder_steps.specs.Parts.{hiding};
-ghost use Rattle.binder_steps.specs.Steps.{Binds, alone};
+ghost use Rattle.sql_binder_steps.specs.Parts.{hiding};
+ghost use Rattle.sql_binder_steps.specs.Steps.{Binds, alone};
 
 use crate::exprs::ExprBinder;
-use binder_steps::BindFault;
-use binder_steps::collected::{BoundTable, Collected, FromRows, Typed};
-use binder_steps::from::{named_rows, table_rows};
-use binder_steps::names::alias_of;
-use binder_steps::scope::{Level, ScopeColumn, Site};
-use binder_steps::steps::{before, containing, existing, only_value};
 use sql_ast::{Block, Expr, FromItem};
+use sql_binder_steps::BindFault;
+use sql_binder_steps::collected::{BoundTable, Collected, FromRows, Typed};
+use sql_binder_steps::from::{named_rows, table_rows};
+use sql_binder_steps::names::alias_of;
+use sql_binder_steps::scope::{Level, ScopeColumn, Site};
+use sql_binder_steps::steps::{before, containing, existing, only_value};
 use sqlite_items::Boxed;
 use std::alloc::Global;
 
@@ -96,7 +96,7 @@ impl<
 
     /// A query that may use no name around it: neither of what stands left of it nor of the queries
     /// around.
-    #[tactic(auto, unfolding(binder_steps::specs::Parts::hiding))]
+    #[tactic(auto, unfolding(sql_binder_steps::specs::Parts::hiding))]
     fn hidden(
         &self,
         site: &Site<'_>,

@@ -6,9 +6,9 @@ ghost use Rattle.sql_binder.specs.Binding as trees;
 ghost use Rattle.sql_binder.specs.Binding.{meaning, term_meaning, factor_meaning, arm_meaning};
 ghost use Rattle.sql_binder.specs.Binding.{item_meaning, selected_meaning};
 
-use ascii_text::Text;
-use binder_steps::names::share;
+use base_text::Text;
 use sql_ast::{Arm, Block, Clause, Expr, Factor, Item, Name, Selected, Span, Term};
+use sql_binder_steps::names::share;
 use std::alloc::{AllocError, Global};
 
 /// Whether an aggregate stands in it, outside of subqueries.

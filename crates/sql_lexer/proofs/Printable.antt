@@ -4,7 +4,7 @@ use Rattle.std.specs.Prelude.{nat_lt, position}
 use Rattle.std.specs.List.{position_or_len}
 use Rattle.std.specs.Char.{to_ascii_lowercase}
 use Rattle.std.proofs.lemmas.Bool.Decides.{nat_tests}
-use Rattle.ascii_text.specs.Printable.{is_printable, AllPrintable}
+use Rattle.base_text.specs.Printable.{is_printable, AllPrintable}
 use Rattle.sql_lexer.specs.Bytes.{is_letter, is_word}
 use Rattle.sql_lexer.specs.Forms.{all_are, unquoted}
 use Rattle.sql_lexer.proofs.Truths.{and_left, and_right}

@@ -13,7 +13,7 @@ use Rattle.sql_lexer.specs.declared.fault.LexRefusal.TheVariants.{BadByte, Numbe
 use Rattle.sql_lexer.specs.declared.fault.LexRefusal.TheVariants.{ScaleTooWide}
 use Rattle.sql_lexer.specs.declared.front.Form.{Form}
 use Rattle.sql_lexer.specs.declared.front.Form.TheVariants as form
-use Rattle.ascii_text.specs.Printable.{first_unprintable}
+use Rattle.base_text.specs.Printable.{first_unprintable}
 use Rattle.sql_lexer.specs.Bytes.{is_letter, is_word}
 use Rattle.sql_lexer.specs.Words.{reserved_kind}
 

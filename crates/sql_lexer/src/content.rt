@@ -1,7 +1,7 @@
 //! What the bytes of a token mean.
 ghost use Rattle.std.specs.Prelude.{◌≡◌, ◌<◌, ◌+◌, ◌^◌, length, map, false, true, IfOk, IfSome};
 ghost use Rattle.std.specs.Char.{to_ascii_lowercase};
-ghost use Rattle.ascii_text.specs.Printable.{AllPrintable, first_unprintable};
+ghost use Rattle.base_text.specs.Printable.{AllPrintable, first_unprintable};
 ghost use Rattle.sql_lexer.specs.Bytes as byte;
 ghost use Rattle.sql_lexer.specs.Forms as forms;
 ghost use Rattle.sql_lexer.specs.Words.{reserved_kind};
@@ -11,8 +11,8 @@ use crate::fault::{LexFault, LexRefusal};
 use crate::front::{Form, after, digits_len};
 use crate::kind::{Kind, reserved};
 use crate::token::Content;
-use ascii_text::Text;
-use fixed_decimal::Scale;
+use base_decimal::Scale;
+use base_text::Text;
 use std::alloc::{AllocError, Global};
 
 /// The number that the digits write, if it is below 2^127.

@@ -3,8 +3,8 @@ ghost use Rattle.std.specs.Prelude.{◌≡◌};
 ghost use Rattle.sql_lexer.specs.Kinds as kinds;
 
 use crate::kind::Kind;
-use ascii_text::Text;
-use fixed_decimal::Scale;
+use base_decimal::Scale;
+use base_text::Text;
 
 /// What a token holds beside its kind.
 #[derive(Drop)]

@@ -1,10 +1,10 @@
 -- All tokens have a statement list or a first refusal, and so have all bytes.
 use Rattle.std.proofs.Common.{◌≡◌, ℕ, ◌-◌, ◌≤◌, Bool, true, false, List, length, Ok, Err, ◌⊎◌, inl, inr, refl, leb}
 use Rattle.std.proofs.lemmas.Bool.{leb-true, leb-false}
-use Rattle.grammar_laws.specs.declared.SyntaxFault.{SyntaxFault}
-use Rattle.grammar_laws.specs.Readings.{Outcome}
-use Rattle.grammar_laws.specs.Scripts.{IsRead, IsFirst, statements}
-use Rattle.grammar_laws.proofs.Verdict.{read_is, refusal_is_first}
+use Rattle.sql_grammar_laws.specs.declared.SyntaxFault.{SyntaxFault}
+use Rattle.sql_grammar_laws.specs.Readings.{Outcome}
+use Rattle.sql_grammar_laws.specs.Scripts.{IsRead, IsFirst, statements}
+use Rattle.sql_grammar_laws.proofs.Verdict.{read_is, refusal_is_first}
 use Rattle.sql_lexer.specs.declared.token.Token.{Token}
 use Rattle.sql_lexer.specs.Lexing.{Lexes, HasAnswer}
 use Rattle.sql_lexer.proofs.Answered.{answered}
@@ -13,7 +13,7 @@ use Rattle.sql_parser.specs.declared.fault.ScriptRefusal.{ScriptRefusal}
 use Rattle.sql_parser.specs.declared.fault.ScriptRefusal.TheVariants as script
 use Rattle.sql_parser.specs.Faults.{of_lexer, of_parser}
 use Rattle.sql_parser.specs.Grammar.{Ended}
-use Rattle.parser_steps.specs.Readings.{ended_at}
+use Rattle.sql_parser_steps.specs.Readings.{ended_at}
 use Rattle.sql_parser.specs.Script.{Sql, IsReadScript, IsRefusedScript, max_script, byte_at}
 use Rattle.sql_parser.proofs.Levels.{is_read}
 use Rattle.sql_parser.proofs.Whole.{lexer_kind, parser_kind}

@@ -9,25 +9,25 @@ use Rattle.sql_ast.specs.declared.tree.Block.{Block}
 use Rattle.sql_ast.specs.declared.tree.Clause.TheVariants as clause
 use Rattle.sql_ast.specs.declared.tree.Selected.TheVariants as selected
 use Rattle.sql_ast.specs.declared.statement.Statement.{Statement}
-use Rattle.parser_steps.specs.declared.test.Test.TheVariants as t
-use Rattle.grammar_laws.specs.declared.SyntaxFault.TheVariants.{Unexpected}
-use Rattle.grammar_laws.specs.Marks.{Mark}
-use Rattle.grammar_laws.specs.Lines.{Never, One, less, Links, none}
-use Rattle.grammar_laws.specs.Readings.{Outcome, never}
-use Rattle.grammar_laws.specs.Laws.{Sample, Stable, IsReadBy}
-use Rattle.grammar_laws.specs.Lifting.{Lifts}
-use Rattle.grammar_laws.specs.Scripts.{IsScript}
-use Rattle.grammar_laws.proofs.Stable.{Stable-fixed}
-use Rattle.grammar_laws.proofs.Complete.{Complete-narrower}
-use Rattle.grammar_laws.proofs.Lift.{Below, Lifts-never, always}
-use Rattle.grammar_laws.proofs.Lawful.{Line, Deeper, Sample-then, Sample-map, Sample-left, Sample-right, line_kind, line_never, line_nothing, line_nonempty, ends_nil}
-use Rattle.grammar_laws.proofs.OneMeaning.{one_meaning}
-use Rattle.parser_steps.specs.Kinds.{kinds}
-use Rattle.parser_steps.specs.Values.{product, sum, tested, second, pair, cons, constant, plain_selection, joined, filters, block}
+use Rattle.sql_parser_steps.specs.declared.test.Test.TheVariants as t
+use Rattle.sql_grammar_laws.specs.declared.SyntaxFault.TheVariants.{Unexpected}
+use Rattle.sql_grammar_laws.specs.Marks.{Mark}
+use Rattle.sql_grammar_laws.specs.Lines.{Never, One, less, Links, none}
+use Rattle.sql_grammar_laws.specs.Readings.{Outcome, never}
+use Rattle.sql_grammar_laws.specs.Laws.{Sample, Stable, IsReadBy}
+use Rattle.sql_grammar_laws.specs.Lifting.{Lifts}
+use Rattle.sql_grammar_laws.specs.Scripts.{IsScript}
+use Rattle.sql_grammar_laws.proofs.Stable.{Stable-fixed}
+use Rattle.sql_grammar_laws.proofs.Complete.{Complete-narrower}
+use Rattle.sql_grammar_laws.proofs.Lift.{Below, Lifts-never, always}
+use Rattle.sql_grammar_laws.proofs.Lawful.{Line, Deeper, Sample-then, Sample-map, Sample-left, Sample-right, line_kind, line_never, line_nothing, line_nonempty, ends_nil}
+use Rattle.sql_grammar_laws.proofs.OneMeaning.{one_meaning}
+use Rattle.sql_parser_steps.specs.Kinds.{kinds}
+use Rattle.sql_parser_steps.specs.Values.{product, sum, tested, second, pair, cons, constant, plain_selection, joined, filters, block}
 use Rattle.sql_parser.specs.Expressions.{UnaryLine, PartLine, TestTail}
 use Rattle.sql_parser.specs.Grammar.{QueryLine, SelectLine, JoinedLine, WhereTail, GroupTail, HavingTail, Unary, NotPart, Query, Ended}
-use Rattle.parser_steps.specs.ExpressionReadings.{read_unary_line, read_part_line}
-use Rattle.parser_steps.specs.Readings.{read_query_line, unary_at, part_at, query_at, inner_unary, inner_part, inner_query, ended_at}
+use Rattle.sql_parser_steps.specs.ExpressionReadings.{read_unary_line, read_part_line}
+use Rattle.sql_parser_steps.specs.Readings.{read_query_line, unary_at, part_at, query_at, inner_unary, inner_part, inner_query, ended_at}
 use Rattle.sql_parser.proofs.KindLists.{leaf_first, unary_first, part_first, on_unary, on_part, on_query, alias_words}
 use Rattle.sql_parser.proofs.LineLaws.{law-TableLine, law-Leaf, law-UnaryLine, law-PartLine, law-QueryLine, law-EndedLine}
 use Rattle.sql_parser.proofs.LiftLaws.{lift-UnaryLine, lift-PartLine, lift-QueryLine, lift-EndedLine}

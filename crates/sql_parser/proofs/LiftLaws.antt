@@ -16,15 +16,15 @@ use Rattle.sql_ast.specs.declared.tree.Block.{Block}
 use Rattle.sql_ast.specs.declared.words.JoinKind.TheVariants as join_kind
 use Rattle.sql_ast.specs.declared.statement.RefreshKind.TheVariants as refresh_kind
 use Rattle.sql_ast.specs.declared.statement.Statement.TheVariants as statements
-use Rattle.parser_steps.specs.declared.test.Test.TheVariants as t
+use Rattle.sql_parser_steps.specs.declared.test.Test.TheVariants as t
 use Rattle.sql_lexer.specs.Kinds.{is}
-use Rattle.grammar_laws.specs.Lines.{Part, Then, One}
-use Rattle.grammar_laws.specs.Readings.{Reading}
-use Rattle.grammar_laws.specs.Lifting.{Lifts}
-use Rattle.grammar_laws.proofs.Lift.{Lifts-one, Lifts-or, Lifts-map, Lifts-then, Lifts-empty, Lifts-list, Lifts-level, Below, below, always}
-use Rattle.grammar_laws.proofs.Lawful.{Line, Deeper, line_nonempty}
-use Rattle.parser_steps.specs.Kinds.{kinds}
-use Rattle.parser_steps.specs.Values.{text_of, count_of, number, text, is_count, is_digits, first, second, pair, cons, constant, after_word, after_point, column, negative, negation, factor, term, product, sum, all_of, any_of, arm, case_of, date, interval, extract, substring, distinct_count, between, like, in_list, in_query, is_null, is_not_null, denied, tested, item, distinct, plain_selection, derived, join, joined, condition, filters, block, named_key, ordered, create_view, text_value, number_value}
+use Rattle.sql_grammar_laws.specs.Lines.{Part, Then, One}
+use Rattle.sql_grammar_laws.specs.Readings.{Reading}
+use Rattle.sql_grammar_laws.specs.Lifting.{Lifts}
+use Rattle.sql_grammar_laws.proofs.Lift.{Lifts-one, Lifts-or, Lifts-map, Lifts-then, Lifts-empty, Lifts-list, Lifts-level, Below, below, always}
+use Rattle.sql_grammar_laws.proofs.Lawful.{Line, Deeper, line_nonempty}
+use Rattle.sql_parser_steps.specs.Kinds.{kinds}
+use Rattle.sql_parser_steps.specs.Values.{text_of, count_of, number, text, is_count, is_digits, first, second, pair, cons, constant, after_word, after_point, column, negative, negation, factor, term, product, sum, all_of, any_of, arm, case_of, date, interval, extract, substring, distinct_count, between, like, in_list, in_query, is_null, is_not_null, denied, tested, item, distinct, plain_selection, derived, join, joined, condition, filters, block, named_key, ordered, create_view, text_value, number_value}
 use Rattle.sql_parser.specs.Expressions.{NameLine, Literal, Number, Digits, SpanWord, ColumnTail, ColumnLine, MultiplyWord, AddWord, Product, Sum, Conjunction, Whole, ExprList, ArmLine, Arms, ElseTail, CaseBody, CaseLine, DateText, DateLine, Precision, IntervalLine, ExtractInside, ExtractLine, Places, SubstringInside, SubstringLine, CountInside, CountLine, AggregateWord, AggregateLine, Call, Leaf, Parens, Subquery, ExistsLine, Operand, UnaryLine, ComparisonWord, CompareLine, NullLine, BetweenLine, LikeLine, InLine, DenyTest, TestTail, Predicate, PartLine}
 use Rattle.sql_parser.specs.Grammar.{Alias, ItemLine, Selection, SelectLine, Names, ColumnNames, TableLine, DerivedAlias, FromItemLine, JoinWords, JoinedItem, JoinedLine, FromLine, WhereTail, GroupTail, HavingTail, FiltersTail, QueryLine, Direction, KeyLine, OrderTail, RowsOnly, LimitTail, OrderedLine, CreateLine, DropLine, RefreshLine, ValueLine, RunInside, RunLine, StatementLine, EndedLine}
 use Rattle.sql_parser.proofs.LineLaws.{law-NameLine, law-ColumnLine, law-ValueLine, law-Product, law-Conjunction, law-Whole, law-ArmLine, law-ItemLine, law-JoinedItem, law-JoinedLine, law-KeyLine}

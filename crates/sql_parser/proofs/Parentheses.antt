@@ -1,17 +1,17 @@
 -- Parentheses after a word: what fails at the closing one.
 use Rattle.std.proofs.Common.{◌≡◌, ℕ, zero, suc, ◌-◌, Bool, true, false, cond, List, [], ◌∷◌, Result, Ok, Err, refl, ap, ◌∙◌, arith}
-use Rattle.grammar_laws.specs.declared.SyntaxFault.{SyntaxFault}
-use Rattle.grammar_laws.specs.declared.SyntaxFault.TheVariants.{Unexpected, TooDeep}
-use Rattle.grammar_laws.specs.declared.SyntaxError.{SyntaxError}
-use Rattle.grammar_laws.specs.declared.SyntaxError.TheVariants as stops
-use Rattle.grammar_laws.specs.Readings.{Outcome, Reading, one, opens, both, Reads, is_err}
+use Rattle.sql_grammar_laws.specs.declared.SyntaxFault.{SyntaxFault}
+use Rattle.sql_grammar_laws.specs.declared.SyntaxFault.TheVariants.{Unexpected, TooDeep}
+use Rattle.sql_grammar_laws.specs.declared.SyntaxError.{SyntaxError}
+use Rattle.sql_grammar_laws.specs.declared.SyntaxError.TheVariants as stops
+use Rattle.sql_grammar_laws.specs.Readings.{Outcome, Reading, one, opens, both, Reads, is_err}
 use Rattle.sql_lexer.specs.declared.kind.Kind.{Kind}
 use Rattle.sql_lexer.specs.declared.kind.Kind.TheVariants as k
 use Rattle.sql_lexer.specs.declared.token.Token.{Token}
 use Rattle.sql_lexer.specs.Kinds.{is}
 use Rattle.sql_ast.specs.declared.tree.Expr.{Expr}
-use Rattle.parser_steps.specs.Values.{first, second}
-use Rattle.parser_steps.specs.Readings.{part_at, inner_part}
+use Rattle.sql_parser_steps.specs.Values.{first, second}
+use Rattle.sql_parser_steps.specs.Readings.{part_at, inner_part}
 
 abbrev out : {A : Type 0} → Result A SyntaxFault → List Token → Outcome Token A
 out r ts = (r, ts)

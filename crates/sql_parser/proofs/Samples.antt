@@ -5,12 +5,12 @@ use Rattle.sql_lexer.specs.declared.kind.Kind.TheVariants as k
 use Rattle.sql_lexer.specs.declared.token.Token.{Token}
 use Rattle.sql_lexer.specs.declared.token.Content.TheVariants as content
 use Rattle.sql_lexer.specs.Kinds.{is}
-use Rattle.grammar_laws.specs.Lines.{One}
-use Rattle.grammar_laws.specs.Marks.{plain}
-use Rattle.grammar_laws.specs.Readings.{one}
-use Rattle.grammar_laws.proofs.Lawful.{Line, line_one}
-use Rattle.parser_steps.specs.Kinds.{kinds}
-use Rattle.parser_steps.specs.Values.{is_count, is_digits}
+use Rattle.sql_grammar_laws.specs.Lines.{One}
+use Rattle.sql_grammar_laws.specs.Marks.{plain}
+use Rattle.sql_grammar_laws.specs.Readings.{one}
+use Rattle.sql_grammar_laws.proofs.Lawful.{Line, line_one}
+use Rattle.sql_parser_steps.specs.Kinds.{kinds}
+use Rattle.sql_parser_steps.specs.Values.{is_count, is_digits}
 
 kind_first : (k : Kind) (t : Token) (b : Bool) → is k t && b ≡ true → is k t || false ≡ true
 kind_first k t b h = by (is k t) h

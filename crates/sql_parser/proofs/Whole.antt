@@ -1,7 +1,7 @@
 -- Scripts from their bytes: one statement list, or one refusal.
 use Rattle.std.proofs.Common.{◌≡◌, ℕ, ◌<◌, ◌≤◌, List, length, Result, Err, sym, subst, ◌∙◌, arith}
-use Rattle.grammar_laws.specs.declared.SyntaxFault.{SyntaxFault}
-use Rattle.grammar_laws.specs.Scripts.{IsScript, IsRead, IsFirst}
+use Rattle.sql_grammar_laws.specs.declared.SyntaxFault.{SyntaxFault}
+use Rattle.sql_grammar_laws.specs.Scripts.{IsScript, IsRead, IsFirst}
 use Rattle.sql_lexer.specs.declared.token.Token.{Token}
 use Rattle.sql_lexer.specs.declared.fault.LexRefusal.{LexRefusal}
 use Rattle.sql_lexer.specs.declared.fault.LexRefusal.TheVariants as lex
@@ -10,7 +10,7 @@ use Rattle.sql_lexer.proofs.OneAnswer.{one_tokens, never_both}
 use Rattle.sql_ast.specs.declared.statement.Statement.{Statement}
 use Rattle.sql_parser.specs.declared.fault.ScriptRefusal.{ScriptRefusal}
 use Rattle.sql_parser.specs.declared.fault.ScriptRefusal.TheVariants as script
-use Rattle.grammar_laws.specs.declared.SyntaxFault.TheVariants as refusal
+use Rattle.sql_grammar_laws.specs.declared.SyntaxFault.TheVariants as refusal
 use Rattle.sql_parser.specs.declared.fault.ScriptFault.{ScriptFault}
 use Rattle.sql_parser.specs.declared.fault.ScriptFault.TheVariants as faults
 use Rattle.sql_parser.specs.Faults.{of_lexer, of_parser}

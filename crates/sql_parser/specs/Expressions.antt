@@ -18,16 +18,16 @@ use Rattle.sql_ast.specs.declared.words.Adding.TheVariants as adding
 use Rattle.sql_ast.specs.declared.words.Multiplying.{Multiplying}
 use Rattle.sql_ast.specs.declared.words.Multiplying.TheVariants as multiplying
 use Rattle.sql_ast.specs.declared.tree.Block.{Block}
-use Rattle.parser_steps.specs.declared.test.Test.{Test}
-use Rattle.parser_steps.specs.declared.test.Test.TheVariants as t
+use Rattle.sql_parser_steps.specs.declared.test.Test.{Test}
+use Rattle.sql_parser_steps.specs.declared.test.Test.TheVariants as t
 use Rattle.sql_lexer.specs.Kinds.{is}
-use Rattle.grammar_laws.specs.Lines.{Part, One, Opens, Empty, Then, Or, Map, Links}
-use Rattle.parser_steps.specs.Values.{Name, text_of, count_of, number, text, is_count, is_digits}
-use Rattle.parser_steps.specs.Values.{first, second, pair, cons, constant, after_word, after_point}
-use Rattle.parser_steps.specs.Values.{column, negative, negation, factor, term, product, sum}
-use Rattle.parser_steps.specs.Values.{all_of, any_of, arm, case_of, date, interval, extract}
-use Rattle.parser_steps.specs.Values.{substring, distinct_count, between, like, in_list, in_query}
-use Rattle.parser_steps.specs.Values.{is_null, is_not_null, denied, tested}
+use Rattle.sql_grammar_laws.specs.Lines.{Part, One, Opens, Empty, Then, Or, Map, Links}
+use Rattle.sql_parser_steps.specs.Values.{Name, text_of, count_of, number, text, is_count, is_digits}
+use Rattle.sql_parser_steps.specs.Values.{first, second, pair, cons, constant, after_word, after_point}
+use Rattle.sql_parser_steps.specs.Values.{column, negative, negation, factor, term, product, sum}
+use Rattle.sql_parser_steps.specs.Values.{all_of, any_of, arm, case_of, date, interval, extract}
+use Rattle.sql_parser_steps.specs.Values.{substring, distinct_count, between, like, in_list, in_query}
+use Rattle.sql_parser_steps.specs.Values.{is_null, is_not_null, denied, tested}
 
 -- a name
 abbrev pub NameLine : Part Token Name

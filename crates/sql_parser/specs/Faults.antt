@@ -1,6 +1,6 @@
 -- Refusals of bytes and of tokens as refusals of a script.
-use Rattle.grammar_laws.specs.declared.SyntaxFault.{SyntaxFault}
-use Rattle.grammar_laws.specs.declared.SyntaxFault.TheVariants as refusal
+use Rattle.sql_grammar_laws.specs.declared.SyntaxFault.{SyntaxFault}
+use Rattle.sql_grammar_laws.specs.declared.SyntaxFault.TheVariants as refusal
 use Rattle.sql_lexer.specs.declared.fault.LexRefusal.{LexRefusal}
 use Rattle.sql_lexer.specs.declared.fault.LexRefusal.TheVariants as lex
 use Rattle.sql_parser.specs.declared.fault.ScriptRefusal.{ScriptRefusal}

@@ -23,13 +23,13 @@ use Rattle.sql_ast.specs.declared.statement.RefreshKind.{RefreshKind}
 use Rattle.sql_ast.specs.declared.statement.RefreshKind.TheVariants as refresh_kind
 use Rattle.sql_ast.specs.declared.statement.TemplateValue.{TemplateValue}
 use Rattle.sql_ast.specs.declared.statement.Statement.TheVariants as statements
-use Rattle.parser_steps.specs.declared.filters.Filters.{Filters}
+use Rattle.sql_parser_steps.specs.declared.filters.Filters.{Filters}
 use Rattle.sql_lexer.specs.Kinds.{is}
-use Rattle.grammar_laws.specs.Lines.{Part, One, Opens, Empty, Never, Then, Or, Map, less, Links}
-use Rattle.parser_steps.specs.Values.{Name, first, second, pair, cons, constant, after_word, item}
-use Rattle.parser_steps.specs.Values.{distinct, plain_selection, derived, join, joined, condition}
-use Rattle.parser_steps.specs.Values.{filters, block, named_key, ordered, create_view, text_value}
-use Rattle.parser_steps.specs.Values.{number_value}
+use Rattle.sql_grammar_laws.specs.Lines.{Part, One, Opens, Empty, Never, Then, Or, Map, less, Links}
+use Rattle.sql_parser_steps.specs.Values.{Name, first, second, pair, cons, constant, after_word, item}
+use Rattle.sql_parser_steps.specs.Values.{distinct, plain_selection, derived, join, joined, condition}
+use Rattle.sql_parser_steps.specs.Values.{filters, block, named_key, ordered, create_view, text_value}
+use Rattle.sql_parser_steps.specs.Values.{number_value}
 use Rattle.sql_parser.specs.Expressions.{NameLine, Number, ColumnLine, Whole, Subquery, UnaryLine}
 use Rattle.sql_parser.specs.Expressions.{PartLine}
 

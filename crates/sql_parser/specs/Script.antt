@@ -1,8 +1,8 @@
 -- What a script is, from its tokens and from its bytes.
 use Rattle.std.specs.Prelude.{◌≡◌, ℕ, ◌≤◌, ◌<◌, ◌⊎◌, List, length, slice_get, Option, Some, None}
-use Rattle.grammar_laws.specs.declared.SyntaxFault.{SyntaxFault}
-use Rattle.grammar_laws.specs.declared.SyntaxFault.TheVariants as refusal
-use Rattle.grammar_laws.specs.Scripts.{Grammar, IsScript, IsRead, IsFirst}
+use Rattle.sql_grammar_laws.specs.declared.SyntaxFault.{SyntaxFault}
+use Rattle.sql_grammar_laws.specs.declared.SyntaxFault.TheVariants as refusal
+use Rattle.sql_grammar_laws.specs.Scripts.{Grammar, IsScript, IsRead, IsFirst}
 use Rattle.sql_lexer.specs.declared.token.Token.{Token}
 use Rattle.sql_lexer.specs.declared.fault.LexRefusal.TheVariants as lex
 use Rattle.sql_lexer.specs.Lexing.{Lexes, Refuses}

@@ -1,22 +1,22 @@
 //! Queries from SELECT to HAVING, and the items of their FROM.
 ghost use Rattle.std.specs.Prelude.{◌≡◌, ◌∷◌, []};
-ghost use Rattle.grammar_laws.specs.Kinds.{among};
-ghost use Rattle.grammar_laws.specs.Readings.{Reads, links, mapped, one};
+ghost use Rattle.sql_grammar_laws.specs.Kinds.{among};
+ghost use Rattle.sql_grammar_laws.specs.Readings.{Reads, links, mapped, one};
 ghost use Rattle.sql_lexer.specs.Kinds.{is};
 ghost use Rattle.sql_lexer.specs.declared.kind.Kind.TheVariants as k;
-ghost use Rattle.parser_steps.specs.Kinds.{kinds};
-ghost use Rattle.parser_steps.specs.Nests.{At, Below};
-ghost use Rattle.parser_steps.specs.Readings as readings;
-ghost use Rattle.parser_steps.specs.Readings.{inner_query, part_at, query_at};
-ghost use Rattle.parser_steps.specs.Values as values;
+ghost use Rattle.sql_parser_steps.specs.Kinds.{kinds};
+ghost use Rattle.sql_parser_steps.specs.Nests.{At, Below};
+ghost use Rattle.sql_parser_steps.specs.Readings as readings;
+ghost use Rattle.sql_parser_steps.specs.Readings.{inner_query, part_at, query_at};
+ghost use Rattle.sql_parser_steps.specs.Values as values;
 
 use crate::level::Level;
-use grammar_laws::SyntaxError;
-use parser_steps::clauses::column_names;
-use parser_steps::parts::{block_of, join_of, joined_of};
-use parser_steps::{MAX_MORE, Parser, Subqueries};
 use sql_ast::{Block, Expr, FromItem, Join, Joined};
+use sql_grammar_laws::SyntaxError;
 use sql_lexer::Kind;
+use sql_parser_steps::clauses::column_names;
+use sql_parser_steps::parts::{block_of, join_of, joined_of};
+use sql_parser_steps::{MAX_MORE, Parser, Subqueries};
 use sqlite_items::{Boxed, Items};
 use std::alloc::Global;
 
@@ -35,7 +35,7 @@ impl<
     Q: Copy + Fn(Global, &mut Parser<'_>, usize) -> Result<Boxed<Block>, SyntaxError>,
 > Blocks<P, Q> {
     /// `"(" query ")" [as] name ["(" name {"," name} ")"]`.
-    #[tactic(auto, unfolding(parser_steps::specs::Readings::read_derived))]
+    #[tactic(auto, unfolding(sql_parser_steps::specs::Readings::read_derived))]
     fn derived(&self, parser: &mut Parser<'_>) -> Result<FromItem, SyntaxError>
         requires query { Below (query_at 1023) self.now.room (Q.pre self.now.query)
             (Q.post self.now.query) }
@@ -54,7 +54,7 @@ impl<
     }
 
     /// `name [[as] name]`.
-    #[tactic(auto, unfolding(parser_steps::specs::Readings::read_table))]
+    #[tactic(auto, unfolding(sql_parser_steps::specs::Readings::read_table))]
     fn table(&self, parser: &mut Parser<'_>) -> Result<FromItem, SyntaxError>
         ensures { Reads (readings.read_table parser.old) result parser.new }
     {
@@ -64,7 +64,7 @@ impl<
     }
 
     /// A derived table or a table.
-    #[tactic(auto, unfolding(parser_steps::specs::Readings::read_from_item))]
+    #[tactic(auto, unfolding(sql_parser_steps::specs::Readings::read_from_item))]
     fn from_item(&self, parser: &mut Parser<'_>) -> Result<FromItem, SyntaxError>
         requires query { Below (query_at 1023) self.now.room (Q.pre self.now.query)
             (Q.post self.now.query) }
@@ -78,7 +78,7 @@ impl<
     }
 
     /// `item on e`.
-    #[tactic(auto, unfolding(parser_steps::specs::Readings::read_joined_item))]
+    #[tactic(auto, unfolding(sql_parser_steps::specs::Readings::read_joined_item))]
     fn joined_item(&self, parser: &mut Parser<'_>) -> Result<(FromItem, Boxed<Expr>), SyntaxError>
         requires part { At (part_at 1023) self.now.room (P.pre self.now.part)
             (P.post self.now.part) }
@@ -125,7 +125,7 @@ impl<
     }
 
     /// `item {([inner] join | left [outer] join) item on e}`.
-    #[tactic(auto, unfolding(parser_steps::specs::Readings::read_joined))]
+    #[tactic(auto, unfolding(sql_parser_steps::specs::Readings::read_joined))]
     fn joined(&self, parser: &mut Parser<'_>) -> Result<Joined, SyntaxError>
         requires part { At (part_at 1023) self.now.room (P.pre self.now.part)
             (P.post self.now.part) }
@@ -171,7 +171,7 @@ impl<
     }
 
     /// `from joined {"," joined}`.
-    #[tactic(auto, unfolding(parser_steps::specs::Readings::read_from))]
+    #[tactic(auto, unfolding(sql_parser_steps::specs::Readings::read_from))]
     fn from(&self, parser: &mut Parser<'_>) -> Result<Items<Joined>, SyntaxError>
         requires part { At (part_at 1023) self.now.room (P.pre self.now.part)
             (P.post self.now.part) }
@@ -186,7 +186,7 @@ impl<
     }
 
     /// `select .. from .. [where ..] [group by ..] [having ..]`.
-    #[tactic(auto, unfolding(parser_steps::specs::Readings::read_query_line))]
+    #[tactic(auto, unfolding(sql_parser_steps::specs::Readings::read_query_line))]
     pub(crate) fn block(&self, parser: &mut Parser<'_>) -> Result<Boxed<Block>, SyntaxError>
         requires part { At (part_at 1023) self.now.room (P.pre self.now.part)
             (P.post self.now.part) }

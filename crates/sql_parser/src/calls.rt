@@ -1,14 +1,14 @@
 //! What opens a level and holds expressions there: CASE, and words with parentheses.
-ghost use Rattle.grammar_laws.specs.Readings.{Reads};
-ghost use Rattle.parser_steps.specs.Nests.{Below};
-ghost use Rattle.parser_steps.specs.ExpressionReadings as readings;
-ghost use Rattle.parser_steps.specs.Readings.{inner_part, part_at};
+ghost use Rattle.sql_grammar_laws.specs.Readings.{Reads};
+ghost use Rattle.sql_parser_steps.specs.Nests.{Below};
+ghost use Rattle.sql_parser_steps.specs.ExpressionReadings as readings;
+ghost use Rattle.sql_parser_steps.specs.Readings.{inner_part, part_at};
 
 use crate::level::Level;
-use grammar_laws::SyntaxError;
-use parser_steps::Parser;
 use sql_ast::Expr;
+use sql_grammar_laws::SyntaxError;
 use sql_lexer::Kind;
+use sql_parser_steps::Parser;
 use sqlite_items::Boxed;
 use std::alloc::Global;
 
@@ -23,7 +23,7 @@ pub(crate) struct Calls<P> {
 
 impl<P: Copy + Fn(Global, &mut Parser<'_>, usize) -> Result<Boxed<Expr>, SyntaxError>> Calls<P> {
     /// `case .. end`.
-    #[tactic(auto, using(parser_steps::proofs::Inner::rules_inner), unfolding(parser_steps::specs::ExpressionReadings::read_case))]
+    #[tactic(auto, using(sql_parser_steps::proofs::Inner::rules_inner), unfolding(sql_parser_steps::specs::ExpressionReadings::read_case))]
     pub(crate) fn case(&self, parser: &mut Parser<'_>) -> Result<Boxed<Expr>, SyntaxError>
         requires { Below (part_at 1023) self.now.room (P.pre self.now.part) (P.post self.now.part) }
         ensures { Reads (readings.read_case 1023 self.now.room (inner_part 1023 self.now.room)
@@ -41,7 +41,7 @@ impl<P: Copy + Fn(Global, &mut Parser<'_>, usize) -> Result<Boxed<Expr>, SyntaxE
     }
 
     /// `extract "(" .. ")"`.
-    #[tactic(auto, using(parser_steps::proofs::Inner::rules_inner), unfolding(parser_steps::specs::ExpressionReadings::read_extract))]
+    #[tactic(auto, using(sql_parser_steps::proofs::Inner::rules_inner), unfolding(sql_parser_steps::specs::ExpressionReadings::read_extract))]
     fn extract(&self, parser: &mut Parser<'_>) -> Result<Boxed<Expr>, SyntaxError>
         requires { Below (part_at 1023) self.now.room (P.pre self.now.part) (P.post self.now.part) }
         ensures { Reads (readings.read_extract 1023 self.now.room (inner_part 1023 self.now.room)
@@ -60,7 +60,7 @@ impl<P: Copy + Fn(Global, &mut Parser<'_>, usize) -> Result<Boxed<Expr>, SyntaxE
     }
 
     /// `substring "(" .. ")"`.
-    #[tactic(auto, using(parser_steps::proofs::Inner::rules_inner), unfolding(parser_steps::specs::ExpressionReadings::read_substring))]
+    #[tactic(auto, using(sql_parser_steps::proofs::Inner::rules_inner), unfolding(sql_parser_steps::specs::ExpressionReadings::read_substring))]
     fn substring(&self, parser: &mut Parser<'_>) -> Result<Boxed<Expr>, SyntaxError>
         requires { Below (part_at 1023) self.now.room (P.pre self.now.part) (P.post self.now.part) }
         ensures { Reads (readings.read_substring 1023 self.now.room (inner_part 1023 self.now.room)
@@ -79,7 +79,7 @@ impl<P: Copy + Fn(Global, &mut Parser<'_>, usize) -> Result<Boxed<Expr>, SyntaxE
     }
 
     /// `count "(" .. ")"`.
-    #[tactic(auto, using(parser_steps::proofs::Inner::rules_inner), unfolding(parser_steps::specs::ExpressionReadings::read_count))]
+    #[tactic(auto, using(sql_parser_steps::proofs::Inner::rules_inner), unfolding(sql_parser_steps::specs::ExpressionReadings::read_count))]
     fn count(&self, parser: &mut Parser<'_>) -> Result<Boxed<Expr>, SyntaxError>
         requires { Below (part_at 1023) self.now.room (P.pre self.now.part) (P.post self.now.part) }
         ensures { Reads (readings.read_count 1023 self.now.room (inner_part 1023 self.now.room)
@@ -98,7 +98,7 @@ impl<P: Copy + Fn(Global, &mut Parser<'_>, usize) -> Result<Boxed<Expr>, SyntaxE
     }
 
     /// `sum(e)` and its like.
-    #[tactic(auto, using(parser_steps::proofs::Inner::rules_inner), unfolding(parser_steps::specs::ExpressionReadings::read_aggregate))]
+    #[tactic(auto, using(sql_parser_steps::proofs::Inner::rules_inner), unfolding(sql_parser_steps::specs::ExpressionReadings::read_aggregate))]
     fn aggregate(&self, parser: &mut Parser<'_>) -> Result<Boxed<Expr>, SyntaxError>
         requires { Below (part_at 1023) self.now.room (P.pre self.now.part) (P.post self.now.part) }
         ensures { Reads (readings.read_aggregate 1023 self.now.room (inner_part 1023 self.now.room)
@@ -117,7 +117,7 @@ impl<P: Copy + Fn(Global, &mut Parser<'_>, usize) -> Result<Boxed<Expr>, SyntaxE
     }
 
     /// What a word and parentheses make.
-    #[tactic(auto, unfolding(parser_steps::specs::ExpressionReadings::read_call))]
+    #[tactic(auto, unfolding(sql_parser_steps::specs::ExpressionReadings::read_call))]
     pub(crate) fn call(&self, parser: &mut Parser<'_>) -> Result<Boxed<Expr>, SyntaxError>
         requires { Below (part_at 1023) self.now.room (P.pre self.now.part) (P.post self.now.part) }
         ensures { Reads (readings.read_call 1023 self.now.room (inner_part 1023 self.now.room)

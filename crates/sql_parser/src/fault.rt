@@ -2,7 +2,7 @@
 ghost use Rattle.std.specs.Prelude.{◌≡◌};
 ghost use Rattle.sql_parser.specs.Faults.{of_lexer, of_parser};
 
-use grammar_laws::SyntaxFault;
+use sql_grammar_laws::SyntaxFault;
 use sql_lexer::LexRefusal;
 
 /// Why tokens are no script.

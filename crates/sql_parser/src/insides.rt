@@ -1,25 +1,25 @@
 //! What CASE and the parentheses of a call hold.
 ghost use Rattle.std.specs.Prelude.{◌∷◌};
-ghost use Rattle.grammar_laws.specs.Readings.{Reads, links, mapped, nothing};
+ghost use Rattle.sql_grammar_laws.specs.Readings.{Reads, links, mapped, nothing};
 ghost use Rattle.sql_lexer.specs.Kinds.{is};
 ghost use Rattle.sql_lexer.specs.declared.kind.Kind.TheVariants as k;
-ghost use Rattle.parser_steps.specs.Nests.{At};
-ghost use Rattle.parser_steps.specs.ExpressionReadings as readings;
-ghost use Rattle.parser_steps.specs.Readings.{part_at};
-ghost use Rattle.parser_steps.specs.Values as values;
+ghost use Rattle.sql_parser_steps.specs.Nests.{At};
+ghost use Rattle.sql_parser_steps.specs.ExpressionReadings as readings;
+ghost use Rattle.sql_parser_steps.specs.Readings.{part_at};
+ghost use Rattle.sql_parser_steps.specs.Values as values;
 
 use crate::level::Level;
-use grammar_laws::SyntaxError;
-use parser_steps::parts::{arm_of, case_of};
-use parser_steps::{MAX_MORE, Parser};
 use sql_ast::{Arm, Expr};
+use sql_grammar_laws::SyntaxError;
 use sql_lexer::Kind;
+use sql_parser_steps::parts::{arm_of, case_of};
+use sql_parser_steps::{MAX_MORE, Parser};
 use sqlite_items::{Boxed, Items};
 use std::alloc::Global;
 
 impl<P: Fn(Global, &mut Parser<'_>, usize) -> Result<Boxed<Expr>, SyntaxError>> Level<P> {
     /// `when e then e`.
-    #[tactic(auto, unfolding(parser_steps::specs::ExpressionReadings::read_arm))]
+    #[tactic(auto, unfolding(sql_parser_steps::specs::ExpressionReadings::read_arm))]
     fn arm(&self, parser: &mut Parser<'_>) -> Result<Arm, SyntaxError>
         requires { At (part_at 1023) self.now.room (P.pre self.now.part) (P.post self.now.part) }
         ensures { Reads (readings.read_arm 1023 (part_at 1023 self.now.room) parser.old) result
@@ -56,7 +56,7 @@ impl<P: Fn(Global, &mut Parser<'_>, usize) -> Result<Boxed<Expr>, SyntaxError>> 
     }
 
     /// `when e then e {when e then e}`.
-    #[tactic(auto, unfolding(parser_steps::specs::ExpressionReadings::read_arms))]
+    #[tactic(auto, unfolding(sql_parser_steps::specs::ExpressionReadings::read_arms))]
     fn arms(&self, parser: &mut Parser<'_>) -> Result<Items<Arm>, SyntaxError>
         requires { At (part_at 1023) self.now.room (P.pre self.now.part) (P.post self.now.part) }
         ensures { Reads (readings.read_arms 1023 (part_at 1023 self.now.room) parser.old) result
@@ -67,7 +67,7 @@ impl<P: Fn(Global, &mut Parser<'_>, usize) -> Result<Boxed<Expr>, SyntaxError>> 
     }
 
     /// `[else e]`.
-    #[tactic(auto, unfolding(parser_steps::specs::ExpressionReadings::read_else))]
+    #[tactic(auto, unfolding(sql_parser_steps::specs::ExpressionReadings::read_else))]
     fn otherwise(&self, parser: &mut Parser<'_>) -> Result<Option<Boxed<Expr>>, SyntaxError>
         requires { At (part_at 1023) self.now.room (P.pre self.now.part) (P.post self.now.part) }
         ensures { Reads (readings.read_else 1023 (part_at 1023 self.now.room) parser.old) result
@@ -82,7 +82,7 @@ impl<P: Fn(Global, &mut Parser<'_>, usize) -> Result<Boxed<Expr>, SyntaxError>> 
     }
 
     /// The arms, and what stands after ELSE.
-    #[tactic(auto, unfolding(parser_steps::specs::ExpressionReadings::read_case_body))]
+    #[tactic(auto, unfolding(sql_parser_steps::specs::ExpressionReadings::read_case_body))]
     pub(crate) fn case_body(&self, parser: &mut Parser<'_>) -> Result<Boxed<Expr>, SyntaxError>
         requires { At (part_at 1023) self.now.room (P.pre self.now.part) (P.post self.now.part) }
         ensures { Reads (readings.read_case_body 1023 (part_at 1023 self.now.room) parser.old)
@@ -94,7 +94,7 @@ impl<P: Fn(Global, &mut Parser<'_>, usize) -> Result<Boxed<Expr>, SyntaxError>> 
     }
 
     /// `(year|month|day) from e`.
-    #[tactic(auto, unfolding(parser_steps::specs::ExpressionReadings::read_extract_inside))]
+    #[tactic(auto, unfolding(sql_parser_steps::specs::ExpressionReadings::read_extract_inside))]
     pub(crate) fn extract_inside(&self, parser: &mut Parser<'_>) -> Result<Boxed<Expr>, SyntaxError>
         requires { At (part_at 1023) self.now.room (P.pre self.now.part) (P.post self.now.part) }
         ensures { Reads (readings.read_extract_inside 1023 (part_at 1023 self.now.room) parser.old)
@@ -107,7 +107,7 @@ impl<P: Fn(Global, &mut Parser<'_>, usize) -> Result<Boxed<Expr>, SyntaxError>> 
     }
 
     /// `e from N for N`.
-    #[tactic(auto, unfolding(parser_steps::specs::ExpressionReadings::read_substring_inside))]
+    #[tactic(auto, unfolding(sql_parser_steps::specs::ExpressionReadings::read_substring_inside))]
     pub(crate) fn substring_inside(
         &self,
         parser: &mut Parser<'_>,
@@ -122,7 +122,7 @@ impl<P: Fn(Global, &mut Parser<'_>, usize) -> Result<Boxed<Expr>, SyntaxError>> 
     }
 
     /// `"*" | [distinct] e`.
-    #[tactic(auto, unfolding(parser_steps::specs::ExpressionReadings::read_count_inside))]
+    #[tactic(auto, unfolding(sql_parser_steps::specs::ExpressionReadings::read_count_inside))]
     pub(crate) fn count_inside(&self, parser: &mut Parser<'_>) -> Result<Boxed<Expr>, SyntaxError>
         requires { At (part_at 1023) self.now.room (P.pre self.now.part) (P.post self.now.part) }
         ensures { Reads (readings.read_count_inside 1023 (part_at 1023 self.now.room) parser.old)

@@ -1,22 +1,22 @@
 //! The parts that lead back to themselves. `room` is how many levels may still be opened. All else
 //! that is read of a query is read by rules that take these functions as values, so that each rule
 //! is proved alone.
-ghost use Rattle.grammar_laws.specs.Readings.{Reads};
-ghost use Rattle.parser_steps.specs.Readings.{part_at, query_at, unary_at};
+ghost use Rattle.sql_grammar_laws.specs.Readings.{Reads};
+ghost use Rattle.sql_parser_steps.specs.Readings.{part_at, query_at, unary_at};
 
 use crate::blocks::Blocks;
 use crate::nested::Nested;
 use crate::predicates::Predicates;
-use grammar_laws::SyntaxError;
-use parser_steps::Parser;
 use sql_ast::{Block, Expr};
+use sql_grammar_laws::SyntaxError;
 use sql_lexer::Kind;
+use sql_parser_steps::Parser;
 use sqlite_items::Boxed;
 use std::alloc::Global;
 
 /// What a sign, parentheses or a word may begin, or a name, number or text.
 #[cycle(knot)]
-#[tactic(auto, using(crate::proofs::Unfold::unary_is), unfolding(parser_steps::specs::ExpressionReadings::read_unary_line))]
+#[tactic(auto, using(crate::proofs::Unfold::unary_is), unfolding(sql_parser_steps::specs::ExpressionReadings::read_unary_line))]
 pub(crate) fn unary(
     alloc: Global,
     parser: &mut Parser<'_>,
@@ -41,7 +41,7 @@ pub(crate) fn unary(
 
 /// `not not-part`, or a predicate.
 #[cycle(knot)]
-#[tactic(auto, using(crate::proofs::Unfold::part_is), unfolding(parser_steps::specs::ExpressionReadings::read_part_line))]
+#[tactic(auto, using(crate::proofs::Unfold::part_is), unfolding(sql_parser_steps::specs::ExpressionReadings::read_part_line))]
 pub(crate) fn part(
     alloc: Global,
     parser: &mut Parser<'_>,

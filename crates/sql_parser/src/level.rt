@@ -1,18 +1,18 @@
 //! Whole expressions of one level, and lists of them.
 ghost use Rattle.std.specs.Prelude.{◌∷◌};
-ghost use Rattle.grammar_laws.specs.Readings.{Reads, links, mapped, one};
+ghost use Rattle.sql_grammar_laws.specs.Readings.{Reads, links, mapped, one};
 ghost use Rattle.sql_lexer.specs.Kinds.{is};
 ghost use Rattle.sql_lexer.specs.declared.kind.Kind.TheVariants as k;
-ghost use Rattle.parser_steps.specs.Nests.{At};
-ghost use Rattle.parser_steps.specs.ExpressionReadings as readings;
-ghost use Rattle.parser_steps.specs.Readings.{part_at};
-ghost use Rattle.parser_steps.specs.Values as values;
+ghost use Rattle.sql_parser_steps.specs.Nests.{At};
+ghost use Rattle.sql_parser_steps.specs.ExpressionReadings as readings;
+ghost use Rattle.sql_parser_steps.specs.Readings.{part_at};
+ghost use Rattle.sql_parser_steps.specs.Values as values;
 
-use grammar_laws::SyntaxError;
-use parser_steps::parts::{all_of, any_of};
-use parser_steps::{MAX_MORE, Parser};
 use sql_ast::Expr;
+use sql_grammar_laws::SyntaxError;
 use sql_lexer::Kind;
+use sql_parser_steps::parts::{all_of, any_of};
+use sql_parser_steps::{MAX_MORE, Parser};
 use sqlite_items::{Boxed, Items};
 use std::alloc::Global;
 
@@ -56,7 +56,7 @@ impl<P: Fn(Global, &mut Parser<'_>, usize) -> Result<Boxed<Expr>, SyntaxError>> 
     }
 
     /// `not-part {and not-part}`.
-    #[tactic(auto, unfolding(parser_steps::specs::ExpressionReadings::read_conjunction))]
+    #[tactic(auto, unfolding(sql_parser_steps::specs::ExpressionReadings::read_conjunction))]
     fn conjunction(&self, parser: &mut Parser<'_>) -> Result<Boxed<Expr>, SyntaxError>
         requires { At (part_at 1023) self.now.room (P.pre self.now.part) (P.post self.now.part) }
         ensures { Reads (readings.read_conjunction 1023 (part_at 1023 self.now.room) parser.old)
@@ -90,7 +90,7 @@ impl<P: Fn(Global, &mut Parser<'_>, usize) -> Result<Boxed<Expr>, SyntaxError>> 
     }
 
     /// An expression: `and-part {or and-part}`.
-    #[tactic(auto, unfolding(parser_steps::specs::ExpressionReadings::read_whole))]
+    #[tactic(auto, unfolding(sql_parser_steps::specs::ExpressionReadings::read_whole))]
     pub(crate) fn whole(&self, parser: &mut Parser<'_>) -> Result<Boxed<Expr>, SyntaxError>
         requires { At (part_at 1023) self.now.room (P.pre self.now.part) (P.post self.now.part) }
         ensures { Reads (readings.read_whole 1023 (part_at 1023 self.now.room) parser.old) result
@@ -126,7 +126,7 @@ impl<P: Fn(Global, &mut Parser<'_>, usize) -> Result<Boxed<Expr>, SyntaxError>> 
     }
 
     /// `e {"," e}`.
-    #[tactic(auto, unfolding(parser_steps::specs::ExpressionReadings::read_expr_list))]
+    #[tactic(auto, unfolding(sql_parser_steps::specs::ExpressionReadings::read_expr_list))]
     pub(crate) fn expr_list(&self, parser: &mut Parser<'_>) -> Result<Items<Expr>, SyntaxError>
         requires { At (part_at 1023) self.now.room (P.pre self.now.part) (P.post self.now.part) }
         ensures { Reads (readings.read_expr_list 1023 (part_at 1023 self.now.room) parser.old)

@@ -1,19 +1,19 @@
 //! Parentheses that may hold a query: operands, EXISTS and IN.
-ghost use Rattle.grammar_laws.specs.Readings.{Reads, both, one};
+ghost use Rattle.sql_grammar_laws.specs.Readings.{Reads, both, one};
 ghost use Rattle.sql_lexer.specs.Kinds.{is};
 ghost use Rattle.sql_lexer.specs.declared.kind.Kind.TheVariants as k;
-ghost use Rattle.parser_steps.specs.Nests.{Below};
-ghost use Rattle.parser_steps.specs.ExpressionReadings as readings;
-ghost use Rattle.parser_steps.specs.Readings.{inner_part, inner_query, part_at, query_at};
-ghost use Rattle.parser_steps.specs.Values as values;
+ghost use Rattle.sql_parser_steps.specs.Nests.{Below};
+ghost use Rattle.sql_parser_steps.specs.ExpressionReadings as readings;
+ghost use Rattle.sql_parser_steps.specs.Readings.{inner_part, inner_query, part_at, query_at};
+ghost use Rattle.sql_parser_steps.specs.Values as values;
 ghost use Rattle.std.specs.Prelude.{◌<◌};
 
 use crate::calls::Calls;
 use crate::level::Level;
-use grammar_laws::SyntaxError;
-use parser_steps::{Parser, Subqueries, Test};
 use sql_ast::{Block, Expr};
+use sql_grammar_laws::SyntaxError;
 use sql_lexer::Kind;
+use sql_parser_steps::{Parser, Subqueries, Test};
 use sqlite_items::Boxed;
 use std::alloc::Global;
 
@@ -32,7 +32,7 @@ impl<
     Q: Copy + Fn(Global, &mut Parser<'_>, usize) -> Result<Boxed<Block>, SyntaxError>,
 > Nested<P, Q> {
     /// `query | e`, where `room` levels may still be opened.
-    #[tactic(auto, unfolding(parser_steps::specs::ExpressionReadings::read_parens_inside))]
+    #[tactic(auto, unfolding(sql_parser_steps::specs::ExpressionReadings::read_parens_inside))]
     fn parens_inside(
         &self,
         parser: &mut Parser<'_>,
@@ -60,7 +60,7 @@ impl<
     }
 
     /// `"(" (query | e) ")"`.
-    #[tactic(auto, using(parser_steps::proofs::Inner::rules_inner), unfolding(parser_steps::specs::ExpressionReadings::read_parens))]
+    #[tactic(auto, using(sql_parser_steps::proofs::Inner::rules_inner), unfolding(sql_parser_steps::specs::ExpressionReadings::read_parens))]
     fn parens(&self, parser: &mut Parser<'_>) -> Result<Boxed<Expr>, SyntaxError>
         requires part { Below (part_at 1023) self.now.room (P.pre self.now.part)
             (P.post self.now.part) }
@@ -76,7 +76,7 @@ impl<
     }
 
     /// What a unary part is without a sign.
-    #[tactic(auto, unfolding(parser_steps::specs::ExpressionReadings::read_operand))]
+    #[tactic(auto, unfolding(sql_parser_steps::specs::ExpressionReadings::read_operand))]
     pub(crate) fn operand(&self, parser: &mut Parser<'_>) -> Result<Boxed<Expr>, SyntaxError>
         requires part { Below (part_at 1023) self.now.room (P.pre self.now.part)
             (P.post self.now.part) }
@@ -120,7 +120,7 @@ impl<
     }
 
     /// `(query | e {"," e}) ")"`, where `room` levels may still be opened.
-    #[tactic(auto, unfolding(parser_steps::specs::ExpressionReadings::read_in_inside))]
+    #[tactic(auto, unfolding(sql_parser_steps::specs::ExpressionReadings::read_in_inside))]
     fn in_inside(&self, parser: &mut Parser<'_>, room: usize) -> Result<Test, SyntaxError>
         requires room { room < self.now.room }
         requires part { Below (part_at 1023) self.now.room (P.pre self.now.part)
@@ -146,7 +146,7 @@ impl<
     }
 
     /// `in "(" (query | e {"," e}) ")"`.
-    #[tactic(auto, using(parser_steps::proofs::Inner::rules_inner), unfolding(parser_steps::specs::ExpressionReadings::read_in))]
+    #[tactic(auto, using(sql_parser_steps::proofs::Inner::rules_inner), unfolding(sql_parser_steps::specs::ExpressionReadings::read_in))]
     pub(crate) fn in_test(&self, parser: &mut Parser<'_>) -> Result<Test, SyntaxError>
         requires part { Below (part_at 1023) self.now.room (P.pre self.now.part)
             (P.post self.now.part) }

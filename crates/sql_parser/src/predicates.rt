@@ -1,16 +1,16 @@
 //! Predicates: a sum, and what is asked of it.
-ghost use Rattle.grammar_laws.specs.Readings.{Reads};
-ghost use Rattle.parser_steps.specs.Nests.{At, Below};
-ghost use Rattle.parser_steps.specs.ExpressionReadings as readings;
-ghost use Rattle.parser_steps.specs.Readings.{inner_part, inner_query, part_at, query_at, unary_at};
+ghost use Rattle.sql_grammar_laws.specs.Readings.{Reads};
+ghost use Rattle.sql_parser_steps.specs.Nests.{At, Below};
+ghost use Rattle.sql_parser_steps.specs.ExpressionReadings as readings;
+ghost use Rattle.sql_parser_steps.specs.Readings.{inner_part, inner_query, part_at, query_at, unary_at};
 
 use crate::nested::Nested;
 use crate::sums::Sums;
-use grammar_laws::SyntaxError;
-use parser_steps::parts::{opposite, tested};
-use parser_steps::{Parser, Test};
 use sql_ast::{Block, Expr};
+use sql_grammar_laws::SyntaxError;
 use sql_lexer::Kind;
+use sql_parser_steps::parts::{opposite, tested};
+use sql_parser_steps::{Parser, Test};
 use sqlite_items::Boxed;
 use std::alloc::Global;
 
@@ -31,7 +31,7 @@ impl<
     Q: Copy + Fn(Global, &mut Parser<'_>, usize) -> Result<Boxed<Block>, SyntaxError>,
 > Predicates<U, P, Q> {
     /// What a NOT may stand before.
-    #[tactic(auto, unfolding(parser_steps::specs::ExpressionReadings::read_deny_test))]
+    #[tactic(auto, unfolding(sql_parser_steps::specs::ExpressionReadings::read_deny_test))]
     fn deny_test(&self, parser: &mut Parser<'_>) -> Result<Test, SyntaxError>
         requires unary { At (unary_at 1023) self.now.room (U.pre self.now.unary)
             (U.post self.now.unary) }
@@ -64,7 +64,7 @@ impl<
     }
 
     /// What is asked of a sum.
-    #[tactic(auto, unfolding(parser_steps::specs::ExpressionReadings::read_test))]
+    #[tactic(auto, unfolding(sql_parser_steps::specs::ExpressionReadings::read_test))]
     fn test(&self, parser: &mut Parser<'_>) -> Result<Test, SyntaxError>
         requires unary { At (unary_at 1023) self.now.room (U.pre self.now.unary)
             (U.post self.now.unary) }
@@ -106,7 +106,7 @@ impl<
     }
 
     /// A sum, and what is asked of it.
-    #[tactic(auto, unfolding(parser_steps::specs::ExpressionReadings::read_predicate))]
+    #[tactic(auto, unfolding(sql_parser_steps::specs::ExpressionReadings::read_predicate))]
     pub(crate) fn predicate(&self, parser: &mut Parser<'_>) -> Result<Boxed<Expr>, SyntaxError>
         requires unary { At (unary_at 1023) self.now.room (U.pre self.now.unary)
             (U.post self.now.unary) }

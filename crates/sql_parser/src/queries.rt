@@ -1,19 +1,19 @@
 //! The select list, and the clauses after FROM.
 ghost use Rattle.std.specs.Prelude.{◌≡◌, ◌∷◌};
-ghost use Rattle.grammar_laws.specs.Readings.{Reads, both, links, mapped, one};
+ghost use Rattle.sql_grammar_laws.specs.Readings.{Reads, both, links, mapped, one};
 ghost use Rattle.sql_lexer.specs.Kinds.{is};
 ghost use Rattle.sql_lexer.specs.declared.kind.Kind.TheVariants as k;
-ghost use Rattle.parser_steps.specs.Nests.{At};
-ghost use Rattle.parser_steps.specs.Readings as readings;
-ghost use Rattle.parser_steps.specs.Readings.{part_at};
-ghost use Rattle.parser_steps.specs.Values as values;
+ghost use Rattle.sql_parser_steps.specs.Nests.{At};
+ghost use Rattle.sql_parser_steps.specs.Readings as readings;
+ghost use Rattle.sql_parser_steps.specs.Readings.{part_at};
+ghost use Rattle.sql_parser_steps.specs.Values as values;
 
 use crate::level::Level;
-use grammar_laws::SyntaxError;
-use parser_steps::clauses::group;
-use parser_steps::{Filters, MAX_MORE, Parser};
 use sql_ast::{Clause, Column, Expr, Item, Name, Selected};
+use sql_grammar_laws::SyntaxError;
 use sql_lexer::Kind;
+use sql_parser_steps::clauses::group;
+use sql_parser_steps::{Filters, MAX_MORE, Parser};
 use sqlite_items::{Boxed, Items};
 use std::alloc::Global;
 
@@ -29,7 +29,7 @@ fn item_of(value: Boxed<Expr>, alias: Option<Name>) -> Item
 
 impl<P: Fn(Global, &mut Parser<'_>, usize) -> Result<Boxed<Expr>, SyntaxError>> Level<P> {
     /// `e [[as] name]`.
-    #[tactic(auto, unfolding(parser_steps::specs::Readings::read_item))]
+    #[tactic(auto, unfolding(sql_parser_steps::specs::Readings::read_item))]
     fn item(&self, parser: &mut Parser<'_>) -> Result<Item, SyntaxError>
         requires { At (part_at 1023) self.now.room (P.pre self.now.part) (P.post self.now.part) }
         ensures { Reads (readings.read_item 1023 (part_at 1023 self.now.room) parser.old) result
@@ -77,7 +77,7 @@ impl<P: Fn(Global, &mut Parser<'_>, usize) -> Result<Boxed<Expr>, SyntaxError>> 
     }
 
     /// `"*" | item {"," item}`.
-    #[tactic(auto, unfolding(parser_steps::specs::Readings::read_selection))]
+    #[tactic(auto, unfolding(sql_parser_steps::specs::Readings::read_selection))]
     fn selection(&self, parser: &mut Parser<'_>) -> Result<Selected, SyntaxError>
         requires { At (part_at 1023) self.now.room (P.pre self.now.part) (P.post self.now.part) }
         ensures { Reads (readings.read_selection 1023 (part_at 1023 self.now.room) parser.old)
@@ -92,7 +92,7 @@ impl<P: Fn(Global, &mut Parser<'_>, usize) -> Result<Boxed<Expr>, SyntaxError>> 
     }
 
     /// `select [distinct] ..`; whether DISTINCT stands there, and what is selected.
-    #[tactic(auto, unfolding(parser_steps::specs::Readings::read_select))]
+    #[tactic(auto, unfolding(sql_parser_steps::specs::Readings::read_select))]
     pub(crate) fn select(&self, parser: &mut Parser<'_>) -> Result<(bool, Selected), SyntaxError>
         requires { At (part_at 1023) self.now.room (P.pre self.now.part) (P.post self.now.part) }
         ensures { Reads (readings.read_select 1023 (part_at 1023 self.now.room) parser.old) result
@@ -109,7 +109,7 @@ impl<P: Fn(Global, &mut Parser<'_>, usize) -> Result<Boxed<Expr>, SyntaxError>> 
     }
 
     /// `[where e]`.
-    #[tactic(auto, unfolding(parser_steps::specs::Readings::read_where))]
+    #[tactic(auto, unfolding(sql_parser_steps::specs::Readings::read_where))]
     fn condition(&self, parser: &mut Parser<'_>) -> Result<Clause, SyntaxError>
         requires { At (part_at 1023) self.now.room (P.pre self.now.part) (P.post self.now.part) }
         ensures { Reads (readings.read_where 1023 (part_at 1023 self.now.room) parser.old) result
@@ -124,7 +124,7 @@ impl<P: Fn(Global, &mut Parser<'_>, usize) -> Result<Boxed<Expr>, SyntaxError>> 
     }
 
     /// `[having e]`.
-    #[tactic(auto, unfolding(parser_steps::specs::Readings::read_having))]
+    #[tactic(auto, unfolding(sql_parser_steps::specs::Readings::read_having))]
     fn having(&self, parser: &mut Parser<'_>) -> Result<Clause, SyntaxError>
         requires { At (part_at 1023) self.now.room (P.pre self.now.part) (P.post self.now.part) }
         ensures { Reads (readings.read_having 1023 (part_at 1023 self.now.room) parser.old) result
@@ -139,7 +139,7 @@ impl<P: Fn(Global, &mut Parser<'_>, usize) -> Result<Boxed<Expr>, SyntaxError>> 
     }
 
     /// `[where e] [group by ..] [having e]`.
-    #[tactic(auto, unfolding(parser_steps::specs::Readings::read_filters))]
+    #[tactic(auto, unfolding(sql_parser_steps::specs::Readings::read_filters))]
     pub(crate) fn filters(&self, parser: &mut Parser<'_>) -> Result<Filters, SyntaxError>
         requires { At (part_at 1023) self.now.room (P.pre self.now.part) (P.post self.now.part) }
         ensures { Reads (readings.read_filters 1023 (part_at 1023 self.now.room) parser.old) result

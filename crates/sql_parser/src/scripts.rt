@@ -1,20 +1,20 @@
 //! Whole scripts, from their tokens and from their bytes.
 ghost use Rattle.std.specs.Prelude.{◌≡◌, ℕ, length, IfOk, Err};
-ghost use Rattle.grammar_laws.specs.declared.SyntaxFault.{SyntaxFault};
-ghost use Rattle.grammar_laws.specs.Readings.{Reads};
-ghost use Rattle.grammar_laws.specs.Scripts as scripts;
-ghost use Rattle.grammar_laws.specs.Scripts.{IsFirst, IsRead};
+ghost use Rattle.sql_grammar_laws.specs.declared.SyntaxFault.{SyntaxFault};
+ghost use Rattle.sql_grammar_laws.specs.Readings.{Reads};
+ghost use Rattle.sql_grammar_laws.specs.Scripts as scripts;
+ghost use Rattle.sql_grammar_laws.specs.Scripts.{IsFirst, IsRead};
 ghost use Rattle.sql_parser.specs.declared.fault.ScriptRefusal.{ScriptRefusal};
-ghost use Rattle.parser_steps.specs.Readings.{ended_at};
+ghost use Rattle.sql_parser_steps.specs.Readings.{ended_at};
 ghost use Rattle.sql_parser.specs.Script.{IsReadScript, IsRefusedScript, NeverBoth, OneMeaning};
 ghost use Rattle.sql_parser.specs.Script.{OneScript, SomeMeaning, SomeScript, Sql, byte_at};
 
 use crate::fault::{ParseFault, ScriptFault, ScriptRefusal, of_lexer, of_parser};
 use crate::statements::ended_statement;
-use grammar_laws::{SyntaxError, SyntaxFault};
-use parser_steps::{MAX_DEPTH, Parser};
 use sql_ast::Statement;
+use sql_grammar_laws::{SyntaxError, SyntaxFault};
 use sql_lexer::{LexFault, Token, lex};
+use sql_parser_steps::{MAX_DEPTH, Parser};
 use sqlite_items::Items;
 use std::alloc::Global;
 

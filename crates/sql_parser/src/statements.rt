@@ -1,20 +1,20 @@
 //! Statements, told by their first tokens. `room` is how many levels may be opened.
-ghost use Rattle.grammar_laws.specs.Readings.{Reads};
-ghost use Rattle.parser_steps.specs.Readings as readings;
-ghost use Rattle.parser_steps.specs.Readings.{ended_at, query_at};
+ghost use Rattle.sql_grammar_laws.specs.Readings.{Reads};
+ghost use Rattle.sql_parser_steps.specs.Readings as readings;
+ghost use Rattle.sql_parser_steps.specs.Readings.{ended_at, query_at};
 
 use crate::knot::query;
-use grammar_laws::SyntaxError;
-use parser_steps::Parser;
-use parser_steps::clauses::order;
-use parser_steps::statements::{run, view_name};
 use sql_ast::{Query, Statement};
+use sql_grammar_laws::SyntaxError;
 use sql_lexer::Kind;
+use sql_parser_steps::Parser;
+use sql_parser_steps::clauses::order;
+use sql_parser_steps::statements::{run, view_name};
 use sqlite_items::Boxed;
 use std::alloc::Global;
 
 /// `query [order by ..] [limit ..]`.
-#[tactic(auto, unfolding(parser_steps::specs::Readings::read_ordered))]
+#[tactic(auto, unfolding(sql_parser_steps::specs::Readings::read_ordered))]
 fn ordered(alloc: Global, parser: &mut Parser<'_>, room: usize) -> Result<Statement, SyntaxError>
     ensures { Reads (readings.read_ordered 1023 (query_at 1023 room) parser.old) result parser.new }
 {
@@ -29,7 +29,7 @@ fn ordered(alloc: Global, parser: &mut Parser<'_>, room: usize) -> Result<Statem
 }
 
 /// `create view name ["(" name {"," name} ")"] as query`.
-#[tactic(auto, unfolding(parser_steps::specs::Readings::read_create))]
+#[tactic(auto, unfolding(sql_parser_steps::specs::Readings::read_create))]
 fn create(alloc: Global, parser: &mut Parser<'_>, room: usize) -> Result<Statement, SyntaxError>
     ensures { Reads (readings.read_create 1023 room (query_at 1023 room) parser.old) result
         parser.new }
@@ -41,7 +41,7 @@ fn create(alloc: Global, parser: &mut Parser<'_>, room: usize) -> Result<Stateme
 }
 
 /// A statement without its semicolon.
-#[tactic(auto, unfolding(parser_steps::specs::Readings::read_statement))]
+#[tactic(auto, unfolding(sql_parser_steps::specs::Readings::read_statement))]
 fn statement(alloc: Global, parser: &mut Parser<'_>, room: usize) -> Result<Statement, SyntaxError>
     ensures { Reads (readings.read_statement 1023 room (query_at 1023 room) parser.old) result
         parser.new }
@@ -62,7 +62,7 @@ fn statement(alloc: Global, parser: &mut Parser<'_>, room: usize) -> Result<Stat
 }
 
 /// `statement ";"`.
-#[tactic(auto, unfolding(parser_steps::specs::Readings::read_ended))]
+#[tactic(auto, unfolding(sql_parser_steps::specs::Readings::read_ended))]
 pub(crate) fn ended_statement(
     alloc: Global,
     parser: &mut Parser<'_>,

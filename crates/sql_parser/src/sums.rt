@@ -1,19 +1,19 @@
 //! Sums and products, and the tests that hold sums alone.
 ghost use Rattle.std.specs.Prelude.{◌∷◌, []};
-ghost use Rattle.grammar_laws.specs.Kinds.{among};
-ghost use Rattle.grammar_laws.specs.Readings.{Reads, links};
+ghost use Rattle.sql_grammar_laws.specs.Kinds.{among};
+ghost use Rattle.sql_grammar_laws.specs.Readings.{Reads, links};
 ghost use Rattle.sql_lexer.specs.declared.kind.Kind.TheVariants as k;
-ghost use Rattle.parser_steps.specs.Kinds.{kinds};
-ghost use Rattle.parser_steps.specs.Nests.{At};
-ghost use Rattle.parser_steps.specs.ExpressionReadings as readings;
-ghost use Rattle.parser_steps.specs.Readings.{unary_at};
-ghost use Rattle.parser_steps.specs.Values as values;
+ghost use Rattle.sql_parser_steps.specs.Kinds.{kinds};
+ghost use Rattle.sql_parser_steps.specs.Nests.{At};
+ghost use Rattle.sql_parser_steps.specs.ExpressionReadings as readings;
+ghost use Rattle.sql_parser_steps.specs.Readings.{unary_at};
+ghost use Rattle.sql_parser_steps.specs.Values as values;
 
-use grammar_laws::SyntaxError;
-use parser_steps::parts::{factor, product, sum, term};
-use parser_steps::{MAX_MORE, Parser, Test};
 use sql_ast::{Expr, Factor, Term};
+use sql_grammar_laws::SyntaxError;
 use sql_lexer::Kind;
+use sql_parser_steps::parts::{factor, product, sum, term};
+use sql_parser_steps::{MAX_MORE, Parser, Test};
 use sqlite_items::{Boxed, Items};
 use std::alloc::Global;
 
@@ -57,7 +57,7 @@ impl<U: Fn(Global, &mut Parser<'_>, usize) -> Result<Boxed<Expr>, SyntaxError>> 
     }
 
     /// `unary {(*|/) unary}`.
-    #[tactic(auto, unfolding(parser_steps::specs::ExpressionReadings::read_product))]
+    #[tactic(auto, unfolding(sql_parser_steps::specs::ExpressionReadings::read_product))]
     fn product(&self, parser: &mut Parser<'_>) -> Result<Boxed<Expr>, SyntaxError>
         requires { At (unary_at 1023) self.now.room (U.pre self.now.unary) (U.post self.now.unary) }
         ensures { Reads (readings.read_product 1023 (unary_at 1023 self.now.room) parser.old) result
@@ -91,7 +91,7 @@ impl<U: Fn(Global, &mut Parser<'_>, usize) -> Result<Boxed<Expr>, SyntaxError>> 
     }
 
     /// `product {(+|-) product}`.
-    #[tactic(auto, unfolding(parser_steps::specs::ExpressionReadings::read_sum))]
+    #[tactic(auto, unfolding(sql_parser_steps::specs::ExpressionReadings::read_sum))]
     pub(crate) fn sum(&self, parser: &mut Parser<'_>) -> Result<Boxed<Expr>, SyntaxError>
         requires { At (unary_at 1023) self.now.room (U.pre self.now.unary) (U.post self.now.unary) }
         ensures { Reads (readings.read_sum 1023 (unary_at 1023 self.now.room) parser.old) result
@@ -103,7 +103,7 @@ impl<U: Fn(Global, &mut Parser<'_>, usize) -> Result<Boxed<Expr>, SyntaxError>> 
     }
 
     /// A comparison and its right side.
-    #[tactic(auto, unfolding(parser_steps::specs::ExpressionReadings::read_compare))]
+    #[tactic(auto, unfolding(sql_parser_steps::specs::ExpressionReadings::read_compare))]
     pub(crate) fn compare(&self, parser: &mut Parser<'_>) -> Result<Test, SyntaxError>
         requires { At (unary_at 1023) self.now.room (U.pre self.now.unary) (U.post self.now.unary) }
         ensures { Reads (readings.read_compare 1023 (unary_at 1023 self.now.room) parser.old) result
@@ -115,7 +115,7 @@ impl<U: Fn(Global, &mut Parser<'_>, usize) -> Result<Boxed<Expr>, SyntaxError>> 
     }
 
     /// `between sum and sum`.
-    #[tactic(auto, unfolding(parser_steps::specs::ExpressionReadings::read_between))]
+    #[tactic(auto, unfolding(sql_parser_steps::specs::ExpressionReadings::read_between))]
     pub(crate) fn between(&self, parser: &mut Parser<'_>) -> Result<Test, SyntaxError>
         requires { At (unary_at 1023) self.now.room (U.pre self.now.unary) (U.post self.now.unary) }
         ensures { Reads (readings.read_between 1023 (unary_at 1023 self.now.room) parser.old) result

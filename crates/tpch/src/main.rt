@@ -1,12 +1,12 @@
-//! The program: its words, the machine's files and standard output, given to `tpch_main`.
+//! The program: its words, the machine's files and standard output, given to `app_main`.
 #![tactic(auto)]
 
+use app_main::{Status, tpch};
+use base_io::{OpenGate, RealFiles, RealSink};
 use std::alloc::AllocError;
 use std::env;
 use std::io::ErrorKind;
 use std::process::ExitCode;
-use tpch_main::{Status, tpch};
-use tpch_outside::{OpenGate, RealFiles, RealSink};
 
 /// The words after the program's name. None where a word isn't UTF-8.
 fn words(rt: &HostRuntime) -> Result<Vec<String>, AllocError> {

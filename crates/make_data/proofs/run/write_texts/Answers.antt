@@ -1,5 +1,5 @@
 use Rattle.std.proofs.Common.{◌∷◌, ◌++◌, ◌∙◌, ap, le_refl, le_trans}
-use Rattle.data_maker.specs.Texts.{named}
+use Rattle.app_sample_data.specs.Texts.{named}
 use Rattle.make_data.proofs.Growth.{file_written, grows_none, grows_still, in_part}
 use Rattle.make_data.proofs.run.write_texts.Goals as goal
 

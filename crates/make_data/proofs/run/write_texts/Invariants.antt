@@ -1,5 +1,5 @@
 use Rattle.std.proofs.Common.{◌≤◌, [], take}
-use Rattle.data_maker.specs.Texts.{named}
+use Rattle.app_sample_data.specs.Texts.{named}
 use Rattle.make_data.specs.Target.{Grows, files_in}
 use Rattle.make_data.proofs.run.write_texts.Given as goal
 

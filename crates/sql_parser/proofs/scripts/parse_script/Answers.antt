@@ -1,14 +1,14 @@
 use Rattle.std.proofs.Common.{◌≡◌, ◌-◌, ◌∙◌, ℕ, List, Result, sym, subst, Err, ap, length, arith}
 use Rattle.std.proofs.lemmas.List.{length-append}
-use Rattle.grammar_laws.specs.declared.SyntaxFault.{SyntaxFault}
-use Rattle.grammar_laws.specs.Scripts.{IsFirst, statements}
-use Rattle.grammar_laws.proofs.Stable.{out}
-use Rattle.grammar_laws.proofs.Scripts.{Stable-script}
-use Rattle.grammar_laws.proofs.Verdict.{read_is, refusal_is_first}
+use Rattle.sql_grammar_laws.specs.declared.SyntaxFault.{SyntaxFault}
+use Rattle.sql_grammar_laws.specs.Scripts.{IsFirst, statements}
+use Rattle.sql_grammar_laws.proofs.Stable.{out}
+use Rattle.sql_grammar_laws.proofs.Scripts.{Stable-script}
+use Rattle.sql_grammar_laws.proofs.Verdict.{read_is, refusal_is_first}
 use Rattle.sql_ast.specs.declared.statement.Statement.{Statement}
 use Rattle.sql_lexer.specs.declared.token.Token.{Token}
 use Rattle.sql_parser.specs.Grammar.{Ended}
-use Rattle.parser_steps.specs.Readings.{ended_at}
+use Rattle.sql_parser_steps.specs.Readings.{ended_at}
 use Rattle.sql_parser.specs.Script.{Sql}
 use Rattle.sql_parser.proofs.Levels.{is_read}
 use Rattle.sql_parser.proofs.scripts.parse_script.Goals as goal

@@ -2,10 +2,10 @@ use Rattle.std.proofs.Common.{◌≡◌, ◌∙◌, sym, [], ◌∷◌, true, fa
 use Rattle.std.proofs.lemmas.Result.{err_from_is_err_and}
 use Rattle.std.proofs.lemmas.Bool.{eqb-true}
 use Rattle.std.proofs.lemmas.List.{nil_from_length}
-use Rattle.grammar_laws.proofs.Scripts.{script_goes_on, script_fails, script_ends, Ended-shorter}
+use Rattle.sql_grammar_laws.proofs.Scripts.{script_goes_on, script_fails, script_ends, Ended-shorter}
 use Rattle.sql_lexer.specs.declared.token.Token.{Token}
 use Rattle.sql_parser.specs.Grammar.{Ended}
-use Rattle.parser_steps.specs.Readings.{ended_at}
+use Rattle.sql_parser_steps.specs.Readings.{ended_at}
 use Rattle.sql_parser.proofs.Levels.{is_read}
 use Rattle.sql_parser.proofs.scripts.script.Goals as goal
 

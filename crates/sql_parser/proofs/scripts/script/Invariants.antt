@@ -1,8 +1,8 @@
 use Rattle.std.proofs.Common.{◌≡◌, length}
-use Rattle.grammar_laws.specs.Scripts.{statements}
-use Rattle.grammar_laws.proofs.Scripts.{with_statements}
+use Rattle.sql_grammar_laws.specs.Scripts.{statements}
+use Rattle.sql_grammar_laws.proofs.Scripts.{with_statements}
 use Rattle.sql_parser.specs.Grammar.{Ended}
-use Rattle.parser_steps.specs.Readings.{ended_at}
+use Rattle.sql_parser_steps.specs.Readings.{ended_at}
 use Rattle.sql_parser.proofs.Levels.{is_read}
 use Rattle.sql_parser.proofs.scripts.script.Given as goal
 

@@ -1,5 +1,5 @@
 use Rattle.std.proofs.Common.{◌≡◌, map, length}
-use Rattle.binder_steps.specs.Names.{sight_of}
+use Rattle.sql_binder_steps.specs.Names.{sight_of}
 use Rattle.sql_binder.specs.Nests.{BindsExprs}
 use Rattle.sql_binder.specs.Operands as spec
 use Rattle.sql_binder.specs.Binding.{meaning}

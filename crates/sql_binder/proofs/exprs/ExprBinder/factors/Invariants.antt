@@ -1,6 +1,6 @@
 use Rattle.std.proofs.Common.{◌≡◌, map, length}
-use Rattle.row_laws.specs.Bags.{Each}
-use Rattle.binder_steps.specs.Names.{sight_of}
+use Rattle.base_row_laws.specs.Bags.{Each}
+use Rattle.sql_binder_steps.specs.Names.{sight_of}
 use Rattle.sql_binder.specs.Nests.{BindsFactor}
 use Rattle.sql_binder.specs.Operands as spec
 use Rattle.sql_binder.specs.Binding.{factor_meaning}

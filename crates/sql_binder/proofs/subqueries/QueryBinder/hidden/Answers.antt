@@ -1,7 +1,7 @@
 use Rattle.std.proofs.Common.{arith, subst}
 use Rattle.sql_binder.specs.Binding.{block_meaning}
-use Rattle.binder_steps.specs.Names.{Sight, sight_of}
-use Rattle.binder_steps.specs.Steps.{Binds}
+use Rattle.sql_binder_steps.specs.Names.{Sight, sight_of}
+use Rattle.sql_binder_steps.specs.Steps.{Binds}
 use Rattle.sql_binder.proofs.ByHand.{hides}
 use Rattle.sql_binder.proofs.subqueries.QueryBinder.hidden.Goals as goal
 

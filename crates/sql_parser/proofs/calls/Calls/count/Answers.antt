@@ -1,6 +1,6 @@
 use Rattle.std.proofs.lemmas.Result.{err_from_is_err_and}
 use Rattle.sql_lexer.specs.declared.kind.Kind.TheVariants as k
-use Rattle.parser_steps.specs.ExpressionReadings.{read_count, read_count_inside}
+use Rattle.sql_parser_steps.specs.ExpressionReadings.{read_count, read_count_inside}
 use Rattle.sql_parser.proofs.Parentheses.{call_fails}
 use Rattle.sql_parser.proofs.calls.Calls.count.Goals as goal
 

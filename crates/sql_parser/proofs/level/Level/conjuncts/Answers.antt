@@ -1,13 +1,13 @@
 use Rattle.std.proofs.Common.{◌∙◌, sym, subst, List, arith, ◌≡◌, ap, ◌++◌, ◌∷◌, []}
 use Rattle.std.proofs.lemmas.Result.{err_from_is_err_and}
-use Rattle.grammar_laws.specs.Readings.{one, Reads, crowded, is_err}
-use Rattle.grammar_laws.proofs.Loop.{loop_ends, loop_goes_on, full_reads, fails_reads}
+use Rattle.sql_grammar_laws.specs.Readings.{one, Reads, crowded, is_err}
+use Rattle.sql_grammar_laws.proofs.Loop.{loop_ends, loop_goes_on, full_reads, fails_reads}
 use Rattle.sql_lexer.specs.Kinds.{is}
 use Rattle.sql_lexer.specs.declared.kind.Kind.TheVariants as k
 use Rattle.sql_lexer.specs.declared.token.Token.{Token}
 use Rattle.sql_ast.specs.declared.tree.Expr.{Expr}
-use Rattle.parser_steps.specs.Readings.{part_at}
-use Rattle.parser_steps.specs.Values as values
+use Rattle.sql_parser_steps.specs.Readings.{part_at}
+use Rattle.sql_parser_steps.specs.Values as values
 use Rattle.sql_parser.proofs.level.Level.conjuncts.Goals as goal
 
 pub returns-then-width-eq0 : goal.returns-then-width-eq0

@@ -1,11 +1,11 @@
 use Rattle.std.proofs.Common.{◌≡◌, ◌∷◌}
-use Rattle.grammar_laws.specs.Readings.{links, mapped, one}
-use Rattle.grammar_laws.proofs.Loop.{with_front}
+use Rattle.sql_grammar_laws.specs.Readings.{links, mapped, one}
+use Rattle.sql_grammar_laws.proofs.Loop.{with_front}
 use Rattle.sql_lexer.specs.Kinds.{is}
 use Rattle.sql_lexer.specs.declared.kind.Kind.TheVariants as k
-use Rattle.parser_steps.specs.ExpressionReadings as readings
-use Rattle.parser_steps.specs.Readings.{part_at}
-use Rattle.parser_steps.specs.Values as values
+use Rattle.sql_parser_steps.specs.ExpressionReadings as readings
+use Rattle.sql_parser_steps.specs.Readings.{part_at}
+use Rattle.sql_parser_steps.specs.Values as values
 use Rattle.sql_parser.proofs.level.Level.more_exprs.Given as goal
 
 abbrev pub invariant-more : goal.invariant-more

@@ -1,15 +1,15 @@
 use Rattle.std.proofs.Common.{◌∙◌, sym, subst, List, arith, ◌≡◌, ap, ◌++◌, ◌∷◌, []}
 use Rattle.std.proofs.lemmas.Result.{err_from_is_err_and}
-use Rattle.grammar_laws.specs.Kinds.{among}
-use Rattle.grammar_laws.specs.Readings.{Reads, crowded, is_err}
-use Rattle.grammar_laws.proofs.Loop.{loop_ends, loop_goes_on, full_reads, fails_reads, joins_reads}
+use Rattle.sql_grammar_laws.specs.Kinds.{among}
+use Rattle.sql_grammar_laws.specs.Readings.{Reads, crowded, is_err}
+use Rattle.sql_grammar_laws.proofs.Loop.{loop_ends, loop_goes_on, full_reads, fails_reads, joins_reads}
 use Rattle.sql_lexer.specs.declared.kind.Kind.TheVariants as k
 use Rattle.sql_lexer.specs.declared.token.Token.{Token}
 use Rattle.sql_ast.specs.declared.tree.Expr.{Expr}
-use Rattle.parser_steps.specs.Kinds.{kinds}
-use Rattle.parser_steps.specs.ExpressionReadings as readings
-use Rattle.parser_steps.specs.Readings.{unary_at}
-use Rattle.parser_steps.specs.Values as values
+use Rattle.sql_parser_steps.specs.Kinds.{kinds}
+use Rattle.sql_parser_steps.specs.ExpressionReadings as readings
+use Rattle.sql_parser_steps.specs.Readings.{unary_at}
+use Rattle.sql_parser_steps.specs.Values as values
 use Rattle.sql_parser.proofs.sums.Sums.factors.Goals as goal
 
 pub returns-then-width-eq0 : goal.returns-then-width-eq0

@@ -1,12 +1,12 @@
 use Rattle.std.proofs.Common.{◌≡◌, ◌∷◌, []}
-use Rattle.grammar_laws.specs.Kinds.{among}
-use Rattle.grammar_laws.specs.Readings.{links}
-use Rattle.grammar_laws.proofs.Loop.{with_front}
+use Rattle.sql_grammar_laws.specs.Kinds.{among}
+use Rattle.sql_grammar_laws.specs.Readings.{links}
+use Rattle.sql_grammar_laws.proofs.Loop.{with_front}
 use Rattle.sql_lexer.specs.declared.kind.Kind.TheVariants as k
-use Rattle.parser_steps.specs.Kinds.{kinds}
-use Rattle.parser_steps.specs.ExpressionReadings as readings
-use Rattle.parser_steps.specs.Readings.{unary_at}
-use Rattle.parser_steps.specs.Values as values
+use Rattle.sql_parser_steps.specs.Kinds.{kinds}
+use Rattle.sql_parser_steps.specs.ExpressionReadings as readings
+use Rattle.sql_parser_steps.specs.Readings.{unary_at}
+use Rattle.sql_parser_steps.specs.Values as values
 use Rattle.sql_parser.proofs.sums.Sums.factors.Given as goal
 
 abbrev pub invariant-more : goal.invariant-more

@@ -1,6 +1,0 @@
-use Rattle.std.proofs.Common.{◌≡◌, map, take}
-use Rattle.algebra.specs.Aggregates.{value_of_none}
-use Rattle.algebra.proofs.aggregate.values_of_none.Given as goal
-
-abbrev pub invariant-loop-aggregate : goal.invariant-loop-aggregate
-invariant-loop-aggregate l = l.values ≡ map value_of_none (take l.aggregate-index l.aggregates)

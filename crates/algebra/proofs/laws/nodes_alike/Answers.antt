@@ -1,5 +1,0 @@
-use Rattle.algebra.proofs.Alike.{nodes_alike}
-use Rattle.algebra.proofs.laws.nodes_alike.Goals as goal
-
-pub returns : goal.returns
-returns c = nodes_alike

@@ -1,0 +1,71 @@
+-- The lines of a job's file.
+use Rattle.std.specs.Prelude.{ℕ, Bool, ◌&&◌, ◌||◌, not, List, codes, drop, length, nat_eq, nat_lt}
+use Rattle.std.specs.Prelude.{◌==◌}
+use Rattle.std.specs.Prelude.{Option, None, Some, option_map, if◌then◌else◌}
+use Rattle.std.specs.Char.{is_ascii_digit}
+use Rattle.std.specs.List.{list_all, starts_with}
+use Rattle.std.specs.Option.{option_and_then}
+use Rattle.std.specs.Str.Parse.{digits_value}
+use Rattle.sql_ast.specs.declared.statement.RefreshKind.{RefreshKind}
+use Rattle.sql_ast.specs.declared.statement.RefreshKind.TheVariants.{Insert, Delete}
+use Rattle.app_job_file.specs.declared.job.Mention.{Mention}
+use Rattle.app_job_file.specs.declared.line.Line.{Line}
+use Rattle.app_job_file.specs.declared.line.Line.TheVariants.{Session, Before, Beside}
+
+-- what a line asks for
+pub data JobLine : Type 0 where
+  -- a session of the script of this name
+  ScriptLine : (name : List ℕ) → JobLine
+  -- a refresh that is tried before the sessions
+  BeforeLine : (mention : Mention) → JobLine
+  -- a refresh that is tried beside them
+  BesideLine : (mention : Mention) → JobLine
+
+-- what follows these bytes at a line's front, where they stand there
+abbrev pub rest_after : List ℕ → List ℕ → Option (List ℕ)
+rest_after front line =
+    if starts_with nat_eq line front then Some (drop (length front) line) else None
+
+-- a byte that a word can have: from 0x21 to 0x7E
+abbrev pub is_visible : ℕ → Bool
+is_visible byte = nat_lt 32 byte && nat_lt byte 127
+
+-- the bytes, where they are a word
+abbrev pub word_of : List ℕ → Option (List ℕ)
+word_of bytes = if length bytes == 0 || not (list_all is_visible bytes) then None else Some bytes
+
+-- the number that one to nine digits write
+abbrev pub set_number : List ℕ → Option ℕ
+set_number digits =
+    if length digits == 0 || nat_lt 9 (length digits) || not (list_all is_ascii_digit digits)
+    then None
+    else Some (digits_value 10 digits)
+
+-- a refresh of the set of that number
+abbrev pub mention : RefreshKind → ℕ → Mention
+mention change set = record { change = change; set = set }
+
+-- the refresh whose number follows these bytes
+abbrev pub mention_after : List ℕ → RefreshKind → List ℕ → Option Mention
+mention_after front change line =
+    option_map (mention change) (option_and_then set_number (rest_after front line))
+
+-- the first of two lines that is there
+abbrev pub or_line : Option JobLine → Option JobLine → Option JobLine
+or_line (Some line) other = Some line
+or_line None other = other
+
+-- what a line asks for, if it is of one of the forms
+abbrev pub line_of : List ℕ → Option JobLine
+line_of line =
+    or_line (option_map ScriptLine (option_and_then word_of (rest_after (codes "session ") line)))
+    (or_line (option_map BeforeLine (mention_after (codes "before insert ") Insert line))
+    (or_line (option_map BeforeLine (mention_after (codes "before delete ") Delete line))
+    (or_line (option_map BesideLine (mention_after (codes "beside insert ") Insert line))
+    (option_map BesideLine (mention_after (codes "beside delete ") Delete line)))))
+
+-- what a line that was read asks for
+abbrev pub line_view : Line → JobLine
+line_view (Session name) = ScriptLine name.now
+line_view (Before mention) = BeforeLine mention
+line_view (Beside mention) = BesideLine mention

@@ -1,0 +1,41 @@
+//! What a job's file asks for.
+ghost use Rattle.std.specs.Prelude.{◌≡◌, [], ◌++◌, ◌∷◌, OnOk, map};
+ghost use Rattle.std.specs.String.{string_bytes};
+
+use sql_ast::RefreshKind;
+use std::alloc::{AllocError, Global};
+
+/// A refresh that a line or a statement names.
+#[derive(Clone, Copy, Debug, PartialEq, Eq)]
+pub struct Mention {
+    /// What it does.
+    pub change: RefreshKind,
+    /// The number of its set.
+    pub set: u32,
+}
+
+/// What a job's file asks for.
+#[derive(Drop)]
+pub struct Job {
+    /// The names of the scripts of its sessions, in order.
+    pub scripts: Vec<String>,
+    /// Its refreshes, in the order in which they are tried.
+    pub refreshes: Vec<Mention>,
+    /// How many of them are tried before the sessions.
+    pub before: usize,
+}
+
+impl Job {
+    ghost use Rattle.app_job_file.specs.Files.{no_parts, parts_of};
+
+    /// A job that asks for nothing.
+    pub(crate) fn new(alloc: Global) -> Job
+        ensures { parts_of result ≡ no_parts }
+    {
+        Job {
+            scripts: Vec::new(alloc),
+            refreshes: Vec::new(alloc),
+            before: 0,
+        }
+    }
+}

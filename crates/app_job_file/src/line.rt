@@ -1,0 +1,111 @@
+//! The forms of lines.
+ghost use Rattle.std.specs.Prelude.{◌≡◌, codes, option_map};
+ghost use Rattle.std.specs.Char.{is_ascii_digit};
+ghost use Rattle.std.specs.List.{list_all};
+ghost use Rattle.std.specs.Option.{option_and_then};
+ghost use Rattle.app_job_file.specs.Lines.{is_visible, line_of, line_view, mention_after, rest_after};
+ghost use Rattle.app_job_file.specs.Lines.{set_number, word_of};
+
+use crate::job::Mention;
+use sql_ast::RefreshKind;
+
+/// What a line asks for.
+#[derive(Clone, Copy, Debug)]
+pub enum Line<'a> {
+    /// A session of the script of this name.
+    Session(&'a str),
+    /// A refresh that is tried before the sessions.
+    Before(Mention),
+    /// A refresh that is tried beside them.
+    Beside(Mention),
+}
+
+/// What follows these bytes at a line's front.
+fn rest_after<'a>(front: &[u8], line: &'a [u8]) -> Option<&'a [u8]>
+    ensures { option_map (λ rest. rest.now) result ≡ rest_after front.now line.now }
+{
+    if line.starts_with(front) {
+        Some(&line[front.len()..])
+    } else {
+        None
+    }
+}
+
+/// Whether each byte is one that a word can have.
+fn are_visible(bytes: &[u8]) -> bool
+    ensures { result ≡ list_all is_visible bytes.now }
+{
+    bytes.iter().all(|byte| 32 < *byte && *byte < 127)
+}
+
+/// The word that bytes are.
+fn word_of(bytes: &[u8]) -> Option<&str>
+    ensures { option_map (λ word. word.now) result ≡ word_of bytes.now }
+{
+    if bytes.is_empty() || !are_visible(bytes) {
+        return None;
+    }
+    match str::from_utf8(bytes) {
+        Ok(word) => Some(word),
+        Err(_) => None,
+    }
+}
+
+/// Whether each byte is a digit.
+fn are_digits(bytes: &[u8]) -> bool
+    ensures { result ≡ list_all is_ascii_digit bytes.now }
+{
+    bytes.iter().all(|byte| byte.is_ascii_digit())
+}
+
+/// The number that one to nine digits write.
+fn set_number(digits: &[u8]) -> Option<u32>
+    ensures { result ≡ set_number digits.now }
+{
+    if digits.is_empty() || digits.len() > 9 || !are_digits(digits) {
+        return None;
+    }
+    let Ok(text) = str::from_utf8(digits) else {
+        return None;
+    };
+    let Ok(number) = text.parse::<u32>() else {
+        return None;
+    };
+    Some(number)
+}
+
+/// The refresh whose number follows these bytes.
+fn mention_after(front: &[u8], change: RefreshKind, line: &[u8]) -> Option<Mention>
+    ensures { result ≡ mention_after front.now change line.now }
+{
+    let set = set_number(rest_after(front, line)?)?;
+    Some(Mention { change, set })
+}
+
+/// The session that a line asks for.
+fn session_of(line: &[u8]) -> Option<&str>
+    ensures { option_map (λ name. name.now) result
+        ≡ option_and_then word_of (rest_after (codes "session ") line.now) }
+{
+    word_of(rest_after(b"session ", line)?)
+}
+
+/// What a line asks for, if it is of one of the forms.
+pub fn line_of(line: &[u8]) -> Option<Line<'_>>
+    ensures { option_map line_view result ≡ line_of line.now }
+{
+    if let Some(name) = session_of(line) {
+        return Some(Line::Session(name));
+    }
+    if let Some(mention) = mention_after(b"before insert ", RefreshKind::Insert, line) {
+        return Some(Line::Before(mention));
+    }
+    if let Some(mention) = mention_after(b"before delete ", RefreshKind::Delete, line) {
+        return Some(Line::Before(mention));
+    }
+    if let Some(mention) = mention_after(b"beside insert ", RefreshKind::Insert, line) {
+        return Some(Line::Beside(mention));
+    }
+    let mention = mention_after(b"beside delete ", RefreshKind::Delete, line)?;
+    Some(Line::Beside(mention))
+}

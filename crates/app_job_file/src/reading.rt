@@ -1,0 +1,203 @@
+//! Reading a job's file.
+ghost use Rattle.std.specs.Prelude.{◌≡◌, ◌+◌, ◌<◌, ◌≤◌, ◌^◌, ◌∷◌, Some, IfOk, drop, length, take};
+ghost use Rattle.std.specs.Prelude.{◌==◌};
+ghost use Rattle.std.specs.List.{position};
+ghost use Rattle.store_file_reader.specs.File.{cut_lines};
+ghost use Rattle.store_file_reader.specs.Line.{line_text, without_end};
+ghost use Rattle.app_job_file.specs.Files.{IsReadable, IsWithin, Puts, Says, job_of, no_parts};
+ghost use Rattle.app_job_file.specs.Files.{parts_of, with_line};
+ghost use Rattle.app_job_file.specs.Files.{with_lines, with_refresh, with_script, with_text};
+ghost use Rattle.app_job_file.specs.Lines.JobLine.{BeforeLine};
+
+use crate::job::{Job, Mention};
+use crate::line::{Line, line_of};
+use crate::refusal::{JobRefusal, RefusedLine};
+use std::alloc::{AllocError, AllocFailed, Global};
+
+/// The most bytes of a job's file.
+pub const MAX_JOB: usize = 1_048_576;
+
+/// The most sessions of a job.
+const MOST_SESSIONS: usize = 64;
+
+/// The most refreshes of a job.
+const MOST_REFRESHES: usize = 1024;
+
+/// Why a job is not read.
+#[derive(Clone, Copy, Debug, PartialEq, Eq)]
+pub enum JobError {
+    /// It is refused.
+    Refused(RefusedLine),
+    /// Memory ran out.
+    OutOfMemory,
+}
+
+impl From<AllocError> for JobError {
+    ghost use Rattle.app_job_file.specs.declared.reading.JobError.TheVariants.{OutOfMemory};
+
+    ghost from_gives = { λ _ e. e ≡ OutOfMemory };
+
+    fn from(_: AllocError) -> Self {
+        JobError::OutOfMemory
+    }
+}
+
+impl<T: Drop> From<AllocFailed<T>> for JobError {
+    ghost use Rattle.app_job_file.specs.declared.reading.JobError.TheVariants.{OutOfMemory};
+
+    ghost from_gives = { λ _ e. e ≡ OutOfMemory };
+
+    fn from(_: AllocFailed<T>) -> Self {
+        JobError::OutOfMemory
+    }
+}
+
+/// The refusal of a line of that number.
+fn refused(refusal: JobRefusal, line: usize) -> JobError
+    ensures { result ≡ JobError.Refused (record { refusal = refusal; line = line }) }
+{
+    JobError::Refused(RefusedLine { refusal, line })
+}
+
+/// Adds a session, unless it is one too many.
+fn put_script(alloc: Global, job: &mut Job, number: usize, name: &str) -> Result<(), JobError>
+    requires { IsWithin job.old }
+    ensures script { Puts number (with_script (parts_of job.old) name.now)
+        (parts_of job.new) result }
+    ensures within { IsWithin job.new }
+{
+    if job.scripts.len() >= MOST_SESSIONS {
+        return Err(refused(JobRefusal::TooMany, number));
+    }
+    let name = String::from_str(alloc, name)?;
+    job.scripts.push(name)?;
+    Ok(())
+}
+
+/// Adds a refresh, unless it is one too many; with it `before` are tried before the sessions.
+fn put_refresh(
+    job: &mut Job,
+    number: usize,
+    mention: Mention,
+    before: usize,
+) -> Result<(), JobError>
+    requires few { before ≤ length job.old.refreshes.items + 1 }
+    requires within { IsWithin job.old }
+    ensures refresh { Puts number (with_refresh (parts_of job.old) mention before)
+        (parts_of job.new) result }
+    ensures within { IsWithin job.new }
+{
+    if job.refreshes.len() >= MOST_REFRESHES {
+        return Err(refused(JobRefusal::TooMany, number));
+    }
+    job.refreshes.push(mention)?;
+    job.before = before;
+    Ok(())
+}
+
+/// Adds a refresh that is tried before the sessions, unless one beside them came before it.
+fn put_before(job: &mut Job, number: usize, mention: Mention) -> Result<(), JobError>
+    requires { IsWithin job.old }
+    ensures line { Puts number (with_line (parts_of job.old) (Some (BeforeLine mention)))
+        (parts_of job.new) result }
+    ensures within { IsWithin job.new }
+{
+    if job.before < job.refreshes.len() {
+        return Err(refused(JobRefusal::LateBefore, number));
+    }
+    put_refresh(job, number, mention, job.before + 1)
+}
+
+/// Adds what the text of a line asks for. An empty one is skipped.
+fn put_text(alloc: Global, job: &mut Job, number: usize, text: &[u8]) -> Result<(), JobError>
+    requires { IsWithin job.old }
+    ensures text { Puts number (with_text (parts_of job.old) text.now) (parts_of job.new) result }
+    ensures within { IsWithin job.new }
+{
+    if text.is_empty() {
+        return Ok(());
+    }
+    match line_of(text) {
+        Some(Line::Session(name)) => put_script(alloc, job, number, name),
+        Some(Line::Before(mention)) => put_before(job, number, mention),
+        Some(Line::Beside(mention)) => put_refresh(job, number, mention, job.before),
+        None => Err(refused(JobRefusal::BadLine, number)),
+    }
+}
+
+/// The bytes without that one at their end, if it stands there.
+fn without_end(text: &[u8], byte: u8) -> &[u8]
+    ensures { result.now ≡ without_end byte text.now }
+{
+    if text.ends_with(&[byte]) {
+        &text[..text.len() - 1]
+    } else {
+        text
+    }
+}
+
+/// The text of a line, without the LF at its end and one CR directly before that.
+fn line_text(line: &[u8]) -> &[u8]
+    ensures { result.now ≡ line_text line.now }
+{
+    without_end(without_end(line, b'\n'), b'\r')
+}
+
+/// The place of the first LF.
+fn end_of_line(text: &[u8]) -> Option<usize>
+    ensures { result ≡ position (λ byte. byte == 10) text.now }
+{
+    text.iter().position(|byte| *byte == b'\n')
+}
+
+/// How many bytes the first line has, with its LF.
+fn line_len(text: &[u8]) -> usize
+    requires { 0 < length text.now }
+    ensures some { 0 < result }
+    ensures within { result ≤ length text.now }
+    ensures cut { cut_lines text.now ≡ take result text.now ∷ cut_lines (drop result text.now) }
+{
+    match end_of_line(text) {
+        Some(end) => end + 1,
+        None => text.len(),
+    }
+}
+
+/// What the lines of a job's file ask for.
+fn read_lines(alloc: Global, bytes: &[u8]) -> Result<Job, JobError>
+    requires { length bytes.now < 2 ^ 63 }
+    ensures job { Says (with_lines 1 no_parts (cut_lines bytes.now)) result }
+    ensures within { IfOk result IsWithin }
+{
+    let mut job = Job::new(alloc);
+    let mut number = 1;
+    let mut rest = bytes;
+    'reading: while !rest.is_empty() {
+        let end = line_len(rest);
+        put_text(alloc, &mut job, number, line_text(&rest[..end]))?;
+        number += 1;
+        rest = &rest[end..];
+    }
+    Ok(job)
+}
+
+/// What a job's file asks for: its lines `session NAME`, `before insert N`, `before delete N`,
+/// `beside insert N` and `beside delete N`, N having one to nine digits. Empty lines are skipped.
+///
+/// # Errors
+///
+/// A file that is too long; else its first bad line, in it the refusal of the least number; else a
+/// file without a session. Nothing says when memory runs out.
+pub fn read_job(alloc: Global, bytes: &[u8]) -> Result<Job, JobError>
+    ensures job { Says (job_of bytes.now) result }
+    ensures readable { IfOk result IsReadable }
+{
+    if bytes.len() > MAX_JOB {
+        return Err(refused(JobRefusal::TooLong, 0));
+    }
+    let job = read_lines(alloc, bytes)?;
+    if job.scripts.is_empty() {
+        return Err(refused(JobRefusal::NoSession, 0));
+    }
+    Ok(job)
+}

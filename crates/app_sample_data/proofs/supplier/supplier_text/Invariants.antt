@@ -1,0 +1,6 @@
+use Rattle.std.proofs.Common.{◌≡◌, ◌++◌}
+use Rattle.app_sample_data.specs.Lines.{lines, supplier_line}
+use Rattle.app_sample_data.proofs.supplier.supplier_text.Given as goal
+
+abbrev pub invariant-loop-key : goal.invariant-loop-key
+invariant-loop-key l = l.text.items ++ lines (supplier_line l.number) l.key l.key-end ≡ lines (supplier_line l.number) 1 l.key-end

@@ -1,0 +1,40 @@
+//! What comes of a statement.
+ghost use Rattle.std.specs.Prelude.{◌≡◌};
+ghost use Rattle.app_sessions.specs.Outcomes.{is_refusal, kind_of_fault};
+
+use base_refusals::{FaultKind, Refusal};
+use base_value::{Fault, Row};
+use sqlite_items::Items;
+
+/// What comes of a statement.
+#[derive(Drop)]
+pub enum Outcome {
+    /// The rows of an answer, in order.
+    Rows(Items<Row>),
+    /// A view was made or dropped.
+    Done,
+    /// A refresh was accepted and made the version of this number.
+    Accepted(u64),
+    /// It is refused.
+    Refused(Refusal),
+}
+
+impl Outcome {
+    /// Whether the statement is refused.
+    pub fn is_refusal(&self) -> bool
+        ensures { result ≡ is_refusal self.now }
+    {
+        matches!(self, Outcome::Refused(_))
+    }
+}
+
+/// The kind of a fault, as refusals name it.
+pub(crate) fn kind_of_fault(fault: Fault) -> FaultKind
+    ensures { result ≡ kind_of_fault fault }
+{
+    match fault {
+        Fault::TooManyRows => FaultKind::TooManyRows,
+        Fault::DivideByZero => FaultKind::DivideByZero,
+        Fault::NumberRange => FaultKind::NumberRange,
+    }
+}

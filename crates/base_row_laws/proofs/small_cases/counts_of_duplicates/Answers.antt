@@ -1,0 +1,5 @@
+use Rattle.std.proofs.Common.{refl}
+use Rattle.base_row_laws.proofs.small_cases.counts_of_duplicates.Goals as goal
+
+pub returns : goal.returns
+returns c = (refl, refl, refl)

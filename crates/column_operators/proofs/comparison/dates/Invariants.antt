@@ -1,7 +1,0 @@
-use Rattle.std.proofs.Common.{◌≡◌, take}
-use Rattle.column_operators.specs.Exact.{dates_compared}
-use Rattle.column_operators.specs.Zips.{zip_with}
-use Rattle.column_operators.proofs.comparison.dates.Given as goal
-
-abbrev pub invariant-loop-i : goal.invariant-loop-i
-invariant-loop-i l = l.truths.items ≡ zip_with (dates_compared l.comparison) (take l.i l.xs) (take l.i l.ys)

@@ -1,7 +1,0 @@
-use Rattle.std.proofs.Common.{◌≡◌, take}
-use Rattle.sql_value.specs.Truth.{lesser}
-use Rattle.column_operators.specs.Zips.{zip_with}
-use Rattle.column_operators.proofs.truths.both.Given as goal
-
-abbrev pub invariant-loop-i : goal.invariant-loop-i
-invariant-loop-i l = l.truths.items ≡ zip_with lesser (take l.i l.a) (take l.i l.b)

@@ -1,6 +1,0 @@
-use Rattle.std.proofs.Common.{◌≡◌, take, map}
-use Rattle.operators.specs.Operators.{negative}
-use Rattle.column_operators.proofs.values.negative_column.Given as goal
-
-abbrev pub invariant-loop-i : goal.invariant-loop-i
-invariant-loop-i l = l.values.items ≡ map negative (take l.i l.a)

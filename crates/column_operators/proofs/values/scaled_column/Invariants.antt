@@ -1,6 +1,0 @@
-use Rattle.std.proofs.Common.{◌≡◌, take, map}
-use Rattle.operators.specs.Operators.{at_scale}
-use Rattle.column_operators.proofs.values.scaled_column.Given as goal
-
-abbrev pub invariant-loop-i : goal.invariant-loop-i
-invariant-loop-i l = l.values.items ≡ map (at_scale l.scale) (take l.i l.a)

@@ -1,4 +1,0 @@
-use Rattle.column_tests.proofs.trees_called.tables_are_put_and_scanned.Given as goal
-
-abbrev pub ghosts-scanned : goal.ghosts-scanned
-ghosts-scanned g a = record { name = a.blank.name; parts = a.blank.parts }

@@ -1,7 +1,0 @@
-use Rattle.std.proofs.Common.{◌≡◌, take}
-use Rattle.columns.specs.Lists.{one_list}
-use Rattle.columns.specs.Tables.{standing_rows}
-use Rattle.columns.proofs.bag.Bag.from_rows.Given as goal
-
-abbrev pub invariant-loop-segment : goal.invariant-loop-segment
-invariant-loop-segment l = (l.bag.width ≡ l.width) × (l.bag.rows ≡ standing_rows (one_list (take l.segment-index l.segments)))

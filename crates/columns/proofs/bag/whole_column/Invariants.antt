@@ -1,7 +1,0 @@
-use Rattle.std.proofs.Common.{◌≡◌, take}
-use Rattle.columns.specs.Bags.{bag_rows}
-use Rattle.columns.specs.Batches.{column_at}
-use Rattle.columns.proofs.bag.whole_column.Given as goal
-
-abbrev pub invariant-loop-batch : goal.invariant-loop-batch
-invariant-loop-batch l = l.whole ≡ column_at (bag_rows (take l.batch-index l.batches)) l.j

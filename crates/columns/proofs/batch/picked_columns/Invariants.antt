@@ -1,6 +1,0 @@
-use Rattle.std.proofs.Common.{◌≡◌, [], take}
-use Rattle.columns.specs.Lists.{gathered}
-use Rattle.columns.proofs.batch.picked_columns.Given as goal
-
-abbrev pub invariant-loop-place : goal.invariant-loop-place
-invariant-loop-place l = l.picked.items ≡ gathered [] l.columns (take l.place-index l.places)

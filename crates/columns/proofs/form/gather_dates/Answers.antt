@@ -1,8 +1,0 @@
-use Rattle.std.proofs.Common.{◌∙◌, ap, map}
-use Rattle.sql_value.specs.declared.value.Value.TheVariants.{Null, Date}
-use Rattle.columns.proofs.ColumnLists.{map-gathered}
-use Rattle.columns.proofs.form.gather_dates.Goals as goal
-
-pub returns : goal.returns
-returns c =
-    ap (map (Date)) (c.in_ok-dates.ensures 0) ∙ map-gathered (Date) 0 Null c.args.dates.now c.args.places.now c.requires

@@ -1,6 +1,0 @@
-use Rattle.std.proofs.Common.{take}
-use Rattle.conditions.specs.Ranks.{AreRenamed}
-use Rattle.conditions.proofs.conjuncts.renamed_all.Given as goal
-
-abbrev pub invariant-loop-e : goal.invariant-loop-e
-invariant-loop-e l = AreRenamed l.places (take l.e-index l.es) l.all

@@ -1,6 +1,0 @@
-use Rattle.std.proofs.Common.{take}
-use Rattle.conditions.specs.Ranks.{IsBelowAny}
-use Rattle.conditions.proofs.factors.is_common.Given as goal
-
-abbrev pub invariant-loop-part : goal.invariant-loop-part
-invariant-loop-part l = IsBelowAny l.e (take l.part-index l.parts)

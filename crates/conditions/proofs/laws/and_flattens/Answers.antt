@@ -1,5 +1,0 @@
-use Rattle.conditions.proofs.Truths.{and_flattens}
-use Rattle.conditions.proofs.laws.and_flattens.Goals as goal
-
-pub returns : goal.returns
-returns c = and_flattens

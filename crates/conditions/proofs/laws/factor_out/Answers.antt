@@ -1,5 +1,0 @@
-use Rattle.conditions.proofs.Truths.{factor_out}
-use Rattle.conditions.proofs.laws.factor_out.Goals as goal
-
-pub returns : goal.returns
-returns c = factor_out

@@ -1,5 +1,0 @@
-use Rattle.conditions.proofs.Truths.{or_flattens}
-use Rattle.conditions.proofs.laws.or_flattens.Goals as goal
-
-pub returns : goal.returns
-returns c = or_flattens

@@ -1,9 +1,0 @@
-use Rattle.std.proofs.Common.{◌≡◌, ◌+◌, ◌*◌, arith}
-use Rattle.data_maker.proofs.Steps.{all_pushed, line_pushed}
-use Rattle.data_maker.proofs.customer.customer_text.Goals as goal
-
-pub loop-key-preserved : goal.loop-key-preserved
-loop-key-preserved c = line_pushed _ _ _ _ _ _ c.loop-key-test.true c.loop-key.invariant c.in_ok-push_customer.ensures
-
-pub returns : goal.returns
-returns c = let done : c.loop-key.key ≡ 15 * c.args.number + 1 = omega arith in all_pushed _ _ _ _ _ done c.loop-key.invariant

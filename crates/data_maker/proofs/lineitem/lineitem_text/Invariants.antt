@@ -1,6 +1,0 @@
-use Rattle.std.proofs.Common.{◌≡◌, ◌++◌}
-use Rattle.data_maker.specs.Lines.{lines, order_lineitems}
-use Rattle.data_maker.proofs.lineitem.lineitem_text.Given as goal
-
-abbrev pub invariant-loop-key : goal.invariant-loop-key
-invariant-loop-key l = l.text.items ++ lines (order_lineitems l.number) l.key l.end ≡ lines (order_lineitems l.number) l.first l.end

@@ -1,6 +1,0 @@
-use Rattle.std.proofs.Common.{◌≡◌, ◌++◌}
-use Rattle.data_maker.specs.Lines.{lines, part_line}
-use Rattle.data_maker.proofs.part.part_text.Given as goal
-
-abbrev pub invariant-loop-key : goal.invariant-loop-key
-invariant-loop-key l = l.text.items ++ lines (part_line l.number) l.key l.key-end ≡ lines (part_line l.number) 1 l.key-end

@@ -1,6 +1,0 @@
-use Rattle.std.proofs.Common.{◌≡◌, ◌++◌}
-use Rattle.data_maker.specs.Lines.{lines, nation_line}
-use Rattle.data_maker.proofs.places.nation_text.Given as goal
-
-abbrev pub invariant-loop-key : goal.invariant-loop-key
-invariant-loop-key l = l.text.items ++ lines nation_line l.key 25 ≡ lines nation_line 0 25

@@ -1,6 +1,0 @@
-use Rattle.std.proofs.Common.{◌≡◌, ◌++◌}
-use Rattle.data_maker.specs.Lines.{lines, region_line}
-use Rattle.data_maker.proofs.places.region_text.Given as goal
-
-abbrev pub invariant-loop-key : goal.invariant-loop-key
-invariant-loop-key l = l.text.items ++ lines region_line l.key 5 ≡ lines region_line 0 5

@@ -1,9 +1,0 @@
-use Rattle.std.proofs.Common.{[], subst, sym}
-use Rattle.dependent_plan.specs.Supplied.{QueryIsSupplied}
-use Rattle.dependent_plan.proofs.SuppliedClauses.{whole_supplied}
-use Rattle.dependent_plan.proofs.tree.depend.Goals as goal
-
-pub depend_under-requires : goal.depend_under-requires
-depend_under-requires c =
-    subst (λ z. QueryIsSupplied z []) (sym c.get.ensures)
-    (whole_supplied c.args.query.now.block [] c.requires.0 c.requires.1)

@@ -1,0 +1,93 @@
+//! Truths of rows, row by row.
+ghost use Rattle.std.specs.Prelude.{◌≡◌, IfOk, length, map};
+ghost use Rattle.base_value.specs.Truth.{lesser, greater, negated};
+ghost use Rattle.expr_operators.specs.Operators.{liked, null_test, truth_of_mark};
+ghost use Rattle.exec_column_operators.specs.Zips.{zip_with};
+
+use crate::texts::liked_codes;
+use base_columns::Column;
+use base_text::Text;
+use base_value::Truth;
+use expr_operators::{liked, null_test, truth_of_mark};
+use std::alloc::{AllocError, Global};
+
+/// AND, row by row.
+pub fn both(alloc: Global, a: &[Truth], b: &[Truth]) -> Result<Vec<Truth>, AllocError>
+    requires { length a.now ≡ length b.now }
+    ensures { IfOk result (λ v. v.items ≡ zip_with lesser a.now b.now) }
+{
+    let mut truths = Vec::with_capacity(alloc, a.len())?;
+    for i in 0..a.len() {
+        truths.push(a[i].and(b[i]))?;
+    }
+    Ok(truths)
+}
+
+/// OR, row by row.
+pub fn either(alloc: Global, a: &[Truth], b: &[Truth]) -> Result<Vec<Truth>, AllocError>
+    requires { length a.now ≡ length b.now }
+    ensures { IfOk result (λ v. v.items ≡ zip_with greater a.now b.now) }
+{
+    let mut truths = Vec::with_capacity(alloc, a.len())?;
+    for i in 0..a.len() {
+        truths.push(a[i].or(b[i]))?;
+    }
+    Ok(truths)
+}
+
+/// NOT, row by row.
+pub fn negated_truths(alloc: Global, a: &[Truth]) -> Result<Vec<Truth>, AllocError>
+    ensures { IfOk result (λ v. v.items ≡ map negated a.now) }
+{
+    let mut truths = Vec::with_capacity(alloc, a.len())?;
+    for truth in a {
+        truths.push(truth.negated())?;
+    }
+    Ok(truths)
+}
+
+/// LIKE, row by row.
+pub fn liked_column(alloc: Global, a: &Column, pattern: &Text) -> Result<Vec<Truth>, AllocError>
+    ensures { IfOk result (λ v. v.items ≡ map (liked pattern.now) a.now) }
+{
+    match liked_codes(alloc, a, pattern)? {
+        Some(truths) => Ok(truths),
+        None => liked_values(alloc, a, pattern),
+    }
+}
+
+// The same, value by value.
+fn liked_values(alloc: Global, a: &Column, pattern: &Text) -> Result<Vec<Truth>, AllocError>
+    ensures { IfOk result (λ v. v.items ≡ map (liked pattern.now) a.now) }
+{
+    let mut truths = Vec::with_capacity(alloc, a.len())?;
+    for i in 0..a.len() {
+        let x = a.at(alloc, i)?;
+        truths.push(liked(&x, pattern))?;
+    }
+    Ok(truths)
+}
+
+/// IS NULL, row by row.
+pub fn null_tests(alloc: Global, a: &Column) -> Result<Vec<Truth>, AllocError>
+    ensures { IfOk result (λ v. v.items ≡ map null_test a.now) }
+{
+    let mut truths = Vec::with_capacity(alloc, a.len())?;
+    for i in 0..a.len() {
+        let x = a.at(alloc, i)?;
+        truths.push(null_test(&x))?;
+    }
+    Ok(truths)
+}
+
+/// The truths that marks stand for, row by row.
+pub fn marked_truths(alloc: Global, a: &Column) -> Result<Vec<Truth>, AllocError>
+    ensures { IfOk result (λ v. v.items ≡ map truth_of_mark a.now) }
+{
+    let mut truths = Vec::with_capacity(alloc, a.len())?;
+    for i in 0..a.len() {
+        let x = a.at(alloc, i)?;
+        truths.push(truth_of_mark(&x))?;
+    }
+    Ok(truths)
+}

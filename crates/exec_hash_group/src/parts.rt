@@ -1,0 +1,116 @@
+//! Groups of the parts of rows, and how those of all parts are put together.
+ghost use Rattle.std.specs.Prelude.{◌≡◌, IfOk};
+ghost use Rattle.std.specs.List.{All};
+ghost use Rattle.base_columns.specs.Bags.{bag_rows, AreWide};
+ghost use Rattle.exec_hash_group.specs.PartGroups.{IsGrouped, part_keys, AreMerged};
+
+use crate::group_by::{Groups, groups_of};
+use crate::grouping::all_places;
+use crate::part::GroupedPart;
+use crate::standings::{least_standings, row_standings};
+use crate::workers::OneThread;
+use base_columns::{Bag, Batch, Column};
+use base_value::Standing;
+use std::alloc::{AllocError, Global};
+
+/// The groups of all parts: columns of their keys, the least standings of their rows, the number
+/// of each part's groups among them, and how many there are.
+#[derive(Drop)]
+pub struct MergedGroups {
+    /// The keys, column by column.
+    pub keys: Vec<Column>,
+    /// The least standing of each group's rows.
+    pub least: Vec<Standing>,
+    /// The groups to which those of the parts belong, one part after the other.
+    pub numbers: Vec<u32>,
+    /// How many groups there are.
+    pub count: usize,
+}
+
+// The rows of batches of that width as a bag, which shares their columns.
+fn shared_bag(alloc: Global, width: usize, batches: &[Batch]) -> Result<Bag, AllocError>
+    requires { AreWide width batches.now }
+    ensures { IfOk result (λ b. b.rows ≡ bag_rows batches.now) }
+{
+    let mut bag = Bag::new(alloc, width);
+    for batch in batches {
+        let shared = batch.share(alloc)?;
+        bag.push(shared)?;
+    }
+    Ok(bag)
+}
+
+/// A part of rows, in batches of that width, with its groups by these columns. 2^32 rows or more
+/// are an error, as memory that isn't there.
+pub fn grouped_part(
+    alloc: Global,
+    width: usize,
+    batches: &[Batch],
+    by: &[u32],
+) -> Result<GroupedPart, AllocError>
+    requires { AreWide width batches.now }
+    ensures { IfOk result (λ p. (p.rows.rows ≡ bag_rows batches.now) × IsGrouped by.now p) }
+{
+    let rows = shared_bag(alloc, width, batches)?;
+    if rows.len() > u32::MAX as usize {
+        return Err(AllocError);
+    }
+    let Groups {
+        keys,
+        numbers,
+        count,
+    } = groups_of(&OneThread, alloc, &rows, by)?;
+    let standings = row_standings(alloc, &rows)?;
+    let least = least_standings(alloc, standings.as_slice(), numbers.as_slice(), count)?;
+    let keys = Batch::of(keys, least);
+    Ok(GroupedPart {
+        rows,
+        numbers,
+        keys,
+    })
+}
+
+// The keys of all parts' groups, of `width` columns.
+fn keys_bag(alloc: Global, width: usize, parts: &[GroupedPart]) -> Result<Bag, AllocError>
+    requires { All (λ p. p.keys.width ≡ width) parts.now }
+    ensures width { IfOk result (λ b. b.width ≡ width) }
+    ensures rows { IfOk result (λ b. b.rows ≡ part_keys parts.now) }
+{
+    let mut bag = Bag::new(alloc, width);
+    for part in parts {
+        let keys = part.keys.share(alloc)?;
+        bag.push(keys)?;
+    }
+    Ok(bag)
+}
+
+/// The groups by these columns of the rows of all parts, from the parts' groups. 2^32 groups of
+/// parts or more are an error, as memory that isn't there.
+pub fn merged_groups(
+    alloc: Global,
+    parts: &[GroupedPart],
+    by: &[u32],
+) -> Result<MergedGroups, AllocError>
+    requires { All (IsGrouped by.now) parts.now }
+    ensures { IfOk result (λ m. AreMerged by.now parts.now m.keys.items m.least.items
+        m.numbers.items m.count) }
+{
+    let entries = keys_bag(alloc, by.len(), parts)?;
+    if entries.len() > u32::MAX as usize {
+        return Err(AllocError);
+    }
+    let places = all_places(alloc, &entries)?;
+    let Groups {
+        keys,
+        numbers,
+        count,
+    } = groups_of(&OneThread, alloc, &entries, places.as_slice())?;
+    let standings = row_standings(alloc, &entries)?;
+    let least = least_standings(alloc, standings.as_slice(), numbers.as_slice(), count)?;
+    Ok(MergedGroups {
+        keys,
+        least,
+        numbers,
+        count,
+    })
+}

@@ -1,6 +1,0 @@
-use Rattle.std.proofs.Common.{◌≡◌, take}
-use Rattle.hash_group.specs.Keys.{key_columns}
-use Rattle.hash_group.proofs.grouping.key_columns.Given as goal
-
-abbrev pub invariant-loop-j : goal.invariant-loop-j
-invariant-loop-j l = l.columns.items ≡ key_columns l.bag.rows (take l.j-index l.by)

@@ -1,5 +1,0 @@
-use Rattle.hash_group.proofs.Grouped.{distinct_by_numbers}
-use Rattle.hash_group.proofs.laws.distinct_by_numbers.Goals as goal
-
-pub returns : goal.returns
-returns g c = distinct_by_numbers

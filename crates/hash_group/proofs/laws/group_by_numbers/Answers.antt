@@ -1,5 +1,0 @@
-use Rattle.hash_group.proofs.Grouped.{group_by_numbers}
-use Rattle.hash_group.proofs.laws.group_by_numbers.Goals as goal
-
-pub returns : goal.returns
-returns g c = group_by_numbers

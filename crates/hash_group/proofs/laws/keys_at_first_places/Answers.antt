@@ -1,5 +1,0 @@
-use Rattle.hash_group.proofs.Grouped.{keys_at_first_places}
-use Rattle.hash_group.proofs.laws.keys_at_first_places.Goals as goal
-
-pub returns : goal.returns
-returns g c = keys_at_first_places

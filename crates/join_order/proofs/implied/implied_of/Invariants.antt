@@ -1,5 +1,0 @@
-use Rattle.join_order.specs.Implied.{AreImplied}
-use Rattle.join_order.proofs.implied.implied_of.Given as goal
-
-abbrev pub invariant-loop-input : goal.invariant-loop-input
-invariant-loop-input l = AreImplied l.es l.all

@@ -1,5 +1,0 @@
-use Rattle.nested_query.proofs.KeepsLaw.{keeps_kinds}
-use Rattle.nested_query.proofs.laws.well_typed_keeps_its_kinds.Goals as goal
-
-pub returns : goal.returns
-returns c = keeps_kinds

@@ -1,4 +1,0 @@
-use Rattle.parallel_scan.proofs.kept.keep_few.Given as goal
-
-abbrev pub invariant-loop-truth : goal.invariant-loop-truth
-invariant-loop-truth l = Unit {0}

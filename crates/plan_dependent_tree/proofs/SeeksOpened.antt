@@ -1,0 +1,185 @@
+-- What the parts of a query read of the rows around, at each node.
+use Rattle.std.proofs.Common.{◌≡◌, ℕ, List, map, ap, ◌∙◌}
+use Rattle.expr_aggregates.specs.declared.function.AggregateFunction.{AggregateFunction}
+use Rattle.base_schema.specs.declared.table.TableName.{TableName}
+use Rattle.sql_bound_query.specs.declared.query.BoundAggregate.{BoundAggregate, out-BoundAggregate}
+use Rattle.sql_bound_query.specs.declared.query.BoundAggregate.TheVariants as aggregate
+use Rattle.sql_bound_query.specs.declared.query.BoundAggregate.TheOpen as node
+use Rattle.sql_bound_query.specs.declared.query.BoundAggregate.TheFolds.{fold_out-BoundAggregate}
+use Rattle.sql_bound_query.specs.declared.query.BoundAggregate.TheFolds.{fold_out-BoundBlock}
+use Rattle.sql_bound_query.specs.declared.query.BoundAggregate.TheFolds.{fold_out-BoundSource}
+use Rattle.sql_bound_query.specs.declared.query.BoundAggregate.TheFolds.{fold_out-Input}
+use Rattle.sql_bound_query.specs.declared.query.BoundAggregate.TheFolds.{fold_out-BoundExpr}
+use Rattle.sql_bound_query.specs.declared.query.BoundAggregate.TheFolds.{map-BoundAggregate}
+use Rattle.sql_bound_query.specs.declared.query.BoundAggregate.TheFolds.{map-BoundBlock}
+use Rattle.sql_bound_query.specs.declared.query.BoundAggregate.TheFolds.{map-BoundSource, map-Input}
+use Rattle.sql_bound_query.specs.declared.query.BoundAggregate.TheFolds.{map-BoundExpr}
+use Rattle.sql_bound_query.specs.declared.query.BoundBlock.{BoundBlock, out-BoundBlock}
+use Rattle.sql_bound_query.specs.declared.query.BoundBlock.TheVariants as block
+use Rattle.sql_bound_query.specs.declared.query.BoundExpr.{BoundExpr, out-BoundExpr}
+use Rattle.sql_bound_query.specs.declared.query.BoundSource.{BoundSource, out-BoundSource}
+use Rattle.sql_bound_query.specs.declared.query.BoundSource.TheVariants as source
+use Rattle.sql_bound_query.specs.declared.query.Input.{Input, out-Input}
+use Rattle.sql_bound_query.specs.declared.query.Input.TheVariants as input
+use Rattle.plan_dependent_tree.specs.Seeks.{Seeks, aggregate_seeks, block_seeks, source_seeks}
+use Rattle.plan_dependent_tree.specs.Seeks.{input_seeks, expr_seeks, seeks_of, seeks_of_source}
+use Rattle.plan_dependent_tree.specs.Seeks.{seeks_of_input, seeks_of_expr, seeks_of_aggregate}
+
+unfoldable pub seeks_of_aggregate_at : node.BoundAggregate-F BoundAggregate BoundBlock BoundSource
+    Input BoundExpr → Seeks
+seeks_of_aggregate_at x =
+    aggregate_seeks (map-BoundAggregate BoundAggregate BoundBlock BoundSource Input BoundExpr
+    Seeks Seeks Seeks Seeks Seeks seeks_of_aggregate seeks_of seeks_of_source seeks_of_input
+    seeks_of_expr x)
+
+pub seeks_of_aggregate_is : (x : BoundAggregate)
+    → seeks_of_aggregate x ≡ seeks_of_aggregate_at (out-BoundAggregate x)
+unfolding seeks_of_aggregate seeks_of seeks_of_source seeks_of_input seeks_of_expr
+    seeks_of_aggregate_at
+seeks_of_aggregate_is =
+    fold_out-BoundAggregate Seeks Seeks Seeks Seeks Seeks aggregate_seeks block_seeks
+    source_seeks input_seeks expr_seeks
+
+unfoldable pub seeks_of_at : node.BoundBlock-F BoundAggregate BoundBlock BoundSource Input BoundExpr
+    → Seeks
+seeks_of_at x = block_seeks
+    (map-BoundBlock BoundAggregate BoundBlock BoundSource Input BoundExpr Seeks Seeks Seeks
+    Seeks Seeks seeks_of_aggregate seeks_of seeks_of_source seeks_of_input seeks_of_expr x)
+
+pub seeks_of_is : (x : BoundBlock) → seeks_of x ≡ seeks_of_at (out-BoundBlock x)
+unfolding seeks_of_aggregate seeks_of seeks_of_source seeks_of_input seeks_of_expr seeks_of_at
+seeks_of_is = fold_out-BoundBlock Seeks Seeks Seeks Seeks Seeks aggregate_seeks block_seeks
+    source_seeks input_seeks expr_seeks
+
+unfoldable pub seeks_of_source_at : node.BoundSource-F BoundAggregate BoundBlock BoundSource Input
+    BoundExpr → Seeks
+seeks_of_source_at x = source_seeks
+    (map-BoundSource BoundAggregate BoundBlock BoundSource Input BoundExpr Seeks Seeks Seeks
+    Seeks Seeks seeks_of_aggregate seeks_of seeks_of_source seeks_of_input seeks_of_expr x)
+
+pub seeks_of_source_is : (x : BoundSource)
+    → seeks_of_source x ≡ seeks_of_source_at (out-BoundSource x)
+unfolding seeks_of_aggregate seeks_of seeks_of_source seeks_of_input seeks_of_expr
+    seeks_of_source_at
+seeks_of_source_is = fold_out-BoundSource Seeks Seeks Seeks Seeks Seeks aggregate_seeks
+    block_seeks source_seeks input_seeks expr_seeks
+
+unfoldable pub seeks_of_input_at : node.Input-F BoundAggregate BoundBlock BoundSource Input
+    BoundExpr → Seeks
+seeks_of_input_at x = input_seeks
+    (map-Input BoundAggregate BoundBlock BoundSource Input BoundExpr Seeks Seeks Seeks Seeks
+    Seeks seeks_of_aggregate seeks_of seeks_of_source seeks_of_input seeks_of_expr x)
+
+pub seeks_of_input_is : (x : Input) → seeks_of_input x ≡ seeks_of_input_at (out-Input x)
+unfolding seeks_of_aggregate seeks_of seeks_of_source seeks_of_input seeks_of_expr
+    seeks_of_input_at
+seeks_of_input_is = fold_out-Input Seeks Seeks Seeks Seeks Seeks aggregate_seeks block_seeks
+    source_seeks input_seeks expr_seeks
+
+unfoldable pub seeks_of_expr_at : node.BoundExpr-F BoundAggregate BoundBlock BoundSource Input
+    BoundExpr → Seeks
+seeks_of_expr_at x = expr_seeks
+    (map-BoundExpr BoundAggregate BoundBlock BoundSource Input BoundExpr Seeks Seeks Seeks Seeks
+    Seeks seeks_of_aggregate seeks_of seeks_of_source seeks_of_input seeks_of_expr x)
+
+pub seeks_of_expr_is : (x : BoundExpr) → seeks_of_expr x ≡ seeks_of_expr_at (out-BoundExpr x)
+unfolding seeks_of_aggregate seeks_of seeks_of_source seeks_of_input seeks_of_expr
+    seeks_of_expr_at
+seeks_of_expr_is = fold_out-BoundExpr Seeks Seeks Seeks Seeks Seeks aggregate_seeks
+    block_seeks source_seeks input_seeks expr_seeks
+
+pub seeks_Column : (level : ℕ) (place : ℕ)
+    → seeks_of_input (input.Column level place) ≡ input_seeks (node.Column level place)
+unfolding seeks_of_input_at
+seeks_Column level place = seeks_of_input_is (input.Column level place)
+    ∙ ap seeks_of_input_at (input.outs-Column level place)
+
+pub seeks_Exists : (q : BoundBlock)
+    → seeks_of_input (input.Exists q) ≡ input_seeks (node.Exists (seeks_of q))
+unfolding seeks_of_input_at
+seeks_Exists q = seeks_of_input_is (input.Exists q) ∙ ap seeks_of_input_at (input.outs-Exists q)
+
+pub seeks_In : (e : BoundExpr) (q : BoundBlock)
+    → seeks_of_input (input.In e q) ≡ input_seeks (node.In (seeks_of_expr e) (seeks_of q))
+unfolding seeks_of_input_at
+seeks_In e q = seeks_of_input_is (input.In e q) ∙ ap seeks_of_input_at (input.outs-In e q)
+
+pub seeks_Scalar : (q : BoundBlock)
+    → seeks_of_input (input.Scalar q) ≡ input_seeks (node.Scalar (seeks_of q))
+unfolding seeks_of_input_at
+seeks_Scalar q = seeks_of_input_is (input.Scalar q) ∙ ap seeks_of_input_at (input.outs-Scalar q)
+
+pub seeks_CountRows : seeks_of_aggregate aggregate.CountRows ≡ aggregate_seeks node.CountRows
+unfolding seeks_of_aggregate_at
+seeks_CountRows = seeks_of_aggregate_is aggregate.CountRows
+    ∙ ap seeks_of_aggregate_at aggregate.outs-CountRows
+
+pub seeks_Of : (function : AggregateFunction) (scale : ℕ) (argument : BoundExpr)
+    → seeks_of_aggregate (aggregate.Of function scale argument)
+    ≡ aggregate_seeks (node.Of function scale (seeks_of_expr argument))
+unfolding seeks_of_aggregate_at
+seeks_Of function scale argument = seeks_of_aggregate_is (aggregate.Of function scale argument)
+    ∙ ap seeks_of_aggregate_at (aggregate.outs-Of function scale argument)
+
+pub seeks_Table : (t : TableName) → seeks_of_source (source.Table t) ≡ source_seeks (node.Table t)
+unfolding seeks_of_source_at
+seeks_Table t = seeks_of_source_is (source.Table t) ∙ ap seeks_of_source_at (source.outs-Table t)
+
+pub seeks_Derived : (q : BoundBlock)
+    → seeks_of_source (source.Derived q) ≡ source_seeks (node.Derived (seeks_of q))
+unfolding seeks_of_source_at
+seeks_Derived q = seeks_of_source_is (source.Derived q)
+    ∙ ap seeks_of_source_at (source.outs-Derived q)
+
+pub seeks_Cross : (a : BoundSource) (b : BoundSource)
+    → seeks_of_source (source.Cross a b)
+    ≡ source_seeks (node.Cross (seeks_of_source a) (seeks_of_source b))
+unfolding seeks_of_source_at
+seeks_Cross a b = seeks_of_source_is (source.Cross a b)
+    ∙ ap seeks_of_source_at (source.outs-Cross a b)
+
+pub seeks_Inner : (a : BoundSource) (b : BoundSource) (on : BoundExpr)
+    → seeks_of_source (source.Inner a b on)
+    ≡ source_seeks (node.Inner (seeks_of_source a) (seeks_of_source b) (seeks_of_expr on))
+unfolding seeks_of_source_at
+seeks_Inner a b on = seeks_of_source_is (source.Inner a b on)
+    ∙ ap seeks_of_source_at (source.outs-Inner a b on)
+
+pub seeks_Outer : (a : BoundSource) (b : BoundSource) (width : ℕ) (on : BoundExpr)
+    → seeks_of_source (source.Outer a b width on)
+    ≡ source_seeks (node.Outer (seeks_of_source a) (seeks_of_source b) width (seeks_of_expr on))
+unfolding seeks_of_source_at
+seeks_Outer a b width on = seeks_of_source_is (source.Outer a b width on)
+    ∙ ap seeks_of_source_at (source.outs-Outer a b width on)
+
+pub seeks_Plain : (from : BoundSource) (condition : BoundExpr) (list : List BoundExpr)
+    → seeks_of (block.Plain from condition list)
+    ≡ block_seeks (node.Plain (seeks_of_source from) (seeks_of_expr condition)
+    (map seeks_of_expr list))
+unfolding seeks_of_at
+seeks_Plain from condition list = seeks_of_is (block.Plain from condition list)
+    ∙ ap seeks_of_at (block.outs-Plain from condition list)
+
+pub seeks_Grouped : (from : BoundSource) (condition : BoundExpr) (keys : List ℕ)
+    (aggregates : List BoundAggregate) (having : BoundExpr) (list : List BoundExpr)
+    → seeks_of (block.Grouped from condition keys aggregates having list)
+    ≡ block_seeks (node.Grouped (seeks_of_source from) (seeks_of_expr condition) keys
+    (map seeks_of_aggregate aggregates) (seeks_of_expr having) (map seeks_of_expr list))
+unfolding seeks_of_at
+seeks_Grouped from condition keys aggregates having list =
+    seeks_of_is (block.Grouped from condition keys aggregates having list)
+    ∙ ap seeks_of_at (block.outs-Grouped from condition keys aggregates having list)
+
+pub seeks_Distinct : (q : BoundBlock)
+    → seeks_of (block.Distinct q) ≡ block_seeks (node.Distinct (seeks_of q))
+unfolding seeks_of_at
+seeks_Distinct q = seeks_of_is (block.Distinct q) ∙ ap seeks_of_at (block.outs-Distinct q)
+
+pub seeks_expr : (e : BoundExpr)
+    → seeks_of_expr e ≡ expr_seeks
+    (record {
+      inputs = map seeks_of_input (out-BoundExpr e).inputs;
+      expr = (out-BoundExpr e).expr;
+    })
+unfolding seeks_of_expr_at
+seeks_expr e = seeks_of_expr_is e

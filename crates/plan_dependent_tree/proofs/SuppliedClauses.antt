@@ -1,0 +1,315 @@
+-- The clauses of a well-typed query are supplied where it is.
+use Rattle.std.proofs.Common.{◌≡◌, ℕ, zero, suc, ◌+◌, ◌-◌, ◌<◌, List, [], ◌∷◌, ◌++◌, Bool, true, false}
+use Rattle.std.proofs.Common.{◌&&◌, ◌||◌, ◌==◌, map, length, refl, sym, ap, ◌∙◌, subst, arith, get_or}
+use Rattle.std.specs.Prelude.{Option, Some, None, slice_get, slice_index_or, IsTrue}
+use Rattle.std.specs.List.{All}
+use Rattle.std.proofs.lemmas.Bool.Decides.{Decides-eqb}
+use Rattle.std.proofs.lemmas.List.{length-append, length-map}
+use Rattle.std.proofs.lemmas.List.Folds.{list_any_at}
+use Rattle.std.proofs.lemmas.Option.{slice_get_within}
+use Rattle.plan_algebra.specs.declared.aggregate.Aggregate.{Aggregate}
+use Rattle.expr_aggregates.specs.declared.function.AggregateFunction.{AggregateFunction}
+use Rattle.expr_scalar.specs.declared.expr.Expr.{Expr}
+use Rattle.expr_scalar.specs.declared.kind.Kind.{Kind}
+use Rattle.base_schema.specs.declared.table.TableName.{TableName}
+use Rattle.base_schema.specs.Tables.{kinds_of}
+use Rattle.sql_bound_query.specs.declared.query.BoundAggregate.{BoundAggregate}
+use Rattle.sql_bound_query.specs.declared.query.BoundAggregate.TheVariants as aggregate
+use Rattle.sql_bound_query.specs.declared.query.BoundBlock.{BoundBlock}
+use Rattle.sql_bound_query.specs.declared.query.BoundBlock.TheVariants as block
+use Rattle.sql_bound_query.specs.declared.query.BoundExpr.{BoundExpr}
+use Rattle.sql_bound_query.specs.declared.query.BoundSource.{BoundSource}
+use Rattle.sql_bound_query.specs.declared.query.BoundSource.TheVariants as source
+use Rattle.sql_bound_query.specs.declared.query.Input.{Input}
+use Rattle.sql_bound_query.specs.declared.query.Input.TheVariants as input
+use Rattle.sql_bound_query.specs.Typing.{EnvKinds, KindMeaning, KindsMeaning, ExprTyping, where_some}
+use Rattle.sql_bound_query.specs.Typing.{all_some, kind_of_sort, kind_of_column, column_kinds}
+use Rattle.sql_bound_query.specs.Typing.{listed_kinds, kind_of_aggregate, block_kinds, from_kinds}
+use Rattle.sql_bound_query.specs.Typing.{kind_of_input, typing_of}
+use Rattle.sql_bound_query.proofs.TypingOpened.{kind_Column, kinds_Table, kinds_Derived, kinds_Distinct}
+use Rattle.sql_bound_query.proofs.Keeps.{Found, some_of, some_is}
+use Rattle.plan_dependent_tree.specs.declared.sight.OuterColumn.{OuterColumn}
+use Rattle.plan_dependent_tree.specs.Seeks.{Seeks, any_seeks, has, seeks_of, seeks_of_source}
+use Rattle.plan_dependent_tree.specs.Seeks.{seeks_of_input, seeks_of_expr, seeks_of_aggregate}
+use Rattle.plan_dependent_tree.specs.Supplied.{IsSupplied, IsSuppliedOver, QueryIsSupplied}
+use Rattle.plan_dependent_tree.specs.Supplied.{SourceIsSupplied, SubqueryIsSupplied, InputIsSupplied}
+use Rattle.plan_dependent_tree.specs.Supplied.{InputsAreSupplied, ExprIsSupplied, ListIsSupplied}
+use Rattle.plan_dependent_tree.specs.Supplied.{AggregateIsSupplied, AggregatesAreSupplied, IsSeen}
+use Rattle.plan_dependent_tree.specs.Supplied.{AreSeen, IsWidthOf}
+use Rattle.plan_dependent_tree.proofs.SeeksOpened.{seeks_Column, seeks_Exists, seeks_In, seeks_Scalar}
+use Rattle.plan_dependent_tree.proofs.SeeksOpened.{seeks_Of, seeks_Cross, seeks_Inner, seeks_Outer}
+use Rattle.plan_dependent_tree.proofs.SeeksOpened.{seeks_Plain, seeks_Grouped, seeks_Distinct}
+use Rattle.plan_dependent_tree.proofs.SeeksOpened.{seeks_expr}
+use Rattle.plan_dependent_tree.proofs.TypedParts.{There, input_kinds, sort_inputs, exists_typed}
+use Rattle.plan_dependent_tree.proofs.TypedParts.{scalar_typed, InTyped, in_typed, of_typed, CrossTyped}
+use Rattle.plan_dependent_tree.proofs.TypedParts.{cross_typed, JoinTyped, inner_typed, OuterTyped}
+use Rattle.plan_dependent_tree.proofs.TypedParts.{outer_typed, PlainTyped, plain_typed, GroupedTyped}
+use Rattle.plan_dependent_tree.proofs.TypedParts.{grouped_typed}
+use Rattle.plan_dependent_tree.proofs.Within.{query_within}
+use Rattle.plan_dependent_tree.proofs.Supplies.{or_left, or_right, expr_supplied, list_supplied}
+use Rattle.plan_dependent_tree.proofs.Supplies.{aggregates_supplied, keys_within}
+
+-- ---- queries
+
+-- the kinds of a select list are as many
+length_all : {A : Type 0} (os : List (Option A)) (all : List A) → all_some os ≡ Some all
+    → length all ≡ length os
+length_all [] all e = ap length (sym (some_is [] all e))
+length_all {A} (o ∷ os) all e =
+    let f : Found o (λ a. where_some (all_some os) (λ rest. Some (a ∷ rest))) all =
+    some_of o (λ a. where_some (all_some os) (λ rest. Some (a ∷ rest))) all e in
+    let g : Found (all_some os) (λ rest. Some (f.it ∷ rest)) all =
+    some_of (all_some os) (λ rest. Some (f.it ∷ rest)) all f.gives in
+    ap length (sym (some_is (f.it ∷ g.it) all g.gives)) ∙ ap suc (length_all os g.it g.is)
+
+length_keys : (own : List Kind) (keys : List ℕ) (js : List Kind)
+    → all_some (map (slice_get own) keys) ≡ Some js → length js ≡ length keys
+length_keys own keys js e =
+    length_all (map (slice_get own) keys) js e ∙ length-map keys (slice_get own)
+
+length_kinds : (as' : List BoundAggregate) (kinds : EnvKinds) (ms : List Kind)
+    → all_some (map (λ (a : KindMeaning). a kinds) (map kind_of_aggregate as')) ≡ Some ms
+    → length ms ≡ length as'
+length_kinds as' kinds ms e =
+    length_all (map (λ (a : KindMeaning). a kinds) (map kind_of_aggregate as')) ms e
+    ∙ length-map (map kind_of_aggregate as') (λ (a : KindMeaning). a kinds)
+    ∙ length-map as' kind_of_aggregate
+
+length_listed : (es : List BoundExpr) (kinds : EnvKinds) (ks : List Kind)
+    → listed_kinds (map typing_of es) kinds ≡ Some ks → length ks ≡ length es
+length_listed es kinds ks e =
+    length_all (map (λ (t : ExprTyping). kind_of_sort (t.sort kinds)) (map typing_of es)) ks e
+    ∙ length-map (map typing_of es) (λ (t : ExprTyping). kind_of_sort (t.sort kinds))
+    ∙ length-map es typing_of
+
+module _ (outer : List OuterColumn) (c : BoundExpr) (es : List BoundExpr) {q : BoundBlock}
+    {f seen : BoundSource} (supplied : QueryIsSupplied q outer) (is : q ≡ block.Plain f c es)
+    (get : seen ≡ f) where
+  plain_parts : PlainTyped f c es supplied.around supplied.kinds
+  plain_parts = plain_typed f c es supplied.around supplied.kinds
+      (sym (ap (λ z. block_kinds z supplied.around) is) ∙ supplied.typed)
+
+  -- what the clauses read is among the columns
+  plain_there : (level place : ℕ)
+      → (seeks_of_source f level place || seeks_of_expr c (suc level) place
+      || any_seeks (map seeks_of_expr es) (suc level) place) ≡ true
+      → has outer level place ≡ true
+  plain_there level place e =
+      supplied.there level place
+      (ap (λ z. seeks_of z level place) is
+      ∙ ap (λ (m : Seeks). m level place) (seeks_Plain f c es) ∙ e)
+
+  pub plain_from_supplied : SourceIsSupplied seen outer
+  plain_from_supplied = subst (λ z. SourceIsSupplied z outer) (sym get) (record {
+    around = supplied.around;
+    kinds = plain_parts.own;
+    typed = plain_parts.from;
+    there = λ level place e.
+        plain_there level place
+        (or_left (seeks_of_source f level place || seeks_of_expr c (suc level) place)
+        (any_seeks (map seeks_of_expr es) (suc level) place)
+        (or_left (seeks_of_source f level place) (seeks_of_expr c (suc level) place) e));
+  })
+
+  module _ {w : ℕ} (width : IsWidthOf (from_kinds seen) w) where
+    plain_wide : w ≡ length plain_parts.own
+    plain_wide = width.is supplied.around plain_parts.own
+        (ap (λ z. from_kinds z supplied.around) get ∙ plain_parts.from)
+
+    pub plain_where_supplied : ExprIsSupplied c outer w
+    plain_where_supplied =
+        expr_supplied plain_parts.own supplied.around outer w plain_wide c plain_parts.condition
+        (λ level place e.
+        plain_there level place
+        (or_left (seeks_of_source f level place || seeks_of_expr c (suc level) place)
+        (any_seeks (map seeks_of_expr es) (suc level) place)
+        (or_right (seeks_of_source f level place) (seeks_of_expr c (suc level) place) e)))
+
+    pub plain_list_supplied : {list : List BoundExpr} → list ≡ es → ListIsSupplied list outer w
+    plain_list_supplied {list} same = subst (λ z. ListIsSupplied z outer w) (sym same)
+        (list_supplied plain_parts.own supplied.around outer w plain_wide es supplied.kinds
+        plain_parts.list
+        (λ level place e.
+        plain_there level place
+        (or_right (seeks_of_source f level place || seeks_of_expr c (suc level) place)
+        (any_seeks (map seeks_of_expr es) (suc level) place) e)))
+
+pub plain_width : (f : BoundSource) (c : BoundExpr) (exprs : List Expr) {q : BoundBlock}
+    {es list : List BoundExpr} {w : ℕ} → q ≡ block.Plain f c es → list ≡ es → length exprs ≡ length list
+    → w ≡ length exprs → IsWidthOf (block_kinds q) w
+plain_width f c exprs {q} {es} {list} {w} is same count wide = record {
+  is = λ around kinds e.
+      let t : PlainTyped f c es around kinds =
+      plain_typed f c es around kinds (sym (ap (λ z. block_kinds z around) is) ∙ e) in
+      wide ∙ count ∙ ap length same ∙ sym (length_listed es (t.own ∷ around) kinds t.list);
+}
+
+-- one of the five
+five_first : (a b c d e : Bool) → a ≡ true → (a || b || c || d || e) ≡ true
+five_first true b c d e h = refl
+five_first false b c d e h = cc
+
+five_second : (a b c d e : Bool) → b ≡ true → (a || b || c || d || e) ≡ true
+five_second true b c d e h = refl
+five_second false true c d e h = refl
+five_second false false c d e h = cc
+
+five_third : (a b c d e : Bool) → c ≡ true → (a || b || c || d || e) ≡ true
+five_third a b true d e h = or_left (a || b || true || d) e (or_left (a || b || true) d
+    (or_right (a || b) true refl))
+five_third a b false d e h = cc
+
+five_fourth : (a b c d e : Bool) → d ≡ true → (a || b || c || d || e) ≡ true
+five_fourth a b c d e h = or_left (a || b || c || d) e (or_right (a || b || c) d h)
+
+module _ (outer : List OuterColumn) (c : BoundExpr) (keys : List ℕ) (as' : List BoundAggregate)
+    (h : BoundExpr) (es : List BoundExpr) {q : BoundBlock} {f seen : BoundSource}
+    (supplied : QueryIsSupplied q outer) (is : q ≡ block.Grouped f c keys as' h es)
+    (get : seen ≡ f) where
+  grouped_parts : GroupedTyped f c keys as' h es supplied.around supplied.kinds
+  grouped_parts = grouped_typed f c keys as' h es supplied.around supplied.kinds
+      (sym (ap (λ z. block_kinds z supplied.around) is) ∙ supplied.typed)
+
+  -- what the clauses read is among the columns
+  grouped_there : (level place : ℕ)
+      → (seeks_of_source f level place || seeks_of_expr c (suc level) place
+      || any_seeks (map seeks_of_aggregate as') (suc level) place
+      || seeks_of_expr h (suc level) place || any_seeks (map seeks_of_expr es) (suc level) place)
+      ≡ true
+      → has outer level place ≡ true
+  grouped_there level place e =
+      supplied.there level place
+      (ap (λ z. seeks_of z level place) is
+      ∙ ap (λ (m : Seeks). m level place) (seeks_Grouped f c keys as' h es) ∙ e)
+
+  pub grouped_from_supplied : SourceIsSupplied seen outer
+  grouped_from_supplied = subst (λ z. SourceIsSupplied z outer) (sym get) (record {
+    around = supplied.around;
+    kinds = grouped_parts.own;
+    typed = grouped_parts.from;
+    there = λ level place e.
+        grouped_there level place
+        (five_first (seeks_of_source f level place) (seeks_of_expr c (suc level) place)
+        (any_seeks (map seeks_of_aggregate as') (suc level) place)
+        (seeks_of_expr h (suc level) place)
+        (any_seeks (map seeks_of_expr es) (suc level) place) e);
+  })
+
+  module _ {w : ℕ} (width : IsWidthOf (from_kinds seen) w) where
+    grouped_wide : w ≡ length grouped_parts.own
+    grouped_wide = width.is supplied.around grouped_parts.own
+        (ap (λ z. from_kinds z supplied.around) get ∙ grouped_parts.from)
+
+    pub grouped_where_supplied : ExprIsSupplied c outer w
+    grouped_where_supplied =
+        expr_supplied grouped_parts.own supplied.around outer w grouped_wide c
+        grouped_parts.condition
+        (λ level place e.
+        grouped_there level place
+        (five_second (seeks_of_source f level place) (seeks_of_expr c (suc level) place)
+        (any_seeks (map seeks_of_aggregate as') (suc level) place)
+        (seeks_of_expr h (suc level) place)
+        (any_seeks (map seeks_of_expr es) (suc level) place) e))
+
+    pub grouped_keys_within : {read : List ℕ} → read ≡ keys → All (λ key. key < w) read
+    grouped_keys_within {read} same = subst (All (λ key. key < w)) (sym same)
+        (keys_within grouped_parts.own supplied.around outer w grouped_wide keys grouped_parts.js
+        grouped_parts.key_kinds)
+
+    pub grouped_aggregates_supplied : {all : List BoundAggregate} → all ≡ as'
+        → AggregatesAreSupplied all outer w
+    grouped_aggregates_supplied {all} same =
+        subst (λ z. AggregatesAreSupplied z outer w) (sym same)
+        (aggregates_supplied grouped_parts.own supplied.around outer w grouped_wide as'
+        grouped_parts.ms grouped_parts.aggregates
+        (λ level place e.
+        grouped_there level place
+        (five_third (seeks_of_source f level place) (seeks_of_expr c (suc level) place)
+        (any_seeks (map seeks_of_aggregate as') (suc level) place)
+        (seeks_of_expr h (suc level) place)
+        (any_seeks (map seeks_of_expr es) (suc level) place) e)))
+
+  -- over the rows of groups
+  module _ (places : List ℕ) (gs : List Aggregate) {v : ℕ} {read : List ℕ}
+      {all : List BoundAggregate}
+      (same_keys : read ≡ keys) (keys_count : length places ≡ length read) (same_all : all ≡ as')
+      (all_count : length gs ≡ length all) (wide : v ≡ length places + length gs) where
+    group_wide : v ≡ length (grouped_parts.js ++ grouped_parts.ms)
+    group_wide =
+        wide ∙ ap (λ n. n + length gs) (keys_count ∙ ap length same_keys
+        ∙ sym (length_keys grouped_parts.own keys grouped_parts.js grouped_parts.key_kinds))
+        ∙ ap (λ n. length grouped_parts.js + n) (all_count ∙ ap length same_all
+        ∙ sym (length_kinds as' (grouped_parts.own ∷ supplied.around) grouped_parts.ms
+        grouped_parts.aggregates))
+        ∙ sym (length-append grouped_parts.js grouped_parts.ms)
+
+    pub grouped_having_supplied : ExprIsSupplied h outer v
+    grouped_having_supplied =
+        expr_supplied (grouped_parts.js ++ grouped_parts.ms) supplied.around outer v group_wide h
+        grouped_parts.having
+        (λ level place e.
+        grouped_there level place
+        (five_fourth (seeks_of_source f level place) (seeks_of_expr c (suc level) place)
+        (any_seeks (map seeks_of_aggregate as') (suc level) place)
+        (seeks_of_expr h (suc level) place)
+        (any_seeks (map seeks_of_expr es) (suc level) place) e))
+
+    pub grouped_list_supplied : {list : List BoundExpr} → list ≡ es → ListIsSupplied list outer v
+    grouped_list_supplied {list} same = subst (λ z. ListIsSupplied z outer v) (sym same)
+        (list_supplied (grouped_parts.js ++ grouped_parts.ms) supplied.around outer v group_wide es
+        supplied.kinds grouped_parts.list
+        (λ level place e.
+        grouped_there level place
+        (or_right (seeks_of_source f level place || seeks_of_expr c (suc level) place
+        || any_seeks (map seeks_of_aggregate as') (suc level) place
+        || seeks_of_expr h (suc level) place)
+        (any_seeks (map seeks_of_expr es) (suc level) place) e)))
+
+pub grouped_width : (f : BoundSource) (c : BoundExpr) (keys : List ℕ) (as' : List BoundAggregate)
+    (h : BoundExpr) (exprs : List Expr) {q : BoundBlock} {es list : List BoundExpr} {w : ℕ} → q ≡ block.Grouped f c keys as' h es → list ≡ es → length exprs ≡ length list
+    → w ≡ length exprs → IsWidthOf (block_kinds q) w
+grouped_width f c keys as' h exprs {q} {es} {list} {w} is same count wide = record {
+  is = λ around kinds e.
+      let t : GroupedTyped f c keys as' h es around kinds =
+      grouped_typed f c keys as' h es around kinds
+      (sym (ap (λ z. block_kinds z around) is) ∙ e) in
+      wide ∙ count ∙ ap length same
+      ∙ sym (length_listed es ((t.js ++ t.ms) ∷ around) kinds t.list);
+}
+
+pub distinct_supplied : (outer : List OuterColumn) {q x seen : BoundBlock}
+    → QueryIsSupplied q outer → q ≡ block.Distinct x → seen ≡ x → QueryIsSupplied seen outer
+distinct_supplied outer {q} {x} {seen} supplied is get =
+    subst (λ z. QueryIsSupplied z outer) (sym get) (record {
+      around = supplied.around;
+      kinds = supplied.kinds;
+      typed = sym (ap (λ (m : KindsMeaning). m supplied.around) (kinds_Distinct x))
+          ∙ sym (ap (λ z. block_kinds z supplied.around) is) ∙ supplied.typed;
+      there = λ level place e.
+          supplied.there level place
+          (ap (λ z. seeks_of z level place) is
+          ∙ ap (λ (m : Seeks). m level place) (seeks_Distinct x) ∙ e);
+    })
+
+pub distinct_width : {q x seen : BoundBlock} {w v : ℕ} → q ≡ block.Distinct x → seen ≡ x
+    → IsWidthOf (block_kinds seen) w → v ≡ w → IsWidthOf (block_kinds q) v
+distinct_width {q} {x} {seen} {w} {v} is get width same = record {
+  is = λ around kinds e.
+      same ∙ width.is around kinds
+      (ap (λ z. block_kinds z around) get
+      ∙ sym (ap (λ (m : KindsMeaning). m around) (kinds_Distinct x))
+      ∙ sym (ap (λ z. block_kinds z around) is) ∙ e);
+}
+
+-- ---- whole queries
+
+-- a query that is well typed by itself reads nothing of any row around
+pub whole_supplied : (q : BoundBlock) (outer : List OuterColumn) (kinds : List Kind)
+    → block_kinds q [] ≡ Some kinds → QueryIsSupplied q outer
+whole_supplied q outer kinds e = record {
+  around = [];
+  kinds = kinds;
+  typed = e;
+  there = λ level place h.
+      absurd (let n : place < 0 = query_within q [] kinds e level place h in omega (arith, n));
+}

@@ -1,0 +1,450 @@
+use Rattle.std.proofs.Common.{◌≡◌, length, refl, rules, sym, ap, ◌∙◌, arith, ◌+◌, subst, ◌++◌, ◌∷◌}
+use Rattle.std.proofs.Common.{[], map, take}
+use Rattle.std.proofs.lemmas.List.{take_all}
+use Rattle.sql_bound_query.specs.Reads.{tables_of_input, tables_of_expr, tables_of_aggregate}
+use Rattle.sql_bound_query.specs.Reads.{joined_tables}
+use Rattle.plan_dependent_tree.specs.Growth.{Attaches, InputsAt, ListAt, AggregatesAt}
+use Rattle.plan_dependent_tree.proofs.PlaceLists.{length_put}
+use Rattle.plan_dependent_tree.specs.Growth.{IsPlain}
+use Rattle.plan_dependent_tree.proofs.InputTrees.{inputs_none, inputs_more, list_none, list_more}
+use Rattle.plan_dependent_tree.proofs.InputTrees.{aggregates_none, aggregates_more, functions_none}
+use Rattle.plan_dependent_tree.proofs.InputTrees.{functions_more, count_arm, of_arm, same_count, same_of}
+use Rattle.plan_dependent_tree.proofs.SeenArms.{column_seen, exists_seen, scalar_seen, in_seen}
+use Rattle.plan_dependent_tree.proofs.SeenArms.{expr_seen, table_seen, derived_seen, shared_seen}
+use Rattle.plan_dependent_tree.proofs.SeenArms.{closed_seen, cross_seen, inner_seen, plain_outer_seen}
+use Rattle.plan_dependent_tree.proofs.SeenArms.{lateral_outer_seen, subquery_seen, plain_seen}
+use Rattle.plan_dependent_tree.proofs.SeenArms.{grouped_seen, distinct_seen}
+use Rattle.plan_dependent_tree.proofs.SuppliedClauses.{plain_width, grouped_width, distinct_width}
+use Rattle.plan_dependent_tree.proofs.SuppliedClauses.{plain_from_supplied, plain_where_supplied}
+use Rattle.plan_dependent_tree.proofs.SuppliedClauses.{plain_list_supplied, grouped_from_supplied}
+use Rattle.plan_dependent_tree.proofs.SuppliedClauses.{grouped_where_supplied, grouped_keys_within}
+use Rattle.plan_dependent_tree.proofs.SuppliedClauses.{grouped_aggregates_supplied}
+use Rattle.plan_dependent_tree.proofs.SuppliedClauses.{grouped_having_supplied, grouped_list_supplied}
+use Rattle.plan_dependent_tree.proofs.SuppliedClauses.{distinct_supplied}
+use Rattle.plan_dependent_tree.proofs.SuppliedSources.{derived_supplied, cross_left_supplied}
+use Rattle.plan_dependent_tree.proofs.SuppliedSources.{cross_right_supplied, inner_left_supplied}
+use Rattle.plan_dependent_tree.proofs.SuppliedSources.{inner_right_supplied, inner_on_supplied}
+use Rattle.plan_dependent_tree.proofs.SuppliedSources.{outer_left_supplied, outer_right_supplied}
+use Rattle.plan_dependent_tree.proofs.SuppliedSources.{outer_on_supplied, outer_nulls}
+use Rattle.plan_dependent_tree.proofs.Supplies.{column_is_seen, exists_supplied, scalar_supplied}
+use Rattle.plan_dependent_tree.proofs.Supplies.{among_supplied, left_supplied, argument_supplied}
+use Rattle.plan_dependent_tree.proofs.Supplies.{found_seen, found_supplied, item_supplied}
+use Rattle.plan_dependent_tree.proofs.SuppliedSources.{nothing_supplied}
+use Rattle.plan_dependent_tree.specs.Supplied.{AggregateIsSupplied, ExprIsSupplied, InputIsSupplied}
+use Rattle.plan_dependent_tree.specs.Supplied.{InputsAreSupplied, SourceIsSupplied}
+use Rattle.plan_dependent_tree.proofs.SuppliedSources.{read_width, table_width, derived_width}
+use Rattle.plan_dependent_tree.proofs.SuppliedSources.{cross_width, inner_width, outer_width}
+use Rattle.plan_dependent_tree.proofs.tree.+depend.Goals as goal
+
+pub attach_aggregate-returns-in-CountRows-clause-attaches :
+    goal.attach_aggregate-returns-in-CountRows-clause-attaches
+attach_aggregate-returns-in-CountRows-clause-attaches t c =
+    let s = c.args.sight.now in
+    rw c.in-CountRows.is
+    (λ p. count_arm s.outer.now s.start s.width c.args.grown.tree c.args.grown.end)
+
+pub attach_aggregate-returns-in-CountRows-clause-function :
+    goal.attach_aggregate-returns-in-CountRows-clause-function
+attach_aggregate-returns-in-CountRows-clause-function t c = rw c.in-CountRows.is same_count
+
+pub attach_aggregate-returns-in_ok-argument-in-Of-clause-attaches :
+    goal.attach_aggregate-returns-in_ok-argument-in-Of-clause-attaches
+attach_aggregate-returns-in_ok-argument-in-Of-clause-attaches t c =
+    let s = c.args.sight.now in
+    λ p.
+    let argument = argument_supplied s.outer.now s.width c.in-Of.argument p c.in-Of.is in
+    rw (
+      c.in-Of.is,
+      c.applied-counted.ensures.tree,
+      c.applied-counted.ensures.end,
+      c.applied-counted.ensures.aggregate,
+    )
+    (of_arm s.outer.now s.start s.width c.in-Of.function c.in-Of.scale _ _ _ _ _ _
+    (c.in_ok-argument-in-Of.ensures argument))
+
+pub attach_aggregate-returns-in_ok-argument-in-Of-clause-function :
+    goal.attach_aggregate-returns-in_ok-argument-in-Of-clause-function
+attach_aggregate-returns-in_ok-argument-in-Of-clause-function t c =
+    rw (c.in-Of.is, c.applied-counted.ensures.aggregate)
+    (same_of c.in-Of.function c.in-Of.scale _ _)
+
+pub attach_expr-returns : goal.attach_expr-returns
+attach_expr-returns t c =
+    let s = c.args.sight.now in
+    λ p.
+    expr_seen s.outer.now s.start s.width c.args.grown.tree c.args.grown.end c.as_slice.ensures
+    (c.in_ok-placed.ensures
+    (subst (λ z. InputsAreSupplied z s.outer.now s.width) (sym c.as_slice.ensures) p))
+    c.get.ensures c.in_ok-read.ensures
+
+pub attach_input-returns-in_ok-column-in-Column : goal.attach_input-returns-in_ok-column-in-Column
+attach_input-returns-in_ok-column-in-Column t c =
+    let s = c.args.sight.now in
+    λ p.
+    column_seen s.outer.now s.start s.width c.args.grown.tree c.args.grown.end c.in-Column.is
+    (c.in_ok-column-in-Column.ensures (column_is_seen s.outer.now s.width p c.in-Column.is))
+
+pub attach_input-returns-in_ok-attached-in-Exists :
+    goal.attach_input-returns-in_ok-attached-in-Exists
+attach_input-returns-in_ok-attached-in-Exists t c =
+    let s = c.args.sight.now in
+    λ p.
+    exists_seen s.outer.now s.start s.width c.args.grown.tree c.args.grown.end c.in-Exists.is
+    (c.in_ok-right-in-Exists.ensures
+    (exists_supplied s.outer.now s.width c.in-Exists.q p c.in-Exists.is))
+    c.in_ok-attached-in-Exists.ensures
+
+pub attach_input-returns-in_ok-attached-in-In : goal.attach_input-returns-in_ok-attached-in-In
+attach_input-returns-in_ok-attached-in-In t c =
+    let s = c.args.sight.now in
+    λ p.
+    in_seen s.outer.now s.start s.width c.args.grown.tree c.args.grown.end
+    c.in_ok-left-in-In.left.expr c.in-In.is c.get.ensures
+    (c.in_ok-left-in-In.ensures
+    (left_supplied s.outer.now s.width c.in-In.q p c.in-In.is c.get.ensures))
+    (c.in_ok-right-in-In.ensures
+    (among_supplied s.outer.now s.width c.in-In.left c.in-In.q p c.in-In.is))
+    c.in_ok-attached-in-In.ensures
+
+pub attach_input-returns-in_ok-attached-in-Scalar :
+    goal.attach_input-returns-in_ok-attached-in-Scalar
+attach_input-returns-in_ok-attached-in-Scalar t c =
+    let s = c.args.sight.now in
+    λ p.
+    scalar_seen s.outer.now s.start s.width c.args.grown.tree c.args.grown.end c.in-Scalar.is
+    (c.in_ok-right-in-Scalar.ensures
+    (scalar_supplied s.outer.now s.width c.in-Scalar.q p c.in-Scalar.is))
+    c.in_ok-attached-in-Scalar.ensures
+
+pub attach_inputs-loop-input-init : goal.attach_inputs-loop-input-init
+attach_inputs-loop-input-init t c =
+    let s = c.args.sight.now in
+    rw c.new-columns.ensures
+    (λ p. inputs_none s.outer.now s.start s.width c.args.grown.tree c.args.grown.end)
+
+pub attach_inputs-loop-input-preserved : goal.attach_inputs-loop-input-preserved
+attach_inputs-loop-input-preserved t c =
+    let s = c.args.sight.now in
+    λ p.
+    inputs_more s.outer.now s.start s.width c.args.inputs.now c.loop-input.input-index _
+    c.loop-input.columns _ _ _ _ _ _ _ _ c.loop-input-test.true c.input-item.is
+    c.in_ok-push.ensures.ok (c.loop-input.invariant p)
+    (c.in_ok-attached.ensures
+    (item_supplied (λ i. InputIsSupplied i s.outer.now s.width) c.args.inputs.now
+    c.loop-input.input-index c.loop-input-test.true c.input-item.is p))
+
+pub attach_list-loop-e-init : goal.attach_list-loop-e-init
+attach_list-loop-e-init t c =
+    let s = c.args.sight.now in
+    rw c.new-exprs.ensures (
+      λ p. list_none s.outer.now s.start s.width c.args.grown.tree c.args.grown.end,
+      refl,
+    )
+
+pub attach_list-loop-e-preserved : goal.attach_list-loop-e-preserved
+attach_list-loop-e-preserved t c =
+    let s = c.args.sight.now in let inv = c.loop-e.invariant in (
+      λ p.
+          list_more s.outer.now s.start s.width c.args.list.now c.loop-e.e-index _ c.loop-e.exprs _
+          c.in_ok-read.read.expr _ _ _ _ _ _ c.loop-e-test.true c.e-item.is
+          (c.in_ok-push.ensures.ok ∙ ap (λ y. c.loop-e.exprs ++ y ∷ []) c.into_inner.ensures)
+          (inv.0 p)
+          (c.in_ok-read.ensures
+          (item_supplied (λ e. ExprIsSupplied e s.outer.now s.width) c.args.list.now
+          c.loop-e.e-index c.loop-e-test.true c.e-item.is p)),
+      length_put c.loop-e.exprs c.push.new.self _ c.loop-e.e-index inv.1 c.in_ok-push.ensures.ok,
+    )
+
+pub attach_aggregates-loop-a-init : goal.attach_aggregates-loop-a-init
+attach_aggregates-loop-a-init t c =
+    let s = c.args.sight.now in
+    rw c.new-aggregates.ensures (
+      λ p. aggregates_none s.outer.now s.start s.width c.args.grown.tree c.args.grown.end,
+      functions_none,
+      refl,
+    )
+
+pub attach_aggregates-loop-a-preserved : goal.attach_aggregates-loop-a-preserved
+attach_aggregates-loop-a-preserved t c =
+    let s = c.args.sight.now in let inv = c.loop-a.invariant in (
+      λ p.
+          aggregates_more s.outer.now s.start s.width c.args.all.now c.loop-a.a-index _
+          c.loop-a.aggregates _ _ _ _ _ _ _ _ c.loop-a-test.true c.a-item.is
+          c.in_ok-push.ensures.ok (inv.0 p)
+          (c.in_ok-counted.ensures.attaches
+          (item_supplied (λ a. AggregateIsSupplied a s.outer.now s.width) c.args.all.now
+          c.loop-a.a-index c.loop-a-test.true c.a-item.is p)),
+      functions_more c.args.all.now c.loop-a.a-index _ c.loop-a.aggregates _ _ c.loop-a-test.true
+          c.a-item.is c.in_ok-push.ensures.ok inv.1 c.in_ok-counted.ensures.function,
+      length_put c.loop-a.aggregates c.push.new.self _ c.loop-a.a-index inv.2
+          c.in_ok-push.ensures.ok,
+    )
+
+pub block-returns-in_ok-rows-in-Plain-2-clause-tree : goal.block-returns-in_ok-rows-in-Plain-2-clause-tree
+block-returns-in_ok-rows-in-Plain-2-clause-tree t c =
+    λ p.
+    let from = plain_from_supplied c.args.outer.now c.in-Plain.condition c.in-Plain.list p c.in-Plain.is c.get.ensures in
+    let wide = c.in_ok-rows-in-Plain.ensures.width in
+    let where_clause = plain_where_supplied c.args.outer.now c.in-Plain.condition c.in-Plain.list p c.in-Plain.is c.get.ensures wide in
+    let list = plain_list_supplied c.args.outer.now c.in-Plain.condition c.in-Plain.list p c.in-Plain.is c.get.ensures wide c.as_slice.ensures in
+    plain_seen c.args.outer.now c.args.start c.in-Plain.condition
+    c.in_ok-condition-in-Plain.condition.expr c.in_ok-listed-in-Plain.listed.exprs c.in-Plain.is
+    c.get.ensures (c.in_ok-rows-in-Plain.ensures.tree from) c.in_ok-grown-in-Plain.ensures
+    (c.in_ok-condition-in-Plain.ensures where_clause)
+    c.in_ok-grown-in-Plain-2.ensures c.as_slice.ensures
+    (c.in_ok-listed-in-Plain.ensures.attaches list)
+    c.in_ok-listed-in-Plain.ensures.count c.in_ok-rows-in-Plain-2.ensures
+
+pub block-returns-in_ok-rows-in-Grouped-2-clause-tree : goal.block-returns-in_ok-rows-in-Grouped-2-clause-tree
+block-returns-in_ok-rows-in-Grouped-2-clause-tree t c =
+    λ p.
+    let summed = c.in_ok-summed-in-Grouped.ensures in
+    let summed_aggregates = c.in_ok-summed-in-Grouped.summed.aggregates in
+    let wide = c.in_ok-rows-in-Grouped.ensures.width in
+    let from = grouped_from_supplied c.args.outer.now c.in-Grouped.condition c.in-Grouped.keys
+    c.in-Grouped.aggregates c.in-Grouped.having c.in-Grouped.list p c.in-Grouped.is
+    c.get-in-Grouped.ensures in
+    let where_clause = grouped_where_supplied c.args.outer.now c.in-Grouped.condition c.in-Grouped.keys
+    c.in-Grouped.aggregates c.in-Grouped.having c.in-Grouped.list p c.in-Grouped.is
+    c.get-in-Grouped.ensures wide in
+    let within = grouped_keys_within c.args.outer.now c.in-Grouped.condition c.in-Grouped.keys
+    c.in-Grouped.aggregates c.in-Grouped.having c.in-Grouped.list p c.in-Grouped.is
+    c.get-in-Grouped.ensures wide c.as_slice-in-Grouped.ensures in
+    let keys_at = c.in_ok-by-in-Grouped.ensures within in
+    let aggregates = grouped_aggregates_supplied c.args.outer.now c.in-Grouped.condition c.in-Grouped.keys
+    c.in-Grouped.aggregates c.in-Grouped.having c.in-Grouped.list p c.in-Grouped.is
+    c.get-in-Grouped.ensures wide c.as_slice-in-Grouped-2.ensures in
+    let having = grouped_having_supplied c.args.outer.now c.in-Grouped.condition c.in-Grouped.keys
+    c.in-Grouped.aggregates c.in-Grouped.having c.in-Grouped.list p c.in-Grouped.is
+    c.get-in-Grouped.ensures
+    c.in_ok-by-in-Grouped.by summed_aggregates c.as_slice-in-Grouped.ensures keys_at.count
+    c.as_slice-in-Grouped-2.ensures summed.count c.in_ok-groups-in-Grouped.ensures.1 in
+    let list = grouped_list_supplied c.args.outer.now c.in-Grouped.condition c.in-Grouped.keys
+    c.in-Grouped.aggregates c.in-Grouped.having c.in-Grouped.list p c.in-Grouped.is
+    c.get-in-Grouped.ensures
+    c.in_ok-by-in-Grouped.by summed_aggregates c.as_slice-in-Grouped.ensures keys_at.count
+    c.as_slice-in-Grouped-2.ensures summed.count c.in_ok-groups-in-Grouped.ensures.1 c.as_slice-in-Grouped-3.ensures in
+    grouped_seen c.args.outer.now c.args.start c.in-Grouped.condition c.in-Grouped.having
+    c.in_ok-condition-in-Grouped.condition.expr c.in_ok-having-in-Grouped.having.expr
+    c.in_ok-summed-in-Grouped.summed.aggregates c.in_ok-listed-in-Grouped.listed.exprs
+    c.in-Grouped.is c.get-in-Grouped.ensures (c.in_ok-rows-in-Grouped.ensures.tree from)
+    c.in_ok-grown-in-Grouped.ensures
+    (c.in_ok-condition-in-Grouped.ensures where_clause) c.in_ok-grown-in-Grouped-2.ensures
+    c.as_slice-in-Grouped.ensures keys_at c.as_slice-in-Grouped-2.ensures
+    (summed.attaches aggregates) summed.functions
+    summed.count c.in_ok-groups-in-Grouped.ensures
+    c.in_ok-grown-in-Grouped-3.ensures (c.in_ok-having-in-Grouped.ensures having)
+    c.in_ok-grown-in-Grouped-4.ensures c.as_slice-in-Grouped-3.ensures
+    (c.in_ok-listed-in-Grouped.ensures.attaches list) c.in_ok-listed-in-Grouped.ensures.count
+    c.in_ok-rows-in-Grouped-2.ensures
+
+pub block-returns-in_ok-rows-in-Distinct-2-clause-tree : goal.block-returns-in_ok-rows-in-Distinct-2-clause-tree
+block-returns-in_ok-rows-in-Distinct-2-clause-tree t c =
+    λ p.
+    distinct_seen c.args.outer.now c.args.start c.in-Distinct.is c.get-in-Distinct.ensures
+    (c.in_ok-rows-in-Distinct.ensures.tree
+    (distinct_supplied c.args.outer.now p c.in-Distinct.is c.get-in-Distinct.ensures))
+    c.in_ok-rows-in-Distinct-2.ensures
+
+pub right_source-returns-in_ok-rows-clause-tree : goal.right_source-returns-in_ok-rows-clause-tree
+right_source-returns-in_ok-rows-clause-tree t c =
+    λ p.
+    shared_seen c.args.outer.now c.args.start c.get-then-reads.ensures
+    (c.in_ok-rows.ensures.tree
+    (subst (λ z. SourceIsSupplied z c.args.outer.now) (sym c.get-then-reads.ensures) p))
+
+pub right_source-returns-in_ok-rows-2-clause-tree : goal.right_source-returns-in_ok-rows-2-clause-tree
+right_source-returns-in_ok-rows-2-clause-tree t c =
+    λ p.
+    closed_seen c.args.outer.now c.args.start c.get-else-reads.ensures
+    (c.in_ok-rows-2.ensures.tree
+    (nothing_supplied c.args.outer.now p c.get-else-reads.ensures c.get.ensures
+    c.in_ok-reads.ensures c.if-reads.false))
+
+pub source-returns-in_ok-rows-in-Table-clause-tree : goal.source-returns-in_ok-rows-in-Table-clause-tree
+source-returns-in_ok-rows-in-Table-clause-tree t c =
+    λ p. table_seen c.args.outer.now c.args.start c.in-Table.is c.in_ok-rows-in-Table.ensures
+
+pub source-returns-in_ok-rows-in-Derived-clause-tree : goal.source-returns-in_ok-rows-in-Derived-clause-tree
+source-returns-in_ok-rows-in-Derived-clause-tree t c =
+    λ p.
+    derived_seen c.args.outer.now c.args.start c.in-Derived.is c.get.ensures
+    (c.in_ok-rows-in-Derived.ensures.tree
+    (derived_supplied c.args.outer.now p c.in-Derived.is c.get.ensures))
+
+pub source-returns-in_ok-rows-in-Cross-clause-tree : goal.source-returns-in_ok-rows-in-Cross-clause-tree
+source-returns-in_ok-rows-in-Cross-clause-tree t c =
+    λ p.
+    cross_seen c.args.outer.now c.args.start c.in-Cross.b c.in-Cross.is c.get-in-Cross.ensures
+    (c.in_ok-left-in-Cross.ensures.tree
+    (cross_left_supplied c.args.outer.now c.in-Cross.b p c.in-Cross.is c.get-in-Cross.ensures))
+    (c.in_ok-right-in-Cross.ensures.tree
+    (cross_right_supplied c.args.outer.now c.in-Cross.b p c.in-Cross.is c.get-in-Cross.ensures))
+    c.in_ok-rows-in-Cross.ensures
+
+pub source-returns-in_ok-rows-in-Inner-2-clause-tree : goal.source-returns-in_ok-rows-in-Inner-2-clause-tree
+source-returns-in_ok-rows-in-Inner-2-clause-tree t c =
+    λ p.
+    let left = c.in_ok-left-in-Inner.ensures in
+    let right = c.in_ok-right-in-Inner.ensures in
+    let on = inner_on_supplied c.args.outer.now c.in-Inner.a c.in-Inner.b c.in-Inner.on p c.in-Inner.is c.get-in-Inner.ensures left.width right.width
+    c.in_ok-rows-in-Inner.ensures.1 in
+    inner_seen c.args.outer.now c.args.start c.in-Inner.b c.in-Inner.on c.in_ok-on-in-Inner.on.expr
+    c.in-Inner.is c.get-in-Inner.ensures
+    (left.tree (inner_left_supplied c.args.outer.now c.in-Inner.a c.in-Inner.b c.in-Inner.on p c.in-Inner.is c.get-in-Inner.ensures))
+    (right.tree (inner_right_supplied c.args.outer.now c.in-Inner.a c.in-Inner.b c.in-Inner.on p c.in-Inner.is)) c.in_ok-rows-in-Inner.ensures
+    c.in_ok-grown-in-Inner.ensures (c.in_ok-on-in-Inner.ensures on) c.in_ok-grown-in-Inner-2.ensures
+    c.in_ok-rows-in-Inner-2.ensures
+
+pub source-returns-in_ok-rows-in-Some-clause-tree : goal.source-returns-in_ok-rows-in-Some-clause-tree
+source-returns-in_ok-rows-in-Some-clause-tree t c =
+    λ p.
+    let wide : c.in_ok-width-in-Outer.width
+    ≡ c.in_ok-left-in-Outer.left.width + c.in_ok-right-in-Outer.right.rows.width = search rules in
+    let left = c.in_ok-left-in-Outer.ensures in
+    let right = c.in_ok-right-in-Outer.ensures in
+    let on = outer_on_supplied c.args.outer.now c.in-Outer.a c.in-Outer.b c.in-Outer.nulls c.in-Outer.on p c.in-Outer.is c.get-in-Outer.ensures refl left.width right.width wide in
+    let made = c.in_ok-rows-in-Some.ensures in
+    plain_outer_seen c.args.outer.now c.args.start c.in-Outer.b c.in-Outer.on c.in-Some.condition
+    c.in-Outer.is c.get-in-Outer.ensures
+    (left.tree (outer_left_supplied c.args.outer.now c.in-Outer.a c.in-Outer.b c.in-Outer.nulls c.in-Outer.on p c.in-Outer.is c.get-in-Outer.ensures))
+    (right.tree (outer_right_supplied c.args.outer.now c.in-Outer.a c.in-Outer.b c.in-Outer.nulls c.in-Outer.on p c.in-Outer.is refl)) wide
+    (subst (IsPlain c.args.outer.now c.args.start c.in_ok-width-in-Outer.width c.in-Outer.on)
+    c.in-Some.is (c.in_ok-condition-in-Outer.ensures on))
+    (made.0, made.1, outer_nulls c.args.outer.now c.in-Outer.a c.in-Outer.b c.in-Outer.nulls c.in-Outer.on p c.in-Outer.is refl right.width)
+
+pub source-returns-in_ok-rows-in-None-3-clause-tree : goal.source-returns-in_ok-rows-in-None-3-clause-tree
+source-returns-in_ok-rows-in-None-3-clause-tree t c =
+    λ p.
+    let wide : c.in_ok-width-in-None.width
+    ≡ c.in_ok-left-in-Outer.left.width + c.in_ok-rows-in-None.rows.width = search rules in
+    let begin : c.in_ok-begin-in-None.begin ≡ c.args.start + c.in_ok-left-in-Outer.left.width =
+    search rules in
+    let left = c.in_ok-left-in-Outer.ensures in
+    let inner = c.in_ok-rows-in-None.ensures in
+    let on = outer_on_supplied c.args.outer.now c.in-Outer.a c.in-Outer.b c.in-Outer.nulls c.in-Outer.on p c.in-Outer.is c.get-in-Outer.ensures c.get-in-None.ensures left.width
+    inner.width wide in
+    let made = c.in_ok-rows-in-None-3.ensures in
+    let trimmed = c.in_ok-rows-in-None-2.ensures in
+    lateral_outer_seen c.args.outer.now c.args.start c.in-Outer.on c.in_ok-on-in-None.on.expr
+    c.in-Outer.is c.get-in-Outer.ensures
+    (left.tree (outer_left_supplied c.args.outer.now c.in-Outer.a c.in-Outer.b c.in-Outer.nulls c.in-Outer.on p c.in-Outer.is c.get-in-Outer.ensures)) wide begin
+    c.get-in-None.ensures
+    (inner.tree (outer_right_supplied c.args.outer.now c.in-Outer.a c.in-Outer.b c.in-Outer.nulls c.in-Outer.on p c.in-Outer.is c.get-in-None.ensures)) refl
+    c.in_ok-grown-in-None.ensures (c.in_ok-on-in-None.ensures on) c.in_ok-grown-in-None-2.ensures
+    trimmed
+    (made.0, made.1, trimmed.1 ∙ outer_nulls c.args.outer.now c.in-Outer.a c.in-Outer.b c.in-Outer.nulls c.in-Outer.on p c.in-Outer.is c.get-in-None.ensures inner.width)
+
+pub subquery-returns : goal.subquery-returns
+subquery-returns t c =
+    let s = c.args.sight.now in
+    let same : c.in_ok-start.start ≡ length c.in_ok-outer.outer = search rules in
+    λ p.
+    let wanted = found_seen s.outer.now s.width p c.get.ensures c.as_slice.ensures
+    c.in_ok-outer.ensures in
+    let q = found_supplied s.outer.now s.width p c.get-2.ensures c.get.ensures
+    c.as_slice-2.ensures c.in_ok-outer.ensures in
+    subquery_seen c.in_ok-columns.columns c.get-2.ensures (c.in_ok-rows.ensures.tree q)
+    c.as_slice-2.ensures
+    same c.as_slice.ensures (c.in_ok-columns.ensures wanted) c.depending-right.ensures.tree
+    c.depending-right.ensures.side
+
+pub block-returns-in_ok-rows-in-Plain-2-clause-width :
+    goal.block-returns-in_ok-rows-in-Plain-2-clause-width
+block-returns-in_ok-rows-in-Plain-2-clause-width t c =
+    plain_width c.in-Plain.from c.in-Plain.condition c.in_ok-listed-in-Plain.listed.exprs
+    c.in-Plain.is c.as_slice.ensures c.in_ok-listed-in-Plain.ensures.count
+    c.in_ok-rows-in-Plain-2.ensures.1
+
+pub block-returns-in_ok-rows-in-Grouped-2-clause-width :
+    goal.block-returns-in_ok-rows-in-Grouped-2-clause-width
+block-returns-in_ok-rows-in-Grouped-2-clause-width t c =
+    grouped_width c.in-Grouped.from c.in-Grouped.condition c.in-Grouped.keys
+    c.in-Grouped.aggregates c.in-Grouped.having c.in_ok-listed-in-Grouped.listed.exprs
+    c.in-Grouped.is c.as_slice-in-Grouped-3.ensures
+    c.in_ok-listed-in-Grouped.ensures.count c.in_ok-rows-in-Grouped-2.ensures.1
+
+pub block-returns-in_ok-rows-in-Distinct-2-clause-width :
+    goal.block-returns-in_ok-rows-in-Distinct-2-clause-width
+block-returns-in_ok-rows-in-Distinct-2-clause-width t c =
+    distinct_width c.in-Distinct.is c.get-in-Distinct.ensures c.in_ok-rows-in-Distinct.ensures.width
+    c.in_ok-rows-in-Distinct-2.ensures.1
+
+pub right_source-returns-in_ok-rows-clause-width : goal.right_source-returns-in_ok-rows-clause-width
+right_source-returns-in_ok-rows-clause-width t c =
+    read_width c.get-then-reads.ensures c.in_ok-rows.ensures.width
+
+pub right_source-returns-in_ok-rows-2-clause-width :
+    goal.right_source-returns-in_ok-rows-2-clause-width
+right_source-returns-in_ok-rows-2-clause-width t c =
+    read_width c.get-else-reads.ensures c.in_ok-rows-2.ensures.width
+
+pub source-returns-in_ok-rows-in-Table-clause-width :
+    goal.source-returns-in_ok-rows-in-Table-clause-width
+source-returns-in_ok-rows-in-Table-clause-width t c =
+    table_width c.in-Table.is c.in_ok-rows-in-Table.ensures.1
+
+pub source-returns-in_ok-rows-in-Derived-clause-width :
+    goal.source-returns-in_ok-rows-in-Derived-clause-width
+source-returns-in_ok-rows-in-Derived-clause-width t c =
+    derived_width c.in-Derived.is c.get.ensures c.in_ok-rows-in-Derived.ensures.width
+
+pub source-returns-in_ok-rows-in-Cross-clause-width :
+    goal.source-returns-in_ok-rows-in-Cross-clause-width
+source-returns-in_ok-rows-in-Cross-clause-width t c =
+    cross_width c.in-Cross.b c.in-Cross.is c.get-in-Cross.ensures c.in_ok-left-in-Cross.ensures.width
+    c.in_ok-right-in-Cross.ensures.width c.in_ok-rows-in-Cross.ensures.1
+
+pub source-returns-in_ok-rows-in-Inner-2-clause-width :
+    goal.source-returns-in_ok-rows-in-Inner-2-clause-width
+source-returns-in_ok-rows-in-Inner-2-clause-width t c =
+    inner_width c.in-Inner.b c.in-Inner.on c.in-Inner.is c.get-in-Inner.ensures c.in_ok-left-in-Inner.ensures.width
+    c.in_ok-right-in-Inner.ensures.width c.in_ok-rows-in-Inner.ensures.1
+    c.in_ok-rows-in-Inner-2.ensures.1
+
+pub source-returns-in_ok-rows-in-Some-clause-width :
+    goal.source-returns-in_ok-rows-in-Some-clause-width
+source-returns-in_ok-rows-in-Some-clause-width t c =
+    outer_width c.in-Outer.b c.in-Outer.on c.in-Outer.is c.get-in-Outer.ensures c.in_ok-left-in-Outer.ensures.width
+    c.in_ok-rows-in-Some.ensures.1
+
+pub source-returns-in_ok-rows-in-None-3-clause-width :
+    goal.source-returns-in_ok-rows-in-None-3-clause-width
+source-returns-in_ok-rows-in-None-3-clause-width t c =
+    outer_width c.in-Outer.b c.in-Outer.on c.in-Outer.is c.get-in-Outer.ensures c.in_ok-left-in-Outer.ensures.width
+    c.in_ok-rows-in-None-3.ensures.1
+
+-- ---- the ends of loops
+
+pub attach_inputs-returns : goal.attach_inputs-returns
+attach_inputs-returns t c =
+    let s = c.args.sight.now in
+    let l = c.loop-input in
+    let all : take l.input-index c.args.inputs.now ≡ c.args.inputs.now =
+    take_all l.input-index c.args.inputs.now (omega (arith, c.loop-input-test.false)) in
+    λ p.
+    subst (λ xs. Attaches s.outer.now s.start s.width (joined_tables (map tables_of_input xs))
+    (InputsAt xs l.columns) c.args.grown.tree c.args.grown.end l.grown.tree l.grown.end) all
+    (l.invariant p)
+
+pub attach_list-returns-clause-attaches : goal.attach_list-returns-clause-attaches
+attach_list-returns-clause-attaches t c =
+    let s = c.args.sight.now in
+    let l = c.loop-e in
+    let all : take l.e-index c.args.list.now ≡ c.args.list.now =
+    take_all l.e-index c.args.list.now (omega (arith, c.loop-e-test.false)) in
+    λ p.
+    subst (λ xs. Attaches s.outer.now s.start s.width (joined_tables (map tables_of_expr xs))
+    (ListAt xs l.exprs) c.args.grown.tree c.args.grown.end l.grown.tree l.grown.end) all
+    (l.invariant.0 p)
+
+pub attach_aggregates-returns-clause-attaches : goal.attach_aggregates-returns-clause-attaches
+attach_aggregates-returns-clause-attaches t c =
+    let s = c.args.sight.now in
+    let l = c.loop-a in
+    let all : take l.a-index c.args.all.now ≡ c.args.all.now =
+    take_all l.a-index c.args.all.now (omega (arith, c.loop-a-test.false)) in
+    λ p.
+    subst (λ xs. Attaches s.outer.now s.start s.width (joined_tables (map tables_of_aggregate xs))
+    (AggregatesAt xs l.aggregates) c.args.grown.tree c.args.grown.end l.grown.tree l.grown.end) all
+    (l.invariant.0 p)

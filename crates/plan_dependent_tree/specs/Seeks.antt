@@ -1,0 +1,89 @@
+-- The columns of the rows around that a part of a query reads.
+use Rattle.std.specs.Prelude.{ℕ, suc, ◌==◌, Bool, false, ◌&&◌, ◌||◌, List, [], ◌∷◌}
+use Rattle.std.specs.List.{list_any}
+use Rattle.sql_bound_query.specs.declared.query.BoundAggregate.{BoundAggregate}
+use Rattle.sql_bound_query.specs.declared.query.BoundAggregate.TheFolds.{fold-BoundAggregate}
+use Rattle.sql_bound_query.specs.declared.query.BoundAggregate.TheFolds.{fold-BoundBlock}
+use Rattle.sql_bound_query.specs.declared.query.BoundAggregate.TheFolds.{fold-BoundSource, fold-Input}
+use Rattle.sql_bound_query.specs.declared.query.BoundAggregate.TheFolds.{fold-BoundExpr}
+use Rattle.sql_bound_query.specs.declared.query.BoundAggregate.TheOpen as node
+use Rattle.sql_bound_query.specs.declared.query.BoundBlock.{BoundBlock}
+use Rattle.sql_bound_query.specs.declared.query.BoundExpr.{BoundExpr}
+use Rattle.sql_bound_query.specs.declared.query.BoundSource.{BoundSource}
+use Rattle.sql_bound_query.specs.declared.query.Input.{Input}
+use Rattle.plan_dependent_tree.specs.declared.sight.OuterColumn.{OuterColumn}
+
+-- whether a column stands in a list: how many rows out its row is, and its place there
+abbrev pub has : List OuterColumn → ℕ → ℕ → Bool
+has outer level place =
+    list_any (λ (c : OuterColumn). (c.level == level) && (c.place == place)) outer
+
+-- whether a part of a query reads the column at a place of the row n rows out
+abbrev pub Seeks : Type 0
+Seeks = ℕ → ℕ → Bool
+
+-- whether one of some parts does
+abbrev pub any_seeks : List Seeks → Seeks
+any_seeks [] level place = false
+any_seeks (part ∷ parts) level place = part level place || any_seeks parts level place
+
+-- an input: its column, or what its parts read
+abbrev pub input_seeks : node.Input-F Seeks Seeks Seeks Seeks Seeks → Seeks
+input_seeks (node.Column out at) level place = (out == level) && (at == place)
+input_seeks (node.Exists q) level place = q level place
+input_seeks (node.In e q) level place = e level place || q level place
+input_seeks (node.Scalar q) level place = q level place
+
+-- an expression: what its inputs read
+abbrev pub expr_seeks : node.BoundExpr-F Seeks Seeks Seeks Seeks Seeks → Seeks
+expr_seeks e level place = any_seeks e.inputs level place
+
+-- an aggregate: what its argument reads
+abbrev pub aggregate_seeks : node.BoundAggregate-F Seeks Seeks Seeks Seeks Seeks → Seeks
+aggregate_seeks node.CountRows level place = false
+aggregate_seeks (node.Of function scale argument) level place = argument level place
+
+-- A source: what its parts read. An ON condition reads the source's own row first, so that the
+-- nearest row around is one row further out. A derived table reads no row around.
+abbrev pub source_seeks : node.BoundSource-F Seeks Seeks Seeks Seeks Seeks → Seeks
+source_seeks (node.Table t) level place = false
+source_seeks (node.Derived q) level place = false
+source_seeks (node.Cross a b) level place = a level place || b level place
+source_seeks (node.Inner a b on) level place =
+    a level place || b level place || on (suc level) place
+source_seeks (node.Outer a b width on) level place =
+    a level place || b level place || on (suc level) place
+
+-- a query: what its clauses read, whose nearest row is the query's own
+abbrev pub block_seeks : node.BoundBlock-F Seeks Seeks Seeks Seeks Seeks → Seeks
+block_seeks (node.Plain from condition list) level place =
+    from level place || condition (suc level) place || any_seeks list (suc level) place
+block_seeks (node.Grouped from condition keys aggregates having list) level place =
+    from level place || condition (suc level) place || any_seeks aggregates (suc level) place
+    || having (suc level) place || any_seeks list (suc level) place
+block_seeks (node.Distinct q) level place = q level place
+
+-- what a query reads of the rows around it, the nearest one being 0 rows out
+unfoldable pub seeks_of : BoundBlock → Seeks
+seeks_of = fold-BoundBlock Seeks Seeks Seeks Seeks Seeks aggregate_seeks block_seeks source_seeks
+    input_seeks expr_seeks
+
+-- the same of a source
+unfoldable pub seeks_of_source : BoundSource → Seeks
+seeks_of_source = fold-BoundSource Seeks Seeks Seeks Seeks Seeks aggregate_seeks block_seeks
+    source_seeks input_seeks expr_seeks
+
+-- what an input reads, the query's own row being 0 rows out
+unfoldable pub seeks_of_input : Input → Seeks
+seeks_of_input = fold-Input Seeks Seeks Seeks Seeks Seeks aggregate_seeks block_seeks source_seeks
+    input_seeks expr_seeks
+
+-- the same of an expression
+unfoldable pub seeks_of_expr : BoundExpr → Seeks
+seeks_of_expr = fold-BoundExpr Seeks Seeks Seeks Seeks Seeks aggregate_seeks block_seeks
+    source_seeks input_seeks expr_seeks
+
+-- the same of an aggregate
+unfoldable pub seeks_of_aggregate : BoundAggregate → Seeks
+seeks_of_aggregate = fold-BoundAggregate Seeks Seeks Seeks Seeks Seeks aggregate_seeks block_seeks
+    source_seeks input_seeks expr_seeks

@@ -1,0 +1,388 @@
+//! The tree of each part of a query.
+ghost use Rattle.std.specs.Prelude.{◌≡◌, List, [], length, map, IfOk};
+ghost use Rattle.expr_scalar.specs.declared.kind.Kind.{Kind};
+ghost use Rattle.sql_bound_query.specs.Typing.{IsWellTyped, block_kinds, from_kinds};
+ghost use Rattle.sql_bound_query.specs.Reads.{tables, tables_of_source, tables_of_input};
+ghost use Rattle.sql_bound_query.specs.Reads.{tables_of_expr, tables_of_aggregate, joined_tables};
+ghost use Rattle.plan_dependent_tree.specs.Dependence.{IsTreeOf};
+ghost use Rattle.plan_dependent_tree.specs.Growth.{source_of, block_of, IsTree, IsRightTree, IsSubquery};
+ghost use Rattle.plan_dependent_tree.specs.Growth.{Attaches, InputAt, InputsAt, ExprAt, ListAt};
+ghost use Rattle.plan_dependent_tree.specs.Growth.{AggregateAt, AggregatesAt, SameFunction};
+ghost use Rattle.plan_dependent_tree.specs.Growth.{SameFunctions};
+ghost use Rattle.plan_dependent_tree.specs.Supplied.{AggregateIsSupplied, AggregatesAreSupplied};
+ghost use Rattle.plan_dependent_tree.specs.Supplied.{ExprIsSupplied, InputIsSupplied, IsWidthOf};
+ghost use Rattle.plan_dependent_tree.specs.Supplied.{InputsAreSupplied, ListIsSupplied, QueryIsSupplied};
+ghost use Rattle.plan_dependent_tree.specs.Supplied.{SourceIsSupplied, SubqueryIsSupplied};
+
+use crate::outer::{outer_columns, reads_outer};
+use crate::parts::{
+    Attached, Counted, Grown, Listed, Placed, Read, Right, Rows, Summed, applied, contained,
+    distinct, existing, grouped, grown_from, key_places, outer_places, over_places, projected,
+    selected, trimmed, valued,
+};
+use crate::sight::{OuterColumn, Sight, place_of};
+use crate::sources::{
+    RightRows, crossed, depending, lateral_outer, outer_joined, plain_condition, table_rows,
+};
+use plan_algebra::{Aggregate, DepTree, Side};
+use sql_bound_query::{BoundAggregate, BoundBlock, BoundExpr, BoundQuery, BoundSource, Input};
+use sqlite_items::{Boxed, Items};
+use std::alloc::{AllocError, Global};
+
+/// The dependent tree of a query.
+///
+/// EXISTS and IN become marks and scalar subqueries single values, attached to the rows of FROM one
+/// after the other; an expression is then read from the flat row of the domain's columns, the row's
+/// own and these. A subquery's domain row has just the columns of the rows around that it reads.
+pub fn depend(alloc: Global, query: &BoundQuery) -> Result<Boxed<DepTree>, AllocError>
+    requires { (kinds : List Kind) × IsWellTyped query.now.block kinds }
+    ensures { IfOk result (IsTreeOf query.now.block []) }
+{
+    let tree = depend_under(alloc, query.block.get(), &[])?;
+    Ok(tree)
+}
+
+/// The dependent tree of a query inside others, over the domain row of these columns of the rows
+/// around.
+pub fn depend_under(
+    alloc: Global,
+    q: &BoundBlock,
+    outer: &[OuterColumn],
+) -> Result<Boxed<DepTree>, AllocError>
+    requires { QueryIsSupplied q.now outer.now }
+    ensures { IfOk result (IsTreeOf q.now outer.now) }
+{
+    let start = u32::try_from(outer.len()).map_err(|_| AllocError)?;
+    let rows = block(alloc, q, outer, start)?;
+    Ok(rows.tree)
+}
+
+#[cycle(depend)]
+fn block(
+    alloc: Global,
+    q: &BoundBlock,
+    outer: &[OuterColumn],
+    start: u32,
+) -> Result<Rows, AllocError>
+    ensures tree { IfOk result (λ r. QueryIsSupplied q.now outer.now
+        → IsTree (tables q.now) (block_of q.now) outer.now start r.tree r.width) }
+    ensures width { IfOk result (λ r. IsWidthOf (block_kinds q.now) r.width) }
+{
+    match q {
+        BoundBlock::Plain(from, condition, list) => {
+            let rows = source(alloc, from.get(), outer, start)?;
+            let width = rows.width;
+            let sight = Sight {
+                outer,
+                start,
+                width,
+            };
+            let grown = grown_from(rows, start)?;
+            let condition = attach_expr(alloc, condition, &sight, grown)?;
+            let grown = selected(alloc, condition)?;
+            let listed = attach_list(alloc, list.as_slice(), &sight, grown)?;
+            let rows = projected(alloc, listed)?;
+            Ok(rows)
+        }
+        BoundBlock::Grouped(from, condition, keys, aggregates, having, list) => {
+            let rows = source(alloc, from.get(), outer, start)?;
+            let width = rows.width;
+            let sight = Sight {
+                outer,
+                start,
+                width,
+            };
+            let grown = grown_from(rows, start)?;
+            let condition = attach_expr(alloc, condition, &sight, grown)?;
+            let grown = selected(alloc, condition)?;
+            let by = key_places(alloc, &sight, keys.as_slice())?;
+            let summed = attach_aggregates(alloc, aggregates.as_slice(), &sight, grown)?;
+            let groups = grouped(alloc, by, summed)?;
+            let width = groups.width;
+            let sight = Sight {
+                outer,
+                start,
+                width,
+            };
+            let grown = grown_from(groups, start)?;
+            let having = attach_expr(alloc, having, &sight, grown)?;
+            let grown = selected(alloc, having)?;
+            let listed = attach_list(alloc, list.as_slice(), &sight, grown)?;
+            let rows = projected(alloc, listed)?;
+            Ok(rows)
+        }
+        BoundBlock::Distinct(q) => {
+            let rows = block(alloc, q.get(), outer, start)?;
+            let rows = distinct(alloc, rows)?;
+            Ok(rows)
+        }
+    }
+}
+
+#[cycle(depend)]
+fn source(
+    alloc: Global,
+    s: &BoundSource,
+    outer: &[OuterColumn],
+    start: u32,
+) -> Result<Rows, AllocError>
+    ensures tree { IfOk result (λ r. SourceIsSupplied s.now outer.now
+        → IsTree (tables_of_source s.now) (source_of s.now) outer.now start r.tree r.width) }
+    ensures width { IfOk result (λ r. IsWidthOf (from_kinds s.now) r.width) }
+{
+    match s {
+        BoundSource::Table(table) => {
+            let rows = table_rows(alloc, *table)?;
+            Ok(rows)
+        }
+        BoundSource::Derived(q) => {
+            let rows = block(alloc, q.get(), &[], start)?;
+            Ok(rows)
+        }
+        BoundSource::Cross(a, b) => {
+            let left = source(alloc, a.get(), outer, start)?;
+            let right = right_source(alloc, b, outer, start)?;
+            let rows = crossed(alloc, left, right)?;
+            Ok(rows)
+        }
+        BoundSource::Inner(a, b, on) => {
+            let left = source(alloc, a.get(), outer, start)?;
+            let right = right_source(alloc, b, outer, start)?;
+            let rows = crossed(alloc, left, right)?;
+            let width = rows.width;
+            let sight = Sight {
+                outer,
+                start,
+                width,
+            };
+            let grown = grown_from(rows, start)?;
+            let on = attach_expr(alloc, on, &sight, grown)?;
+            let grown = selected(alloc, on)?;
+            let rows = trimmed(alloc, grown, start, width)?;
+            Ok(rows)
+        }
+        BoundSource::Outer(a, b, nulls, on) => {
+            let left = source(alloc, a.get(), outer, start)?;
+            let right = right_source(alloc, b, outer, start)?;
+            let width = left.width.checked_add(right.rows.width).ok_or(AllocError)?;
+            let sight = Sight {
+                outer,
+                start,
+                width,
+            };
+            match plain_condition(alloc, on, &sight)? {
+                Some(condition) => {
+                    let rows = outer_joined(alloc, left, right, *nulls, condition)?;
+                    Ok(rows)
+                }
+                None => {
+                    let begin = start.checked_add(left.width).ok_or(AllocError)?;
+                    let rows = source(alloc, b.get(), outer, begin)?;
+                    let inner = rows.width;
+                    let width = left.width.checked_add(inner).ok_or(AllocError)?;
+                    let sight = Sight {
+                        outer,
+                        start,
+                        width,
+                    };
+                    let grown = grown_from(rows, begin)?;
+                    let on = attach_expr(alloc, on, &sight, grown)?;
+                    let grown = selected(alloc, on)?;
+                    let rows = trimmed(alloc, grown, begin, inner)?;
+                    let rows = lateral_outer(alloc, left, rows, begin, *nulls)?;
+                    Ok(rows)
+                }
+            }
+        }
+    }
+}
+
+// A source to the right of another one. Where it reads nothing of the rows around it has no domain.
+#[cycle(depend)]
+fn right_source(
+    alloc: Global,
+    s: &Boxed<BoundSource>,
+    outer: &[OuterColumn],
+    start: u32,
+) -> Result<RightRows, AllocError>
+    ensures tree { IfOk result (λ r. SourceIsSupplied s.now outer.now
+        → IsRightTree (tables_of_source s.now) (source_of s.now) outer.now start r.rows.tree r.side
+        r.rows.width) }
+    ensures width { IfOk result (λ r. IsWidthOf (from_kinds s.now) r.rows.width) }
+{
+    let reads = reads_outer(alloc, s.get())?;
+    if reads {
+        let rows = source(alloc, s.get(), outer, start)?;
+        let side = Side::Shared;
+        Ok(RightRows { rows, side })
+    } else {
+        let rows = source(alloc, s.get(), &[], 0)?;
+        let side = Side::Closed;
+        Ok(RightRows { rows, side })
+    }
+}
+
+// A subquery, over the domain of the columns of the rows around that it reads.
+#[cycle(depend)]
+fn subquery(alloc: Global, q: &Boxed<BoundBlock>, sight: &Sight) -> Result<Right, AllocError>
+    ensures { IfOk result (λ r. SubqueryIsSupplied q.now sight.now.outer.now sight.now.width
+        → IsSubquery q.now sight.now.outer.now sight.now.start sight.now.width r.tree r.side) }
+{
+    let outer = outer_columns(alloc, q.get())?;
+    let columns = outer_places(alloc, sight, outer.as_slice())?;
+    let start = u32::try_from(outer.len()).map_err(|_| AllocError)?;
+    let rows = block(alloc, q.get(), outer.as_slice(), start)?;
+    let right = depending(rows, columns);
+    Ok(right)
+}
+
+#[cycle(depend)]
+fn attach_input(
+    alloc: Global,
+    input: &Input,
+    sight: &Sight,
+    grown: Grown,
+) -> Result<Attached, AllocError>
+    ensures { IfOk result (λ a. InputIsSupplied input.now sight.now.outer.now sight.now.width
+        → Attaches sight.now.outer.now sight.now.start sight.now.width (tables_of_input input.now)
+        (InputAt input.now a.column)
+        grown.tree grown.end a.grown.tree a.grown.end) }
+{
+    match input {
+        Input::Column(level, place) => {
+            let column = place_of(sight, *level, *place)?;
+            Ok(Attached { grown, column })
+        }
+        Input::Exists(q) => {
+            let right = subquery(alloc, q, sight)?;
+            let attached = existing(alloc, grown, right)?;
+            Ok(attached)
+        }
+        Input::In(left, q) => {
+            let left = attach_expr(alloc, left.get(), sight, grown)?;
+            let right = subquery(alloc, q, sight)?;
+            let attached = contained(alloc, left, right)?;
+            Ok(attached)
+        }
+        Input::Scalar(q) => {
+            let right = subquery(alloc, q, sight)?;
+            let attached = valued(alloc, grown, right)?;
+            Ok(attached)
+        }
+    }
+}
+
+#[cycle(depend)]
+fn attach_inputs(
+    alloc: Global,
+    inputs: &[Input],
+    sight: &Sight,
+    grown: Grown,
+) -> Result<Placed, AllocError>
+    ensures { IfOk result (λ p. InputsAreSupplied inputs.now sight.now.outer.now sight.now.width
+        → Attaches sight.now.outer.now sight.now.start sight.now.width
+        (joined_tables (map tables_of_input inputs.now)) (InputsAt inputs.now p.columns)
+        grown.tree grown.end p.grown.tree p.grown.end) }
+{
+    let mut grown = grown;
+    let mut columns = Items::new(alloc);
+    for input in inputs {
+        let attached = attach_input(alloc, input, sight, grown)?;
+        columns.push(attached.column)?;
+        grown = attached.grown;
+    }
+    Ok(Placed { grown, columns })
+}
+
+#[cycle(depend)]
+fn attach_expr(
+    alloc: Global,
+    e: &BoundExpr,
+    sight: &Sight,
+    grown: Grown,
+) -> Result<Read, AllocError>
+    ensures { IfOk result (λ r. ExprIsSupplied e.now sight.now.outer.now sight.now.width
+        → Attaches sight.now.outer.now sight.now.start sight.now.width (tables_of_expr e.now)
+        (ExprAt e.now r.expr)
+        grown.tree grown.end r.grown.tree r.grown.end) }
+{
+    let placed = attach_inputs(alloc, e.inputs.as_slice(), sight, grown)?;
+    let read = over_places(alloc, placed, e.expr.get())?;
+    Ok(read)
+}
+
+#[cycle(depend)]
+fn attach_list(
+    alloc: Global,
+    list: &[BoundExpr],
+    sight: &Sight,
+    grown: Grown,
+) -> Result<Listed, AllocError>
+    ensures attaches { IfOk result
+        (λ l. ListIsSupplied list.now sight.now.outer.now sight.now.width
+        → Attaches sight.now.outer.now sight.now.start sight.now.width
+        (joined_tables (map tables_of_expr list.now)) (ListAt list.now l.exprs)
+        grown.tree grown.end l.grown.tree l.grown.end) }
+    ensures count { IfOk result (λ l. length l.exprs ≡ length list.now) }
+{
+    let mut grown = grown;
+    let mut exprs = Items::new(alloc);
+    for e in list {
+        let read = attach_expr(alloc, e, sight, grown)?;
+        exprs.push(read.expr.into_inner())?;
+        grown = read.grown;
+    }
+    Ok(Listed { grown, exprs })
+}
+
+#[cycle(depend)]
+fn attach_aggregate(
+    alloc: Global,
+    a: &BoundAggregate,
+    sight: &Sight,
+    grown: Grown,
+) -> Result<Counted, AllocError>
+    ensures attaches { IfOk result
+        (λ c. AggregateIsSupplied a.now sight.now.outer.now sight.now.width
+        → Attaches sight.now.outer.now sight.now.start sight.now.width
+        (tables_of_aggregate a.now) (AggregateAt a.now c.aggregate)
+        grown.tree grown.end c.grown.tree c.grown.end) }
+    ensures function { IfOk result (λ c. SameFunction a.now c.aggregate) }
+{
+    match a {
+        BoundAggregate::CountRows => {
+            let aggregate = Aggregate::CountRows;
+            Ok(Counted { grown, aggregate })
+        }
+        BoundAggregate::Of(function, scale, argument) => {
+            let argument = attach_expr(alloc, argument, sight, grown)?;
+            let counted = applied(*function, *scale, argument);
+            Ok(counted)
+        }
+    }
+}
+
+#[cycle(depend)]
+fn attach_aggregates(
+    alloc: Global,
+    all: &[BoundAggregate],
+    sight: &Sight,
+    grown: Grown,
+) -> Result<Summed, AllocError>
+    ensures attaches { IfOk result
+        (λ s. AggregatesAreSupplied all.now sight.now.outer.now sight.now.width
+        → Attaches sight.now.outer.now sight.now.start sight.now.width
+        (joined_tables (map tables_of_aggregate all.now)) (AggregatesAt all.now s.aggregates)
+        grown.tree grown.end s.grown.tree s.grown.end) }
+    ensures functions { IfOk result (λ s. SameFunctions all.now s.aggregates) }
+    ensures count { IfOk result (λ s. length s.aggregates ≡ length all.now) }
+{
+    let mut grown = grown;
+    let mut aggregates = Items::new(alloc);
+    for a in all {
+        let counted = attach_aggregate(alloc, a, sight, grown)?;
+        aggregates.push(counted.aggregate)?;
+        grown = counted.grown;
+    }
+    Ok(Summed { grown, aggregates })
+}

@@ -1,0 +1,83 @@
+//! The views of a session, from which its queries are planned.
+ghost use Rattle.sql_binder.specs.Binding.{bound_view};
+ghost use Rattle.plan_planner.specs.Made.{Makes};
+
+use sql_ast::{Block, Name};
+use sql_binder::bind_view;
+use sql_binder_steps::{BindFault, View, Views};
+use sqlite_items::Items;
+use std::alloc::Global;
+use std::marker::Model;
+
+/// The views of a session in the order in which they were made. Each was bound over those that
+/// stood then, so its query is well typed.
+#[derive(Drop)]
+pub struct SessionViews {
+    /// The views.
+    pub(crate) views: Views,
+}
+
+impl Model for SessionViews {
+    ghost use Rattle.std.specs.Prelude.{List};
+    ghost use Rattle.sql_binder_steps.specs.declared.view.View.{View};
+    ghost use Rattle.sql_binder_laws.specs.WellTyped.{ViewsAreTyped};
+    ghost use Rattle.sql_bound_query.specs.contracts.query.BoundBlock as block;
+    ghost use Rattle.std.specs.Coded.{codes};
+
+    ghost Value = { List View };
+
+    ghost coded = { Prim.hlevel (codes, block.the_row.coded) };
+
+    ghost view = { λ v. v.views.all };
+
+    ghost invariant = { λ v. ViewsAreTyped v.views.all };
+}
+
+impl SessionViews {
+    ghost use Rattle.std.specs.Prelude.{◌≡◌, ◌<◌, [], length, remove};
+
+    /// No view.
+    pub fn new(alloc: Global) -> SessionViews
+        ensures { result ≡ [] }
+    {
+        let views = Views {
+            all: Items::new(alloc),
+        };
+        SessionViews { views }
+    }
+
+    /// The views.
+    pub fn as_slice(&self) -> &[View]
+        ensures { result.now ≡ self.now }
+    {
+        self.views.all.as_slice()
+    }
+
+    /// Makes a view of a bound query.
+    ///
+    /// # Errors
+    ///
+    /// `Refused` exactly as `bind_view` is; `OutOfMemory`. The views then stay as they are.
+    pub fn make(
+        &mut self,
+        alloc: Global,
+        name: &Name,
+        names: &[Name],
+        query: &Block,
+    ) -> Result<(), BindFault>
+        ensures { Makes (bound_view name.now names.now query.now self.old) self.old self.new
+            result }
+    {
+        let view = bind_view(alloc, name, names, query, &self.views)?;
+        self.views.all.push(view)?;
+        Ok(())
+    }
+
+    /// Drops the view at a place.
+    pub fn remove(&mut self, place: usize)
+        requires { place < length self.old }
+        ensures { self.new ≡ remove self.old place }
+    {
+        self.views.all.remove(place);
+    }
+}

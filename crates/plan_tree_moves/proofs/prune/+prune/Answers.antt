@@ -1,0 +1,113 @@
+use Rattle.plan_tree_moves.proofs.SameNodes.{select_made, project_made, distinct_made, group_made}
+use Rattle.plan_tree_moves.proofs.SameNodes.{join_made, outer_made, mark_made, single_made}
+use Rattle.plan_tree_moves.proofs.Pruning.{read_slimmed, select_slimmed, mark_slimmed, single_slimmed}
+use Rattle.plan_tree_moves.proofs.Pruning.{list_slimmed, groups_slimmed, same_as_seen}
+use Rattle.plan_tree_moves.proofs.prune.+prune.Goals as goal
+
+pub slimmed-returns-then-not-has_mark : goal.slimmed-returns-then-not-has_mark
+slimmed-returns-then-not-has_mark t c =
+    read_slimmed c.args.n c.args.tree.now c.in_ok-whole-in-Select.whole _
+    c.in_ok-new-in-Select.new.tree c.in_ok-new-in-Select.new.kept.items
+    c.get-then-not-has_mark.ensures
+    c.in_ok-whole-in-Select.ensures c.in_ok-new-in-Select.ensures
+
+pub slimmed-returns-in-Some : goal.slimmed-returns-in-Some
+slimmed-returns-in-Some t c =
+    select_slimmed c.args.n c.args.tree.now c.in-Select.t _ c.in_ok-input-in-Select.input.tree
+    c.in-Some.slim.tree c.in-Select.c _ c.in_ok-input-in-Select.input.kept.items
+    c.in-Some.slim.kept.items c.in-Select.is c.get-in-Select-2.ensures
+    c.in_ok-input-in-Select.ensures c.get-in-Select-3.ensures
+    (rw c.in-Some.is at c.in_ok-slim-in-Select.ensures)
+
+pub slimmed-returns-in-Some-2 : goal.slimmed-returns-in-Some-2
+slimmed-returns-in-Some-2 t c =
+    mark_slimmed c.args.n c.in_ok-m-in-Mark.m c.args.tree.now c.in-Mark.l _ _ c.in-Mark.r
+    c.in_ok-left-in-Mark.left.tree c.in_ok-right-in-Mark.right c.in-Some-2.slim.tree
+    c.in_ok-left-in-Mark.left.kept.items c.in-Some-2.slim.kept.items c.in_ok-w-in-Mark.w
+    c.in-Mark.side c.get-in-Mark.ensures c.get-in-Mark-3.ensures c.in_ok-w-in-Mark.ensures
+    c.in_ok-left-in-Mark.ensures c.in_ok-m-in-Mark.ensures c.in_ok-right-in-Mark.ensures
+    c.in-Mark.c _ c.in-Mark.is c.get-in-Mark-4.ensures
+    (rw c.in-Some-2.is at c.in_ok-slim-in-Mark.ensures)
+
+pub slimmed-returns-in-Some-3 : goal.slimmed-returns-in-Some-3
+slimmed-returns-in-Some-3 t c =
+    single_slimmed c.args.n c.in_ok-m-in-Single.m c.args.tree.now c.in-Single.l _ _ c.in-Single.r
+    c.in_ok-left-in-Single.left.tree c.in_ok-right-in-Single.right c.in-Some-3.slim.tree
+    c.in_ok-left-in-Single.left.kept.items c.in-Some-3.slim.kept.items
+    c.in_ok-w-in-Single.w c.in-Single.side c.get-in-Single.ensures c.get-in-Single-2.ensures
+    c.in_ok-w-in-Single.ensures c.in_ok-left-in-Single.ensures c.in_ok-m-in-Single.ensures
+    c.in_ok-right-in-Single.ensures c.in-Single.column c.in-Single.is
+    (rw c.in-Some-3.is at c.in_ok-slim-in-Single.ensures)
+
+pub pruned-returns-in_ok-new-in-Select : goal.pruned-returns-in_ok-new-in-Select
+pruned-returns-in_ok-new-in-Select t c =
+    select_made c.args.n c.args.tree.now c.in-Select.t c.in_ok-child-in-Select.child
+    c.in_ok-new-in-Select.new c.in-Select.c _ c.in-Select.is c.in_ok-child-in-Select.ensures
+    c.get.ensures c.in_ok-new-in-Select.ensures
+
+pub pruned-returns-in-Some : goal.pruned-returns-in-Some
+pruned-returns-in-Some t c =
+    list_slimmed c.args.n c.args.tree.now c.in-Project.t _ c.in_ok-input-in-Project.input.tree
+    c.in-Some.slim c.in-Project.es _ c.in_ok-input-in-Project.input.kept.items c.in-Project.is
+    c.get-then-has_mark.ensures c.in_ok-input-in-Project.ensures c.as_slice-then-has_mark.ensures
+    (rw c.in-Some.is at c.in_ok-slim-in-Project.ensures)
+
+pub pruned-returns-in_ok-new-in-Project : goal.pruned-returns-in_ok-new-in-Project
+pruned-returns-in_ok-new-in-Project t c =
+    project_made c.args.n c.args.tree.now c.in-Project.t c.in_ok-child-in-Project.child
+    c.in_ok-new-in-Project.new c.in-Project.es _ c.in-Project.is c.in_ok-child-in-Project.ensures
+    c.as_slice-in-Project.ensures c.in_ok-new-in-Project.ensures
+
+pub pruned-returns-in_ok-new-in-Join : goal.pruned-returns-in_ok-new-in-Join
+pruned-returns-in_ok-new-in-Join t c =
+    join_made c.args.n c.in_ok-m-in-Join.m c.args.tree.now c.in-Join.l c.in-Join.r
+    c.in_ok-left-in-Join.left c.in_ok-right-in-Join.right c.in_ok-new-in-Join.new c.in-Join.side
+    c.in-Join.c _ c.in-Join.is c.in_ok-left-in-Join.ensures c.in_ok-m-in-Join.ensures
+    c.in_ok-right-in-Join.ensures c.get-in-Join.ensures c.in_ok-new-in-Join.ensures
+
+pub pruned-returns-in_ok-new-in-Outer : goal.pruned-returns-in_ok-new-in-Outer
+pruned-returns-in_ok-new-in-Outer t c =
+    outer_made c.args.n c.in_ok-m-in-Outer.m c.args.tree.now c.in-Outer.l c.in-Outer.r
+    c.in_ok-left-in-Outer.left c.in_ok-right-in-Outer.right c.in_ok-new-in-Outer.new
+    c.in-Outer.side c.in-Outer.c _ c.in-Outer.is c.in_ok-left-in-Outer.ensures
+    c.in_ok-m-in-Outer.ensures c.in_ok-right-in-Outer.ensures c.get-in-Outer.ensures
+    c.in_ok-new-in-Outer.ensures
+
+pub pruned-returns-in_ok-new-in-Mark : goal.pruned-returns-in_ok-new-in-Mark
+pruned-returns-in_ok-new-in-Mark t c =
+    mark_made c.args.n c.in_ok-m-in-Mark.m c.args.tree.now c.in-Mark.l c.in-Mark.r
+    c.in_ok-left-in-Mark.left c.in_ok-right-in-Mark.right c.in_ok-new-in-Mark.new c.in-Mark.side
+    c.in-Mark.c _ c.in-Mark.is c.in_ok-left-in-Mark.ensures c.in_ok-m-in-Mark.ensures
+    c.in_ok-right-in-Mark.ensures c.get-in-Mark.ensures c.in_ok-new-in-Mark.ensures
+
+pub pruned-returns-in_ok-new-in-Single : goal.pruned-returns-in_ok-new-in-Single
+pruned-returns-in_ok-new-in-Single t c =
+    single_made c.args.n c.in_ok-m-in-Single.m c.args.tree.now c.in-Single.l c.in-Single.r
+    c.in_ok-left-in-Single.left c.in_ok-right-in-Single.right c.in_ok-new-in-Single.new
+    c.in-Single.side c.in-Single.column c.in-Single.is c.in_ok-left-in-Single.ensures
+    c.in_ok-m-in-Single.ensures c.in_ok-right-in-Single.ensures c.in_ok-new-in-Single.ensures
+
+pub pruned-returns-in-Some-2 : goal.pruned-returns-in-Some-2
+pruned-returns-in-Some-2 t c =
+    groups_slimmed c.args.n c.args.tree.now c.in-Group.t _ c.in_ok-input-in-Group.input.tree
+    c.in-Some-2.slim c.in-Group.by _ c.in-Group.aggregates _
+    c.in_ok-input-in-Group.input.kept.items c.in-Group.is c.get-then-has_mark-2.ensures
+    c.in_ok-input-in-Group.ensures c.as_slice-keys.ensures c.as_slice-then-has_mark-2-3.ensures
+    (rw c.in-Some-2.is at c.in_ok-slim-in-Group.ensures)
+
+pub pruned-returns-in_ok-new-in-Group : goal.pruned-returns-in_ok-new-in-Group
+pruned-returns-in_ok-new-in-Group t c =
+    group_made c.args.n c.args.tree.now c.in-Group.t c.in_ok-child-in-Group.child
+    c.in_ok-new-in-Group.new c.in-Group.by _ c.in-Group.aggregates _ c.in-Group.is
+    c.in_ok-child-in-Group.ensures c.as_slice-in-Group.ensures c.as_slice-in-Group-2.ensures
+    c.in_ok-new-in-Group.ensures
+
+pub pruned-returns-in_ok-new-in-Distinct : goal.pruned-returns-in_ok-new-in-Distinct
+pruned-returns-in_ok-new-in-Distinct t c =
+    distinct_made c.args.n c.args.tree.now c.in-Distinct.t c.in_ok-child-in-Distinct.child
+    c.in_ok-new-in-Distinct.new c.in-Distinct.is c.in_ok-child-in-Distinct.ensures
+    c.in_ok-new-in-Distinct.ensures
+
+pub pruned_input-returns : goal.pruned_input-returns
+pruned_input-returns t c =
+    same_as_seen c.args.n _ c.args.tree.now c.in_ok-new.new c.get.ensures c.in_ok-new.ensures

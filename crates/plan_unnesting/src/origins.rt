@@ -1,0 +1,280 @@
+//! Which columns of a plan's nodes come unchanged from a table.
+ghost use Rattle.std.specs.Prelude.{◌≡◌, ◌+◌, ◌<◌, ◌++◌, length, map, replicate, None, slice_index_or};
+ghost use Rattle.std.specs.Prelude.{nat_lt, IfOk, OnOk, IsTrue};
+ghost use Rattle.std.specs.List.{list_all};
+ghost use Rattle.plan_algebra.specs.Plans.{inputs_of, is_formed};
+ghost use Rattle.plan_unnesting.specs.PlanKinds.{known_as, kinds_at, picked, has_matched};
+ghost use Rattle.plan_unnesting.specs.PlanKinds.{IsListed, AreListed, AreMade, AreKindsOfFirst};
+ghost use Rattle.plan_unnesting.specs.PlanKinds.{AreOrigins, AreNotesOf, AreKindsOf};
+
+use crate::domain::Origin;
+use crate::own_columns::stored_kind;
+use base_schema::ColumnKind;
+use expr_scalar::{Expr, Kind};
+use plan_algebra::{Node, NodeId};
+use sqlite_items::{Items, at};
+use std::alloc::{AllocError, Global};
+
+// Notes of those of a node's columns that come unchanged from a table. The i-th note is of the i-th
+// of these columns.
+#[tactic(auto, using(crate::proofs::KindNodes::origins_are))]
+pub(crate) fn origins(
+    alloc: Global,
+    nodes: &[Node],
+    id: NodeId,
+    columns: &[u32],
+) -> Result<Items<Origin>, AllocError>
+    requires formed { IsTrue (is_formed nodes.now) }
+    requires id { id < length nodes.now }
+    ensures { IfOk result (AreOrigins nodes.now id columns.now) }
+{
+    let kinds = plan_kinds(alloc, nodes)?;
+    let notes = notes_of(alloc, kinds_at(kinds.as_slice(), id), columns)?;
+    Ok(notes)
+}
+
+/// The kinds of the columns of one node.
+#[tactic(auto, using(crate::proofs::KindNodes::column_kinds_are))]
+pub(crate) fn column_kinds(
+    alloc: Global,
+    nodes: &[Node],
+    id: NodeId,
+) -> Result<Items<Option<Kind>>, AllocError>
+    requires formed { IsTrue (is_formed nodes.now) }
+    requires id { id < length nodes.now }
+    ensures { IfOk result (AreKindsOf nodes.now id) }
+{
+    let kinds = plan_kinds(alloc, nodes)?;
+    let own = Items::from_slice(alloc, kinds_at(kinds.as_slice(), id))?;
+    Ok(own)
+}
+
+// Notes of these columns, as far as their kinds are known.
+fn notes_of(
+    alloc: Global,
+    kinds: &[Option<Kind>],
+    columns: &[u32],
+) -> Result<Items<Origin>, AllocError>
+    ensures { IfOk result (AreNotesOf kinds.now columns.now) }
+{
+    let mut notes = Items::new(alloc);
+    for i in 0..columns.len() {
+        put_note(&mut notes, kinds, columns, i)?;
+    }
+    Ok(notes)
+}
+
+// Puts a note of the i-th of these columns after the others, where its kind is known.
+fn put_note(
+    notes: &mut Items<Origin>,
+    kinds: &[Option<Kind>],
+    columns: &[u32],
+    i: usize,
+) -> Result<(), AllocError>
+    requires within { i < length columns.now }
+    requires notes { AreNotesOf kinds.now columns.now notes.old }
+    ensures { OnOk result (AreNotesOf kinds.now columns.now notes.new) }
+{
+    let Some(kind) = kind_at(kinds, columns[i]) else {
+        return Ok(());
+    };
+    let column = u32::try_from(i).map_err(|_| AllocError)?;
+    notes.push(Origin { column, kind })?;
+    Ok(())
+}
+
+/// The kind of a column, where it is there and known.
+pub(crate) fn kind_at(kinds: &[Option<Kind>], column: u32) -> Option<Kind>
+    ensures { result ≡ slice_index_or kinds.now column None }
+{
+    match at(kinds, column as usize) {
+        Some(kind) => *kind,
+        None => None,
+    }
+}
+
+// The kinds of the columns of each node.
+fn plan_kinds(alloc: Global, nodes: &[Node]) -> Result<Vec<Items<Option<Kind>>>, AllocError>
+    requires { IsTrue (is_formed nodes.now) }
+    ensures { IfOk result (λ kinds. AreKindsOfFirst nodes.now (length nodes.now) kinds.items) }
+{
+    let mut kinds = Vec::with_capacity(alloc, nodes.len())?;
+    for i in 0..nodes.len() {
+        put_kinds(alloc, nodes, i, &mut kinds)?;
+    }
+    Ok(kinds)
+}
+
+// Puts the kinds of the columns of one node more.
+fn put_kinds(
+    alloc: Global,
+    nodes: &[Node],
+    i: usize,
+    kinds: &mut Vec<Items<Option<Kind>>>,
+) -> Result<(), AllocError>
+    requires formed { IsTrue (is_formed nodes.now) }
+    requires within { i < length nodes.now }
+    requires kinds { AreKindsOfFirst nodes.now i kinds.old.items }
+    ensures { OnOk result (AreKindsOfFirst nodes.now (i + 1) kinds.new.items) }
+{
+    let own = node_kinds(alloc, &nodes[i], kinds.as_slice())?;
+    kinds.push(own)?;
+    Ok(())
+}
+
+// Those of a node, from those of the nodes before it.
+fn node_kinds(
+    alloc: Global,
+    node: &Node,
+    kinds: &[Items<Option<Kind>>],
+) -> Result<Items<Option<Kind>>, AllocError>
+    requires inputs { IsTrue (list_all (λ i. nat_lt i (length kinds.now)) (inputs_of node.now)) }
+    requires matched { IsTrue (has_matched kinds.now node.now) }
+    ensures { IfOk result (AreMade kinds.now node.now) }
+{
+    match node {
+        Node::Scan(table) => {
+            let own = known_kinds(alloc, table.kinds())?;
+            Ok(own)
+        }
+        Node::Select(rows, _) | Node::Distinct(rows) => {
+            let own = Items::from_slice(alloc, kinds_at(kinds, *rows))?;
+            Ok(own)
+        }
+        Node::Project(rows, es) => {
+            let own = listed_kinds(alloc, kinds_at(kinds, *rows), es.as_slice())?;
+            Ok(own)
+        }
+        Node::Domain(rows, columns) => {
+            let own = picked_kinds(alloc, kinds_at(kinds, *rows), columns.as_slice())?;
+            Ok(own)
+        }
+        Node::Group(rows, by, aggregates) => {
+            let keys = picked_kinds(alloc, kinds_at(kinds, *rows), by.as_slice())?;
+            let own = padded_kinds(alloc, keys.as_slice(), aggregates.len())?;
+            Ok(own)
+        }
+        Node::Join(left, right, matched, _) | Node::Outer(left, right, matched, _, _) => {
+            let rest = &kinds_at(kinds, *right)[matched.len()..];
+            let own = joined_kinds(alloc, kinds_at(kinds, *left), rest)?;
+            Ok(own)
+        }
+        Node::Mark(left, _, _, _) | Node::Single(left, _, _, _) => {
+            let own = padded_kinds(alloc, kinds_at(kinds, *left), 1)?;
+            Ok(own)
+        }
+        Node::Fill(_, rows, empty) => {
+            let own = unknown_kinds(alloc, kinds_at(kinds, *rows).len(), empty.len())?;
+            Ok(own)
+        }
+    }
+}
+
+// The kinds of the columns of the node of this number.
+fn kinds_at(kinds: &[Items<Option<Kind>>], id: NodeId) -> &[Option<Kind>]
+    requires { id < length kinds.now }
+    ensures { result.now ≡ kinds_at kinds.now id }
+{
+    kinds[id].as_slice()
+}
+
+/// The kinds of a table's columns.
+pub(crate) fn known_kinds(
+    alloc: Global,
+    kinds: &[ColumnKind],
+) -> Result<Items<Option<Kind>>, AllocError>
+    ensures { IfOk result (λ own. own ≡ map known_as kinds.now) }
+{
+    let mut own = Items::new(alloc);
+    for kind in kinds {
+        own.push(Some(stored_kind(*kind)))?;
+    }
+    Ok(own)
+}
+
+// The kind of an expression's values, where it is a column.
+fn listed_kind(kinds: &[Option<Kind>], e: &Expr) -> Option<Kind>
+    ensures { IsListed kinds.now e.now result }
+{
+    match e {
+        Expr::Column(column) => kind_at(kinds, *column),
+        _ => None,
+    }
+}
+
+// The kinds of a select list.
+fn listed_kinds(
+    alloc: Global,
+    kinds: &[Option<Kind>],
+    es: &[Expr],
+) -> Result<Items<Option<Kind>>, AllocError>
+    ensures { IfOk result (AreListed kinds.now es.now) }
+{
+    let mut own = Items::new(alloc);
+    for e in es {
+        own.push(listed_kind(kinds, e))?;
+    }
+    Ok(own)
+}
+
+/// Puts `count` columns of unknown kinds after the others.
+pub(crate) fn put_unknown(to: &mut Items<Option<Kind>>, count: usize) -> Result<(), AllocError>
+    ensures { OnOk result (to.new ≡ to.old ++ replicate count None) }
+{
+    for _i in 0..count {
+        to.push(None)?;
+    }
+    Ok(())
+}
+
+// The kinds of these columns.
+fn picked_kinds(
+    alloc: Global,
+    kinds: &[Option<Kind>],
+    columns: &[u32],
+) -> Result<Items<Option<Kind>>, AllocError>
+    ensures { IfOk result (λ own. own ≡ picked kinds.now columns.now) }
+{
+    let mut own = Items::new(alloc);
+    for column in columns {
+        own.push(kind_at(kinds, *column))?;
+    }
+    Ok(own)
+}
+
+/// The kinds of two rows beside one another.
+pub(crate) fn joined_kinds(
+    alloc: Global,
+    left: &[Option<Kind>],
+    right: &[Option<Kind>],
+) -> Result<Items<Option<Kind>>, AllocError>
+    ensures { IfOk result (λ own. own ≡ left.now ++ right.now) }
+{
+    let mut own = Items::from_slice(alloc, left)?;
+    let more = Items::from_slice(alloc, right)?;
+    own.append(more)?;
+    Ok(own)
+}
+
+// These kinds, and `more` unknown ones after them.
+fn padded_kinds(
+    alloc: Global,
+    kinds: &[Option<Kind>],
+    more: usize,
+) -> Result<Items<Option<Kind>>, AllocError>
+    ensures { IfOk result (λ own. own ≡ kinds.now ++ replicate more None) }
+{
+    let mut own = Items::from_slice(alloc, kinds)?;
+    put_unknown(&mut own, more)?;
+    Ok(own)
+}
+
+// Unknown kinds alone.
+fn unknown_kinds(alloc: Global, some: usize, more: usize) -> Result<Items<Option<Kind>>, AllocError>
+    ensures { IfOk result (λ own. own ≡ replicate some None ++ replicate more None) }
+{
+    let mut own = Items::new(alloc);
+    put_unknown(&mut own, some)?;
+    put_unknown(&mut own, more)?;
+    Ok(own)
+}

@@ -1,7 +1,0 @@
-use Rattle.std.proofs.Common.{◌≡◌, ◌≤◌, length, take}
-use Rattle.algebra.specs.Plans.{plan_scans}
-use Rattle.query_planner.proofs.text.scans.Given as goal
-
-abbrev pub invariant-loop-node : goal.invariant-loop-node
-invariant-loop-node l = (l.count ≡ length (plan_scans (take l.node-index l.nodes)))
-    × (l.count ≤ l.node-index)

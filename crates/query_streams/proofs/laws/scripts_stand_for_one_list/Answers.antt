@@ -1,5 +1,0 @@
-use Rattle.query_streams.proofs.Once.{expand_once}
-use Rattle.query_streams.proofs.laws.scripts_stand_for_one_list.Goals as goal
-
-pub returns : goal.returns
-returns c = expand_once

@@ -1,4 +1,0 @@
-use Rattle.query_streams.proofs.query.query_outcome.Given as goal
-
-abbrev pub ghosts-counted_outcome : goal.ghosts-counted_outcome
-ghosts-counted_outcome g a = record { name = a.blank.name; parts = a.blank.parts }

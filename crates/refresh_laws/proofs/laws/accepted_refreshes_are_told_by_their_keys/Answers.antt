@@ -1,8 +1,0 @@
-use Rattle.refresh_laws.proofs.AcceptedKeys.{delete_law, insert_law}
-use Rattle.refresh_laws.proofs.laws.accepted_refreshes_are_told_by_their_keys.Goals as goal
-
-pub returns-clause-insert : goal.returns-clause-insert
-returns-clause-insert c = insert_law
-
-pub returns-clause-delete : goal.returns-clause-delete
-returns-clause-delete c = delete_law

@@ -1,6 +1,0 @@
-use Rattle.std.proofs.Common.{◌≡◌, take, map}
-use Rattle.sql_value.specs.declared.value.Value.TheVariants.{Text}
-use Rattle.row_keys.proofs.column_codes.dictionary_values.Given as goal
-
-abbrev pub invariant-loop-text : goal.invariant-loop-text
-invariant-loop-text l = l.values.items ≡ map Text (take l.text-index l.texts)

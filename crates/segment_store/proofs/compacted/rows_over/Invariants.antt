@@ -1,6 +1,0 @@
-use Rattle.std.proofs.Common.{◌≡◌, take}
-use Rattle.columns.specs.Lists.{one_list}
-use Rattle.segment_store.proofs.compacted.rows_over.Given as goal
-
-abbrev pub invariant-loop-segment : goal.invariant-loop-segment
-invariant-loop-segment l = l.rows ≡ one_list (take l.segment-index l.segments)

@@ -1,0 +1,188 @@
+-- The settled cases, computed.
+use Rattle.sql_binder_steps.specs.Steps.{input, aggregate, alone, apart, counted, take_aggregates}
+use Rattle.sql_binder_steps.specs.Names.{is_met, ends, means, the_one, key_of, found, resolved}
+use Rattle.sql_binder_steps.specs.Values.{date_literal, negative, compared, null_test, between, liked}
+use Rattle.sql_binder_steps.specs.Values.{in_list, denied, extracted, substring, operated, shifted, ended}
+use Rattle.sql_binder_steps.specs.Values.{first_condition, next_condition, all_of, any_of, chosen}
+use Rattle.sql_binder_steps.specs.Values.{case_of, case_else_of}
+use Rattle.sql_binder_steps.specs.Parts.{column, inside, within_on, hiding, among_rows, grouped}
+use Rattle.sql_binder_steps.specs.Parts.{aggregated, existing, containing, only_value, member}
+use Rattle.sql_binder_steps.specs.Parts.{table_headers, named_item, unused, column_of, renamed_headers}
+use Rattle.sql_binder_steps.specs.Parts.{distinct_names, listed_headers, table_rows, named_rows}
+use Rattle.sql_binder_steps.specs.Parts.{first_rows, crossed, joining, joined_rows, present, holding}
+use Rattle.sql_binder_steps.specs.Parts.{shown_part, star, keys_of, plain, closing, once_each}
+use Rattle.sql_binder_steps.specs.Parts.{output_place, order_of}
+use Rattle.sql_binder.specs.Operands.{conditions, operands, chain, arm_conditions, arm_values}
+use Rattle.sql_binder.specs.FromLists.{on_condition, on_joining, joins, chained, from_list}
+use Rattle.sql_binder.specs.Clauses.{condition, shown_item, shown_items, select}
+use Rattle.sql_binder.specs.Blocks.{is_grouped, from_where, over_rows, group_lists, over_groups}
+use Rattle.sql_binder.specs.Binding.{clauses_of, is_grouped_block, bound_query, bound_view}
+use Rattle.base_date.specs.Move.{times}
+use Rattle.sql_binder.proofs.Applied.{computed}
+use Rattle.sql_binder_laws.specs.Settled.{ItemsOfFrom, OrderOfIn, OperandsFirst, NamesFurtherOut}
+use Rattle.sql_binder_laws.specs.Settled.{RepeatedKeys, OutputNames, PlacesOfAggregates}
+use Rattle.sql_binder_laws.specs.Settled.{ValuesAsConditions, NamesOfOn, TurnsOfColumns}
+
+pub items_of_from : ItemsOfFrom
+unfolding input aggregate alone apart counted take_aggregates is_met ends means the_one key_of found
+    resolved date_literal negative compared null_test between liked in_list denied extracted
+    substring operated shifted ended first_condition next_condition all_of any_of chosen case_of
+    case_else_of column inside within_on hiding among_rows grouped aggregated existing containing
+    only_value member table_headers named_item unused column_of renamed_headers distinct_names
+    listed_headers table_rows named_rows first_rows crossed joining joined_rows present holding
+    shown_part star keys_of plain closing once_each output_place order_of conditions operands chain
+    arm_conditions arm_values on_condition on_joining joins chained from_list condition shown_item
+    shown_items select is_grouped from_where over_rows group_lists over_groups clauses_of
+    is_grouped_block bound_query bound_view times
+items_of_from = (
+  simp computed,
+  simp computed,
+  simp computed,
+  simp computed,
+  simp computed,
+  simp computed,
+)
+
+pub values_as_conditions : ValuesAsConditions
+unfolding input aggregate alone apart counted take_aggregates is_met ends means the_one key_of found
+    resolved date_literal negative compared null_test between liked in_list denied extracted
+    substring operated shifted ended first_condition next_condition all_of any_of chosen case_of
+    case_else_of column inside within_on hiding among_rows grouped aggregated existing containing
+    only_value member table_headers named_item unused column_of renamed_headers distinct_names
+    listed_headers table_rows named_rows first_rows crossed joining joined_rows present holding
+    shown_part star keys_of plain closing once_each output_place order_of conditions operands chain
+    arm_conditions arm_values on_condition on_joining joins chained from_list condition shown_item
+    shown_items select is_grouped from_where over_rows group_lists over_groups clauses_of
+    is_grouped_block bound_query bound_view times
+values_as_conditions = (
+  simp computed,
+  simp computed,
+  simp computed,
+  simp computed,
+  simp computed,
+  simp computed,
+  simp computed,
+  simp computed,
+)
+
+pub order_of_in : OrderOfIn
+unfolding input aggregate alone apart counted take_aggregates is_met ends means the_one key_of found
+    resolved date_literal negative compared null_test between liked in_list denied extracted
+    substring operated shifted ended first_condition next_condition all_of any_of chosen case_of
+    case_else_of column inside within_on hiding among_rows grouped aggregated existing containing
+    only_value member table_headers named_item unused column_of renamed_headers distinct_names
+    listed_headers table_rows named_rows first_rows crossed joining joined_rows present holding
+    shown_part star keys_of plain closing once_each output_place order_of conditions operands chain
+    arm_conditions arm_values on_condition on_joining joins chained from_list condition shown_item
+    shown_items select is_grouped from_where over_rows group_lists over_groups clauses_of
+    is_grouped_block bound_query bound_view times
+order_of_in = (
+  simp computed,
+  simp computed,
+  simp computed,
+  simp computed,
+  simp computed,
+  simp computed,
+  simp computed,
+  simp computed,
+  simp computed,
+  simp computed,
+)
+
+pub operands_first : OperandsFirst
+unfolding input aggregate alone apart counted take_aggregates is_met ends means the_one key_of found
+    resolved date_literal negative compared null_test between liked in_list denied extracted
+    substring operated shifted ended first_condition next_condition all_of any_of chosen case_of
+    case_else_of column inside within_on hiding among_rows grouped aggregated existing containing
+    only_value member table_headers named_item unused column_of renamed_headers distinct_names
+    listed_headers table_rows named_rows first_rows crossed joining joined_rows present holding
+    shown_part star keys_of plain closing once_each output_place order_of conditions operands chain
+    arm_conditions arm_values on_condition on_joining joins chained from_list condition shown_item
+    shown_items select is_grouped from_where over_rows group_lists over_groups clauses_of
+    is_grouped_block bound_query bound_view times
+operands_first = (simp computed, simp computed, simp computed)
+
+pub names_further_out : NamesFurtherOut
+unfolding input aggregate alone apart counted take_aggregates is_met ends means the_one key_of found
+    resolved date_literal negative compared null_test between liked in_list denied extracted
+    substring operated shifted ended first_condition next_condition all_of any_of chosen case_of
+    case_else_of column inside within_on hiding among_rows grouped aggregated existing containing
+    only_value member table_headers named_item unused column_of renamed_headers distinct_names
+    listed_headers table_rows named_rows first_rows crossed joining joined_rows present holding
+    shown_part star keys_of plain closing once_each output_place order_of conditions operands chain
+    arm_conditions arm_values on_condition on_joining joins chained from_list condition shown_item
+    shown_items select is_grouped from_where over_rows group_lists over_groups clauses_of
+    is_grouped_block bound_query bound_view times
+names_further_out = (simp computed, simp computed, simp computed, simp computed)
+
+pub names_of_on : NamesOfOn
+unfolding input aggregate alone apart counted take_aggregates is_met ends means the_one key_of found
+    resolved date_literal negative compared null_test between liked in_list denied extracted
+    substring operated shifted ended first_condition next_condition all_of any_of chosen case_of
+    case_else_of column inside within_on hiding among_rows grouped aggregated existing containing
+    only_value member table_headers named_item unused column_of renamed_headers distinct_names
+    listed_headers table_rows named_rows first_rows crossed joining joined_rows present holding
+    shown_part star keys_of plain closing once_each output_place order_of conditions operands chain
+    arm_conditions arm_values on_condition on_joining joins chained from_list condition shown_item
+    shown_items select is_grouped from_where over_rows group_lists over_groups clauses_of
+    is_grouped_block bound_query bound_view times
+names_of_on = simp computed
+
+pub repeated_keys : RepeatedKeys
+unfolding input aggregate alone apart counted take_aggregates is_met ends means the_one key_of found
+    resolved date_literal negative compared null_test between liked in_list denied extracted
+    substring operated shifted ended first_condition next_condition all_of any_of chosen case_of
+    case_else_of column inside within_on hiding among_rows grouped aggregated existing containing
+    only_value member table_headers named_item unused column_of renamed_headers distinct_names
+    listed_headers table_rows named_rows first_rows crossed joining joined_rows present holding
+    shown_part star keys_of plain closing once_each output_place order_of conditions operands chain
+    arm_conditions arm_values on_condition on_joining joins chained from_list condition shown_item
+    shown_items select is_grouped from_where over_rows group_lists over_groups clauses_of
+    is_grouped_block bound_query bound_view times
+repeated_keys = simp computed
+
+pub output_names : OutputNames
+unfolding input aggregate alone apart counted take_aggregates is_met ends means the_one key_of found
+    resolved date_literal negative compared null_test between liked in_list denied extracted
+    substring operated shifted ended first_condition next_condition all_of any_of chosen case_of
+    case_else_of column inside within_on hiding among_rows grouped aggregated existing containing
+    only_value member table_headers named_item unused column_of renamed_headers distinct_names
+    listed_headers table_rows named_rows first_rows crossed joining joined_rows present holding
+    shown_part star keys_of plain closing once_each output_place order_of conditions operands chain
+    arm_conditions arm_values on_condition on_joining joins chained from_list condition shown_item
+    shown_items select is_grouped from_where over_rows group_lists over_groups clauses_of
+    is_grouped_block bound_query bound_view times
+output_names = (simp computed, simp computed, simp computed, simp computed, simp computed)
+
+pub places_of_aggregates : PlacesOfAggregates
+unfolding input aggregate alone apart counted take_aggregates is_met ends means the_one key_of found
+    resolved date_literal negative compared null_test between liked in_list denied extracted
+    substring operated shifted ended first_condition next_condition all_of any_of chosen case_of
+    case_else_of column inside within_on hiding among_rows grouped aggregated existing containing
+    only_value member table_headers named_item unused column_of renamed_headers distinct_names
+    listed_headers table_rows named_rows first_rows crossed joining joined_rows present holding
+    shown_part star keys_of plain closing once_each output_place order_of conditions operands chain
+    arm_conditions arm_values on_condition on_joining joins chained from_list condition shown_item
+    shown_items select is_grouped from_where over_rows group_lists over_groups clauses_of
+    is_grouped_block bound_query bound_view times
+places_of_aggregates = (
+  simp computed,
+  simp computed,
+  simp computed,
+  simp computed,
+  simp computed,
+  simp computed,
+)
+
+pub turns_of_columns : TurnsOfColumns
+unfolding input aggregate alone apart counted take_aggregates is_met ends means the_one key_of found
+    resolved date_literal negative compared null_test between liked in_list denied extracted
+    substring operated shifted ended first_condition next_condition all_of any_of chosen case_of
+    case_else_of column inside within_on hiding among_rows grouped aggregated existing containing
+    only_value member table_headers named_item unused column_of renamed_headers distinct_names
+    listed_headers table_rows named_rows first_rows crossed joining joined_rows present holding
+    shown_part star keys_of plain closing once_each output_place order_of conditions operands chain
+    arm_conditions arm_values on_condition on_joining joins chained from_list condition shown_item
+    shown_items select is_grouped from_where over_rows group_lists over_groups clauses_of
+    is_grouped_block bound_query bound_view times
+turns_of_columns = (simp computed, simp computed, simp computed, simp computed)

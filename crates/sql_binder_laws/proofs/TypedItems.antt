@@ -1,0 +1,254 @@
+-- What an item of FROM binds is typed.
+use Rattle.std.proofs.Common.{◌≡◌, ℕ, ◌+◌, ◌-◌, ◌<◌, ◌≤◌, ◌==◌, List, [], ◌∷◌, length, map}
+use Rattle.std.proofs.Common.{suc, Bool, true, false, if◌then◌else◌, refl, sym, ap, ◌∙◌}
+use Rattle.std.proofs.Common.{subst, arith}
+use Rattle.std.specs.Prelude.{Option, Some, None, Ok, Err}
+use Rattle.std.specs.Str.{bytes_eq}
+use Rattle.std.proofs.lemmas.Bool.Decides.{Decides-eqb}
+use Rattle.sql_bound_query.proofs.TypingOpened.{kinds_Table, kinds_Derived}
+use Rattle.sql_bound_query.specs.declared.query.BoundBlock.{BoundBlock}
+use Rattle.sql_bound_query.specs.declared.query.BoundSource.TheVariants as source
+use Rattle.sql_bound_query.specs.Typing.{EnvKinds, KindsMeaning}
+use Rattle.sql_bound_query.specs.Typing.{column_kinds, block_kinds, from_kinds}
+use Rattle.base_refusals.specs.declared.bind.BindRefusal.{BindRefusal}
+use Rattle.base_refusals.specs.declared.bind.BindRefusal.TheVariants.{TooManyTables}
+use Rattle.expr_scalar.specs.declared.kind.Kind.{Kind}
+use Rattle.base_schema.specs.declared.table.TableName.{TableName}
+use Rattle.base_schema.specs.declared.table.TableName.TheVariants.{Region, Nation, Part, Supplier}
+use Rattle.base_schema.specs.declared.table.TableName.TheVariants.{Partsupp, Customer, Orders}
+use Rattle.base_schema.specs.declared.table.TableName.TheVariants.{Lineitem}
+use Rattle.base_schema.specs.Tables.{table_of}
+use Rattle.sql_binder_steps.specs.declared.collected.Collected.{Collected}
+use Rattle.sql_binder_steps.specs.declared.collected.FromRows.{FromRows}
+use Rattle.sql_binder_steps.specs.declared.from.NamedItem.{NamedItem}
+use Rattle.sql_binder_steps.specs.declared.scope.ScopeColumn.{ScopeColumn}
+use Rattle.sql_binder_steps.specs.declared.view.Header.{Header}
+use Rattle.sql_binder_steps.specs.declared.view.View.{View}
+use Rattle.sql_binder.specs.Meanings.{FromItemMeaning}
+use Rattle.sql_binder.specs.Meanings.{BlockMeaning}
+use Rattle.sql_binder_steps.specs.Names.{Sight}
+use Rattle.sql_binder_steps.specs.Parts.{hiding, table_headers, view_named, named_by}
+use Rattle.sql_binder_steps.specs.Parts.{named_item, unused, column_of, under_names, renamed_headers}
+use Rattle.sql_binder_steps.specs.Parts.{distinct_names, listed_headers, table_rows, named_rows}
+use Rattle.sql_binder_steps.specs.Steps.{Name, Checked, ◌>>=◌, lift}
+use Rattle.sql_binder_steps.specs.Steps.{counted}
+use Rattle.sql_binder_laws.specs.WellTyped.{header_kinds, ViewsAreTyped}
+use Rattle.sql_binder_laws.proofs.TypedOperands.{went, ok_is}
+use Rattle.sql_binder_laws.proofs.TypedSteps.{Ready, row_kinds, Fits, same_pair}
+use Rattle.sql_binder_laws.proofs.TypedQueries.{BlockMeaningIs}
+
+-- ---- steps that only pass on or refuse
+
+-- a value that was passed on
+pub record Lifted {A : Type 0} (r : Checked A) (s : Collected) (a : A) (t : Collected) : Type 0
+  where
+    pub is : r ≡ Ok a
+    pub same : t ≡ s
+
+pub lifted : {A : Type 0} (r : Checked A) (s : Collected) (a : A) (t : Collected)
+    → lift r s ≡ Ok (a, t) → Lifted r s a t
+lifted r s a t h =
+    let w = went r (λ x. Ok (x, s)) (a, t) h in
+    let e = same_pair (w.it, s) a t (ok_is (w.it, s) (a, t) w.gives) in
+    record { is = w.is ∙ ap Ok e.0; same = sym e.1 }
+
+-- FROM items more
+record Added (s t : Collected) : Type 0 where
+  inputs : t.inputs ≡ s.inputs
+  aggregates : t.aggregates ≡ s.aggregates
+
+added_by : (b : Bool) (s u t : Collected) (x : Unit {0}) → Added s u
+    → (let r : Checked (Unit {0} × Collected) = if b then Ok (tt, u) else Err TooManyTables in
+    r ≡ Ok (x, t)) → Added s t
+added_by true s u t x a h = let e = same_pair (tt, u) x t (ok_is (tt, u) (x, t) h) in
+    subst (Added s) e.1 a
+added_by false s u t x a h = cc
+
+added : (n : ℕ) (s t : Collected) (x : Unit {0}) → counted n s ≡ Ok (x, t) → Added s t
+unfolding counted
+added n s t x h = added_by _ s (record s { items = s.items + n }) t x
+    (record { inputs = refl; aggregates = refl }) h
+
+-- ---- columns
+
+row_of_item : (alias : Name) (headers : List Header)
+    → row_kinds (map (column_of alias) headers) ≡ header_kinds headers
+unfolding column_of
+row_of_item alias [] = refl
+row_of_item alias (h ∷ headers) = ap (λ ks. h.kind ∷ ks) (row_of_item alias headers)
+
+table_kinds : (t : TableName) → column_kinds t ≡ header_kinds (table_headers t)
+unfolding table_headers
+table_kinds Region = refl
+table_kinds Nation = refl
+table_kinds Part = refl
+table_kinds Supplier = refl
+table_kinds Partsupp = refl
+table_kinds Customer = refl
+table_kinds Orders = refl
+table_kinds Lineitem = refl
+
+kinds_under_names : (names : List Name) (headers : List Header) → length names ≡ length headers
+    → header_kinds (under_names names headers) ≡ header_kinds headers
+kinds_under_names [] [] e = refl
+kinds_under_names [] (h ∷ headers) e = absurd (omega (arith, e))
+kinds_under_names (n ∷ names) [] e = absurd (omega (arith, e))
+kinds_under_names (n ∷ names) (h ∷ headers) e =
+    ap (λ ks. h.kind ∷ ks) (kinds_under_names names headers (omega (arith, e)))
+
+chosen_headers : (b : Bool) (why : BindRefusal) (new made : List Header)
+    → (let r : Checked (List Header) = if b then Ok new else Err why in r ≡ Ok made)
+    → (b ≡ true) × (new ≡ made)
+chosen_headers true why new made h = (refl, ok_is new made h)
+chosen_headers false why new made h = cc
+
+pub renamed_kinds : (names : List Name) (headers made : List Header)
+    → renamed_headers names headers ≡ Ok made → header_kinds made ≡ header_kinds headers
+unfolding renamed_headers
+renamed_kinds [] headers made h = ap header_kinds (sym (ok_is headers made h))
+renamed_kinds (n ∷ names) headers made h =
+    let c = chosen_headers (length (n ∷ names) == length headers) _
+    (under_names (n ∷ names) headers) made h in
+    ap header_kinds (sym c.1)
+    ∙ kinds_under_names (n ∷ names) headers
+    ((Decides-eqb (length (n ∷ names)) (length headers)).0 c.0)
+
+listed_kinds_are : (names : List Name) (headers made : List Header)
+    → listed_headers names headers ≡ Ok made → header_kinds made ≡ header_kinds headers
+unfolding listed_headers
+listed_kinds_are names headers made h = let w = went (distinct_names names) _ made h in
+    renamed_kinds names headers made w.gives
+
+-- ---- items of FROM
+
+-- an item that was bound
+pub record FromIs (s t : Collected) (f : FromRows) : Type 0 where
+  pub inputs : t.inputs ≡ s.inputs
+  pub aggregates : t.aggregates ≡ s.aggregates
+  pub kinds : (env : EnvKinds) → from_kinds f.source env ≡ Some (row_kinds f.columns)
+
+-- an item of FROM is typed wherever it stands
+abbrev pub FromItemMeaningIs : FromItemMeaning → Type 0
+FromItemMeaningIs m = (sight : Sight) (left : List ScopeColumn) (s : Collected) → Ready sight
+    → (f : FromRows) (t : Collected) → m sight left s ≡ Ok (f, t) → FromIs s t f
+
+-- what a name stands for is typed
+abbrev ItemIs : NamedItem → Type 0
+ItemIs i = (env : EnvKinds) → from_kinds i.source env ≡ Some (header_kinds i.headers)
+
+table_is : (t : TableName) (env : EnvKinds)
+    → from_kinds (source.Table t) env ≡ Some (header_kinds (table_headers t))
+table_is t env = ap (λ (m : KindsMeaning). m env) (kinds_Table t) ∙ ap Some (table_kinds t)
+
+derived_is : (q : BoundBlock) (ks : List Kind) (env : EnvKinds) → block_kinds q [] ≡ Some ks
+    → from_kinds (source.Derived q) env ≡ Some ks
+derived_is q ks env h = ap (λ (m : KindsMeaning). m env) (kinds_Derived q) ∙ h
+
+view_step : (b : Bool) (v : View) (r : Checked NamedItem) (i : NamedItem)
+    → (let x : Checked NamedItem =
+    if b then Ok (record {
+      source = source.Derived v.block;
+      headers = v.columns;
+      items = v.items + 1;
+    }) else r in x ≡ Ok i)
+    → block_kinds v.block [] ≡ Some (header_kinds v.columns) → (r ≡ Ok i → ItemIs i) → ItemIs i
+view_step true v r i h is other =
+    let made : NamedItem = record {
+      source = source.Derived v.block;
+      headers = v.columns;
+      items = v.items + 1;
+    } in
+    subst ItemIs (ok_is made i h) (λ env. derived_is v.block (header_kinds v.columns) env is)
+view_step false v r i h is other = other h
+
+view_is : (name : Name) (views : List View) (i : NamedItem) → ViewsAreTyped views
+    → view_named name views ≡ Ok i → ItemIs i
+view_is name [] i are h = cc
+view_is name (v ∷ views) i are h =
+    view_step (bytes_eq v.name name) v (view_named name views) i h are.0
+    (λ g. view_is name views i are.1 g)
+
+named_by_is : (o : Option TableName) (name : Name) (views : List View) (i : NamedItem)
+    → ViewsAreTyped views → named_by o name views ≡ Ok i → ItemIs i
+named_by_is (Some t) name views i are h =
+    let made : NamedItem = record {
+      source = source.Table t;
+      headers = table_headers t;
+      items = 1;
+    } in
+    subst ItemIs (ok_is made i h) (λ env. table_is t env)
+named_by_is None name views i are h = view_is name views i are h
+
+named_is : (name : Name) (views : List View) (i : NamedItem) → ViewsAreTyped views
+    → named_item name views ≡ Ok i → ItemIs i
+unfolding named_item
+named_is name views i are h = named_by_is (table_of name) name views i are h
+
+-- a table or a view
+pub table_rows_is : (name alias : Name)
+    → FromItemMeaningIs (λ sight left. table_rows sight name alias left)
+unfolding table_rows
+table_rows_is name alias sight left s ready f t h =
+    let w = went (lift (named_item name sight.views) s) _ (f, t) h in
+    let i = w.it.0 in
+    let l = lifted (named_item name sight.views) s i w.it.1 w.is in
+    let v = went (counted i.items w.it.1) _ (f, t) w.gives in
+    let a = added i.items w.it.1 v.it.1 v.it.0 v.is in
+    let x = went (lift (unused left alias) v.it.1) _ (f, t) v.gives in
+    let y = lifted (unused left alias) v.it.1 x.it.0 x.it.1 x.is in
+    let made : FromRows = record { source = i.source; columns = map (column_of alias) i.headers } in
+    let e = same_pair (made, x.it.1) f t (ok_is (made, x.it.1) (f, t) x.gives) in
+    let is = named_is name sight.views i ready.views l.is in
+    subst (λ (g : FromRows). FromIs s t g) e.0 (record {
+      inputs = ap (λ (c : Collected). c.inputs) (sym e.1 ∙ y.same) ∙ a.inputs
+          ∙ ap (λ (c : Collected). c.inputs) l.same;
+      aggregates = ap (λ (c : Collected). c.aggregates) (sym e.1 ∙ y.same) ∙ a.aggregates
+          ∙ ap (λ (c : Collected). c.aggregates) l.same;
+      kinds = λ env. is env ∙ ap Some (sym (row_of_item alias i.headers));
+    })
+
+ready_hidden : (sight : Sight) (left : List ScopeColumn) → Ready sight → Ready (hiding sight left)
+unfolding hiding
+ready_hidden sight left r =
+    record {
+      views = r.views;
+      hidden = let all : length sight.levels + 1 ≤ suc (length sight.levels) = omega arith in all;
+    }
+
+-- under no rows, since all are hidden
+fits_hidden : (sight : Sight) (left : List ScopeColumn) → Fits (hiding sight left) []
+unfolding hiding
+fits_hidden sight left =
+    record {
+      row = λ level q below at.
+          absurd (let b : level < suc (length sight.levels) - (length sight.levels + 1) = below in
+          omega (arith, b));
+    }
+
+-- a derived table
+pub derived_rows_is : (q : BlockMeaning) (alias : Name) (names : List Name) → BlockMeaningIs q
+    → FromItemMeaningIs (λ sight left.
+    counted 1 >>= (λ u. q (hiding sight left) >>= (λ t. lift (named_rows t alias names left))))
+unfolding named_rows
+derived_rows_is q alias names is sight left s ready f t h =
+    let w = went (counted 1 s) _ (f, t) h in
+    let a = added 1 s w.it.1 w.it.0 w.is in
+    let v = went (q (hiding sight left) w.it.1) _ (f, t) w.gives in
+    let b = is (hiding sight left) w.it.1 (ready_hidden sight left ready) v.it.0 v.it.1 v.is in
+    let table = v.it.0 in
+    let l = lifted _ v.it.1 f t v.gives in
+    let x = went (unused left alias) _ f l.is in
+    let y = went (listed_headers names table.headers) _ f x.gives in
+    let made : FromRows = record {
+      source = source.Derived table.block;
+      columns = map (column_of alias) y.it;
+    } in
+    let e : made ≡ f = ok_is made f y.gives in
+    subst (λ (g : FromRows). FromIs s t g) e (record {
+      inputs = ap (λ (c : Collected). c.inputs) l.same ∙ b.inputs ∙ a.inputs;
+      aggregates = ap (λ (c : Collected). c.aggregates) l.same ∙ b.aggregates ∙ a.aggregates;
+      kinds = λ env.
+          derived_is table.block (header_kinds table.headers) env
+          (b.kinds [] (fits_hidden sight left))
+          ∙ ap Some (sym (row_of_item alias y.it ∙ listed_kinds_are names table.headers y.it y.is));
+    })

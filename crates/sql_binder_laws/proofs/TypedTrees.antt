@@ -1,0 +1,451 @@
+-- Each tree binds what is typed.
+use Rattle.std.proofs.Common.{◌≡◌, ℕ, List, [], ◌∷◌, map, sym, ap, ◌∙◌, subst, arith}
+use Rattle.std.specs.Prelude.{Option, Some, None, unwrap_or, Result, Ok, Err, ok_or}
+use Rattle.expr_scalar.specs.declared.kind.Kind.{Kind}
+use Rattle.sql_bound_query.specs.Typing.{block_kinds}
+use Rattle.sql_binder_steps.specs.declared.collected.BoundTable.{BoundTable}
+use Rattle.sql_binder_steps.specs.declared.view.View.{View}
+use Rattle.base_row_laws.specs.Bags.{Each}
+use Rattle.base_date.specs.Date.{date_of}
+use Rattle.base_date.specs.declared.DateFault.{DateFault}
+use Rattle.base_date.specs.declared.DateFault.TheVariants as fault
+use Rattle.expr_aggregates.specs.declared.function.AggregateFunction.TheVariants.{Count, CountDistinct}
+use Rattle.sql_ast.specs.declared.tree.Clause.{Clause, roll-Clause, out-roll-Clause}
+use Rattle.sql_ast.specs.declared.tree.Expr.{Expr, roll-Expr, out-roll-Expr}
+use Rattle.sql_ast.specs.declared.tree.FromItem.{FromItem, roll-FromItem}
+use Rattle.sql_ast.specs.declared.tree.FromItem.{out-roll-FromItem}
+use Rattle.sql_ast.specs.declared.tree.Selected.{Selected, roll-Selected}
+use Rattle.sql_ast.specs.declared.tree.Selected.{out-roll-Selected}
+use Rattle.sql_ast.specs.declared.tree.Arm.{Arm, roll-Arm, out-roll-Arm}
+use Rattle.sql_ast.specs.declared.tree.Block.{Block, roll-Block, out-roll-Block}
+use Rattle.sql_ast.specs.declared.tree.Factor.{Factor, roll-Factor, out-roll-Factor}
+use Rattle.sql_ast.specs.declared.tree.Item.{Item, roll-Item, out-roll-Item}
+use Rattle.sql_ast.specs.declared.tree.Join.{Join, roll-Join, out-roll-Join}
+use Rattle.sql_ast.specs.declared.tree.Joined.{Joined, roll-Joined, out-roll-Joined}
+use Rattle.sql_ast.specs.declared.tree.Term.{Term, roll-Term, out-roll-Term}
+use Rattle.sql_ast.specs.declared.tree.Clause.TheOpen.{Clause-F, Expr-F, FromItem-F, Selected-F}
+use Rattle.sql_ast.specs.declared.tree.Clause.TheOpen.{Arm-F, Block-F, Factor-F, Item-F, Join-F}
+use Rattle.sql_ast.specs.declared.tree.Clause.TheOpen.{Joined-F, Term-F}
+use Rattle.sql_ast.specs.declared.tree.Clause.TheFolds.{ind-Block, map-Clause, map-Expr}
+use Rattle.sql_ast.specs.declared.tree.Clause.TheFolds.{map-FromItem, map-Selected, map-Arm}
+use Rattle.sql_ast.specs.declared.tree.Clause.TheFolds.{map-Block, map-Factor, map-Item, map-Join}
+use Rattle.sql_ast.specs.declared.tree.Clause.TheFolds.{map-Joined, map-Term}
+use Rattle.sql_ast.specs.declared.words.Adding.{Adding}
+use Rattle.sql_ast.specs.declared.words.Span.{Span}
+use Rattle.sql_bound_query.specs.declared.query.BoundQuery.{BoundQuery}
+use Rattle.sql_binder_steps.specs.declared.collected.Chain.{Chain}
+use Rattle.sql_binder_steps.specs.declared.collected.Collected.{Collected}
+use Rattle.sql_binder_steps.specs.declared.collected.Typed.{Typed}
+use Rattle.sql_binder.specs.Binding.{bound_view, clause_meaning, meaning, from_item_meaning}
+use Rattle.sql_binder.specs.Binding.{selected_meaning, arm_meaning, block_meaning, factor_meaning}
+use Rattle.sql_binder.specs.Binding.{item_meaning, join_meaning, joined_meaning, term_meaning}
+use Rattle.sql_binder.specs.Binding.{bound_query, bound_table, counted_table, start}
+use Rattle.sql_binder.specs.Meanings.{Meaning}
+use Rattle.sql_binder_steps.specs.Names.{Sight}
+use Rattle.sql_binder.specs.Operands.{term_by}
+use Rattle.sql_binder_steps.specs.Parts.{function_of, order_of, outermost, distinct_names}
+use Rattle.sql_binder_steps.specs.Parts.{renamed_headers}
+use Rattle.sql_binder_steps.specs.Steps.{Name, lift}
+use Rattle.sql_binder_steps.specs.Values.{adding_of, multiplying_of, date_literal, dated_by, shifted}
+use Rattle.sql_binder_steps.specs.Values.{operated}
+use Rattle.sql_binder.proofs.Opened.{clause_meaning_at, clause_meaning_is, meaning_at, meaning_is}
+use Rattle.sql_binder.proofs.Opened.{from_item_meaning_at, from_item_meaning_is}
+use Rattle.sql_binder.proofs.Opened.{selected_meaning_at, selected_meaning_is, arm_meaning_at}
+use Rattle.sql_binder.proofs.Opened.{arm_meaning_is, block_meaning_at, block_meaning_is}
+use Rattle.sql_binder.proofs.Opened.{factor_meaning_at, factor_meaning_is, item_meaning_at}
+use Rattle.sql_binder.proofs.Opened.{item_meaning_is, join_meaning_at, join_meaning_is}
+use Rattle.sql_binder.proofs.Opened.{joined_meaning_at, joined_meaning_is, term_meaning_at}
+use Rattle.sql_binder.proofs.Opened.{term_meaning_is}
+use Rattle.sql_binder_laws.specs.WellTyped.{TableIsWellTyped, ViewIsWellTyped, BoundIsWellTyped}
+use Rattle.sql_binder_laws.specs.WellTyped.{header_kinds}
+use Rattle.sql_binder_laws.proofs.TypedOperands.{went, ok_is, number_typed, text_typed, date_typed}
+use Rattle.sql_binder_laws.proofs.TypedSteps.{Ready, Fits, Known, Goes, goes_on, goes_lift, goes_pure}
+use Rattle.sql_binder_laws.proofs.TypedSteps.{known_on}
+use Rattle.sql_binder_laws.proofs.TypedMade.{TypedIs}
+use Rattle.sql_binder_laws.proofs.TypedNodes.{TypedIn, MeaningIs, ChainMeaningIs, ArmMeaningIs}
+use Rattle.sql_binder_laws.proofs.TypedMade.{ChainIs, operated_is, shifted_is}
+use Rattle.sql_binder_laws.proofs.TypedNodes.{negative_goes}
+use Rattle.sql_binder_laws.proofs.TypedNodes.{null_test_goes, not_goes, like_goes, extract_goes}
+use Rattle.sql_binder_laws.proofs.TypedNodes.{substring_goes, compare_goes, between_goes, in_list_goes}
+use Rattle.sql_binder_laws.proofs.TypedNodes.{and_goes, or_goes, chain_goes, case_goes, case_else_goes}
+use Rattle.sql_binder_laws.proofs.TypedNodes.{column_goes}
+use Rattle.sql_binder_laws.proofs.TypedQueries.{BlockMeaningIs, count_rows_goes, aggregate_goes}
+use Rattle.sql_binder_laws.proofs.TypedQueries.{exists_goes, scalar_goes, in_query_goes}
+use Rattle.sql_binder_laws.proofs.TypedItems.{FromItemMeaningIs}
+use Rattle.sql_binder_laws.proofs.TypedFrom.{JoinMeaningIs, JoinedMeaningIs}
+use Rattle.sql_binder_laws.proofs.TypedItems.{renamed_kinds, table_rows_is, derived_rows_is}
+use Rattle.sql_binder_laws.proofs.TypedFrom.{join_is_typed, joined_is_typed}
+use Rattle.sql_binder_laws.proofs.TypedClauses.{ClauseMeaningIs, SelectedMeaningIs, ItemMeaningIs}
+use Rattle.sql_binder_laws.proofs.TypedBlocks.{block_typed}
+
+-- each part with what there is to show of it
+abbrev ClauseWith : Type 0
+ClauseWith = (x : Clause) × ClauseMeaningIs (clause_meaning x)
+
+abbrev ExprWith : Type 0
+ExprWith = (x : Expr) × MeaningIs (meaning x)
+
+abbrev FromItemWith : Type 0
+FromItemWith = (x : FromItem) × FromItemMeaningIs (from_item_meaning x)
+
+abbrev SelectedWith : Type 0
+SelectedWith = (x : Selected) × SelectedMeaningIs (selected_meaning x)
+
+abbrev ArmWith : Type 0
+ArmWith = (x : Arm) × ArmMeaningIs (arm_meaning x)
+
+abbrev BlockWith : Type 0
+BlockWith = (x : Block) × BlockMeaningIs (block_meaning x)
+
+abbrev FactorWith : Type 0
+FactorWith = (x : Factor) × ChainMeaningIs (factor_meaning x)
+
+abbrev ItemWith : Type 0
+ItemWith = (x : Item) × ItemMeaningIs (item_meaning x)
+
+abbrev JoinWith : Type 0
+JoinWith = (x : Join) × JoinMeaningIs (join_meaning x)
+
+abbrev JoinedWith : Type 0
+JoinedWith = (x : Joined) × JoinedMeaningIs (joined_meaning x)
+
+abbrev TermWith : Type 0
+TermWith = (x : Term) × ChainMeaningIs (term_meaning x)
+
+-- all of a list
+each_of : {X M : Type 0} (g : X → M) (Q : M → Type 0) (xs : List ((x : X) × Q (g x)))
+    → Each Q (map g (map (λ x. x.0) xs))
+each_of g Q [] = tt
+each_of g Q (x ∷ xs) = (x.1, each_of g Q xs)
+
+dated_by_is : (r : Result ℕ DateFault) (t : Typed) (ks : List Kind) → dated_by r ≡ Ok t
+    → TypedIs t ks
+dated_by_is (Ok d) t ks h = subst (λ (x : Typed). TypedIs x ks) (ok_is _ t h) (date_typed d ks)
+dated_by_is (Err why) t ks h = cc
+
+date_literal_is : (text : Name) (t : Typed) (ks : List Kind) → date_literal text ≡ Ok t
+    → TypedIs t ks
+unfolding date_literal
+date_literal_is text t ks h = dated_by_is (ok_or (date_of text) fault.BadDate) t ks h
+
+-- a term
+term_goes : (interval : Option (Name × Span)) (operator : Adding) (m : Meaning) → MeaningIs m
+    → (sight : Sight) (s : Collected) (c : Chain) → Ready sight
+    → Known sight (λ w. ChainIs c w.kinds) s
+    → Goes sight (λ w d. ChainIs d w.kinds) (term_by interval operator m sight c) s
+term_goes (Some i) operator m is sight s c ready known =
+    goes_lift sight (λ w d. ChainIs d w.kinds) (shifted operator c i.0 i.1) s
+    (λ d h. λ w p q. shifted_is operator c d i.0 i.1 w.kinds h)
+term_goes None operator m is sight s c ready known =
+    goes_on sight (TypedIn sight) (λ w d. ChainIs d w.kinds) (m.binds sight)
+    (λ b. lift (operated (adding_of operator) c b)) s (is sight s ready)
+    (λ b t g k. goes_lift sight (λ w d. ChainIs d w.kinds) (operated (adding_of operator) c b) t
+    (λ d h. λ w p q. operated_is (adding_of operator) c b d w.kinds h
+    (known_on sight (λ v. ChainIs c v.kinds) s t g known w p q) (k w p q)))
+
+expr_node : (y : Expr-F ClauseWith ExprWith FromItemWith SelectedWith ArmWith BlockWith FactorWith
+    ItemWith JoinWith JoinedWith TermWith)
+    → MeaningIs (meaning_at (map-Expr ClauseWith ExprWith FromItemWith SelectedWith ArmWith
+    BlockWith FactorWith ItemWith JoinWith JoinedWith TermWith Clause Expr FromItem Selected Arm
+    Block Factor Item Join Joined Term (λ x. x.0) (λ x. x.0) (λ x. x.0) (λ x. x.0) (λ x. x.0)
+    (λ x. x.0) (λ x. x.0) (λ x. x.0) (λ x. x.0) (λ x. x.0) (λ x. x.0) y))
+unfolding meaning_at
+expr_node (Expr-F.Number c scale) sight s ready =
+    goes_pure sight (TypedIn sight) _ s (λ w p q. number_typed scale c w.kinds)
+expr_node (Expr-F.Text t) sight s ready =
+    goes_pure sight (TypedIn sight) _ s (λ w p q. text_typed t w.kinds)
+expr_node (Expr-F.Date t) sight s ready =
+    goes_lift sight (TypedIn sight) (date_literal t) s
+    (λ r h. λ w p q. date_literal_is t r w.kinds h)
+expr_node (Expr-F.Interval t span) sight s ready = λ a u h. cc
+expr_node (Expr-F.Column name) sight s ready = column_goes sight ready name s
+expr_node (Expr-F.Negative a) sight s ready = negative_goes sight ready (meaning a.0) s a.1
+expr_node (Expr-F.Sum a terms) sight s ready =
+    chain_goes sight ready (meaning a.0) (map term_meaning (map (λ x. x.0) terms)) s a.1
+    (each_of term_meaning ChainMeaningIs terms)
+expr_node (Expr-F.Product a factors) sight s ready =
+    chain_goes sight ready (meaning a.0) (map factor_meaning (map (λ x. x.0) factors)) s a.1
+    (each_of factor_meaning ChainMeaningIs factors)
+expr_node (Expr-F.Compare c a b) sight s ready =
+    compare_goes sight ready c (meaning a.0) (meaning b.0) s a.1 b.1
+expr_node (Expr-F.IsNull a) sight s ready = null_test_goes sight ready (meaning a.0) s a.1
+expr_node (Expr-F.Between a low high) sight s ready =
+    between_goes sight ready (meaning a.0) (meaning low.0) (meaning high.0) s a.1 low.1 high.1
+expr_node (Expr-F.Like a pattern) sight s ready = like_goes sight ready (meaning a.0) pattern s a.1
+expr_node (Expr-F.InList a list) sight s ready =
+    in_list_goes sight ready (meaning a.0) (map meaning (map (λ x. x.0) list)) s a.1
+    (each_of meaning MeaningIs list)
+expr_node (Expr-F.InQuery a q) sight s ready =
+    in_query_goes sight ready (meaning a.0) (block_meaning q.0) s a.1 q.1
+expr_node (Expr-F.Exists q) sight s ready = exists_goes sight ready (block_meaning q.0) s q.1
+expr_node (Expr-F.Scalar q) sight s ready = scalar_goes sight ready (block_meaning q.0) s q.1
+expr_node (Expr-F.Not a) sight s ready = not_goes sight ready (meaning a.0) s a.1
+expr_node (Expr-F.And a rest) sight s ready =
+    and_goes sight ready (meaning a.0) (map meaning (map (λ x. x.0) rest)) s a.1
+    (each_of meaning MeaningIs rest)
+expr_node (Expr-F.Or a rest) sight s ready =
+    or_goes sight ready (meaning a.0) (map meaning (map (λ x. x.0) rest)) s a.1
+    (each_of meaning MeaningIs rest)
+expr_node (Expr-F.Case arms) sight s ready =
+    case_goes sight ready (map arm_meaning (map (λ x. x.0) arms)) s
+    (each_of arm_meaning ArmMeaningIs arms)
+expr_node (Expr-F.CaseElse arms other) sight s ready =
+    case_else_goes sight ready (map arm_meaning (map (λ x. x.0) arms)) (meaning other.0) s
+    (each_of arm_meaning ArmMeaningIs arms) other.1
+expr_node (Expr-F.Extract span a) sight s ready = extract_goes sight ready span (meaning a.0) s a.1
+expr_node (Expr-F.Substring a from count) sight s ready =
+    substring_goes sight ready (meaning a.0) from count s a.1
+expr_node Expr-F.CountRows sight s ready = count_rows_goes sight ready s
+expr_node (Expr-F.Count a) sight s ready = aggregate_goes sight ready Count (meaning a.0) s a.1
+expr_node (Expr-F.CountDistinct a) sight s ready =
+    aggregate_goes sight ready CountDistinct (meaning a.0) s a.1
+expr_node (Expr-F.Aggregate f a) sight s ready =
+    aggregate_goes sight ready (function_of f) (meaning a.0) s a.1
+
+clause_node : (y : Clause-F ClauseWith ExprWith FromItemWith SelectedWith ArmWith BlockWith
+    FactorWith ItemWith JoinWith JoinedWith TermWith)
+    → ClauseMeaningIs (clause_meaning_at
+    (map-Clause ClauseWith ExprWith FromItemWith SelectedWith ArmWith BlockWith FactorWith ItemWith
+    JoinWith JoinedWith TermWith Clause Expr FromItem Selected Arm Block Factor Item Join Joined
+    Term (λ x. x.0) (λ x. x.0) (λ x. x.0) (λ x. x.0) (λ x. x.0) (λ x. x.0) (λ x. x.0) (λ x. x.0)
+    (λ x. x.0) (λ x. x.0) (λ x. x.0) y))
+unfolding clause_meaning_at
+clause_node Clause-F.Absent = tt
+clause_node (Clause-F.Condition e) = e.1
+
+from_item_node : (y : FromItem-F ClauseWith ExprWith FromItemWith SelectedWith ArmWith BlockWith
+    FactorWith ItemWith JoinWith JoinedWith TermWith)
+    → FromItemMeaningIs (from_item_meaning_at
+    (map-FromItem ClauseWith ExprWith FromItemWith SelectedWith ArmWith BlockWith FactorWith
+    ItemWith JoinWith JoinedWith TermWith Clause Expr FromItem Selected Arm Block Factor Item Join
+    Joined Term (λ x. x.0) (λ x. x.0) (λ x. x.0) (λ x. x.0) (λ x. x.0) (λ x. x.0) (λ x. x.0)
+    (λ x. x.0) (λ x. x.0) (λ x. x.0) (λ x. x.0) y))
+unfolding from_item_meaning_at
+from_item_node (FromItem-F.Table name alias) = table_rows_is name (unwrap_or alias name)
+from_item_node (FromItem-F.Derived q alias names) =
+    derived_rows_is (block_meaning q.0) alias names q.1
+
+selected_node : (y : Selected-F ClauseWith ExprWith FromItemWith SelectedWith ArmWith BlockWith
+    FactorWith ItemWith JoinWith JoinedWith TermWith)
+    → SelectedMeaningIs (selected_meaning_at
+    (map-Selected ClauseWith ExprWith FromItemWith SelectedWith ArmWith BlockWith FactorWith
+    ItemWith JoinWith JoinedWith TermWith Clause Expr FromItem Selected Arm Block Factor Item Join
+    Joined Term (λ x. x.0) (λ x. x.0) (λ x. x.0) (λ x. x.0) (λ x. x.0) (λ x. x.0) (λ x. x.0)
+    (λ x. x.0) (λ x. x.0) (λ x. x.0) (λ x. x.0) y))
+unfolding selected_meaning_at
+selected_node Selected-F.All = tt
+selected_node (Selected-F.Items items) = each_of item_meaning ItemMeaningIs items
+
+arm_node : (y : Arm-F ClauseWith ExprWith FromItemWith SelectedWith ArmWith BlockWith FactorWith
+    ItemWith JoinWith JoinedWith TermWith)
+    → ArmMeaningIs (arm_meaning_at
+    (map-Arm ClauseWith ExprWith FromItemWith SelectedWith ArmWith BlockWith FactorWith ItemWith
+    JoinWith JoinedWith TermWith Clause Expr FromItem Selected Arm Block Factor Item Join Joined
+    Term (λ x. x.0) (λ x. x.0) (λ x. x.0) (λ x. x.0) (λ x. x.0) (λ x. x.0) (λ x. x.0) (λ x. x.0)
+    (λ x. x.0) (λ x. x.0) (λ x. x.0) y))
+unfolding arm_meaning_at
+arm_node y = (y.condition.1, y.value.1)
+
+block_node : (y : Block-F ClauseWith ExprWith FromItemWith SelectedWith ArmWith BlockWith FactorWith
+    ItemWith JoinWith JoinedWith TermWith)
+    → BlockMeaningIs (block_meaning_at
+    (map-Block ClauseWith ExprWith FromItemWith SelectedWith ArmWith BlockWith FactorWith ItemWith
+    JoinWith JoinedWith TermWith Clause Expr FromItem Selected Arm Block Factor Item Join Joined
+    Term (λ x. x.0) (λ x. x.0) (λ x. x.0) (λ x. x.0) (λ x. x.0) (λ x. x.0) (λ x. x.0) (λ x. x.0)
+    (λ x. x.0) (λ x. x.0) (λ x. x.0) y))
+unfolding block_meaning_at
+block_node y =
+    block_typed _ y.selected.1 (each_of joined_meaning JoinedMeaningIs y.from) y.condition.1
+    y.having.1
+
+factor_node : (y : Factor-F ClauseWith ExprWith FromItemWith SelectedWith ArmWith BlockWith
+    FactorWith ItemWith JoinWith JoinedWith TermWith)
+    → ChainMeaningIs (factor_meaning_at
+    (map-Factor ClauseWith ExprWith FromItemWith SelectedWith ArmWith BlockWith FactorWith ItemWith
+    JoinWith JoinedWith TermWith Clause Expr FromItem Selected Arm Block Factor Item Join Joined
+    Term (λ x. x.0) (λ x. x.0) (λ x. x.0) (λ x. x.0) (λ x. x.0) (λ x. x.0) (λ x. x.0) (λ x. x.0)
+    (λ x. x.0) (λ x. x.0) (λ x. x.0) y))
+unfolding factor_meaning_at
+factor_node y sight s c ready known =
+    goes_on sight (TypedIn sight) (λ w d. ChainIs d w.kinds) ((meaning y.value.0).binds sight)
+    (λ b. lift (operated (multiplying_of y.operator) c b)) s (y.value.1 sight s ready)
+    (λ b t g k. goes_lift sight (λ w d. ChainIs d w.kinds)
+    (operated (multiplying_of y.operator) c b) t
+    (λ d h. λ w p q. operated_is (multiplying_of y.operator) c b d w.kinds h
+    (known_on sight (λ v. ChainIs c v.kinds) s t g known w p q) (k w p q)))
+
+item_node : (y : Item-F ClauseWith ExprWith FromItemWith SelectedWith ArmWith BlockWith FactorWith
+    ItemWith JoinWith JoinedWith TermWith)
+    → ItemMeaningIs (item_meaning_at
+    (map-Item ClauseWith ExprWith FromItemWith SelectedWith ArmWith BlockWith FactorWith ItemWith
+    JoinWith JoinedWith TermWith Clause Expr FromItem Selected Arm Block Factor Item Join Joined
+    Term (λ x. x.0) (λ x. x.0) (λ x. x.0) (λ x. x.0) (λ x. x.0) (λ x. x.0) (λ x. x.0) (λ x. x.0)
+    (λ x. x.0) (λ x. x.0) (λ x. x.0) y))
+unfolding item_meaning_at
+item_node y = y.value.1
+
+join_node : (y : Join-F ClauseWith ExprWith FromItemWith SelectedWith ArmWith BlockWith FactorWith
+    ItemWith JoinWith JoinedWith TermWith)
+    → JoinMeaningIs (join_meaning_at
+    (map-Join ClauseWith ExprWith FromItemWith SelectedWith ArmWith BlockWith FactorWith ItemWith
+    JoinWith JoinedWith TermWith Clause Expr FromItem Selected Arm Block Factor Item Join Joined
+    Term (λ x. x.0) (λ x. x.0) (λ x. x.0) (λ x. x.0) (λ x. x.0) (λ x. x.0) (λ x. x.0) (λ x. x.0)
+    (λ x. x.0) (λ x. x.0) (λ x. x.0) y))
+unfolding join_meaning_at
+join_node y = join_is_typed (from_item_meaning y.item.0) y.kind (meaning y.condition.0) y.item.1
+    y.condition.1
+
+joined_node : (y : Joined-F ClauseWith ExprWith FromItemWith SelectedWith ArmWith BlockWith
+    FactorWith ItemWith JoinWith JoinedWith TermWith)
+    → JoinedMeaningIs (joined_meaning_at
+    (map-Joined ClauseWith ExprWith FromItemWith SelectedWith ArmWith BlockWith FactorWith ItemWith
+    JoinWith JoinedWith TermWith Clause Expr FromItem Selected Arm Block Factor Item Join Joined
+    Term (λ x. x.0) (λ x. x.0) (λ x. x.0) (λ x. x.0) (λ x. x.0) (λ x. x.0) (λ x. x.0) (λ x. x.0)
+    (λ x. x.0) (λ x. x.0) (λ x. x.0) y))
+unfolding joined_meaning_at
+joined_node y = joined_is_typed (from_item_meaning y.first.0)
+    (map join_meaning (map (λ x. x.0) y.joins)) y.first.1
+    (each_of join_meaning JoinMeaningIs y.joins)
+
+term_node : (y : Term-F ClauseWith ExprWith FromItemWith SelectedWith ArmWith BlockWith FactorWith
+    ItemWith JoinWith JoinedWith TermWith)
+    → ChainMeaningIs (term_meaning_at
+    (map-Term ClauseWith ExprWith FromItemWith SelectedWith ArmWith BlockWith FactorWith ItemWith
+    JoinWith JoinedWith TermWith Clause Expr FromItem Selected Arm Block Factor Item Join Joined
+    Term (λ x. x.0) (λ x. x.0) (λ x. x.0) (λ x. x.0) (λ x. x.0) (λ x. x.0) (λ x. x.0) (λ x. x.0)
+    (λ x. x.0) (λ x. x.0) (λ x. x.0) y))
+unfolding term_meaning_at
+term_node y = term_goes (meaning y.value.0).interval y.operator (meaning y.value.0) y.value.1
+
+clause_rolled : (z : Clause-F Clause Expr FromItem Selected Arm Block Factor Item Join Joined Term)
+    → ClauseMeaningIs (clause_meaning_at z) → ClauseMeaningIs (clause_meaning (roll-Clause z))
+clause_rolled z h = subst ClauseMeaningIs
+    (sym (clause_meaning_is (roll-Clause z) ∙ ap clause_meaning_at (out-roll-Clause z))) h
+
+expr_rolled : (z : Expr-F Clause Expr FromItem Selected Arm Block Factor Item Join Joined Term)
+    → MeaningIs (meaning_at z) → MeaningIs (meaning (roll-Expr z))
+expr_rolled z h = subst MeaningIs (sym (meaning_is (roll-Expr z) ∙ ap meaning_at (out-roll-Expr z)))
+    h
+
+from_item_rolled : (z : FromItem-F Clause Expr FromItem Selected Arm Block Factor Item Join Joined
+    Term) → FromItemMeaningIs (from_item_meaning_at z)
+    → FromItemMeaningIs (from_item_meaning (roll-FromItem z))
+from_item_rolled z h = subst FromItemMeaningIs
+    (sym (from_item_meaning_is (roll-FromItem z) ∙ ap from_item_meaning_at (out-roll-FromItem z))) h
+
+selected_rolled : (z : Selected-F Clause Expr FromItem Selected Arm Block Factor Item Join Joined
+    Term) → SelectedMeaningIs (selected_meaning_at z)
+    → SelectedMeaningIs (selected_meaning (roll-Selected z))
+selected_rolled z h = subst SelectedMeaningIs
+    (sym (selected_meaning_is (roll-Selected z) ∙ ap selected_meaning_at (out-roll-Selected z))) h
+
+arm_rolled : (z : Arm-F Clause Expr FromItem Selected Arm Block Factor Item Join Joined Term)
+    → ArmMeaningIs (arm_meaning_at z) → ArmMeaningIs (arm_meaning (roll-Arm z))
+arm_rolled z h = subst ArmMeaningIs
+    (sym (arm_meaning_is (roll-Arm z) ∙ ap arm_meaning_at (out-roll-Arm z))) h
+
+block_rolled : (z : Block-F Clause Expr FromItem Selected Arm Block Factor Item Join Joined Term)
+    → BlockMeaningIs (block_meaning_at z) → BlockMeaningIs (block_meaning (roll-Block z))
+block_rolled z h = subst BlockMeaningIs
+    (sym (block_meaning_is (roll-Block z) ∙ ap block_meaning_at (out-roll-Block z))) h
+
+factor_rolled : (z : Factor-F Clause Expr FromItem Selected Arm Block Factor Item Join Joined Term)
+    → ChainMeaningIs (factor_meaning_at z) → ChainMeaningIs (factor_meaning (roll-Factor z))
+factor_rolled z h = subst ChainMeaningIs
+    (sym (factor_meaning_is (roll-Factor z) ∙ ap factor_meaning_at (out-roll-Factor z))) h
+
+item_rolled : (z : Item-F Clause Expr FromItem Selected Arm Block Factor Item Join Joined Term)
+    → ItemMeaningIs (item_meaning_at z) → ItemMeaningIs (item_meaning (roll-Item z))
+item_rolled z h = subst ItemMeaningIs
+    (sym (item_meaning_is (roll-Item z) ∙ ap item_meaning_at (out-roll-Item z))) h
+
+join_rolled : (z : Join-F Clause Expr FromItem Selected Arm Block Factor Item Join Joined Term)
+    → JoinMeaningIs (join_meaning_at z) → JoinMeaningIs (join_meaning (roll-Join z))
+join_rolled z h = subst JoinMeaningIs
+    (sym (join_meaning_is (roll-Join z) ∙ ap join_meaning_at (out-roll-Join z))) h
+
+joined_rolled : (z : Joined-F Clause Expr FromItem Selected Arm Block Factor Item Join Joined Term)
+    → JoinedMeaningIs (joined_meaning_at z) → JoinedMeaningIs (joined_meaning (roll-Joined z))
+joined_rolled z h = subst JoinedMeaningIs
+    (sym (joined_meaning_is (roll-Joined z) ∙ ap joined_meaning_at (out-roll-Joined z))) h
+
+term_rolled : (z : Term-F Clause Expr FromItem Selected Arm Block Factor Item Join Joined Term)
+    → ChainMeaningIs (term_meaning_at z) → ChainMeaningIs (term_meaning (roll-Term z))
+term_rolled z h = subst ChainMeaningIs
+    (sym (term_meaning_is (roll-Term z) ∙ ap term_meaning_at (out-roll-Term z))) h
+
+pub each_block : (q : Block) → BlockMeaningIs (block_meaning q)
+each_block =
+    ind-Block (λ x. ClauseMeaningIs (clause_meaning x)) (λ x. MeaningIs (meaning x))
+    (λ x. FromItemMeaningIs (from_item_meaning x)) (λ x. SelectedMeaningIs (selected_meaning x))
+    (λ x. ArmMeaningIs (arm_meaning x)) (λ x. BlockMeaningIs (block_meaning x))
+    (λ x. ChainMeaningIs (factor_meaning x)) (λ x. ItemMeaningIs (item_meaning x))
+    (λ x. JoinMeaningIs (join_meaning x)) (λ x. JoinedMeaningIs (joined_meaning x))
+    (λ x. ChainMeaningIs (term_meaning x))
+    (λ x y is. subst (λ z. ClauseMeaningIs (clause_meaning (roll-Clause z))) is
+    (clause_rolled _ (clause_node y)))
+    (λ x y is. subst (λ z. MeaningIs (meaning (roll-Expr z))) is (expr_rolled _ (expr_node y)))
+    (λ x y is. subst (λ z. FromItemMeaningIs (from_item_meaning (roll-FromItem z))) is
+    (from_item_rolled _ (from_item_node y)))
+    (λ x y is. subst (λ z. SelectedMeaningIs (selected_meaning (roll-Selected z))) is
+    (selected_rolled _ (selected_node y)))
+    (λ x y is. subst (λ z. ArmMeaningIs (arm_meaning (roll-Arm z))) is (arm_rolled _ (arm_node y)))
+    (λ x y is. subst (λ z. BlockMeaningIs (block_meaning (roll-Block z))) is
+    (block_rolled _ (block_node y)))
+    (λ x y is. subst (λ z. ChainMeaningIs (factor_meaning (roll-Factor z))) is
+    (factor_rolled _ (factor_node y)))
+    (λ x y is. subst (λ z. ItemMeaningIs (item_meaning (roll-Item z))) is
+    (item_rolled _ (item_node y)))
+    (λ x y is. subst (λ z. JoinMeaningIs (join_meaning (roll-Join z))) is
+    (join_rolled _ (join_node y)))
+    (λ x y is. subst (λ z. JoinedMeaningIs (joined_meaning (roll-Joined z))) is
+    (joined_rolled _ (joined_node y)))
+    (λ x y is. subst (λ z. ChainMeaningIs (term_meaning (roll-Term z))) is
+    (term_rolled _ (term_node y)))
+
+-- the sight of a whole statement, under no rows
+fits_outermost : (views : List View) → Fits (outermost views) []
+fits_outermost views = record { row = λ level q below at. cc }
+
+-- a query by itself
+pub table_is_well_typed : TableIsWellTyped
+table_is_well_typed q views t items typed is =
+    let w = went (bound_table q views) (λ r. Ok (r.0, r.1.items)) (t, items) is in
+    let b = each_block q (outermost views) start (record { views = typed; hidden = omega arith })
+    w.it.0 w.it.1 w.is in
+    let same : w.it.0 ≡ t =
+    ap (λ (r : BoundTable × ℕ). r.0) (ok_is (w.it.0, w.it.1.items) (t, items) w.gives) in
+    subst (λ (y : BoundTable). block_kinds y.block [] ≡ Some (header_kinds y.headers)) same
+    (b.kinds [] (fits_outermost views))
+
+-- a view
+pub view_is_well_typed : ViewIsWellTyped
+unfolding bound_view
+view_is_well_typed name names q views v typed is =
+    let d = went (distinct_names names) _ v is in
+    let w = went (counted_table q views) _ v d.gives in
+    let h = went (renamed_headers names w.it.0.headers) _ v w.gives in
+    let made : View = record {
+      name = name;
+      columns = h.it;
+      block = w.it.0.block;
+      items = w.it.1;
+    } in
+    let e : made ≡ v = ok_is made v h.gives in
+    let kinds = renamed_kinds names w.it.0.headers h.it h.is in
+    let t = table_is_well_typed q views w.it.0 w.it.1 typed w.is in
+    subst (λ (y : View). block_kinds y.block [] ≡ Some (header_kinds y.columns)) e
+    (t ∙ ap Some (sym kinds))
+
+-- a statement
+pub bound_is_well_typed : BoundIsWellTyped
+unfolding bound_query
+bound_is_well_typed q views bound typed is =
+    let w = went (counted_table q.block views) _ bound is.is in
+    let t = table_is_well_typed q.block views w.it.0 w.it.1 typed w.is in
+    let x = went (order_of w.it.0.headers q.order) _ bound w.gives in
+    let made : BoundQuery = record { block = w.it.0.block; order = x.it; limit = q.limit } in
+    let e : made ≡ bound = ok_is made bound x.gives in (
+      header_kinds w.it.0.headers,
+      subst (λ (y : BoundQuery). block_kinds y.block [] ≡ Some (header_kinds w.it.0.headers)) e t,
+    )

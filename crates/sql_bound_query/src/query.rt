@@ -1,0 +1,93 @@
+//! Queries whose names are bound: a column is n levels out and at a place of that query's row.
+use base_decimal::Scale;
+use base_order_limit::OrderKey;
+use base_schema::TableName;
+use expr_aggregates::AggregateFunction;
+use expr_scalar::Expr;
+use sqlite_items::{Boxed, Items};
+
+/// What an expression reads.
+#[cycle(query)]
+#[derive(Drop)]
+pub enum Input {
+    /// The column at a place of the row this many levels out, 0 being the innermost query's row.
+    /// Both count from 0.
+    Column(u32, u32),
+    /// EXISTS, as a mark.
+    Exists(Boxed<BoundBlock>),
+    /// IN: the left side, and the query of one column, as a mark.
+    In(Boxed<BoundExpr>, Boxed<BoundBlock>),
+    /// The value of a query of one column.
+    Scalar(Boxed<BoundBlock>),
+}
+
+/// An expression of a query: a scalar expression over the row of its inputs, so that its column i
+/// is the input i.
+#[cycle(query)]
+#[derive(Drop)]
+pub struct BoundExpr {
+    /// The inputs from left to right.
+    pub inputs: Items<Input>,
+    /// The expression over them.
+    pub expr: Boxed<Expr>,
+}
+
+/// An aggregate of a group's rows.
+#[cycle(query)]
+#[derive(Drop)]
+pub enum BoundAggregate {
+    /// `count(*)`.
+    CountRows,
+    /// The function, the scale of its argument's numbers (0 where it has none), and the argument,
+    /// read from each row.
+    Of(AggregateFunction, Scale, BoundExpr),
+}
+
+/// Rows that a query is about.
+#[cycle(query)]
+#[derive(Drop)]
+pub enum BoundSource {
+    /// A table.
+    Table(TableName),
+    /// A derived table or a view: its own query, which sees no row around it.
+    Derived(Boxed<BoundBlock>),
+    /// All combinations of the rows of two sources.
+    Cross(Boxed<BoundSource>, Boxed<BoundSource>),
+    /// JOIN: the combinations that its ON condition keeps.
+    Inner(Boxed<BoundSource>, Boxed<BoundSource>, BoundExpr),
+    /// LEFT OUTER JOIN: those too, and each left row without a kept partner, with nulls for the
+    /// columns of the right source, whose number stands before the condition.
+    Outer(Boxed<BoundSource>, Boxed<BoundSource>, u32, BoundExpr),
+}
+
+/// A query from SELECT to HAVING. No condition is the condition that always holds.
+#[cycle(query)]
+#[derive(Drop)]
+pub enum BoundBlock {
+    /// FROM, WHERE, and the select list over the rows kept.
+    Plain(Boxed<BoundSource>, BoundExpr, Items<BoundExpr>),
+    /// FROM, WHERE, the places of the GROUP BY columns, the aggregates, HAVING, and the select
+    /// list. HAVING and the select list read a group's row, which is its GROUP BY columns and
+    /// then its aggregates.
+    Grouped(
+        Boxed<BoundSource>,
+        BoundExpr,
+        Items<u32>,
+        Items<BoundAggregate>,
+        BoundExpr,
+        Items<BoundExpr>,
+    ),
+    /// DISTINCT.
+    Distinct(Boxed<BoundBlock>),
+}
+
+/// A query that is a statement, with its order and row limit.
+#[derive(Drop)]
+pub struct BoundQuery {
+    /// The query from SELECT to HAVING.
+    pub block: Boxed<BoundBlock>,
+    /// The keys of ORDER BY; none where it is absent.
+    pub order: Items<OrderKey>,
+    /// How many rows the answer has at most; nothing where no limit stands.
+    pub limit: Option<u32>,
+}

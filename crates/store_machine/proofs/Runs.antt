@@ -1,0 +1,238 @@
+-- Any list of steps.
+use Rattle.std.proofs.Common.{◌≡◌, ℕ, zero, suc, ◌+◌, ◌<◌, ◌≤◌, Bool, true, false, cond, List, [], ◌∷◌, length, replicate, Some, refl, sym, ap, subst, ◌∙◌, ⊎_elim, arith, length-set}
+use Rattle.std.specs.Prelude.{nat_le, nat_lt, slice_index_or}
+use Rattle.std.proofs.lemmas.Bool.Decides.{nat_tests}
+use Rattle.std.proofs.lemmas.List.{get_or-set_same, length-replicate}
+use Rattle.base_schema.specs.State.{State}
+use Rattle.store_state.specs.Refresh.{Change}
+use Rattle.store_state.specs.Versions.{accepted}
+use Rattle.store_state.proofs.VersionSteps.{accepted-rises}
+use Rattle.store_machine.specs.declared.steps.Step.{Step}
+use Rattle.store_machine.specs.declared.steps.Step.TheVariants.{Begin, Again, Scan, Publish, Compact, Finish, Learn}
+use Rattle.store_machine.specs.Laws.{NotesLaw, PinsRiseLaw, PublishedLaw, ScanLaw, next_pin, pin_of, pinning, seen_of}
+use Rattle.store_machine.specs.Machine.{SessionState, World, begun, begun_again, changed_in, finished, happens, is_cut, learnt, new_session, published, rows_in, run, scanned_at, session_in, session_of, start}
+use Rattle.store_machine.proofs.Pieces.{scanned_keeps, session_scan_is}
+use Rattle.store_machine.proofs.Sessions.{IsPast, IsSound, Keeps, again_keeps, begun_keeps, finished_keeps, learnt_keeps, nothing_kept, session_changed}
+
+-- what a step does to one session
+record Does (world : World) (before after : SessionState) : Type 0 where
+  change : SessionState → SessionState
+  keeps : Keeps world.base world.list world.done change
+  is : after ≡ change before
+
+one_changed : (world : World) (number session : ℕ) (change : SessionState → SessionState) → Keeps world.base world.list world.done change
+    → Does world (session_in world.sessions session) (session_in (changed_in world.sessions number change) session)
+one_changed world number session change keeps =
+    ⊎_elim
+    (λ same. record { change = λ c. c; keeps = nothing_kept world.base world.list world.done; is = same })
+    (λ changed. record { change = change; keeps = keeps; is = changed })
+    (session_changed world.sessions number session change)
+
+does : (world : World) (step : Step) (session : ℕ) → Does world (session_of world session) (session_of (happens world step) session)
+does world (Begin number cuts) session = one_changed world number session (begun world cuts) (begun_keeps world cuts)
+does world (Again number cuts) session = one_changed world number session (begun_again world cuts) (again_keeps world cuts)
+does world (Scan number table piece) session =
+    one_changed world number session (λ s. scanned_at world s.pin table piece s) (scanned_keeps world table piece)
+does world Publish session = record { change = λ c. c; keeps = nothing_kept world.base world.list world.done; is = refl }
+does world Compact session = record { change = λ c. c; keeps = nothing_kept world.base world.list world.done; is = refl }
+does world (Finish number) session = one_changed world number session finished (finished_keeps world.base world.list world.done)
+does world (Learn number note) session = one_changed world number session (learnt world note) (learnt_keeps world note)
+
+-- each session is sound
+abbrev AllSound : World → Type 0
+AllSound world = (session : ℕ) → IsSound world.base world.list world.done (session_of world session)
+
+still_sound : (world : World) (before after : SessionState) → Does world before after → IsSound world.base world.list world.done before
+    → IsSound world.base world.list world.done after
+still_sound world before after d h = subst (IsSound world.base world.list world.done) (sym d.is) (d.keeps.sound before h)
+
+later_sound : (base : State) (list : List Change) (done later : ℕ) (session : SessionState) → accepted base list done ≤ accepted base list later
+    → IsSound base list done session → IsSound base list later session
+later_sound base list done later session less h = record {
+  seen = let a = h.seen in omega (arith, a, less);
+  pin = h.pin;
+  cut = h.cut;
+  pieces = h.pieces;
+}
+
+published_rises : (base : State) (list : List Change) (done : ℕ) (b : Bool) → accepted base list done ≤ accepted base list (cond b (done + 1) done)
+published_rises base list done true = accepted-rises base list done 1
+published_rises base list done false = omega arith
+
+sound_step : (world : World) (step : Step) → AllSound world → AllSound (happens world step)
+sound_step world (Begin number cuts) h = λ s. still_sound world _ _ (does world (Begin number cuts) s) (h s)
+sound_step world (Again number cuts) h = λ s. still_sound world _ _ (does world (Again number cuts) s) (h s)
+sound_step world (Scan number table piece) h = λ s. still_sound world _ _ (does world (Scan number table piece) s) (h s)
+sound_step world Publish h = λ s.
+    later_sound world.base world.list world.done (cond (nat_lt world.done (length world.list)) (world.done + 1) world.done) (session_of world s)
+    (published_rises world.base world.list world.done (nat_lt world.done (length world.list))) (h s)
+sound_step world Compact h = h
+sound_step world (Finish number) h = λ s. still_sound world _ _ (does world (Finish number) s) (h s)
+sound_step world (Learn number note) h = λ s. still_sound world _ _ (does world (Learn number note) s) (h s)
+
+sound_run : (steps : List Step) (world : World) → AllSound world → AllSound (run steps world)
+sound_run [] world h = h
+sound_run (step ∷ steps) world h = sound_run steps (happens world step) (sound_step world step h)
+
+past_run : (steps : List Step) (world : World) → AllSound world → (version session : ℕ) → IsPast version (session_of world session)
+    → IsPast version (session_of (run steps world) session)
+past_run [] world h version session p = p
+past_run (step ∷ steps) world h version session p =
+    let d = does world step session in
+    past_run steps (happens world step) (sound_step world step h) version session
+    (subst (IsPast version) (sym d.is) (d.keeps.past version (session_of world session) (h session) p))
+
+seen_run : (steps : List Step) (world : World) → AllSound world → (session : ℕ) → seen_of world session ≤ seen_of (run steps world) session
+seen_run [] world h session = omega arith
+seen_run (step ∷ steps) world h session =
+    let d = does world step session in
+    let here : (session_of world session).seen ≤ (d.change (session_of world session)).seen = d.keeps.rises (session_of world session) (h session) in
+    let same : (session_of (happens world step) session).seen ≡ (d.change (session_of world session)).seen = ap (λ c. c.seen) d.is in
+    let rest = seen_run steps (happens world step) (sound_step world step h) session in
+    omega (arith, here, same, rest)
+
+same_base : (world : World) (step : Step) → (happens world step).base ≡ world.base
+same_base world (Begin number cuts) = refl
+same_base world (Again number cuts) = refl
+same_base world (Scan number table piece) = refl
+same_base world Publish = refl
+same_base world Compact = refl
+same_base world (Finish number) = refl
+same_base world (Learn number note) = refl
+
+same_list : (world : World) (step : Step) → (happens world step).list ≡ world.list
+same_list world (Begin number cuts) = refl
+same_list world (Again number cuts) = refl
+same_list world (Scan number table piece) = refl
+same_list world Publish = refl
+same_list world Compact = refl
+same_list world (Finish number) = refl
+same_list world (Learn number note) = refl
+
+base_run : (steps : List Step) (world : World) → (run steps world).base ≡ world.base
+base_run [] world = refl
+base_run (step ∷ steps) world = base_run steps (happens world step) ∙ same_base world step
+
+list_run : (steps : List Step) (world : World) → (run steps world).list ≡ world.list
+list_run [] world = refl
+list_run (step ∷ steps) world = list_run steps (happens world step) ∙ same_list world step
+
+count_changed : (sessions : List SessionState) (number : ℕ) (change : SessionState → SessionState) → length (changed_in sessions number change) ≡ length sessions
+count_changed sessions zero change = refl
+count_changed sessions (suc place) change = length-set sessions place (change (slice_index_or sessions place new_session))
+
+count_step : (world : World) (step : Step) → length (happens world step).sessions ≡ length world.sessions
+count_step world (Begin number cuts) = count_changed world.sessions number (begun world cuts)
+count_step world (Again number cuts) = count_changed world.sessions number (begun_again world cuts)
+count_step world (Scan number table piece) = count_changed world.sessions number (λ s. scanned_at world s.pin table piece s)
+count_step world Publish = refl
+count_step world Compact = refl
+count_step world (Finish number) = count_changed world.sessions number finished
+count_step world (Learn number note) = count_changed world.sessions number (learnt world note)
+
+count_run : (steps : List Step) (world : World) → length (run steps world).sessions ≡ length world.sessions
+count_run [] world = refl
+count_run (step ∷ steps) world = count_run steps (happens world step) ∙ count_step world step
+
+new_at : (n place : ℕ) → slice_index_or (replicate n new_session) place new_session ≡ new_session
+new_at zero place = refl
+new_at (suc n) zero = refl
+new_at (suc n) (suc place) = new_at n place
+
+new_in : (n number : ℕ) → session_in (replicate n new_session) number ≡ new_session
+new_in n zero = refl
+new_in n (suc place) = new_at n place
+
+new_sound : (base : State) (list : List Change) → IsSound base list 0 new_session
+new_sound base list = record {
+  seen = omega arith;
+  pin = λ v e. cc;
+  cut = λ v e. cc;
+  pieces = λ v e. cc;
+}
+
+start_sound : (base : State) (list : List Change) (sessions : ℕ) → AllSound (start base list sessions)
+start_sound base list sessions = λ s. subst (IsSound base list 0) (sym (new_in sessions s)) (new_sound base list)
+
+reached : (base : State) (list : List Change) (sessions : ℕ) (steps : List Step) → AllSound (run steps (start base list sessions))
+reached base list sessions steps = sound_run steps (start base list sessions) (start_sound base list sessions)
+
+pub scan_law : ScanLaw
+scan_law base list sessions steps session table rows scan =
+    let world = run steps (start base list sessions) in
+    let c = session_of world session in
+    let found = session_scan_is world.base world.list world.done c table c.pin refl (reached base list sessions steps session) rows scan in (
+      found.0,
+      found.1.0,
+      found.1.1 ∙ ap (λ b. rows_in b world.list found.0 table) (base_run steps (start base list sessions))
+          ∙ ap (λ l. rows_in base l found.0 table) (list_run steps (start base list sessions)),
+    )
+
+some_of : {A : Type 0} (a b : A) → Some a ≡ Some b → a ≡ b
+some_of a b e = cc
+
+pub pins_rise_law : PinsRiseLaw
+pins_rise_law base list sessions steps more session before later first second =
+    let world = run steps (start base list sessions) in
+    let sound = reached base list sessions steps in
+    let past : IsPast before (session_of world session) = record {
+      seen = (sound session).pin before first;
+      pin = λ v e. let same : before ≡ v = some_of before v (sym first ∙ e) in omega (arith, same);
+    } in
+    (past_run more world sound before session past).pin later second
+
+pub published_law : PublishedLaw
+published_law base list sessions steps session version pin =
+    let h = reached base list sessions steps session in
+    let a = h.pin version pin in
+    let b = h.seen in
+    omega (arith, a, b)
+
+changed_here : (world : World) (number : ℕ) (change : SessionState → SessionState) → 0 < number → number ≤ length world.sessions
+    → session_in (changed_in world.sessions number change) number ≡ change (session_in world.sessions number)
+changed_here world zero change some within = absurd (omega (arith, some))
+changed_here world (suc place) change some within =
+    get_or-set_same world.sessions place (change (slice_index_or world.sessions place new_session)) new_session (omega (arith, within))
+
+learnt_seen : (world : World) (note : ℕ) (session : SessionState) → note ≤ published world → note ≤ (learnt world note session).seen
+learnt_seen world note session less =
+    let yes : nat_le note (published world) ≡ true = grind (arith, nat_tests) in
+    rw yes (omega arith)
+
+pinned_here : (world : World) (session : ℕ) (cuts : List (List ℕ)) (again : Bool) → 0 < session → session ≤ length world.sessions
+    → is_cut world.base world.list (next_pin world session again) cuts ≡ true
+    → pin_of (happens world (pinning again session cuts)) session ≡ Some (next_pin world session again)
+pinned_here world session cuts true some within cut =
+    ap (λ c. c.pin) (changed_here world session (begun_again world cuts) some within) ∙ rw cut refl
+pinned_here world session cuts false some within cut =
+    ap (λ c. c.pin) (changed_here world session (begun world cuts) some within) ∙ rw cut refl
+
+seen_next : (world : World) (session note : ℕ) (again : Bool) → AllSound world → note ≤ seen_of world session → note ≤ next_pin world session again
+seen_next world session note true sound less = less
+seen_next world session note false sound less = let h = (sound session).seen in omega (arith, h, less)
+
+pub notes_law : NotesLaw
+notes_law base list sessions steps more session note cuts again world is some within less cut =
+    let origin = start base list sessions in
+    let first = run steps origin in
+    let told = happens first (Learn session note) in
+    let sound : AllSound told = sound_step first (Learn session note) (reached base list sessions steps) in
+    let here : AllSound world = subst AllSound (sym is) (sound_run more told sound) in
+    let count : length first.sessions ≡ sessions = count_run steps origin ∙ length-replicate sessions new_session in
+    let heard : seen_of told session ≡ (learnt first note (session_of first session)).seen =
+    ap (λ c. c.seen) (changed_here first session (learnt first note) some (omega (arith, within, count))) in
+    let knows : note ≤ seen_of told session =
+    subst (λ n. note ≤ n) (sym heard) (learnt_seen first note (session_of first session) less) in
+    let rest = seen_run more told sound session in
+    let still : note ≤ seen_of world session = subst (λ w. note ≤ seen_of w session) (sym is) (omega (arith, knows, rest)) in
+    let room : length world.sessions ≡ sessions =
+    ap (λ w. length w.sessions) is ∙ count_run more told ∙ count_step first (Learn session note) ∙ count in
+    let of_base : world.base ≡ base = ap (λ w. w.base) is ∙ base_run more told ∙ base_run steps origin in
+    let of_list : world.list ≡ list = ap (λ w. w.list) is ∙ list_run more told ∙ list_run steps origin in
+    let fits : is_cut world.base world.list (next_pin world session again) cuts ≡ true =
+    ap (λ b. is_cut b world.list (next_pin world session again) cuts) of_base
+    ∙ ap (λ l. is_cut base l (next_pin world session again) cuts) of_list ∙ cut in (
+      next_pin world session again,
+      pinned_here world session cuts again some (omega (arith, within, room)) fits,
+      seen_next world session note again here still,
+    )

@@ -1,0 +1,18 @@
+use Rattle.std.proofs.Common.{◌≡◌, [], ◌∷◌, ◌++◌, rules, drop, ◌∙◌, ap, sym}
+use Rattle.left_right.specs.Sides.{view}
+use Rattle.std.specs.Arc.{arc_value}
+use Rattle.std.proofs.lemmas.List.Sums.{fold-append}
+use Rattle.store_snapshots.proofs.Steps.{moves}
+use Rattle.store_snapshots.specs.Rule.{on_shelf}
+use Rattle.store_versions.specs.Trials.{Trials}
+use Rattle.store_snapshots.proofs.rule.publish.Goals as goal
+
+pub publish_as-requires : goal.publish_as-requires
+publish_as-requires g c next is views h at =
+    let pending : drop c.append.new.self.behind c.append.new.self.log.items ≡ drop c.args.writer.behind c.args.writer.log.items ++ (record { directory = c.args.next.1 }) ∷ [] = search rules in
+    let same : on_shelf next ≡ arc_value c.args.next.1 = simp (pending, fold-append) at is in
+    let shown : on_shelf c.append.new.self.desk.shown.value ≡ on_shelf c.args.writer.desk.shown.value = ap (λ d. on_shelf d.shown.value) c.append.ensures.desk in
+    moves _ (view c.append.new.self.desk.place) (on_shelf c.append.new.self.desk.shown.value) (on_shelf next) views h at
+    (ap (λ (d : Trials). d.base) same ∙ c.requires.base ∙ sym (ap (λ (d : Trials). d.base) shown))
+    (ap (λ (d : Trials). d.list) same ∙ c.requires.list ∙ sym (ap (λ (d : Trials). d.list) shown))
+    (rw (same, shown) c.requires.later)

@@ -1,0 +1,94 @@
+//! A reader, which keeps the version that it has seen.
+ghost use Rattle.std.specs.Prelude.{◌≡◌, ◌≤◌, max, IfOk, OnErr};
+ghost use Rattle.std.specs.Arc.{arc_value};
+ghost use Rattle.store_versions.specs.Trials.{version_of};
+ghost use Rattle.store_snapshots.specs.Openings.{IsOf};
+
+use crate::entry::{Entered, Entry};
+use crate::snapshot::Snapshot;
+use std::alloc::AllocError;
+use std::marker::Model;
+use std::sync::Arc;
+use store_versions::Directory;
+
+/// An entry with a share of the version last seen.
+#[derive(Drop)]
+pub struct Reader<E: Entry + Drop> {
+    entry: E,
+    seen: Arc<Directory>,
+}
+
+impl<E: Entry + Drop> Model for Reader<E> {
+    ghost use Rattle.std.specs.Prelude.{◌≤◌};
+    ghost use Rattle.std.specs.Arc.{arc_value};
+    ghost use Rattle.store_versions.specs.Trials.{version_of};
+    ghost use Rattle.store_snapshots.specs.Openings.{IsOf};
+    ghost use Rattle.store_snapshots.specs.Seen.{ReaderState};
+
+    ghost Value = { ReaderState E };
+
+    ghost view = { λ r. record { entry = r.entry; seen = arc_value r.seen } };
+
+    ghost invariant = { λ r. IsOf (E.opening r.entry) (arc_value r.seen)
+        × (version_of (arc_value r.seen) ≤ E.number r.entry) };
+}
+
+impl<E: Entry + Drop> Reader<E> {
+    ghost use Rattle.store_snapshots.specs.Seen.{Began, ReaderState};
+
+    /// A reader that has seen this version.
+    pub fn new(entry: E, seen: Arc<Directory>) -> Reader<E>
+        requires opening { IsOf (E.opening entry) (arc_value seen) }
+        requires number { version_of (arc_value seen) ≤ E.number entry }
+        ensures { result ≡ record { entry = entry; seen = arc_value seen } }
+    {
+        Reader { entry, seen }
+    }
+
+    /// The published version, or where the entry is refused the one that was seen. No publish waits
+    /// for it. When memory runs out the version seen stays.
+    pub fn begin(&mut self) -> Result<Snapshot, AllocError>
+        ensures opening { E.opening self.new.entry ≡ E.opening self.old.entry }
+        ensures of_opening { IsOf (E.opening self.new.entry) self.new.seen }
+        ensures later { version_of self.old.seen ≤ version_of self.new.seen }
+        ensures snapshot { IfOk result
+            (λ s. IsOf (E.opening self.old.entry) s × (version_of s ≡ version_of self.new.seen)) }
+        ensures cause { IfOk result
+            (λ s. Began (E.number self.new.entry) (E.entries self.old.entry)
+            (E.entries self.new.entry) (E.refusals self.old.entry) (E.refusals self.new.entry)
+            (version_of self.old.seen) (version_of s)) }
+        ensures number { E.number self.old.entry ≤ E.number self.new.entry }
+        ensures err { OnErr result (self.new.seen ≡ self.old.seen) }
+    {
+        match self.entry.enter() {
+            Entered::Share(share) => {
+                let mine = Arc::try_clone(&share)?;
+                self.seen = mine;
+                Ok(Snapshot::over(share))
+            }
+            Entered::Refused => {
+                let share = Arc::try_clone(&self.seen)?;
+                Ok(Snapshot::over(share))
+            }
+            Entered::OutOfMemory => Err(AllocError),
+        }
+    }
+
+    /// Has seen at least the note's version from now on. No memory is taken.
+    pub fn learn(&mut self, note: E::Note)
+        requires { E.note_opening note ≡ E.opening self.old.entry }
+        ensures opening { E.opening self.new.entry ≡ E.opening self.old.entry }
+        ensures of_opening { IsOf (E.opening self.new.entry) self.new.seen }
+        ensures seen { version_of self.new.seen
+            ≡ max (version_of self.old.seen) (E.note_number note) }
+        ensures number { E.number self.new.entry
+            ≡ max (E.number self.old.entry) (E.note_number note) }
+        ensures entries { E.entries self.new.entry ≡ E.entries self.old.entry }
+        ensures refusals { E.refusals self.new.entry ≡ E.refusals self.old.entry }
+    {
+        let share = self.entry.learn(note);
+        if share.version() > self.seen.version() {
+            self.seen = share;
+        }
+    }
+}

@@ -1,0 +1,149 @@
+//! The rule over the published version and what is known of it, and the steps that keep it.
+ghost use Rattle.std.specs.Prelude.{◌≡◌, ◌≤◌, ◌<◌, ◌^◌, None, IfOk, OnOk, OnErr, Some, IfSome};
+ghost use Rattle.std.specs.Arc.{arc_value};
+ghost use Rattle.left_right.specs.Sides.{view};
+ghost use Rattle.store_versions.specs.Trials.{version_of};
+ghost use Rattle.store_snapshots.specs.Openings.{IsOf};
+ghost use Rattle.store_snapshots.specs.Rule.{AllFit, KnowsVersion, SeesVersion, entered, named_only};
+ghost use Rattle.store_snapshots.specs.Rule.{on_shelf, own_view};
+
+use crate::shelf::{Shelf, ShelfView};
+use atomic_table::{Join, Split};
+use crossbeam_utils::rule::{Outcome, Protocol};
+use left_right::reader::Reader;
+use left_right::writer::Writer;
+use std::alloc::{AllocError, Global};
+use std::sync::{Arc, Wait};
+use store_versions::Directory;
+
+/// The rule: what is known is true of the published version.
+pub struct Versions;
+
+impl Protocol<Shelf, ShelfView> for Versions {
+    ghost holds = { λ s. AllFit (on_shelf s) };
+
+    ghost first = { record { opening = None; number = 0 } };
+}
+
+/// An entry sees the number of the published version.
+pub struct Seeing;
+
+impl Outcome<Shelf, ShelfView> for Seeing {
+    ghost then = { λ v x y w. SeesVersion v (on_shelf y) w };
+}
+
+/// The writer names the opening of its first version.
+pub struct Naming;
+
+impl Outcome<Shelf, ShelfView> for Naming {
+    ghost then = { λ v x y w. KnowsVersion (on_shelf y) w };
+}
+
+/// The writer shows a version.
+pub struct Showing;
+
+impl Outcome<Shelf, ShelfView> for Showing {
+    ghost then = { λ v x y w. w ≡ entered v (on_shelf y) };
+}
+
+/// The writer tells what it knows.
+pub struct Telling;
+
+impl Split<ShelfView> for Telling {
+    ghost left = { λ v. v };
+
+    ghost right = { λ v. v };
+}
+
+/// A reader takes over what it is told.
+pub struct Learning;
+
+impl Join<ShelfView> for Learning {
+    ghost both = { λ v w. w };
+
+    ghost spent = { record { opening = None; number = 0 } };
+}
+
+/// A reader takes over the opening that it is told, and no number.
+pub struct Joining;
+
+impl Join<ShelfView> for Joining {
+    ghost both = { λ v w. named_only w };
+
+    ghost spent = { record { opening = None; number = 0 } };
+}
+
+pub(crate) type ShelfReader = Reader<Shelf, ShelfView, Versions>;
+
+pub(crate) type ShelfWriter = Writer<Shelf, Shelf, ShelfView, Versions>;
+
+/// A writer of one version, which knows it.
+pub(crate) fn start<R: Wait>(
+    rt: &R,
+    alloc: Global,
+    directory: Arc<Directory>,
+    readers: usize,
+) -> Option<ShelfWriter>
+    requires { (1 ≤ readers) × (readers < 2 ^ 32) }
+    ensures { IfSome result (λ w. (on_shelf w.desk.shown.value ≡ arc_value directory)
+        × (view w.desk.place ≡ own_view (arc_value directory))) }
+{
+    let second = Arc::try_clone(&directory).ok()?;
+    let writer: ShelfWriter = Writer::new(
+        alloc,
+        Shelf { directory },
+        Shelf { directory: second },
+        readers,
+    )
+    .ok()?;
+    let (writer, shown) = writer.publish_as::<Naming, R>(rt);
+    match shown {
+        Ok(()) => Some(writer),
+        Err(_) => {
+            drop(writer.take(rt));
+            None
+        }
+    }
+}
+
+/// A reader that knows what the writer knows.
+pub(crate) fn told(writer: &mut ShelfWriter) -> Result<ShelfReader, AllocError>
+    ensures told { IfOk result (λ r. view r.place ≡ view writer.old.desk.place) }
+    ensures kept { (view writer.new.desk.place ≡ view writer.old.desk.place)
+        × (writer.new.desk.shown ≡ writer.old.desk.shown) }
+{
+    let mut reader = writer.factory().reader()?;
+    reader.learn::<Learning>(writer.tell::<Telling>());
+    Ok(reader)
+}
+
+/// A reader that knows the opening of the writer's versions, and none of their numbers.
+pub(crate) fn joined(writer: &mut ShelfWriter) -> Result<ShelfReader, AllocError>
+    ensures joined { IfOk result (λ r. view r.place ≡ named_only (view writer.old.desk.place)) }
+    ensures kept { (view writer.new.desk.place ≡ view writer.old.desk.place)
+        × (writer.new.desk.shown ≡ writer.old.desk.shown) }
+{
+    let mut reader = writer.factory().reader()?;
+    reader.learn::<Joining>(writer.tell::<Telling>());
+    Ok(reader)
+}
+
+/// Shows readers the next version, whole or not at all.
+pub(crate) fn publish<R: Wait>(
+    mut writer: ShelfWriter,
+    next: (&R, Arc<Directory>),
+) -> (ShelfWriter, Result<(), AllocError>)
+    requires base { (arc_value next.1).base ≡ (on_shelf writer.desk.shown.value).base }
+    requires list { (arc_value next.1).list ≡ (on_shelf writer.desk.shown.value).list }
+    requires later { version_of (on_shelf writer.desk.shown.value) ≤ version_of (arc_value next.1) }
+    ensures shown { OnOk result.1 ((on_shelf result.0.desk.shown.value ≡ arc_value next.entry.1)
+        × (view result.0.desk.place ≡ entered (view writer.desk.place) (arc_value next.entry.1))) }
+    ensures kept { OnErr result.1 ((result.0.desk.shown.value ≡ writer.desk.shown.value)
+        × (view result.0.desk.place ≡ view writer.desk.place)) }
+{
+    let (rt, directory) = next;
+    if writer.append(Shelf { directory }).is_err() {
+        return (writer, Err(AllocError));
+    }
+    writer.publish_as::<Showing, R>(rt)
+}

@@ -1,0 +1,69 @@
+//! A hall under the rule.
+ghost use Rattle.std.specs.Prelude.{◌≡◌, IfOk, max};
+ghost use Rattle.left_right.specs.Sides.{view};
+ghost use Rattle.store_snapshots.specs.Openings.{opening_at};
+ghost use Rattle.store_snapshots.specs.Rule.{on_shelf, own_view};
+
+use crate::hall::{Another, Hall};
+use crate::rule::{ShelfWriter, joined};
+use crate::ruled::RuledEntry;
+use std::alloc::AllocError;
+use std::sync::Wait;
+
+/// Makes entries to the shelf of a writer, which knows its opening.
+pub struct RuledHall {
+    pub(crate) writer: ShelfWriter,
+    refusals: u64,
+    ghost knows: { view writer.desk.place ≡ own_view (on_shelf writer.desk.shown.value) },
+}
+
+impl RuledHall {
+    /// A hall over this writer that refused nothing yet.
+    pub(crate) fn over(writer: ShelfWriter) -> RuledHall
+        requires { view writer.desk.place ≡ own_view (on_shelf writer.desk.shown.value) }
+        ensures writer { result.writer ≡ writer }
+        ensures refusals { result.refusals ≡ 0 }
+    {
+        RuledHall {
+            writer,
+            refusals: 0,
+        }
+    }
+
+    /// An entry of number 0 to what the writer shows. An error is the shelf's, and isn't counted.
+    pub(crate) fn entry(&mut self) -> Result<RuledEntry, AllocError>
+        ensures opening { IfOk result (λ e. (view e.reader.place).opening
+            ≡ opening_at (on_shelf self.old.writer.desk.shown.value)) }
+        ensures number { IfOk result (λ e. max (view e.reader.place).number e.told ≡ 0) }
+        ensures shown { self.new.writer.desk.shown ≡ self.old.writer.desk.shown }
+        ensures refusals { self.new.refusals ≡ self.old.refusals }
+    {
+        let reader = joined(&mut self.writer)?;
+        Ok(RuledEntry::over(reader, 0))
+    }
+
+    /// Waits for the readers that are inside.
+    pub(crate) fn close<R: Wait>(self, rt: &R) {
+        let RuledHall {
+            writer,
+            refusals: _refusals,
+        } = self;
+        drop(writer.take(rt));
+    }
+}
+
+impl Hall<RuledEntry> for RuledHall {
+    ghost shown = { λ h. on_shelf h.writer.desk.shown.value };
+
+    ghost refused = { λ h. h.refusals };
+
+    fn another(&mut self) -> Another<RuledEntry> {
+        match self.entry() {
+            Ok(entry) => Another::Made(entry),
+            Err(_) => {
+                self.refusals = self.refusals.saturating_add(1);
+                Another::Refused
+            }
+        }
+    }
+}

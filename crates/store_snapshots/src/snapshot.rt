@@ -1,0 +1,73 @@
+//! A version that a session reads.
+ghost use Rattle.std.specs.Prelude.{◌≡◌, ◌+◌, ◌≤◌, length, IfOk, OnOk};
+ghost use Rattle.std.specs.Arc.{arc_value};
+ghost use Rattle.base_columns.specs.Lists.{one_list};
+ghost use Rattle.plan_algebra.specs.Trees.{HasKinds};
+ghost use Rattle.base_schema.specs.State.{table_rows};
+ghost use Rattle.store_state.specs.Versions.{accepted};
+ghost use Rattle.store_versions.specs.Trials.{tables_of, version_of};
+
+use base_schema::TableName;
+use plan_algebra::{Piece, Steps, Tables};
+use std::alloc::{AllocError, Global};
+use std::marker::Model;
+use std::sync::Arc;
+use std::sync::ledger::Ledger;
+use store_versions::Directory;
+
+/// A share of a version, seen as that version.
+#[derive(Drop)]
+pub struct Snapshot {
+    share: Arc<Directory>,
+}
+
+impl Model for Snapshot {
+    ghost use Rattle.std.specs.Arc.{arc_value};
+    ghost use Rattle.store_versions.specs.Trials.{Trials};
+
+    ghost Value = { Trials };
+
+    ghost view = { λ s. arc_value s.share };
+}
+
+impl Snapshot {
+    /// A snapshot of the shared version.
+    pub(crate) fn over(share: Arc<Directory>) -> Snapshot
+        ensures { result ≡ arc_value share }
+    {
+        Snapshot { share }
+    }
+
+    /// A snapshot of this version, of whose rows nothing is copied.
+    pub fn of(alloc: Global, directory: &Directory) -> Result<Snapshot, AllocError>
+        ensures { IfOk result (λ snapshot. snapshot ≡ directory.now) }
+    {
+        let share = Arc::new(alloc, directory.another()?)?;
+        Ok(Snapshot { share })
+    }
+
+    /// How many refreshes were accepted.
+    pub fn version(&self) -> u64
+        ensures version { result ≡ version_of self.now }
+        ensures most { result ≤ accepted self.now.base self.now.list (length self.now.list) }
+    {
+        self.share.version()
+    }
+}
+
+impl Tables for Snapshot {
+    ghost rows = { λ snapshot table. table_rows (tables_of snapshot) table };
+
+    fn count(&self, table: TableName) -> u64 {
+        Tables::count(&*self.share, table)
+    }
+
+    fn scan<L: Ledger>(
+        &self,
+        alloc: Global,
+        table: TableName,
+        steps: &mut Steps<L>,
+    ) -> Result<Vec<Piece>, AllocError> {
+        self.share.scan(alloc, table, steps)
+    }
+}

@@ -1,0 +1,8 @@
+use Rattle.std.proofs.Common.{take}
+use Rattle.base_columns.specs.Lists.{one_list}
+use Rattle.store_state.specs.Found.{TellsLines}
+use Rattle.store_state.specs.Keys.{line_keys}
+use Rattle.store_state.proofs.found.lines_found.Given as goal
+
+abbrev pub invariant-loop-part : goal.invariant-loop-part
+invariant-loop-part l = TellsLines l.wanted (line_keys (one_list (take l.part-index l.parts))) l.found

@@ -1,0 +1,8 @@
+use Rattle.std.proofs.Common.{take}
+use Rattle.base_columns.specs.Lists.{one_list}
+use Rattle.store_state.specs.Found.{TellsKeys}
+use Rattle.store_state.specs.Keys.{order_keys}
+use Rattle.store_state.proofs.found.orders_found.Given as goal
+
+abbrev pub invariant-loop-part : goal.invariant-loop-part
+invariant-loop-part l = TellsKeys l.wanted (order_keys (one_list (take l.part-index l.parts))) l.found

@@ -1,0 +1,7 @@
+use Rattle.std.proofs.Common.{◌≡◌, take}
+use Rattle.base_columns.specs.Lists.{one_list}
+use Rattle.store_state.specs.Keys.{order_keys}
+use Rattle.store_state.proofs.parts.Parts.order_keys.Given as goal
+
+abbrev pub invariant-loop-part : goal.invariant-loop-part
+invariant-loop-part l = l.keys.items ≡ order_keys (one_list (take l.part-index l.parts))

@@ -1,0 +1,229 @@
+//! A version with all that it came from.
+ghost use Rattle.std.specs.Prelude.{◌≡◌, ◌+◌, ◌<◌, ◌≤◌, ◌↔◌, length, IfOk, IsTrue, Ok};
+ghost use Rattle.base_schema.specs.Kinds.{RowsAreOf};
+ghost use Rattle.base_schema.specs.State.{table_rows};
+ghost use Rattle.base_columns.specs.Lists.{one_list};
+ghost use Rattle.store_state.specs.Lists.{IsOfKinds};
+ghost use Rattle.store_state.specs.Versions.{accepted};
+
+use crate::compacted::{Compacted, joined_tables};
+use base_schema::{TABLES, TableName};
+use base_value::Row;
+use std::alloc::{AllocError, Global};
+use std::marker::Model;
+use std::sync::Arc;
+use store_state::{Part, Refresh, RefreshError, State, apply};
+
+/// The first refreshes of a list that were tried on a base, with the tables that they leave.
+#[derive(Drop)]
+pub struct Directory {
+    alloc: Global,
+    base: Arc<State>,
+    list: Arc<Vec<Refresh>>,
+    done: usize,
+    accepted: u64,
+    state: State,
+}
+
+impl Model for Directory {
+    ghost use Rattle.std.specs.Arc.{arc_value};
+    ghost use Rattle.store_versions.specs.Trials.{HasKept, Trials};
+
+    ghost Value = { Trials };
+
+    ghost view = { λ d. record {
+      base = arc_value d.base;
+      list = (arc_value d.list).items;
+      done = d.done;
+    } };
+
+    ghost invariant = { λ d.
+        HasKept (record { base = arc_value d.base; list = (arc_value d.list).items; done = d.done })
+        d.accepted d.state };
+}
+
+impl Directory {
+    ghost use Rattle.std.specs.Arc.{arc_value};
+    ghost use Rattle.store_versions.specs.Segments.{IsCompacted};
+    ghost use Rattle.store_versions.specs.Trials.{IsAfter, HasKept, Leaves, one_more, tables_of};
+    ghost use Rattle.store_versions.specs.Trials.{version_of};
+
+    /// The base, with nothing tried.
+    pub fn new(alloc: Global, base: State, list: Vec<Refresh>) -> Result<Directory, AllocError>
+        ensures { IfOk result (λ d. d ≡ record { base = base; list = list.items; done = 0 }) }
+    {
+        let state = base.share(alloc)?;
+        let base = Arc::new(alloc, base)?;
+        let list = Arc::new(alloc, list)?;
+        Ok(Directory {
+            alloc,
+            base,
+            list,
+            done: 0,
+            accepted: 0,
+            state,
+        })
+    }
+
+    /// The same version once more.
+    pub fn another(&self) -> Result<Directory, AllocError>
+        ensures { IfOk result (λ d. d ≡ self.now) }
+    {
+        let state = self.state.share(self.alloc)?;
+        let base = Arc::try_clone(&self.base)?;
+        let list = Arc::try_clone(&self.list)?;
+        Ok(Directory {
+            alloc: self.alloc,
+            base,
+            list,
+            done: self.done,
+            accepted: self.accepted,
+            state,
+        })
+    }
+
+    /// How many refreshes were accepted.
+    pub fn version(&self) -> u64
+        ensures version { result ≡ version_of self.now }
+        ensures most { result ≤ accepted self.now.base self.now.list (length self.now.list) }
+    {
+        self.accepted
+    }
+
+    /// How many refreshes the list has.
+    pub fn listed(&self) -> usize
+        ensures { result ≡ length self.now.list }
+    {
+        self.list.len()
+    }
+
+    /// Whether each refresh of the list was tried.
+    pub fn is_done(&self) -> bool
+        ensures done { IsTrue result ↔ (self.now.done ≡ length self.now.list) }
+        ensures within { self.now.done ≤ length self.now.list }
+    {
+        self.done == self.list.len()
+    }
+
+    /// A version of this base and this list, which is kept in this state.
+    pub(crate) fn at(
+        alloc: Global,
+        base: Arc<State>,
+        list: Arc<Vec<Refresh>>,
+        done: usize,
+        accepted: u64,
+        state: State,
+    ) -> Directory
+        requires { HasKept (record {
+          base = arc_value base;
+          list = (arc_value list).items;
+          done = done;
+        }) accepted state }
+        ensures { result ≡ record {
+          base = arc_value base;
+          list = (arc_value list).items;
+          done = done;
+        } }
+    {
+        Directory {
+            alloc,
+            base,
+            list,
+            done,
+            accepted,
+            state,
+        }
+    }
+
+    /// The same version, whose tables lie in segments of which no row is deleted and no two
+    /// neighbours fit in one.
+    pub fn compacted(&self) -> Result<Compacted, AllocError>
+        ensures { IfOk result (IsCompacted self.now) }
+    {
+        let tables = joined_tables(self.alloc, &self.state, &TABLES)?;
+        let base = Arc::try_clone(&self.base)?;
+        let list = Arc::try_clone(&self.list)?;
+        Ok(Compacted {
+            alloc: self.alloc,
+            base,
+            list,
+            done: self.done,
+            accepted: self.accepted,
+            tables,
+        })
+    }
+
+    /// The rows of a table in order, as parts of which nothing is copied.
+    pub(crate) fn parts(&self, table: TableName) -> &[Part]
+        ensures { one_list result.now ≡ table_rows (tables_of self.now) table }
+    {
+        self.state.parts(table)
+    }
+
+    /// How many rows a table has.
+    pub fn count(&self, table: TableName) -> u64
+        ensures count { result ≡ length (table_rows (tables_of self.now) table) }
+        ensures kinds { IsOfKinds (tables_of self.now) }
+    {
+        self.state.count(table)
+    }
+
+    /// The rows of a table in order, each copied to a row of its own.
+    pub fn rows(&self, table: TableName) -> Result<Vec<Row>, AllocError>
+        ensures rows { IfOk result (λ rows. rows.items ≡ table_rows (tables_of self.now) table) }
+        ensures kinds { IfOk result (λ rows. RowsAreOf table rows.items) }
+    {
+        self.state.rows(self.alloc, table)
+    }
+
+    /// The state that the next refresh leaves here, or its first cause.
+    fn try_next(&self) -> Result<State, RefreshError>
+        requires { self.now.done < length self.now.list }
+        ensures { Leaves self.now result }
+    {
+        let mut state = self.state.share(self.alloc)?;
+        match apply(self.alloc, &mut state, &self.list[self.done]) {
+            Ok(()) => Ok(state),
+            Err(error) => Err(error),
+        }
+    }
+
+    /// The version of the state that the next refresh, which is accepted, leaves here.
+    fn next(&self, state: State) -> Result<Directory, AllocError>
+        requires less { self.now.done < length self.now.list }
+        requires leaves { Leaves self.now (Ok state) }
+        ensures next { IfOk result (λ d. d ≡ one_more self.now) }
+        ensures version { IfOk result (λ d. version_of d ≡ version_of self.now + 1) }
+        ensures tables { IfOk result (λ d. tables_of d ≡ state) }
+    {
+        let base = Arc::try_clone(&self.base)?;
+        let list = Arc::try_clone(&self.list)?;
+        Ok(Directory {
+            alloc: self.alloc,
+            base,
+            list,
+            done: self.done + 1,
+            accepted: self.accepted + 1,
+            state,
+        })
+    }
+
+    /// Tries the next refresh. An accepted one gives the next version and leaves this one as it is;
+    /// of a refused one this version notes only that it was tried.
+    pub fn after_next(&mut self) -> Result<Directory, RefreshError>
+        requires { self.old.done < length self.old.list }
+        ensures { IsAfter self.old self.new result }
+    {
+        match self.try_next() {
+            Ok(state) => {
+                let next = self.next(state)?;
+                Ok(next)
+            }
+            Err(RefreshError::Refused(cause)) => {
+                self.done += 1;
+                Err(RefreshError::Refused(cause))
+            }
+            Err(RefreshError::OutOfMemory) => Err(RefreshError::OutOfMemory),
+        }
+    }
+}

@@ -1,7 +1,0 @@
-use Rattle.std.proofs.Common.{◌≡◌, ◌++◌, take}
-use Rattle.table_state.specs.Keys.{line_keys}
-use Rattle.table_state.specs.Parts.{left_rows}
-use Rattle.table_state.proofs.part.put_line_keys.Given as goal
-
-abbrev pub invariant-loop-i : goal.invariant-loop-i
-invariant-loop-i l = l.keys.items ≡ l.initial.keys.items ++ line_keys (left_rows l.deleted (take l.i l.segment))

@@ -1,7 +1,0 @@
-use Rattle.std.proofs.Common.{◌≡◌, take}
-use Rattle.columns.specs.Lists.{one_list}
-use Rattle.table_state.specs.Keys.{line_keys}
-use Rattle.table_state.proofs.parts.Parts.line_keys.Given as goal
-
-abbrev pub invariant-loop-part : goal.invariant-loop-part
-invariant-loop-part l = l.keys.items ≡ line_keys (one_list (take l.part-index l.parts))

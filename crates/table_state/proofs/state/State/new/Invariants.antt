@@ -1,5 +1,0 @@
-use Rattle.std.proofs.Common.{◌≡◌, take}
-use Rattle.table_state.proofs.state.State.new.Given as goal
-
-abbrev pub invariant-loop-rows : goal.invariant-loop-rows
-invariant-loop-rows l = l.all.items ≡ take l.rows-index l.rows-items

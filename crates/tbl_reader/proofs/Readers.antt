@@ -1,4 +1,0 @@
--- The rows of a reader's lines.
-use Rattle.tpch_schema.proofs.Fits.{rows_fit_are_of}
-
-pub ruleset readers = (rows_fit_are_of)

@@ -1,5 +1,0 @@
-use Rattle.tbl_reader.proofs.Keys.{key_identity}
-use Rattle.tbl_reader.proofs.key.insert_key.Goals as goal
-
-pub insert-requires : goal.insert-requires
-insert-requires c = key_identity

@@ -1,5 +1,0 @@
-use Rattle.tbl_reader.proofs.FieldLaws.{bad_from, bad_to}
-use Rattle.tbl_reader.proofs.laws.first_bad_field_counts.Goals as goal
-
-pub returns : goal.returns
-returns c = λ kinds line fault some. (bad_from kinds line some fault, bad_to kinds line some fault)

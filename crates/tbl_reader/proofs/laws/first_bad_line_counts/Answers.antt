@@ -1,5 +1,0 @@
-use Rattle.tbl_reader.proofs.FileLaws.{first_bad_line}
-use Rattle.tbl_reader.proofs.laws.first_bad_line_counts.Goals as goal
-
-pub returns : goal.returns
-returns c = first_bad_line

@@ -1,5 +1,0 @@
-use Rattle.tbl_reader.proofs.FileLaws.{rows_are_those}
-use Rattle.tbl_reader.proofs.laws.rows_are_those_of_the_lines.Goals as goal
-
-pub returns : goal.returns
-returns c = rows_are_those

@@ -1,0 +1,201 @@
+//! Readers of two orders and of what refreshes make of them.
+ghost use Rattle.std.specs.Prelude.{◌≡◌};
+ghost use denote.Param.Send.{IsSync};
+ghost use Rattle.store_snapshots.specs.Openings.{opening_at};
+ghost use Rattle.store_snapshots.specs.Ruled.{opening_of};
+
+use crate::files::{NINE, NINE_ONE, ORDERS, delete, insert, scanned, state};
+use crate::versions_called::next;
+use base_schema::TableName;
+use std::alloc::Global;
+use std::marker::Brand;
+use std::sync::ledger::Blank;
+use std::sync::{Arc, Wait};
+use std::test::Fail;
+use std::thread::{Threads, for_each_mut, join_mut};
+use store_snapshots::{Published, Publisher, Reader, RuledEntry, Snapshot, SureEntry, open};
+use store_state::Refresh;
+use store_versions::Directory;
+
+/// An insert of an order and a delete of the same, `count` times.
+fn pairs(alloc: Global, count: usize) -> Result<Vec<Refresh>, Fail> {
+    let mut list = Vec::new(alloc);
+    for _pair in 0..count {
+        list.push(insert(alloc, &[NINE], &[NINE_ONE])?)?;
+        list.push(delete(alloc, &[b"9"])?)?;
+    }
+    Ok(list)
+}
+
+/// The number of the version that a reader begins at.
+fn version_begun(reader: &mut Reader<RuledEntry>) -> Result<u64, Fail> {
+    let snapshot = reader.begin()?;
+    Ok(snapshot.version())
+}
+
+/// Publishes `count` refreshes. Returns how many of the list were accepted.
+fn publish<R: Wait>(rt: &R, publisher: &mut Publisher, count: usize) -> u64
+    ensures base { publisher.new.version.base ≡ publisher.old.version.base }
+    ensures list { publisher.new.version.list ≡ publisher.old.version.list }
+{
+    let mut accepted: u64 = 0;
+    'publishing: for _refresh in 0..count {
+        if let Published::Published(note) = publisher.publish_next(rt) {
+            accepted = note.version();
+        }
+    }
+    accepted
+}
+
+/// Both readers begin at the base, and after one refresh at the version after it.
+fn begin_twice<R: Wait>(
+    rt: &R,
+    publisher: &mut Publisher,
+    readers: &mut [Reader<RuledEntry>],
+) -> Result<bool, Fail> {
+    let mut good = readers.len() == 2;
+    for reader in readers.iter_mut() {
+        good &= version_begun(reader)? == 0;
+    }
+    good &= publish(rt, publisher, 1) == 1;
+    for reader in readers.iter_mut() {
+        good &= version_begun(reader)? == 1;
+    }
+    Ok(good)
+}
+
+#[test]
+fn begins_at_the_published_version(rt: HostRuntime) -> Result<(), Fail> {
+    let alloc = rt.alloc();
+    let (mut publisher, mut readers) = open(
+        &rt,
+        alloc,
+        state(alloc, &[ORDERS], &[])?,
+        pairs(alloc, 1)?,
+        2,
+    )?;
+    let good = begin_twice(&rt, &mut publisher, &mut readers);
+    publisher.close(&rt);
+    assert!(rt; good?);
+    Ok(())
+}
+
+/// Whether a snapshot of this version has the two orders of the base, in one piece.
+fn has_base(alloc: Global, snapshot: &Snapshot, version: u64) -> Result<bool, Fail> {
+    let scan = scanned::<Snapshot, Brand>(alloc, snapshot, TableName::Orders, Blank::new(1))?;
+    let (keys, pieces) = scan;
+    Ok(snapshot.version() == version && keys.as_slice() == [7, 8].as_slice() && pieces == 1)
+}
+
+/// A snapshot of the base keeps its rows while twenty refreshes and a compaction are published. The
+/// reader, once it has learnt the last note, begins at the last version, whose rows are joined.
+fn hold<R: Wait>(
+    rt: &R,
+    alloc: Global,
+    publisher: &mut Publisher,
+    reader: &mut Reader<RuledEntry>,
+) -> Result<bool, Fail>
+    requires { opening_of reader.old.entry ≡ opening_at publisher.old.version }
+{
+    let held = reader.begin()?;
+    let mut good = has_base(alloc, &held, 0)?;
+    good &= publish(rt, publisher, 20) == 20;
+    publisher.compact(rt)?;
+    reader.learn(publisher.tell()?);
+    good &= has_base(alloc, &reader.begin()?, 20)?;
+    good &= has_base(alloc, &held, 0)?;
+    Ok(good)
+}
+
+#[test]
+fn holds_a_snapshot(rt: HostRuntime) -> Result<(), Fail> {
+    let alloc = rt.alloc();
+    let (mut publisher, mut readers) = open(
+        &rt,
+        alloc,
+        state(alloc, &[ORDERS], &[])?,
+        pairs(alloc, 10)?,
+        1,
+    )?;
+    let good = hold(&rt, alloc, &mut publisher, &mut readers[0]);
+    publisher.close(&rt);
+    assert!(rt; good?);
+    Ok(())
+}
+
+/// A reader of the versions 0, 1 and 2.
+fn sure_reader(alloc: Global) -> Result<Reader<SureEntry>, Fail> {
+    let mut zero = Directory::new(alloc, state(alloc, &[ORDERS], &[])?, pairs(alloc, 1)?)?;
+    let mut one = next(&mut zero)?;
+    let two = next(&mut one)?;
+    let first = Arc::new(alloc, zero)?;
+    let versions = vec![in alloc;
+        Arc::try_clone(&first)?,
+        Arc::new(alloc, one)?,
+        Arc::new(alloc, two)?,
+    ]?;
+    let entry = SureEntry::new(Arc::try_clone(&first)?, versions);
+    Ok(Reader::new(entry, first))
+}
+
+#[test]
+fn begins_at_each_version_in_turn(rt: HostRuntime) -> Result<(), Fail> {
+    let mut reader = sure_reader(rt.alloc())?;
+    for version in [0, 1, 2, 2] {
+        assert_eq!(rt; reader.begin()?.version(), version);
+    }
+    Ok(())
+}
+
+/// Begins a thousand times.
+fn begin_often(reader: &mut Reader<RuledEntry>) {
+    for _time in 0..1000 {
+        let _snapshot = reader.begin();
+    }
+}
+
+/// Each reader begins a thousand times, on a thread of its own.
+fn begin_all<R: Threads + Sync>(rt: &R, readers: &mut [Reader<RuledEntry>]) {
+    let count = readers.len().max(1);
+    for_each_mut(
+        rt,
+        readers,
+        count,
+        &|_: usize, reader: &mut Reader<RuledEntry>| { begin_often(reader) },
+    );
+}
+
+/// Publishes a thousand refreshes beside the readers; how many of them were accepted.
+fn publish_beside<R: Threads + Wait + Sync>(
+    rt: &R,
+    publisher: &mut Publisher,
+    readers: &mut [Reader<RuledEntry>],
+) -> u64 {
+    let mut front = ||
+        requires { IsSync R.row }
+    { begin_all(rt, readers) };
+    let mut back = || -> u64 { publish(rt, publisher, 1000) };
+    let (_, accepted) = join_mut(rt, &mut front, &mut back);
+    accepted
+}
+
+#[test]
+fn reads_beside_a_publisher(rt: HostRuntime) -> Result<(), Fail> {
+    let alloc = rt.alloc();
+    let (mut publisher, mut readers) = open(
+        &rt,
+        alloc,
+        state(alloc, &[ORDERS], &[])?,
+        pairs(alloc, 500)?,
+        4,
+    )?;
+    let accepted = publish_beside(&rt, &mut publisher, readers.as_mut_slice());
+    let last = match readers.first_mut() {
+        Some(reader) => version_begun(reader),
+        None => Ok(0),
+    };
+    publisher.close(&rt);
+    assert_eq!(rt; accepted, 1000);
+    assert_eq!(rt; last?, 1000);
+    Ok(())
+}

@@ -1,5 +1,0 @@
-use Rattle.tpch_main.proofs.OneText.{text_law}
-use Rattle.tpch_main.proofs.laws.texts_are_unique.Goals as goal
-
-pub returns : goal.returns
-returns c = text_law

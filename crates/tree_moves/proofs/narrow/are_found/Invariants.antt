@@ -1,7 +1,0 @@
-use Rattle.std.proofs.Common.{take}
-use Rattle.std.specs.List.{All}
-use Rattle.tree_moves.specs.Narrow.{IsFound}
-use Rattle.tree_moves.proofs.narrow.are_found.Given as goal
-
-abbrev pub invariant-loop-e : goal.invariant-loop-e
-invariant-loop-e l = All (IsFound l.places l.whole) (take l.e-index l.es)

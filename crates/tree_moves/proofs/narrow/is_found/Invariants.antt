@@ -1,7 +1,0 @@
-use Rattle.std.proofs.Common.{take}
-use Rattle.std.specs.List.{All}
-use Rattle.tree_moves.specs.Narrow.{IsFoundAt}
-use Rattle.tree_moves.proofs.narrow.is_found.Given as goal
-
-abbrev pub invariant-loop-column : goal.invariant-loop-column
-invariant-loop-column l = All (IsFoundAt l.places l.whole) (take l.column-index l.column-items)

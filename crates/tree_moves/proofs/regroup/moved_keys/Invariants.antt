@@ -1,6 +1,0 @@
-use Rattle.std.proofs.Common.{take}
-use Rattle.tree_moves.specs.Regroup.{KeysMove}
-use Rattle.tree_moves.proofs.regroup.moved_keys.Given as goal
-
-abbrev pub invariant-loop-column : goal.invariant-loop-column
-invariant-loop-column l = KeysMove l.whole (take l.column-index l.by) l.keys

@@ -1,5 +1,0 @@
-use Rattle.unnesting.proofs.WorkedProofs.{worked_rows}
-use Rattle.unnesting.proofs.worked.worked_rows.Goals as goal
-
-pub returns : goal.returns
-returns c = worked_rows

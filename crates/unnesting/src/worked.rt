@@ -1,7 +1,0 @@
-//! Queries with subqueries worked out by hand.
-ghost use Rattle.unnesting.specs.WorkedRows.{WorkedRows};
-
-/// A law: what some trees give by nested loops over small tables, and how many rows they read.
-pub fn worked_rows()
-    ensures { WorkedRows }
-{}

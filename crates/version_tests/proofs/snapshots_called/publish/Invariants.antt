@@ -1,5 +1,0 @@
-use Rattle.std.proofs.Common.{◌≡◌}
-use Rattle.version_tests.proofs.snapshots_called.publish.Given as goal
-
-abbrev pub invariant-publishing : goal.invariant-publishing
-invariant-publishing g l = (l.publisher.version.base ≡ l.fn.publisher.version.base) × (l.publisher.version.list ≡ l.fn.publisher.version.list)
