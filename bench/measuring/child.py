@@ -1,10 +1,12 @@
 """Children of this process: how they are started, measured and ended, and which program is measured.
 
 A child ends where this process ends, however that happens. Its processor seconds are those of all its threads, user and system."""
+import atexit
 import ctypes
 import os
 import resource
 import select
+import shutil
 import signal
 import subprocess
 import sys
@@ -17,13 +19,25 @@ PR_SET_PDEATHSIG = 1
 IN_CLOSE_NOWRITE = 0x10
 
 
-def program():
-    """The path of the program: the variable PROGRAM names it, or it is built from the sources as ./tpch does."""
-    path = os.environ.get("PROGRAM")
-    if path is None:
-        if subprocess.run([f"{TOP}/tools/build"], check=False).returncode:
-            sys.exit("the program can't be built: PROGRAM=path names one that is there")
+def chosen():
+    """The path of the program that ./tpch runs, which is built where it isn't there."""
+    if not os.path.exists(f"{TOP}/tools/program"):
+        done = subprocess.run([f"{TOP}/tools/build"], check=False)
         path = f"{TOP}/crates/tpch/out/tpch"
+    else:
+        done = subprocess.run([f"{TOP}/tools/program"], stdout=subprocess.PIPE, text=True, check=False)
+        path = done.stdout.strip()
+    if done.returncode:
+        sys.exit("there is no program: PROGRAM=path names one")
+    if not path.startswith(f"{TOP}/"):
+        # (a copy that was unpacked for this run)
+        atexit.register(shutil.rmtree, os.path.dirname(path), ignore_errors=True)
+    return path
+
+
+def program():
+    """The path of the program: the one that the variable PROGRAM names, or the one that ./tpch runs."""
+    path = os.environ.get("PROGRAM") or chosen()
     try:
         with open(path, "rb") as file:
             is_script = file.read(2) == b"#!"

@@ -68,7 +68,7 @@ class Postgres:
                 with open(f"{self.room}/log", encoding="utf-8") as log:
                     raise RuntimeError(f"PostgreSQL doesn't start: {log.read()[-300:]}")
             time.sleep(0.1)
-        self.psql = subprocess.Popen([f"{where}/psql", "-h", self.room, "-U", "bench", "-X", "-At", "-F", "|", "postgres"], bufsize=0,
+        self.psql = subprocess.Popen([f"{where}/psql", "-h", self.room, "-U", "bench", "-X", "-At", "-F", "|", "postgres"],
                                      stdin=subprocess.PIPE, stdout=subprocess.PIPE, stderr=subprocess.STDOUT,
                                      preexec_fn=child.end_with_parent)
         self.pending = b""
@@ -77,8 +77,7 @@ class Postgres:
     def fill(self, folder, has_references):
         for table in schema.TABLES:
             self.send(f"create table {table}({schema.definition(table, KINDS)});")
-            # (the sed takes off the bar at each line's end)
-            said = self.send(f"\\copy {table} from program 'sed s/.$// \"{os.path.abspath(folder)}/{table}.tbl\"' with (delimiter '|')")
+            said = self.copy(table, f"{folder}/{table}.tbl")
             if not said or not said[-1].startswith("COPY"):
                 raise RuntimeError(f"PostgreSQL doesn't read {folder}/{table}.tbl: {' '.join(said)[:300]}")
             self.send(f"alter table {table} add primary key ({', '.join(schema.KEYS[table])});")
@@ -86,12 +85,21 @@ class Postgres:
                 self.send(f"create index on {table}({column});")
         self.send("analyze;")
 
+    def copy(self, table, path):
+        """Puts the rows of a file into a table, without the bar at each line's end: what psql says."""
+        self.psql.stdin.write(f"copy {table} from stdin with (delimiter '|');\n".encode())
+        with open(path, "rb") as file:
+            while piece := file.read(1 << 20):
+                self.psql.stdin.write((piece + file.readline()).replace(b"|\n", b"\n"))
+        return self.send("\\.")
+
     def version(self):
         return self.send("show server_version;")[0].join(("PostgreSQL ", ""))
 
     def send(self, text, seconds=None):
         """What psql prints for a text. A statement that takes more seconds of a processor is stopped."""
         self.psql.stdin.write(f"{text}\n\\echo {END}\n".encode())
+        self.psql.stdin.flush()
         last = self.used() + seconds if seconds else None
         end = f"{END}\n".encode()
         while not (self.pending == end or self.pending.endswith(b"\n" + end)):
