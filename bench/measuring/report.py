@@ -20,7 +20,17 @@ def machine():
 
 
 def load():
-    return f"{os.getloadavg()[0]:.1f}"
+    """How busy the machine is: the processes that want a processor, and how many times its least time a short fixed loop takes: about 1
+    where nothing else runs, 2 where another thread of the same core is always busy. Processor seconds grow with it."""
+    times = sorted(fixed_loop() for _ in range(1000))
+    return f"{os.getloadavg()[0]:.1f}, pace {times[500] / times[0]:.2f}"
+
+
+def fixed_loop():
+    begin, total = time.thread_time_ns(), 0
+    for number in range(5000):
+        total += number
+    return time.thread_time_ns() - begin
 
 
 def row(cells):
