@@ -22,7 +22,11 @@ def machine():
 def load():
     """How busy the machine is: the processes that want a processor, and how many times its least time a short fixed loop takes: about 1
     where nothing else runs, 2 where another thread of the same core is always busy. Processor seconds grow with it."""
-    times = sorted(fixed_loop() for _ in range(1000))
+    times = []
+    for _ in range(20):
+        times += [fixed_loop() for _ in range(50)]
+        time.sleep(0.05)
+    times.sort()
     return f"{os.getloadavg()[0]:.1f}, pace {times[500] / times[0]:.2f}"
 
 
