@@ -1,6 +1,8 @@
-"""Children of this process: how they are started, measured and ended, and which program is measured.
+"""Children of this process: how they are started, measured and ended, and which program is
+measured.
 
-A child ends where this process ends, however that happens. Its processor seconds are those of all its threads, user and system."""
+A child ends where this process ends, however that happens. Its processor seconds are those of
+all its threads, user and system."""
 import atexit
 import ctypes
 import os
@@ -36,7 +38,8 @@ def chosen():
 
 
 def program():
-    """The path of the program: the one that the variable PROGRAM names, or the one that ./tpch runs."""
+    """The path of the program: the one that the variable PROGRAM names, or the one that ./tpch
+    runs."""
     path = os.environ.get("PROGRAM") or chosen()
     try:
         with open(path, "rb") as file:
@@ -49,7 +52,8 @@ def program():
 
 
 def end_with_parent(how=signal.SIGKILL):
-    """To be called in a child before it becomes another program: it gets this signal when its parent ends."""
+    """To be called in a child before it becomes another program: it gets this signal when its
+    parent ends."""
     LIBC.prctl(PR_SET_PDEATHSIG, how)
 
 
@@ -60,7 +64,8 @@ def end_cleanly_on_signals():
 
 
 def prefer_this_process():
-    """Lets this process go before all others where it may, so that it sees at once what a child does. Children don't inherit it."""
+    """Lets this process go before all others where it may, so that it sees at once what a child
+    does. Children don't inherit it."""
     try:
         os.sched_setscheduler(0, os.SCHED_FIFO | os.SCHED_RESET_ON_FORK, os.sched_param(1))
     except OSError:
@@ -73,8 +78,9 @@ def processor_seconds(pid):
 
 
 class Run(NamedTuple):
-    """What a run took: processor seconds, seconds by the clock, the most memory in MB, its exit status (below 0 the signal that ended
-    it); and where a file was watched, the two times since that file was closed, otherwise the whole."""
+    """What a run took: processor seconds, seconds by the clock, the most memory in MB, its exit
+    status (below 0 the signal that ended it); and where a file was watched, the two times since
+    that file was closed, otherwise the whole."""
 
     processor: float
     clock: float
@@ -108,8 +114,9 @@ def prepare(processors, seconds, megabytes):
 
 
 def run(words, out=None, watched=None, processors=None, seconds=None, megabytes=None):
-    """Runs a command to its end and measures it. `out` takes its standard output (else this process's), `watched` is a file whose
-    first closing splits the time; `seconds` of a processor and `megabytes` of addresses are the most that it gets."""
+    """Runs a command to its end and measures it. `out` takes its standard output (else this
+    process's), `watched` is a file whose first closing splits the time; `seconds` of a processor
+    and `megabytes` of addresses are the most that it gets."""
     watch = Watch(watched) if watched else None
     begin, mark, child = time.monotonic(), None, None
     try:

@@ -1,7 +1,9 @@
-"""ClickHouse: a server of its own in a temporary folder, with tables of engine Memory and one thread a query.
+"""ClickHouse: a server of its own in a temporary folder, with tables of engine Memory and one
+thread a query.
 
-Debian's version, 18.16, has no subqueries that depend on the row around them and no join of more than two tables, so it is asked only
-the queries below, written as it wants them. It computes with decimals."""
+Debian's version, 18.16, has no subqueries that depend on the row around them and no join of more
+than two tables, so it is asked only the queries below, written as it wants them. It computes
+with decimals."""
 import os
 import shutil
 import signal

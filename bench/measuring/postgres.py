@@ -1,6 +1,8 @@
-"""PostgreSQL: a server of its own in a temporary folder, with one session that answers in one thread.
+"""PostgreSQL: a server of its own in a temporary folder, with one session that answers in one
+thread.
 
-Its programs are looked for in the path and in /usr/lib/postgresql. It does not run as root, so root starts it as nobody."""
+Its programs are looked for in the path and in /usr/lib/postgresql. It does not run as root, so
+root starts it as nobody."""
 import glob
 import os
 import re
@@ -86,7 +88,8 @@ class Postgres:
         self.send("analyze;")
 
     def copy(self, table, path):
-        """Puts the rows of a file into a table, without the bar at each line's end: what psql says."""
+        """Puts the rows of a file into a table, without the bar at each line's end: what psql
+        says."""
         self.psql.stdin.write(f"copy {table} from stdin with (delimiter '|');\n".encode())
         with open(path, "rb") as file:
             while piece := file.read(1 << 20):
@@ -97,7 +100,8 @@ class Postgres:
         return self.send("show server_version;")[0].join(("PostgreSQL ", ""))
 
     def send(self, text, seconds=None):
-        """What psql prints for a text. A statement that takes more seconds of a processor is stopped."""
+        """What psql prints for a text. A statement that takes more seconds of a processor is
+        stopped."""
         self.psql.stdin.write(f"{text}\n\\echo {END}\n".encode())
         self.psql.stdin.flush()
         last = self.used() + seconds if seconds else None

@@ -1,5 +1,5 @@
-"""SQLite: a database in the memory of a process of its own, which computes with binary numbers. (In this process, what it holds would
-be counted as held by each child that starts later.)"""
+"""SQLite: a database in the memory of a process of its own, which computes with binary numbers.
+(In this process, what it holds would be counted as held by each child that starts later.)"""
 import multiprocessing
 import re
 import resource
@@ -34,7 +34,8 @@ def dialect(text):
 def fill(database, folder):
     for table in schema.TABLES:
         columns, keys = schema.definition(table, KINDS), schema.KEYS[table]
-        # A key of one column is the table's own order; `int primary key` would be an index beside the table.
+        # A key of one column is the table's own order; `int primary key` would be an index beside
+        # the table.
         if len(keys) == 1:
             columns = columns.replace(f"{keys[0]} int", f"{keys[0]} integer primary key")
         else:

@@ -1,4 +1,5 @@
-"""The texts that are asked: the 22 queries with two sets of values, and the statements of bench/slow."""
+"""The texts that are asked: the 22 queries with two sets of values, and the statements of
+bench/slow."""
 import glob
 import os
 import re
@@ -6,7 +7,8 @@ from typing import NamedTuple
 
 from .child import TOP
 
-# By a query's number what stands in its text of examples/queries, and other values of the benchmark's ranges in its place.
+# By a query's number what stands in its text of examples/queries, and other values of the
+# benchmark's ranges in its place.
 OTHER_VALUES = {
     1: {"'90'": "'60'"},
     2: {"= 15": "= 37", "%BRASS": "%TIN", "EUROPE": "ASIA"},
@@ -62,8 +64,9 @@ def read(path):
 
 
 def query_texts(scale, numbers=None, texts_of=lambda number: read(f"{TOP}/examples/queries/query_{number:02}.sql")):
-    """The texts of these queries (all where none are given), each with the values of its text and with others. The fraction in query
-    11 is 0.0001 through the scale factor, as the benchmark has it."""
+    """The texts of these queries (all where none are given), each with the values of its text
+    and with others. The fraction in query 11 is 0.0001 through the scale factor, as the
+    benchmark has it."""
     fraction = f"{0.0001 / scale:.10f}".rstrip("0")
     for number in numbers or range(1, 23):
         text = texts_of(number)

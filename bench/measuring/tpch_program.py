@@ -1,7 +1,8 @@
 """The program that is measured.
 
-It reads the tables anew in each run, the last of them lineitem, so a run's own time is counted from when that file is closed; what a
-run of a script without statements takes from there on is taken off. A short text is asked many times in one script."""
+It reads the tables anew in each run, the last of them lineitem, so a run's own time is counted
+from when that file is closed; what a run of a script without statements takes from there on is
+taken off. A short text is asked many times in one script."""
 import os
 import shutil
 import subprocess
@@ -58,7 +59,8 @@ class Program:
         return (last, "") if isinstance(last, list) else (None, last)
 
     def first(self, text, seconds=None, megabytes=None):
-        """Asks a text for the first time: its rows, its memory, and how often it is to be asked in one script."""
+        """Asks a text for the first time: its rows, its memory, and how often it is to be asked
+        in one script."""
         run = self.run(text, 1, seconds and seconds + self.load, megabytes)
         self.memory[text] = run.memory
         if run.status < 0:
