@@ -46,7 +46,7 @@ def is_same_cell(cell, other, is_binary):
 
 def in_order(rows):
     """The rows ordered by the cells that aren't decimals: ORDER BY may leave rows in any order."""
-    return sorted(rows, key=lambda row: [it for it in row if not (NUMBER.fullmatch(it) and "." in it)])
+    return sorted(rows, key=lambda row: [it for it in row if "." not in it or not NUMBER.fullmatch(it)])
 
 
 def is_same(rows, others, is_binary=False):

@@ -27,7 +27,8 @@ def chosen():
         done = subprocess.run([f"{TOP}/tools/build"], check=False)
         path = f"{TOP}/crates/tpch/out/tpch"
     else:
-        done = subprocess.run([f"{TOP}/tools/program"], stdout=subprocess.PIPE, text=True, check=False)
+        words = [f"{TOP}/tools/program"]
+        done = subprocess.run(words, stdout=subprocess.PIPE, text=True, check=False)
         path = done.stdout.strip()
     if done.returncode:
         sys.exit("there is no program: PROGRAM=path names one")
@@ -47,7 +48,7 @@ def program():
     except OSError as fault:
         sys.exit(f"the program {path} can't be read: {fault.strerror}")
     if is_script:
-        sys.exit(f"{path} is a script: PROGRAM must name the program that it starts, whose time is taken")
+        sys.exit(f"{path} is a script: PROGRAM must name the program that it starts")
     return os.path.realpath(path)
 
 
@@ -95,7 +96,8 @@ class Watch:
 
     def __init__(self, path):
         self.descriptor = LIBC.inotify_init1(os.O_CLOEXEC)
-        if self.descriptor < 0 or LIBC.inotify_add_watch(self.descriptor, os.fsencode(path), IN_CLOSE_NOWRITE) < 0:
+        name = os.fsencode(path)
+        if LIBC.inotify_add_watch(self.descriptor, name, IN_CLOSE_NOWRITE) < 0:
             raise OSError(ctypes.get_errno(), os.strerror(ctypes.get_errno()), path)
 
     def close(self):
@@ -120,7 +122,8 @@ def run(words, out=None, watched=None, processors=None, seconds=None, megabytes=
     watch = Watch(watched) if watched else None
     begin, mark, child = time.monotonic(), None, None
     try:
-        child = subprocess.Popen(words, stdout=out, preexec_fn=lambda: prepare(processors, seconds, megabytes))
+        first = lambda: prepare(processors, seconds, megabytes)
+        child = subprocess.Popen(words, stdout=out, preexec_fn=first)
         if watch:
             ended = os.pidfd_open(child.pid)
             ready, _, _ = select.select([watch.descriptor, ended], [], [])
@@ -136,5 +139,6 @@ def run(words, out=None, watched=None, processors=None, seconds=None, megabytes=
             child.kill()
             child.wait()
     end, processor = time.monotonic(), used.ru_utime + used.ru_stime
-    mark = mark or (0.0, begin)
-    return Run(processor, end - begin, used.ru_maxrss // 1024, child.returncode, processor - mark[0], end - mark[1])
+    before, split = mark or (0.0, begin)
+    memory, status = used.ru_maxrss // 1024, child.returncode
+    return Run(processor, end - begin, memory, status, processor - before, end - split)

@@ -57,7 +57,8 @@ def fault_of(folder):
             with open(f"{folder}/{table}.tbl", "rb"):
                 pass
         except OSError as fault:
-            return f"{folder}/{table}.tbl can't be read: {fault.strerror}. A folder with the eight tables is needed (bench/dbgen makes one)."
+            file = f"{folder}/{table}.tbl"
+            return f"{file} can't be read: {fault.strerror}. `bench/dbgen SF DIR` makes the eight tables."
     return None
 
 

@@ -25,7 +25,11 @@ OTHER_VALUES = {
     13: {"special": "pending", "requests": "accounts"},
     14: {"1995-09-01": "1997-03-01"},
     15: {"1996-01-01": "1993-05-01"},
-    16: {"Brand#45": "Brand#21", "MEDIUM POLISHED": "ECONOMY BRUSHED", "49, 14, 23, 45, 19, 3, 36, 9": "1, 47, 12, 8, 29, 31, 5, 50"},
+    16: {
+        "Brand#45": "Brand#21",
+        "MEDIUM POLISHED": "ECONOMY BRUSHED",
+        "49, 14, 23, 45, 19, 3, 36, 9": "1, 47, 12, 8, 29, 31, 5, 50",
+    },
     17: {"Brand#23": "Brand#54", "MED BOX": "LG CAN"},
     18: {"> 300": "> 313"},
     19: {
@@ -41,7 +45,7 @@ OTHER_VALUES = {
     },
     20: {"forest": "azure", "1994-01-01": "1996-01-01", "CANADA": "INDIA"},
     21: {"SAUDI ARABIA": "KENYA"},
-    22: dict(zip(("'13'", "'31'", "'23'", "'29'", "'30'", "'18'", "'17'"), ("'10'", "'21'", "'34'", "'26'", "'15'", "'12'", "'28'"))),
+    22: {"'13', '31', '23', '29', '30', '18', '17'": "'10', '21', '34', '26', '15', '12', '28'"},
 }
 
 
@@ -63,7 +67,11 @@ def read(path):
         return file.read()
 
 
-def query_texts(scale, numbers=None, texts_of=lambda number: read(f"{TOP}/examples/queries/query_{number:02}.sql")):
+def query_text(number):
+    return read(f"{TOP}/examples/queries/query_{number:02}.sql")
+
+
+def query_texts(scale, numbers=None, texts_of=query_text):
     """The texts of these queries (all where none are given), each with the values of its text
     and with others. The fraction in query 11 is 0.0001 through the scale factor, as the
     benchmark has it."""
