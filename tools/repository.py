@@ -5,6 +5,7 @@ without their tests. A change of a test, of an edit, of a document or of the rel
 """
 import hashlib
 import os
+import shutil
 
 TOP = os.path.dirname(os.path.dirname(os.path.realpath(__file__)))
 PARTS = ("src", "specs", "proofs")
@@ -28,15 +29,44 @@ def libraries(line):
     return line.partition(":")[2].split()
 
 
-def program_crates(lines):
-    """Returns the crates that the program stands on and its own, in the order of crates.txt."""
-    found, left = set(), ["tpch"]
+def crates_below(lines, names):
+    """Returns these crates and those that they stand on, in the order of crates.txt."""
+    found, left = set(), [*names]
     while left:
         name = left.pop()
         if name not in found:
             found.add(name)
             left += [it for it in libraries(lines[name]) if it in lines]
     return [it for it in lines if it in found]
+
+
+def program_crates(lines):
+    """Returns the crates that the program stands on and its own, in the order of crates.txt."""
+    return crates_below(lines, ["tpch"])
+
+
+def link_or_copy(one, other):
+    """Gives a file that rt keeps a second name: rt replaces such a file, and never writes into it."""
+    try:
+        os.link(one, other)
+    except OSError:
+        shutil.copy2(one, other)
+
+
+def copy_over_libraries(names, room):
+    """Copies these crates and those below to a folder as rt wants them, with the libraries that rt has built of them here."""
+    lines = crate_lines()
+    copied = crates_below(lines, names)
+    shutil.copyfile(f"{TOP}/HANDLES", f"{room}/HANDLES")
+    with open(f"{room}/crates.txt", "w", encoding="utf-8") as file:
+        file.writelines(f"{lines[it]}\n" for it in copied)
+    for it in copied:
+        here, there = f"{TOP}/crates/{it}", f"{room}/crates/{it}"
+        for part in PARTS:
+            if os.path.isdir(f"{here}/{part}"):
+                shutil.copytree(f"{here}/{part}", f"{there}/{part}")
+        if os.path.isdir(f"{here}/out/rlib"):
+            shutil.copytree(f"{here}/out/rlib", f"{there}/out/rlib", copy_function=link_or_copy)
 
 
 def source_paths(crate, top=TOP):

@@ -4,10 +4,15 @@ SUMS has a line each: `sources`, the sum of the sources that the program was bui
 bytes; `kit`, as `rt version` prints it; `kit-sums`, what the kit was made from; and `commit`, of which the sources are.
 """
 import hashlib
-import lzma
 import os
 import subprocess
 import tempfile
+
+try:
+    import lzma
+except ImportError:
+    # (a python3 that was compiled without it)
+    lzma = None
 
 from repository import TOP, sum_of_file
 
@@ -38,12 +43,20 @@ def is_other_machine():
     return (here.sysname, here.machine) != ("Linux", "x86_64")
 
 
+def decompressed(most):
+    """Returns the bytes of release/tpch.xz, or the first of them where they are more than most."""
+    if lzma:
+        with lzma.open(ARCHIVE) as file:
+            return file.read(most + 1)
+    with subprocess.Popen(["xz", "-dc", ARCHIVE], stdout=subprocess.PIPE, stderr=subprocess.DEVNULL) as xz:
+        return xz.stdout.read(most + 1)
+
+
 def unpacked_bytes(said):
     """Returns the bytes of the program, once they are those that SUMS names."""
     try:
-        with lzma.open(ARCHIVE) as file:
-            program = file.read(int(said["size"]) + 1)
-    except (OSError, EOFError, ValueError, KeyError, lzma.LZMAError) as error:
+        program = decompressed(int(said["size"]))
+    except (OSError, EOFError, ValueError, KeyError, lzma.LZMAError if lzma else OSError) as error:
         raise Refused(f"release/tpch.xz can't be unpacked ({error})") from error
     if hashlib.sha256(program).hexdigest() != said.get("program"):
         raise Refused("release/tpch.xz isn't the program that release/SUMS names")
@@ -108,8 +121,11 @@ def unpack(said):
     program = unpacked_bytes(said)
     try:
         path = put(program, os.path.dirname(UNPACKED))
-    except OSError:
-        path = put_apart(program)
+    except OSError as error:
+        try:
+            path = put_apart(program)
+        except OSError:
+            raise error from None
     try:
         try_start(path)
     except Refused:
