@@ -1,4 +1,4 @@
-"""Pages of cases: their format, and how one case is run.
+"""Pages of cases: their format, and reading them.
 
 A page (`cases/TOPIC.txt`) begins with a sentence that says what is shown and where the texts come from.
 Then come named sets of files, and cases:
@@ -22,30 +22,30 @@ they are given. Lines of a case before its first `--`:
 - `over NAME` gives the files of a set, `over number N` the tables that `make_data N` writes, and
   `over folder PATH` the files of a folder of the repository (both lie in `d`),
 - `without FILE` takes a file away, and `folder NAME` makes a folder of that name,
-- `into FILE` gives the program that file for its standard output (nothing is then compared but the status),
-- `run WORD..` gives the program's words, quoted as a shell does where they have blanks.
+- `into FILE` gives the program that file for its standard output: nothing of it is compared,
+- `run WORD..` gives the program's words, quoted as a shell does where they have blanks, and
+  `make WORD..` runs the program `make_data` with these words instead.
 
 `-- FILE` gives a file's lines. `-- out STATUS` gives the exit status and all that is printed;
 `-- head STATUS` the first line, and `-- end STATUS` what is printed from the line `refresh 1` on.
 A case with several of these passes where one of them agrees (`-- one of STATUS` is another name for
-`out` there). A word more says how the lines are read: `escaped` knows \\r \\n \\t \\xNN \\\\ and no
-other line ends, and `repeat` has lines `COUNT TEXT`, with TEXT escaped. The empty line before the
-next case or set belongs to no text. A line of a text may not begin with `-- ` or `== `, unless it
-is escaped.
+`out` there). `-- after FILE` gives what a file has after the run, and `-- line N FILE` its lines from
+the Nth on; all of these must agree.
+
+The header of a text may end with a word that says how its lines are read: `escaped` knows \\r \\n
+\\t \\xNN \\\\ and no other line ends; `repeat` has lines `COUNT TEXT`, with TEXT escaped, and lines
+`FIRST-LAST TEXT`, where each # in TEXT is the number. The empty line before the next case or set
+belongs to no text. A line that begins with `= ` is a heading, and nothing is read up to the next
+case or set. So a line of a text may not begin with `-- `, `= ` or `== `, unless it is escaped.
 """
 
 from __future__ import annotations
 
-import os
 import re
 import shlex
-import subprocess
-import tempfile
 from dataclasses import dataclass, field
 from pathlib import Path
 
-TABLES = ["region", "nation", "supplier", "part", "partsupp", "customer", "orders", "lineitem"]
-SECONDS = 300  # the longest that one run may take
 ESCAPES = {b"r": b"\r", b"n": b"\n", b"t": b"\t", b"\\": b"\\"}
 
 
@@ -55,12 +55,14 @@ class PageError(Exception):
 
 @dataclass
 class Expected:
-    """What a run may print: all of it, its head or its end."""
+    """What a run may print (all of it, its head or its end), or what a file has after it."""
 
     kind: str
     status: int
     text: bytes
     line: int
+    file: str = ""
+    place: int = 0  # the line of the file that is the text's first, from 1; 0: the text is all of it
 
 
 @dataclass
@@ -78,6 +80,8 @@ class Case:
     made: list[str] = field(default_factory=list)
     into: str | None = None
     expected: list[Expected] = field(default_factory=list)
+    after: list[Expected] = field(default_factory=list)
+    is_make: bool = False
     room: Path | None = None  # the folder that it is run in, where it is not its own
 
 
@@ -103,11 +107,14 @@ def unescaped(text: bytes) -> bytes:
 
 
 def repeated(line: bytes) -> bytes:
-    """The bytes of a line `COUNT TEXT`."""
-    count, _, text = line.partition(b" ")
-    if not count.isdigit():
-        raise PageError("a line of `repeat` begins with a count")
-    return int(count) * unescaped(text)
+    """The bytes of a line `COUNT TEXT` or `FIRST-LAST TEXT`."""
+    found = re.fullmatch(rb"(\d+)(?:-(\d+))? (.*)", line)
+    if not found:
+        raise PageError("a line of `repeat` begins with a count or two numbers")
+    first, last, text = found.groups()
+    if last is None:
+        return int(first) * unescaped(text)
+    return b"".join(unescaped(text.replace(b"#", b"%d" % n)) for n in range(int(first), int(last) + 1))
 
 
 def text_of(how: list[str], lines: list[bytes]) -> bytes:
@@ -125,7 +132,7 @@ def blocks_of(path: Path) -> list[Block]:
     """The blocks of a page. The prose before the first one has no block."""
     blocks: list[Block] = []
     for number, line in enumerate(path.read_bytes().removesuffix(b"\n").split(b"\n"), 1):
-        begins = re.match(rb"== .|files [a-z_0-9]+$", line)
+        begins = re.match(rb"==? .|files [a-z_0-9]+$", line)
         if begins:
             blocks.append(Block(number, [(number, line.decode())]))
         elif not blocks:
@@ -143,15 +150,21 @@ def blocks_of(path: Path) -> list[Block]:
     return blocks
 
 
-def expected_of(header: list[str], lines: list[bytes], line: int) -> Expected | None:
-    """What the header of a text expects, none where it names a file."""
-    if header[:2] == ["one", "of"]:
-        header = ["out", *header[2:]]
-    if header[0] not in ("out", "head", "end"):
-        return None
-    if len(header) < 2 or not header[1].isdigit():
-        raise PageError("a status is lacking")
-    return Expected(header[0], int(header[1]), text_of(header[2:], lines), line)
+def put_text(case: Case, line: int, header: list[str], lines: list[bytes]) -> None:
+    """Puts a text of a case where its header says."""
+    match header:
+        case [("out" | "head" | "end") as kind, status, *how] if status.isdigit():
+            case.expected.append(Expected(kind, int(status), text_of(how, lines), line))
+        case ["one", "of", status, *how] if status.isdigit():
+            case.expected.append(Expected("out", int(status), text_of(how, lines), line))
+        case ["after", file, *how]:
+            case.after.append(Expected("after", 0, text_of(how, lines), line, file))
+        case ["line", place, file, *how] if place.isdigit():
+            case.after.append(Expected("line", 0, text_of(how, lines), line, file, int(place)))
+        case ["out" | "head" | "end" | "one" | "line" | "after", *_]:
+            raise PageError(f"{header} is no header of a text")
+        case [file, *how]:
+            case.files[file] = text_of(how, lines)
 
 
 def case_of(page: str, block: Block, sets: dict[str, dict[str, bytes]]) -> Case:
@@ -174,16 +187,12 @@ def case_of(page: str, block: Block, sets: dict[str, dict[str, bytes]]) -> Case:
                 case.made.append(name)
             case "into", [name]:
                 case.into = name
-            case "run", _:
-                case.words = shlex.split(rest)
+            case ("run" | "make"), _:
+                case.words, case.is_make = shlex.split(rest), word == "make"
             case _:
                 raise PageError(f"{page}:{number}: {line!r} is no line of a case")
     for number, header, lines in block.texts:
-        expected = expected_of(header, lines, number)
-        if expected:
-            case.expected.append(expected)
-        else:
-            case.files[header[0]] = text_of(header[1:], lines)
+        put_text(case, number, header, lines)
     if not case.expected:
         raise PageError(f"{page}:{block.line}: what is printed is lacking")
     return case
@@ -196,7 +205,9 @@ def read_page(path: Path, name: str) -> list[Case]:
     for block in blocks_of(path):
         kind, _, rest = block.head[0][1].partition(" ")
         try:
-            if kind == "files":
+            if kind == "=":
+                pass
+            elif kind == "files":
                 sets[rest] = {header[0]: text_of(header[1:], lines) for _, header, lines in block.texts}
             else:
                 cases.append(case_of(name, block, sets))
@@ -204,65 +215,3 @@ def read_page(path: Path, name: str) -> list[Case]:
             where = "" if str(error).startswith(name) else f"{name}:{block.line}: "
             raise PageError(f"{where}{error}") from error
     return cases
-
-
-def furnish(case: Case, room: Path, top: Path, number_folder) -> None:
-    """Puts the files of a case into its folder."""
-    (room / "d").mkdir()
-    given = [top / folder for folder in case.folders] + [number_folder(n) for n in case.numbers]
-    for file in (file for folder in given for file in folder.iterdir()):
-        (room / "d" / file.name).symlink_to(file)
-    for table in TABLES:
-        if not (room / "d" / f"{table}.tbl").exists():
-            (room / "d" / f"{table}.tbl").touch()
-    for name, text in case.files.items():
-        path = room / name
-        path.parent.mkdir(parents=True, exist_ok=True)
-        path.unlink(missing_ok=True)
-        path.write_bytes(text)
-    for name in case.without + case.made:
-        (room / name).unlink(missing_ok=True)
-    for name in case.made:
-        (room / name).mkdir()
-
-
-def seen_of(kind: str, printed: bytes) -> bytes:
-    """The part of what is printed that is compared."""
-    if kind == "head":
-        return printed[: printed.find(b"\n") + 1] or printed
-    if kind == "end":
-        found = re.search(rb"^refresh 1 ", printed, re.MULTILINE)
-        return printed[found.start() :] if found else b""
-    return printed
-
-
-def difference(expected: Expected, status: int, printed: bytes) -> str | None:
-    """Where the first line differs and how, none where all agrees."""
-    wanted, seen = expected.text.split(b"\n"), seen_of(expected.kind, printed).split(b"\n")
-    for at, (line, other) in enumerate(zip(wanted + [b"(end)"], seen + [b"(end)"])):
-        if line != other:
-            line, other = (repr(text.decode(errors="backslashreplace")[:200]) for text in (line, other))
-            return f"{expected.line + 1 + at}: expected {line}, printed {other} (status {status})"
-    if status != expected.status:
-        return f"{expected.line}: expected status {expected.status}, ended with {status}"
-    return None
-
-
-def run_case(case: Case, program: str, top: Path, number_folder) -> str | None:
-    """Runs a case. None where it passes, and else a line that says how it differs."""
-    with tempfile.TemporaryDirectory() as name:
-        room = case.room or Path(name)
-        if case.room is None:
-            furnish(case, room, top, number_folder)
-        with open(case.into or os.devnull, "wb") as sink:
-            out = sink if case.into else subprocess.PIPE
-            try:
-                ended = subprocess.run(
-                    [program, *case.words], cwd=room, stdout=out, stderr=sink, stdin=subprocess.DEVNULL, timeout=SECONDS
-                )
-            except subprocess.TimeoutExpired:
-                return f"{case.page}:{case.line}: {case.title}: no end after {SECONDS} seconds"
-    differences = [difference(each, ended.returncode, ended.stdout or b"") for each in case.expected]
-    if None in differences:
-        return None
-    return f"{case.page}:{differences[0]} in: {case.title}"
