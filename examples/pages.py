@@ -21,13 +21,14 @@ they are given. Lines of a case before its first `--`:
 - `# TEXT` says why,
 - `over NAME` gives the files of a set, `over number N` the tables that `make_data N` writes, and
   `over folder PATH` the files of a folder of the repository (both lie in `d`),
-- `without FILE` takes a file away, and `folder NAME` makes a folder of that name,
+- `without NAME` takes a file or the folder `d` away, and `folder NAME` makes a folder of that name,
+- `twice` runs it twice, and the second run must print the same,
 - `into FILE` gives the program that file for its standard output: nothing of it is compared,
 - `run WORD..` gives the program's words, quoted as a shell does where they have blanks, and
   `make WORD..` runs the program `make_data` with these words instead.
 
 `-- FILE` gives a file's lines. `-- out STATUS` gives the exit status and all that is printed;
-`-- head STATUS` the first line, and `-- end STATUS` what is printed from the line `refresh 1` on.
+`-- head STATUS` the first line, where * is any text, and `-- end STATUS` what is printed from the line `refresh 1` on.
 A case with several of these passes where one of them agrees (`-- one of STATUS` is another name for
 `out` there). `-- after FILE` gives what a file has after the run, and `-- line N FILE` its lines from
 the Nth on; all of these must agree.
@@ -82,6 +83,7 @@ class Case:
     expected: list[Expected] = field(default_factory=list)
     after: list[Expected] = field(default_factory=list)
     is_make: bool = False
+    is_twice: bool = False
     room: Path | None = None  # the folder that it is run in, where it is not its own
 
 
@@ -185,6 +187,8 @@ def case_of(page: str, block: Block, sets: dict[str, dict[str, bytes]]) -> Case:
                 case.without.append(name)
             case "folder", [name]:
                 case.made.append(name)
+            case "twice", []:
+                case.is_twice = True
             case "into", [name]:
                 case.into = name
             case ("run" | "make"), _:
