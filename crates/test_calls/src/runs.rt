@@ -10,24 +10,24 @@ use std::thread::Threads;
 pub(crate) const REGIONS: &str =
     "0|AFRICA|a|\n1|AMERICA|b|\n2|ASIA|c|\n3|EUROPE|d|\n4|MIDDLE EAST|e|\n";
 
-/// Two customers.
-pub(crate) const CUSTOMERS: (&str, &str) = (
-    "d/customer.tbl",
-    "1|C1|a|0|p|0.00|B|c|\n2|C2|a|0|p|0.00|B|c|\n",
-);
-
-/// Two orders, both of the first customer.
-pub(crate) const ORDERS: (&str, &str) = (
-    "d/orders.tbl",
-    "7|1|O|10.00|1996-01-02|1-URGENT|K|0|x|\n8|1|F|20.00|1996-01-03|5-LOW|K|0|y|\n",
-);
-
-/// The orders of the first refresh set.
-pub(crate) const NEW_ORDERS: &str = "9|2|O|5.00|1996-01-04|5-LOW|K|0|z|\n";
-
-/// The lineitems of the first refresh set.
-pub(crate) const NEW_LINES: &str =
-    "9|1|1|1|1.00|5.00|0.00|0.00|N|O|1996-02-01|1996-02-02|1996-02-03|NONE|MAIL|w|\n";
+/// The tables of a folder `d` that have rows, and its first refresh set.
+pub(crate) const FIRST_SET: [(&str, &str); 6] = [
+    ("d/region.tbl", REGIONS),
+    (
+        "d/customer.tbl",
+        "1|C1|a|0|p|0.00|B|c|\n2|C2|a|0|p|0.00|B|c|\n",
+    ),
+    (
+        "d/orders.tbl",
+        "7|1|O|10.00|1996-01-02|1-URGENT|K|0|x|\n8|1|F|20.00|1996-01-03|5-LOW|K|0|y|\n",
+    ),
+    ("d/orders.tbl.u1", "9|2|O|5.00|1996-01-04|5-LOW|K|0|z|\n"),
+    (
+        "d/lineitem.tbl.u1",
+        "9|1|1|1|1.00|5.00|0.00|0.00|N|O|1996-02-01|1996-02-02|1996-02-03|NONE|MAIL|w|\n",
+    ),
+    ("d/delete.1", "7\n"),
+];
 
 /// A script of one query.
 pub(crate) const SCRIPT: &str = "select r_name from region where r_regionkey < 2;";
@@ -43,10 +43,6 @@ pub(crate) const TABLES: [&str; 8] = [
     "d/orders.tbl",
     "d/lineitem.tbl",
 ];
-
-/// The line for words that are no command.
-pub(crate) const USAGE: &str =
-    "usage: tpch session DIR SCRIPT, throughput DIR JOB, explain SCRIPT, check DIR, trial N\n";
 
 /// The words as owned texts.
 pub(crate) fn words_of(alloc: Global, words: &[&str]) -> Result<Vec<String>, AllocError> {
@@ -113,34 +109,4 @@ pub(crate) fn folder_of<'a>(
         }
     }
     files_of(alloc, &files, failing)
-}
-
-/// Runs the words over the eight tables, all of them empty but for those given.
-pub(crate) fn expect_over<R: Threads + Wait + Sync + Abort>(
-    rt: &R,
-    alloc: Global,
-    words: &[&str],
-    script: &str,
-    tables: &[(&str, &str)],
-    status: Status,
-    text: &str,
-) -> Result<(), AllocError> {
-    let files = folder_of(alloc, script, tables, &[])?;
-    expect_run(rt, alloc, words, files, sink(alloc), status, text)
-}
-
-/// Runs a session of each script over the eight tables, all of them empty but for those given, and
-/// compares the status and the texts.
-pub(crate) fn expect_sessions<R: Threads + Wait + Sync + Abort>(
-    rt: &R,
-    alloc: Global,
-    files: &[(&str, &str)],
-    status: Status,
-    cases: &[(&str, &str)],
-) -> Result<(), AllocError> {
-    let words = ["session", "d", "s"];
-    for (script, text) in cases {
-        expect_over(rt, alloc, &words, script, files, status, text)?;
-    }
-    Ok(())
 }

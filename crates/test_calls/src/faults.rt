@@ -1,5 +1,5 @@
-//! Files that are absent, which calls files get, and calls of files and sink that fail.
-use crate::runs::{REGIONS, SCRIPT, expect_run, files_of, folder_of, sink, words_of};
+//! Which calls files get, and calls of files and sink that fail.
+use crate::runs::{FIRST_SET, REGIONS, SCRIPT, expect_run, folder_of, sink, words_of};
 use app_main::{Status, tpch};
 use base_io::{MemFiles, MemSink, OpenGate};
 use std::alloc::{AllocError, Global};
@@ -11,42 +11,6 @@ use std::thread::Threads;
 const SESSION: [&str; 3] = ["session", "d", "s"];
 
 const CHECK: [&str; 2] = ["check", "d"];
-
-const ABSENT: [(&[&str], [(&str, &str); 2], &str); 3] = [
-    (
-        &SESSION,
-        [("s", SCRIPT), ("d/region.tbl", REGIONS)],
-        "input refused d/nation.tbl absent\n",
-    ),
-    (
-        &SESSION,
-        [("t", SCRIPT), ("d/region.tbl", "0")],
-        "input refused s absent\n",
-    ),
-    (
-        &CHECK,
-        [("d/region.tbl", REGIONS), ("d/nation.tbl", "")],
-        "input refused d/part.tbl absent\n",
-    ),
-];
-
-#[test]
-fn refuses_absent_files(rt: HostRuntime) -> Result<(), Fail> {
-    let alloc = rt.alloc();
-    for (words, files, text) in &ABSENT {
-        let files = files_of(alloc, files, &[])?;
-        expect_run(
-            &rt,
-            alloc,
-            words,
-            files,
-            sink(alloc),
-            Status::InputRefused,
-            text,
-        )?;
-    }
-    Ok(())
-}
 
 #[test]
 fn ends_at_a_reading_fault(rt: HostRuntime) -> Result<(), Fail> {
@@ -134,5 +98,36 @@ fn ends_at_a_writing_fault(rt: HostRuntime) -> Result<(), Fail> {
         let files = folder_of(alloc, SCRIPT, &table, &[])?;
         expect_run(&rt, alloc, &SESSION, files, out, *status, taken)?;
     }
+    Ok(())
+}
+
+/// Runs a session, and gives how many calls its files got.
+fn calls_of<R: Threads + Wait + Sync + Abort>(
+    rt: &R,
+    alloc: Global,
+    script: &str,
+) -> Result<u64, AllocError> {
+    let words = words_of(alloc, &["session", "d", "s"])?;
+    let mut files = folder_of(alloc, script, &FIRST_SET, &[])?;
+    let mut out = sink(alloc);
+    let _status = tpch(rt, alloc, &words, &mut files, &mut out, &OpenGate);
+    Ok(files.calls)
+}
+
+// A refresh file is read where it is first named: each of them with three calls.
+#[test]
+fn files_are_read_once(rt: HostRuntime) -> Result<(), Fail> {
+    let alloc = rt.alloc();
+    let none = calls_of(&rt, alloc, "select count(*) from orders;")?;
+    let insert = calls_of(&rt, alloc, "refresh insert 1;")?;
+    let both = calls_of(&rt, alloc, "refresh insert 1; refresh delete 1;")?;
+    let again = calls_of(
+        &rt,
+        alloc,
+        "refresh insert 1; refresh delete 1; refresh insert 1; refresh delete 1;",
+    )?;
+    assert_eq!(rt; insert, none.wrapping_add(6));
+    assert_eq!(rt; both, none.wrapping_add(9));
+    assert_eq!(rt; again, both);
     Ok(())
 }
