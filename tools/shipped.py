@@ -101,7 +101,7 @@ def put_apart(program):
 
 def remove_apart(path):
     """Removes the program where it was put into a temporary folder."""
-    if path != UNPACKED:
+    if not path.startswith(f"{TOP}/"):
         os.remove(path)
         os.rmdir(os.path.dirname(path))
 
