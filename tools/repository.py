@@ -102,11 +102,20 @@ def sum_of_file(path):
         return hashlib.sha256(file.read()).hexdigest()
 
 
+def git_folder():
+    """Returns the folder in which git keeps the state of this checkout, which a worktree only names."""
+    git = f"{TOP}/.git"
+    if not os.path.isfile(git):
+        return git
+    with open(git, encoding="utf-8") as file:
+        return os.path.join(TOP, file.read().strip().removeprefix("gitdir: "))
+
+
 def is_of_gate():
     """Returns whether `rt ci` built the program from the sources as they stand: whether it ended later than the last
     rt ci here began, and no source was touched since then. The time of a file's last change of any kind can't be set back."""
     try:
-        begin = os.stat(f"{TOP}/.git/rt-ci.lock").st_mtime_ns
+        begin = os.stat(f"{git_folder()}/rt-ci.lock").st_mtime_ns
         if os.stat(PROGRAM).st_mtime_ns < begin or os.path.exists(f"{PROGRAM}.stamp"):
             return False
         paths = [f"{TOP}/crates.txt"]
