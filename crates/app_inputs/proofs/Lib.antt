@@ -9,8 +9,7 @@ mod TrialNumber
 mod Pieces
 mod Telling
 mod Fronts
+mod DataFile
 mod TableFile
 mod Lists
 mod Changes
-mod SetFiles
-mod SharedRows

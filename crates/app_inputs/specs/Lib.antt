@@ -9,6 +9,7 @@ pub mod Printing
 pub mod Views
 pub mod FilesAfter
 pub mod Front
+pub mod DataFile
 pub mod TableFile
 pub mod Lists
 pub mod SetFile

@@ -38,7 +38,7 @@ fn read_piece<F: Files>(files: &mut F, bytes: &mut Vec<u8>) -> Result<bool, Read
 }
 
 /// The bytes of the open file: all of them, or more than the limit from its front.
-pub(crate) fn front<F: Files>(
+fn front<F: Files>(
     alloc: Global,
     files: &mut F,
     limit: usize,

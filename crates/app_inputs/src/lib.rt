@@ -3,18 +3,17 @@
 //! refresh files are read here, each refused at its first fault.
 #![tactic(auto)]
 
+mod data_file;
 mod input;
 mod input_error;
 mod job_file;
 mod output;
-mod refresh_file;
 mod refreshes;
 mod refusal_line;
 mod script;
 mod script_refusal;
 mod set_files;
 mod status;
-mod table_file;
 mod tables;
 pub mod word_laws;
 mod words;

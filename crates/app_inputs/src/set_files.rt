@@ -1,19 +1,22 @@
 //! The files of refresh sets, each of which is read once.
-ghost use Rattle.std.specs.Prelude.{◌≡◌, ◌<◌, IfOk, IfSome, OnOk, length, slice_index_or};
+ghost use Rattle.std.specs.Prelude.{◌≡◌, ◌<◌, IfOk, IfSome, OnOk, length, slice_index_or, true};
 ghost use Rattle.std.specs.String.{string_bytes};
-ghost use Rattle.app_inputs.specs.FilesAfter.{FilesAfterInput};
+ghost use Rattle.base_schema.specs.LineForm.{refresh_form};
+ghost use Rattle.app_inputs.specs.DataFile.{IsFileOf};
+ghost use Rattle.app_inputs.specs.FilesAfter.{FilesAfterInput, FilesAfterRead};
 ghost use Rattle.app_inputs.specs.Inputs.{set_file, set_rows_in};
 ghost use Rattle.app_inputs.specs.SetFile.{FitsFile};
 ghost use Rattle.app_inputs.specs.KnownFiles.{AreKnown, IsAt};
 ghost use Rattle.app_inputs.specs.Views.{Reads};
 
+use crate::data_file::{DataReader, read_data_file};
 use crate::input_error::{InputError, InputFault, ReadError, refused};
-use crate::refresh_file::read_refresh_rows;
 use base_columns::Rows;
 use base_io::{Files, Open};
 use base_refusals::{LineRefusal, RefreshFile};
 use itoa::Buffer;
 use std::alloc::{AllocError, Global};
+use store_file_reader::RefreshReader;
 
 /// A file of a refresh set that was read.
 #[derive(Drop)]
@@ -33,6 +36,22 @@ fn file_name(alloc: Global, folder: &str, file: RefreshFile, set: u32) -> Result
     name.push_str(file.prefix())?;
     name.push_str(buffer.format(set))?;
     Ok(name)
+}
+
+/// The rows of the open file, which is such a refresh file, or its first bad line.
+fn read_refresh_rows<F: Files>(
+    alloc: Global,
+    files: &mut F,
+    file: RefreshFile,
+) -> Result<Result<Rows, LineRefusal>, ReadError>
+    requires { F.is_open files.old ≡ true }
+    ensures rows { IfOk result (IsFileOf (refresh_form file) (F.left files.old)) }
+    ensures fits { IfOk result (FitsFile file) }
+    ensures files { FilesAfterRead F.held F.faults F.misses result files.old files.new }
+{
+    let reader = RefreshReader::new(alloc, file)?;
+    let rows = read_data_file(files, DataReader::Refresh(reader))?;
+    Ok(rows)
 }
 
 /// What a refresh file of the folder holds: its rows, or its first bad line.
@@ -59,30 +78,12 @@ fn read_set_file<F: Files>(
     }
 }
 
-/// The same rows, in shares of their segments.
-fn shared_rows(alloc: Global, rows: &Rows) -> Result<Rows, AllocError>
-    ensures { IfOk result (λ shared. shared ≡ rows.now) }
-{
-    let mut shared = Rows::new(alloc);
-    let segments = rows.segments();
-    for segment in segments {
-        shared.push(segment.clone()?)?;
-    }
-    Ok(shared)
-}
-
-/// The same rows, or the same bad line.
-fn shared(
-    alloc: Global,
-    read: &Result<Rows, LineRefusal>,
-) -> Result<Result<Rows, LineRefusal>, AllocError>
-    ensures { IfOk result (λ shared. shared ≡ read.now) }
+/// Shares the rows of a file, or copies its bad line.
+fn share(read: &Result<Rows, LineRefusal>) -> Result<Result<Rows, LineRefusal>, AllocError>
+    ensures { IfOk result (λ copy. copy ≡ read.now) }
 {
     match read {
-        Ok(rows) => {
-            let rows = shared_rows(alloc, rows)?;
-            Ok(Ok(rows))
-        }
+        Ok(rows) => Ok(Ok(rows.clone()?)),
         Err(first) => Ok(Err(*first)),
     }
 }
@@ -116,11 +117,11 @@ pub(crate) fn set_rows<F: Files>(
     ensures files { FilesAfterInput F.held F.faults F.misses result files.old files.new }
 {
     if let Some(place) = place_of(known, file, set) {
-        let rows = shared(alloc, &known[place].rows)?;
+        let rows = share(&known[place].rows)?;
         return Ok(rows);
     }
     let rows = read_set_file(alloc, files, folder, file, set)?;
-    let kept = shared(alloc, &rows)?;
+    let kept = share(&rows)?;
     known.push(SetFile {
         file,
         set,

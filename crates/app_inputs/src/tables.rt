@@ -1,5 +1,5 @@
 //! Reading the eight tables of a folder.
-ghost use Rattle.std.specs.Prelude.{◌≡◌, ◌++◌, IfOk, length};
+ghost use Rattle.std.specs.Prelude.{◌≡◌, ◌++◌, IfOk, length, true};
 ghost use Rattle.std.specs.String.{string_bytes};
 ghost use Rattle.std.specs.Vec.{vec_items};
 ghost use Rattle.store_state.specs.Lists.{IsOfKinds, state_of};
@@ -8,14 +8,16 @@ ghost use Rattle.base_schema.specs.Tables.{all_tables};
 ghost use Rattle.app_inputs.specs.Lists.{AreOf};
 ghost use Rattle.app_inputs.specs.FilesAfter.{FilesAfterInput};
 ghost use Rattle.app_inputs.specs.Inputs.{lists_in, state_in, table_file, table_in};
+ghost use Rattle.app_inputs.specs.TableFile.{IsRowsOf};
 ghost use Rattle.app_inputs.specs.Views.{Reads};
 
+use crate::data_file::{DataReader, read_data_file};
 use crate::input_error::{InputError, InputFault, ReadError, refused};
-use crate::table_file::read_rows;
 use base_columns::Rows;
 use base_io::{Files, Open};
 use base_schema::{TABLES, TableName};
 use std::alloc::{AllocError, Global};
+use store_file_reader::TableReader;
 use store_state::State;
 
 /// The name of a table's file in a folder.
@@ -27,6 +29,26 @@ fn file_name(alloc: Global, folder: &str, table: TableName) -> Result<String, Al
     name.push_str(table.name())?;
     name.push_str(".tbl")?;
     Ok(name)
+}
+
+/// The rows of the open file, which is a table's and has that name. It is read no further than its
+/// first bad line's piece.
+fn read_rows<F: Files>(
+    alloc: Global,
+    files: &mut F,
+    name: &str,
+    table: TableName,
+) -> Result<Rows, InputError>
+    requires { F.is_open files.old ≡ true }
+    ensures rows { IsRowsOf table name.now (F.left files.old) result }
+    ensures kinds { IfOk result (RowsAreOf table) }
+    ensures files { FilesAfterInput F.held F.faults F.misses result files.old files.new }
+{
+    let reader = TableReader::new(alloc, table)?;
+    match read_data_file(files, DataReader::Table(reader))? {
+        Ok(rows) => Ok(rows),
+        Err(first) => Err(refused(alloc, name, InputFault::Line(first))),
+    }
 }
 
 /// The rows of the table in the folder.
