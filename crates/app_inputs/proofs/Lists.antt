@@ -10,7 +10,7 @@ use Rattle.store_state.specs.Lists.{IsOfKinds, state_of}
 use Rattle.base_schema.specs.Kinds.{RowsAreOf}
 use Rattle.base_schema.specs.Tables.{all_tables}
 use Rattle.base_schema.specs.declared.table.TableName.TheVariants as table
-use Rattle.app_inputs.specs.Lists.{AreOf}
+use Rattle.app_inputs.specs.Lists.{TablesHaveKinds}
 use Rattle.app_inputs.specs.Inputs.{BadInput, and_then, lists_in, table_in}
 use Rattle.app_inputs.specs.Views.{Explains, IfKnown, refused_view}
 use Rattle.app_inputs.specs.declared.input_error.InputError.{InputError}
@@ -58,23 +58,23 @@ lists_refused (Some folder) (Some other) dir tables i d before (error.Refused re
     so_far ∙ ap (behind before) (lists_step dir tables i d folder inside ∙ ap (λ first. with_first first (lists_in dir (drop (i + 1) tables) folder)) one)
 
 -- the kinds of one list more
-pub kinds_more : (tables : List TableName) (lists : List (List (List Value))) (rows : List (List Value)) (i : ℕ) (d : TableName) → length lists ≡ i → i < length tables → AreOf tables lists → RowsAreOf (slice_index_or tables i d) rows → AreOf tables (lists ++ rows ∷ [])
+pub kinds_more : (tables : List TableName) (lists : List (List (List Value))) (rows : List (List Value)) (i : ℕ) (d : TableName) → length lists ≡ i → i < length tables → TablesHaveKinds tables lists → RowsAreOf (slice_index_or tables i d) rows → TablesHaveKinds tables (lists ++ rows ∷ [])
 kinds_more [] lists rows i d many inside all one = absurd (omega arith)
 kinds_more (t ∷ ts) [] rows zero d many inside all one = at
   where
-    at : AreOf (t ∷ ts) (rows ∷ [])
+    at : TablesHaveKinds (t ∷ ts) (rows ∷ [])
     at zero below = one
     at (suc k) below = absurd (omega arith)
 kinds_more (t ∷ ts) [] rows (suc i) d many inside all one = absurd (omega arith)
 kinds_more (t ∷ ts) (l ∷ ls) rows zero d many inside all one = absurd (omega arith)
 kinds_more (t ∷ ts) (l ∷ ls) rows (suc i) d many inside all one = at (kinds_more ts ls rows i d (omega arith) (omega arith) (λ k below. all (suc k) (omega arith)) one)
   where
-    at : AreOf ts (ls ++ rows ∷ []) → AreOf (t ∷ ts) ((l ∷ ls) ++ rows ∷ [])
+    at : TablesHaveKinds ts (ls ++ rows ∷ []) → TablesHaveKinds (t ∷ ts) ((l ∷ ls) ++ rows ∷ [])
     at further zero below = all 0 (omega arith)
     at further (suc k) below = further k (omega arith)
 
 -- eight lists of the eight tables make a state of their kinds
-pub eight_kinds : (lists : List (List (List Value))) → length lists ≡ 8 → AreOf all_tables lists → IsOfKinds (state_of lists)
+pub eight_kinds : (lists : List (List (List Value))) → length lists ≡ 8 → TablesHaveKinds all_tables lists → IsOfKinds (state_of lists)
 eight_kinds lists eight all table.Region = all 0 (omega arith)
 eight_kinds lists eight all table.Nation = all 1 (omega arith)
 eight_kinds lists eight all table.Part = all 2 (omega arith)

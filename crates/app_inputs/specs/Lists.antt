@@ -6,7 +6,7 @@ use Rattle.base_schema.specs.declared.table.TableName.{TableName}
 use Rattle.base_schema.specs.declared.table.TableName.TheVariants.{Region}
 
 -- each list's rows are of the kinds of the table at its place
-abbrev pub AreOf : List TableName → List (List (List Value)) → Type 0
-AreOf tables lists =
+abbrev pub TablesHaveKinds : List TableName → List (List (List Value)) → Type 0
+TablesHaveKinds tables lists =
     (k : ℕ) → k < length lists
     → RowsAreOf (slice_index_or tables k Region) (slice_index_or lists k [])

@@ -9,7 +9,7 @@ ghost use Rattle.app_inputs.specs.Front.{IsFrontOf};
 ghost use Rattle.app_inputs.specs.Inputs.{file_bytes};
 ghost use Rattle.app_inputs.specs.Views.{Reads};
 
-use crate::input_error::{InputError, InputFault, ReadError, refused};
+use crate::input_error::{InputError, InputFault, ReadError, refusal_of};
 use base_io::{Files, Got, Open};
 use sql_parser::ScriptRefusal;
 use std::alloc::Global;
@@ -90,10 +90,10 @@ pub fn read_file<F: Files>(
 {
     match files.open(name) {
         Open::Failed => Err(InputError::Unread(ReadError::Fault)),
-        Open::Absent => Err(refused(alloc, name, InputFault::Absent)),
+        Open::Absent => Err(refusal_of(alloc, name, InputFault::Absent)),
         Open::Opened => match collect(alloc, files, limit)? {
             Some(bytes) => Ok(bytes),
-            None => Err(refused(alloc, name, InputFault::Byte(ScriptRefusal::TooLong, limit))),
+            None => Err(refusal_of(alloc, name, InputFault::Byte(ScriptRefusal::TooLong, limit))),
         },
     }
 }

@@ -92,7 +92,7 @@ impl<T: Drop> From<AllocFailed<T>> for InputError {
 }
 
 /// The refusal of the input of that name, or that memory ran out for it.
-pub fn refused(alloc: Global, name: &str, fault: InputFault) -> InputError
+pub fn refusal_of(alloc: Global, name: &str, fault: InputFault) -> InputError
     ensures { Refuses name.now fault result }
 {
     match String::from_str(alloc, name) {

@@ -7,7 +7,7 @@ ghost use Rattle.app_inputs.specs.JobFile.{IsJobOf, job_in};
 ghost use Rattle.app_inputs.specs.Views.{Reads};
 
 use crate::input::collect;
-use crate::input_error::{InputError, InputFault, ReadError, refused};
+use crate::input_error::{InputError, InputFault, ReadError, refusal_of};
 use app_job_file::{Job, JobError, JobRefusal, MAX_JOB, RefusedLine, read_job};
 use base_io::{Files, Open};
 use std::alloc::Global;
@@ -56,10 +56,10 @@ pub fn read_job_file<F: Files>(alloc: Global, files: &mut F, name: &str) -> Resu
 {
     match files.open(name) {
         Open::Failed => Err(InputError::Unread(ReadError::Fault)),
-        Open::Absent => Err(refused(alloc, name, InputFault::Absent)),
+        Open::Absent => Err(refusal_of(alloc, name, InputFault::Absent)),
         Open::Opened => match job_of_open(alloc, files)? {
             Ok(job) => Ok(job),
-            Err(line) => Err(refused(alloc, name, InputFault::JobLine(line))),
+            Err(line) => Err(refusal_of(alloc, name, InputFault::JobLine(line))),
         },
     }
 }

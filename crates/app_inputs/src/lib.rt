@@ -19,7 +19,7 @@ pub mod word_laws;
 mod words;
 
 pub use input::read_file;
-pub use input_error::{InputError, InputFault, ReadError, RefusedInput, refused};
+pub use input_error::{InputError, InputFault, ReadError, RefusedInput, refusal_of};
 pub use job_file::read_job_file;
 pub use output::write_text;
 pub use refreshes::{mentions_of, read_refreshes};

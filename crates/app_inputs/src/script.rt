@@ -4,7 +4,7 @@ ghost use Rattle.app_inputs.specs.Inputs.{IsScriptOf, file_bytes, script_limit};
 ghost use Rattle.app_inputs.specs.Views.{Finds};
 
 use crate::input::read_file;
-use crate::input_error::{InputError, InputFault, ReadError, refused};
+use crate::input_error::{InputError, InputFault, ReadError, refusal_of};
 use base_io::Files;
 use sql_ast::Statement;
 use sql_parser::{MAX_SCRIPT, ScriptFault, read_script};
@@ -25,7 +25,7 @@ pub fn read_statements<F: Files>(
     match read_script(alloc, &bytes) {
         Ok(statements) => Ok(statements),
         Err(ScriptFault::Refused(refusal, place)) => {
-            Err(refused(alloc, name, InputFault::Byte(refusal, place)))
+            Err(refusal_of(alloc, name, InputFault::Byte(refusal, place)))
         }
         Err(ScriptFault::OutOfMemory) => Err(InputError::Unread(ReadError::OutOfMemory)),
     }

@@ -10,7 +10,7 @@ ghost use Rattle.app_inputs.specs.KnownFiles.{AreKnown, IsAt};
 ghost use Rattle.app_inputs.specs.Views.{Reads};
 
 use crate::data_file::{DataReader, read_data_file};
-use crate::input_error::{InputError, InputFault, ReadError, refused};
+use crate::input_error::{InputError, InputFault, ReadError, refusal_of};
 use base_columns::Rows;
 use base_io::{Files, Open};
 use base_refusals::{LineRefusal, RefreshFile};
@@ -70,7 +70,7 @@ fn read_set_file<F: Files>(
     let name = file_name(alloc, folder, file, set)?;
     match files.open(&name) {
         Open::Failed => Err(InputError::Unread(ReadError::Fault)),
-        Open::Absent => Err(refused(alloc, &name, InputFault::Absent)),
+        Open::Absent => Err(refusal_of(alloc, &name, InputFault::Absent)),
         Open::Opened => {
             let rows = read_refresh_rows(alloc, files, file)?;
             Ok(rows)

@@ -5,14 +5,14 @@ ghost use Rattle.std.specs.Vec.{vec_items};
 ghost use Rattle.store_state.specs.Lists.{IsOfKinds, state_of};
 ghost use Rattle.base_schema.specs.Kinds.{RowsAreOf};
 ghost use Rattle.base_schema.specs.Tables.{all_tables};
-ghost use Rattle.app_inputs.specs.Lists.{AreOf};
+ghost use Rattle.app_inputs.specs.Lists.{TablesHaveKinds};
 ghost use Rattle.app_inputs.specs.FilesAfter.{FilesAfterInput};
 ghost use Rattle.app_inputs.specs.Inputs.{lists_in, state_in, table_file, table_in};
 ghost use Rattle.app_inputs.specs.TableFile.{IsRowsOf};
 ghost use Rattle.app_inputs.specs.Views.{Reads};
 
 use crate::data_file::{DataReader, read_data_file};
-use crate::input_error::{InputError, InputFault, ReadError, refused};
+use crate::input_error::{InputError, InputFault, ReadError, refusal_of};
 use base_columns::Rows;
 use base_io::{Files, Open};
 use base_schema::{TABLES, TableName};
@@ -47,7 +47,7 @@ fn read_rows<F: Files>(
     let reader = TableReader::new(alloc, table)?;
     match read_data_file(files, DataReader::Table(reader))? {
         Ok(rows) => Ok(rows),
-        Err(first) => Err(refused(alloc, name, InputFault::Line(first))),
+        Err(first) => Err(refusal_of(alloc, name, InputFault::Line(first))),
     }
 }
 
@@ -65,7 +65,7 @@ fn read_table<F: Files>(
     let name = file_name(alloc, folder, table)?;
     match files.open(&name) {
         Open::Failed => Err(InputError::Unread(ReadError::Fault)),
-        Open::Absent => Err(refused(alloc, &name, InputFault::Absent)),
+        Open::Absent => Err(refusal_of(alloc, &name, InputFault::Absent)),
         Open::Opened => read_rows(alloc, files, &name, table),
     }
 }
@@ -79,7 +79,7 @@ fn read_tables<F: Files>(
 ) -> Result<Vec<Rows>, InputError>
     ensures input { Reads vec_items (F.held files.old) (lists_in folder.now names.now) result }
     ensures length { IfOk result (λ tables. length tables.items ≡ length names.now) }
-    ensures kinds { IfOk result (λ tables. AreOf names.now tables.items) }
+    ensures kinds { IfOk result (λ tables. TablesHaveKinds names.now tables.items) }
     ensures files { FilesAfterInput F.held F.faults F.misses result files.old files.new }
 {
     let mut tables = Vec::new(alloc);

@@ -7,7 +7,7 @@ use Rattle.app_sessions.specs.Expansion.{ExpandAll, ExpandsText, run_text}
 use Rattle.sql_ast.specs.declared.statement.Statement.{Statement}
 use Rattle.sql_parser.proofs.Whole.{bytes_once, read_or_refused}
 use Rattle.base_io.specs.Outside.{Folder}
-use Rattle.app_run.specs.SessionInputs.{AreInputs, AreSteps, StandsFor, Work, work_of}
+use Rattle.app_run.specs.SessionInputs.{AreInputs, AreSteps, ExpandsTo, Work, work_of}
 use Rattle.app_inputs.specs.Inputs.{BadInput, IsScriptOf, and_then, file_bytes, script_limit}
 use Rattle.app_inputs.specs.declared.input_error.InputFault.TheVariants as fault
 
@@ -36,20 +36,20 @@ scripts_alike name (Ok bytes) (Err a) (Ok b) (r, place, refuses, is) y = absurd 
 scripts_alike name (Ok bytes) (Err a) (Err b) (r, place, refuses, is) (r', place', refuses', is') =
     inr (a, b, refl, refl, no_absence a name r place is, no_absence b name r' place' is')
 
-steps_alike : (one other a b : Result (List Statement) BadInput) → AreAlike one other → StandsFor one a → StandsFor other b → AreAlike a b
+steps_alike : (one other a b : Result (List Statement) BadInput) → AreAlike one other → ExpandsTo one a → ExpandsTo other b → AreAlike a b
 steps_alike (Ok one) other (Ok a) b (inl e) x y = at other (sym e) y
   where
-    at : (o : Result (List Statement) BadInput) → o ≡ Ok one → StandsFor o b → AreAlike (Ok a) b
-    at o is stands = given b (subst (λ r. StandsFor r b) is stands)
+    at : (o : Result (List Statement) BadInput) → o ≡ Ok one → ExpandsTo o b → AreAlike (Ok a) b
+    at o is stands = given b (subst (λ r. ExpandsTo r b) is stands)
       where
-        given : (c : Result (List Statement) BadInput) → StandsFor (Ok one) c → AreAlike (Ok a) c
+        given : (c : Result (List Statement) BadInput) → ExpandsTo (Ok one) c → AreAlike (Ok a) c
         given (Ok c) z = inl (ap Ok (expand_once one a c x z))
         given (Err c) z = absurd z
 steps_alike (Ok one) other (Err a) b alike x y = absurd x
-steps_alike (Err one) other a b (inl e) x y = inl (x ∙ sym (subst (λ r. StandsFor r b) (sym e) y))
+steps_alike (Err one) other a b (inl e) x y = inl (x ∙ sym (subst (λ r. ExpandsTo r b) (sym e) y))
 steps_alike (Ok one) other (Ok a) b (inr (first, second, is, is', p, q)) x y = absurd (cc)
 steps_alike (Err one) other a b (inr (first, second, is, is', p, q)) x y =
-    inr (first, second, x ∙ is, subst (λ r. StandsFor r b) is' y, p, q)
+    inr (first, second, x ∙ is, subst (λ r. ExpandsTo r b) is' y, p, q)
 
 -- the statements that a script of a folder stands for are alike
 pub script_steps_alike : (script : List ℕ) (folder : Folder) (a b : Result (List Statement) BadInput) → AreSteps folder script a → AreSteps folder script b → AreAlike a b

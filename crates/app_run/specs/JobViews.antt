@@ -14,7 +14,7 @@ use Rattle.store_state.specs.Refresh.{Change}
 use Rattle.base_io.specs.Outside.{Folder}
 use Rattle.base_schema.specs.State.{State}
 use Rattle.app_inputs.specs.Inputs.{BadInput, IsRead}
-use Rattle.app_run.specs.SessionInputs.{StandsFor}
+use Rattle.app_run.specs.SessionInputs.{ExpandsTo}
 use Rattle.app_run.specs.JobInputs.{HasNoRefresh, IsPlain, JobWork, is_refresh}
 use Rattle.app_run.specs.JobMeaning.{IsFirstOfJob, PrintsJob}
 use Rattle.app_inputs.specs.Printing.{IsDone}
@@ -56,7 +56,7 @@ IsOfBytes (error.Refused refusal) = refusal.fault ≢ fault.Absent
 -- the statements that the bytes of a script stand for, or why there are none
 abbrev pub IsStepsOf : List ℕ → List ℕ → Result (List Statement) BadInput → Type 0
 IsStepsOf name bytes steps =
-    (read : Result (List Statement) BadInput) × IsRead name bytes read × StandsFor read steps
+    (read : Result (List Statement) BadInput) × IsRead name bytes read × ExpandsTo read steps
 
 -- a session of the bytes of a script, or their refusal
 abbrev pub IsSessionOfBytes : List ℕ → List ℕ → Result Session InputError → Type 0

@@ -1,5 +1,6 @@
 pub mod SessionInputs
 pub mod Turns
+pub mod NextVersions
 pub mod JobInputs
 pub mod JobMeaning
 pub mod ScriptPlans

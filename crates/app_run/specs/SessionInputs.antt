@@ -11,15 +11,15 @@ use Rattle.app_inputs.specs.Inputs.{BadInput, IsScriptOf, and_then, file_bytes, 
 use Rattle.app_inputs.specs.Inputs.{script_limit, state_in}
 
 -- the statements that a script stands for, where it is read
-abbrev pub StandsFor : Result (List Statement) BadInput → Result (List Statement) BadInput → Type 0
-StandsFor (Ok statements) (Ok steps) = ExpandAll statements steps
-StandsFor (Ok statements) (Err refused) = ⊥
-StandsFor (Err refused) steps = steps ≡ Err refused
+abbrev pub ExpandsTo : Result (List Statement) BadInput → Result (List Statement) BadInput → Type 0
+ExpandsTo (Ok statements) (Ok steps) = ExpandAll statements steps
+ExpandsTo (Ok statements) (Err refused) = ⊥
+ExpandsTo (Err refused) steps = steps ≡ Err refused
 
 -- the statements that the script of that name in a folder stands for, or why there are none
 abbrev pub AreSteps : Folder → List ℕ → Result (List Statement) BadInput → Type 0
 AreSteps folder name steps = (read : Result (List Statement) BadInput)
-    × IsScriptOf name (file_bytes script_limit folder name) read × StandsFor read steps
+    × IsScriptOf name (file_bytes script_limit folder name) read × ExpandsTo read steps
 
 -- what a session works on: the statements that its script stands for, the tables, and its refreshes
 pub record Work : Type 0 where

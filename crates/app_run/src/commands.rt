@@ -16,7 +16,7 @@ use crate::check::check_text;
 use crate::explain::explain_text;
 use crate::session::session_text;
 use crate::throughput::throughput_text;
-use crate::trial::trial_printed;
+use crate::trial::trial_output;
 use app_inputs::{Command, InputError, ReadError, Status, line_of_refusal, read_words, write_text};
 use base_io::{Files, Gate, Sink};
 use std::alloc::Global;
@@ -27,7 +27,7 @@ static USAGE: &[u8] =
     b"usage: tpch session DIR SCRIPT, throughput DIR JOB, explain SCRIPT, check DIR, trial N\n";
 
 /// The text of the counts of the folder's tables, and its status.
-fn check_printed<F: Files>(
+fn check_output<F: Files>(
     alloc: Global,
     files: &mut F,
     folder: &str,
@@ -59,14 +59,14 @@ fn command_text<R: Threads + Wait + Sync, F: Files, G: Gate + Sync>(
             throughput_text(rt, alloc, files, folder, job, gate)
         }
         Command::Explain { script } => explain_text(alloc, files, script),
-        Command::Check { folder } => check_printed(alloc, files, folder),
+        Command::Check { folder } => check_output(alloc, files, folder),
         Command::Trial { .. } => unreachable!(),
     }
 }
 
 /// What a command over files prints, and its status: its text, or the line of its first refused
 /// input.
-fn printed_over<R: Threads + Wait + Sync, F: Files, G: Gate + Sync>(
+fn output_over_files<R: Threads + Wait + Sync, F: Files, G: Gate + Sync>(
     rt: &R,
     alloc: Global,
     files: &mut F,
@@ -92,7 +92,7 @@ fn printed_over<R: Threads + Wait + Sync, F: Files, G: Gate + Sync>(
 }
 
 /// What a command prints, and its status.
-fn printed<R: Threads + Wait + Sync, F: Files, G: Gate + Sync>(
+fn command_output<R: Threads + Wait + Sync, F: Files, G: Gate + Sync>(
     rt: &R,
     alloc: Global,
     files: &mut F,
@@ -108,11 +108,11 @@ fn printed<R: Threads + Wait + Sync, F: Files, G: Gate + Sync>(
     ensures files { FilesAfterRead F.held F.faults F.misses result files.old files.new }
 {
     match command {
-        Command::Trial { number } => trial_printed(rt, alloc, *number, gate),
+        Command::Trial { number } => trial_output(rt, alloc, *number, gate),
         Command::Session { .. }
         | Command::Throughput { .. }
         | Command::Explain { .. }
-        | Command::Check { .. } => printed_over(rt, alloc, files, gate, command),
+        | Command::Check { .. } => output_over_files(rt, alloc, files, gate, command),
     }
 }
 
@@ -154,7 +154,7 @@ pub fn run<R: Threads + Wait + Sync, F: Files, S: Sink, G: Gate + Sync>(
     let Some(command) = read else {
         return write_text(out, USAGE, Status::Usage);
     };
-    match printed(rt, alloc, files, gate, &command) {
+    match command_output(rt, alloc, files, gate, &command) {
         Ok((text, status)) => write_text(out, text.as_slice(), status),
         Err(ReadError::Fault) => Status::ReadFault,
         Err(ReadError::OutOfMemory) => Status::OutOfMemory,

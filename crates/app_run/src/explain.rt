@@ -15,7 +15,7 @@ use sqlite_items::Items;
 use std::alloc::{AllocError, Global};
 
 /// The lines of a script's statements, and their status.
-fn explained(alloc: Global, statements: Items<Statement>) -> Result<(Vec<u8>, Status), AllocError>
+fn explain_statements(alloc: Global, statements: Items<Statement>) -> Result<(Vec<u8>, Status), AllocError>
     ensures { IfOk result (λ printed. (steps : List Statement) × ExpandAll statements steps
         × MeansExplained steps printed.0.items printed.1) }
 {
@@ -38,6 +38,6 @@ pub fn explain_text<F: Files>(
     ensures files { FilesAfterInput F.held F.faults F.misses result files.old files.new }
 {
     let statements = read_statements(alloc, files, script)?;
-    let printed = explained(alloc, statements)?;
+    let printed = explain_statements(alloc, statements)?;
     Ok(printed)
 }

@@ -15,7 +15,7 @@ ghost use Rattle.app_run.specs.JobViews.{ShowRows};
 ghost use Rattle.app_run.specs.JobViews.{steps_of};
 ghost use Rattle.app_inputs.specs.Views.{Finds};
 
-use app_inputs::{InputError, InputFault, ReadError, read_file, refused};
+use app_inputs::{InputError, InputFault, ReadError, read_file, refusal_of};
 use app_sessions::Session;
 use base_io::Files;
 use sql_ast::Statement;
@@ -78,7 +78,7 @@ fn plain_session(
     let session = Session::new(alloc, statements, shows_rows)?;
     if has_refresh(session.steps()) {
         let place = refresh_byte(alloc, bytes)?;
-        return Err(refused(alloc, name, InputFault::RefreshHere(place)));
+        return Err(refusal_of(alloc, name, InputFault::RefreshHere(place)));
     }
     Ok(session)
 }
@@ -98,7 +98,7 @@ fn session_of_bytes(
     match read_script(alloc, bytes) {
         Ok(statements) => plain_session(alloc, name, shows_rows, bytes, statements),
         Err(ScriptFault::Refused(refusal, place)) => {
-            Err(refused(alloc, name, InputFault::Byte(refusal, place)))
+            Err(refusal_of(alloc, name, InputFault::Byte(refusal, place)))
         }
         Err(ScriptFault::OutOfMemory) => Err(InputError::Unread(ReadError::OutOfMemory)),
     }

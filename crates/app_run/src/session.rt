@@ -32,7 +32,7 @@ fn begin<F: Files>(alloc: Global, files: &mut F, script: &str) -> Result<Session
 }
 
 /// The tables of the folder with the refreshes that the statements name, none of which was tried.
-fn opened<F: Files>(
+fn open_directory<F: Files>(
     alloc: Global,
     files: &mut F,
     folder: &str,
@@ -52,7 +52,7 @@ fn opened<F: Files>(
 }
 
 /// The text of a session at its beginning over a version, and its status.
-fn played<R: Threads + Sync>(
+fn run_to_end<R: Threads + Sync>(
     rt: &R,
     alloc: Global,
     session: Session,
@@ -67,7 +67,7 @@ fn played<R: Threads + Sync>(
     let mut session = session;
     take_turns(rt, alloc, &mut session, directory)?;
     let text = Vec::from_slice(alloc, session.text())?;
-    if session.clean() {
+    if session.is_clean() {
         Ok((text, Status::Done))
     } else {
         Ok((text, Status::SomeRefused))
@@ -86,7 +86,7 @@ pub fn session_text<R: Threads + Sync, F: Files>(
     ensures files { FilesAfterInput F.held F.faults F.misses result files.old files.new }
 {
     let session = begin(alloc, files, script)?;
-    let directory = opened(alloc, files, folder, session.steps())?;
-    let printed = played(rt, alloc, session, directory)?;
+    let directory = open_directory(alloc, files, folder, session.steps())?;
+    let printed = run_to_end(rt, alloc, session, directory)?;
     Ok(printed)
 }

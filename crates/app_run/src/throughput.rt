@@ -33,11 +33,11 @@ struct JobSources {
 }
 
 /// The bytes of a job's text, and its status.
-fn printed(job: JobText) -> (Vec<u8>, Status)
+fn text_and_status(job: JobText) -> (Vec<u8>, Status)
     ensures text { result.0.items ≡ job.text }
     ensures status { result.1 ≡ (if job.is_clean then Status.Done else Status.SomeRefused) }
 {
-    let status = if job.clean() {
+    let status = if job.is_clean() {
         Status::Done
     } else {
         Status::SomeRefused
@@ -46,7 +46,7 @@ fn printed(job: JobText) -> (Vec<u8>, Status)
 }
 
 /// Runs the sessions beside a publisher of the refreshes.
-fn played<R: Threads + Wait + Sync, G: Gate + Sync>(
+fn run_sessions<R: Threads + Wait + Sync, G: Gate + Sync>(
     rt: &R,
     alloc: Global,
     gate: &G,
@@ -65,7 +65,7 @@ fn played<R: Threads + Wait + Sync, G: Gate + Sync>(
     } = sources;
     let (publisher, readers) = open(rt, alloc, base, list, sessions.len() as u32)?;
     let job = run_job(rt, alloc, sessions, readers, publisher, before, gate)?;
-    Ok(printed(job))
+    Ok(text_and_status(job))
 }
 
 /// The tables of the folder, and these refreshes.
@@ -121,7 +121,7 @@ pub fn job_text<R: Threads + Wait + Sync, F: Files, G: Gate + Sync>(
     ensures files { FilesAfterInput F.held F.faults F.misses result files.old files.new }
 {
     let sources = read_inputs(alloc, files, folder, job, shows_rows)?;
-    let printed = played(rt, alloc, gate, shows_rows, sources)?;
+    let printed = run_sessions(rt, alloc, gate, shows_rows, sources)?;
     Ok(printed)
 }
 

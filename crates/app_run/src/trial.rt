@@ -92,7 +92,7 @@ fn trial_files(alloc: Global, number: u64) -> Result<Vec<MemFile>, AllocError>
 }
 
 /// What the trial prints, and its status.
-pub fn trial_printed<R: Threads + Wait + Sync, G: Gate + Sync>(
+pub fn trial_output<R: Threads + Wait + Sync, G: Gate + Sync>(
     rt: &R,
     alloc: Global,
     number: u64,

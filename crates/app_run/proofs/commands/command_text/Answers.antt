@@ -18,7 +18,7 @@ returns-in-Explain-clause-text g c =
 pub returns-in-Check-clause-text : goal.returns-in-Check-clause-text
 returns-in-Check-clause-text g c =
     let held = g.F.Files.held c.args.files.now in
-    subst (λ (command : Command). IsTextOf (command_view command) held c.check_printed.result) (sym c.in-Check.is) c.check_printed.ensures.text
+    subst (λ (command : Command). IsTextOf (command_view command) held c.check_output.result) (sym c.in-Check.is) c.check_output.ensures.text
 
 pub returns-in-Throughput-clause-text : goal.returns-in-Throughput-clause-text
 returns-in-Throughput-clause-text g c =

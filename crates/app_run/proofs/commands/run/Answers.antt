@@ -7,19 +7,19 @@ use Rattle.app_inputs.specs.Words.{Command, command_of, usage_line}
 use Rattle.app_inputs.specs.declared.status.Status.TheVariants as status
 use Rattle.app_run.proofs.commands.run.Goals as goal
 
-pub returns-in-Ok-printed-clause-answer : goal.returns-in-Ok-printed-clause-answer
-returns-in-Ok-printed-clause-answer g c =
+pub returns-in-Ok-command_output-clause-answer : goal.returns-in-Ok-command_output-clause-answer
+returns-in-Ok-command_output-clause-answer g c =
     let is : command_of (map string_bytes c.args.words.now) ≡ Some (command_view c.in-Some.command) = search rules in
-    answered (command_of (map string_bytes c.args.words.now)) (command_view c.in-Some.command) (g.F.Files.held c.args.files.now) c.in-Ok-printed.text.items c.as_slice.result.now c.in-Ok-printed.status c.write_text-in-Ok-printed.result (g.S.Sink.taken c.args.out.now) (g.S.Sink.taken c.write_text-in-Ok-printed.new.out)
-    is c.in-Ok-printed.ensures.prints.1 c.as_slice.ensures.value c.write_text-in-Ok-printed.ensures.whole
+    answered (command_of (map string_bytes c.args.words.now)) (command_view c.in-Some.command) (g.F.Files.held c.args.files.now) c.in-Ok-command_output.text.items c.as_slice.result.now c.in-Ok-command_output.status c.write_text-in-Ok-command_output.result (g.S.Sink.taken c.args.out.now) (g.S.Sink.taken c.write_text-in-Ok-command_output.new.out)
+    is c.in-Ok-command_output.ensures.prints.1 c.as_slice.ensures.value c.write_text-in-Ok-command_output.ensures.whole
 
-pub returns-in-Ok-printed-clause-complete : goal.returns-in-Ok-printed-clause-complete
-returns-in-Ok-printed-clause-complete g c =
+pub returns-in-Ok-command_output-clause-complete : goal.returns-in-Ok-command_output-clause-complete
+returns-in-Ok-command_output-clause-complete g c =
     let is : command_of (map string_bytes c.args.words.now) ≡ Some (command_view c.in-Some.command) = search rules in
     let held = g.F.Files.held c.args.files.now in
     λ accepted no_read no_write no_memory.
-    let done = accepted_done (command_view c.in-Some.command) held c.in-Ok-printed.text.items c.in-Ok-printed.status c.in-Ok-printed.ensures.prints.1 (subst (λ (k : Option Command). IsAccepted k held) is accepted) in
-    completed c.in-Ok-printed.status c.write_text-in-Ok-printed.result done (λ answer. (c.write_text-in-Ok-printed.ensures.whole answer).0) (λ written. no_write (c.write_text-in-Ok-printed.ensures.fault written)) c.write_text-in-Ok-printed.ensures.other no_memory
+    let done = accepted_done (command_view c.in-Some.command) held c.in-Ok-command_output.text.items c.in-Ok-command_output.status c.in-Ok-command_output.ensures.prints.1 (subst (λ (k : Option Command). IsAccepted k held) is accepted) in
+    completed c.in-Ok-command_output.status c.write_text-in-Ok-command_output.result done (λ answer. (c.write_text-in-Ok-command_output.ensures.whole answer).0) (λ written. no_write (c.write_text-in-Ok-command_output.ensures.fault written)) c.write_text-in-Ok-command_output.ensures.other no_memory
 
 pub returns-in_default-read-clause-write : goal.returns-in_default-read-clause-write
 returns-in_default-read-clause-write g c =

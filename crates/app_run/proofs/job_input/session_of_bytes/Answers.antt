@@ -10,4 +10,4 @@ pub returns-in-Err-Refused-clause-session : goal.returns-in-Err-Refused-clause-s
 returns-in-Err-Refused-clause-session c =
     let r = c.in-Err-Refused.refusal in
     let place = c.in-Err-Refused.place in
-    bytes_refused c.args.name.now c.args.bytes.now r place c.refused.result (c.read_script.ensures.refused r place (search rules)) c.refused.ensures
+    bytes_refused c.args.name.now c.args.bytes.now r place c.refusal_of.result (c.read_script.ensures.refused r place (search rules)) c.refusal_of.ensures
