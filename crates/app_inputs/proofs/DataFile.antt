@@ -37,8 +37,8 @@ refused_file form own limit (Some text) (Some rest) None so_far piece (table_err
 refused_file form own limit (Some text) (Some rest) (Some last) so_far piece (table_error.Refused first) result same most read next is all =
     let whole : text ≡ (so_far ++ piece) ++ last = read ∙ ap (λ more. so_far ++ more) next ∙ sym (append_assoc so_far piece last) in
     let refused : file_rows form most_bytes text ≡ Err first =
-        ap (file_rows form most_bytes) whole ∙ ap (λ f. file_rows f most_bytes ((so_far ++ piece) ++ last)) (sym same)
-        ∙ ap (λ l. file_rows own l ((so_far ++ piece) ++ last)) (sym most) ∙ (all first refl).answers last in
+    ap (file_rows form most_bytes) whole ∙ ap (λ f. file_rows f most_bytes ((so_far ++ piece) ++ last)) (sym same)
+    ∙ ap (λ l. file_rows own l ((so_far ++ piece) ++ last)) (sym most) ∙ (all first refl).answers last in
     subst (λ (m : Result FileRows ReadError). IfOk m (IsFileOf form (Some text))) (sym is) (sym refused)
 
 -- a bad line is of each form

@@ -38,11 +38,7 @@ fn read_piece<F: Files>(files: &mut F, bytes: &mut Vec<u8>) -> Result<bool, Read
 }
 
 /// The bytes of the open file: all of them, or more than the limit from its front.
-fn front<F: Files>(
-    alloc: Global,
-    files: &mut F,
-    limit: usize,
-) -> Result<Vec<u8>, ReadError>
+fn front<F: Files>(alloc: Global, files: &mut F, limit: usize) -> Result<Vec<u8>, ReadError>
     requires open { F.is_open files.old ≡ true }
     requires limit { limit < 2 ^ 63 }
     ensures bytes { IfOk result (λ v. IsFrontOf limit (F.left files.old) v.items) }

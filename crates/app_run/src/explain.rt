@@ -15,7 +15,10 @@ use sqlite_items::Items;
 use std::alloc::{AllocError, Global};
 
 /// The lines of a script's statements, and their status.
-fn explain_statements(alloc: Global, statements: Items<Statement>) -> Result<(Vec<u8>, Status), AllocError>
+fn explain_statements(
+    alloc: Global,
+    statements: Items<Statement>,
+) -> Result<(Vec<u8>, Status), AllocError>
     ensures { IfOk result (λ printed. (steps : List Statement) × ExpandAll statements steps
         × MeansExplained steps printed.0.items printed.1) }
 {

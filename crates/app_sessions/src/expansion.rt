@@ -81,7 +81,10 @@ fn put_steps(
 }
 
 /// The same statements from the last to the first.
-fn reverse_statements(alloc: Global, statements: Items<Statement>) -> Result<Items<Statement>, AllocError>
+fn reverse_statements(
+    alloc: Global,
+    statements: Items<Statement>,
+) -> Result<Items<Statement>, AllocError>
     ensures { IfOk result (λ turned. turned ≡ reverse statements) }
 {
     let mut left = statements;

@@ -173,7 +173,11 @@ impl Session {
     }
 
     /// Takes the next turn over a version.
-    fn take_turn<R: Threads + Sync>(&mut self, rt: &R, snapshot: &Snapshot) -> Result<Turn, AllocError>
+    fn take_turn<R: Threads + Sync>(
+        &mut self,
+        rt: &R,
+        snapshot: &Snapshot,
+    ) -> Result<Turn, AllocError>
         ensures { IfOk result (Takes (course_of self.old) (version_of snapshot.now)
             (tables_of snapshot.now) (course_of self.new)) }
     {

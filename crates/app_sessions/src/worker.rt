@@ -60,7 +60,11 @@ fn run_session<E: Entry + Drop, G: Gate, R: Threads + Sync>(
 }
 
 /// Runs the sessions of a worker, one after another. Where memory runs out it stops and says so.
-pub fn run_worker<E: Entry + Drop, G: Gate, R: Threads + Sync>(rt: &R, gate: &G, worker: &mut Worker<E>)
+pub fn run_worker<E: Entry + Drop, G: Gate, R: Threads + Sync>(
+    rt: &R,
+    gate: &G,
+    worker: &mut Worker<E>,
+)
     requires { IsReady E.opening worker.old }
     ensures { HasRun E.opening worker.old worker.new }
 {
