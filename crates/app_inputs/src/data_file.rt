@@ -112,8 +112,9 @@ pub(crate) fn read_data_file<F: Files>(
         if count == 0 {
             return finish(reader);
         }
-        if let Err(error) = reader.feed(&piece[..count]) {
-            return first_bad_line(error);
+        match reader.feed(&piece[..count]) {
+            Ok(()) => {}
+            Err(error) => return first_bad_line(error),
         }
     }
 }
