@@ -1,6 +1,6 @@
 """Pages of cases: their format, and reading them.
 
-A page (`cases/TOPIC.txt`) begins with a sentence that says what is shown and where the texts come from.
+A page (`cases/TOPIC.txt`) begins with a heading and a sentence that says where the texts come from.
 Then come named sets of files, and cases:
 
     files two_orders
@@ -28,8 +28,8 @@ they are given. Lines of a case before its first `--`:
   `make WORD..` runs the program `make_data` with these words instead.
 
 `-- FILE` gives a file's lines. `-- out STATUS` gives the exit status and all that is printed;
-`-- head STATUS` the first line, where * is any text, and `-- end STATUS` what is printed from the line `refresh 1` on.
-A case with several of these passes where one of them agrees (`-- one of STATUS` is another name for
+`-- head STATUS` the first line, where * is any text, and `-- end STATUS` what is printed from the line
+`refresh 1` on. A case with several of these passes where one of them agrees (`-- one of STATUS` is another name for
 `out` there). `-- after FILE` gives what a file has after the run, and `-- line N FILE` its lines from
 the Nth on; all of these must agree.
 
@@ -73,7 +73,7 @@ class Case:
     page: str
     line: int
     title: str
-    words: list[str] = field(default_factory=list)
+    words: list[str] | None = None
     files: dict[str, bytes] = field(default_factory=dict)
     folders: list[str] = field(default_factory=list)
     numbers: list[int] = field(default_factory=list)
@@ -197,8 +197,8 @@ def case_of(page: str, block: Block, sets: dict[str, dict[str, bytes]]) -> Case:
                 raise PageError(f"{page}:{number}: {line!r} is no line of a case")
     for number, header, lines in block.texts:
         put_text(case, number, header, lines)
-    if not case.expected:
-        raise PageError(f"{page}:{block.line}: what is printed is lacking")
+    if case.words is None or not case.expected:
+        raise PageError("a line `run` or what is printed is lacking")
     return case
 
 

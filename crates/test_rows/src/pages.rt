@@ -43,12 +43,14 @@ fn put_further(alloc: Global, block: &mut Block, line: String) -> Result<(), All
     if let Some(words) = line.strip_prefix("-- ") {
         let header = String::from_str(alloc, words)?;
         let lines = Vec::new(alloc);
-        return block.texts.push(Text { header, lines });
+        block.texts.push(Text { header, lines })?;
+        return Ok(());
     }
     match block.texts.last_mut() {
-        Some(text) => text.lines.push(line),
-        None => block.head.push(line),
+        Some(text) => text.lines.push(line)?,
+        None => block.head.push(line)?,
     }
+    Ok(())
 }
 
 /// Puts the next line of the pages.
@@ -57,7 +59,8 @@ pub fn put_line(alloc: Global, blocks: &mut Vec<Block>, line: String) -> Result<
         end_block(blocks);
         let (head, texts) = (Vec::new(alloc), Vec::new(alloc));
         let title = line;
-        return blocks.push(Block { title, head, texts });
+        blocks.push(Block { title, head, texts })?;
+        return Ok(());
     }
     match blocks.last_mut() {
         Some(block) => put_further(alloc, block, line),

@@ -52,7 +52,8 @@ fn put_file(
         return Ok(());
     }
     let name = String::from_str(alloc, name)?;
-    files.push(MemFile { name, bytes })
+    files.push(MemFile { name, bytes })?;
+    Ok(())
 }
 
 /// Puts the files among the texts of a block.

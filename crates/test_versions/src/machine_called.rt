@@ -85,3 +85,17 @@ fn pins_anew(rt: HostRuntime) -> Result<(), Fail> {
     assert!(rt; scanned(alloc, &machine)?.is_none());
     Ok(())
 }
+
+#[test]
+fn pins_what_it_knows(rt: HostRuntime) -> Result<(), Fail> {
+    let alloc = rt.alloc();
+    let mut machine = machine(alloc)?;
+    assert!(rt; begins(alloc, &mut machine, 2, 0)?);
+    step(&mut machine, Step::Publish)?;
+    step(&mut machine, Step::Again(1, one_piece(alloc, 2, 0)?))?;
+    assert!(rt; scans(alloc, &mut machine, &[7, 8])?);
+    step(&mut machine, Step::Learn(1, 1))?;
+    step(&mut machine, Step::Again(1, one_piece(alloc, 3, 1)?))?;
+    assert!(rt; scans(alloc, &mut machine, &[7, 8, 9])?);
+    Ok(())
+}

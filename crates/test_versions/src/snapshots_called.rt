@@ -3,7 +3,7 @@ ghost use Rattle.std.specs.Prelude.{◌≡◌, IfOk, OnOk};
 ghost use Rattle.store_snapshots.specs.Openings.{opening_at};
 ghost use Rattle.store_snapshots.specs.Ruled.{opening_of};
 
-use crate::files::{NINE, NINE_ONE, ORDERS, delete, insert, scanned, state};
+use crate::files::{NINE, NINE_ONE, ORDERS, delete, insert, keys, scanned, state};
 use base_schema::TableName;
 use std::alloc::Global;
 use std::marker::Brand;
@@ -138,6 +138,9 @@ fn sure_reader(alloc: Global) -> Result<Reader<SureEntry>, Fail> {
     let mut zero = Directory::new(alloc, state(alloc, &[ORDERS], &[])?, pairs(alloc, 1)?)?;
     let mut one = next(&mut zero)?;
     let two = next(&mut one)?;
+    if keys(alloc, &two.rows(TableName::Orders)?)?.as_slice() != [7, 8].as_slice() {
+        return Err("version 2 has other orders".into());
+    }
     let first = Arc::new(alloc, zero)?;
     let versions = vec![in alloc;
         Arc::try_clone(&first)?,
