@@ -2,7 +2,7 @@ use Rattle.std.proofs.Common.{rules, ◌≡◌, [], ◌∷◌, ◌++◌, sym, ap
 use Rattle.std.specs.Prelude.{Ok}
 use Rattle.std.specs.Vec.Iter.{into_iter_items}
 use Rattle.std.proofs.lemmas.List.{nil_from_length, map-append}
-use Rattle.exec_key_parts.proofs.made.all_made.Goals as goal
+use Rattle.exec_threads.proofs.made.all_made.Goals as goal
 
 pub loop-part-preserved : goal.loop-part-preserved
 loop-part-preserved g c =
