@@ -5,7 +5,7 @@ ghost use Rattle.store_state.specs.Applied.{Applies};
 ghost use Rattle.store_state.specs.Found.{HasSameKeys};
 ghost use Rattle.store_state.specs.Keys.{line_keys, order_keys};
 ghost use Rattle.store_state.specs.Refresh.{DeleteKeys, InsertRows, cause_of, changed, first_cause};
-ghost use Rattle.store_state.specs.Refresh.{line_cause, order_cause};
+ghost use Rattle.store_state.specs.Refresh.{insert_cause, line_cause, order_cause};
 
 use crate::cause::{first_delete_cause, first_line_cause, first_order_cause};
 use crate::found::{key_set, lines_found, orders_found};
@@ -86,6 +86,28 @@ fn cause_of_delete(
     Ok(cause)
 }
 
+/// The first cause of inserted orders with these keys and of their lineitems, if they have one.
+fn cause_of_rows(
+    alloc: Global,
+    state: &State,
+    keys: &[i64],
+    wanted: &KeySet<i64>,
+    lineitems: &Parts,
+) -> Result<Option<Cause>, AllocError>
+    requires { HasSameKeys wanted.now keys.now }
+    ensures { IfOk result (λ cause. cause
+        ≡ insert_cause state.now keys.now (line_keys lineitems.now)) }
+{
+    match cause_of_orders(alloc, state, keys, wanted)? {
+        Some(cause) => Ok(Some(cause)),
+        None => {
+            let lines = lineitems.line_keys(alloc)?;
+            let cause = cause_of_lines(alloc, state, wanted, &lines)?;
+            Ok(cause)
+        }
+    }
+}
+
 /// The first cause of an insert, if it has one.
 fn cause_of_insert(
     alloc: Global,
@@ -98,14 +120,8 @@ fn cause_of_insert(
 {
     let keys = orders.order_keys(alloc)?;
     let wanted = key_set(alloc, &keys)?;
-    match cause_of_orders(alloc, state, &keys, &wanted)? {
-        Some(cause) => Ok(Some(cause)),
-        None => {
-            let lines = lineitems.line_keys(alloc)?;
-            let cause = cause_of_lines(alloc, state, &wanted, &lines)?;
-            Ok(cause)
-        }
-    }
+    let cause = cause_of_rows(alloc, state, &keys, &wanted, lineitems)?;
+    Ok(cause)
 }
 
 /// Rows with others after them.
