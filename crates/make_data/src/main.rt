@@ -17,9 +17,6 @@ use std::env;
 use std::io::ErrorKind;
 use std::process::ExitCode;
 
-#[cfg(test)]
-mod tests;
-
 /// The words after the program's name. Words that aren't UTF-8 are as good as none.
 fn given_words(rt: &HostRuntime) -> Result<Vec<String>, AllocError> {
     match env::args(rt) {

@@ -201,38 +201,6 @@ fn groups_of_pieces(rt: HostRuntime) -> Result<(), Fail> {
     Ok(())
 }
 
-// Whether there are many groups by these columns, the same from one piece and from pieces of 200
-// rows.
-fn are_many_alike<R: Threads + Sync>(
-    rt: &R,
-    alloc: Global,
-    text: &[u8],
-    by: &[Expr],
-) -> Result<bool, Fail> {
-    let whole = pieces_of(alloc, text, 4096)?;
-    let whole = grouped(rt, alloc, whole.as_slice(), 0, by)?;
-    let whole = rows_of(alloc, &whole)?;
-    let parts = pieces_of(alloc, text, 200)?;
-    let parts = grouped(rt, alloc, parts.as_slice(), 0, by)?;
-    let parts = rows_of(alloc, &parts)?;
-    Ok(whole.len() > 100 && are_same(whole.as_slice(), parts.as_slice()))
-}
-
-// By the part, and by order and line: threads number the keys in parts of their own.
-#[test]
-fn many_groups(rt: HostRuntime) -> Result<(), Fail> {
-    let text = made_lineitems(rt.alloc(), 10)?;
-    let text = text.as_slice();
-    let part = [Expr::Column(1)];
-    let line = [Expr::Column(0), Expr::Column(3)];
-    assert!(rt; are_many_alike(&rt, rt.alloc(), text, &part)?, "by part");
-    assert!(rt;
-        are_many_alike(&rt, rt.alloc(), text, &line)?,
-        "by order and line"
-    );
-    Ok(())
-}
-
 #[test]
 fn groups_of_no_pieces(rt: HostRuntime) -> Result<(), Fail> {
     let none = grouped(&rt, rt.alloc(), &[], 20, &[Expr::Column(8)])?;

@@ -16,23 +16,12 @@ use store_state::{Refresh, State};
 /// Two orders of a base.
 pub(crate) const ORDERS: &[u8] =
     b"7|1|O|10.00|1996-01-02|1-URGENT|K|0|x|\n8|1|F|20.00|1996-01-03|5-LOW|K|0|y|\n";
-/// An order of a refresh, and lineitems of it and of others, named by their order and their line.
+
+/// An order of a refresh, and its lineitem.
 pub(crate) const NINE: &[u8] = b"9|2|O|5.00|1996-01-04|5-LOW|K|0|z|\n";
 
 pub(crate) const NINE_ONE: &[u8] =
     b"9|1|1|1|1.00|5.00|0.00|0.00|N|O|1996-02-01|1996-02-02|1996-02-03|NONE|MAIL|w|\n";
-
-pub(crate) const NINE_TWO: &[u8] =
-    b"9|1|1|2|1.00|5.00|0.00|0.00|N|O|1996-02-01|1996-02-02|1996-02-03|NONE|MAIL|w|\n";
-
-pub(crate) const TEN_ONE: &[u8] =
-    b"10|1|1|1|1.00|5.00|0.00|0.00|N|O|1996-02-01|1996-02-02|1996-02-03|NONE|MAIL|w|\n";
-
-pub(crate) const SEVEN_ONE: &[u8] =
-    b"7|1|1|1|1.00|5.00|0.00|0.00|N|O|1996-02-01|1996-02-02|1996-02-03|NONE|MAIL|w|\n";
-
-pub(crate) const EIGHT_TWO: &[u8] =
-    b"8|1|1|2|1.00|5.00|0.00|0.00|N|O|1996-02-01|1996-02-02|1996-02-03|NONE|MAIL|w|\n";
 
 /// The rows of a table's file.
 pub(crate) fn table(alloc: Global, table: TableName, pieces: &[&[u8]]) -> Result<Rows, Fail>
@@ -144,16 +133,4 @@ pub(crate) fn scanned<T: Tables, L: Ledger>(
         }
     }
     Ok((keys, pieces.len()))
-}
-
-/// Whether the keys of a state's orders, and of its lineitems' orders, are these.
-pub(crate) fn has(
-    alloc: Global,
-    state: &State,
-    orders: &[i128],
-    lineitems: &[i128],
-) -> Result<bool, Fail> {
-    let of_orders = keys(alloc, &state.rows(alloc, TableName::Orders)?)?;
-    let of_lineitems = keys(alloc, &state.rows(alloc, TableName::Lineitem)?)?;
-    Ok(of_orders.as_slice() == orders && of_lineitems.as_slice() == lineitems)
 }

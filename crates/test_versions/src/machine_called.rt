@@ -87,23 +87,13 @@ fn pins_anew(rt: HostRuntime) -> Result<(), Fail> {
 }
 
 #[test]
-fn pins_what_it_has_seen(rt: HostRuntime) -> Result<(), Fail> {
+fn pins_what_it_knows(rt: HostRuntime) -> Result<(), Fail> {
     let alloc = rt.alloc();
     let mut machine = machine(alloc)?;
     assert!(rt; begins(alloc, &mut machine, 2, 0)?);
-    assert!(rt; scans(alloc, &mut machine, &[7, 8])?);
     step(&mut machine, Step::Publish)?;
     step(&mut machine, Step::Again(1, one_piece(alloc, 2, 0)?))?;
-    assert!(rt; scanned(alloc, &machine)?.is_none());
     assert!(rt; scans(alloc, &mut machine, &[7, 8])?);
-    Ok(())
-}
-
-#[test]
-fn pins_what_it_has_learnt(rt: HostRuntime) -> Result<(), Fail> {
-    let alloc = rt.alloc();
-    let mut machine = machine(alloc)?;
-    step(&mut machine, Step::Publish)?;
     step(&mut machine, Step::Learn(1, 1))?;
     step(&mut machine, Step::Again(1, one_piece(alloc, 3, 1)?))?;
     assert!(rt; scans(alloc, &mut machine, &[7, 8, 9])?);

@@ -1,18 +1,15 @@
 //! Readers of two orders and of what refreshes make of them.
-ghost use Rattle.std.specs.Prelude.{◌≡◌};
-ghost use denote.Param.Send.{IsSync};
+ghost use Rattle.std.specs.Prelude.{◌≡◌, IfOk, OnOk};
 ghost use Rattle.store_snapshots.specs.Openings.{opening_at};
 ghost use Rattle.store_snapshots.specs.Ruled.{opening_of};
 
-use crate::files::{NINE, NINE_ONE, ORDERS, delete, insert, scanned, state};
-use crate::versions_called::next;
+use crate::files::{NINE, NINE_ONE, ORDERS, delete, insert, keys, scanned, state};
 use base_schema::TableName;
 use std::alloc::Global;
 use std::marker::Brand;
 use std::sync::ledger::Blank;
 use std::sync::{Arc, Wait};
 use std::test::Fail;
-use std::thread::{Threads, for_each_mut, join_mut};
 use store_snapshots::{Published, Publisher, Reader, RuledEntry, Snapshot, SureEntry, open};
 use store_state::Refresh;
 use store_versions::Directory;
@@ -123,11 +120,27 @@ fn holds_a_snapshot(rt: HostRuntime) -> Result<(), Fail> {
     Ok(())
 }
 
+/// The version after the next refresh, which is accepted.
+fn next(directory: &mut Directory) -> Result<Directory, Fail>
+    ensures base { IfOk result (λ d. d.base ≡ directory.old.base) }
+    ensures list { IfOk result (λ d. d.list ≡ directory.old.list) }
+    ensures same { OnOk result (directory.new ≡ directory.old) }
+{
+    if directory.is_done() {
+        return Err("no refresh is left".into());
+    }
+    let after = directory.after_next()?;
+    Ok(after)
+}
+
 /// A reader of the versions 0, 1 and 2.
 fn sure_reader(alloc: Global) -> Result<Reader<SureEntry>, Fail> {
     let mut zero = Directory::new(alloc, state(alloc, &[ORDERS], &[])?, pairs(alloc, 1)?)?;
     let mut one = next(&mut zero)?;
     let two = next(&mut one)?;
+    if keys(alloc, &two.rows(TableName::Orders)?)?.as_slice() != [7, 8].as_slice() {
+        return Err("version 2 has other orders".into());
+    }
     let first = Arc::new(alloc, zero)?;
     let versions = vec![in alloc;
         Arc::try_clone(&first)?,
@@ -144,58 +157,5 @@ fn begins_at_each_version_in_turn(rt: HostRuntime) -> Result<(), Fail> {
     for version in [0, 1, 2, 2] {
         assert_eq!(rt; reader.begin()?.version(), version);
     }
-    Ok(())
-}
-
-/// Begins a thousand times.
-fn begin_often(reader: &mut Reader<RuledEntry>) {
-    for _time in 0..1000 {
-        let _snapshot = reader.begin();
-    }
-}
-
-/// Each reader begins a thousand times, on a thread of its own.
-fn begin_all<R: Threads + Sync>(rt: &R, readers: &mut [Reader<RuledEntry>]) {
-    let count = readers.len().max(1);
-    for_each_mut(
-        rt,
-        readers,
-        count,
-        &|_: usize, reader: &mut Reader<RuledEntry>| { begin_often(reader) },
-    );
-}
-
-/// Publishes a thousand refreshes beside the readers; how many of them were accepted.
-fn publish_beside<R: Threads + Wait + Sync>(
-    rt: &R,
-    publisher: &mut Publisher,
-    readers: &mut [Reader<RuledEntry>],
-) -> u64 {
-    let mut front = ||
-        requires { IsSync R.row }
-    { begin_all(rt, readers) };
-    let mut back = || -> u64 { publish(rt, publisher, 1000) };
-    let (_, accepted) = join_mut(rt, &mut front, &mut back);
-    accepted
-}
-
-#[test]
-fn reads_beside_a_publisher(rt: HostRuntime) -> Result<(), Fail> {
-    let alloc = rt.alloc();
-    let (mut publisher, mut readers) = open(
-        &rt,
-        alloc,
-        state(alloc, &[ORDERS], &[])?,
-        pairs(alloc, 500)?,
-        4,
-    )?;
-    let accepted = publish_beside(&rt, &mut publisher, readers.as_mut_slice());
-    let last = match readers.first_mut() {
-        Some(reader) => version_begun(reader),
-        None => Ok(0),
-    };
-    publisher.close(&rt);
-    assert_eq!(rt; accepted, 1000);
-    assert_eq!(rt; last?, 1000);
     Ok(())
 }

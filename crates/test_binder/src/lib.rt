@@ -1,5 +1,0 @@
-//! Statements as texts, bound.
-#![tactic(auto)]
-
-#[cfg(test)]
-mod tests;

@@ -1,0 +1,174 @@
+//! Expressions over one row, and over a batch as over each of its rows.
+use base_columns::{Batch, BatchBuilder, ColumnForm};
+use base_decimal::Scale;
+use base_text::Text;
+use base_value::{Fault, Row, Standing, Truth, Value};
+use exec_column_expr::{truths_of, values_of};
+use expr_operators::{Arithmetic, Comparison};
+use expr_scalar::{Branch, Expr, Operation, eval, eval_slice, truth, truth_slice};
+use sqlite_items::{Boxed, Items};
+use std::alloc::Global;
+use std::test::Fail;
+
+const MOST: i128 = 170141183460469231731687303715884105727;
+
+const KEY: Expr = Expr::Column(0);
+
+fn whole(n: i128) -> Value {
+    Value::Number(Scale::WHOLE, n)
+}
+
+fn number(n: i128) -> Expr {
+    Expr::Literal(whole(n))
+}
+
+// One operator between two operands.
+fn operated(alloc: Global, first: Expr, operator: Arithmetic, operand: Expr) -> Result<Expr, Fail> {
+    let mut operations = Items::new(alloc);
+    operations.push(Operation { operator, operand })?;
+    let first = Boxed::new(alloc, first)?;
+    Ok(Expr::Arithmetic(first, operations))
+}
+
+// 1 / x
+fn inverse(alloc: Global, x: Expr) -> Result<Expr, Fail> {
+    operated(alloc, number(1), Arithmetic::Divide, x)
+}
+
+fn compared(alloc: Global, comparison: Comparison, left: Expr, right: Expr) -> Result<Expr, Fail> {
+    let left = Boxed::new(alloc, left)?;
+    let right = Boxed::new(alloc, right)?;
+    Ok(Expr::Compare(comparison, left, right))
+}
+
+fn equal(alloc: Global, left: Expr, right: Expr) -> Result<Expr, Fail> {
+    compared(alloc, Comparison::Equal, left, right)
+}
+
+fn negated(alloc: Global, e: Expr) -> Result<Expr, Fail> {
+    let e = Boxed::new(alloc, e)?;
+    Ok(Expr::Not(e))
+}
+
+// a = 3 and 1 / x = 1
+fn both(alloc: Global, a: Expr, x: Expr) -> Result<Expr, Fail> {
+    let mut es = Items::new(alloc);
+    es.push(equal(alloc, a, number(3))?)?;
+    es.push(equal(alloc, inverse(alloc, x)?, number(1))?)?;
+    Ok(Expr::All(es))
+}
+
+// case when a = 3 then 1 else 2.50 end
+fn chosen(alloc: Global, a: Expr) -> Result<Expr, Fail> {
+    let mut branches = Items::new(alloc);
+    let when = equal(alloc, a, number(3))?;
+    branches.push(Branch {
+        when,
+        gives: number(1),
+    })?;
+    let cents = Scale::new(2);
+    let other = Boxed::new(alloc, Expr::Literal(Value::Number(cents, 250)))?;
+    Ok(Expr::Case(cents, branches, other))
+}
+
+// $1 like 'M%'
+fn begins_with_m(alloc: Global) -> Result<Expr, Fail> {
+    let pattern = Text::new(alloc, b"M%")?;
+    let column = Boxed::new(alloc, Expr::Column(1))?;
+    Ok(Expr::Like(column, pattern))
+}
+
+// An expression of each kind: a column, one past the row, a quotient, a comparison, a pattern, a
+// choice, and a condition with a fault, also negated.
+fn each_kind(alloc: Global) -> Result<Items<Expr>, Fail> {
+    let mut es = Items::new(alloc);
+    es.push(KEY)?;
+    es.push(Expr::Column(9))?;
+    es.push(inverse(alloc, KEY)?)?;
+    es.push(compared(alloc, Comparison::Greater, KEY, number(0))?)?;
+    es.push(begins_with_m(alloc)?)?;
+    es.push(chosen(alloc, KEY)?)?;
+    es.push(both(alloc, KEY, number(0))?)?;
+    es.push(negated(alloc, both(alloc, number(3), KEY)?)?)?;
+    Ok(es)
+}
+
+// A number and a text, zero and a text, a null and a text, and a fault and a null.
+fn rows(alloc: Global) -> Result<Batch, Fail> {
+    let mail = Value::Text(Text::new(alloc, b"MAIL")?);
+    let air = Value::Text(Text::new(alloc, b"AIR")?);
+    let mut builder = BatchBuilder::new(alloc, &[ColumnForm::Values, ColumnForm::Texts])?;
+    for row in [
+        [whole(3), mail.clone()?],
+        [whole(0), air],
+        [Value::Null, mail],
+        [Value::Fault(Fault::TooManyRows), Value::Null],
+    ] {
+        if builder.width() == row.len() {
+            builder.push_row(alloc, &row, Standing::AtTrue)?;
+        }
+    }
+    let batch = builder.finish(alloc)?;
+    Ok(batch)
+}
+
+// Whether values and truths of an expression over the rows are those that it has over each row.
+fn agrees(alloc: Global, e: &Expr, rows: &Batch) -> Result<bool, Fail> {
+    let column = values_of(alloc, e, rows)?;
+    let truths = truths_of(alloc, e, rows)?;
+    if column.len() != rows.len() || truths.len() != rows.len() {
+        return Ok(false);
+    }
+    for i in 0..rows.len() {
+        let row = rows.row(alloc, i)?;
+        let value = eval_slice(alloc, e, row.as_slice())?;
+        let truth = truth_slice(alloc, e, row.as_slice())?;
+        if !column.at(alloc, i)?.is_identical(&value) || truths[i] != truth {
+            return Ok(false);
+        }
+    }
+    Ok(true)
+}
+
+#[test]
+fn gives_what_each_row_gives(rt: HostRuntime) -> Result<(), Fail> {
+    let alloc = rt.alloc();
+    let rows = rows(alloc)?;
+    assert_eq!(rt; rows.len(), 4);
+    for (i, e) in each_kind(alloc)?.as_slice().iter().enumerate() {
+        assert!(rt; agrees(alloc, e, &rows)?, "expression {i}");
+    }
+    Ok(())
+}
+
+// A row of the number 3.
+fn three(alloc: Global) -> Result<Row, Fail> {
+    let row = Row::from_slice(alloc, &[whole(3)])?;
+    Ok(row)
+}
+
+#[test]
+fn computes_over_a_row(rt: HostRuntime) -> Result<(), Fail> {
+    let alloc = rt.alloc();
+    let row = three(alloc)?;
+    let two = operated(alloc, number(2), Arithmetic::Divide, KEY)?;
+    assert!(rt; eval(alloc, &two, &row)? == Value::Number(Scale::new(6), 666_667));
+    let past = operated(alloc, number(MOST), Arithmetic::Add, KEY)?;
+    assert!(rt; eval(alloc, &past, &row)? == Value::Fault(Fault::NumberRange));
+    assert!(rt; eval(alloc, &Expr::Column(9), &row)? == Value::Null);
+    Ok(())
+}
+
+#[test]
+fn decides_over_a_row(rt: HostRuntime) -> Result<(), Fail> {
+    let alloc = rt.alloc();
+    let row = three(alloc)?;
+    let zero_divides = Truth::Stands(Standing::AtFault(Fault::DivideByZero));
+    let faulty = both(alloc, KEY, number(0))?;
+    assert!(rt; truth(alloc, &faulty, &row)? == zero_divides);
+    let hidden = both(alloc, number(4), number(0))?;
+    assert!(rt; truth(alloc, &hidden, &row)? == Truth::False);
+    assert!(rt; truth(alloc, &negated(alloc, hidden)?, &row)? == Truth::Stands(Standing::AtTrue));
+    assert!(rt; truth(alloc, &KEY, &row)? == Truth::Unknown);
+    Ok(())
+}

@@ -1,0 +1,13 @@
+//! Tests of public calls that no run of the program makes: expressions over one row, all
+//! combinations of two bags, written decimals, and files with a lower limit. No other crate uses
+//! this one.
+#![tactic(auto)]
+
+#[cfg(test)]
+mod combinations;
+#[cfg(test)]
+mod expressions;
+#[cfg(test)]
+mod limits;
+#[cfg(test)]
+mod single_calls;

@@ -1,5 +1,0 @@
-//! Statements as texts, planned.
-#![tactic(auto)]
-
-#[cfg(test)]
-mod tests;
