@@ -12,14 +12,16 @@ use std::test::Fail;
 
 const MOST: i128 = 170141183460469231731687303715884105727;
 
-const KEY: Expr = Expr::Column(0);
-
 fn whole(n: i128) -> Value {
     Value::Number(Scale::WHOLE, n)
 }
 
 fn number(n: i128) -> Expr {
     Expr::Literal(whole(n))
+}
+
+fn key() -> Expr {
+    Expr::Column(0)
 }
 
 // One operator between two operands.
@@ -82,33 +84,40 @@ fn begins_with_m(alloc: Global) -> Result<Expr, Fail> {
 // choice, and a condition with a fault, also negated.
 fn each_kind(alloc: Global) -> Result<Items<Expr>, Fail> {
     let mut es = Items::new(alloc);
-    es.push(KEY)?;
+    es.push(key())?;
     es.push(Expr::Column(9))?;
-    es.push(inverse(alloc, KEY)?)?;
-    es.push(compared(alloc, Comparison::Greater, KEY, number(0))?)?;
+    es.push(inverse(alloc, key())?)?;
+    es.push(compared(alloc, Comparison::Greater, key(), number(0))?)?;
     es.push(begins_with_m(alloc)?)?;
-    es.push(chosen(alloc, KEY)?)?;
-    es.push(both(alloc, KEY, number(0))?)?;
-    es.push(negated(alloc, both(alloc, number(3), KEY)?)?)?;
+    es.push(chosen(alloc, key())?)?;
+    es.push(both(alloc, key(), number(0))?)?;
+    es.push(negated(alloc, both(alloc, number(3), key())?)?)?;
     Ok(es)
+}
+
+fn push(alloc: Global, rows: &mut BatchBuilder, key: Value, text: Value) -> Result<(), Fail> {
+    let row = [key, text];
+    if rows.width() == row.len() {
+        rows.push_row(alloc, &row, Standing::AtTrue)?;
+    }
+    Ok(())
 }
 
 // A number and a text, zero and a text, a null and a text, and a fault and a null.
 fn rows(alloc: Global) -> Result<Batch, Fail> {
     let mail = Value::Text(Text::new(alloc, b"MAIL")?);
     let air = Value::Text(Text::new(alloc, b"AIR")?);
-    let mut builder = BatchBuilder::new(alloc, &[ColumnForm::Values, ColumnForm::Texts])?;
-    for row in [
-        [whole(3), mail.clone()?],
-        [whole(0), air],
-        [Value::Null, mail],
-        [Value::Fault(Fault::TooManyRows), Value::Null],
-    ] {
-        if builder.width() == row.len() {
-            builder.push_row(alloc, &row, Standing::AtTrue)?;
-        }
-    }
-    let batch = builder.finish(alloc)?;
+    let mut rows = BatchBuilder::new(alloc, &[ColumnForm::Values, ColumnForm::Texts])?;
+    push(alloc, &mut rows, whole(3), mail.clone()?)?;
+    push(alloc, &mut rows, whole(0), air)?;
+    push(alloc, &mut rows, Value::Null, mail)?;
+    push(
+        alloc,
+        &mut rows,
+        Value::Fault(Fault::TooManyRows),
+        Value::Null,
+    )?;
+    let batch = rows.finish(alloc)?;
     Ok(batch)
 }
 
@@ -135,7 +144,8 @@ fn gives_what_each_row_gives(rt: HostRuntime) -> Result<(), Fail> {
     let alloc = rt.alloc();
     let rows = rows(alloc)?;
     assert_eq!(rt; rows.len(), 4);
-    for (i, e) in each_kind(alloc)?.as_slice().iter().enumerate() {
+    let es = each_kind(alloc)?;
+    for (i, e) in es.as_slice().iter().enumerate() {
         assert!(rt; agrees(alloc, e, &rows)?, "expression {i}");
     }
     Ok(())
@@ -151,9 +161,9 @@ fn three(alloc: Global) -> Result<Row, Fail> {
 fn computes_over_a_row(rt: HostRuntime) -> Result<(), Fail> {
     let alloc = rt.alloc();
     let row = three(alloc)?;
-    let two = operated(alloc, number(2), Arithmetic::Divide, KEY)?;
+    let two = operated(alloc, number(2), Arithmetic::Divide, key())?;
     assert!(rt; eval(alloc, &two, &row)? == Value::Number(Scale::new(6), 666_667));
-    let past = operated(alloc, number(MOST), Arithmetic::Add, KEY)?;
+    let past = operated(alloc, number(MOST), Arithmetic::Add, key())?;
     assert!(rt; eval(alloc, &past, &row)? == Value::Fault(Fault::NumberRange));
     assert!(rt; eval(alloc, &Expr::Column(9), &row)? == Value::Null);
     Ok(())
@@ -164,11 +174,11 @@ fn decides_over_a_row(rt: HostRuntime) -> Result<(), Fail> {
     let alloc = rt.alloc();
     let row = three(alloc)?;
     let zero_divides = Truth::Stands(Standing::AtFault(Fault::DivideByZero));
-    let faulty = both(alloc, KEY, number(0))?;
+    let faulty = both(alloc, key(), number(0))?;
     assert!(rt; truth(alloc, &faulty, &row)? == zero_divides);
     let hidden = both(alloc, number(4), number(0))?;
     assert!(rt; truth(alloc, &hidden, &row)? == Truth::False);
     assert!(rt; truth(alloc, &negated(alloc, hidden)?, &row)? == Truth::Stands(Standing::AtTrue));
-    assert!(rt; truth(alloc, &KEY, &row)? == Truth::Unknown);
+    assert!(rt; truth(alloc, &Expr::Column(0), &row)? == Truth::Unknown);
     Ok(())
 }
