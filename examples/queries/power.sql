@@ -1,4 +1,5 @@
 -- The power test's stream, with the validation values: refresh function 1, the 22 queries, refresh function 2.
+-- Query 11's 0.0001 is that of scale factor 1: the benchmark divides it by the scale factor.
 refresh insert 1;
 run 14 ('1995-09-01');
 run 2 (15, 'BRASS', 'EUROPE');

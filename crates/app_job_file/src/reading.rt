@@ -53,7 +53,7 @@ impl<T: Drop> From<AllocFailed<T>> for JobError {
 }
 
 /// The refusal of a line of that number.
-fn refused(refusal: JobRefusal, line: usize) -> JobError
+fn refusal_at(refusal: JobRefusal, line: usize) -> JobError
     ensures { result ≡ JobError.Refused (record { refusal = refusal; line = line }) }
 {
     JobError::Refused(RefusedLine { refusal, line })
@@ -67,7 +67,7 @@ fn put_script(alloc: Global, job: &mut Job, number: usize, name: &str) -> Result
     ensures within { IsWithin job.new }
 {
     if job.scripts.len() >= MOST_SESSIONS {
-        return Err(refused(JobRefusal::TooMany, number));
+        return Err(refusal_at(JobRefusal::TooMany, number));
     }
     let name = String::from_str(alloc, name)?;
     job.scripts.push(name)?;
@@ -88,7 +88,7 @@ fn put_refresh(
     ensures within { IsWithin job.new }
 {
     if job.refreshes.len() >= MOST_REFRESHES {
-        return Err(refused(JobRefusal::TooMany, number));
+        return Err(refusal_at(JobRefusal::TooMany, number));
     }
     job.refreshes.push(mention)?;
     job.before = before;
@@ -103,7 +103,7 @@ fn put_before(job: &mut Job, number: usize, mention: Mention) -> Result<(), JobE
     ensures within { IsWithin job.new }
 {
     if job.before < job.refreshes.len() {
-        return Err(refused(JobRefusal::LateBefore, number));
+        return Err(refusal_at(JobRefusal::LateBefore, number));
     }
     put_refresh(job, number, mention, job.before + 1)
 }
@@ -121,7 +121,7 @@ fn put_text(alloc: Global, job: &mut Job, number: usize, text: &[u8]) -> Result<
         Some(Line::Session(name)) => put_script(alloc, job, number, name),
         Some(Line::Before(mention)) => put_before(job, number, mention),
         Some(Line::Beside(mention)) => put_refresh(job, number, mention, job.before),
-        None => Err(refused(JobRefusal::BadLine, number)),
+        None => Err(refusal_at(JobRefusal::BadLine, number)),
     }
 }
 
@@ -193,11 +193,11 @@ pub fn read_job(alloc: Global, bytes: &[u8]) -> Result<Job, JobError>
     ensures readable { IfOk result IsReadable }
 {
     if bytes.len() > MAX_JOB {
-        return Err(refused(JobRefusal::TooLong, 0));
+        return Err(refusal_at(JobRefusal::TooLong, 0));
     }
     let job = read_lines(alloc, bytes)?;
     if job.scripts.is_empty() {
-        return Err(refused(JobRefusal::NoSession, 0));
+        return Err(refusal_at(JobRefusal::NoSession, 0));
     }
     Ok(job)
 }

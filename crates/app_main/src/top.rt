@@ -3,12 +3,12 @@ ghost use Rattle.std.specs.Prelude.{◌≡◌, ◌≢◌, ◌≤◌, ◌⊎◌, 
 ghost use Rattle.std.specs.Io.KnownBytes.{Appends, Keeps};
 ghost use Rattle.std.specs.String.{string_bytes};
 ghost use Rattle.base_io.specs.Outside.{AppendsPart, Rose};
-ghost use Rattle.app_main.specs.Meaning.{IsAbsentInput, IsAccepted, MayPrint, Prints};
-ghost use Rattle.app_main.specs.Printing.{IsAnswer};
-ghost use Rattle.app_main.specs.Words.{command_of};
+ghost use Rattle.app_run.specs.Meaning.{IsAbsentInput, IsAccepted, MayPrint, Prints};
+ghost use Rattle.app_inputs.specs.Printing.{IsAnswer};
+ghost use Rattle.app_inputs.specs.Words.{command_of};
 
-use crate::Status;
-use crate::run::run;
+use app_inputs::Status;
+use app_run::run;
 use base_io::{Files, Gate, Sink};
 use std::alloc::Global;
 use std::sync::Wait;

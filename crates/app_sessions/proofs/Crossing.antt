@@ -16,7 +16,7 @@ use Rattle.store_snapshots.proofs.reader.Reader.TheSendSync.{the_send as reader_
 use Rattle.store_snapshots.specs.declared.entry.Entry.{Ghosts}
 use Rattle.plan_planner.specs.contracts.views.SessionViews as Views
 use Rattle.app_sessions.specs.contracts.session.Session as Session
-use Rattle.app_sessions.specs.contracts.work.Work as Work
+use Rattle.app_sessions.specs.contracts.worker.Worker as Worker
 
 pub text_send : IsSend Text.the_row
 text_send = search (sendable, crosses) depth 60 fits 20000
@@ -44,8 +44,8 @@ session_send =
     search (statement_send, views_send, block_send, text_send, sendable, crosses) depth 60
     fits 20000
 
-pub work_send : (E N : RattleType) (g : Ghosts E.Denot N.Denot) → IsSend E → IsSend (Work.the_row E N g)
-work_send E N g s = declared_send (Work.the_type E N g) (
+pub worker_send : (E N : RattleType) (g : Ghosts E.Denot N.Denot) → IsSend E → IsSend (Worker.the_row E N g)
+worker_send E N g s = declared_send (Worker.the_type E N g) (
   reader_send E N g s,
   (
     search (session_send, sendable, crosses) depth 40 fits 20000,

@@ -4,7 +4,7 @@ use Rattle.std.proofs.lemmas.List.{append-nil, reverse-append, reverse-reverse}
 use Rattle.sql_ast.specs.declared.statement.Statement.{Statement}
 use Rattle.app_sessions.specs.Expansion.{ExpandAll, Expands}
 
--- the first statements stand for the steps so far, and those that are left are turned
+-- the first statements stand for the steps so far, and those that are left stand in reverse
 pub record Expanding (statements left steps : List Statement) : Type 0 where
   pub done : List Statement
   pub expanded : ExpandAll done steps

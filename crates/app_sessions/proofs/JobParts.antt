@@ -12,19 +12,19 @@ use Rattle.app_sessions.specs.Jobs.{ArePermitted, IsJobText, JobAnswer, JobSessi
 use Rattle.app_sessions.specs.Reports.{IsTold, are_accepted, report_text}
 use Rattle.app_sessions.specs.declared.report.Report.{Report}
 use Rattle.store_versions.specs.Trials.{Trials, version_of}
-use Rattle.app_sessions.specs.Works.{AllHaveRun, AllHired, AllReady, IsNumber, IsNumberOver, IsPlaced, NoneIsLost, place_of, sessions_of}
+use Rattle.app_sessions.specs.Workers.{AllHaveRun, AllInformed, AllReady, IsNumber, IsNumberOver, IsPlaced, NoneIsLost, place_of, sessions_of}
 use Rattle.app_sessions.specs.declared.session.Session.{Session}
-use Rattle.app_sessions.specs.declared.work.Work.{Work}
+use Rattle.app_sessions.specs.declared.worker.Worker.{Worker}
 use Rattle.app_sessions.proofs.JobRuns.{over_wider}
 
 -- a session that stood at its place is over there
-placed_over : {E N : Type 0} (opening : E → Opening) (o : State × List Change) (low : ℕ) (all : List JobSession) (k : ℕ) (p : ℕ × ℕ) (olds news : List (Work E N)) → AllHired opening o low olds → AllHaveRun opening olds news → NoneIsLost news
+placed_over : {E N : Type 0} (opening : E → Opening) (o : State × List Change) (low : ℕ) (all : List JobSession) (k : ℕ) (p : ℕ × ℕ) (olds news : List (Worker E N)) → AllInformed opening o low olds → AllHaveRun opening olds news → NoneIsLost news
     → IsPlaced sessions_of olds p (IsNumber all k) → IsPlaced sessions_of news p (IsNumberOver o low (last_version o.0 o.1) all k)
-placed_over {E} {N} opening o low all k p olds news hired ran fine h =
+placed_over {E} {N} opening o low all k p olds news informed ran fine h =
     let turn : p.0 < length news = subst (λ n. p.0 < n) (sym ran.len) h.turn in
-    let round : (w : Work E N) → p.1 < length (sessions_of (slice_index_or news p.0 w)) = λ w. subst (λ n. p.1 < n) (sym (ran.each p.0 w h.turn).len) (h.round w) in
-    let over : (w : Work E N) (s : Session) → IsOverOf (Some o) low (slice_index_or (sessions_of (slice_index_or news p.0 w)) p.1 s) = λ w s.
-    over_wider _ (Some o) _ low (slice_index_or (sessions_of (slice_index_or news p.0 w)) p.1 s) ((ran.each p.0 w h.turn).over (fine p.0 w turn) p.1 s (round w)) (hired p.0 w h.turn).opened (hired p.0 w h.turn).least in
+    let round : (w : Worker E N) → p.1 < length (sessions_of (slice_index_or news p.0 w)) = λ w. subst (λ n. p.1 < n) (sym (ran.each p.0 w h.turn).len) (h.round w) in
+    let over : (w : Worker E N) (s : Session) → IsOverOf (Some o) low (slice_index_or (sessions_of (slice_index_or news p.0 w)) p.1 s) = λ w s.
+    over_wider _ (Some o) _ low (slice_index_or (sessions_of (slice_index_or news p.0 w)) p.1 s) ((ran.each p.0 w h.turn).over (fine p.0 w turn) p.1 s (round w)) (informed p.0 w h.turn).opened (informed p.0 w h.turn).least in
     record {
       turn = turn;
       round = round;
@@ -34,14 +34,14 @@ placed_over {E} {N} opening o low all k p olds news hired ran fine h =
       };
     }
 
-pub all_ready : {E N : Type 0} (opening : E → Opening) (o : State × List Change) (low : ℕ) (ss : List Session) (ws : List (Work E N)) → ArePrepared opening o low ss ws → AllReady opening ws
+pub all_ready : {E N : Type 0} (opening : E → Opening) (o : State × List Change) (low : ℕ) (ss : List Session) (ws : List (Worker E N)) → ArePrepared opening o low ss ws → AllReady opening ws
 all_ready opening o low ss ws h i w less = record {
-  seen = (h.hired i w less).seen;
+  seen = (h.informed i w less).seen;
   unasked = h.unasked i w less;
-  going = (h.hired i w less).going;
+  going = (h.informed i w less).going;
 }
 
-pub job_over : {E N : Type 0} (opening : E → Opening) (base : State) (list : List Change) (before : ℕ) (ss : List Session) (olds news : List (Work E N)) (lines : List ℕ) (clean : Bool) (count : ℕ) (job : JobAnswer)
+pub job_over : {E N : Type 0} (opening : E → Opening) (base : State) (list : List Change) (before : ℕ) (ss : List Session) (olds news : List (Worker E N)) (lines : List ℕ) (clean : Bool) (count : ℕ) (job : JobAnswer)
     → ArePrepared opening (base, list) (accepted base list before) ss olds → AllHaveRun opening olds news
     → lines ≡ report_text base list (length list) ++ closing_text base list (last_version base list)
     → clean ≡ are_accepted base list (length list) → count ≡ length ss → IsJoined news count lines clean job
@@ -52,7 +52,7 @@ job_over {E} {N} opening base list before ss olds news lines clean count job h r
     let high = last_version base list in
     let all : List JobSession = job_sessions ss in
     let each : (k : ℕ) → k < count → IsPlaced sessions_of news (place_of (length news) k) (IsNumberOver o low high all k) = λ k less.
-    placed_over opening o low all k (place_of (length news) k) olds news h.hired ran over.none_lost
+    placed_over opening o low all k (place_of (length news) k) olds news h.informed ran over.none_lost
     (subst (λ n. IsPlaced sessions_of olds (place_of n k) (IsNumber all k)) (sym ran.len) (h.placed k (subst (λ n. k < n) count_is less))) in
     let g = over.gathers o low high all (length-map ss job_session ∙ sym count_is) each in
     let rest = report_text base list (length list) ++ closing_text base list high in
@@ -64,7 +64,7 @@ job_over {E} {N} opening base list before ss olds news lines clean count job h r
           ∙ ap (λ b. are_sessions_clean base list all job.versions && b) clean_is;
     }
 
-pub all_placed : {E N : Type 0} (opening : E → Opening) (o : State × List Change) (low count : ℕ) (ss : List Session) (olds news : List (Work E N)) → ArePrepared opening o low ss olds → AllHaveRun opening olds news → count ≡ length ss → HavePlaces news count
+pub all_placed : {E N : Type 0} (opening : E → Opening) (o : State × List Change) (low count : ℕ) (ss : List Session) (olds news : List (Worker E N)) → ArePrepared opening o low ss olds → AllHaveRun opening olds news → count ≡ length ss → HavePlaces news count
 all_placed opening o low count ss olds news h ran is k less =
     let p = h.placed k (subst (λ n. k < n) is less) in
     subst (λ n. IsPlaced sessions_of news (place_of n k) (λ s. Unit {0})) (sym ran.len) (record {

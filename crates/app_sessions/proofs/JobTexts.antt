@@ -8,7 +8,7 @@ use Rattle.app_sessions.specs.Asked.{job_session}
 use Rattle.app_sessions.specs.Gathered.{IsSessionsText}
 use Rattle.app_sessions.specs.Jobs.{ArePermitted, IsRun, JobAnswer, JobSession, are_sessions_clean, moments_at, session_head, session_lines, sessions_text}
 use Rattle.app_sessions.specs.Sessions.{are_clean, course_of}
-use Rattle.app_sessions.specs.Works.{IsNumberOver, no_session}
+use Rattle.app_sessions.specs.Workers.{IsNumberOver, no_session}
 use Rattle.app_sessions.specs.declared.session.Session.{Session}
 
 permitted_more : (low high : ℕ) (ss : List JobSession) (vss : List (List ℕ)) (s : JobSession) (vs : List ℕ) → ArePermitted low high ss vss

@@ -11,3 +11,4 @@ mod JobReports
 mod JobTexts
 mod JobParts
 mod Crossing
+mod Compacting

@@ -6,10 +6,10 @@ use Rattle.base_schema.specs.State.{State}
 use Rattle.app_sessions.specs.Asked.{AllUnasked, job_sessions}
 use Rattle.app_sessions.specs.Jobs.{ArePermitted, JobAnswer, JobSession, are_sessions_clean}
 use Rattle.app_sessions.specs.Jobs.{sessions_text}
-use Rattle.app_sessions.specs.Works.{AllHired, IsNumber, IsNumberOver, IsPlaced, NoneIsLost}
-use Rattle.app_sessions.specs.Works.{place_of, sessions_of}
+use Rattle.app_sessions.specs.Workers.{AllInformed, IsNumber, IsNumberOver, IsPlaced, NoneIsLost}
+use Rattle.app_sessions.specs.Workers.{place_of, sessions_of}
 use Rattle.app_sessions.specs.declared.session.Session.{Session}
-use Rattle.app_sessions.specs.declared.work.Work.{Work}
+use Rattle.app_sessions.specs.declared.worker.Worker.{Worker}
 
 -- the text of these sessions for the versions in it
 pub record IsSessionsText (o : State × List Change) (low high : ℕ) (all : List JobSession)
@@ -20,36 +20,36 @@ pub record IsSessionsText (o : State × List Change) (low high : ℕ) (all : Lis
 
 -- where the first n sessions stand at their places and each of their statements had its turn,
 -- this is their text
-abbrev pub Gathers : {E N : Type 0} → List (Work E N) → ℕ → JobAnswer → Type 0
-Gathers works count job =
+abbrev pub Gathers : {E N : Type 0} → List (Worker E N) → ℕ → JobAnswer → Type 0
+Gathers workers count job =
     (o : State × List Change) (low high : ℕ) (all : List JobSession) → length all ≡ count
     → ((k : ℕ) → k < count
-    → IsPlaced sessions_of works (place_of (length works) k) (IsNumberOver o low high all k))
+    → IsPlaced sessions_of workers (place_of (length workers) k) (IsNumberOver o low high all k))
     → IsSessionsText o low high all job
 
--- works whose readers have seen at least that version, with these sessions, none of which was asked
+-- workers whose readers have seen at least that version, with these sessions, none of which was asked
 pub record ArePrepared {E N : Type 0} (opening : E → Opening) (o : State × List Change) (low : ℕ)
-    (sessions : List Session) (works : List (Work E N)) : Type 0 where
-  pub some : 0 < length works
-  pub hired : AllHired opening o low works
+    (sessions : List Session) (workers : List (Worker E N)) : Type 0 where
+  pub some : 0 < length workers
+  pub informed : AllInformed opening o low workers
   pub unasked :
-      (i : ℕ) (d : Work E N) → i < length works
-      → AllUnasked (sessions_of (slice_index_or works i d))
+      (i : ℕ) (d : Worker E N) → i < length workers
+      → AllUnasked (sessions_of (slice_index_or workers i d))
   pub placed :
       (k : ℕ) → k < length sessions
-      → IsPlaced sessions_of works (place_of (length works) k) (IsNumber (job_sessions sessions) k)
+      → IsPlaced sessions_of workers (place_of (length workers) k) (IsNumber (job_sessions sessions) k)
 
 -- each session has a place
-abbrev pub HavePlaces : {E N : Type 0} → List (Work E N) → ℕ → Type 0
-HavePlaces works count =
-    (k : ℕ) → k < count → IsPlaced sessions_of works (place_of (length works) k) (λ s. ⊤)
+abbrev pub HavePlaces : {E N : Type 0} → List (Worker E N) → ℕ → Type 0
+HavePlaces workers count =
+    (k : ℕ) → k < count → IsPlaced sessions_of workers (place_of (length workers) k) (λ s. ⊤)
 
--- memory ran out for no work, and the whole text is that of the sessions and then the other lines
-pub record IsJoined {E N : Type 0} (works : List (Work E N)) (count : ℕ) (lines : List ℕ)
+-- memory ran out for no worker, and the whole text is that of the sessions and then the other lines
+pub record IsJoined {E N : Type 0} (workers : List (Worker E N)) (count : ℕ) (lines : List ℕ)
     (accepted : Bool) (job : JobAnswer) : Type 0 where
-  pub none_lost : NoneIsLost works
+  pub none_lost : NoneIsLost workers
   pub sessions : JobAnswer
-  pub gathers : Gathers works count sessions
+  pub gathers : Gathers workers count sessions
   pub whole : job.text ≡ sessions.text ++ lines
   pub versions : job.versions ≡ sessions.versions
   pub clean : job.is_clean ≡ (sessions.is_clean && accepted)

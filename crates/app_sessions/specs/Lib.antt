@@ -9,5 +9,6 @@ pub mod Counts
 pub mod Reports
 pub mod Jobs
 pub mod Asked
-pub mod Works
+pub mod Workers
 pub mod Gathered
+pub mod Compaction

@@ -56,3 +56,8 @@ pub record IsTold (trials : Trials) (report : Report) : Type 0 where
   pub count : report.count ≡ trials.done
   pub text : report.text.items ≡ report_text trials.base trials.list trials.done
   pub accepted : report.accepted ≡ are_accepted trials.base trials.list trials.done
+
+-- what came of a refresh: it made this version, or the version stayed
+abbrev pub IsVersionAfter : Trials → Trials → Result ℕ Cause → Type 0
+IsVersionAfter old new (Ok version) = version ≡ version_of new
+IsVersionAfter old new (Err cause) = version_of new ≡ version_of old

@@ -81,7 +81,10 @@ fn put_steps(
 }
 
 /// The same statements from the last to the first.
-fn turned(alloc: Global, statements: Items<Statement>) -> Result<Items<Statement>, AllocError>
+fn reverse_statements(
+    alloc: Global,
+    statements: Items<Statement>,
+) -> Result<Items<Statement>, AllocError>
     ensures { IfOk result (λ turned. turned ≡ reverse statements) }
 {
     let mut left = statements;
@@ -93,13 +96,13 @@ fn turned(alloc: Global, statements: Items<Statement>) -> Result<Items<Statement
 }
 
 /// The statements that a script's stand for.
-pub(crate) fn expanded(
+pub(crate) fn expand(
     alloc: Global,
     statements: Items<Statement>,
 ) -> Result<Items<Statement>, AllocError>
     ensures { IfOk result (λ steps. ExpandAll statements steps) }
 {
-    let mut left = turned(alloc, statements)?;
+    let mut left = reverse_statements(alloc, statements)?;
     let mut steps = Items::new(alloc);
     'left: while let Some(statement) = left.pop() {
         put_steps(alloc, &mut steps, statement)?;

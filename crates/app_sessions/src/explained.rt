@@ -10,7 +10,7 @@ ghost use Rattle.app_sessions.specs.Explained.{refused_line, short_line};
 ghost use Rattle.app_sessions.specs.Outcomes.{is_refusal};
 ghost use Rattle.app_sessions.specs.Views.{views_after};
 
-use crate::expansion::expanded;
+use crate::expansion::expand;
 use crate::outcome::Outcome;
 use crate::runs::run_outcome;
 use crate::views::{drop_view, make_view};
@@ -143,7 +143,7 @@ fn push_statement(
 }
 
 /// The lines of statements, numbered from 1.
-fn explained_steps(alloc: Global, steps: &[Statement]) -> Result<Explained, AllocError>
+fn explain_steps(alloc: Global, steps: &[Statement]) -> Result<Explained, AllocError>
     ensures lines { IfOk result (λ e. AreExplained 1 [] steps.now e.text.items) }
     ensures clean { IfOk result (λ e. e.is_clean ≡ are_taken [] steps.now) }
 {
@@ -168,7 +168,7 @@ pub fn explain(alloc: Global, statements: Items<Statement>) -> Result<Explained,
     ensures { IfOk result (λ e. (steps : List Statement) × ExpandAll statements steps
         × AreExplained 1 [] steps e.text.items × (e.is_clean ≡ are_taken [] steps)) }
 {
-    let steps = expanded(alloc, statements)?;
-    let explained = explained_steps(alloc, steps.as_slice())?;
+    let steps = expand(alloc, statements)?;
+    let explained = explain_steps(alloc, steps.as_slice())?;
     Ok(explained)
 }

@@ -9,14 +9,14 @@ ghost use Rattle.app_sessions.specs.Asked.{AllUnasked, job_sessions};
 ghost use Rattle.app_sessions.specs.Gathered.{ArePrepared, HavePlaces, IsJoined};
 ghost use Rattle.app_sessions.specs.Jobs.{IsJobText, closing_line, closing_text};
 ghost use Rattle.app_sessions.specs.Reports.{IsTold};
-ghost use Rattle.app_sessions.specs.Works.{AllHaveRun, AllReady, AreOfOpening, NoneIsLost};
+ghost use Rattle.app_sessions.specs.Workers.{AllHaveRun, AllReady, AreOfOpening, NoneIsLost};
 
 use crate::counts::push_counts;
 use crate::job_text::{JobText, gather};
 use crate::report::{Report, publish_first, publish_rest};
 use crate::session::Session;
-use crate::work::{Work, run_works};
-use crate::works::{deal, hire};
+use crate::worker::{Worker, run_workers};
+use crate::workers::{assign_sessions, make_workers};
 use base_io::Gate;
 use itoa::Buffer;
 use std::alloc::{AllocError, Global};
@@ -28,7 +28,7 @@ use store_snapshots::{Entry, Publisher, Reader, RuledEntry, Snapshot};
 ///
 /// The first `before` refreshes are published, and all readers told of them, before a session
 /// begins; the others are published while the sessions run. Each reader has a thread of its own.
-/// Sessions are dealt to the readers in turn, and those of one reader run one after another. All
+/// Sessions are assigned to the readers in turn, and those of one reader run one after another. All
 /// threads are joined, and the publisher is closed, whatever happens. The only error is that memory
 /// ran out.
 pub fn run_job<G: Gate + Sync, R: Threads + Wait + Sync>(
@@ -73,15 +73,15 @@ fn run_open<G: Gate + Sync, R: Threads + Wait + Sync>(
         (job_sessions sessions.items)) }
 {
     let count = sessions.len();
-    let (mut works, mut report) = prepare(rt, alloc, before, sessions, readers, publisher)?;
-    fork(rt, gate, publisher, &mut report, works.as_mut_slice())?;
+    let (mut workers, mut report) = prepare(rt, alloc, before, sessions, readers, publisher)?;
+    fork(rt, gate, publisher, &mut report, workers.as_mut_slice())?;
     close_report(publisher, &mut report)?;
-    let text = joined(alloc, works.as_slice(), count, &report)?;
+    let text = whole_text(alloc, workers.as_slice(), count, &report)?;
     Ok(text)
 }
 
 /// What is done before the fork: the first refreshes are tried, the readers are told of them, and
-/// the sessions are dealt to them.
+/// the sessions are assigned to them.
 fn prepare<R: Wait>(
     rt: &R,
     alloc: Global,
@@ -89,7 +89,7 @@ fn prepare<R: Wait>(
     sessions: Vec<Session>,
     readers: Vec<Reader<RuledEntry>>,
     publisher: &mut Publisher,
-) -> Result<(Vec<Work<RuledEntry>>, Report), AllocError>
+) -> Result<(Vec<Worker<RuledEntry>>, Report), AllocError>
     requires unasked { AllUnasked sessions.items }
     requires readers { 0 < vec_len readers }
     requires opened { AreOfOpening opening_of publisher.old.version readers.items }
@@ -97,7 +97,7 @@ fn prepare<R: Wait>(
     requires before { before ≤ length publisher.old.version.list }
     ensures kept { (publisher.new.version.base ≡ publisher.old.version.base)
         × (publisher.new.version.list ≡ publisher.old.version.list) }
-    ensures works { IfOk result (λ r. ArePrepared opening_of
+    ensures workers { IfOk result (λ r. ArePrepared opening_of
         (publisher.old.version.base, publisher.old.version.list)
         (accepted publisher.old.version.base publisher.old.version.list before)
         sessions.items r.0.items) }
@@ -105,32 +105,32 @@ fn prepare<R: Wait>(
 {
     let mut report = Report::new(alloc);
     publish_first(rt, before, publisher, &mut report)?;
-    let mut works = hire(alloc, readers, publisher)?;
-    deal(sessions, works.as_mut_slice())?;
-    Ok((works, report))
+    let mut workers = make_workers(alloc, readers, publisher)?;
+    assign_sessions(sessions, workers.as_mut_slice())?;
+    Ok((workers, report))
 }
 
-/// Runs all works, each in a thread of its own, and beside them the publisher, and waits for all of
+/// Runs all workers, each in a thread of its own, and beside them the publisher, and waits for all of
 /// them.
 fn fork<E: Entry + Drop + Send, G: Gate + Sync, R: Threads + Wait + Sync>(
     rt: &R,
     gate: &G,
     publisher: &mut Publisher,
     report: &mut Report,
-    works: &mut [Work<E>],
+    workers: &mut [Worker<E>],
 ) -> Result<(), AllocError>
-    requires ready { AllReady E.opening works.old }
+    requires ready { AllReady E.opening workers.old }
     requires told { IsTold publisher.old.version report.old }
-    ensures works { AllHaveRun E.opening works.old works.new }
+    ensures workers { AllHaveRun E.opening workers.old workers.new }
     ensures kept { (publisher.new.version.base ≡ publisher.old.version.base)
         × (publisher.new.version.list ≡ publisher.old.version.list) }
     ensures done { OnOk result (publisher.new.version.done ≡ length publisher.new.version.list) }
     ensures told { OnOk result (IsTold publisher.new.version report.new) }
 {
     let mut front = ||
-        requires { IsSync R.row × IsSync G.row × AllReady E.opening works.now }
-        ensures { AllHaveRun E.opening works.entry.now works.exit.now }
-    { run_works(rt, gate, works) };
+        requires { IsSync R.row × IsSync G.row × AllReady E.opening workers.now }
+        ensures { AllHaveRun E.opening workers.entry.now workers.exit.now }
+    { run_workers(rt, gate, workers) };
     let mut back = || -> Result<(), AllocError>
         requires { IsTold publisher.now.version report.now }
         ensures kept { (publisher.exit.now.version.base ≡ publisher.entry.now.version.base)
@@ -175,32 +175,32 @@ fn close_report(publisher: &Publisher, report: &mut Report) -> Result<(), AllocE
     push_closing(&mut report.text, &snapshot)
 }
 
-/// Whether memory ran out for a work.
-fn is_any_lost<E: Entry + Drop>(works: &[Work<E>]) -> bool
-    ensures { result ≡ false → NoneIsLost works.now }
+/// Whether memory ran out for a worker.
+fn is_any_lost<E: Entry + Drop>(workers: &[Worker<E>]) -> bool
+    ensures { result ≡ false → NoneIsLost workers.now }
 {
-    'asking: for work in works {
-        if work.is_lost {
+    'asking: for worker in workers {
+        if worker.is_lost {
             return true;
         }
     }
     false
 }
 
-/// The text of a job of which all is joined.
-fn joined<E: Entry + Drop>(
+/// The text of a job whose threads have ended.
+fn whole_text<E: Entry + Drop>(
     alloc: Global,
-    works: &[Work<E>],
+    workers: &[Worker<E>],
     count: usize,
     report: &Report,
 ) -> Result<JobText, AllocError>
-    requires { HavePlaces works.now count }
-    ensures { IfOk result (IsJoined works.now count report.now.text.items report.now.accepted) }
+    requires { HavePlaces workers.now count }
+    ensures { IfOk result (IsJoined workers.now count report.now.text.items report.now.accepted) }
 {
-    if is_any_lost(works) {
+    if is_any_lost(workers) {
         return Err(AllocError);
     }
-    let mut text = gather(alloc, works, count)?;
+    let mut text = gather(alloc, workers, count)?;
     text.close(report.text.as_slice(), report.accepted)?;
     Ok(text)
 }

@@ -5,10 +5,10 @@ ghost use Rattle.std.specs.Prelude.{length};
 ghost use Rattle.app_sessions.specs.Gathered.{Gathers, HavePlaces};
 ghost use Rattle.app_sessions.specs.Jobs.{session_head};
 ghost use Rattle.app_sessions.specs.Sessions.{course_of};
-ghost use Rattle.app_sessions.specs.Works.{next_place};
+ghost use Rattle.app_sessions.specs.Workers.{next_place};
 
 use crate::session::Session;
-use crate::work::Work;
+use crate::worker::Worker;
 use itoa::Buffer;
 use std::alloc::{AllocError, Global};
 use std::marker::Model;
@@ -76,7 +76,7 @@ impl JobText {
     }
 
     /// Whether no line of the text is a refusal.
-    pub fn clean(&self) -> bool
+    pub fn is_clean(&self) -> bool
         ensures { result ≡ self.now.is_clean }
     {
         self.is_clean
@@ -109,7 +109,7 @@ impl JobText {
         self.push_head(number)?;
         self.text.extend_from_slice(session.text())?;
         self.versions.push(versions)?;
-        self.is_clean = self.is_clean && session.clean();
+        self.is_clean = self.is_clean && session.is_clean();
         Ok(())
     }
 
@@ -125,7 +125,7 @@ impl JobText {
     }
 }
 
-/// The place of the session after one, in turn among `count` works.
+/// The place of the session after one, in turn among `count` workers.
 fn place_after(turn: usize, round: usize, count: usize) -> (usize, usize)
     requires turn { turn < count }
     requires round { round + 1 < 2 ^ 64 }
@@ -138,22 +138,22 @@ fn place_after(turn: usize, round: usize, count: usize) -> (usize, usize)
     }
 }
 
-/// The text of the sessions, in the order in which they were dealt.
+/// The text of the sessions, in the order in which they were assigned.
 pub(crate) fn gather<E: Entry + Drop>(
     alloc: Global,
-    works: &[Work<E>],
+    workers: &[Worker<E>],
     count: usize,
 ) -> Result<JobText, AllocError>
-    requires { HavePlaces works.now count }
-    ensures { IfOk result (Gathers works.now count) }
+    requires { HavePlaces workers.now count }
+    ensures { IfOk result (Gathers workers.now count) }
 {
     let mut text = JobText::new(alloc);
     let mut turn = 0;
     let mut round = 0;
     'gathering: for k in 0..count {
-        let work = &works[turn];
-        text.put(alloc, (k as u64).saturating_add(1), &work.sessions[round])?;
-        (turn, round) = place_after(turn, round, works.len());
+        let worker = &workers[turn];
+        text.put(alloc, (k as u64).saturating_add(1), &worker.sessions[round])?;
+        (turn, round) = place_after(turn, round, workers.len());
     }
     Ok(text)
 }

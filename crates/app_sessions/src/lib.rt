@@ -2,6 +2,7 @@
 //! at, and their text. Jobs: sessions that run beside a publisher.
 #![tactic(auto)]
 
+mod compaction;
 mod counts;
 mod expansion;
 mod explained;
@@ -15,9 +16,10 @@ mod runs;
 mod session;
 mod text;
 mod views;
-mod work;
-mod works;
+mod worker;
+mod workers;
 
+pub use compaction::is_compaction_due;
 pub use counts::push_counts;
 pub use explained::{Explained, explain};
 pub use job::run_job;

@@ -1,7 +1,12 @@
 //! What the publisher of a job does, and what is told of it.
 ghost use Rattle.std.specs.Prelude.{◌≡◌, ◌+◌, ◌<◌, ◌≤◌, ◌++◌, ◌&&◌, IfOk, OnOk, is_ok, length};
-ghost use Rattle.app_sessions.specs.Reports.{IsTold, refresh_line, result_at, result_written};
+ghost use Rattle.std.specs.Prelude.{true};
+ghost use Rattle.store_snapshots.specs.Publishers.{LiesJoined};
+ghost use Rattle.app_sessions.specs.Compaction.{IsCompactedWhenDue, is_compaction_due};
+ghost use Rattle.app_sessions.specs.Reports.{IsTold, IsVersionAfter, refresh_line, result_at};
+ghost use Rattle.app_sessions.specs.Reports.{result_written};
 
+use crate::compaction::is_compaction_due;
 use app_result_text::push_refusal;
 use base_io::Gate;
 use base_refusals::{Cause, Refusal};
@@ -9,9 +14,6 @@ use itoa::Buffer;
 use std::alloc::{AllocError, Global};
 use std::sync::Wait;
 use store_snapshots::{Published, Publisher};
-
-/// The segments are put together at each version that this number divides.
-const COMPACTED_AFTER: u64 = 16;
 
 /// What is told of the first refreshes of a list.
 #[derive(Drop)]
@@ -80,6 +82,7 @@ fn try_next<R: Wait>(rt: &R, publisher: &mut Publisher) -> Result<Result<u64, Ca
     ensures done { OnOk result (publisher.new.version.done ≡ publisher.old.version.done + 1) }
     ensures tried { IfOk result (λ tried. tried ≡ result_at publisher.old.version.base
         publisher.old.version.list publisher.old.version.done) }
+    ensures version { IfOk result (IsVersionAfter publisher.old.version publisher.new.version) }
 {
     match publisher.publish_next(rt) {
         Published::Published(note) => Ok(Ok(note.version())),
@@ -89,21 +92,23 @@ fn try_next<R: Wait>(rt: &R, publisher: &mut Publisher) -> Result<Result<u64, Ca
     }
 }
 
-/// Puts the segments together after an accepted refresh where it is due.
-fn settle<R: Wait>(
+/// Puts the segments together where that is due after a refresh.
+fn compact_if_due<R: Wait>(
     rt: &R,
     tried: Result<u64, Cause>,
     publisher: &mut Publisher,
 ) -> Result<(), AllocError>
-    ensures { publisher.new.version ≡ publisher.old.version }
+    ensures version { publisher.new.version ≡ publisher.old.version }
+    ensures compacted { OnOk result (IfOk tried (λ version. is_compaction_due version ≡ true
+        → LiesJoined publisher.new.version publisher.new.joined)) }
 {
     match tried {
-        Ok(version) if version % COMPACTED_AFTER == 0 => publisher.compact(rt),
+        Ok(version) if is_compaction_due(version) => publisher.compact(rt),
         _ => Ok(()),
     }
 }
 
-/// Tries the next refresh, and tells of it.
+/// Tries the next refresh, puts the segments together where that is due, and tells of it.
 fn publish_one<R: Wait>(
     rt: &R,
     publisher: &mut Publisher,
@@ -114,12 +119,14 @@ fn publish_one<R: Wait>(
     ensures kept { (publisher.new.version.base ≡ publisher.old.version.base)
         × (publisher.new.version.list ≡ publisher.old.version.list) }
     ensures done { OnOk result (publisher.new.version.done ≡ publisher.old.version.done + 1) }
+    ensures compacted { OnOk result (IsCompactedWhenDue publisher.old.version
+        publisher.new.version publisher.new.joined) }
     ensures told { OnOk result (IsTold publisher.new.version report.new) }
 {
     let listed = publisher.listed();
     prove!(report.count < listed);
     let tried = try_next(rt, publisher)?;
-    settle(rt, tried, publisher)?;
+    compact_if_due(rt, tried, publisher)?;
     report.count += 1;
     push_refresh(&mut report.text, report.count, tried)?;
     report.accepted = report.accepted && tried.is_ok();

@@ -7,7 +7,7 @@ ghost use Rattle.app_sessions.specs.Outcomes.{is_printable, outcome_of, refreshe
 ghost use Rattle.app_sessions.specs.Sessions.{IsRefresh};
 ghost use Rattle.app_sessions.specs.Views.{views_after};
 
-use crate::expansion::expanded;
+use crate::expansion::expand;
 use crate::outcome::Outcome;
 use crate::query::query_outcome;
 use crate::runs::run_outcome;
@@ -26,7 +26,7 @@ use store_snapshots::Snapshot;
 pub enum Turn {
     /// The next statement has its lines.
     Answered,
-    /// The next statement is this refresh, whose result is handed in by `refreshed`.
+    /// The next statement is this refresh, whose result is handed in by `hand_in`.
     AskedRefresh(RefreshKind, u32),
     /// No statement is left.
     Ended,
@@ -100,7 +100,7 @@ impl Session {
     ) -> Result<Session, AllocError>
         ensures { IfOk result (λ s. Begins statements shows_rows (course_of s)) }
     {
-        let steps = expanded(alloc, statements)?;
+        let steps = expand(alloc, statements)?;
         Ok(Session {
             alloc,
             steps,
@@ -143,7 +143,7 @@ impl Session {
     }
 
     /// Whether no line of the text is a refusal.
-    pub fn clean(&self) -> bool
+    pub fn is_clean(&self) -> bool
         ensures { result ≡ (course_of self.now).is_clean }
     {
         self.is_clean
@@ -173,7 +173,11 @@ impl Session {
     }
 
     /// Takes the next turn over a version.
-    fn go<R: Threads + Sync>(&mut self, rt: &R, snapshot: &Snapshot) -> Result<Turn, AllocError>
+    fn take_turn<R: Threads + Sync>(
+        &mut self,
+        rt: &R,
+        snapshot: &Snapshot,
+    ) -> Result<Turn, AllocError>
         ensures { IfOk result (Takes (course_of self.old) (version_of snapshot.now)
             (tables_of snapshot.now) (course_of self.new)) }
     {
@@ -200,7 +204,7 @@ impl Session {
         if self.is_lost {
             return Err(AllocError);
         }
-        match self.go(rt, snapshot) {
+        match self.take_turn(rt, snapshot) {
             Ok(turn) => Ok(turn),
             Err(error) => {
                 self.is_lost = true;
@@ -211,7 +215,7 @@ impl Session {
 
     /// Hands in what came of the refresh that was asked for over this version: the version that it
     /// made, or its cause.
-    pub fn refreshed(&mut self, version: u64, tried: Result<u64, Cause>) -> Result<(), AllocError>
+    pub fn hand_in(&mut self, version: u64, tried: Result<u64, Cause>) -> Result<(), AllocError>
         requires { IsRefresh (next_of (course_of self.old)) }
         ensures { HandsIn (course_of self.old) version tried (course_of self.new) result }
     {

@@ -8,10 +8,10 @@ ghost use Rattle.exec_hash_group.specs.Grouping.{aggregate_column};
 use crate::group_by::{aggregate_column, grouped};
 use crate::workers::SeveralThreads;
 use base_columns::{Bag, Column};
-use exec_key_parts::all_made;
 use plan_algebra::Aggregate;
+use rayon::prelude::*;
 use std::alloc::{AllocError, Global};
-use std::thread::{Threads, map_indices};
+use std::thread::Threads;
 
 // The aggregate at a place, of each group.
 fn aggregate_at(
@@ -48,21 +48,22 @@ pub(crate) fn aggregate_columns<R: Threads + Sync>(
     ensures { IfOk result (λ v. v.items
         ≡ map (aggregate_column rows.now.rows numbers.now count) aggregates.now) }
 {
-    let made = map_indices(
-        rt,
-        alloc,
-        aggregates.len(),
-        &|place: usize| -> Result<Column, AllocError>
-            requires rows { length numbers.now ≡ length rows.now.rows }
-            requires small { length numbers.now < 2 ^ 32 }
-            requires numbers { AreBelow count numbers.now }
-            requires place { place < length aggregates.now }
-            ensures { IfOk result (λ c. (a : Aggregation) → c
-                ≡ aggregate_column rows.entry.now.rows numbers.entry.now count
-                (slice_index_or aggregates.entry.now place a)) }
-        { aggregate_at(alloc, rows, numbers, count, aggregates, place) },
-    )?;
-    let columns = all_made(alloc, made)?;
+    let made = (0..aggregates.len())
+        .into_par_iter()
+        .with_min_len(1)
+        .map(
+            |place: usize| -> Result<Column, AllocError>
+                requires rows { length numbers.now ≡ length rows.now.rows }
+                requires small { length numbers.now < 2 ^ 32 }
+                requires numbers { AreBelow count numbers.now }
+                requires place { place < length aggregates.now }
+                ensures { IfOk result (λ c. (a : Aggregation) → c
+                    ≡ aggregate_column rows.entry.now.rows numbers.entry.now count
+                    (slice_index_or aggregates.entry.now place a)) }
+            { aggregate_at(alloc, rows, numbers, count, aggregates, place) },
+        )
+        .collect::<Result<Vec<Column>, AllocError>>(rt, alloc)?;
+    let columns = made?;
     Ok(columns)
 }
 

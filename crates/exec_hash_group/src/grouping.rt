@@ -16,6 +16,7 @@ use base_columns::{Bag, Batch, Column};
 use base_key_tables::Numbered;
 use base_value::Value;
 use exec_row_keys::{codes, keys_of_columns};
+use smallvec::SmallVec;
 use std::alloc::{AllocError, Global};
 
 // All values of a column of a bag's rows: nulls where it has no such column.
@@ -42,11 +43,14 @@ pub(crate) fn key_columns(alloc: Global, bag: &Bag, by: &[u32]) -> Result<Vec<Co
     Ok(columns)
 }
 
+/// Places of columns: few, as a rule.
+pub type Places = SmallVec<u32, 8>;
+
 /// The n places from 0 on.
-pub fn places_below(alloc: Global, n: u32) -> Result<Vec<u32>, AllocError>
+pub fn places_below(alloc: Global, n: u32) -> Result<Places, AllocError>
     ensures { IfOk result (λ v. v.items ≡ range_with_len 0 n) }
 {
-    let mut places = Vec::with_capacity(alloc, n as usize)?;
+    let mut places = SmallVec::with_capacity(alloc, n as usize)?;
     for i in 0..n {
         places.push(i)?;
     }
@@ -54,7 +58,7 @@ pub fn places_below(alloc: Global, n: u32) -> Result<Vec<u32>, AllocError>
 }
 
 /// The places of all columns of a bag.
-pub(crate) fn all_places(alloc: Global, bag: &Bag) -> Result<Vec<u32>, AllocError>
+pub(crate) fn all_places(alloc: Global, bag: &Bag) -> Result<Places, AllocError>
     ensures places { IfOk result (λ v. v.items ≡ range_with_len 0 bag.now.width) }
     ensures wide { All (λ r. length r.values ≡ bag.now.width) bag.now.rows }
 {

@@ -1,2 +1,1 @@
 pub mod PartSteps
-pub mod MadeParts

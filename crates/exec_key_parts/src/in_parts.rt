@@ -7,12 +7,13 @@ ghost use Rattle.base_key_tables.specs.Distinct.{first_places};
 ghost use Rattle.exec_key_parts.specs.KeyParts.{key_part, leaders_of_part, AreLeaders};
 
 use crate::leaders::part_leaders;
-use crate::made::all_made;
-use crate::parts::{key_part, part_count};
+use crate::parts::key_part;
 use base_key_tables::{Numbered, numbers};
+use exec_threads::part_count;
+use rayon::prelude::*;
 use std::alloc::{AllocError, Global};
 use std::hash::Hash;
-use std::thread::{Threads, map_indices};
+use std::thread::Threads;
 
 // For each part the places at which its keys first stand among all keys: a thread for each part.
 fn all_leaders<R: Threads + Sync, K: Copy + Eq + Hash + Drop + Send + Sync>(
@@ -28,19 +29,20 @@ fn all_leaders<R: Threads + Sync, K: Copy + Eq + Hash + Drop + Send + Sync>(
     ensures leaders { IfOk result (λ v. AreLeaders K.eq (key_part K.hash_input count) keys.now
         (map (λ l. l.items) v.items)) }
 {
-    let made = map_indices(
-        rt,
-        alloc,
-        count,
-        &|part: usize| -> Result<Vec<u32>, AllocError>
-            requires identity { IsIdentity K.eq }
-            requires small { length keys.now < 2 ^ 32 }
-            requires count { 0 < count }
-            ensures { IfOk result (λ v. v.items
-                ≡ leaders_of_part K.eq (key_part K.hash_input count) keys.entry.now part) }
-        { part_leaders(alloc, keys, count, part) },
-    )?;
-    let leaders = all_made(alloc, made)?;
+    let made = (0..count)
+        .into_par_iter()
+        .with_min_len(1)
+        .map(
+            |part: usize| -> Result<Vec<u32>, AllocError>
+                requires identity { IsIdentity K.eq }
+                requires small { length keys.now < 2 ^ 32 }
+                requires count { 0 < count }
+                ensures { IfOk result (λ v. v.items
+                    ≡ leaders_of_part K.eq (key_part K.hash_input count) keys.entry.now part) }
+            { part_leaders(alloc, keys, count, part) },
+        )
+        .collect::<Result<Vec<Vec<u32>>, AllocError>>(rt, alloc)?;
+    let leaders = made?;
     Ok(leaders)
 }
 

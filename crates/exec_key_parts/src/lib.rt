@@ -4,8 +4,6 @@
 
 mod in_parts;
 mod leaders;
-mod made;
 mod parts;
 
 pub use in_parts::numbers_in_parts;
-pub use made::all_made;

@@ -3,20 +3,6 @@ ghost use Rattle.std.specs.Prelude.{◌≡◌, ◌<◌};
 ghost use Rattle.exec_key_parts.specs.KeyParts.{key_part};
 
 use std::hash::{FoldHasher, Hash, Hasher};
-use std::thread::{Threads, available_parallelism};
-
-// More parts than this are never made.
-const MOST: usize = 64;
-
-/// How many parts there are: a power of two, one for each processor or a few more.
-pub(crate) fn part_count<R: Threads>(rt: &R) -> usize
-    ensures { 0 < result }
-{
-    match available_parallelism(rt) {
-        Ok(threads) => threads.get().min(MOST).next_power_of_two(),
-        Err(_) => 1,
-    }
-}
 
 /// The part of a key among `count`, by the upper half of its hash: a table of keys takes the lower
 /// bits.

@@ -2,11 +2,12 @@
 ghost use Rattle.std.specs.Prelude.{◌≡◌, IfOk};
 ghost use Rattle.exec_parallel_scan.specs.Stages.{staged, staged_width, AreStaged};
 
-use crate::parts::{joined, part_len, put_batch};
+use crate::parts::{joined, put_batch};
 use crate::stages::{Stage, staged_batch, staged_width};
 use base_columns::{Bag, Batch};
+use exec_threads::{map_parts, part_len};
 use std::alloc::{AllocError, Global};
-use std::thread::{Threads, map_chunks};
+use std::thread::Threads;
 
 // What stages make of each batch; batches without rows are left out.
 fn staged_batches(
@@ -38,7 +39,7 @@ pub fn staged_bag<R: Threads + Sync>(
     let width = staged_width(stages, rows.width());
     let batches = rows.batches();
     let size = part_len(rt, batches.len());
-    let parts = map_chunks(
+    let parts = map_parts(
         rt,
         alloc,
         batches,

@@ -9,15 +9,14 @@ ghost use Rattle.exec_hash_group.specs.PartGroups.{IsGrouped, part_rows};
 ghost use Rattle.exec_parallel_scan.specs.Stages.{staged};
 
 use crate::merged::put_merged;
-use crate::parts::part_len;
 use crate::scan::staged_scan;
 use crate::stages::Stage;
 use base_columns::{Bag, Batch};
 use exec_hash_group::{GroupedPart, group, group_by_threads, grouped_part, merged_groups};
-use exec_key_parts::all_made;
+use exec_threads::{all_made, map_parts, part_len};
 use plan_algebra::{Aggregate, Piece};
 use std::alloc::{AllocError, Global};
-use std::thread::{Threads, map_chunks};
+use std::thread::Threads;
 
 // The rows of a bag in parts of `size` batches, each with its groups by these columns: a thread
 // for each part.
@@ -34,7 +33,7 @@ fn grouped_parts<R: Threads + Sync>(
 {
     let width = rows.width();
     let batches = rows.batches();
-    let made = map_chunks(
+    let made = map_parts(
         rt,
         alloc,
         batches,

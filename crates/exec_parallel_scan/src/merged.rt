@@ -13,11 +13,11 @@ use exec_accumulators::{
     Accumulator, Average, Count, CountDistinct, CountRows, Greatest, Least, Sum,
 };
 use exec_hash_group::{GroupedPart, column_of, merged_by_number, part_states, scale_of};
-use exec_key_parts::all_made;
+use exec_threads::{all_made, map_parts};
 use expr_aggregates::AggregateFunction;
 use plan_algebra::Aggregate;
 use std::alloc::{AllocError, Global};
-use std::thread::{Threads, map_chunks};
+use std::thread::Threads;
 
 // For each group of the parts, one part after the other, what an accumulator has taken: a thread
 // for each part.
@@ -30,7 +30,7 @@ fn all_states<A: Accumulator + Send, R: Threads + Sync>(
     ensures { IfOk result (λ v. HaveTaken A.has_taken A.terms (A.aggregate (scale_of aggregate.now))
         (part_arguments aggregate.now parts.now) v.items) }
 {
-    let made = map_chunks(
+    let made = map_parts(
         rt,
         alloc,
         parts,

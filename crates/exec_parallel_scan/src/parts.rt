@@ -1,29 +1,11 @@
-//! The parts that threads take, and how what they make of them is put together.
-ghost use Rattle.std.specs.Prelude.{◌≡◌, ℕ, ◌<◌, ◌++◌, IfOk, OnOk};
+//! How what threads make of their parts is put together.
+ghost use Rattle.std.specs.Prelude.{◌≡◌, ℕ, ◌++◌, IfOk, OnOk};
 ghost use Rattle.std.specs.List.{All};
 ghost use Rattle.base_columns.specs.Bags.{bag_rows, AreWide};
 ghost use Rattle.exec_parallel_scan.specs.Parts.{ArePartsJoined, IsPartWide};
 
 use base_columns::{Bag, Batch};
 use std::alloc::{AllocError, Global};
-use std::thread::{Threads, available_parallelism};
-
-// Fewer pieces or batches than this are not worth a thread.
-const LEAST: usize = 4;
-
-/// How many of `count` pieces or batches a thread takes: an equal part for each processor, and no
-/// less than is worth a thread.
-pub(crate) fn part_len<R: Threads>(rt: &R, count: usize) -> usize
-    ensures { 0 < result }
-{
-    if count <= LEAST {
-        return LEAST;
-    }
-    match available_parallelism(rt) {
-        Ok(threads) => count.div_ceil(threads.get()).max(LEAST),
-        Err(_) => count,
-    }
-}
 
 /// One batch more, unless it has no row.
 pub(crate) fn put_batch(batches: &mut Vec<Batch>, batch: Batch) -> Result<(), AllocError>

@@ -8,13 +8,14 @@ ghost use Rattle.expr_conditions.specs.Ranks.{rank_of};
 ghost use Rattle.expr_scalar.specs.Meaning.{values};
 ghost use Rattle.exec_parallel_scan.specs.Stages.{staged, staged_width, AreScanned, GiveWidth};
 
-use crate::parts::{joined, part_len, put_batch};
+use crate::parts::{joined, put_batch};
 use crate::stages::{Stage, staged_batch, staged_width};
 use base_columns::{Bag, Batch};
+use exec_threads::{map_parts, part_len};
 use expr_scalar::Expr;
 use plan_algebra::Piece;
 use std::alloc::{AllocError, Global};
-use std::thread::{Threads, map_chunks};
+use std::thread::Threads;
 
 // What stages make of each piece; pieces of which no row is kept are left out.
 fn staged_pieces(
@@ -48,7 +49,7 @@ fn scan_parts<R: Threads + Sync>(
     ensures rows { IfOk result (λ b. b.rows ≡ staged stages.now (scanned (one_list pieces.now))) }
 {
     let size = part_len(rt, pieces.len());
-    let parts = map_chunks(
+    let parts = map_parts(
         rt,
         alloc,
         pieces,

@@ -10,7 +10,7 @@ use Rattle.base_refusals.specs.declared.statement.TemplateRefusal.{TemplateRefus
 use Rattle.sql_ast.specs.declared.statement.Statement.{Statement}
 use Rattle.sql_ast.specs.declared.statement.Statement.TheVariants.{Run}
 use Rattle.sql_ast.specs.declared.statement.TemplateValue.{TemplateValue}
-use Rattle.app_main.specs.JobInputs.{is_refresh}
+use Rattle.app_run.specs.JobInputs.{is_refresh}
 use Rattle.law_trials.proofs.Plain.{filled_plain}
 use Rattle.law_trials.proofs.Runs.{is_run, writable}
 

@@ -27,7 +27,7 @@ use Rattle.sql_templates.specs.Standing.{Beside, IsOfKind}
 use Rattle.sql_templates.specs.Templates.{Template, filled_query, no_template, template_of, templates}
 use Rattle.sql_templates.specs.Writable.{AreWritable}
 use Rattle.sql_templates.proofs.Filled.{filled_is_tokens, query_filled}
-use Rattle.app_main.specs.JobInputs.{is_refresh}
+use Rattle.app_run.specs.JobInputs.{is_refresh}
 
 -- no token that a refresh begins with
 abbrev is_other : Token → Bool

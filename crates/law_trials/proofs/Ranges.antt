@@ -8,9 +8,9 @@ use Rattle.std.proofs.lemmas.Bool.{and_parts, leb-true}
 use Rattle.clap.specs.ValueTests.{is_numeral, is_unsigned_in}
 use Rattle.clap.specs.Walk.{is_empty}
 use Rattle.clap.specs.Words.{Row, Text, fault_of, first_of, subcommand_of}
-use Rattle.app_main.specs.Subcommands.{program_app}
-use Rattle.app_main.specs.Words.{Command, check_in, command_in, command_of, explain_in, session_in, throughput_in, trial_in, trial_number}
-use Rattle.app_main.specs.Words.Command.{check, explain, session, throughput, trial}
+use Rattle.app_inputs.specs.Subcommands.{program_app}
+use Rattle.app_inputs.specs.Words.{Command, check_in, command_in, command_of, explain_in, session_in, throughput_in, trial_in, trial_number}
+use Rattle.app_inputs.specs.Words.Command.{check, explain, session, throughput, trial}
 
 -- the number is from 1 to 1000
 abbrev pub IsTrialNumber : ℕ → Type 0

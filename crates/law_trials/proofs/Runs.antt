@@ -21,7 +21,7 @@ use Rattle.sql_parser_steps.specs.Readings.{read_alias, read_item, read_selectio
 use Rattle.sql_parser.specs.Script.{IsReadScript, max_script}
 use Rattle.sql_parser.proofs.Levels.{is_read}
 use Rattle.sql_templates.specs.Writable.{AreWritable}
-use Rattle.app_main.specs.Trial.{trial_queries}
+use Rattle.app_run.specs.Trial.{trial_queries}
 use Rattle.law_trials.proofs.Lexed.{lexed, lexed_is}
 
 -- no byte was found

@@ -22,10 +22,11 @@ use Rattle.base_schema.specs.declared.table.TableName.{TableName}
 use Rattle.app_sample_data.specs.Texts.{lasting, made, ordered, refresh_set}
 use Rattle.law_made_tables.specs.Laws.{file_name}
 use Rattle.law_made_tables.proofs.Files.{made_tables_give_rows}
-use Rattle.app_main.specs.Inputs.{BadInput, IsScriptOf, and_then, changes_in, file_bytes, lists_in, rows_in, script_limit, state_in, table_file, table_in}
-use Rattle.app_main.specs.JobInputs.{AreJobInputs, AreJobScripts, Follows, HasNoRefresh, IsJobScript, IsPlain, JobWork, is_refresh, job_base, job_in, job_or_refusal, job_work}
-use Rattle.app_main.specs.Trial.{IsTrialAccepted, in_made, trial_files, trial_job, trial_queries}
-use Rattle.app_main.specs.Meaning.{IsAccepted}
+use Rattle.app_inputs.specs.Inputs.{BadInput, IsScriptOf, and_then, changes_in, file_bytes, lists_in, rows_in, script_limit, state_in, table_file, table_in}
+use Rattle.app_run.specs.JobInputs.{AreJobInputs, AreJobScripts, Follows, HasNoRefresh, IsJobScript, IsPlain, JobWork, is_refresh, job_base, job_work}
+use Rattle.app_inputs.specs.JobFile.{job_in, job_or_refusal}
+use Rattle.app_run.specs.Trial.{IsTrialAccepted, in_made, trial_files, trial_job, trial_queries}
+use Rattle.app_run.specs.Meaning.{IsAccepted}
 use Rattle.law_trials.specs.Laws.{TrialWordsAreAccepted, TrialsAreAccepted}
 use Rattle.law_trials.proofs.Expanded.{runs_expanded}
 use Rattle.law_trials.proofs.Ranges.{words_in_range}

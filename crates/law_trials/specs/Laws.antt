@@ -2,9 +2,9 @@
 use Rattle.std.specs.Prelude.{◌≡◌, ◌≤◌, ℕ, List, Option, Some}
 use Rattle.clap.specs.Words.{Text}
 use Rattle.base_io.specs.Outside.{Folder}
-use Rattle.app_main.specs.Meaning.{IsAccepted}
-use Rattle.app_main.specs.Words.{command_of}
-use Rattle.app_main.specs.Words.Command.{trial}
+use Rattle.app_run.specs.Meaning.{IsAccepted}
+use Rattle.app_inputs.specs.Words.{command_of}
+use Rattle.app_inputs.specs.Words.Command.{trial}
 
 -- what a trial of a number from 1 to 1000 makes is accepted, whatever is known of the files
 abbrev pub TrialsAreAccepted : Type 0

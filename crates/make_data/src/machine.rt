@@ -23,7 +23,7 @@ impl<'r, R: rt::Files + Print> Machine<'r, R> {
     }
 
     /// Counts the error, unless memory was wanted.
-    fn counted(&mut self, error: io::Error) -> TargetError
+    fn count_fault(&mut self, error: io::Error) -> TargetError
         ensures { Counts (result ≡ TargetError.Fault) self.old.faults self.new.faults }
     {
         if error.kind() == ErrorKind::OutOfMemory {
@@ -44,14 +44,14 @@ impl<R: rt::Files + Print> Target for Machine<'_, R> {
     fn write_file(&mut self, path: &str, bytes: &[u8]) -> Result<(), TargetError> {
         match fs::write(self.rt, path, bytes) {
             Ok(()) => Ok(()),
-            Err(error) => Err(self.counted(error)),
+            Err(error) => Err(self.count_fault(error)),
         }
     }
 
     fn print(&mut self, line: &str) -> Result<(), TargetError> {
         match io::writer(self.rt).write_all(line.as_bytes()) {
             Ok(()) => Ok(()),
-            Err(error) => Err(self.counted(error)),
+            Err(error) => Err(self.count_fault(error)),
         }
     }
 }

@@ -39,11 +39,11 @@ fn turns_are_taken(rt: HostRuntime) -> Result<(), Fail> {
     let directory = Directory::new(alloc, no_rows(alloc)?, Vec::new(alloc))?;
     let snapshot = Snapshot::of(alloc, &directory)?;
     assert!(rt; matches!(session.run_next(&rt, &snapshot)?, Turn::Answered));
-    assert!(rt; session.clean());
+    assert!(rt; session.is_clean());
     if let Turn::AskedRefresh(_, _) = session.run_next(&rt, &snapshot)? {
-        session.refreshed(0, Err(Cause::UnknownOrder(7)))?;
+        session.hand_in(0, Err(Cause::UnknownOrder(7)))?;
     }
-    assert!(rt; !session.clean());
+    assert!(rt; !session.is_clean());
     assert!(rt; matches!(session.run_next(&rt, &snapshot)?, Turn::Answered));
     assert!(rt; matches!(session.run_next(&rt, &snapshot)?, Turn::Ended));
     let text = "[1] version 0 rows 1\n0\n[2] version 0 refused 45 UnknownOrder 7\n\

@@ -1,31 +1,38 @@
-use Rattle.std.proofs.Common.{rules, ◌≡◌, ℕ, List, map, sym, ap, ◌∙◌, arith, length, get_or}
-use Rattle.std.specs.Prelude.{IfOk, Ok}
-use Rattle.std.specs.Vec.{vec_len}
+use Rattle.std.proofs.Common.{◌≡◌, ◌-◌, ◌<◌, List, map, sym, ap, ◌∙◌, arith, length, get_or}
+use Rattle.std.specs.Prelude.{IfOk}
 use Rattle.std.proofs.lemmas.List.{length-map, get_or-map, ext_get_or}
+use Rattle.rayon.proofs.ToStd.{nat_range-All}
 use Rattle.base_value.specs.declared.value.Value.{Value}
+use Rattle.base_columns.specs.Lists.{AreBelow}
 use Rattle.plan_algebra.specs.declared.aggregate.Aggregate.{Aggregate}
 use Rattle.plan_algebra.specs.declared.aggregate.Aggregate.TheVariants.{CountRows}
 use Rattle.exec_hash_group.specs.Grouping.{aggregate_column}
-use Rattle.exec_key_parts.proofs.MadeParts.{made_at}
+use Rattle.exec_threads.proofs.MadeParts.{numbered-long, numbered-at}
 use Rattle.exec_hash_group.proofs.by_threads.aggregate_columns.Goals as goal
+
+pub collect-requires-clause-ready : goal.collect-requires-clause-ready
+collect-requires-clause-ready g c κs within =
+    let ends = c.into_par_iter.ensures in
+    let rows = c.args.rows.now.rows in
+    let numbers = c.args.numbers.now in
+    let aggregates = c.args.aggregates.now in
+    let ready = nat_range-All (λ place. (length numbers ≡ length rows) × ((length numbers < 4294967296) × (AreBelow c.args.count numbers × (place < length aggregates)))) 0 (length aggregates)
+    (λ place low high. (c.requires.rows, (c.requires.small, (c.requires.numbers, high)))) in
+    rw (c.map.ensures.base, c.map.ensures.f, c.with_min_len.ensures.base, ends.0, ends.1) (λ k d lt. (ready k d lt, λ y p. tt))
 
 pub returns : goal.returns
 returns g c =
-    let made = c.in_ok-made.made.items in
+    let ends = c.into_par_iter.ensures in
+    let h = c.in_ok-made.ensures in
+    let chain = rw (c.map.ensures.base, c.map.ensures.f, c.with_min_len.ensures.base, ends.0, ends.1) at h.1 in
+    let made = rw c.in_ok-columns.was at h.2 in
+    let all = rw (chain.1, made.1, ← made.2) at chain.2 in
     let xs = c.in_ok-columns.columns.items in
     let aggregates = c.args.aggregates.now in
     let f : Aggregate → List Value = aggregate_column c.args.rows.now.rows c.args.numbers.now c.args.count in
-    let is : made ≡ map (λ x. Ok x) xs = c.in_ok-columns.ensures in
-    let long : length made ≡ length xs = ap length is ∙ length-map xs (λ x. Ok x) in
-    let v : length made ≡ vec_len c.in_ok-made.made = omega arith in
-    let n = c.in_ok-made.ensures.len in
-    let all : length xs ≡ length aggregates = omega (arith, long, v, n) in
-    let lm : length (map f aggregates) ≡ length aggregates = length-map aggregates f in
+    let R = λ i r. IfOk r (λ column. (a : Aggregate) → column ≡ f (get_or aggregates i a)) in
+    let whole : length aggregates - 0 ≡ length aggregates = omega arith in
+    let long : length xs ≡ length aggregates = numbered-long R _ xs all ∙ whole in
     let d : List Value = f CountRows in
-    ext_get_or d xs (map f aggregates) (all ∙ sym lm)
-    (λ i l. made_at (λ column. (a : Aggregate) → column ≡ f (get_or aggregates i a)) made xs i d is l
-    (λ e. let k = (c.in_ok-made.ensures.each i e (omega (arith, l, all))).1 in
-    let m = k.met in
-    let h : IfOk (get_or made i e) (λ column. (a : Aggregate) → column ≡ f (get_or aggregates i a)) = search rules in
-    h) CountRows
-    ∙ sym (get_or-map f aggregates i CountRows d (omega (arith, l, all))))
+    ext_get_or d xs (map f aggregates) (long ∙ sym (length-map aggregates f))
+    (λ i l. numbered-at R _ xs all i d l CountRows ∙ sym (get_or-map f aggregates i CountRows d (omega (arith, l, long))))

@@ -21,4 +21,4 @@ returns c =
     let are = subst B c.as_slice-3.ensures.value (subst A (ap ranks c.as_slice-2.ensures.value ∙ c.in_ok-standings.ensures) c.in_ok-least.ensures) in
     let small : length entries.rows < 2 ^ 32 = omega (arith, c.len.ensures, c.if-len.false) in
     merged_is c.args.by.now c.args.parts.now entries c.as_slice.result.now c.in_ok-keys.field-0.keys.items c.in_ok-keys.field-0.numbers.items count least c.requires c.in_ok-entries.ensures.width
-    c.in_ok-entries.ensures.rows c.all_places.ensures.wide (c.as_slice.ensures.value ∙ c.in_ok-places.ensures.places) small c.in_ok-keys.ensures are
+    c.in_ok-entries.ensures.rows c.all_places.ensures.wide (c.as_slice.ensures ∙ c.in_ok-places.ensures.places) small c.in_ok-keys.ensures are

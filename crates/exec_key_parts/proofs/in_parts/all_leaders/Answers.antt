@@ -1,24 +1,38 @@
-use Rattle.std.proofs.Common.{rules, ◌≡◌, map, ap, ◌∙◌, arith, length, get_or}
-use Rattle.std.specs.Prelude.{IfOk, Ok}
-use Rattle.std.specs.Vec.{vec_len}
+use Rattle.std.proofs.Common.{◌≡◌, ◌-◌, ◌<◌, map, sym, ap, ◌∙◌, arith, length}
+use Rattle.std.specs.Prelude.{IfOk}
 use Rattle.std.proofs.lemmas.List.{length-map}
+use Rattle.exec_threads.proofs.MadeParts.{items_have, numbered-long, numbered-at}
 use Rattle.exec_key_parts.specs.KeyParts.{key_part, leaders_of_part}
-use Rattle.exec_key_parts.proofs.MadeParts.{made_at, items_have}
 use Rattle.exec_key_parts.proofs.in_parts.all_leaders.Goals as goal
+
+pub collect-requires-clause-ready : goal.collect-requires-clause-ready
+collect-requires-clause-ready g c κs within =
+    let ends = c.into_par_iter.ensures in
+    rw (c.map.ensures.base, c.map.ensures.f, c.with_min_len.ensures.base, ends.0, ends.1)
+    (λ k d lt. ((c.requires.identity, (c.requires.small, c.requires.count)), λ y p. tt))
+
+pub returns-clause-count : goal.returns-clause-count
+returns-clause-count g c =
+    let ends = c.into_par_iter.ensures in
+    let h = c.in_ok-made.ensures in
+    let chain = rw (c.map.ensures.base, c.map.ensures.f, c.with_min_len.ensures.base, ends.0, ends.1) at h.1 in
+    let made = rw c.in_ok-leaders.was at h.2 in
+    let all = rw (chain.1, made.1) at chain.2 in
+    let whole : c.args.count - 0 ≡ c.args.count = omega arith in
+    ap length made.2 ∙ numbered-long _ _ made.0 all ∙ whole
 
 pub returns-clause-leaders : goal.returns-clause-leaders
 returns-clause-leaders g c = λ part l.
-    let made = c.in_ok-made.made.items in
+    let ends = c.into_par_iter.ensures in
+    let h = c.in_ok-made.ensures in
+    let chain = rw (c.map.ensures.base, c.map.ensures.f, c.with_min_len.ensures.base, ends.0, ends.1) at h.1 in
+    let made = rw c.in_ok-leaders.was at h.2 in
+    let all = rw (chain.1, made.1, ← made.2) at chain.2 in
     let xs = c.in_ok-leaders.leaders.items in
-    let is : made ≡ map (λ x. Ok x) xs = c.in_ok-leaders.ensures in
-    let long : length made ≡ length xs = ap length is ∙ length-map xs (λ x. Ok x) in
     let ls : length (map (λ v. v.items) xs) ≡ length xs = length-map xs (λ v. v.items) in
-    let v : length made ≡ vec_len c.in_ok-made.made = omega arith in
-    let n = c.in_ok-made.ensures.len in
-    let want = leaders_of_part g.K.PartialEq.eq (key_part g.K.Hash.hash_input c.args.count) c.args.keys.now part in
-    items_have (λ leaders. leaders ≡ want) xs part (omega (arith, l, ls))
-    (λ d. made_at (λ w. w.items ≡ want) made xs part d is (omega (arith, l, ls))
-    (λ e. let k = (c.in_ok-made.ensures.each part e (omega (arith, l, ls, long, v, n))).1 in
-    let m = k.met in
-    let h : IfOk (get_or made part e) (λ w. w.items ≡ want) = search rules in
-    h))
+    let same = g.K.PartialEq.eq in
+    let part_of = key_part g.K.Hash.hash_input c.args.count in
+    let keys = c.args.keys.now in
+    let within : part < length xs = omega (arith, l, ls) in
+    items_have (λ leaders. leaders ≡ leaders_of_part same part_of keys part) xs part within
+    (λ d. numbered-at (λ n r. IfOk r (λ v. v.items ≡ leaders_of_part same part_of keys n)) _ xs all part d within)

@@ -13,7 +13,7 @@ pub returns-clause-width : goal.returns-clause-width
 returns-clause-width g c =
     c.in_ok-bag.ensures.width
     ∙ grouped_width c.args.columns.now c.args.aggregates.now c.as_slice-3.result.now c.as_slice-2.result.now
-    (c.as_slice-2.ensures.value ∙ c.in_ok-by.ensures ∙ ap (range_with_len 0) c.in_ok-width.ensures) (c.as_slice-3.ensures.value ∙ c.in_ok-moved.ensures)
+    (c.as_slice-2.ensures ∙ c.in_ok-by.ensures ∙ ap (range_with_len 0) c.in_ok-width.ensures) (c.as_slice-3.ensures.value ∙ c.in_ok-moved.ensures)
 
 pub returns-clause-rows : goal.returns-clause-rows
 returns-clause-rows g c =
@@ -22,4 +22,4 @@ returns-clause-rows g c =
     c.in_ok-bag.ensures.rows
     ∙ grouped_rows c.args.columns.now c.as_slice.result.now c.args.aggregates.now c.as_slice-3.result.now c.as_slice-2.result.now
     (select (rank_of c.args.condition.now) (scanned (one_list c.args.pieces.now))) c.in_ok-rows.rows.rows
-    (c.as_slice-2.ensures.value ∙ c.in_ok-by.ensures ∙ ap (range_with_len 0) c.in_ok-width.ensures) (c.as_slice-3.ensures.value ∙ c.in_ok-moved.ensures) items c.in_ok-rows.ensures.rows
+    (c.as_slice-2.ensures ∙ c.in_ok-by.ensures ∙ ap (range_with_len 0) c.in_ok-width.ensures) (c.as_slice-3.ensures.value ∙ c.in_ok-moved.ensures) items c.in_ok-rows.ensures.rows

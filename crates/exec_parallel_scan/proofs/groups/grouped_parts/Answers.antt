@@ -1,12 +1,11 @@
 use Rattle.std.proofs.Common.{rules, ◌≡◌, ◌<◌, ℕ, List, map, sym, ap, subst, ◌∙◌, arith, length, get_or}
 use Rattle.std.specs.Prelude.{IfOk, Ok}
-use Rattle.std.specs.Vec.{vec_len}
 use Rattle.std.specs.Fork.{slice_chunk}
 use Rattle.std.proofs.lemmas.List.{length-map}
 use Rattle.base_columns.specs.Bags.{bag_rows}
 use Rattle.exec_hash_group.specs.declared.part.GroupedPart.{GroupedPart}
 use Rattle.exec_hash_group.specs.PartGroups.{IsGrouped}
-use Rattle.exec_key_parts.proofs.MadeParts.{made_at}
+use Rattle.exec_threads.proofs.MadeParts.{made_at}
 use Rattle.exec_parallel_scan.proofs.MergedParts.{all_rows}
 use Rattle.exec_parallel_scan.proofs.groups.grouped_parts.Goals as goal
 
@@ -19,8 +18,7 @@ returns-clause-rows g c =
     let xs = c.in_ok-parts.parts.items in
     let is : made ≡ map (λ x. Ok x) xs = c.in_ok-parts.ensures in
     let long : length made ≡ length xs = ap length is ∙ length-map xs (λ x. Ok x) in
-    let v : length made ≡ vec_len c.in_ok-made.made = omega arith in
-    all_rows size batches xs c.requires (sym long ∙ v ∙ c.in_ok-made.ensures.len)
+    all_rows size batches xs c.requires (sym long ∙ c.in_ok-made.ensures.len)
     (λ n d l. (made_at (λ p. (p.rows.rows ≡ bag_rows (slice_chunk batches size n)) × IsGrouped by p) made xs n d is l
     (λ e. let k = (c.in_ok-made.ensures.each n e (omega (arith, l, long))).1 in
     let m = k.call in

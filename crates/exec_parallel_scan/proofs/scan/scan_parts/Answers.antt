@@ -1,6 +1,5 @@
 use Rattle.std.proofs.Common.{rules, ◌≡◌, ◌*◌, subst, ◌∙◌, arith, get_or, length}
 use Rattle.std.specs.Prelude.{IfOk}
-use Rattle.std.specs.Vec.{vec_len}
 use Rattle.std.specs.Fork.{slice_chunk}
 use Rattle.base_row_laws.specs.Rows.{scanned}
 use Rattle.base_columns.specs.Lists.{one_list}
@@ -25,7 +24,6 @@ returns-clause-rows g c =
     let pieces = c.args.pieces.now in
     let size = c.part_len-size.result in
     let parts = c.in_ok-parts.parts.items in
-    let v : length parts ≡ vec_len c.in_ok-parts.parts = omega arith in
     parts_joined (λ ps. staged stages (scanned (one_list ps))) size pieces parts c.in_ok-bag.bag.rows (staged_pieces-append stages) (staged-none stages)
     (λ n d h.
     let k = (c.in_ok-parts.ensures.each n d h).1 in
@@ -33,4 +31,4 @@ returns-clause-rows g c =
     let e : IfOk (get_or parts n d) (λ b. AreScanned stages k.argument.now b.items) = search rules in
     part_has (staged stages (scanned (one_list (slice_chunk pieces size n)))) (AreScanned stages (slice_chunk pieces size n)) (get_or parts n d) (λ made are. are.rows)
     (subst (λ ps. IfOk (get_or parts n d) (λ b. AreScanned stages ps b.items)) k.argument_is.value e))
-    c.part_len-size.ensures (v ∙ c.in_ok-parts.ensures.len) c.in_ok-bag.ensures.rows
+    c.part_len-size.ensures c.in_ok-parts.ensures.len c.in_ok-bag.ensures.rows

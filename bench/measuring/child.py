@@ -1,0 +1,133 @@
+"""Children of this process: how they are started, measured and ended, and which program is measured.
+
+A child ends where this process ends, however that happens. Its processor seconds are those of all its threads, user and system."""
+import atexit
+import ctypes
+import os
+import resource
+import select
+import shutil
+import signal
+import subprocess
+import sys
+import time
+from typing import NamedTuple
+
+TOP = os.path.dirname(os.path.dirname(os.path.dirname(os.path.realpath(__file__))))
+LIBC = ctypes.CDLL(None, use_errno=True)
+PR_SET_PDEATHSIG = 1
+IN_CLOSE_NOWRITE = 0x10
+
+
+def chosen():
+    """The path of the program that ./tpch runs, which is built where it isn't there."""
+    if not os.path.exists(f"{TOP}/tools/program"):
+        done = subprocess.run([f"{TOP}/tools/build"], check=False)
+        path = f"{TOP}/crates/tpch/out/tpch"
+    else:
+        done = subprocess.run([f"{TOP}/tools/program"], stdout=subprocess.PIPE, text=True, check=False)
+        path = done.stdout.strip()
+    if done.returncode:
+        sys.exit("there is no program: PROGRAM=path names one")
+    if not path.startswith(f"{TOP}/"):
+        # (a copy that was unpacked for this run)
+        atexit.register(shutil.rmtree, os.path.dirname(path), ignore_errors=True)
+    return path
+
+
+def program():
+    """The path of the program: the one that the variable PROGRAM names, or the one that ./tpch runs."""
+    path = os.environ.get("PROGRAM") or chosen()
+    try:
+        with open(path, "rb") as file:
+            is_script = file.read(2) == b"#!"
+    except OSError as fault:
+        sys.exit(f"the program {path} can't be read: {fault.strerror}")
+    if is_script:
+        sys.exit(f"{path} is a script: PROGRAM must name the program that it starts, whose time is taken")
+    return os.path.realpath(path)
+
+
+def end_with_parent(how=signal.SIGKILL):
+    """To be called in a child before it becomes another program: it gets this signal when its parent ends."""
+    LIBC.prctl(PR_SET_PDEATHSIG, how)
+
+
+def end_cleanly_on_signals():
+    """Lets the signals that end this process unwind it, so that its servers and folders go too."""
+    for each in (signal.SIGTERM, signal.SIGHUP, signal.SIGINT):
+        signal.signal(each, lambda number, _: sys.exit(128 + number))
+
+
+def prefer_this_process():
+    """Lets this process go before all others where it may, so that it sees at once what a child does. Children don't inherit it."""
+    try:
+        os.sched_setscheduler(0, os.SCHED_FIFO | os.SCHED_RESET_ON_FORK, os.sched_param(1))
+    except OSError:
+        pass
+
+
+def processor_seconds(pid):
+    """The processor seconds of a process until now, with those of its threads that have ended."""
+    return time.clock_gettime((~pid << 3) | 2)
+
+
+class Run(NamedTuple):
+    """What a run took: processor seconds, seconds by the clock, the most memory in MB, its exit status (below 0 the signal that ended
+    it); and where a file was watched, the two times since that file was closed, otherwise the whole."""
+
+    processor: float
+    clock: float
+    memory: int
+    status: int
+    processor_after: float
+    clock_after: float
+
+
+class Watch:
+    """Tells when a file that was open for reading is closed."""
+
+    def __init__(self, path):
+        self.descriptor = LIBC.inotify_init1(os.O_CLOEXEC)
+        if self.descriptor < 0 or LIBC.inotify_add_watch(self.descriptor, os.fsencode(path), IN_CLOSE_NOWRITE) < 0:
+            raise OSError(ctypes.get_errno(), os.strerror(ctypes.get_errno()), path)
+
+    def close(self):
+        os.close(self.descriptor)
+
+
+def prepare(processors, seconds, megabytes):
+    """What a child does before it becomes the program: it takes these processors and limits."""
+    end_with_parent()
+    if processors:
+        os.sched_setaffinity(0, processors)
+    if seconds:
+        resource.setrlimit(resource.RLIMIT_CPU, (int(seconds) + 1, int(seconds) + 2))
+    if megabytes:
+        resource.setrlimit(resource.RLIMIT_AS, (megabytes << 20, megabytes << 20))
+
+
+def run(words, out=None, watched=None, processors=None, seconds=None, megabytes=None):
+    """Runs a command to its end and measures it. `out` takes its standard output (else this process's), `watched` is a file whose
+    first closing splits the time; `seconds` of a processor and `megabytes` of addresses are the most that it gets."""
+    watch = Watch(watched) if watched else None
+    begin, mark, child = time.monotonic(), None, None
+    try:
+        child = subprocess.Popen(words, stdout=out, preexec_fn=lambda: prepare(processors, seconds, megabytes))
+        if watch:
+            ended = os.pidfd_open(child.pid)
+            ready, _, _ = select.select([watch.descriptor, ended], [], [])
+            if watch.descriptor in ready:
+                mark = processor_seconds(child.pid), time.monotonic()
+            os.close(ended)
+        _, status, used = os.wait4(child.pid, 0)
+        child.returncode = os.waitstatus_to_exitcode(status)
+    finally:
+        if watch:
+            watch.close()
+        if child and child.returncode is None:
+            child.kill()
+            child.wait()
+    end, processor = time.monotonic(), used.ru_utime + used.ru_stime
+    mark = mark or (0.0, begin)
+    return Run(processor, end - begin, used.ru_maxrss // 1024, child.returncode, processor - mark[0], end - mark[1])

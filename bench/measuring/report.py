@@ -1,0 +1,92 @@
+"""What a measurement prints and writes: the machine, a table, a file of comma-separated values, and a picture."""
+import csv
+import math
+import os
+import re
+import time
+from html import escape
+
+COLOURS = ["#1b6ca8", "#d9822b", "#7a9e3c", "#8e5ea2"]
+
+
+def machine():
+    """The machine and its load now, in a sentence."""
+    with open("/proc/cpuinfo", encoding="ascii", errors="replace") as file:
+        name = re.search(r"model name\s*: (.*)", file.read())
+    with open("/proc/meminfo", encoding="ascii") as file:
+        memory = int(re.search(r"MemTotal:\s*(\d+)", file.read())[1]) / 2**20
+    when = time.strftime("%Y-%m-%d %H:%M")
+    return f"{os.cpu_count()} processors ({name[1] if name else 'unknown'}), {memory:.0f} GB; load {load()} at {when}"
+
+
+def load():
+    return f"{os.getloadavg()[0]:.1f}"
+
+
+def row(cells):
+    print("| " + " | ".join(map(str, cells)) + " |", flush=True)
+
+
+def head(cells):
+    row(cells)
+    row(["---"] * len(cells))
+
+
+def seconds(number):
+    """Seconds as milliseconds of three significant digits."""
+    thousand = number * 1000
+    return f"{thousand:.0f}" if thousand >= 100 else f"{thousand:.1f}" if thousand >= 10 else f"{thousand:.2f}"
+
+
+def mean(ratios):
+    """The geometric mean."""
+    return math.exp(sum(map(math.log, ratios)) / len(ratios)) if ratios else 0.0
+
+
+def write_csv(path, names, rows):
+    with open(path, "w", encoding="ascii", newline="") as file:
+        writer = csv.writer(file)
+        writer.writerow(names)
+        writer.writerows(rows)
+
+
+def write_picture(path, title, names, groups):
+    """Bars, one group a text: its name and for each program its milliseconds, or None. The axis goes by powers of ten."""
+    values = [it for _, all_values in groups for it in all_values if it]
+    if not values:
+        return
+    low, high = math.floor(math.log10(min(values))), math.ceil(math.log10(max(values)))
+    high = max(high, low + 1)
+    bar, gap, left, top, height = 9, 10, 70, 60, 300
+    group_width = bar * len(names) + gap
+    width = left + group_width * len(groups) + 20
+
+    def y(value):
+        return top + height - (math.log10(value) - low) / (high - low) * height
+
+    parts = [
+        f'<svg xmlns="http://www.w3.org/2000/svg" viewBox="0 0 {width} {top + height + 60}" font-family="sans-serif" font-size="12">',
+        f'<rect width="{width}" height="{top + height + 60}" fill="white"/>',
+        f'<text x="{left}" y="20" font-size="14">{escape(title)}</text>',
+    ]
+    for at, name in enumerate(names):
+        x = left + at * 130
+        parts.append(f'<rect x="{x}" y="32" width="12" height="12" fill="{COLOURS[at % len(COLOURS)]}"/>')
+        parts.append(f'<text x="{x + 18}" y="43">{escape(name)}</text>')
+    for power in range(low, high + 1):
+        at = y(10.0**power)
+        label = f"{10.0**power:g} ms" if power < 3 else f"{10.0 ** (power - 3):g} s"
+        parts.append(f'<line x1="{left}" y1="{at:.1f}" x2="{width - 10}" y2="{at:.1f}" stroke="#cccccc"/>')
+        parts.append(f'<text x="{left - 8}" y="{at + 4:.1f}" text-anchor="end">{label}</text>')
+    for place, (name, all_values) in enumerate(groups):
+        start = left + gap / 2 + place * group_width
+        for at, value in enumerate(all_values):
+            if value:
+                shape = f'x="{start + at * bar:.1f}" y="{y(value):.1f}" width="{bar - 1}" height="{top + height - y(value):.1f}"'
+                said = f"{escape(name)}, {escape(names[at])}: {value:.3g} ms"
+                parts.append(f'<rect {shape} fill="{COLOURS[at % len(COLOURS)]}"><title>{said}</title></rect>')
+        middle = start + bar * len(names) / 2
+        parts.append(f'<text x="{middle:.1f}" y="{top + height + 18}" text-anchor="middle">{escape(name)}</text>')
+    parts.append("</svg>\n")
+    with open(path, "w", encoding="utf-8") as file:
+        file.write("\n".join(parts))

@@ -1,0 +1,83 @@
+"""The program that is measured.
+
+It reads the tables anew in each run, the last of them lineitem, so a run's own time is counted from when that file is closed; what a
+run of a script without statements takes from there on is taken off. A short text is asked many times in one script."""
+import os
+import shutil
+import subprocess
+import tempfile
+
+from . import child
+from .answers import Answer, answers_of
+
+# A script has a text so many times that its answers take about this long, but at most so often.
+LEAST_SECONDS, MOST_TIMES = 0.5, 200
+
+
+class Program:
+    name = "tpch"
+    is_binary = False
+
+    def __init__(self, path, folder, threads=1):
+        self.path, self.folder = path, folder
+        self.processors = sorted(os.sched_getaffinity(0))[:threads]
+        self.room = tempfile.mkdtemp()
+        self.answers, self.times, self.memory = {}, {}, {}
+        empty = [self.run("", 1) for _ in range(3)]
+        for run in empty:
+            if run.status:
+                raise RuntimeError(f"{path} ends with status {run.status} over the tables in {folder}: {self.said()[:200].strip()}")
+        self.load, self.load_clock = min(it.processor for it in empty), min(it.clock for it in empty)
+        self.load_memory = min(it.memory for it in empty)
+        self.rest = min(it.processor_after for it in empty), min(it.clock_after for it in empty)
+
+    def version(self):
+        commit = subprocess.run(["git", "-C", child.TOP, "rev-parse", "--short", "HEAD"], capture_output=True, text=True, check=False)
+        return f"tpch at commit {commit.stdout.strip() or 'unknown'}"
+
+    def run(self, text, times, seconds=None, megabytes=None):
+        """A run of a script that has the text that many times."""
+        with open(f"{self.room}/script", "w", encoding="ascii") as script:
+            script.write(text * times)
+        with open(f"{self.room}/out", "wb") as out:
+            words = [self.path, "session", self.folder, f"{self.room}/script"]
+            return child.run(words, out, f"{self.folder}/lineitem.tbl", self.processors, seconds, megabytes)
+
+    def said(self):
+        with open(f"{self.room}/out", encoding="ascii", errors="replace") as file:
+            return file.read()
+
+    def own(self, run, times):
+        """The seconds of each answer, of a processor and by the clock."""
+        return max(run.processor_after - self.rest[0], 0) / times, max(run.clock_after - self.rest[1], 0) / times
+
+    def rows(self, text):
+        """The rows of the text's last answer, or why there are none."""
+        found = [it for it in answers_of(self.said()) if it != "done"]
+        last = found[-1] if found else "no answer"
+        return (last, "") if isinstance(last, list) else (None, last)
+
+    def first(self, text, seconds=None, megabytes=None):
+        """Asks a text for the first time: its rows, its memory, and how often it is to be asked in one script."""
+        run = self.run(text, 1, seconds and seconds + self.load, megabytes)
+        self.memory[text] = run.memory
+        if run.status < 0:
+            self.answers[text] = None, "out of time"
+        elif run.status == 6:
+            self.answers[text] = None, "out of memory"
+        else:
+            self.answers[text] = self.rows(text)
+        processor, clock = self.own(run, 1)
+        self.times[text] = max(1, min(MOST_TIMES, round(LEAST_SECONDS / max(processor, 0.0001))))
+        return Answer(processor, clock, *self.answers[text])
+
+    def ask(self, text, seconds=None, megabytes=None):
+        if text not in self.times:
+            answer = self.first(text, seconds, megabytes)
+            if answer.rows is None or self.times[text] == 1:
+                return answer
+        times = self.times[text]
+        return Answer(*self.own(self.run(text, times), times), *self.answers[text])
+
+    def close(self):
+        shutil.rmtree(self.room, ignore_errors=True)

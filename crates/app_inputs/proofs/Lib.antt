@@ -1,0 +1,15 @@
+mod WordsRead
+mod WordsExamples
+mod WordsGiven
+mod WordsWalk
+mod WordsTop
+mod WordsMeaning
+mod WordsLaw
+mod TrialNumber
+mod Pieces
+mod Telling
+mod Fronts
+mod DataFile
+mod TableFile
+mod Lists
+mod Changes

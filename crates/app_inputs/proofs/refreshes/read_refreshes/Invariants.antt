@@ -1,0 +1,14 @@
+use Rattle.std.proofs.Common.{◌≡◌, ◌≤◌, drop, length}
+use Rattle.app_inputs.specs.Inputs.{changes_in}
+use Rattle.app_inputs.specs.KnownFiles.{AreKnown}
+use Rattle.app_inputs.specs.Views.{IfKnown}
+use Rattle.app_inputs.proofs.Changes.{changes_behind}
+use Rattle.app_inputs.proofs.refreshes.read_refreshes.Given as goal
+
+abbrev pub invariant-loop-mention : goal.invariant-loop-mention
+invariant-loop-mention g l =
+    IfKnown (g.F.Files.held l.fn.files) (λ folder. changes_in l.folder l.mentions folder ≡ changes_behind l.list.items (changes_in l.folder (drop l.mention-index l.mentions) folder))
+    × (length l.list.items ≡ l.mention-index)
+    × (g.F.Files.held l.files ≡ g.F.Files.held l.fn.files)
+    × (g.F.Files.faults l.fn.files ≤ g.F.Files.faults l.files) × (g.F.Files.misses l.fn.files ≤ g.F.Files.misses l.files)
+    × AreKnown l.folder (g.F.Files.held l.files) l.known.items

@@ -1,0 +1,16 @@
+pub mod Subcommands
+pub mod Words
+pub mod Status
+pub mod WordLaws
+pub mod ScriptRefusals
+pub mod Inputs
+pub mod JobFile
+pub mod Printing
+pub mod Views
+pub mod FilesAfter
+pub mod Front
+pub mod DataFile
+pub mod TableFile
+pub mod Lists
+pub mod SetFile
+pub mod KnownFiles

@@ -1,5 +1,0 @@
-use Rattle.app_main.proofs.OneText.{text_law}
-use Rattle.app_main.proofs.laws.texts_are_unique.Goals as goal
-
-pub returns : goal.returns
-returns c = text_law

@@ -1,5 +1,0 @@
-use Rattle.app_main.proofs.WordsLaw.{values_law}
-use Rattle.app_main.proofs.word_laws.commands_are_read_by_their_values.Goals as goal
-
-pub returns : goal.returns
-returns c = values_law

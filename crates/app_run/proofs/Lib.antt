@@ -1,0 +1,16 @@
+mod Complete
+mod Texts
+mod ReadingOrder
+mod Accepted
+mod WorkedExamples
+mod OneWork
+mod Works
+mod OnTheWay
+mod OneText
+mod JobScripts
+mod JobAlike
+mod JobPlayed
+mod JobReading
+mod JobHeld
+mod TrialFiles
+mod ScriptFaults

@@ -1,0 +1,101 @@
+-- What the code's values of a job stand for.
+use Rattle.std.specs.Prelude.{◌≡◌, ◌≢◌, ⊤, ℕ, ◌<◌, ◌≤◌, Bool, false, List, length, map}
+use Rattle.std.specs.Prelude.{slice_index_or}
+use Rattle.std.specs.Prelude.{Option, Some}
+use Rattle.std.specs.Global.{Vec}
+use Rattle.std.specs.List.{list_any}
+use Rattle.std.specs.declared.result.Result.{Result}
+use Rattle.std.specs.declared.result.Result.TheVariants.{Ok, Err}
+use Rattle.app_job_file.specs.Files.{most_sessions}
+use Rattle.app_sessions.specs.Expansion.{ExpandAll}
+use Rattle.app_sessions.specs.declared.session.Session.{Session}
+use Rattle.sql_ast.specs.declared.statement.Statement.{Statement}
+use Rattle.store_state.specs.Refresh.{Change}
+use Rattle.base_io.specs.Outside.{Folder}
+use Rattle.base_schema.specs.State.{State}
+use Rattle.app_inputs.specs.Inputs.{BadInput, IsRead}
+use Rattle.app_run.specs.SessionInputs.{ExpandsTo}
+use Rattle.app_run.specs.JobInputs.{HasNoRefresh, IsPlain, JobWork, is_refresh}
+use Rattle.app_run.specs.JobMeaning.{IsFirstOfJob, PrintsJob}
+use Rattle.app_inputs.specs.Printing.{IsDone}
+use Rattle.app_inputs.specs.Views.{IfKnown, refused_view}
+use Rattle.app_inputs.specs.declared.input_error.InputError.{InputError}
+use Rattle.app_inputs.specs.declared.input_error.InputError.TheVariants as error
+use Rattle.app_inputs.specs.declared.input_error.InputFault.TheVariants as fault
+use Rattle.app_inputs.specs.declared.input_error.ReadError.TheVariants as read
+use Rattle.app_inputs.specs.declared.status.Status.{Status}
+use Rattle.app_run.specs.declared.throughput.JobSources.{JobSources}
+use Rattle.app_sessions.specs.Asked.{AllUnasked}
+
+-- the statements of a session
+abbrev pub steps_of : Session → List Statement
+steps_of session = session.steps
+
+-- each session prints rows, or none does
+abbrev pub ShowRows : Bool → List Session → Type 0
+ShowRows shows_rows sessions =
+    (i : ℕ) (d : Session) → i < length sessions
+    → (slice_index_or sessions i d).shows_rows ≡ shows_rows
+
+-- a session of the statements of a script, or its refusal, where a refresh is among those that they
+-- stand for
+abbrev pub IsSessionOf : List ℕ → List ℕ → List Statement → Result Session InputError → Type 0
+IsSessionOf name bytes statements (Ok session) = ExpandAll statements session.steps
+    × (list_any is_refresh session.steps ≡ false)
+IsSessionOf name bytes statements (Err (error.Unread unread)) = ⊤
+IsSessionOf name bytes statements (Err (error.Refused refusal)) =
+    (steps : List Statement) × ExpandAll statements steps
+    × HasNoRefresh name bytes (list_any is_refresh steps) steps (Err (refused_view refusal))
+
+-- an error of bytes that were read: memory ran out, or a refusal for another fault than absence
+abbrev pub IsOfBytes : InputError → Type 0
+IsOfBytes (error.Unread read.Fault) = ⊥
+IsOfBytes (error.Unread read.OutOfMemory) = ⊤
+IsOfBytes (error.Refused refusal) = refusal.fault ≢ fault.Absent
+
+-- the statements that the bytes of a script stand for, or why there are none
+abbrev pub IsStepsOf : List ℕ → List ℕ → Result (List Statement) BadInput → Type 0
+IsStepsOf name bytes steps =
+    (read : Result (List Statement) BadInput) × IsRead name bytes read × ExpandsTo read steps
+
+-- a session of the bytes of a script, or their refusal
+abbrev pub IsSessionOfBytes : List ℕ → List ℕ → Result Session InputError → Type 0
+IsSessionOfBytes name bytes (Ok session) =
+    (steps : Result (List Statement) BadInput) × IsStepsOf name bytes steps
+    × IsPlain name (Ok bytes) steps (Ok session.steps)
+IsSessionOfBytes name bytes (Err (error.Unread unread)) = ⊤
+IsSessionOfBytes name bytes (Err (error.Refused refusal)) =
+    (steps : Result (List Statement) BadInput) × IsStepsOf name bytes steps
+    × IsPlain name (Ok bytes) steps (Err (refused_view refusal))
+
+-- tables and refreshes
+abbrev pub base_view : State × Vec Change → State × List Change
+base_view read = (read.0, read.1.items)
+
+-- what a job works on
+abbrev pub work_view : JobSources → JobWork
+work_view sources = record {
+  scripts = map steps_of sources.sessions.items;
+  base = sources.base;
+  list = sources.list.items;
+  before = sources.before;
+}
+
+-- a job that can be run: it has sessions, not too many, which are at their beginning, and no more
+-- refreshes before them than it has
+pub record IsPlayable (shows_rows : Bool) (sources : JobSources) : Type 0 where
+  pub some : 0 < length sources.sessions.items
+  pub few : length sources.sessions.items ≤ most_sessions
+  pub unasked : AllUnasked sources.sessions.items
+  pub rows : ShowRows shows_rows sources.sessions.items
+  pub before : sources.before ≤ length sources.list.items
+
+-- the text and its status are the job's, or the error explains why it has none
+abbrev pub IsTextOfJob : Bool → List ℕ → List ℕ → Option Folder
+    → Result (Vec ℕ × Status) InputError → Type 0
+IsTextOfJob shows_rows dir job held (Ok printed) =
+    IfKnown held (λ folder. PrintsJob shows_rows dir job folder printed.0.items printed.1)
+    × IsDone printed.1
+IsTextOfJob shows_rows dir job held (Err (error.Unread unread)) = ⊤
+IsTextOfJob shows_rows dir job held (Err (error.Refused refusal)) =
+    IfKnown held (λ folder. IsFirstOfJob dir job folder (Some (refused_view refusal)))

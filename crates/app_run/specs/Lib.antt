@@ -1,0 +1,12 @@
+pub mod SessionInputs
+pub mod Turns
+pub mod NextVersions
+pub mod JobInputs
+pub mod JobMeaning
+pub mod ScriptPlans
+pub mod Trial
+pub mod Meaning
+pub mod Views
+pub mod JobViews
+pub mod Laws
+pub mod Examples

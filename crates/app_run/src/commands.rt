@@ -1,0 +1,162 @@
+//! A run from its words to its text. A job may wait for its readers and its threads.
+ghost use Rattle.std.specs.Prelude.{◌≡◌, ◌≢◌, ◌≤◌, ◌⊎◌, ℕ, List, Some, IfOk, map};
+ghost use Rattle.std.specs.Io.KnownBytes.{Keeps};
+ghost use Rattle.std.specs.String.{string_bytes};
+ghost use Rattle.base_io.specs.Outside.{Rose};
+ghost use Rattle.app_inputs.specs.FilesAfter.{FilesAfterInput, FilesAfterRead};
+ghost use Rattle.app_run.specs.Meaning.{IsAbsentInput, IsAccepted, Prints, TakesPart};
+ghost use Rattle.app_inputs.specs.Printing.{IsAnswer};
+ghost use Rattle.app_run.specs.Meaning.{TakesWhole};
+ghost use Rattle.app_run.specs.Views.{IsTextOf};
+ghost use Rattle.app_inputs.specs.Views.{command_view};
+ghost use Rattle.app_inputs.specs.Words.{IsInRange, IsOverFiles, command_of};
+ghost use Rattle.app_inputs.specs.Words.Command.{check};
+
+use crate::check::check_text;
+use crate::explain::explain_text;
+use crate::session::session_text;
+use crate::throughput::throughput_text;
+use crate::trial::trial_output;
+use app_inputs::{Command, InputError, ReadError, Status, line_of_refusal, read_words, write_text};
+use base_io::{Files, Gate, Sink};
+use std::alloc::Global;
+use std::sync::Wait;
+use std::thread::Threads;
+
+static USAGE: &[u8] =
+    b"usage: tpch session DIR SCRIPT, throughput DIR JOB, explain SCRIPT, check DIR, trial N\n";
+
+/// The text of the counts of the folder's tables, and its status.
+fn check_output<F: Files>(
+    alloc: Global,
+    files: &mut F,
+    folder: &str,
+) -> Result<(Vec<u8>, Status), InputError>
+    ensures text { IsTextOf (check folder.now) (F.held files.old) result }
+    ensures files { FilesAfterInput F.held F.faults F.misses result files.old files.new }
+{
+    match check_text(alloc, files, folder) {
+        Ok(text) => Ok((text, Status::Done)),
+        Err(error) => Err(error),
+    }
+}
+
+/// The text of a command over its files.
+fn command_text<R: Threads + Wait + Sync, F: Files, G: Gate + Sync>(
+    rt: &R,
+    alloc: Global,
+    files: &mut F,
+    gate: &G,
+    command: &Command<'_>,
+) -> Result<(Vec<u8>, Status), InputError>
+    requires { IsOverFiles (command_view command.now) }
+    ensures text { IsTextOf (command_view command.now) (F.held files.old) result }
+    ensures files { FilesAfterInput F.held F.faults F.misses result files.old files.new }
+{
+    match command {
+        Command::Session { folder, script } => session_text(rt, alloc, files, folder, script),
+        Command::Throughput { folder, job } => {
+            throughput_text(rt, alloc, files, folder, job, gate)
+        }
+        Command::Explain { script } => explain_text(alloc, files, script),
+        Command::Check { folder } => check_output(alloc, files, folder),
+        Command::Trial { .. } => unreachable!(),
+    }
+}
+
+/// What a command over files prints, and its status: its text, or the line of its first refused
+/// input.
+fn output_over_files<R: Threads + Wait + Sync, F: Files, G: Gate + Sync>(
+    rt: &R,
+    alloc: Global,
+    files: &mut F,
+    gate: &G,
+    command: &Command<'_>,
+) -> Result<(Vec<u8>, Status), ReadError>
+    requires { IsOverFiles (command_view command.now) }
+    ensures prints { IfOk result (λ printed. IsAnswer printed.1
+        × Prints (Some (command_view command.now)) (F.held files.old) printed.0.items printed.1) }
+    ensures absent { IfOk result (λ printed. IsAbsentInput (Some (command_view command.now))
+        (F.held files.old)
+        → Rose (F.misses files.old) (F.misses files.new)) }
+    ensures files { FilesAfterRead F.held F.faults F.misses result files.old files.new }
+{
+    match command_text(rt, alloc, files, gate, command) {
+        Ok(printed) => Ok(printed),
+        Err(InputError::Refused(refused)) => {
+            let text = line_of_refusal(alloc, &refused)?;
+            Ok((text, Status::InputRefused))
+        }
+        Err(InputError::Unread(error)) => Err(error),
+    }
+}
+
+/// What a command prints, and its status.
+fn command_output<R: Threads + Wait + Sync, F: Files, G: Gate + Sync>(
+    rt: &R,
+    alloc: Global,
+    files: &mut F,
+    gate: &G,
+    command: &Command<'_>,
+) -> Result<(Vec<u8>, Status), ReadError>
+    requires { IsInRange (command_view command.now) }
+    ensures prints { IfOk result (λ printed. IsAnswer printed.1
+        × Prints (Some (command_view command.now)) (F.held files.old) printed.0.items printed.1) }
+    ensures absent { IfOk result (λ printed. IsAbsentInput (Some (command_view command.now))
+        (F.held files.old)
+        → Rose (F.misses files.old) (F.misses files.new)) }
+    ensures files { FilesAfterRead F.held F.faults F.misses result files.old files.new }
+{
+    match command {
+        Command::Trial { number } => trial_output(rt, alloc, *number, gate),
+        Command::Session { .. }
+        | Command::Throughput { .. }
+        | Command::Explain { .. }
+        | Command::Check { .. } => output_over_files(rt, alloc, files, gate, command),
+    }
+}
+
+/// Reads the words and the files that they name, and writes one text. The clauses are those of
+/// `tpch`.
+pub fn run<R: Threads + Wait + Sync, F: Files, S: Sink, G: Gate + Sync>(
+    rt: &R,
+    alloc: Global,
+    words: &[String],
+    files: &mut F,
+    out: &mut S,
+    gate: &G,
+) -> Status
+    ensures answer { TakesWhole (command_of (map string_bytes words.now)) (F.held files.old)
+        (S.taken out.old) (S.taken out.new) result }
+    ensures read { result ≡ Status.ReadFault → Rose (F.faults files.old) (F.faults files.new)
+        × Keeps (S.taken out.old) (S.taken out.new) }
+    ensures write { result ≡ Status.WriteFault → Rose (S.faults out.old) (S.faults out.new)
+        × TakesPart (command_of (map string_bytes words.now)) (F.held files.old) (S.taken out.old)
+        (S.taken out.new) }
+    ensures memory { result ≡ Status.OutOfMemory → Keeps (S.taken out.old) (S.taken out.new)
+        ⊎ TakesPart (command_of (map string_bytes words.now)) (F.held files.old) (S.taken out.old)
+        (S.taken out.new) }
+    ensures absent { result ≡ Status.InputRefused
+        → IsAbsentInput (command_of (map string_bytes words.now)) (F.held files.old)
+        → Rose (F.misses files.old) (F.misses files.new) }
+    ensures complete { IsAccepted (command_of (map string_bytes words.now)) (F.held files.old)
+        → ¬ Rose (F.faults files.old) (F.faults files.new)
+        → ¬ Rose (S.faults out.old) (S.faults out.new)
+        → result ≢ Status.OutOfMemory → (result ≡ Status.Done) ⊎ (result ≡ Status.SomeRefused) }
+    ensures held { F.held files.new ≡ F.held files.old }
+    ensures counts { (F.faults files.old ≤ F.faults files.new)
+        × (F.misses files.old ≤ F.misses files.new)
+        × (S.faults out.old ≤ S.faults out.new) }
+{
+    let Ok(read) = read_words(alloc, words) else {
+        return Status::OutOfMemory;
+    };
+    let Some(command) = read else {
+        return write_text(out, USAGE, Status::Usage);
+    };
+    match command_output(rt, alloc, files, gate, &command) {
+        Ok((text, status)) => write_text(out, text.as_slice(), status),
+        Err(ReadError::Fault) => Status::ReadFault,
+        Err(ReadError::OutOfMemory) => Status::OutOfMemory,
+    }
+}

@@ -1,8 +1,0 @@
-use Rattle.std.proofs.Common.{◌≡◌, ◌++◌, length, reverse}
-use Rattle.app_sessions.proofs.expansion.turned.Given as goal
-
-abbrev pub invariant-left : goal.invariant-left
-invariant-left l = l.found ++ reverse l.left ≡ reverse l.fn.statements
-
-abbrev pub decreases-left : goal.decreases-left
-decreases-left l = length l.left

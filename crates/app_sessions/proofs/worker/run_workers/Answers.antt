@@ -1,0 +1,6 @@
+use denote.Param.Send.{sendable}
+use Rattle.app_sessions.proofs.Crossing.{worker_send}
+use Rattle.app_sessions.proofs.worker.run_workers.Goals as goal
+
+pub for_each_mut-requires-send-T : goal.for_each_mut-requires-send-T
+for_each_mut-requires-send-T g c κs within = search (worker_send, sendable) depth 40 fits 20000
