@@ -30,9 +30,8 @@ returns g c =
     let xs = c.in_ok-columns.columns.items in
     let aggregates = c.args.aggregates.now in
     let f : Aggregate → List Value = aggregate_column c.args.rows.now.rows c.args.numbers.now c.args.count in
-    let R = λ i r. IfOk r (λ column. (a : Aggregate) → column ≡ f (get_or aggregates i a)) in
     let whole : length aggregates - 0 ≡ length aggregates = omega arith in
-    let long : length xs ≡ length aggregates = numbered-long R _ xs all ∙ whole in
+    let long : length xs ≡ length aggregates = numbered-long _ _ xs all ∙ whole in
     let d : List Value = f CountRows in
     ext_get_or d xs (map f aggregates) (long ∙ sym (length-map aggregates f))
-    (λ i l. numbered-at R _ xs all i d l CountRows ∙ sym (get_or-map f aggregates i CountRows d (omega (arith, l, long))))
+    (λ i l. numbered-at (λ n r. IfOk r (λ column. (a : Aggregate) → column ≡ f (get_or aggregates n a))) _ xs all i d l CountRows ∙ sym (get_or-map f aggregates i CountRows d (omega (arith, l, long))))
