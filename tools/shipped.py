@@ -32,7 +32,7 @@ def sums():
     try:
         with open(SUMS, encoding="utf-8") as file:
             words = [it.split(None, 1) for it in file if it.strip()]
-    except FileNotFoundError:
+    except (FileNotFoundError, UnicodeDecodeError):
         return {}
     return {it[0]: it[1].strip() for it in words if len(it) == 2}
 

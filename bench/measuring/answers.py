@@ -7,7 +7,8 @@ NUMBER = re.compile(r"-?\d+(?:\.(\d+))?(?:[eE][+-]?\d+)?")
 
 
 class Answer(NamedTuple):
-    """What a program gave for a text: processor seconds, seconds by the clock, and the rows as lists of texts, or why there are none."""
+    """What a program gave for a text: processor seconds, seconds by the clock, and the rows as
+    lists of texts, or why there are none."""
 
     processor: float
     clock: float
@@ -16,7 +17,8 @@ class Answer(NamedTuple):
 
 
 def answers_of(text):
-    """The answer of each statement of a printed text: its rows, "done" where it has none, or the line of its refusal."""
+    """The answer of each statement of a printed text: its rows, "done" where it has none, or the
+    line of its refusal."""
     found = []
     for line in text.splitlines():
         head = re.match(r"\[\d+\] (?:version \d+ )?(rows|done|.*refused)", line)
@@ -28,8 +30,9 @@ def answers_of(text):
 
 
 def is_same_cell(cell, other, is_binary):
-    """Whether another program's cell is this one's: the same text, or a number that is equal at the digits printed here. Numbers that
-    were computed in binary may differ by a few units in the sixth significant place or the last one printed."""
+    """Whether another program's cell is this one's: the same text, or a number that is equal at
+    the digits printed here. Numbers that were computed in binary may differ by a few units in
+    the sixth significant place or the last one printed."""
     if cell == other:
         return True
     digits = NUMBER.fullmatch(cell)
@@ -43,7 +46,7 @@ def is_same_cell(cell, other, is_binary):
 
 def in_order(rows):
     """The rows ordered by the cells that aren't decimals: ORDER BY may leave rows in any order."""
-    return sorted(rows, key=lambda row: [it for it in row if not (NUMBER.fullmatch(it) and "." in it)])
+    return sorted(rows, key=lambda row: [it for it in row if "." not in it or not NUMBER.fullmatch(it)])
 
 
 def is_same(rows, others, is_binary=False):

@@ -1,6 +1,8 @@
-"""Children of this process: how they are started, measured and ended, and which program is measured.
+"""Children of this process: how they are started, measured and ended, and which program is
+measured.
 
-A child ends where this process ends, however that happens. Its processor seconds are those of all its threads, user and system."""
+A child ends where this process ends, however that happens. Its processor seconds are those of
+all its threads, user and system."""
 import atexit
 import ctypes
 import os
@@ -25,7 +27,8 @@ def chosen():
         done = subprocess.run([f"{TOP}/tools/build"], check=False)
         path = f"{TOP}/crates/tpch/out/tpch"
     else:
-        done = subprocess.run([f"{TOP}/tools/program"], stdout=subprocess.PIPE, text=True, check=False)
+        words = [f"{TOP}/tools/program"]
+        done = subprocess.run(words, stdout=subprocess.PIPE, text=True, check=False)
         path = done.stdout.strip()
     if done.returncode:
         sys.exit("there is no program: PROGRAM=path names one")
@@ -36,7 +39,8 @@ def chosen():
 
 
 def program():
-    """The path of the program: the one that the variable PROGRAM names, or the one that ./tpch runs."""
+    """The path of the program: the one that the variable PROGRAM names, or the one that ./tpch
+    runs."""
     path = os.environ.get("PROGRAM") or chosen()
     try:
         with open(path, "rb") as file:
@@ -44,12 +48,13 @@ def program():
     except OSError as fault:
         sys.exit(f"the program {path} can't be read: {fault.strerror}")
     if is_script:
-        sys.exit(f"{path} is a script: PROGRAM must name the program that it starts, whose time is taken")
+        sys.exit(f"{path} is a script: PROGRAM must name the program that it starts")
     return os.path.realpath(path)
 
 
 def end_with_parent(how=signal.SIGKILL):
-    """To be called in a child before it becomes another program: it gets this signal when its parent ends."""
+    """To be called in a child before it becomes another program: it gets this signal when its
+    parent ends."""
     LIBC.prctl(PR_SET_PDEATHSIG, how)
 
 
@@ -60,7 +65,8 @@ def end_cleanly_on_signals():
 
 
 def prefer_this_process():
-    """Lets this process go before all others where it may, so that it sees at once what a child does. Children don't inherit it."""
+    """Lets this process go before all others where it may, so that it sees at once what a child
+    does. Children don't inherit it."""
     try:
         os.sched_setscheduler(0, os.SCHED_FIFO | os.SCHED_RESET_ON_FORK, os.sched_param(1))
     except OSError:
@@ -73,8 +79,9 @@ def processor_seconds(pid):
 
 
 class Run(NamedTuple):
-    """What a run took: processor seconds, seconds by the clock, the most memory in MB, its exit status (below 0 the signal that ended
-    it); and where a file was watched, the two times since that file was closed, otherwise the whole."""
+    """What a run took: processor seconds, seconds by the clock, the most memory in MB, its exit
+    status (below 0 the signal that ended it); and where a file was watched, the two times since
+    that file was closed, otherwise the whole."""
 
     processor: float
     clock: float
@@ -89,7 +96,8 @@ class Watch:
 
     def __init__(self, path):
         self.descriptor = LIBC.inotify_init1(os.O_CLOEXEC)
-        if self.descriptor < 0 or LIBC.inotify_add_watch(self.descriptor, os.fsencode(path), IN_CLOSE_NOWRITE) < 0:
+        name = os.fsencode(path)
+        if LIBC.inotify_add_watch(self.descriptor, name, IN_CLOSE_NOWRITE) < 0:
             raise OSError(ctypes.get_errno(), os.strerror(ctypes.get_errno()), path)
 
     def close(self):
@@ -108,12 +116,14 @@ def prepare(processors, seconds, megabytes):
 
 
 def run(words, out=None, watched=None, processors=None, seconds=None, megabytes=None):
-    """Runs a command to its end and measures it. `out` takes its standard output (else this process's), `watched` is a file whose
-    first closing splits the time; `seconds` of a processor and `megabytes` of addresses are the most that it gets."""
+    """Runs a command to its end and measures it. `out` takes its standard output (else this
+    process's), `watched` is a file whose first closing splits the time; `seconds` of a processor
+    and `megabytes` of addresses are the most that it gets."""
     watch = Watch(watched) if watched else None
     begin, mark, child = time.monotonic(), None, None
     try:
-        child = subprocess.Popen(words, stdout=out, preexec_fn=lambda: prepare(processors, seconds, megabytes))
+        first = lambda: prepare(processors, seconds, megabytes)
+        child = subprocess.Popen(words, stdout=out, preexec_fn=first)
         if watch:
             ended = os.pidfd_open(child.pid)
             ready, _, _ = select.select([watch.descriptor, ended], [], [])
@@ -129,5 +139,6 @@ def run(words, out=None, watched=None, processors=None, seconds=None, megabytes=
             child.kill()
             child.wait()
     end, processor = time.monotonic(), used.ru_utime + used.ru_stime
-    mark = mark or (0.0, begin)
-    return Run(processor, end - begin, used.ru_maxrss // 1024, child.returncode, processor - mark[0], end - mark[1])
+    before, split = mark or (0.0, begin)
+    memory, status = used.ru_maxrss // 1024, child.returncode
+    return Run(processor, end - begin, memory, status, processor - before, end - split)

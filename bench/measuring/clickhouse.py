@@ -1,7 +1,9 @@
-"""ClickHouse: a server of its own in a temporary folder, with tables of engine Memory and one thread a query.
+"""ClickHouse: a server of its own in a temporary folder, with tables of engine Memory and one
+thread a query.
 
-Debian's version, 18.16, has no subqueries that depend on the row around them and no join of more than two tables, so it is asked only
-the queries below, written as it wants them. It computes with decimals."""
+Debian's version, 18.16, has no subqueries that depend on the row around them and no join of more
+than two tables, so it is asked only the queries below, written as it wants them. It computes
+with decimals."""
 import os
 import shutil
 import signal
@@ -83,8 +85,10 @@ class ClickHouse:
         os.mkdir(f"{self.room}/data")
         os.mkdir(f"{self.room}/tmp")
         with open(f"{self.room}/said", "wb") as said:
-            self.server = subprocess.Popen(["clickhouse-server", f"--config-file={self.room}/config.xml"], stdout=said, stderr=said,
-                                           cwd=self.room, preexec_fn=child.end_with_parent)
+            self.server = subprocess.Popen(
+                ["clickhouse-server", f"--config-file={self.room}/config.xml"],
+                stdout=said, stderr=said, cwd=self.room, preexec_fn=child.end_with_parent,
+            )
         while True:
             try:
                 self.send("select 1")
@@ -101,7 +105,8 @@ class ClickHouse:
             request = urllib.request.Request(self.address, data=text.encode())
         else:
             size = os.fstat(rows.fileno()).st_size
-            request = urllib.request.Request(f"{self.address}?query={urllib.parse.quote(text)}", data=rows, headers={"Content-Length": size})
+            address = f"{self.address}?query={urllib.parse.quote(text)}"
+            request = urllib.request.Request(address, data=rows, headers={"Content-Length": size})
         try:
             with urllib.request.urlopen(request) as reply:
                 return reply.read().decode()

@@ -1,6 +1,8 @@
-"""PostgreSQL: a server of its own in a temporary folder, with one session that answers in one thread.
+"""PostgreSQL: a server of its own in a temporary folder, with one session that answers in one
+thread.
 
-Its programs are looked for in the path and in /usr/lib/postgresql. It does not run as root, so root starts it as nobody."""
+Its programs are looked for in the path and in /usr/lib/postgresql. It does not run as root, so
+root starts it as nobody."""
 import glob
 import os
 import re
@@ -33,7 +35,8 @@ END = "its-end"
 
 def programs():
     """The folder of PostgreSQL's programs, or None where it isn't installed."""
-    found = sorted(glob.glob("/usr/lib/postgresql/*/bin"), key=lambda it: int(re.search(r"/(\d+)/", it)[1]))
+    found = glob.glob("/usr/lib/postgresql/*/bin")
+    found.sort(key=lambda it: int(re.search(r"/(\d+)/", it)[1]))
     there = shutil.which("initdb")
     return found[-1] if found else os.path.dirname(there) if there else None
 
@@ -58,19 +61,27 @@ class Postgres:
     def start(self):
         where, user = programs(), "nobody" if os.getuid() == 0 else None
         words = ["-D", f"{self.room}/data", "-A", "trust", "-U", "bench", "--locale=C", "-E", "UTF8"]
-        subprocess.run([f"{where}/initdb", *words], check=True, stdout=subprocess.DEVNULL, cwd=self.room, user=user)
+        said = subprocess.DEVNULL
+        subprocess.run([f"{where}/initdb", *words], check=True, stdout=said, cwd=self.room, user=user)
         options = [it for name, value in OPTIONS.items() for it in ("-c", f"{name}={value}")]
         with open(f"{self.room}/log", "wb") as log:
-            self.server = subprocess.Popen([f"{where}/postgres", "-D", f"{self.room}/data", "-k", self.room, *options], stderr=log, stdout=log,
-                                           cwd=self.room, user=user, preexec_fn=lambda: child.end_with_parent(signal.SIGQUIT))
-        while subprocess.run([f"{where}/pg_isready", "-q", "-h", self.room], check=False).returncode:
+            self.server = subprocess.Popen(
+                [f"{where}/postgres", "-D", f"{self.room}/data", "-k", self.room, *options],
+                stdout=log, stderr=log, cwd=self.room, user=user,
+                preexec_fn=lambda: child.end_with_parent(signal.SIGQUIT),
+            )
+        ready = [f"{where}/pg_isready", "-q", "-h", self.room]
+        while subprocess.run(ready, check=False).returncode:
             if self.server.poll() is not None:
                 with open(f"{self.room}/log", encoding="utf-8") as log:
                     raise RuntimeError(f"PostgreSQL doesn't start: {log.read()[-300:]}")
             time.sleep(0.1)
-        self.psql = subprocess.Popen([f"{where}/psql", "-h", self.room, "-U", "bench", "-X", "-At", "-F", "|", "postgres"],
-                                     stdin=subprocess.PIPE, stdout=subprocess.PIPE, stderr=subprocess.STDOUT,
-                                     preexec_fn=child.end_with_parent)
+        words = ["-h", self.room, "-U", "bench", "-X", "-At", "-F", "|", "postgres"]
+        self.psql = subprocess.Popen(
+            [f"{where}/psql", *words],
+            stdin=subprocess.PIPE, stdout=subprocess.PIPE, stderr=subprocess.STDOUT,
+            preexec_fn=child.end_with_parent,
+        )
         self.pending = b""
         self.send("\\pset null '\\\\N'")
 
@@ -79,14 +90,16 @@ class Postgres:
             self.send(f"create table {table}({schema.definition(table, KINDS)});")
             said = self.copy(table, f"{folder}/{table}.tbl")
             if not said or not said[-1].startswith("COPY"):
-                raise RuntimeError(f"PostgreSQL doesn't read {folder}/{table}.tbl: {' '.join(said)[:300]}")
+                fault = " ".join(said)[:300]
+                raise RuntimeError(f"PostgreSQL doesn't read {folder}/{table}.tbl: {fault}")
             self.send(f"alter table {table} add primary key ({', '.join(schema.KEYS[table])});")
             for column in schema.REFERENCES.get(table, []) if has_references else []:
                 self.send(f"create index on {table}({column});")
         self.send("analyze;")
 
     def copy(self, table, path):
-        """Puts the rows of a file into a table, without the bar at each line's end: what psql says."""
+        """Puts the rows of a file into a table, without the bar at each line's end: what psql
+        says."""
         self.psql.stdin.write(f"copy {table} from stdin with (delimiter '|');\n".encode())
         with open(path, "rb") as file:
             while piece := file.read(1 << 20):
@@ -97,7 +110,8 @@ class Postgres:
         return self.send("show server_version;")[0].join(("PostgreSQL ", ""))
 
     def send(self, text, seconds=None):
-        """What psql prints for a text. A statement that takes more seconds of a processor is stopped."""
+        """What psql prints for a text. A statement that takes more seconds of a processor is
+        stopped."""
         self.psql.stdin.write(f"{text}\n\\echo {END}\n".encode())
         self.psql.stdin.flush()
         last = self.used() + seconds if seconds else None
@@ -120,7 +134,8 @@ class Postgres:
 
     @staticmethod
     def dialect(text):
-        return re.sub(r"substring ?\((\w+) from (\d+) for (\d+)\)", r"substr(\1, \2, \3)", text.replace(" day (3)", " day"))
+        text = text.replace(" day (3)", " day")
+        return re.sub(r"substring ?\((\w+) from (\d+) for (\d+)\)", r"substr(\1, \2, \3)", text)
 
     def ask(self, text, seconds=None, megabytes=None):
         # (no limit of memory: its own settings keep it small)

@@ -1,4 +1,5 @@
-"""What a measurement prints and writes: the machine, a table, a file of comma-separated values, and a picture."""
+"""What a measurement prints and writes: the machine, a table, a file of comma-separated values,
+and a picture."""
 import csv
 import math
 import os
@@ -20,7 +21,22 @@ def machine():
 
 
 def load():
-    return f"{os.getloadavg()[0]:.1f}"
+    """How busy the machine is: the processes that want a processor, and how many times its least
+    time a short fixed loop takes: about 1 where nothing else runs, 2 where another thread of the
+    same core is always busy. Processor seconds grow with it."""
+    times = []
+    for _ in range(20):
+        times += [fixed_loop() for _ in range(50)]
+        time.sleep(0.05)
+    times.sort()
+    return f"{os.getloadavg()[0]:.1f}, pace {times[500] / times[0]:.2f}"
+
+
+def fixed_loop():
+    begin, total = time.thread_time_ns(), 0
+    for number in range(5000):
+        total += number
+    return time.thread_time_ns() - begin
 
 
 def row(cells):
@@ -51,7 +67,8 @@ def write_csv(path, names, rows):
 
 
 def write_picture(path, title, names, groups):
-    """Bars, one group a text: its name and for each program its milliseconds, or None. The axis goes by powers of ten."""
+    """Bars, one group a text: its name and for each program its milliseconds, or None. The axis
+    goes by powers of ten."""
     values = [it for _, all_values in groups for it in all_values if it]
     if not values:
         return

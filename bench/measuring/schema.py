@@ -1,6 +1,8 @@
-"""The eight tables of the benchmark, with their primary keys and the columns that refer to other tables."""
+"""The eight tables of the benchmark, with their primary keys and the columns that refer to other
+tables."""
 
-# Each table: its columns with their kinds, and its primary key. A decimal has 15 digits, two of them after the point.
+# Each table: its columns with their kinds, and its primary key. A decimal has 15 digits, two of
+# them after the point.
 COLUMNS = {
     "region": "r_regionkey int, r_name text, r_comment text",
     "nation": "n_nationkey int, n_name text, n_regionkey int, n_comment text",
@@ -43,7 +45,8 @@ def columns(table):
 
 
 def definition(table, kinds):
-    """The text of a table's columns, with the type of each of the kinds int, text, decimal and date as a dialect writes it."""
+    """The text of a table's columns, with the type of each of the kinds int, text, decimal and
+    date as a dialect writes it."""
     return ", ".join(f"{name} {kinds[kind]}" for name, kind in columns(table))
 
 
@@ -54,7 +57,8 @@ def fault_of(folder):
             with open(f"{folder}/{table}.tbl", "rb"):
                 pass
         except OSError as fault:
-            return f"{folder}/{table}.tbl can't be read: {fault.strerror}. A folder with the eight tables is needed (bench/dbgen makes one)."
+            file = f"{folder}/{table}.tbl"
+            return f"{file} can't be read: {fault.strerror}. `bench/dbgen SF DIR` makes the eight tables."
     return None
 
 

@@ -1,5 +1,5 @@
-"""SQLite: a database in the memory of a process of its own, which computes with binary numbers. (In this process, what it holds would
-be counted as held by each child that starts later.)"""
+"""SQLite: a database in the memory of a process of its own, which computes with binary numbers.
+(In this process, what it holds would be counted as held by each child that starts later.)"""
 import multiprocessing
 import re
 import resource
@@ -24,9 +24,11 @@ def constant(found):
 def dialect(text):
     text = re.sub(r"\b(\d+\.\d+) ([+-]) (\d+\.\d+)\b", constant, text)
     text = re.sub(r"date\(('[0-9-]+')\)", r"date \1", text)
-    text = re.sub(r"date ('[0-9-]+') *([+-]) *interval '(\d+)' (day|month|year)( \(3\))?", r"date(\1, '\2\3 \4')", text)
+    moved = r"date ('[0-9-]+') *([+-]) *interval '(\d+)' (day|month|year)( \(3\))?"
+    text = re.sub(moved, r"date(\1, '\2\3 \4')", text)
     text = re.sub(r"\bdate ('[0-9-]+')", r"\1", text)
-    text = text.replace("count(o_orderkey)", "count(o_orderkey) as c_count").replace("as c_orders (c_custkey, c_count)", "as c_orders")
+    text = text.replace("count(o_orderkey)", "count(o_orderkey) as c_count")
+    text = text.replace("as c_orders (c_custkey, c_count)", "as c_orders")
     text = re.sub(r"extract ?\(year from (\w+)\)", r"cast(substr(\1, 1, 4) as int)", text)
     return re.sub(r"substring ?\((\w+) from (\d+) for (\d+)\)", r"substr(\1, \2, \3)", text)
 
@@ -34,7 +36,8 @@ def dialect(text):
 def fill(database, folder):
     for table in schema.TABLES:
         columns, keys = schema.definition(table, KINDS), schema.KEYS[table]
-        # A key of one column is the table's own order; `int primary key` would be an index beside the table.
+        # A key of one column is the table's own order; `int primary key` would be an index beside
+        # the table.
         if len(keys) == 1:
             columns = columns.replace(f"{keys[0]} int", f"{keys[0]} integer primary key")
         else:
@@ -50,7 +53,8 @@ def fill(database, folder):
 def ask(database, text, seconds):
     """The answer to a text, which is stopped after so many seconds of a processor."""
     begin, start, rows = time.process_time(), time.monotonic(), None
-    database.set_progress_handler(lambda: seconds and time.process_time() - begin > seconds, 1000000)
+    is_over = lambda: seconds and time.process_time() - begin > seconds
+    database.set_progress_handler(is_over, 1000000)
     try:
         for statement in statements(dialect(text)):
             found = database.execute(statement).fetchall()

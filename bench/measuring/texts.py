@@ -1,4 +1,5 @@
-"""The texts that are asked: the 22 queries with two sets of values, and the statements of bench/slow."""
+"""The texts that are asked: the 22 queries with two sets of values, and the statements of
+bench/slow."""
 import glob
 import os
 import re
@@ -6,7 +7,8 @@ from typing import NamedTuple
 
 from .child import TOP
 
-# By a query's number what stands in its text of examples/queries, and other values of the benchmark's ranges in its place.
+# By a query's number what stands in its text of examples/queries, and other values of the
+# benchmark's ranges in its place.
 OTHER_VALUES = {
     1: {"'90'": "'60'"},
     2: {"= 15": "= 37", "%BRASS": "%TIN", "EUROPE": "ASIA"},
@@ -23,7 +25,11 @@ OTHER_VALUES = {
     13: {"special": "pending", "requests": "accounts"},
     14: {"1995-09-01": "1997-03-01"},
     15: {"1996-01-01": "1993-05-01"},
-    16: {"Brand#45": "Brand#21", "MEDIUM POLISHED": "ECONOMY BRUSHED", "49, 14, 23, 45, 19, 3, 36, 9": "1, 47, 12, 8, 29, 31, 5, 50"},
+    16: {
+        "Brand#45": "Brand#21",
+        "MEDIUM POLISHED": "ECONOMY BRUSHED",
+        "49, 14, 23, 45, 19, 3, 36, 9": "1, 47, 12, 8, 29, 31, 5, 50",
+    },
     17: {"Brand#23": "Brand#54", "MED BOX": "LG CAN"},
     18: {"> 300": "> 313"},
     19: {
@@ -39,7 +45,7 @@ OTHER_VALUES = {
     },
     20: {"forest": "azure", "1994-01-01": "1996-01-01", "CANADA": "INDIA"},
     21: {"SAUDI ARABIA": "KENYA"},
-    22: dict(zip(("'13'", "'31'", "'23'", "'29'", "'30'", "'18'", "'17'"), ("'10'", "'21'", "'34'", "'26'", "'15'", "'12'", "'28'"))),
+    22: {"'13', '31', '23', '29', '30', '18', '17'": "'10', '21', '34', '26', '15', '12', '28'"},
 }
 
 
@@ -61,9 +67,14 @@ def read(path):
         return file.read()
 
 
-def query_texts(scale, numbers=None, texts_of=lambda number: read(f"{TOP}/examples/queries/query_{number:02}.sql")):
-    """The texts of these queries (all where none are given), each with the values of its text and with others. The fraction in query
-    11 is 0.0001 through the scale factor, as the benchmark has it."""
+def query_text(number):
+    return read(f"{TOP}/examples/queries/query_{number:02}.sql")
+
+
+def query_texts(scale, numbers=None, texts_of=query_text):
+    """The texts of these queries (all where none are given), each with the values of its text
+    and with others. The fraction in query 11 is 0.0001 through the scale factor, as the
+    benchmark has it."""
     fraction = f"{0.0001 / scale:.10f}".rstrip("0")
     for number in numbers or range(1, 23):
         text = texts_of(number)

@@ -1,7 +1,8 @@
 """The program that is measured.
 
-It reads the tables anew in each run, the last of them lineitem, so a run's own time is counted from when that file is closed; what a
-run of a script without statements takes from there on is taken off. A short text is asked many times in one script."""
+It reads the tables anew in each run, the last of them lineitem, so a run's own time is counted
+from when that file is closed; what a run of a script without statements takes from there on is
+taken off. A short text is asked many times in one script."""
 import os
 import shutil
 import subprocess
@@ -26,14 +27,18 @@ class Program:
         empty = [self.run("", 1) for _ in range(3)]
         for run in empty:
             if run.status:
-                raise RuntimeError(f"{path} ends with status {run.status} over the tables in {folder}: {self.said()[:200].strip()}")
-        self.load, self.load_clock = min(it.processor for it in empty), min(it.clock for it in empty)
+                said = self.said()[:200].strip()
+                raise RuntimeError(f"{path} ends with status {run.status} over {folder}: {said}")
+        self.load = min(it.processor for it in empty)
+        self.load_clock = min(it.clock for it in empty)
         self.load_memory = min(it.memory for it in empty)
-        self.rest = min(it.processor_after for it in empty), min(it.clock_after for it in empty)
+        self.rest = min(it.processor_after for it in empty)
+        self.rest_clock = min(it.clock_after for it in empty)
 
     def version(self):
-        commit = subprocess.run(["git", "-C", child.TOP, "rev-parse", "--short", "HEAD"], capture_output=True, text=True, check=False)
-        return f"tpch at commit {commit.stdout.strip() or 'unknown'}"
+        words = ["git", "-C", child.TOP, "rev-parse", "--short", "HEAD"]
+        commit = subprocess.run(words, capture_output=True, text=True, check=False).stdout.strip()
+        return f"tpch at commit {commit or 'unknown'}"
 
     def run(self, text, times, seconds=None, megabytes=None):
         """A run of a script that has the text that many times."""
@@ -41,7 +46,8 @@ class Program:
             script.write(text * times)
         with open(f"{self.room}/out", "wb") as out:
             words = [self.path, "session", self.folder, f"{self.room}/script"]
-            return child.run(words, out, f"{self.folder}/lineitem.tbl", self.processors, seconds, megabytes)
+            last = f"{self.folder}/lineitem.tbl"
+            return child.run(words, out, last, self.processors, seconds, megabytes)
 
     def said(self):
         with open(f"{self.room}/out", encoding="ascii", errors="replace") as file:
@@ -49,7 +55,8 @@ class Program:
 
     def own(self, run, times):
         """The seconds of each answer, of a processor and by the clock."""
-        return max(run.processor_after - self.rest[0], 0) / times, max(run.clock_after - self.rest[1], 0) / times
+        processor, clock = run.processor_after - self.rest, run.clock_after - self.rest_clock
+        return max(processor, 0) / times, max(clock, 0) / times
 
     def rows(self, text):
         """The rows of the text's last answer, or why there are none."""
@@ -58,7 +65,8 @@ class Program:
         return (last, "") if isinstance(last, list) else (None, last)
 
     def first(self, text, seconds=None, megabytes=None):
-        """Asks a text for the first time: its rows, its memory, and how often it is to be asked in one script."""
+        """Asks a text for the first time: its rows, its memory, and how often it is to be asked
+        in one script."""
         run = self.run(text, 1, seconds and seconds + self.load, megabytes)
         self.memory[text] = run.memory
         if run.status < 0:
@@ -78,6 +86,9 @@ class Program:
                 return answer
         times = self.times[text]
         return Answer(*self.own(self.run(text, times), times), *self.answers[text])
+
+    def peak(self):
+        return max(self.memory.values(), default=self.load_memory)
 
     def close(self):
         shutil.rmtree(self.room, ignore_errors=True)

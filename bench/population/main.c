@@ -1,8 +1,8 @@
-// bench/dbgen SF DIR [--seed N] [--refreshes K]: the eight tables of TPC Benchmark H at scale factor SF, and K refresh sets,
-// into DIR. Without a seed, or with 0, all streams start where those of dbgen start, so the rows are dbgen's; another seed
-// gives other rows and other comments. The same words give the same bytes. It takes 320 MB of memory at any scale factor.
-// Status 0; 1 with a line on standard error for a file or memory that fails, or a scale factor at which a part would have a
-// supplier twice; 2 for wrong words.
+// bench/dbgen SF DIR [--seed N] [--refreshes K]: the eight tables of TPC Benchmark H at scale factor SF, and K refresh
+// sets, into DIR, which is made where it isn't there. Without a seed, or with 0, all streams start where those of dbgen
+// start, so the rows are dbgen's; another seed gives other rows and other comments. The same words give the same bytes. It
+// takes 320 MB of memory at any scale factor. Status 0; 1 with a line on standard error for a file or memory that fails, or
+// a scale factor at which a part would have a supplier twice; 2 for wrong words.
 //
 // Each row ends with a bar and LF; a delete file has an order key in each line, without a bar.
 //
@@ -18,11 +18,14 @@
 // - Scale factors end at 1000.
 // - Refresh sets go on with the streams after the tables, as those of `dbgen -U` do, but no published row was at hand to
 //   compare them with. dbgen's delete files have a bar after each key.
+#define _POSIX_C_SOURCE 200809L
 #include "population.h"
+#include <errno.h>
 #include <math.h>
 #include <stdio.h>
 #include <stdlib.h>
 #include <string.h>
+#include <sys/stat.h>
 
 static int say_usage(void) {
     fputs("usage: bench/dbgen SF DIR [--seed N] [--refreshes K]\n"
@@ -77,6 +80,8 @@ int main(int count, char **words) {
     set_counts(scale);
     if (repeats_supplier())
         fail("by the specification's formula a part has a supplier twice at scale factor ", words[1]);
+    if (mkdir(folder, 0777) && errno != EEXIST)
+        fail("cannot make ", folder);
     if (seed)
         start_streams(seed);
     make_dates();

@@ -72,7 +72,8 @@ fn next_piece<F: Files>(files: &mut F, piece: &mut [u8]) -> Result<usize, ReadEr
 
 /// What a reader's error says of its file: its first bad line, unless memory ran out.
 fn first_bad_line(error: TableError) -> Result<Result<Rows, LineRefusal>, ReadError>
-    ensures { FailsAs error result }
+    ensures failed { FailsAs error result }
+    ensures memory { IfErr result (λ e. e ≡ ReadError.OutOfMemory) }
 {
     match error {
         TableError::Refused(first) => Ok(Err(first)),
@@ -107,7 +108,7 @@ pub(crate) fn read_data_file<F: Files>(
 {
     let mut reader = reader;
     let mut piece = [0u8; PIECE];
-    loop {
+    'pieces: loop {
         let count = next_piece(files, &mut piece)?;
         if count == 0 {
             return finish(reader);
