@@ -14,3 +14,4 @@ mod JobReading
 mod JobHeld
 mod TrialFiles
 mod ScriptFaults
+mod NextVersions

@@ -38,6 +38,7 @@ impl NextVersion {
 }
 
 /// Puts the segments of a version together where that is due.
+#[tactic(auto, using(crate::proofs::NextVersions::lies_joined))]
 fn compact_if_due(directory: Directory) -> Result<NextVersion, AllocError>
     ensures version { IfOk result (λ next. version_in next ≡ directory) }
     ensures compacted { IfOk result (λ next. is_compaction_due (version_of directory) ≡ true
