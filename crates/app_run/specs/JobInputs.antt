@@ -19,6 +19,7 @@ use Rattle.app_run.specs.SessionInputs.{AreSteps}
 use Rattle.app_inputs.specs.Inputs.{BadInput, and_then, changes_in, file_bytes}
 use Rattle.app_inputs.specs.Inputs.{script_limit}
 use Rattle.app_inputs.specs.Inputs.{state_in}
+use Rattle.app_inputs.specs.JobFile.{job_in}
 use Rattle.app_inputs.specs.declared.input_error.InputFault.TheVariants as fault
 
 -- a statement is a refresh
