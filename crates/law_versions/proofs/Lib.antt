@@ -1,1 +1,2 @@
 pub mod AcceptedKeys
+pub mod MachineSteps

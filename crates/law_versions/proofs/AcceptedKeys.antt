@@ -1,5 +1,5 @@
 -- A refresh has no cause against it exactly where its keys may be inserted or deleted.
-use Rattle.std.proofs.Common.{◌≡◌, ◌≢◌, ℕ, zero, suc, ◌+◌, ◌<◌, Bool, true, false, cond, not, ◌&&◌, ◌||◌, List, [], ◌∷◌, ◌++◌, length, get_or, Option, Some, None, ℤ, inl, inr, refl, sym, ap, ◌∙◌, subst, arith}
+use Rattle.std.proofs.Common.{◌≡◌, ◌≢◌, ℕ, zero, suc, ◌<◌, Bool, true, false, cond, not, ◌&&◌, ◌||◌, List, [], ◌∷◌, ◌++◌, length, get_or, Option, Some, None, ℤ, inl, inr, refl, sym, ap, ◌∙◌, subst, arith}
 use Rattle.std.specs.List.{All, Contains, list_any}
 use Rattle.std.specs.Ordering.{int_eq}
 use Rattle.std.proofs.lemmas.Bool.Decides.{Decides-int_eq}
@@ -9,7 +9,7 @@ use Rattle.base_refusals.specs.declared.refresh.Cause.{Cause}
 use Rattle.base_refusals.specs.declared.refresh.Cause.TheVariants.{OrderExists, OrderTwice, LineTwice, StrayLine, UnknownOrder, KeyTwice, LineExists}
 use Rattle.store_state.specs.Keys.{has_key, has_line, is_same_line, line_keys, order_keys}
 use Rattle.store_state.specs.Refresh.{delete_cause, first_cause, line_cause, or_cause, order_cause}
-use Rattle.law_refreshes.specs.Accepted.{AreDistinct, DeleteLaw, InsertLaw}
+use Rattle.law_versions.specs.Accepted.{AreDistinct, DeleteLaw, InsertLaw}
 
 -- a test that tells keys apart finds a key exactly where it is one of them
 record TellsApart {K : Type 0} (same : K → K → Bool) : Type 0 where

@@ -1,5 +1,5 @@
 //! The laws: each is the contract of a function that does nothing.
-ghost use Rattle.law_refreshes.specs.Accepted.{DeleteLaw, InsertLaw};
+ghost use Rattle.law_versions.specs.Accepted.{DeleteLaw, InsertLaw};
 
 /// A refresh has no cause against it exactly where its keys are as they must be: an insert's orders
 /// and lineitems are new and each lineitem is of one of its orders; a delete's orders are there;

@@ -1,0 +1,14 @@
+use Rattle.law_versions.proofs.MachineSteps.{begin_law, compact_law, learn_law, publish_law}
+use Rattle.law_versions.proofs.running.running_steps_are_the_machines.Goals as goal
+
+pub returns-clause-begin : goal.returns-clause-begin
+returns-clause-begin c = begin_law
+
+pub returns-clause-learn : goal.returns-clause-learn
+returns-clause-learn c = learn_law
+
+pub returns-clause-publish : goal.returns-clause-publish
+returns-clause-publish c = publish_law
+
+pub returns-clause-compact : goal.returns-clause-compact
+returns-clause-compact c = compact_law

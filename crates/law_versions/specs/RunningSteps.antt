@@ -1,0 +1,55 @@
+-- What running sessions and the publisher do, in the machine's steps.
+use Rattle.std.specs.Prelude.{◌≡◌, ◌⊎◌, ℕ, ◌<◌, ◌≤◌, List, length, max, true}
+use Rattle.store_versions.specs.Trials.{Trials}
+use Rattle.store_snapshots.specs.Openings.{HasRisen}
+use Rattle.store_snapshots.specs.Publishers.{Tries}
+use Rattle.store_snapshots.specs.Seen.{Began}
+use Rattle.store_snapshots.specs.declared.publisher.Published.{Published as Answer}
+use Rattle.store_snapshots.specs.declared.publisher.Published.TheVariants.{OutOfMemory}
+use Rattle.store_machine.specs.Machine.{SessionState, World, happens, is_cut, pinned, published}
+use Rattle.store_machine.specs.Machine.{session_of}
+use Rattle.store_machine.specs.declared.steps.Step.TheVariants.{Again, Begin, Compact, Learn}
+use Rattle.store_machine.specs.declared.steps.Step.TheVariants.{Publish}
+
+-- the machine at a version that a publisher keeps, beside some sessions
+abbrev pub world_at : Trials → List SessionState → World
+world_at trials sessions = record
+    { base = trials.base; list = trials.list; done = trials.done; sessions = sessions }
+
+-- the session is one of the machine's; they count from 1
+abbrev pub IsSession : World → ℕ → Type 0
+IsSession world session = (0 < session) × (session ≤ length world.sessions)
+
+-- A reader begins, while the machine's published version is the one that its entry would give. Where
+-- its entries rose, that is the step Begin, and where its refusals rose, the step Again: the session
+-- then pins the version that the reader gives.
+abbrev pub BeginLaw : Type 0
+BeginLaw = (world : World) (session : ℕ) (cuts : List (List ℕ))
+    (entries more refusals others seen version : ℕ)
+    → IsSession world session → (session_of world session).seen ≡ seen
+    → Began (published world) entries more refusals others seen version
+    → is_cut world.base world.list version cuts ≡ true
+    → (HasRisen entries more
+    × (session_of (happens world (Begin session cuts)) session ≡ pinned version cuts))
+    ⊎ (HasRisen refusals others
+    × (session_of (happens world (Again session cuts)) session ≡ pinned version cuts))
+
+-- A reader takes a note of an earlier or the published version: that is the step Learn, and the
+-- session has then seen at least the note's version.
+abbrev pub LearnLaw : Type 0
+LearnLaw = (world : World) (session note : ℕ)
+    → IsSession world session → note ≤ published world
+    → session_of (happens world (Learn session note)) session
+    ≡ record (session_of world session) { seen = max (session_of world session).seen note }
+
+-- A publisher tries the next refresh of its list, or finds that each was tried: that is the step
+-- Publish.
+abbrev pub PublishLaw : Type 0
+PublishLaw = (old new : Trials) (answer : Answer) (sessions : List SessionState)
+    → Tries old new answer → (answer ≡ OutOfMemory → ⊥)
+    → happens (world_at old sessions) Publish ≡ world_at new sessions
+
+-- A publisher puts segments together, which leaves its version as it was: that is the step Compact.
+abbrev pub CompactLaw : Type 0
+CompactLaw = (old new : Trials) (sessions : List SessionState) → new ≡ old
+    → happens (world_at old sessions) Compact ≡ world_at new sessions
