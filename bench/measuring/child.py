@@ -18,7 +18,7 @@ from typing import NamedTuple
 TOP = os.path.dirname(os.path.dirname(os.path.dirname(os.path.realpath(__file__))))
 LIBC = ctypes.CDLL(None, use_errno=True)
 PR_SET_PDEATHSIG = 1
-IN_CLOSE_NOWRITE = 0x10
+IN_ACCESS = 0x1
 
 
 def chosen():
@@ -81,7 +81,7 @@ def processor_seconds(pid):
 class Run(NamedTuple):
     """What a run took: processor seconds, seconds by the clock, the most memory in MB, its exit
     status (below 0 the signal that ended it); and where a file was watched, the two times since
-    that file was closed, otherwise the whole."""
+    that file was last read, otherwise the whole."""
 
     processor: float
     clock: float
@@ -92,13 +92,24 @@ class Run(NamedTuple):
 
 
 class Watch:
-    """Tells when a file that was open for reading is closed."""
+    """Tells when a file is read. (When it is closed would say nothing: a program may keep it open
+    until its end.)"""
 
     def __init__(self, path):
         self.descriptor = LIBC.inotify_init1(os.O_CLOEXEC)
         name = os.fsencode(path)
-        if LIBC.inotify_add_watch(self.descriptor, name, IN_CLOSE_NOWRITE) < 0:
+        if LIBC.inotify_add_watch(self.descriptor, name, IN_ACCESS) < 0:
             raise OSError(ctypes.get_errno(), os.strerror(ctypes.get_errno()), path)
+
+    def last_read(self, pid):
+        """Waits until a process ends: its processor seconds and the clock when the file was last
+        read, or nothing where it wasn't."""
+        ended, last = os.pidfd_open(pid), None
+        while ended not in select.select([self.descriptor, ended], [], [])[0]:
+            last = processor_seconds(pid), time.monotonic()
+            os.read(self.descriptor, 1 << 16)
+        os.close(ended)
+        return last
 
     def close(self):
         os.close(self.descriptor)
@@ -117,19 +128,15 @@ def prepare(processors, seconds, megabytes):
 
 def run(words, out=None, watched=None, processors=None, seconds=None, megabytes=None):
     """Runs a command to its end and measures it. `out` takes its standard output (else this
-    process's), `watched` is a file whose first closing splits the time; `seconds` of a processor
-    and `megabytes` of addresses are the most that it gets."""
+    process's), `watched` is a file whose last reading splits the time; `seconds` of a processor and
+    `megabytes` of addresses are the most that it gets."""
     watch = Watch(watched) if watched else None
     begin, mark, child = time.monotonic(), None, None
     try:
         first = lambda: prepare(processors, seconds, megabytes)
         child = subprocess.Popen(words, stdout=out, preexec_fn=first)
         if watch:
-            ended = os.pidfd_open(child.pid)
-            ready, _, _ = select.select([watch.descriptor, ended], [], [])
-            if watch.descriptor in ready:
-                mark = processor_seconds(child.pid), time.monotonic()
-            os.close(ended)
+            mark = watch.last_read(child.pid)
         _, status, used = os.wait4(child.pid, 0)
         child.returncode = os.waitstatus_to_exitcode(status)
     finally:
