@@ -38,6 +38,8 @@ class Program:
         self.rest_clock = min(it.clock_after for it in begun)
 
     def version(self):
+        if os.environ.get("PROGRAM"):
+            return f"tpch ({self.path})"
         words = ["git", "-C", child.TOP, "rev-parse", "--short", "HEAD"]
         commit = subprocess.run(words, capture_output=True, text=True, check=False).stdout.strip()
         return f"tpch at commit {commit or 'unknown'}"
