@@ -140,8 +140,8 @@ def prepare(processors, seconds, megabytes):
 def run(words, out=None, watched=None, processors=None, seconds=None, megabytes=None):
     """Runs a command to its end and measures it. `out` takes its standard output (else this
     process's), `watched` has the last file that it reads and the bytes of all of them, whose
-    reading splits the time; `seconds` of a processor and `megabytes` of addresses are the most that it
-    gets."""
+    reading splits the time; `seconds` of a processor and `megabytes` of addresses are the most
+    that it gets."""
     watch = Watch(*watched) if watched else None
     begin, mark, child = time.monotonic(), None, None
     try:
