@@ -218,4 +218,6 @@ def read_page(path: Path, name: str) -> list[Case]:
         except PageError as error:
             where = "" if str(error).startswith(name) else f"{name}:{block.line}: "
             raise PageError(f"{where}{error}") from error
+    if not cases:
+        raise PageError(f"{name}: a page without a case")
     return cases

@@ -32,7 +32,7 @@ def sums():
     try:
         with open(SUMS, encoding="utf-8") as file:
             words = [it.split(None, 1) for it in file if it.strip()]
-    except (FileNotFoundError, UnicodeDecodeError):
+    except (OSError, UnicodeDecodeError):
         return {}
     return {it[0]: it[1].strip() for it in words if len(it) == 2}
 
@@ -56,7 +56,7 @@ def unpacked_bytes(said):
     """Returns the bytes of the program, once they are those that SUMS names."""
     try:
         program = decompressed(int(said["size"]))
-    except (OSError, EOFError, ValueError, KeyError, lzma.LZMAError if lzma else OSError) as error:
+    except (OSError, EOFError, ValueError, KeyError, MemoryError, OverflowError, lzma.LZMAError if lzma else OSError) as error:
         raise Refused(f"release/tpch.xz can't be unpacked ({error})") from error
     if hashlib.sha256(program).hexdigest() != said.get("program"):
         raise Refused("release/tpch.xz isn't the program that release/SUMS names")
@@ -99,11 +99,22 @@ def put_apart(program):
         raise
 
 
+def is_apart(path):
+    """Returns whether the program was put into a temporary folder."""
+    return not path.startswith(f"{TOP}/")
+
+
+def remove(path):
+    """Removes an unpacked program, with its folder where that is a temporary one."""
+    os.remove(path)
+    if is_apart(path):
+        os.rmdir(os.path.dirname(path))
+
+
 def remove_apart(path):
     """Removes the program where it was put into a temporary folder."""
-    if not path.startswith(f"{TOP}/"):
-        os.remove(path)
-        os.rmdir(os.path.dirname(path))
+    if is_apart(path):
+        remove(path)
 
 
 def is_unpacked(said):
@@ -129,6 +140,7 @@ def unpack(said):
     try:
         try_start(path)
     except Refused:
-        remove_apart(path)
+        # (else a later call would take it for one that was tried)
+        remove(path)
         raise
     return path

@@ -18,7 +18,7 @@ from typing import NamedTuple
 TOP = os.path.dirname(os.path.dirname(os.path.dirname(os.path.realpath(__file__))))
 LIBC = ctypes.CDLL(None, use_errno=True)
 PR_SET_PDEATHSIG = 1
-IN_CLOSE_NOWRITE = 0x10
+IN_ACCESS = 0x1
 
 
 def chosen():
@@ -80,8 +80,8 @@ def processor_seconds(pid):
 
 class Run(NamedTuple):
     """What a run took: processor seconds, seconds by the clock, the most memory in MB, its exit
-    status (below 0 the signal that ended it); and where a file was watched, the two times since
-    that file was closed, otherwise the whole."""
+    status (below 0 the signal that ended it); and where its reading was watched, the two times
+    since it had read its files, otherwise the whole."""
 
     processor: float
     clock: float
@@ -91,14 +91,36 @@ class Run(NamedTuple):
     clock_after: float
 
 
-class Watch:
-    """Tells when a file that was open for reading is closed."""
+def bytes_read(pid):
+    """The bytes that a process has read until now."""
+    with open(f"/proc/{pid}/io", encoding="ascii") as file:
+        return int(file.readline().split()[1])
 
-    def __init__(self, path):
-        self.descriptor = LIBC.inotify_init1(os.O_CLOEXEC)
+
+class Watch:
+    """Tells when a process has read so many bytes. It looks whenever anything reads a file, which
+    should be the last that the process reads. (When the file is closed would say nothing: a
+    program may keep it open until its end.)"""
+
+    def __init__(self, path, size):
+        self.size, self.descriptor = size, LIBC.inotify_init1(os.O_CLOEXEC)
         name = os.fsencode(path)
-        if LIBC.inotify_add_watch(self.descriptor, name, IN_CLOSE_NOWRITE) < 0:
+        if LIBC.inotify_add_watch(self.descriptor, name, IN_ACCESS) < 0:
             raise OSError(ctypes.get_errno(), os.strerror(ctypes.get_errno()), path)
+
+    def wait(self, pid):
+        """The processor seconds of a process and the clock when it has read the bytes, or nothing
+        where it ends before."""
+        ended = os.pidfd_open(pid)
+        try:
+            while ended not in select.select([self.descriptor, ended], [], [])[0]:
+                now = processor_seconds(pid), time.monotonic()
+                os.read(self.descriptor, 1 << 16)
+                if bytes_read(pid) >= self.size:
+                    return now
+            return None
+        finally:
+            os.close(ended)
 
     def close(self):
         os.close(self.descriptor)
@@ -117,19 +139,16 @@ def prepare(processors, seconds, megabytes):
 
 def run(words, out=None, watched=None, processors=None, seconds=None, megabytes=None):
     """Runs a command to its end and measures it. `out` takes its standard output (else this
-    process's), `watched` is a file whose first closing splits the time; `seconds` of a processor
-    and `megabytes` of addresses are the most that it gets."""
-    watch = Watch(watched) if watched else None
+    process's), `watched` has the last file that it reads and the bytes of all of them, whose
+    reading splits the time; `seconds` of a processor and `megabytes` of addresses are the most
+    that it gets."""
+    watch = Watch(*watched) if watched else None
     begin, mark, child = time.monotonic(), None, None
     try:
         first = lambda: prepare(processors, seconds, megabytes)
         child = subprocess.Popen(words, stdout=out, preexec_fn=first)
         if watch:
-            ended = os.pidfd_open(child.pid)
-            ready, _, _ = select.select([watch.descriptor, ended], [], [])
-            if watch.descriptor in ready:
-                mark = processor_seconds(child.pid), time.monotonic()
-            os.close(ended)
+            mark = watch.wait(child.pid)
         _, status, used = os.wait4(child.pid, 0)
         child.returncode = os.waitstatus_to_exitcode(status)
     finally:

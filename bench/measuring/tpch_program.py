@@ -1,14 +1,15 @@
 """The program that is measured.
 
-It reads the tables anew in each run, the last of them lineitem, so a run's own time is counted
-from when that file is closed; what a run of a script without statements takes from there on is
-taken off. A short text is asked many times in one script."""
+It reads the tables anew in each run, the last of them lineitem, and prints its answers together at
+its end. So a run's own time is counted from when it has read the bytes of all tables; what a run
+of a script without statements takes from there on is taken off. A short text is asked many times
+in one script."""
 import os
 import shutil
 import subprocess
 import tempfile
 
-from . import child
+from . import child, schema
 from .answers import Answer, answers_of
 
 # A script has a text so many times that its answers take about this long, but at most so often.
@@ -23,31 +24,35 @@ class Program:
         self.path, self.folder = path, folder
         self.processors = sorted(os.sched_getaffinity(0))[:threads]
         self.room = tempfile.mkdtemp()
+        self.size = sum(os.path.getsize(f"{folder}/{table}.tbl") for table in schema.TABLES)
         self.answers, self.times, self.memory = {}, {}, {}
-        empty = [self.run("", 1) for _ in range(3)]
-        for run in empty:
+        empty = [self.run("", 1, is_watched=False) for _ in range(3)]
+        begun = [self.run("", 1) for _ in range(3)]
+        for run in empty + begun:
             if run.status:
                 said = self.said()[:200].strip()
                 raise RuntimeError(f"{path} ends with status {run.status} over {folder}: {said}")
         self.load = min(it.processor for it in empty)
         self.load_clock = min(it.clock for it in empty)
         self.load_memory = min(it.memory for it in empty)
-        self.rest = min(it.processor_after for it in empty)
-        self.rest_clock = min(it.clock_after for it in empty)
+        self.rest = min(it.processor_after for it in begun)
+        self.rest_clock = min(it.clock_after for it in begun)
 
     def version(self):
+        if os.environ.get("PROGRAM"):
+            return f"tpch ({self.path})"
         words = ["git", "-C", child.TOP, "rev-parse", "--short", "HEAD"]
         commit = subprocess.run(words, capture_output=True, text=True, check=False).stdout.strip()
         return f"tpch at commit {commit or 'unknown'}"
 
-    def run(self, text, times, seconds=None, megabytes=None):
+    def run(self, text, times, seconds=None, megabytes=None, is_watched=True):
         """A run of a script that has the text that many times."""
         with open(f"{self.room}/script", "w", encoding="ascii") as script:
             script.write(text * times)
         with open(f"{self.room}/out", "wb") as out:
             words = [self.path, "session", self.folder, f"{self.room}/script"]
-            last = f"{self.folder}/lineitem.tbl"
-            return child.run(words, out, last, self.processors, seconds, megabytes)
+            files = (f"{self.folder}/lineitem.tbl", self.size) if is_watched else None
+            return child.run(words, out, files, self.processors, seconds, megabytes)
 
     def said(self):
         with open(f"{self.room}/out", encoding="ascii", errors="replace") as file:
@@ -56,6 +61,8 @@ class Program:
     def own(self, run, times):
         """The seconds of each answer, of a processor and by the clock."""
         processor, clock = run.processor_after - self.rest, run.clock_after - self.rest_clock
+        if run.processor - processor > 4 * self.load + 1:
+            raise RuntimeError(f"{self.path} doesn't read the tables before it answers")
         return max(processor, 0) / times, max(clock, 0) / times
 
     def rows(self, text):
