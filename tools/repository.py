@@ -73,7 +73,7 @@ def source_paths(crate, top=TOP):
     """Returns the folders and files of a crate's sources, in an order that is always the same."""
     folders, files = [], []
     for part in PARTS:
-        for at, inner, names in os.walk(f"{top}/crates/{crate}/{part}"):
+        for at, inner, names in os.walk(f"{top}/crates/{crate}/{part}", followlinks=True):
             if at.endswith(f"/{crate}/src"):
                 inner[:] = [it for it in inner if it != "tests"]
                 names = [it for it in names if it != "tests.rt"]
