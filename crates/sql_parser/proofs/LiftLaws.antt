@@ -342,12 +342,18 @@ module _ {P S : Type 0} {N M : Part Token Expr} {w : Reading Token Expr} {B C : 
   lift-QueryLine = Lifts-then n block (lift-SelectLine n many le wide law_part lift_part) (Lifts-then n pair lift-FromLine (lift-FiltersTail n many le wide law_part lift_part))
 
 -- ---- statements
-module _ {P S : Type 0} {B B' C C' : Part Token Block} {b d : Reading Token Block} (n many : ℕ) (le : n ≤ many) (wide room : ℕ)
-    (law_query : Line kinds P S (k.Select ∷ []) on_query B b) (law_inner : Line kinds (Deeper room) S (k.Select ∷ []) on_query C d)
-    (lift_query : Lifts n B B') (lift_inner : Below n C C') where
+module _ {B B' : Part Token Block} (n many : ℕ) (le : n ≤ many) (wide room : ℕ) (lift_query : Lifts n B B') where
   pub lift-OrderedLine : Lifts n (OrderedLine wide B) (OrderedLine many B')
   lift-OrderedLine = Lifts-then n ordered lift_query (Lifts-then n pair (lift-OrderTail n many le wide) (Lifts-then n pair (lift-LimitTail n) (lift-VersionTail n)))
 
+  pub lift-CreateLine : Lifts n (CreateLine wide room B) (CreateLine many n B')
+  lift-CreateLine = Lifts-then n create_view
+      (Lifts-then n second (Lifts-then n second (Lifts-one n (is k.Create)) (Lifts-one n (is k.View))) (Lifts-then n pair (lift-NameLine n) (lift-ColumnNames n many le wide room)))
+      (Lifts-then n second (Lifts-one n (is k.As)) lift_query)
+
+module _ {P S : Type 0} {B B' C C' : Part Token Block} {b d : Reading Token Block} (n many : ℕ) (le : n ≤ many) (wide room : ℕ)
+    (law_query : Line kinds P S (k.Select ∷ []) on_query B b) (law_inner : Line kinds (Deeper room) S (k.Select ∷ []) on_query C d)
+    (lift_query : Lifts n B B') (lift_inner : Below n C C') where
   pub lift-WithQueryLine : Lifts n (WithQueryLine wide room C) (WithQueryLine many n C')
   lift-WithQueryLine = Lifts-then n with_query (Lifts-then n pair (lift-NameLine n) (lift-ColumnNames n many le wide room))
       (Lifts-then n second (Lifts-one n (is k.As)) (lift-Subquery n many le wide room lift_inner))
@@ -357,16 +363,11 @@ module _ {P S : Type 0} {B B' C C' : Part Token Block} {b d : Reading Token Bloc
       (Lifts-then n cons lift-WithQueryLine (Lifts-list n many second wide le (line_nonempty (law-WithQueryLine wide room law_query law_inner)) (Lifts-one n (is k.Comma)) lift-WithQueryLine))
 
   pub lift-WithOrderedLine : Lifts n (WithOrderedLine wide room B C) (WithOrderedLine many n B' C')
-  lift-WithOrderedLine = Lifts-then n under_with lift-WithLine lift-OrderedLine
-
-  pub lift-CreateLine : Lifts n (CreateLine wide room B) (CreateLine many n B')
-  lift-CreateLine = Lifts-then n create_view
-      (Lifts-then n second (Lifts-then n second (Lifts-one n (is k.Create)) (Lifts-one n (is k.View))) (Lifts-then n pair (lift-NameLine n) (lift-ColumnNames n many le wide room)))
-      (Lifts-then n second (Lifts-one n (is k.As)) lift_query)
+  lift-WithOrderedLine = Lifts-then n under_with lift-WithLine (lift-OrderedLine n many le wide room lift_query)
 
   pub lift-StatementLine : Lifts n (StatementLine wide room B C) (StatementLine many n B' C')
-  lift-StatementLine = Lifts-or n (Lifts-map n statements.Query lift-OrderedLine)
-      (Lifts-or n lift-WithOrderedLine (Lifts-or n lift-CreateLine (Lifts-or n (lift-DropLine n) (Lifts-or n (lift-RefreshLine n) (lift-RunLine n many le wide room)))))
+  lift-StatementLine = Lifts-or n (Lifts-map n statements.Query (lift-OrderedLine n many le wide room lift_query))
+      (Lifts-or n lift-WithOrderedLine (Lifts-or n (lift-CreateLine n many le wide room lift_query) (Lifts-or n (lift-DropLine n) (Lifts-or n (lift-RefreshLine n) (lift-RunLine n many le wide room)))))
 
   pub lift-EndedLine : Lifts n (EndedLine wide room B C) (EndedLine many n B' C')
   lift-EndedLine = Lifts-then n first lift-StatementLine (Lifts-one n (is k.Semicolon))
