@@ -6,6 +6,6 @@ mod statement;
 mod tree;
 mod words;
 
-pub use statement::{NamedKey, Query, RefreshKind, Statement, TemplateValue};
+pub use statement::{NamedKey, Query, RefreshKind, Statement, TemplateValue, WithQuery};
 pub use tree::{Arm, Block, Clause, Expr, Factor, FromItem, Item, Join, Joined, Selected, Term};
 pub use words::{Adding, Aggregate, Column, Comparison, JoinKind, Multiplying, Name, Span};

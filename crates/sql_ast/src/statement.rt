@@ -14,9 +14,23 @@ pub struct NamedKey {
     pub is_descending: bool,
 }
 
-/// A query that is a statement: with order and row limit, which no inner query has.
+/// A query of WITH, which its statement knows by a name.
+#[derive(Drop)]
+pub struct WithQuery {
+    /// Its name.
+    pub name: Name,
+    /// The names of its columns; none where no list stands.
+    pub columns: Items<Name>,
+    /// The query in the parentheses.
+    pub block: Block,
+}
+
+/// A query that is a statement: with the queries of WITH, order, row limit and version, none of
+/// which an inner query has.
 #[derive(Drop)]
 pub struct Query {
+    /// The queries of WITH from left to right; none where it is absent.
+    pub with_queries: Items<WithQuery>,
     /// The query from SELECT to HAVING.
     pub block: Block,
     /// The keys of ORDER BY; none where it is absent.
@@ -24,6 +38,8 @@ pub struct Query {
     /// How many rows the answer has at most, itself at most 999999999; nothing where no limit
     /// stands.
     pub limit: Option<u32>,
+    /// The number of the version that is asked, at most 999999999; nothing where none is named.
+    pub version: Option<u32>,
 }
 
 /// What a refresh does.

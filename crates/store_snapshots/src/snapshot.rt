@@ -5,6 +5,7 @@ ghost use Rattle.base_columns.specs.Lists.{one_list};
 ghost use Rattle.plan_algebra.specs.Trees.{HasKinds};
 ghost use Rattle.base_schema.specs.State.{table_rows};
 ghost use Rattle.store_state.specs.Versions.{accepted};
+ghost use Rattle.store_versions.specs.Older.{GivesOlder};
 ghost use Rattle.store_versions.specs.Trials.{tables_of, version_of};
 
 use base_schema::TableName;
@@ -13,7 +14,7 @@ use std::alloc::{AllocError, Global};
 use std::marker::Model;
 use std::sync::Arc;
 use std::sync::ledger::Ledger;
-use store_versions::Directory;
+use store_versions::{Directory, VersionError};
 
 /// A share of a version, seen as that version.
 #[derive(Drop)]
@@ -52,6 +53,15 @@ impl Snapshot {
         ensures most { result ≤ accepted self.now.base self.now.list (length self.now.list) }
     {
         self.share.version()
+    }
+
+    /// A snapshot of the version of a number, which is this one or one of the 63 before it.
+    pub fn at(&self, alloc: Global, version: u64) -> Result<Snapshot, VersionError>
+        ensures { GivesOlder self.now version result }
+    {
+        let older = self.share.older(version)?;
+        let share = Arc::new(alloc, older)?;
+        Ok(Snapshot { share })
     }
 }
 

@@ -1,3 +1,4 @@
 pub mod Joining
+pub mod Older
 pub mod Segments
 pub mod Trials

@@ -10,6 +10,7 @@ ghost use Rattle.store_versions.specs.Trials.{version_of};
 
 use crate::directory::Directory;
 use crate::joining::joined;
+use crate::kept::KeptVersion;
 use base_columns::{Rows, Segment};
 use base_schema::TableName;
 use std::alloc::{AllocError, Global};
@@ -28,6 +29,8 @@ pub struct Compacted {
     pub(crate) accepted: u64,
     /// The segments of each table, in the schema's order of tables.
     pub(crate) tables: Vec<Vec<Segment>>,
+    /// The earlier versions that are kept.
+    pub(crate) earlier: Arc<Vec<KeptVersion>>,
 }
 
 impl Model for Compacted {
@@ -37,7 +40,7 @@ impl Model for Compacted {
     ghost use Rattle.base_columns.specs.Lists.{one_list};
     ghost use Rattle.store_state.specs.Lists.{IsOfKinds, state_of};
     ghost use Rattle.store_versions.specs.Segments.{Compaction};
-    ghost use Rattle.store_versions.specs.Trials.{HasKept};
+    ghost use Rattle.store_versions.specs.Older.{HasHistory};
 
     ghost Value = { Compaction };
 
@@ -51,8 +54,10 @@ impl Model for Compacted {
     } };
 
     ghost invariant = { λ c.
-        HasKept (record { base = arc_value c.base; list = (arc_value c.list).items; done = c.done })
+        HasHistory
+        (record { base = arc_value c.base; list = (arc_value c.list).items; done = c.done })
         c.accepted (state_of (map (λ segments. one_list segments.items) c.tables.items))
+        (arc_value c.earlier).items
         × (length c.tables.items ≡ 8)
         × IsOfKinds (state_of (map (λ segments. one_list segments.items) c.tables.items)) };
 }
@@ -87,7 +92,9 @@ impl Compacted {
         let state = state_over(self.alloc, self.tables.as_slice())?;
         let base = Arc::try_clone(&self.base)?;
         let list = Arc::try_clone(&self.list)?;
-        Ok(Directory::at(self.alloc, base, list, self.done, self.accepted, state))
+        let last = KeptVersion::new(self.accepted, self.done, Arc::new(self.alloc, state)?);
+        let earlier = Arc::try_clone(&self.earlier)?;
+        Ok(Directory::at(self.alloc, base, list, last, earlier))
     }
 
     /// The same version, whose tables' parts are these segments.

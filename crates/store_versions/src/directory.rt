@@ -7,6 +7,7 @@ ghost use Rattle.store_state.specs.Lists.{IsOfKinds};
 ghost use Rattle.store_state.specs.Versions.{accepted};
 
 use crate::compacted::{Compacted, joined_tables};
+use crate::kept::{KeptVersion, kept_at};
 use base_schema::{TABLES, TableName};
 use base_value::Row;
 use std::alloc::{AllocError, Global};
@@ -17,17 +18,20 @@ use store_state::{Part, Refresh, RefreshError, State, apply};
 /// The first refreshes of a list that were tried on a base, with the tables that they leave.
 #[derive(Drop)]
 pub struct Directory {
-    alloc: Global,
-    base: Arc<State>,
-    list: Arc<Vec<Refresh>>,
-    done: usize,
-    accepted: u64,
-    state: State,
+    pub(crate) alloc: Global,
+    pub(crate) base: Arc<State>,
+    pub(crate) list: Arc<Vec<Refresh>>,
+    pub(crate) done: usize,
+    pub(crate) accepted: u64,
+    state: Arc<State>,
+    /// Of the 63 versions before it those that are kept, in shared segments.
+    pub(crate) earlier: Arc<Vec<KeptVersion>>,
 }
 
 impl Model for Directory {
     ghost use Rattle.std.specs.Arc.{arc_value};
-    ghost use Rattle.store_versions.specs.Trials.{HasKept, Trials};
+    ghost use Rattle.store_versions.specs.Older.{HasHistory};
+    ghost use Rattle.store_versions.specs.Trials.{Trials};
 
     ghost Value = { Trials };
 
@@ -37,24 +41,27 @@ impl Model for Directory {
       done = d.done;
     } };
 
-    ghost invariant = { λ d.
-        HasKept (record { base = arc_value d.base; list = (arc_value d.list).items; done = d.done })
-        d.accepted d.state };
+    ghost invariant = { λ d. HasHistory
+        (record { base = arc_value d.base; list = (arc_value d.list).items; done = d.done })
+        d.accepted (arc_value d.state) (arc_value d.earlier).items };
 }
 
 impl Directory {
     ghost use Rattle.std.specs.Arc.{arc_value};
+    ghost use Rattle.std.specs.List.{All};
+    ghost use Rattle.store_versions.specs.Older.{IsVersionOf};
     ghost use Rattle.store_versions.specs.Segments.{IsCompacted};
-    ghost use Rattle.store_versions.specs.Trials.{IsAfter, HasKept, Leaves, one_more, tables_of};
+    ghost use Rattle.store_versions.specs.Trials.{IsAfter, Leaves, one_more, tables_of};
     ghost use Rattle.store_versions.specs.Trials.{version_of};
 
     /// The base, with nothing tried.
     pub fn new(alloc: Global, base: State, list: Vec<Refresh>) -> Result<Directory, AllocError>
         ensures { IfOk result (λ d. d ≡ record { base = base; list = list.items; done = 0 }) }
     {
-        let state = base.share(alloc)?;
         let base = Arc::new(alloc, base)?;
         let list = Arc::new(alloc, list)?;
+        let state = Arc::try_clone(&base)?;
+        let earlier = Arc::new(alloc, Vec::new(alloc))?;
         Ok(Directory {
             alloc,
             base,
@@ -62,6 +69,7 @@ impl Directory {
             done: 0,
             accepted: 0,
             state,
+            earlier,
         })
     }
 
@@ -69,9 +77,10 @@ impl Directory {
     pub fn another(&self) -> Result<Directory, AllocError>
         ensures { IfOk result (λ d. d ≡ self.now) }
     {
-        let state = self.state.share(self.alloc)?;
         let base = Arc::try_clone(&self.base)?;
         let list = Arc::try_clone(&self.list)?;
+        let state = Arc::try_clone(&self.state)?;
+        let earlier = Arc::try_clone(&self.earlier)?;
         Ok(Directory {
             alloc: self.alloc,
             base,
@@ -79,6 +88,7 @@ impl Directory {
             done: self.done,
             accepted: self.accepted,
             state,
+            earlier,
         })
     }
 
@@ -105,33 +115,36 @@ impl Directory {
         self.done == self.list.len()
     }
 
-    /// A version of this base and this list, which is kept in this state.
+    /// A version of this base and this list, with earlier ones.
     pub(crate) fn at(
         alloc: Global,
         base: Arc<State>,
         list: Arc<Vec<Refresh>>,
-        done: usize,
-        accepted: u64,
-        state: State,
+        last: KeptVersion,
+        earlier: Arc<Vec<KeptVersion>>,
     ) -> Directory
-        requires { HasKept (record {
-          base = arc_value base;
-          list = (arc_value list).items;
-          done = done;
-        }) accepted state }
+        requires last { IsVersionOf (arc_value base) (arc_value list).items last }
+        requires earlier { All (IsVersionOf (arc_value base) (arc_value list).items)
+            (arc_value earlier).items }
         ensures { result ≡ record {
           base = arc_value base;
           list = (arc_value list).items;
-          done = done;
+          done = last.done;
         } }
     {
+        let KeptVersion {
+            number,
+            done,
+            state,
+        } = last;
         Directory {
             alloc,
             base,
             list,
             done,
-            accepted,
+            accepted: number,
             state,
+            earlier,
         }
     }
 
@@ -143,6 +156,7 @@ impl Directory {
         let tables = joined_tables(self.alloc, &self.state, &TABLES)?;
         let base = Arc::try_clone(&self.base)?;
         let list = Arc::try_clone(&self.list)?;
+        let earlier = Arc::try_clone(&self.earlier)?;
         Ok(Compacted {
             alloc: self.alloc,
             base,
@@ -150,6 +164,7 @@ impl Directory {
             done: self.done,
             accepted: self.accepted,
             tables,
+            earlier,
         })
     }
 
@@ -188,6 +203,18 @@ impl Directory {
         }
     }
 
+    /// What the next version keeps: this version and those of the 62 before it that are kept here.
+    fn earlier_of_next(&self) -> Result<Vec<KeptVersion>, AllocError>
+        requires { self.now.done < length self.now.list }
+        ensures { IfOk result
+            (λ kept. All (IsVersionOf self.now.base self.now.list) kept.items) }
+    {
+        let mut kept = kept_at(self.alloc, self.earlier.as_slice(), self.accepted + 1)?;
+        let state = Arc::try_clone(&self.state)?;
+        kept.push(KeptVersion::new(self.accepted, self.done, state))?;
+        Ok(kept)
+    }
+
     /// The version of the state that the next refresh, which is accepted, leaves here.
     fn next(&self, state: State) -> Result<Directory, AllocError>
         requires less { self.now.done < length self.now.list }
@@ -198,6 +225,8 @@ impl Directory {
     {
         let base = Arc::try_clone(&self.base)?;
         let list = Arc::try_clone(&self.list)?;
+        let state = Arc::new(self.alloc, state)?;
+        let earlier = Arc::new(self.alloc, self.earlier_of_next()?)?;
         Ok(Directory {
             alloc: self.alloc,
             base,
@@ -205,6 +234,7 @@ impl Directory {
             done: self.done + 1,
             accepted: self.accepted + 1,
             state,
+            earlier,
         })
     }
 

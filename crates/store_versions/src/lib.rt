@@ -4,7 +4,11 @@
 mod compacted;
 mod directory;
 mod joining;
+mod kept;
+mod older;
 mod scan;
+mod version_error;
 
 pub use compacted::Compacted;
 pub use directory::Directory;
+pub use version_error::VersionError;

@@ -1,0 +1,90 @@
+//! Versions that are kept beside the last one.
+ghost use Rattle.std.specs.Prelude.{◌≡◌, IfOk, IfSome};
+ghost use Rattle.std.specs.Arc.{arc_value};
+ghost use Rattle.std.specs.List.{Contains};
+ghost use Rattle.store_versions.specs.Older.{AreAmong};
+
+use std::alloc::{AllocError, Global};
+use std::marker::Model;
+use std::sync::Arc;
+use store_state::State;
+
+/// How many versions may be asked for: the last one and those before it.
+pub(crate) const KEPT_VERSIONS: u64 = 64;
+
+/// A version by its number, with how many refreshes were tried by then and its tables.
+#[derive(Drop)]
+pub(crate) struct KeptVersion {
+    pub(crate) number: u64,
+    pub(crate) done: usize,
+    pub(crate) state: Arc<State>,
+}
+
+impl Model for KeptVersion {
+    ghost use Rattle.std.specs.Arc.{arc_value};
+    ghost use Rattle.store_versions.specs.Older.{KeptState};
+
+    ghost Value = { KeptState };
+
+    ghost view = { λ k. record { number = k.number; done = k.done; state = arc_value k.state } };
+}
+
+impl KeptVersion {
+    /// The version of a number, with how many refreshes were tried by then and its tables.
+    pub(crate) fn new(number: u64, done: usize, state: Arc<State>) -> KeptVersion
+        ensures { result ≡ record { number = number; done = done; state = arc_value state } }
+    {
+        KeptVersion {
+            number,
+            done,
+            state,
+        }
+    }
+
+    /// The same version, of which nothing is copied.
+    pub(crate) fn another(&self) -> Result<KeptVersion, AllocError>
+        ensures { IfOk result (λ kept. kept ≡ self.now) }
+    {
+        let state = Arc::try_clone(&self.state)?;
+        Ok(KeptVersion {
+            number: self.number,
+            done: self.done,
+            state,
+        })
+    }
+
+    /// Whether it is one of the 63 versions before that of a number.
+    fn is_kept_at(&self, number: u64) -> bool {
+        self.number < number && number - self.number < KEPT_VERSIONS
+    }
+}
+
+/// Those of some versions that are among the 63 before that of a number.
+pub(crate) fn kept_at(
+    alloc: Global,
+    earlier: &[KeptVersion],
+    number: u64,
+) -> Result<Vec<KeptVersion>, AllocError>
+    ensures { IfOk result (λ kept. AreAmong earlier.now kept.items) }
+{
+    let mut kept = Vec::new(alloc);
+    for version in earlier {
+        if version.is_kept_at(number) {
+            kept.push(version.another()?)?;
+        }
+    }
+    Ok(kept)
+}
+
+/// The version of a number, if it is one of these.
+pub(crate) fn kept_version(versions: &[KeptVersion], number: u64) -> Option<&KeptVersion>
+    ensures number { IfSome result (λ kept. kept.now.number ≡ number) }
+    ensures among { IfSome result (λ kept. Contains versions.now kept.now) }
+{
+    for version in versions {
+        if version.number == number {
+            return Some(version);
+        }
+    }
+    None
+}
