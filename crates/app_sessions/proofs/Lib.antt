@@ -1,4 +1,5 @@
 mod Printable
+mod Beside
 mod Running
 mod Texts
 mod Expanded

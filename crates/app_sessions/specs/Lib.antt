@@ -1,4 +1,5 @@
 pub mod Expansion
+pub mod Versions
 pub mod Views
 pub mod Outcomes
 pub mod Sessions
