@@ -1,5 +1,6 @@
 mod Printable
 mod Beside
+mod Worked
 mod Running
 mod Texts
 mod Expanded

@@ -113,11 +113,15 @@ outcome_text shows_rows number version (Refused why) = refusal_text number versi
 outcome_text shows_rows number version (VersionRefused why) =
     version_refusal_text number version why
 
+-- the lines of a statement of this number that began over a version and names one or none
+abbrev pub outcome_lines : Bool → ℕ → ℕ → Option ℕ → Outcome → List ℕ
+outcome_lines shows_rows number begun named outcome =
+    outcome_text shows_rows number (printed_version begun named outcome) outcome
+
 -- the lines of a statement of this number at its moment
 abbrev pub statement_text : Bool → ℕ → Moment → List View → Statement → List ℕ
 statement_text shows_rows number moment views statement =
-    outcome_text shows_rows number
-    (printed_version moment.version (version_named statement) (outcome_of moment views statement))
+    outcome_lines shows_rows number moment.version (version_named statement)
     (outcome_of moment views statement)
 
 -- no row that is printed has a fault

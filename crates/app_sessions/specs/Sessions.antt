@@ -9,9 +9,9 @@ use Rattle.sql_ast.specs.declared.statement.RefreshKind.{RefreshKind}
 use Rattle.sql_binder_steps.specs.declared.view.View.{View}
 use Rattle.base_schema.specs.State.{State}
 use Rattle.app_sessions.specs.Expansion.{ExpandAll}
-use Rattle.app_sessions.specs.Outcomes.{Moment, is_refusal, outcome_of, outcome_text}
+use Rattle.app_sessions.specs.Outcomes.{Moment, is_refusal, outcome_lines, outcome_of}
 use Rattle.app_sessions.specs.Outcomes.{statement_text}
-use Rattle.app_sessions.specs.Versions.{printed_version, version_named}
+use Rattle.app_sessions.specs.Versions.{version_named}
 use Rattle.app_sessions.specs.Views.{views_after}
 use Rattle.app_sessions.specs.declared.outcome.Outcome.{Outcome}
 use Rattle.app_sessions.specs.declared.session.Session.{Session}
@@ -81,8 +81,7 @@ abbrev pub with_lines : Course → ℕ → Option ℕ → Outcome → Course
 with_lines course begun named outcome = record course {
   answered = course.answered + 1;
   versions = course.versions ++ begun ∷ [];
-  text = course.text ++ outcome_text course.shows_rows (course.answered + 1)
-      (printed_version begun named outcome) outcome;
+  text = course.text ++ outcome_lines course.shows_rows (course.answered + 1) begun named outcome;
   is_clean = course.is_clean && not (is_refusal outcome);
 }
 
