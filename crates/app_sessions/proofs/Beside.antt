@@ -55,15 +55,15 @@ gone_back begun named false false is was some = absurd (let none = by_tests begu
 pub versions_asked : VersionsAsked
 versions_asked = record {
   asked = λ begun named. (
-      none_back begun named (nat_lt begun named) (nat_le (named + 64) begun) refl refl,
-      λ both. asked_beside begun named both.0 both.1,
-    );
+    none_back begun named (nat_lt begun named) (nat_le (named + 64) begun) refl refl,
+    λ both. asked_beside begun named both.0 both.1,
+  );
   unknown = λ begun named. (
-      unknown_back begun named (nat_lt begun named) (nat_le (named + 64) begun) refl refl,
-      unknown_beside begun named,
-    );
+    unknown_back begun named (nat_lt begun named) (nat_le (named + 64) begun) refl refl,
+    unknown_beside begun named,
+  );
   gone = λ begun named. (
-      gone_back begun named (nat_lt begun named) (nat_le (named + 64) begun) refl refl,
-      gone_beside begun named,
-    );
+    gone_back begun named (nat_lt begun named) (nat_le (named + 64) begun) refl refl,
+    gone_beside begun named,
+  );
 }

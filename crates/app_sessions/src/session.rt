@@ -153,12 +153,7 @@ impl Session {
 
     /// Appends the lines of the next statement, whose turn is over. It began over a version and
     /// names one or none.
-    fn put(
-        &mut self,
-        begun: u64,
-        named: Option<u32>,
-        outcome: &Outcome,
-    ) -> Result<(), AllocError>
+    fn put(&mut self, begun: u64, named: Option<u32>, outcome: &Outcome) -> Result<(), AllocError>
         requires within { self.old.answered < length self.old.steps }
         requires printable { IsTrue (is_printable outcome.now) }
         ensures { OnOk result (course_of self.new

@@ -4,8 +4,9 @@ ghost use Rattle.app_result_text.specs.Answer.{answer_text, header, rows_have_no
 ghost use Rattle.app_sessions.specs.Outcomes.{is_printable, outcome_text};
 
 use crate::outcome::Outcome;
-use app_result_text::{accepted_text, answer_text, done_text, header, refusal_text};
-use app_result_text::version_refusal_text;
+use app_result_text::{
+    accepted_text, answer_text, done_text, header, refusal_text, version_refusal_text,
+};
 use base_value::Row;
 use std::alloc::{AllocError, Global};
 
