@@ -18,7 +18,7 @@ use Rattle.sql_lexer.specs.contracts.kind.Kind.{the_type}
 use Rattle.sql_lexer.specs.declared.kind.Kind.TheVariants as k
 use Rattle.sql_lexer.specs.declared.token.Token.{Token}
 use Rattle.sql_lexer.proofs.OneAnswer.{one_tokens}
-use Rattle.sql_parser.specs.Grammar.{EndedLine, Query, StatementLine}
+use Rattle.sql_parser.specs.Grammar.{EndedLine, InnerQuery, Query, StatementLine}
 use Rattle.sql_parser.specs.Script.{IsReadScript, Sql}
 use Rattle.sql_templates.specs.Cutting.{cut}
 use Rattle.sql_templates.specs.Laws.{HasTokens}
@@ -78,22 +78,23 @@ no_refresh t ms e f h =
     let not_here : is_other t ≡ false = ap not e in
     cc
 
-line_other : (wide room : ℕ) (query : List (Mark Token) → Block → Type 0) (ms : List (Mark Token)) (s : Statement) → StatementLine wide room query ms s → AreOther ms → is_refresh s ≡ false
-line_other wide room query ms s (inl g) h = ap is_refresh g.value
-line_other wide room query ms s (inr (inl g)) h = ap is_refresh g.value
-line_other wide room query ms s (inr (inr (inl g))) h = ap is_refresh (g.value ∙ g.second.value)
-line_other wide room query ms s (inr (inr (inr (inl g)))) h = absurd (no_refresh g.a g.front g.first.0 g.first.1 (both_other ms g.front g.back g.text h).0)
-line_other wide room query ms s (inr (inr (inr (inr g)))) h = ap is_refresh (g.value ∙ g.second.value)
+line_other : (wide room : ℕ) (query inner : List (Mark Token) → Block → Type 0) (ms : List (Mark Token)) (s : Statement) → StatementLine wide room query inner ms s → AreOther ms → is_refresh s ≡ false
+line_other wide room query inner ms s (inl g) h = ap is_refresh g.value
+line_other wide room query inner ms s (inr (inl g)) h = ap is_refresh g.value
+line_other wide room query inner ms s (inr (inr (inl g))) h = ap is_refresh g.value
+line_other wide room query inner ms s (inr (inr (inr (inl g)))) h = ap is_refresh (g.value ∙ g.second.value)
+line_other wide room query inner ms s (inr (inr (inr (inr (inl g))))) h = absurd (no_refresh g.a g.front g.first.0 g.first.1 (both_other ms g.front g.back g.text h).0)
+line_other wide room query inner ms s (inr (inr (inr (inr (inr g))))) h = ap is_refresh (g.value ∙ g.second.value)
 
-ended_other : (wide room : ℕ) (query : List (Mark Token) → Block → Type 0) (ms : List (Mark Token)) (s : Statement) → EndedLine wide room query ms s → AreOther ms → is_refresh s ≡ false
-ended_other wide room query ms s e h =
-    ap is_refresh e.value ∙ line_other wide room query e.front e.a e.first (both_other ms e.front e.back e.text h).0
+ended_other : (wide room : ℕ) (query inner : List (Mark Token) → Block → Type 0) (ms : List (Mark Token)) (s : Statement) → EndedLine wide room query inner ms s → AreOther ms → is_refresh s ≡ false
+ended_other wide room query inner ms s e h =
+    ap is_refresh e.value ∙ line_other wide room query inner e.front e.a e.first (both_other ms e.front e.back e.text h).0
 
 script_other : (height : ℕ) (ss : List Statement) (ms : List (Mark Token)) → Script Sql height ss ms → AreOther ms → list_any is_refresh ss ≡ false
 script_other height [] ms e h = refl
 script_other height (s ∷ ss) ms e h =
     let parts = both_other ms e.front e.back e.text h in
-    let here : is_refresh s ≡ false = ap is_refresh e.value ∙ ended_other 1023 64 (Query height 1023 64) e.front e.a e.first parts.0 in
+    let here : is_refresh s ≡ false = ap is_refresh e.value ∙ ended_other 1023 64 (Query height 1023 64) (InnerQuery height 1023 64) e.front e.a e.first parts.0 in
     let later : list_any is_refresh ss ≡ false = script_other height ss e.back e.second parts.1 in
     rw (here, later) refl
 

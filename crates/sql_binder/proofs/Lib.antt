@@ -6,4 +6,5 @@ pub mod OnlyProofs
 pub mod Applied
 pub mod ExampleProofs
 pub mod EdgeProofs
+pub mod WithProofs
 pub mod ByHand

@@ -1,8 +1,9 @@
 -- What it is to bind a whole tree: a fold of the steps of its nodes. A statement and a view are
 -- bound so.
-use Rattle.std.specs.Prelude.{ℕ, Bool, List, [], map, Ok}
+use Rattle.std.specs.Prelude.{ℕ, Bool, List, [], ◌∷◌, ◌++◌, map, Ok}
 use Rattle.sql_bound_query.specs.declared.query.BoundQuery.{BoundQuery}
 use Rattle.sql_ast.specs.declared.statement.Query.{Query}
+use Rattle.sql_ast.specs.declared.statement.WithQuery.{WithQuery}
 use Rattle.sql_ast.specs.declared.tree.Arm.{Arm}
 use Rattle.sql_ast.specs.declared.tree.Block.{Block, out-Block}
 use Rattle.sql_ast.specs.declared.tree.Clause.{Clause}
@@ -22,7 +23,7 @@ use Rattle.sql_binder_steps.specs.declared.collected.BoundTable.{BoundTable}
 use Rattle.sql_binder_steps.specs.declared.collected.Collected.{Collected}
 use Rattle.sql_binder_steps.specs.declared.view.View.{View}
 use Rattle.sql_binder_steps.specs.Steps.{Name, Checked, and_then}
-use Rattle.sql_binder_steps.specs.Parts.{outermost, distinct_names, renamed_headers, order_of}
+use Rattle.sql_binder_steps.specs.Parts.{outermost, distinct_names, renamed_headers, order_of, new_name}
 use Rattle.sql_binder.specs.Meanings.{Meaning, ChainMeaning, ArmMeaning, ItemMeaning}
 use Rattle.sql_binder.specs.Meanings.{SelectedMeaning, ClauseMeaning, FromItemMeaning, JoinMeaning}
 use Rattle.sql_binder.specs.Meanings.{JoinedMeaning, BlockMeaning, BlockNode}
@@ -139,13 +140,6 @@ bound_table q views = block_meaning q (outermost views) start
 abbrev pub counted_table : Block → List View → Checked (BoundTable × ℕ)
 counted_table q views = and_then (bound_table q views) (λ r. Ok (r.0, r.1.items))
 
--- a query that is a statement: its parts, then ORDER BY
-unfoldable pub bound_query : Query → List View → Checked BoundQuery
-bound_query q views =
-    and_then (counted_table q.block views)
-    (λ r. and_then (order_of r.0.headers q.order)
-    (λ keys. Ok (record { block = r.0.block; order = keys; limit = q.limit })))
-
 -- a view: equal names of its column list, its query, the list's length
 unfoldable pub bound_view : Name → List Name → Block → List View → Checked View
 bound_view name names q views =
@@ -153,3 +147,29 @@ bound_view name names q views =
     (λ distinct. and_then (counted_table q views)
     (λ r. and_then (renamed_headers names r.0.headers)
     (λ headers. Ok (record { name = name; columns = headers; block = r.0.block; items = r.1 }))))
+
+-- queries of WITH after those that are bound, from left to right: its name, then all that a view of
+-- it is bound to, where those before stand in front of the session's views
+abbrev pub with_views_from : List View → List WithQuery → List View → Checked (List View)
+with_views_from done [] views = Ok done
+with_views_from done (w ∷ ws) views =
+    and_then (new_name w.name done)
+    (λ new. and_then (bound_view w.name w.columns w.block (done ++ views))
+    (λ v. with_views_from (done ++ v ∷ []) ws views))
+
+-- the queries of WITH, each bound as a view that those after it and its statement may use
+abbrev pub with_views : List WithQuery → List View → Checked (List View)
+with_views queries views = with_views_from [] queries views
+
+-- a query that is a statement, over these views: its parts, then ORDER BY
+abbrev pub bound_over : Query → List View → Checked BoundQuery
+bound_over q views =
+    and_then (counted_table q.block views)
+    (λ r. and_then (order_of r.0.headers q.order)
+    (λ keys. Ok (record { block = r.0.block; order = keys; limit = q.limit })))
+
+-- a query that is a statement: its queries of WITH, then itself with these in front of the
+-- session's views
+unfoldable pub bound_query : Query → List View → Checked BoundQuery
+bound_query q views =
+    and_then (with_views q.with_queries views) (λ named. bound_over q (named ++ views))

@@ -98,7 +98,13 @@ select_where items from x =
 
 -- a statement without order and limit
 abbrev pub statement : Block → Query
-statement q = record { block = q; order = []; limit = None }
+statement q = record {
+  with_queries = [];
+  block = q;
+  order = [];
+  limit = None;
+  version = None;
+}
 
 -- one expression over region
 abbrev pub over_region : Expr → Query

@@ -10,3 +10,4 @@ pub mod Nests
 pub mod Laws
 pub mod Examples
 pub mod EdgeCases
+pub mod WithCases

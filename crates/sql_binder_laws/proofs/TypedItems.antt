@@ -27,7 +27,7 @@ use Rattle.sql_binder_steps.specs.declared.view.View.{View}
 use Rattle.sql_binder.specs.Meanings.{FromItemMeaning}
 use Rattle.sql_binder.specs.Meanings.{BlockMeaning}
 use Rattle.sql_binder_steps.specs.Names.{Sight}
-use Rattle.sql_binder_steps.specs.Parts.{hiding, table_headers, view_named, named_by}
+use Rattle.sql_binder_steps.specs.Parts.{hiding, table_headers, view_named, view_or_table}
 use Rattle.sql_binder_steps.specs.Parts.{named_item, unused, column_of, under_names, renamed_headers}
 use Rattle.sql_binder_steps.specs.Parts.{distinct_names, listed_headers, table_rows, named_rows}
 use Rattle.sql_binder_steps.specs.Steps.{Name, Checked, ◌>>=◌, lift}
@@ -144,45 +144,51 @@ derived_is : (q : BoundBlock) (ks : List Kind) (env : EnvKinds) → block_kinds 
     → from_kinds (source.Derived q) env ≡ Some ks
 derived_is q ks env h = ap (λ (m : KindsMeaning). m env) (kinds_Derived q) ∙ h
 
-view_step : (b : Bool) (v : View) (r : Checked NamedItem) (i : NamedItem)
-    → (let x : Checked NamedItem =
-    if b then Ok (record {
+some_item : (a b : NamedItem) → Some a ≡ Some b → a ≡ b
+some_item a b h = cc
+
+view_step : (b : Bool) (v : View) (r : Option NamedItem) (i : NamedItem)
+    → (let x : Option NamedItem =
+    if b then Some (record {
       source = source.Derived v.block;
       headers = v.columns;
       items = v.items + 1;
-    }) else r in x ≡ Ok i)
-    → block_kinds v.block [] ≡ Some (header_kinds v.columns) → (r ≡ Ok i → ItemIs i) → ItemIs i
+    }) else r in x ≡ Some i)
+    → block_kinds v.block [] ≡ Some (header_kinds v.columns) → (r ≡ Some i → ItemIs i) → ItemIs i
 view_step true v r i h is other =
     let made : NamedItem = record {
       source = source.Derived v.block;
       headers = v.columns;
       items = v.items + 1;
     } in
-    subst ItemIs (ok_is made i h) (λ env. derived_is v.block (header_kinds v.columns) env is)
+    subst ItemIs (some_item made i h) (λ env. derived_is v.block (header_kinds v.columns) env is)
 view_step false v r i h is other = other h
 
 view_is : (name : Name) (views : List View) (i : NamedItem) → ViewsAreTyped views
-    → view_named name views ≡ Ok i → ItemIs i
+    → view_named name views ≡ Some i → ItemIs i
 view_is name [] i are h = cc
 view_is name (v ∷ views) i are h =
     view_step (bytes_eq v.name name) v (view_named name views) i h are.0
     (λ g. view_is name views i are.1 g)
 
-named_by_is : (o : Option TableName) (name : Name) (views : List View) (i : NamedItem)
-    → ViewsAreTyped views → named_by o name views ≡ Ok i → ItemIs i
-named_by_is (Some t) name views i are h =
+view_or_table_is : (o : Option NamedItem) (t : Option TableName) (i : NamedItem)
+    → ((j : NamedItem) → o ≡ Some j → ItemIs j) → view_or_table o t ≡ Ok i → ItemIs i
+view_or_table_is (Some j) t i is h = subst ItemIs (ok_is j i h) (is j refl)
+view_or_table_is None (Some t) i is h =
     let made : NamedItem = record {
       source = source.Table t;
       headers = table_headers t;
       items = 1;
     } in
     subst ItemIs (ok_is made i h) (λ env. table_is t env)
-named_by_is None name views i are h = view_is name views i are h
+view_or_table_is None None i is h = cc
 
 named_is : (name : Name) (views : List View) (i : NamedItem) → ViewsAreTyped views
     → named_item name views ≡ Ok i → ItemIs i
 unfolding named_item
-named_is name views i are h = named_by_is (table_of name) name views i are h
+named_is name views i are h =
+    view_or_table_is (view_named name views) (table_of name) i
+    (λ j e. view_is name views j are e) h
 
 -- a table or a view
 pub table_rows_is : (name alias : Name)

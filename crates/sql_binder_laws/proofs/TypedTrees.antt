@@ -1,15 +1,17 @@
 -- Each tree binds what is typed.
-use Rattle.std.proofs.Common.{◌≡◌, ℕ, List, [], ◌∷◌, map, sym, ap, ◌∙◌, subst, arith}
+use Rattle.std.proofs.Common.{◌≡◌, ℕ, List, [], ◌∷◌, ◌++◌, map, sym, ap, ◌∙◌, subst, arith}
 use Rattle.std.specs.Prelude.{Option, Some, None, unwrap_or, Result, Ok, Err, ok_or}
 use Rattle.expr_scalar.specs.declared.kind.Kind.{Kind}
 use Rattle.sql_bound_query.specs.Typing.{block_kinds}
 use Rattle.sql_binder_steps.specs.declared.collected.BoundTable.{BoundTable}
 use Rattle.sql_binder_steps.specs.declared.view.View.{View}
 use Rattle.base_row_laws.specs.Bags.{Each}
+use Rattle.base_row_laws.proofs.Lists.{Each-append}
 use Rattle.base_date.specs.Date.{date_of}
 use Rattle.base_date.specs.declared.DateFault.{DateFault}
 use Rattle.base_date.specs.declared.DateFault.TheVariants as fault
 use Rattle.expr_aggregates.specs.declared.function.AggregateFunction.TheVariants.{Count, CountDistinct}
+use Rattle.sql_ast.specs.declared.statement.WithQuery.{WithQuery}
 use Rattle.sql_ast.specs.declared.tree.Clause.{Clause, roll-Clause, out-roll-Clause}
 use Rattle.sql_ast.specs.declared.tree.Expr.{Expr, roll-Expr, out-roll-Expr}
 use Rattle.sql_ast.specs.declared.tree.FromItem.{FromItem, roll-FromItem}
@@ -39,12 +41,12 @@ use Rattle.sql_binder_steps.specs.declared.collected.Typed.{Typed}
 use Rattle.sql_binder.specs.Binding.{bound_view, clause_meaning, meaning, from_item_meaning}
 use Rattle.sql_binder.specs.Binding.{selected_meaning, arm_meaning, block_meaning, factor_meaning}
 use Rattle.sql_binder.specs.Binding.{item_meaning, join_meaning, joined_meaning, term_meaning}
-use Rattle.sql_binder.specs.Binding.{bound_query, bound_table, counted_table, start}
+use Rattle.sql_binder.specs.Binding.{bound_query, bound_table, counted_table, start, with_views, with_views_from}
 use Rattle.sql_binder.specs.Meanings.{Meaning}
 use Rattle.sql_binder_steps.specs.Names.{Sight}
 use Rattle.sql_binder.specs.Operands.{term_by}
 use Rattle.sql_binder_steps.specs.Parts.{function_of, order_of, outermost, distinct_names}
-use Rattle.sql_binder_steps.specs.Parts.{renamed_headers}
+use Rattle.sql_binder_steps.specs.Parts.{renamed_headers, new_name}
 use Rattle.sql_binder_steps.specs.Steps.{Name, lift}
 use Rattle.sql_binder_steps.specs.Values.{adding_of, multiplying_of, date_literal, dated_by, shifted}
 use Rattle.sql_binder_steps.specs.Values.{operated}
@@ -57,7 +59,7 @@ use Rattle.sql_binder.proofs.Opened.{item_meaning_is, join_meaning_at, join_mean
 use Rattle.sql_binder.proofs.Opened.{joined_meaning_at, joined_meaning_is, term_meaning_at}
 use Rattle.sql_binder.proofs.Opened.{term_meaning_is}
 use Rattle.sql_binder_laws.specs.WellTyped.{TableIsWellTyped, ViewIsWellTyped, BoundIsWellTyped}
-use Rattle.sql_binder_laws.specs.WellTyped.{header_kinds}
+use Rattle.sql_binder_laws.specs.WellTyped.{header_kinds, ViewsAreTyped}
 use Rattle.sql_binder_laws.proofs.TypedOperands.{went, ok_is, number_typed, text_typed, date_typed}
 use Rattle.sql_binder_laws.proofs.TypedSteps.{Ready, Fits, Known, Goes, goes_on, goes_lift, goes_pure}
 use Rattle.sql_binder_laws.proofs.TypedSteps.{known_on}
@@ -437,12 +439,29 @@ view_is_well_typed name names q views v typed is =
     subst (λ (y : View). block_kinds y.block [] ≡ Some (header_kinds y.columns)) e
     (t ∙ ap Some (sym kinds))
 
+-- the queries of WITH
+with_are_typed : (done : List View) (ws : List WithQuery) (views named : List View)
+    → ViewsAreTyped done → ViewsAreTyped views → with_views_from done ws views ≡ Ok named
+    → ViewsAreTyped named
+with_are_typed done [] views named before typed is =
+    subst ViewsAreTyped (ok_is done named is) before
+with_are_typed done (w ∷ ws) views named before typed is =
+    let all = Each-append _ done views before typed in
+    let n = went (new_name w.name done) _ named is in
+    let b = went (bound_view w.name w.columns w.block (done ++ views)) _ named n.gives in
+    let t = view_is_well_typed w.name w.columns w.block (done ++ views) b.it all b.is in
+    with_are_typed (done ++ b.it ∷ []) ws views named
+    (Each-append _ done (b.it ∷ []) before (t, tt)) typed b.gives
+
 -- a statement
 pub bound_is_well_typed : BoundIsWellTyped
 unfolding bound_query
 bound_is_well_typed q views bound typed is =
-    let w = went (counted_table q.block views) _ bound is.is in
-    let t = table_is_well_typed q.block views w.it.0 w.it.1 typed w.is in
+    let n = went (with_views q.with_queries views) _ bound is.is in
+    let named = with_are_typed [] q.with_queries views n.it tt typed n.is in
+    let all = Each-append _ n.it views named typed in
+    let w = went (counted_table q.block (n.it ++ views)) _ bound n.gives in
+    let t = table_is_well_typed q.block (n.it ++ views) w.it.0 w.it.1 all w.is in
     let x = went (order_of w.it.0.headers q.order) _ bound w.gives in
     let made : BoundQuery = record { block = w.it.0.block; order = x.it; limit = q.limit } in
     let e : made ≡ bound = ok_is made bound x.gives in (

@@ -308,6 +308,7 @@ counted_orders = roll-Block (record {
 -- group by c_count order by custdist desc, c_count desc
 abbrev pub distribution : Query
 distribution = record {
+  with_queries = [];
   block = roll-Block (record {
     is_distinct = false;
     selected = Items (item (named (codes "c_count")) ∷ with_alias e.CountRows (codes "custdist")
@@ -323,6 +324,7 @@ distribution = record {
   order = record { column = codes "custdist"; is_descending = true }
       ∷ record { column = codes "c_count"; is_descending = true } ∷ [];
   limit = None;
+  version = None;
 }
 
 -- One customer has two orders, and one has none.

@@ -211,10 +211,12 @@ over_unnamed x = statement (select_from (item x ∷ [])
 -- select r_name, r_name as a, r_regionkey as a from region order by ..
 abbrev pub ordered_by : Name → Query
 ordered_by name = record {
+  with_queries = [];
   block = from_region (item r_name ∷ with_alias r_name (codes "a")
       ∷ with_alias (named (codes "r_regionkey")) (codes "a") ∷ []);
   order = record { column = name; is_descending = false } ∷ [];
   limit = None;
+  version = None;
 }
 
 -- An output column without alias has its column's name, else no name that a query can write. Two of

@@ -1,5 +1,5 @@
 -- What a name stands for.
-use Rattle.std.specs.Prelude.{ℕ, ◌+◌, ◌-◌, ◌==◌, Bool, ◌&&◌, List, [], ◌∷◌, length}
+use Rattle.std.specs.Prelude.{ℕ, ◌+◌, ◌-◌, ◌==◌, Bool, ◌&&◌, List, [], ◌∷◌, ◌++◌, length}
 use Rattle.std.specs.Prelude.{map, Option, Some, None, Ok, Err, if◌then◌else◌, nat_lt, position}
 use Rattle.std.specs.List.{list_any}
 use Rattle.std.specs.Str.{bytes_eq}
@@ -11,6 +11,7 @@ use Rattle.sql_binder_steps.specs.declared.scope.Level.{Level}
 use Rattle.sql_binder_steps.specs.declared.scope.Place.{Place}
 use Rattle.sql_binder_steps.specs.declared.scope.ScopeColumn.{ScopeColumn}
 use Rattle.sql_binder_steps.specs.declared.scope.Site.{Site}
+use Rattle.sql_binder_steps.specs.declared.view.StatementViews.{StatementViews}
 use Rattle.sql_binder_steps.specs.declared.view.View.{View}
 use Rattle.sql_binder_steps.specs.Steps.{Name, Checked, and_then}
 
@@ -32,10 +33,14 @@ pub record Sight : Type 0 where
 abbrev pub level_of : Level → Around
 level_of l = record { columns = l.columns.now; keys = l.keys.now }
 
+-- the views of a statement: its queries of WITH, then those of the session
+abbrev pub statement_views : StatementViews → List View
+statement_views v = v.with_queries.now ++ v.session.now
+
 -- a site of the code, as what is in sight
 abbrev pub sight_of : Site → Sight
 sight_of s = record {
-  views = s.views.now.all;
+  views = statement_views s.views.now;
   levels = map level_of s.levels.now;
   hidden = s.hidden;
   takes_subqueries = s.takes_subqueries;

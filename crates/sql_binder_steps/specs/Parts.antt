@@ -216,20 +216,22 @@ table_item t = record { source = source.Table t; headers = table_headers t; item
 abbrev pub view_item : View → NamedItem
 view_item v = record { source = source.Derived v.block; headers = v.columns; items = v.items + 1 }
 
--- the view of that name
-abbrev pub view_named : Name → List View → Checked NamedItem
-view_named name [] = Err UnknownTable
+-- the first view of that name
+abbrev pub view_named : Name → List View → Option NamedItem
+view_named name [] = None
 view_named name (v ∷ views) =
-    if bytes_eq v.name name then Ok (view_item v) else view_named name views
+    if bytes_eq v.name name then Some (view_item v) else view_named name views
 
--- a table of the schema, else a view
-abbrev pub named_by : Option TableName → Name → List View → Checked NamedItem
-named_by (Some t) name views = Ok (table_item t)
-named_by None name views = view_named name views
+-- a view where there is one, else a table of the schema
+abbrev pub view_or_table : Option NamedItem → Option TableName → Checked NamedItem
+view_or_table (Some i) t = Ok i
+view_or_table None (Some t) = Ok (table_item t)
+view_or_table None None = Err UnknownTable
 
--- what a FROM name stands for
+-- What a FROM name stands for. The queries of WITH are the first views, so they hide others and
+-- tables; no view of a session has the name of a table.
 unfoldable pub named_item : Name → List View → Checked NamedItem
-named_item name views = named_by (table_of name) name views
+named_item name views = view_or_table (view_named name views) (table_of name)
 
 -- an item to the left has that name
 abbrev pub is_item : List ScopeColumn → Name → Bool
@@ -283,6 +285,11 @@ distinct_names names = if has_twice names then Err DuplicateAlias else Ok tt
 unfoldable pub listed_headers : List Name → List Header → Checked (List Header)
 listed_headers names headers =
     and_then (distinct_names names) (λ done. renamed_headers names headers)
+
+-- a name of WITH after those of its queries before: an equal one is DuplicateAlias
+abbrev pub new_name : Name → List View → Checked (Unit {0})
+new_name name done =
+    if list_any (λ (v : View). bytes_eq v.name name) done then Err DuplicateAlias else Ok tt
 
 -- a table or a view as an item of FROM: UnknownTable, TooManyTables, DuplicateAlias in this order
 unfoldable pub table_rows : Sight → Name → Name → List ScopeColumn → Binding FromRows

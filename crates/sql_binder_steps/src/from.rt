@@ -1,14 +1,14 @@
 //! FROM lists.
 ghost use Rattle.std.specs.Prelude.{◌≡◌, drop, length, IfOk};
 ghost use Rattle.sql_binder_steps.specs.Steps.{Gives, Binds};
-ghost use Rattle.sql_binder_steps.specs.Names.{sight_of};
+ghost use Rattle.sql_binder_steps.specs.Names.{sight_of, statement_views};
 ghost use Rattle.sql_binder_steps.specs.Parts as spec;
 
 use crate::collected::{BoundTable, Collected, FromRows};
 use crate::fault::BindFault;
 use crate::names::{columns_of, listed_headers, table_headers, unused};
 use crate::scope::{ScopeColumn, Site, narrow, same_name};
-use crate::view::{Header, View, copy_headers};
+use crate::view::{Header, StatementViews, View, copy_headers};
 use base_refusals::BindRefusal;
 use base_schema::TableName;
 use sql_ast::{JoinKind, Name};
@@ -59,30 +59,53 @@ fn view_item(alloc: Global, v: &View) -> Result<NamedItem, AllocError>
     })
 }
 
-fn view_named(alloc: Global, name: &Name, views: &[View]) -> Result<NamedItem, BindFault>
-    ensures { Gives (spec.view_named name.now views.now) result }
+fn view_named(alloc: Global, name: &Name, views: &[View]) -> Result<Option<NamedItem>, AllocError>
+    ensures { IfOk result (λ i. i ≡ spec.view_named name.now views.now) }
 {
     let mut left = views;
     'views: while let [v, rest @ ..] = left {
         if same_name(&v.name, name) {
-            return Ok(view_item(alloc, v)?);
+            let item = view_item(alloc, v)?;
+            return Ok(Some(item));
         }
         left = rest;
     }
-    Err(BindFault::Refused(BindRefusal::UnknownTable))
+    Ok(None)
 }
 
-/// A table of the schema, else a view.
-#[tactic(auto, unfolding(crate::specs::Parts::named_item))]
-pub fn named_item(alloc: Global, name: &Name, views: &[View]) -> Result<NamedItem, BindFault>
-    ensures { Gives (spec.named_item name.now views.now) result }
+/// A query of WITH, else a view of the session.
+#[tactic(auto, using(crate::proofs::Small::named_in_front, crate::proofs::Small::named_behind))]
+fn statement_view_named(
+    alloc: Global,
+    name: &Name,
+    views: &StatementViews<'_>,
+) -> Result<Option<NamedItem>, AllocError>
+    ensures { IfOk result (λ i. i ≡ spec.view_named name.now (statement_views views.now)) }
 {
-    match TableName::from_name(name.bytes()) {
-        Some(table) => Ok(table_item(alloc, table)?),
+    match view_named(alloc, name, views.with_queries)? {
+        Some(item) => Ok(Some(item)),
         None => {
-            let item = view_named(alloc, name, views)?;
+            let item = view_named(alloc, name, views.session)?;
             Ok(item)
         }
+    }
+}
+
+/// A view of the statement, else a table of the schema.
+#[tactic(auto, unfolding(crate::specs::Parts::named_item))]
+pub fn named_item(
+    alloc: Global,
+    name: &Name,
+    views: &StatementViews<'_>,
+) -> Result<NamedItem, BindFault>
+    ensures { Gives (spec.named_item name.now (statement_views views.now)) result }
+{
+    match statement_view_named(alloc, name, views)? {
+        Some(item) => Ok(item),
+        None => match TableName::from_name(name.bytes()) {
+            Some(table) => Ok(table_item(alloc, table)?),
+            None => Err(BindFault::Refused(BindRefusal::UnknownTable)),
+        },
     }
 }
 
@@ -126,7 +149,7 @@ pub fn table_rows(
     ensures { Binds (spec.table_rows (sight_of site.now) name.now alias.now left.now state.old)
         result state.new }
 {
-    let found = named_item(alloc, name, site.views.all.as_slice())?;
+    let found = named_item(alloc, name, site.views)?;
     state.counted(found.items)?;
     unused(left, alias)?;
     Ok(item_rows(alloc, found.source, alias, found.headers.as_slice())?)

@@ -15,4 +15,4 @@ pub mod values;
 mod view;
 
 pub use fault::BindFault;
-pub use view::{Header, View, Views};
+pub use view::{Header, StatementViews, View, Views};

@@ -4,10 +4,11 @@ ghost use Rattle.std.specs.List.{list_any};
 ghost use Rattle.std.specs.Str.{bytes_eq};
 ghost use Rattle.sql_binder_steps.specs.Steps.{Gives};
 ghost use Rattle.sql_binder_steps.specs.Parts as spec;
+ghost use Rattle.sql_binder_steps.specs.declared.view.View.{View};
 
 use crate::fault::BindFault;
 use crate::scope::{ScopeColumn, same_name};
-use crate::view::Header;
+use crate::view::{Header, View};
 use base_refusals::BindRefusal;
 use base_schema::{ColumnKind, TableName};
 use base_text::Text;
@@ -149,6 +150,29 @@ pub fn distinct_names(names: &[Name]) -> Result<(), BindFault>
     ensures { Gives (spec.distinct_names names.now) result }
 {
     if has_twice(names) {
+        Err(BindFault::Refused(BindRefusal::DuplicateAlias))
+    } else {
+        Ok(())
+    }
+}
+
+fn is_name_of(mut views: &[View], name: &Name) -> bool
+    ensures { result ≡ list_any (λ (v : View). bytes_eq v.name name.now) views.entry.now }
+{
+    'views: while let [v, rest @ ..] = views {
+        if same_name(&v.name, name) {
+            return true;
+        }
+        views = rest;
+    }
+    false
+}
+
+/// No query of WITH before has that name.
+pub fn new_name(name: &Name, done: &[View]) -> Result<(), BindFault>
+    ensures { Gives (spec.new_name name.now done.now) result }
+{
+    if is_name_of(done, name) {
         Err(BindFault::Refused(BindRefusal::DuplicateAlias))
     } else {
         Ok(())

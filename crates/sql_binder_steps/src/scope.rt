@@ -7,7 +7,7 @@ ghost use Rattle.sql_binder_steps.specs.Names.{placed, resolved, the_one};
 ghost use Rattle.sql_binder_steps.specs.Names as spec;
 
 use crate::fault::BindFault;
-use crate::view::Views;
+use crate::view::StatementViews;
 use base_refusals::BindRefusal;
 use expr_scalar::Kind;
 use sql_ast::{Column, Name};
@@ -34,7 +34,7 @@ pub struct Level<'a> {
 /// the outermost, no name may use; and whether a subquery may stand here.
 #[derive(Clone, Copy)]
 pub struct Site<'a> {
-    pub views: &'a Views,
+    pub views: &'a StatementViews<'a>,
     pub levels: &'a [Level<'a>],
     pub hidden: usize,
     pub takes_subqueries: bool,

@@ -37,6 +37,15 @@ pub struct Views {
     pub all: Items<View>,
 }
 
+/// The views that a statement may use.
+#[derive(Clone, Copy)]
+pub struct StatementViews<'a> {
+    /// Its queries of WITH that are bound already.
+    pub with_queries: &'a [View],
+    /// The views of its session.
+    pub session: &'a [View],
+}
+
 fn copy_header(h: &Header) -> Result<Header, AllocError>
     ensures { IfOk result (λ c. c ≡ h.now) }
 {

@@ -47,8 +47,11 @@ refresh_words = k.Insert ∷ k.Delete ∷ []
 abbrev pub value_words : List Kind
 value_words = k.Text ∷ k.Number ∷ []
 
+abbrev pub tail_words : List Kind
+tail_words = k.Limit ∷ k.Fetch ∷ k.At ∷ []
+
 abbrev pub statement_words : List Kind
-statement_words = k.Select ∷ k.Create ∷ k.Drop ∷ k.Refresh ∷ k.Run ∷ []
+statement_words = k.Select ∷ k.With ∷ k.Create ∷ k.Drop ∷ k.Refresh ∷ k.Run ∷ []
 
 abbrev pub test_words : List Kind
 test_words = k.Equal ∷ k.NotEqual ∷ k.Less ∷ k.LessOrEqual ∷ k.Greater ∷ k.GreaterOrEqual ∷ k.Is ∷ k.Not ∷ denied_words
@@ -148,7 +151,7 @@ abbrev pub on_query : List Kind
 on_query = k.Left ∷ k.Join ∷ k.Inner ∷ k.As ∷ k.Name ∷ on_filters
 
 abbrev pub on_limits : List Kind
-on_limits = k.Order ∷ k.Limit ∷ k.Fetch ∷ on_keys
+on_limits = k.Order ∷ k.Limit ∷ k.Fetch ∷ k.At ∷ on_keys
 
 abbrev pub on_statement : List Kind
-on_statement = k.Order ∷ k.Asc ∷ k.Desc ∷ k.Limit ∷ k.Fetch ∷ on_query
+on_statement = k.Order ∷ k.Asc ∷ k.Desc ∷ k.Limit ∷ k.Fetch ∷ k.At ∷ on_query

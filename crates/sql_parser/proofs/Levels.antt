@@ -25,10 +25,10 @@ use Rattle.sql_grammar_laws.proofs.OneMeaning.{one_meaning}
 use Rattle.sql_parser_steps.specs.Kinds.{kinds}
 use Rattle.sql_parser_steps.specs.Values.{product, sum, tested, second, pair, cons, constant, plain_selection, joined, filters, block}
 use Rattle.sql_parser.specs.Expressions.{UnaryLine, PartLine, TestTail}
-use Rattle.sql_parser.specs.Grammar.{QueryLine, SelectLine, JoinedLine, WhereTail, GroupTail, HavingTail, Unary, NotPart, Query, Ended}
+use Rattle.sql_parser.specs.Grammar.{QueryLine, SelectLine, JoinedLine, WhereTail, GroupTail, HavingTail, Unary, NotPart, Query, InnerQuery, Ended}
 use Rattle.sql_parser_steps.specs.ExpressionReadings.{read_unary_line, read_part_line}
 use Rattle.sql_parser_steps.specs.Readings.{read_query_line, unary_at, part_at, query_at, inner_unary, inner_part, inner_query, ended_at}
-use Rattle.sql_parser.proofs.KindLists.{leaf_first, unary_first, part_first, on_unary, on_part, on_query, alias_words}
+use Rattle.sql_parser.proofs.KindLists.{leaf_first, unary_first, part_first, on_unary, on_part, on_query, alias_words, statement_words}
 use Rattle.sql_parser.proofs.LineLaws.{law-TableLine, law-Leaf, law-UnaryLine, law-PartLine, law-QueryLine, law-EndedLine}
 use Rattle.sql_parser.proofs.LiftLaws.{lift-UnaryLine, lift-PartLine, lift-QueryLine, lift-EndedLine}
 
@@ -150,13 +150,31 @@ level zero h wide = level_zero h wide
 level (suc room) zero wide = let p = level room 0 wide in Parts-of wide (suc room) (nothing_inside p.unary.stable p.part.stable p.query.stable)
 level (suc room) (suc h) wide = let p = level room h wide in Parts-of wide (suc room) (record { unary = p.unary; part = p.part; query = p.query })
 
+-- what stands inside
+inside : (room h wide : ℕ) → Parts (Deeper room) (Higher (suc h) room) (Unary h wide (less room)) (NotPart h wide (less room)) (Query h wide (less room)) (inner_unary wide room) (inner_part wide room) (inner_query wide room)
+inside zero h wide = no_room h wide (level_zero h wide)
+inside (suc room) h wide = let p = level room h wide in record { unary = p.unary; part = p.part; query = p.query }
+
+stable_inner : (wide room : ℕ) → Stable (inner_query wide room)
+stable_inner wide zero = stable_never
+stable_inner wide (suc room) = (level room 0 wide).query.stable
+
+-- a query between parentheses
+inner : (h wide room : ℕ) → Line kinds (Deeper room) (Higher h room) (k.Select ∷ []) on_query (InnerQuery h wide room) (inner_query wide room)
+inner zero wide room = line_nothing (stable_inner wide room)
+inner (suc h) wide room = (inside room h wide).query
+
+-- a statement of any height
+ended : (h wide room : ℕ) → Line kinds (Unit {0}) (Higher h room) statement_words [] (Ended wide room h) (ended_at wide room)
+ended h wide room = law-EndedLine wide room (level room h wide).query (inner h wide room)
+
 pub is_read : (wide room : ℕ) → IsReadBy (Ended wide room) (ended_at wide room)
 is_read wide room = record {
   height = suc room;
-  sound = (law-EndedLine wide room (level room (suc room) wide).query).sound (higher room);
-  stable = (law-EndedLine wide room (level room 0 wide).query).stable;
-  complete = λ h. Complete-narrower (λ ms a x. x) (λ ts x. ends_nil kinds ts) ((law-EndedLine wide room (level room h wide).query).complete tt);
-  nonempty = λ h. line_nonempty (law-EndedLine wide room (level room h wide).query);
+  sound = (ended (suc room) wide room).sound (higher room);
+  stable = (ended 0 wide room).stable;
+  complete = λ h. Complete-narrower (λ ms a x. x) (λ ts x. ends_nil kinds ts) ((ended h wide room).complete tt);
+  nonempty = λ h. line_nonempty (ended h wide room);
 }
 
 -- ---- larger limits
@@ -176,11 +194,6 @@ Larger-of {S} n many le wide room i v d c =
     let part = lift-PartLine n many le wide room here.unary i.part unary d c in
     record { unary = unary; part = part; query = lift-QueryLine n many le wide room here.part i.query part c }
 
--- what stands inside
-inside : (room h wide : ℕ) → Parts (Deeper room) (Higher (suc h) room) (Unary h wide (less room)) (NotPart h wide (less room)) (Query h wide (less room)) (inner_unary wide room) (inner_part wide room) (inner_query wide room)
-inside zero h wide = no_room h wide (level_zero h wide)
-inside (suc room) h wide = let p = level room h wide in record { unary = p.unary; part = p.part; query = p.query }
-
 larger : (h n many : ℕ) → n ≤ many → (wide room : ℕ) → Larger n (Unary h wide room) (NotPart h wide room) (Query h wide room) (Unary h many n) (NotPart h many n) (Query h many n)
 unfolding Unary
 larger zero n many le wide room = Larger-of n many le wide room (nothing_inside {P = Deeper room} stable_never stable_never stable_never) (always n (λ m. Lifts-never m)) (always n (λ m. Lifts-never m)) (always n (λ m. Lifts-never m))
@@ -189,7 +202,12 @@ larger (suc h) (suc n) many le wide room =
     let i = larger h n many (omega arith) wide (less room) in
     Larger-of (suc n) many le wide room (inside room h wide) i.unary i.part i.query
 
+larger_inner : (h n many : ℕ) → n ≤ many → (wide room : ℕ) → Below n (InnerQuery h wide room) (InnerQuery h many n)
+larger_inner zero n many le wide room = always n (λ m. Lifts-never m)
+larger_inner (suc h) zero many le wide room = tt
+larger_inner (suc h) (suc n) many le wide room = (larger h n many (omega arith) wide (less room)).query
+
 pub only_one : (wide room : ℕ) (ts : List Token) (ss us : List Statement) → IsScript (Ended wide room) ts ss → IsScript (Ended wide room) ts us → ss ≡ us
 only_one wide room ts ss us s t =
     let n = length ts in
-    one_meaning (Ended wide room) (Ended n n) (ended_at n n) (is_read n n) n (λ h. lift-EndedLine n n (omega arith) wide room (larger h n n (omega arith) wide room).query) ts ss us (omega arith) s t
+    one_meaning (Ended wide room) (Ended n n) (ended_at n n) (is_read n n) n (λ h. lift-EndedLine n n (omega arith) wide room (level room h wide).query (inner h wide room) (larger h n n (omega arith) wide room).query (larger_inner h n n (omega arith) wide room)) ts ss us (omega arith) s t

@@ -24,10 +24,10 @@ use Rattle.sql_grammar_laws.specs.Lifting.{Lifts}
 use Rattle.sql_grammar_laws.proofs.Lift.{Lifts-one, Lifts-or, Lifts-map, Lifts-then, Lifts-empty, Lifts-list, Lifts-level, Below, below, always}
 use Rattle.sql_grammar_laws.proofs.Lawful.{Line, Deeper, line_nonempty}
 use Rattle.sql_parser_steps.specs.Kinds.{kinds}
-use Rattle.sql_parser_steps.specs.Values.{text_of, count_of, number, text, is_count, is_digits, first, second, pair, cons, constant, after_word, after_point, column, negative, negation, factor, term, product, sum, all_of, any_of, arm, case_of, date, interval, extract, substring, distinct_count, between, like, in_list, in_query, is_null, is_not_null, denied, tested, item, distinct, plain_selection, derived, join, joined, condition, filters, block, named_key, ordered, create_view, text_value, number_value}
+use Rattle.sql_parser_steps.specs.Values.{text_of, count_of, number, text, is_count, is_digits, first, second, pair, cons, constant, after_word, after_point, column, negative, negation, factor, term, product, sum, all_of, any_of, arm, case_of, date, interval, extract, substring, distinct_count, between, like, in_list, in_query, is_null, is_not_null, denied, tested, item, distinct, plain_selection, derived, join, joined, condition, filters, block, named_key, ordered, create_view, text_value, number_value, with_query, under_with}
 use Rattle.sql_parser.specs.Expressions.{NameLine, Literal, Number, Digits, SpanWord, ColumnTail, ColumnLine, MultiplyWord, AddWord, Product, Sum, Conjunction, Whole, ExprList, ArmLine, Arms, ElseTail, CaseBody, CaseLine, DateText, DateLine, Precision, IntervalLine, ExtractInside, ExtractLine, Places, SubstringInside, SubstringLine, CountInside, CountLine, AggregateWord, AggregateLine, Call, Leaf, Parens, Subquery, ExistsLine, Operand, UnaryLine, ComparisonWord, CompareLine, NullLine, BetweenLine, LikeLine, InLine, DenyTest, TestTail, Predicate, PartLine}
-use Rattle.sql_parser.specs.Grammar.{Alias, ItemLine, Selection, SelectLine, Names, ColumnNames, TableLine, DerivedAlias, FromItemLine, JoinWords, JoinedItem, JoinedLine, FromLine, WhereTail, GroupTail, HavingTail, FiltersTail, QueryLine, Direction, KeyLine, OrderTail, RowsOnly, LimitTail, OrderedLine, CreateLine, DropLine, RefreshLine, ValueLine, RunInside, RunLine, StatementLine, EndedLine}
-use Rattle.sql_parser.proofs.LineLaws.{law-NameLine, law-ColumnLine, law-ValueLine, law-Product, law-Conjunction, law-Whole, law-ArmLine, law-ItemLine, law-JoinedItem, law-JoinedLine, law-KeyLine}
+use Rattle.sql_parser.specs.Grammar.{Alias, ItemLine, Selection, SelectLine, Names, ColumnNames, TableLine, DerivedAlias, FromItemLine, JoinWords, JoinedItem, JoinedLine, FromLine, WhereTail, GroupTail, HavingTail, FiltersTail, QueryLine, Direction, KeyLine, OrderTail, RowsOnly, LimitTail, VersionTail, OrderedLine, WithQueryLine, WithLine, WithOrderedLine, CreateLine, DropLine, RefreshLine, ValueLine, RunInside, RunLine, StatementLine, EndedLine}
+use Rattle.sql_parser.proofs.LineLaws.{law-NameLine, law-ColumnLine, law-ValueLine, law-Product, law-Conjunction, law-Whole, law-ArmLine, law-ItemLine, law-JoinedItem, law-JoinedLine, law-KeyLine, law-WithQueryLine}
 use Rattle.sql_parser.proofs.KindLists.{unary_first, part_first, on_unary, on_part, on_query}
 
 -- of two things that stand inside a level
@@ -125,6 +125,9 @@ module _ (n : ℕ) where
   pub lift-LimitTail : Lifts n LimitTail LimitTail
   lift-LimitTail = Lifts-or n (Lifts-then n after_word (Lifts-one n (is k.Limit)) lift-Number)
       (Lifts-or n (Lifts-then n after_word (Lifts-then n second (Lifts-one n (is k.Fetch)) (Lifts-one n (is k.First))) (Lifts-then n first lift-Number lift-RowsOnly)) (Lifts-empty n None))
+
+  pub lift-VersionTail : Lifts n VersionTail VersionTail
+  lift-VersionTail = Lifts-or n (Lifts-then n after_word (Lifts-then n second (Lifts-one n (is k.At)) (Lifts-one n (is k.Version))) lift-Number) (Lifts-empty n None)
 
 -- ---- what holds no expression, but may open a level
 module _ (n room : ℕ) where
@@ -339,17 +342,31 @@ module _ {P S : Type 0} {N M : Part Token Expr} {w : Reading Token Expr} {B C : 
   lift-QueryLine = Lifts-then n block (lift-SelectLine n many le wide law_part lift_part) (Lifts-then n pair lift-FromLine (lift-FiltersTail n many le wide law_part lift_part))
 
 -- ---- statements
-module _ {B C : Part Token Block} (n many : ℕ) (le : n ≤ many) (wide room : ℕ) (lift_query : Lifts n B C) where
-  pub lift-OrderedLine : Lifts n (OrderedLine wide B) (OrderedLine many C)
-  lift-OrderedLine = Lifts-then n ordered lift_query (Lifts-then n pair (lift-OrderTail n many le wide) (lift-LimitTail n))
+module _ {P S : Type 0} {B B' C C' : Part Token Block} {b d : Reading Token Block} (n many : ℕ) (le : n ≤ many) (wide room : ℕ)
+    (law_query : Line kinds P S (k.Select ∷ []) on_query B b) (law_inner : Line kinds (Deeper room) S (k.Select ∷ []) on_query C d)
+    (lift_query : Lifts n B B') (lift_inner : Below n C C') where
+  pub lift-OrderedLine : Lifts n (OrderedLine wide B) (OrderedLine many B')
+  lift-OrderedLine = Lifts-then n ordered lift_query (Lifts-then n pair (lift-OrderTail n many le wide) (Lifts-then n pair (lift-LimitTail n) (lift-VersionTail n)))
 
-  pub lift-CreateLine : Lifts n (CreateLine wide room B) (CreateLine many n C)
+  pub lift-WithQueryLine : Lifts n (WithQueryLine wide room C) (WithQueryLine many n C')
+  lift-WithQueryLine = Lifts-then n with_query (Lifts-then n pair (lift-NameLine n) (lift-ColumnNames n many le wide room))
+      (Lifts-then n second (Lifts-one n (is k.As)) (lift-Subquery n many le wide room lift_inner))
+
+  pub lift-WithLine : Lifts n (WithLine wide room C) (WithLine many n C')
+  lift-WithLine = Lifts-then n second (Lifts-one n (is k.With))
+      (Lifts-then n cons lift-WithQueryLine (Lifts-list n many second wide le (line_nonempty (law-WithQueryLine wide room law_query law_inner)) (Lifts-one n (is k.Comma)) lift-WithQueryLine))
+
+  pub lift-WithOrderedLine : Lifts n (WithOrderedLine wide room B C) (WithOrderedLine many n B' C')
+  lift-WithOrderedLine = Lifts-then n under_with lift-WithLine lift-OrderedLine
+
+  pub lift-CreateLine : Lifts n (CreateLine wide room B) (CreateLine many n B')
   lift-CreateLine = Lifts-then n create_view
       (Lifts-then n second (Lifts-then n second (Lifts-one n (is k.Create)) (Lifts-one n (is k.View))) (Lifts-then n pair (lift-NameLine n) (lift-ColumnNames n many le wide room)))
       (Lifts-then n second (Lifts-one n (is k.As)) lift_query)
 
-  pub lift-StatementLine : Lifts n (StatementLine wide room B) (StatementLine many n C)
-  lift-StatementLine = Lifts-or n lift-OrderedLine (Lifts-or n lift-CreateLine (Lifts-or n (lift-DropLine n) (Lifts-or n (lift-RefreshLine n) (lift-RunLine n many le wide room))))
+  pub lift-StatementLine : Lifts n (StatementLine wide room B C) (StatementLine many n B' C')
+  lift-StatementLine = Lifts-or n (Lifts-map n statements.Query lift-OrderedLine)
+      (Lifts-or n lift-WithOrderedLine (Lifts-or n lift-CreateLine (Lifts-or n (lift-DropLine n) (Lifts-or n (lift-RefreshLine n) (lift-RunLine n many le wide room)))))
 
-  pub lift-EndedLine : Lifts n (EndedLine wide room B) (EndedLine many n C)
+  pub lift-EndedLine : Lifts n (EndedLine wide room B C) (EndedLine many n B' C')
   lift-EndedLine = Lifts-then n first lift-StatementLine (Lifts-one n (is k.Semicolon))

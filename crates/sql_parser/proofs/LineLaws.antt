@@ -23,13 +23,13 @@ use Rattle.sql_grammar_laws.specs.Lines.{Part}
 use Rattle.sql_grammar_laws.specs.Readings.{Reading}
 use Rattle.sql_grammar_laws.proofs.Lawful.{Line, Tail, Deeper, is_among, line_kind, line_then, line_then_tail, tail_then, line_map, tail_empty, line_or, tail_or, line_opens, tail_links, tail_repeats}
 use Rattle.sql_parser_steps.specs.Kinds.{kinds}
-use Rattle.sql_parser_steps.specs.Values.{text_of, count_of, number, text, first, second, pair, cons, constant, after_word, after_point, column, negative, negation, factor, term, product, sum, all_of, any_of, arm, case_of, date, interval, extract, substring, distinct_count, between, like, in_list, in_query, is_null, is_not_null, denied, tested, item, distinct, plain_selection, derived, join, joined, condition, filters, block, named_key, ordered, create_view, text_value, number_value}
+use Rattle.sql_parser_steps.specs.Values.{text_of, count_of, number, text, first, second, pair, cons, constant, after_word, after_point, column, negative, negation, factor, term, product, sum, all_of, any_of, arm, case_of, date, interval, extract, substring, distinct_count, between, like, in_list, in_query, is_null, is_not_null, denied, tested, item, distinct, plain_selection, derived, join, joined, condition, filters, block, named_key, ordered, create_view, text_value, number_value, with_query, under_with}
 use Rattle.sql_parser.specs.Expressions.{NameLine, Literal, Number, Digits, SpanWord, ColumnTail, ColumnLine, MultiplyWord, AddWord, Product, Sum, Conjunction, Whole, ExprList, ArmLine, Arms, ElseTail, CaseBody, CaseLine, DateText, DateLine, Precision, IntervalLine, ExtractInside, ExtractLine, Places, SubstringInside, SubstringLine, CountInside, CountLine, AggregateWord, AggregateLine, Call, Leaf, ParensInside, Parens, Subquery, ExistsLine, Operand, UnaryLine, ComparisonWord, CompareLine, NullLine, BetweenLine, LikeLine, InInside, InLine, DenyTest, TestTail, Predicate, PartLine}
-use Rattle.sql_parser.specs.Grammar.{Alias, ItemLine, Selection, SelectLine, Names, ColumnNames, TableLine, DerivedAlias, DerivedLine, FromItemLine, InnerWords, LeftWords, JoinWords, JoinedItem, JoinedLine, FromLine, WhereTail, GroupTail, HavingTail, FiltersTail, QueryLine, Direction, KeyLine, OrderTail, RowsOnly, LimitTail, OrderedLine, CreateLine, DropLine, RefreshWord, RefreshLine, ValueLine, ValueList, RunInside, RunLine, StatementLine, EndedLine}
+use Rattle.sql_parser.specs.Grammar.{Alias, ItemLine, Selection, SelectLine, Names, ColumnNames, TableLine, DerivedAlias, DerivedLine, FromItemLine, InnerWords, LeftWords, JoinWords, JoinedItem, JoinedLine, FromLine, WhereTail, GroupTail, HavingTail, FiltersTail, QueryLine, Direction, KeyLine, OrderTail, RowsOnly, LimitTail, VersionTail, OrderedLine, WithQueryLine, WithLine, WithOrderedLine, CreateLine, DropLine, RefreshWord, RefreshLine, ValueLine, ValueList, RunInside, RunLine, StatementLine, EndedLine}
 use Rattle.sql_parser_steps.specs.ExpressionReadings.{read_name, read_literal, read_number, read_digits, read_span, read_column_tail, read_column, read_multiply, read_add, read_product, read_sum, read_conjunction, read_whole, read_expr_list, read_arm, read_arms, read_else, read_case_body, read_case, read_date_text, read_date, read_precision, read_interval, read_extract_inside, read_extract, read_places, read_substring_inside, read_substring, read_count_inside, read_count, read_aggregate_word, read_aggregate, read_call, read_leaf, read_parens_inside, read_parens, read_subquery, read_exists, read_operand, read_unary_line, read_comparison, read_compare, read_null, read_between, read_like, read_in_inside, read_in, read_deny_test, read_test, read_predicate, read_part_line}
-use Rattle.sql_parser_steps.specs.Readings.{read_alias, read_item, read_selection, read_select, read_names, read_column_names, read_table, read_derived_alias, read_derived, read_from_item, read_inner_words, read_left_words, read_join_words, read_joined_item, read_joined, read_from, read_where, read_group, read_having, read_filters, read_query_line, read_direction, read_named_key, read_order, read_rows_only, read_limit, read_ordered, read_view_name, read_create, read_drop, read_refresh_word, read_refresh, read_value, read_values, read_run_inside, read_run, read_statement, read_ended}
+use Rattle.sql_parser_steps.specs.Readings.{read_alias, read_item, read_selection, read_select, read_names, read_column_names, read_table, read_derived_alias, read_derived, read_from_item, read_inner_words, read_left_words, read_join_words, read_joined_item, read_joined, read_from, read_where, read_group, read_having, read_filters, read_query_line, read_direction, read_named_key, read_order, read_rows_only, read_limit, read_version, read_ordered, read_with_query, read_with, read_with_ordered, read_view_name, read_create, read_drop, read_refresh_word, read_refresh, read_value, read_values, read_run_inside, read_run, read_statement, read_ended}
 use Rattle.sql_parser.proofs.Samples.{line_count, line_digits}
-use Rattle.sql_parser.proofs.KindLists.{span_words, multiply_words, add_words, comparison_words, denied_words, aggregate_words, call_words, alias_words, direction_words, limit_words, inner_words, join_words, refresh_words, value_words, statement_words, test_words, leaf_first, called_first, operand_first, unary_first, part_first, selection_first, inside_first, derived_first, item_first, filters_first, on_unary, on_product, on_sum, on_denied, on_part, on_conjunction, on_whole, on_list, on_arms, on_item, on_items, on_names, on_derived, on_from_item, on_joined, on_from, on_columns, on_keys, on_filters, on_query, on_limits, on_statement}
+use Rattle.sql_parser.proofs.KindLists.{span_words, multiply_words, add_words, comparison_words, denied_words, aggregate_words, call_words, alias_words, direction_words, limit_words, inner_words, join_words, refresh_words, value_words, tail_words, statement_words, test_words, leaf_first, called_first, operand_first, unary_first, part_first, selection_first, inside_first, derived_first, item_first, filters_first, on_unary, on_product, on_sum, on_denied, on_part, on_conjunction, on_whole, on_list, on_arms, on_item, on_items, on_names, on_derived, on_from_item, on_joined, on_from, on_columns, on_keys, on_filters, on_query, on_limits, on_statement}
 
 -- ---- what holds no expression
 module _ {P S : Type 0} where
@@ -157,6 +157,10 @@ module _ {P S : Type 0} where
   unfolding read_limit
   law-LimitTail = tail_or {first = limit_words} {on = limit_words} (is k.Limit) (is_among kinds k.Limit) (line_then after_word (line_kind kinds k.Limit) law-Number refl)
       (tail_or {first = k.Fetch ∷ []} {on = k.Fetch ∷ []} (is k.Fetch) (is_among kinds k.Fetch) (line_then after_word (line_then second (line_kind kinds k.Fetch) (line_kind kinds k.First) refl) (line_then first law-Number law-RowsOnly refl) refl) (tail_empty None) refl refl refl refl refl refl) refl refl refl refl refl refl
+
+  pub law-VersionTail : Tail kinds P S (k.At ∷ []) (k.At ∷ []) VersionTail read_version
+  unfolding read_version
+  law-VersionTail = tail_or {first = k.At ∷ []} {on = k.At ∷ []} (is k.At) (is_among kinds k.At) (line_then after_word (line_then second (line_kind kinds k.At) (line_kind kinds k.Version) refl) law-Number refl) (tail_empty None) refl refl refl refl refl refl
 
 -- ---- what holds no expression, but may open a level
 module _ {P S : Type 0} (room : ℕ) where
@@ -428,11 +432,26 @@ module _ {P S : Type 0} {N : Part Token Expr} {n : Reading Token Expr} {B : Part
   law-QueryLine = line_then block (law-SelectLine wide part) (line_then_tail {on = on_query} pair law-FromLine (law-FiltersTail wide part) refl refl refl) refl
 
 -- ---- statements
-module _ {P S : Type 0} {B : Part Token Block} {b : Reading Token Block}
-    (wide room : ℕ) (query : Line kinds P S (k.Select ∷ []) on_query B b) where
+module _ {P S : Type 0} {B C : Part Token Block} {b d : Reading Token Block}
+    (wide room : ℕ) (query : Line kinds P S (k.Select ∷ []) on_query B b) (inner : Line kinds (Deeper room) S (k.Select ∷ []) on_query C d) where
   pub law-OrderedLine : Line kinds P S (k.Select ∷ []) on_statement (OrderedLine wide B) (read_ordered wide b)
   unfolding read_ordered
-  law-OrderedLine = line_then_tail {on = on_statement} ordered query (tail_then {first = k.Order ∷ limit_words} {on = on_limits} pair (law-OrderTail wide) law-LimitTail refl refl refl refl refl) refl refl refl
+  law-OrderedLine = line_then_tail {on = on_statement} ordered query
+      (tail_then {first = k.Order ∷ tail_words} {on = on_limits} pair (law-OrderTail wide)
+      (tail_then {first = tail_words} {on = tail_words} pair law-LimitTail law-VersionTail refl refl refl refl refl) refl refl refl refl refl) refl refl refl
+
+  pub law-WithQueryLine : Line kinds P S (k.Name ∷ []) [] (WithQueryLine wide room C) (read_with_query wide room d)
+  unfolding read_with_query
+  law-WithQueryLine = line_then with_query (line_then_tail {on = k.OpenParen ∷ []} pair law-NameLine (law-ColumnNames wide room) refl refl refl)
+      (line_then second (line_kind kinds k.As) (law-Subquery wide room inner) refl) refl
+
+  pub law-WithLine : Line kinds P S (k.With ∷ []) on_names (WithLine wide room C) (read_with wide room d)
+  unfolding read_with
+  law-WithLine = line_then second (line_kind kinds k.With) (line_then_tail {on = on_names} cons law-WithQueryLine (tail_links {on = on_names} wide (is k.Comma) second (is_among kinds k.Comma) (line_kind kinds k.Comma) law-WithQueryLine refl refl refl refl) refl refl refl) refl
+
+  pub law-WithOrderedLine : Line kinds P S (k.With ∷ []) on_statement (WithOrderedLine wide room B C) (read_with_ordered wide room b d)
+  unfolding read_with_ordered
+  law-WithOrderedLine = line_then under_with law-WithLine law-OrderedLine refl
 
   pub law-CreateLine : Line kinds P S (k.Create ∷ []) on_query (CreateLine wide room B) (read_create wide room b)
   unfolding read_create read_view_name
@@ -440,13 +459,14 @@ module _ {P S : Type 0} {B : Part Token Block} {b : Reading Token Block}
       (line_then second (line_then second (line_kind kinds k.Create) (line_kind kinds k.View) refl) (line_then_tail {on = k.OpenParen ∷ []} pair law-NameLine (law-ColumnNames wide room) refl refl refl) refl)
       (line_then second (line_kind kinds k.As) query refl) refl
 
-  pub law-StatementLine : Line kinds P S statement_words on_statement (StatementLine wide room B) (read_statement wide room b)
+  pub law-StatementLine : Line kinds P S statement_words on_statement (StatementLine wide room B C) (read_statement wide room b d)
   unfolding read_statement
-  law-StatementLine = line_or {first = statement_words} {on = on_statement} (is k.Select) (is_among kinds k.Select) law-OrderedLine
+  law-StatementLine = line_or {first = statement_words} {on = on_statement} (is k.Select) (is_among kinds k.Select) (line_map statements.Query law-OrderedLine)
+      (line_or {first = k.With ∷ k.Create ∷ k.Drop ∷ k.Refresh ∷ k.Run ∷ []} {on = on_statement} (is k.With) (is_among kinds k.With) law-WithOrderedLine
       (line_or {first = k.Create ∷ k.Drop ∷ k.Refresh ∷ k.Run ∷ []} {on = on_statement} (is k.Create) (is_among kinds k.Create) law-CreateLine
       (line_or {first = k.Drop ∷ k.Refresh ∷ k.Run ∷ []} {on = on_statement} (is k.Drop) (is_among kinds k.Drop) law-DropLine
-      (line_or {first = k.Refresh ∷ k.Run ∷ []} {on = on_statement} (is k.Refresh) (is_among kinds k.Refresh) law-RefreshLine (law-RunLine wide room) refl refl refl refl refl) refl refl refl refl refl) refl refl refl refl refl) refl refl refl refl refl
+      (line_or {first = k.Refresh ∷ k.Run ∷ []} {on = on_statement} (is k.Refresh) (is_among kinds k.Refresh) law-RefreshLine (law-RunLine wide room) refl refl refl refl refl) refl refl refl refl refl) refl refl refl refl refl) refl refl refl refl refl) refl refl refl refl refl
 
-  pub law-EndedLine : Line kinds P S statement_words [] (EndedLine wide room B) (read_ended wide room b)
+  pub law-EndedLine : Line kinds P S statement_words [] (EndedLine wide room B C) (read_ended wide room b d)
   unfolding read_ended
   law-EndedLine = line_then first law-StatementLine (line_kind kinds k.Semicolon) refl

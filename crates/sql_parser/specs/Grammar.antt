@@ -14,6 +14,7 @@ use Rattle.sql_ast.specs.declared.tree.FromItem.TheVariants as from_item
 use Rattle.sql_ast.specs.declared.tree.Clause.{Clause}
 use Rattle.sql_ast.specs.declared.tree.Clause.TheVariants as clause
 use Rattle.sql_ast.specs.declared.statement.NamedKey.{NamedKey}
+use Rattle.sql_ast.specs.declared.statement.Query.{Query as OrderedQuery}
 use Rattle.sql_ast.specs.declared.statement.Statement.{Statement}
 use Rattle.sql_ast.specs.declared.words.JoinKind.{JoinKind}
 use Rattle.sql_ast.specs.declared.words.JoinKind.TheVariants as join_kind
@@ -23,13 +24,14 @@ use Rattle.sql_ast.specs.declared.statement.RefreshKind.{RefreshKind}
 use Rattle.sql_ast.specs.declared.statement.RefreshKind.TheVariants as refresh_kind
 use Rattle.sql_ast.specs.declared.statement.TemplateValue.{TemplateValue}
 use Rattle.sql_ast.specs.declared.statement.Statement.TheVariants as statements
+use Rattle.sql_ast.specs.declared.statement.WithQuery.{WithQuery}
 use Rattle.sql_parser_steps.specs.declared.filters.Filters.{Filters}
 use Rattle.sql_lexer.specs.Kinds.{is}
 use Rattle.sql_grammar_laws.specs.Lines.{Part, One, Opens, Empty, Never, Then, Or, Map, less, Links}
 use Rattle.sql_parser_steps.specs.Values.{Name, first, second, pair, cons, constant, after_word, item}
 use Rattle.sql_parser_steps.specs.Values.{distinct, plain_selection, derived, join, joined, condition}
 use Rattle.sql_parser_steps.specs.Values.{filters, block, named_key, ordered, create_view, text_value}
-use Rattle.sql_parser_steps.specs.Values.{number_value}
+use Rattle.sql_parser_steps.specs.Values.{number_value, with_query, under_with}
 use Rattle.sql_parser.specs.Expressions.{NameLine, Number, ColumnLine, Whole, Subquery, UnaryLine}
 use Rattle.sql_parser.specs.Expressions.{PartLine}
 
@@ -166,9 +168,33 @@ LimitTail = Or (Then after_word (One (is k.Limit)) Number)
     (Or (Then after_word (Then second (One (is k.Fetch)) (One (is k.First)))
     (Then first Number RowsOnly)) (Empty None))
 
--- query [order by ..] [limit ..]
-abbrev pub OrderedLine : ℕ → Part Token Block → Part Token Statement
-OrderedLine wide query = Then ordered query (Then pair (OrderTail wide) LimitTail)
+-- [at version N]
+abbrev pub VersionTail : Part Token (Option ℕ)
+VersionTail = Or
+    (Then after_word (Then second (One (is k.At)) (One (is k.Version))) Number) (Empty None)
+
+-- query [order by ..] [limit ..] [at version N]
+abbrev pub OrderedLine : ℕ → Part Token Block → Part Token OrderedQuery
+OrderedLine wide query =
+    Then ordered query (Then pair (OrderTail wide) (Then pair LimitTail VersionTail))
+
+-- name ["(" name {"," name} ")"] as "(" query ")"
+abbrev pub WithQueryLine : ℕ → ℕ → Part Token Block → Part Token WithQuery
+WithQueryLine wide room inner =
+    Then with_query (Then pair NameLine (ColumnNames wide room))
+    (Then second (One (is k.As)) (Subquery room inner))
+
+-- with name .. as "(" query ")" {"," name .. as "(" query ")"}
+abbrev pub WithLine : ℕ → ℕ → Part Token Block → Part Token (List WithQuery)
+WithLine wide room inner =
+    Then second (One (is k.With))
+    (Then cons (WithQueryLine wide room inner)
+    (Links (One (is k.Comma)) second (WithQueryLine wide room inner) wide))
+
+-- with .. query [order by ..] [limit ..] [at version N]
+abbrev pub WithOrderedLine : ℕ → ℕ → Part Token Block → Part Token Block → Part Token Statement
+WithOrderedLine wide room query inner =
+    Then under_with (WithLine wide room inner) (OrderedLine wide query)
 
 -- create view name ["(" name {"," name} ")"] as query
 abbrev pub CreateLine : ℕ → ℕ → Part Token Block → Part Token Statement
@@ -209,15 +235,18 @@ RunLine wide room =
     Then second (One (is k.Run))
     (Then statements.Run Number (Then second (Opens room (is k.OpenParen)) (RunInside wide)))
 
--- a query with its order and row limit | create view .. | drop view .. | refresh .. | run ..
-abbrev pub StatementLine : ℕ → ℕ → Part Token Block → Part Token Statement
-StatementLine wide room query =
-    Or (OrderedLine wide query)
-    (Or (CreateLine wide room query) (Or DropLine (Or RefreshLine (RunLine wide room))))
+-- a query with what may follow it, or such a one under WITH | create view .. | drop view ..
+-- | refresh .. | run .. Between parentheses after WITH stands `inner`.
+abbrev pub StatementLine : ℕ → ℕ → Part Token Block → Part Token Block → Part Token Statement
+StatementLine wide room query inner =
+    Or (Map statements.Query (OrderedLine wide query))
+    (Or (WithOrderedLine wide room query inner)
+    (Or (CreateLine wide room query) (Or DropLine (Or RefreshLine (RunLine wide room)))))
 
 -- statement ";"
-abbrev pub EndedLine : ℕ → ℕ → Part Token Block → Part Token Statement
-EndedLine wide room query = Then first (StatementLine wide room query) (One (is k.Semicolon))
+abbrev pub EndedLine : ℕ → ℕ → Part Token Block → Part Token Block → Part Token Statement
+EndedLine wide room query inner =
+    Then first (StatementLine wide room query inner) (One (is k.Semicolon))
 
 -- The three parts that lead back to themselves. Of the three numbers, the first is how high the
 -- text nests.
@@ -249,7 +278,12 @@ unfoldable mutual
       (Query h wide (less room)))
       (Query h wide (less room))
 
+-- a query one level further in
+abbrev pub InnerQuery : ℕ → ℕ → ℕ → Part Token Block
+InnerQuery zero wide room = Never
+InnerQuery (suc h) wide room = Query h wide (less room)
+
 -- A statement with its semicolon, where `room` levels may be opened, and a list may have `wide`
 -- elements after its first.
 abbrev pub Ended : ℕ → ℕ → ℕ → Part Token Statement
-Ended wide room h = EndedLine wide room (Query h wide room)
+Ended wide room h = EndedLine wide room (Query h wide room) (InnerQuery h wide room)

@@ -13,6 +13,7 @@ mod queries;
 mod scripts;
 mod statements;
 mod sums;
+mod with;
 
 pub use fault::{ParseFault, ScriptFault, ScriptRefusal};
 pub use scripts::{MAX_SCRIPT, one_meaning, parse_script, read_script};

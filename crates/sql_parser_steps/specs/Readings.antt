@@ -12,6 +12,7 @@ use Rattle.sql_ast.specs.declared.tree.FromItem.TheVariants as from_item
 use Rattle.sql_ast.specs.declared.tree.Clause.{Clause}
 use Rattle.sql_ast.specs.declared.tree.Clause.TheVariants as clause
 use Rattle.sql_ast.specs.declared.statement.NamedKey.{NamedKey}
+use Rattle.sql_ast.specs.declared.statement.Query.{Query}
 use Rattle.sql_ast.specs.declared.statement.Statement.{Statement}
 use Rattle.sql_ast.specs.declared.words.JoinKind.{JoinKind}
 use Rattle.sql_ast.specs.declared.words.JoinKind.TheVariants as join_kind
@@ -21,6 +22,7 @@ use Rattle.sql_ast.specs.declared.statement.RefreshKind.{RefreshKind}
 use Rattle.sql_ast.specs.declared.statement.RefreshKind.TheVariants as refresh_kind
 use Rattle.sql_ast.specs.declared.statement.TemplateValue.{TemplateValue}
 use Rattle.sql_ast.specs.declared.statement.Statement.TheVariants as statements
+use Rattle.sql_ast.specs.declared.statement.WithQuery.{WithQuery}
 use Rattle.sql_parser_steps.specs.declared.filters.Filters.{Filters}
 use Rattle.sql_lexer.specs.Kinds.{is}
 use Rattle.sql_grammar_laws.specs.Kinds.{among}
@@ -30,7 +32,7 @@ use Rattle.sql_parser_steps.specs.Kinds.{kinds}
 use Rattle.sql_parser_steps.specs.Values.{Name, first, second, pair, cons, constant, after_word, item}
 use Rattle.sql_parser_steps.specs.Values.{distinct, plain_selection, derived, join, joined, condition}
 use Rattle.sql_parser_steps.specs.Values.{filters, block, named_key, ordered, create_view, text_value}
-use Rattle.sql_parser_steps.specs.Values.{number_value}
+use Rattle.sql_parser_steps.specs.Values.{number_value, with_query, under_with}
 use Rattle.sql_parser_steps.specs.ExpressionReadings.{read_name, read_number, read_column, read_whole}
 use Rattle.sql_parser_steps.specs.ExpressionReadings.{read_subquery, read_unary_line, read_part_line}
 
@@ -181,9 +183,35 @@ read_limit = either (is k.Limit) (both after_word (one (is k.Limit)) read_number
     (either (is k.Fetch) (both after_word (both second (one (is k.Fetch)) (one (is k.First)))
     (both first read_number read_rows_only)) (nothing None))
 
--- a query, its order and its row limit
-unfoldable pub read_ordered : ℕ → Reading Token Block → Reading Token Statement
-read_ordered wide query = both ordered query (both pair (read_order wide) read_limit)
+-- AT VERSION N, where AT comes next
+unfoldable pub read_version : Reading Token (Option ℕ)
+read_version = either (is k.At)
+    (both after_word (both second (one (is k.At)) (one (is k.Version))) read_number)
+    (nothing None)
+
+-- a query, its order, its row limit and its version
+unfoldable pub read_ordered : ℕ → Reading Token Block → Reading Token Query
+read_ordered wide query =
+    both ordered query (both pair (read_order wide) (both pair read_limit read_version))
+
+-- a name and perhaps the names of its columns, AS and a query between parentheses
+unfoldable pub read_with_query : ℕ → ℕ → Reading Token Block → Reading Token WithQuery
+read_with_query wide room inner =
+    both with_query (both pair read_name (read_column_names wide room))
+    (both second (one (is k.As)) (read_subquery room inner))
+
+-- WITH and its queries with commas between them
+unfoldable pub read_with : ℕ → ℕ → Reading Token Block → Reading Token (List WithQuery)
+read_with wide room inner =
+    both second (one (is k.With))
+    (both cons (read_with_query wide room inner)
+    (links (is k.Comma) (one (is k.Comma)) second (read_with_query wide room inner) wide))
+
+-- the queries of WITH, and a query with all that may follow it
+unfoldable pub read_with_ordered : ℕ → ℕ → Reading Token Block → Reading Token Block
+    → Reading Token Statement
+read_with_ordered wide room query inner =
+    both under_with (read_with wide room inner) (read_ordered wide query)
 
 -- CREATE VIEW, a name, and perhaps the names of its columns
 unfoldable pub read_view_name : ℕ → ℕ → Reading Token (Name × List Name)
@@ -235,16 +263,20 @@ read_run wide room =
     (both statements.Run read_number
     (both second (opens room (is k.OpenParen)) (read_run_inside wide)))
 
--- a statement, told by its first token
-unfoldable pub read_statement : ℕ → ℕ → Reading Token Block → Reading Token Statement
-read_statement wide room query =
-    either (is k.Select) (read_ordered wide query)
+-- a statement, told by its first token; `inner` reads a query one level further in
+unfoldable pub read_statement : ℕ → ℕ → Reading Token Block → Reading Token Block
+    → Reading Token Statement
+read_statement wide room query inner =
+    either (is k.Select) (mapped statements.Query (read_ordered wide query))
+    (either (is k.With) (read_with_ordered wide room query inner)
     (either (is k.Create) (read_create wide room query)
-    (either (is k.Drop) read_drop (either (is k.Refresh) read_refresh (read_run wide room))))
+    (either (is k.Drop) read_drop (either (is k.Refresh) read_refresh (read_run wide room)))))
 
 -- a statement and its semicolon
-unfoldable pub read_ended : ℕ → ℕ → Reading Token Block → Reading Token Statement
-read_ended wide room query = both first (read_statement wide room query) (one (is k.Semicolon))
+unfoldable pub read_ended : ℕ → ℕ → Reading Token Block → Reading Token Block
+    → Reading Token Statement
+read_ended wide room query inner =
+    both first (read_statement wide room query inner) (one (is k.Semicolon))
 
 unfoldable mutual
   -- a unary part, where `room` levels may still be opened; with no room, nothing is read further in
@@ -290,4 +322,4 @@ inner_query wide (suc room) = query_at wide room
 
 -- a statement with its semicolon, where `room` levels may be opened
 abbrev pub ended_at : ℕ → ℕ → Reading Token Statement
-ended_at wide room = read_ended wide room (query_at wide room)
+ended_at wide room = read_ended wide room (query_at wide room) (inner_query wide room)

@@ -27,10 +27,12 @@ use Rattle.sql_ast.specs.declared.tree.Block.{Block, roll-Block}
 use Rattle.sql_ast.specs.declared.tree.Clause.{Clause}
 use Rattle.sql_ast.specs.declared.tree.Clause.TheVariants as clause
 use Rattle.sql_ast.specs.declared.statement.NamedKey.{NamedKey}
+use Rattle.sql_ast.specs.declared.statement.Query.{Query}
 use Rattle.sql_ast.specs.declared.statement.TemplateValue.{TemplateValue}
 use Rattle.sql_ast.specs.declared.statement.TemplateValue.TheVariants as template_value
 use Rattle.sql_ast.specs.declared.statement.Statement.{Statement}
 use Rattle.sql_ast.specs.declared.statement.Statement.TheVariants as statements
+use Rattle.sql_ast.specs.declared.statement.WithQuery.{WithQuery}
 use Rattle.sql_parser_steps.specs.declared.test.Test.{Test}
 use Rattle.sql_parser_steps.specs.declared.test.Test.TheVariants as t
 use Rattle.sql_parser_steps.specs.declared.filters.Filters.{Filters}
@@ -316,9 +318,23 @@ block s f = roll-Block
 abbrev pub named_key : Name → Bool → NamedKey
 named_key column is_descending = record { column = column; is_descending = is_descending }
 
--- the query with its order and its row limit
-abbrev pub ordered : Block → List NamedKey × Option ℕ → Statement
-ordered query o = statements.Query (record { block = query; order = o.0; limit = o.1 })
+-- the query with its order, its row limit and its version
+abbrev pub ordered : Block → List NamedKey × (Option ℕ × Option ℕ) → Query
+ordered query o = record {
+  with_queries = [];
+  block = query;
+  order = o.0;
+  limit = o.1.0;
+  version = o.1.1;
+}
+
+-- a query of WITH: its name, the names of its columns, and its query
+abbrev pub with_query : Name × List Name → Block → WithQuery
+with_query named query = record { name = named.0; columns = named.1; block = query }
+
+-- the statement under the queries of WITH
+abbrev pub under_with : List WithQuery → Query → Statement
+under_with queries q = statements.Query (record q { with_queries = queries })
 
 -- a view: its name, the names of its columns, and its query
 abbrev pub create_view : Name × List Name → Block → Statement

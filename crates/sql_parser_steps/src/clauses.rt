@@ -127,6 +127,20 @@ impl<'a> Parser<'a> {
         }
         Ok(None)
     }
+
+    /// `[at version N]`.
+    #[tactic(auto, unfolding(crate::specs::Readings::read_version))]
+    pub fn version(&mut self) -> Result<Option<u32>, SyntaxError>
+        ensures { Reads (readings.read_version self.old) result self.new }
+    {
+        if self.starts(Kind::At) {
+            self.one(Kind::At)?;
+            self.one(Kind::Version)?;
+            let version = self.number()?;
+            return Ok(Some(version));
+        }
+        Ok(None)
+    }
 }
 
 /// The columns, of which the first is read.

@@ -18,9 +18,9 @@ use Rattle.sql_ast.specs.declared.statement.RefreshKind.TheVariants as refresh_k
 use Rattle.sql_ast.specs.declared.statement.Statement.TheVariants as statements
 use Rattle.sql_parser_steps.specs.declared.test.Test.TheVariants as t
 use Rattle.sql_grammar_laws.specs.Readings.{Reading}
-use Rattle.sql_parser_steps.specs.Values.{text_of, count_of, number, text, first, second, pair, cons, constant, after_word, after_point, column, negative, negation, factor, term, product, sum, all_of, any_of, arm, case_of, date, interval, extract, substring, distinct_count, between, like, in_list, in_query, is_null, is_not_null, denied, tested, item, distinct, plain_selection, derived, join, joined, condition, filters, block, named_key, ordered, create_view, text_value, number_value}
+use Rattle.sql_parser_steps.specs.Values.{text_of, count_of, number, text, first, second, pair, cons, constant, after_word, after_point, column, negative, negation, factor, term, product, sum, all_of, any_of, arm, case_of, date, interval, extract, substring, distinct_count, between, like, in_list, in_query, is_null, is_not_null, denied, tested, item, distinct, plain_selection, derived, join, joined, condition, filters, block, named_key, ordered, create_view, text_value, number_value, with_query, under_with}
 use Rattle.sql_parser_steps.specs.ExpressionReadings.{read_name, read_literal, read_number, read_digits, read_span, read_column_tail, read_column, read_multiply, read_add, read_product, read_sum, read_conjunction, read_whole, read_expr_list, read_arm, read_arms, read_else, read_case_body, read_case, read_date_text, read_date, read_precision, read_interval, read_extract_inside, read_extract, read_places, read_substring_inside, read_substring, read_count_inside, read_count, read_aggregate_word, read_aggregate, read_call, read_leaf, read_parens_inside, read_parens, read_subquery, read_exists, read_operand, read_unary_line, read_comparison, read_compare, read_null, read_between, read_like, read_in_inside, read_in, read_deny_test, read_test, read_predicate, read_part_line}
-use Rattle.sql_parser_steps.specs.Readings.{read_alias, read_item, read_selection, read_select, read_names, read_column_names, read_table, read_derived_alias, read_derived, read_from_item, read_inner_words, read_left_words, read_join_words, read_joined_item, read_joined, read_from, read_where, read_group, read_having, read_filters, read_query_line, read_direction, read_named_key, read_order, read_rows_only, read_limit, read_ordered, read_view_name, read_create, read_drop, read_refresh_word, read_refresh, read_value, read_values, read_run_inside, read_run, read_statement, read_ended, unary_at, part_at, query_at, ended_at}
+use Rattle.sql_parser_steps.specs.Readings.{read_alias, read_item, read_selection, read_select, read_names, read_column_names, read_table, read_derived_alias, read_derived, read_from_item, read_inner_words, read_left_words, read_join_words, read_joined_item, read_joined, read_from, read_where, read_group, read_having, read_filters, read_query_line, read_direction, read_named_key, read_order, read_rows_only, read_limit, read_version, read_ordered, read_with_query, read_with, read_with_ordered, read_view_name, read_create, read_drop, read_refresh_word, read_refresh, read_value, read_values, read_run_inside, read_run, read_statement, read_ended, unary_at, part_at, query_at, inner_query, ended_at}
 use Rattle.sql_templates.proofs.Readings.{Follows, same_is, same_among, tests_is, tests_count, tests_digits, follow_one, follow_opens, follow_nothing, follow_never, follow_mapped, follow_both, follow_either, follow_links}
 
 pub follow_name : Follows read_name
@@ -331,9 +331,25 @@ pub follow_limit : Follows read_limit
 unfolding read_limit
 follow_limit = follow_either (same_is k.Limit) (follow_both after_word (follow_one (tests_is k.Limit)) follow_number) (follow_either (same_is k.Fetch) (follow_both after_word (follow_both second (follow_one (tests_is k.Fetch)) (follow_one (tests_is k.First))) (follow_both first follow_number follow_rows_only)) (follow_nothing None))
 
+pub follow_version : Follows read_version
+unfolding read_version
+follow_version = follow_either (same_is k.At) (follow_both after_word (follow_both second (follow_one (tests_is k.At)) (follow_one (tests_is k.Version))) follow_number) (follow_nothing None)
+
 pub follow_ordered : (wide : ℕ) {query : Reading Token Block} → Follows query → Follows (read_ordered wide query)
 unfolding read_ordered
-follow_ordered wide by_query = follow_both ordered by_query (follow_both pair (follow_order wide) follow_limit)
+follow_ordered wide by_query = follow_both ordered by_query (follow_both pair (follow_order wide) (follow_both pair follow_limit follow_version))
+
+pub follow_with_query : (wide : ℕ) (room : ℕ) {inner : Reading Token Block} → Follows inner → Follows (read_with_query wide room inner)
+unfolding read_with_query
+follow_with_query wide room by_inner = follow_both with_query (follow_both pair follow_name (follow_column_names wide room)) (follow_both second (follow_one (tests_is k.As)) (follow_subquery room by_inner))
+
+pub follow_with : (wide : ℕ) (room : ℕ) {inner : Reading Token Block} → Follows inner → Follows (read_with wide room inner)
+unfolding read_with
+follow_with wide room by_inner = follow_both second (follow_one (tests_is k.With)) (follow_both cons (follow_with_query wide room by_inner) (follow_links second (same_is k.Comma) (follow_one (tests_is k.Comma)) (follow_with_query wide room by_inner) wide))
+
+pub follow_with_ordered : (wide : ℕ) (room : ℕ) {query inner : Reading Token Block} → Follows query → Follows inner → Follows (read_with_ordered wide room query inner)
+unfolding read_with_ordered
+follow_with_ordered wide room by_query by_inner = follow_both under_with (follow_with wide room by_inner) (follow_ordered wide by_query)
 
 pub follow_view_name : (wide : ℕ) (room : ℕ) → Follows (read_view_name wide room)
 unfolding read_view_name
@@ -371,13 +387,13 @@ pub follow_run : (wide : ℕ) (room : ℕ) → Follows (read_run wide room)
 unfolding read_run
 follow_run wide room = follow_both second (follow_one (tests_is k.Run)) (follow_both statements.Run follow_number (follow_both second (follow_opens room (tests_is k.OpenParen)) (follow_run_inside wide)))
 
-pub follow_statement : (wide : ℕ) (room : ℕ) {query : Reading Token Block} → Follows query → Follows (read_statement wide room query)
+pub follow_statement : (wide : ℕ) (room : ℕ) {query inner : Reading Token Block} → Follows query → Follows inner → Follows (read_statement wide room query inner)
 unfolding read_statement
-follow_statement wide room by_query = follow_either (same_is k.Select) (follow_ordered wide by_query) (follow_either (same_is k.Create) (follow_create wide room by_query) (follow_either (same_is k.Drop) follow_drop (follow_either (same_is k.Refresh) follow_refresh (follow_run wide room))))
+follow_statement wide room by_query by_inner = follow_either (same_is k.Select) (follow_mapped statements.Query (follow_ordered wide by_query)) (follow_either (same_is k.With) (follow_with_ordered wide room by_query by_inner) (follow_either (same_is k.Create) (follow_create wide room by_query) (follow_either (same_is k.Drop) follow_drop (follow_either (same_is k.Refresh) follow_refresh (follow_run wide room)))))
 
-pub follow_ended : (wide : ℕ) (room : ℕ) {query : Reading Token Block} → Follows query → Follows (read_ended wide room query)
+pub follow_ended : (wide : ℕ) (room : ℕ) {query inner : Reading Token Block} → Follows query → Follows inner → Follows (read_ended wide room query inner)
 unfolding read_ended
-follow_ended wide room by_query = follow_both first (follow_statement wide room by_query) (follow_one (tests_is k.Semicolon))
+follow_ended wide room by_query by_inner = follow_both first (follow_statement wide room by_query by_inner) (follow_one (tests_is k.Semicolon))
 
 -- ---- the three parts that lead back to themselves
 record AtRoom (room : ℕ) : Type 0 where
@@ -397,5 +413,9 @@ at_room (suc room) =
     let part = follow_part_line 1023 (suc room) unary inner.part inner.query in
     record { unary = unary; part = part; query = follow_query_line 1023 (suc room) part inner.query }
 
+follow_inner : (room : ℕ) → Follows (inner_query 1023 room)
+follow_inner zero = follow_never
+follow_inner (suc room) = (at_room room).query
+
 pub follow_ended_at : (room : ℕ) → Follows (ended_at 1023 room)
-follow_ended_at room = let at = at_room room in follow_ended 1023 room at.query
+follow_ended_at room = let at = at_room room in follow_ended 1023 room at.query (follow_inner room)

@@ -1,4 +1,5 @@
 use Rattle.sql_binder.proofs.EdgeProofs as edge
+use Rattle.sql_binder.proofs.WithProofs.{names_of_with}
 use Rattle.sql_binder.proofs.laws.worked_bindings.Goals as goal
 
 pub returns : goal.returns
@@ -11,4 +12,5 @@ returns c = record {
   sights = edge.sights_of_parts;
   order = edge.order_in_from;
   view_order = edge.order_in_views;
+  with_queries = names_of_with;
 }
