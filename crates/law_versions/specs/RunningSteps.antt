@@ -1,24 +1,25 @@
 -- What running sessions and the publisher do, in the machine's steps.
-use Rattle.std.specs.Prelude.{◌≡◌, ◌⊎◌, ℕ, ◌<◌, ◌≤◌, List, length, max, true}
-use Rattle.store_versions.specs.Trials.{Trials}
+use Rattle.std.specs.Prelude.{◌≡◌, ◌⊎◌, ℕ, ◌≤◌, List, max, true, Some, Result, Ok, Err}
+use Rattle.store_versions.specs.Older.{GivesOlder}
+use Rattle.store_versions.specs.Trials.{Trials, version_of}
+use Rattle.store_versions.specs.declared.version_error.VersionError.{VersionError}
+use Rattle.store_versions.specs.declared.version_error.VersionError.TheVariants.{Unknown, Gone}
+use Rattle.store_versions.specs.declared.version_error.VersionError.TheVariants.{OutOfMemory}
 use Rattle.store_snapshots.specs.Openings.{HasRisen}
 use Rattle.store_snapshots.specs.Publishers.{Tries}
 use Rattle.store_snapshots.specs.Seen.{Began}
 use Rattle.store_snapshots.specs.declared.publisher.Published.{Published as Answer}
-use Rattle.store_snapshots.specs.declared.publisher.Published.TheVariants.{OutOfMemory}
-use Rattle.store_machine.specs.Machine.{SessionState, World, happens, is_cut, pinned, published}
-use Rattle.store_machine.specs.Machine.{session_of}
-use Rattle.store_machine.specs.declared.steps.Step.TheVariants.{Again, Begin, Compact, Learn}
-use Rattle.store_machine.specs.declared.steps.Step.TheVariants.{Publish}
+use Rattle.store_snapshots.specs.declared.publisher.Published.TheVariants.{OutOfMemory as NoMemory}
+use Rattle.store_machine.specs.Laws.{IsSession}
+use Rattle.store_machine.specs.Machine.{SessionState, World, happens, is_cut, pinned, pinned_back}
+use Rattle.store_machine.specs.Machine.{published, session_of}
+use Rattle.store_machine.specs.declared.steps.Step.TheVariants.{Again, Back, Begin, Compact}
+use Rattle.store_machine.specs.declared.steps.Step.TheVariants.{Learn, Publish}
 
 -- the machine at a version that a publisher keeps, beside some sessions
 abbrev pub world_at : Trials → List SessionState → World
 world_at trials sessions = record
     { base = trials.base; list = trials.list; done = trials.done; sessions = sessions }
-
--- the session is one of the machine's; they count from 1
-abbrev pub IsSession : World → ℕ → Type 0
-IsSession world session = (0 < session) × (session ≤ length world.sessions)
 
 -- A reader begins, while the machine's published version is the one that its entry would give. Where
 -- its entries rose, that is the step Begin, and where its refusals rose, the step Again: the session
@@ -34,6 +35,26 @@ BeginLaw = (world : World) (session : ℕ) (cuts : List (List ℕ))
     ⊎ (HasRisen refusals others
     × (session_of (happens world (Again session cuts)) session ≡ pinned version cuts))
 
+-- what a session's machine comes to by the step Back, by the answer of a snapshot that was asked for
+-- the version: where it is given, the session pins it; where it is refused, nothing changes
+abbrev pub GoesBack : World → ℕ → ℕ → List (List ℕ) → Result Trials VersionError → Type 0
+GoesBack world session number cuts (Ok older) =
+    session_of (happens world (Back session number cuts)) session
+    ≡ pinned_back (version_of older) cuts (session_of world session)
+GoesBack world session number cuts (Err Unknown) = happens world (Back session number cuts) ≡ world
+GoesBack world session number cuts (Err Gone) = happens world (Back session number cuts) ≡ world
+GoesBack world session number cuts (Err OutOfMemory) = Unit {0}
+
+-- A session pins the version of a snapshot, the last that it has seen, and the snapshot is asked for
+-- the version of a number, whose tables are cut so: that is the step Back.
+abbrev pub BackLaw : Type 0
+BackLaw = (world : World) (session number : ℕ) (cuts : List (List ℕ)) (last : Trials)
+    (answer : Result Trials VersionError)
+    → IsSession world session → (session_of world session).pin ≡ Some (version_of last)
+    → (session_of world session).seen ≡ version_of last
+    → is_cut world.base world.list number cuts ≡ true
+    → GivesOlder last number answer → GoesBack world session number cuts answer
+
 -- A reader takes a note of an earlier or the published version: that is the step Learn, and the
 -- session has then seen at least the note's version.
 abbrev pub LearnLaw : Type 0
@@ -46,7 +67,7 @@ LearnLaw = (world : World) (session note : ℕ)
 -- Publish.
 abbrev pub PublishLaw : Type 0
 PublishLaw = (old new : Trials) (answer : Answer) (sessions : List SessionState)
-    → Tries old new answer → (answer ≡ OutOfMemory → ⊥)
+    → Tries old new answer → (answer ≡ NoMemory → ⊥)
     → happens (world_at old sessions) Publish ≡ world_at new sessions
 
 -- A publisher puts segments together, which leaves its version as it was: that is the step Compact.

@@ -13,7 +13,7 @@ use Rattle.store_state.specs.Lists.{place_of}
 use Rattle.store_state.specs.Refresh.{Change}
 use Rattle.store_state.proofs.Order.{place_law}
 use Rattle.store_machine.specs.Machine.{ScannedPiece, SessionState, World, joined, lengths_of, piece_of, piece_rows, pieces_of, rows_in, scan_from, scanned_at, session_scan, total}
-use Rattle.store_machine.proofs.Sessions.{IsPast, IsSound, Keeps}
+use Rattle.store_machine.proofs.Sessions.{IsSound, Keeps}
 
 same_some : {A : Type 0} (a b : A) → Some a ≡ Some b → a ≡ b
 same_some a b e = cc
@@ -79,18 +79,6 @@ scanned_sound world None table number session e h = h
 scanned_sound world (Some version) table number session e h =
     scanned_if world version table number session (nat_lt number (length (lengths_of session.cuts table))) e h
 
-past_if : (first : ℕ) (session : SessionState) (more : List ScannedPiece) (b : Bool) → IsPast first session
-    → IsPast first (cond b (record session { pieces = more }) session)
-past_if first session more true p = record { seen = p.seen; pin = p.pin }
-past_if first session more false p = p
-
-scanned_past : (world : World) (pin : Option ℕ) (table : TableName) (number first : ℕ) (session : SessionState) → IsPast first session
-    → IsPast first (scanned_at world pin table number session)
-scanned_past world None table number first session p = p
-scanned_past world (Some version) table number first session p =
-    past_if first session (session.pieces ++ piece_of world.base world.list version session.cuts table number ∷ [])
-    (nat_lt number (length (lengths_of session.cuts table))) p
-
 rises_if : (session : SessionState) (more : List ScannedPiece) (b : Bool) → session.seen ≤ (cond b (record session { pieces = more }) session).seen
 rises_if session more true = omega arith
 rises_if session more false = omega arith
@@ -105,7 +93,6 @@ scanned_rises world (Some version) table number session =
 pub scanned_keeps : (world : World) (table : TableName) (number : ℕ) → Keeps world.base world.list world.done (λ s. scanned_at world s.pin table number s)
 scanned_keeps world table number = record {
   sound = λ c h. scanned_sound world c.pin table number c refl h;
-  past = λ v c h p. scanned_past world c.pin table number v c p;
   rises = λ c h. scanned_rises world c.pin table number c;
 }
 

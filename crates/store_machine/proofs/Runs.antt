@@ -1,6 +1,7 @@
 -- Any list of steps.
 use Rattle.std.proofs.Common.{◌≡◌, ℕ, zero, suc, ◌+◌, ◌<◌, ◌≤◌, Bool, true, false, cond, List, [], ◌∷◌, length, replicate, Some, refl, sym, ap, subst, ◌∙◌, ⊎_elim, arith, length-set}
 use Rattle.std.specs.Prelude.{nat_le, nat_lt, slice_index_or}
+use Rattle.std.specs.Option.{is_some}
 use Rattle.std.proofs.lemmas.Bool.Decides.{nat_tests}
 use Rattle.std.proofs.lemmas.List.{get_or-set_same, length-replicate}
 use Rattle.base_schema.specs.State.{State}
@@ -8,11 +9,11 @@ use Rattle.store_state.specs.Refresh.{Change}
 use Rattle.store_state.specs.Versions.{accepted}
 use Rattle.store_state.proofs.VersionSteps.{accepted-rises}
 use Rattle.store_machine.specs.declared.steps.Step.{Step}
-use Rattle.store_machine.specs.declared.steps.Step.TheVariants.{Begin, Again, Scan, Publish, Compact, Finish, Learn}
-use Rattle.store_machine.specs.Laws.{NotesLaw, PinsRiseLaw, PublishedLaw, ScanLaw, next_pin, pin_of, pinning, seen_of}
-use Rattle.store_machine.specs.Machine.{SessionState, World, begun, begun_again, changed_in, finished, happens, is_cut, learnt, new_session, published, rows_in, run, scanned_at, session_in, session_of, start}
+use Rattle.store_machine.specs.declared.steps.Step.TheVariants.{Begin, Again, Back, Scan, Publish, Compact, Finish, Learn}
+use Rattle.store_machine.specs.Laws.{AgainPinsLaw, BackPinsLaw, BeginPinsLaw, NotesLaw, PublishedLaw, ScanLaw, SeenRisesLaw, seen_of}
+use Rattle.store_machine.specs.Machine.{SessionState, World, begun, begun_again, changed_in, finished, gone_back, happens, learnt, may_go_back, new_session, published, rows_in, run, scanned_at, session_in, session_of, start}
 use Rattle.store_machine.proofs.Pieces.{scanned_keeps, session_scan_is}
-use Rattle.store_machine.proofs.Sessions.{IsPast, IsSound, Keeps, again_keeps, begun_keeps, finished_keeps, learnt_keeps, nothing_kept, session_changed}
+use Rattle.store_machine.proofs.Sessions.{IsSound, Keeps, again_keeps, back_keeps, begun_keeps, finished_keeps, learnt_keeps, nothing_kept, session_changed}
 
 -- what a step does to one session
 record Does (world : World) (before after : SessionState) : Type 0 where
@@ -31,6 +32,7 @@ one_changed world number session change keeps =
 does : (world : World) (step : Step) (session : ℕ) → Does world (session_of world session) (session_of (happens world step) session)
 does world (Begin number cuts) session = one_changed world number session (begun world cuts) (begun_keeps world cuts)
 does world (Again number cuts) session = one_changed world number session (begun_again world cuts) (again_keeps world cuts)
+does world (Back number version cuts) session = one_changed world number session (gone_back world version cuts) (back_keeps world version cuts)
 does world (Scan number table piece) session =
     one_changed world number session (λ s. scanned_at world s.pin table piece s) (scanned_keeps world table piece)
 does world Publish session = record { change = λ c. c; keeps = nothing_kept world.base world.list world.done; is = refl }
@@ -62,6 +64,7 @@ published_rises base list done false = omega arith
 sound_step : (world : World) (step : Step) → AllSound world → AllSound (happens world step)
 sound_step world (Begin number cuts) h = λ s. still_sound world _ _ (does world (Begin number cuts) s) (h s)
 sound_step world (Again number cuts) h = λ s. still_sound world _ _ (does world (Again number cuts) s) (h s)
+sound_step world (Back number version cuts) h = λ s. still_sound world _ _ (does world (Back number version cuts) s) (h s)
 sound_step world (Scan number table piece) h = λ s. still_sound world _ _ (does world (Scan number table piece) s) (h s)
 sound_step world Publish h = λ s.
     later_sound world.base world.list world.done (cond (nat_lt world.done (length world.list)) (world.done + 1) world.done) (session_of world s)
@@ -73,14 +76,6 @@ sound_step world (Learn number note) h = λ s. still_sound world _ _ (does world
 sound_run : (steps : List Step) (world : World) → AllSound world → AllSound (run steps world)
 sound_run [] world h = h
 sound_run (step ∷ steps) world h = sound_run steps (happens world step) (sound_step world step h)
-
-past_run : (steps : List Step) (world : World) → AllSound world → (version session : ℕ) → IsPast version (session_of world session)
-    → IsPast version (session_of (run steps world) session)
-past_run [] world h version session p = p
-past_run (step ∷ steps) world h version session p =
-    let d = does world step session in
-    past_run steps (happens world step) (sound_step world step h) version session
-    (subst (IsPast version) (sym d.is) (d.keeps.past version (session_of world session) (h session) p))
 
 seen_run : (steps : List Step) (world : World) → AllSound world → (session : ℕ) → seen_of world session ≤ seen_of (run steps world) session
 seen_run [] world h session = omega arith
@@ -94,6 +89,7 @@ seen_run (step ∷ steps) world h session =
 same_base : (world : World) (step : Step) → (happens world step).base ≡ world.base
 same_base world (Begin number cuts) = refl
 same_base world (Again number cuts) = refl
+same_base world (Back number version cuts) = refl
 same_base world (Scan number table piece) = refl
 same_base world Publish = refl
 same_base world Compact = refl
@@ -103,6 +99,7 @@ same_base world (Learn number note) = refl
 same_list : (world : World) (step : Step) → (happens world step).list ≡ world.list
 same_list world (Begin number cuts) = refl
 same_list world (Again number cuts) = refl
+same_list world (Back number version cuts) = refl
 same_list world (Scan number table piece) = refl
 same_list world Publish = refl
 same_list world Compact = refl
@@ -124,6 +121,7 @@ count_changed sessions (suc place) change = length-set sessions place (change (s
 count_step : (world : World) (step : Step) → length (happens world step).sessions ≡ length world.sessions
 count_step world (Begin number cuts) = count_changed world.sessions number (begun world cuts)
 count_step world (Again number cuts) = count_changed world.sessions number (begun_again world cuts)
+count_step world (Back number version cuts) = count_changed world.sessions number (gone_back world version cuts)
 count_step world (Scan number table piece) = count_changed world.sessions number (λ s. scanned_at world s.pin table piece s)
 count_step world Publish = refl
 count_step world Compact = refl
@@ -168,18 +166,9 @@ scan_law base list sessions steps session table rows scan =
           ∙ ap (λ l. rows_in base l found.0 table) (list_run steps (start base list sessions)),
     )
 
-some_of : {A : Type 0} (a b : A) → Some a ≡ Some b → a ≡ b
-some_of a b e = cc
-
-pub pins_rise_law : PinsRiseLaw
-pins_rise_law base list sessions steps more session before later first second =
-    let world = run steps (start base list sessions) in
-    let sound = reached base list sessions steps in
-    let past : IsPast before (session_of world session) = record {
-      seen = (sound session).pin before first;
-      pin = λ v e. let same : before ≡ v = some_of before v (sym first ∙ e) in omega (arith, same);
-    } in
-    (past_run more world sound before session past).pin later second
+pub seen_rises_law : SeenRisesLaw
+seen_rises_law base list sessions steps more session =
+    seen_run more (run steps (start base list sessions)) (reached base list sessions steps) session
 
 pub published_law : PublishedLaw
 published_law base list sessions steps session version pin =
@@ -199,40 +188,40 @@ learnt_seen world note session less =
     let yes : nat_le note (published world) ≡ true = grind (arith, nat_tests) in
     rw yes (omega arith)
 
-pinned_here : (world : World) (session : ℕ) (cuts : List (List ℕ)) (again : Bool) → 0 < session → session ≤ length world.sessions
-    → is_cut world.base world.list (next_pin world session again) cuts ≡ true
-    → pin_of (happens world (pinning again session cuts)) session ≡ Some (next_pin world session again)
-pinned_here world session cuts true some within cut =
-    ap (λ c. c.pin) (changed_here world session (begun_again world cuts) some within) ∙ rw cut refl
-pinned_here world session cuts false some within cut =
-    ap (λ c. c.pin) (changed_here world session (begun world cuts) some within) ∙ rw cut refl
-
-seen_next : (world : World) (session note : ℕ) (again : Bool) → AllSound world → note ≤ seen_of world session → note ≤ next_pin world session again
-seen_next world session note true sound less = less
-seen_next world session note false sound less = let h = (sound session).seen in omega (arith, h, less)
-
 pub notes_law : NotesLaw
-notes_law base list sessions steps more session note cuts again world is some within less cut =
+notes_law base list sessions steps more session note some within less =
     let origin = start base list sessions in
     let first = run steps origin in
     let told = happens first (Learn session note) in
     let sound : AllSound told = sound_step first (Learn session note) (reached base list sessions steps) in
-    let here : AllSound world = subst AllSound (sym is) (sound_run more told sound) in
     let count : length first.sessions ≡ sessions = count_run steps origin ∙ length-replicate sessions new_session in
     let heard : seen_of told session ≡ (learnt first note (session_of first session)).seen =
     ap (λ c. c.seen) (changed_here first session (learnt first note) some (omega (arith, within, count))) in
     let knows : note ≤ seen_of told session =
     subst (λ n. note ≤ n) (sym heard) (learnt_seen first note (session_of first session) less) in
     let rest = seen_run more told sound session in
-    let still : note ≤ seen_of world session = subst (λ w. note ≤ seen_of w session) (sym is) (omega (arith, knows, rest)) in
-    let room : length world.sessions ≡ sessions =
-    ap (λ w. length w.sessions) is ∙ count_run more told ∙ count_step first (Learn session note) ∙ count in
-    let of_base : world.base ≡ base = ap (λ w. w.base) is ∙ base_run more told ∙ base_run steps origin in
-    let of_list : world.list ≡ list = ap (λ w. w.list) is ∙ list_run more told ∙ list_run steps origin in
-    let fits : is_cut world.base world.list (next_pin world session again) cuts ≡ true =
-    ap (λ b. is_cut b world.list (next_pin world session again) cuts) of_base
-    ∙ ap (λ l. is_cut base l (next_pin world session again) cuts) of_list ∙ cut in (
-      next_pin world session again,
-      pinned_here world session cuts again some (omega (arith, within, room)) fits,
-      seen_next world session note again here still,
-    )
+    omega (arith, knows, rest)
+
+pub begin_pins_law : BeginPinsLaw
+begin_pins_law world session cuts is cut =
+    let here = changed_here world session (begun world cuts) is.0 is.1 in
+    (ap (λ c. c.pin) here ∙ rw cut refl, ap (λ c. c.seen) here ∙ rw cut refl)
+
+pub again_pins_law : AgainPinsLaw
+again_pins_law world session cuts is cut =
+    let here = changed_here world session (begun_again world cuts) is.0 is.1 in
+    (ap (λ c. c.pin) here ∙ rw cut refl, ap (λ c. c.seen) here ∙ rw cut refl)
+
+may_back : (session : SessionState) (pin version : ℕ) → session.pin ≡ Some pin → version ≤ session.seen
+    → session.seen < version + 64 → may_go_back session version ≡ true
+may_back session pin version e most recent =
+    let has : is_some session.pin ≡ true = ap is_some e in
+    let le : nat_le version session.seen ≡ true = grind (arith, nat_tests) in
+    let lt : nat_lt session.seen (version + 64) ≡ true = grind (arith, nat_tests) in
+    rw (has, le, lt) refl
+
+pub back_pins_law : BackPinsLaw
+back_pins_law world session pin version cuts is e most recent cut =
+    let here = changed_here world session (gone_back world version cuts) is.0 is.1 in
+    let may = may_back (session_of world session) pin version e most recent in
+    (ap (λ c. c.pin) here ∙ rw (may, cut) refl, ap (λ c. c.seen) here ∙ rw (may, cut) refl)

@@ -3,6 +3,7 @@ use Rattle.std.specs.Prelude.{ℕ, zero, suc, ◌+◌, Bool, ◌&&◌, ◌==◌,
 use Rattle.std.specs.Prelude.{◌++◌, length, take, drop, max, replicate, Option, Some, None}
 use Rattle.std.specs.Prelude.{slice_index_or, slice_set, if◌then◌else◌}
 use Rattle.std.specs.List.{list_all}
+use Rattle.std.specs.Option.{is_some}
 use Rattle.base_value.specs.declared.value.Value.{Value}
 use Rattle.base_schema.specs.declared.table.TableName.{TableName}
 use Rattle.base_schema.specs.State.{State, table_rows}
@@ -11,8 +12,8 @@ use Rattle.store_state.specs.Lists.{place_of}
 use Rattle.store_state.specs.Refresh.{Change}
 use Rattle.store_state.specs.Versions.{accepted, version_state}
 use Rattle.store_machine.specs.declared.steps.Step.{Step}
-use Rattle.store_machine.specs.declared.steps.Step.TheVariants.{Begin, Again, Scan, Publish}
-use Rattle.store_machine.specs.declared.steps.Step.TheVariants.{Compact, Finish, Learn}
+use Rattle.store_machine.specs.declared.steps.Step.TheVariants.{Begin, Again, Back, Scan}
+use Rattle.store_machine.specs.declared.steps.Step.TheVariants.{Publish, Compact, Finish, Learn}
 
 -- a piece that a session scanned: its table, its number among that table's pieces, and its rows
 pub record ScannedPiece : Type 0 where
@@ -88,6 +89,23 @@ abbrev pub begun_again : World → List (List ℕ) → SessionState → SessionS
 begun_again world cuts session =
     if is_cut world.base world.list session.seen cuts then pinned session.seen cuts else session
 
+-- a session that pins a version may pin in its place one of a number that is at most the last that
+-- it has seen, and fewer than 64 before it
+abbrev pub may_go_back : SessionState → ℕ → Bool
+may_go_back session version = is_some session.pin
+    && (nat_le version session.seen && nat_lt session.seen (version + 64))
+
+-- a session pins an earlier version, and forgets what it scanned; what it has seen stays
+abbrev pub pinned_back : ℕ → List (List ℕ) → SessionState → SessionState
+pinned_back version cuts session =
+    record session { pin = Some version; cuts = cuts; pieces = [] }
+
+-- a session goes back to a version, if it may and the cuts are of it
+abbrev pub gone_back : World → ℕ → List (List ℕ) → SessionState → SessionState
+gone_back world version cuts session =
+    if may_go_back session version && is_cut world.base world.list version cuts
+    then pinned_back version cuts session else session
+
 -- a session takes a note, the number of an earlier or the published version: it has then seen that
 -- one
 abbrev pub learnt : World → ℕ → SessionState → SessionState
@@ -143,6 +161,8 @@ with_session world number change =
 abbrev pub happens : World → Step → World
 happens world (Begin session cuts) = with_session world session (begun world cuts)
 happens world (Again session cuts) = with_session world session (begun_again world cuts)
+happens world (Back session version cuts) =
+    with_session world session (gone_back world version cuts)
 happens world (Scan session table number) =
     with_session world session (λ s. scanned_at world s.pin table number s)
 happens world Publish = record world

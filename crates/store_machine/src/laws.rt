@@ -1,12 +1,17 @@
 //! What holds after any list of steps: the contract of a function that does nothing.
-ghost use Rattle.store_machine.specs.Laws.{NotesLaw, PinsRiseLaw, PublishedLaw, ScanLaw};
+ghost use Rattle.store_machine.specs.Laws.{AgainPinsLaw, BackPinsLaw, BeginPinsLaw, NotesLaw};
+ghost use Rattle.store_machine.specs.Laws.{PublishedLaw, ScanLaw, SeenRisesLaw};
 
 /// Whatever is published or compacted meanwhile, a finished scan has the rows of the pinned
-/// version. A session's pins never fall, and one that it pins anew is at least each note that it
-/// had learnt.
+/// version. What a session has seen never falls, and is at least each note that it had learnt. A
+/// session that begins, or begins again, pins what it has then seen; one that goes back pins the
+/// version that it names.
 pub fn snapshots_stand()
     ensures scans { ScanLaw }
-    ensures pins { PinsRiseLaw }
+    ensures seen { SeenRisesLaw }
     ensures notes { NotesLaw }
+    ensures begin { BeginPinsLaw }
+    ensures again { AgainPinsLaw }
+    ensures back { BackPinsLaw }
     ensures published { PublishedLaw }
 {}

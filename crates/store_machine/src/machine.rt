@@ -8,7 +8,8 @@ ghost use Rattle.base_schema.specs.State.{table_rows};
 ghost use Rattle.store_state.specs.Versions.{version_state};
 ghost use Rattle.store_machine.specs.Kept.{IsTried};
 ghost use Rattle.store_machine.specs.Machine.{SessionState, World, begun, begun_again, changed_in};
-ghost use Rattle.store_machine.specs.Machine.{finished, finished_scan, happens, is_cut, learnt};
+ghost use Rattle.store_machine.specs.Machine.{finished, finished_scan, gone_back, happens, is_cut};
+ghost use Rattle.store_machine.specs.Machine.{learnt, may_go_back, pinned_back};
 ghost use Rattle.store_machine.specs.Machine.{lengths_of, new_session, piece_of, pinned, published};
 ghost use Rattle.store_machine.specs.Machine.{rows_in, scan_from, scanned_at, session_of, start};
 ghost use Rattle.store_machine.specs.Machine.{total, with_session};
@@ -168,6 +169,22 @@ impl Machine {
         self.take(number, version, cuts);
     }
 
+    /// The session pins an earlier version in place of the one that it pins.
+    fn go_back(&mut self, number: u32, version: u64, cuts: Cuts)
+        ensures { self.new ≡ happens self.old (Step.Back number version cuts) }
+    {
+        let Some(place) = self.place_of(number) else {
+            return;
+        };
+        if !self.sessions[place].may_go_back(version) {
+            return;
+        }
+        if !self.is_cut(version, &cuts) {
+            return;
+        }
+        self.sessions[place].go_back(version, cuts);
+    }
+
     /// The session takes a note.
     fn learn(&mut self, number: u32, note: u64)
         ensures { self.new ≡ happens self.old (Step.Learn number note) }
@@ -277,6 +294,10 @@ pub fn step(machine: &mut Machine, step: Step) -> Result<(), AllocError>
         }
         Step::Again(session, cuts) => {
             machine.begin_again(session, cuts);
+            Ok(())
+        }
+        Step::Back(session, version, cuts) => {
+            machine.go_back(session, version, cuts);
             Ok(())
         }
         Step::Scan(session, table, piece) => machine.scan(session, table, piece),

@@ -1,12 +1,16 @@
 //! A session of the machine.
 ghost use Rattle.std.specs.Prelude.{◌≡◌, ◌++◌, ◌∷◌, [], max, OnErr, OnOk, Some};
-ghost use Rattle.store_machine.specs.Machine.{finished, new_session, pinned};
+ghost use Rattle.store_machine.specs.Machine.{finished, may_go_back, new_session};
+ghost use Rattle.store_machine.specs.Machine.{pinned, pinned_back};
 
 use crate::steps::Cuts;
 use base_schema::TableName;
 use base_value::Row;
 use std::alloc::{AllocError, Global};
 use std::marker::Model;
+
+/// A session may go back to the version that it has seen and to those before it: to so many.
+const VERSIONS_BACK: u64 = 64;
 
 /// A piece that a session scanned.
 #[derive(Drop)]
@@ -92,6 +96,22 @@ impl Session {
         ensures { self.new ≡ pinned version cuts }
     {
         self.seen = version;
+        self.pin = Some(version);
+        self.cuts = cuts;
+        self.pieces.clear();
+    }
+
+    /// Whether it may pin a version of this number in place of the one that it pins.
+    pub(crate) fn may_go_back(&self, version: u64) -> bool
+        ensures { result ≡ may_go_back self.now version }
+    {
+        self.pin.is_some() && version <= self.seen && self.seen - version < VERSIONS_BACK
+    }
+
+    /// Pins an earlier version, and forgets what it scanned.
+    pub(crate) fn go_back(&mut self, version: u64, cuts: Cuts)
+        ensures { self.new ≡ pinned_back version cuts self.old }
+    {
         self.pin = Some(version);
         self.cuts = cuts;
         self.pieces.clear();

@@ -167,8 +167,9 @@ impl Publisher {
         Ok(Note::at(&mut self.hall.writer, share))
     }
 
-    /// Shows readers the same version, in segments of which no row is deleted and no two neighbours
-    /// fit in one, and keeps it so. Where memory runs out all stays as it was.
+    /// Puts the version into segments of which no row is deleted and no two neighbours fit in one,
+    /// and shows readers a share of it. The clauses speak of what the publisher keeps. Where memory
+    /// runs out all stays as it was.
     pub fn compact<R: Wait>(&mut self, rt: &R) -> Result<(), AllocError>
         ensures version { self.new.version ≡ self.old.version }
         ensures refused { self.new.refused ≡ self.old.refused }

@@ -43,7 +43,15 @@ impl Snapshot {
     pub fn of(alloc: Global, directory: &Directory) -> Result<Snapshot, AllocError>
         ensures { IfOk result (λ snapshot. snapshot ≡ directory.now) }
     {
-        let share = Arc::new(alloc, directory.another()?)?;
+        let snapshot = Snapshot::owning(alloc, directory.another()?)?;
+        Ok(snapshot)
+    }
+
+    /// A snapshot of this version.
+    fn owning(alloc: Global, directory: Directory) -> Result<Snapshot, AllocError>
+        ensures { IfOk result (λ snapshot. snapshot ≡ directory) }
+    {
+        let share = Arc::new(alloc, directory)?;
         Ok(Snapshot { share })
     }
 
@@ -60,8 +68,8 @@ impl Snapshot {
         ensures { GivesOlder self.now version result }
     {
         let older = self.share.older(version)?;
-        let share = Arc::new(alloc, older)?;
-        Ok(Snapshot { share })
+        let snapshot = Snapshot::owning(alloc, older)?;
+        Ok(snapshot)
     }
 }
 

@@ -1,5 +1,5 @@
 -- Earlier versions.
-use Rattle.std.specs.Prelude.{◌≡◌, ℕ, ◌+◌, ◌<◌, ◌≤◌, List, Result, Ok, Err}
+use Rattle.std.specs.Prelude.{◌≡◌, ℕ, ◌+◌, ◌<◌, ◌≤◌, nat_lt, Bool, ◌&&◌, List, Result, Ok, Err}
 use Rattle.std.specs.List.{All}
 use Rattle.base_schema.specs.State.{State}
 use Rattle.store_state.specs.Refresh.{Change}
@@ -47,10 +47,9 @@ abbrev pub IsVersionOf : State → List Change → KeptState → Type 0
 IsVersionOf base list kept =
     HasKept (record { base = base; list = list; done = kept.done }) kept.number kept.state
 
--- some kept versions are all among others
-abbrev pub AreAmong : List KeptState → List KeptState → Type 0
-AreAmong all some = (base : State) (list : List Change)
-    → All (IsVersionOf base list) all → All (IsVersionOf base list) some
+-- it is one of the 63 versions before that of a number
+abbrev pub is_kept_at : ℕ → KeptState → Bool
+is_kept_at number kept = nat_lt kept.number number && nat_lt number (kept.number + 64)
 
 -- what a directory keeps beside its view: its own version, and earlier ones
 pub record HasHistory (trials : Trials) (number : ℕ) (state : State) (earlier : List KeptState)

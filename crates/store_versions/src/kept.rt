@@ -1,8 +1,8 @@
 //! Versions that are kept beside the last one.
 ghost use Rattle.std.specs.Prelude.{◌≡◌, IfOk, IfSome};
 ghost use Rattle.std.specs.Arc.{arc_value};
-ghost use Rattle.std.specs.List.{Contains};
-ghost use Rattle.store_versions.specs.Older.{AreAmong};
+ghost use Rattle.std.specs.List.{Contains, filter};
+ghost use Rattle.store_versions.specs.Older.{is_kept_at};
 
 use std::alloc::{AllocError, Global};
 use std::marker::Model;
@@ -54,7 +54,9 @@ impl KeptVersion {
     }
 
     /// Whether it is one of the 63 versions before that of a number.
-    fn is_kept_at(&self, number: u64) -> bool {
+    fn is_kept_at(&self, number: u64) -> bool
+        ensures { result ≡ is_kept_at number self.now }
+    {
         self.number < number && number - self.number < KEPT_VERSIONS
     }
 }
@@ -65,7 +67,7 @@ pub(crate) fn kept_at(
     earlier: &[KeptVersion],
     number: u64,
 ) -> Result<Vec<KeptVersion>, AllocError>
-    ensures { IfOk result (λ kept. AreAmong earlier.now kept.items) }
+    ensures { IfOk result (λ kept. kept.items ≡ filter (is_kept_at number) earlier.now) }
 {
     let mut kept = Vec::new(alloc);
     for version in earlier {

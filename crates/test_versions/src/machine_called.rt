@@ -99,3 +99,18 @@ fn pins_what_it_knows(rt: HostRuntime) -> Result<(), Fail> {
     assert!(rt; scans(alloc, &mut machine, &[7, 8, 9])?);
     Ok(())
 }
+
+#[test]
+fn goes_back(rt: HostRuntime) -> Result<(), Fail> {
+    let alloc = rt.alloc();
+    let mut machine = machine(alloc)?;
+    step(&mut machine, Step::Publish)?;
+    step(&mut machine, Step::Back(1, 0, one_piece(alloc, 2, 0)?))?;
+    assert!(rt; !scans(alloc, &mut machine, &[7, 8])?);
+    assert!(rt; begins(alloc, &mut machine, 3, 1)?);
+    step(&mut machine, Step::Back(1, 0, one_piece(alloc, 2, 0)?))?;
+    assert!(rt; scans(alloc, &mut machine, &[7, 8])?);
+    step(&mut machine, Step::Again(1, one_piece(alloc, 3, 1)?))?;
+    assert!(rt; scans(alloc, &mut machine, &[7, 8, 9])?);
+    Ok(())
+}

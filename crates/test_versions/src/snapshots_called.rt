@@ -12,7 +12,7 @@ use std::sync::{Arc, Wait};
 use std::test::Fail;
 use store_snapshots::{Published, Publisher, Reader, RuledEntry, Snapshot, SureEntry, open};
 use store_state::Refresh;
-use store_versions::Directory;
+use store_versions::{Directory, VersionError};
 
 /// An insert of an order and a delete of the same, `count` times.
 fn pairs(alloc: Global, count: usize) -> Result<Vec<Refresh>, Fail> {
@@ -157,5 +157,46 @@ fn begins_at_each_version_in_turn(rt: HostRuntime) -> Result<(), Fail> {
     for version in [0, 1, 2, 2] {
         assert_eq!(rt; reader.begin()?.version(), version);
     }
+    Ok(())
+}
+
+/// The version after `count` refreshes, each of which is accepted.
+fn after(mut directory: Directory, count: usize) -> Result<Directory, Fail> {
+    for _refresh in 0..count {
+        directory = next(&mut directory)?;
+    }
+    Ok(directory)
+}
+
+/// Whether a version has this number, and orders of these keys.
+fn has_orders(
+    alloc: Global,
+    directory: &Directory,
+    version: u64,
+    wanted: &[i128],
+) -> Result<bool, Fail> {
+    let keys = keys(alloc, &directory.rows(TableName::Orders)?)?;
+    Ok(directory.version() == version && keys.as_slice() == wanted)
+}
+
+#[test]
+fn gives_earlier_versions(rt: HostRuntime) -> Result<(), Fail> {
+    let alloc = rt.alloc();
+    let base = Directory::new(alloc, state(alloc, &[ORDERS], &[])?, pairs(alloc, 33)?)?;
+    let last = after(base, 66)?;
+    let third = last.older(3)?;
+    assert!(rt; has_orders(alloc, &third, 3, &[7, 8, 9])?);
+    assert!(rt;
+        has_orders(
+            alloc,
+            &last.compacted()?.directory()?.older(64)?,
+            64,
+            &[7, 8]
+        )?
+    );
+    assert!(rt; matches!(last.older(2), Err(VersionError::Gone)));
+    assert!(rt; matches!(third.older(4), Err(VersionError::Unknown)));
+    // Not kept any more, so it is made anew.
+    assert!(rt; has_orders(alloc, &third.older(1)?, 1, &[7, 8, 9])?);
     Ok(())
 }

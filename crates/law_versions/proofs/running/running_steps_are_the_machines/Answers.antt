@@ -1,8 +1,11 @@
-use Rattle.law_versions.proofs.MachineSteps.{begin_law, compact_law, learn_law, publish_law}
+use Rattle.law_versions.proofs.MachineSteps.{back_law, begin_law, compact_law, learn_law, publish_law}
 use Rattle.law_versions.proofs.running.running_steps_are_the_machines.Goals as goal
 
 pub returns-clause-begin : goal.returns-clause-begin
 returns-clause-begin c = begin_law
+
+pub returns-clause-back : goal.returns-clause-back
+returns-clause-back c = back_law
 
 pub returns-clause-learn : goal.returns-clause-learn
 returns-clause-learn c = learn_law
