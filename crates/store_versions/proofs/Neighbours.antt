@@ -1,6 +1,6 @@
 -- Segments that are joined to their neighbours.
 use Rattle.std.proofs.Common.{◌≡◌, ℕ, zero, suc, ◌+◌, ◌-◌, ◌<◌, ◌≤◌, List, [], ◌∷◌, ◌++◌, length}
-use Rattle.std.proofs.Common.{take, drop, get_or, refl, sym, ap, ◌∙◌, subst, arith, append_assoc}
+use Rattle.std.proofs.Common.{take, get_or, refl, sym, ap, ◌∙◌, subst, arith}
 use Rattle.std.proofs.Common.{length-append, map, true, Bool}
 use Rattle.std.specs.Cmp.Lexicographic.{pointwise}
 use Rattle.std.specs.List.{All}
@@ -18,12 +18,12 @@ use Rattle.base_schema.specs.declared.table.TableName.TheVariants.{Partsupp, Cus
 use Rattle.base_schema.specs.declared.table.TableName.TheVariants.{Lineitem}
 use Rattle.base_schema.specs.declared.table.TableName.{TableName}
 use Rattle.base_columns.specs.Lists.{one_list}
-use Rattle.base_columns.specs.Tables.{IsOpen, plain_rows, standing_rows}
+use Rattle.base_columns.specs.Tables.{plain_rows, standing_rows}
 use Rattle.base_columns.proofs.RowLists.{one_list-push}
-use Rattle.store_versions.specs.Segments.{AreApart, AreJoined, FitsNoNext, IsShort}
+use Rattle.store_versions.specs.Segments.{AreApart, AreJoined, IsShort}
 use Rattle.store_versions.specs.Joining.{HasRoom, IsJoining}
 use Rattle.store_state.specs.Lists.{IsOfKinds, state_of}
-use Rattle.store_versions.proofs.Rest.{open_joined, plain_standing, rows_joined}
+use Rattle.store_versions.proofs.Rest.{open_joined, plain_standing}
 
 -- the last segment grows
 pub apart-grows : (segments : List (List (List Value))) (last more : List (List Value))

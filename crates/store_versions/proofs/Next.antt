@@ -1,11 +1,9 @@
 -- One more refresh.
-use Rattle.std.proofs.Common.{◌≡◌, ℕ, zero, suc, ◌+◌, ◌<◌, ◌≤◌, Bool, true, false, cond, List, [], ◌∷◌, length, Option, Some, None, Result, Ok, Err, get_or, refl, sym, ap, ◌∙◌, arith}
+use Rattle.std.proofs.Common.{◌≡◌, ℕ, zero, suc, ◌+◌, ◌<◌, true, false, cond, List, [], ◌∷◌, length, Option, Some, None, Ok, Err, get_or, refl, sym, ap, ◌∙◌, arith}
 use Rattle.std.specs.Prelude.{is_none, slice_get}
-use Rattle.std.proofs.lemmas.Option.{slice_get_within}
 use Rattle.base_refusals.specs.declared.refresh.Cause.{Cause}
 use Rattle.base_schema.specs.State.{State}
 use Rattle.store_state.specs.Refresh.{Change, after, cause_of, changed, unless_cause}
-use Rattle.store_state.specs.Versions.{accepted, is_accepted, tried, version_state}
 use Rattle.store_state.proofs.VersionSteps.{accepted-more, state-more}
 use Rattle.store_versions.specs.Trials.{HasKept, Leaves, Trials, one_more, tables_of, version_of}
 

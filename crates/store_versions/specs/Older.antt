@@ -52,7 +52,7 @@ abbrev pub is_kept_at : ℕ → KeptState → Bool
 is_kept_at number kept = nat_lt kept.number number && nat_lt number (kept.number + 64)
 
 -- what a directory keeps beside its view: its own version, and earlier ones
-pub record HasHistory (trials : Trials) (number : ℕ) (state : State) (earlier : List KeptState)
+pub record HasHistory (trials : Trials) (number : ℕ) (state : State) (before : List KeptState)
     : Type 0 where
   pub last : HasKept trials number state
-  pub earlier : All (IsVersionOf trials.base trials.list) earlier
+  pub earlier : All (IsVersionOf trials.base trials.list) before

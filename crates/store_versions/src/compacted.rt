@@ -89,10 +89,11 @@ impl Compacted {
     pub fn directory(&self) -> Result<Directory, AllocError>
         ensures { IfOk result (λ d. d ≡ self.now.version) }
     {
-        let state = state_over(self.alloc, self.tables.as_slice())?;
+        let tables = state_over(self.alloc, self.tables.as_slice())?;
+        let state = Arc::new(self.alloc, tables)?;
         let base = Arc::try_clone(&self.base)?;
         let list = Arc::try_clone(&self.list)?;
-        let last = KeptVersion::new(self.accepted, self.done, Arc::new(self.alloc, state)?);
+        let last = KeptVersion::new(self.accepted, self.done, state);
         let earlier = Arc::try_clone(&self.earlier)?;
         Ok(Directory::at(self.alloc, base, list, last, earlier))
     }

@@ -19,13 +19,13 @@ use store_state::{Part, Refresh, RefreshError, State, apply};
 #[derive(Drop)]
 pub struct Directory {
     pub(crate) alloc: Global,
-    pub(crate) base: Arc<State>,
-    pub(crate) list: Arc<Vec<Refresh>>,
-    pub(crate) done: usize,
-    pub(crate) accepted: u64,
+    base: Arc<State>,
+    list: Arc<Vec<Refresh>>,
+    done: usize,
+    accepted: u64,
     state: Arc<State>,
     /// Of the 63 versions before it those that are kept, in shared segments.
-    pub(crate) earlier: Arc<Vec<KeptVersion>>,
+    earlier: Arc<Vec<KeptVersion>>,
 }
 
 impl Model for Directory {
@@ -98,6 +98,14 @@ impl Directory {
         ensures most { result ≤ accepted self.now.base self.now.list (length self.now.list) }
     {
         self.accepted
+    }
+
+    /// How many refreshes were tried.
+    pub(crate) fn tried(&self) -> usize
+        ensures tried { result ≡ self.now.done }
+        ensures within { result ≤ length self.now.list }
+    {
+        self.done
     }
 
     /// How many refreshes the list has.
@@ -203,16 +211,48 @@ impl Directory {
         }
     }
 
+    /// The versions before it that are kept.
+    pub(crate) fn earlier(&self) -> &[KeptVersion]
+        ensures { All (IsVersionOf self.now.base self.now.list) result.now }
+    {
+        self.earlier.as_slice()
+    }
+
     /// What the next version keeps: this version and those of the 62 before it that are kept here.
     fn earlier_of_next(&self) -> Result<Vec<KeptVersion>, AllocError>
         requires { self.now.done < length self.now.list }
         ensures { IfOk result
             (λ kept. All (IsVersionOf self.now.base self.now.list) kept.items) }
     {
-        let mut kept = kept_at(self.alloc, self.earlier.as_slice(), self.accepted + 1)?;
+        let mut kept = kept_at(self.alloc, self.earlier(), self.accepted + 1)?;
         let state = Arc::try_clone(&self.state)?;
         kept.push(KeptVersion::new(self.accepted, self.done, state))?;
         Ok(kept)
+    }
+
+    /// Another version of this base and this list, with versions before it that are kept.
+    pub(crate) fn sharing(
+        &self,
+        last: KeptVersion,
+        earlier: Vec<KeptVersion>,
+    ) -> Result<Directory, AllocError>
+        requires last { IsVersionOf self.now.base self.now.list last }
+        requires earlier { All (IsVersionOf self.now.base self.now.list) earlier.items }
+        ensures { IfOk result (λ d. d ≡ record self.now { done = last.done }) }
+    {
+        let base = Arc::try_clone(&self.base)?;
+        let list = Arc::try_clone(&self.list)?;
+        let earlier = Arc::new(self.alloc, earlier)?;
+        Ok(Directory::at(self.alloc, base, list, last, earlier))
+    }
+
+    /// The base, with nothing tried.
+    pub(crate) fn first(&self) -> Result<Directory, AllocError>
+        ensures { IfOk result (λ d. d ≡ record self.now { done = 0 }) }
+    {
+        let state = Arc::try_clone(&self.base)?;
+        let first = self.sharing(KeptVersion::new(0, 0, state), Vec::new(self.alloc))?;
+        Ok(first)
     }
 
     /// The version of the state that the next refresh, which is accepted, leaves here.
@@ -223,19 +263,11 @@ impl Directory {
         ensures version { IfOk result (λ d. version_of d ≡ version_of self.now + 1) }
         ensures tables { IfOk result (λ d. tables_of d ≡ state) }
     {
-        let base = Arc::try_clone(&self.base)?;
-        let list = Arc::try_clone(&self.list)?;
         let state = Arc::new(self.alloc, state)?;
-        let earlier = Arc::new(self.alloc, self.earlier_of_next()?)?;
-        Ok(Directory {
-            alloc: self.alloc,
-            base,
-            list,
-            done: self.done + 1,
-            accepted: self.accepted + 1,
-            state,
-            earlier,
-        })
+        let earlier = self.earlier_of_next()?;
+        let last = KeptVersion::new(self.accepted + 1, self.done + 1, state);
+        let next = self.sharing(last, earlier)?;
+        Ok(next)
     }
 
     /// Tries the next refresh. An accepted one gives the next version and leaves this one as it is;

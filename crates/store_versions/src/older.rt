@@ -7,7 +7,6 @@ use crate::directory::Directory;
 use crate::kept::{KEPT_VERSIONS, KeptVersion, kept_at, kept_version};
 use crate::version_error::VersionError;
 use std::alloc::AllocError;
-use std::sync::Arc;
 use store_state::RefreshError;
 
 /// The trials with the next refresh tried too.
@@ -30,10 +29,11 @@ impl Directory {
     pub fn older(&self, version: u64) -> Result<Directory, VersionError>
         ensures { GivesOlder self.now version result }
     {
-        if version > self.accepted {
+        let last = self.version();
+        if version > last {
             return Err(VersionError::Unknown);
         }
-        if self.accepted - version >= KEPT_VERSIONS {
+        if last - version >= KEPT_VERSIONS {
             return Err(VersionError::Gone);
         }
         let older = self.recent(version)?;
@@ -45,10 +45,10 @@ impl Directory {
         requires { version ≤ version_of self.now }
         ensures { IfOk result (IsOlder self.now version) }
     {
-        if version == self.accepted {
+        if version == self.version() {
             return self.another();
         }
-        match kept_version(self.earlier.as_slice(), version) {
+        match kept_version(self.earlier(), version) {
             Some(kept) => self.kept(kept),
             None => self.remade(version),
         }
@@ -59,23 +59,9 @@ impl Directory {
         requires { IsVersionOf self.now.base self.now.list kept.now }
         ensures { IfOk result (IsOlder self.now kept.now.number) }
     {
-        let base = Arc::try_clone(&self.base)?;
-        let list = Arc::try_clone(&self.list)?;
-        let earlier = kept_at(self.alloc, self.earlier.as_slice(), kept.number)?;
-        let earlier = Arc::new(self.alloc, earlier)?;
-        Ok(Directory::at(self.alloc, base, list, kept.another()?, earlier))
-    }
-
-    /// The base, with nothing tried.
-    fn first(&self) -> Result<Directory, AllocError>
-        ensures { IfOk result (λ d. d ≡ record self.now { done = 0 }) }
-    {
-        let base = Arc::try_clone(&self.base)?;
-        let list = Arc::try_clone(&self.list)?;
-        let state = Arc::try_clone(&self.base)?;
-        let earlier = Arc::new(self.alloc, Vec::new(self.alloc))?;
-        let first = KeptVersion::new(0, 0, state);
-        Ok(Directory::at(self.alloc, base, list, first, earlier))
+        let earlier = kept_at(self.alloc, self.earlier(), kept.number)?;
+        let older = self.sharing(kept.another()?, earlier)?;
+        Ok(older)
     }
 
     /// The version of a number, made anew from the base.
@@ -84,8 +70,8 @@ impl Directory {
         ensures { IfOk result (IsOlder self.now version) }
     {
         let mut directory = self.first()?;
-        for _trial in 0..self.done {
-            if directory.accepted == version {
+        for _trial in 0..self.tried() {
+            if directory.version() == version {
                 return Ok(directory);
             }
             directory = after_trial(directory)?;

@@ -1,11 +1,10 @@
-use Rattle.std.proofs.Common.{◌≡◌, List, length, subst, sym, ◌∙◌}
+use Rattle.std.proofs.Common.{subst, sym, ◌∙◌}
 use Rattle.std.specs.List.{All}
 use Rattle.std.proofs.lemmas.List.Elements.{All-push}
-use Rattle.base_value.specs.declared.value.Value.{Value}
 use Rattle.base_columns.specs.Lists.{one_list}
 use Rattle.base_schema.specs.Kinds.{RowsAreOf}
 use Rattle.store_versions.specs.Segments.{AreJoined}
-use Rattle.store_versions.proofs.Neighbours.{kinds-more, kinds-wide, rows-joined}
+use Rattle.store_versions.proofs.Neighbours.{kinds-more, rows-joined}
 use Rattle.store_versions.proofs.compacted.joined_tables.Goals as goal
 
 pub loop-name-preserved : goal.loop-name-preserved

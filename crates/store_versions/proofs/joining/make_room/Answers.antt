@@ -1,4 +1,4 @@
-use Rattle.std.proofs.Common.{◌+◌, ◌<◌, ◌≤◌, length, arith}
+use Rattle.std.proofs.Common.{arith}
 use Rattle.store_versions.proofs.Neighbours.{has-room, made-room}
 use Rattle.store_versions.proofs.joining.make_room.Goals as goal
 

@@ -6,8 +6,8 @@ use Rattle.store_versions.proofs.compacted.Compacted.directory.Goals as goal
 pub state_over-requires-clause-kinds : goal.state_over-requires-clause-kinds
 state_over-requires-clause-kinds c = rw c.as_slice.ensures.value c.self.invariant.2
 
-pub at-requires : goal.at-requires
-at-requires c =
+pub at-requires-clause-last : goal.at-requires-clause-last
+at-requires-clause-last c =
     let base : arc_value c.in_ok-base.base ≡ arc_value c.self.inside.base = c.in_ok-base.ensures in
     let list : (arc_value c.in_ok-list.list).items ≡ (arc_value c.self.inside.list).items =
     ap (λ v. v.items) c.in_ok-list.ensures in
@@ -15,6 +15,13 @@ at-requires c =
       base = arc_value c.in_ok-base.base;
       list = (arc_value c.in_ok-list.list).items;
       done = c.self.inside.done;
-    }) c.self.inside.accepted c.in_ok-state.state =
-    rw (base, list, c.in_ok-state.ensures, c.as_slice.ensures.value) c.self.invariant.0 in
-    kept
+    }) c.self.inside.accepted c.in_ok-tables.tables =
+    rw (base, list, c.in_ok-tables.ensures, c.as_slice.ensures.value) c.self.invariant.0.last in
+    rw (c.new-last.ensures, c.in_ok-state.ensures.ok) kept
+
+pub at-requires-clause-earlier : goal.at-requires-clause-earlier
+at-requires-clause-earlier c =
+    let base : arc_value c.in_ok-base.base ≡ arc_value c.self.inside.base = c.in_ok-base.ensures in
+    let list : (arc_value c.in_ok-list.list).items ≡ (arc_value c.self.inside.list).items =
+    ap (λ v. v.items) c.in_ok-list.ensures in
+    rw (base, list, c.in_ok-earlier.ensures) c.self.invariant.0.earlier

@@ -1,4 +1,4 @@
-use Rattle.std.proofs.Common.{◌≡◌, ◌<◌, Ok, Err, length, refl, ap, subst, sym, ◌∙◌}
+use Rattle.std.proofs.Common.{◌<◌, Ok, Err, length, refl, ap, subst, sym, ◌∙◌}
 use Rattle.std.specs.Arc.{arc_value}
 use Rattle.store_state.specs.declared.applied.RefreshError.TheVariants.{Refused}
 use Rattle.store_versions.specs.Trials.{Leaves, Trials, one_more, tables_of, version_of}
@@ -17,7 +17,10 @@ invariant_of-self c =
     let less : c.self.inside.done < length (arc_value c.self.inside.list).items = subst (λ (t : Trials). t.done < length t.list) (sym c.self.view_is) c.requires in
     let here : Leaves c.args.self.now (Err (Refused c.in-Err-Refused.cause)) = rw c.in-Err-Refused.field-0-is at c.in-Err-Refused.ensures in
     let leaves : Leaves trials (Err (Refused c.in-Err-Refused.cause)) = subst (λ (t : Trials). Leaves t (Err (Refused c.in-Err-Refused.cause))) (sym c.self.view_is) here in
-    kept_refused trials c.self.inside.accepted c.self.inside.state c.in-Err-Refused.cause c.self.invariant less leaves
+    record {
+      last = kept_refused trials c.self.inside.accepted (arc_value c.self.inside.state) c.in-Err-Refused.cause c.self.invariant.last less leaves;
+      earlier = c.self.invariant.earlier;
+    }
 
 pub returns-in-Err-Refused : goal.returns-in-Err-Refused
 returns-in-Err-Refused c =

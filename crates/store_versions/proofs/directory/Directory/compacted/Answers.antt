@@ -9,22 +9,25 @@ use Rattle.base_schema.specs.Tables.{all_tables}
 use Rattle.store_state.specs.Lists.{IsOfKinds, state_of}
 use Rattle.store_state.specs.Refresh.{Change}
 use Rattle.store_versions.specs.Segments.{AreJoined}
-use Rattle.store_versions.specs.Trials.{HasKept, Trials, tables_of}
+use Rattle.store_versions.specs.Trials.{Trials, tables_of}
 use Rattle.store_versions.proofs.Neighbours.{all-of-kinds, fused}
 use Rattle.store_versions.proofs.directory.Directory.compacted.Goals as goal
 
 pub invariant_of-result : goal.invariant_of-result
 invariant_of-result c =
-    let state = c.self.inside.state in
     let made = map (λ segments. one_list segments.items) c.in_ok-tables.tables.items in
-    let same : state_of made ≡ state = ap state_of c.in_ok-tables.ensures.rows in
+    let first : state_of made ≡ c.deref.result.now = ap state_of c.in_ok-tables.ensures.rows in
+    let same : state_of made ≡ arc_value c.self.inside.state = first ∙ c.deref.ensures in
     let base : arc_value c.in_ok-base.base ≡ arc_value c.self.inside.base = c.in_ok-base.ensures in
     let list : (arc_value c.in_ok-list.list).items ≡ (arc_value c.self.inside.list).items =
     ap (λ v. v.items) c.in_ok-list.ensures in (
-      rw (base, list, same) c.self.invariant,
+      record {
+        last = rw (base, list, same) c.self.invariant.last;
+        earlier = rw (base, list, c.in_ok-earlier.ensures) c.self.invariant.earlier;
+      },
       sym (length-map c.in_ok-tables.tables.items (λ segments. one_list segments.items))
           ∙ ap length c.in_ok-tables.ensures.rows,
-      subst IsOfKinds (sym same) (all-of-kinds state c.in_ok-tables.ensures.kinds),
+      subst IsOfKinds (sym first) (all-of-kinds c.deref.result.now c.in_ok-tables.ensures.kinds),
     )
 
 pub returns : goal.returns
@@ -39,7 +42,7 @@ returns c =
           ∙ ap (λ l. made (arc_value c.self.inside.base) l) list ∙ c.self.view_is;
       rows = fused vec_items one_list c.in_ok-tables.tables.items ∙ c.in_ok-tables.ensures.rows
           ∙ ap (λ (s : State). map (table_rows s) all_tables)
-          (c.self.invariant.left ∙ ap tables_of c.self.view_is);
+          (c.deref.ensures ∙ c.self.invariant.last.left ∙ ap tables_of c.self.view_is);
       joined = All-map AreJoined vec_items c.in_ok-tables.tables.items
           c.in_ok-tables.ensures.joined;
     }

@@ -1,6 +1,6 @@
 use Rattle.std.proofs.Common.{◌≡◌, ◌≤◌}
 use Rattle.store_versions.specs.Trials.{version_of}
-use Rattle.store_versions.proofs.older.Directory.remade.Given as goal
+use Rattle.store_versions.proofs.directory.Directory.remade.Given as goal
 
 abbrev pub invariant-loop-trial : goal.invariant-loop-trial
 invariant-loop-trial l = record {

@@ -1,0 +1,23 @@
+use Rattle.std.proofs.Common.{◌+◌, ap, subst}
+use Rattle.std.specs.Arc.{arc_value}
+use Rattle.std.proofs.lemmas.List.Elements.{All-filter, All-push}
+use Rattle.store_versions.specs.Older.{IsVersionOf, is_kept_at}
+use Rattle.store_versions.specs.Trials.{HasKept, Trials}
+use Rattle.store_versions.proofs.directory.Directory.earlier_of_next.Goals as goal
+
+pub returns : goal.returns
+returns c =
+    let here : HasKept c.args.self.now c.self.inside.accepted (arc_value c.self.inside.state) =
+    subst (λ (t : Trials). HasKept t c.self.inside.accepted (arc_value c.self.inside.state))
+    c.self.view_is c.self.invariant.last in
+    let done = ap (λ (t : Trials). t.done) c.self.view_is in
+    let mine : IsVersionOf c.args.self.now.base c.args.self.now.list c.new.result =
+    rw (c.new.ensures, c.in_ok-state.ensures, done) here in
+    rw c.in_ok-push.ensures.items
+    (All-push (IsVersionOf c.args.self.now.base c.args.self.now.list) c.in_ok-kept.kept.items
+    c.new.result
+    (rw c.in_ok-kept.ensures
+    (All-filter (is_kept_at (c.self.inside.accepted + 1))
+    (IsVersionOf c.args.self.now.base c.args.self.now.list) c.earlier.result.now
+    c.earlier.ensures))
+    mine)
