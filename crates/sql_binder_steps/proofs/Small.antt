@@ -1,6 +1,6 @@
 -- Small facts that the code's arms ask for.
-use Rattle.std.proofs.Common.{◌≡◌, ◌+◌, List, [], ◌∷◌, ◌++◌, suc, length, map, refl, ap, arith}
-use Rattle.std.proofs.Common.{Bool, true, false, Option, Some, None}
+use Rattle.std.proofs.Common.{◌≡◌, ◌+◌, List, [], ◌∷◌, ◌++◌, suc, length, map, refl, sym, ap, arith}
+use Rattle.std.proofs.Common.{Bool, true, false, if◌then◌else◌, Option, Some, None}
 use Rattle.std.specs.Str.{bytes_eq}
 use Rattle.expr_scalar.specs.declared.expr.Expr.{Expr}
 use Rattle.sql_binder_steps.specs.declared.from.NamedItem.{NamedItem}
@@ -28,31 +28,31 @@ one_more ls l outer e =
     let b : length (map level_of ls) ≡ suc (length outer) = ap length e in
     omega (arith, a, b)
 
+front_step : (b : Bool) (w i : NamedItem) (y z : Option NamedItem)
+    → (let x : Option NamedItem = if b then Some w else y in Some i ≡ x)
+    → (Some i ≡ y → z ≡ Some i) → (let x : Option NamedItem = if b then Some w else z in x ≡ Some i)
+front_step true w i y z h next = sym h
+front_step false w i y z h next = next h
+
 -- the first view of a name where one stands in front
 pub named_in_front : (name : Name) (i : NamedItem) (front behind : List View)
     → Some i ≡ view_named name front → view_named name (front ++ behind) ≡ Some i
 named_in_front name i [] behind h = cc
-named_in_front name i (v ∷ front) behind h = by (bytes_eq v.name name) h
-  where
-    by : (b : Bool)
-        → (let x : Option NamedItem = if b then Some (view_item v) else view_named name front in
-        Some i ≡ x)
-        → (let x : Option NamedItem =
-        if b then Some (view_item v) else view_named name (front ++ behind) in x ≡ Some i)
-    by true e = cc
-    by false e = named_in_front name i front behind e
+named_in_front name i (v ∷ front) behind h =
+    front_step (bytes_eq v.name name) (view_item v) i (view_named name front)
+    (view_named name (front ++ behind)) h (λ e. named_in_front name i front behind e)
+
+behind_step : (b : Bool) (w : NamedItem) (y z o : Option NamedItem)
+    → (let x : Option NamedItem = if b then Some w else y in None ≡ x)
+    → (None ≡ y → z ≡ o) → (let x : Option NamedItem = if b then Some w else z in x ≡ o)
+behind_step true w y z o h next = cc
+behind_step false w y z o h next = next h
 
 -- and where none does
 pub named_behind : (name : Name) (front behind : List View) → None ≡ view_named name front
     → view_named name (front ++ behind) ≡ view_named name behind
 named_behind name [] behind h = refl
-named_behind name (v ∷ front) behind h = by (bytes_eq v.name name) h
-  where
-    by : (b : Bool)
-        → (let x : Option NamedItem = if b then Some (view_item v) else view_named name front in
-        None ≡ x)
-        → (let x : Option NamedItem =
-        if b then Some (view_item v) else view_named name (front ++ behind) in
-        x ≡ view_named name behind)
-    by true e = cc
-    by false e = named_behind name front behind e
+named_behind name (v ∷ front) behind h =
+    behind_step (bytes_eq v.name name) (view_item v) (view_named name front)
+    (view_named name (front ++ behind)) (view_named name behind) h
+    (λ e. named_behind name front behind e)
