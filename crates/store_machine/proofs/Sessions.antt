@@ -95,7 +95,7 @@ again_keeps world cuts = record {
   rises = λ c h. again_rises cuts c (is_cut world.base world.list c.seen cuts);
 }
 
-both_true : (a b c : Bool) → (a && b && c) ≡ true → (a ≡ true) × (b ≡ true) × (c ≡ true)
+both_true : (a b c : Bool) → (a && (b && c)) ≡ true → (a ≡ true) × (b ≡ true) × (c ≡ true)
 both_true true true c e = (refl, refl, e)
 both_true true false c e = cc
 both_true false b c e = cc

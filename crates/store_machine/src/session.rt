@@ -96,9 +96,7 @@ impl Session {
         ensures { self.new ≡ pinned version cuts }
     {
         self.seen = version;
-        self.pin = Some(version);
-        self.cuts = cuts;
-        self.pieces.clear();
+        self.go_back(version, cuts);
     }
 
     /// Whether it may pin a version of this number in place of the one that it pins.
@@ -108,7 +106,7 @@ impl Session {
         self.pin.is_some() && version <= self.seen && self.seen - version < VERSIONS_BACK
     }
 
-    /// Pins an earlier version, and forgets what it scanned.
+    /// Pins a version, and forgets what it scanned. What it has seen stays.
     pub(crate) fn go_back(&mut self, version: u64, cuts: Cuts)
         ensures { self.new ≡ pinned_back version cuts self.old }
     {
