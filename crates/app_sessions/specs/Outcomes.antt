@@ -2,6 +2,7 @@
 use Rattle.std.specs.Prelude.{ℕ, List, [], ◌++◌, length, Bool, true, false, Result, Ok, Err}
 use Rattle.std.specs.Prelude.{if◌then◌else◌, Option, None, Some}
 use Rattle.sql_bound_query.specs.Answer.{answer}
+use Rattle.sql_bound_query.specs.Reads.{reads}
 use Rattle.sql_bound_query.specs.declared.query.BoundQuery.{BoundQuery}
 use Rattle.sql_templates.specs.Templates.{filled_query}
 use Rattle.base_refusals.specs.declared.refresh.Cause.{Cause}
@@ -61,7 +62,18 @@ bound_outcome begun tables None bound = answered (answer bound (tables begun))
 bound_outcome begun tables (Some named) bound =
     named_outcome (refused_beside begun named) bound (tables named)
 
--- the same of a query, or why it is not bound, which comes first
+-- how many rows are read for it: none where the version that it names is refused
+abbrev pub named_reads : Option VersionRefusal → BoundQuery → State → ℕ
+named_reads None bound tables = reads bound.block tables
+named_reads (Some why) bound tables = 0
+
+-- the same of a bound query that names a version or none
+abbrev pub bound_reads : ℕ → (ℕ → State) → Option ℕ → BoundQuery → ℕ
+bound_reads begun tables None bound = reads bound.block (tables begun)
+bound_reads begun tables (Some named) bound =
+    named_reads (refused_beside begun named) bound (tables named)
+
+-- what comes of a query: why it is not bound, which is tested first, or what comes of the bound one
 abbrev pub query_outcome : ℕ → (ℕ → State) → Option ℕ → Checked BoundQuery → Outcome
 query_outcome begun tables named (Ok bound) = bound_outcome begun tables named bound
 query_outcome begun tables named (Err why) = Refused (refusal.Bind why)

@@ -8,7 +8,7 @@ ghost use Rattle.sql_bound_query.specs.declared.query.BoundQuery.{BoundQuery};
 ghost use Rattle.store_versions.specs.Trials.{tables_of, version_of};
 ghost use Rattle.sql_binder.specs.Binding.{bound_query};
 ghost use Rattle.app_sessions.specs.Outcomes.{answered, bound_outcome, is_printable, named_outcome};
-ghost use Rattle.app_sessions.specs.Outcomes.{query_outcome};
+ghost use Rattle.app_sessions.specs.Outcomes.{bound_reads, named_reads, query_outcome};
 ghost use Rattle.app_sessions.specs.Versions.{refused_beside, states_of};
 ghost use Rattle.plan_planner.specs.Planned.{IsPlanOf};
 
@@ -70,57 +70,26 @@ fn plan_outcome<R: Threads + Sync, L: Ledger>(
     Ok(outcome)
 }
 
-/// The same where the steps have a ledger of their own.
-fn counted_outcome<R: Threads + Sync, L: Ledger>(
-    rt: &R,
-    alloc: Global,
-    plan: &FlatPlan,
-    snapshot: &Snapshot,
-    blank: Blank,
-) -> Result<Outcome, AllocError>
-    requires name { blank.name ≡ L.name }
-    requires parts { blank.parts ≡ L.parts }
-    requires some { 0 < blank.parts }
-    ensures outcome { (q : BoundQuery) → IsPlanOf q plan.now
-        → IfOk result (λ o. o ≡ answered (answer q (tables_of snapshot.now))) }
-    ensures printable { IfOk result (λ o. IsTrue (is_printable o)) }
-{
-    let mut steps: Steps<L> = Steps::new(blank);
-    let outcome = plan_outcome(rt, alloc, plan, snapshot, &mut steps)?;
-    Ok(outcome)
-}
-
-/// The answer of the query of a plan over a version's tables.
-fn answer_over<R: Threads + Sync>(
-    rt: &R,
-    alloc: Global,
-    plan: &FlatPlan,
-    snapshot: &Snapshot,
-) -> Result<Outcome, AllocError>
-    ensures outcome { (q : BoundQuery) → IsPlanOf q plan.now
-        → IfOk result (λ o. o ≡ answered (answer q (tables_of snapshot.now))) }
-    ensures printable { IfOk result (λ o. IsTrue (is_printable o)) }
-{
-    let outcome = counted_outcome::<R, Brand>(rt, alloc, plan, snapshot, Blank::new(1))?;
-    Ok(outcome)
-}
-
 /// The answer of the query of a plan over the version that it names, or why it is not asked over
-/// that: no row is read before this is known.
-fn named_outcome<R: Threads + Sync>(
+/// that. Then no row is read.
+fn named_outcome<R: Threads + Sync, L: Ledger>(
     rt: &R,
     alloc: Global,
     plan: &FlatPlan,
     snapshot: &Snapshot,
     named: u64,
+    steps: &mut Steps<L>,
 ) -> Result<Outcome, AllocError>
     ensures outcome { (q : BoundQuery) → IsPlanOf q plan.now → IfOk result (λ o. o
         ≡ named_outcome (refused_beside (version_of snapshot.now) named) q
         (states_of snapshot.now named)) }
     ensures printable { IfOk result (λ o. IsTrue (is_printable o)) }
+    ensures steps { (q : BoundQuery) → IsPlanOf q plan.now → OnOk result (steps.new
+        ≡ steps.old + named_reads (refused_beside (version_of snapshot.now) named) q
+        (states_of snapshot.now named)) }
 {
     match snapshot.at(alloc, named) {
-        Ok(older) => answer_over(rt, alloc, plan, &older),
+        Ok(older) => plan_outcome(rt, alloc, plan, &older, steps),
         Err(VersionError::Unknown) => Ok(Outcome::VersionRefused(VersionRefusal::Unknown(named))),
         Err(VersionError::Gone) => Ok(Outcome::VersionRefused(VersionRefusal::Gone(named))),
         Err(VersionError::OutOfMemory) => Err(AllocError),
@@ -128,21 +97,45 @@ fn named_outcome<R: Threads + Sync>(
 }
 
 /// What comes of the query of a plan that begins over a version and names one or none.
-fn bound_outcome<R: Threads + Sync>(
+fn bound_outcome<R: Threads + Sync, L: Ledger>(
     rt: &R,
     alloc: Global,
     plan: &FlatPlan,
     snapshot: &Snapshot,
     named: Option<u32>,
+    steps: &mut Steps<L>,
 ) -> Result<Outcome, AllocError>
     ensures outcome { (q : BoundQuery) → IsPlanOf q plan.now → IfOk result (λ o. o
         ≡ bound_outcome (version_of snapshot.now) (states_of snapshot.now) named q) }
     ensures printable { IfOk result (λ o. IsTrue (is_printable o)) }
+    ensures steps { (q : BoundQuery) → IsPlanOf q plan.now → OnOk result (steps.new
+        ≡ steps.old + bound_reads (version_of snapshot.now) (states_of snapshot.now) named q) }
 {
     match named {
-        Some(named) => named_outcome(rt, alloc, plan, snapshot, named as u64),
-        None => answer_over(rt, alloc, plan, snapshot),
+        Some(named) => named_outcome(rt, alloc, plan, snapshot, named as u64, steps),
+        None => plan_outcome(rt, alloc, plan, snapshot, steps),
     }
+}
+
+/// The same where the steps have a ledger of their own.
+fn counted_outcome<R: Threads + Sync, L: Ledger>(
+    rt: &R,
+    alloc: Global,
+    plan: &FlatPlan,
+    snapshot: &Snapshot,
+    named: Option<u32>,
+    blank: Blank,
+) -> Result<Outcome, AllocError>
+    requires name { blank.name ≡ L.name }
+    requires parts { blank.parts ≡ L.parts }
+    requires some { 0 < blank.parts }
+    ensures outcome { (q : BoundQuery) → IsPlanOf q plan.now → IfOk result (λ o. o
+        ≡ bound_outcome (version_of snapshot.now) (states_of snapshot.now) named q) }
+    ensures printable { IfOk result (λ o. IsTrue (is_printable o)) }
+{
+    let mut steps: Steps<L> = Steps::new(blank);
+    let outcome = bound_outcome(rt, alloc, plan, snapshot, named, &mut steps)?;
+    Ok(outcome)
 }
 
 /// What comes of a query that begins over a version: its answer over that one or over the one that
@@ -161,7 +154,9 @@ pub(crate) fn query_outcome<R: Threads + Sync>(
 {
     match plan(alloc, query, views) {
         Ok(plan) => {
-            let outcome = bound_outcome(rt, alloc, &plan, snapshot, query.version)?;
+            let named = query.version;
+            let blank = Blank::new(1);
+            let outcome = counted_outcome::<R, Brand>(rt, alloc, &plan, snapshot, named, blank)?;
             Ok(outcome)
         }
         Err(BindFault::Refused(why)) => Ok(Outcome::Refused(Refusal::Bind(why))),

@@ -1,4 +1,4 @@
-use Rattle.app_sessions.proofs.query.answer_over.Given as goal
+use Rattle.app_sessions.proofs.query.query_outcome.Given as goal
 
 abbrev pub ghosts-counted_outcome : goal.ghosts-counted_outcome
 ghosts-counted_outcome g a = record { name = a.blank.name; parts = a.blank.parts }
