@@ -114,8 +114,8 @@ is_refusal (Refused why) = true
 is_refusal (VersionRefused why) = true
 is_refusal other = false
 
--- The lines of a statement of this number, in which this version stands. The rows of an answer can be
--- left out.
+-- The lines of a statement of this number, in which this version stands. The rows of an answer can
+-- be left out.
 abbrev pub outcome_text : Bool → ℕ → ℕ → Outcome → List ℕ
 outcome_text shows_rows number version (Rows rows) =
     header number version (length rows) ++ (if shows_rows then answer_text rows else [])

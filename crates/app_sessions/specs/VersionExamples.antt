@@ -1,5 +1,5 @@
--- Queries that name a version, worked out by hand. Each counts the orders, of which there are two at
--- first, and then by turns three and two.
+-- Queries that name a version, worked out by hand. Each counts the orders, of which there are two
+-- at first, and then by turns three and two.
 use Rattle.std.specs.Prelude.{◌≡◌, ℕ, List, [], ◌∷◌, Option, None, Some, Ok, Err, codes, true}
 use Rattle.std.specs.Prelude.{if◌then◌else◌, ◌==◌, ◌%◌}
 use Rattle.base_refusals.specs.declared.bind.BindRefusal.TheVariants.{UnknownColumn}
@@ -29,7 +29,8 @@ state_of version = record small { orders = orders_of version }
 
 -- select count(*) from orders
 abbrev pub orders_counted : BoundQuery
-orders_counted = statement (Grouped (Table table.Orders) always [] (CountRows ∷ []) always (at 0 ∷ []))
+orders_counted =
+    statement (Grouped (Table table.Orders) always [] (CountRows ∷ []) always (at 0 ∷ []))
 
 -- the lines of a query that was bound or not, of this number, over these versions
 abbrev pub lines : Checked BoundQuery → ℕ → ℕ → Option ℕ → List ℕ
