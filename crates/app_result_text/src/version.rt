@@ -10,9 +10,9 @@ use std::alloc::AllocError;
 /// Why a statement is not asked over the version that it names.
 #[derive(Clone, Copy, Debug, PartialEq, Eq, Hash)]
 pub enum VersionRefusal {
-    /// The version that is named is above the one at which the statement began.
+    /// The version that is named is above the one over which the statement began.
     Unknown(u64),
-    /// The version that is named lies 64 or more below the one at which the statement began.
+    /// The version that is named lies 64 or more below the one over which the statement began.
     Gone(u64),
 }
 

@@ -55,7 +55,7 @@ abbrev pub named_outcome : Option VersionRefusal → BoundQuery → State → Ou
 named_outcome None bound tables = answered (answer bound tables)
 named_outcome (Some why) bound tables = VersionRefused why
 
--- a bound query's answer over the version at which it began or over the one that it names, by the
+-- a bound query's answer over the version over which it began or over the one that it names, by the
 -- tables of each version
 abbrev pub bound_outcome : ℕ → (ℕ → State) → Option ℕ → BoundQuery → Outcome
 bound_outcome begun tables None bound = answered (answer bound (tables begun))

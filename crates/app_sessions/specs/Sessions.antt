@@ -98,8 +98,8 @@ abbrev pub IsRefresh : Option Statement → Type 0
 IsRefresh next = (change : RefreshKind) × (set : ℕ) × (next ≡ Some (Refresh change set))
 
 -- What a turn over a version leaves, by the tables of each version. A statement that is no refresh
--- has its lines. A refresh is asked for, and nothing changes before its result is there; nothing changes where no
--- statement is left.
+-- has its lines. A refresh is asked for, and nothing changes before its result is there; nothing
+-- changes where no statement is left.
 abbrev pub Takes : Course → ℕ → (ℕ → State) → Course → Turn → Type 0
 Takes old version tables new Answered = (statement : Statement) × (next_of old ≡ Some statement)
     × (IsRefresh (next_of old) → ⊥)

@@ -39,7 +39,7 @@ lines query number begun named =
 
 -- what the definitions say of these
 pub record VersionExamples : Type 0 where
-  -- over the version at which it began, and over earlier ones
+  -- over the version over which it began, and over earlier ones
   pub last : lines (Ok orders_counted) 7 2 None ≡ codes "[7] version 2 rows 1\n2\n"
   pub first : lines (Ok orders_counted) 8 2 (Some 0) ≡ codes "[8] version 0 rows 1\n2\n"
   pub second : lines (Ok orders_counted) 9 2 (Some 1) ≡ codes "[9] version 1 rows 1\n3\n"
@@ -49,7 +49,7 @@ pub record VersionExamples : Type 0 where
   pub gone : lines (Ok orders_counted) 65 64 (Some 0)
       ≡ codes "[65] version 64 refused 24 VersionGone 0\n"
   pub oldest : lines (Ok orders_counted) 66 64 (Some 1) ≡ codes "[66] version 1 rows 1\n3\n"
-  -- why a query is not bound comes first, with the version at which it began
+  -- why a query is not bound comes first, with the version over which it began
   pub unbound : lines (Err UnknownColumn) 71 64 (Some 0)
       ≡ codes "[71] version 64 refused 2 UnknownColumn\n"
   -- the answer's fault has the version that is named
