@@ -83,7 +83,8 @@ pub fn refusal_text(
 }
 
 /// The line of a statement that is refused for the version that it names, with its LF: the
-/// refusal's number and name, then that version. `version` is the one over which the statement began.
+/// refusal's number and name, then that version. `version` is the one over which the statement
+/// began.
 pub fn version_refusal_text(
     alloc: Global,
     statement: u64,
