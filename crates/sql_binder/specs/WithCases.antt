@@ -45,9 +45,9 @@ names_from table = select_from (item r_name ∷ []) (from_table table ∷ [])
 abbrev pub nope_from_region : Block
 nope_from_region = from_region (item (named (codes "nope")) ∷ [])
 
--- the columns at this place of all rows of a source
-abbrev pub all_of : BoundSource → BoundBlock
-all_of rows = bound.Plain rows (closed (scalar.All []))
+-- the first column of all rows of a source
+abbrev pub first_column : BoundSource → BoundBlock
+first_column rows = bound.Plain rows (closed (scalar.All []))
     (record { inputs = input.Column 0 0 ∷ []; expr = scalar.Column 0 } ∷ [])
 
 -- region's names
@@ -64,17 +64,17 @@ plainly q = record { block = q; order = []; limit = None }
 abbrev pub NamesOfWith : Type 0
 NamesOfWith = (bound_query (under (with_named (codes "a") (names_from (codes "region"))
     ∷ with_named (codes "b") (names_from (codes "a")) ∷ []) (names_from (codes "b"))) []
-    ≡ Ok (plainly (all_of (source.Derived (all_of (source.Derived bound_names))))))
+    ≡ Ok (plainly (first_column (source.Derived (first_column (source.Derived bound_names))))))
     × (bound_query (under (with_named (codes "nation") (names_from (codes "region")) ∷ [])
     (names_from (codes "nation"))) []
-    ≡ Ok (plainly (all_of (source.Derived bound_names))))
+    ≡ Ok (plainly (first_column (source.Derived bound_names))))
     × (bound_query (under (with_named (codes "v") (names_from (codes "region")) ∷ [])
     (names_from (codes "v"))) (view_of 32 ∷ [])
-    ≡ Ok (plainly (all_of (source.Derived bound_names))))
+    ≡ Ok (plainly (first_column (source.Derived bound_names))))
     × (bound_query (under
     (with_listed (codes "a") (codes "n" ∷ []) (names_from (codes "region")) ∷ [])
     (select_from (item (named (codes "n")) ∷ []) (from_table (codes "a") ∷ []))) []
-    ≡ Ok (plainly (all_of (source.Derived bound_names))))
+    ≡ Ok (plainly (first_column (source.Derived bound_names))))
     × (bound_query (under (with_named (codes "a") (names_from (codes "v")) ∷ [])
     (names_from (codes "region"))) (view_of 31 ∷ [])
     ≡ Ok (plainly bound_names))

@@ -1,4 +1,4 @@
-use Rattle.std.proofs.Common.{◌≡◌, length}
+use Rattle.std.proofs.Common.{◌≡◌, [], length}
 use Rattle.sql_binder.specs.Binding.{with_views_from}
 use Rattle.sql_binder.proofs.statements.with_views.Given as goal
 
