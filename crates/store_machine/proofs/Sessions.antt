@@ -104,7 +104,7 @@ both_true false b c e = cc
 back_most : (session : SessionState) (version : ℕ) → may_go_back session version ≡ true → version ≤ session.seen
 back_most session version may =
     let yes : nat_le version session.seen ≡ true =
-    (both_true (is_some session.pin) (nat_le version session.seen) (nat_lt session.seen (version + 64)) may).1.0 in
+    (both_true (is_some session.pin) (nat_le version session.seen) (nat_lt session.seen (version + 64)) may).1 in
     grind (arith, nat_tests, yes)
 
 back_sound : (base : State) (list : List Change) (done version : ℕ) (cuts : List (List ℕ)) (session : SessionState)

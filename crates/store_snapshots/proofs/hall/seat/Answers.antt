@@ -24,5 +24,5 @@ seating-preserved g c =
           (All-push P c.seating.readers.items c.new-in-Made.result c.seating.invariant.seated
           (opened, seen));
       count = omega (arith, longer, count, before);
-      refused = c.in-Made.ensures.made.1.1 ∙ c.seating.invariant.refused;
+      refused = c.in-Made.ensures.made.2 ∙ c.seating.invariant.refused;
     }
