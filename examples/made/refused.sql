@@ -42,6 +42,8 @@ create view region as select n_name from nation;
 drop view cities;
 -- 22: the answer has a fault in a row
 select 1 / r_regionkey from region;
+-- 23: no refresh made a version yet
+select count(*) from region at version 1;
 -- 30: the queries have the numbers 1 to 22
 run 23 ();
 -- 31: query 4 has one value

@@ -13,6 +13,8 @@ use Rattle.base_refusals.specs.declared.statement.TemplateRefusal.TheVariants.{N
 use Rattle.app_result_text.specs.Answer.{answer_text, header, value_written}
 use Rattle.app_result_text.specs.Lines.{accepted_text, done_text, refusal_text}
 use Rattle.app_result_text.specs.Refusal.{file_name, refusal_written}
+use Rattle.app_result_text.specs.Version.{version_refusal_text}
+use Rattle.app_result_text.specs.declared.version.VersionRefusal.TheVariants.{Gone, Unknown}
 
 -- values, rows and headers as they are printed, worked out by hand
 pub record Examples : Type 0 where
@@ -63,3 +65,7 @@ pub record LineExamples : Type 0 where
   -- the names of the two files of an insert
   pub orders : file_name Orders 1 ≡ codes "orders.tbl.u1"
   pub lineitem : file_name Lineitem 1 ≡ codes "lineitem.tbl.u1"
+  -- a version that is named and is not there, after the one over which the statement began
+  pub unknown : version_refusal_text 10 2 (Unknown 3)
+      ≡ codes "[10] version 2 refused 23 VersionUnknown 3\n"
+  pub gone : version_refusal_text 65 64 (Gone 0) ≡ codes "[65] version 64 refused 24 VersionGone 0\n"

@@ -2,8 +2,10 @@
 ghost use Rattle.std.specs.Prelude.{◌≡◌, ◌++◌, IfOk, OnOk};
 ghost use Rattle.app_result_text.specs.Answer.{header};
 ghost use Rattle.app_result_text.specs.Lines.{accepted_text, done_text, line_start, refusal_text};
+ghost use Rattle.app_result_text.specs.Version.{version_refusal_text};
 
 use crate::refusal::put_refusal;
+use crate::version::{VersionRefusal, put_version_refusal};
 use base_refusals::Refusal;
 use itoa::Buffer;
 use std::alloc::{AllocError, Global};
@@ -76,6 +78,25 @@ pub fn refusal_text(
     push_start(&mut text, statement, version)?;
     text.push(b' ')?;
     put_refusal(&mut text, refusal)?;
+    text.push(b'\n')?;
+    Ok(text)
+}
+
+/// The line of a statement that is refused for the version that it names, with its LF: the
+/// refusal's number and name, then that version. `version` is the one over which the statement
+/// began.
+pub fn version_refusal_text(
+    alloc: Global,
+    statement: u64,
+    version: u64,
+    refusal: VersionRefusal,
+) -> Result<Vec<u8>, AllocError>
+    ensures { IfOk result (λ text. text.items ≡ version_refusal_text statement version refusal) }
+{
+    let mut text = Vec::new(alloc);
+    push_start(&mut text, statement, version)?;
+    text.push(b' ')?;
+    put_version_refusal(&mut text, refusal)?;
     text.push(b'\n')?;
     Ok(text)
 }

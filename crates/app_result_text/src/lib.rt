@@ -5,7 +5,9 @@ mod head;
 pub mod laws;
 mod refusal;
 mod rows;
+mod version;
 
-pub use head::{accepted_text, done_text, header, refusal_text};
+pub use head::{accepted_text, done_text, header, refusal_text, version_refusal_text};
 pub use refusal::push_refusal;
 pub use rows::{answer_text, push_row};
+pub use version::VersionRefusal;

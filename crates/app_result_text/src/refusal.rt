@@ -26,7 +26,7 @@ fn push_line(text: &mut Vec<u8>, key: i64, line: i64) -> Result<(), AllocError>
 }
 
 /// Appends a space, a number, a space and the name that goes with it.
-fn push_tagged(text: &mut Vec<u8>, number: u8, name: &str) -> Result<(), AllocError>
+pub(crate) fn push_tagged(text: &mut Vec<u8>, number: u8, name: &str) -> Result<(), AllocError>
     ensures { OnOk result (text.new.items ≡ text.old.items ++ tagged number name.now) }
 {
     let mut buffer = Buffer::new();

@@ -3,7 +3,7 @@ use Rattle.std.proofs.Common.{◌≡◌, ◌∙◌, ◌⊎◌, ℕ, ◌+◌, ◌
 use Rattle.std.specs.Prelude.{◌&&◌, not, Option, Some, None, slice_get, Result, Ok, Err}
 use Rattle.std.proofs.lemmas.List.{append-nil, drop_all}
 use Rattle.std.proofs.lemmas.Option.{slice_get_cases, slice_get_within}
-use Rattle.app_sessions.specs.Outcomes.{is_refusal, outcome_of, outcome_text}
+use Rattle.app_sessions.specs.Outcomes.{is_refusal, outcome_of, statement_text}
 use Rattle.app_sessions.specs.Sessions.{Course, IsRefresh, Takes, are_clean, course_after, lines_of, next_of}
 use Rattle.app_sessions.specs.Views.{views_after}
 use Rattle.app_sessions.specs.declared.session.Turn.{Turn}
@@ -12,6 +12,7 @@ use Rattle.base_refusals.specs.declared.refresh.Cause.{Cause}
 use Rattle.store_state.specs.Refresh.{Change, after}
 use Rattle.base_schema.specs.State.{State}
 use Rattle.store_versions.specs.Trials.{Trials, one_more, tables_of, version_of}
+use Rattle.app_sessions.specs.Versions.{states_of}
 use Rattle.sql_ast.specs.declared.statement.RefreshKind.{RefreshKind}
 use Rattle.sql_ast.specs.declared.statement.Statement.{Statement}
 use Rattle.sql_ast.specs.declared.statement.Statement.TheVariants as statement
@@ -61,14 +62,14 @@ pub goes_on : (course : Course) (trials : Trials) (text : List ℕ) (clean : Boo
 goes_on course trials text clean s is way =
     let left = left_is course s is in
     let rest = drop (course.answered + 1) course.steps in
-    let line = outcome_text true (course.answered + 1) (moment_after trials).version (outcome_of (moment_after trials) course.views s) in
+    let line = statement_text true (course.answered + 1) (moment_after trials) course.views s in
     let further = lines_of true (course.answered + 1 + 1) (views_after course.views s) rest (moments (trials_after trials s) rest) in
     record {
       shows = way.shows;
       text_is =
           way.text_is ∙ ap (λ l. course.text ++ lines_of true (course.answered + 1) course.views l (moments trials l)) left
           ∙ sym (append_assoc course.text line further)
-          ∙ ap (λ b. (course.text ++ outcome_text b (course.answered + 1) (moment_after trials).version (outcome_of (moment_after trials) course.views s)) ++ further) (sym way.shows);
+          ∙ ap (λ b. (course.text ++ statement_text b (course.answered + 1) (moment_after trials) course.views s) ++ further) (sym way.shows);
       clean_is =
           way.clean_is ∙ ap (λ l. course.is_clean && are_clean course.views l (moments trials l)) left
           ∙ sym (and_assoc course.is_clean (not (is_refusal (outcome_of (moment_after trials) course.views s))) (are_clean (views_after course.views s) rest (moments (trials_after trials s) rest)));
@@ -105,7 +106,7 @@ same_trials trials (statement.DropView name) never = refl
 same_trials trials (statement.Run number values) never = refl
 
 -- a statement that is no refresh had its turn
-pub answered_on : (old new : Course) (trials : Trials) (text : List ℕ) (clean : Bool) → Takes old (version_of trials) (tables_of trials) new turn.Answered → IsOnTheWay old trials text clean
+pub answered_on : (old new : Course) (trials : Trials) (text : List ℕ) (clean : Bool) → Takes old (version_of trials) (states_of trials) new turn.Answered → IsOnTheWay old trials text clean
     → IsOnTheWay new trials text clean
 answered_on old new trials text clean (s, is, never, made) way =
     let on = goes_on old trials text clean s is way in
@@ -114,7 +115,7 @@ answered_on old new trials text clean (s, is, never, made) way =
     (subst (λ (t : Trials). IsOnTheWay (course_after old (moment_after trials) s) t text clean) same on)
 
 -- a refresh was asked for, and its result handed in
-pub refreshed_on : (old mid new : Course) (trials next : Trials) (text : List ℕ) (clean : Bool) (change : RefreshKind) (set : ℕ) → Takes old (version_of trials) (tables_of trials) mid (turn.AskedRefresh change set)
+pub refreshed_on : (old mid new : Course) (trials next : Trials) (text : List ℕ) (clean : Bool) (change : RefreshKind) (set : ℕ) → Takes old (version_of trials) (states_of trials) mid (turn.AskedRefresh change set)
     → next ≡ one_more trials → ((s : Statement) → next_of mid ≡ Some s → new ≡ course_after mid (moment_after trials) s) → IsOnTheWay old trials text clean → IsOnTheWay new next text clean
 refreshed_on old mid new trials next text clean change set (is, kept) further made way =
     let at : next_of mid ≡ Some (statement.Refresh change set) = ap next_of kept ∙ is in
@@ -124,18 +125,18 @@ refreshed_on old mid new trials next text clean change set (is, kept) further ma
     (subst (λ (t : Trials). IsOnTheWay (course_after mid (moment_after trials) (statement.Refresh change set)) t text clean) (sym further) on)
 
 -- the refresh that is asked for has its place
-pub asked_place : (old mid : Course) (trials : Trials) (text : List ℕ) (clean : Bool) (change : RefreshKind) (set : ℕ) → Takes old (version_of trials) (tables_of trials) mid (turn.AskedRefresh change set)
+pub asked_place : (old mid : Course) (trials : Trials) (text : List ℕ) (clean : Bool) (change : RefreshKind) (set : ℕ) → Takes old (version_of trials) (states_of trials) mid (turn.AskedRefresh change set)
     → IsOnTheWay old trials text clean → IsRefresh (next_of mid) × (trials.done < length trials.list)
 asked_place old mid trials text clean change set (is, kept) way =
     ((change, set, ap next_of kept ∙ is), has_place old trials text clean (change, set, is) way)
 
 -- fewer statements are left after a turn
-pub fewer_answered : (old new : Course) (trials : Trials) → Takes old (version_of trials) (tables_of trials) new turn.Answered
+pub fewer_answered : (old new : Course) (trials : Trials) → Takes old (version_of trials) (states_of trials) new turn.Answered
     → length new.steps - new.answered < length old.steps - old.answered
 fewer_answered old new trials (s, is, never, made) =
     subst (λ (c : Course). length c.steps - c.answered < length old.steps - old.answered) (sym (made (tried_next trials (slice_get trials.list trials.done)))) (fewer old s is)
 
-pub fewer_refreshed : (old mid new : Course) (trials : Trials) (change : RefreshKind) (set : ℕ) → Takes old (version_of trials) (tables_of trials) mid (turn.AskedRefresh change set)
+pub fewer_refreshed : (old mid new : Course) (trials : Trials) (change : RefreshKind) (set : ℕ) → Takes old (version_of trials) (states_of trials) mid (turn.AskedRefresh change set)
     → ((s : Statement) → next_of mid ≡ Some s → new ≡ course_after mid (moment_after trials) s) → length new.steps - new.answered < length old.steps - old.answered
 fewer_refreshed old mid new trials change set (is, kept) made =
     let at : next_of mid ≡ Some (statement.Refresh change set) = ap next_of kept ∙ is in
@@ -143,16 +144,16 @@ fewer_refreshed old mid new trials change set (is, kept) made =
     (subst (λ (c : Course). length c.steps - (c.answered + 1) < length old.steps - old.answered) (sym kept) (fewer old (statement.Refresh change set) is))
 
 -- the text and the cleanness at the end
-pub ended : (old new : Course) (trials : Trials) (text : List ℕ) (clean : Bool) → Takes old (version_of trials) (tables_of trials) new turn.Ended → IsOnTheWay old trials text clean
+pub ended : (old new : Course) (trials : Trials) (text : List ℕ) (clean : Bool) → Takes old (version_of trials) (states_of trials) new turn.Ended → IsOnTheWay old trials text clean
     → (new.text ≡ text) × (new.is_clean ≡ clean)
 ended old new trials text clean (is, kept) way =
     let both = ends old trials text clean is way in
     (ap (λ (c : Course). c.text) kept ∙ both.0, ap (λ (c : Course). c.is_clean) kept ∙ both.1)
 
 -- what was taken over a snapshot of a version was taken over it
-pub takes_at : (old new : Course) (snapshot trials : Trials) (t u : Turn) → snapshot ≡ trials → t ≡ u → Takes old (version_of snapshot) (tables_of snapshot) new t → Takes old (version_of trials) (tables_of trials) new u
+pub takes_at : (old new : Course) (snapshot trials : Trials) (t u : Turn) → snapshot ≡ trials → t ≡ u → Takes old (version_of snapshot) (states_of snapshot) new t → Takes old (version_of trials) (states_of trials) new u
 takes_at old new snapshot trials t u same is took =
-    subst (λ (x : Turn). Takes old (version_of trials) (tables_of trials) new x) is (subst (λ (x : Trials). Takes old (version_of x) (tables_of x) new t) same took)
+    subst (λ (x : Turn). Takes old (version_of trials) (states_of trials) new x) is (subst (λ (x : Trials). Takes old (version_of x) (states_of x) new t) same took)
 
 -- what comes of the next refresh, where it is accepted
 tried_ok : (trials next : Trials) → trials.done < length trials.list → version_of next ≡ version_of trials + 1
@@ -174,23 +175,23 @@ tried_err trials cause inside leaves = elim (slice_get_cases trials.list trials.
 
 -- a result that was handed in is that of the moment
 handed : (old new : Course) (trials : Trials) (before : ℕ) (tried : Result ℕ Cause) → before ≡ version_of trials → tried ≡ tried_next trials (slice_get trials.list trials.done)
-    → ((s : Statement) (tables : State) → next_of old ≡ Some s → new ≡ course_after old (record { version = before; tables = tables; tried = tried }) s)
+    → ((s : Statement) (tables : ℕ → State) → next_of old ≡ Some s → new ≡ course_after old (record { version = before; tables = tables; tried = tried }) s)
     → (s : Statement) → next_of old ≡ Some s → new ≡ course_after old (moment_after trials) s
 handed old new trials before tried is comes made s at =
-    made s (tables_of trials) at
-    ∙ ap (λ v. course_after old (record { version = v; tables = tables_of trials; tried = tried }) s) is
-    ∙ ap (λ t. course_after old (record { version = version_of trials; tables = tables_of trials; tried = t }) s) comes
+    made s (states_of trials) at
+    ∙ ap (λ v. course_after old (record { version = v; tables = states_of trials; tried = tried }) s) is
+    ∙ ap (λ t. course_after old (record { version = version_of trials; tables = states_of trials; tried = t }) s) comes
 
 pub handed_ok : (old new : Course) (trials next : Trials) (before later : ℕ) → before ≡ version_of trials → later ≡ version_of next → trials.done < length trials.list → version_of next ≡ version_of trials + 1
     → ((change : Change) → slice_get trials.list trials.done ≡ Some change → after (tables_of trials) change ≡ Ok (tables_of next))
-    → ((s : Statement) (tables : State) → next_of old ≡ Some s → new ≡ course_after old (record { version = before; tables = tables; tried = Ok later }) s)
+    → ((s : Statement) (tables : ℕ → State) → next_of old ≡ Some s → new ≡ course_after old (record { version = before; tables = tables; tried = Ok later }) s)
     → (s : Statement) → next_of old ≡ Some s → new ≡ course_after old (moment_after trials) s
 handed_ok old new trials next before later is that inside one leaves made =
     handed old new trials before (Ok later) is (ap Ok that ∙ sym (tried_ok trials next inside one leaves)) made
 
 pub handed_err : (old new : Course) (trials : Trials) (before : ℕ) (cause : Cause) → before ≡ version_of trials → trials.done < length trials.list
     → ((change : Change) → slice_get trials.list trials.done ≡ Some change → after (tables_of trials) change ≡ Err cause)
-    → ((s : Statement) (tables : State) → next_of old ≡ Some s → new ≡ course_after old (record { version = before; tables = tables; tried = Err cause }) s)
+    → ((s : Statement) (tables : ℕ → State) → next_of old ≡ Some s → new ≡ course_after old (record { version = before; tables = tables; tried = Err cause }) s)
     → (s : Statement) → next_of old ≡ Some s → new ≡ course_after old (moment_after trials) s
 handed_err old new trials before cause is inside leaves made =
     handed old new trials before (Err cause) is (sym (tried_err trials cause inside leaves)) made

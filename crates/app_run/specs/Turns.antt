@@ -1,11 +1,13 @@
--- The text of one session: each statement at the version that the refreshes before it leave.
+-- The text of one session: each statement begins over the version that the refreshes before it
+-- leave.
 use Rattle.std.specs.Prelude.{ℕ, ◌+◌, ◌≡◌, ◌&&◌, List, [], ◌∷◌, ◌++◌, drop, length, Bool, true}
 use Rattle.std.specs.Prelude.{Option, None, Some, Result, Ok, Err, slice_get, if◌then◌else◌}
 use Rattle.app_sessions.specs.Outcomes.{Moment}
 use Rattle.app_sessions.specs.Reports.{tried_next}
 use Rattle.app_sessions.specs.Sessions.{Course, are_clean, lines_of}
+use Rattle.app_sessions.specs.Versions.{states_of}
 use Rattle.base_refusals.specs.declared.refresh.Cause.{Cause}
-use Rattle.store_versions.specs.Trials.{Trials, one_more, tables_of, version_of}
+use Rattle.store_versions.specs.Trials.{Trials, one_more, version_of}
 use Rattle.sql_ast.specs.declared.statement.Statement.{Statement}
 use Rattle.sql_ast.specs.declared.statement.Statement.TheVariants.{Refresh}
 use Rattle.store_state.specs.Refresh.{Change, after}
@@ -20,7 +22,7 @@ abbrev pub moment_after : Trials → Moment
 moment_after trials =
     record {
       version = version_of trials;
-      tables = tables_of trials;
+      tables = states_of trials;
       tried = tried_next trials (slice_get trials.list trials.done);
     }
 

@@ -5,7 +5,7 @@ use Rattle.std.specs.Prelude.{Option, None, Some, Ok, slice_get, Bool, ◌&&◌,
 use Rattle.std.proofs.lemmas.List.{map-append}
 use Rattle.std.proofs.lemmas.Option.{get_or_from_slice_get, slice_get_cases, slice_get_within}
 use Rattle.store_snapshots.specs.Openings.{Opening, IsOf}
-use Rattle.store_versions.specs.Trials.{Trials, tables_of, version_of}
+use Rattle.store_versions.specs.Trials.{Trials, version_of}
 use Rattle.sql_ast.specs.declared.statement.RefreshKind.{RefreshKind}
 use Rattle.sql_ast.specs.declared.statement.Statement.{Statement}
 use Rattle.sql_ast.specs.declared.statement.Statement.TheVariants.{Refresh}
@@ -18,6 +18,7 @@ use Rattle.app_sessions.specs.Jobs.{IsRun, JobSession, last_version, moment_at, 
 use Rattle.app_sessions.specs.Laws.{course_through, turn_or_end}
 use Rattle.app_sessions.specs.Outcomes.{Moment}
 use Rattle.app_sessions.specs.Sessions.{Course, Takes, are_clean, course_after, course_of, lines_of, next_of}
+use Rattle.app_sessions.specs.Versions.{states_of}
 use Rattle.app_sessions.specs.declared.session.Session.{Session}
 use Rattle.app_sessions.specs.declared.session.Turn.TheVariants.{Answered, AskedRefresh, Ended}
 use Rattle.app_sessions.proofs.Texts.{sessions_text}
@@ -38,16 +39,15 @@ course_more : (start : Course) (ms : List Moment) (m : Moment)
 course_more start [] m = refl
 course_more start (x ∷ ms) m = course_more (turn_or_end start x (next_of start)) ms m
 
--- the tables of a version of an opening
+-- the tables of each version of an opening
 tables_at : (base : State) (list : List Change) (d : Trials) → d.base ≡ base → d.list ≡ list
-    → tables_of d ≡ version_state base list (version_of d)
-tables_at base list d b l =
-    ap (λ s. version_state s d.list (version_of d)) b ∙ ap (λ xs. version_state base xs (version_of d)) l
+    → states_of d ≡ version_state base list
+tables_at base list d b l = ap (λ s. version_state s d.list) b ∙ ap (version_state base) l
 
 -- what one more turn does
 pub asked_more : (base : State) (list : List Change) (low high : ℕ) (start old new : Course) (d : Trials)
     → IsAsked base list low high start old → d.base ≡ base → d.list ≡ list
-    → Takes old (version_of d) (tables_of d) new Answered → high ≤ version_of d
+    → Takes old (version_of d) (states_of d) new Answered → high ≤ version_of d
     → IsAsked base list low (version_of d) start new
 asked_more base list low high start old new d h b l (s, is, never, made) up =
     let v = version_of d in
@@ -166,7 +166,7 @@ pub same_session : (old new : Session) → (course_of new).steps ≡ (course_of 
 same_session old new steps shows = ap (λ s. of_parts s new.shows_rows) steps ∙ ap (λ b. of_parts old.steps b) shows
 
 -- no refresh is asked for where none is among the statements
-pub not_asked : (steps : List Statement) (old new : Course) (version : ℕ) (tables : State) (change : RefreshKind) (set : ℕ) → HaveNoRefresh steps → old.steps ≡ steps
+pub not_asked : (steps : List Statement) (old new : Course) (version : ℕ) (tables : ℕ → State) (change : RefreshKind) (set : ℕ) → HaveNoRefresh steps → old.steps ≡ steps
     → Takes old version tables new (AskedRefresh change set) → ⊥
 not_asked steps old new version tables change set none same took =
     let r = Refresh change set in
@@ -176,18 +176,18 @@ not_asked steps old new version tables change set none same took =
     none old.answered r within (change, set, ap Some is)
 
 -- a session that has not ended does not end
-pub not_ended : (old new : Course) (version : ℕ) (tables : State) → is_none (next_of old) ≡ false → Takes old version tables new Ended → ⊥
+pub not_ended : (old new : Course) (version : ℕ) (tables : ℕ → State) → is_none (next_of old) ≡ false → Takes old version tables new Ended → ⊥
 not_ended old new version tables left took =
     let no : is_none (next_of old) ≡ true = ap is_none took.0 in cc
 
 -- a turn keeps the statements
-pub took_kept : (old new : Course) (version : ℕ) (tables : State) → Takes old version tables new Answered → (new.steps ≡ old.steps) × (new.shows_rows ≡ old.shows_rows)
+pub took_kept : (old new : Course) (version : ℕ) (tables : ℕ → State) → Takes old version tables new Answered → (new.steps ≡ old.steps) × (new.shows_rows ≡ old.shows_rows)
 took_kept old new version tables (s, is, never, made) =
     let new_is = made (Ok version) in
     (ap (λ (c : Course). c.steps) new_is, ap (λ (c : Course). c.shows_rows) new_is)
 
 -- fewer statements are left after a turn
-pub took_less : (old new : Course) (version : ℕ) (tables : State) → Takes old version tables new Answered → length new.steps - new.answered < length old.steps - old.answered
+pub took_less : (old new : Course) (version : ℕ) (tables : ℕ → State) → Takes old version tables new Answered → length new.steps - new.answered < length old.steps - old.answered
 took_less old new version tables (s, is, never, made) =
     subst (λ (c : Course). length c.steps - c.answered < length old.steps - old.answered) (sym (made (Ok version)))
     (let lt = slice_get_within old.steps old.answered s is in omega (arith, lt))

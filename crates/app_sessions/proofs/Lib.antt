@@ -1,4 +1,6 @@
 mod Printable
+mod Beside
+mod Worked
 mod Running
 mod Texts
 mod Expanded

@@ -41,8 +41,8 @@ abbrev pub AllUnasked : List Session → Type 0
 AllUnasked sessions = (i : ℕ) (d : Session) → i < length sessions
     → IsUnasked (slice_index_or sessions i d)
 
--- A session that began so and was asked at its versions, which never fall from one on up to
--- another, is what the moments at these versions make of it.
+-- A session that began so, and whose statements began over its versions, which never fall from one
+-- on up to another, is what the moments at these versions make of it.
 pub record IsAsked (base : State) (list : List Change) (low high : ℕ) (start course : Course)
     : Type 0 where
   pub made : course ≡ course_through start (moments_at base list course.versions)
@@ -57,7 +57,8 @@ abbrev pub IsAskedOf : Opening → ℕ → ℕ → Course → Course → Type 0
 IsAskedOf opening low high start course =
     ForSome opening (λ o. IsAsked o.0 o.1 low high start course)
 
--- A session of which each statement had its turn, at versions that never fall, has this text.
+-- A session of which each statement had its turn, begun over versions that never fall, has this
+-- text.
 pub record IsOver (base : State) (list : List Change) (low high : ℕ) (session : JobSession)
     (course : Course) : Type 0 where
   pub text : course.text ≡ session_lines base list session course.versions

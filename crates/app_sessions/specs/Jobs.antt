@@ -1,4 +1,5 @@
--- A job: sessions that run beside a publisher, and their text at the versions they were asked at.
+-- A job: sessions that run beside a publisher, and their text at the versions over which their
+-- statements began.
 use Rattle.std.specs.Prelude.{◌≡◌, ℕ, ◌+◌, ◌≤◌, ⊤, Bool, true, ◌&&◌, List, [], ◌∷◌, ◌++◌, codes}
 use Rattle.std.specs.Prelude.{decimal}
 use Rattle.std.specs.Prelude.{Ok, length, map}
@@ -17,16 +18,16 @@ pub record JobSession : Type 0 where
   pub steps : List Statement
   pub shows_rows : Bool
 
--- the moment of a statement at a version of a list; the statement tries no refresh
+-- the moment of a statement that begins over a version of a list; the statement tries no refresh
 abbrev pub moment_at : State → List Change → ℕ → Moment
 moment_at base list version =
-    record { version = version; tables = version_state base list version; tried = Ok version }
+    record { version = version; tables = version_state base list; tried = Ok version }
 
--- the moments of statements at these versions
+-- the moments of statements that begin over these versions
 abbrev pub moments_at : State → List Change → List ℕ → List Moment
 moments_at base list versions = map (moment_at base list) versions
 
--- the text of a session that was asked at these versions
+-- the text of a session whose statements began over these versions
 abbrev pub session_lines : State → List Change → JobSession → List ℕ → List ℕ
 session_lines base list session versions =
     lines_of session.shows_rows 1 [] session.steps (moments_at base list versions)
@@ -35,7 +36,7 @@ session_lines base list session versions =
 abbrev pub session_head : ℕ → List ℕ
 session_head number = codes "session " ++ decimal number ++ codes "\n"
 
--- the text of sessions, numbered on, each asked at its versions
+-- the text of sessions, numbered on, each by the versions over which its statements began
 abbrev pub sessions_text : State → List Change → ℕ → List JobSession → List (List ℕ) → List ℕ
 sessions_text base list number [] lists = []
 sessions_text base list number (session ∷ sessions) [] = []
@@ -57,7 +58,8 @@ abbrev pub IsRun : ℕ → ℕ → List ℕ → Type 0
 IsRun low high [] = low ≤ high
 IsRun low high (version ∷ versions) = (low ≤ version) × IsRun version high versions
 
--- each session has one version for each of its statements, and they never fall
+-- Each session has one version for each of its statements, the one over which it begins, and they
+-- never fall. A statement that names a version is asked over that one, which can be lower.
 abbrev pub ArePermitted : ℕ → ℕ → List JobSession → List (List ℕ) → Type 0
 ArePermitted low high [] [] = ⊤
 ArePermitted low high [] (versions ∷ lists) = ⊥
@@ -90,15 +92,16 @@ abbrev pub is_job_clean : State → List Change → List JobSession → List (Li
 is_job_clean base list sessions lists =
     are_sessions_clean base list sessions lists && are_accepted base list (length list)
 
--- what a job's text is seen as: its bytes, the versions at which each session was asked, and
--- whether no line is a refusal
+-- what a job's text is seen as: its bytes, the versions over which the statements of each session
+-- began, and whether no line is a refusal
 pub record JobAnswer : Type 0 where
   pub text : List ℕ
   pub versions : List (List ℕ)
   pub is_clean : Bool
 
--- The text of a job for the versions in it. They go from the number accepted of the first `before`
--- refreshes, which were told of before the sessions began, up to the closing version.
+-- The text of a job for the versions over which its statements began. They go from the number
+-- accepted of the first `before` refreshes, which were told of before the sessions began, up to the
+-- closing version.
 pub record IsJobText (base : State) (list : List Change) (before : ℕ) (sessions : List JobSession)
     (job : JobAnswer) : Type 0 where
   pub versions : ArePermitted (accepted base list before) (last_version base list)

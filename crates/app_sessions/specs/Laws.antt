@@ -1,6 +1,8 @@
 -- Laws of sessions and of plans.
-use Rattle.std.specs.Prelude.{◌≡◌, ℕ, ◌+◌, ◌-◌, List, [], ◌∷◌, ◌++◌, drop, length, Bool, ◌&&◌}
+use Rattle.std.specs.Prelude.{◌≡◌, ◌↔◌, ℕ, ◌+◌, ◌-◌, ◌<◌, ◌≤◌, List, [], ◌∷◌, ◌++◌, drop, length}
+use Rattle.std.specs.Prelude.{Bool, ◌&&◌}
 use Rattle.std.specs.Prelude.{Option, None, Some}
+use Rattle.app_result_text.specs.declared.version.VersionRefusal.TheVariants.{Gone, Unknown}
 use Rattle.base_row_laws.specs.Bags.{SameBag}
 use Rattle.plan_algebra.specs.Plans.{plan_reads, result_rows}
 use Rattle.plan_algebra.specs.declared.plan.FlatPlan.{FlatPlan}
@@ -14,6 +16,7 @@ use Rattle.app_sessions.specs.Expansion.{ExpandAll}
 use Rattle.app_sessions.specs.Outcomes.{Moment}
 use Rattle.plan_planner.specs.Planned.{IsPlanOf}
 use Rattle.app_sessions.specs.Sessions.{Course, are_clean, course_after, lines_of, next_of}
+use Rattle.app_sessions.specs.Versions.{refused_beside}
 
 -- A script's statements stand for one list of statements.
 abbrev pub ExpandOnce : Type 0
@@ -47,3 +50,14 @@ SessionsText = (course : Course) (moments : List Moment)
     (drop course.answered course.steps) moments)
     × ((course_through course moments).is_clean
     ≡ (course.is_clean && are_clean course.views (drop course.answered course.steps) moments))
+
+-- A statement is asked over the version that it names exactly where that is the version at which it
+-- began or one of the 63 before it. A version above these is unknown, and one below them gone.
+pub record VersionsAsked : Type 0 where
+  pub asked :
+      (begun named : ℕ)
+      → (refused_beside begun named ≡ None) ↔ ((named ≤ begun) × (begun < named + 64))
+  pub unknown :
+      (begun named : ℕ) → (refused_beside begun named ≡ Some (Unknown named)) ↔ (begun < named)
+  pub gone :
+      (begun named : ℕ) → (refused_beside begun named ≡ Some (Gone named)) ↔ (named + 64 ≤ begun)

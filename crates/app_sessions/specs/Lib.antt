@@ -1,4 +1,6 @@
 pub mod Expansion
+pub mod VersionExamples
+pub mod Versions
 pub mod Views
 pub mod Outcomes
 pub mod Sessions

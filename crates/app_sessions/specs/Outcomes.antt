@@ -1,7 +1,8 @@
 -- What comes of a statement, and how it is printed.
 use Rattle.std.specs.Prelude.{ℕ, List, [], ◌++◌, length, Bool, true, false, Result, Ok, Err}
-use Rattle.std.specs.Prelude.{if◌then◌else◌}
+use Rattle.std.specs.Prelude.{if◌then◌else◌, Option, None, Some}
 use Rattle.sql_bound_query.specs.Answer.{answer}
+use Rattle.sql_bound_query.specs.Reads.{reads}
 use Rattle.sql_bound_query.specs.declared.query.BoundQuery.{BoundQuery}
 use Rattle.sql_templates.specs.Templates.{filled_query}
 use Rattle.base_refusals.specs.declared.refresh.Cause.{Cause}
@@ -12,6 +13,8 @@ use Rattle.base_refusals.specs.declared.statement.Refusal.TheVariants as refusal
 use Rattle.base_refusals.specs.declared.statement.TemplateRefusal.{TemplateRefusal}
 use Rattle.app_result_text.specs.Answer.{answer_text, header, rows_have_no_fault}
 use Rattle.app_result_text.specs.Lines.{accepted_text, done_text, refusal_text}
+use Rattle.app_result_text.specs.Version.{version_refusal_text}
+use Rattle.app_result_text.specs.declared.version.VersionRefusal.{VersionRefusal}
 use Rattle.sql_ast.specs.declared.statement.Statement.{Statement}
 use Rattle.sql_ast.specs.declared.statement.Statement.TheVariants as statement
 use Rattle.sql_binder.specs.Binding.{bound_query}
@@ -22,15 +25,17 @@ use Rattle.base_value.specs.declared.truth.Fault.TheVariants as fault
 use Rattle.base_value.specs.declared.value.Value.{Value}
 use Rattle.base_value.specs.declared.value.Value.TheVariants as value
 use Rattle.base_schema.specs.State.{State}
+use Rattle.app_sessions.specs.Versions.{printed_version, refused_beside, version_named}
 use Rattle.app_sessions.specs.Views.{is_view, made_view}
 use Rattle.app_sessions.specs.declared.outcome.Outcome.{Outcome}
 use Rattle.app_sessions.specs.declared.outcome.Outcome.TheVariants.{Rows, Done, Accepted, Refused}
+use Rattle.app_sessions.specs.declared.outcome.Outcome.TheVariants.{VersionRefused}
 
--- When a statement is answered: the version and its tables, and what comes of the refresh, where
--- the statement is one.
+-- When a statement is answered: the version over which it begins, the tables of each version, and
+-- what comes of the refresh, where the statement is one.
 pub record Moment : Type 0 where
   pub version : ℕ
-  pub tables : State
+  pub tables : ℕ → State
   pub tried : Result ℕ Cause
 
 -- the kind of a fault
@@ -45,10 +50,33 @@ answered (Ok rows) = Rows rows
 answered (Err (value.Fault f)) = Refused (refusal.Fault (kind_of_fault f))
 answered (Err other) = Rows []
 
--- a bound query's answer over the tables, or why the query is not bound
-abbrev pub query_outcome : Checked BoundQuery → State → Outcome
-query_outcome (Ok bound) tables = answered (answer bound tables)
-query_outcome (Err why) tables = Refused (refusal.Bind why)
+-- a bound query's answer over the tables of the version that it names, unless that is refused
+abbrev pub named_outcome : Option VersionRefusal → BoundQuery → State → Outcome
+named_outcome None bound tables = answered (answer bound tables)
+named_outcome (Some why) bound tables = VersionRefused why
+
+-- a bound query's answer over the version over which it began or over the one that it names, by the
+-- tables of each version
+abbrev pub bound_outcome : ℕ → (ℕ → State) → Option ℕ → BoundQuery → Outcome
+bound_outcome begun tables None bound = answered (answer bound (tables begun))
+bound_outcome begun tables (Some named) bound =
+    named_outcome (refused_beside begun named) bound (tables named)
+
+-- how many rows are read for it: none where the version that it names is refused
+abbrev pub named_reads : Option VersionRefusal → BoundQuery → State → ℕ
+named_reads None bound tables = reads bound.block tables
+named_reads (Some why) bound tables = 0
+
+-- the same of a bound query that names a version or none
+abbrev pub bound_reads : ℕ → (ℕ → State) → Option ℕ → BoundQuery → ℕ
+bound_reads begun tables None bound = reads bound.block (tables begun)
+bound_reads begun tables (Some named) bound =
+    named_reads (refused_beside begun named) bound (tables named)
+
+-- what comes of a query: why it is not bound, which is tested first, or what comes of the bound one
+abbrev pub query_outcome : ℕ → (ℕ → State) → Option ℕ → Checked BoundQuery → Outcome
+query_outcome begun tables named (Ok bound) = bound_outcome begun tables named bound
+query_outcome begun tables named (Err why) = Refused (refusal.Bind why)
 
 -- a view was made, or is refused
 abbrev pub made : Result View Refusal → Outcome
@@ -73,7 +101,8 @@ run_outcome (Err why) = Refused (refusal.Template why)
 
 -- what comes of a statement
 abbrev pub outcome_of : Moment → List View → Statement → Outcome
-outcome_of moment views (statement.Query q) = query_outcome (bound_query q views) moment.tables
+outcome_of moment views (statement.Query q) =
+    query_outcome moment.version moment.tables q.version (bound_query q views)
 outcome_of moment views (statement.CreateView name names q) = made (made_view name names q views)
 outcome_of moment views (statement.DropView name) = dropped (is_view name views)
 outcome_of moment views (statement.Refresh change set) = refreshed moment.tried
@@ -82,15 +111,30 @@ outcome_of moment views (statement.Run number values) = run_outcome (filled_quer
 -- whether the statement is refused
 abbrev pub is_refusal : Outcome → Bool
 is_refusal (Refused why) = true
+is_refusal (VersionRefused why) = true
 is_refusal other = false
 
--- The lines of a statement of this number over this version. The rows of an answer can be left out.
+-- The lines of a statement of this number, in which this version stands. The rows of an answer can
+-- be left out.
 abbrev pub outcome_text : Bool → ℕ → ℕ → Outcome → List ℕ
 outcome_text shows_rows number version (Rows rows) =
     header number version (length rows) ++ (if shows_rows then answer_text rows else [])
 outcome_text shows_rows number version Done = done_text number version
 outcome_text shows_rows number version (Accepted after) = accepted_text number version after
 outcome_text shows_rows number version (Refused why) = refusal_text number version why
+outcome_text shows_rows number version (VersionRefused why) =
+    version_refusal_text number version why
+
+-- the lines of a statement of this number that began over a version and names one or none
+abbrev pub outcome_lines : Bool → ℕ → ℕ → Option ℕ → Outcome → List ℕ
+outcome_lines shows_rows number begun named outcome =
+    outcome_text shows_rows number (printed_version begun named outcome) outcome
+
+-- the lines of a statement of this number at its moment
+abbrev pub statement_text : Bool → ℕ → Moment → List View → Statement → List ℕ
+statement_text shows_rows number moment views statement =
+    outcome_lines shows_rows number moment.version (version_named statement)
+    (outcome_of moment views statement)
 
 -- no row that is printed has a fault
 abbrev pub is_printable : Outcome → Bool

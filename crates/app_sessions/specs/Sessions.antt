@@ -9,7 +9,9 @@ use Rattle.sql_ast.specs.declared.statement.RefreshKind.{RefreshKind}
 use Rattle.sql_binder_steps.specs.declared.view.View.{View}
 use Rattle.base_schema.specs.State.{State}
 use Rattle.app_sessions.specs.Expansion.{ExpandAll}
-use Rattle.app_sessions.specs.Outcomes.{Moment, is_refusal, outcome_of, outcome_text}
+use Rattle.app_sessions.specs.Outcomes.{Moment, is_refusal, outcome_lines, outcome_of}
+use Rattle.app_sessions.specs.Outcomes.{statement_text}
+use Rattle.app_sessions.specs.Versions.{version_named}
 use Rattle.app_sessions.specs.Views.{views_after}
 use Rattle.app_sessions.specs.declared.outcome.Outcome.{Outcome}
 use Rattle.app_sessions.specs.declared.session.Session.{Session}
@@ -21,7 +23,7 @@ abbrev pub lines_of : Bool → ℕ → List View → List Statement → List Mom
 lines_of shows_rows number views [] moments = []
 lines_of shows_rows number views (statement ∷ statements) [] = []
 lines_of shows_rows number views (statement ∷ statements) (moment ∷ moments) =
-    outcome_text shows_rows number moment.version (outcome_of moment views statement)
+    statement_text shows_rows number moment views statement
     ++ lines_of shows_rows (number + 1) (views_after views statement) statements moments
 
 -- none of the statements is refused, each at its moment
@@ -33,7 +35,7 @@ are_clean views (statement ∷ statements) (moment ∷ moments) =
     && are_clean (views_after views statement) statements moments
 
 -- The course of a session: the statements that its script stands for, how many of them have their
--- lines, the versions that these were asked at, its views, its text, whether no line is a refusal,
+-- lines, the versions over which these began, its views, its text, whether no line is a refusal,
 -- whether rows are printed, and whether memory ran out.
 pub record Course : Type 0 where
   pub steps : List Statement
@@ -73,19 +75,21 @@ pub record Begins (statements : List Statement) (with_rows : Bool) (course : Cou
 abbrev pub next_of : Course → Option Statement
 next_of course = slice_get course.steps course.answered
 
--- a session with the lines of its next statement, by what came of it
-abbrev pub with_lines : Course → ℕ → Outcome → Course
-with_lines course version outcome = record course {
+-- a session with the lines of its next statement, which began over a version and names one or none,
+-- by what came of it
+abbrev pub with_lines : Course → ℕ → Option ℕ → Outcome → Course
+with_lines course begun named outcome = record course {
   answered = course.answered + 1;
-  versions = course.versions ++ version ∷ [];
-  text = course.text ++ outcome_text course.shows_rows (course.answered + 1) version outcome;
+  versions = course.versions ++ begun ∷ [];
+  text = course.text ++ outcome_lines course.shows_rows (course.answered + 1) begun named outcome;
   is_clean = course.is_clean && not (is_refusal outcome);
 }
 
 -- a session after a statement's turn at a moment
 abbrev pub course_after : Course → Moment → Statement → Course
 course_after course moment statement =
-    record (with_lines course moment.version (outcome_of moment course.views statement)) {
+    record (with_lines course moment.version (version_named statement)
+    (outcome_of moment course.views statement)) {
       views = views_after course.views statement;
     }
 
@@ -93,10 +97,10 @@ course_after course moment statement =
 abbrev pub IsRefresh : Option Statement → Type 0
 IsRefresh next = (change : RefreshKind) × (set : ℕ) × (next ≡ Some (Refresh change set))
 
--- What a turn over a version and its tables leaves. A statement that is no refresh has its lines. A
--- refresh is asked for, and nothing changes before its result is there; nothing changes where no
--- statement is left.
-abbrev pub Takes : Course → ℕ → State → Course → Turn → Type 0
+-- What a turn over a version leaves, by the tables of each version. A statement that is no refresh
+-- has its lines. A refresh is asked for, and nothing changes before its result is there; nothing
+-- changes where no statement is left.
+abbrev pub Takes : Course → ℕ → (ℕ → State) → Course → Turn → Type 0
 Takes old version tables new Answered = (statement : Statement) × (next_of old ≡ Some statement)
     × (IsRefresh (next_of old) → ⊥)
     × ((tried : Result ℕ Cause)
@@ -107,14 +111,14 @@ Takes old version tables new (AskedRefresh change set) = (next_of old ≡ Some (
 Takes old version tables new Ended = (next_of old ≡ None) × (new ≡ old)
 
 -- the same, or memory ran out, now or before
-abbrev pub Goes : Course → ℕ → State → Course → Result Turn AllocError → Type 0
+abbrev pub Goes : Course → ℕ → (ℕ → State) → Course → Result Turn AllocError → Type 0
 Goes old version tables new (Ok turn) = (old.is_lost ≡ false) × Takes old version tables new turn
 Goes old version tables new (Err error) = new.is_lost ≡ true
 
 -- what handing in the result of a refresh leaves: its line; or memory ran out, now or before
 abbrev pub HandsIn : Course → ℕ → Result ℕ Cause → Course → Result (Unit {0}) AllocError → Type 0
 HandsIn old version tried new (Ok done) = (old.is_lost ≡ false)
-    × ((statement : Statement) (tables : State) → next_of old ≡ Some statement
+    × ((statement : Statement) (tables : ℕ → State) → next_of old ≡ Some statement
     → new ≡ course_after old
     (record { version = version; tables = tables; tried = tried }) statement)
 HandsIn old version tried new (Err error) = new.is_lost ≡ true

@@ -14,8 +14,8 @@ use std::alloc::{AllocError, Global};
 use std::marker::Model;
 use store_snapshots::Entry;
 
-/// The text of a job, the versions at which the statements of each session were asked, and whether
-/// no line is a refusal.
+/// The text of a job, the versions over which the statements of each session began, and whether no
+/// line is a refusal.
 #[derive(Drop)]
 pub struct JobText {
     text: Vec<u8>,
@@ -66,7 +66,7 @@ impl JobText {
         self.text
     }
 
-    /// The versions at which the statements of a session were asked, counted from 0.
+    /// The versions over which the statements of a session began, which is counted from 0.
     pub fn versions(&self, session: usize) -> Option<&[u64]>
         ensures { option_map (λ v. v.now) result ≡ slice_get self.now.versions session }
     {

@@ -15,6 +15,7 @@ mod report;
 mod runs;
 mod session;
 mod text;
+mod versions;
 mod views;
 mod worker;
 mod workers;

@@ -2,6 +2,7 @@
 ghost use Rattle.std.specs.Prelude.{◌≡◌};
 ghost use Rattle.app_sessions.specs.Outcomes.{is_refusal, kind_of_fault};
 
+use app_result_text::VersionRefusal;
 use base_refusals::{FaultKind, Refusal};
 use base_value::{Fault, Row};
 use sqlite_items::Items;
@@ -17,6 +18,8 @@ pub enum Outcome {
     Accepted(u64),
     /// It is refused.
     Refused(Refusal),
+    /// It is refused for the version that it names.
+    VersionRefused(VersionRefusal),
 }
 
 impl Outcome {
@@ -24,7 +27,7 @@ impl Outcome {
     pub fn is_refusal(&self) -> bool
         ensures { result ≡ is_refusal self.now }
     {
-        matches!(self, Outcome::Refused(_))
+        matches!(self, Outcome::Refused(_) | Outcome::VersionRefused(_))
     }
 }
 

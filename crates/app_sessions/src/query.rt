@@ -5,12 +5,15 @@ ghost use Rattle.sql_bound_query.specs.Reads.{reads};
 ghost use Rattle.sql_bound_query.specs.Typing.{StateIsOf};
 ghost use Rattle.base_order_limit.specs.Answers.{finished};
 ghost use Rattle.sql_bound_query.specs.declared.query.BoundQuery.{BoundQuery};
-ghost use Rattle.store_versions.specs.Trials.{tables_of};
+ghost use Rattle.store_versions.specs.Trials.{tables_of, version_of};
 ghost use Rattle.sql_binder.specs.Binding.{bound_query};
-ghost use Rattle.app_sessions.specs.Outcomes.{answered, is_printable, query_outcome};
+ghost use Rattle.app_sessions.specs.Outcomes.{answered, bound_outcome, is_printable, named_outcome};
+ghost use Rattle.app_sessions.specs.Outcomes.{bound_reads, named_reads, query_outcome};
+ghost use Rattle.app_sessions.specs.Versions.{refused_beside, states_of};
 ghost use Rattle.plan_planner.specs.Planned.{IsPlanOf};
 
 use crate::outcome::{Outcome, kind_of_fault};
+use app_result_text::VersionRefusal;
 use base_columns::Bag;
 use base_order_limit::finish;
 use base_refusals::Refusal;
@@ -26,6 +29,7 @@ use std::marker::Brand;
 use std::sync::ledger::{Blank, Ledger};
 use std::thread::Threads;
 use store_snapshots::Snapshot;
+use store_versions::VersionError;
 
 /// The rows of a plan in its order up to its limit, or their least fault.
 fn finished_outcome(alloc: Global, plan: &FlatPlan, bag: &Bag) -> Result<Outcome, AllocError>
@@ -66,27 +70,76 @@ fn plan_outcome<R: Threads + Sync, L: Ledger>(
     Ok(outcome)
 }
 
+/// The answer of the query of a plan over the version that it names, or why it is not asked over
+/// that. Then no row is read.
+fn named_outcome<R: Threads + Sync, L: Ledger>(
+    rt: &R,
+    alloc: Global,
+    plan: &FlatPlan,
+    snapshot: &Snapshot,
+    named: u64,
+    steps: &mut Steps<L>,
+) -> Result<Outcome, AllocError>
+    ensures outcome { (q : BoundQuery) → IsPlanOf q plan.now → IfOk result (λ o. o
+        ≡ named_outcome (refused_beside (version_of snapshot.now) named) q
+        (states_of snapshot.now named)) }
+    ensures printable { IfOk result (λ o. IsTrue (is_printable o)) }
+    ensures steps { (q : BoundQuery) → IsPlanOf q plan.now → OnOk result (steps.new
+        ≡ steps.old + named_reads (refused_beside (version_of snapshot.now) named) q
+        (states_of snapshot.now named)) }
+{
+    match snapshot.at(alloc, named) {
+        Ok(older) => plan_outcome(rt, alloc, plan, &older, steps),
+        Err(VersionError::Unknown) => Ok(Outcome::VersionRefused(VersionRefusal::Unknown(named))),
+        Err(VersionError::Gone) => Ok(Outcome::VersionRefused(VersionRefusal::Gone(named))),
+        Err(VersionError::OutOfMemory) => Err(AllocError),
+    }
+}
+
+/// What comes of the query of a plan that begins over a version and names one or none.
+fn bound_outcome<R: Threads + Sync, L: Ledger>(
+    rt: &R,
+    alloc: Global,
+    plan: &FlatPlan,
+    snapshot: &Snapshot,
+    named: Option<u32>,
+    steps: &mut Steps<L>,
+) -> Result<Outcome, AllocError>
+    ensures outcome { (q : BoundQuery) → IsPlanOf q plan.now → IfOk result (λ o. o
+        ≡ bound_outcome (version_of snapshot.now) (states_of snapshot.now) named q) }
+    ensures printable { IfOk result (λ o. IsTrue (is_printable o)) }
+    ensures steps { (q : BoundQuery) → IsPlanOf q plan.now → OnOk result (steps.new
+        ≡ steps.old + bound_reads (version_of snapshot.now) (states_of snapshot.now) named q) }
+{
+    match named {
+        Some(named) => named_outcome(rt, alloc, plan, snapshot, named as u64, steps),
+        None => plan_outcome(rt, alloc, plan, snapshot, steps),
+    }
+}
+
 /// The same where the steps have a ledger of their own.
 fn counted_outcome<R: Threads + Sync, L: Ledger>(
     rt: &R,
     alloc: Global,
     plan: &FlatPlan,
     snapshot: &Snapshot,
+    named: Option<u32>,
     blank: Blank,
 ) -> Result<Outcome, AllocError>
     requires name { blank.name ≡ L.name }
     requires parts { blank.parts ≡ L.parts }
     requires some { 0 < blank.parts }
-    ensures outcome { (q : BoundQuery) → IsPlanOf q plan.now
-        → IfOk result (λ o. o ≡ answered (answer q (tables_of snapshot.now))) }
+    ensures outcome { (q : BoundQuery) → IsPlanOf q plan.now → IfOk result (λ o. o
+        ≡ bound_outcome (version_of snapshot.now) (states_of snapshot.now) named q) }
     ensures printable { IfOk result (λ o. IsTrue (is_printable o)) }
 {
     let mut steps: Steps<L> = Steps::new(blank);
-    let outcome = plan_outcome(rt, alloc, plan, snapshot, &mut steps)?;
+    let outcome = bound_outcome(rt, alloc, plan, snapshot, named, &mut steps)?;
     Ok(outcome)
 }
 
-/// What comes of a query over a version's tables: its answer, or why it is refused.
+/// What comes of a query that begins over a version: its answer over that one or over the one that
+/// it names, or why it is refused.
 pub(crate) fn query_outcome<R: Threads + Sync>(
     rt: &R,
     alloc: Global,
@@ -95,12 +148,15 @@ pub(crate) fn query_outcome<R: Threads + Sync>(
     snapshot: &Snapshot,
 ) -> Result<Outcome, AllocError>
     ensures outcome { IfOk result (λ o. o
-        ≡ query_outcome (bound_query query.now views.now) (tables_of snapshot.now)) }
+        ≡ query_outcome (version_of snapshot.now) (states_of snapshot.now) query.now.version
+        (bound_query query.now views.now)) }
     ensures printable { IfOk result (λ o. IsTrue (is_printable o)) }
 {
     match plan(alloc, query, views) {
         Ok(plan) => {
-            let outcome = counted_outcome::<R, Brand>(rt, alloc, &plan, snapshot, Blank::new(1))?;
+            let named = query.version;
+            let blank = Blank::new(1);
+            let outcome = counted_outcome::<R, Brand>(rt, alloc, &plan, snapshot, named, blank)?;
             Ok(outcome)
         }
         Err(BindFault::Refused(why)) => Ok(Outcome::Refused(Refusal::Bind(why))),

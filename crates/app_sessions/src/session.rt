@@ -2,9 +2,10 @@
 ghost use Rattle.std.specs.Prelude.{◌≡◌, ◌<◌, ℕ, length, IfOk, IsTrue, OnOk, Result, Err, Some};
 ghost use Rattle.std.specs.Prelude.{is_none, true};
 ghost use Rattle.base_refusals.specs.declared.refresh.Cause.{Cause};
-ghost use Rattle.store_versions.specs.Trials.{tables_of, version_of};
+ghost use Rattle.store_versions.specs.Trials.{version_of};
 ghost use Rattle.app_sessions.specs.Outcomes.{is_printable, outcome_of, refreshed};
 ghost use Rattle.app_sessions.specs.Sessions.{IsRefresh};
+ghost use Rattle.app_sessions.specs.Versions.{states_of};
 ghost use Rattle.app_sessions.specs.Views.{views_after};
 
 use crate::expansion::expand;
@@ -12,6 +13,7 @@ use crate::outcome::Outcome;
 use crate::query::query_outcome;
 use crate::runs::run_outcome;
 use crate::text::outcome_text;
+use crate::versions::{printed_version, version_named};
 use crate::views::{drop_view, make_view};
 use base_refusals::{Cause, Refusal};
 use plan_planner::SessionViews;
@@ -59,7 +61,7 @@ fn outcome_of<R: Threads + Sync>(
     ensures outcome { IfOk result (λ o. (tried : Result ℕ Cause) → o
         ≡ outcome_of (record {
           version = version_of snapshot.now;
-          tables = tables_of snapshot.now;
+          tables = states_of snapshot.now;
           tried = tried;
         }) views.old statement.now) }
     ensures views { OnOk result (views.new ≡ views_after views.old statement.now) }
@@ -128,7 +130,7 @@ impl Session {
         self.steps.get(self.answered).is_none()
     }
 
-    /// The versions at which the statements were asked that had their turn.
+    /// The versions over which the statements began that had their turn.
     pub fn versions(&self) -> &[u64]
         ensures { result.now ≡ (course_of self.now).versions }
     {
@@ -149,12 +151,13 @@ impl Session {
         self.is_clean
     }
 
-    /// Appends the lines of the next statement, whose turn is over.
-    fn put(&mut self, version: u64, outcome: &Outcome) -> Result<(), AllocError>
+    /// Appends the lines of the next statement, whose turn is over. It began over a version and
+    /// names one or none.
+    fn put(&mut self, begun: u64, named: Option<u32>, outcome: &Outcome) -> Result<(), AllocError>
         requires within { self.old.answered < length self.old.steps }
         requires printable { IsTrue (is_printable outcome.now) }
         ensures { OnOk result (course_of self.new
-            ≡ with_lines (course_of self.old) version outcome.now) }
+            ≡ with_lines (course_of self.old) begun named outcome.now) }
     {
         let count = self.steps.len();
         prove!(self.answered < count);
@@ -162,11 +165,11 @@ impl Session {
             self.alloc,
             self.shows_rows,
             self.answered as u64 + 1,
-            version,
+            printed_version(begun, named, outcome),
             outcome,
         )?;
         self.text.append(&mut lines)?;
-        self.versions.push(version)?;
+        self.versions.push(begun)?;
         self.is_clean = self.is_clean && !outcome.is_refusal();
         self.answered += 1;
         Ok(())
@@ -179,7 +182,7 @@ impl Session {
         snapshot: &Snapshot,
     ) -> Result<Turn, AllocError>
         ensures { IfOk result (Takes (course_of self.old) (version_of snapshot.now)
-            (tables_of snapshot.now) (course_of self.new)) }
+            (states_of snapshot.now) (course_of self.new)) }
     {
         let Some(statement) = self.steps.get(self.answered) else {
             return Ok(Turn::Ended);
@@ -187,18 +190,20 @@ impl Session {
         if let Statement::Refresh(change, set) = statement {
             return Ok(Turn::AskedRefresh(*change, *set));
         }
+        let named = version_named(statement);
         let outcome = outcome_of(rt, self.alloc, statement, &mut self.views, snapshot)?;
-        self.put(snapshot.version(), &outcome)?;
+        self.put(snapshot.version(), named, &outcome)?;
         Ok(Turn::Answered)
     }
 
-    /// Answers the next statement over a version, or asks for the refresh that it is.
+    /// Answers the next statement over a version, or over an earlier one that it names, or asks for
+    /// the refresh that it is.
     pub fn run_next<R: Threads + Sync>(
         &mut self,
         rt: &R,
         snapshot: &Snapshot,
     ) -> Result<Turn, AllocError>
-        ensures { Goes (course_of self.old) (version_of snapshot.now) (tables_of snapshot.now)
+        ensures { Goes (course_of self.old) (version_of snapshot.now) (states_of snapshot.now)
             (course_of self.new) result }
     {
         if self.is_lost {
@@ -223,7 +228,7 @@ impl Session {
             return Err(AllocError);
         }
         let outcome = refresh_outcome(tried);
-        match self.put(version, &outcome) {
+        match self.put(version, None, &outcome) {
             Ok(()) => Ok(()),
             Err(error) => {
                 self.is_lost = true;

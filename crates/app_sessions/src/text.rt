@@ -4,7 +4,9 @@ ghost use Rattle.app_result_text.specs.Answer.{answer_text, header, rows_have_no
 ghost use Rattle.app_sessions.specs.Outcomes.{is_printable, outcome_text};
 
 use crate::outcome::Outcome;
-use app_result_text::{accepted_text, answer_text, done_text, header, refusal_text};
+use app_result_text::{
+    accepted_text, answer_text, done_text, header, refusal_text, version_refusal_text,
+};
 use base_value::Row;
 use std::alloc::{AllocError, Global};
 
@@ -28,7 +30,7 @@ fn rows_text(
     Ok(text)
 }
 
-/// The lines of a statement of this number over this version.
+/// The lines of a statement of this number, in which this version stands.
 pub(crate) fn outcome_text(
     alloc: Global,
     shows_rows: bool,
@@ -45,5 +47,6 @@ pub(crate) fn outcome_text(
         Outcome::Done => done_text(alloc, number, version),
         Outcome::Accepted(after) => accepted_text(alloc, number, version, *after),
         Outcome::Refused(why) => refusal_text(alloc, number, version, why),
+        Outcome::VersionRefused(why) => version_refusal_text(alloc, number, version, *why),
     }
 }

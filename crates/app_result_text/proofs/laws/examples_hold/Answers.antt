@@ -38,4 +38,6 @@ returns-clause-lines c = record {
   malformed = refl;
   orders = refl;
   lineitem = refl;
+  unknown = refl;
+  gone = refl;
 }

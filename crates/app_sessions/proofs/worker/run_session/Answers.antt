@@ -1,8 +1,9 @@
 use Rattle.std.proofs.Common.{rules, ◌≡◌, ◌∙◌, ◌≤◌, false, inl, inr, le_trans, refl, subst, sym, true}
 use Rattle.std.specs.Prelude.{is_none}
-use Rattle.store_versions.specs.Trials.{tables_of, version_of}
+use Rattle.store_versions.specs.Trials.{version_of}
 use Rattle.app_sessions.specs.Asked.{IsAsked}
 use Rattle.app_sessions.specs.Sessions.{Takes, course_of, next_of}
+use Rattle.app_sessions.specs.Versions.{states_of}
 use Rattle.app_sessions.specs.declared.session.Turn.{Turn}
 use Rattle.app_sessions.specs.declared.session.Turn.TheVariants.{Answered}
 use Rattle.app_sessions.proofs.JobRuns.{asked_more, not_asked, not_ended, over_all, same_session, took_kept, took_less}
@@ -15,9 +16,9 @@ asking-preserved g c =
     let old = course_of c.asking.session in
     let new = course_of c.run_next.new.self in
     let v = c.in_ok-snapshot.snapshot in
-    let took : Takes old (version_of v) (tables_of v) new Answered = subst (λ (t : Turn). Takes old (version_of v) (tables_of v) new t) c.in-Answered.is c.in_ok-run_next.ensures.1 in
+    let took : Takes old (version_of v) (states_of v) new Answered = subst (λ (t : Turn). Takes old (version_of v) (states_of v) new t) c.in-Answered.is c.in_ok-run_next.ensures.1 in
     let up : version_of c.asking.reader.seen ≤ version_of v = subst (λ n. version_of c.asking.reader.seen ≤ n) (sym b.snapshot.1) b.later in
-    let kept = took_kept old new (version_of v) (tables_of v) took in
+    let kept = took_kept old new (version_of v) (states_of v) took in
     record {
       opening = b.opening ∙ i.opening;
       seen = b.of_opening;
@@ -34,8 +35,8 @@ asking-smaller g c =
     let old = course_of c.asking.session in
     let new = course_of c.run_next.new.self in
     let v = c.in_ok-snapshot.snapshot in
-    let took : Takes old (version_of v) (tables_of v) new Answered = subst (λ (t : Turn). Takes old (version_of v) (tables_of v) new t) c.in-Answered.is c.in_ok-run_next.ensures.1 in
-    took_less old new (version_of v) (tables_of v) took
+    let took : Takes old (version_of v) (states_of v) new Answered = subst (λ (t : Turn). Takes old (version_of v) (states_of v) new t) c.in-Answered.is c.in_ok-run_next.ensures.1 in
+    took_less old new (version_of v) (states_of v) took
 
 pub returns-clause-same : goal.returns-clause-same
 returns-clause-same g c = same_session c.args.session.now c.asking.session c.asking.invariant.steps c.asking.invariant.shows
@@ -55,7 +56,7 @@ unreachable-requires g c =
     let took = c.in_ok-run_next.ensures.1 in
     let left : is_none (next_of old) ≡ false = search rules in
     elim c.in-AskedRefresh.is [
-      | inl (change, set, is) ↦ not_asked (course_of c.args.session.now).steps old new (version_of v) (tables_of v) change set c.requires.unasked.plain c.asking.invariant.steps
-          (subst (λ (t : Turn). Takes old (version_of v) (tables_of v) new t) is took)
-      | inr is ↦ not_ended old new (version_of v) (tables_of v) left (subst (λ (t : Turn). Takes old (version_of v) (tables_of v) new t) is took)
+      | inl (change, set, is) ↦ not_asked (course_of c.args.session.now).steps old new (version_of v) (states_of v) change set c.requires.unasked.plain c.asking.invariant.steps
+          (subst (λ (t : Turn). Takes old (version_of v) (states_of v) new t) is took)
+      | inr is ↦ not_ended old new (version_of v) (states_of v) left (subst (λ (t : Turn). Takes old (version_of v) (states_of v) new t) is took)
     ]
