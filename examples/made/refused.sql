@@ -28,8 +28,8 @@ select o_orderdate + interval '1' day from orders;
 select date '1996-02-30' from region;
 -- 14: the year 10000
 select date '9999-12-31' + interval '1' day from region;
--- 15: write the condition in WHERE
-select count(*) from region join nation on n_regionkey in (select r_regionkey from region);
+-- 15: take the sum over a derived table whose select list has the subquery
+select sum((select count(*) from nation where n_regionkey = r_regionkey)) from region;
 -- 16: 33 tables
 select count(*) from nation a1, nation a2, nation a3, nation a4, nation a5, nation a6, nation a7,
   nation a8, nation a9, nation a10, nation a11, nation a12, nation a13, nation a14, nation a15,

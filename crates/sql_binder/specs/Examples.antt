@@ -27,7 +27,6 @@ use Rattle.sql_ast.specs.declared.tree.Term.{Term}
 use Rattle.sql_ast.specs.declared.words.Adding.TheVariants.{Plus, Minus}
 use Rattle.sql_ast.specs.declared.words.Aggregate.TheVariants.{Sum}
 use Rattle.sql_ast.specs.declared.words.Column.{Column}
-use Rattle.sql_ast.specs.declared.words.JoinKind.TheVariants.{Inner}
 use Rattle.sql_ast.specs.declared.words.Multiplying.TheVariants.{Times}
 use Rattle.sql_ast.specs.declared.words.Span.TheVariants.{Day}
 use Rattle.base_value.specs.declared.value.Value.TheVariants as value
@@ -154,17 +153,6 @@ wide_product = e.Product (e.Number (pos 1) 10)
 abbrev pub one_day : Expr
 one_day = e.Interval (codes "1") Day
 
--- region join nation on exists (select r_name from nation)
-abbrev pub on_exists : Joined
-on_exists = roll-Joined (record {
-  first = Table (codes "region") None;
-  joins = record {
-    kind = Inner;
-    item = Table (codes "nation") None;
-    condition = e.Exists name_of_region;
-  } ∷ [];
-})
-
 -- a view of region's names whose query counts that number of FROM items
 abbrev pub view_of : ℕ → View
 view_of items = record {
@@ -185,6 +173,6 @@ LaterRefusals = Refuses (over_region (e.Scalar outer_sum)) OuterAggregate
     × Refuses (over_region (e.Sum r_name (plus one_day ∷ []))) IntervalOnColumn
     × Refuses (over_region (e.Date (codes "1996-02-30"))) BadDate
     × Refuses (over_region (e.Sum (e.Date (codes "9999-12-31")) (plus one_day ∷ []))) DateRange
-    × Refuses (statement (select_from (item (number 1) ∷ []) (on_exists ∷ []))) SubqueryPlace
+    × Refuses (over_region (e.Aggregate Sum (e.Scalar name_of_region))) SubqueryPlace
     × (bound_query (statement (select_from (item r_name ∷ []) (from_table (codes "v") ∷ [])))
     (view_of 32 ∷ []) ≡ Err TooManyTables)

@@ -21,7 +21,7 @@ use sqlite_items::Items;
 use std::alloc::Global;
 
 impl<E: Fn(Global, &Site<'_>, &mut Collected, &Expr) -> Result<Typed, BindFault>> ExprBinder<E> {
-    /// ON, over the rows of its own join, where no subquery may stand.
+    /// ON, over the rows of its own join.
     #[tactic(auto, unfolding(crate::specs::FromLists::on_condition, sql_binder_steps::specs::Parts::within_on))]
     pub(crate) fn on_condition(
         &self,
@@ -44,7 +44,7 @@ impl<E: Fn(Global, &Site<'_>, &mut Collected, &Expr) -> Result<Typed, BindFault>
             views: site.views,
             levels: levels.as_slice(),
             hidden: site.hidden,
-            takes_subqueries: false,
+            takes_subqueries: true,
         };
         let p = self.part(&rows, state, e)?;
         let on = holding(p)?;

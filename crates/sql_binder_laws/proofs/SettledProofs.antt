@@ -87,6 +87,8 @@ order_of_in = (
   simp computed,
   simp computed,
   simp computed,
+  simp computed,
+  simp computed,
 )
 
 pub operands_first : OperandsFirst

@@ -27,6 +27,7 @@ use Rattle.sql_binder.specs.Binding.{bound_query}
 use Rattle.sql_binder.specs.Examples.{named, number, plus, minus, item, from_table, from_derived}
 use Rattle.sql_binder.specs.Examples.{select_from, select_where, statement, r_name}
 use Rattle.sql_binder.specs.EdgeCases.{date, end_of_february, ninety_days_before, equal, is_africa}
+use Rattle.sql_binder.specs.EdgeCases.{join_on}
 use Rattle.sql_binder_laws.specs.Settled.{with_alias}
 
 -- what a statement is answered with over a state, where it is bound without views
@@ -243,6 +244,34 @@ RegionsOfOrders = HasRows
     (customers_where
     (e.Exists (all_where (codes "orders")
     (e.And is_of_customer (e.Exists region_of_order ∷ []))))) (wholes (1 ∷ []))
+
+-- r_regionkey + o_orderkey = 11 + c_custkey
+abbrev pub is_sum_of_both : Expr
+is_sum_of_both = equal (e.Sum r_regionkey (plus o_orderkey ∷ []))
+    (e.Sum (number 11) (plus c_custkey ∷ []))
+
+-- select c_custkey, o_orderkey from ..
+abbrev pub pairs_from : Joined → Query
+pairs_from from = statement (select_from (item c_custkey ∷ item o_orderkey ∷ []) (from ∷ []))
+
+-- customer join orders on ..
+abbrev pub customers_with_orders : Expr → Joined
+customers_with_orders x = roll-Joined (record {
+  first = Table (codes "customer") None;
+  joins = join_on (codes "orders") x ∷ [];
+})
+
+-- A subquery in ON is asked for each combination of both sides' rows: `.. on o_custkey = c_custkey
+-- and exists (select * from region where r_regionkey + o_orderkey = 11 + c_custkey)`, by a left
+-- outer join and by an inner one. A left row that no combination keeps stands with a null.
+abbrev pub SubqueriesOfOn : Type 0
+SubqueriesOfOn = HasRows
+    (pairs_from (customers_joined_on
+    (e.And is_of_customer (e.Exists (all_where (codes "region") is_sum_of_both) ∷ []))))
+    ((whole 1 ∷ whole 8 ∷ []) ∷ (whole 2 ∷ Null ∷ []) ∷ [])
+    × HasRows (pairs_from (customers_with_orders
+    (e.And is_of_customer (e.Exists (all_where (codes "region") is_sum_of_both) ∷ []))))
+    ((whole 1 ∷ whole 8 ∷ []) ∷ [])
 
 -- select x from nation having ..
 abbrev pub nations_having : Expr → Expr → Query

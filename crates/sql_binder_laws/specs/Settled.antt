@@ -97,15 +97,22 @@ ValuesAsConditions = Refuses (region_where r_name) TypeMismatch
     × Refuses (over_region (e.Aggregate Avg r_name)) TypeMismatch
     × Refuses (over_region (e.Substring r_name 0 2)) TypeMismatch
 
+-- sum(case when .. then 1 end)
+abbrev pub ones_where : Expr → Expr
+ones_where x = e.Aggregate Sum (e.Case (record { condition = x; value = number 1 } ∷ []))
+
 -- IN: its left side, its query, the query's columns, the kinds; then whether a subquery may stand
--- there. A condition is no operand of IN.
+-- there, as in ON it may and in an aggregate's argument it may not. A condition is no operand of
+-- IN.
 abbrev pub OrderOfIn : Type 0
 OrderOfIn = Refuses (over_region (e.InQuery nope two_names)) UnknownColumn
     × Refuses (over_region (e.InQuery (e.Sum r_name (plus (number 1) ∷ [])) two_names)) TypeMismatch
     × Refuses (over_region (e.InQuery (number 1) two_names)) SubqueryColumns
     × Refuses (over_region (e.InQuery (number 1) names_of_regions)) TypeMismatch
     × Refuses (one_from (joined_on (e.InQuery (number 1) names_of_regions) ∷ [])) TypeMismatch
-    × Refuses (one_from (joined_on (e.InQuery r_name names_of_regions) ∷ [])) SubqueryPlace
+    × Refuses (one_from (joined_on (e.InQuery r_name two_names) ∷ [])) SubqueryColumns
+    × Refuses (over_region (ones_where (e.InQuery (number 1) names_of_regions))) TypeMismatch
+    × Refuses (over_region (ones_where (e.InQuery r_name names_of_regions))) SubqueryPlace
     × Refuses (over_region (e.InList (number 1) (number 2 ∷ r_name ∷ []))) TypeMismatch
     × Refuses (over_region (e.InList is_africa (number 1 ∷ []))) TypeMismatch
     × Refuses (over_region (e.InList (number 1) (is_africa ∷ []))) TypeMismatch

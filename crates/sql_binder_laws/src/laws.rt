@@ -9,7 +9,7 @@ ghost use Rattle.sql_binder_laws.specs.Settled.{TurnsOfColumns};
 ghost use Rattle.sql_binder_laws.specs.AnsweredCases.{PlainStatements, Balances, DividedConditions};
 ghost use Rattle.sql_binder_laws.specs.AnsweredCases.{SumsOfLargest, CountsOfOrders, KeysNotIn};
 ghost use Rattle.sql_binder_laws.specs.AnsweredCases.{OneOrder, RegionsOfOrders, GroupOfNoRows};
-ghost use Rattle.sql_binder_laws.specs.AnsweredCases.{Distribution};
+ghost use Rattle.sql_binder_laws.specs.AnsweredCases.{SubqueriesOfOn, Distribution};
 
 /// Over views that are well typed, what is bound is well typed: a query's columns are of the kinds
 /// that are said of them, a view may stand beside the others, and a statement keeps the kinds and
@@ -50,6 +50,7 @@ pub fn answered_statements()
     ensures not_in { KeysNotIn }
     ensures one { OneOrder }
     ensures nested { RegionsOfOrders }
+    ensures joins { SubqueriesOfOn }
     ensures groups { GroupOfNoRows }
     ensures distribution { Distribution }
 {}

@@ -71,12 +71,12 @@ inside sight columns keys =
       takes_subqueries = true;
     }
 
--- over the rows of a join, in ON, where no subquery may stand
+-- over the rows of a join, in ON
 unfoldable pub within_on : Sight → List ScopeColumn → Sight
 within_on sight columns =
     record sight {
       levels = record { columns = columns; keys = None } ∷ sight.levels;
-      takes_subqueries = false;
+      takes_subqueries = true;
     }
 
 -- the sight of a derived table, which may use no name around it: neither of what stands left of it
@@ -155,7 +155,7 @@ function_of named.Max = function.Max
 abbrev pub mark : ℕ → Typed
 mark k = typed (e.IsMarked (e.Column k)) Condition
 
--- in ON and in an aggregate's argument a subquery is SubqueryPlace
+-- in an aggregate's argument a subquery is SubqueryPlace
 abbrev pub place_of : Sight → Checked (Unit {0})
 place_of sight = if sight.takes_subqueries then Ok tt else Err SubqueryPlace
 

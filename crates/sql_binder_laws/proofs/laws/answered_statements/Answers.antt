@@ -11,6 +11,7 @@ returns c = record {
   not_in = answered.regions_not_in;
   one = answered.one_order;
   nested = answered.regions_of_orders;
+  joins = answered.subqueries_of_on;
   groups = answered.group_of_no_rows;
   distribution = answered.distribution_of_orders;
 }
