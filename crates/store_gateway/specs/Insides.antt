@@ -30,7 +30,7 @@ sending s = record {
 pub record IsSender (s : SenderInside) : Type 0 where
   pub pass : IsPassOf (arc_value s.queue) s.pass
   pub view_is : view s.pass ≡ sender_view s.id (known_quotas (view s.pass).quotas)
-    (sent_messages s.id (sent_in s.id (view s.pass)))
+      (sent_messages s.id (sent_in s.id (view s.pass)))
   pub few : length (sent_in s.id (view s.pass)) ≤ pick s.id (known_quotas (view s.pass).quotas)
 
 -- a sender that has ended, by what its pass knows
@@ -47,7 +47,7 @@ ended_sending s = record {
 pub record IsFinished (s : EndedInside) : Type 0 where
   pub pass : IsPassOf (arc_value s.queue) s.pass
   pub view_is : view s.pass ≡ sender_view s.id (known_quotas (view s.pass).quotas)
-    (sent_messages s.id (sent_in s.id (view s.pass)) ++ End s.id ∷ [])
+      (sent_messages s.id (sent_in s.id (view s.pass)) ++ End s.id ∷ [])
 
 -- the messages that were taken, by what a pass knows
 abbrev pub taken_in : QueueView → List Message
@@ -68,11 +68,11 @@ taking t = record {
 pub record IsTaker (t : TakerInside) : Type 0 where
   pub pass : IsPassOf (arc_value t.queue) t.pass
   pub view_is : view t.pass
-    ≡ taker_view (known_quotas (view t.pass).quotas) (taken_in (view t.pass))
+      ≡ taker_view (known_quotas (view t.pass).quotas) (taken_in (view t.pass))
   pub first : t.first_ended ≡ has_end First (taken_in (view t.pass))
   pub second : t.second_ended ≡ has_end Second (taken_in (view t.pass))
   pub few : length (refreshes_in (taken_in (view t.pass)))
-    ≤ (known_quotas (view t.pass).quotas).0 + (known_quotas (view t.pass).quotas).1
+      ≤ (known_quotas (view t.pass).quotas).0 + (known_quotas (view t.pass).quotas).1
   pub senders : t.senders.items ≡ map (λ e. e.0) (refreshes_in (taken_in (view t.pass)))
 
 -- the refreshes in the order in which they were taken, each with its sender

@@ -72,7 +72,7 @@ pub record IsTrueView (quotas seats : ℕ × ℕ) (taker : ℕ) (sent : List Mes
   pub going : v.opening ≡ false
   pub quota : ForSome v.quotas (λ q. q ≡ quotas)
   pub sender : (id : SenderId) → ForSome (pick id v.sent)
-    (λ ms. (port ≡ pick id seats) × (ms ≡ pick id sent))
+      (λ ms. (port ≡ pick id seats) × (ms ≡ pick id sent))
   pub taking : ForSome v.taken (λ ms. (port ≡ taker) × (ms ≡ taken))
 
 -- all passes know the truth
@@ -108,7 +108,7 @@ named_view a b =
 pub data IsStarting (items : List Message) (views : List QueueView) : Type 0 where
   Empty : items ≡ [] → views ≡ first_view ∷ [] → IsStarting items views
   WithQuotas : (a b : ℕ) → items ≡ Quotas a b ∷ [] → views ≡ named_view a b ∷ []
-    → IsStarting items views
+      → IsStarting items views
 
 -- the rule
 abbrev pub IsInOrder : List Message → List QueueView → Type 0
@@ -160,9 +160,9 @@ with_sender id v w = record v { sent = place id (pick id w.sent) v.sent }
 pub record AtMoment (v : QueueView) (items : List Message) : Type 0 where
   pub of_senders : (q : ℕ × ℕ) → v.opening ≡ false → v.quotas ≡ Some q → All IsSent items
   pub few : (q : ℕ × ℕ) (id : SenderId) → v.opening ≡ false → v.quotas ≡ Some q
-    → length (messages_of id items) ≤ pick id q + 1
+      → length (messages_of id items) ≤ pick id q + 1
   pub own : (id : SenderId) (ms : List Message) → v.opening ≡ false → pick id v.sent ≡ Some ms
-    → (before : List Message) × (ms ≡ before ++ messages_of id items)
+      → (before : List Message) × (ms ≡ before ++ messages_of id items)
 
 -- What a pass learns that knows both what a sender sent and what was taken: the latter, and then
 -- what the queue holds, is of this sender what it sent.

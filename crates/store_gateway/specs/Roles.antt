@@ -101,4 +101,4 @@ pub record WasFull (s : Sending) : Type 0 where
   pub full : mine + theirs ≡ s.cap
   pub own : mine ≤ length s.sent
   pub quota : (other : SenderId) → is_same_sender other s.id ≡ false
-    → theirs ≤ pick other s.quotas + 1
+      → theirs ≤ pick other s.quotas + 1

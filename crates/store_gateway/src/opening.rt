@@ -21,11 +21,11 @@ pub fn open_gateway(
     ensures first { IfOk result (λ g. g.0 ≡ new_sender First g.2) }
     ensures second { IfOk result (λ g. g.1 ≡ new_sender Second g.2) }
     ensures taker { IfOk result (λ g. g.2 ≡ record {
-        gateway = g.2.gateway;
-        taken = [];
-        ended = (false, false);
-        quotas = (first_quota, second_quota);
-        cap = cap;
+      gateway = g.2.gateway;
+      taken = [];
+      ended = (false, false);
+      quotas = (first_quota, second_quota);
+      cap = cap;
     }) }
 {
     let (line, mut pass) = MessageQueue::ruled(alloc, cap)?;

@@ -54,7 +54,10 @@ impl Sender {
             → result ≡ Sent.Sent }
     {
         let message = Message::Refresh(self.id, refresh);
-        match self.queue.push_as::<Pushing, R>(rt, &mut self.pass, message) {
+        match self
+            .queue
+            .push_as::<Pushing, R>(rt, &mut self.pass, message)
+        {
             Ok(()) => Sent::Sent,
             Err(Message::Refresh(_, refresh)) => Sent::Full(refresh),
             Err(_) => unreachable!(),
