@@ -1,0 +1,4 @@
+pub mod Queue
+pub mod Roles
+pub mod Insides
+pub mod Answers
