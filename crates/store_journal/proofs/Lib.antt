@@ -1,0 +1,6 @@
+mod Frames
+mod Entries
+mod Moments
+mod Crash
+mod Steps
+mod Readings
