@@ -4,3 +4,4 @@ mod Moments
 mod Crash
 mod Steps
 mod Readings
+mod Runs

@@ -2,6 +2,7 @@
 //! leaves of what is written meanwhile.
 #![tactic(auto)]
 
+mod appends;
 mod bytes;
 mod fault;
 mod frame;
@@ -11,6 +12,7 @@ mod payload;
 mod reading;
 mod step;
 
+pub use appends::append_all;
 pub use fault::JournalFault;
 pub use frame::{next_frame, push_framed};
 pub use journal::{Appended, Journal, make, reopen};
