@@ -1,0 +1,7 @@
+mod Frames
+mod Entries
+mod Moments
+mod Crash
+mod Steps
+mod Readings
+mod Runs
