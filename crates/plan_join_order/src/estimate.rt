@@ -5,7 +5,7 @@ use base_schema::{ColumnKind, TableName};
 use expr_scalar::{Comparison, Expr};
 use plan_algebra::{DepTree, Side, width};
 use plan_tree_moves::side_columns;
-use sqlite_items::at;
+use sqlite_items::{Boxed, at};
 
 // How many values a column is taken to have of which nothing is known.
 const UNKNOWN_VALUES: u64 = 10;
@@ -152,6 +152,42 @@ fn source_of(tree: &DepTree, n: u32, place: u32) -> Option<Source> {
             }
         }
     }
+}
+
+// Whether a column is a whole number out of a table.
+fn is_key(source: Source) -> bool {
+    matches!(
+        at(source.table.kinds(), source.column as usize),
+        Some(ColumnKind::Key) | Some(ColumnKind::Whole)
+    )
+}
+
+/// Whether a column of what is read is known to be a whole number out of a table.
+pub(crate) fn is_key_at(sight: &Sight, place: u32) -> bool {
+    match source_at(sight, place) {
+        Some(source) => is_key(source),
+        None => false,
+    }
+}
+
+/// Whether each column of a right side's domain row is known to be a whole number out of a table,
+/// by the left side and by what is known of the left side's domain row of n columns.
+pub(crate) fn are_keys(n: u32, keyed: bool, left: &Boxed<DepTree>, side: &Side) -> bool {
+    let Side::Dependent(columns) = side else {
+        return keyed;
+    };
+    let sight = Sight::Tree(n, left.get());
+    for column in columns.as_slice() {
+        let known = if *column < n {
+            keyed
+        } else {
+            is_key_at(&sight, *column)
+        };
+        if !known {
+            return false;
+        }
+    }
+    true
 }
 
 // A tree's width, or 0 where that isn't known.
