@@ -379,11 +379,11 @@ pub(crate) fn rows_of(tree: &DepTree, n: u32) -> u64 {
     }
 }
 
-// What it costs to copy a column: texts count more.
+// What it costs to copy a column: a text of more than one byte counts more.
 fn weight_at(tree: &DepTree, n: u32, place: u32) -> u64 {
     match source_of(tree, n, place) {
         Some(source) => match at(source.table.kinds(), source.column as usize) {
-            Some(ColumnKind::Text(_)) => 4,
+            Some(ColumnKind::Text(most)) if *most > 1 => 6,
             _ => 1,
         },
         None => 1,
