@@ -1,11 +1,12 @@
 //! Dependent trees arranged for speed, their rows kept.
 #![tactic(auto)]
 
-mod choice;
 mod collect;
+mod estimate;
 mod group;
 mod implied;
 mod narrow;
+mod order;
 mod regroup;
 
 pub use collect::arrange;

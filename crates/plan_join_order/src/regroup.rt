@@ -34,6 +34,7 @@ fn columns_read(
 pub(crate) fn listed(
     alloc: Global,
     n: u32,
+    keyed: bool,
     parts: Collected,
     es: &[Expr],
 ) -> Result<Boxed<DepTree>, AllocError>
@@ -43,7 +44,7 @@ pub(crate) fn listed(
 {
     let output = copy_exprs(alloc, es)?;
     let new = narrowed(alloc, n, parts, output)?;
-    let new = built(alloc, n, new.parts, new.output)?;
+    let new = built(alloc, n, keyed, new.parts, new.output)?;
     Ok(new)
 }
 
@@ -91,6 +92,7 @@ fn regrouped(
 pub(crate) fn grouped(
     alloc: Global,
     n: u32,
+    keyed: bool,
     parts: Collected,
     by: &[u32],
     aggregates: &[Aggregate],
@@ -103,12 +105,12 @@ pub(crate) fn grouped(
     let own = columns_read(alloc, n, count, by, aggregates)?;
     match regrouped(alloc, n, &own, by, aggregates)? {
         Some(new) => {
-            let child = listed(alloc, n, parts, new.list.as_slice())?;
+            let child = listed(alloc, n, keyed, parts, new.list.as_slice())?;
             let new = group_of(alloc, child, new.by.as_slice(), new.aggregates.as_slice())?;
             Ok(new)
         }
         None => {
-            let child = closed(alloc, n, parts)?;
+            let child = closed(alloc, n, keyed, parts)?;
             let new = group_of(alloc, child, by, aggregates)?;
             Ok(new)
         }
