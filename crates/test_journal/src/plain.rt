@@ -1,0 +1,49 @@
+//! Any bytes as a payload, and disks to try them on.
+ghost use Rattle.std.specs.Prelude.{◌≡◌, ⊤, length, IfOk};
+
+use base_disk::MemDisk;
+use std::alloc::{AllocError, Global};
+use store_journal::Payload;
+
+/// One entry of the bytes 2, 55 and 10, and the closed gate.
+pub const ONE: [u8; 13] = [1, 0, 0, 0, 0, 0, 0, 0, 3, 2, 55, 10, 0];
+
+/// The payload of that entry.
+pub const SEVEN: [u8; 3] = [2, 55, 10];
+
+/// Bytes as they are.
+#[derive(Drop)]
+pub struct Plain {
+    pub bytes: Vec<u8>,
+}
+
+impl Payload for Plain {
+    ghost spelling = { λ plain. plain.bytes.items };
+
+    ghost is_payload = { λ _. ⊤ };
+
+    fn read(alloc: Global, bytes: &[u8]) -> Result<Option<Plain>, AllocError> {
+        let bytes = bytes.to_vec(alloc)?;
+        Ok(Some(Plain { bytes }))
+    }
+
+    fn spell(&self, bytes: &mut Vec<u8>) -> Result<(), AllocError> {
+        bytes.extend_from_slice(&self.bytes)
+    }
+}
+
+/// The payload of the one entry.
+pub fn seven(alloc: Global) -> Result<Plain, AllocError>
+    ensures { IfOk result (λ plain. length plain.bytes.items ≡ 3) }
+{
+    let bytes = Vec::from_slice(alloc, &SEVEN)?;
+    Ok(Plain { bytes })
+}
+
+/// A disk whose file `j` has these bytes, all of them synced; the listed calls fail.
+pub fn disk_of(alloc: Global, bytes: &[u8], failing: &[u64]) -> Result<MemDisk, AllocError> {
+    let name = String::from_str(alloc, "j")?;
+    let bytes = Vec::from_slice(alloc, bytes)?;
+    let failing = Vec::from_slice(alloc, failing)?;
+    MemDisk::new(alloc, name, bytes, failing, 4096)
+}
