@@ -1,0 +1,4 @@
+mod Clean
+mod Fields
+mod Lines
+mod Deletes
