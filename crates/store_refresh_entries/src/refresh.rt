@@ -1,0 +1,72 @@
+//! A refresh whose rows or keys are kept as bytes.
+ghost use Rattle.std.specs.Prelude.{◌≡◌, ◌++◌, OnOk, IfOk, IfSome, IfNone};
+ghost use Rattle.store_state.specs.Refresh.{InsertRows};
+ghost use Rattle.store_refresh_entries.specs.Change.{IsSpelled, change_of, spelling_of};
+ghost use Rattle.store_refresh_text.specs.Text.{rows_text};
+
+use crate::reading::parsed;
+use base_columns::Rows;
+use std::alloc::{AllocError, Global};
+use store_journal::{Payload, push_framed};
+use store_refresh_text::{push_keys, push_rows};
+
+/// The rows or keys that an accepted refresh brings.
+#[derive(Drop)]
+pub enum StoredRefresh {
+    /// Orders, and their lineitems.
+    Insert(Rows, Rows),
+    /// The keys of the orders to be deleted.
+    Delete(Vec<i64>),
+}
+
+/// The lines of rows, as a text of their own.
+fn text_of(alloc: Global, rows: &Rows) -> Result<Vec<u8>, AllocError>
+    ensures { IfOk result (λ text. text.items ≡ rows_text rows.now) }
+{
+    let mut text = Vec::new(alloc);
+    let rows = rows.to_rows(alloc)?;
+    push_rows(&mut text, &rows)?;
+    Ok(text)
+}
+
+/// Appends the spelling of an insert.
+fn push_insert(bytes: &mut Vec<u8>, orders: &Rows, lineitems: &Rows) -> Result<(), AllocError>
+    ensures { OnOk result (bytes.new.items
+        ≡ bytes.old.items ++ spelling_of (InsertRows orders.now lineitems.now)) }
+{
+    let alloc = *bytes.allocator();
+    let orders = text_of(alloc, orders)?;
+    let lineitems = text_of(alloc, lineitems)?;
+    bytes.push(1)?;
+    push_framed(bytes, &orders)?;
+    bytes.extend_from_slice(&lineitems)?;
+    Ok(())
+}
+
+impl Payload for StoredRefresh {
+    ghost spelling = { λ refresh. spelling_of (change_of refresh) };
+
+    ghost is_payload = { IsSpelled };
+
+    fn read(alloc: Global, bytes: &[u8]) -> Result<Option<StoredRefresh>, AllocError> {
+        let Some(refresh) = parsed(alloc, bytes)? else {
+            return Ok(None);
+        };
+        let mut again = Vec::new(alloc);
+        refresh.spell(&mut again)?;
+        if again.as_slice() != bytes {
+            return Ok(None);
+        }
+        Ok(Some(refresh))
+    }
+
+    fn spell(&self, bytes: &mut Vec<u8>) -> Result<(), AllocError> {
+        match self {
+            StoredRefresh::Insert(orders, lineitems) => push_insert(bytes, orders, lineitems),
+            StoredRefresh::Delete(keys) => {
+                bytes.push(2)?;
+                push_keys(bytes, keys)
+            }
+        }
+    }
+}
