@@ -7,3 +7,5 @@ mod crashes;
 mod plain;
 #[cfg(test)]
 mod real_file;
+#[cfg(test)]
+mod spellings;
