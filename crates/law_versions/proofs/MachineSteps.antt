@@ -37,10 +37,9 @@ begin_law world session cuts entries more refusals others seen version is same b
     ]
 
 -- whether a session may go back is whether the version is recent
-may_back : (session : SessionState) (pin number : ℕ) → session.pin ≡ Some pin → session.seen ≡ pin → IsRecent pin number
+may_back : (session : SessionState) (last number : ℕ) → is_some session.pin ≡ true → session.seen ≡ last → IsRecent last number
     → may_go_back session number ≡ true
-may_back session pin number has same recent =
-    let some : is_some session.pin ≡ true = ap is_some has in
+may_back session last number some same recent =
     let most : nat_le number session.seen ≡ true = let a = recent.0 in grind (arith, nat_tests, a, same) in
     let less : nat_lt session.seen (number + 64) ≡ true = let a = recent.1 in grind (arith, nat_tests, a, same) in
     rw (some, most, less) refl

@@ -1,5 +1,5 @@
 -- What running sessions and the publisher do, in the machine's steps.
-use Rattle.std.specs.Prelude.{◌≡◌, ◌⊎◌, ℕ, ◌≤◌, List, max, true, Some, Result, Ok, Err}
+use Rattle.std.specs.Prelude.{◌≡◌, ◌⊎◌, ℕ, ◌≤◌, List, max, true, is_some, Result, Ok, Err}
 use Rattle.store_versions.specs.Older.{GivesOlder}
 use Rattle.store_versions.specs.Trials.{Trials, version_of}
 use Rattle.store_versions.specs.declared.version_error.VersionError.{VersionError}
@@ -45,12 +45,12 @@ GoesBack world session number cuts (Err Unknown) = happens world (Back session n
 GoesBack world session number cuts (Err Gone) = happens world (Back session number cuts) ≡ world
 GoesBack world session number cuts (Err OutOfMemory) = Unit {0}
 
--- A session pins the version of a snapshot, the last that it has seen, and the snapshot is asked for
--- the version of a number, whose tables are cut so: that is the step Back.
+-- A session pins a version, that of a snapshot is the last that it has seen, and the snapshot is asked
+-- for the version of a number, whose tables are cut so: that is the step Back.
 abbrev pub BackLaw : Type 0
 BackLaw = (world : World) (session number : ℕ) (cuts : List (List ℕ)) (last : Trials)
     (answer : Result Trials VersionError)
-    → IsSession world session → (session_of world session).pin ≡ Some (version_of last)
+    → IsSession world session → is_some (session_of world session).pin ≡ true
     → (session_of world session).seen ≡ version_of last
     → is_cut world.base world.list number cuts ≡ true
     → GivesOlder last number answer → GoesBack world session number cuts answer
