@@ -1,0 +1,41 @@
+//! The lines of a query that is in another, and of the parts of one.
+use crate::line::PlanLine;
+use crate::names::{Names, push_number};
+use std::alloc::{AllocError, Global};
+
+/// A bound query that was shown.
+#[derive(Drop)]
+pub struct ShownQuery {
+    /// Its number.
+    pub number: usize,
+    /// The names of its columns.
+    pub columns: Names,
+    /// Its lines, and after them those of the queries in it.
+    pub lines: Vec<PlanLine>,
+}
+
+/// The name of the query of a number: `q2`.
+pub fn query_name(alloc: Global, number: usize) -> Result<Vec<u8>, AllocError> {
+    let mut name = Vec::from_slice(alloc, b"q")?;
+    push_number(&mut name, number)?;
+    Ok(name)
+}
+
+/// A line of a query: one of its clauses.
+pub fn clause(
+    alloc: Global,
+    number: usize,
+    depth: usize,
+    kind: &[u8],
+    detail: Vec<u8>,
+) -> Result<PlanLine, AllocError> {
+    Ok(PlanLine {
+        number,
+        depth,
+        kind: Vec::from_slice(alloc, kind)?,
+        inputs: Vec::new(alloc),
+        detail,
+        columns: Vec::new(alloc),
+        rows: None,
+    })
+}
