@@ -80,8 +80,8 @@ abbrev pub single_value : List (Ranked Value) → Value
 single_value rows = scalar_of written value_rank 0 rows
 
 -- each left row with each row to its right, taken anew for it, at the lesser standing
-abbrev pub cross_loop : List (Ranked Value) → (List Value → List (Ranked Value))
-    → List (Ranked Value)
+abbrev pub cross_loop : {V : Type 0} → List (Ranked V) → (List V → List (Ranked V))
+    → List (Ranked V)
 cross_loop ls R =
     flat_map (λ l. map (λ r. ranked (l.values ++ r.values) (min l.standing r.standing)) (R l.values))
     ls
