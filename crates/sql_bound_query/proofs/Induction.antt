@@ -47,6 +47,7 @@ module _ (A : BoundAggregate → Type 0) (B : BoundBlock → Type 0) (S : BoundS
     pub distinct : (q : BoundBlock) → B q → B (block.Distinct q)
     pub table : (t : TableName) → S (source.Table t)
     pub derived : (q : BoundBlock) → B q → S (source.Derived q)
+    pub lateral : (q : BoundBlock) → B q → S (source.Lateral q)
     pub cross : (a : BoundSource) → S a → (b : BoundSource) → S b → S (source.Cross a b)
     pub inner : (a : BoundSource) → S a → (b : BoundSource) → S b → (on : BoundExpr) → E on
         → S (source.Inner a b on)
@@ -90,6 +91,7 @@ module _ (A : BoundAggregate → Type 0) (B : BoundBlock → Type 0) (S : BoundS
       Input BoundExpr (λ x. x.0) (λ x. x.0) (λ x. x.0) (λ x. x.0) (λ x. x.0) y))
   source_node s (f.Table t) = subst S (sym (source.rolls-Table t)) (s.table t)
   source_node s (f.Derived q) = subst S (sym (source.rolls-Derived q.0)) (s.derived q.0 q.1)
+  source_node s (f.Lateral q) = subst S (sym (source.rolls-Lateral q.0)) (s.lateral q.0 q.1)
   source_node s (f.Cross a b) = subst S (sym (source.rolls-Cross a.0 b.0)) (s.cross a.0 a.1 b.0 b.1)
   source_node s (f.Inner a b on) =
       subst S (sym (source.rolls-Inner a.0 b.0 on.0)) (s.inner a.0 a.1 b.0 b.1 on.0 on.1)
