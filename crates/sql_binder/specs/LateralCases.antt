@@ -79,13 +79,14 @@ equal_columns = record {
 
 -- select 1 from region where exists (select 1 from lateral (select r_name from nation) as t)
 abbrev pub first_of_subquery : Query
-first_of_subquery = statement (select_where (item (number 1) ∷ []) (from_table (codes "region") ∷ [])
+first_of_subquery = statement
+    (select_where (item (number 1) ∷ []) (from_table (codes "region") ∷ [])
     (e.Exists (one_of (lateral_item name_of_region ∷ []))))
 
 -- `select 1 from region, lateral (select r_name from nation) as t`,
 -- `select 1 from region left join lateral (select n_name from nation) as t on n_name = r_name`,
--- `select 1 from region, supplier join lateral (select r_name from nation) as t on ..`, whose row so
--- far has region's columns too. A first item sees a row so far without columns, so that the row of
+-- `select 1 from region, supplier join lateral (select r_name from nation) as t on ..`, whose row
+-- so far has region's columns too. A first item sees a row so far without columns, so that the row of
 -- the query around stands one level further out.
 abbrev pub BoundLaterals : Type 0
 BoundLaterals = (bound_query
@@ -95,8 +96,8 @@ BoundLaterals = (bound_query
     × (bound_query
     (statement (one_of
     (joined_lateral LeftOuter (codes "region")
-    (select_from (item n_name ∷ []) (from_table (codes "nation") ∷ [])) (equal n_name r_name) ∷ [])))
-    []
+    (select_from (item n_name ∷ []) (from_table (codes "nation") ∷ []))
+    (equal n_name r_name) ∷ []))) []
     ≡ Ok (plainly (bound_one (source.Outer (source.Table table.Region)
     (source.Lateral (bound.Plain (source.Table table.Nation) (closed (scalar.All []))
     (record { inputs = input.Column 0 1 ∷ []; expr = scalar.Column 0 } ∷ []))) 1 equal_columns))))
