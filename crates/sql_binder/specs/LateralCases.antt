@@ -32,8 +32,8 @@ use Rattle.sql_binder.specs.EdgeCases.{closed, equal}
 use Rattle.sql_binder.specs.WithCases.{plainly, nope_from_region}
 
 -- select 1 from ..
-abbrev pub one_of : List Joined → Block
-one_of from = select_from (item (number 1) ∷ []) from
+abbrev pub select_one : List Joined → Block
+select_one from = select_from (item (number 1) ∷ []) from
 
 -- lateral (query) as t, alone between its commas
 abbrev pub lateral_item : Block → Joined
@@ -48,12 +48,12 @@ joined_lateral kind n q x = roll-Joined
     })
 
 -- 1 = 1
-abbrev pub always : Expr
-always = equal (number 1) (number 1)
+abbrev pub one_is_one : Expr
+one_is_one = equal (number 1) (number 1)
 
 -- 1 = 1, bound
-abbrev pub bound_always : BoundExpr
-bound_always = closed (scalar.Compare operator.Equal (scalar.Literal (value.Number 0 (pos 1)))
+abbrev pub bound_equality : BoundExpr
+bound_equality = closed (scalar.Compare operator.Equal (scalar.Literal (value.Number 0 (pos 1)))
     (scalar.Literal (value.Number 0 (pos 1))))
 
 -- n_name
@@ -81,7 +81,7 @@ equal_columns = record {
 abbrev pub first_of_subquery : Query
 first_of_subquery = statement
     (select_where (item (number 1) ∷ []) (from_table (codes "region") ∷ [])
-    (e.Exists (one_of (lateral_item name_of_region ∷ []))))
+    (e.Exists (select_one (lateral_item name_of_region ∷ []))))
 
 -- `select 1 from region, lateral (select r_name from nation) as t`,
 -- `select 1 from region left join lateral (select n_name from nation) as t on n_name = r_name`,
@@ -90,11 +90,11 @@ first_of_subquery = statement
 -- the query around stands one level further out.
 abbrev pub BoundLaterals : Type 0
 BoundLaterals = (bound_query
-    (statement (one_of (from_table (codes "region") ∷ lateral_item name_of_region ∷ []))) []
+    (statement (select_one (from_table (codes "region") ∷ lateral_item name_of_region ∷ []))) []
     ≡ Ok (plainly (bound_one (source.Cross (source.Table table.Region)
     (source.Lateral outer_name)))))
     × (bound_query
-    (statement (one_of
+    (statement (select_one
     (joined_lateral LeftOuter (codes "region")
     (select_from (item n_name ∷ []) (from_table (codes "nation") ∷ []))
     (equal n_name r_name) ∷ []))) []
@@ -102,10 +102,10 @@ BoundLaterals = (bound_query
     (source.Lateral (bound.Plain (source.Table table.Nation) (closed (scalar.All []))
     (record { inputs = input.Column 0 1 ∷ []; expr = scalar.Column 0 } ∷ []))) 1 equal_columns))))
     × (bound_query
-    (statement (one_of (from_table (codes "region")
-    ∷ joined_lateral Inner (codes "supplier") name_of_region always ∷ []))) []
+    (statement (select_one (from_table (codes "region")
+    ∷ joined_lateral Inner (codes "supplier") name_of_region one_is_one ∷ []))) []
     ≡ Ok (plainly (bound_one (source.Cross (source.Table table.Region)
-    (source.Inner (source.Table table.Supplier) (source.Lateral outer_name) bound_always)))))
+    (source.Inner (source.Table table.Supplier) (source.Lateral outer_name) bound_equality)))))
     × (bound_query first_of_subquery []
     ≡ Ok (plainly (bound.Plain (source.Table table.Region)
     (record {
@@ -120,26 +120,26 @@ BoundLaterals = (bound_query
 -- left from a lateral item too. A lateral item counts, its query is bound before its alias is
 -- tested, and its query's columns are counted last.
 abbrev pub RefusedLaterals : Type 0
-RefusedLaterals = Refuses (statement (one_of
+RefusedLaterals = Refuses (statement (select_one
     (lateral_item name_of_region ∷ from_table (codes "region") ∷ []))) UnknownColumn
-    × Refuses (statement (one_of (from_table (codes "region")
+    × Refuses (statement (select_one (from_table (codes "region")
     ∷ joined_lateral Inner (codes "nation") (select_from (item (named (codes "s_name")) ∷ [])
-    (from_table (codes "orders") ∷ [])) always ∷ from_table (codes "supplier") ∷ []))) UnknownColumn
-    × Refuses (statement (one_of (from_table (codes "region")
+    (from_table (codes "orders") ∷ [])) one_is_one ∷ from_table (codes "supplier") ∷ []))) UnknownColumn
+    × Refuses (statement (select_one (from_table (codes "region")
     ∷ from_alias (codes "region") (codes "b") ∷ lateral_item name_of_region ∷ []))) AmbiguousColumn
-    × Refuses (statement (one_of (from_table (codes "region") ∷ lateral_item outer_sum ∷ [])))
+    × Refuses (statement (select_one (from_table (codes "region") ∷ lateral_item outer_sum ∷ [])))
     OuterAggregate
-    × Refuses (statement (one_of (from_table (codes "region")
-    ∷ from_derived (one_of (from_table (codes "supplier") ∷ lateral_item name_of_region ∷ []))
+    × Refuses (statement (select_one (from_table (codes "region")
+    ∷ from_derived (select_one (from_table (codes "supplier") ∷ lateral_item name_of_region ∷ []))
     (codes "d") ∷ []))) LateralReference
-    × Refuses (statement (one_of (from_alias (codes "region") (codes "t")
+    × Refuses (statement (select_one (from_alias (codes "region") (codes "t")
     ∷ lateral_item name_of_region ∷ []))) DuplicateAlias
-    × Refuses (statement (one_of (from_alias (codes "region") (codes "t")
+    × Refuses (statement (select_one (from_alias (codes "region") (codes "t")
     ∷ lateral_item nope_from_region ∷ []))) UnknownColumn
-    × (bound_query (statement (one_of (from_table (codes "v")
+    × (bound_query (statement (select_one (from_table (codes "v")
     ∷ lateral_item (select_from (item r_name ∷ []) (from_table (codes "region") ∷ [])) ∷ [])))
     (view_of 30 ∷ []) ≡ Err TooManyTables)
-    × Refuses (statement (one_of (from_table (codes "region")
+    × Refuses (statement (select_one (from_table (codes "region")
     ∷ roll-Joined (record {
       first = Lateral two_names (codes "t") (codes "a" ∷ []);
       joins = [];

@@ -294,7 +294,7 @@ named_rows_are b headers alias names left f h =
     })
 
 -- a sight in which an item's query is bound, and what makes a source of the query
-record Placed (inner : Sight → List ScopeColumn → Sight) (made : BoundBlock → BoundSource) : Type 0
+record InnerSight (inner : Sight → List ScopeColumn → Sight) (made : BoundBlock → BoundSource) : Type 0
   where
     ready : (sight : Sight) (left : List ScopeColumn) → Ready sight → Ready (inner sight left)
     kinds : (sight : Sight) (left : List ScopeColumn) (b : BoundBlock) (ks : List Kind)
@@ -302,7 +302,7 @@ record Placed (inner : Sight → List ScopeColumn → Sight) (made : BoundBlock 
         → (env : EnvKinds) → Fits sight env → from_kinds (made b) (row_kinds left) env ≡ Some ks
 
 query_rows_is : (inner : Sight → List ScopeColumn → Sight) (made : BoundBlock → BoundSource)
-    → Placed inner made → (q : BlockMeaning) (alias : Name) (names : List Name) → BlockMeaningIs q
+    → InnerSight inner made → (q : BlockMeaning) (alias : Name) (names : List Name) → BlockMeaningIs q
     → FromItemMeaningIs (λ sight left.
     counted 1 >>= (λ u. q (inner sight left) >>=
     (λ t. lift (named_rows (made t.block) t.headers alias names left))))
