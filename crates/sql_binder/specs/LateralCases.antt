@@ -124,7 +124,8 @@ RefusedLaterals = Refuses (statement (select_one
     (lateral_item name_of_region ∷ from_table (codes "region") ∷ []))) UnknownColumn
     × Refuses (statement (select_one (from_table (codes "region")
     ∷ joined_lateral Inner (codes "nation") (select_from (item (named (codes "s_name")) ∷ [])
-    (from_table (codes "orders") ∷ [])) one_is_one ∷ from_table (codes "supplier") ∷ []))) UnknownColumn
+    (from_table (codes "orders") ∷ [])) one_is_one ∷ from_table (codes "supplier") ∷ [])))
+    UnknownColumn
     × Refuses (statement (select_one (from_table (codes "region")
     ∷ from_alias (codes "region") (codes "b") ∷ lateral_item name_of_region ∷ []))) AmbiguousColumn
     × Refuses (statement (select_one (from_table (codes "region") ∷ lateral_item outer_sum ∷ [])))
