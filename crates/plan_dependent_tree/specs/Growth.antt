@@ -97,7 +97,9 @@ IsTree occurs K outer start tree w =
 -- a tree to the right of another, of just these rows under each left row of a columns
 pub record IsRightIn (D : DomainRows) (occurs : List TableName) (K : State → FromMeaning) (a : ℕ)
     (tree : DepTree) (side : Side) (w : ℕ) : Type 0 where
-  pub are_rows : (l : List Value) → length l ≡ a → AreRows (λ state. K state l) w
+  pub stand : (state : State) (l : List Value) (env : Env) → Each Stands (K state l env)
+  pub wide : (state : State) → StateIsOf state → (l : List Value) → length l ≡ a → (env : Env)
+      → Width w (K state l env)
   pub scans : scans_of tree ≡ occurs
   pub width : width_of tree ≡ w
   pub rows : (state : State) → StateIsOf state → (env : Env) (d : List Value) → D env d
