@@ -59,15 +59,24 @@ pub record SourceIsSupplied (s : BoundSource) (outer : List OuterColumn) (so_far
   pub stands : (place : ℕ) → place < n → IsTrue (seeks_so_far s place)
       → IsTrue (has_place so_far place)
 
--- The right side of a left outer join, behind a left row of a columns, and its ON condition.
+-- The right side of a left outer join, behind a row so far of n columns and a left row of a columns,
+-- and its ON condition.
 pub record JoinIsSupplied (s : BoundSource) (on : BoundExpr) (nulls : ℕ) (outer : List OuterColumn)
     (so_far : List ℕ) (n a : ℕ) : Type 0 where
-  pub right : SourceIsSupplied s outer so_far n (n + a)
+  pub before : List Kind
   pub left : List Kind
-  pub width : a ≡ length left
-  pub nulls_stand : nulls ≡ length right.kinds
+  pub around : EnvKinds
+  pub kinds : List Kind
   pub inputs : List Kind
-  pub typed : all_some (map (λ (i : KindMeaning). i ((left ++ right.kinds) ∷ right.around))
+  pub before_width : n ≡ length before
+  pub width : a ≡ length left
+  pub nulls_stand : nulls ≡ length kinds
+  pub right : from_kinds s (before ++ left) around ≡ Some kinds
+  pub there : (level place : ℕ) → IsTrue (seeks_of_source s level place)
+      → IsTrue (has outer level place)
+  pub stands : (place : ℕ) → place < n → IsTrue (seeks_so_far s place)
+      → IsTrue (has_place so_far place)
+  pub typed : all_some (map (λ (i : KindMeaning). i ((left ++ kinds) ∷ around))
       (map kind_of_input on.inputs)) ≡ Some inputs
   pub reads : (level place : ℕ) → IsTrue (seeks_of_expr on (suc level) place)
       → IsTrue (has outer level place)
