@@ -20,6 +20,8 @@ use Rattle.plan_dependent_tree.specs.FromGrowth.{FromDomains, AreRightPlaces, Is
 use Rattle.plan_dependent_tree.specs.FromGrowth.{IsRightSource, IsKeptRight, IsKept, lateral_columns}
 use Rattle.plan_dependent_tree.specs.Growth.{RowsOf, IsTree, IsTreeIn, IsTrimmed, Attaches, IsPlain}
 use Rattle.plan_dependent_tree.specs.Growth.{ExprAt, block_of}
+use Rattle.plan_dependent_tree.specs.OuterGrowth.{IsOuterTree}
+use Rattle.plan_dependent_tree.specs.Supplied.{SourceIsSupplied, IsSourceWidth}
 use Rattle.plan_dependent_tree.proofs.FromTrees.{table_arm, derived_arm, lateral_arm, cross_arm}
 use Rattle.plan_dependent_tree.proofs.FromTrees.{inner_arm, right_dependent}
 use Rattle.plan_dependent_tree.proofs.KeptTrees.{kept_arm}
@@ -131,6 +133,20 @@ module _ (outer : List OuterColumn) (so_far : List ℕ) (n start : ℕ) where
       of_source refl (is.0 ∙ ap (λ z. t.Outer left right side z) always) is.1
       (λ q k. kept_outer_arm outer so_far start q x y on a nulls (a + nulls) refl left right side
       (l q k) (r q k))
+
+  pub outer_seen : (on : BoundExpr) {s x y read_x read_y : BoundSource} {left tree : DepTree}
+      {a w nulls : ℕ} → s ≡ source.Outer x y nulls on → read_x ≡ x → IsSourceWidth read_x a
+      → IsSourceTree read_x outer so_far n start left a → read_y ≡ y
+      → SourceIsSupplied s outer so_far n n
+      → IsOuterTree read_y nulls on outer so_far n start left a tree w
+      → IsSourceTree s outer so_far n start tree w
+  outer_seen on {s} {x} {y} {read_x} {read_y} {left} {tree} {a} {w} {nulls} e f width l g supplied
+      is =
+      let same : s ≡ source.Outer read_x read_y nulls on =
+      e ∙ ap (λ z. source.Outer z y nulls on) (sym f)
+      ∙ ap (λ z. source.Outer read_x z nulls on) (sym g) in
+      of_source same refl refl
+      (is read_x width (subst (λ z. SourceIsSupplied z outer so_far n n) same supplied) l)
 
   -- ---- right sides
 

@@ -18,8 +18,8 @@ use Rattle.plan_dependent_tree.specs.declared.sight.OuterColumn.{OuterColumn}
 use Rattle.plan_dependent_tree.specs.FromGrowth.{lateral_columns}
 use Rattle.plan_dependent_tree.specs.Seeks.{Seeks, has, has_place, seeks_of, seeks_of_source}
 use Rattle.plan_dependent_tree.specs.Seeks.{seeks_so_far}
-use Rattle.plan_dependent_tree.specs.Supplied.{QueryIsSupplied, SourceIsSupplied, IsWidthOf}
-use Rattle.plan_dependent_tree.specs.Supplied.{IsSourceWidth}
+use Rattle.plan_dependent_tree.specs.Supplied.{QueryIsSupplied, FromIsSupplied, SourceIsSupplied}
+use Rattle.plan_dependent_tree.specs.Supplied.{IsWidthOf, IsSourceWidth}
 use Rattle.plan_dependent_tree.proofs.SeeksOpened.{seeks_Lateral, seeks_Cross, so_far_Lateral}
 use Rattle.plan_dependent_tree.proofs.SeeksOpened.{so_far_Cross}
 use Rattle.plan_dependent_tree.proofs.TypedParts.{CrossTyped, cross_typed}
@@ -27,10 +27,25 @@ use Rattle.plan_dependent_tree.proofs.Within.{query_within}
 use Rattle.plan_dependent_tree.proofs.Supplies.{or_left, or_right}
 use Rattle.plan_dependent_tree.proofs.LateralColumns.{has_nearest, has_further}
 
--- ---- tables, derived tables and lateral items
+-- ---- FROM
 
-pub read_width : {x y : BoundSource} {w : ℕ} → x ≡ y → IsSourceWidth x w → IsSourceWidth y w
-read_width {x} {y} {w} same width = subst (λ z. IsSourceWidth z w) same width
+-- it begins with a row so far of no columns
+pub from_supplied : (s : BoundSource) (outer : List OuterColumn) → FromIsSupplied s outer
+    → SourceIsSupplied s outer [] 0 0
+from_supplied s outer supplied = record {
+  before = [];
+  around = supplied.around;
+  kinds = supplied.kinds;
+  width = refl;
+  typed = supplied.typed;
+  there = supplied.there;
+  stands = λ place below e. absurd (let n : place < 0 = below in omega (arith, n));
+}
+
+pub from_width : (s : BoundSource) {w : ℕ} → IsSourceWidth s w → IsWidthOf (from_kinds s []) w
+from_width s {w} width = record { is = λ around kinds e. width.is [] around kinds e }
+
+-- ---- tables, derived tables and lateral items
 
 pub table_width : {s : BoundSource} {table : TableName} {w : ℕ} → s ≡ source.Table table
     → w ≡ length (kinds_of table) → IsSourceWidth s w
