@@ -5,6 +5,7 @@ use Rattle.expr_scalar.specs.declared.expr.Expr.{Expr}
 use Rattle.base_schema.specs.declared.table.TableName.{TableName}
 use Rattle.sql_bound_query.specs.declared.query.BoundAggregate.{BoundAggregate, roll-BoundAggregate}
 use Rattle.sql_bound_query.specs.declared.query.BoundAggregate.TheFolds.{ind-BoundBlock}
+use Rattle.sql_bound_query.specs.declared.query.BoundAggregate.TheFolds.{ind-BoundSource}
 use Rattle.sql_bound_query.specs.declared.query.BoundAggregate.TheFolds.{map-BoundAggregate}
 use Rattle.sql_bound_query.specs.declared.query.BoundAggregate.TheFolds.{map-BoundBlock}
 use Rattle.sql_bound_query.specs.declared.query.BoundAggregate.TheFolds.{map-BoundSource, map-Input}
@@ -109,6 +110,16 @@ module _ (A : BoundAggregate → Type 0) (B : BoundBlock → Type 0) (S : BoundS
   input_node s (f.Exists q) = subst I (sym (input.rolls-Exists q.0)) (s.exists q.0 q.1)
   input_node s (f.In e q) = subst I (sym (input.rolls-In e.0 q.0)) (s.among e.0 e.1 q.0 q.1)
   input_node s (f.Scalar q) = subst I (sym (input.rolls-Scalar q.0)) (s.scalar q.0 q.1)
+
+  -- the same of a source
+  pub source_induction : Steps → (x : BoundSource) → S x
+  source_induction s =
+      ind-BoundSource A B S I E
+      (λ x y is. subst (λ z. A (roll-BoundAggregate z)) is (aggregate_node s y))
+      (λ x y is. subst (λ z. B (roll-BoundBlock z)) is (block_node s y))
+      (λ x y is. subst (λ z. S (roll-BoundSource z)) is (source_node s y))
+      (λ x y is. subst (λ z. I (roll-Input z)) is (input_node s y))
+      (λ x y is. subst (λ z. E (roll-BoundExpr z)) is (s.expr y.inputs y.expr))
 
   pub induction : Steps → (q : BoundBlock) → B q
   induction s =

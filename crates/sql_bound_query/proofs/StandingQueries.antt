@@ -25,7 +25,7 @@ use Rattle.sql_bound_query.specs.Meaning.{expr_meaning}
 use Rattle.sql_bound_query.proofs.Opened.{source_Table, source_Derived, source_Lateral, source_Cross}
 use Rattle.sql_bound_query.proofs.Opened.{source_Inner, source_Outer, block_Plain, block_Grouped}
 use Rattle.sql_bound_query.proofs.Opened.{block_Distinct}
-use Rattle.sql_bound_query.proofs.Induction.{parts, induction}
+use Rattle.sql_bound_query.proofs.Induction.{Steps, parts, induction, source_induction}
 
 -- combinations, each at the lesser standing
 pub cross_stands : (xs : List (Ranked Value)) (R : List Value → List (Ranked Value))
@@ -68,8 +68,8 @@ module _ (state : State) where
   groups_stand (k ∷ ks) aggregates xs all =
       stands.group_stands same_value (columns Null (k ∷ ks)) aggregates xs all
 
-  pub query_stands : (q : BoundBlock) → B q
-  query_stands = induction A B S I E (record {
+  steps : Steps A B S I E
+  steps = record {
     count_rows = tt;
     of = λ function scale a u. tt;
     plain = λ from sf condition ec list env.
@@ -120,4 +120,11 @@ module _ (state : State) where
     among = λ e u q b. tt;
     scalar = λ q b. tt;
     expr = λ is x. tt;
-  })
+  }
+
+  pub query_stands : (q : BoundBlock) → B q
+  query_stands = induction A B S I E steps
+
+  -- the rows of every source too
+  pub source_stands : (s : BoundSource) → S s
+  source_stands = source_induction A B S I E steps

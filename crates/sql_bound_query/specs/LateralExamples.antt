@@ -1,9 +1,9 @@
 -- Queries with lateral items worked out by hand over the small tables.
-use Rattle.std.specs.Prelude.{◌≡◌, List, [], ◌∷◌, Some, None, Ok}
+use Rattle.std.specs.Prelude.{◌≡◌, List, [], ◌∷◌, Ok}
 use Rattle.expr_operators.specs.declared.operator.Arithmetic.TheVariants.{Add}
 use Rattle.expr_operators.specs.declared.operator.Comparison.TheVariants.{Equal, Greater}
 use Rattle.expr_scalar.specs.declared.expr.Expr.TheVariants as e
-use Rattle.expr_scalar.specs.declared.kind.Kind.TheVariants as kind
+use Rattle.expr_scalar.specs.declared.kind.Kind.{Kind}
 use Rattle.base_value.specs.declared.value.Value.TheVariants.{Null}
 use Rattle.base_schema.specs.declared.table.TableName.TheVariants.{Region, Customer, Orders}
 use Rattle.sql_bound_query.specs.declared.query.BoundAggregate.TheVariants.{CountRows}
@@ -17,7 +17,7 @@ use Rattle.sql_bound_query.specs.Answer.{answer}
 use Rattle.sql_bound_query.specs.Examples.{whole, number, small, over, over_two, always, at}
 use Rattle.sql_bound_query.specs.Examples.{equal_inputs, statement, orders_counted, keys_of_orders}
 use Rattle.sql_bound_query.specs.Reads.{reads}
-use Rattle.sql_bound_query.specs.Typing.{block_kinds}
+use Rattle.sql_bound_query.specs.Typing.{EnvKinds, block_kinds, from_kinds}
 
 -- select c_custkey, n
 -- from customer, lateral (select count(*) as n from orders where o_custkey = c_custkey) as t
@@ -80,12 +80,11 @@ LateralItems = (answer (statement counted_beside) small
     × (answer (statement counted_within) small
     ≡ Ok ((whole 1 ∷ whole 2 ∷ []) ∷ (whole 2 ∷ whole 0 ∷ []) ∷ []))
 
--- A lateral item may read the row so far, a derived table may not.
+-- A lateral item may read the row so far and the rows around, a derived table none of them.
 abbrev pub LateralKinds : Type 0
-LateralKinds = (block_kinds counted_beside [] ≡ Some (kind.Number 0 ∷ kind.Number 0 ∷ []))
-    × (block_kinds
-    (Plain (Cross (Table Customer) (Derived (orders_counted 1 0))) always (at 0 ∷ at 8 ∷ [])) []
-    ≡ None)
+LateralKinds = (q : BoundBlock) (js : List Kind) (ks : EnvKinds)
+    → (from_kinds (Lateral q) js ks ≡ block_kinds q (js ∷ ks))
+    × (from_kinds (Derived q) js ks ≡ block_kinds q [])
 
 -- A lateral item reads its tables once, however many rows stand to its left.
 abbrev pub LateralReads : Type 0

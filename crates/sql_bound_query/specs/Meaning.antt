@@ -110,7 +110,7 @@ expr_step e = record {
 }
 
 -- an aggregate: of its argument over each row, put before the rows around
-abbrev pub aggregate_step : node.BoundAggregate-F AggregateMeaning RowsMeaning RowsMeaning
+abbrev pub aggregate_step : node.BoundAggregate-F AggregateMeaning RowsMeaning FromMeaning
     InputMeaning ExprMeaning → AggregateMeaning
 aggregate_step node.CountRows env = (λ r. Null, count_rows (reading 0))
 aggregate_step (node.Of function scale argument) env =
