@@ -22,11 +22,11 @@ use Rattle.plan_dependent_tree.proofs.Within.{either}
 -- ---- a lateral item's query
 
 -- a column one row further out
-abbrev up : OuterColumn → OuterColumn
+abbrev pub up : OuterColumn → OuterColumn
 up c = record { level = suc c.level; place = c.place }
 
 -- a column of the nearest row
-abbrev near : ℕ → OuterColumn
+abbrev pub near : ℕ → OuterColumn
 near i = record { level = 0; place = i }
 
 suc_same : (a b : ℕ) → (a == b) ≡ true → (suc a == suc b) ≡ true
