@@ -218,35 +218,54 @@ fn put_groups(
     Ok(Done { detail, columns })
 }
 
-/// The rows of FROM.
+/// An item of FROM, behind the columns of the row so far.
 #[cycle(query_lines)]
 fn put_source(
     alloc: Global,
     page: &mut Page,
     sight: &[Names],
+    before: &[Vec<u8>],
     source: &BoundSource,
 ) -> Result<SourceText, AllocError> {
     match source {
         BoundSource::Table(table) => table_source(alloc, &mut page.numbering, *table),
-        BoundSource::Derived(q) => put_derived(alloc, page, q),
+        BoundSource::Derived(q) => put_derived(alloc, page, &[], b"(", q),
+        BoundSource::Lateral(q) => {
+            let seen = with_row(alloc, sight, before)?;
+            put_derived(alloc, page, seen.as_slice(), b"lateral (", q)
+        }
         BoundSource::Cross(l, r) => {
-            let left = put_source(alloc, page, sight, l.get())?;
-            let right = put_source(alloc, page, sight, r.get())?;
+            let left = put_source(alloc, page, sight, before, l.get())?;
+            let right = put_right(alloc, page, sight, before, &left, r.get())?;
             joined_sources(left, right, b", ", b"")
         }
         BoundSource::Inner(l, r, c) => {
-            let left = put_source(alloc, page, sight, l.get())?;
-            let right = put_source(alloc, page, sight, r.get())?;
+            let left = put_source(alloc, page, sight, before, l.get())?;
+            let right = put_right(alloc, page, sight, before, &left, r.get())?;
             let condition = put_on(alloc, page, sight, &left, &right, c)?;
             joined_sources(left, right, b" join ", condition.as_slice())
         }
         BoundSource::Outer(l, r, _, c) => {
-            let left = put_source(alloc, page, sight, l.get())?;
-            let right = put_source(alloc, page, sight, r.get())?;
+            let left = put_source(alloc, page, sight, before, l.get())?;
+            let right = put_right(alloc, page, sight, before, &left, r.get())?;
             let condition = put_on(alloc, page, sight, &left, &right, c)?;
             joined_sources(left, right, b" left join ", condition.as_slice())
         }
     }
+}
+
+/// An item of FROM to the right of another one, whose columns stand in the row so far too.
+#[cycle(query_lines)]
+fn put_right(
+    alloc: Global,
+    page: &mut Page,
+    sight: &[Names],
+    before: &[Vec<u8>],
+    left: &SourceText,
+    source: &BoundSource,
+) -> Result<SourceText, AllocError> {
+    let row = both(alloc, before, left.columns.as_slice())?;
+    put_source(alloc, page, sight, row.as_slice(), source)
 }
 
 /// The condition of a join, after the word ON.
@@ -266,16 +285,18 @@ fn put_on(
     Ok(text)
 }
 
-/// A derived table, written by its number.
+/// A derived table or a lateral item, written by its number after this word and parenthesis.
 #[cycle(query_lines)]
 fn put_derived(
     alloc: Global,
     page: &mut Page,
+    sight: &[Names],
+    word: &[u8],
     q: &Boxed<BoundBlock>,
 ) -> Result<SourceText, AllocError> {
     let depth = page.depth;
     page.depth = depth.saturating_add(1);
-    let shown = put_block(alloc, page, &[], q.get())?;
+    let shown = put_block(alloc, page, sight, q.get())?;
     page.depth = depth;
     let ShownQuery {
         number,
@@ -284,7 +305,7 @@ fn put_derived(
     } = shown;
     let mut lines = lines;
     page.lines.append(&mut lines)?;
-    let mut text = Vec::from_slice(alloc, b"(")?;
+    let mut text = Vec::from_slice(alloc, word)?;
     text.append(&mut query_name(alloc, number)?)?;
     text.push(b')')?;
     Ok(SourceText { text, columns })
@@ -333,7 +354,7 @@ fn put_clauses(
     match q {
         BoundBlock::Plain(from, condition, list) => {
             let number = page.numbering.number();
-            let SourceText { text, columns } = put_source(alloc, page, sight, from.get())?;
+            let SourceText { text, columns } = put_source(alloc, page, sight, &[], from.get())?;
             let seen = with_row(alloc, sight, columns.as_slice())?;
             let kept = put_expr(alloc, page, seen.as_slice(), condition)?;
             let list = list.as_slice();
@@ -347,7 +368,7 @@ fn put_clauses(
         }
         BoundBlock::Grouped(from, condition, by, aggregates, having, list) => {
             let number = page.numbering.number();
-            let SourceText { text, columns } = put_source(alloc, page, sight, from.get())?;
+            let SourceText { text, columns } = put_source(alloc, page, sight, &[], from.get())?;
             let seen = with_row(alloc, sight, columns.as_slice())?;
             let kept = put_expr(alloc, page, seen.as_slice(), condition)?;
             let by = names_at(alloc, columns.as_slice(), by.as_slice())?;

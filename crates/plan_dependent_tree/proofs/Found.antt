@@ -28,7 +28,8 @@ use Rattle.plan_dependent_tree.specs.Seeks.{seeks_of_aggregate}
 use Rattle.plan_dependent_tree.specs.Supplied.{Finds}
 use Rattle.plan_dependent_tree.proofs.SeeksOpened.{seeks_Column, seeks_Exists, seeks_In, seeks_Scalar}
 use Rattle.plan_dependent_tree.proofs.SeeksOpened.{seeks_CountRows, seeks_Of, seeks_Table, seeks_Derived}
-use Rattle.plan_dependent_tree.proofs.SeeksOpened.{seeks_Cross, seeks_Inner, seeks_Outer, seeks_Plain}
+use Rattle.plan_dependent_tree.proofs.SeeksOpened.{seeks_Lateral, seeks_Cross, seeks_Inner}
+use Rattle.plan_dependent_tree.proofs.SeeksOpened.{seeks_Outer, seeks_Plain}
 use Rattle.plan_dependent_tree.proofs.SeeksOpened.{seeks_Grouped, seeks_Distinct, seeks_expr}
 
 -- ---- one part after the other
@@ -178,6 +179,16 @@ derived_found {s} q {within} {old} is =
     (subst (λ (z : Seeks). Finds z within old old) (sym (seeks_Derived q))
     (finds_none (λ level place. false) within old (λ level place. refl)))
 
+pub lateral_found : {s : BoundSource} {q seen : BoundBlock} {within deeper : ℕ}
+    {old new : List OuterColumn} → s ≡ source.Lateral q → seen ≡ q → deeper ≡ within + 1
+    → Finds (seeks_of seen) deeper old new → Finds (seeks_of_source s) within old new
+lateral_found {s} {q} {seen} {within} {deeper} {old} {new} is get same f =
+    finds_as seeks_of_source within old new s (source.Lateral q) is
+    (subst (λ (z : Seeks). Finds z within old new) (sym (seeks_Lateral q))
+    (finds_deeper (seeks_of q) within old new
+    (subst (λ k. Finds (seeks_of q) k old new) same
+    (subst (λ z. Finds (seeks_of z) deeper old new) get f))))
+
 -- both sides
 sides_found : {a b read other : BoundSource} {within : ℕ} {old mid new : List OuterColumn}
     → read ≡ a → Finds (seeks_of_source read) within old mid → other ≡ b
@@ -306,8 +317,12 @@ all_found {seeks} {old} {new} none f level place =
     f.grows level place ∙ ap (λ z. has z level place || seeks (0 + level) place) none
     ∙ ap (λ z. seeks z place) (let n : 0 + level ≡ level = omega arith in n)
 
--- where nothing is found, nothing is read
-pub nothing_found : (seeks : Seeks) {old new : List OuterColumn} → old ≡ [] → new ≡ []
-    → Finds seeks 0 old new → (level place : ℕ) → seeks level place ≡ false
-nothing_found seeks {old} {new} none empty f level place =
-    sym (all_found none f level place) ∙ ap (λ z. has z level place) empty
+-- what is found in an empty list by a source, and then by an ON condition above it
+pub join_found_all : (s : BoundSource) (on : BoundExpr) {old mid new : List OuterColumn} → old ≡ []
+    → Finds (seeks_of_source s) 0 old mid → Finds (seeks_of_expr on) 1 mid new
+    → (level place : ℕ) → has new level place
+    ≡ (seeks_of_source s level place || seeks_of_expr on (suc level) place)
+join_found_all s on {old} {mid} {new} none f g =
+    all_found none
+    (finds_then (seeks_of_source s) (λ level place. seeks_of_expr on (suc level) place) 0 old mid
+    new f (finds_deeper (seeks_of_expr on) 0 mid new g))

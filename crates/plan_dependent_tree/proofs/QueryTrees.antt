@@ -40,36 +40,38 @@ use Rattle.plan_algebra.proofs.Opened.{rows_Select, rows_Project, rows_Group, ro
 use Rattle.plan_algebra.proofs.Opened.{scans_Select, scans_Project, scans_Group, scans_Distinct}
 use Rattle.plan_algebra.proofs.Opened.{width_Select, width_Project, width_Group, width_Distinct}
 use Rattle.plan_dependent_tree.specs.declared.sight.OuterColumn.{OuterColumn}
-use Rattle.plan_dependent_tree.specs.Growth.{IsDomain, Sees, Attaches, Reading, RowsOf, AreRows, IsTree}
+use Rattle.plan_dependent_tree.specs.Growth.{IsDomain, Sees, Attaches, Reading, RowsOf, AreRows}
+use Rattle.plan_dependent_tree.specs.Growth.{DomainRows, IsTreeIn}
 use Rattle.plan_dependent_tree.specs.Growth.{AreKeys, ExprAt, ListAt, AggregatesAt, SameFunctions}
-use Rattle.plan_dependent_tree.specs.Growth.{widened}
+use Rattle.plan_dependent_tree.specs.Growth.{IsTrimmed, widened}
 use Rattle.plan_dependent_tree.proofs.Places.{sees_row, sees_grown}
 use Rattle.plan_dependent_tree.proofs.Widenings.{Summing, select_widened, widened_twice, widened_none}
 use Rattle.plan_dependent_tree.proofs.Widenings.{project_widened, total_widened, group_widened}
 use Rattle.plan_dependent_tree.proofs.Widenings.{aggregates_alike}
 
 -- the rows K, which an expression sees, with columns after them, of which P is so
-pub record Stage (occurs : List TableName) (K : RowsOf) (outer : List OuterColumn) (start w : ℕ)
+pub record Stage (D : DomainRows) (occurs : List TableName) (K : RowsOf) (start w : ℕ)
     (P : Reading) (tree : DepTree) (end : ℕ) : Type 0 where
   pub are_rows : AreRows K w
   pub scans : scans_of tree ≡ occurs
   pub width : width_of tree + start ≡ end
   pub adds : State → List Value → List Value → List Value
   pub count : (state : State) (d r : List Value) → (start + w) + length (adds state d r) ≡ end
-  pub rows : (state : State) → StateIsOf state → (env : Env) (d : List Value)
-      → IsDomain outer start env d
+  pub rows : (state : State) → StateIsOf state → (env : Env) (d : List Value) → D env d
       → tree_rows tree (table_rows state) d ≡ map (widened (adds state d)) (K state env)
   pub reads : (state : State) → StateIsOf state → (env : Env) (d : List Value)
-      → IsDomain outer start env d → (r : List Value) → length r ≡ w
+      → D env d → (r : List Value) → length r ≡ w
       → P state env r (d ++ (r ++ adds state d r))
 
 abbrev pub Anything : Reading
 Anything state env r flat = Unit {0}
 
-module _ (scans : List TableName) (K : RowsOf) (outer : List OuterColumn) (start w : ℕ) where
+module _ (D : DomainRows) (outer : List OuterColumn) (start : ℕ)
+    (begins : (env : Env) (d : List Value) → D env d → IsDomain outer start env d)
+    (scans : List TableName) (K : RowsOf) (w : ℕ) where
   -- the rows as they are
-  pub stage_begin : (tree : DepTree) (end : ℕ) → IsTree scans K outer start tree w → end ≡ start + w
-      → Stage scans K outer start w Anything tree end
+  pub stage_begin : (tree : DepTree) (end : ℕ) → IsTreeIn D scans K tree w → end ≡ start + w
+      → Stage D scans K start w Anything tree end
   stage_begin tree end is e = record {
     are_rows = is.are_rows;
     scans = is.scans;
@@ -85,9 +87,9 @@ module _ (scans : List TableName) (K : RowsOf) (outer : List OuterColumn) (start
 
   -- more columns after them
   pub stage_more : (more : List TableName) (P Q : Reading) (tree : DepTree) (end : ℕ)
-      (new : DepTree) (last : ℕ) → Stage scans K outer start w P tree end
+      (new : DepTree) (last : ℕ) → Stage D scans K start w P tree end
       → Attaches outer start w more Q tree end new last
-      → Stage (scans ++ more) K outer start w Q new last
+      → Stage D (scans ++ more) K start w Q new last
   stage_more more P Q tree end new last s a =
       let f : State → List Value → List Value → List Value = s.adds in
       let g : State → List Value → List Value → List Value =
@@ -109,13 +111,13 @@ module _ (scans : List TableName) (K : RowsOf) (outer : List OuterColumn) (start
             let u : List Value = f state d r in
             let v : List Value = g state d r in
             let c : (start + w) + length u ≡ end = s.count state d r in
-            let k : length d ≡ start = i.size in
+            let k : length d ≡ start = (begins env d i).size in
             let m : length (d ++ (r ++ u)) ≡ end =
             length-append d (r ++ u) ∙ ap (λ z. length d + z) (length-append r u)
             ∙ omega (arith, c, k, n) in
             subst (Q state env r) (append-nil (d ++ ((r ++ u) ++ v))
             ∙ ap (λ z. d ++ z) (append_assoc r u v))
-            (a.reads state ok env d (r ++ u) r (sees_grown outer start w env d r u i n) m []);
+            (a.reads state ok env d (r ++ u) r (sees_grown outer start w env d r u (begins env d i) n) m []);
       }
 
   -- ---- WHERE and HAVING
@@ -127,9 +129,9 @@ module _ (scans : List TableName) (K : RowsOf) (outer : List OuterColumn) (start
   says_so e x state env d r f p = ap truth_rank p.1
 
   pub stage_select : (e : BoundExpr) (x : Expr) (tree : DepTree) (end : ℕ)
-      → Stage scans K outer start w (ExprAt e x) tree end
-      → Stage scans (λ state env. select (holds_for (expr_meaning state e) env) (K state env)) outer
-      start w Anything (t.Select tree x) end
+      → Stage D scans K start w (ExprAt e x) tree end
+      → Stage D scans (λ state env. select (holds_for (expr_meaning state e) env) (K state env)) start
+      w Anything (t.Select tree x) end
   stage_select e x tree end s = record {
     are_rows = record {
       stand = λ state env. stands.select_stands (holds_for (expr_meaning state e) env) (K state env)
@@ -169,10 +171,9 @@ module _ (scans : List TableName) (K : RowsOf) (outer : List OuterColumn) (start
       ∙ length-map es (expr_meaning state)
 
   pub stage_project : (es : List BoundExpr) (xs : List Expr) (tree : DepTree) (end n : ℕ)
-      → Stage scans K outer start w (ListAt es xs) tree end → n ≡ length xs → length xs ≡ length es
-      → IsTree scans (λ state env.
-      project (query.listed (map (expr_meaning state) es) env) (K state env)) outer start
-      (t.Project tree xs) n
+      → Stage D scans K start w (ListAt es xs) tree end → n ≡ length xs → length xs ≡ length es
+      → IsTreeIn D scans (λ state env.
+      project (query.listed (map (expr_meaning state) es) env) (K state env)) (t.Project tree xs) n
   stage_project es xs tree end n s is same = record {
     are_rows = record {
       stand = λ state env. stands.project_stands (query.listed (map (expr_meaning state) es) env)
@@ -283,10 +284,10 @@ module _ (scans : List TableName) (K : RowsOf) (outer : List OuterColumn) (start
 
   pub stage_group : (keys places : List ℕ) (as' : List BoundAggregate) (xs : List Aggregate)
       (tree : DepTree) (end n : ℕ)
-      → Stage scans K outer start w (AggregatesAt as' xs) tree end
+      → Stage D scans K start w (AggregatesAt as' xs) tree end
       → AreKeys outer start w keys places → SameFunctions as' xs → n ≡ length places + length xs
       → length xs ≡ length as'
-      → IsTree scans (λ state env. groups keys (sums as' state env) (K state env)) outer start
+      → IsTreeIn D scans (λ state env. groups keys (sums as' state env) (K state env))
       (t.Group tree places xs) n
   stage_group keys places as' xs tree end n s k same is count = record {
     are_rows = record {
@@ -311,14 +312,13 @@ module _ (scans : List TableName) (K : RowsOf) (outer : List OuterColumn) (start
         (λ (y : Ranked Value). keys_under places d (y.values ++ f y.values)
         ≡ columns Null keys y.values) (K state env)
         (λ y m. keys_so keys places env d y.values (f y.values) k
-        (sees_grown outer start w env d y.values (f y.values) i m)) (s.are_rows.wide state ok env));
+        (sees_grown outer start w env d y.values (f y.values) (begins env d i) m)) (s.are_rows.wide state ok env));
   }
 
   -- ---- DISTINCT
 
-  pub distinct_tree : (tree : DepTree) → IsTree scans K outer start tree w
-      → IsTree scans (λ state env. distinct same_value (K state env)) outer start (t.Distinct tree)
-      w
+  pub distinct_tree : (tree : DepTree) → IsTreeIn D scans K tree w
+      → IsTreeIn D scans (λ state env. distinct same_value (K state env)) (t.Distinct tree) w
   distinct_tree tree is = record {
     are_rows = record {
       stand = λ state env. stands.distinct_stands same_value value_identity (K state env)
@@ -330,4 +330,18 @@ module _ (scans : List TableName) (K : RowsOf) (outer : List OuterColumn) (start
     width = width_Distinct tree ∙ is.width;
     rows = λ state ok env d i. rows_Distinct tree (table_rows state) d
         ∙ ap (distinct same_value) (is.rows state ok env d i);
+  }
+
+  -- ---- without what stands after the rows
+
+  pub stage_trimmed : (P : Reading) (tree : DepTree) (end : ℕ) (new : DepTree)
+      → Stage D scans K start w P tree end → IsTrimmed tree start w end new
+      → IsTreeIn D scans K new w
+  stage_trimmed P tree end new s trim = record {
+    are_rows = s.are_rows;
+    scans = trim.scans ∙ s.scans;
+    width = trim.width s.width;
+    rows = λ state ok env d i.
+        trim.rows state d (s.adds state d) (K state env) (begins env d i).size
+        (s.are_rows.wide state ok env) (s.count state d) (s.rows state ok env d i);
   }

@@ -6,37 +6,28 @@ use Rattle.expr_scalar.specs.declared.expr.Expr.{Expr}
 use Rattle.expr_scalar.specs.declared.expr.Expr.TheVariants.{Column, All, Compare}
 use Rattle.expr_scalar.specs.Rename.{IsRenamed}
 use Rattle.expr_operators.specs.declared.operator.Comparison.TheVariants.{Equal}
-use Rattle.expr_conditions.specs.Ranks.{columns_from}
 use Rattle.base_schema.specs.declared.table.TableName.{TableName}
-use Rattle.base_schema.specs.State.{State}
-use Rattle.base_schema.specs.Tables.{kinds_of}
 use Rattle.sql_bound_query.specs.declared.query.BoundAggregate.{BoundAggregate}
 use Rattle.sql_bound_query.specs.declared.query.BoundBlock.{BoundBlock}
 use Rattle.sql_bound_query.specs.declared.query.BoundBlock.TheVariants as block
 use Rattle.sql_bound_query.specs.declared.query.BoundExpr.{BoundExpr}
 use Rattle.sql_bound_query.specs.declared.query.BoundSource.{BoundSource}
-use Rattle.sql_bound_query.specs.declared.query.BoundSource.TheVariants as source
 use Rattle.sql_bound_query.specs.declared.query.Input.{Input}
 use Rattle.sql_bound_query.specs.declared.query.Input.TheVariants as input
-use Rattle.sql_bound_query.specs.Meaning.{Env}
 use Rattle.sql_bound_query.specs.Reads.{tables, tables_of_source, tables_of_input, tables_of_expr}
 use Rattle.sql_bound_query.specs.Reads.{tables_of_aggregate, joined_tables}
 use Rattle.plan_algebra.specs.declared.aggregate.Aggregate.{Aggregate}
 use Rattle.plan_algebra.specs.declared.tree.DepTree.{DepTree}
 use Rattle.plan_algebra.specs.declared.tree.DepTree.TheVariants as t
 use Rattle.plan_algebra.specs.declared.tree.Side.{Side}
-use Rattle.plan_algebra.specs.declared.tree.Side.TheVariants.{Closed, Shared, Dependent}
 use Rattle.plan_dependent_tree.specs.declared.sight.OuterColumn.{OuterColumn}
-use Rattle.plan_dependent_tree.specs.Growth.{RowsOf, Reading, IsTree, IsRightTree, IsSubquery, IsTrimmed}
-use Rattle.plan_dependent_tree.specs.Growth.{Attaches, AreAt, AreKeys, IsAt, IsPlain, DependsOn, InputAt}
+use Rattle.plan_dependent_tree.specs.Growth.{RowsOf, Reading, IsTree, IsSubquery, Attaches, AreAt}
+use Rattle.plan_dependent_tree.specs.Growth.{AreKeys, IsAt, DependsOn, InputAt}
 use Rattle.plan_dependent_tree.specs.Growth.{InputsAt, ExprAt, ListAt, AggregatesAt, SameFunctions}
-use Rattle.plan_dependent_tree.specs.Growth.{source_of, block_of}
+use Rattle.plan_dependent_tree.specs.Growth.{from_of, block_of}
 use Rattle.plan_dependent_tree.proofs.InputTrees.{column_arm, exists_arm, scalar_arm, in_arm, expr_arm}
-use Rattle.plan_dependent_tree.proofs.FromTrees.{table_arm, derived_arm, cross_arm, inner_arm}
-use Rattle.plan_dependent_tree.proofs.OuterTrees.{plain_outer_arm, lateral_outer_arm}
 use Rattle.plan_dependent_tree.proofs.BlockTrees.{plain_arm}
 use Rattle.plan_dependent_tree.proofs.BlockTrees.{grouped_arm, distinct_arm}
-use Rattle.plan_dependent_tree.proofs.FromTrees.{right_shared, right_closed}
 use Rattle.plan_dependent_tree.proofs.FromTrees.{subquery_dependent, subquery_closed}
 
 -- a tree by another name
@@ -47,18 +38,12 @@ named {occurs} {K} {outer} {start} {w} {n} {tree} {new} e f is =
     subst (λ x. IsTree occurs K outer start x n) (sym e)
     (subst (λ k. IsTree occurs K outer start tree k) (sym f) is)
 
--- the source that was read
+-- the FROM that was read
 read_source : {x y : BoundSource} {outer : List OuterColumn} {start w : ℕ} {tree : DepTree} → x ≡ y
-    → IsTree (tables_of_source x) (source_of x) outer start tree w
-    → IsTree (tables_of_source y) (source_of y) outer start tree w
+    → IsTree (tables_of_source x) (from_of x) outer start tree w
+    → IsTree (tables_of_source y) (from_of y) outer start tree w
 read_source {x} {y} {outer} {start} {w} {tree} e is =
-    subst (λ z. IsTree (tables_of_source z) (source_of z) outer start tree w) e is
-
-of_source : {x y : BoundSource} {outer : List OuterColumn} {start w n : ℕ} {tree new : DepTree}
-    → x ≡ y → new ≡ tree → n ≡ w → IsTree (tables_of_source y) (source_of y) outer start tree w
-    → IsTree (tables_of_source x) (source_of x) outer start new n
-of_source {x} {y} {outer} {start} {w} {n} {tree} {new} e f g is =
-    subst (λ z. IsTree (tables_of_source z) (source_of z) outer start new n) (sym e) (named f g is)
+    subst (λ z. IsTree (tables_of_source z) (from_of z) outer start tree w) e is
 
 of_block : {x y : BoundBlock} {outer : List OuterColumn} {start w n : ℕ} {tree new : DepTree}
     → x ≡ y → new ≡ tree → n ≡ w → IsTree (tables y) (block_of y) outer start tree w
@@ -67,7 +52,7 @@ of_block {x} {y} {outer} {start} {w} {n} {tree} {new} e f g is =
     subst (λ z. IsTree (tables z) (block_of z) outer start new n) (sym e) (named f g is)
 
 -- what was attached to a tree by another name
-attached_to : {outer : List OuterColumn} {start w end from last : ℕ} {more : List TableName}
+pub attached_to : {outer : List OuterColumn} {start w end from last : ℕ} {more : List TableName}
     {P : Reading} {old tree new : DepTree} → old ≡ tree → end ≡ from
     → Attaches outer start w more P old end new last
     → Attaches outer start w more P tree from new last
@@ -76,7 +61,7 @@ attached_to {outer} {start} {w} {end} {from} {last} {more} {P} {old} {tree} {new
     (subst (λ k. Attaches outer start w more P old k new last) f a)
 
 -- what was attached, as another tree
-attached_as : {outer : List OuterColumn} {start w end now last : ℕ} {more : List TableName}
+pub attached_as : {outer : List OuterColumn} {start w end now last : ℕ} {more : List TableName}
     {P : Reading} {old new tree : DepTree} → tree ≡ new → now ≡ last
     → Attaches outer start w more P old end new last
     → Attaches outer start w more P old end tree now
@@ -164,105 +149,6 @@ module _ (outer : List OuterColumn) (start w : ℕ) (old : DepTree) (end : ℕ) 
       (subst (λ l. Attaches outer start w (joined_tables (map tables_of_input l))
       (InputsAt l places) old end mid between) f a) (subst (λ y. IsRenamed places y x) g is.2))
 
--- ---- sources
-
-module _ (outer : List OuterColumn) (start : ℕ) where
-  pub table_seen : {s : BoundSource} {table : TableName} {tree : DepTree} {w : ℕ}
-      → s ≡ source.Table table → (tree ≡ t.Scan table) × (w ≡ length (kinds_of table))
-      → IsTree (tables_of_source s) (source_of s) outer start tree w
-  table_seen {s} {table} {tree} {w} e is =
-      of_source e is.0 refl (table_arm table outer start w is.1)
-
-  pub derived_seen : {s : BoundSource} {q seen : BoundBlock} {tree : DepTree} {w : ℕ}
-      → s ≡ source.Derived q → seen ≡ q → IsTree (tables seen) (block_of seen) [] start tree w
-      → IsTree (tables_of_source s) (source_of s) outer start tree w
-  derived_seen {s} {q} {seen} {tree} {w} e f is =
-      of_source e refl refl (derived_arm q outer start w tree
-      (subst (λ z. IsTree (tables z) (block_of z) [] start tree w) f is))
-
-  pub shared_seen : {x y : BoundSource} {tree : DepTree} {w : ℕ} → x ≡ y
-      → IsTree (tables_of_source x) (source_of x) outer start tree w
-      → IsRightTree (tables_of_source y) (source_of y) outer start tree Shared w
-  shared_seen {x} {y} {tree} {w} e is =
-      right_shared (tables_of_source y) (source_of y) outer start w tree (read_source e is)
-
-  pub closed_seen : {x y : BoundSource} {tree : DepTree} {w : ℕ} → x ≡ y
-      → IsTree (tables_of_source x) (source_of x) [] 0 tree w
-      → IsRightTree (tables_of_source y) (source_of y) outer start tree Closed w
-  closed_seen {x} {y} {tree} {w} e is =
-      right_closed (tables_of_source y) (source_of y) outer start w tree (read_source e is)
-
-  pub cross_seen : (y : BoundSource) {s x read_x : BoundSource} {left right tree : DepTree}
-      {side : Side} {a b n : ℕ} → s ≡ source.Cross x y → read_x ≡ x
-      → IsTree (tables_of_source read_x) (source_of read_x) outer start left a
-      → IsRightTree (tables_of_source y) (source_of y) outer start right side b
-      → (tree ≡ t.Join left right side (All [])) × (n ≡ a + b)
-      → IsTree (tables_of_source s) (source_of s) outer start tree n
-  cross_seen y {s} {x} {read_x} {left} {right} {tree} {side} {a} {b} {n} e f l r is =
-      of_source e is.0 refl (cross_arm outer start x y left right side a b n (read_source f l) r
-      is.1)
-
-  pub inner_seen : (y : BoundSource) (on : BoundExpr) (c : Expr) {s x read_x : BoundSource}
-      {left right joined begun grown selected tree : DepTree} {side : Side}
-      {a b n begin last after m : ℕ}
-      → s ≡ source.Inner x y on → read_x ≡ x
-      → IsTree (tables_of_source read_x) (source_of read_x) outer start left a
-      → IsRightTree (tables_of_source y) (source_of y) outer start right side b
-      → (joined ≡ t.Join left right side (All [])) × (n ≡ a + b)
-      → (begun ≡ joined) × (begin ≡ start + n)
-      → Attaches outer start n (tables_of_expr on) (ExprAt on c) begun begin grown last
-      → (selected ≡ t.Select grown c) × (after ≡ last)
-      → IsTrimmed selected start n after tree × (m ≡ n)
-      → IsTree (tables_of_source s) (source_of s) outer start tree m
-  inner_seen y on c {s} {x} {read_x} {left} {right} {joined} {begun} {grown} {selected} {tree}
-      {side} {a} {b} {n} {begin} {last} {after} {m} e f l r j g at sel trim =
-      of_source e refl trim.1
-      (inner_arm outer start x y on a b n begin left right side grown last c tree (read_source f l)
-      r j.1 g.1 (attached_to (g.0 ∙ j.0) refl at)
-      (subst (λ z. IsTrimmed z start n last tree) sel.0
-      (subst (λ k. IsTrimmed selected start n k tree) sel.1 trim.0)))
-
-  pub plain_outer_seen : (y : BoundSource) (on : BoundExpr) (c : Expr) {s x read_x : BoundSource}
-      {left right tree : DepTree} {side : Side} {a b n m nulls : ℕ} → s ≡ source.Outer x y nulls on
-      → read_x ≡ x
-      → IsTree (tables_of_source read_x) (source_of read_x) outer start left a
-      → IsRightTree (tables_of_source y) (source_of y) outer start right side b → n ≡ a + b
-      → IsPlain outer start n on (Some c)
-      → (tree ≡ t.Outer left right side c) × (m ≡ a + nulls) × (b ≡ nulls)
-      → IsTree (tables_of_source s) (source_of s) outer start tree m
-  plain_outer_seen y on c {s} {x} {read_x} {left} {right} {tree} {side} {a} {b} {n} {m} {nulls} e f
-      l r w p is =
-      of_source (e ∙ ap (λ k. source.Outer x y k on) (sym is.2)) is.0
-      (is.1 ∙ ap (λ k. a + k) (sym is.2) ∙ sym w)
-      (plain_outer_arm outer start x y on a b n left right side c (read_source f l) r w p.0 p.1)
-
-  pub lateral_outer_seen : (on : BoundExpr) (c : Expr) {s x y read_x read_y : BoundSource}
-      {left right begun grown selected trimmed tree : DepTree}
-      {a b v n m nulls begin from last after k : ℕ}
-      → s ≡ source.Outer x y nulls on → read_x ≡ x
-      → IsTree (tables_of_source read_x) (source_of read_x) outer start left a → v ≡ a + k
-      → begin ≡ start + a
-      → read_y ≡ y → IsTree (tables_of_source read_y) (source_of read_y) outer begin right b → k ≡ b
-      → (begun ≡ right) × (from ≡ begin + b)
-      → Attaches outer start v (tables_of_expr on) (ExprAt on c) begun from grown last
-      → (selected ≡ t.Select grown c) × (after ≡ last)
-      → IsTrimmed selected begin b after trimmed × (n ≡ b)
-      → (tree ≡ t.Outer left trimmed (Dependent (columns_from 0 begin)) (All [])) × (m ≡ a + nulls)
-      × (n ≡ nulls)
-      → IsTree (tables_of_source s) (source_of s) outer start tree m
-  lateral_outer_seen on c {s} {x} {y} {read_x} {read_y} {left} {right} {begun} {grown} {selected}
-      {trimmed} {tree} {a} {b} {v} {n} {m} {nulls} {begin} {from} {last} {after} {k} e f l w g h r
-      same i at sel trim is =
-      let wide : v ≡ a + b = w ∙ ap (λ z. a + z) same in
-      let width : b ≡ nulls = sym trim.1 ∙ is.2 in
-      of_source (e ∙ ap (λ z. source.Outer x y z on) (sym width)) is.0
-      (is.1 ∙ ap (λ z. a + z) (sym width) ∙ sym wide)
-      (lateral_outer_arm outer start x y on a b v begin from last last left right grown c trimmed
-      (columns_from 0 begin) (read_source f l) g (read_source h r) wide i.1
-      (attached_to i.0 refl at)
-      (subst (λ z. IsTrimmed z begin b last trimmed) sel.0
-      (subst (λ z. IsTrimmed selected begin b z trimmed) sel.1 trim.0)) refl)
-
 -- ---- subqueries
 
 pub subquery_seen : (places : List ℕ) {q seen : BoundBlock}
@@ -296,7 +182,7 @@ module _ (outer : List OuterColumn) (start : ℕ) where
       {from read_from : BoundSource} {list seen : List BoundExpr}
       {rows begun kept selected grown tree : DepTree}
       {w end between after last n : ℕ} → q ≡ block.Plain from condition list → read_from ≡ from
-      → IsTree (tables_of_source read_from) (source_of read_from) outer start rows w
+      → IsTree (tables_of_source read_from) (from_of read_from) outer start rows w
       → (begun ≡ rows) × (end ≡ start + w)
       → Attaches outer start w (tables_of_expr condition) (ExprAt condition c) begun end kept
       between → (selected ≡ t.Select kept c) × (after ≡ between)
@@ -318,7 +204,7 @@ module _ (outer : List OuterColumn) (start : ℕ) where
       {rows begun kept selected counted groups again had chosen grown tree : DepTree}
       {w end between after next v begin later past last n : ℕ}
       → q ≡ block.Grouped from condition keys all having list → read_from ≡ from
-      → IsTree (tables_of_source read_from) (source_of read_from) outer start rows w
+      → IsTree (tables_of_source read_from) (from_of read_from) outer start rows w
       → (begun ≡ rows) × (end ≡ start + w)
       → Attaches outer start w (tables_of_expr condition) (ExprAt condition c) begun end kept
       between → (selected ≡ t.Select kept c) × (after ≡ between)

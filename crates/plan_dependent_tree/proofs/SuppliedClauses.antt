@@ -32,7 +32,7 @@ use Rattle.plan_dependent_tree.specs.declared.sight.OuterColumn.{OuterColumn}
 use Rattle.plan_dependent_tree.specs.Seeks.{Seeks, any_seeks, has, seeks_of, seeks_of_source}
 use Rattle.plan_dependent_tree.specs.Seeks.{seeks_of_input, seeks_of_expr, seeks_of_aggregate}
 use Rattle.plan_dependent_tree.specs.Supplied.{IsSupplied, IsSuppliedOver, QueryIsSupplied}
-use Rattle.plan_dependent_tree.specs.Supplied.{SourceIsSupplied, SubqueryIsSupplied, InputIsSupplied}
+use Rattle.plan_dependent_tree.specs.Supplied.{FromIsSupplied, SubqueryIsSupplied, InputIsSupplied}
 use Rattle.plan_dependent_tree.specs.Supplied.{InputsAreSupplied, ExprIsSupplied, ListIsSupplied}
 use Rattle.plan_dependent_tree.specs.Supplied.{AggregateIsSupplied, AggregatesAreSupplied, IsSeen}
 use Rattle.plan_dependent_tree.specs.Supplied.{AreSeen, IsWidthOf}
@@ -99,8 +99,8 @@ module _ (outer : List OuterColumn) (c : BoundExpr) (es : List BoundExpr) {q : B
       (ap (λ z. seeks_of z level place) is
       ∙ ap (λ (m : Seeks). m level place) (seeks_Plain f c es) ∙ e)
 
-  pub plain_from_supplied : SourceIsSupplied seen outer
-  plain_from_supplied = subst (λ z. SourceIsSupplied z outer) (sym get) (record {
+  pub plain_from_supplied : FromIsSupplied seen outer
+  plain_from_supplied = subst (λ z. FromIsSupplied z outer) (sym get) (record {
     around = supplied.around;
     kinds = plain_parts.own;
     typed = plain_parts.from;
@@ -111,10 +111,10 @@ module _ (outer : List OuterColumn) (c : BoundExpr) (es : List BoundExpr) {q : B
         (or_left (seeks_of_source f level place) (seeks_of_expr c (suc level) place) e));
   })
 
-  module _ {w : ℕ} (width : IsWidthOf (from_kinds seen) w) where
+  module _ {w : ℕ} (width : IsWidthOf (from_kinds seen []) w) where
     plain_wide : w ≡ length plain_parts.own
     plain_wide = width.is supplied.around plain_parts.own
-        (ap (λ z. from_kinds z supplied.around) get ∙ plain_parts.from)
+        (ap (λ z. from_kinds z [] supplied.around) get ∙ plain_parts.from)
 
     pub plain_where_supplied : ExprIsSupplied c outer w
     plain_where_supplied =
@@ -182,8 +182,8 @@ module _ (outer : List OuterColumn) (c : BoundExpr) (keys : List ℕ) (as' : Lis
       (ap (λ z. seeks_of z level place) is
       ∙ ap (λ (m : Seeks). m level place) (seeks_Grouped f c keys as' h es) ∙ e)
 
-  pub grouped_from_supplied : SourceIsSupplied seen outer
-  grouped_from_supplied = subst (λ z. SourceIsSupplied z outer) (sym get) (record {
+  pub grouped_from_supplied : FromIsSupplied seen outer
+  grouped_from_supplied = subst (λ z. FromIsSupplied z outer) (sym get) (record {
     around = supplied.around;
     kinds = grouped_parts.own;
     typed = grouped_parts.from;
@@ -195,10 +195,10 @@ module _ (outer : List OuterColumn) (c : BoundExpr) (keys : List ℕ) (as' : Lis
         (any_seeks (map seeks_of_expr es) (suc level) place) e);
   })
 
-  module _ {w : ℕ} (width : IsWidthOf (from_kinds seen) w) where
+  module _ {w : ℕ} (width : IsWidthOf (from_kinds seen []) w) where
     grouped_wide : w ≡ length grouped_parts.own
     grouped_wide = width.is supplied.around grouped_parts.own
-        (ap (λ z. from_kinds z supplied.around) get ∙ grouped_parts.from)
+        (ap (λ z. from_kinds z [] supplied.around) get ∙ grouped_parts.from)
 
     pub grouped_where_supplied : ExprIsSupplied c outer w
     grouped_where_supplied =

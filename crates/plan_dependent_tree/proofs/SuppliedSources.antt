@@ -1,108 +1,200 @@
--- The sides of a well-typed source are supplied where it is.
-use Rattle.std.proofs.Common.{◌≡◌, ℕ, zero, suc, ◌+◌, ◌-◌, ◌<◌, List, [], ◌∷◌, ◌++◌, Bool, true, false}
-use Rattle.std.proofs.Common.{◌&&◌, ◌||◌, ◌==◌, map, length, refl, sym, ap, ◌∙◌, subst, arith, get_or}
-use Rattle.std.specs.Prelude.{Option, Some, None, slice_get, slice_index_or, IsTrue}
-use Rattle.std.specs.List.{All}
-use Rattle.std.proofs.lemmas.Bool.Decides.{Decides-eqb}
+-- What stands in FROM is supplied where its FROM is.
+use Rattle.std.proofs.Common.{◌≡◌, ℕ, zero, suc, ◌+◌, ◌<◌, List, [], ◌∷◌, ◌++◌, Bool, true, false}
+use Rattle.std.proofs.Common.{◌||◌, length, refl, sym, ap, ◌∙◌, subst, arith}
+use Rattle.std.specs.Prelude.{Option, Some}
 use Rattle.std.proofs.lemmas.List.{length-append, length-map}
-use Rattle.std.proofs.lemmas.List.Folds.{list_any_at}
-use Rattle.std.proofs.lemmas.Option.{slice_get_within}
-use Rattle.expr_aggregates.specs.declared.function.AggregateFunction.{AggregateFunction}
-use Rattle.expr_scalar.specs.declared.expr.Expr.{Expr}
 use Rattle.expr_scalar.specs.declared.kind.Kind.{Kind}
 use Rattle.base_schema.specs.declared.table.TableName.{TableName}
 use Rattle.base_schema.specs.Tables.{kinds_of}
-use Rattle.sql_bound_query.specs.declared.query.BoundAggregate.{BoundAggregate}
-use Rattle.sql_bound_query.specs.declared.query.BoundAggregate.TheVariants as aggregate
 use Rattle.sql_bound_query.specs.declared.query.BoundBlock.{BoundBlock}
-use Rattle.sql_bound_query.specs.declared.query.BoundBlock.TheVariants as block
 use Rattle.sql_bound_query.specs.declared.query.BoundExpr.{BoundExpr}
 use Rattle.sql_bound_query.specs.declared.query.BoundSource.{BoundSource}
 use Rattle.sql_bound_query.specs.declared.query.BoundSource.TheVariants as source
-use Rattle.sql_bound_query.specs.declared.query.Input.{Input}
-use Rattle.sql_bound_query.specs.declared.query.Input.TheVariants as input
-use Rattle.sql_bound_query.specs.Typing.{EnvKinds, KindMeaning, KindsMeaning, ExprTyping, where_some}
-use Rattle.sql_bound_query.specs.Typing.{all_some, kind_of_sort, kind_of_column, column_kinds}
-use Rattle.sql_bound_query.specs.Typing.{listed_kinds, kind_of_aggregate, block_kinds, from_kinds}
-use Rattle.sql_bound_query.specs.Typing.{kind_of_input, typing_of}
-use Rattle.sql_bound_query.proofs.TypingOpened.{kind_Column, kinds_Table, kinds_Derived, kinds_Distinct}
-use Rattle.sql_bound_query.proofs.Keeps.{Found, some_of, some_is}
+use Rattle.sql_bound_query.specs.Typing.{EnvKinds, KindsMeaning, FromKinds, kind_of_column}
+use Rattle.sql_bound_query.specs.Typing.{column_kinds, block_kinds, from_kinds}
+use Rattle.sql_bound_query.proofs.TypingOpened.{kinds_Table, kinds_Derived, kinds_Lateral}
+use Rattle.sql_bound_query.proofs.Keeps.{some_is}
 use Rattle.plan_dependent_tree.specs.declared.sight.OuterColumn.{OuterColumn}
-use Rattle.plan_dependent_tree.specs.Seeks.{Seeks, any_seeks, has, seeks_of, seeks_of_source}
-use Rattle.plan_dependent_tree.specs.Seeks.{seeks_of_input, seeks_of_expr, seeks_of_aggregate}
-use Rattle.plan_dependent_tree.specs.Supplied.{IsSupplied, IsSuppliedOver, QueryIsSupplied}
-use Rattle.plan_dependent_tree.specs.Supplied.{SourceIsSupplied, SubqueryIsSupplied, InputIsSupplied}
-use Rattle.plan_dependent_tree.specs.Supplied.{InputsAreSupplied, ExprIsSupplied, ListIsSupplied}
-use Rattle.plan_dependent_tree.specs.Supplied.{AggregateIsSupplied, AggregatesAreSupplied, IsSeen}
-use Rattle.plan_dependent_tree.specs.Supplied.{AreSeen, IsWidthOf}
-use Rattle.plan_dependent_tree.proofs.SeeksOpened.{seeks_Column, seeks_Exists, seeks_In, seeks_Scalar}
-use Rattle.plan_dependent_tree.proofs.SeeksOpened.{seeks_Of, seeks_Cross, seeks_Inner, seeks_Outer}
-use Rattle.plan_dependent_tree.proofs.SeeksOpened.{seeks_Plain, seeks_Grouped, seeks_Distinct}
-use Rattle.plan_dependent_tree.proofs.SeeksOpened.{seeks_expr}
-use Rattle.plan_dependent_tree.proofs.TypedParts.{There, input_kinds, sort_inputs, exists_typed}
-use Rattle.plan_dependent_tree.proofs.TypedParts.{scalar_typed, InTyped, in_typed, of_typed, CrossTyped}
-use Rattle.plan_dependent_tree.proofs.TypedParts.{cross_typed, JoinTyped, inner_typed, OuterTyped}
-use Rattle.plan_dependent_tree.proofs.TypedParts.{outer_typed, PlainTyped, plain_typed, GroupedTyped}
-use Rattle.plan_dependent_tree.proofs.TypedParts.{grouped_typed}
+use Rattle.plan_dependent_tree.specs.FromGrowth.{lateral_columns}
+use Rattle.plan_dependent_tree.specs.Seeks.{Seeks, has, has_place, seeks_of, seeks_of_source}
+use Rattle.plan_dependent_tree.specs.Seeks.{seeks_so_far}
+use Rattle.plan_dependent_tree.specs.Supplied.{QueryIsSupplied, FromIsSupplied, SourceIsSupplied}
+use Rattle.plan_dependent_tree.specs.Supplied.{IsWidthOf, IsSourceWidth}
+use Rattle.plan_dependent_tree.proofs.SeeksOpened.{seeks_Lateral, seeks_Cross, so_far_Lateral}
+use Rattle.plan_dependent_tree.proofs.SeeksOpened.{so_far_Cross}
+use Rattle.plan_dependent_tree.proofs.TypedParts.{CrossTyped, cross_typed}
 use Rattle.plan_dependent_tree.proofs.Within.{query_within}
-use Rattle.plan_dependent_tree.proofs.Supplies.{or_left, or_right, expr_supplied}
+use Rattle.plan_dependent_tree.proofs.Supplies.{or_left, or_right}
+use Rattle.plan_dependent_tree.proofs.LateralColumns.{has_nearest, has_further}
 
--- ---- tables and derived tables
+-- ---- FROM
 
-pub read_width : {x y : BoundSource} {w : ℕ} → x ≡ y → IsWidthOf (from_kinds x) w
-    → IsWidthOf (from_kinds y) w
-read_width {x} {y} {w} same width = subst (λ z. IsWidthOf (from_kinds z) w) same width
+-- it begins with a row so far of no columns
+pub from_supplied : (s : BoundSource) (outer : List OuterColumn) → FromIsSupplied s outer
+    → SourceIsSupplied s outer [] 0 0
+from_supplied s outer supplied = record {
+  before = [];
+  around = supplied.around;
+  kinds = supplied.kinds;
+  width = refl;
+  typed = supplied.typed;
+  there = supplied.there;
+  stands = λ place below e. absurd (let n : place < 0 = below in omega (arith, n));
+}
+
+pub from_width : (s : BoundSource) {w : ℕ} → IsSourceWidth s w → IsWidthOf (from_kinds s []) w
+from_width s {w} width = record { is = λ around kinds e. width.is [] around kinds e }
+
+-- ---- tables, derived tables and lateral items
 
 pub table_width : {s : BoundSource} {table : TableName} {w : ℕ} → s ≡ source.Table table
-    → w ≡ length (kinds_of table) → IsWidthOf (from_kinds s) w
+    → w ≡ length (kinds_of table) → IsSourceWidth s w
 table_width {s} {table} {w} is wide = record {
-  is = λ around kinds e.
+  is = λ before around kinds e.
       let t : Some (column_kinds table) ≡ Some kinds =
-      sym (ap (λ (m : KindsMeaning). m around) (kinds_Table table))
-      ∙ sym (ap (λ z. from_kinds z around) is) ∙ e in
+      sym (ap (λ (m : FromKinds). m before around) (kinds_Table table))
+      ∙ sym (ap (λ z. from_kinds z before around) is) ∙ e in
       wide ∙ sym (length-map (kinds_of table) kind_of_column)
       ∙ ap length (some_is (column_kinds table) kinds t);
 }
 
--- a derived table reads nothing of any row around
-pub derived_supplied : (outer : List OuterColumn) {s : BoundSource} {q seen : BoundBlock}
-    → SourceIsSupplied s outer → s ≡ source.Derived q → seen ≡ q → QueryIsSupplied seen []
-derived_supplied outer {s} {q} {seen} supplied is get =
-    let t : block_kinds q [] ≡ Some supplied.kinds =
-    sym (ap (λ (m : KindsMeaning). m supplied.around) (kinds_Derived q))
-    ∙ sym (ap (λ z. from_kinds z supplied.around) is) ∙ supplied.typed in
-    subst (λ z. QueryIsSupplied z []) (sym get) (record {
-      around = [];
-      kinds = supplied.kinds;
-      typed = t;
-      there = λ level place h.
-          absurd (let n : place < 0 = query_within q [] supplied.kinds t level place h in
-          omega (arith, n));
-    })
+module _ (outer : List OuterColumn) (so_far : List ℕ) (n : ℕ) {s : BoundSource}
+    {q seen : BoundBlock} (supplied : SourceIsSupplied s outer so_far n n) where
+  -- a derived table reads nothing of any row around
+  pub derived_supplied : s ≡ source.Derived q → seen ≡ q → QueryIsSupplied seen []
+  derived_supplied is get =
+      let t : block_kinds q [] ≡ Some supplied.kinds =
+      sym (ap (λ (m : FromKinds). m supplied.before supplied.around) (kinds_Derived q))
+      ∙ sym (ap (λ z. from_kinds z supplied.before supplied.around) is) ∙ supplied.typed in
+      subst (λ z. QueryIsSupplied z []) (sym get) (record {
+        around = [];
+        kinds = supplied.kinds;
+        typed = t;
+        there = λ level place h.
+            absurd (let n : place < 0 = query_within q [] supplied.kinds t level place h in
+            omega (arith, n));
+      })
+
+  lateral_typed : s ≡ source.Lateral q
+      → block_kinds q (supplied.before ∷ supplied.around) ≡ Some supplied.kinds
+  lateral_typed is =
+      sym (ap (λ (m : FromKinds). m supplied.before supplied.around) (kinds_Lateral q))
+      ∙ sym (ap (λ z. from_kinds z supplied.before supplied.around) is) ∙ supplied.typed
+
+  -- what the query of a lateral item reads, its nearest row being the row so far
+  lateral_there : s ≡ source.Lateral q → (level place : ℕ) → seeks_of q level place ≡ true
+      → has (lateral_columns outer so_far) level place ≡ true
+  lateral_there is zero place e =
+      let within : place < length supplied.before =
+      query_within q (supplied.before ∷ supplied.around) supplied.kinds (lateral_typed is) 0 place e
+      in
+      let wide : n ≡ length supplied.before = supplied.width in
+      has_nearest outer so_far place
+      (supplied.stands place (omega (arith, within, wide))
+      (ap (λ z. seeks_so_far z place) is
+      ∙ ap (λ (m : ℕ → Bool). m place) (so_far_Lateral q) ∙ e))
+  lateral_there is (suc level) place e =
+      has_further outer so_far level place
+      (supplied.there level place
+      (ap (λ z. seeks_of_source z level place) is
+      ∙ ap (λ (m : Seeks). m level place) (seeks_Lateral q) ∙ e))
+
+  pub lateral_supplied : {listed : List OuterColumn} → s ≡ source.Lateral q → seen ≡ q
+      → listed ≡ lateral_columns outer so_far → QueryIsSupplied seen listed
+  lateral_supplied {listed} is get all =
+      subst (λ z. QueryIsSupplied z listed) (sym get)
+      (subst (λ z. QueryIsSupplied q z) (sym all) (record {
+        around = supplied.before ∷ supplied.around;
+        kinds = supplied.kinds;
+        typed = lateral_typed is;
+        there = lateral_there is;
+      }))
 
 pub derived_width : {s : BoundSource} {q seen : BoundBlock} {w : ℕ} → s ≡ source.Derived q
-    → seen ≡ q → IsWidthOf (block_kinds seen) w → IsWidthOf (from_kinds s) w
+    → seen ≡ q → IsWidthOf (block_kinds seen) w → IsSourceWidth s w
 derived_width {s} {q} {seen} {w} is get width = record {
-  is = λ around kinds e.
+  is = λ before around kinds e.
       width.is [] kinds
       (ap (λ z. block_kinds z []) get
-      ∙ sym (ap (λ (m : KindsMeaning). m around) (kinds_Derived q))
-      ∙ sym (ap (λ z. from_kinds z around) is) ∙ e);
+      ∙ sym (ap (λ (m : FromKinds). m before around) (kinds_Derived q))
+      ∙ sym (ap (λ z. from_kinds z before around) is) ∙ e);
 }
 
-both_width : (a b : BoundSource) (around : EnvKinds) (kinds : List Kind) {x : BoundSource}
-    {w v : ℕ} → CrossTyped a b around kinds → x ≡ a → IsWidthOf (from_kinds x) w
-    → IsWidthOf (from_kinds b) v → w + v ≡ length kinds
-both_width a b around kinds {x} {w} {v} t get left right =
-    ap (λ n. n + v) (left.is around t.ls (ap (λ z. from_kinds z around) get ∙ t.left))
-    ∙ ap (λ n. length t.ls + n) (right.is around t.rs t.right)
+pub lateral_width : {s : BoundSource} {q seen : BoundBlock} {w : ℕ} → s ≡ source.Lateral q
+    → seen ≡ q → IsWidthOf (block_kinds seen) w → IsSourceWidth s w
+lateral_width {s} {q} {seen} {w} is get width = record {
+  is = λ before around kinds e.
+      width.is (before ∷ around) kinds
+      (ap (λ z. block_kinds z (before ∷ around)) get
+      ∙ sym (ap (λ (m : FromKinds). m before around) (kinds_Lateral q))
+      ∙ sym (ap (λ z. from_kinds z before around) is) ∙ e);
+}
+
+-- ---- the two sides of a source
+
+pub both_width : (a b : BoundSource) (before : List Kind) (around : EnvKinds) (kinds : List Kind)
+    {x y : BoundSource} {w v : ℕ} → CrossTyped a b before around kinds → x ≡ a → IsSourceWidth x w
+    → y ≡ b → IsSourceWidth y v → w + v ≡ length kinds
+both_width a b before around kinds {x} {y} {w} {v} t get left also right =
+    ap (λ n. n + v) (left.is before around t.ls (ap (λ z. from_kinds z before around) get ∙ t.left))
+    ∙ ap (λ n. length t.ls + n)
+    (right.is (before ++ t.ls) around t.rs
+    (ap (λ z. from_kinds z (before ++ t.ls) around) also ∙ t.right))
     ∙ sym (length-append t.ls t.rs) ∙ ap length t.both
 
-module _ (outer : List OuterColumn) (b : BoundSource) {s a seen : BoundSource}
-    (supplied : SourceIsSupplied s outer) (is : s ≡ source.Cross a b) (get : seen ≡ a) where
-  cross_parts : CrossTyped a b supplied.around supplied.kinds
-  cross_parts = cross_typed a b supplied.around supplied.kinds
-      (sym (ap (λ z. from_kinds z supplied.around) is) ∙ supplied.typed)
+module _ (outer : List OuterColumn) (so_far : List ℕ) (n : ℕ) (a b : BoundSource)
+    {before : List Kind} {around : EnvKinds} {kinds : List Kind} (wide : n ≡ length before)
+    (sides : CrossTyped a b before around kinds)
+    (there : (level place : ℕ)
+    → (seeks_of_source a level place || seeks_of_source b level place) ≡ true
+    → has outer level place ≡ true)
+    (stands : (place : ℕ) → place < n → (seeks_so_far a place || seeks_so_far b place) ≡ true
+    → has_place so_far place ≡ true) where
+  pub left_side : {seen : BoundSource} → seen ≡ a → SourceIsSupplied seen outer so_far n n
+  left_side {seen} get = subst (λ z. SourceIsSupplied z outer so_far n n) (sym get) (record {
+    before = before;
+    around = around;
+    kinds = sides.ls;
+    width = wide;
+    typed = sides.left;
+    there = λ level place e.
+        there level place (or_left (seeks_of_source a level place) (seeks_of_source b level place) e);
+    stands = λ place below e.
+        stands place below (or_left (seeks_so_far a place) (seeks_so_far b place) e);
+  })
+
+  -- the right one stands behind the left one's columns
+  right_own : {seen : BoundSource} {v : ℕ} → seen ≡ a → IsSourceWidth seen v
+      → SourceIsSupplied b outer so_far n (n + v)
+  right_own {seen} {v} get left = record {
+    before = before ++ sides.ls;
+    around = around;
+    kinds = sides.rs;
+    width = ap (λ k. k + v) wide
+        ∙ ap (λ k. length before + k)
+        (left.is before around sides.ls (ap (λ z. from_kinds z before around) get ∙ sides.left))
+        ∙ sym (length-append before sides.ls);
+    typed = sides.right;
+    there = λ level place e.
+        there level place
+        (or_right (seeks_of_source a level place) (seeks_of_source b level place) e);
+    stands = λ place below e.
+        stands place below (or_right (seeks_so_far a place) (seeks_so_far b place) e);
+  }
+
+  pub right_side : {seen other : BoundSource} {v : ℕ} → seen ≡ a → IsSourceWidth seen v → other ≡ b
+      → SourceIsSupplied other outer so_far n (n + v)
+  right_side {seen} {other} {v} get left also =
+      subst (λ z. SourceIsSupplied z outer so_far n (n + v)) (sym also) (right_own get left)
+
+-- ---- FROM a, b
+
+module _ (outer : List OuterColumn) (so_far : List ℕ) (n : ℕ) (a b : BoundSource)
+    {s : BoundSource} (supplied : SourceIsSupplied s outer so_far n n)
+    (is : s ≡ source.Cross a b) where
+  cross_parts : CrossTyped a b supplied.before supplied.around supplied.kinds
+  cross_parts = cross_typed a b supplied.before supplied.around supplied.kinds
+      (sym (ap (λ z. from_kinds z supplied.before supplied.around) is) ∙ supplied.typed)
 
   cross_there : (level place : ℕ)
       → (seeks_of_source a level place || seeks_of_source b level place) ≡ true
@@ -112,176 +204,28 @@ module _ (outer : List OuterColumn) (b : BoundSource) {s a seen : BoundSource}
       (ap (λ z. seeks_of_source z level place) is
       ∙ ap (λ (m : Seeks). m level place) (seeks_Cross a b) ∙ e)
 
-  pub cross_left_supplied : SourceIsSupplied seen outer
-  cross_left_supplied = subst (λ z. SourceIsSupplied z outer) (sym get) (record {
-    around = supplied.around;
-    kinds = cross_parts.ls;
-    typed = cross_parts.left;
-    there = λ level place e.
-        cross_there level place
-        (or_left (seeks_of_source a level place) (seeks_of_source b level place) e);
-  })
+  cross_stands : (place : ℕ) → place < n → (seeks_so_far a place || seeks_so_far b place) ≡ true
+      → has_place so_far place ≡ true
+  cross_stands place below e =
+      supplied.stands place below
+      (ap (λ z. seeks_so_far z place) is
+      ∙ ap (λ (m : ℕ → Bool). m place) (so_far_Cross a b) ∙ e)
 
-  pub cross_right_supplied : SourceIsSupplied b outer
-  cross_right_supplied = record {
-    around = supplied.around;
-    kinds = cross_parts.rs;
-    typed = cross_parts.right;
-    there = λ level place e.
-        cross_there level place
-        (or_right (seeks_of_source a level place) (seeks_of_source b level place) e);
-  }
+  pub cross_left_supplied : {seen : BoundSource} → seen ≡ a → SourceIsSupplied seen outer so_far n n
+  cross_left_supplied get =
+      left_side outer so_far n a b supplied.width cross_parts cross_there cross_stands get
 
-pub cross_width : (b : BoundSource) {s a seen : BoundSource} {w v n : ℕ} → s ≡ source.Cross a b → seen ≡ a
-    → IsWidthOf (from_kinds seen) w → IsWidthOf (from_kinds b) v → n ≡ w + v
-    → IsWidthOf (from_kinds s) n
-cross_width b {s} {a} {seen} {w} {v} {n} is get left right wide = record {
-  is = λ around kinds e.
+  pub cross_right_supplied : {seen other : BoundSource} {v : ℕ} → seen ≡ a → IsSourceWidth seen v
+      → other ≡ b → SourceIsSupplied other outer so_far n (n + v)
+  cross_right_supplied get left also =
+      right_side outer so_far n a b supplied.width cross_parts cross_there cross_stands get left
+      also
+
+pub cross_width : {s a b seen other : BoundSource} {w v n : ℕ} → s ≡ source.Cross a b → seen ≡ a
+    → IsSourceWidth seen w → other ≡ b → IsSourceWidth other v → n ≡ w + v → IsSourceWidth s n
+cross_width {s} {a} {b} {seen} {other} {w} {v} {n} is get left also right wide = record {
+  is = λ before around kinds e.
       wide
-      ∙ both_width a b around kinds (cross_typed a b around kinds
-      (sym (ap (λ z. from_kinds z around) is) ∙ e)) get left right;
-}
-
--- a join of any sort, by what its typing and its reading are
-module _ (outer : List OuterColumn) (a b : BoundSource) (on : BoundExpr) {around : EnvKinds}
-    {kinds : List Kind} (parts : JoinTyped a b on around kinds)
-    (there : (level place : ℕ)
-    → (seeks_of_source a level place || seeks_of_source b level place
-    || seeks_of_expr on (suc level) place) ≡ true → has outer level place ≡ true) where
-  join_left : {seen : BoundSource} → seen ≡ a → SourceIsSupplied seen outer
-  join_left {seen} get = subst (λ z. SourceIsSupplied z outer) (sym get) (record {
-    around = around;
-    kinds = parts.sides.ls;
-    typed = parts.sides.left;
-    there = λ level place e.
-        there level place
-        (or_left (seeks_of_source a level place || seeks_of_source b level place)
-        (seeks_of_expr on (suc level) place)
-        (or_left (seeks_of_source a level place) (seeks_of_source b level place) e));
-  })
-
-  join_right : {seen : BoundSource} → seen ≡ b → SourceIsSupplied seen outer
-  join_right {seen} get = subst (λ z. SourceIsSupplied z outer) (sym get) (record {
-    around = around;
-    kinds = parts.sides.rs;
-    typed = parts.sides.right;
-    there = λ level place e.
-        there level place
-        (or_left (seeks_of_source a level place || seeks_of_source b level place)
-        (seeks_of_expr on (suc level) place)
-        (or_right (seeks_of_source a level place) (seeks_of_source b level place) e));
-  })
-
-  join_on : {seen other : BoundSource} {w v n : ℕ} → seen ≡ a → other ≡ b
-      → IsWidthOf (from_kinds seen) w → IsWidthOf (from_kinds other) v → n ≡ w + v
-      → ExprIsSupplied on outer n
-  join_on {seen} {other} {w} {v} {n} get also left right wide =
-      expr_supplied kinds around outer n
-      (wide ∙ both_width a b around kinds parts.sides get left
-      (subst (λ z. IsWidthOf (from_kinds z) v) also right)) on parts.inputs
-      (λ level place e.
-      there level place
-      (or_right (seeks_of_source a level place || seeks_of_source b level place)
-      (seeks_of_expr on (suc level) place) e))
-
-module _ (outer : List OuterColumn) (a b : BoundSource) (on : BoundExpr) {s : BoundSource}
-    (supplied : SourceIsSupplied s outer) (is : s ≡ source.Inner a b on) where
-  inner_parts : JoinTyped a b on supplied.around supplied.kinds
-  inner_parts = inner_typed a b on supplied.around supplied.kinds
-      (sym (ap (λ z. from_kinds z supplied.around) is) ∙ supplied.typed)
-
-  inner_there : (level place : ℕ)
-      → (seeks_of_source a level place || seeks_of_source b level place
-      || seeks_of_expr on (suc level) place) ≡ true
-      → has outer level place ≡ true
-  inner_there level place e =
-      supplied.there level place
-      (ap (λ z. seeks_of_source z level place) is
-      ∙ ap (λ (m : Seeks). m level place) (seeks_Inner a b on) ∙ e)
-
-  pub inner_left_supplied : {seen : BoundSource} → seen ≡ a → SourceIsSupplied seen outer
-  inner_left_supplied get = join_left outer a b on inner_parts inner_there get
-
-  pub inner_right_supplied : SourceIsSupplied b outer
-  inner_right_supplied = join_right outer a b on inner_parts inner_there refl
-
-  pub inner_on_supplied : {seen : BoundSource} {w v n : ℕ} → seen ≡ a
-      → IsWidthOf (from_kinds seen) w → IsWidthOf (from_kinds b) v → n ≡ w + v
-      → ExprIsSupplied on outer n
-  inner_on_supplied get left right wide =
-      join_on outer a b on inner_parts inner_there get refl left right wide
-
-pub inner_width : (b : BoundSource) (on : BoundExpr) {s a seen : BoundSource} {w v n m : ℕ}
-    → s ≡ source.Inner a b on → seen ≡ a → IsWidthOf (from_kinds seen) w
-    → IsWidthOf (from_kinds b) v → n ≡ w + v → m ≡ n → IsWidthOf (from_kinds s) m
-inner_width b on {s} {a} {seen} {w} {v} {n} {m} is get left right wide same = record {
-  is = λ around kinds e.
-      let t : JoinTyped a b on around kinds =
-      inner_typed a b on around kinds (sym (ap (λ z. from_kinds z around) is) ∙ e) in
-      same ∙ wide ∙ both_width a b around kinds t.sides get left right;
-}
-
-module _ (outer : List OuterColumn) (a b : BoundSource) (nulls : ℕ) (on : BoundExpr)
-    {s : BoundSource}
-    (supplied : SourceIsSupplied s outer) (is : s ≡ source.Outer a b nulls on) where
-  outer_parts : OuterTyped a b nulls on supplied.around supplied.kinds
-  outer_parts = outer_typed a b nulls on supplied.around supplied.kinds
-      (sym (ap (λ z. from_kinds z supplied.around) is) ∙ supplied.typed)
-
-  outer_there : (level place : ℕ)
-      → (seeks_of_source a level place || seeks_of_source b level place
-      || seeks_of_expr on (suc level) place) ≡ true
-      → has outer level place ≡ true
-  outer_there level place e =
-      supplied.there level place
-      (ap (λ z. seeks_of_source z level place) is
-      ∙ ap (λ (m : Seeks). m level place) (seeks_Outer a b nulls on) ∙ e)
-
-  pub outer_left_supplied : {seen : BoundSource} → seen ≡ a → SourceIsSupplied seen outer
-  outer_left_supplied get = join_left outer a b on outer_parts.join outer_there get
-
-  pub outer_right_supplied : {seen : BoundSource} → seen ≡ b → SourceIsSupplied seen outer
-  outer_right_supplied get = join_right outer a b on outer_parts.join outer_there get
-
-  pub outer_on_supplied : {seen other : BoundSource} {w v n : ℕ} → seen ≡ a → other ≡ b
-      → IsWidthOf (from_kinds seen) w → IsWidthOf (from_kinds other) v → n ≡ w + v
-      → ExprIsSupplied on outer n
-  outer_on_supplied get also left right wide =
-      join_on outer a b on outer_parts.join outer_there get also left right wide
-
-  -- the right side has as many columns as nulls stand for
-  pub outer_nulls : {other : BoundSource} {v : ℕ} → other ≡ b → IsWidthOf (from_kinds other) v
-      → v ≡ nulls
-  outer_nulls {other} {v} also right =
-      right.is supplied.around outer_parts.join.sides.rs
-      (ap (λ z. from_kinds z supplied.around) also ∙ outer_parts.join.sides.right)
-      ∙ sym outer_parts.nulls
-
-pub outer_width : (b : BoundSource) (on : BoundExpr) {s a seen : BoundSource} {nulls w m : ℕ}
-    → s ≡ source.Outer a b nulls on → seen ≡ a → IsWidthOf (from_kinds seen) w → m ≡ w + nulls
-    → IsWidthOf (from_kinds s) m
-outer_width b on {s} {a} {seen} {nulls} {w} {m} is get left wide = record {
-  is = λ around kinds e.
-      let t : OuterTyped a b nulls on around kinds =
-      outer_typed a b nulls on around kinds (sym (ap (λ z. from_kinds z around) is) ∙ e) in
-      let ls : List Kind = t.join.sides.ls in
-      wide
-      ∙ ap (λ n. n + nulls)
-      (left.is around ls (ap (λ z. from_kinds z around) get ∙ t.join.sides.left))
-      ∙ ap (λ n. length ls + n) t.nulls ∙ sym (length-append ls t.join.sides.rs)
-      ∙ ap length t.join.sides.both;
-}
-
--- a source that reads nothing of the rows around needs no columns of theirs
-pub nothing_supplied : (outer : List OuterColumn) {s seen read : BoundSource} {reads : Bool}
-    → SourceIsSupplied s outer → seen ≡ s → read ≡ s
-    → (reads ≡ false → (level place : ℕ) → seeks_of_source read level place ≡ false)
-    → reads ≡ false → SourceIsSupplied seen []
-nothing_supplied outer {s} {seen} {read} {reads} supplied get got none is = record {
-  around = supplied.around;
-  kinds = supplied.kinds;
-  typed = ap (λ z. from_kinds z supplied.around) get ∙ supplied.typed;
-  there = λ level place e.
-      absurd (let f = sym e ∙ ap (λ z. seeks_of_source z level place) (get ∙ sym got)
-      ∙ none is level place in cc);
+      ∙ both_width a b before around kinds (cross_typed a b before around kinds
+      (sym (ap (λ z. from_kinds z before around) is) ∙ e)) get left also right;
 }

@@ -1,5 +1,5 @@
 -- The well-typed parts of a well-typed part of a query.
-use Rattle.std.proofs.Common.{◌≡◌, ℕ, List, ◌∷◌, ◌++◌, true, ◌==◌, map, length, refl, sym, ap, ◌∙◌}
+use Rattle.std.proofs.Common.{◌≡◌, ℕ, List, [], ◌∷◌, ◌++◌, true, ◌==◌, map, length, refl, sym, ap, ◌∙◌}
 use Rattle.std.specs.Prelude.{Option, Some, None, slice_get, if◌then◌else◌}
 use Rattle.std.proofs.lemmas.Bool.Decides.{Decides-eqb}
 use Rattle.expr_aggregates.specs.declared.function.AggregateFunction.{AggregateFunction}
@@ -19,7 +19,8 @@ use Rattle.sql_bound_query.specs.declared.query.BoundSource.{BoundSource}
 use Rattle.sql_bound_query.specs.declared.query.BoundSource.TheVariants as source
 use Rattle.sql_bound_query.specs.declared.query.Input.{Input}
 use Rattle.sql_bound_query.specs.declared.query.Input.TheVariants as input
-use Rattle.sql_bound_query.specs.Typing.{EnvKinds, KindMeaning, KindsMeaning, ExprTyping, where_some}
+use Rattle.sql_bound_query.specs.Typing.{EnvKinds, KindMeaning, KindsMeaning, FromKinds, ExprTyping}
+use Rattle.sql_bound_query.specs.Typing.{where_some}
 use Rattle.sql_bound_query.specs.Typing.{where_true, all_some, kind_of_sort, sort_over, only_kind}
 use Rattle.sql_bound_query.specs.Typing.{is_condition_over, aggregate_sort, joined_kinds, listed_kinds}
 use Rattle.sql_bound_query.specs.Typing.{group_kinds, kind_of_aggregate, block_kinds, from_kinds}
@@ -132,23 +133,26 @@ of_typed function scale a kinds k e =
 
 -- ---- sources
 
-pub record CrossTyped (a b : BoundSource) (kinds : EnvKinds) (ks : List Kind) : Type 0 where
+-- the sides of a source under a row so far of the kinds js: the right one under the left one's
+-- columns too
+pub record CrossTyped (a b : BoundSource) (js : List Kind) (kinds : EnvKinds) (ks : List Kind)
+    : Type 0 where
   pub ls : List Kind
   pub rs : List Kind
-  pub left : from_kinds a kinds ≡ Some ls
-  pub right : from_kinds b kinds ≡ Some rs
+  pub left : from_kinds a js kinds ≡ Some ls
+  pub right : from_kinds b (js ++ ls) kinds ≡ Some rs
   pub both : ls ++ rs ≡ ks
 
-pub cross_typed : (a b : BoundSource) (kinds : EnvKinds) (ks : List Kind)
-    → from_kinds (source.Cross a b) kinds ≡ Some ks → CrossTyped a b kinds ks
-cross_typed a b kinds ks e =
+pub cross_typed : (a b : BoundSource) (js : List Kind) (kinds : EnvKinds) (ks : List Kind)
+    → from_kinds (source.Cross a b) js kinds ≡ Some ks → CrossTyped a b js kinds ks
+cross_typed a b js kinds ks e =
+    let right : List Kind → Option (List Kind) = λ ls. from_kinds b (js ++ ls) kinds in
     let last : List Kind → List Kind → Option (List Kind) = λ ls rs. Some (ls ++ rs) in
-    let t : where_some (from_kinds a kinds) (λ ls. where_some (from_kinds b kinds) (last ls))
-    ≡ Some ks = sym (ap (λ (m : KindsMeaning). m kinds) (kinds_Cross a b)) ∙ e in
-    let f : Found (from_kinds a kinds) (λ ls. where_some (from_kinds b kinds) (last ls)) ks =
-    some_of (from_kinds a kinds) (λ ls. where_some (from_kinds b kinds) (last ls)) ks t in
-    let g : Found (from_kinds b kinds) (last f.it) ks =
-    some_of (from_kinds b kinds) (last f.it) ks f.gives in
+    let t : where_some (from_kinds a js kinds) (λ ls. where_some (right ls) (last ls))
+    ≡ Some ks = sym (ap (λ (m : FromKinds). m js kinds) (kinds_Cross a b)) ∙ e in
+    let f : Found (from_kinds a js kinds) (λ ls. where_some (right ls) (last ls)) ks =
+    some_of (from_kinds a js kinds) (λ ls. where_some (right ls) (last ls)) ks t in
+    let g : Found (right f.it) (last f.it) ks = some_of (right f.it) (last f.it) ks f.gives in
     record {
       ls = f.it;
       rs = g.it;
@@ -157,15 +161,16 @@ cross_typed a b kinds ks e =
       both = some_is (f.it ++ g.it) ks g.gives;
     }
 
-pub record JoinTyped (a b : BoundSource) (on : BoundExpr) (kinds : EnvKinds) (ks : List Kind)
-    : Type 0 where
-  pub sides : CrossTyped a b kinds ks
+pub record JoinTyped (a b : BoundSource) (on : BoundExpr) (js : List Kind) (kinds : EnvKinds)
+    (ks : List Kind) : Type 0 where
+  pub sides : CrossTyped a b js kinds ks
   pub inputs : There (input_kinds on.inputs (ks ∷ kinds))
 
-joined : (a b : BoundSource) (on : BoundExpr) (kinds : EnvKinds) (ks ls rs : List Kind)
-    → from_kinds a kinds ≡ Some ls → from_kinds b kinds ≡ Some rs
-    → joined_kinds (typing_of on) kinds ls rs ≡ Some ks → JoinTyped a b on kinds ks
-joined a b on kinds ks ls rs l r e =
+joined : (a b : BoundSource) (on : BoundExpr) (js : List Kind) (kinds : EnvKinds)
+    (ks ls rs : List Kind) → from_kinds a js kinds ≡ Some ls
+    → from_kinds b (js ++ ls) kinds ≡ Some rs
+    → joined_kinds (typing_of on) kinds ls rs ≡ Some ks → JoinTyped a b on js kinds ks
+joined a b on js kinds ks ls rs l r e =
     let p : Passed ((typing_of on).is_condition ((ls ++ rs) ∷ kinds)) (Some (ls ++ rs)) ks =
     passed ((typing_of on).is_condition ((ls ++ rs) ∷ kinds)) (Some (ls ++ rs)) ks e in
     let both : ls ++ rs ≡ ks = some_is (ls ++ rs) ks p.is in
@@ -175,41 +180,42 @@ joined a b on kinds ks ls rs l r e =
           (sym (ap (λ z. (typing_of on).is_condition (z ∷ kinds)) both) ∙ p.test);
     }
 
-pub inner_typed : (a b : BoundSource) (on : BoundExpr) (kinds : EnvKinds) (ks : List Kind)
-    → from_kinds (source.Inner a b on) kinds ≡ Some ks → JoinTyped a b on kinds ks
-inner_typed a b on kinds ks e =
+pub inner_typed : (a b : BoundSource) (on : BoundExpr) (js : List Kind) (kinds : EnvKinds)
+    (ks : List Kind) → from_kinds (source.Inner a b on) js kinds ≡ Some ks
+    → JoinTyped a b on js kinds ks
+inner_typed a b on js kinds ks e =
+    let right : List Kind → Option (List Kind) = λ ls. from_kinds b (js ++ ls) kinds in
     let last : List Kind → List Kind → Option (List Kind) =
     λ ls rs. joined_kinds (typing_of on) kinds ls rs in
-    let t : where_some (from_kinds a kinds) (λ ls. where_some (from_kinds b kinds) (last ls))
-    ≡ Some ks = sym (ap (λ (m : KindsMeaning). m kinds) (kinds_Inner a b on)) ∙ e in
-    let f : Found (from_kinds a kinds) (λ ls. where_some (from_kinds b kinds) (last ls)) ks =
-    some_of (from_kinds a kinds) (λ ls. where_some (from_kinds b kinds) (last ls)) ks t in
-    let g : Found (from_kinds b kinds) (last f.it) ks =
-    some_of (from_kinds b kinds) (last f.it) ks f.gives in
-    joined a b on kinds ks f.it g.it f.is g.is g.gives
+    let t : where_some (from_kinds a js kinds) (λ ls. where_some (right ls) (last ls))
+    ≡ Some ks = sym (ap (λ (m : FromKinds). m js kinds) (kinds_Inner a b on)) ∙ e in
+    let f : Found (from_kinds a js kinds) (λ ls. where_some (right ls) (last ls)) ks =
+    some_of (from_kinds a js kinds) (λ ls. where_some (right ls) (last ls)) ks t in
+    let g : Found (right f.it) (last f.it) ks = some_of (right f.it) (last f.it) ks f.gives in
+    joined a b on js kinds ks f.it g.it f.is g.is g.gives
 
-pub record OuterTyped (a b : BoundSource) (width : ℕ) (on : BoundExpr) (kinds : EnvKinds)
-    (ks : List Kind) : Type 0 where
-  pub join : JoinTyped a b on kinds ks
+pub record OuterTyped (a b : BoundSource) (width : ℕ) (on : BoundExpr) (js : List Kind)
+    (kinds : EnvKinds) (ks : List Kind) : Type 0 where
+  pub join : JoinTyped a b on js kinds ks
   pub nulls : width ≡ length join.sides.rs
 
-pub outer_typed : (a b : BoundSource) (width : ℕ) (on : BoundExpr) (kinds : EnvKinds)
-    (ks : List Kind) → from_kinds (source.Outer a b width on) kinds ≡ Some ks
-    → OuterTyped a b width on kinds ks
+pub outer_typed : (a b : BoundSource) (width : ℕ) (on : BoundExpr) (js : List Kind)
+    (kinds : EnvKinds) (ks : List Kind) → from_kinds (source.Outer a b width on) js kinds ≡ Some ks
+    → OuterTyped a b width on js kinds ks
 unfolding joined
-outer_typed a b width on kinds ks e =
+outer_typed a b width on js kinds ks e =
+    let right : List Kind → Option (List Kind) = λ ls. from_kinds b (js ++ ls) kinds in
     let last : List Kind → List Kind → Option (List Kind) =
     λ ls rs. if width == length rs then joined_kinds (typing_of on) kinds ls rs else None in
-    let t : where_some (from_kinds a kinds) (λ ls. where_some (from_kinds b kinds) (last ls))
-    ≡ Some ks = sym (ap (λ (m : KindsMeaning). m kinds) (kinds_Outer a b width on)) ∙ e in
-    let f : Found (from_kinds a kinds) (λ ls. where_some (from_kinds b kinds) (last ls)) ks =
-    some_of (from_kinds a kinds) (λ ls. where_some (from_kinds b kinds) (last ls)) ks t in
-    let g : Found (from_kinds b kinds) (last f.it) ks =
-    some_of (from_kinds b kinds) (last f.it) ks f.gives in
+    let t : where_some (from_kinds a js kinds) (λ ls. where_some (right ls) (last ls))
+    ≡ Some ks = sym (ap (λ (m : FromKinds). m js kinds) (kinds_Outer a b width on)) ∙ e in
+    let f : Found (from_kinds a js kinds) (λ ls. where_some (right ls) (last ls)) ks =
+    some_of (from_kinds a js kinds) (λ ls. where_some (right ls) (last ls)) ks t in
+    let g : Found (right f.it) (last f.it) ks = some_of (right f.it) (last f.it) ks f.gives in
     let w : Passed (width == length g.it) (joined_kinds (typing_of on) kinds f.it g.it) ks =
     passed (width == length g.it) (joined_kinds (typing_of on) kinds f.it g.it) ks g.gives in
     record {
-      join = joined a b on kinds ks f.it g.it f.is g.is w.is;
+      join = joined a b on js kinds ks f.it g.it f.is g.is w.is;
       nulls = (Decides-eqb width (length g.it)).0 w.test;
     }
 
@@ -218,7 +224,7 @@ outer_typed a b width on kinds ks e =
 pub record PlainTyped (f : BoundSource) (c : BoundExpr) (es : List BoundExpr) (kinds : EnvKinds)
     (ks : List Kind) : Type 0 where
   pub own : List Kind
-  pub from : from_kinds f kinds ≡ Some own
+  pub from : from_kinds f [] kinds ≡ Some own
   pub condition : There (input_kinds c.inputs (own ∷ kinds))
   pub list : listed_kinds (map typing_of es) (own ∷ kinds) ≡ Some ks
 
@@ -230,9 +236,9 @@ plain_typed f c es kinds ks e =
     λ ls. listed_kinds (map typing_of es) (ls ∷ kinds) in
     let last : List Kind → Option (List Kind) =
     λ ls. if (typing_of c).is_condition (ls ∷ kinds) then shown ls else None in
-    let t : where_some (from_kinds f kinds) last ≡ Some ks =
+    let t : where_some (from_kinds f [] kinds) last ≡ Some ks =
     sym (ap (λ (m : KindsMeaning). m kinds) (kinds_Plain f c es)) ∙ e in
-    let g : Found (from_kinds f kinds) last ks = some_of (from_kinds f kinds) last ks t in
+    let g : Found (from_kinds f [] kinds) last ks = some_of (from_kinds f [] kinds) last ks t in
     let p : Passed ((typing_of c).is_condition (g.it ∷ kinds)) (shown g.it) ks =
     passed ((typing_of c).is_condition (g.it ∷ kinds)) (shown g.it) ks g.gives in
     record {
@@ -248,7 +254,7 @@ pub record GroupedTyped (f : BoundSource) (c : BoundExpr) (keys : List ℕ)
   pub own : List Kind
   pub js : List Kind
   pub ms : List Kind
-  pub from : from_kinds f kinds ≡ Some own
+  pub from : from_kinds f [] kinds ≡ Some own
   pub condition : There (input_kinds c.inputs (own ∷ kinds))
   pub key_kinds : all_some (map (slice_get own) keys) ≡ Some js
   pub aggregates : all_some (map (λ (a : KindMeaning). a (own ∷ kinds)) (map kind_of_aggregate as'))
@@ -270,9 +276,9 @@ grouped_typed f c keys as' h es kinds ks e =
     let last : List Kind → Option (List Kind) =
     λ ls. if (typing_of c).is_condition (ls ∷ kinds) then where_some (made ls) kept_groups
     else None in
-    let t : where_some (from_kinds f kinds) last ≡ Some ks =
+    let t : where_some (from_kinds f [] kinds) last ≡ Some ks =
     sym (ap (λ (m : KindsMeaning). m kinds) (kinds_Grouped f c keys as' h es)) ∙ e in
-    let x : Found (from_kinds f kinds) last ks = some_of (from_kinds f kinds) last ks t in
+    let x : Found (from_kinds f [] kinds) last ks = some_of (from_kinds f [] kinds) last ks t in
     let p : Passed ((typing_of c).is_condition (x.it ∷ kinds)) (where_some (made x.it) kept_groups)
     ks = passed ((typing_of c).is_condition (x.it ∷ kinds)) (where_some (made x.it) kept_groups)
     ks x.gives in

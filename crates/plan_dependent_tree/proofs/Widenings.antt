@@ -8,7 +8,7 @@ use Rattle.std.proofs.lemmas.List.{append-nil, append_assoc}
 use Rattle.std.proofs.lemmas.Grind.{flat_map-append}
 use Rattle.base_row_laws.specs.Aggregates.{aggregated}
 use Rattle.base_row_laws.specs.Bags.{Each, each_once, classes, bottom}
-use Rattle.base_row_laws.specs.Operators.{select, project, cross, pair, or_else, join_loop, outer_loop}
+use Rattle.base_row_laws.specs.Operators.{select, project, pair, or_else, join_loop, outer_loop}
 use Rattle.base_row_laws.specs.Operators.{group_by, total, least}
 use Rattle.base_row_laws.specs.Ranked.{Ranked, ranked, unknown_rank, true_rank}
 use Rattle.base_row_laws.specs.Rows.{keep, same_row}
@@ -17,7 +17,9 @@ use Rattle.base_row_laws.proofs.Groups.{bottom-map}
 use Rattle.base_row_laws.proofs.Lists.{map-map, map-ext, map-ext_each, flat_map-map, map-flat_map}
 use Rattle.base_row_laws.proofs.Lists.{flat_map-ext, flat_map-ext_each, filter-map, filter-ext_each}
 use Rattle.base_row_laws.proofs.Lists.{Each-weaker, Each-filter, Each-both}
+use Rattle.base_row_laws.proofs.Standings as stands
 use Rattle.base_value.specs.declared.value.Value.{Value}
+use Rattle.sql_bound_query.specs.Meaning.{cross_loop}
 use Rattle.plan_dependent_tree.specs.Growth.{widened}
 
 keep_widened : (f : List Value → List Value) (r : List Value) (s : ℕ)
@@ -192,45 +194,62 @@ flat_map-flat_map g f (x ∷ xs) = flat_map-append g (f x) (flat_map f xs)
     ∙ ap (λ l. flat_map g (f x) ++ l) (flat_map-flat_map g f xs)
 
 -- ON is a condition over all combinations
-pub join_is_select : (c : List Value → ℕ) (xs ys : List (Ranked Value))
-    → select c (cross xs ys) ≡ join_loop c xs (λ l. ys)
-join_is_select c xs ys =
+pub join_is_select : (c : List Value → ℕ) (xs : List (Ranked Value))
+    (R : List Value → List (Ranked Value)) → select c (cross_loop xs R) ≡ join_loop c xs R
+join_is_select c xs R =
     let G : Ranked Value → List (Ranked Value) = λ x. keep x.values (min x.standing (c x.values)) in
     let glued : Ranked Value → Ranked Value → Ranked Value =
     λ x y. ranked (x.values ++ y.values) (min x.standing y.standing) in
-    flat_map-flat_map G (λ x. map (glued x) ys) xs
-    ∙ flat_map-ext (λ x. flat_map G (map (glued x) ys))
-    (λ x. flat_map (λ y. pair c (λ a b. a ++ b) x y) ys) xs (λ x. flat_map-map G (glued x) ys)
+    flat_map-flat_map G (λ x. map (glued x) (R x.values)) xs
+    ∙ flat_map-ext (λ x. flat_map G (map (glued x) (R x.values)))
+    (λ x. flat_map (λ y. pair c (λ a b. a ++ b) x y) (R x.values)) xs
+    (λ x. flat_map-map G (glued x) (R x.values))
 
--- joins under conditions that agree on the rows at hand, and with right sides that are the same for
--- each left row
-pub join_agrees : (c p : List Value → ℕ) (xs ys : List (Ranked Value))
-    (R : List Value → List (Ranked Value)) → ((r : List Value) → c r ≡ p r)
-    → ((l : List Value) → R l ≡ ys)
-    → join_loop c xs R ≡ join_loop p xs (λ l. ys)
-join_agrees c p xs ys R e h =
-    flat_map-ext (λ l. flat_map (λ r. pair c (λ a b. a ++ b) l r) (R l.values))
-    (λ l. flat_map (λ r. pair p (λ a b. a ++ b) l r) ys) xs
-    (λ l. ap (flat_map (λ r. pair c (λ a b. a ++ b) l r)) (h l.values)
-    ∙ flat_map-ext (λ r. pair c (λ a b. a ++ b) l r) (λ r. pair p (λ a b. a ++ b) l r) ys
+-- one left row with all rows to its right
+row_crosses : (l : Ranked Value) (ys : List (Ranked Value)) → Stands l → Each Stands ys
+    → flat_map (λ r. pair (λ v. true_rank) (λ a b. a ++ b) l r) ys
+    ≡ map (λ r. ranked (l.values ++ r.values) (min l.standing r.standing)) ys
+row_crosses l ys s all =
+    sym (append-nil (flat_map (λ r. pair (λ v. true_rank) (λ a b. a ++ b) l r) ys))
+    ∙ stands.join_true (l ∷ []) ys (s, tt) all
+    ∙ append-nil (map (λ r. ranked (l.values ++ r.values) (min l.standing r.standing)) ys)
+
+-- a join under a condition that always holds has all combinations
+pub join_crosses : (P : Ranked Value → Type 0) (c : List Value → ℕ) (xs : List (Ranked Value))
+    (R B : List Value → List (Ranked Value)) → ((r : List Value) → c r ≡ true_rank)
+    → ((l : Ranked Value) → P l → R l.values ≡ B l.values) → Each P xs → Each Stands xs
+    → ((l : List Value) → Each Stands (B l)) → join_loop c xs R ≡ cross_loop xs B
+join_crosses P c xs R B e h all stand right =
+    flat_map-ext_each (λ l. P l × Stands l)
+    (λ l. flat_map (λ r. pair c (λ a b. a ++ b) l r) (R l.values))
+    (λ l. map (λ r. ranked (l.values ++ r.values) (min l.standing r.standing)) (B l.values)) xs
+    (Each-both P Stands xs all stand)
+    (λ l u. ap (flat_map (λ r. pair c (λ a b. a ++ b) l r)) (h l u.0)
+    ∙ flat_map-ext (λ r. pair c (λ a b. a ++ b) l r)
+    (λ r. pair (λ v. true_rank) (λ a b. a ++ b) l r) (B l.values)
     (λ r. ap (λ n. keep (l.values ++ r.values) (min (min l.standing r.standing) n))
-    (e (l.values ++ r.values))))
+    (e (l.values ++ r.values)))
+    ∙ row_crosses l (B l.values) u.1 (right l.values))
 
+-- left outer joins under conditions that agree on the rows at hand, and with right sides that are
+-- the same under each left row
 pub outer_agrees : (P Q : Ranked Value → Type 0) (nulls : List Value) (c p : List Value → ℕ)
-    (xs ys : List (Ranked Value)) (R : List Value → List (Ranked Value))
+    (xs : List (Ranked Value)) (R B : List Value → List (Ranked Value))
     → ((l r : Ranked Value) → P l → Q r → c (l.values ++ r.values) ≡ p (l.values ++ r.values))
-    → ((l : List Value) → R l ≡ ys) → Each P xs → Each Q ys
-    → outer_loop nulls c xs R ≡ outer_loop nulls p xs (λ l. ys)
-outer_agrees P Q nulls c p xs ys R e h left right =
+    → ((l : Ranked Value) → P l → R l.values ≡ B l.values) → Each P xs
+    → ((l : Ranked Value) → P l → Each Q (B l.values))
+    → outer_loop nulls c xs R ≡ outer_loop nulls p xs B
+outer_agrees P Q nulls c p xs R B e h left right =
     let kept : Ranked Value → List (Ranked Value) → List (Ranked Value) =
     λ l us. or_else us (ranked (l.values ++ nulls) l.standing) in
     flat_map-ext_each P (λ l. kept l (flat_map (λ r. pair c (λ a b. a ++ b) l r) (R l.values)))
-    (λ l. kept l (flat_map (λ r. pair p (λ a b. a ++ b) l r) ys)) xs left
-    (λ l u. ap (λ us. kept l (flat_map (λ r. pair c (λ a b. a ++ b) l r) us)) (h l.values)
+    (λ l. kept l (flat_map (λ r. pair p (λ a b. a ++ b) l r) (B l.values))) xs left
+    (λ l u. ap (λ us. kept l (flat_map (λ r. pair c (λ a b. a ++ b) l r) us)) (h l u)
     ∙ ap (kept l)
-    (flat_map-ext_each Q (λ r. pair c (λ a b. a ++ b) l r) (λ r. pair p (λ a b. a ++ b) l r) ys
-    right
-    (λ r v. ap (λ n. keep (l.values ++ r.values) (min (min l.standing r.standing) n)) (e l r u v))))
+    (flat_map-ext_each Q (λ r. pair c (λ a b. a ++ b) l r) (λ r. pair p (λ a b. a ++ b) l r)
+    (B l.values) (right l u)
+    (λ r v. ap (λ n. keep (l.values ++ r.values) (min (min l.standing r.standing) n))
+    (e l r u v))))
 
 dropped : (v : List Value) (n : ℕ) → n ≤ 1 → keep v n ≡ []
 dropped v n h = rw (le-ltb 1 n h) refl
@@ -255,19 +274,19 @@ pair_lowered n l r s =
 
 -- a left outer join whose right side has the condition already
 pub outer_lowered : (P : Ranked Value → Type 0) (nulls : List Value) (c p : List Value → ℕ)
-    (xs ys : List (Ranked Value)) (R : List Value → List (Ranked Value))
+    (xs : List (Ranked Value)) (R B : List Value → List (Ranked Value))
     → ((r : List Value) → c r ≡ true_rank)
-    → ((l : Ranked Value) → P l → R l.values ≡ select (λ r. p (l.values ++ r)) ys) → Each P xs
-    → Each Stands xs
-    → outer_loop nulls c xs R ≡ outer_loop nulls p xs (λ l. ys)
-outer_lowered P nulls c p xs ys R e h all stand =
+    → ((l : Ranked Value) → P l → R l.values ≡ select (λ r. p (l.values ++ r)) (B l.values))
+    → Each P xs → Each Stands xs
+    → outer_loop nulls c xs R ≡ outer_loop nulls p xs B
+outer_lowered P nulls c p xs R B e h all stand =
     let kept : Ranked Value → List (Ranked Value) → List (Ranked Value) =
     λ l us. or_else us (ranked (l.values ++ nulls) l.standing) in
     let plain : Ranked Value → Ranked Value → List (Ranked Value) =
     λ l y. pair (λ v. true_rank) (λ a b. a ++ b) l y in
     flat_map-ext_each (λ l. P l × Stands l)
     (λ l. kept l (flat_map (λ r. pair c (λ a b. a ++ b) l r) (R l.values)))
-    (λ l. kept l (flat_map (λ r. pair p (λ a b. a ++ b) l r) ys)) xs
+    (λ l. kept l (flat_map (λ r. pair p (λ a b. a ++ b) l r) (B l.values))) xs
     (Each-both P Stands xs all stand)
     (λ l u. ap (kept l)
     (flat_map-ext (λ r. pair c (λ a b. a ++ b) l r) (plain l) (R l.values)
@@ -275,8 +294,8 @@ outer_lowered P nulls c p xs ys R e h all stand =
     (e (l.values ++ r.values)))
     ∙ ap (flat_map (plain l)) (h l u.0)
     ∙ flat_map-flat_map (plain l)
-    (λ (r : Ranked Value). keep r.values (min r.standing (p (l.values ++ r.values)))) ys
+    (λ (r : Ranked Value). keep r.values (min r.standing (p (l.values ++ r.values)))) (B l.values)
     ∙ flat_map-ext (λ r. flat_map (plain l)
     (keep r.values (min r.standing (p (l.values ++ r.values))))) (λ r. pair p (λ a b. a ++ b) l r)
-    ys
+    (B l.values)
     (λ r. pair_lowered (p (l.values ++ r.values)) l r u.1)))

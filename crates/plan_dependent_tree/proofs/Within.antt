@@ -18,17 +18,19 @@ use Rattle.sql_bound_query.specs.declared.query.BoundSource.{BoundSource}
 use Rattle.sql_bound_query.specs.declared.query.BoundSource.TheVariants as source
 use Rattle.sql_bound_query.specs.declared.query.Input.{Input}
 use Rattle.sql_bound_query.specs.declared.query.Input.TheVariants as input
-use Rattle.sql_bound_query.specs.Typing.{EnvKinds, KindMeaning, KindsMeaning, ExprTyping, where_some}
+use Rattle.sql_bound_query.specs.Typing.{EnvKinds, KindMeaning, KindsMeaning, FromKinds, ExprTyping}
+use Rattle.sql_bound_query.specs.Typing.{where_some}
 use Rattle.sql_bound_query.specs.Typing.{all_some, kind_of_sort, listed_kinds, kind_of_aggregate}
 use Rattle.sql_bound_query.specs.Typing.{block_kinds, from_kinds, kind_of_input, typing_of}
-use Rattle.sql_bound_query.proofs.TypingOpened.{kind_Column, kinds_Distinct}
+use Rattle.sql_bound_query.proofs.TypingOpened.{kind_Column, kinds_Lateral, kinds_Distinct}
 use Rattle.sql_bound_query.proofs.Induction.{Withs, parts, induction}
 use Rattle.sql_bound_query.proofs.Keeps.{Found, some_of}
 use Rattle.plan_dependent_tree.specs.Seeks.{Seeks, any_seeks, seeks_of, seeks_of_source, seeks_of_input}
 use Rattle.plan_dependent_tree.specs.Seeks.{seeks_of_expr, seeks_of_aggregate}
 use Rattle.plan_dependent_tree.proofs.SeeksOpened.{seeks_Column, seeks_Exists, seeks_In, seeks_Scalar}
 use Rattle.plan_dependent_tree.proofs.SeeksOpened.{seeks_CountRows, seeks_Of, seeks_Table, seeks_Derived}
-use Rattle.plan_dependent_tree.proofs.SeeksOpened.{seeks_Cross, seeks_Inner, seeks_Outer, seeks_Plain}
+use Rattle.plan_dependent_tree.proofs.SeeksOpened.{seeks_Lateral, seeks_Cross, seeks_Inner}
+use Rattle.plan_dependent_tree.proofs.SeeksOpened.{seeks_Outer, seeks_Plain}
 use Rattle.plan_dependent_tree.proofs.SeeksOpened.{seeks_Grouped, seeks_Distinct, seeks_expr}
 use Rattle.plan_dependent_tree.proofs.TypedParts.{There, input_kinds, sort_inputs, exists_typed}
 use Rattle.plan_dependent_tree.proofs.TypedParts.{scalar_typed, InTyped, in_typed, of_typed, CrossTyped}
@@ -66,7 +68,7 @@ B q = (kinds : EnvKinds) (ks : List Kind) → block_kinds q kinds ≡ Some ks
     → Within kinds (seeks_of q)
 
 abbrev S : BoundSource → Type 0
-S s = (kinds : EnvKinds) (ks : List Kind) → from_kinds s kinds ≡ Some ks
+S s = (js : List Kind) (kinds : EnvKinds) (ks : List Kind) → from_kinds s js kinds ≡ Some ks
     → Within kinds (seeks_of_source s)
 
 abbrev I : Input → Type 0
@@ -141,42 +143,48 @@ of_within function scale a ea kinds k e =
 -- ---- sources
 
 table_within : (t : TableName) → S (source.Table t)
-table_within t kinds ks e = subst (Within kinds) (sym (seeks_Table t)) (none_within kinds)
+table_within t js kinds ks e = subst (Within kinds) (sym (seeks_Table t)) (none_within kinds)
 
 derived_within : (q : BoundBlock) → B q → S (source.Derived q)
-derived_within q b kinds ks e = subst (Within kinds) (sym (seeks_Derived q)) (none_within kinds)
+derived_within q b js kinds ks e = subst (Within kinds) (sym (seeks_Derived q)) (none_within kinds)
+
+lateral_within : (q : BoundBlock) → B q → S (source.Lateral q)
+lateral_within q b js kinds ks e =
+    subst (Within kinds) (sym (seeks_Lateral q))
+    (deeper_within js kinds (seeks_of q)
+    (b (js ∷ kinds) ks (sym (ap (λ (m : FromKinds). m js kinds) (kinds_Lateral q)) ∙ e)))
 
 cross_within : (a : BoundSource) → S a → (b : BoundSource) → S b → S (source.Cross a b)
-cross_within a sa b sb kinds ks e =
-    let t : CrossTyped a b kinds ks = cross_typed a b kinds ks e in
+cross_within a sa b sb js kinds ks e =
+    let t : CrossTyped a b js kinds ks = cross_typed a b js kinds ks e in
     subst (Within kinds) (sym (seeks_Cross a b))
-    (both_within kinds (seeks_of_source a) (seeks_of_source b) (sa kinds t.ls t.left)
-    (sb kinds t.rs t.right))
+    (both_within kinds (seeks_of_source a) (seeks_of_source b) (sa js kinds t.ls t.left)
+    (sb (js ++ t.ls) kinds t.rs t.right))
 
 join_within : (a : BoundSource) → S a → (b : BoundSource) → S b → (on : BoundExpr) → E on
-    → (kinds : EnvKinds) (ks : List Kind) → JoinTyped a b on kinds ks
+    → (js : List Kind) (kinds : EnvKinds) (ks : List Kind) → JoinTyped a b on js kinds ks
     → Within kinds (λ level place.
     seeks_of_source a level place || seeks_of_source b level place
     || seeks_of_expr on (suc level) place)
-join_within a sa b sb on eo kinds ks t =
+join_within a sa b sb on eo js kinds ks t =
     both_within kinds (λ level place. seeks_of_source a level place || seeks_of_source b level place)
     (λ level place. seeks_of_expr on (suc level) place)
-    (both_within kinds (seeks_of_source a) (seeks_of_source b) (sa kinds t.sides.ls t.sides.left)
-    (sb kinds t.sides.rs t.sides.right))
+    (both_within kinds (seeks_of_source a) (seeks_of_source b) (sa js kinds t.sides.ls t.sides.left)
+    (sb (js ++ t.sides.ls) kinds t.sides.rs t.sides.right))
     (deeper_within ks kinds (seeks_of_expr on) (eo (ks ∷ kinds) t.inputs))
 
 inner_within : (a : BoundSource) → S a → (b : BoundSource) → S b → (on : BoundExpr) → E on
     → S (source.Inner a b on)
-inner_within a sa b sb on eo kinds ks e =
+inner_within a sa b sb on eo js kinds ks e =
     subst (Within kinds) (sym (seeks_Inner a b on))
-    (join_within a sa b sb on eo kinds ks (inner_typed a b on kinds ks e))
+    (join_within a sa b sb on eo js kinds ks (inner_typed a b on js kinds ks e))
 
 outer_within : (a : BoundSource) → S a → (b : BoundSource) → S b → (width : ℕ) (on : BoundExpr)
     → E on → S (source.Outer a b width on)
-outer_within a sa b sb width on eo kinds ks e =
-    let t : OuterTyped a b width on kinds ks = outer_typed a b width on kinds ks e in
+outer_within a sa b sb width on eo js kinds ks e =
+    let t : OuterTyped a b width on js kinds ks = outer_typed a b width on js kinds ks e in
     subst (Within kinds) (sym (seeks_Outer a b width on))
-    (join_within a sa b sb on eo kinds ks t.join)
+    (join_within a sa b sb on eo js kinds ks t.join)
 
 -- ---- queries
 
@@ -190,7 +198,7 @@ plain_within from sf condition ec list kinds ks e =
     (λ level place. seeks_of_source from level place || seeks_of_expr condition (suc level) place)
     (λ level place. any_seeks (map seeks_of_expr es) (suc level) place)
     (both_within kinds (seeks_of_source from)
-    (λ level place. seeks_of_expr condition (suc level) place) (sf kinds t.own t.from)
+    (λ level place. seeks_of_expr condition (suc level) place) (sf [] kinds t.own t.from)
     (deeper_within t.own kinds (seeks_of_expr condition) (ec (t.own ∷ kinds) t.condition)))
     (deeper_within t.own kinds (any_seeks (map seeks_of_expr es))
     (list_within list (t.own ∷ kinds) ks t.list)))
@@ -215,7 +223,7 @@ grouped_within from sf condition ec keys aggregates having eh list kinds ks e =
     (λ level place. s level place || c level place || a level place || h level place) l
     (both_within kinds (λ level place. s level place || c level place || a level place) h
     (both_within kinds (λ level place. s level place || c level place) a
-    (both_within kinds s c (sf kinds t.own t.from)
+    (both_within kinds s c (sf [] kinds t.own t.from)
     (deeper_within t.own kinds (seeks_of_expr condition) (ec (t.own ∷ kinds) t.condition)))
     (deeper_within t.own kinds (any_seeks (map seeks_of_aggregate as'))
     (aggregates_within aggregates (t.own ∷ kinds) t.ms t.aggregates)))
@@ -268,6 +276,7 @@ query_within = induction A B S I E (record {
   distinct = distinct_within;
   table = table_within;
   derived = derived_within;
+  lateral = lateral_within;
   cross = cross_within;
   inner = inner_within;
   outer = outer_within;

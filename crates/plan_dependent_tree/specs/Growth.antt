@@ -17,7 +17,7 @@ use Rattle.sql_bound_query.specs.declared.query.BoundBlock.{BoundBlock}
 use Rattle.sql_bound_query.specs.declared.query.BoundExpr.{BoundExpr}
 use Rattle.sql_bound_query.specs.declared.query.BoundSource.{BoundSource}
 use Rattle.sql_bound_query.specs.declared.query.Input.{Input}
-use Rattle.sql_bound_query.specs.Meaning.{Env, RowsMeaning, InputMeaning, ExprMeaning}
+use Rattle.sql_bound_query.specs.Meaning.{Env, RowsMeaning, FromMeaning, InputMeaning, ExprMeaning}
 use Rattle.sql_bound_query.specs.Meaning.{AggregateMeaning, column, aggregate_meaning, block_meaning}
 use Rattle.sql_bound_query.specs.Meaning.{source_meaning, input_meaning, expr_meaning}
 use Rattle.sql_bound_query.specs.Reads.{tables, tables_of_source, tables_of_input, tables_of_expr}
@@ -66,7 +66,7 @@ pub record AreKeys (outer : List OuterColumn) (start w : ℕ) (keys places : Lis
   pub reads : (env : Env) (r flat : List Value) → Sees outer start w env r flat
       → map (λ i. slice_index_or flat i Null) places ≡ map (λ k. slice_index_or r k Null) keys
 
--- the rows of a source or a query in a state
+-- the rows of a query, or of a FROM, in a state
 abbrev pub RowsOf : Type 0
 RowsOf = State → RowsMeaning
 
@@ -75,25 +75,36 @@ pub record AreRows (K : RowsOf) (w : ℕ) : Type 0 where
   pub stand : (state : State) (env : Env) → Each Stands (K state env)
   pub wide : (state : State) → StateIsOf state → (env : Env) → Width w (K state env)
 
--- a tree of just these rows, over every domain row
-pub record IsTree (occurs : List TableName) (K : RowsOf) (outer : List OuterColumn) (start : ℕ)
-    (tree : DepTree) (w : ℕ) : Type 0 where
+-- the domain rows of a tree under the rows around
+abbrev pub DomainRows : Type 1
+DomainRows = Env → List Value → Type 0
+
+-- a tree of just these rows, over every one of these domain rows
+pub record IsTreeIn (D : DomainRows) (occurs : List TableName) (K : RowsOf) (tree : DepTree)
+    (w : ℕ) : Type 0 where
   pub are_rows : AreRows K w
   pub scans : scans_of tree ≡ occurs
   pub width : width_of tree ≡ w
-  pub rows : (state : State) → StateIsOf state → (env : Env) (d : List Value)
-      → IsDomain outer start env d
+  pub rows : (state : State) → StateIsOf state → (env : Env) (d : List Value) → D env d
       → tree_rows tree (table_rows state) d ≡ K state env
 
--- a tree of these rows to the right of another
-pub record IsRightTree (occurs : List TableName) (K : RowsOf) (outer : List OuterColumn) (start : ℕ)
+-- a tree of just these rows, over every domain row that begins with these columns of the rows
+-- around
+abbrev pub IsTree : List TableName → RowsOf → List OuterColumn → ℕ → DepTree → ℕ → Type 0
+IsTree occurs K outer start tree w =
+    IsTreeIn (λ env d. IsDomain outer start env d) occurs K tree w
+
+-- a tree to the right of another, of just these rows under each left row of a columns
+pub record IsRightIn (D : DomainRows) (occurs : List TableName) (K : State → FromMeaning) (a : ℕ)
     (tree : DepTree) (side : Side) (w : ℕ) : Type 0 where
-  pub are_rows : AreRows K w
+  pub stand : (state : State) (l : List Value) (env : Env) → Each Stands (K state l env)
+  pub wide : (state : State) → StateIsOf state → (l : List Value) → length l ≡ a → (env : Env)
+      → Width w (K state l env)
   pub scans : scans_of tree ≡ occurs
   pub width : width_of tree ≡ w
-  pub rows : (state : State) → StateIsOf state → (env : Env) (d : List Value)
-      → IsDomain outer start env d → (l : List Value)
-      → tree_rows tree (table_rows state) (right_row side d l) ≡ K state env
+  pub rows : (state : State) → StateIsOf state → (env : Env) (d : List Value) → D env d
+      → (l : List Value) → length l ≡ a
+      → tree_rows tree (table_rows state) (right_row side d l) ≡ K state l env
 
 -- the tree of a subquery, as a right side
 pub record IsSubquery (q : BoundBlock) (outer : List OuterColumn) (start w : ℕ) (tree : DepTree)
@@ -175,9 +186,9 @@ pub record IsTrimmed (tree : DepTree) (start w end : ℕ) (new : DepTree) : Type
       → tree_rows tree (table_rows state) d ≡ map (widened f) xs
       → tree_rows new (table_rows state) d ≡ xs
 
--- the rows of a source
-abbrev pub source_of : BoundSource → RowsOf
-source_of s state = source_meaning state s
+-- the rows of a FROM
+abbrev pub from_of : BoundSource → RowsOf
+from_of s state = source_meaning state s []
 
 -- the rows of a query
 abbrev pub block_of : BoundBlock → RowsOf

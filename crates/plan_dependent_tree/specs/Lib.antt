@@ -1,4 +1,6 @@
 pub mod Dependence
 pub mod Growth
+pub mod FromGrowth
+pub mod OuterGrowth
 pub mod Seeks
 pub mod Supplied

@@ -5,6 +5,8 @@
 mod outer;
 mod parts;
 mod sight;
+mod so_far;
+mod source_sight;
 mod sources;
 mod tree;
 

@@ -1,5 +1,5 @@
 //! The columns of the rows around that a query reads.
-ghost use Rattle.std.specs.Prelude.{◌≡◌, ◌+◌, ◌==◌, ◌&&◌, ◌||◌, ℕ, false, map, IfOk, OnOk, IsTrue};
+ghost use Rattle.std.specs.Prelude.{◌≡◌, ◌+◌, ◌==◌, ◌&&◌, ◌||◌, ℕ, suc, map, IfOk, OnOk, IsTrue};
 ghost use Rattle.sql_bound_query.specs.declared.query.BoundAggregate.TheOpen.{Column};
 ghost use Rattle.plan_dependent_tree.specs.Seeks.{any_seeks, has, input_seeks, seeks_of};
 ghost use Rattle.plan_dependent_tree.specs.Seeks.{seeks_of_aggregate, seeks_of_expr, seeks_of_input};
@@ -21,14 +21,30 @@ pub fn outer_columns(alloc: Global, q: &BoundBlock) -> Result<Items<OuterColumn>
     Ok(found)
 }
 
-/// Whether a source reads columns of the rows around its query.
-pub fn reads_outer(alloc: Global, s: &BoundSource) -> Result<bool, AllocError>
-    ensures { IfOk result (λ reads. reads ≡ false
-        → (level place : ℕ) → seeks_of_source s.now level place ≡ false) }
+/// The columns of the rows around its query that a source reads, each once.
+pub fn source_columns(alloc: Global, s: &BoundSource) -> Result<Items<OuterColumn>, AllocError>
+    ensures { IfOk result (λ found. (level place : ℕ)
+        → has found level place ≡ seeks_of_source s.now level place) }
 {
     let mut found = Items::new(alloc);
     source(s, 0, &mut found)?;
-    Ok(!found.is_empty())
+    Ok(found)
+}
+
+/// The columns of the rows around its query that a source reads, or an ON condition above it, which
+/// reads its own row first.
+pub fn join_columns(
+    alloc: Global,
+    s: &BoundSource,
+    on: &BoundExpr,
+) -> Result<Items<OuterColumn>, AllocError>
+    ensures { IfOk result (λ found. (level place : ℕ) → has found level place
+        ≡ (seeks_of_source s.now level place || seeks_of_expr on.now (suc level) place)) }
+{
+    let mut found = Items::new(alloc);
+    source(s, 0, &mut found)?;
+    expr(on, 0, &mut found)?;
+    Ok(found)
 }
 
 // Puts a column to the others, unless it is there.
@@ -151,7 +167,8 @@ fn aggregate(
     }
 }
 
-// A derived table sees no row around it.
+// A derived table sees no row around it. A lateral item's nearest row is the row so far, so that
+// the rows around are one row further out.
 #[cycle(outer)]
 fn source(s: &BoundSource, within: u32, found: &mut Items<OuterColumn>) -> Result<(), AllocError>
     ensures { OnOk result (Finds (seeks_of_source s.now) within found.old found.new) }
@@ -159,6 +176,11 @@ fn source(s: &BoundSource, within: u32, found: &mut Items<OuterColumn>) -> Resul
     match s {
         BoundSource::Table(_) => Ok(()),
         BoundSource::Derived(_) => Ok(()),
+        BoundSource::Lateral(q) => {
+            let deeper = within.checked_add(1).ok_or(AllocError)?;
+            block(q.get(), deeper, found)?;
+            Ok(())
+        }
         BoundSource::Cross(a, b) => {
             source(a.get(), within, found)?;
             source(b.get(), within, found)?;

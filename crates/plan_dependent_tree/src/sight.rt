@@ -28,7 +28,7 @@ pub struct Sight<'a> {
 }
 
 // The place of a column of the rows around, or 0 where the list has no such column.
-fn place_in(outer: &[OuterColumn], column: OuterColumn) -> Result<u32, AllocError>
+pub fn place_in(outer: &[OuterColumn], column: OuterColumn) -> Result<u32, AllocError>
     ensures { IfOk result (λ at. IsTrue (has outer.now column.level column.place)
         → slice_get outer.now at ≡ Some column) }
 {

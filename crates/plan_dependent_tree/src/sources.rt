@@ -1,11 +1,9 @@
 //! The trees of FROM's items, and what right sides depend on.
 ghost use Rattle.std.specs.Prelude.{◌≡◌, ◌+◌, [], length, IfOk};
 ghost use Rattle.expr_scalar.specs.declared.expr.Expr.TheVariants.{All as all_of};
-ghost use Rattle.expr_conditions.specs.Ranks.{columns_from};
 ghost use Rattle.base_schema.specs.Tables.{kinds_of};
 ghost use Rattle.sql_bound_query.specs.Reads.{tables_of_expr};
 ghost use Rattle.plan_algebra.specs.declared.tree.DepTree.TheVariants as node;
-ghost use Rattle.plan_algebra.specs.declared.tree.Side.TheVariants.{Dependent as dependent_of};
 ghost use Rattle.plan_dependent_tree.specs.Growth.{IsPlain, ArePlain, DependsOn};
 ghost use Rattle.plan_dependent_tree.specs.Supplied.{ExprIsSupplied, InputsAreSupplied};
 
@@ -23,7 +21,7 @@ use std::alloc::{AllocError, Global};
 pub struct RightRows {
     /// Its tree.
     pub rows: Rows,
-    /// Whether its domain row is the left side's.
+    /// What its domain row is.
     pub side: Side,
 }
 
@@ -120,35 +118,4 @@ pub fn outer_joined(
     let tree = DepTree::Outer(left.tree, right.rows.tree, right.side, condition);
     let tree = Boxed::new(alloc, tree)?;
     Ok(Rows { tree, width })
-}
-
-fn first_columns(alloc: Global, count: u32) -> Result<Items<u32>, AllocError>
-    ensures { IfOk result (λ columns. columns ≡ columns_from 0 count) }
-{
-    let mut columns = Items::new(alloc);
-    for i in 0..count {
-        columns.push(i)?;
-    }
-    Ok(columns)
-}
-
-// LEFT OUTER JOIN of a right side that has its condition, over the domain row and the left row
-// before it.
-pub fn lateral_outer(
-    alloc: Global,
-    left: Rows,
-    right: Rows,
-    begin: u32,
-    nulls: u32,
-) -> Result<Rows, AllocError>
-    ensures { IfOk result (λ r.
-        (r.tree ≡ node.Outer left.tree right.tree (dependent_of (columns_from 0 begin)) (all_of []))
-        × (r.width ≡ left.width + nulls)) }
-{
-    let columns = first_columns(alloc, begin)?;
-    let side = Side::Dependent(columns);
-    let condition = always(alloc)?;
-    let right = RightRows { rows: right, side };
-    let rows = outer_joined(alloc, left, right, nulls, condition)?;
-    Ok(rows)
 }

@@ -1,29 +1,33 @@
 //! The tree of each part of a query.
-ghost use Rattle.std.specs.Prelude.{◌≡◌, List, [], length, map, IfOk};
+ghost use Rattle.std.specs.Prelude.{◌≡◌, ◌+◌, List, [], length, map, IfOk};
 ghost use Rattle.expr_scalar.specs.declared.kind.Kind.{Kind};
 ghost use Rattle.sql_bound_query.specs.Typing.{IsWellTyped, block_kinds, from_kinds};
 ghost use Rattle.sql_bound_query.specs.Reads.{tables, tables_of_source, tables_of_input};
 ghost use Rattle.sql_bound_query.specs.Reads.{tables_of_expr, tables_of_aggregate, joined_tables};
 ghost use Rattle.plan_dependent_tree.specs.Dependence.{IsTreeOf};
-ghost use Rattle.plan_dependent_tree.specs.Growth.{source_of, block_of, IsTree, IsRightTree, IsSubquery};
+ghost use Rattle.plan_dependent_tree.specs.FromGrowth.{IsSourceTree, IsRightSource, IsKeptRight};
+ghost use Rattle.plan_dependent_tree.specs.FromGrowth.{IsKept};
+ghost use Rattle.plan_dependent_tree.specs.Growth.{from_of, block_of, IsTree, IsSubquery};
 ghost use Rattle.plan_dependent_tree.specs.Growth.{Attaches, InputAt, InputsAt, ExprAt, ListAt};
 ghost use Rattle.plan_dependent_tree.specs.Growth.{AggregateAt, AggregatesAt, SameFunction};
 ghost use Rattle.plan_dependent_tree.specs.Growth.{SameFunctions};
+ghost use Rattle.plan_dependent_tree.specs.OuterGrowth.{IsOuterTree};
 ghost use Rattle.plan_dependent_tree.specs.Supplied.{AggregateIsSupplied, AggregatesAreSupplied};
 ghost use Rattle.plan_dependent_tree.specs.Supplied.{ExprIsSupplied, InputIsSupplied, IsWidthOf};
 ghost use Rattle.plan_dependent_tree.specs.Supplied.{InputsAreSupplied, ListIsSupplied, QueryIsSupplied};
-ghost use Rattle.plan_dependent_tree.specs.Supplied.{SourceIsSupplied, SubqueryIsSupplied};
+ghost use Rattle.plan_dependent_tree.specs.Supplied.{FromIsSupplied, SourceIsSupplied, IsSourceWidth};
+ghost use Rattle.plan_dependent_tree.specs.Supplied.{JoinIsSupplied, SubqueryIsSupplied};
 
-use crate::outer::{outer_columns, reads_outer};
+use crate::outer::{join_columns, outer_columns, source_columns};
 use crate::parts::{
-    Attached, Counted, Grown, Listed, Placed, Read, Right, Rows, Summed, applied, contained,
-    distinct, existing, grouped, grown_from, key_places, outer_places, over_places, projected,
-    selected, trimmed, valued,
+    Attached, Counted, Grown, Listed, Placed, Read, Right, Rows, Summed, always, applied,
+    contained, distinct, existing, grouped, grown_from, key_places, outer_places, over_places,
+    projected, selected, trimmed, valued,
 };
 use crate::sight::{OuterColumn, Sight, place_of};
-use crate::sources::{
-    RightRows, crossed, depending, lateral_outer, outer_joined, plain_condition, table_rows,
-};
+use crate::so_far::so_far_places;
+use crate::source_sight::{SourceSight, lateral_columns, right_places, with_left_row};
+use crate::sources::{RightRows, crossed, depending, outer_joined, plain_condition, table_rows};
 use plan_algebra::{Aggregate, DepTree, Side};
 use sql_bound_query::{BoundAggregate, BoundBlock, BoundExpr, BoundQuery, BoundSource, Input};
 use sqlite_items::{Boxed, Items};
@@ -70,7 +74,7 @@ fn block(
 {
     match q {
         BoundBlock::Plain(from, condition, list) => {
-            let rows = source(alloc, from.get(), outer, start)?;
+            let rows = from_rows(alloc, from.get(), outer, start)?;
             let width = rows.width;
             let sight = Sight {
                 outer,
@@ -85,7 +89,7 @@ fn block(
             Ok(rows)
         }
         BoundBlock::Grouped(from, condition, keys, aggregates, having, list) => {
-            let rows = source(alloc, from.get(), outer, start)?;
+            let rows = from_rows(alloc, from.get(), outer, start)?;
             let width = rows.width;
             let sight = Sight {
                 outer,
@@ -119,16 +123,36 @@ fn block(
     }
 }
 
+// FROM, which begins with a row so far of no columns.
 #[cycle(depend)]
-fn source(
+fn from_rows(
     alloc: Global,
     s: &BoundSource,
     outer: &[OuterColumn],
     start: u32,
 ) -> Result<Rows, AllocError>
-    ensures tree { IfOk result (λ r. SourceIsSupplied s.now outer.now
-        → IsTree (tables_of_source s.now) (source_of s.now) outer.now start r.tree r.width) }
-    ensures width { IfOk result (λ r. IsWidthOf (from_kinds s.now) r.width) }
+    ensures tree { IfOk result (λ r. FromIsSupplied s.now outer.now
+        → IsTree (tables_of_source s.now) (from_of s.now) outer.now start r.tree r.width) }
+    ensures width { IfOk result (λ r. IsWidthOf (from_kinds s.now []) r.width) }
+{
+    let sight = SourceSight {
+        outer,
+        so_far: &[],
+        before: 0,
+        start,
+    };
+    let rows = source(alloc, s, &sight)?;
+    Ok(rows)
+}
+
+// An item of FROM.
+#[cycle(depend)]
+fn source(alloc: Global, s: &BoundSource, sight: &SourceSight) -> Result<Rows, AllocError>
+    ensures tree { IfOk result (λ r. SourceIsSupplied s.now sight.now.outer.now sight.now.so_far.now
+        sight.now.before sight.now.before
+        → IsSourceTree s.now sight.now.outer.now sight.now.so_far.now sight.now.before
+        sight.now.start r.tree r.width) }
+    ensures width { IfOk result (λ r. IsSourceWidth s.now r.width) }
 {
     match s {
         BoundSource::Table(table) => {
@@ -136,90 +160,187 @@ fn source(
             Ok(rows)
         }
         BoundSource::Derived(q) => {
-            let rows = block(alloc, q.get(), &[], start)?;
+            let rows = block(alloc, q.get(), &[], sight.start)?;
+            Ok(rows)
+        }
+        BoundSource::Lateral(q) => {
+            let outer = lateral_columns(alloc, sight)?;
+            let rows = block(alloc, q.get(), outer.as_slice(), sight.start)?;
             Ok(rows)
         }
         BoundSource::Cross(a, b) => {
-            let left = source(alloc, a.get(), outer, start)?;
-            let right = right_source(alloc, b, outer, start)?;
+            let left = source(alloc, a.get(), sight)?;
+            let right = right_source(alloc, b.get(), sight, left.width)?;
             let rows = crossed(alloc, left, right)?;
             Ok(rows)
         }
         BoundSource::Inner(a, b, on) => {
-            let left = source(alloc, a.get(), outer, start)?;
-            let right = right_source(alloc, b, outer, start)?;
+            let left = source(alloc, a.get(), sight)?;
+            let right = right_source(alloc, b.get(), sight, left.width)?;
             let rows = crossed(alloc, left, right)?;
-            let width = rows.width;
-            let sight = Sight {
-                outer,
-                start,
-                width,
-            };
-            let grown = grown_from(rows, start)?;
-            let on = attach_expr(alloc, on, &sight, grown)?;
-            let grown = selected(alloc, on)?;
-            let rows = trimmed(alloc, grown, start, width)?;
+            let rows = kept(alloc, rows, on, sight)?;
             Ok(rows)
         }
         BoundSource::Outer(a, b, nulls, on) => {
-            let left = source(alloc, a.get(), outer, start)?;
-            let right = right_source(alloc, b, outer, start)?;
-            let width = left.width.checked_add(right.rows.width).ok_or(AllocError)?;
-            let sight = Sight {
-                outer,
-                start,
-                width,
-            };
-            match plain_condition(alloc, on, &sight)? {
-                Some(condition) => {
-                    let rows = outer_joined(alloc, left, right, *nulls, condition)?;
-                    Ok(rows)
-                }
-                None => {
-                    let begin = start.checked_add(left.width).ok_or(AllocError)?;
-                    let rows = source(alloc, b.get(), outer, begin)?;
-                    let inner = rows.width;
-                    let width = left.width.checked_add(inner).ok_or(AllocError)?;
-                    let sight = Sight {
-                        outer,
-                        start,
-                        width,
-                    };
-                    let grown = grown_from(rows, begin)?;
-                    let on = attach_expr(alloc, on, &sight, grown)?;
-                    let grown = selected(alloc, on)?;
-                    let rows = trimmed(alloc, grown, begin, inner)?;
-                    let rows = lateral_outer(alloc, left, rows, begin, *nulls)?;
-                    Ok(rows)
-                }
-            }
+            let left = source(alloc, a.get(), sight)?;
+            let rows = outer_source(alloc, left, b.get(), *nulls, on, sight)?;
+            Ok(rows)
         }
     }
 }
 
-// A source to the right of another one. Where it reads nothing of the rows around it has no domain.
+// The rows that ON keeps.
+#[cycle(depend)]
+fn kept(alloc: Global, rows: Rows, on: &BoundExpr, sight: &SourceSight) -> Result<Rows, AllocError>
+    ensures tree { IfOk result (λ r. ExprIsSupplied on.now sight.now.outer.now rows.width
+        → IsKept on.now sight.now.outer.now sight.now.so_far.now sight.now.start rows.tree
+        rows.width r.tree) }
+    ensures width { IfOk result (λ r. r.width ≡ rows.width) }
+{
+    let start = sight.start;
+    let width = rows.width;
+    let sight = Sight {
+        outer: sight.outer,
+        start,
+        width,
+    };
+    let grown = grown_from(rows, start)?;
+    let on = attach_expr(alloc, on, &sight, grown)?;
+    let grown = selected(alloc, on)?;
+    let rows = trimmed(alloc, grown, start, width)?;
+    Ok(rows)
+}
+
+// LEFT OUTER JOIN. Where ON has a subquery, the right side keeps its rows by ON itself.
+#[cycle(depend)]
+fn outer_source(
+    alloc: Global,
+    left: Rows,
+    right: &BoundSource,
+    nulls: u32,
+    on: &BoundExpr,
+    sight: &SourceSight,
+) -> Result<Rows, AllocError>
+    ensures tree { IfOk result (λ r. IsOuterTree right.now nulls on.now sight.now.outer.now
+        sight.now.so_far.now sight.now.before sight.now.start left.tree left.width r.tree r.width) }
+    ensures width { IfOk result (λ r. r.width ≡ left.width + nulls) }
+{
+    let width = left.width.checked_add(nulls).ok_or(AllocError)?;
+    let on_sight = Sight {
+        outer: sight.outer,
+        start: sight.start,
+        width,
+    };
+    match plain_condition(alloc, on, &on_sight)? {
+        Some(condition) => {
+            let right = right_source(alloc, right, sight, left.width)?;
+            let rows = outer_joined(alloc, left, right, nulls, condition)?;
+            Ok(rows)
+        }
+        None => {
+            let right = kept_right(alloc, right, nulls, on, sight, left.width)?;
+            let condition = always(alloc)?;
+            let rows = outer_joined(alloc, left, right, nulls, condition)?;
+            Ok(rows)
+        }
+    }
+}
+
+// A source to the right of a left row of `width` columns. Where it reads nothing of any row it has
+// no domain; where it reads the row so far, its domain is just what it reads.
 #[cycle(depend)]
 fn right_source(
     alloc: Global,
-    s: &Boxed<BoundSource>,
-    outer: &[OuterColumn],
-    start: u32,
+    s: &BoundSource,
+    sight: &SourceSight,
+    width: u32,
 ) -> Result<RightRows, AllocError>
-    ensures tree { IfOk result (λ r. SourceIsSupplied s.now outer.now
-        → IsRightTree (tables_of_source s.now) (source_of s.now) outer.now start r.rows.tree r.side
-        r.rows.width) }
-    ensures width { IfOk result (λ r. IsWidthOf (from_kinds s.now) r.rows.width) }
+    ensures tree { IfOk result (λ r. SourceIsSupplied s.now sight.now.outer.now sight.now.so_far.now
+        sight.now.before (sight.now.before + width)
+        → IsRightSource s.now sight.now.outer.now sight.now.so_far.now sight.now.before
+        sight.now.start width r.rows.tree r.side r.rows.width) }
+    ensures width { IfOk result (λ r. IsSourceWidth s.now r.rows.width) }
 {
-    let reads = reads_outer(alloc, s.get())?;
-    if reads {
-        let rows = source(alloc, s.get(), outer, start)?;
+    let before = sight.before.checked_add(width).ok_or(AllocError)?;
+    let outer = source_columns(alloc, s)?;
+    let so_far = so_far_places(alloc, s)?;
+    if !so_far.is_empty() {
+        let columns = right_places(alloc, sight, outer.as_slice(), so_far.as_slice())?;
+        let start = u32::try_from(columns.len()).map_err(|_| AllocError)?;
+        let own = SourceSight {
+            outer: outer.as_slice(),
+            so_far: so_far.as_slice(),
+            before,
+            start,
+        };
+        let rows = source(alloc, s, &own)?;
+        let side = Side::Dependent(columns);
+        Ok(RightRows { rows, side })
+    } else if !outer.is_empty() {
+        let own = SourceSight {
+            outer: sight.outer,
+            so_far: &[],
+            before,
+            start: sight.start,
+        };
+        let rows = source(alloc, s, &own)?;
         let side = Side::Shared;
         Ok(RightRows { rows, side })
     } else {
-        let rows = source(alloc, s.get(), &[], 0)?;
+        let own = SourceSight {
+            outer: &[],
+            so_far: &[],
+            before,
+            start: 0,
+        };
+        let rows = source(alloc, s, &own)?;
         let side = Side::Closed;
         Ok(RightRows { rows, side })
     }
+}
+
+// A source of `nulls` columns to the right of a left row of `width` columns, with the rows that ON
+// keeps: over the domain of what both read, and then the left row.
+#[cycle(depend)]
+fn kept_right(
+    alloc: Global,
+    s: &BoundSource,
+    nulls: u32,
+    on: &BoundExpr,
+    sight: &SourceSight,
+    width: u32,
+) -> Result<RightRows, AllocError>
+    ensures { IfOk result (λ r. JoinIsSupplied s.now on.now nulls sight.now.outer.now
+        sight.now.so_far.now sight.now.before width
+        → IsKeptRight s.now on.now sight.now.outer.now sight.now.so_far.now sight.now.before
+        sight.now.start width r.rows.tree r.side nulls) }
+{
+    let outer = join_columns(alloc, s, on)?;
+    let so_far = so_far_places(alloc, s)?;
+    let columns = right_places(alloc, sight, outer.as_slice(), so_far.as_slice())?;
+    let begin = u32::try_from(columns.len()).map_err(|_| AllocError)?;
+    let columns = with_left_row(columns, sight.start, width)?;
+    let start = begin.checked_add(width).ok_or(AllocError)?;
+    let before = sight.before.checked_add(width).ok_or(AllocError)?;
+    let own = SourceSight {
+        outer: outer.as_slice(),
+        so_far: so_far.as_slice(),
+        before,
+        start,
+    };
+    let rows = source(alloc, s, &own)?;
+    let joined = width.checked_add(nulls).ok_or(AllocError)?;
+    let sight = Sight {
+        outer: outer.as_slice(),
+        start: begin,
+        width: joined,
+    };
+    let grown = grown_from(rows, start)?;
+    let on = attach_expr(alloc, on, &sight, grown)?;
+    let grown = selected(alloc, on)?;
+    let rows = trimmed(alloc, grown, start, nulls)?;
+    let side = Side::Dependent(columns);
+    Ok(RightRows { rows, side })
 }
 
 // A subquery, over the domain of the columns of the rows around that it reads.

@@ -5,6 +5,7 @@ use Rattle.expr_scalar.specs.declared.expr.Expr.{Expr}
 use Rattle.base_schema.specs.declared.table.TableName.{TableName}
 use Rattle.sql_bound_query.specs.declared.query.BoundAggregate.{BoundAggregate, roll-BoundAggregate}
 use Rattle.sql_bound_query.specs.declared.query.BoundAggregate.TheFolds.{ind-BoundBlock}
+use Rattle.sql_bound_query.specs.declared.query.BoundAggregate.TheFolds.{ind-BoundSource}
 use Rattle.sql_bound_query.specs.declared.query.BoundAggregate.TheFolds.{map-BoundAggregate}
 use Rattle.sql_bound_query.specs.declared.query.BoundAggregate.TheFolds.{map-BoundBlock}
 use Rattle.sql_bound_query.specs.declared.query.BoundAggregate.TheFolds.{map-BoundSource, map-Input}
@@ -47,6 +48,7 @@ module _ (A : BoundAggregate → Type 0) (B : BoundBlock → Type 0) (S : BoundS
     pub distinct : (q : BoundBlock) → B q → B (block.Distinct q)
     pub table : (t : TableName) → S (source.Table t)
     pub derived : (q : BoundBlock) → B q → S (source.Derived q)
+    pub lateral : (q : BoundBlock) → B q → S (source.Lateral q)
     pub cross : (a : BoundSource) → S a → (b : BoundSource) → S b → S (source.Cross a b)
     pub inner : (a : BoundSource) → S a → (b : BoundSource) → S b → (on : BoundExpr) → E on
         → S (source.Inner a b on)
@@ -90,6 +92,7 @@ module _ (A : BoundAggregate → Type 0) (B : BoundBlock → Type 0) (S : BoundS
       Input BoundExpr (λ x. x.0) (λ x. x.0) (λ x. x.0) (λ x. x.0) (λ x. x.0) y))
   source_node s (f.Table t) = subst S (sym (source.rolls-Table t)) (s.table t)
   source_node s (f.Derived q) = subst S (sym (source.rolls-Derived q.0)) (s.derived q.0 q.1)
+  source_node s (f.Lateral q) = subst S (sym (source.rolls-Lateral q.0)) (s.lateral q.0 q.1)
   source_node s (f.Cross a b) = subst S (sym (source.rolls-Cross a.0 b.0)) (s.cross a.0 a.1 b.0 b.1)
   source_node s (f.Inner a b on) =
       subst S (sym (source.rolls-Inner a.0 b.0 on.0)) (s.inner a.0 a.1 b.0 b.1 on.0 on.1)
@@ -107,6 +110,16 @@ module _ (A : BoundAggregate → Type 0) (B : BoundBlock → Type 0) (S : BoundS
   input_node s (f.Exists q) = subst I (sym (input.rolls-Exists q.0)) (s.exists q.0 q.1)
   input_node s (f.In e q) = subst I (sym (input.rolls-In e.0 q.0)) (s.among e.0 e.1 q.0 q.1)
   input_node s (f.Scalar q) = subst I (sym (input.rolls-Scalar q.0)) (s.scalar q.0 q.1)
+
+  -- the same of a source
+  pub source_induction : Steps → (x : BoundSource) → S x
+  source_induction s =
+      ind-BoundSource A B S I E
+      (λ x y is. subst (λ z. A (roll-BoundAggregate z)) is (aggregate_node s y))
+      (λ x y is. subst (λ z. B (roll-BoundBlock z)) is (block_node s y))
+      (λ x y is. subst (λ z. S (roll-BoundSource z)) is (source_node s y))
+      (λ x y is. subst (λ z. I (roll-Input z)) is (input_node s y))
+      (λ x y is. subst (λ z. E (roll-BoundExpr z)) is (s.expr y.inputs y.expr))
 
   pub induction : Steps → (q : BoundBlock) → B q
   induction s =

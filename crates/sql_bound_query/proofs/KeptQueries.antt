@@ -35,21 +35,25 @@ use Rattle.sql_bound_query.specs.declared.query.BoundSource.TheVariants as sourc
 use Rattle.sql_bound_query.specs.declared.query.Input.{Input}
 use Rattle.sql_bound_query.specs.declared.query.Input.TheVariants as input
 use Rattle.sql_bound_query.specs.Meaning.{Env, InputMeaning, ExprMeaning, AggregateMeaning}
-use Rattle.sql_bound_query.specs.Meaning.{RowsMeaning, holds_for, listed, groups, single_value}
-use Rattle.sql_bound_query.specs.Meaning.{aggregate_meaning, block_meaning, source_meaning}
+use Rattle.sql_bound_query.specs.Meaning.{RowsMeaning, FromMeaning, holds_for, listed, groups}
+use Rattle.sql_bound_query.specs.Meaning.{single_value, aggregate_meaning, block_meaning}
+use Rattle.sql_bound_query.specs.Meaning.{source_meaning}
 use Rattle.sql_bound_query.specs.Meaning.{input_meaning, expr_meaning}
-use Rattle.sql_bound_query.specs.Typing.{EnvKinds, KindMeaning, KindsMeaning, ExprTyping, env_is_of}
+use Rattle.sql_bound_query.specs.Typing.{EnvKinds, KindMeaning, KindsMeaning, FromKinds, ExprTyping}
+use Rattle.sql_bound_query.specs.Typing.{env_is_of}
 use Rattle.sql_bound_query.specs.Typing.{where_some, where_true, all_some, kind_of_sort, sort_over}
 use Rattle.sql_bound_query.specs.Typing.{only_kind, column_kinds, joined_kinds, listed_kinds}
 use Rattle.sql_bound_query.specs.Typing.{group_kinds, kind_of_aggregate, block_kinds, from_kinds}
 use Rattle.sql_bound_query.specs.Typing.{kind_of_input, typing_of}
 use Rattle.sql_bound_query.proofs.Opened.{input_Column, input_Exists, input_In, input_Scalar}
 use Rattle.sql_bound_query.proofs.Opened.{aggregate_CountRows, aggregate_Of, source_Table}
-use Rattle.sql_bound_query.proofs.Opened.{source_Derived, source_Cross, source_Inner, source_Outer}
+use Rattle.sql_bound_query.proofs.Opened.{source_Derived, source_Lateral, source_Cross, source_Inner}
+use Rattle.sql_bound_query.proofs.Opened.{source_Outer}
 use Rattle.sql_bound_query.proofs.Opened.{block_Plain, block_Grouped, block_Distinct, expr_is}
 use Rattle.sql_bound_query.proofs.TypingOpened.{kind_Column, kind_Exists, kind_In, kind_Scalar}
 use Rattle.sql_bound_query.proofs.TypingOpened.{kind_CountRows, kind_Of, kinds_Table, kinds_Derived}
-use Rattle.sql_bound_query.proofs.TypingOpened.{kinds_Cross, kinds_Inner, kinds_Outer, kinds_Plain}
+use Rattle.sql_bound_query.proofs.TypingOpened.{kinds_Lateral, kinds_Cross, kinds_Inner, kinds_Outer}
+use Rattle.sql_bound_query.proofs.TypingOpened.{kinds_Plain}
 use Rattle.sql_bound_query.proofs.TypingOpened.{kinds_Grouped, kinds_Distinct, typing_is}
 use Rattle.sql_bound_query.proofs.Induction.{Withs, parts, induction}
 use Rattle.sql_bound_query.proofs.KeptRows as kept
@@ -76,8 +80,9 @@ module _ (state : State)
       → block_kinds q kinds ≡ Some ks → Each (Rows ks) (block_meaning state q env)
 
   abbrev S : BoundSource → Type 0
-  S s = (kinds : EnvKinds) (env : Env) (ks : List Kind) → env_is_of kinds env ≡ true
-      → from_kinds s kinds ≡ Some ks → Each (Rows ks) (source_meaning state s env)
+  S s = (js : List Kind) (kinds : EnvKinds) (p : List Value) (env : Env) (ks : List Kind)
+      → row_is_of js p ≡ true → env_is_of kinds env ≡ true
+      → from_kinds s js kinds ≡ Some ks → Each (Rows ks) (source_meaning state s p env)
 
   abbrev I : Input → Type 0
   I i = (kinds : EnvKinds) (env : Env) (k : Kind) → env_is_of kinds env ≡ true
@@ -224,19 +229,26 @@ module _ (state : State)
   -- ---- sources
 
   table_kept : (t : TableName) → S (source.Table t)
-  table_kept t kinds env ks h e =
+  table_kept t js kinds p env ks so h e =
       let f : Some (column_kinds t) ≡ Some ks =
-      sym (ap (λ (m : KindsMeaning). m kinds) (kinds_Table t)) ∙ e in
-      subst (λ (m : RowsMeaning). Each (Rows ks) (m env)) (sym (source_Table state t))
+      sym (ap (λ (m : FromKinds). m js kinds) (kinds_Table t)) ∙ e in
+      subst (λ (m : FromMeaning). Each (Rows ks) (m p env)) (sym (source_Table state t))
       (subst (λ z. Each (Rows z) (scanned (table_rows state t))) (some_is (column_kinds t) ks f)
       (tables t))
 
   derived_kept : (q : BoundBlock) → B q → S (source.Derived q)
-  derived_kept q b kinds env ks h e =
+  derived_kept q b js kinds p env ks so h e =
       let f : block_kinds q [] ≡ Some ks =
-      sym (ap (λ (m : KindsMeaning). m kinds) (kinds_Derived q)) ∙ e in
-      subst (λ (m : RowsMeaning). Each (Rows ks) (m env)) (sym (source_Derived state q))
+      sym (ap (λ (m : FromKinds). m js kinds) (kinds_Derived q)) ∙ e in
+      subst (λ (m : FromMeaning). Each (Rows ks) (m p env)) (sym (source_Derived state q))
       (b [] [] ks refl f)
+
+  lateral_kept : (q : BoundBlock) → B q → S (source.Lateral q)
+  lateral_kept q b js kinds p env ks so h e =
+      let f : block_kinds q (js ∷ kinds) ≡ Some ks =
+      sym (ap (λ (m : FromKinds). m js kinds) (kinds_Lateral q)) ∙ e in
+      subst (λ (m : FromMeaning). Each (Rows ks) (m p env)) (sym (source_Lateral state q))
+      (b (js ∷ kinds) (p ∷ env) ks (both_so (row_is_of js p) (env_is_of kinds env) so h) f)
 
   both_rows : (ls rs ks : List Kind) → ls ++ rs ≡ ks → (x y : List Value) → row_is_of ls x ≡ true
       → row_is_of rs y ≡ true → row_is_of ks (x ++ y) ≡ true
@@ -244,66 +256,70 @@ module _ (state : State)
       subst (λ z. row_is_of z (x ++ y) ≡ true) is (row_append ls rs x y p q)
 
   cross_kept : (a : BoundSource) → S a → (b : BoundSource) → S b → S (source.Cross a b)
-  cross_kept a sa b sb kinds env ks h e =
-      let t : where_some (from_kinds a kinds)
-      (λ ls. where_some (from_kinds b kinds) (λ rs. Some (ls ++ rs)))
-      ≡ Some ks = sym (ap (λ (m : KindsMeaning). m kinds) (kinds_Cross a b)) ∙ e in
-      let f : Found (from_kinds a kinds)
-      (λ ls. where_some (from_kinds b kinds) (λ rs. Some (ls ++ rs))) ks =
-      some_of (from_kinds a kinds) (λ ls. where_some (from_kinds b kinds) (λ rs. Some (ls ++ rs)))
-      ks t in
-      let g : Found (from_kinds b kinds) (λ rs. Some (f.it ++ rs)) ks =
-      some_of (from_kinds b kinds) (λ rs. Some (f.it ++ rs)) ks f.gives in
-      subst (λ (m : RowsMeaning). Each (Rows ks) (m env)) (sym (source_Cross state a b))
+  cross_kept a sa b sb js kinds p env ks so h e =
+      let right : List Kind → Option (List Kind) = λ ls. from_kinds b (js ++ ls) kinds in
+      let t : where_some (from_kinds a js kinds)
+      (λ ls. where_some (right ls) (λ rs. Some (ls ++ rs)))
+      ≡ Some ks = sym (ap (λ (m : FromKinds). m js kinds) (kinds_Cross a b)) ∙ e in
+      let f : Found (from_kinds a js kinds)
+      (λ ls. where_some (right ls) (λ rs. Some (ls ++ rs))) ks =
+      some_of (from_kinds a js kinds) (λ ls. where_some (right ls) (λ rs. Some (ls ++ rs))) ks t in
+      let g : Found (right f.it) (λ rs. Some (f.it ++ rs)) ks =
+      some_of (right f.it) (λ rs. Some (f.it ++ rs)) ks f.gives in
+      subst (λ (m : FromMeaning). Each (Rows ks) (m p env)) (sym (source_Cross state a b))
       (kept.cross_each (λ r. row_is_of f.it r ≡ true) (λ r. row_is_of g.it r ≡ true)
-      (λ r. row_is_of ks r ≡ true) (source_meaning state a env) (source_meaning state b env)
-      (both_rows f.it g.it ks (some_is (f.it ++ g.it) ks g.gives)) (sa kinds env f.it h f.is)
-      (sb kinds env g.it h g.is))
+      (λ r. row_is_of ks r ≡ true) (source_meaning state a p env)
+      (λ l. source_meaning state b (p ++ l) env)
+      (both_rows f.it g.it ks (some_is (f.it ++ g.it) ks g.gives)) (sa js kinds p env f.it so h f.is)
+      (λ l k. sb (js ++ f.it) kinds (p ++ l) env g.it (row_append js f.it p l so k) h g.is))
 
   inner_kept : (a : BoundSource) → S a → (b : BoundSource) → S b → (on : BoundExpr) → E on
       → S (source.Inner a b on)
-  inner_kept a sa b sb on eo kinds env ks h e =
+  inner_kept a sa b sb on eo js kinds p env ks so h e =
+      let right : List Kind → Option (List Kind) = λ ls. from_kinds b (js ++ ls) kinds in
       let last : List Kind → List Kind → Option (List Kind) =
       λ ls rs. joined_kinds (typing_of on) kinds ls rs in
-      let t : where_some (from_kinds a kinds) (λ ls. where_some (from_kinds b kinds) (last ls))
-      ≡ Some ks = sym (ap (λ (m : KindsMeaning). m kinds) (kinds_Inner a b on)) ∙ e in
-      let f : Found (from_kinds a kinds) (λ ls. where_some (from_kinds b kinds) (last ls)) ks =
-      some_of (from_kinds a kinds) (λ ls. where_some (from_kinds b kinds) (last ls)) ks t in
-      let g : Found (from_kinds b kinds) (last f.it) ks =
-      some_of (from_kinds b kinds) (last f.it) ks f.gives in
-      let p : Passed ((typing_of on).is_condition ((f.it ++ g.it) ∷ kinds)) (Some (f.it ++ g.it))
+      let t : where_some (from_kinds a js kinds) (λ ls. where_some (right ls) (last ls))
+      ≡ Some ks = sym (ap (λ (m : FromKinds). m js kinds) (kinds_Inner a b on)) ∙ e in
+      let f : Found (from_kinds a js kinds) (λ ls. where_some (right ls) (last ls)) ks =
+      some_of (from_kinds a js kinds) (λ ls. where_some (right ls) (last ls)) ks t in
+      let g : Found (right f.it) (last f.it) ks =
+      some_of (right f.it) (last f.it) ks f.gives in
+      let t : Passed ((typing_of on).is_condition ((f.it ++ g.it) ∷ kinds)) (Some (f.it ++ g.it))
       ks = passed ((typing_of on).is_condition ((f.it ++ g.it) ∷ kinds)) (Some (f.it ++ g.it)) ks
       g.gives in
-      subst (λ (m : RowsMeaning). Each (Rows ks) (m env)) (sym (source_Inner state a b on))
+      subst (λ (m : FromMeaning). Each (Rows ks) (m p env)) (sym (source_Inner state a b on))
       (kept.join_each (λ r. row_is_of f.it r ≡ true) (λ r. row_is_of g.it r ≡ true)
       (λ r. row_is_of ks r ≡ true) (holds_for (expr_meaning state on) env)
-      (source_meaning state a env) (source_meaning state b env)
-      (both_rows f.it g.it ks (some_is (f.it ++ g.it) ks p.is)) (sa kinds env f.it h f.is)
-      (sb kinds env g.it h g.is))
+      (source_meaning state a p env) (λ l. source_meaning state b (p ++ l) env)
+      (both_rows f.it g.it ks (some_is (f.it ++ g.it) ks t.is)) (sa js kinds p env f.it so h f.is)
+      (λ l k. sb (js ++ f.it) kinds (p ++ l) env g.it (row_append js f.it p l so k) h g.is))
 
   outer_kept : (a : BoundSource) → S a → (b : BoundSource) → S b → (width : ℕ) (on : BoundExpr)
       → E on → S (source.Outer a b width on)
-  outer_kept a sa b sb width on eo kinds env ks h e =
+  outer_kept a sa b sb width on eo js kinds p env ks so h e =
+      let right : List Kind → Option (List Kind) = λ ls. from_kinds b (js ++ ls) kinds in
       let last : List Kind → List Kind → Option (List Kind) =
       λ ls rs. if width == length rs then joined_kinds (typing_of on) kinds ls rs else None in
-      let t : where_some (from_kinds a kinds) (λ ls. where_some (from_kinds b kinds) (last ls))
-      ≡ Some ks = sym (ap (λ (m : KindsMeaning). m kinds) (kinds_Outer a b width on)) ∙ e in
-      let f : Found (from_kinds a kinds) (λ ls. where_some (from_kinds b kinds) (last ls)) ks =
-      some_of (from_kinds a kinds) (λ ls. where_some (from_kinds b kinds) (last ls)) ks t in
-      let g : Found (from_kinds b kinds) (last f.it) ks =
-      some_of (from_kinds b kinds) (last f.it) ks f.gives in
+      let t : where_some (from_kinds a js kinds) (λ ls. where_some (right ls) (last ls))
+      ≡ Some ks = sym (ap (λ (m : FromKinds). m js kinds) (kinds_Outer a b width on)) ∙ e in
+      let f : Found (from_kinds a js kinds) (λ ls. where_some (right ls) (last ls)) ks =
+      some_of (from_kinds a js kinds) (λ ls. where_some (right ls) (last ls)) ks t in
+      let g : Found (right f.it) (last f.it) ks =
+      some_of (right f.it) (last f.it) ks f.gives in
       let w : Passed (width == length g.it) (joined_kinds (typing_of on) kinds f.it g.it) ks =
       passed (width == length g.it) (joined_kinds (typing_of on) kinds f.it g.it) ks g.gives in
-      let p : Passed ((typing_of on).is_condition ((f.it ++ g.it) ∷ kinds)) (Some (f.it ++ g.it))
+      let t : Passed ((typing_of on).is_condition ((f.it ++ g.it) ∷ kinds)) (Some (f.it ++ g.it))
       ks = passed ((typing_of on).is_condition ((f.it ++ g.it) ∷ kinds)) (Some (f.it ++ g.it)) ks
       w.is in
-      subst (λ (m : RowsMeaning). Each (Rows ks) (m env)) (sym (source_Outer state a b width on))
+      subst (λ (m : FromMeaning). Each (Rows ks) (m p env)) (sym (source_Outer state a b width on))
       (kept.outer_each (λ r. row_is_of f.it r ≡ true) (λ r. row_is_of g.it r ≡ true)
       (λ r. row_is_of ks r ≡ true) (replicate width Null) (holds_for (expr_meaning state on) env)
-      (source_meaning state a env) (source_meaning state b env)
-      (both_rows f.it g.it ks (some_is (f.it ++ g.it) ks p.is))
-      (nulls_row g.it width ((Decides-eqb width (length g.it)).0 w.test)) (sa kinds env f.it h f.is)
-      (sb kinds env g.it h g.is))
+      (source_meaning state a p env) (λ l. source_meaning state b (p ++ l) env)
+      (both_rows f.it g.it ks (some_is (f.it ++ g.it) ks t.is))
+      (nulls_row g.it width ((Decides-eqb width (length g.it)).0 w.test))
+      (sa js kinds p env f.it so h f.is)
+      (λ l k. sb (js ++ f.it) kinds (p ++ l) env g.it (row_append js f.it p l so k) h g.is))
 
   -- ---- queries
 
@@ -314,22 +330,22 @@ module _ (state : State)
       λ ls. listed_kinds (map typing_of (parts {P = E} list)) (ls ∷ kinds) in
       let last : List Kind → Option (List Kind) =
       λ ls. if (typing_of condition).is_condition (ls ∷ kinds) then shown ls else None in
-      let t : where_some (from_kinds from kinds) last ≡ Some ks =
+      let t : where_some (from_kinds from [] kinds) last ≡ Some ks =
       sym (ap (λ (m : KindsMeaning). m kinds) (kinds_Plain from condition (parts {P = E} list)))
       ∙ e in
-      let f : Found (from_kinds from kinds) last ks = some_of (from_kinds from kinds) last ks t in
+      let f : Found (from_kinds from [] kinds) last ks = some_of (from_kinds from [] kinds) last ks t in
       let p : Passed ((typing_of condition).is_condition (f.it ∷ kinds)) (shown f.it) ks =
       passed ((typing_of condition).is_condition (f.it ∷ kinds)) (shown f.it) ks f.gives in
       subst (λ (m : RowsMeaning). Each (Rows ks) (m env))
       (sym (block_Plain state from condition (parts {P = E} list)))
       (kept.project_each (λ r. row_is_of f.it r ≡ true) (λ r. row_is_of ks r ≡ true)
       (listed (map (expr_meaning state) (parts {P = E} list)) env)
-      (select (holds_for (expr_meaning state condition) env) (source_meaning state from env))
+      (select (holds_for (expr_meaning state condition) env) (source_meaning state from [] env))
       (λ r q. list_kept list (f.it ∷ kinds) (r ∷ env) ks
       (both_so (row_is_of f.it r) (env_is_of kinds env) q h) p.is)
       (kept.select_each (λ r. row_is_of f.it r ≡ true)
-      (holds_for (expr_meaning state condition) env) (source_meaning state from env)
-      (sf kinds env f.it h f.is)))
+      (holds_for (expr_meaning state condition) env) (source_meaning state from [] env)
+      (sf [] kinds [] env f.it refl h f.is)))
 
   -- groups of rows of some kinds
   groups_kept : (ls js ms : List Kind) (keys : List ℕ)
@@ -359,11 +375,11 @@ module _ (state : State)
       let last : List Kind → Option (List Kind) =
       λ ls. if (typing_of condition).is_condition (ls ∷ kinds) then where_some (made ls) kept_groups
       else None in
-      let t : where_some (from_kinds from kinds) last ≡ Some ks =
+      let t : where_some (from_kinds from [] kinds) last ≡ Some ks =
       sym (ap (λ (m : KindsMeaning). m kinds)
       (kinds_Grouped from condition keys (parts {P = A} aggregates) having (parts {P = E} list)))
       ∙ e in
-      let f : Found (from_kinds from kinds) last ks = some_of (from_kinds from kinds) last ks t in
+      let f : Found (from_kinds from [] kinds) last ks = some_of (from_kinds from [] kinds) last ks t in
       let p : Passed ((typing_of condition).is_condition (f.it ∷ kinds))
       (where_some (made f.it) kept_groups) ks =
       passed ((typing_of condition).is_condition (f.it ∷ kinds))
@@ -383,10 +399,10 @@ module _ (state : State)
       aggregated (map (λ (a : AggregateMeaning). a env)
       (map (aggregate_meaning state) (parts {P = A} aggregates))) in
       let there : List (Ranked Value) =
-      select (holds_for (expr_meaning state condition) env) (source_meaning state from env) in
+      select (holds_for (expr_meaning state condition) env) (source_meaning state from [] env) in
       let rows_there : Each (Rows f.it) there =
       kept.select_each (λ r. row_is_of f.it r ≡ true) (holds_for (expr_meaning state condition) env)
-      (source_meaning state from env) (sf kinds env f.it h f.is) in
+      (source_meaning state from [] env) (sf [] kinds [] env f.it refl h f.is) in
       let in_groups : Each (Rows (j.it ++ m.it)) (groups keys aggregates_of there) =
       groups_kept f.it j.it m.it keys aggregates_of there j.is
       (λ ys all. aggregates_kept aggregates kinds env f.it ys m.it h all m.is) rows_there in
@@ -478,6 +494,7 @@ module _ (state : State)
     distinct = distinct_kept;
     table = table_kept;
     derived = derived_kept;
+    lateral = lateral_kept;
     cross = cross_kept;
     inner = inner_kept;
     outer = outer_kept;

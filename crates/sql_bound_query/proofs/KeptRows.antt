@@ -6,11 +6,12 @@ use Rattle.std.proofs.lemmas.Bool.{cases_Bool}
 use Rattle.base_row_laws.specs.Ranked.{Ranked, ranked, unknown_rank, true_rank}
 use Rattle.base_row_laws.specs.Bags.{Each, each_once}
 use Rattle.base_row_laws.specs.Rows.{same_row, keep, scanned}
-use Rattle.base_row_laws.specs.Operators.{select, project, cross, pair, or_else, join_loop, outer_loop}
+use Rattle.base_row_laws.specs.Operators.{select, project, pair, or_else, join_loop, outer_loop}
 use Rattle.base_row_laws.specs.Operators.{group_by, distinct, least, greatest}
 use Rattle.base_row_laws.proofs.Lists.{Each-map, Each-filter, Each-weaker, Each-flat_map}
 use Rattle.base_row_laws.proofs.Lists.{Each-each_once}
 use Rattle.base_row_laws.proofs.Nodes.{Each-or_else}
+use Rattle.sql_bound_query.specs.Meaning.{cross_loop}
 
 -- a fact about a row's values
 abbrev pub Of : {V : Type 0} → (List V → Type 0) → Ranked V → Type 0
@@ -35,15 +36,17 @@ module _ {V : Type 0} where
       Each-map (Of Q) (λ x. ranked (f x.values) x.standing) xs
       (Each-weaker (Of P) (λ (x : Ranked V). Q (f x.values)) xs (λ x p. h x.values p) all)
 
-  pub cross_each : (P Q S : List V → Type 0) (xs ys : List (Ranked V))
-      → ((a b : List V) → P a → Q b → S (a ++ b)) → Each (Of P) xs → Each (Of Q) ys
-      → Each (Of S) (cross xs ys)
-  cross_each P Q S xs ys h left right =
+  pub cross_each : (P Q S : List V → Type 0) (xs : List (Ranked V)) (R : List V → List (Ranked V))
+      → ((a b : List V) → P a → Q b → S (a ++ b)) → Each (Of P) xs
+      → ((a : List V) → P a → Each (Of Q) (R a)) → Each (Of S) (cross_loop xs R)
+  cross_each P Q S xs R h left right =
       Each-flat_map (Of P) (Of S)
-      (λ x. map (λ y. ranked (x.values ++ y.values) (min x.standing y.standing)) ys) xs left
-      (λ x p. Each-map (Of S) (λ y. ranked (x.values ++ y.values) (min x.standing y.standing)) ys
-      (Each-weaker (Of Q) (λ (y : Ranked V). S (x.values ++ y.values)) ys
-      (λ y q. h x.values y.values p q) right))
+      (λ x. map (λ y. ranked (x.values ++ y.values) (min x.standing y.standing)) (R x.values)) xs
+      left
+      (λ x p. Each-map (Of S) (λ y. ranked (x.values ++ y.values) (min x.standing y.standing))
+      (R x.values)
+      (Each-weaker (Of Q) (λ (y : Ranked V). S (x.values ++ y.values)) (R x.values)
+      (λ y q. h x.values y.values p q) (right x.values p)))
 
   pairs_each : (P Q S : List V → Type 0) (c : List V → ℕ) (l : Ranked V) (ys : List (Ranked V))
       → ((a b : List V) → P a → Q b → S (a ++ b)) → P l.values → Each (Of Q) ys
@@ -53,23 +56,25 @@ module _ {V : Type 0} where
       (λ r q. keep_each S (l.values ++ r.values)
       (min (min l.standing r.standing) (c (l.values ++ r.values))) (h l.values r.values p q))
 
-  pub join_each : (P Q S : List V → Type 0) (c : List V → ℕ) (xs ys : List (Ranked V))
-      → ((a b : List V) → P a → Q b → S (a ++ b)) → Each (Of P) xs → Each (Of Q) ys
-      → Each (Of S) (join_loop c xs (λ l. ys))
-  join_each P Q S c xs ys h left right =
-      Each-flat_map (Of P) (Of S) (λ l. flat_map (λ r. pair c (λ a b. a ++ b) l r) ys) xs left
-      (λ l p. pairs_each P Q S c l ys h p right)
+  pub join_each : (P Q S : List V → Type 0) (c : List V → ℕ) (xs : List (Ranked V))
+      (R : List V → List (Ranked V)) → ((a b : List V) → P a → Q b → S (a ++ b))
+      → Each (Of P) xs → ((a : List V) → P a → Each (Of Q) (R a))
+      → Each (Of S) (join_loop c xs R)
+  join_each P Q S c xs R h left right =
+      Each-flat_map (Of P) (Of S) (λ l. flat_map (λ r. pair c (λ a b. a ++ b) l r) (R l.values)) xs
+      left (λ l p. pairs_each P Q S c l (R l.values) h p (right l.values p))
 
   pub outer_each : (P Q S : List V → Type 0) (nulls : List V) (c : List V → ℕ)
-      (xs ys : List (Ranked V)) → ((a b : List V) → P a → Q b → S (a ++ b)) → Q nulls
-      → Each (Of P) xs → Each (Of Q) ys → Each (Of S) (outer_loop nulls c xs (λ l. ys))
-  outer_each P Q S nulls c xs ys h n left right =
+      (xs : List (Ranked V)) (R : List V → List (Ranked V))
+      → ((a b : List V) → P a → Q b → S (a ++ b)) → Q nulls → Each (Of P) xs
+      → ((a : List V) → P a → Each (Of Q) (R a)) → Each (Of S) (outer_loop nulls c xs R)
+  outer_each P Q S nulls c xs R h n left right =
       Each-flat_map (Of P) (Of S)
-      (λ l. or_else (flat_map (λ r. pair c (λ a b. a ++ b) l r) ys)
+      (λ l. or_else (flat_map (λ r. pair c (λ a b. a ++ b) l r) (R l.values))
       (ranked (l.values ++ nulls) l.standing)) xs left
-      (λ l p. Each-or_else (Of S) (flat_map (λ r. pair c (λ a b. a ++ b) l r) ys)
-      (ranked (l.values ++ nulls) l.standing) (pairs_each P Q S c l ys h p right)
-      (h l.values nulls p n))
+      (λ l p. Each-or_else (Of S) (flat_map (λ r. pair c (λ a b. a ++ b) l r) (R l.values))
+      (ranked (l.values ++ nulls) l.standing)
+      (pairs_each P Q S c l (R l.values) h p (right l.values p)) (h l.values nulls p n))
 
   pub group_each : (P K S : List V → Type 0) (same : V → V → Bool) (key : List V → List V)
       (aggregates : List (Ranked V) → List V) (xs : List (Ranked V))

@@ -9,3 +9,4 @@ pub mod ExampleProofs
 pub mod KeepsLaw
 pub mod ReadsProofs
 pub mod TablesOpened
+pub mod LateralProofs

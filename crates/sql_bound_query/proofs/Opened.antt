@@ -2,6 +2,7 @@
 use Rattle.std.proofs.Common.{◌≡◌, ℕ, List, map, ap, ◌∙◌}
 use Rattle.expr_aggregates.specs.declared.function.AggregateFunction.{AggregateFunction}
 use Rattle.base_schema.specs.State.{State}
+use Rattle.base_value.specs.declared.value.Value.{Value}
 use Rattle.base_schema.specs.declared.table.TableName.{TableName}
 use Rattle.sql_bound_query.specs.declared.query.BoundAggregate.{BoundAggregate, out-BoundAggregate}
 use Rattle.sql_bound_query.specs.declared.query.BoundAggregate.TheVariants as aggregate
@@ -23,15 +24,15 @@ use Rattle.sql_bound_query.specs.declared.query.BoundSource.TheVariants as sourc
 use Rattle.sql_bound_query.specs.declared.query.Input.{Input, out-Input}
 use Rattle.sql_bound_query.specs.declared.query.Input.TheVariants as input
 use Rattle.sql_bound_query.specs.Meaning.{Env, InputMeaning, ExprMeaning, AggregateMeaning}
-use Rattle.sql_bound_query.specs.Meaning.{RowsMeaning, aggregate_step, block_step, source_step}
-use Rattle.sql_bound_query.specs.Meaning.{input_step, expr_step, aggregate_meaning, block_meaning}
-use Rattle.sql_bound_query.specs.Meaning.{source_meaning, input_meaning, expr_meaning}
+use Rattle.sql_bound_query.specs.Meaning.{RowsMeaning, FromMeaning, aggregate_step, block_step}
+use Rattle.sql_bound_query.specs.Meaning.{source_step, input_step, expr_step, aggregate_meaning}
+use Rattle.sql_bound_query.specs.Meaning.{block_meaning, source_meaning, input_meaning, expr_meaning}
 
 unfoldable pub aggregate_meaning_at : State
     → node.BoundAggregate-F BoundAggregate BoundBlock BoundSource Input BoundExpr → AggregateMeaning
 aggregate_meaning_at state x =
     aggregate_step (map-BoundAggregate BoundAggregate BoundBlock BoundSource Input BoundExpr
-    AggregateMeaning RowsMeaning RowsMeaning InputMeaning ExprMeaning (aggregate_meaning state)
+    AggregateMeaning RowsMeaning FromMeaning InputMeaning ExprMeaning (aggregate_meaning state)
     (block_meaning state) (source_meaning state) (input_meaning state) (expr_meaning state) x)
 
 pub aggregate_meaning_is : (state : State) (x : BoundAggregate)
@@ -39,28 +40,28 @@ pub aggregate_meaning_is : (state : State) (x : BoundAggregate)
 unfolding aggregate_meaning block_meaning source_meaning input_meaning expr_meaning
     aggregate_meaning_at
 aggregate_meaning_is state =
-    fold_out-BoundAggregate AggregateMeaning RowsMeaning RowsMeaning InputMeaning ExprMeaning
+    fold_out-BoundAggregate AggregateMeaning RowsMeaning FromMeaning InputMeaning ExprMeaning
     aggregate_step block_step (source_step state) input_step expr_step
 
 unfoldable pub block_meaning_at : State
     → node.BoundBlock-F BoundAggregate BoundBlock BoundSource Input BoundExpr → RowsMeaning
 block_meaning_at state x =
     block_step (map-BoundBlock BoundAggregate BoundBlock BoundSource Input BoundExpr
-    AggregateMeaning RowsMeaning RowsMeaning InputMeaning ExprMeaning (aggregate_meaning state)
+    AggregateMeaning RowsMeaning FromMeaning InputMeaning ExprMeaning (aggregate_meaning state)
     (block_meaning state) (source_meaning state) (input_meaning state) (expr_meaning state) x)
 
 pub block_meaning_is : (state : State) (x : BoundBlock)
     → block_meaning state x ≡ block_meaning_at state (out-BoundBlock x)
 unfolding aggregate_meaning block_meaning source_meaning input_meaning expr_meaning block_meaning_at
 block_meaning_is state =
-    fold_out-BoundBlock AggregateMeaning RowsMeaning RowsMeaning InputMeaning ExprMeaning
+    fold_out-BoundBlock AggregateMeaning RowsMeaning FromMeaning InputMeaning ExprMeaning
     aggregate_step block_step (source_step state) input_step expr_step
 
 unfoldable pub source_meaning_at : State
-    → node.BoundSource-F BoundAggregate BoundBlock BoundSource Input BoundExpr → RowsMeaning
+    → node.BoundSource-F BoundAggregate BoundBlock BoundSource Input BoundExpr → FromMeaning
 source_meaning_at state x =
     source_step state (map-BoundSource BoundAggregate BoundBlock BoundSource Input BoundExpr
-    AggregateMeaning RowsMeaning RowsMeaning InputMeaning ExprMeaning (aggregate_meaning state)
+    AggregateMeaning RowsMeaning FromMeaning InputMeaning ExprMeaning (aggregate_meaning state)
     (block_meaning state) (source_meaning state) (input_meaning state) (expr_meaning state) x)
 
 pub source_meaning_is : (state : State) (x : BoundSource)
@@ -68,34 +69,34 @@ pub source_meaning_is : (state : State) (x : BoundSource)
 unfolding aggregate_meaning block_meaning source_meaning input_meaning expr_meaning
     source_meaning_at
 source_meaning_is state =
-    fold_out-BoundSource AggregateMeaning RowsMeaning RowsMeaning InputMeaning ExprMeaning
+    fold_out-BoundSource AggregateMeaning RowsMeaning FromMeaning InputMeaning ExprMeaning
     aggregate_step block_step (source_step state) input_step expr_step
 
 unfoldable pub input_meaning_at : State
     → node.Input-F BoundAggregate BoundBlock BoundSource Input BoundExpr → InputMeaning
 input_meaning_at state x =
     input_step (map-Input BoundAggregate BoundBlock BoundSource Input BoundExpr AggregateMeaning
-    RowsMeaning RowsMeaning InputMeaning ExprMeaning (aggregate_meaning state) (block_meaning state)
+    RowsMeaning FromMeaning InputMeaning ExprMeaning (aggregate_meaning state) (block_meaning state)
     (source_meaning state) (input_meaning state) (expr_meaning state) x)
 
 pub input_meaning_is : (state : State) (x : Input)
     → input_meaning state x ≡ input_meaning_at state (out-Input x)
 unfolding aggregate_meaning block_meaning source_meaning input_meaning expr_meaning input_meaning_at
 input_meaning_is state =
-    fold_out-Input AggregateMeaning RowsMeaning RowsMeaning InputMeaning ExprMeaning aggregate_step
+    fold_out-Input AggregateMeaning RowsMeaning FromMeaning InputMeaning ExprMeaning aggregate_step
     block_step (source_step state) input_step expr_step
 
 unfoldable pub expr_meaning_at : State
     → node.BoundExpr-F BoundAggregate BoundBlock BoundSource Input BoundExpr → ExprMeaning
 expr_meaning_at state x =
     expr_step (map-BoundExpr BoundAggregate BoundBlock BoundSource Input BoundExpr AggregateMeaning
-    RowsMeaning RowsMeaning InputMeaning ExprMeaning (aggregate_meaning state) (block_meaning state)
+    RowsMeaning FromMeaning InputMeaning ExprMeaning (aggregate_meaning state) (block_meaning state)
     (source_meaning state) (input_meaning state) (expr_meaning state) x)
 
 pub expr_meaning_is : (state : State) (x : BoundExpr)
     → expr_meaning state x ≡ expr_meaning_at state (out-BoundExpr x)
 unfolding aggregate_meaning block_meaning source_meaning input_meaning expr_meaning expr_meaning_at
-expr_meaning_is state = fold_out-BoundExpr AggregateMeaning RowsMeaning RowsMeaning InputMeaning
+expr_meaning_is state = fold_out-BoundExpr AggregateMeaning RowsMeaning FromMeaning InputMeaning
     ExprMeaning aggregate_step block_step (source_step state) input_step expr_step
 
 pub input_Column : (state : State) (level : ℕ) (place : ℕ)
@@ -149,6 +150,13 @@ pub source_Derived : (state : State) (q : BoundBlock)
 unfolding source_meaning_at
 source_Derived state q = source_meaning_is state (source.Derived q)
     ∙ ap (source_meaning_at state) (source.outs-Derived q)
+
+pub source_Lateral : (state : State) (q : BoundBlock)
+    → source_meaning state (source.Lateral q)
+    ≡ source_step state (node.Lateral (block_meaning state q))
+unfolding source_meaning_at
+source_Lateral state q = source_meaning_is state (source.Lateral q)
+    ∙ ap (source_meaning_at state) (source.outs-Lateral q)
 
 pub source_Cross : (state : State) (a : BoundSource) (b : BoundSource)
     → source_meaning state (source.Cross a b)
@@ -238,33 +246,39 @@ pub aggregate_Of_at : (state : State) (function : AggregateFunction) (scale : �
 aggregate_Of_at state function scale argument env =
     ap (λ (m : AggregateMeaning). m env) (aggregate_Of state function scale argument)
 
-pub source_Table_at : (state : State) (t : TableName) (env : Env)
-    → source_meaning state (source.Table t) env ≡ source_step state (node.Table t) env
-source_Table_at state t env = ap (λ (m : RowsMeaning). m env) (source_Table state t)
+pub source_Table_at : (state : State) (t : TableName) (p : List Value) (env : Env)
+    → source_meaning state (source.Table t) p env ≡ source_step state (node.Table t) p env
+source_Table_at state t p env = ap (λ (m : FromMeaning). m p env) (source_Table state t)
 
-pub source_Derived_at : (state : State) (q : BoundBlock) (env : Env)
-    → source_meaning state (source.Derived q) env
-    ≡ source_step state (node.Derived (block_meaning state q)) env
-source_Derived_at state q env = ap (λ (m : RowsMeaning). m env) (source_Derived state q)
+pub source_Derived_at : (state : State) (q : BoundBlock) (p : List Value) (env : Env)
+    → source_meaning state (source.Derived q) p env
+    ≡ source_step state (node.Derived (block_meaning state q)) p env
+source_Derived_at state q p env = ap (λ (m : FromMeaning). m p env) (source_Derived state q)
 
-pub source_Cross_at : (state : State) (a : BoundSource) (b : BoundSource) (env : Env)
-    → source_meaning state (source.Cross a b) env
-    ≡ source_step state (node.Cross (source_meaning state a) (source_meaning state b)) env
-source_Cross_at state a b env = ap (λ (m : RowsMeaning). m env) (source_Cross state a b)
+pub source_Lateral_at : (state : State) (q : BoundBlock) (p : List Value) (env : Env)
+    → source_meaning state (source.Lateral q) p env
+    ≡ source_step state (node.Lateral (block_meaning state q)) p env
+source_Lateral_at state q p env = ap (λ (m : FromMeaning). m p env) (source_Lateral state q)
+
+pub source_Cross_at : (state : State) (a : BoundSource) (b : BoundSource) (p : List Value)
+    (env : Env) → source_meaning state (source.Cross a b) p env
+    ≡ source_step state (node.Cross (source_meaning state a) (source_meaning state b)) p env
+source_Cross_at state a b p env = ap (λ (m : FromMeaning). m p env) (source_Cross state a b)
 
 pub source_Inner_at : (state : State) (a : BoundSource) (b : BoundSource) (on : BoundExpr)
-    (env : Env) → source_meaning state (source.Inner a b on) env
+    (p : List Value) (env : Env) → source_meaning state (source.Inner a b on) p env
     ≡ source_step state (node.Inner (source_meaning state a) (source_meaning state b)
-    (expr_meaning state on)) env
-source_Inner_at state a b on env = ap (λ (m : RowsMeaning). m env) (source_Inner state a b on)
+    (expr_meaning state on)) p env
+source_Inner_at state a b on p env =
+    ap (λ (m : FromMeaning). m p env) (source_Inner state a b on)
 
 pub source_Outer_at : (state : State) (a : BoundSource) (b : BoundSource) (width : ℕ)
-    (on : BoundExpr) (env : Env)
-    → source_meaning state (source.Outer a b width on) env
+    (on : BoundExpr) (p : List Value) (env : Env)
+    → source_meaning state (source.Outer a b width on) p env
     ≡ source_step state (node.Outer (source_meaning state a) (source_meaning state b) width
-    (expr_meaning state on)) env
-source_Outer_at state a b width on env =
-    ap (λ (m : RowsMeaning). m env) (source_Outer state a b width on)
+    (expr_meaning state on)) p env
+source_Outer_at state a b width on p env =
+    ap (λ (m : FromMeaning). m p env) (source_Outer state a b width on)
 
 pub block_Plain_at : (state : State) (from : BoundSource) (condition : BoundExpr)
     (list : List BoundExpr) (env : Env)
@@ -298,6 +312,7 @@ pub ruleset query_opened = (
   aggregate_Of_at,
   source_Table_at,
   source_Derived_at,
+  source_Lateral_at,
   source_Cross_at,
   source_Inner_at,
   source_Outer_at,

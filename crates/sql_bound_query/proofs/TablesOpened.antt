@@ -131,6 +131,12 @@ unfolding tables_of_source_at
 of_Derived q = tables_of_source_is (source.Derived q)
     ∙ ap tables_of_source_at (source.outs-Derived q)
 
+pub of_Lateral : (q : BoundBlock)
+    → tables_of_source (source.Lateral q) ≡ source_tables (node.Lateral (tables q))
+unfolding tables_of_source_at
+of_Lateral q = tables_of_source_is (source.Lateral q)
+    ∙ ap tables_of_source_at (source.outs-Lateral q)
+
 pub of_Cross : (a : BoundSource) (b : BoundSource)
     → tables_of_source (source.Cross a b)
     ≡ source_tables (node.Cross (tables_of_source a) (tables_of_source b))
@@ -193,6 +199,7 @@ pub ruleset tables_opened = (
   in_Of,
   of_Table,
   of_Derived,
+  of_Lateral,
   of_Cross,
   of_Inner,
   of_Outer,

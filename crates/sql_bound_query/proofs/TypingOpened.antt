@@ -21,70 +21,70 @@ use Rattle.sql_bound_query.specs.declared.query.BoundSource.{BoundSource, out-Bo
 use Rattle.sql_bound_query.specs.declared.query.BoundSource.TheVariants as source
 use Rattle.sql_bound_query.specs.declared.query.Input.{Input, out-Input}
 use Rattle.sql_bound_query.specs.declared.query.Input.TheVariants as input
-use Rattle.sql_bound_query.specs.Typing.{KindMeaning, KindsMeaning, ExprTyping, aggregate_kind}
-use Rattle.sql_bound_query.specs.Typing.{query_kinds, source_kinds, input_kind, expr_typing}
-use Rattle.sql_bound_query.specs.Typing.{kind_of_aggregate, block_kinds, from_kinds, kind_of_input}
-use Rattle.sql_bound_query.specs.Typing.{typing_of}
+use Rattle.sql_bound_query.specs.Typing.{KindMeaning, KindsMeaning, FromKinds, ExprTyping}
+use Rattle.sql_bound_query.specs.Typing.{aggregate_kind, query_kinds, source_kinds, input_kind}
+use Rattle.sql_bound_query.specs.Typing.{expr_typing, kind_of_aggregate, block_kinds, from_kinds}
+use Rattle.sql_bound_query.specs.Typing.{kind_of_input, typing_of}
 
 unfoldable pub kind_of_aggregate_at : node.BoundAggregate-F BoundAggregate BoundBlock BoundSource
     Input BoundExpr → KindMeaning
 kind_of_aggregate_at x =
     aggregate_kind (map-BoundAggregate BoundAggregate BoundBlock BoundSource Input BoundExpr
-    KindMeaning KindsMeaning KindsMeaning KindMeaning ExprTyping kind_of_aggregate block_kinds
+    KindMeaning KindsMeaning FromKinds KindMeaning ExprTyping kind_of_aggregate block_kinds
     from_kinds kind_of_input typing_of x)
 
 pub kind_of_aggregate_is : (x : BoundAggregate)
     → kind_of_aggregate x ≡ kind_of_aggregate_at (out-BoundAggregate x)
 unfolding kind_of_aggregate block_kinds from_kinds kind_of_input typing_of kind_of_aggregate_at
-kind_of_aggregate_is = fold_out-BoundAggregate KindMeaning KindsMeaning KindsMeaning KindMeaning
+kind_of_aggregate_is = fold_out-BoundAggregate KindMeaning KindsMeaning FromKinds KindMeaning
     ExprTyping aggregate_kind query_kinds source_kinds input_kind expr_typing
 
 unfoldable pub block_kinds_at : node.BoundBlock-F BoundAggregate BoundBlock BoundSource Input
     BoundExpr → KindsMeaning
 block_kinds_at x = query_kinds
     (map-BoundBlock BoundAggregate BoundBlock BoundSource Input BoundExpr KindMeaning KindsMeaning
-    KindsMeaning KindMeaning ExprTyping kind_of_aggregate block_kinds from_kinds kind_of_input
+    FromKinds KindMeaning ExprTyping kind_of_aggregate block_kinds from_kinds kind_of_input
     typing_of x)
 
 pub block_kinds_is : (x : BoundBlock) → block_kinds x ≡ block_kinds_at (out-BoundBlock x)
 unfolding kind_of_aggregate block_kinds from_kinds kind_of_input typing_of block_kinds_at
-block_kinds_is = fold_out-BoundBlock KindMeaning KindsMeaning KindsMeaning KindMeaning ExprTyping
+block_kinds_is = fold_out-BoundBlock KindMeaning KindsMeaning FromKinds KindMeaning ExprTyping
     aggregate_kind query_kinds source_kinds input_kind expr_typing
 
 unfoldable pub from_kinds_at : node.BoundSource-F BoundAggregate BoundBlock BoundSource Input
-    BoundExpr → KindsMeaning
+    BoundExpr → FromKinds
 from_kinds_at x = source_kinds
     (map-BoundSource BoundAggregate BoundBlock BoundSource Input BoundExpr KindMeaning KindsMeaning
-    KindsMeaning KindMeaning ExprTyping kind_of_aggregate block_kinds from_kinds kind_of_input
+    FromKinds KindMeaning ExprTyping kind_of_aggregate block_kinds from_kinds kind_of_input
     typing_of x)
 
 pub from_kinds_is : (x : BoundSource) → from_kinds x ≡ from_kinds_at (out-BoundSource x)
 unfolding kind_of_aggregate block_kinds from_kinds kind_of_input typing_of from_kinds_at
-from_kinds_is = fold_out-BoundSource KindMeaning KindsMeaning KindsMeaning KindMeaning ExprTyping
+from_kinds_is = fold_out-BoundSource KindMeaning KindsMeaning FromKinds KindMeaning ExprTyping
     aggregate_kind query_kinds source_kinds input_kind expr_typing
 
 unfoldable pub kind_of_input_at : node.Input-F BoundAggregate BoundBlock BoundSource Input BoundExpr
     → KindMeaning
 kind_of_input_at x = input_kind
     (map-Input BoundAggregate BoundBlock BoundSource Input BoundExpr KindMeaning KindsMeaning
-    KindsMeaning KindMeaning ExprTyping kind_of_aggregate block_kinds from_kinds kind_of_input
+    FromKinds KindMeaning ExprTyping kind_of_aggregate block_kinds from_kinds kind_of_input
     typing_of x)
 
 pub kind_of_input_is : (x : Input) → kind_of_input x ≡ kind_of_input_at (out-Input x)
 unfolding kind_of_aggregate block_kinds from_kinds kind_of_input typing_of kind_of_input_at
-kind_of_input_is = fold_out-Input KindMeaning KindsMeaning KindsMeaning KindMeaning ExprTyping
+kind_of_input_is = fold_out-Input KindMeaning KindsMeaning FromKinds KindMeaning ExprTyping
     aggregate_kind query_kinds source_kinds input_kind expr_typing
 
 unfoldable pub typing_of_at : node.BoundExpr-F BoundAggregate BoundBlock BoundSource Input BoundExpr
     → ExprTyping
 typing_of_at x = expr_typing
     (map-BoundExpr BoundAggregate BoundBlock BoundSource Input BoundExpr KindMeaning KindsMeaning
-    KindsMeaning KindMeaning ExprTyping kind_of_aggregate block_kinds from_kinds kind_of_input
+    FromKinds KindMeaning ExprTyping kind_of_aggregate block_kinds from_kinds kind_of_input
     typing_of x)
 
 pub typing_of_is : (x : BoundExpr) → typing_of x ≡ typing_of_at (out-BoundExpr x)
 unfolding kind_of_aggregate block_kinds from_kinds kind_of_input typing_of typing_of_at
-typing_of_is = fold_out-BoundExpr KindMeaning KindsMeaning KindsMeaning KindMeaning ExprTyping
+typing_of_is = fold_out-BoundExpr KindMeaning KindsMeaning FromKinds KindMeaning ExprTyping
     aggregate_kind query_kinds source_kinds input_kind expr_typing
 
 pub kind_Column : (level : ℕ) (place : ℕ)
@@ -128,6 +128,11 @@ pub kinds_Derived : (q : BoundBlock)
     → from_kinds (source.Derived q) ≡ source_kinds (node.Derived (block_kinds q))
 unfolding from_kinds_at
 kinds_Derived q = from_kinds_is (source.Derived q) ∙ ap from_kinds_at (source.outs-Derived q)
+
+pub kinds_Lateral : (q : BoundBlock)
+    → from_kinds (source.Lateral q) ≡ source_kinds (node.Lateral (block_kinds q))
+unfolding from_kinds_at
+kinds_Lateral q = from_kinds_is (source.Lateral q) ∙ ap from_kinds_at (source.outs-Lateral q)
 
 pub kinds_Cross : (a : BoundSource) (b : BoundSource)
     → from_kinds (source.Cross a b) ≡ source_kinds (node.Cross (from_kinds a) (from_kinds b))
@@ -185,6 +190,7 @@ pub ruleset typing_opened = (
   kind_Of,
   kinds_Table,
   kinds_Derived,
+  kinds_Lateral,
   kinds_Cross,
   kinds_Inner,
   kinds_Outer,

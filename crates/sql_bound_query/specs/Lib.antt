@@ -3,3 +3,4 @@ pub mod Answer
 pub mod Reads
 pub mod Typing
 pub mod Examples
+pub mod LateralExamples

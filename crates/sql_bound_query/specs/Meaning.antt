@@ -1,8 +1,9 @@
 -- The rows of a bound query, with their standings, by plain lists and nested loops.
-use Rattle.std.specs.Prelude.{ℕ, List, [], ◌∷◌, map, replicate, slice_index_or}
-use Rattle.base_row_laws.specs.Ranked.{Ranked, true_rank}
+use Rattle.std.specs.Prelude.{ℕ, List, [], ◌∷◌, ◌++◌, map, min, replicate, slice_index_or}
+use Rattle.std.specs.List.{flat_map}
+use Rattle.base_row_laws.specs.Ranked.{Ranked, ranked, true_rank}
 use Rattle.base_row_laws.specs.Rows.{columns, scanned}
-use Rattle.base_row_laws.specs.Operators.{select, project, cross, join_loop, outer_loop, group_by, total}
+use Rattle.base_row_laws.specs.Operators.{select, project, join_loop, outer_loop, group_by, total}
 use Rattle.base_row_laws.specs.Operators.{distinct, mark_of, scalar_of}
 use Rattle.base_row_laws.specs.Aggregates.{aggregated, count_rows}
 use Rattle.base_value.specs.declared.truth.Truth.{Truth}
@@ -48,9 +49,14 @@ pub record ExprMeaning : Type 0 where
 abbrev pub AggregateMeaning : Type 0
 AggregateMeaning = Env → (List Value → Value) × (List Value → Value)
 
--- the rows of a source or a query under the rows around
+-- the rows of a query under the rows around
 abbrev pub RowsMeaning : Type 0
 RowsMeaning = Env → List (Ranked Value)
+
+-- the rows of a source under the row so far, which is that of all items to its left in the same
+-- FROM, and the rows around its query
+abbrev pub FromMeaning : Type 0
+FromMeaning = List Value → RowsMeaning
 
 -- a condition over each row, put before the rows around, as a rank
 abbrev pub holds_for : ExprMeaning → Env → List Value → ℕ
@@ -73,6 +79,13 @@ in_mark x rows = mark_of written (λ r. truth_rank (compared Equal x (slice_inde
 abbrev pub single_value : List (Ranked Value) → Value
 single_value rows = scalar_of written value_rank 0 rows
 
+-- each left row with each row to its right, taken anew for it, at the lesser standing
+abbrev pub cross_loop : {V : Type 0} → List (Ranked V) → (List V → List (Ranked V))
+    → List (Ranked V)
+cross_loop ls R =
+    flat_map (λ l. map (λ r. ranked (l.values ++ r.values) (min l.standing r.standing)) (R l.values))
+    ls
+
 -- the groups by these columns, or where there are none the one group of all rows: their columns,
 -- then their aggregates
 abbrev pub groups : List ℕ → (List (Ranked Value) → List Value) → List (Ranked Value)
@@ -81,7 +94,7 @@ groups [] aggregates rows = total aggregates rows
 groups (k ∷ ks) aggregates rows = group_by same_value (columns Null (k ∷ ks)) aggregates rows
 
 -- each input
-abbrev pub input_step : node.Input-F AggregateMeaning RowsMeaning RowsMeaning InputMeaning
+abbrev pub input_step : node.Input-F AggregateMeaning RowsMeaning FromMeaning InputMeaning
     ExprMeaning → InputMeaning
 input_step (node.Column level place) env = column env level place
 input_step (node.Exists q) env = exists_mark (q env)
@@ -89,7 +102,7 @@ input_step (node.In e q) env = in_mark (e.value env) (q env)
 input_step (node.Scalar q) env = single_value (q env)
 
 -- an expression: over the row of its inputs
-abbrev pub expr_step : node.BoundExpr-F AggregateMeaning RowsMeaning RowsMeaning InputMeaning
+abbrev pub expr_step : node.BoundExpr-F AggregateMeaning RowsMeaning FromMeaning InputMeaning
     ExprMeaning → ExprMeaning
 expr_step e = record {
   value = λ env. value e.expr (map (λ (i : InputMeaning). i env) e.inputs);
@@ -97,30 +110,35 @@ expr_step e = record {
 }
 
 -- an aggregate: of its argument over each row, put before the rows around
-abbrev pub aggregate_step : node.BoundAggregate-F AggregateMeaning RowsMeaning RowsMeaning
+abbrev pub aggregate_step : node.BoundAggregate-F AggregateMeaning RowsMeaning FromMeaning
     InputMeaning ExprMeaning → AggregateMeaning
 aggregate_step node.CountRows env = (λ r. Null, count_rows (reading 0))
 aggregate_step (node.Of function scale argument) env =
     (λ r. argument.value (r ∷ env), aggregate_of function scale)
 
--- the rows of a source: a derived table and a view see no row around them
+-- The rows of a source under the row so far p and the rows around its query. A derived table and a
+-- view see no row around them, a lateral item sees p before the rows around. The right side of a
+-- comma or a join is taken anew for each left row l, which stands behind p. ON sees the joined row
+-- before the rows around, and not p.
 abbrev pub source_step : State
-    → node.BoundSource-F AggregateMeaning RowsMeaning RowsMeaning InputMeaning ExprMeaning
-    → RowsMeaning
-source_step state (node.Table t) env = scanned (table_rows state t)
-source_step state (node.Derived q) env = q []
-source_step state (node.Cross a b) env = cross (a env) (b env)
-source_step state (node.Inner a b on) env = join_loop (holds_for on env) (a env) (λ l. b env)
-source_step state (node.Outer a b width on) env =
-    outer_loop (replicate width Null) (holds_for on env) (a env) (λ l. b env)
+    → node.BoundSource-F AggregateMeaning RowsMeaning FromMeaning InputMeaning ExprMeaning
+    → FromMeaning
+source_step state (node.Table t) p env = scanned (table_rows state t)
+source_step state (node.Derived q) p env = q []
+source_step state (node.Lateral q) p env = q (p ∷ env)
+source_step state (node.Cross a b) p env = cross_loop (a p env) (λ l. b (p ++ l) env)
+source_step state (node.Inner a b on) p env =
+    join_loop (holds_for on env) (a p env) (λ l. b (p ++ l) env)
+source_step state (node.Outer a b width on) p env =
+    outer_loop (replicate width Null) (holds_for on env) (a p env) (λ l. b (p ++ l) env)
 
--- the rows of a query: FROM, WHERE, groups with their aggregates, HAVING, the select list; DISTINCT
-abbrev pub block_step : node.BoundBlock-F AggregateMeaning RowsMeaning RowsMeaning InputMeaning
+-- the rows of a query: FROM, which begins with a row so far of no columns, WHERE, groups with their aggregates, HAVING, the select list; DISTINCT
+abbrev pub block_step : node.BoundBlock-F AggregateMeaning RowsMeaning FromMeaning InputMeaning
     ExprMeaning → RowsMeaning
 block_step (node.Plain from condition list) env =
-    project (listed list env) (select (holds_for condition env) (from env))
+    project (listed list env) (select (holds_for condition env) (from [] env))
 block_step (node.Grouped from condition keys aggregates having list) env =
-    let there = select (holds_for condition env) (from env) in
+    let there = select (holds_for condition env) (from [] env) in
     let grouped = groups keys (aggregated (map (λ (a : AggregateMeaning). a env) aggregates))
     there in
     project (listed list env) (select (holds_for having env) grouped)
@@ -128,33 +146,29 @@ block_step (node.Distinct q) env = distinct same_value (q env)
 
 -- an input in a state, node by node from the leaves of its tree
 unfoldable pub input_meaning : State → Input → InputMeaning
-input_meaning state = fold-Input AggregateMeaning RowsMeaning RowsMeaning InputMeaning ExprMeaning
+input_meaning state = fold-Input AggregateMeaning RowsMeaning FromMeaning InputMeaning ExprMeaning
     aggregate_step block_step (source_step state) input_step expr_step
 
 -- the same of an expression
 unfoldable pub expr_meaning : State → BoundExpr → ExprMeaning
-expr_meaning state = fold-BoundExpr AggregateMeaning RowsMeaning RowsMeaning InputMeaning
+expr_meaning state = fold-BoundExpr AggregateMeaning RowsMeaning FromMeaning InputMeaning
     ExprMeaning aggregate_step block_step (source_step state) input_step expr_step
 
 -- the same of an aggregate
 unfoldable pub aggregate_meaning : State → BoundAggregate → AggregateMeaning
 aggregate_meaning state =
-    fold-BoundAggregate AggregateMeaning RowsMeaning RowsMeaning InputMeaning ExprMeaning
+    fold-BoundAggregate AggregateMeaning RowsMeaning FromMeaning InputMeaning ExprMeaning
     aggregate_step block_step (source_step state) input_step expr_step
 
 -- the same of a source
-unfoldable pub source_meaning : State → BoundSource → RowsMeaning
-source_meaning state = fold-BoundSource AggregateMeaning RowsMeaning RowsMeaning InputMeaning
+unfoldable pub source_meaning : State → BoundSource → FromMeaning
+source_meaning state = fold-BoundSource AggregateMeaning RowsMeaning FromMeaning InputMeaning
     ExprMeaning aggregate_step block_step (source_step state) input_step expr_step
 
 -- the same of a query
 unfoldable pub block_meaning : State → BoundBlock → RowsMeaning
-block_meaning state = fold-BoundBlock AggregateMeaning RowsMeaning RowsMeaning InputMeaning
+block_meaning state = fold-BoundBlock AggregateMeaning RowsMeaning FromMeaning InputMeaning
     ExprMeaning aggregate_step block_step (source_step state) input_step expr_step
-
--- the rows of a source under the rows around it
-unfoldable pub source_rows : BoundSource → Env → State → List (Ranked Value)
-source_rows s env state = source_meaning state s env
 
 -- the rows of a query under the rows around it
 unfoldable pub rows : BoundBlock → Env → State → List (Ranked Value)

@@ -43,6 +43,7 @@ aggregate_tables (node.Of function scale argument) = argument
 abbrev pub source_tables : node.BoundSource-F Tables Tables Tables Tables Tables → Tables
 source_tables (node.Table t) = t ∷ []
 source_tables (node.Derived q) = q
+source_tables (node.Lateral q) = q
 source_tables (node.Cross a b) = a ++ b
 source_tables (node.Inner a b on) = a ++ b ++ on
 source_tables (node.Outer a b width on) = a ++ b ++ on
@@ -54,7 +55,7 @@ block_tables (node.Grouped from condition keys aggregates having list) =
     from ++ condition ++ joined_tables aggregates ++ having ++ joined_tables list
 block_tables (node.Distinct q) = q
 
--- the tables that stand in a query, its subqueries, derived tables and each use of a view, each as
+-- the tables that stand in a query, its subqueries, derived tables, lateral items and each use of a view, each as
 -- often as it does
 unfoldable pub tables : BoundBlock → List TableName
 tables = fold-BoundBlock Tables Tables Tables Tables Tables aggregate_tables block_tables

@@ -52,9 +52,13 @@ EnvKinds = List (List Kind)
 abbrev pub KindMeaning : Type 0
 KindMeaning = EnvKinds → Option Kind
 
--- the kinds of the columns of a source or a query, where its parts fit together
+-- the kinds of the columns of a query, where its parts fit together
 abbrev pub KindsMeaning : Type 0
 KindsMeaning = EnvKinds → Option (List Kind)
+
+-- the same of a source, under the kinds of the row so far and of the rows around its query
+abbrev pub FromKinds : Type 0
+FromKinds = List Kind → KindsMeaning
 
 -- what an expression is
 pub record ExprTyping : Type 0 where
@@ -108,7 +112,7 @@ aggregate_sort Max scale (Of k) = Some k
 aggregate_sort function scale s = None
 
 -- each input: a column's kind; a mark is a whole number; a value's kind
-abbrev pub input_kind : node.Input-F KindMeaning KindsMeaning KindsMeaning KindMeaning ExprTyping
+abbrev pub input_kind : node.Input-F KindMeaning KindsMeaning FromKinds KindMeaning ExprTyping
     → KindMeaning
 input_kind (node.Column level place) ks = slice_get (slice_index_or ks level []) place
 input_kind (node.Exists q) ks = where_some (q ks) (λ js. Some (kind.Number 0))
@@ -118,7 +122,7 @@ input_kind (node.In e q) ks =
 input_kind (node.Scalar q) ks = where_some (q ks) only_kind
 
 -- an expression, over the kinds of its inputs
-abbrev pub expr_typing : node.BoundExpr-F KindMeaning KindsMeaning KindsMeaning KindMeaning
+abbrev pub expr_typing : node.BoundExpr-F KindMeaning KindsMeaning FromKinds KindMeaning
     ExprTyping → ExprTyping
 expr_typing e = record {
   sort = λ ks. sort_over e.expr (all_some (map (λ (i : KindMeaning). i ks) e.inputs));
@@ -127,7 +131,7 @@ expr_typing e = record {
 }
 
 -- an aggregate, under the kinds of a row of its group
-abbrev pub aggregate_kind : node.BoundAggregate-F KindMeaning KindsMeaning KindsMeaning KindMeaning
+abbrev pub aggregate_kind : node.BoundAggregate-F KindMeaning KindsMeaning FromKinds KindMeaning
     ExprTyping → KindMeaning
 aggregate_kind node.CountRows ks = Some (kind.Number 0)
 aggregate_kind (node.Of function scale argument) ks =
@@ -137,18 +141,21 @@ aggregate_kind (node.Of function scale argument) ks =
 abbrev pub joined_kinds : ExprTyping → EnvKinds → List Kind → List Kind → Option (List Kind)
 joined_kinds on ks ls rs = where_true (on.is_condition ((ls ++ rs) ∷ ks)) (ls ++ rs)
 
--- each source
-abbrev pub source_kinds : node.BoundSource-F KindMeaning KindsMeaning KindsMeaning KindMeaning
-    ExprTyping → KindsMeaning
-source_kinds (node.Table t) ks = Some (column_kinds t)
-source_kinds (node.Derived q) ks = q []
-source_kinds (node.Cross a b) ks =
-    where_some (a ks) (λ ls. where_some (b ks) (λ rs. Some (ls ++ rs)))
-source_kinds (node.Inner a b on) ks =
-    where_some (a ks) (λ ls. where_some (b ks) (λ rs. joined_kinds on ks ls rs))
-source_kinds (node.Outer a b width on) ks =
-    where_some (a ks) (λ ls.
-    where_some (b ks) (λ rs. if width == length rs then joined_kinds on ks ls rs else None))
+-- Each source: a derived table reads nothing around it, a lateral item the row so far too. A right
+-- side reads the left row behind the row so far, ON the joined row alone.
+abbrev pub source_kinds : node.BoundSource-F KindMeaning KindsMeaning FromKinds KindMeaning
+    ExprTyping → FromKinds
+source_kinds (node.Table t) js ks = Some (column_kinds t)
+source_kinds (node.Derived q) js ks = q []
+source_kinds (node.Lateral q) js ks = q (js ∷ ks)
+source_kinds (node.Cross a b) js ks =
+    where_some (a js ks) (λ ls. where_some (b (js ++ ls) ks) (λ rs. Some (ls ++ rs)))
+source_kinds (node.Inner a b on) js ks =
+    where_some (a js ks) (λ ls. where_some (b (js ++ ls) ks) (λ rs. joined_kinds on ks ls rs))
+source_kinds (node.Outer a b width on) js ks =
+    where_some (a js ks) (λ ls.
+    where_some (b (js ++ ls) ks)
+    (λ rs. if width == length rs then joined_kinds on ks ls rs else None))
 
 -- the kinds of a select list over rows of some kinds
 abbrev pub listed_kinds : List ExprTyping → EnvKinds → Option (List Kind)
@@ -162,13 +169,13 @@ group_kinds keys aggregates ls ks =
     (λ ms. Some (js ++ ms)))
 
 -- each query: its conditions are conditions, and its columns have these kinds
-abbrev pub query_kinds : node.BoundBlock-F KindMeaning KindsMeaning KindsMeaning KindMeaning
+abbrev pub query_kinds : node.BoundBlock-F KindMeaning KindsMeaning FromKinds KindMeaning
     ExprTyping → KindsMeaning
 query_kinds (node.Plain from condition list) ks =
-    where_some (from ks) (λ ls.
+    where_some (from [] ks) (λ ls.
     if condition.is_condition (ls ∷ ks) then listed_kinds list (ls ∷ ks) else None)
 query_kinds (node.Grouped from condition keys aggregates having list) ks =
-    where_some (from ks) (λ ls.
+    where_some (from [] ks) (λ ls.
     if condition.is_condition (ls ∷ ks)
     then where_some (group_kinds keys aggregates ls ks)
     (λ gs. if having.is_condition (gs ∷ ks) then listed_kinds list (gs ∷ ks) else None)
@@ -177,27 +184,27 @@ query_kinds (node.Distinct q) ks = q ks
 
 -- the kinds of a query's columns under rows of these kinds, where it is well typed
 unfoldable pub block_kinds : BoundBlock → EnvKinds → Option (List Kind)
-block_kinds = fold-BoundBlock KindMeaning KindsMeaning KindsMeaning KindMeaning ExprTyping
+block_kinds = fold-BoundBlock KindMeaning KindsMeaning FromKinds KindMeaning ExprTyping
     aggregate_kind query_kinds source_kinds input_kind expr_typing
 
--- the same of a source
-unfoldable pub from_kinds : BoundSource → EnvKinds → Option (List Kind)
-from_kinds = fold-BoundSource KindMeaning KindsMeaning KindsMeaning KindMeaning ExprTyping
+-- the same of a source, under a row so far of these kinds
+unfoldable pub from_kinds : BoundSource → List Kind → EnvKinds → Option (List Kind)
+from_kinds = fold-BoundSource KindMeaning KindsMeaning FromKinds KindMeaning ExprTyping
     aggregate_kind query_kinds source_kinds input_kind expr_typing
 
 -- the same of an input
 unfoldable pub kind_of_input : Input → EnvKinds → Option Kind
-kind_of_input = fold-Input KindMeaning KindsMeaning KindsMeaning KindMeaning ExprTyping
+kind_of_input = fold-Input KindMeaning KindsMeaning FromKinds KindMeaning ExprTyping
     aggregate_kind query_kinds source_kinds input_kind expr_typing
 
 -- the same of an aggregate
 unfoldable pub kind_of_aggregate : BoundAggregate → EnvKinds → Option Kind
-kind_of_aggregate = fold-BoundAggregate KindMeaning KindsMeaning KindsMeaning KindMeaning ExprTyping
+kind_of_aggregate = fold-BoundAggregate KindMeaning KindsMeaning FromKinds KindMeaning ExprTyping
     aggregate_kind query_kinds source_kinds input_kind expr_typing
 
 -- the same of an expression
 unfoldable pub typing_of : BoundExpr → ExprTyping
-typing_of = fold-BoundExpr KindMeaning KindsMeaning KindsMeaning KindMeaning ExprTyping
+typing_of = fold-BoundExpr KindMeaning KindsMeaning FromKinds KindMeaning ExprTyping
     aggregate_kind query_kinds source_kinds input_kind expr_typing
 
 -- a query that stands by itself is well typed

@@ -105,6 +105,7 @@ fn source(alloc: Global, s: &BoundSource) -> Result<BoundSource, AllocError>
     match s {
         BoundSource::Table(table) => Ok(BoundSource::Table(*table)),
         BoundSource::Derived(q) => Ok(BoundSource::Derived(boxed_block(alloc, q)?)),
+        BoundSource::Lateral(q) => Ok(BoundSource::Lateral(boxed_block(alloc, q)?)),
         BoundSource::Cross(a, b) => {
             let left = boxed_source(alloc, a)?;
             let right = boxed_source(alloc, b)?;

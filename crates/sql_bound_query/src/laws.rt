@@ -3,6 +3,7 @@
 ghost use Rattle.sql_bound_query.specs.Typing.{KeepsKinds};
 ghost use Rattle.sql_bound_query.specs.Examples.{FaultsOfConditions, SumsAtTheEnd, Counts, NotIn};
 ghost use Rattle.sql_bound_query.specs.Examples.{ScalarSubqueries, NestedExists, Finished, Reading};
+ghost use Rattle.sql_bound_query.specs.LateralExamples.{LateralItems, LateralKinds, LateralReads};
 
 /// Over tables of their kinds, each row of a well-typed query has values of its columns' kinds and
 /// scales, nulls or faults.
@@ -20,4 +21,11 @@ pub fn worked_queries()
     ensures nested { NestedExists }
     ensures finished { Finished }
     ensures reading { Reading }
+{}
+
+/// Queries with lateral items worked out by hand over small tables.
+pub fn worked_lateral_items()
+    ensures items { LateralItems }
+    ensures kinds { LateralKinds }
+    ensures reads { LateralReads }
 {}

@@ -51,7 +51,11 @@ pub enum BoundSource {
     Table(TableName),
     /// A derived table or a view: its own query, which sees no row around it.
     Derived(Boxed<BoundBlock>),
-    /// All combinations of the rows of two sources.
+    /// A lateral item: its own query, whose nearest row around is the row so far, that of all items
+    /// to its left in the same FROM.
+    Lateral(Boxed<BoundBlock>),
+    /// All combinations of the rows of two sources. The right one is taken anew for each left row,
+    /// here and in the joins.
     Cross(Boxed<BoundSource>, Boxed<BoundSource>),
     /// JOIN: the combinations that its ON condition keeps.
     Inner(Boxed<BoundSource>, Boxed<BoundSource>, BoundExpr),

@@ -2,9 +2,9 @@ use Rattle.std.proofs.Common.{◌≡◌, ◌+◌, rules}
 use Rattle.plan_dependent_tree.specs.Seeks.{seeks_of_aggregate, seeks_of_expr, seeks_of_input}
 use Rattle.plan_dependent_tree.proofs.Found.{any_none, any_more, column_input_found, exists_found}
 use Rattle.plan_dependent_tree.proofs.Found.{scalar_found, among_found, expr_found, count_rows_found}
-use Rattle.plan_dependent_tree.proofs.Found.{argument_found, table_found, derived_found, cross_found}
-use Rattle.plan_dependent_tree.proofs.Found.{inner_found, outer_found, plain_found, grouped_found}
-use Rattle.plan_dependent_tree.proofs.Found.{distinct_found}
+use Rattle.plan_dependent_tree.proofs.Found.{argument_found, table_found, derived_found, lateral_found}
+use Rattle.plan_dependent_tree.proofs.Found.{cross_found, inner_found, outer_found, plain_found}
+use Rattle.plan_dependent_tree.proofs.Found.{grouped_found, distinct_found}
 use Rattle.plan_dependent_tree.proofs.outer.+outer.Goals as goal
 
 pub inputs-loop-i-init : goal.inputs-loop-i-init
@@ -66,6 +66,11 @@ source-returns-in-Table t c = table_found c.in-Table.is
 
 pub source-returns-in-Derived : goal.source-returns-in-Derived
 source-returns-in-Derived t c = derived_found _ c.in-Derived.is
+
+pub source-returns-in_ok-block-in-Lateral : goal.source-returns-in_ok-block-in-Lateral
+source-returns-in_ok-block-in-Lateral t c =
+    let same : c.in_ok-deeper-in-Lateral.deeper ≡ c.args.within + 1 = search rules in
+    lateral_found c.in-Lateral.is c.get-in-Lateral.ensures same c.in_ok-block-in-Lateral.ensures
 
 pub source-returns-in_ok-source-in-Cross-2 : goal.source-returns-in_ok-source-in-Cross-2
 source-returns-in_ok-source-in-Cross-2 t c =

@@ -10,10 +10,13 @@ use Rattle.plan_dependent_tree.proofs.InputTrees.{inputs_none, inputs_more, list
 use Rattle.plan_dependent_tree.proofs.InputTrees.{aggregates_none, aggregates_more, functions_none}
 use Rattle.plan_dependent_tree.proofs.InputTrees.{functions_more, count_arm, of_arm, same_count, same_of}
 use Rattle.plan_dependent_tree.proofs.SeenArms.{column_seen, exists_seen, scalar_seen, in_seen}
-use Rattle.plan_dependent_tree.proofs.SeenArms.{expr_seen, table_seen, derived_seen, shared_seen}
-use Rattle.plan_dependent_tree.proofs.SeenArms.{closed_seen, cross_seen, inner_seen, plain_outer_seen}
-use Rattle.plan_dependent_tree.proofs.SeenArms.{lateral_outer_seen, subquery_seen, plain_seen}
-use Rattle.plan_dependent_tree.proofs.SeenArms.{grouped_seen, distinct_seen}
+use Rattle.plan_dependent_tree.proofs.SeenArms.{expr_seen, subquery_seen, plain_seen, grouped_seen}
+use Rattle.plan_dependent_tree.proofs.SeenArms.{distinct_seen}
+use Rattle.plan_dependent_tree.proofs.SeenSources.{table_seen, derived_seen, lateral_seen, cross_seen}
+use Rattle.plan_dependent_tree.proofs.SeenSources.{inner_seen, outer_seen, kept_seen}
+use Rattle.plan_dependent_tree.proofs.SeenSources.{plain_outer_seen, kept_outer_seen, dependent_seen}
+use Rattle.plan_dependent_tree.proofs.SeenSources.{kept_right_seen}
+use Rattle.plan_dependent_tree.proofs.FromTrees.{from_arm, right_shared, right_closed}
 use Rattle.plan_dependent_tree.proofs.SuppliedClauses.{plain_width, grouped_width, distinct_width}
 use Rattle.plan_dependent_tree.proofs.SuppliedClauses.{plain_from_supplied, plain_where_supplied}
 use Rattle.plan_dependent_tree.proofs.SuppliedClauses.{plain_list_supplied, grouped_from_supplied}
@@ -21,19 +24,24 @@ use Rattle.plan_dependent_tree.proofs.SuppliedClauses.{grouped_where_supplied, g
 use Rattle.plan_dependent_tree.proofs.SuppliedClauses.{grouped_aggregates_supplied}
 use Rattle.plan_dependent_tree.proofs.SuppliedClauses.{grouped_having_supplied, grouped_list_supplied}
 use Rattle.plan_dependent_tree.proofs.SuppliedClauses.{distinct_supplied}
-use Rattle.plan_dependent_tree.proofs.SuppliedSources.{derived_supplied, cross_left_supplied}
-use Rattle.plan_dependent_tree.proofs.SuppliedSources.{cross_right_supplied, inner_left_supplied}
-use Rattle.plan_dependent_tree.proofs.SuppliedSources.{inner_right_supplied, inner_on_supplied}
-use Rattle.plan_dependent_tree.proofs.SuppliedSources.{outer_left_supplied, outer_right_supplied}
-use Rattle.plan_dependent_tree.proofs.SuppliedSources.{outer_on_supplied, outer_nulls}
+use Rattle.plan_dependent_tree.proofs.SuppliedSources.{from_supplied, from_width, derived_supplied}
+use Rattle.plan_dependent_tree.proofs.SuppliedSources.{lateral_supplied, cross_left_supplied}
+use Rattle.plan_dependent_tree.proofs.SuppliedSources.{cross_right_supplied, table_width}
+use Rattle.plan_dependent_tree.proofs.SuppliedSources.{derived_width, lateral_width, cross_width}
+use Rattle.plan_dependent_tree.proofs.SuppliedJoins.{inner_left_supplied, inner_right_supplied}
+use Rattle.plan_dependent_tree.proofs.SuppliedJoins.{inner_on_supplied, inner_width}
+use Rattle.plan_dependent_tree.proofs.SuppliedJoins.{outer_left_supplied, outer_right_supplied}
+use Rattle.plan_dependent_tree.proofs.SuppliedJoins.{outer_on_supplied, outer_nulls, outer_width}
+use Rattle.plan_dependent_tree.proofs.SuppliedJoins.{outer_join_supplied}
+use Rattle.plan_dependent_tree.proofs.SuppliedRights.{dependent_supplied, dependent_there}
+use Rattle.plan_dependent_tree.proofs.SuppliedRights.{dependent_stands, shared_supplied}
+use Rattle.plan_dependent_tree.proofs.SuppliedRights.{closed_supplied, kept_supplied}
+use Rattle.plan_dependent_tree.proofs.SuppliedRights.{kept_on_supplied, kept_there, kept_stands}
 use Rattle.plan_dependent_tree.proofs.Supplies.{column_is_seen, exists_supplied, scalar_supplied}
 use Rattle.plan_dependent_tree.proofs.Supplies.{among_supplied, left_supplied, argument_supplied}
 use Rattle.plan_dependent_tree.proofs.Supplies.{found_seen, found_supplied, item_supplied}
-use Rattle.plan_dependent_tree.proofs.SuppliedSources.{nothing_supplied}
 use Rattle.plan_dependent_tree.specs.Supplied.{AggregateIsSupplied, ExprIsSupplied, InputIsSupplied}
-use Rattle.plan_dependent_tree.specs.Supplied.{InputsAreSupplied, SourceIsSupplied}
-use Rattle.plan_dependent_tree.proofs.SuppliedSources.{read_width, table_width, derived_width}
-use Rattle.plan_dependent_tree.proofs.SuppliedSources.{cross_width, inner_width, outer_width}
+use Rattle.plan_dependent_tree.specs.Supplied.{InputsAreSupplied}
 use Rattle.plan_dependent_tree.proofs.tree.+depend.Goals as goal
 
 pub attach_aggregate-returns-in-CountRows-clause-attaches :
@@ -246,94 +254,136 @@ block-returns-in_ok-rows-in-Distinct-2-clause-tree t c =
     (distinct_supplied c.args.outer.now p c.in-Distinct.is c.get-in-Distinct.ensures))
     c.in_ok-rows-in-Distinct-2.ensures
 
-pub right_source-returns-in_ok-rows-clause-tree : goal.right_source-returns-in_ok-rows-clause-tree
-right_source-returns-in_ok-rows-clause-tree t c =
+pub from_rows-returns-clause-tree : goal.from_rows-returns-clause-tree
+from_rows-returns-clause-tree t c =
     λ p.
-    shared_seen c.args.outer.now c.args.start c.get-then-reads.ensures
-    (c.in_ok-rows.ensures.tree
-    (subst (λ z. SourceIsSupplied z c.args.outer.now) (sym c.get-then-reads.ensures) p))
+    from_arm c.args.s.now c.args.outer.now c.args.start c.in_ok-rows.rows.width
+    c.in_ok-rows.rows.tree
+    (c.in_ok-rows.ensures.tree (from_supplied c.args.s.now c.args.outer.now p))
 
-pub right_source-returns-in_ok-rows-2-clause-tree : goal.right_source-returns-in_ok-rows-2-clause-tree
-right_source-returns-in_ok-rows-2-clause-tree t c =
-    λ p.
-    closed_seen c.args.outer.now c.args.start c.get-else-reads.ensures
-    (c.in_ok-rows-2.ensures.tree
-    (nothing_supplied c.args.outer.now p c.get-else-reads.ensures c.get.ensures
-    c.in_ok-reads.ensures c.if-reads.false))
+pub from_rows-returns-clause-width : goal.from_rows-returns-clause-width
+from_rows-returns-clause-width t c = from_width c.args.s.now c.in_ok-rows.ensures.width
 
-pub source-returns-in_ok-rows-in-Table-clause-tree : goal.source-returns-in_ok-rows-in-Table-clause-tree
+pub source-returns-in_ok-rows-in-Table-clause-tree :
+    goal.source-returns-in_ok-rows-in-Table-clause-tree
 source-returns-in_ok-rows-in-Table-clause-tree t c =
-    λ p. table_seen c.args.outer.now c.args.start c.in-Table.is c.in_ok-rows-in-Table.ensures
+    let s = c.args.sight.now in
+    λ p.
+    table_seen s.outer.now s.so_far.now s.before s.start c.in-Table.is
+    c.in_ok-rows-in-Table.ensures
 
-pub source-returns-in_ok-rows-in-Derived-clause-tree : goal.source-returns-in_ok-rows-in-Derived-clause-tree
+pub source-returns-in_ok-rows-in-Derived-clause-tree :
+    goal.source-returns-in_ok-rows-in-Derived-clause-tree
 source-returns-in_ok-rows-in-Derived-clause-tree t c =
+    let s = c.args.sight.now in
     λ p.
-    derived_seen c.args.outer.now c.args.start c.in-Derived.is c.get.ensures
+    derived_seen s.outer.now s.so_far.now s.before s.start c.in-Derived.is c.get.ensures
     (c.in_ok-rows-in-Derived.ensures.tree
-    (derived_supplied c.args.outer.now p c.in-Derived.is c.get.ensures))
+    (derived_supplied s.outer.now s.so_far.now s.before p c.in-Derived.is c.get.ensures))
 
-pub source-returns-in_ok-rows-in-Cross-clause-tree : goal.source-returns-in_ok-rows-in-Cross-clause-tree
-source-returns-in_ok-rows-in-Cross-clause-tree t c =
+pub source-returns-in_ok-rows-in-Lateral-clause-tree :
+    goal.source-returns-in_ok-rows-in-Lateral-clause-tree
+source-returns-in_ok-rows-in-Lateral-clause-tree t c =
+    let s = c.args.sight.now in
+    let all = c.as_slice.ensures ∙ c.in_ok-outer-in-Lateral.ensures in
     λ p.
-    cross_seen c.args.outer.now c.args.start c.in-Cross.b c.in-Cross.is c.get-in-Cross.ensures
-    (c.in_ok-left-in-Cross.ensures.tree
-    (cross_left_supplied c.args.outer.now c.in-Cross.b p c.in-Cross.is c.get-in-Cross.ensures))
+    lateral_seen s.outer.now s.so_far.now s.before s.start c.in-Lateral.is
+    c.get-in-Lateral.ensures all
+    (c.in_ok-rows-in-Lateral.ensures.tree
+    (lateral_supplied s.outer.now s.so_far.now s.before p c.in-Lateral.is c.get-in-Lateral.ensures
+    all))
+
+pub source-returns-in_ok-rows-in-Cross-clause-tree :
+    goal.source-returns-in_ok-rows-in-Cross-clause-tree
+source-returns-in_ok-rows-in-Cross-clause-tree t c =
+    let s = c.args.sight.now in
+    let left = c.in_ok-left-in-Cross.ensures in
+    λ p.
+    cross_seen s.outer.now s.so_far.now s.before s.start c.in-Cross.is c.get-in-Cross.ensures
+    (left.tree
+    (cross_left_supplied s.outer.now s.so_far.now s.before c.in-Cross.a c.in-Cross.b p c.in-Cross.is
+    c.get-in-Cross.ensures))
+    c.get-in-Cross-2.ensures
     (c.in_ok-right-in-Cross.ensures.tree
-    (cross_right_supplied c.args.outer.now c.in-Cross.b p c.in-Cross.is c.get-in-Cross.ensures))
+    (cross_right_supplied s.outer.now s.so_far.now s.before c.in-Cross.a c.in-Cross.b p
+    c.in-Cross.is c.get-in-Cross.ensures left.width c.get-in-Cross-2.ensures))
     c.in_ok-rows-in-Cross.ensures
 
-pub source-returns-in_ok-rows-in-Inner-2-clause-tree : goal.source-returns-in_ok-rows-in-Inner-2-clause-tree
+pub source-returns-in_ok-rows-in-Inner-2-clause-tree :
+    goal.source-returns-in_ok-rows-in-Inner-2-clause-tree
 source-returns-in_ok-rows-in-Inner-2-clause-tree t c =
-    λ p.
+    let s = c.args.sight.now in
     let left = c.in_ok-left-in-Inner.ensures in
     let right = c.in_ok-right-in-Inner.ensures in
-    let on = inner_on_supplied c.args.outer.now c.in-Inner.a c.in-Inner.b c.in-Inner.on p c.in-Inner.is c.get-in-Inner.ensures left.width right.width
-    c.in_ok-rows-in-Inner.ensures.1 in
-    inner_seen c.args.outer.now c.args.start c.in-Inner.b c.in-Inner.on c.in_ok-on-in-Inner.on.expr
-    c.in-Inner.is c.get-in-Inner.ensures
-    (left.tree (inner_left_supplied c.args.outer.now c.in-Inner.a c.in-Inner.b c.in-Inner.on p c.in-Inner.is c.get-in-Inner.ensures))
-    (right.tree (inner_right_supplied c.args.outer.now c.in-Inner.a c.in-Inner.b c.in-Inner.on p c.in-Inner.is)) c.in_ok-rows-in-Inner.ensures
-    c.in_ok-grown-in-Inner.ensures (c.in_ok-on-in-Inner.ensures on) c.in_ok-grown-in-Inner-2.ensures
-    c.in_ok-rows-in-Inner-2.ensures
-
-pub source-returns-in_ok-rows-in-Some-clause-tree : goal.source-returns-in_ok-rows-in-Some-clause-tree
-source-returns-in_ok-rows-in-Some-clause-tree t c =
+    let made = c.in_ok-rows-in-Inner.ensures in
+    let kept = c.in_ok-rows-in-Inner-2.ensures in
     λ p.
-    let wide : c.in_ok-width-in-Outer.width
-    ≡ c.in_ok-left-in-Outer.left.width + c.in_ok-right-in-Outer.right.rows.width = search rules in
-    let left = c.in_ok-left-in-Outer.ensures in
-    let right = c.in_ok-right-in-Outer.ensures in
-    let on = outer_on_supplied c.args.outer.now c.in-Outer.a c.in-Outer.b c.in-Outer.nulls c.in-Outer.on p c.in-Outer.is c.get-in-Outer.ensures refl left.width right.width wide in
-    let made = c.in_ok-rows-in-Some.ensures in
-    plain_outer_seen c.args.outer.now c.args.start c.in-Outer.b c.in-Outer.on c.in-Some.condition
-    c.in-Outer.is c.get-in-Outer.ensures
-    (left.tree (outer_left_supplied c.args.outer.now c.in-Outer.a c.in-Outer.b c.in-Outer.nulls c.in-Outer.on p c.in-Outer.is c.get-in-Outer.ensures))
-    (right.tree (outer_right_supplied c.args.outer.now c.in-Outer.a c.in-Outer.b c.in-Outer.nulls c.in-Outer.on p c.in-Outer.is refl)) wide
-    (subst (IsPlain c.args.outer.now c.args.start c.in_ok-width-in-Outer.width c.in-Outer.on)
-    c.in-Some.is (c.in_ok-condition-in-Outer.ensures on))
-    (made.0, made.1, outer_nulls c.args.outer.now c.in-Outer.a c.in-Outer.b c.in-Outer.nulls c.in-Outer.on p c.in-Outer.is refl right.width)
+    inner_seen s.outer.now s.so_far.now s.before s.start c.in-Inner.on c.in-Inner.is
+    c.get-in-Inner.ensures
+    (left.tree
+    (inner_left_supplied s.outer.now s.so_far.now s.before c.in-Inner.a c.in-Inner.b c.in-Inner.on p
+    c.in-Inner.is c.get-in-Inner.ensures))
+    c.get-in-Inner-2.ensures
+    (right.tree
+    (inner_right_supplied s.outer.now s.so_far.now s.before c.in-Inner.a c.in-Inner.b c.in-Inner.on
+    p c.in-Inner.is c.get-in-Inner.ensures left.width c.get-in-Inner-2.ensures))
+    made
+    (kept.tree
+    (inner_on_supplied s.outer.now s.so_far.now s.before c.in-Inner.a c.in-Inner.b c.in-Inner.on p
+    c.in-Inner.is c.get-in-Inner.ensures left.width c.get-in-Inner-2.ensures right.width made.1))
+    kept.width
 
-pub source-returns-in_ok-rows-in-None-3-clause-tree : goal.source-returns-in_ok-rows-in-None-3-clause-tree
-source-returns-in_ok-rows-in-None-3-clause-tree t c =
-    λ p.
-    let wide : c.in_ok-width-in-None.width
-    ≡ c.in_ok-left-in-Outer.left.width + c.in_ok-rows-in-None.rows.width = search rules in
-    let begin : c.in_ok-begin-in-None.begin ≡ c.args.start + c.in_ok-left-in-Outer.left.width =
-    search rules in
+pub source-returns-in_ok-rows-in-Outer-clause-tree :
+    goal.source-returns-in_ok-rows-in-Outer-clause-tree
+source-returns-in_ok-rows-in-Outer-clause-tree t c =
+    let s = c.args.sight.now in
     let left = c.in_ok-left-in-Outer.ensures in
-    let inner = c.in_ok-rows-in-None.ensures in
-    let on = outer_on_supplied c.args.outer.now c.in-Outer.a c.in-Outer.b c.in-Outer.nulls c.in-Outer.on p c.in-Outer.is c.get-in-Outer.ensures c.get-in-None.ensures left.width
-    inner.width wide in
-    let made = c.in_ok-rows-in-None-3.ensures in
-    let trimmed = c.in_ok-rows-in-None-2.ensures in
-    lateral_outer_seen c.args.outer.now c.args.start c.in-Outer.on c.in_ok-on-in-None.on.expr
-    c.in-Outer.is c.get-in-Outer.ensures
-    (left.tree (outer_left_supplied c.args.outer.now c.in-Outer.a c.in-Outer.b c.in-Outer.nulls c.in-Outer.on p c.in-Outer.is c.get-in-Outer.ensures)) wide begin
-    c.get-in-None.ensures
-    (inner.tree (outer_right_supplied c.args.outer.now c.in-Outer.a c.in-Outer.b c.in-Outer.nulls c.in-Outer.on p c.in-Outer.is c.get-in-None.ensures)) refl
-    c.in_ok-grown-in-None.ensures (c.in_ok-on-in-None.ensures on) c.in_ok-grown-in-None-2.ensures
-    trimmed
-    (made.0, made.1, trimmed.1 ∙ outer_nulls c.args.outer.now c.in-Outer.a c.in-Outer.b c.in-Outer.nulls c.in-Outer.on p c.in-Outer.is c.get-in-None.ensures inner.width)
+    λ p.
+    outer_seen s.outer.now s.so_far.now s.before s.start c.in-Outer.on c.in-Outer.is
+    c.get-in-Outer.ensures left.width
+    (left.tree
+    (outer_left_supplied s.outer.now s.so_far.now s.before c.in-Outer.a c.in-Outer.b
+    c.in-Outer.nulls c.in-Outer.on p c.in-Outer.is c.get-in-Outer.ensures))
+    c.get-in-Outer-2.ensures p c.in_ok-rows-in-Outer.ensures.tree
+
+pub kept-returns-clause-tree : goal.kept-returns-clause-tree
+kept-returns-clause-tree t c =
+    let s = c.args.sight.now in
+    λ p.
+    kept_seen s.outer.now s.so_far.now s.before s.start c.args.on.now c.in_ok-on.on.expr
+    c.in_ok-grown.ensures (c.in_ok-on.ensures p) c.in_ok-grown-2.ensures c.in_ok-rows.ensures.0
+
+pub outer_source-returns-in_ok-rows-in-Some-clause-tree :
+    goal.outer_source-returns-in_ok-rows-in-Some-clause-tree
+outer_source-returns-in_ok-rows-in-Some-clause-tree t c =
+    let s = c.args.sight.now in
+    let wide : c.in_ok-width.width ≡ c.args.left.width + c.args.nulls = search rules in
+    let right = c.in_ok-right-in-Some.ensures in
+    λ x width p is.
+    plain_outer_seen s.outer.now s.so_far.now s.before s.start x c.args.right.now c.args.on.now
+    c.in-Some.condition is
+    (right.tree
+    (outer_right_supplied s.outer.now s.so_far.now s.before x c.args.right.now c.args.nulls
+    c.args.on.now p refl width))
+    (outer_nulls s.outer.now s.so_far.now s.before x c.args.right.now c.args.nulls c.args.on.now p
+    refl right.width)
+    wide
+    (subst (IsPlain s.outer.now s.start c.in_ok-width.width c.args.on.now) c.in-Some.is
+    (c.in_ok-plain_condition.ensures
+    (outer_on_supplied s.outer.now s.so_far.now s.before x c.args.right.now c.args.nulls
+    c.args.on.now p refl width wide)))
+    c.in_ok-rows-in-Some.ensures
+
+pub outer_source-returns-in_ok-rows-in-None-clause-tree :
+    goal.outer_source-returns-in_ok-rows-in-None-clause-tree
+outer_source-returns-in_ok-rows-in-None-clause-tree t c =
+    let s = c.args.sight.now in
+    λ x width p is.
+    kept_outer_seen s.outer.now s.so_far.now s.before s.start x c.args.right.now c.args.on.now is
+    (c.in_ok-right-in-None.ensures
+    (outer_join_supplied s.outer.now s.so_far.now s.before x c.args.right.now c.args.nulls
+    c.args.on.now p refl width))
+    c.in_ok-condition-in-None.ensures c.in_ok-rows-in-None.ensures
 
 pub subquery-returns : goal.subquery-returns
 subquery-returns t c =
@@ -370,15 +420,6 @@ block-returns-in_ok-rows-in-Distinct-2-clause-width t c =
     distinct_width c.in-Distinct.is c.get-in-Distinct.ensures c.in_ok-rows-in-Distinct.ensures.width
     c.in_ok-rows-in-Distinct-2.ensures.1
 
-pub right_source-returns-in_ok-rows-clause-width : goal.right_source-returns-in_ok-rows-clause-width
-right_source-returns-in_ok-rows-clause-width t c =
-    read_width c.get-then-reads.ensures c.in_ok-rows.ensures.width
-
-pub right_source-returns-in_ok-rows-2-clause-width :
-    goal.right_source-returns-in_ok-rows-2-clause-width
-right_source-returns-in_ok-rows-2-clause-width t c =
-    read_width c.get-else-reads.ensures c.in_ok-rows-2.ensures.width
-
 pub source-returns-in_ok-rows-in-Table-clause-width :
     goal.source-returns-in_ok-rows-in-Table-clause-width
 source-returns-in_ok-rows-in-Table-clause-width t c =
@@ -389,30 +430,30 @@ pub source-returns-in_ok-rows-in-Derived-clause-width :
 source-returns-in_ok-rows-in-Derived-clause-width t c =
     derived_width c.in-Derived.is c.get.ensures c.in_ok-rows-in-Derived.ensures.width
 
+pub source-returns-in_ok-rows-in-Lateral-clause-width :
+    goal.source-returns-in_ok-rows-in-Lateral-clause-width
+source-returns-in_ok-rows-in-Lateral-clause-width t c =
+    lateral_width c.in-Lateral.is c.get-in-Lateral.ensures c.in_ok-rows-in-Lateral.ensures.width
+
 pub source-returns-in_ok-rows-in-Cross-clause-width :
     goal.source-returns-in_ok-rows-in-Cross-clause-width
 source-returns-in_ok-rows-in-Cross-clause-width t c =
-    cross_width c.in-Cross.b c.in-Cross.is c.get-in-Cross.ensures c.in_ok-left-in-Cross.ensures.width
-    c.in_ok-right-in-Cross.ensures.width c.in_ok-rows-in-Cross.ensures.1
+    cross_width c.in-Cross.is c.get-in-Cross.ensures c.in_ok-left-in-Cross.ensures.width
+    c.get-in-Cross-2.ensures c.in_ok-right-in-Cross.ensures.width c.in_ok-rows-in-Cross.ensures.1
 
 pub source-returns-in_ok-rows-in-Inner-2-clause-width :
     goal.source-returns-in_ok-rows-in-Inner-2-clause-width
 source-returns-in_ok-rows-in-Inner-2-clause-width t c =
-    inner_width c.in-Inner.b c.in-Inner.on c.in-Inner.is c.get-in-Inner.ensures c.in_ok-left-in-Inner.ensures.width
+    inner_width c.in-Inner.on c.in-Inner.is c.get-in-Inner.ensures
+    c.in_ok-left-in-Inner.ensures.width c.get-in-Inner-2.ensures
     c.in_ok-right-in-Inner.ensures.width c.in_ok-rows-in-Inner.ensures.1
-    c.in_ok-rows-in-Inner-2.ensures.1
+    c.in_ok-rows-in-Inner-2.ensures.width
 
-pub source-returns-in_ok-rows-in-Some-clause-width :
-    goal.source-returns-in_ok-rows-in-Some-clause-width
-source-returns-in_ok-rows-in-Some-clause-width t c =
-    outer_width c.in-Outer.b c.in-Outer.on c.in-Outer.is c.get-in-Outer.ensures c.in_ok-left-in-Outer.ensures.width
-    c.in_ok-rows-in-Some.ensures.1
-
-pub source-returns-in_ok-rows-in-None-3-clause-width :
-    goal.source-returns-in_ok-rows-in-None-3-clause-width
-source-returns-in_ok-rows-in-None-3-clause-width t c =
-    outer_width c.in-Outer.b c.in-Outer.on c.in-Outer.is c.get-in-Outer.ensures c.in_ok-left-in-Outer.ensures.width
-    c.in_ok-rows-in-None-3.ensures.1
+pub source-returns-in_ok-rows-in-Outer-clause-width :
+    goal.source-returns-in_ok-rows-in-Outer-clause-width
+source-returns-in_ok-rows-in-Outer-clause-width t c =
+    outer_width c.in-Outer.on c.in-Outer.is c.get-in-Outer.ensures
+    c.in_ok-left-in-Outer.ensures.width c.in_ok-rows-in-Outer.ensures.width
 
 -- ---- the ends of loops
 
