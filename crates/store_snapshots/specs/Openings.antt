@@ -3,19 +3,28 @@ use Rattle.std.specs.Prelude.{◌≡◌, ℕ, ◌+◌, ◌-◌, ◌^◌, ◌≤�
 use Rattle.std.specs.Option.{ForSome}
 use Rattle.base_schema.specs.State.{State}
 use Rattle.store_state.specs.Refresh.{Change}
-use Rattle.store_versions.specs.Trials.{Trials}
+use Rattle.store_versions.specs.Trials.{IsPrefix, Trials}
 
--- a base and a list of refreshes, once they are named
+-- a base, a list of refreshes, and how many the list will have in the end, once they are named
 abbrev pub Opening : Type 0
-Opening = Option (State × List Change)
+Opening = Option (State × List Change × ℕ)
 
 -- the opening of a version
 abbrev pub opening_at : Trials → Opening
-opening_at version = Some (version.base, version.list)
+opening_at version = Some (version.base, version.list, version.most)
 
--- the version has that base and that list
+-- the version has that base and that number, and its list begins with that list
 abbrev pub IsOf : Opening → Trials → Type 0
-IsOf opening version = ForSome opening (λ o. (version.base ≡ o.0) × (version.list ≡ o.1))
+IsOf opening version = ForSome opening
+    (λ o. (version.base ≡ o.0) × IsPrefix o.1 version.list × (version.most ≡ o.2))
+
+-- each list that fits now did so before
+abbrev pub Narrower : (List Change → Type 0) → (List Change → Type 0) → Type 0
+Narrower old new = (list : List Change) → new list → old list
+
+-- each list that fits begins with this one
+abbrev pub AllBegin : (List Change → Type 0) → List Change → Type 0
+AllBegin fits short = (list : List Change) → fits list → IsPrefix short list
 
 -- a count rose, or stands at its last value
 abbrev pub HasRisen : ℕ → ℕ → Type 0
