@@ -2,7 +2,8 @@
 use Rattle.std.specs.Prelude.{◌≡◌, ℕ, ◌≤◌, List}
 use Rattle.std.specs.Arc.{arc_value}
 use Rattle.store_state.specs.Refresh.{Change}
-use Rattle.store_versions.specs.Trials.{IsPrefix, Trials, version_of}
+use Rattle.store_state.specs.Prefixes.{IsPrefix}
+use Rattle.store_versions.specs.Trials.{Trials, version_of}
 use Rattle.store_snapshots.specs.Openings.{AllBegin, Opening, IsOf, HasRisen}
 use Rattle.store_snapshots.specs.declared.entry.Entered.{Entered}
 use Rattle.store_snapshots.specs.declared.entry.Entered.TheVariants.{Share, Refused, OutOfMemory}

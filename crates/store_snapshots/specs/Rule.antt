@@ -3,7 +3,8 @@ use Rattle.std.specs.Prelude.{◌≡◌, ℕ, ◌≤◌, List}
 use Rattle.std.specs.Arc.{arc_value}
 use mathlib.Core.Option.{some}
 use lib.ListN.{get_elem?}
-use Rattle.store_versions.specs.Trials.{IsPrefix, Trials, version_of}
+use Rattle.store_state.specs.Prefixes.{IsPrefix}
+use Rattle.store_versions.specs.Trials.{Trials, version_of}
 use Rattle.store_snapshots.specs.Openings.{IsOf, opening_at}
 use Rattle.store_snapshots.specs.declared.shelf.Shelf.{Shelf}
 use Rattle.store_snapshots.specs.declared.shelf.ShelfView.{ShelfView}

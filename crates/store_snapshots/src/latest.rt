@@ -29,7 +29,6 @@ impl Latest {
     /// How many refreshes the list has.
     pub(crate) fn listed(&self) -> usize
         ensures listed { result ≡ length (version_in self.now).list }
-        ensures within { (version_in self.now).done ≤ result }
         ensures most { result ≤ (version_in self.now).most }
     {
         match self {

@@ -1,5 +1,5 @@
 //! A publisher's list as a feed.
-ghost use Rattle.std.specs.Prelude.{◌≡◌, ◌≤◌, length, IfOk};
+ghost use Rattle.std.specs.Prelude.{◌≡◌, IfOk};
 ghost use Rattle.store_snapshots.specs.Turns.{IsAllTried, ListFits, list_tried};
 
 use crate::feed::{Feed, FeedTurn};
@@ -34,8 +34,7 @@ impl Feed for ListFeed {
     ghost is_over = { λ f. IsAllTried };
 
     fn turn<R: Wait>(&mut self, rt: &R, publisher: &mut Publisher) -> Result<FeedTurn, AllocError> {
-        let listed = publisher.listed();
-        prove!(self.count <= listed);
+        let _listed = publisher.listed();
         match publisher.publish_next(rt) {
             Published::Published(note) => {
                 self.count += 1;

@@ -200,8 +200,11 @@ impl Publisher {
         ensures { IfOk result
             (λ next. next ≡ slice_get self.now.version.list self.now.version.done) }
     {
-        let directory = self.latest.directory()?;
-        directory.next_refresh()
+        if self.latest.is_done() {
+            return Ok(None);
+        }
+        let refresh = self.latest.directory()?.next_refresh()?;
+        Ok(Some(refresh))
     }
 
     /// How many refreshes were accepted.
@@ -222,7 +225,6 @@ impl Publisher {
     /// How many refreshes the list has.
     pub fn listed(&self) -> usize
         ensures listed { result ≡ length self.now.version.list }
-        ensures within { self.now.version.done ≤ result }
         ensures most { result ≤ self.now.version.most }
     {
         self.latest.listed()

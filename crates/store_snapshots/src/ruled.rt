@@ -1,11 +1,12 @@
 //! An entry under the rule.
-ghost use Rattle.std.specs.Prelude.{◌≡◌, ◌≤◌, IsTrue, None, false, max};
+ghost use Rattle.std.specs.Prelude.{◌≡◌, ◌≤◌, ◌⊎◌, IsTrue, None, Some, false};
 ghost use Rattle.std.specs.Option.{ForSome};
 ghost use Rattle.std.specs.Arc.{arc_value};
 ghost use Rattle.left_right.specs.Sides.{view};
-ghost use Rattle.store_versions.specs.Trials.{IsPrefix, version_of};
+ghost use Rattle.store_state.specs.Prefixes.{IsPrefix};
+ghost use Rattle.store_versions.specs.Trials.{version_of};
 ghost use Rattle.store_snapshots.specs.Entries.{PassesUncounted};
-ghost use Rattle.store_snapshots.specs.Ruled.{list_fits};
+ghost use Rattle.store_snapshots.specs.Openings.{AreOfOne, IsNamed, IsOf};
 
 use crate::entry::{Entered, Entry};
 use crate::note::Note;
@@ -19,10 +20,13 @@ use store_versions::Directory;
 /// of.
 ///
 /// It keeps a version that it was told of up to the next one that it gives. The rule doesn't say that
-/// the list of a version which is entered begins with the kept one's, so the two are compared.
+/// the list of a version which is entered begins with the kept one's, so the two are compared, from
+/// the end of the opening's list on.
 #[derive(Drop)]
 pub struct RuledEntry {
     reader: ShelfReader,
+    /// How many refreshes the opening's list has.
+    first: usize,
     number: u64,
     told: Option<Arc<Directory>>,
     /// Whether it was told of two lists of which neither begins with the other. Then each entry is
@@ -30,16 +34,20 @@ pub struct RuledEntry {
     is_stuck: bool,
     entries: u64,
     refusals: u64,
+    ghost named: { IsNamed (view reader.place).opening first },
+    ghost opened: { ForSome told (λ t. IsOf (view reader.place).opening (arc_value t)) },
 }
 
 impl RuledEntry {
     /// An entry of this reader that has given nothing and was told of nothing.
-    pub(crate) fn over(reader: ShelfReader) -> RuledEntry
+    pub(crate) fn over(reader: ShelfReader, first: usize) -> RuledEntry
+        requires { IsNamed (view reader.place).opening first }
         ensures reader { result.reader ≡ reader }
         ensures fresh { (result.number ≡ 0) × (result.told ≡ None) × (result.is_stuck ≡ false) }
     {
         RuledEntry {
             reader,
+            first,
             number: 0,
             told: None,
             is_stuck: false,
@@ -67,40 +75,44 @@ fn enter_once(reader: ShelfReader, _nothing: ()) -> (ShelfReader, Entered)
     }
 }
 
+/// Whether a version's list is found to begin with that of another of the same opening, whose list
+/// has so many refreshes.
+fn is_longer(now: &Directory, before: &Directory, first: usize) -> bool
+    requires { AreOfOne first (Some before.now) now.now }
+    ensures { IsTrue result → IsPrefix before.now.list now.now.list }
+{
+    now.begins_with(before, first)
+}
+
 /// Whether a version's list is found to begin with that of the version that was told of.
-fn is_after(told: &Option<Arc<Directory>>, version: &Directory) -> bool
-    ensures { IsTrue result
-        → ForSome told.now (λ told. IsPrefix (arc_value told).list version.now.list) }
+fn is_after(told: &Option<Arc<Directory>>, now: &Directory, first: usize) -> bool
+    requires { ForSome told.now (λ t. AreOfOne first (Some (arc_value t)) now.now) }
+    ensures { IsTrue result → ForSome told.now (λ t. IsPrefix (arc_value t).list now.now.list) }
 {
     match told {
-        Some(told) => version.begins_with(&**told),
+        Some(told) => is_longer(now, &**told, first),
         None => true,
     }
 }
 
 /// The one of two versions that were told of whose list is found to begin with the other's, and
-/// whether neither was found to do so, now or before.
-fn longer_told(
-    before: Option<Arc<Directory>>,
+/// whether neither was found to do so.
+fn longer_of(
+    before: Arc<Directory>,
     now: Arc<Directory>,
-    is_stuck: bool,
+    first: usize,
 ) -> (Arc<Directory>, bool)
-    ensures stuck { result.1 ≡ false → is_stuck ≡ false }
-    ensures before { result.1 ≡ false
-        → ForSome before (λ told. IsPrefix (arc_value told).list (arc_value result.0).list) }
+    requires { AreOfOne first (Some (arc_value before)) (arc_value now) }
+    ensures before { result.1 ≡ false → IsPrefix (arc_value before).list (arc_value result.0).list }
     ensures now { result.1 ≡ false → IsPrefix (arc_value now).list (arc_value result.0).list }
+    ensures either { (result.0 ≡ before) ⊎ (result.0 ≡ now) }
 {
-    match before {
-        None => (now, is_stuck),
-        Some(before) => {
-            if now.begins_with(&*before) {
-                (now, is_stuck)
-            } else if before.begins_with(&*now) {
-                (before, is_stuck)
-            } else {
-                (now, true)
-            }
-        }
+    if is_longer(&*now, &*before, first) {
+        (now, false)
+    } else if is_longer(&*before, &*now, first) {
+        (before, false)
+    } else {
+        (now, true)
     }
 }
 
@@ -109,7 +121,8 @@ impl Entry for RuledEntry {
 
     ghost opening = { λ e. (view e.reader.place).opening };
 
-    ghost fits = { list_fits };
+    ghost fits = { λ e list. IsPrefix (view e.reader.place).list list
+        × ForSome e.told (λ t. IsPrefix (arc_value t).list list) × (e.is_stuck ≡ false) };
 
     ghost number = { λ e. e.number };
 
@@ -123,7 +136,9 @@ impl Entry for RuledEntry {
         match replace_with(&mut self.reader, (), enter_once) {
             Entered::Share(share) => {
                 // No version is published that is before one told of; the rule does not say so.
-                if self.is_stuck || share.version() < self.number || !is_after(&self.told, &*share)
+                if self.is_stuck
+                    || share.version() < self.number
+                    || !is_after(&self.told, &*share, self.first)
                 {
                     self.refusals = self.refusals.saturating_add(1);
                     return Entered::Refused;
@@ -144,9 +159,14 @@ impl Entry for RuledEntry {
     fn learn(&mut self, note: Note) -> Arc<Directory> {
         let Note { share, kept } = note;
         self.number = self.number.max(share.version());
-        let (told, is_stuck) = longer_told(replace(&mut self.told, None), kept, self.is_stuck);
-        self.told = Some(told);
-        self.is_stuck = is_stuck;
+        match replace(&mut self.told, None) {
+            Some(before) => {
+                let (longer, apart) = longer_of(before, kept, self.first);
+                self.told = Some(longer);
+                self.is_stuck = self.is_stuck || apart;
+            }
+            None => self.told = Some(kept),
+        }
         share
     }
 }

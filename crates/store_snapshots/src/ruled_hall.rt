@@ -41,8 +41,9 @@ impl RuledHall {
         ensures shown { self.new.writer.desk.shown ≡ self.old.writer.desk.shown }
         ensures refusals { self.new.refusals ≡ self.old.refusals }
     {
+        let first = self.writer.published().directory.listed();
         let reader = joined(&mut self.writer)?;
-        Ok(RuledEntry::over(reader))
+        Ok(RuledEntry::over(reader, first))
     }
 
     /// Waits for the readers that are inside.

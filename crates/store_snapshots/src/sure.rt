@@ -2,7 +2,8 @@
 ghost use Rattle.std.specs.Prelude.{◌≡◌, ◌≤◌, length, max};
 ghost use Rattle.std.specs.List.{All};
 ghost use Rattle.std.specs.Arc.{arc_value};
-ghost use Rattle.store_versions.specs.Trials.{IsPrefix, version_of};
+ghost use Rattle.store_state.specs.Prefixes.{IsPrefix};
+ghost use Rattle.store_versions.specs.Trials.{version_of};
 ghost use Rattle.store_snapshots.specs.Openings.{IsOf, opening_at};
 
 use crate::entry::{Entered, Entry};
