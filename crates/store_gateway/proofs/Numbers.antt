@@ -14,3 +14,22 @@ sent_from-numbered First ((First, r) ∷ es) = ap (λ rs. r ∷ rs) (sent_from-n
 sent_from-numbered First ((Second, r) ∷ es) = sent_from-numbered First es
 sent_from-numbered Second ((First, r) ∷ es) = sent_from-numbered Second es
 sent_from-numbered Second ((Second, r) ∷ es) = ap (λ rs. r ∷ rs) (sent_from-numbered Second es)
+
+-- gateways of one name are one
+pub one_gateway : (a b : TableId) → gateway_name a ≡ gateway_name b → a ≡ b
+one_gateway a b e =
+    let F : List ℕ → TableId = λ l. record {
+      words = get_or l 0 0;
+      slots = get_or l 1 0;
+      views_name = get_or l 2 0;
+      atom = get_or l 3 0;
+      block = get_or l 4 0;
+      offset = get_or l 5 0;
+      slot_names = drop 6 l;
+    } in
+    ap F e
+
+pub either_numbered : (es : List (SenderId × Change)) → AllByRecursion IsFromEither (numbered es)
+either_numbered [] = tt
+either_numbered ((First, r) ∷ es) = (inl refl, either_numbered es)
+either_numbered ((Second, r) ∷ es) = (inr refl, either_numbered es)
