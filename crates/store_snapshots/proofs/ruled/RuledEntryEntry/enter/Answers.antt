@@ -1,7 +1,10 @@
-use Rattle.std.proofs.Common.{rules, ◌≡◌, false, true, subst, sym}
+use Rattle.std.proofs.Common.{rules, ◌≡◌, List, false, true, subst, sym}
 use Rattle.std.specs.Option.{ForSome}
 use Rattle.std.specs.Arc.{arc_value}
 use Rattle.left_right.specs.Sides.{view}
+use Rattle.store_state.specs.Prefixes.{IsPrefix}
+use Rattle.store_state.specs.Refresh.{Change}
+use Rattle.store_state.proofs.Prefixes.{prefix-trans}
 use Rattle.store_snapshots.specs.Openings.{HasOpening, IsNamed, IsOf}
 use Rattle.store_snapshots.proofs.OneOpening.{of_opening}
 use Rattle.store_snapshots.proofs.ruled.RuledEntryEntry.enter.Goals as goal
@@ -37,4 +40,11 @@ invariant_of-self-in-OutOfMemory c =
     }
 
 pub returns-else-not-is_after-clause-more : goal.returns-else-not-is_after-clause-more
-returns-else-not-is_after-clause-more c = ?
+returns-else-not-is_after-clause-more c list fits =
+    let old = c.args.self.now in
+    let share = arc_value c.in-Share.share in
+    let seen : IsPrefix (view old.reader.place).list share.list = search rules in
+    let here : (view c.replace_with.new.dest.place).list ≡ share.list = search rules in
+    let long : IsPrefix share.list list = subst (λ (l : List Change). IsPrefix l list) here fits.0 in
+    let begins : ForSome old.told (λ t. IsPrefix (arc_value t).list share.list) = search rules in
+    (prefix-trans (view old.reader.place).list share.list list seen long, λ told is. prefix-trans (arc_value told).list share.list list (begins told is) long, fits.2)
