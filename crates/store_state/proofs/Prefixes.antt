@@ -44,10 +44,12 @@ drop-prefix first long p =
 -- two lists begin with a third; behind it the second begins with the first
 pub prefix-behind : {A : Type 0} (first short long : List A) → IsPrefix first short → IsPrefix first long
     → IsPrefix (drop (length first) short) (drop (length first) long) → IsPrefix short long
-prefix-behind first short long p q behind =
-    (behind.0, sym (drop-prefix first long q) ∙ ap (λ l. first ++ l) behind.1
-    ∙ sym (append_assoc first (drop (length first) short) behind.0)
-    ∙ ap (λ l. l ++ behind.0) (drop-prefix first short p))
+prefix-behind first short long p q behind = (
+  behind.0,
+  sym (drop-prefix first long q) ∙ ap (λ l. first ++ l) behind.1
+      ∙ sym (append_assoc first (drop (length first) short) behind.0)
+      ∙ ap (λ l. l ++ behind.0) (drop-prefix first short p),
+)
 
 pub accepted-prefix : AcceptedPrefixLaw
 accepted-prefix base short long done p within = ap (λ list. length (taken base list)) (take-prefix short long done p within)

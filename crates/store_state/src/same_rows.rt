@@ -1,5 +1,5 @@
 //! Whether rows are found to be the same, as they are stored.
-ghost use Rattle.std.specs.Prelude.{◌≡◌, ℕ, ◌<◌, IsTrue, length, slice_index_or};
+ghost use Rattle.std.specs.Prelude.{◌≡◌, ◌↔◌, ℕ, ◌<◌, IsTrue, length, slice_index_or};
 ghost use Rattle.base_value.specs.declared.value.Value.TheVariants.{Null};
 ghost use Rattle.base_columns.specs.Batches.{column_at};
 
@@ -7,8 +7,8 @@ use base_columns::{Batch, Column, Rows, Segment};
 use base_date::CivilDate;
 
 /// Whether two lists of numbers are the same.
-fn are_same_numbers(numbers: &[i64], others: &[i64]) -> bool
-    ensures { IsTrue result → numbers.now ≡ others.now }
+pub(crate) fn are_same_numbers(numbers: &[i64], others: &[i64]) -> bool
+    ensures { IsTrue result ↔ (numbers.now ≡ others.now) }
 {
     numbers == others
 }
