@@ -97,11 +97,7 @@ fn is_after(told: &Option<Arc<Directory>>, now: &Directory, first: usize) -> boo
 
 /// The one of two versions that were told of whose list is found to begin with the other's, and
 /// whether neither was found to do so.
-fn longer_of(
-    before: Arc<Directory>,
-    now: Arc<Directory>,
-    first: usize,
-) -> (Arc<Directory>, bool)
+fn longer_of(before: Arc<Directory>, now: Arc<Directory>, first: usize) -> (Arc<Directory>, bool)
     requires { AreOfOne first (arc_value before) (arc_value now) }
     ensures before { result.1 ≡ false → IsPrefix (arc_value before).list (arc_value result.0).list }
     ensures now { result.1 ≡ false → IsPrefix (arc_value now).list (arc_value result.0).list }
