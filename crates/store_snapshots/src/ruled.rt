@@ -16,12 +16,12 @@ use std::mem::replace;
 use std::sync::Arc;
 use store_versions::Directory;
 
-/// An entry by a reader of the shelf. Its number is that of the last version that it gave or was told
-/// of.
+/// An entry by a reader of the shelf. Its number is that of the last version that it gave or was
+/// told of.
 ///
-/// It keeps a version that it was told of up to the next one that it gives. The rule doesn't say that
-/// the list of a version which is entered begins with the kept one's, so the two are compared, from
-/// the end of the opening's list on.
+/// It keeps a version that it was told of up to the next one that it gives. The rule doesn't say
+/// that the list of a version which is entered begins with the kept one's, so the two are compared,
+/// from the end of the opening's list on.
 #[derive(Drop)]
 pub struct RuledEntry {
     reader: ShelfReader,
