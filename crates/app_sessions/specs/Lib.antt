@@ -8,6 +8,7 @@ pub mod Explained
 pub mod Laws
 pub mod Examples
 pub mod Counts
+pub mod Orders
 pub mod Reports
 pub mod Jobs
 pub mod Asked
