@@ -1,7 +1,8 @@
 -- The orders in which the refreshes of a job may be tried.
-use Rattle.std.specs.Prelude.{◌≡◌, ◌-◌, ℕ, List, ◌++◌, Option, Some, drop, length, map, take}
+use Rattle.std.specs.Prelude.{◌≡◌, ◌-◌, ℕ, List, ◌++◌, drop, length, take}
 use Rattle.std.specs.List.{zip}
 use Rattle.app_sessions.specs.Orders.{RefreshOrder}
+use Rattle.store_gateway.specs.Feeds.{numbered}
 use Rattle.store_gateway.specs.Roles.{sent_by}
 use Rattle.store_gateway.specs.declared.message.SenderId.{SenderId}
 use Rattle.store_gateway.specs.declared.message.SenderId.TheVariants.{First, Second}
@@ -21,20 +22,11 @@ unsent_of work = take (unsent_count work) work.list
 abbrev pub sent_of : JobWork → List (SenderId × Change)
 sent_of work = zip work.senders (drop (unsent_count work) work.list)
 
--- the number of a sender
-abbrev pub sender_number : SenderId → ℕ
-sender_number First = 1
-sender_number Second = 2
-
--- a refresh with the number of its sender
-abbrev pub from_sender : SenderId × Change → Option ℕ × Change
-from_sender sent = (Some (sender_number sent.0), sent.1)
-
 -- Refreshes in an order in which a job may try its own: first those that nobody sends, in the order
 -- of the job's lines, and then each that is sent, once. Of those that one sender sends each comes in
 -- its turn, as the job's lines have them.
 pub record IsJobOrder (work : JobWork) (order : RefreshOrder) : Type 0 where
   pub sent : List (SenderId × Change)
-  pub whole : order ≡ from_nobody (unsent_of work) ++ map from_sender sent
+  pub whole : order ≡ from_nobody (unsent_of work) ++ numbered sent
   pub first : sent_by First sent ≡ sent_by First (sent_of work)
   pub second : sent_by Second sent ≡ sent_by Second (sent_of work)

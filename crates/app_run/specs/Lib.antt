@@ -5,6 +5,7 @@ pub mod JobInputs
 pub mod JobOrders
 pub mod JobMeaning
 pub mod Senders
+pub mod Receivers
 pub mod ScriptPlans
 pub mod Trial
 pub mod Meaning

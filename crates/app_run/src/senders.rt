@@ -1,24 +1,28 @@
 //! A job of which two senders send the refreshes beside the sessions, each in a thread of its own.
-ghost use Rattle.std.specs.Prelude.{◌≡◌, ◌+◌, ◌<◌, ◌≤◌, ◌^◌, [], IfNone, IfOk, IfSome, OnOk, drop};
-ghost use Rattle.std.specs.Prelude.{length, take, vec_len};
+ghost use Rattle.std.specs.Prelude.{◌≡◌, ◌+◌, ◌<◌, ◌^◌, IfOk, OnOk, drop, length, take, vec_len};
 ghost use Rattle.std.specs.List.{zip};
 ghost use denote.Param.Send.{IsSync};
 ghost use Rattle.store_gateway.specs.Roles.{sent_by};
 ghost use Rattle.store_gateway.specs.declared.message.SenderId.TheVariants.{First, Second};
+ghost use Rattle.store_snapshots.specs.Ruled.{opening_of};
 ghost use Rattle.app_sessions.specs.Asked.{AllUnasked, job_sessions};
-ghost use Rattle.app_sessions.specs.Jobs.{IsOrderText};
+ghost use Rattle.app_sessions.specs.Workers.{AreOfOpening};
 ghost use Rattle.app_run.specs.JobMeaning.{IsTextInOrder};
 ghost use Rattle.app_run.specs.JobViews.{IsRunnable, work_view};
-ghost use Rattle.app_run.specs.Senders.{EndsAfter, MaySend, MayTake, TakesAll, order_taken};
+ghost use Rattle.app_run.specs.Receivers.{AreOfOneGateway, BothEnd, CanReceive, HasReceived};
+ghost use Rattle.app_run.specs.Receivers.{MaySendBoth};
+ghost use Rattle.app_run.specs.Senders.{EndsAfter, IsSentText, IsTakenText, MaySend, MayTake, TakesAll};
 
+use crate::job_feed::{JobFeed, JobOrigin, Origin};
 use crate::job_sources::JobSources;
 use app_sessions::{JobError, JobSetup, JobText, Session, run_job};
 use base_io::Gate;
 use std::alloc::{AllocError, Global};
+use std::marker::PhantomData;
 use std::sync::Wait;
 use std::thread::{Threads, join};
-use store_gateway::{Ended, GatewayFeed, Sender, SenderId, Taker, open_gateway, send_all};
-use store_snapshots::{Publisher, Reader, RuledEntry, open};
+use store_gateway::{Ended, Sender, SenderId, Taker, open_gateway, send_all};
+use store_snapshots::{Publisher, open};
 use store_state::{Refresh, State};
 
 /// How many messages the queue of the senders holds at most: as many as a job has refreshes, and the
@@ -52,19 +56,26 @@ fn divide(
     Ok((first, second))
 }
 
-/// Sends the refreshes of two senders, each sender's in a thread of its own.
-fn send_both<R: Threads + Wait + Sync>(
-    rt: &R,
+/// The senders of a job, and what each of them sends.
+#[derive(Drop)]
+pub struct Senders {
     first: Sender,
     second: Sender,
     firsts: Vec<Refresh>,
     seconds: Vec<Refresh>,
-) -> (Ended, Ended)
-    requires first { MaySend first firsts.items }
-    requires second { MaySend second seconds.items }
-    ensures first { EndsAfter first firsts.items result.0 }
-    ensures second { EndsAfter second seconds.items result.1 }
+}
+
+/// Sends the refreshes of two senders, each sender's in a thread of its own.
+fn send_both<R: Threads + Wait + Sync>(rt: &R, senders: Senders) -> (Ended, Ended)
+    requires { MaySendBoth senders }
+    ensures { BothEnd senders result }
 {
+    let Senders {
+        first,
+        second,
+        firsts,
+        seconds,
+    } = senders;
     join(
         rt,
         move ||
@@ -78,17 +89,162 @@ fn send_both<R: Threads + Wait + Sync>(
     )
 }
 
+/// Runs the sessions beside a publisher of a list and of what a taker takes. There is no text where it
+/// took too few refreshes.
+fn run_open<O: Origin + Send, R: Threads + Wait + Sync, G: Gate + Sync>(
+    rt: &R,
+    alloc: Global,
+    gate: &G,
+    setup: JobSetup,
+    taker: Taker,
+    publisher: &mut Publisher,
+) -> Result<(Option<JobText>, Taker), AllocError>
+    requires sessions { (0 < vec_len setup.sessions) × (vec_len setup.sessions < 2 ^ 32) }
+    requires unasked { AllUnasked setup.sessions.items }
+    requires readers { 0 < vec_len setup.readers }
+    requires opened { AreOfOpening opening_of publisher.old.version setup.readers.items }
+    requires shown { publisher.old.shown ≡ publisher.old.version }
+    requires fresh { publisher.old.version.done ≡ 0 }
+    requires list { publisher.old.version.list ≡ O.list }
+    requires before { setup.before ≡ length O.list }
+    requires most { setup.most ≡ publisher.old.version.most }
+    requires taker { MayTake taker O.list publisher.old.version.most }
+    requires gateway { taker.gateway ≡ O.gateway }
+    ensures text { IfOk result (λ r. IsTakenText publisher.old.version.base O.list
+        publisher.old.version.most (job_sessions setup.sessions.items) r.1 r.0) }
+    ensures taken { IfOk result (λ r. TakesAll taker r.1) }
+{
+    let mut feed: JobFeed<O> = JobFeed {
+        count: 0,
+        taker,
+        of: PhantomData,
+    };
+    let text = match run_job(rt, alloc, gate, setup, publisher, &mut feed) {
+        Ok(text) => Some(text),
+        Err(JobError::TooFewRefreshes) => None,
+        Err(JobError::OutOfMemory) => return Err(AllocError),
+    };
+    Ok((text, feed.taker))
+}
+
 /// What runs beside the senders.
 #[derive(Drop)]
-struct Receiving {
+pub struct Receiver {
     /// The sessions, at their beginning.
     sessions: Vec<Session>,
     /// The tables.
     base: State,
     /// The refreshes that are tried before the sessions.
     list: Vec<Refresh>,
-    /// How many refreshes there are in the end.
+    /// How many refreshes there are in all.
     most: usize,
     /// Who takes what is sent.
     taker: Taker,
+}
+
+/// The same with a publisher that is opened for it, and closed.
+fn run_receiver<O: Origin + Send, R: Threads + Wait + Sync, G: Gate + Sync>(
+    rt: &R,
+    alloc: Global,
+    gate: &G,
+    receiver: Receiver,
+) -> Result<(Option<JobText>, Taker), AllocError>
+    requires { CanReceive O.list O.gateway receiver }
+    ensures { IfOk result (λ received. HasReceived receiver received.0 received.1) }
+{
+    let Receiver {
+        sessions,
+        base,
+        list,
+        most,
+        taker,
+    } = receiver;
+    let before = list.len();
+    let (mut publisher, readers) = open(rt, alloc, base, list, sessions.len() as u32, most)?;
+    let setup = JobSetup {
+        sessions,
+        readers,
+        before,
+        most,
+    };
+    let received = run_open::<O, R, G>(rt, alloc, gate, setup, taker, &mut publisher);
+    publisher.close(rt);
+    received
+}
+
+/// Runs the senders in threads of their own, and the sessions beside a publisher of what they send.
+fn run_joined<O: Origin + Send, R: Threads + Wait + Sync, G: Gate + Sync>(
+    rt: &R,
+    alloc: Global,
+    gate: &G,
+    senders: Senders,
+    receiver: Receiver,
+) -> Result<JobText, AllocError>
+    requires senders { MaySendBoth senders }
+    requires receiver { CanReceive O.list O.gateway receiver }
+    requires both { AreOfOneGateway senders receiver }
+    ensures { IfOk result (IsSentText receiver.base receiver.list.items
+        senders.firsts.items senders.seconds.items (job_sessions receiver.sessions.items)) }
+{
+    let ((first, second), received) = join(
+        rt,
+        move ||
+            requires { IsSync R.row × MaySendBoth senders }
+            ensures { BothEnd senders result }
+        { send_both(rt, senders) },
+        move ||
+            requires { IsSync R.row × IsSync G.row × CanReceive O.list O.gateway receiver }
+            ensures { IfOk result (λ received. HasReceived receiver received.0 received.1) }
+        { run_receiver::<O, R, G>(rt, alloc, gate, receiver) },
+    );
+    let (text, taker) = received?;
+    let _order = taker.close(first, second);
+    match text {
+        Some(text) => Ok(text),
+        None => unreachable!(),
+    }
+}
+
+/// Runs the sessions beside a publisher of the refreshes, of which two senders send those that are not
+/// tried before the sessions.
+pub fn run_with_senders<R: Threads + Wait + Sync, G: Gate + Sync>(
+    rt: &R,
+    alloc: Global,
+    gate: &G,
+    sources: JobSources,
+) -> Result<JobText, AllocError>
+    requires runnable { IsRunnable sources }
+    requires sent { 0 < length sources.senders.items }
+    ensures { IfOk result (IsTextInOrder (work_view sources)
+        (job_sessions sources.sessions.items)) }
+{
+    let JobSources {
+        sessions,
+        base,
+        mut list,
+        before,
+        senders,
+    } = sources;
+    let most = list.len();
+    let (firsts, seconds) = divide(alloc, before, senders.as_slice(), &mut list)?;
+    let (first, second, taker) = open_gateway(
+        alloc,
+        MOST_MESSAGES,
+        firsts.len() as u64,
+        seconds.len() as u64,
+    )?;
+    let senders = Senders {
+        first,
+        second,
+        firsts,
+        seconds,
+    };
+    let receiver = Receiver {
+        sessions,
+        base,
+        list,
+        most,
+        taker,
+    };
+    run_joined::<JobOrigin, R, G>(rt, alloc, gate, senders, receiver)
 }
