@@ -14,4 +14,5 @@ pub mod Jobs
 pub mod Asked
 pub mod Workers
 pub mod Gathered
+pub mod Starts
 pub mod Compaction

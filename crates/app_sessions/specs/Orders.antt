@@ -1,5 +1,5 @@
 -- The order in which a job tries refreshes.
-use Rattle.std.specs.Prelude.{ℕ, List, ◌++◌, Option, length, map, take}
+use Rattle.std.specs.Prelude.{ℕ, ◌+◌, List, ◌++◌, Option, length, map, take}
 use Rattle.store_snapshots.specs.Turns.{from_nobody}
 use Rattle.store_state.specs.Refresh.{Change}
 use Rattle.store_versions.specs.Trials.{Trials}
@@ -12,6 +12,10 @@ RefreshOrder = List (Option ℕ × Change)
 -- the list of an order's refreshes
 abbrev pub changes_of : RefreshOrder → List Change
 changes_of order = map (λ entry. entry.1) order
+
+-- a version of which so many refreshes more were tried
+abbrev pub later_by : ℕ → Trials → Trials
+later_by count version = record version { done = version.done + count }
 
 -- the order of all that is done: the refreshes of the list that were done at a version, then those
 -- that were tried since
