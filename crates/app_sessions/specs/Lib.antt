@@ -15,4 +15,5 @@ pub mod Asked
 pub mod Workers
 pub mod Gathered
 pub mod Starts
+pub mod JobExamples
 pub mod Compaction

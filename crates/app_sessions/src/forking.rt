@@ -3,7 +3,7 @@ ghost use Rattle.std.specs.Prelude.{◌≡◌, ◌+◌, ◌<◌, ◌≤◌, ◌+
 ghost use denote.Param.Send.{IsSync};
 ghost use Rattle.store_state.specs.Versions.{accepted};
 ghost use Rattle.store_snapshots.specs.Ruled.{list_fits, opening_of};
-ghost use Rattle.store_snapshots.specs.Turns.{list_tried};
+ghost use Rattle.store_snapshots.specs.Turns.{ListFits, list_tried};
 ghost use Rattle.store_versions.specs.Trials.{Trials};
 ghost use Rattle.app_sessions.specs.Asked.{AllUnasked};
 ghost use Rattle.app_sessions.specs.Gathered.{ArePrepared};
@@ -57,12 +57,11 @@ pub fn prepare<R: Wait>(
         × (r.0.listed ≡ length publisher.old.version.list)) }
     ensures version { OnOk result (publisher.new.version
         ≡ later_by before publisher.old.version) }
-    ensures feed { IfOk result (λ r. (r.1.start ≡ publisher.old.version)
-        × (r.1.count ≡ before)) }
-    ensures tried { OnOk result (HasTried publisher.old.version publisher.new
-        (list_tried publisher.old.version before)) }
+    ensures fits { IfOk result (λ r. ListFits r.1.start r.1.count publisher.new.version) }
+    ensures tried { IfOk result (λ r. HasTried publisher.old.version publisher.new
+        (list_tried r.1.start r.1.count)) }
     ensures told { IfOk result (λ r. IsTold publisher.old.version
-        (list_tried publisher.old.version before) r.0.report) }
+        (list_tried r.1.start r.1.count) r.0.report) }
 {
     let count = sessions.len();
     let listed = publisher.listed();
