@@ -103,6 +103,7 @@ pub fn fork<E: Entry + Drop + Send, F: Feed + Send, G: Gate + Sync, R: Threads +
         → HasTried start publisher.old (first ++ F.tried feed.old)
         → IsTold start (first ++ F.tried feed.old) report.old
         → IsTold start (first ++ F.tried feed.new) report.new) }
+    ensures source { F.source feed.new ≡ F.source feed.old }
 {
     let mut front = ||
         requires { IsSync R.row × IsSync G.row × AllReady E.opening E.fits workers.now }
@@ -122,6 +123,7 @@ pub fn fork<E: Entry + Drop + Send, F: Feed + Send, G: Gate + Sync, R: Threads +
             → HasTried start publisher.entry.now (first ++ F.tried feed.entry.now)
             → IsTold start (first ++ F.tried feed.entry.now) report.entry.now
             → IsTold start (first ++ F.tried feed.exit.now) report.exit.now) }
+        ensures source { F.source feed.exit.now ≡ F.source feed.entry.now }
     { publish_rest(rt, gate, publisher, report, feed) };
     let (_, outcome) = join_mut(rt, &mut front, &mut back);
     outcome

@@ -72,6 +72,7 @@ pub fn run_job<F: Feed + Send, G: Gate + Sync, R: Threads + Wait + Sync>(
         < publisher.old.version.most }
     ensures ended { result ≢ Err OutOfMemory → EndsFeed (F.fits feed.new) (F.is_over feed.new)
         (later_by setup.before publisher.old.version) (F.tried feed.new) }
+    ensures source { F.source feed.new ≡ F.source feed.old }
 {
     let JobSetup {
         sessions,
@@ -107,6 +108,7 @@ fn run_beside<F: Feed + Send, G: Gate + Sync, R: Threads + Wait + Sync>(
     ensures ended { (begun : HasStarted run publisher.old (F.tried feed.old))
         → result ≢ Err OutOfMemory → EndsFeed (F.fits feed.new) (F.is_over feed.new)
         begun.start (begun.first ++ F.tried feed.new) }
+    ensures source { F.source feed.new ≡ F.source feed.old }
 {
     let JobRun {
         mut workers,

@@ -76,6 +76,7 @@ fn publish_one<F: Feed, R: Wait>(
         (F.is_over feed.new) publisher.old publisher.new report.old report.new) }
     ensures compacted { OnOk result (IsCompactedWhenDue publisher.old.version
         publisher.new.version publisher.new.joined) }
+    ensures source { F.source feed.new ≡ F.source feed.old }
 {
     'waiting: for _ in rt.forever() {
         match feed.turn(rt, publisher)? {
@@ -145,6 +146,7 @@ pub fn publish_rest<F: Feed, G: Gate, R: Wait>(
         → HasTried start publisher.old (first ++ F.tried feed.old)
         → IsTold start (first ++ F.tried feed.old) report.old
         → IsTold start (first ++ F.tried feed.new) report.new) }
+    ensures source { F.source feed.new ≡ F.source feed.old }
 {
     let mut turn = (report.count as u64).saturating_mul(2).saturating_add(2);
     'publishing: for _ in rt.forever() {

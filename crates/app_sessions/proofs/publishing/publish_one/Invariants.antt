@@ -7,4 +7,5 @@ invariant-waiting g l =
       publisher : l.publisher ≡ l.fn.publisher;
       tried : g.F.Feed.tried l.feed ≡ g.F.Feed.tried l.fn.feed;
       fits : g.F.Feed.fits l.feed l.publisher.version;
+      source : g.F.Feed.source l.feed ≡ g.F.Feed.source l.fn.feed;
     }

@@ -8,6 +8,7 @@ abbrev pub invariant-publishing : goal.invariant-publishing
 invariant-publishing g l =
     record {
       fits : g.F.Feed.fits l.feed l.publisher.version;
+      source : g.F.Feed.source l.feed ≡ g.F.Feed.source l.fn.feed;
       room : l.report.count ≤ l.publisher.version.done;
       tried : (start : Trials) (first : RefreshOrder) → HasTried start l.fn.publisher (first ++ g.F.Feed.tried l.fn.feed)
           → HasTried start l.publisher (first ++ g.F.Feed.tried l.feed);
