@@ -14,4 +14,6 @@ pub mod Jobs
 pub mod Asked
 pub mod Workers
 pub mod Gathered
+pub mod Starts
+pub mod JobExamples
 pub mod Compaction

@@ -1,15 +1,17 @@
 //! A job: sessions that run beside a publisher.
-ghost use Rattle.std.specs.Prelude.{◌≡◌, ◌≢◌, ◌+◌, ◌<◌, ◌≤◌, ◌^◌, [], IfOk, Err, length, vec_len};
+ghost use Rattle.std.specs.Prelude.{◌≡◌, ◌≢◌, ◌+◌, ◌<◌, ◌≤◌, ◌^◌, ◌++◌, [], IfOk, Err, length};
+ghost use Rattle.std.specs.Prelude.{vec_len};
 ghost use Rattle.store_snapshots.specs.Ruled.{opening_of};
 ghost use Rattle.app_sessions.specs.Asked.{AllUnasked, job_sessions};
 ghost use Rattle.app_sessions.specs.Jobs.{IsJobText, IsOrderText};
-ghost use Rattle.app_sessions.specs.Orders.{EndsFeed, whole_order};
+ghost use Rattle.app_sessions.specs.Orders.{EndsFeed, later_by, whole_order};
+ghost use Rattle.app_sessions.specs.Starts.{HasStarted};
 ghost use Rattle.app_sessions.specs.Workers.{AreOfOpening};
 ghost use Rattle.app_sessions.specs.declared.job_error.JobError.TheVariants.{OutOfMemory};
 ghost use Rattle.app_sessions.specs.declared.job_error.JobError.TheVariants.{TooFewRefreshes};
 
 use crate::closing::{close_report, show_list, whole_text};
-use crate::forking::{fork, prepare};
+use crate::forking::{JobRun, fork, prepare};
 use crate::job_error::JobError;
 use crate::job_text::JobText;
 use crate::meeting::meet_workers;
@@ -18,7 +20,7 @@ use base_io::Gate;
 use std::alloc::{AllocError, Global};
 use std::sync::Wait;
 use std::thread::Threads;
-use store_snapshots::{Feed, ListFeed, Publisher, Reader, RuledEntry};
+use store_snapshots::{Feed, Publisher, Reader, RuledEntry};
 
 /// What a job runs.
 #[derive(Drop)]
@@ -35,12 +37,12 @@ pub struct JobSetup {
 
 /// Runs sessions beside the publisher of a feed's refreshes, and gives their text.
 ///
-/// The first refreshes are published, and all readers told of them, before a session begins; the
-/// others are published while the sessions run, as the feed hands them in. Each reader has a thread
-/// of its own. Sessions are assigned to the readers in turn, and those of one reader run one after
-/// another. All threads are joined, whatever happens, and the publisher stays open. The text stands
-/// over the list of all that was tried, which no session knew when it was asked. Where the feed
-/// ended before the list had as many refreshes as it was to have, there is no text.
+/// The first refreshes of the publisher's list are published, and all readers told of them, before a
+/// session begins; the feed's are published while the sessions run, as they come. Each reader has a
+/// thread of its own. Sessions are assigned to the readers in turn, and those of one reader run one
+/// after another. All threads are joined, whatever happens, and the publisher stays open. The text
+/// stands over the list of all that was tried, which no session knew when it was asked. Where the
+/// feed ended before the list had as many refreshes as it was to have, there is no text.
 pub fn run_job<F: Feed + Send, G: Gate + Sync, R: Threads + Wait + Sync>(
     rt: &R,
     alloc: Global,
@@ -54,22 +56,23 @@ pub fn run_job<F: Feed + Send, G: Gate + Sync, R: Threads + Wait + Sync>(
     requires readers { 0 < vec_len setup.readers }
     requires opened { AreOfOpening opening_of publisher.old.version setup.readers.items }
     requires shown { publisher.old.shown ≡ publisher.old.version }
-    requires fits { F.fits feed.old publisher.old.version }
-    requires fresh { F.tried feed.old ≡ [] }
     requires before { publisher.old.version.done + setup.before
         ≤ length publisher.old.version.list }
+    requires fits { F.fits feed.old (later_by setup.before publisher.old.version) }
+    requires fresh { F.tried feed.old ≡ [] }
     requires most { setup.most ≡ publisher.old.version.most }
     ensures text { IfOk result (IsOrderText publisher.old.version.base
-        (whole_order publisher.old.version (F.tried feed.new))
+        (whole_order (later_by setup.before publisher.old.version) (F.tried feed.new))
         publisher.old.version.done setup.before (job_sessions setup.sessions.items)) }
-    ensures many { IfOk result (λ _. length (whole_order publisher.old.version (F.tried feed.new))
+    ensures many { IfOk result (λ _. length
+        (whole_order (later_by setup.before publisher.old.version) (F.tried feed.new))
         ≡ publisher.old.version.most) }
-    ensures few { result ≡ Err TooFewRefreshes
-        → length (whole_order publisher.old.version (F.tried feed.new))
+    ensures few { result ≡ Err TooFewRefreshes → length
+        (whole_order (later_by setup.before publisher.old.version) (F.tried feed.new))
         < publisher.old.version.most }
-    ensures ended { result ≢ Err OutOfMemory
-        → EndsFeed (F.fits feed.new) (F.is_over feed.new) publisher.old.version
-        (F.tried feed.new) }
+    ensures ended { result ≢ Err OutOfMemory → EndsFeed (F.fits feed.new) (F.is_over feed.new)
+        (later_by setup.before publisher.old.version) (F.tried feed.new) }
+    ensures source { F.source feed.new ≡ F.source feed.old }
 {
     let JobSetup {
         sessions,
@@ -77,10 +80,42 @@ pub fn run_job<F: Feed + Send, G: Gate + Sync, R: Threads + Wait + Sync>(
         before,
         most,
     } = setup;
-    let count = sessions.len();
-    let listed = publisher.listed();
-    let (mut workers, mut report) =
-        prepare(rt, alloc, before, sessions, readers, publisher, feed)?;
+    let (run, _) = prepare(rt, alloc, before, sessions, readers, publisher)?;
+    run_beside(rt, alloc, gate, most, run, publisher, feed)
+}
+
+/// Runs a job's sessions beside the publisher of a feed's refreshes, and gives the job's text.
+fn run_beside<F: Feed + Send, G: Gate + Sync, R: Threads + Wait + Sync>(
+    rt: &R,
+    alloc: Global,
+    gate: &G,
+    most: usize,
+    run: JobRun,
+    publisher: &mut Publisher,
+    feed: &mut F,
+) -> Result<JobText, JobError>
+    requires started { HasStarted run publisher.old (F.tried feed.old) }
+    requires fits { F.fits feed.old publisher.old.version }
+    requires most { most ≡ publisher.old.version.most }
+    ensures text { (begun : HasStarted run publisher.old (F.tried feed.old)) → IfOk result
+        (IsOrderText begun.start.base (whole_order begun.start (begun.first ++ F.tried feed.new))
+        begun.start.done begun.before (job_sessions begun.sessions)) }
+    ensures many { (begun : HasStarted run publisher.old (F.tried feed.old)) → IfOk result
+        (λ _. length (whole_order begun.start (begun.first ++ F.tried feed.new)) ≡ most) }
+    ensures few { (begun : HasStarted run publisher.old (F.tried feed.old))
+        → result ≡ Err TooFewRefreshes
+        → length (whole_order begun.start (begun.first ++ F.tried feed.new)) < most }
+    ensures ended { (begun : HasStarted run publisher.old (F.tried feed.old))
+        → result ≢ Err OutOfMemory → EndsFeed (F.fits feed.new) (F.is_over feed.new)
+        begun.start (begun.first ++ F.tried feed.new) }
+    ensures source { F.source feed.new ≡ F.source feed.old }
+{
+    let JobRun {
+        mut workers,
+        count,
+        mut report,
+        listed,
+    } = run;
     fork(rt, gate, publisher, &mut report, feed, workers.as_mut_slice())?;
     if publisher.listed() < most {
         return Err(JobError::TooFewRefreshes);
@@ -141,14 +176,8 @@ fn run_list<G: Gate + Sync, R: Threads + Wait + Sync>(
         (job_sessions sessions.items)) }
 {
     let most = publisher.listed();
-    let mut feed = ListFeed::new(publisher)?;
-    let setup = JobSetup {
-        sessions,
-        readers,
-        before,
-        most,
-    };
-    match run_job(rt, alloc, gate, setup, publisher, &mut feed) {
+    let (run, mut feed) = prepare(rt, alloc, before, sessions, readers, publisher)?;
+    match run_beside(rt, alloc, gate, most, run, publisher, &mut feed) {
         Ok(text) => Ok(text),
         Err(JobError::OutOfMemory) => Err(AllocError),
         Err(JobError::TooFewRefreshes) => unreachable!(),

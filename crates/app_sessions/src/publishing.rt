@@ -4,6 +4,7 @@ ghost use Rattle.std.specs.Prelude.{length, true};
 ghost use Rattle.store_snapshots.specs.Publishers.{LiesJoined};
 ghost use Rattle.store_versions.specs.Trials.{Trials};
 ghost use Rattle.app_sessions.specs.Compaction.{IsCompactedWhenDue, is_compaction_due};
+ghost use Rattle.app_sessions.specs.Orders.{RefreshOrder};
 ghost use Rattle.app_sessions.specs.Reports.{HasTried, IsTold, PublishesOne, refresh_line};
 
 use crate::compaction::is_compaction_due;
@@ -75,6 +76,7 @@ fn publish_one<F: Feed, R: Wait>(
         (F.is_over feed.new) publisher.old publisher.new report.old report.new) }
     ensures compacted { OnOk result (IsCompactedWhenDue publisher.old.version
         publisher.new.version publisher.new.joined) }
+    ensures source { F.source feed.new ≡ F.source feed.old }
 {
     'waiting: for _ in rt.forever() {
         match feed.turn(rt, publisher)? {
@@ -137,13 +139,14 @@ pub fn publish_rest<F: Feed, G: Gate, R: Wait>(
     ensures fits { OnOk result (F.fits feed.new publisher.new.version) }
     ensures over { OnOk result (F.is_over feed.new publisher.new.version) }
     ensures done { OnOk result (publisher.new.version.done ≡ length publisher.new.version.list) }
-    ensures tried { OnOk result ((start : Trials)
-        → HasTried start publisher.old (F.tried feed.old)
-        → HasTried start publisher.new (F.tried feed.new)) }
-    ensures told { OnOk result ((start : Trials)
-        → HasTried start publisher.old (F.tried feed.old)
-        → IsTold start (F.tried feed.old) report.old
-        → IsTold start (F.tried feed.new) report.new) }
+    ensures tried { OnOk result ((start : Trials) (first : RefreshOrder)
+        → HasTried start publisher.old (first ++ F.tried feed.old)
+        → HasTried start publisher.new (first ++ F.tried feed.new)) }
+    ensures told { OnOk result ((start : Trials) (first : RefreshOrder)
+        → HasTried start publisher.old (first ++ F.tried feed.old)
+        → IsTold start (first ++ F.tried feed.old) report.old
+        → IsTold start (first ++ F.tried feed.new) report.new) }
+    ensures source { F.source feed.new ≡ F.source feed.old }
 {
     let mut turn = (report.count as u64).saturating_mul(2).saturating_add(2);
     'publishing: for _ in rt.forever() {

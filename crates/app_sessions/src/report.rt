@@ -53,12 +53,13 @@ fn push_result(text: &mut Vec<u8>, tried: Result<u64, Cause>) -> Result<(), Allo
 fn push_sender(text: &mut Vec<u8>, sender: Option<u64>) -> Result<(), AllocError>
     ensures { OnOk result (text.new.items ≡ text.old.items ++ sender_written sender) }
 {
-    if let Some(sender) = sender {
-        let mut buffer = Buffer::new();
-        text.extend_from_slice(b"from ")?;
-        text.extend_from_slice(buffer.format(sender).as_bytes())?;
-        text.push(b' ')?;
-    }
+    let Some(sender) = sender else {
+        return Ok(());
+    };
+    let mut buffer = Buffer::new();
+    text.extend_from_slice(b"from ")?;
+    text.extend_from_slice(buffer.format(sender).as_bytes())?;
+    text.push(b' ')?;
     Ok(())
 }
 

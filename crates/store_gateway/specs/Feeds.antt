@@ -1,6 +1,7 @@
 -- What a gateway means as a feed.
 use Rattle.std.specs.Prelude.{◌≡◌, ◌⊎◌, ℕ, ◌+◌, ◌≤◌, ◌==◌, Bool, true, false, List, [], ◌∷◌, Option}
 use Rattle.std.specs.Prelude.{Some, None, if◌then◌else◌, length, map}
+use Rattle.atomic_table.specs.Seated.{TableId}
 use Rattle.store_state.specs.Refresh.{Change}
 use Rattle.store_versions.specs.Trials.{Trials}
 use Rattle.store_gateway.specs.Roles.{Taking}
@@ -19,6 +20,11 @@ numbered es = map (λ e. (Some (sender_number e.0), e.1)) es
 -- what a gateway's feed tried: all that was taken
 abbrev pub gateway_tried : Taking → List (Option ℕ × Change)
 gateway_tried taker = numbered taker.taken
+
+-- the numbers that name a gateway
+abbrev pub gateway_name : TableId → List ℕ
+gateway_name gateway = gateway.words ∷ gateway.slots ∷ gateway.views_name ∷ gateway.atom
+    ∷ gateway.block ∷ gateway.offset ∷ gateway.slot_names
 
 -- A publisher of the version fits it: each refresh of the version's list was tried, and the list may
 -- get longer by all that may still be taken.

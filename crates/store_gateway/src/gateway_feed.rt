@@ -2,7 +2,7 @@
 ghost use Rattle.std.specs.Prelude.{◌≡◌, true};
 ghost use Rattle.std.specs.List.{All};
 ghost use Rattle.store_gateway.specs.Feeds.{GatewayFits, GatewayIsOver, IsFromEither, gateway_tried};
-ghost use Rattle.store_gateway.specs.Feeds.{numbered, sent_from};
+ghost use Rattle.store_gateway.specs.Feeds.{gateway_name, numbered, sent_from};
 ghost use Rattle.store_gateway.specs.declared.message.SenderId.TheVariants.{First, Second};
 
 use crate::ended::Ended;
@@ -22,8 +22,8 @@ impl GatewayFeed {
     /// The order in which all was tried: the refreshes from each sender are what it sent, in its
     /// order, and there are no others. No memory is taken.
     pub fn close(self, first: Ended, second: Ended) -> Order
-        requires gateway { (first.gateway ≡ self.taker.gateway)
-            × (second.gateway ≡ self.taker.gateway) }
+        requires first { gateway_name first.gateway ≡ gateway_name self.taker.gateway }
+        requires second { gateway_name second.gateway ≡ gateway_name self.taker.gateway }
         requires ids { (first.id ≡ First) × (second.id ≡ Second) }
         requires ended { self.taker.ended ≡ (true, true) }
         ensures tried { numbered result ≡ gateway_tried self.taker }
@@ -38,6 +38,8 @@ impl GatewayFeed {
 
 impl Feed for GatewayFeed {
     ghost tried = { λ f. gateway_tried f.taker };
+
+    ghost source = { λ f. gateway_name f.taker.gateway };
 
     ghost fits = { λ f. GatewayFits f.taker };
 

@@ -1,12 +1,12 @@
 -- A step that keeps the opening, shortens no list and lowers no version keeps the rule.
-use Rattle.std.proofs.Common.{◌≡◌, ◌≢◌, ℕ, ◌≤◌, List, [], ◌∷◌, ◌++◌, Some, None, set, zero-le, refl, subst, ⊎_elim, ap, le_refl, le_trans, ◌∙◌, sym}
+use Rattle.std.proofs.Common.{◌≡◌, ◌≢◌, ℕ, ◌+◌, ◌<◌, ◌≤◌, List, [], ◌∷◌, ◌++◌, Some, None, length, set, zero-le, refl, subst, ⊎_elim, ap, le_refl, le_trans, ◌∙◌, sym, arith, length-append}
 use mathlib.Core.Option.{some}
 use lib.ListN.{get_elem?}
 use Rattle.atomic_table.proofs.Lists.{at_set, at_snoc}
 use Rattle.base_schema.specs.State.{State}
 use Rattle.store_state.specs.Prefixes.{IsPrefix}
 use Rattle.store_state.specs.Refresh.{Change}
-use Rattle.store_versions.specs.Trials.{Trials, version_of}
+use Rattle.store_versions.specs.Trials.{Trials, offered, one_more, version_of}
 use Rattle.store_snapshots.specs.declared.shelf.ShelfView.{ShelfView}
 use Rattle.store_snapshots.specs.Openings.{IsOf, Opening, opening_at}
 use Rattle.store_snapshots.specs.Rule.{AllFit, Fits, KnowsVersion, MayFollow, SeesVersion, entered, named_only, own_view}
@@ -28,6 +28,34 @@ follows_through x y z f g = record {
   most = g.most ∙ f.most;
   later = le_trans f.later g.later;
 }
+
+pub follows_same : (x y : Trials) → y ≡ x → MayFollow x y
+follows_same x y is = subst (MayFollow x) (sym is) (follows_itself x)
+
+-- a refresh was tried
+pub follows_after : (x y z : Trials) → MayFollow x y → z ≡ one_more y → version_of y ≤ version_of z → MayFollow x z
+follows_after x y z f is up = record {
+  base = ap (λ (t : Trials). t.base) is ∙ f.base;
+  list = subst (IsPrefix x.list) (sym (ap (λ (t : Trials). t.list) is)) f.list;
+  most = ap (λ (t : Trials). t.most) is ∙ f.most;
+  later = le_trans f.later up;
+}
+
+-- a refresh stands at the list's end
+pub follows_offered : (change : Change) (x y : Trials) → y ≡ offered change x → version_of y ≡ version_of x → MayFollow x y
+follows_offered change x y is same = record {
+  base = ap (λ (t : Trials). t.base) is;
+  list = subst (IsPrefix x.list) (sym (ap (λ (t : Trials). t.list) is)) (change ∷ [], refl);
+  most = ap (λ (t : Trials). t.most) is;
+  later = subst (λ n. version_of x ≤ n) (sym same) (le_refl _);
+}
+
+pub left_offered : (change : Change) (x y : Trials) → y ≡ offered change x → x.done ≡ length x.list → y.done < length y.list
+left_offered change x y is all =
+    let d = ap (λ (t : Trials). t.done) is in
+    let l = ap (λ (t : Trials). length t.list) is in
+    let n = length-append x.list (change ∷ []) in
+    omega (arith, d, l, n, all)
 
 kept : (seat : ℕ) (w : ShelfView) (x y : Trials) (views : List ShelfView) → AllFit x views → MayFollow x y → Fits y w → AllFit y (set views seat w)
 kept seat w x y views h f fits j u e =

@@ -28,6 +28,9 @@ pub trait Feed {
     /// The refreshes that it tried, in this order, each with the number of its sender, if it has one.
     ghost tried: { Self → List (Option ℕ × Change) };
 
+    /// What names its source. No turn changes it.
+    ghost source: { Self → List ℕ };
+
     /// A publisher of this version fits it.
     ghost fits: { Self → Trials → Type 0 };
 
@@ -42,6 +45,7 @@ pub trait Feed {
         ensures turn { IfOk result (TakesTurn (tried self.old) (tried self.new) (is_over self.new)
             publisher.old publisher.new) }
         ensures fits { OnOk result (fits self.new publisher.new.version) }
+        ensures source { source self.new ≡ source self.old }
         ensures refused { publisher.new.refused ≡ publisher.old.refused }
         ensures err { OnErr result (publisher.new ≡ publisher.old) };
 }

@@ -1,5 +1,5 @@
 //! A publisher's list as a feed.
-ghost use Rattle.std.specs.Prelude.{◌≡◌, IfOk};
+ghost use Rattle.std.specs.Prelude.{◌≡◌, [], IfOk};
 ghost use Rattle.store_snapshots.specs.Turns.{IsAllTried, ListFits, list_tried};
 
 use crate::feed::{Feed, FeedTurn};
@@ -28,6 +28,8 @@ impl ListFeed {
 
 impl Feed for ListFeed {
     ghost tried = { λ f. list_tried f.start f.count };
+
+    ghost source = { λ f. [] };
 
     ghost fits = { λ f. ListFits f.start f.count };
 

@@ -5,6 +5,8 @@
 #[cfg(test)]
 mod files;
 #[cfg(test)]
+mod longer_lists;
+#[cfg(test)]
 mod machine_called;
 #[cfg(test)]
 mod snapshots_called;
