@@ -7,7 +7,6 @@
 mod check;
 mod commands;
 mod explain;
-mod job_feed;
 mod job_input;
 mod job_sources;
 pub mod laws;

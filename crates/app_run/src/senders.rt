@@ -13,15 +13,13 @@ ghost use Rattle.app_run.specs.Receivers.{AreOfOneGateway, BothEnd, CanReceive, 
 ghost use Rattle.app_run.specs.Receivers.{MaySendBoth};
 ghost use Rattle.app_run.specs.Senders.{EndsAfter, IsSentText, IsTakenText, MaySend, MayTake, TakesAll};
 
-use crate::job_feed::{JobFeed, JobOrigin, Origin};
 use crate::job_sources::JobSources;
 use app_sessions::{JobError, JobSetup, JobText, Session, run_job};
 use base_io::Gate;
 use std::alloc::{AllocError, Global};
-use std::marker::PhantomData;
 use std::sync::Wait;
 use std::thread::{Threads, join};
-use store_gateway::{Ended, Sender, SenderId, Taker, open_gateway, send_all};
+use store_gateway::{Ended, GatewayFeed, Sender, SenderId, open_gateway, send_all};
 use store_snapshots::{Publisher, open};
 use store_state::{Refresh, State};
 
@@ -89,44 +87,6 @@ fn send_both<R: Threads + Wait + Sync>(rt: &R, senders: Senders) -> (Ended, Ende
     )
 }
 
-/// Runs the sessions beside a publisher of a list and of what a taker takes. There is no text where it
-/// took too few refreshes.
-fn run_open<O: Origin + Send, R: Threads + Wait + Sync, G: Gate + Sync>(
-    rt: &R,
-    alloc: Global,
-    gate: &G,
-    setup: JobSetup,
-    taker: Taker,
-    publisher: &mut Publisher,
-) -> Result<(Option<JobText>, Taker), AllocError>
-    requires sessions { (0 < vec_len setup.sessions) × (vec_len setup.sessions < 2 ^ 32) }
-    requires unasked { AllUnasked setup.sessions.items }
-    requires readers { 0 < vec_len setup.readers }
-    requires opened { AreOfOpening opening_of publisher.old.version setup.readers.items }
-    requires shown { publisher.old.shown ≡ publisher.old.version }
-    requires fresh { publisher.old.version.done ≡ 0 }
-    requires list { publisher.old.version.list ≡ O.list }
-    requires before { setup.before ≡ length O.list }
-    requires most { setup.most ≡ publisher.old.version.most }
-    requires taker { MayTake taker O.list publisher.old.version.most }
-    requires gateway { taker.gateway ≡ O.gateway }
-    ensures text { IfOk result (λ r. IsTakenText publisher.old.version.base O.list
-        publisher.old.version.most (job_sessions setup.sessions.items) r.1 r.0) }
-    ensures taken { IfOk result (λ r. TakesAll taker r.1) }
-{
-    let mut feed: JobFeed<O> = JobFeed {
-        count: 0,
-        taker,
-        of: PhantomData,
-    };
-    let text = match run_job(rt, alloc, gate, setup, publisher, &mut feed) {
-        Ok(text) => Some(text),
-        Err(JobError::TooFewRefreshes) => None,
-        Err(JobError::OutOfMemory) => return Err(AllocError),
-    };
-    Ok((text, feed.taker))
-}
-
 /// What runs beside the senders.
 #[derive(Drop)]
 pub struct Receiver {
@@ -138,18 +98,49 @@ pub struct Receiver {
     list: Vec<Refresh>,
     /// How many refreshes there are in all.
     most: usize,
-    /// Who takes what is sent.
-    taker: Taker,
+    /// What is sent.
+    feed: GatewayFeed,
+}
+
+/// Runs the sessions beside a publisher of its list and of what is sent. There is no text where too
+/// few refreshes came.
+fn run_open<R: Threads + Wait + Sync, G: Gate + Sync>(
+    rt: &R,
+    alloc: Global,
+    gate: &G,
+    setup: JobSetup,
+    mut feed: GatewayFeed,
+    publisher: &mut Publisher,
+) -> Result<(Option<JobText>, GatewayFeed), AllocError>
+    requires sessions { (0 < vec_len setup.sessions) × (vec_len setup.sessions < 2 ^ 32) }
+    requires unasked { AllUnasked setup.sessions.items }
+    requires readers { 0 < vec_len setup.readers }
+    requires opened { AreOfOpening opening_of publisher.old.version setup.readers.items }
+    requires shown { publisher.old.shown ≡ publisher.old.version }
+    requires fresh { publisher.old.version.done ≡ 0 }
+    requires before { setup.before ≡ length publisher.old.version.list }
+    requires most { setup.most ≡ publisher.old.version.most }
+    requires taker { MayTake feed.taker publisher.old.version.list publisher.old.version.most }
+    ensures text { IfOk result (λ received. IsTakenText publisher.old.version.base
+        publisher.old.version.list publisher.old.version.most
+        (job_sessions setup.sessions.items) received.1.taker received.0) }
+    ensures taken { IfOk result (λ received. TakesAll feed.taker received.1.taker) }
+{
+    match run_job(rt, alloc, gate, setup, publisher, &mut feed) {
+        Ok(text) => Ok((Some(text), feed)),
+        Err(JobError::TooFewRefreshes) => Ok((None, feed)),
+        Err(JobError::OutOfMemory) => Err(AllocError),
+    }
 }
 
 /// The same with a publisher that is opened for it, and closed.
-fn run_receiver<O: Origin + Send, R: Threads + Wait + Sync, G: Gate + Sync>(
+fn run_receiver<R: Threads + Wait + Sync, G: Gate + Sync>(
     rt: &R,
     alloc: Global,
     gate: &G,
     receiver: Receiver,
-) -> Result<(Option<JobText>, Taker), AllocError>
-    requires { CanReceive O.list O.gateway receiver }
+) -> Result<(Option<JobText>, GatewayFeed), AllocError>
+    requires { CanReceive receiver }
     ensures { IfOk result (λ received. HasReceived receiver received.0 received.1) }
 {
     let Receiver {
@@ -157,7 +148,7 @@ fn run_receiver<O: Origin + Send, R: Threads + Wait + Sync, G: Gate + Sync>(
         base,
         list,
         most,
-        taker,
+        feed,
     } = receiver;
     let before = list.len();
     let (mut publisher, readers) = open(rt, alloc, base, list, sessions.len() as u32, most)?;
@@ -167,13 +158,13 @@ fn run_receiver<O: Origin + Send, R: Threads + Wait + Sync, G: Gate + Sync>(
         before,
         most,
     };
-    let received = run_open::<O, R, G>(rt, alloc, gate, setup, taker, &mut publisher);
+    let received = run_open(rt, alloc, gate, setup, feed, &mut publisher);
     publisher.close(rt);
     received
 }
 
 /// Runs the senders in threads of their own, and the sessions beside a publisher of what they send.
-fn run_joined<O: Origin + Send, R: Threads + Wait + Sync, G: Gate + Sync>(
+fn run_joined<R: Threads + Wait + Sync, G: Gate + Sync>(
     rt: &R,
     alloc: Global,
     gate: &G,
@@ -181,7 +172,7 @@ fn run_joined<O: Origin + Send, R: Threads + Wait + Sync, G: Gate + Sync>(
     receiver: Receiver,
 ) -> Result<JobText, AllocError>
     requires senders { MaySendBoth senders }
-    requires receiver { CanReceive O.list O.gateway receiver }
+    requires receiver { CanReceive receiver }
     requires both { AreOfOneGateway senders receiver }
     ensures { IfOk result (IsSentText receiver.base receiver.list.items
         senders.firsts.items senders.seconds.items (job_sessions receiver.sessions.items)) }
@@ -193,12 +184,12 @@ fn run_joined<O: Origin + Send, R: Threads + Wait + Sync, G: Gate + Sync>(
             ensures { BothEnd senders result }
         { send_both(rt, senders) },
         move ||
-            requires { IsSync R.row × IsSync G.row × CanReceive O.list O.gateway receiver }
+            requires { IsSync R.row × IsSync G.row × CanReceive receiver }
             ensures { IfOk result (λ received. HasReceived receiver received.0 received.1) }
-        { run_receiver::<O, R, G>(rt, alloc, gate, receiver) },
+        { run_receiver(rt, alloc, gate, receiver) },
     );
-    let (text, taker) = received?;
-    let _order = taker.close(first, second);
+    let (text, feed) = received?;
+    let _order = feed.close(first, second);
     match text {
         Some(text) => Ok(text),
         None => unreachable!(),
@@ -244,7 +235,7 @@ pub fn run_with_senders<R: Threads + Wait + Sync, G: Gate + Sync>(
         base,
         list,
         most,
-        taker,
+        feed: GatewayFeed { taker },
     };
-    run_joined::<JobOrigin, R, G>(rt, alloc, gate, senders, receiver)
+    run_joined(rt, alloc, gate, senders, receiver)
 }
