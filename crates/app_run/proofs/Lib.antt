@@ -7,6 +7,7 @@ mod OneWork
 mod Works
 mod OnTheWay
 mod OneText
+mod Orders
 mod JobScripts
 mod JobAlike
 mod JobPlayed

@@ -53,7 +53,24 @@ fn run_without_senders<R: Threads + Wait + Sync, G: Gate + Sync>(
     run_list_job(rt, alloc, sessions, readers, publisher, before, gate)
 }
 
-/// Runs the sessions beside a publisher of the refreshes.
+/// Runs the sessions beside a publisher of the refreshes, some of which may be sent.
+fn run_sources<R: Threads + Wait + Sync, G: Gate + Sync>(
+    rt: &R,
+    alloc: Global,
+    gate: &G,
+    sources: JobSources,
+) -> Result<JobText, AllocError>
+    requires { IsRunnable sources }
+    ensures { IfOk result (IsTextInOrder (work_view sources) (job_sessions sources.sessions.items)) }
+{
+    if sources.senders.is_empty() {
+        run_without_senders(rt, alloc, gate, sources)
+    } else {
+        run_with_senders(rt, alloc, gate, sources)
+    }
+}
+
+/// The text of what a job works on, and its status.
 fn run_sessions<R: Threads + Wait + Sync, G: Gate + Sync>(
     rt: &R,
     alloc: Global,
@@ -65,11 +82,7 @@ fn run_sessions<R: Threads + Wait + Sync, G: Gate + Sync>(
     ensures { IfOk result (λ printed. MeansJob shows_rows (work_view sources)
         printed.0.items printed.1) }
 {
-    let job = if sources.senders.is_empty() {
-        run_without_senders(rt, alloc, gate, sources)?
-    } else {
-        run_with_senders(rt, alloc, gate, sources)?
-    };
+    let job = run_sources(rt, alloc, gate, sources)?;
     Ok(text_and_status(job))
 }
 
