@@ -8,6 +8,8 @@ mod Works
 mod OnTheWay
 mod OneText
 mod Orders
+mod Divided
+mod Taken
 mod JobScripts
 mod JobAlike
 mod JobPlayed

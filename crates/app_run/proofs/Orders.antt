@@ -3,7 +3,7 @@ use Rattle.std.proofs.Common.{◌≡◌, ◌∙◌, ℕ, ◌+◌, ◌-◌, ◌<�
 use Rattle.std.specs.Prelude.{◌↔◌}
 use Rattle.std.specs.List.{zip}
 use Rattle.std.proofs.Math.Seq.{take-length}
-use Rattle.std.proofs.lemmas.List.{append-nil, length-append}
+use Rattle.std.proofs.lemmas.List.{append-nil, length-take-le}
 use Rattle.app_sessions.specs.Jobs.{IsJobText, IsOrderText, JobAnswer, JobSession}
 use Rattle.app_sessions.specs.Orders.{RefreshOrder}
 use Rattle.store_gateway.specs.Feeds.{numbered}
@@ -20,9 +20,12 @@ use Rattle.app_run.specs.Senders.{IsSentText, order_sent}
 
 -- where nobody sends a refresh, all are unsent
 
+minus_none : (n : ℕ) → n - 0 ≡ n
+minus_none n = omega arith
+
 all_unsent : (work : JobWork) → work.senders ≡ [] → unsent_of work ≡ work.list
 all_unsent work none =
-    let all : unsent_count work ≡ length work.list = ap (λ (ss : List SenderId). length work.list - length ss) none in
+    let all : unsent_count work ≡ length work.list = ap (λ (ss : List SenderId). length work.list - length ss) none ∙ minus_none (length work.list) in
     ap (λ n. take n work.list) all ∙ take-length work.list
 
 nothing_sent : (work : JobWork) → work.senders ≡ [] → sent_of work ≡ []
@@ -72,7 +75,7 @@ pub sent_text : (work : JobWork) (firsts seconds : List Change) (sessions : List
 sent_text work firsts seconds sessions job all first second is =
     let count = before_sent work all in
     let sent : zip work.senders (drop work.before work.list) ≡ sent_of work = ap (λ n. zip work.senders (drop n work.list)) (sym count) in
-    let short : length (take work.before work.list) ≡ work.before = taken work.before work.list (omega (arith, all)) in
+    let short : length (take work.before work.list) ≡ work.before = length-take-le work.before work.list (omega (arith, all)) in
     record {
       order = order_sent (take work.before work.list) is.sent;
       allowed = record {
@@ -83,12 +86,3 @@ sent_text work firsts seconds sessions job all first second is =
       };
       text = subst (λ n. IsOrderText work.base (order_sent (take work.before work.list) is.sent) 0 n sessions job) short is.text;
     }
-  where
-    taken : (n : ℕ) (xs : List Change) → n ≤ length xs → length (take n xs) ≡ n
-    taken n xs less = search rules
-
--- what both senders sent is all that was sent
-pub both_counted : (sent : List (SenderId × Change)) → length sent ≡ length (sent_by First sent) + length (sent_by Second sent)
-both_counted [] = refl
-both_counted ((First, change) ∷ sent) = let so = both_counted sent in omega (arith, so)
-both_counted ((Second, change) ∷ sent) = let so = both_counted sent in omega (arith, so)

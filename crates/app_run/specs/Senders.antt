@@ -27,7 +27,7 @@ pub record EndsAfter (sender : Sending) (refreshes : List Change) (ended : Sendi
 -- list are `most`.
 pub record MayTake (taker : Taking) (list : List Change) (most : ℕ) : Type 0 where
   pub fresh : taker.taken ≡ []
-  pub most : length list + (taker.quotas.0 + taker.quotas.1) ≡ most
+  pub room : length list + (taker.quotas.0 + taker.quotas.1) ≡ most
 
 -- the taker of that gateway has taken the ends of both senders
 pub record TakesAll (old new : Taking) : Type 0 where

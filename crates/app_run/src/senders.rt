@@ -1,5 +1,5 @@
 //! A job of which two senders send the refreshes beside the sessions, each in a thread of its own.
-ghost use Rattle.std.specs.Prelude.{◌≡◌, ◌+◌, ◌<◌, ◌^◌, IfOk, OnOk, drop, length, take, vec_len};
+ghost use Rattle.std.specs.Prelude.{◌≡◌, ◌+◌, ◌<◌, ◌^◌, [], ◌∷◌, ◌++◌, IfOk, OnOk, length, vec_len};
 ghost use Rattle.std.specs.List.{zip};
 ghost use denote.Param.Send.{IsSync};
 ghost use Rattle.store_gateway.specs.Roles.{sent_by};
@@ -27,29 +27,40 @@ use store_state::{Refresh, State};
 /// ends of both senders. So it is never full.
 const MOST_MESSAGES: usize = 1026;
 
-/// Takes the refreshes after the first ones from a list, and gives them to their senders. Each
-/// sender's keep their order.
+/// Gives a refresh to its sender.
+fn give(
+    sender: SenderId,
+    refresh: Refresh,
+    first: &mut Vec<Refresh>,
+    second: &mut Vec<Refresh>,
+) -> Result<(), AllocError>
+    ensures first { OnOk result (first.new.items
+        ≡ first.old.items ++ sent_by First ((sender, refresh) ∷ [])) }
+    ensures second { OnOk result (second.new.items
+        ≡ second.old.items ++ sent_by Second ((sender, refresh) ∷ [])) }
+{
+    match sender {
+        SenderId::First => first.push(refresh)?,
+        SenderId::Second => second.push(refresh)?,
+    }
+    Ok(())
+}
+
+/// Gives refreshes to their senders. Each sender's keep their order.
 fn divide(
     alloc: Global,
-    before: usize,
     senders: &[SenderId],
-    list: &mut Vec<Refresh>,
+    mut sent: Vec<Refresh>,
 ) -> Result<(Vec<Refresh>, Vec<Refresh>), AllocError>
-    requires { length list.old.items ≡ before + length senders.now }
-    ensures list { OnOk result (list.new.items ≡ take before list.old.items) }
-    ensures first { IfOk result (λ sent. sent.0.items
-        ≡ sent_by First (zip senders.now (drop before list.old.items))) }
-    ensures second { IfOk result (λ sent. sent.1.items
-        ≡ sent_by Second (zip senders.now (drop before list.old.items))) }
+    requires { length sent.items ≡ length senders.now }
+    ensures first { IfOk result (λ r. r.0.items ≡ sent_by First (zip senders.now sent.items)) }
+    ensures second { IfOk result (λ r. r.1.items ≡ sent_by Second (zip senders.now sent.items)) }
 {
     let mut first = Vec::new(alloc);
     let mut second = Vec::new(alloc);
     'dividing: for sender in senders {
-        let refresh = list.remove(before);
-        match sender {
-            SenderId::First => first.push(refresh)?,
-            SenderId::Second => second.push(refresh)?,
-        }
+        let refresh = sent.remove(0);
+        give(*sender, refresh, &mut first, &mut second)?;
     }
     Ok((first, second))
 }
@@ -217,7 +228,8 @@ pub fn run_with_senders<R: Threads + Wait + Sync, G: Gate + Sync>(
         senders,
     } = sources;
     let most = list.len();
-    let (firsts, seconds) = divide(alloc, before, senders.as_slice(), &mut list)?;
+    let sent = list.split_off(before)?;
+    let (firsts, seconds) = divide(alloc, senders.as_slice(), sent)?;
     let (first, second, taker) = open_gateway(
         alloc,
         MOST_MESSAGES,
