@@ -60,7 +60,7 @@ comes_next start old order change trials h n =
     }
 
 -- the opening that a value is of
-named : State × List Change × ℕ → Opening → State × List Change × ℕ
+abbrev named : State × List Change × ℕ → Opening → State × List Change × ℕ
 named other None = other
 named other (Some o) = o
 

@@ -15,6 +15,7 @@ mod JobSteps
 mod JobTexts
 mod JobParts
 mod JobEnds
+mod JobStarts
 mod JobMeets
 mod Crossing
 mod Compacting
