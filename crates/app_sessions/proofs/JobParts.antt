@@ -1,5 +1,5 @@
 -- From the parts of a job to its sessions' text.
-use Rattle.std.proofs.Common.{◌≡◌, ◌∙◌, ℕ, ◌<◌, Some, List, length, slice_index_or, refl, sym, subst, ap}
+use Rattle.std.proofs.Common.{◌≡◌, ◌∙◌, ℕ, ◌<◌, ◌≤◌, false, List, length, slice_index_or, refl, sym, subst}
 use Rattle.std.proofs.lemmas.List.{length-map}
 use Rattle.store_snapshots.specs.Openings.{Opening, opening_at}
 use Rattle.store_state.specs.Refresh.{Change}

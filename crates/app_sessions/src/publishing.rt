@@ -42,7 +42,7 @@ fn end_refresh<R: Wait>(
     publisher: &mut Publisher,
     report: &mut Report,
 ) -> Result<(), AllocError>
-    requires { report.old.count < publisher.old.version.done }
+    requires room { report.old.count < publisher.old.version.done }
     ensures version { publisher.new.version ≡ publisher.old.version }
     ensures shown { OnOk result ((publisher.new.shown ≡ publisher.old.shown)
         ⊎ (publisher.new.shown ≡ publisher.old.version)) }
