@@ -1,6 +1,6 @@
 -- A step that keeps the opening, shortens no list and lowers no version keeps the rule.
 use Rattle.std.proofs.Common.{◌≡◌, ◌≢◌, ℕ, ◌+◌, ◌<◌, ◌≤◌, List, [], ◌∷◌, ◌++◌, Some, None, length, set, zero-le, refl, subst, ⊎_elim, ap, le_refl, le_trans, ◌∙◌, sym, arith, length-append}
-use mathlib.Core.Option.{some}
+use mathlib.Core.Option.{some, some-ne-none}
 use lib.ListN.{get_elem?}
 use Rattle.atomic_table.proofs.Lists.{at_set, at_snoc}
 use Rattle.base_schema.specs.State.{State}
@@ -73,8 +73,8 @@ enters seat v x views h at =
       (f, refl),
     )
 
-own : (y : Trials) → IsOf (opening_at y) y
-own y o is =
+pub of_itself : (y : Trials) → IsOf (opening_at y) y
+of_itself y o is =
     let first : Opening → State × List Change × ℕ = λ k. elim k [ Some p ↦ p | None ↦ (y.base, y.list, y.most) ] in
     (
       ap (λ k. (first k).0) is,
@@ -86,7 +86,7 @@ pub names_it : (seat : ℕ) (x y : Trials) (views : List ShelfView) → AllFit x
 names_it seat x y views h e =
     let k = subst (λ (d : Trials). AllFit d views) (sym e) h in (
       own_view y,
-      kept seat (own_view y) y y views k (follows_itself y) (own y, prefix-refl y.list, le_refl _),
+      kept seat (own_view y) y y views k (follows_itself y) (of_itself y, prefix-refl y.list, le_refl _),
       refl,
     )
 
@@ -125,3 +125,6 @@ moves seat v x y views h at f =
       kept seat (entered v y) x y views h f (names_kept v.opening x y f k.0, prefix-refl y.list, le_refl _),
       refl,
     )
+
+pub nowhere : (d : Trials) → AllFit d []
+nowhere d seat v at = absurd (some-ne-none v (sym at))

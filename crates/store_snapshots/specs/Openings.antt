@@ -1,5 +1,6 @@
 -- What the versions of a reader are of.
-use Rattle.std.specs.Prelude.{◌≡◌, ℕ, ◌+◌, ◌-◌, ◌^◌, ◌≤◌, List, Option, Some, length, min}
+use Rattle.std.specs.Prelude.{◌≡◌, ℕ, ◌+◌, ◌-◌, ◌^◌, ◌≤◌, true, List, Option, Some, is_some, length}
+use Rattle.std.specs.Prelude.{min, take}
 use Rattle.std.specs.Option.{ForSome}
 use Rattle.base_schema.specs.State.{State}
 use Rattle.store_state.specs.Refresh.{Change}
@@ -19,15 +20,20 @@ abbrev pub IsOf : Opening → Trials → Type 0
 IsOf opening version = ForSome opening
     (λ o. (version.base ≡ o.0) × IsPrefix o.1 version.list × (version.most ≡ o.2))
 
+-- the same, by the first refreshes of the version's list
+abbrev pub HasOpening : Opening → Trials → Type 0
+HasOpening opening version = ForSome opening (λ o. (version.base ≡ o.0)
+    × (take (length o.1) version.list ≡ o.1) × (version.most ≡ o.2))
+
 -- the opening is named, and its list has so many refreshes
 abbrev pub IsNamed : Opening → ℕ → Type 0
 IsNamed opening count =
-    (o : State × List Change × ℕ) × (opening ≡ Some o) × (count ≡ length o.1)
+    (is_some opening ≡ true) × ForSome opening (λ o. count ≡ length o.1)
 
--- two versions, of which the first may be none, are of one opening, whose list has so many refreshes
-abbrev pub AreOfOne : ℕ → Option Trials → Trials → Type 0
+-- two versions are of one opening, whose list has so many refreshes
+abbrev pub AreOfOne : ℕ → Trials → Trials → Type 0
 AreOfOne count before now = (opening : Opening) × IsNamed opening count
-    × ForSome before (IsOf opening) × IsOf opening now
+    × IsOf opening before × IsOf opening now
 
 -- each list that fits now did so before
 abbrev pub Narrower : (List Change → Type 0) → (List Change → Type 0) → Type 0

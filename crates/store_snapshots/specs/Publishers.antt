@@ -1,6 +1,6 @@
 -- What a publisher is seen as.
 use Rattle.std.specs.Prelude.{◌≡◌, ℕ, ◌<◌, List, Option, Some, None, Result, Ok, Err, is_ok, length}
-use Rattle.std.specs.Prelude.{true}
+use Rattle.std.specs.Prelude.{true, ⊤}
 use Rattle.base_refusals.specs.declared.refresh.Cause.{Cause}
 use Rattle.base_schema.specs.State.{State}
 use Rattle.base_value.specs.declared.value.Value.{Value}
@@ -90,16 +90,16 @@ StaysUntried old new OutOfMemory = new ≡ old
 pub record AcceptsNext (trials : Trials) (new : Edition) (note : Note) : Type 0 where
   pub after : IsAfter trials trials (Ok new.version)
   pub shown : new.shown ≡ new.version
-  pub note : TellsVersion new.version note
+  pub tells : TellsVersion new.version note
 
 -- the next refresh of these trials is refused for this cause, and what was shown stays shown
-pub record RefusesNext (trials : Trials) (cause : Cause) (shown : Trials) (new : Edition)
+pub record RefusesNext (trials : Trials) (cause : Cause) (before : Trials) (new : Edition)
     : Type 0 where
   pub after : IsAfter trials new.version (Err (RefusedBy cause))
-  pub shown : new.shown ≡ shown
+  pub shown : new.shown ≡ before
 
 -- whether a refresh would be accepted in a state, or its first cause
 abbrev pub Foretells : State → Change → Result ⊤ RefreshError → Type 0
-Foretells state change (Ok yes) = is_ok (after state change) ≡ true
+Foretells state change (Ok accepted) = is_ok (after state change) ≡ true
 Foretells state change (Err (RefusedBy cause)) = after state change ≡ Err cause
 Foretells state change (Err NoRoom) = Unit {0}

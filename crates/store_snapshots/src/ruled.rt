@@ -1,12 +1,12 @@
 //! An entry under the rule.
-ghost use Rattle.std.specs.Prelude.{◌≡◌, ◌≤◌, ◌⊎◌, IsTrue, None, Some, false};
+ghost use Rattle.std.specs.Prelude.{◌≡◌, ◌≤◌, ◌⊎◌, IsTrue, None, false};
 ghost use Rattle.std.specs.Option.{ForSome};
 ghost use Rattle.std.specs.Arc.{arc_value};
 ghost use Rattle.left_right.specs.Sides.{view};
 ghost use Rattle.store_state.specs.Prefixes.{IsPrefix};
 ghost use Rattle.store_versions.specs.Trials.{version_of};
 ghost use Rattle.store_snapshots.specs.Entries.{PassesUncounted};
-ghost use Rattle.store_snapshots.specs.Openings.{AreOfOne, IsNamed, IsOf};
+ghost use Rattle.store_snapshots.specs.Openings.{AreOfOne, HasOpening, IsNamed};
 
 use crate::entry::{Entered, Entry};
 use crate::note::Note;
@@ -35,7 +35,7 @@ pub struct RuledEntry {
     entries: u64,
     refusals: u64,
     ghost named: { IsNamed (view reader.place).opening first },
-    ghost opened: { ForSome told (λ t. IsOf (view reader.place).opening (arc_value t)) },
+    ghost opened: { ForSome told (λ t. HasOpening (view reader.place).opening (arc_value t)) },
 }
 
 impl RuledEntry {
@@ -78,7 +78,7 @@ fn enter_once(reader: ShelfReader, _nothing: ()) -> (ShelfReader, Entered)
 /// Whether a version's list is found to begin with that of another of the same opening, whose list
 /// has so many refreshes.
 fn is_longer(now: &Directory, before: &Directory, first: usize) -> bool
-    requires { AreOfOne first (Some before.now) now.now }
+    requires { AreOfOne first before.now now.now }
     ensures { IsTrue result → IsPrefix before.now.list now.now.list }
 {
     now.begins_with(before, first)
@@ -86,7 +86,7 @@ fn is_longer(now: &Directory, before: &Directory, first: usize) -> bool
 
 /// Whether a version's list is found to begin with that of the version that was told of.
 fn is_after(told: &Option<Arc<Directory>>, now: &Directory, first: usize) -> bool
-    requires { ForSome told.now (λ t. AreOfOne first (Some (arc_value t)) now.now) }
+    requires { ForSome told.now (λ t. AreOfOne first (arc_value t) now.now) }
     ensures { IsTrue result → ForSome told.now (λ t. IsPrefix (arc_value t).list now.now.list) }
 {
     match told {
@@ -102,7 +102,7 @@ fn longer_of(
     now: Arc<Directory>,
     first: usize,
 ) -> (Arc<Directory>, bool)
-    requires { AreOfOne first (Some (arc_value before)) (arc_value now) }
+    requires { AreOfOne first (arc_value before) (arc_value now) }
     ensures before { result.1 ≡ false → IsPrefix (arc_value before).list (arc_value result.0).list }
     ensures now { result.1 ≡ false → IsPrefix (arc_value now).list (arc_value result.0).list }
     ensures either { (result.0 ≡ before) ⊎ (result.0 ≡ now) }

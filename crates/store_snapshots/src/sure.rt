@@ -4,7 +4,7 @@ ghost use Rattle.std.specs.List.{All};
 ghost use Rattle.std.specs.Arc.{arc_value};
 ghost use Rattle.store_state.specs.Prefixes.{IsPrefix};
 ghost use Rattle.store_versions.specs.Trials.{version_of};
-ghost use Rattle.store_snapshots.specs.Openings.{IsOf, opening_at};
+ghost use Rattle.store_snapshots.specs.Openings.{opening_at};
 
 use crate::entry::{Entered, Entry};
 use crate::note::Note;
@@ -21,14 +21,15 @@ pub struct SureEntry {
     next: usize,
     last: Arc<Directory>,
     entries: u64,
-    ghost opened: { All (λ v. IsOf (opening_at (arc_value last)) (arc_value v)) versions.items },
+    ghost opened: { All (λ v. opening_at (arc_value v) ≡ opening_at (arc_value last))
+        versions.items },
     ghost whole: { (arc_value last).most ≡ length (arc_value last).list },
 }
 
 impl SureEntry {
     /// An entry that gives these versions, the first of which is of number 0.
     pub fn new(first: Arc<Directory>, versions: Vec<Arc<Directory>>) -> SureEntry
-        requires opened { All (λ v. IsOf (opening_at (arc_value first)) (arc_value v))
+        requires opened { All (λ v. opening_at (arc_value v) ≡ opening_at (arc_value first))
             versions.items }
         requires whole { (arc_value first).most ≡ length (arc_value first).list }
         ensures last { result.last ≡ first }
@@ -45,15 +46,14 @@ impl SureEntry {
 
     /// Goes on to a version of the opening, unless it is before the last one.
     fn go_to(&mut self, version: Arc<Directory>)
-        requires { IsOf (opening_at (arc_value self.old.last)) (arc_value version) }
+        requires { opening_at (arc_value version) ≡ opening_at (arc_value self.old.last) }
+        ensures given { (self.new.versions ≡ self.old.versions) × (self.new.next ≡ self.old.next) }
         ensures entries { self.new.entries ≡ self.old.entries }
         ensures opening { opening_at (arc_value self.new.last)
             ≡ opening_at (arc_value self.old.last) }
-        ensures list { (arc_value version).list ≡ (arc_value self.old.last).list }
         ensures number { version_of (arc_value self.new.last)
             ≡ max (version_of (arc_value self.old.last)) (version_of (arc_value version)) }
     {
-        let _listed = version.listed();
         if version.version() >= self.last.version() {
             self.last = version;
         }
@@ -106,6 +106,7 @@ impl Entry for SureEntry {
 
     fn learn(&mut self, note: Note) -> Arc<Directory> {
         let Note { share, kept } = note;
+        let _listed = kept.listed();
         self.go_to(kept);
         share
     }
