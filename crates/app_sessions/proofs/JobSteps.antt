@@ -244,3 +244,9 @@ list_kept change version trials next h is less = ap (λ (t : Trials). t.list) is
     (λ (t : (trials ≡ version) × (version.done < length version.list) × (slice_get version.list version.done ≡ Some change)). ap (λ (v : Trials). v.list) t.0)
     (λ (t : (trials ≡ offered change version) × (version.done ≡ length version.list)). absurd (let all = t.1 in omega (arith, all, less)))
     h
+
+-- and no more than the list has
+pub done_within : (change : Change) (version trials next : Trials) → IsNextIn change version trials → next ≡ one_more trials → next.done ≤ length next.list
+done_within change version trials next h is =
+    let w = slice_get_within trials.list trials.done change (next_in change version trials h).at in
+    subst (λ (t : Trials). t.done ≤ length t.list) (sym is) (omega (arith, w))

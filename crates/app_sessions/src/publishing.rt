@@ -43,6 +43,7 @@ fn end_refresh<R: Wait>(
     report: &mut Report,
 ) -> Result<(), AllocError>
     requires room { report.old.count < publisher.old.version.done }
+    requires within { publisher.old.version.done ≤ length publisher.old.version.list }
     ensures version { publisher.new.version ≡ publisher.old.version }
     ensures shown { OnOk result ((publisher.new.shown ≡ publisher.old.shown)
         ⊎ (publisher.new.shown ≡ publisher.old.version)) }
