@@ -1,8 +1,7 @@
 use Rattle.std.proofs.Common.{◌≡◌, ◌<◌, ◌≤◌, List, [], ◌∷◌, ◌++◌, length, ap, subst, sym, ◌∙◌}
 use Rattle.std.specs.Arc.{arc_value}
-use Rattle.std.specs.List.{All}
 use Rattle.store_state.specs.Refresh.{Change}
-use Rattle.store_versions.specs.Older.{IsVersionOf, KeptState}
+use Rattle.store_versions.specs.Older.{KeptState}
 use Rattle.store_versions.specs.Trials.{HasKept, Trials, offered, tables_of, trials_at}
 use Rattle.store_versions.proofs.Longer.{all_longer, kept_longer, tables_longer}
 use Rattle.store_versions.proofs.directory.Directory.offered.Goals as goal
