@@ -116,7 +116,14 @@ fn run_beside<F: Feed + Send, G: Gate + Sync, R: Threads + Wait + Sync>(
         mut report,
         listed,
     } = run;
-    fork(rt, gate, publisher, &mut report, feed, workers.as_mut_slice())?;
+    fork(
+        rt,
+        gate,
+        publisher,
+        &mut report,
+        feed,
+        workers.as_mut_slice(),
+    )?;
     if publisher.listed() < most {
         return Err(JobError::TooFewRefreshes);
     }
