@@ -1,4 +1,4 @@
-mod Frames
+pub mod Frames
 mod Entries
 mod Moments
 mod Crash

@@ -2,7 +2,9 @@
 //! is read back from them.
 #![tactic(auto)]
 
+mod laws;
 mod reading;
 mod refresh;
 
+pub use laws::refreshes_of_files_are_readable;
 pub use refresh::StoredRefresh;
