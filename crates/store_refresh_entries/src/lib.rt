@@ -3,8 +3,8 @@
 #![tactic(auto)]
 
 mod laws;
+mod payload;
 mod reading;
-mod refresh;
 
 pub use laws::refreshes_of_files_are_readable;
-pub use refresh::StoredRefresh;
+pub use payload::RefreshPayload;

@@ -7,5 +7,5 @@ mod reading;
 mod text;
 
 pub use laws::texts_are_read_back;
-pub use reading::{keys_of, rows_of};
+pub use reading::rows_of;
 pub use text::{push_keys, push_rows};
