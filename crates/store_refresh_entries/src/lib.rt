@@ -6,5 +6,5 @@ mod laws;
 mod payload;
 mod reading;
 
-pub use laws::refreshes_of_files_are_readable;
+pub use laws::{refreshes_of_files_are_readable, refreshes_of_files_are_short};
 pub use payload::RefreshPayload;
