@@ -1,5 +1,5 @@
 -- Lists that begin with others, and versions under them.
-use Rattle.std.proofs.Common.{◌≡◌, ℕ, ◌+◌, ◌-◌, ◌<◌, ◌≤◌, List, [], ◌∷◌, ◌++◌, length, take, drop, refl, sym, ap, subst, ◌∙◌, arith, append_assoc, inl, inr, le_refl, length-append}
+use Rattle.std.proofs.Common.{◌≡◌, ℕ, ◌+◌, ◌-◌, ◌≤◌, List, [], ◌++◌, length, take, drop, refl, sym, ap, subst, ◌∙◌, arith, append_assoc, inl, inr, le_refl, length-append}
 use Rattle.std.proofs.lemmas.Bool.{cases_lt}
 use Rattle.std.proofs.lemmas.List.{append-nil, nil_from_length, take-append-drop, take-append-le}
 use Rattle.std.proofs.Math.Seq.{take-length}
@@ -44,10 +44,12 @@ drop-prefix first long p =
 -- two lists begin with a third; behind it the second begins with the first
 pub prefix-behind : {A : Type 0} (first short long : List A) → IsPrefix first short → IsPrefix first long
     → IsPrefix (drop (length first) short) (drop (length first) long) → IsPrefix short long
-prefix-behind first short long p q behind =
-    (behind.0, sym (drop-prefix first long q) ∙ ap (λ l. first ++ l) behind.1
-    ∙ sym (append_assoc first (drop (length first) short) behind.0)
-    ∙ ap (λ l. l ++ behind.0) (drop-prefix first short p))
+prefix-behind first short long p q behind = (
+  behind.0,
+  sym (drop-prefix first long q) ∙ ap (λ l. first ++ l) behind.1
+      ∙ sym (append_assoc first (drop (length first) short) behind.0)
+      ∙ ap (λ l. l ++ behind.0) (drop-prefix first short p),
+)
 
 pub accepted-prefix : AcceptedPrefixLaw
 accepted-prefix base short long done p within = ap (λ list. length (taken base list)) (take-prefix short long done p within)

@@ -10,7 +10,7 @@ ghost use Rattle.store_state.specs.Refresh.{is_insert};
 
 use crate::action::Action;
 use crate::parts::Parts;
-use crate::same_rows::are_same_rows;
+use crate::same_rows::{are_same_numbers, are_same_rows};
 use base_columns::Rows;
 use base_refusals::{LineRefusal, RefreshFile};
 use base_schema::TableName;
@@ -112,7 +112,7 @@ impl Refresh {
             (Action::Insert(orders, lineitems), Action::Insert(others, lines)) => {
                 are_same_rows(orders, others) && are_same_rows(lineitems, lines)
             }
-            (Action::Delete(keys), Action::Delete(others)) => keys == others,
+            (Action::Delete(keys), Action::Delete(others)) => are_same_numbers(keys, others),
             (Action::Malformed(file, set, refusal), Action::Malformed(other, number, first)) => {
                 file == other && set == number && refusal == first
             }

@@ -1,25 +1,43 @@
 //! Whether rows are found to be the same, as they are stored.
-ghost use Rattle.std.specs.Prelude.{◌≡◌, ◌<◌, IsTrue, length, slice_index_or};
+ghost use Rattle.std.specs.Prelude.{◌≡◌, ◌↔◌, ℕ, ◌<◌, IsTrue, length, slice_index_or};
 ghost use Rattle.base_value.specs.declared.value.Value.TheVariants.{Null};
+ghost use Rattle.base_columns.specs.Batches.{column_at};
 
-use base_columns::{Column, Rows, Segment};
+use base_columns::{Batch, Column, Rows, Segment};
+use base_date::CivilDate;
+
+/// Whether two lists of numbers are the same.
+pub(crate) fn are_same_numbers(numbers: &[i64], others: &[i64]) -> bool
+    ensures { IsTrue result ↔ (numbers.now ≡ others.now) }
+{
+    numbers == others
+}
 
 /// Whether two columns are found to be the same numbers of one scale.
-fn are_same_numbers(first: &Column, second: &Column) -> bool
+fn have_same_numbers(first: &Column, second: &Column) -> bool
     ensures { IsTrue result → first.now ≡ second.now }
 {
     match (first.as_numbers(), second.as_numbers()) {
-        (Some((scale, numbers)), Some((other, others))) => scale == other && numbers == others,
+        (Some((scale, numbers)), Some((other, others))) => {
+            scale == other && are_same_numbers(numbers, others)
+        }
         _ => false,
     }
 }
 
+/// Whether two lists of dates are the same.
+fn are_same_dates(dates: &[CivilDate], others: &[CivilDate]) -> bool
+    ensures { IsTrue result → dates.now ≡ others.now }
+{
+    dates == others
+}
+
 /// Whether two columns are found to be the same dates.
-fn are_same_dates(first: &Column, second: &Column) -> bool
+fn have_same_dates(first: &Column, second: &Column) -> bool
     ensures { IsTrue result → first.now ≡ second.now }
 {
     match (first.as_dates(), second.as_dates()) {
-        (Some(dates), Some(others)) => dates == others,
+        (Some(dates), Some(others)) => are_same_dates(dates, others),
         _ => false,
     }
 }
@@ -38,7 +56,7 @@ fn is_same_text(first: &Column, second: &Column, i: usize) -> bool
 }
 
 /// Whether two columns are found to be the same texts.
-fn are_same_texts(first: &Column, second: &Column) -> bool
+fn have_same_texts(first: &Column, second: &Column) -> bool
     ensures { IsTrue result → first.now ≡ second.now }
 {
     if first.len() != second.len() {
@@ -53,36 +71,46 @@ fn are_same_texts(first: &Column, second: &Column) -> bool
 }
 
 /// Whether two columns are found to have the same values.
-fn are_same_values(first: &Column, second: &Column) -> bool
+fn have_same_values(first: &Column, second: &Column) -> bool
     ensures { IsTrue result → first.now ≡ second.now }
 {
-    are_same_numbers(first, second)
-        || are_same_dates(first, second)
-        || are_same_texts(first, second)
+    have_same_numbers(first, second)
+        || have_same_dates(first, second)
+        || have_same_texts(first, second)
 }
 
-/// Whether two segments are found to have the same rows.
-fn is_same_segment(first: &Segment, second: &Segment) -> bool
-    ensures { IsTrue result → first.now ≡ second.now }
+/// Whether the columns of two batches, which are as many, are found to have the same values.
+fn have_same_columns(first: &Batch, second: &Batch) -> bool
+    requires { first.now.width ≡ second.now.width }
+    ensures { IsTrue result → (j : ℕ) → j < first.now.width
+        → column_at first.now.rows j ≡ column_at second.now.rows j }
 {
-    let (first, second) = (first.batch(), second.batch());
-    if first.width() != second.width() || first.len() != second.len() {
-        return false;
-    }
     for j in 0..first.width() {
-        if !are_same_values(first.column(j), second.column(j)) {
+        if !have_same_values(first.column(j), second.column(j)) {
             return false;
         }
     }
     true
 }
 
-/// Whether rows are found to be the same: they lie in as many segments, and each two have the same
-/// rows.
-pub(crate) fn are_same_rows(first: &Rows, second: &Rows) -> bool
+/// Whether two segments are found to have the same rows.
+fn is_same_segment(first: &Segment, second: &Segment) -> bool
     ensures { IsTrue result → first.now ≡ second.now }
 {
-    let (first, second) = (first.segments(), second.segments());
+    let (batch, other) = (first.batch(), second.batch());
+    if batch.width() != other.width() {
+        return false;
+    }
+    if first.len() != second.len() {
+        return false;
+    }
+    have_same_columns(batch, other)
+}
+
+/// Whether two lists of segments are as long, and each two segments are found to have the same rows.
+fn are_same_segments(first: &[Segment], second: &[Segment]) -> bool
+    ensures { IsTrue result → first.now ≡ second.now }
+{
     if first.len() != second.len() {
         return false;
     }
@@ -92,4 +120,11 @@ pub(crate) fn are_same_rows(first: &Rows, second: &Rows) -> bool
         }
     }
     true
+}
+
+/// Whether rows are found to be the same, as they lie in segments.
+pub(crate) fn are_same_rows(first: &Rows, second: &Rows) -> bool
+    ensures { IsTrue result → first.now ≡ second.now }
+{
+    are_same_segments(first.segments(), second.segments())
 }
