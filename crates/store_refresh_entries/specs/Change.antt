@@ -44,3 +44,10 @@ pub record MayBe (bytes : List ℕ) (change : Change) : Type 0 where
 -- no refresh that is read back is spelled by the bytes
 pub record IsNone (bytes : List ℕ) : Type 0 where
   pub none : (other : Change) → IsReadable other → spelling_of other ≡ bytes → ⊥
+
+-- a refresh that may come to be stored: one that is read back, or a malformed one, which no state
+-- accepts
+abbrev pub IsStorable : Change → Type 0
+IsStorable (InsertRows orders lineitems) = IsReadable (InsertRows orders lineitems)
+IsStorable (DeleteKeys keys) = IsReadable (DeleteKeys keys)
+IsStorable (MalformedFile file set refusal) = Unit {0}
