@@ -7,4 +7,4 @@ mod reading;
 mod refresh;
 
 pub use laws::refreshes_of_files_are_readable;
-pub use refresh::StoredRefresh;
+pub use refresh::{RefreshPayload, StoredRefresh};

@@ -43,7 +43,27 @@ fn push_insert(bytes: &mut Vec<u8>, orders: &Rows, lineitems: &Rows) -> Result<(
     Ok(())
 }
 
-impl Payload for StoredRefresh {
+/// Appends the bytes that spell a refresh.
+fn push_refresh(bytes: &mut Vec<u8>, refresh: &StoredRefresh) -> Result<(), AllocError>
+    ensures { OnOk result (bytes.new.items
+        ≡ bytes.old.items ++ spelling_of (change_of refresh.now)) }
+{
+    match refresh {
+        StoredRefresh::Insert(orders, lineitems) => push_insert(bytes, orders, lineitems),
+        StoredRefresh::Delete(keys) => {
+            bytes.push(2)?;
+            push_keys(bytes, keys)
+        }
+    }
+}
+
+/// How a journal keeps refreshes: the rows of an insert or the keys of a delete, as the texts of
+/// files.
+pub struct RefreshPayload;
+
+impl Payload for RefreshPayload {
+    type Value = StoredRefresh;
+
     ghost spelling = { λ refresh. spelling_of (change_of refresh) };
 
     ghost is_payload = { IsSpelled };
@@ -53,20 +73,14 @@ impl Payload for StoredRefresh {
             return Ok(None);
         };
         let mut again = Vec::new(alloc);
-        refresh.spell(&mut again)?;
+        push_refresh(&mut again, &refresh)?;
         if again.as_slice() != bytes {
             return Ok(None);
         }
         Ok(Some(refresh))
     }
 
-    fn spell(&self, bytes: &mut Vec<u8>) -> Result<(), AllocError> {
-        match self {
-            StoredRefresh::Insert(orders, lineitems) => push_insert(bytes, orders, lineitems),
-            StoredRefresh::Delete(keys) => {
-                bytes.push(2)?;
-                push_keys(bytes, keys)
-            }
-        }
+    fn spell(refresh: &StoredRefresh, bytes: &mut Vec<u8>) -> Result<(), AllocError> {
+        push_refresh(bytes, refresh)
     }
 }
