@@ -1,5 +1,5 @@
 -- A refresh as one list of bytes.
-use Rattle.std.specs.Prelude.{◌≡◌, ℕ, List, [], ◌∷◌, ◌++◌}
+use Rattle.std.specs.Prelude.{◌≡◌, ◌<◌, ◌^◌, ℕ, List, [], ◌∷◌, ◌++◌, length}
 use Rattle.base_refusals.specs.declared.refresh.RefreshFile.TheVariants as file
 use Rattle.base_value.specs.declared.value.Value.{Value}
 use Rattle.store_state.specs.Keys.{order_keys}
@@ -51,3 +51,7 @@ abbrev pub IsStorable : Change → Type 0
 IsStorable (InsertRows orders lineitems) = IsReadable (InsertRows orders lineitems)
 IsStorable (DeleteKeys keys) = IsReadable (DeleteKeys keys)
 IsStorable (MalformedFile file set refusal) = Unit {0}
+
+-- a refresh of few bytes: those of files of at most 2^32 bytes are
+abbrev pub IsShort : Change → Type 0
+IsShort change = length (spelling_of change) < 2 ^ 43

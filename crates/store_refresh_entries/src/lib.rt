@@ -6,5 +6,5 @@ mod laws;
 mod reading;
 mod refresh;
 
-pub use laws::refreshes_of_files_are_readable;
+pub use laws::{refreshes_of_files_are_readable, refreshes_of_files_are_short};
 pub use refresh::{RefreshPayload, StoredRefresh};

@@ -1,5 +1,5 @@
 -- The keys of a delete are read back from their lines.
-use Rattle.std.proofs.Common.{◌≡◌, ℕ, suc, ◌^◌, ◌<◌, true, false, not, List, [], ◌∷◌, ◌++◌, length, map, refl, sym, ap, subst, ◌∙◌, arith, append_assoc, ℤ, pos, negsuc, Ok, inl}
+use Rattle.std.proofs.Common.{◌≡◌, ℕ, suc, ◌*◌, ◌^◌, ◌<◌, ◌≤◌, length-append, true, false, not, List, [], ◌∷◌, ◌++◌, length, map, refl, sym, ap, subst, ◌∙◌, arith, append_assoc, ℤ, pos, negsuc, Ok, inl}
 use Rattle.std.specs.Prelude.{int_lt}
 use Rattle.std.specs.List.{All, list_any}
 use Rattle.std.proofs.lemmas.Bool.{and_parts, lt-ltb, ltb-true}
@@ -24,6 +24,7 @@ use Rattle.store_refresh_text.specs.Text.{field_written, keys_text}
 use Rattle.store_refresh_text.proofs.Clean.{no_bar, unended, without_last, without_return}
 use Rattle.store_refresh_text.proofs.Fields.{Again, number}
 use Rattle.store_refresh_text.proofs.Lines.{AreAgain, rows_again}
+use Rattle.store_refresh_text.proofs.Sizes.{few_rows, length-written}
 
 abbrev form : LineForm
 form = refresh_form file.Delete
@@ -98,3 +99,24 @@ keys_read limit text rows e =
       keys = λ u. let bad : false ≡ true = u in cc;
       bytes = omega (arith, ap length (concat-cut_lines own));
     })
+
+key_short : (row : List Value) → AreAgain (Key ∷ []) row → length (key_line (order_key row)) ≤ 512
+key_short [] a = absurd a
+key_short (v ∷ []) a =
+    let n = number Key 0 (decimal_read (field_written v) 0) v a.0.said in
+    let narrow : is_narrow n.c ≡ true = (and_parts (not (int_lt n.c (pos 0))) (is_narrow n.c) n.holds).1 in
+    let key : order_key (v ∷ []) ≡ n.c = ap (λ (x : Value). order_key (x ∷ [])) (sym n.is) ∙ key_is n.c (small n.c narrow) in
+    subst (λ (k : ℤ). length (key_line k) ≤ 512) (sym key) (omega (arith, length-append (decimal_written n.c 0) (10 ∷ []), length-written n.c 0 narrow))
+key_short (v ∷ w ∷ row) a = absurd a.1
+
+lines_short : (rows : List (List Value)) → All (AreAgain (Key ∷ [])) rows → length (keys_text (order_keys rows)) ≤ 512 * length rows
+lines_short [] a = omega arith
+lines_short (row ∷ rows) a =
+    omega (arith, length-append (key_line (order_key row)) (keys_text (order_keys rows)), key_short row (All-head (AreAgain (Key ∷ [])) row rows a), lines_short rows (All-tail (AreAgain (Key ∷ [])) row rows a))
+
+-- the keys' own text is short
+pub keys_short : (limit : ℕ) (text : List ℕ) (rows : List (List Value)) → file_rows form limit text ≡ Ok rows → length (keys_text (order_keys rows)) ≤ 512 * limit
+keys_short limit text rows e =
+    let are : AreRowsOf form limit (cut_lines text) rows = (rows_are_those form limit text rows).0 e in
+    let each = rows_again form Key [] refl (cut_lines text) rows are.fields in
+    omega (arith, lines_short rows each, few_rows form limit text rows are)

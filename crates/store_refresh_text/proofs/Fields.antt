@@ -33,7 +33,7 @@ pub record Again (kind : ColumnKind) (v : Value) : Type 0 where
   pub clean : list_all is_clean (field_written v) ≡ true
 
 -- an answer that is one only if a test holds
-held : (b : Bool) (x v : Value) (fault : LineFault) → ◌≡◌ {A = Result Value LineFault} (cond b (Ok x) (Err fault)) (Ok v) → (b ≡ true) × (x ≡ v)
+pub held : (b : Bool) (x v : Value) (fault : LineFault) → ◌≡◌ {A = Result Value LineFault} (cond b (Ok x) (Err fault)) (Ok v) → (b ≡ true) × (x ≡ v)
 held true x v fault e = (refl, cc)
 held false x v fault e = cc
 

@@ -2,3 +2,4 @@ mod Clean
 mod Fields
 mod Lines
 mod Deletes
+mod Sizes

@@ -6,6 +6,6 @@ mod laws;
 mod reading;
 mod text;
 
-pub use laws::texts_are_read_back;
+pub use laws::{texts_are_read_back, texts_are_short};
 pub use reading::{keys_of, rows_of};
 pub use text::{push_keys, push_rows};
