@@ -56,7 +56,10 @@ fn each_image_is_read(rt: HostRuntime) -> Result<(), Fail> {
     let mut journal = make::<_, Plain>(&mut disk).ok().ok_or("a journal")?;
     let made = disk.calls.len();
     let value = seven(alloc)?;
-    assert_eq!(rt; journal.append::<_, Plain>(alloc, &mut disk, &value)?, Appended::Stored);
+    assert_eq!(rt;
+        journal.append::<_, Plain>(alloc, &mut disk, &value)?,
+        Appended::Stored
+    );
     assert_eq!(rt; disk.bytes.as_slice(), ONE.as_slice());
     let last = disk.calls.len();
     for count in made..=last {
@@ -79,8 +82,14 @@ fn each_failing_call_is_told(rt: HostRuntime) -> Result<(), Fail> {
         let mut disk = disk_of(alloc, &[], &[failing])?;
         assert_eq!(rt; disk.reach("j"), Reach::Reached);
         let mut journal = make::<_, Plain>(&mut disk).ok().ok_or("a journal")?;
-        assert_eq!(rt; journal.append::<_, Plain>(alloc, &mut disk, &value)?, Appended::Failed);
-        assert_eq!(rt; journal.append::<_, Plain>(alloc, &mut disk, &value)?, Appended::Shut);
+        assert_eq!(rt;
+            journal.append::<_, Plain>(alloc, &mut disk, &value)?,
+            Appended::Failed
+        );
+        assert_eq!(rt;
+            journal.append::<_, Plain>(alloc, &mut disk, &value)?,
+            Appended::Shut
+        );
         assert_eq!(rt; disk.faults, 1);
         assert!(rt; sevens(alloc, &disk.bytes)?.is_some());
     }
@@ -94,8 +103,14 @@ fn two_are_added(rt: HostRuntime) -> Result<(), Fail> {
     assert_eq!(rt; disk.reach("j"), Reach::Reached);
     let mut journal = make::<_, Plain>(&mut disk).ok().ok_or("a journal")?;
     let value = seven(alloc)?;
-    assert_eq!(rt; journal.append::<_, Plain>(alloc, &mut disk, &value)?, Appended::Stored);
-    assert_eq!(rt; journal.append::<_, Plain>(alloc, &mut disk, &value)?, Appended::Stored);
+    assert_eq!(rt;
+        journal.append::<_, Plain>(alloc, &mut disk, &value)?,
+        Appended::Stored
+    );
+    assert_eq!(rt;
+        journal.append::<_, Plain>(alloc, &mut disk, &value)?,
+        Appended::Stored
+    );
     assert_eq!(rt; sevens(alloc, &disk.bytes)?, Some(2));
     Ok(())
 }
