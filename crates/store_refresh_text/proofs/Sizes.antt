@@ -38,7 +38,7 @@ length-last_digits (suc places) n = ap suc (length-last_digits places n)
 length-whole : (n : ℕ) → n < 2 ^ 63 → length (decimal n) ≤ 19
 length-whole n h = length-decimal-le_wide 19 n (omega arith) (omega (arith, h)) (omega (arith, h))
 
-length-sign : (b : Bool) → length (cond b (45 ∷ []) []) ≤ 1
+length-sign : (b : Bool) → length {A = ℕ} (cond b (45 ∷ []) []) ≤ 1
 length-sign true = omega arith
 length-sign false = omega arith
 
@@ -122,7 +122,7 @@ lines_short (line ∷ lines) a =
 pub few_rows : (form : LineForm) (limit : ℕ) (text : List ℕ) (rows : List (List Value)) → AreRowsOf form limit (cut_lines text) rows → length rows ≤ limit
 few_rows form limit text rows are =
     let bytes = are.bytes in
-    omega (arith, bytes, lines_short (cut_lines text) (are_lines text), ap length are.fields, length-map (line_row form) (cut_lines text), length-map Ok rows)
+    omega (arith, bytes, lines_short (cut_lines text) (are_lines text), ap (λ (l : List (Result (List Value) LineFault)). length l) are.fields, length-map {B = Result (List Value) LineFault} (cut_lines text) (line_row form), length-map {B = Result (List Value) LineFault} rows Ok)
 
 -- a form of such columns
 pub file_short : (form : LineForm) (kind : ColumnKind) (kinds : List ColumnKind) → form.columns ≡ map never_null (kind ∷ kinds) → widths (kind ∷ kinds) < 512
