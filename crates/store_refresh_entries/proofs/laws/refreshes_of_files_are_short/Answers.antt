@@ -8,8 +8,13 @@ use Rattle.store_refresh_entries.proofs.laws.refreshes_of_files_are_short.Goals 
 
 pub returns-clause-inserts : goal.returns-clause-inserts
 returns-clause-inserts c = λ text other orders lineitems read read_lines.
-    omega (arith, c.texts_are_short.ensures.orders most_bytes text orders read, c.texts_are_short.ensures.lineitems most_bytes other lineitems read_lines,
-    length-append (framed (rows_text orders)) (rows_text lineitems), length-append (to_be_bytes w64 (length (rows_text orders))) (rows_text orders))
+    omega (
+      arith,
+      c.texts_are_short.ensures.orders most_bytes text orders read,
+      c.texts_are_short.ensures.lineitems most_bytes other lineitems read_lines,
+      length-append (framed (rows_text orders)) (rows_text lineitems),
+      length-append (to_be_bytes w64 (length (rows_text orders))) (rows_text orders),
+    )
 
 pub returns-clause-deletes : goal.returns-clause-deletes
 returns-clause-deletes c = λ text rows read. omega (arith, c.texts_are_short.ensures.keys most_bytes text rows read)
