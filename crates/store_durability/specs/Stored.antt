@@ -1,6 +1,6 @@
 -- A journal beside a publisher.
-use Rattle.std.specs.Prelude.{◌≡◌, ◌<◌, ℕ, Bool, true, false, List, Some, Err, length, map, slice_get}
-use Rattle.std.specs.Prelude.{nat_lt, take, if◌then◌else◌}
+use Rattle.std.specs.Prelude.{◌≡◌, ◌<◌, ◌+◌, ℕ, Bool, true, false, List, Some, Err, length, map}
+use Rattle.std.specs.Prelude.{nat_lt, slice_get, take, if◌then◌else◌}
 use Rattle.store_journal.specs.Journal.{Stands}
 use Rattle.store_journal.specs.declared.journal.Journal.{Journal}
 use Rattle.store_refresh_entries.specs.Change.{IsSpelled, spelling_of}
@@ -55,11 +55,12 @@ Stores change shut old new Shut = (is_accepted (tables_of old.version) change �
     × (shut ≡ true) × (new ≡ old)
 Stores change shut old new OutOfMemory = new ≡ old
 
--- what comes of the journal: it stays open behind a published refresh, as it was where nothing was
--- stored, and is shut where the disk failed
-abbrev pub LeavesJournal : Journal → Journal → StoredAnswer → Type 0
-LeavesJournal old new (Published note) = new.is_shut ≡ false
-LeavesJournal old new (Refused cause) = new ≡ old
-LeavesJournal old new Failed = new.is_shut ≡ true
-LeavesJournal old new Shut = new ≡ old
-LeavesJournal old new OutOfMemory = Unit {0}
+-- what comes of the journal: it takes more behind the entry of a published refresh, is as it was where
+-- nothing was stored, and is shut where the disk failed
+abbrev pub LeavesJournal : Change → Journal → Journal → StoredAnswer → Type 0
+LeavesJournal change old new (Published note) = (new.is_shut ≡ false)
+    × (new.end ≡ old.end + (9 + length (spelling_of change)))
+LeavesJournal change old new (Refused cause) = new ≡ old
+LeavesJournal change old new Failed = new.is_shut ≡ true
+LeavesJournal change old new Shut = new ≡ old
+LeavesJournal change old new OutOfMemory = Unit {0}

@@ -58,7 +58,7 @@ pub fn publish_stored<R: Wait, D: Disk>(
     ensures holds { Holds (D.may_leave disk.new) publisher.new.version journal.new }
 
     ensures outcome { Stores refresh journal.old.is_shut publisher.old publisher.new result }
-    ensures journal { LeavesJournal journal.old journal.new result }
+    ensures journal { LeavesJournal refresh journal.old journal.new result }
 
     // A crash at any moment of the call leaves the accepted refreshes, with this one or without.
     ensures any_moment { journal.old.is_shut ≡ false
@@ -106,7 +106,7 @@ fn store<R: Wait, D: Disk>(
     requires holds { Holds (D.may_leave disk.old) publisher.old.version journal.old }
     ensures holds { Holds (D.may_leave disk.new) publisher.new.version journal.new }
     ensures outcome { Stores refresh journal.old.is_shut publisher.old publisher.new result }
-    ensures journal { LeavesJournal journal.old journal.new result }
+    ensures journal { LeavesJournal refresh journal.old journal.new result }
     ensures any_moment { journal.old.is_shut ≡ false
         → LeavesOnly D.moment D.left_since disk.old disk.new
         (WithOrWithout IsSpelled (payloads_of publisher.old.version) (spelling_of refresh)) }
