@@ -47,19 +47,19 @@ given change trials none = ap (λ (b : Bool). cond b trials (offered change tria
 pub has_next : (change : Change) (trials : Trials) → trials.done ≤ length trials.list → IsNext change trials → HasNext change trials (trials_with change trials)
 has_next change trials within next = elim (cases_lt trials.done (length trials.list)) [
   | inl left ↦ subst (HasNext change trials) (sym (listed change trials left)) (record {
-      base = refl;
-      next = next left;
-      first = by_one trials.list trials.done ∙ next_of trials.list trials.done change (next left);
-      tables = refl;
-    })
+    base = refl;
+    next = next left;
+    first = by_one trials.list trials.done ∙ next_of trials.list trials.done change (next left);
+    tables = refl;
+  })
   | inr none ↦ subst (HasNext change trials) (sym (given change trials none)) (record {
-      base = refl;
-      next = at_end trials.list trials.done change (omega (arith, within, none));
-      first =
-          take_all (trials.done + 1) (trials.list ++ change ∷ []) (omega (arith, none, length-append trials.list (change ∷ [])))
-          ∙ ap (λ (l : List Change). l ++ change ∷ []) (sym (take_all trials.done trials.list none));
-      tables = tables_longer trials change within;
-    })
+    base = refl;
+    next = at_end trials.list trials.done change (omega (arith, within, none));
+    first =
+        take_all (trials.done + 1) (trials.list ++ change ∷ []) (omega (arith, none, length-append trials.list (change ∷ [])))
+        ∙ ap (λ (l : List Change). l ++ change ∷ []) (sym (take_all trials.done trials.list none));
+    tables = tables_longer trials change within;
+  })
 ]
   where
     by_one : (list : List Change) (place : ℕ) → take (place + 1) list ≡ take (suc place) list
