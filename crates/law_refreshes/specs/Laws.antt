@@ -4,7 +4,7 @@ use Rattle.std.specs.List.{AllByRecursion}
 use Rattle.std.specs.declared.result.Result.TheVariants.{Ok}
 use Rattle.base_io.specs.Outside.{Folder}
 use Rattle.store_state.specs.Refresh.{Change}
-use Rattle.store_refresh_entries.specs.Change.{IsShort, IsStorable}
+use Rattle.store_refresh_entries.specs.Change.{HasFewBytes, IsStorable}
 use Rattle.app_job_file.specs.declared.job.Mention.{Mention}
 use Rattle.app_inputs.specs.Inputs.{changes_in}
 
@@ -18,4 +18,4 @@ ReadRefreshesAreStorable =
 abbrev pub ReadRefreshesAreShort : Type 0
 ReadRefreshesAreShort =
     (dir : List ℕ) (mentions : List Mention) (folder : Folder) (list : List Change)
-    → changes_in dir mentions folder ≡ Ok list → AllByRecursion IsShort list
+    → changes_in dir mentions folder ≡ Ok list → AllByRecursion HasFewBytes list

@@ -5,7 +5,7 @@ use Rattle.std.specs.List.{AllByRecursion}
 use Rattle.store_journal.specs.Format.{StandsFor}
 use Rattle.store_journal.specs.Journal.{WithOrWithout}
 use Rattle.store_journal.specs.declared.journal.Journal.{Journal}
-use Rattle.store_refresh_entries.specs.Change.{IsShort, IsSpelled, IsStorable, spelling_of}
+use Rattle.store_refresh_entries.specs.Change.{HasFewBytes, IsSpelled, IsStorable, spelling_of}
 use Rattle.store_state.specs.Refresh.{Change}
 use Rattle.store_versions.specs.Trials.{Trials}
 use Rattle.store_snapshots.specs.Publishers.{AcceptsNext, Edition, RefusesNext}
@@ -23,7 +23,7 @@ pub record StoredFits {D : Type 0} (is_reached : D → Bool) (may_leave : D → 
   pub working : journal.is_shut ≡ false
   pub holds : Holds (may_leave disk) version journal
   pub storable : AllByRecursion IsStorable (drop version.done version.list)
-  pub short : AllByRecursion IsShort (drop version.done version.list)
+  pub short : AllByRecursion HasFewBytes (drop version.done version.list)
   pub room : journal.end + (length version.list - version.done) * 2 ^ 44 < 2 ^ 62
 
 -- What a turn does: the list's next refresh is accepted or refused; or nothing, where the disk failed

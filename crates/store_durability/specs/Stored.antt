@@ -32,8 +32,8 @@ IsNext change trials =
     trials.done < length trials.list → slice_get trials.list trials.done ≡ Some change
 
 -- where none is left, one more has room at the list's end
-abbrev pub HasRoom : Trials → Type 0
-HasRoom trials = trials.done ≡ length trials.list → length trials.list < trials.most
+abbrev pub HasRoomForOne : Trials → Type 0
+HasRoomForOne trials = trials.done ≡ length trials.list → length trials.list < trials.most
 
 -- the trials whose next refresh it is: these where the list has one left, else these with it at the
 -- list's end

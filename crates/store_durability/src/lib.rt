@@ -2,8 +2,8 @@
 #![tactic(auto)]
 
 mod feed;
-mod publish;
 mod stored;
+mod trial;
 
 pub use feed::{StoredFeed, StoredTurn};
 pub use stored::{StoredAnswer, publish_stored};

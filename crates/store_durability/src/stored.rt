@@ -7,10 +7,10 @@ ghost use Rattle.store_refresh_entries.specs.Change.{IsReadable, IsSpelled, IsSt
 ghost use Rattle.store_refresh_entries.specs.Change.{spelling_of};
 ghost use Rattle.store_state.specs.Versions.{is_accepted};
 ghost use Rattle.store_versions.specs.Trials.{tables_of};
-ghost use Rattle.store_durability.specs.Stored.{HasRoom, Holds, IsNext, LeavesJournal, Stores};
+ghost use Rattle.store_durability.specs.Stored.{HasRoomForOne, Holds, IsNext, LeavesJournal, Stores};
 ghost use Rattle.store_durability.specs.Stored.{payloads_of};
 
-use crate::publish::publish;
+use crate::trial::try_refresh;
 use base_disk::Disk;
 use base_refusals::Cause;
 use std::alloc::Global;
@@ -48,7 +48,7 @@ pub fn publish_stored<R: Wait, D: Disk>(
 ) -> StoredAnswer
     requires reached { D.is_reached disk.old ≡ true }
     requires next { IsNext refresh publisher.old.version }
-    requires list_room { HasRoom publisher.old.version }
+    requires list_room { HasRoomForOne publisher.old.version }
     requires storable { IsStorable refresh }
     requires room { journal.old.is_shut ≡ false
         → journal.old.end + (9 + length (spelling_of refresh)) < 2 ^ 62 }
@@ -77,7 +77,7 @@ pub fn publish_stored<R: Wait, D: Disk>(
 {
     match publisher.tried(&refresh) {
         Ok(()) => store(rt, alloc, publisher, journal, disk, refresh),
-        Err(RefreshError::Refused(_)) => match publish(rt, publisher, refresh) {
+        Err(RefreshError::Refused(_)) => match try_refresh(rt, publisher, refresh) {
             Given::Published(_) => unreachable!(),
             Given::Refused(cause) => StoredAnswer::Refused(cause),
             Given::OutOfMemory => StoredAnswer::OutOfMemory,
@@ -97,7 +97,7 @@ fn store<R: Wait, D: Disk>(
 ) -> StoredAnswer
     requires reached { D.is_reached disk.old ≡ true }
     requires next { IsNext refresh publisher.old.version }
-    requires list_room { HasRoom publisher.old.version }
+    requires list_room { HasRoomForOne publisher.old.version }
     requires within { publisher.old.version.done ≤ length publisher.old.version.list }
     requires accepted { is_accepted (tables_of publisher.old.version) refresh ≡ true }
     requires readable { IsReadable refresh }
@@ -118,7 +118,7 @@ fn store<R: Wait, D: Disk>(
     ensures reached { D.is_reached disk.new ≡ true }
 {
     match journal.append::<D, RefreshPayload>(alloc, disk, &refresh) {
-        Ok(Appended::Stored) => match publish(rt, publisher, refresh) {
+        Ok(Appended::Stored) => match try_refresh(rt, publisher, refresh) {
             Given::Published(note) => StoredAnswer::Published(note),
             Given::Refused(_) => unreachable!(),
             Given::OutOfMemory => {

@@ -46,5 +46,5 @@ IsStorable (DeleteKeys keys) = IsReadable (DeleteKeys keys)
 IsStorable (MalformedFile file set refusal) = Unit {0}
 
 -- a refresh of few bytes: those of files of at most 2^32 bytes are
-abbrev pub IsShort : Change → Type 0
-IsShort change = length (spelling_of change) < 2 ^ 43
+abbrev pub HasFewBytes : Change → Type 0
+HasFewBytes change = length (spelling_of change) < 2 ^ 43

@@ -6,7 +6,7 @@ use Rattle.base_schema.specs.LineForm.{refresh_form}
 use Rattle.store_state.specs.Keys.{order_keys}
 use Rattle.store_state.specs.Refresh.{DeleteKeys, InsertRows}
 use Rattle.store_file_reader.specs.File.{file_rows, most_bytes}
-use Rattle.store_refresh_entries.specs.Change.{IsReadable, IsShort}
+use Rattle.store_refresh_entries.specs.Change.{IsReadable, HasFewBytes}
 
 -- an insert of the rows that two files gave, within some limits, is read back from its bytes
 abbrev pub InsertsAreReadable : Type 0
@@ -29,11 +29,11 @@ InsertsAreShort =
     (text other : List ℕ) (orders lineitems : List (List Value))
     → file_rows (refresh_form file.Orders) most_bytes text ≡ Ok orders
     → file_rows (refresh_form file.Lineitem) most_bytes other ≡ Ok lineitems
-    → IsShort (InsertRows orders lineitems)
+    → HasFewBytes (InsertRows orders lineitems)
 
 -- a delete of the keys that a file gave has few bytes
 abbrev pub DeletesAreShort : Type 0
 DeletesAreShort =
     (text : List ℕ) (rows : List (List Value))
     → file_rows (refresh_form file.Delete) most_bytes text ≡ Ok rows
-    → IsShort (DeleteKeys (order_keys rows))
+    → HasFewBytes (DeleteKeys (order_keys rows))
