@@ -1,5 +1,5 @@
 //! A refresh is stored, and then published.
-ghost use Rattle.std.specs.Prelude.{◌≡◌, ◌<◌, ◌≤◌, ◌+◌, ◌^◌, false, true, length, is_some};
+ghost use Rattle.std.specs.Prelude.{◌≡◌, ◌<◌, ◌+◌, ◌^◌, false, true, length, is_some};
 ghost use Rattle.base_io.specs.Outside.{Counts};
 ghost use Rattle.base_disk.specs.Disk.{LeavesOnly};
 ghost use Rattle.store_journal.specs.Journal.{WithOrWithout};
@@ -98,7 +98,6 @@ fn store<R: Wait, D: Disk>(
     requires reached { D.is_reached disk.old ≡ true }
     requires next { IsNext refresh publisher.old.version }
     requires list_room { HasRoomForOne publisher.old.version }
-    requires within { publisher.old.version.done ≤ length publisher.old.version.list }
     requires accepted { is_accepted (tables_of publisher.old.version) refresh ≡ true }
     requires readable { IsReadable refresh }
     requires room { journal.old.is_shut ≡ false

@@ -1,5 +1,5 @@
 //! A publisher tries a refresh, whether its list has it or not.
-ghost use Rattle.std.specs.Prelude.{◌≡◌, ◌<◌, length};
+ghost use Rattle.std.specs.Prelude.{◌≡◌, ◌<◌, ◌≤◌, length};
 ghost use Rattle.store_snapshots.specs.Given.{TriesNext};
 ghost use Rattle.store_durability.specs.Stored.{HasRoomForOne, IsNext, trials_with};
 
@@ -13,6 +13,7 @@ pub(crate) fn try_refresh<R: Wait>(rt: &R, publisher: &mut Publisher, refresh: R
     requires room { HasRoomForOne publisher.old.version }
     ensures tries { TriesNext (trials_with refresh publisher.old.version)
         publisher.old publisher.new result }
+    ensures within { publisher.old.version.done ≤ length publisher.old.version.list }
     ensures refused { publisher.new.refused ≡ publisher.old.refused }
 {
     if publisher.left() {
