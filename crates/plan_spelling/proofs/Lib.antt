@@ -1,0 +1,6 @@
+pub mod Lists
+pub mod Opened
+pub mod Parts
+pub mod Readback
+pub mod Texts
+pub mod Written
