@@ -8,6 +8,7 @@ use sql_lexer::{Kind, Token};
 use std::alloc::{AllocError, Global};
 
 /// A text that is refused, its tokens, its refusal, and the views over which it is bound.
+#[derive(Drop)]
 pub struct Asked<'a> {
     /// The text.
     pub text: &'a [u8],

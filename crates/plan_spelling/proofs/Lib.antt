@@ -1,4 +1,5 @@
 pub mod Lists
+pub mod NodeSteps
 pub mod Opened
 pub mod Parts
 pub mod Readback

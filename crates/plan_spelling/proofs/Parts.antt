@@ -23,6 +23,7 @@ use Rattle.plan_spelling.specs.Plans.{aggregate_spelling, function_number, node_
 use Rattle.plan_spelling.specs.Exprs.{arithmetic_number, branch_spelling, comparison_number, expr_spelling, operation_spelling, part_number, spelled, value_numbers}
 use Rattle.plan_spelling.proofs.Lists.{Unique, spelled_unique}
 use Rattle.plan_spelling.proofs.Opened.{spelling_Branch, spelling_Operation, spelling_Column, spelling_Literal, spelling_Negative, spelling_Arithmetic, spelling_Case, spelling_Extract, spelling_Substring, spelling_Compare, spelling_Between, spelling_Like, spelling_InList, spelling_IsNull, spelling_Not, spelling_All, spelling_Any, spelling_IsMarked}
+use Rattle.plan_spelling.proofs.NodeSteps.{spelled_Scan, spelled_Domain, spelled_Select, spelled_Project, spelled_Join, spelled_Outer, spelled_Mark, spelled_Single, spelled_Group, spelled_Fill, spelled_Distinct}
 use Rattle.plan_spelling.proofs.Readback.{arithmetic_of, arithmetic_back, comparison_of, comparison_back, part_of, part_back, value_of, value_back, function_of, function_back, pairs_of, pairs_back}
 
 data Part : Type 0 where
@@ -64,9 +65,9 @@ value_part (value x) = Some x
 value_part p = None
 
 abbrev put_before : {A : Type 0} → Option A → Option (List A) → Option (List A)
-put_before (Some a) (Some as) = Some (a ∷ as)
+put_before (Some a) (Some us) = Some (a ∷ us)
 put_before (Some a) None = None
-put_before None as = None
+put_before None us = None
 
 abbrev all_of : {A : Type 0} → (Part → Option A) → List Part → Option (List A)
 all_of g [] = Some []
@@ -98,10 +99,10 @@ three g (expr a ∷ expr b ∷ expr d ∷ []) = Some (g a b d)
 three g ps = None
 
 abbrev many : (List Expr → Expr) → List Part → Option Part
-many g ps = option_map (λ as. expr (g as)) (exprs_of ps)
+many g ps = option_map (λ us. expr (g us)) (exprs_of ps)
 
 abbrev listed : List Part → Option Part
-listed (expr a ∷ ps) = option_map (λ as. expr (e.InList a as)) (exprs_of ps)
+listed (expr a ∷ ps) = option_map (λ us. expr (e.InList a us)) (exprs_of ps)
 listed ps = None
 
 abbrev chained : List Part → Option Part
@@ -170,11 +171,11 @@ over_three g ns ps = None
 
 abbrev nodes : ℕ → List ℕ → List Part → Option Part
 nodes tag ns ps =
-    if tag == 18 then leaf (aggregate CountRows) ps else (if tag == 19 then summed ns ps else (if tag == 20 then constant (value_of ns) ps else (if tag == 21 then scanned (table_of ns) ps else (if tag == 22 then over_one (λ i cs. leaf (node (n.Domain i cs))) ns ps else (if tag == 23 then over_one (λ i rest. one (λ a. node (n.Select i a))) ns ps else (if tag == 24 then over_one (λ i rest ps. option_map (λ as. node (n.Project i as)) (exprs_of ps)) ns ps else None))))))
+    if tag == 18 then leaf (aggregate CountRows) ps else (if tag == 19 then summed ns ps else (if tag == 20 then constant (value_of ns) ps else (if tag == 21 then scanned (table_of ns) ps else (if tag == 22 then over_one (λ i cs. leaf (node (n.Domain i cs))) ns ps else (if tag == 23 then over_one (λ i rest. one (λ a. node (n.Select i a))) ns ps else (if tag == 24 then over_one (λ i rest ps. option_map (λ us. node (n.Project i us)) (exprs_of ps)) ns ps else None))))))
 
 abbrev joins : ℕ → List ℕ → List Part → Option Part
 joins tag ns ps =
-    if tag == 25 then over_two (λ i j rest. one (λ a. node (n.Join i j (pairs_of rest) a))) ns ps else (if tag == 26 then over_three (λ i j k rest. one (λ a. node (n.Outer i j (pairs_of rest) k a))) ns ps else (if tag == 27 then over_two (λ i j rest. one (λ a. node (n.Mark i j (pairs_of rest) a))) ns ps else (if tag == 28 then over_three (λ i j k rest. leaf (node (n.Single i j (pairs_of rest) k))) ns ps else (if tag == 29 then over_one (λ i by ps. option_map (λ as. node (n.Group i by as)) (all_of aggregate_of ps)) ns ps else (if tag == 30 then over_two (λ i j rest ps. option_map (λ xs. node (n.Fill i j xs)) (all_of value_part ps)) ns ps else over_one (λ i rest. leaf (node (n.Distinct i))) ns ps)))))
+    if tag == 25 then over_two (λ i j rest. one (λ a. node (n.Join i j (pairs_of rest) a))) ns ps else (if tag == 26 then over_three (λ i j k rest. one (λ a. node (n.Outer i j (pairs_of rest) k a))) ns ps else (if tag == 27 then over_two (λ i j rest. one (λ a. node (n.Mark i j (pairs_of rest) a))) ns ps else (if tag == 28 then over_three (λ i j k rest. leaf (node (n.Single i j (pairs_of rest) k))) ns ps else (if tag == 29 then over_one (λ i by ps. option_map (λ us. node (n.Group i by us)) (all_of aggregate_of ps)) ns ps else (if tag == 30 then over_two (λ i j rest ps. option_map (λ xs. node (n.Fill i j xs)) (all_of value_part ps)) ns ps else (if tag == 31 then over_one (λ i rest. leaf (node (n.Distinct i))) ns ps else None))))))
 
 abbrev or_else : Option Part → Option Part → Option Part
 or_else (Some p) other = Some p
@@ -184,11 +185,11 @@ abbrev rebuilt : List ℕ → List Part → Option Part
 rebuilt [] ps = None
 rebuilt (tag ∷ ns) ps = or_else (few tag ns ps) (or_else (more tag ns ps) (or_else (nodes tag ns ps) (joins tag ns ps)))
 
-all_back : {A : Type 0} (g : Part → Option A) (f : A → Part) → ((a : A) → g (f a) ≡ Some a) → (as : List A) → all_of g (map f as) ≡ Some as
+all_back : {A : Type 0} (g : Part → Option A) (f : A → Part) → ((a : A) → g (f a) ≡ Some a) → (us : List A) → all_of g (map f us) ≡ Some us
 all_back g f back [] = refl
-all_back g f back (a ∷ as) = ap (λ o. put_before o (all_of g (map f as))) (back a) ∙ ap (put_before (Some a)) (all_back g f back as)
+all_back g f back (a ∷ us) = ap (λ o. put_before o (all_of g (map f us))) (back a) ∙ ap (put_before (Some a)) (all_back g f back us)
 
-exprs_back : (as : List Expr) → exprs_of (map expr as) ≡ Some as
+exprs_back : (us : List Expr) → exprs_of (map expr us) ≡ Some us
 exprs_back = all_back expr_of expr (λ a. refl)
 
 branches_back : (bs : List Branch) → branches_of (map branch bs) ≡ Some bs
@@ -197,11 +198,11 @@ branches_back = all_back branch_of branch (λ b. refl)
 operations_back : (os : List Operation) → operations_of (map operation os) ≡ Some os
 operations_back = all_back operation_of operation (λ o. refl)
 
-all_spelled : {A : Type 0} (g : A → List ℕ) (f : A → Part) → ((a : A) → part_spelling (f a) ≡ g a) → (as : List A) → map part_spelling (map f as) ≡ map g as
+all_spelled : {A : Type 0} (g : A → List ℕ) (f : A → Part) → ((a : A) → part_spelling (f a) ≡ g a) → (us : List A) → map part_spelling (map f us) ≡ map g us
 all_spelled g f is [] = refl
-all_spelled g f is (a ∷ as) = ap (λ x. x ∷ map part_spelling (map f as)) (is a) ∙ ap (λ l. g a ∷ l) (all_spelled g f is as)
+all_spelled g f is (a ∷ us) = ap (λ x. x ∷ map part_spelling (map f us)) (is a) ∙ ap (λ l. g a ∷ l) (all_spelled g f is us)
 
-exprs_spelled : (as : List Expr) → map part_spelling (map expr as) ≡ map expr_spelling as
+exprs_spelled : (us : List Expr) → map part_spelling (map expr us) ≡ map expr_spelling us
 exprs_spelled = all_spelled expr_spelling expr (λ a. refl)
 
 branches_spelled : (bs : List Branch) → map part_spelling (map branch bs) ≡ map branch_spelling bs
@@ -217,10 +218,10 @@ record Described (p : Part) : Type 0 where
   is : part_spelling p ≡ spelled what (map part_spelling below)
   back : rebuilt what below ≡ Some p
 
-a_column : (place : ℕ) → Described (expr (e.Column place))
+abbrev a_column : (place : ℕ) → Described (expr (e.Column place))
 a_column place = record { what = 0 ∷ place ∷ []; below = []; is = spelling_Column place; back = refl }
 
-a_literal : (x : Value) → Described (expr (e.Literal x))
+abbrev a_literal : (x : Value) → Described (expr (e.Literal x))
 a_literal x = record {
   what = 1 ∷ value_numbers x;
   below = [];
@@ -228,10 +229,10 @@ a_literal x = record {
   back = ap (λ o. or_else (literal o []) None) (value_back x);
 }
 
-a_negative : (a : Expr) → Described (expr (e.Negative a))
+abbrev a_negative : (a : Expr) → Described (expr (e.Negative a))
 a_negative a = record { what = 2 ∷ []; below = expr a ∷ []; is = spelling_Negative a; back = refl }
 
-a_chain : (a : Expr) (os : List Operation) → Described (expr (e.Arithmetic a os))
+abbrev a_chain : (a : Expr) (os : List Operation) → Described (expr (e.Arithmetic a os))
 a_chain a os = record {
   what = 3 ∷ [];
   below = expr a ∷ map operation os;
@@ -239,7 +240,7 @@ a_chain a os = record {
   back = ap (λ o. or_else (option_map (λ xs. expr (e.Arithmetic a xs)) o) None) (operations_back os);
 }
 
-a_case : (scale : ℕ) (bs : List Branch) (a : Expr) → Described (expr (e.Case scale bs a))
+abbrev a_case : (scale : ℕ) (bs : List Branch) (a : Expr) → Described (expr (e.Case scale bs a))
 a_case scale bs a = record {
   what = 4 ∷ scale ∷ [];
   below = expr a ∷ map branch bs;
@@ -247,7 +248,7 @@ a_case scale bs a = record {
   back = ap (λ o. or_else (option_map (λ xs. expr (e.Case scale xs a)) o) None) (branches_back bs);
 }
 
-an_extract : (part : DatePart) (a : Expr) → Described (expr (e.Extract part a))
+abbrev an_extract : (part : DatePart) (a : Expr) → Described (expr (e.Extract part a))
 an_extract part a = record {
   what = 5 ∷ part_number part ∷ [];
   below = expr a ∷ [];
@@ -255,10 +256,10 @@ an_extract part a = record {
   back = ap (λ p. Some (expr (e.Extract p a))) (part_back part);
 }
 
-a_substring : (a : Expr) (from count : ℕ) → Described (expr (e.Substring a from count))
+abbrev a_substring : (a : Expr) (from count : ℕ) → Described (expr (e.Substring a from count))
 a_substring a from count = record { what = 6 ∷ from ∷ count ∷ []; below = expr a ∷ []; is = spelling_Substring a from count; back = refl }
 
-a_comparison : (c : Comparison) (a b : Expr) → Described (expr (e.Compare c a b))
+abbrev a_comparison : (c : Comparison) (a b : Expr) → Described (expr (e.Compare c a b))
 a_comparison c a b = record {
   what = 7 ∷ comparison_number c ∷ [];
   below = expr a ∷ expr b ∷ [];
@@ -266,49 +267,49 @@ a_comparison c a b = record {
   back = ap (λ d. Some (expr (e.Compare d a b))) (comparison_back c);
 }
 
-a_between : (a b d : Expr) → Described (expr (e.Between a b d))
+abbrev a_between : (a b d : Expr) → Described (expr (e.Between a b d))
 a_between a b d = record { what = 8 ∷ []; below = expr a ∷ expr b ∷ expr d ∷ []; is = spelling_Between a b d; back = refl }
 
-a_like : (a : Expr) (pattern : List ℕ) → Described (expr (e.Like a pattern))
+abbrev a_like : (a : Expr) (pattern : List ℕ) → Described (expr (e.Like a pattern))
 a_like a pattern = record { what = 9 ∷ pattern; below = expr a ∷ []; is = spelling_Like a pattern; back = refl }
 
-a_list : (a : Expr) (as : List Expr) → Described (expr (e.InList a as))
-a_list a as = record {
+abbrev a_list : (a : Expr) (us : List Expr) → Described (expr (e.InList a us))
+a_list a us = record {
   what = 10 ∷ [];
-  below = expr a ∷ map expr as;
-  is = spelling_InList a as ∙ ap (λ l. spelled (10 ∷ []) (expr_spelling a ∷ l)) (sym (exprs_spelled as));
-  back = ap (λ o. or_else (option_map (λ xs. expr (e.InList a xs)) o) None) (exprs_back as);
+  below = expr a ∷ map expr us;
+  is = spelling_InList a us ∙ ap (λ l. spelled (10 ∷ []) (expr_spelling a ∷ l)) (sym (exprs_spelled us));
+  back = ap (λ o. or_else (option_map (λ xs. expr (e.InList a xs)) o) None) (exprs_back us);
 }
 
-a_null_test : (a : Expr) → Described (expr (e.IsNull a))
+abbrev a_null_test : (a : Expr) → Described (expr (e.IsNull a))
 a_null_test a = record { what = 11 ∷ []; below = expr a ∷ []; is = spelling_IsNull a; back = refl }
 
-a_not : (a : Expr) → Described (expr (e.Not a))
+abbrev a_not : (a : Expr) → Described (expr (e.Not a))
 a_not a = record { what = 12 ∷ []; below = expr a ∷ []; is = spelling_Not a; back = refl }
 
-an_all : (as : List Expr) → Described (expr (e.All as))
-an_all as = record {
+abbrev an_all : (us : List Expr) → Described (expr (e.All us))
+an_all us = record {
   what = 13 ∷ [];
-  below = map expr as;
-  is = spelling_All as ∙ ap (spelled (13 ∷ [])) (sym (exprs_spelled as));
-  back = ap (λ o. or_else (option_map (λ xs. expr (e.All xs)) o) None) (exprs_back as);
+  below = map expr us;
+  is = spelling_All us ∙ ap (spelled (13 ∷ [])) (sym (exprs_spelled us));
+  back = ap (λ o. or_else (option_map (λ xs. expr (e.All xs)) o) None) (exprs_back us);
 }
 
-an_any : (as : List Expr) → Described (expr (e.Any as))
-an_any as = record {
+abbrev an_any : (us : List Expr) → Described (expr (e.Any us))
+an_any us = record {
   what = 14 ∷ [];
-  below = map expr as;
-  is = spelling_Any as ∙ ap (spelled (14 ∷ [])) (sym (exprs_spelled as));
-  back = ap (λ o. or_else (option_map (λ xs. expr (e.Any xs)) o) None) (exprs_back as);
+  below = map expr us;
+  is = spelling_Any us ∙ ap (spelled (14 ∷ [])) (sym (exprs_spelled us));
+  back = ap (λ o. or_else (option_map (λ xs. expr (e.Any xs)) o) None) (exprs_back us);
 }
 
-a_mark_test : (a : Expr) → Described (expr (e.IsMarked a))
+abbrev a_mark_test : (a : Expr) → Described (expr (e.IsMarked a))
 a_mark_test a = record { what = 15 ∷ []; below = expr a ∷ []; is = spelling_IsMarked a; back = refl }
 
-a_branch : (b : Branch) → Described (branch b)
+abbrev a_branch : (b : Branch) → Described (branch b)
 a_branch b = record { what = 16 ∷ []; below = expr b.when ∷ expr b.gives ∷ []; is = spelling_Branch b; back = refl }
 
-an_operation : (o : Operation) → Described (operation o)
+abbrev an_operation : (o : Operation) → Described (operation o)
 an_operation o = record {
   what = 17 ∷ arithmetic_number o.operator ∷ [];
   below = expr o.operand ∷ [];
@@ -316,7 +317,7 @@ an_operation o = record {
   back = ap (λ a. Some (operation (record { operator = a; operand = o.operand }))) (arithmetic_back o.operator);
 }
 
-an_aggregate : (a : Aggregate) → Described (aggregate a)
+abbrev an_aggregate : (a : Aggregate) → Described (aggregate a)
 an_aggregate CountRows = record { what = 18 ∷ []; below = []; is = refl; back = refl }
 an_aggregate (Of f scale a) = record {
   what = 19 ∷ function_number f ∷ scale ∷ [];
@@ -325,7 +326,7 @@ an_aggregate (Of f scale a) = record {
   back = ap (λ g. Some (aggregate (Of g scale a))) (function_back f);
 }
 
-a_value : (x : Value) → Described (value x)
+abbrev a_value : (x : Value) → Described (value x)
 a_value x = record {
   what = 20 ∷ value_numbers x;
   below = [];
@@ -343,58 +344,58 @@ table_back t.Customer = refl
 table_back t.Orders = refl
 table_back t.Lineitem = refl
 
-a_node : (x : Node) → Described (node x)
+abbrev a_node : (x : Node) → Described (node x)
 a_node (n.Scan table) = record {
   what = 21 ∷ table_name table;
   below = [];
-  is = refl;
+  is = spelled_Scan table;
   back = ap (λ o. or_else (scanned o []) None) (table_back table);
 }
-a_node (n.Domain i cs) = record { what = 22 ∷ i ∷ cs; below = []; is = refl; back = refl }
-a_node (n.Select i a) = record { what = 23 ∷ i ∷ []; below = expr a ∷ []; is = refl; back = refl }
-a_node (n.Project i as) = record {
+a_node (n.Domain i cs) = record { what = 22 ∷ i ∷ cs; below = []; is = spelled_Domain i cs; back = refl }
+a_node (n.Select i a) = record { what = 23 ∷ i ∷ []; below = expr a ∷ []; is = spelled_Select i a; back = refl }
+a_node (n.Project i us) = record {
   what = 24 ∷ i ∷ [];
-  below = map expr as;
-  is = ap (spelled (24 ∷ i ∷ [])) (sym (exprs_spelled as));
-  back = ap (λ o. or_else (option_map (λ xs. node (n.Project i xs)) o) None) (exprs_back as);
+  below = map expr us;
+  is = spelled_Project i us ∙ ap (spelled (24 ∷ i ∷ [])) (sym (exprs_spelled us));
+  back = ap (λ o. or_else (option_map (λ xs. node (n.Project i xs)) o) None) (exprs_back us);
 }
 a_node (n.Join i j matched a) = record {
   what = 25 ∷ i ∷ j ∷ pair_numbers matched;
   below = expr a ∷ [];
-  is = refl;
+  is = spelled_Join i j matched a;
   back = ap (λ ps. Some (node (n.Join i j ps a))) (pairs_back matched);
 }
 a_node (n.Outer i j matched k a) = record {
   what = 26 ∷ i ∷ j ∷ k ∷ pair_numbers matched;
   below = expr a ∷ [];
-  is = refl;
+  is = spelled_Outer i j matched k a;
   back = ap (λ ps. Some (node (n.Outer i j ps k a))) (pairs_back matched);
 }
 a_node (n.Mark i j matched a) = record {
   what = 27 ∷ i ∷ j ∷ pair_numbers matched;
   below = expr a ∷ [];
-  is = refl;
+  is = spelled_Mark i j matched a;
   back = ap (λ ps. Some (node (n.Mark i j ps a))) (pairs_back matched);
 }
 a_node (n.Single i j matched k) = record {
   what = 28 ∷ i ∷ j ∷ k ∷ pair_numbers matched;
   below = [];
-  is = refl;
+  is = spelled_Single i j matched k;
   back = ap (λ ps. Some (node (n.Single i j ps k))) (pairs_back matched);
 }
-a_node (n.Group i by as) = record {
+a_node (n.Group i by us) = record {
   what = 29 ∷ i ∷ by;
-  below = map aggregate as;
-  is = ap (spelled (29 ∷ i ∷ by)) (sym (all_spelled aggregate_spelling aggregate (λ a. refl) as));
-  back = ap (option_map (λ xs. node (n.Group i by xs))) (all_back aggregate_of aggregate (λ a. refl) as);
+  below = map aggregate us;
+  is = spelled_Group i by us ∙ ap (spelled (29 ∷ i ∷ by)) (sym (all_spelled aggregate_spelling aggregate (λ a. refl) us));
+  back = ap (option_map (λ xs. node (n.Group i by xs))) (all_back aggregate_of aggregate (λ a. refl) us);
 }
 a_node (n.Fill i j xs) = record {
   what = 30 ∷ i ∷ j ∷ [];
   below = map value xs;
-  is = ap (spelled (30 ∷ i ∷ j ∷ [])) (sym (all_spelled value_spelling value (λ x. refl) xs));
+  is = spelled_Fill i j xs ∙ ap (spelled (30 ∷ i ∷ j ∷ [])) (sym (all_spelled value_spelling value (λ x. refl) xs));
   back = ap (option_map (λ ys. node (n.Fill i j ys))) (all_back value_part value (λ x. refl) xs);
 }
-a_node (n.Distinct i) = record { what = 31 ∷ i ∷ []; below = []; is = refl; back = refl }
+a_node (n.Distinct i) = record { what = 31 ∷ i ∷ []; below = []; is = spelled_Distinct i; back = refl }
 
 described : (p : Part) → Described p
 described (expr x) =
@@ -472,9 +473,9 @@ unique_expr =
       operation = λ o a is. unique_part _ (an_operation (record { operator = o; operand = a })) (is, tt);
     })
 
-each_map : {A : Type 0} (f : A → Part) → ((a : A) → U (f a)) → (as : List A) → Each U (map f as)
+each_map : {A : Type 0} (f : A → Part) → ((a : A) → U (f a)) → (us : List A) → Each U (map f us)
 each_map f all [] = tt
-each_map f all (a ∷ as) = (all a, each_map f all as)
+each_map f all (a ∷ us) = (all a, each_map f all us)
 
 unique_aggregate : (a : Aggregate) → U (aggregate a)
 unique_aggregate CountRows = unique_part _ (an_aggregate CountRows) tt
@@ -487,12 +488,12 @@ unique_node : (x : Node) → U (node x)
 unique_node (n.Scan table) = unique_part _ (a_node (n.Scan table)) tt
 unique_node (n.Domain i cs) = unique_part _ (a_node (n.Domain i cs)) tt
 unique_node (n.Select i a) = unique_part _ (a_node (n.Select i a)) (unique_expr a, tt)
-unique_node (n.Project i as) = unique_part _ (a_node (n.Project i as)) (each_map expr unique_expr as)
+unique_node (n.Project i us) = unique_part _ (a_node (n.Project i us)) (each_map expr unique_expr us)
 unique_node (n.Join i j matched a) = unique_part _ (a_node (n.Join i j matched a)) (unique_expr a, tt)
 unique_node (n.Outer i j matched k a) = unique_part _ (a_node (n.Outer i j matched k a)) (unique_expr a, tt)
 unique_node (n.Mark i j matched a) = unique_part _ (a_node (n.Mark i j matched a)) (unique_expr a, tt)
 unique_node (n.Single i j matched k) = unique_part _ (a_node (n.Single i j matched k)) tt
-unique_node (n.Group i by as) = unique_part _ (a_node (n.Group i by as)) (each_map aggregate unique_aggregate as)
+unique_node (n.Group i by us) = unique_part _ (a_node (n.Group i by us)) (each_map aggregate unique_aggregate us)
 unique_node (n.Fill i j xs) = unique_part _ (a_node (n.Fill i j xs)) (each_map value unique_value xs)
 unique_node (n.Distinct i) = unique_part _ (a_node (n.Distinct i)) tt
 

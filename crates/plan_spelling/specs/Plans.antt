@@ -35,7 +35,7 @@ pair_numbers [] = []
 pair_numbers (pair ∷ pairs) = pair.0 ∷ pair.1 ∷ pair_numbers pairs
 
 -- a node of a plan
-abbrev pub node_spelling : Node → List ℕ
+unfoldable pub node_spelling : Node → List ℕ
 node_spelling (n.Scan table) = spelled (21 ∷ table_name table) []
 node_spelling (n.Domain i cs) = spelled (22 ∷ i ∷ cs) []
 node_spelling (n.Select i e) = spelled (23 ∷ i ∷ []) (expr_spelling e ∷ [])

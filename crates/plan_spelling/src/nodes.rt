@@ -10,7 +10,7 @@ use base_value::Value;
 use plan_algebra::{Aggregate, Node};
 use std::alloc::{AllocError, Global};
 
-#[tactic(auto, using(crate::proofs::Written::lists_written))]
+#[tactic(auto, using(crate::proofs::Written::aggregate_written))]
 fn put_aggregate(numbers: &mut Vec<u128>, aggregate: &Aggregate) -> Result<(), AllocError>
     ensures { OnOk result
         (numbers.new.items ≡ numbers.old.items ++ aggregate_spelling aggregate.now) }
@@ -45,7 +45,7 @@ fn put_values(numbers: &mut Vec<u128>, values: &[Value]) -> Result<(), AllocErro
     Ok(())
 }
 
-#[tactic(auto, using(crate::proofs::Written::lists_written))]
+#[tactic(auto, using(crate::proofs::Written::node_written))]
 fn put_node(numbers: &mut Vec<u128>, node: &Node) -> Result<(), AllocError>
     ensures { OnOk result (numbers.new.items ≡ numbers.old.items ++ node_spelling node.now) }
 {

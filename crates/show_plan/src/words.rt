@@ -32,7 +32,7 @@ fn request_of(form: PlanForm, words: &[String]) -> Option<Request<'_>> {
 /// What the words ask for, if they are of the form.
 pub fn read_words(words: &[String]) -> Option<Request<'_>> {
     match words {
-        [option, rest @ ..] if option.as_bytes() == b"--json" => {
+        [option, rest @ ..] if option.as_bytes() == b"--json".as_slice() => {
             request_of(PlanForm::Objects, rest)
         }
         _ => request_of(PlanForm::Lines, words),
