@@ -2,8 +2,9 @@
 ghost use Rattle.std.specs.Prelude.{◌≡◌};
 
 use crate::query_plan::{QueryPlan, query_plan};
-use crate::refused_name::{NamePlace, refused_name};
+use crate::refused_name::{NamePlace, names_in, refused_name};
 use crate::views::{TypedViews, place_of_view};
+use crate::written::tokens_of;
 use base_refusals::{BindRefusal, Refusal};
 use base_schema::TableName;
 use plan_algebra::Tables;
@@ -53,6 +54,17 @@ fn shown_query<R: Threads + Sync, T: Tables>(
     }
 }
 
+/// A statement that is refused for the name of its view, which is the first name in it.
+fn refused_view(
+    alloc: Global,
+    text: &[u8],
+    why: Refusal,
+) -> Result<StatementPlan, AllocError> {
+    let tokens = tokens_of(alloc, text)?;
+    let names = names_in(alloc, tokens.as_slice())?;
+    Ok(StatementPlan::Refused(why, names.first().copied()))
+}
+
 /// Makes a view, where its name is new and its query is bound.
 fn make_view(
     alloc: Global,
@@ -64,7 +76,7 @@ fn make_view(
 ) -> Result<StatementPlan, AllocError> {
     let is_view = place_of_view(views.views.all.as_slice(), name).is_some();
     if is_view || TableName::from_name(name.bytes()).is_some() {
-        return Ok(StatementPlan::Refused(Refusal::ViewExists, None));
+        return refused_view(alloc, text, Refusal::ViewExists);
     }
     match views.make(alloc, name, names, query) {
         Ok(()) => Ok(StatementPlan::Done),
@@ -74,13 +86,18 @@ fn make_view(
 }
 
 /// Drops the view of that name, where there is one.
-fn drop_view(views: &mut TypedViews, name: &Name) -> StatementPlan {
+fn drop_view(
+    alloc: Global,
+    text: &[u8],
+    views: &mut TypedViews,
+    name: &Name,
+) -> Result<StatementPlan, AllocError> {
     match place_of_view(views.views.all.as_slice(), name) {
         Some(place) => {
             views.remove(place);
-            StatementPlan::Done
+            Ok(StatementPlan::Done)
         }
-        None => StatementPlan::Refused(Refusal::UnknownView, None),
+        None => refused_view(alloc, text, Refusal::UnknownView),
     }
 }
 
@@ -113,7 +130,7 @@ pub fn statement_plan<R: Threads + Sync, T: Tables>(
         Statement::CreateView(name, names, query) => {
             make_view(alloc, text, views, name, names.as_slice(), query)
         }
-        Statement::DropView(name) => Ok(drop_view(views, name)),
+        Statement::DropView(name) => drop_view(alloc, text, views, name),
         Statement::Refresh(_, _) => Ok(StatementPlan::Refresh),
         Statement::Run(number, values) => shown_run(alloc, *number, values.as_slice()),
     }
