@@ -1,7 +1,6 @@
 -- The sides of a well-typed join, and its ON condition, are supplied where it is.
-use Rattle.std.proofs.Common.{◌≡◌, ℕ, zero, suc, ◌+◌, ◌<◌, List, [], ◌∷◌, ◌++◌, Bool, true, false}
-use Rattle.std.proofs.Common.{◌||◌, length, refl, sym, ap, ◌∙◌, subst, arith}
-use Rattle.std.specs.Prelude.{Option, Some}
+use Rattle.std.proofs.Common.{◌≡◌, ℕ, suc, ◌+◌, ◌<◌, List, ◌∷◌, ◌++◌, Bool, true}
+use Rattle.std.proofs.Common.{◌||◌, length, refl, sym, ap, ◌∙◌}
 use Rattle.std.proofs.lemmas.List.{length-append}
 use Rattle.expr_scalar.specs.declared.kind.Kind.{Kind}
 use Rattle.sql_bound_query.specs.declared.query.BoundExpr.{BoundExpr}
@@ -78,8 +77,7 @@ module _ (outer : List OuterColumn) (so_far : List ℕ) (n : ℕ) (a b : BoundSo
 pub inner_width : (on : BoundExpr) {s a b seen other : BoundSource} {w v n m : ℕ}
     → s ≡ source.Inner a b on → seen ≡ a → IsSourceWidth seen w → other ≡ b
     → IsSourceWidth other v → n ≡ w + v → m ≡ n → IsSourceWidth s m
-inner_width on {s} {a} {b} {seen} {other} {w} {v} {n} {m} is get left also right wide same = record
-    {
+inner_width on {s} {a} {b} {seen} {other} {w} {v} {n} {m} is get left also right wide same = record {
   is = λ before around kinds e.
       let t : JoinTyped a b on before around kinds =
       inner_typed a b on before around kinds
@@ -134,6 +132,7 @@ module _ (outer : List OuterColumn) (so_far : List ℕ) (n : ℕ) (a b : BoundSo
 
   -- the left side and the nulls have as many columns as the join
   outer_long : {v : ℕ} → IsSourceWidth a v → v + nulls ≡ length supplied.kinds
+  unfolding outer_parts outer_sides
   outer_long {v} left =
       ap (λ k. k + nulls) (left.is supplied.before supplied.around outer_sides.ls outer_sides.left)
       ∙ ap (λ k. length outer_sides.ls + k) outer_parts.nulls
@@ -153,12 +152,14 @@ module _ (outer : List OuterColumn) (so_far : List ℕ) (n : ℕ) (a b : BoundSo
 
   -- the right side has as many columns as nulls stand for
   pub outer_nulls : {u : ℕ} → IsSourceWidth b u → u ≡ nulls
+  unfolding outer_parts outer_sides
   outer_nulls {u} right =
       right.is (supplied.before ++ outer_sides.ls) supplied.around outer_sides.rs outer_sides.right
       ∙ sym outer_parts.nulls
 
   pub outer_join_supplied : {v : ℕ} → IsSourceWidth a v
       → JoinIsSupplied b on nulls outer so_far n v
+  unfolding outer_parts outer_sides
   outer_join_supplied {v} left = record {
     before = supplied.before;
     before_width = supplied.width;
@@ -179,10 +180,10 @@ module _ (outer : List OuterColumn) (so_far : List ℕ) (n : ℕ) (a b : BoundSo
     reads = outer_reads;
   }
 
-pub outer_width : {s a b seen : BoundSource} (on : BoundExpr) {nulls w m : ℕ}
+pub outer_width : (b : BoundSource) (on : BoundExpr) {s a seen : BoundSource} {nulls w m : ℕ}
     → s ≡ source.Outer a b nulls on → seen ≡ a → IsSourceWidth seen w → m ≡ w + nulls
     → IsSourceWidth s m
-outer_width {s} {a} {b} {seen} on {nulls} {w} {m} is get left wide = record {
+outer_width b on {s} {a} {seen} {nulls} {w} {m} is get left wide = record {
   is = λ before around kinds e.
       let t : OuterTyped a b nulls on before around kinds =
       outer_typed a b nulls on before around kinds
