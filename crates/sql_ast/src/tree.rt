@@ -123,6 +123,8 @@ pub enum FromItem {
     Table(Name, Option<Name>),
     /// A query in parentheses, its alias, and the names of its columns; none where no list stands.
     Derived(Boxed<Block>, Name, Items<Name>),
+    /// The same after `lateral`: its query may read the items to its left.
+    Lateral(Boxed<Block>, Name, Items<Name>),
 }
 
 /// An item that is joined to those before it.

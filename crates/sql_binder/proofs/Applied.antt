@@ -17,9 +17,9 @@ use Rattle.sql_binder.specs.Meanings.{FromItemMeaning}
 use Rattle.sql_binder.specs.FromLists.{from_item_step, on_joining, chained}
 use Rattle.sql_binder.specs.Binding.{from_item_meaning, join_meaning, joined_meaning, block_meaning}
 use Rattle.sql_binder.specs.Binding.{meaning, clauses_of}
-use Rattle.sql_binder.proofs.Opened.{from_item_Table, from_item_Derived, join_is, joined_is}
-use Rattle.sql_binder.proofs.Opened.{block_is, expr_opened, clause_opened, selected_opened, term_is}
-use Rattle.sql_binder.proofs.Opened.{factor_is, arm_is, item_is}
+use Rattle.sql_binder.proofs.Opened.{from_item_Table, from_item_Derived, from_item_Lateral, join_is}
+use Rattle.sql_binder.proofs.Opened.{joined_is, block_is, expr_opened, clause_opened}
+use Rattle.sql_binder.proofs.Opened.{selected_opened, term_is, factor_is, arm_is, item_is}
 
 pub table_at : (n : Name) (alias : Option Name) (sight : Sight) (left : List ScopeColumn)
     (s : Collected) → from_item_meaning (from_item.Table n alias) sight left s
@@ -33,6 +33,13 @@ pub derived_at : (q : Block) (alias : Name) (names : List Name) (sight : Sight)
     ≡ from_item_step (FromItem-F.Derived (block_meaning q) alias names) sight left s
 derived_at q alias names sight left s =
     ap (λ (m : FromItemMeaning). m sight left s) (from_item_Derived q alias names)
+
+pub lateral_at : (q : Block) (alias : Name) (names : List Name) (sight : Sight)
+    (left : List ScopeColumn) (s : Collected)
+    → from_item_meaning (from_item.Lateral q alias names) sight left s
+    ≡ from_item_step (FromItem-F.Lateral (block_meaning q) alias names) sight left s
+lateral_at q alias names sight left s =
+    ap (λ (m : FromItemMeaning). m sight left s) (from_item_Lateral q alias names)
 
 pub join_at : (j : Join) (start : ℕ) (sight : Sight) (done : FromRows) (s : Collected)
     → join_meaning j start sight done s
@@ -63,6 +70,7 @@ pub ruleset computed = (
   item_is,
   table_at,
   derived_at,
+  lateral_at,
   join_at,
   joined_at,
   block_at,

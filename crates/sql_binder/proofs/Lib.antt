@@ -7,4 +7,5 @@ pub mod Applied
 pub mod ExampleProofs
 pub mod EdgeProofs
 pub mod WithProofs
+pub mod LateralProofs
 pub mod ByHand

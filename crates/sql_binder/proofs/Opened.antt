@@ -405,6 +405,13 @@ unfolding from_item_meaning_at
 from_item_Derived q alias names = from_item_meaning_is (from_item.Derived q alias names)
     ∙ ap from_item_meaning_at (from_item.outs-Derived q alias names)
 
+pub from_item_Lateral : (q : Block) (alias : Name) (names : List Name)
+    → from_item_meaning (from_item.Lateral q alias names)
+    ≡ from_item_step (FromItem-F.Lateral (block_meaning q) alias names)
+unfolding from_item_meaning_at
+from_item_Lateral q alias names = from_item_meaning_is (from_item.Lateral q alias names)
+    ∙ ap from_item_meaning_at (from_item.outs-Lateral q alias names)
+
 pub term_is : (t : Term)
     → term_meaning t ≡ term_step
     (record { operator = (out-Term t).operator; value = meaning (out-Term t).value })
@@ -483,4 +490,4 @@ pub ruleset clause_opened = (clause_Absent, clause_Condition)
 
 pub ruleset selected_opened = (selected_All, selected_Items)
 
-pub ruleset from_item_opened = (from_item_Table, from_item_Derived)
+pub ruleset from_item_opened = (from_item_Table, from_item_Derived, from_item_Lateral)

@@ -297,12 +297,6 @@ unfolding selected_size_at
 selected_Items items = selected_size_is (selected.Items items)
     ∙ ap selected_size_at (selected.outs-Items items)
 
-from_item_Derived : (q : Block) (alias : Name) (names : List Name)
-    → from_item_size (from_item.Derived q alias names) ≡ block_size q
-unfolding from_item_size_at
-from_item_Derived q alias names = from_item_size_is (from_item.Derived q alias names)
-    ∙ ap from_item_size_at (from_item.outs-Derived q alias names)
-
 pub clause_falls : (c : Clause) (e : Expr) → c ≡ clause.Condition e → clause_size c ≡ size e
 clause_falls c e is = ap clause_size is ∙ clause_Condition e
 
@@ -312,7 +306,15 @@ selected_falls s items is = ap selected_size is ∙ selected_Items items
 
 pub derived_falls : (i : FromItem) (q : Block) (alias : Name) (names : List Name)
     → i ≡ from_item.Derived q alias names → from_item_size i ≡ block_size q
-derived_falls i q alias names is = ap from_item_size is ∙ from_item_Derived q alias names
+unfolding from_item_size_at
+derived_falls i q alias names is = ap from_item_size is ∙ from_item_size_is _
+    ∙ ap from_item_size_at (from_item.outs-Derived q alias names)
+
+pub lateral_falls : (i : FromItem) (q : Block) (alias : Name) (names : List Name)
+    → i ≡ from_item.Lateral q alias names → from_item_size i ≡ block_size q
+unfolding from_item_size_at
+lateral_falls i q alias names is = ap from_item_size is ∙ from_item_size_is _
+    ∙ ap from_item_size_at (from_item.outs-Lateral q alias names)
 
 pub term_size_of : (t : Term) → term_size t ≡ size (out-Term t).value
 unfolding term_size_at

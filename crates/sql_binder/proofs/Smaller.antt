@@ -23,9 +23,9 @@ use Rattle.sql_binder.specs.Nests.{BindsFromItem, BindsJoin, BindsJoined, BindsP
 use Rattle.sql_binder.specs.Sizes.{total, size, term_size, factor_size, arm_size, item_size}
 use Rattle.sql_binder.specs.Sizes.{selected_size, from_item_size, join_size, joined_size}
 use Rattle.sql_binder.specs.Sizes.{clause_size, block_size}
-use Rattle.sql_binder.proofs.Sized.{clause_falls, selected_falls, derived_falls, term_size_of}
-use Rattle.sql_binder.proofs.Sized.{factor_size_of, arm_size_of, item_size_of, join_size_of}
-use Rattle.sql_binder.proofs.Sized.{joined_size_of, block_size_of}
+use Rattle.sql_binder.proofs.Sized.{clause_falls, selected_falls, derived_falls, lateral_falls}
+use Rattle.sql_binder.proofs.Sized.{term_size_of, factor_size_of, arm_size_of, item_size_of}
+use Rattle.sql_binder.proofs.Sized.{join_size_of, joined_size_of, block_size_of}
 
 module _ {n : ℕ} {pre : Pre Expr} {post : Post Expr Typed} {pre_block : Pre Block}
     {post_block : Post Block BoundTable} (below : Below n pre post pre_block post_block) where
@@ -93,8 +93,12 @@ module _ {n : ℕ} {pre : Pre Expr} {post : Post Expr Typed} {pre_block : Pre Bl
       each_item items (omega (arith, h, e))
 
   item_below : (i : FromItem) → from_item_size i < n → BindsFromItem pre_block post_block i
-  item_below i h q alias names is = let s = derived_falls i q alias names is in
-      block_below q (omega (arith, h, s))
+  item_below i h = record {
+    derived = λ q alias names is. let s = derived_falls i q alias names is in
+        block_below q (omega (arith, h, s));
+    lateral = λ q alias names is. let s = lateral_falls i q alias names is in
+        block_below q (omega (arith, h, s));
+  }
 
   each_join : (js : List Join) → total (map join_size js) < n
       → Each (BindsJoin pre post pre_block post_block) js

@@ -9,19 +9,25 @@ use Rattle.sql_binder_steps.specs.declared.from.Joining.{Joining}
 use Rattle.sql_binder_steps.specs.declared.scope.ScopeColumn.{ScopeColumn}
 use Rattle.sql_binder_steps.specs.Steps.{Binding, ◌>>=◌, pure, lift, alone, counted}
 use Rattle.sql_binder_steps.specs.Names.{Sight}
-use Rattle.sql_binder_steps.specs.Parts.{within_on, hiding, table_rows, named_rows, columns_so_far}
-use Rattle.sql_binder_steps.specs.Parts.{crossed, first_rows, joining, joined_rows, present, holding}
+use Rattle.sql_binder_steps.specs.Parts.{inside, within_on, hiding, table_rows, derived_rows}
+use Rattle.sql_binder_steps.specs.Parts.{lateral_rows, columns_so_far, crossed, first_rows, joining}
+use Rattle.sql_binder_steps.specs.Parts.{joined_rows, present, holding}
 use Rattle.sql_binder.specs.Meanings.{Meaning, FromItemMeaning, JoinMeaning, JoinedMeaning}
 use Rattle.sql_binder.specs.Meanings.{FromItemNode, JoinNode, JoinedNode}
 
--- an item of FROM: a table or a view by its name; a derived table
+-- an item of FROM: a table or a view by its name; a derived table; a lateral item, whose query sees
+-- the columns to its left
 abbrev pub from_item_step : FromItemNode → FromItemMeaning
 from_item_step (FromItem-F.Table name alias) sight left =
     table_rows sight name (unwrap_or alias name) left
 from_item_step (FromItem-F.Derived q alias names) sight left = do
   _ ← counted 1
   t ← q (hiding sight left)
-  lift (named_rows t alias names left)
+  lift (derived_rows t alias names left)
+from_item_step (FromItem-F.Lateral q alias names) sight left = do
+  _ ← counted 1
+  t ← q (inside sight left None)
+  lift (lateral_rows t alias names left)
 
 -- ON, over the rows of its own join
 unfoldable pub on_condition : Sight → List ScopeColumn → Meaning → Binding BoundExpr

@@ -11,3 +11,4 @@ pub mod Laws
 pub mod Examples
 pub mod EdgeCases
 pub mod WithCases
+pub mod LateralCases

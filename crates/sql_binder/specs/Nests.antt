@@ -102,10 +102,13 @@ module _ (pre : Pre Expr) (post : Post Expr Typed) where
   abbrev pub BindsClause : Clause → Type 0
   BindsClause c = (e : Expr) → c ≡ clause.Condition e → BindsExpr pre post e
 
--- the query of a derived table
-abbrev pub BindsFromItem : Pre Block → Post Block BoundTable → FromItem → Type 0
-BindsFromItem pre post i = (q : Block) (alias : Name) (names : List Name)
-    → i ≡ from_item.Derived q alias names → BindsBlock pre post q
+-- the query of a derived table or of a lateral item
+pub record BindsFromItem (pre : Pre Block) (post : Post Block BoundTable) (i : FromItem) : Type 0
+  where
+    pub derived : (q : Block) (alias : Name) (names : List Name)
+        → i ≡ from_item.Derived q alias names → BindsBlock pre post q
+    pub lateral : (q : Block) (alias : Name) (names : List Name)
+        → i ≡ from_item.Lateral q alias names → BindsBlock pre post q
 
 module _ (pre : Pre Expr) (post : Post Expr Typed) (pre_block : Pre Block)
     (post_block : Post Block BoundTable) where

@@ -75,6 +75,7 @@ selected_size_step (Selected-F.Items items) = total items
 abbrev pub from_item_size_step : FromItem-F ℕ ℕ ℕ ℕ ℕ ℕ ℕ ℕ ℕ ℕ ℕ → ℕ
 from_item_size_step (FromItem-F.Table name alias) = 0
 from_item_size_step (FromItem-F.Derived q alias names) = q
+from_item_size_step (FromItem-F.Lateral q alias names) = q
 
 -- a join
 abbrev pub join_size_step : Join-F ℕ ℕ ℕ ℕ ℕ ℕ ℕ ℕ ℕ ℕ ℕ → ℕ

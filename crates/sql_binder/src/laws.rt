@@ -3,6 +3,7 @@ ghost use Rattle.sql_binder.specs.Examples.{FirstRefusals, LaterRefusals};
 ghost use Rattle.sql_binder.specs.EdgeCases.{MovedDates, ViewOfNames, Chains, ConditionsAsValues};
 ghost use Rattle.sql_binder.specs.EdgeCases.{Groups, SightsOfParts, OrderInFrom, OrderInViews};
 ghost use Rattle.sql_binder.specs.WithCases.{NamesOfWith, RefusalsOfWith};
+ghost use Rattle.sql_binder.specs.LateralCases.{BoundLaterals, RefusedLaterals};
 ghost use Rattle.sql_binder.specs.Laws.{Resolution, OnlyColumn, BoundOrRefused, NotBoth, OneWay};
 
 /// A name is looked for in the innermost query that has it, and nowhere else; and the place that it
@@ -24,6 +25,7 @@ pub fn worked_refusals()
     ensures first { FirstRefusals }
     ensures later { LaterRefusals }
     ensures with_queries { RefusalsOfWith }
+    ensures laterals { RefusedLaterals }
 {}
 
 /// Queries bound by hand, and where the order of binding or the sight of a part decides.
@@ -37,4 +39,5 @@ pub fn worked_bindings()
     ensures order { OrderInFrom }
     ensures view_order { OrderInViews }
     ensures with_queries { NamesOfWith }
+    ensures laterals { BoundLaterals }
 {}

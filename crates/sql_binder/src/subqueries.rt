@@ -1,18 +1,19 @@
-//! Queries in other queries: in expressions, and as derived tables in FROM. The function that binds
-//! a query is a value here too.
+//! Queries in other queries: in expressions, and as items of FROM. The function that binds a query
+//! is a value here too.
+ghost use Rattle.std.specs.Prelude.{None};
 ghost use Rattle.sql_ast.specs.declared.tree.Clause.TheOpen.{Expr-F};
 ghost use Rattle.sql_binder.specs.Expressions as spec;
 ghost use Rattle.sql_binder.specs.Binding.{meaning, block_meaning, from_item_meaning};
 ghost use Rattle.sql_binder_steps.specs.Names.{sight_of};
 ghost use Rattle.sql_binder.specs.Nests.{BindsExpr, BindsBlock, BindsFromItem};
-ghost use Rattle.sql_binder_steps.specs.Parts.{hiding};
+ghost use Rattle.sql_binder_steps.specs.Parts.{hiding, inside};
 ghost use Rattle.sql_binder_steps.specs.Steps.{Binds, alone};
 
 use crate::exprs::ExprBinder;
 use sql_ast::{Block, Expr, FromItem};
 use sql_binder_steps::BindFault;
 use sql_binder_steps::collected::{BoundTable, Collected, FromRows, Typed};
-use sql_binder_steps::from::{named_rows, table_rows};
+use sql_binder_steps::from::{derived_rows, lateral_rows, table_rows};
 use sql_binder_steps::names::alias_of;
 use sql_binder_steps::scope::{Level, ScopeColumn, Site};
 use sql_binder_steps::steps::{before, containing, existing, only_value};
@@ -123,6 +124,34 @@ impl<
         self.subquery(&inner, state, q)
     }
 
+    /// A query that sees the columns to its left, as those of the innermost query around it.
+    #[tactic(auto, unfolding(sql_binder_steps::specs::Parts::inside))]
+    fn lateral(
+        &self,
+        site: &Site<'_>,
+        state: &mut Collected,
+        left: &[ScopeColumn],
+        q: &Boxed<Block>,
+    ) -> Result<BoundTable, BindFault>
+        requires { BindsBlock (Q.pre self.now.query) (Q.post self.now.query) q.now }
+        ensures { Binds (block_meaning q.now (inside (sight_of site.now) left.now None) state.old)
+            result state.new }
+    {
+        let none = None;
+        let level = Level {
+            columns: left,
+            keys: &none,
+        };
+        let levels = before(self.exprs.alloc, level, site.levels)?;
+        let inner = Site {
+            views: site.views,
+            levels: levels.as_slice(),
+            hidden: site.hidden,
+            takes_subqueries: true,
+        };
+        self.subquery(&inner, state, q)
+    }
+
     /// An item of FROM.
     #[tactic(auto, using(crate::proofs::Opened::from_item_opened))]
     pub(crate) fn from_item(
@@ -151,7 +180,13 @@ impl<
             FromItem::Derived(q, alias, names) => {
                 state.counted(1)?;
                 let t = self.hidden(site, state, left, q)?;
-                let rows = named_rows(self.exprs.alloc, t, alias, names.as_slice(), left)?;
+                let rows = derived_rows(self.exprs.alloc, t, alias, names.as_slice(), left)?;
+                Ok(rows)
+            }
+            FromItem::Lateral(q, alias, names) => {
+                state.counted(1)?;
+                let t = self.lateral(site, state, left, q)?;
+                let rows = lateral_rows(self.exprs.alloc, t, alias, names.as_slice(), left)?;
                 Ok(rows)
             }
         }

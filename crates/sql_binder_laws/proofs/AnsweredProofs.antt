@@ -30,7 +30,7 @@ use Rattle.sql_binder.proofs.Applied.{computed}
 use Rattle.sql_binder_laws.specs.AnsweredCases.{PlainStatements, Balances, DividedConditions}
 use Rattle.sql_binder_laws.specs.AnsweredCases.{SumsOfLargest, CountsOfOrders, KeysNotIn, OneOrder}
 use Rattle.sql_binder_laws.specs.AnsweredCases.{RegionsOfOrders, GroupOfNoRows, Distribution}
-use Rattle.sql_binder_laws.specs.AnsweredCases.{SubqueriesOfOn}
+use Rattle.sql_binder_laws.specs.AnsweredCases.{SubqueriesOfOn, AnsweredLaterals}
 
 pub ruleset answered = (
   computed,
@@ -166,6 +166,20 @@ unfolding input aggregate alone apart counted take_aggregates is_met ends means 
     clauses_of is_grouped_block bound_query bound_view times answer rows operated values truths
     chosen rescaled sum_of difference_of quotient_of is_like some_rest
 subqueries_of_on = (simp answered, simp answered)
+
+pub answered_laterals : AnsweredLaterals
+unfolding input aggregate alone apart counted take_aggregates is_met ends means the_one key_of found
+    resolved date_literal negative compared null_test between liked in_list denied extracted
+    substring chained_on shifted ended first_condition next_condition all_of any_of case_chosen
+    case_of case_else_of column inside within_on hiding among_rows grouped aggregated existing
+    containing only_value member table_headers named_item unused column_of renamed_headers
+    distinct_names listed_headers table_rows named_rows first_rows crossed joining joined_rows
+    present holding shown_part star keys_of plain closing once_each output_place order_of conditions
+    operands chain arm_conditions arm_values on_condition on_joining joins chained from_list
+    condition shown_item shown_items select is_grouped from_where over_rows group_lists over_groups
+    clauses_of is_grouped_block bound_query bound_view times answer rows operated values truths
+    chosen rescaled sum_of difference_of quotient_of is_like some_rest
+answered_laterals = (simp answered, simp answered)
 
 pub group_of_no_rows : GroupOfNoRows
 unfolding input aggregate alone apart counted take_aggregates is_met ends means the_one key_of found

@@ -40,12 +40,12 @@ use Rattle.sql_binder_laws.proofs.TypedSteps.{Fits, own_rows, Counted, HasKind}
 use Rattle.sql_binder_laws.proofs.TypedSteps.{AggregatesHave}
 use Rattle.sql_binder_laws.proofs.TypedSteps.{same_pair, no_place}
 use Rattle.sql_binder_laws.proofs.TypedQueries.{BlockMeaningIs}
-use Rattle.sql_binder_laws.proofs.TypedItems.{lifted}
+use Rattle.sql_binder_laws.proofs.TypedItems.{lifted, ready_inside, fits_inside}
 use Rattle.sql_binder_laws.proofs.TypedFrom.{Passed, ListRows}
 use Rattle.sql_binder_laws.proofs.TypedFrom.{JoinedMeaningIs, from_list_is}
 use Rattle.sql_binder_laws.proofs.TypedClauses.{ClauseIs, ClauseGoes, clause_on, IsTest}
 use Rattle.sql_binder_laws.proofs.TypedClauses.{ClauseMeaningIs, condition_goes, ShownIs, shown_kinds}
-use Rattle.sql_binder_laws.proofs.TypedClauses.{SelectedMeaningIs, ready_inside, fits_inside}
+use Rattle.sql_binder_laws.proofs.TypedClauses.{SelectedMeaningIs}
 use Rattle.sql_binder_laws.proofs.TypedClauses.{keys_inside, own_inside, select_goes}
 
 -- ---- a clause over the rows of FROM
@@ -114,7 +114,7 @@ pub record TableIs (sight : Sight) (s t : Collected) (b : BoundTable) : Type 0 w
       → block_kinds b.block env ≡ Some (header_kinds b.headers)
 
 plain_kinds : (from : FromRows) (kept : BoundExpr) (sh : Shown) (env : EnvKinds)
-    → from_kinds from.source env ≡ Some (row_kinds from.columns)
+    → from_kinds from.source [] env ≡ Some (row_kinds from.columns)
     → IsTest (row_kinds from.columns ∷ env) kept
     → ShownIs (row_kinds from.columns ∷ env) sh
     → block_kinds (block.Plain from.source kept sh.list) env ≡ Some (header_kinds sh.headers)
@@ -241,7 +241,7 @@ map_twice (a ∷ all) env = ap (λ l. kind_of_aggregate a env ∷ l) (map_twice 
 
 grouped_kinds : (from : FromRows) (kept : BoundExpr) (keys : List ℕ) (all : List BoundAggregate)
     (having : BoundExpr) (sh : Shown) (env : EnvKinds)
-    → from_kinds from.source env ≡ Some (row_kinds from.columns)
+    → from_kinds from.source [] env ≡ Some (row_kinds from.columns)
     → IsTest (row_kinds from.columns ∷ env) kept → KeysHave (row_kinds from.columns) keys
     → AggregatesHave (row_kinds from.columns ∷ env) all
     → IsTest (group_row (row_kinds from.columns) keys all env ∷ env) having

@@ -38,7 +38,8 @@ use Rattle.sql_binder_laws.proofs.TypedSteps.{AggregatesHave, each_front, world_
 use Rattle.sql_binder_laws.proofs.TypedSteps.{bound_is, same_pair}
 use Rattle.sql_binder_laws.proofs.TypedNodes.{TypedIn, MeaningIs}
 use Rattle.sql_binder_laws.proofs.TypedItems.{lifted}
-use Rattle.sql_binder_laws.proofs.TypedFrom.{fits_inner, holding_is}
+use Rattle.sql_binder_laws.proofs.TypedItems.{ready_inside}
+use Rattle.sql_binder_laws.proofs.TypedFrom.{holding_is}
 
 -- ---- steps of a clause, which keep the inputs that were collected before
 
@@ -300,25 +301,6 @@ star_is keys columns before (c ∷ cs) at done sh env fits same n are h =
     (omega (arith, n, len)) more w.gives
 
 -- ---- inside a query
-
-pub ready_inside : (sight : Sight) (columns : List ScopeColumn) (keys : Option (List ℕ))
-    → Ready sight
-    → Ready (inside sight columns keys)
-unfolding inside
-ready_inside sight columns keys r =
-    record {
-      views = r.views;
-      hidden = let h = r.hidden in
-          let more : sight.hidden ≤ suc (length sight.levels) = omega (arith, h) in more;
-    }
-
-pub fits_inside : (sight : Sight) (columns : List ScopeColumn) (keys : Option (List ℕ))
-    (env : EnvKinds)
-    (row : List Kind) → Fits sight env → RowFits keys columns row
-    → Fits (inside sight columns keys) (row ∷ env)
-unfolding inside
-fits_inside sight columns keys env row f own =
-    record { row = fits_inner sight columns keys env row f own }
 
 pub keys_inside : (sight : Sight) (columns : List ScopeColumn) (keys : Option (List ℕ))
     → keys_by (inside sight columns keys).levels ≡ keys

@@ -11,7 +11,7 @@ use Rattle.sql_bound_query.proofs.TypingOpened.{kinds_Cross, kinds_Inner}
 use Rattle.sql_bound_query.proofs.TypingOpened.{kinds_Outer}
 use Rattle.sql_bound_query.specs.declared.query.BoundExpr.{BoundExpr}
 use Rattle.sql_bound_query.specs.declared.query.BoundSource.{BoundSource}
-use Rattle.sql_bound_query.specs.Typing.{EnvKinds, KindsMeaning}
+use Rattle.sql_bound_query.specs.Typing.{EnvKinds, FromKinds}
 use Rattle.sql_bound_query.specs.Typing.{from_kinds}
 use Rattle.sql_bound_query.specs.Typing.{typing_of}
 use Rattle.expr_scalar.specs.declared.kind.Kind.{Kind}
@@ -37,15 +37,17 @@ use Rattle.sql_binder_laws.proofs.TypedOperands.{went, ok_is, fit}
 use Rattle.sql_binder_laws.proofs.TypedSteps.{Ready, row_kinds, RowFits, Fits, BoundIs, same_pair}
 use Rattle.sql_binder_laws.proofs.TypedSteps.{closed_part}
 use Rattle.sql_binder_laws.proofs.TypedNodes.{MeaningIs}
-use Rattle.sql_binder_laws.proofs.TypedItems.{lifted, FromItemMeaningIs}
+use Rattle.sql_binder_laws.proofs.TypedItems.{lifted, fits_inner, FromItemMeaningIs}
 
 -- ---- joins
 
--- rows of a chain under the rows around: its own columns stand after those before it
+-- rows of a chain under the row so far and the rows around: its own columns stand after those
+-- before it
 pub record ChainRows (sight : Sight) (before : List ScopeColumn) (f : FromRows) : Type 0 where
   pub own : List ScopeColumn
   pub columns : f.columns ≡ before ++ own
-  pub kinds : (env : EnvKinds) → Fits sight env → from_kinds f.source env ≡ Some (row_kinds own)
+  pub kinds : (env : EnvKinds) → Fits sight env
+      → from_kinds f.source (row_kinds before) env ≡ Some (row_kinds own)
 
 -- nothing is collected in FROM
 pub record Passed (s t : Collected) : Type 0 where
@@ -58,21 +60,6 @@ JoinMeaningIs m = (sight : Sight) (before : List ScopeColumn) (done : FromRows) 
     → Ready sight → s.aggregates ≡ [] → ChainRows sight before done
     → (f : FromRows) (t : Collected) → m (length before) sight done s ≡ Ok (f, t)
     → Passed s t × ChainRows sight before f
-
-some_is : {A : Type 0} (a b : A) → Some a ≡ Some b → a ≡ b
-some_is a b h = cc
-
--- rows under one more query
-pub fits_inner : (sight : Sight) (columns : List ScopeColumn) (keys : Option (List ℕ))
-    (env : EnvKinds) (row : List Kind) → Fits sight env → RowFits keys columns row
-    → (level : ℕ) (q : Around) → level < suc (length sight.levels) - sight.hidden
-    → slice_get (record { columns = columns; keys = keys } ∷ sight.levels) level ≡ Some q
-    → RowFits q.keys q.columns (slice_index_or (row ∷ env) level [])
-fits_inner sight columns keys env row f own zero q below at =
-    let made : Around = record { columns = columns; keys = keys } in
-    subst (λ (x : Around). RowFits x.keys x.columns row) (some_is made q at) own
-fits_inner sight columns keys env row f own (suc level) q below at =
-    f.row level q (omega (arith, below)) at
 
 -- a condition is one
 test_by : (k : BoundKind) (x : BoundExpr) (env : EnvKinds) → is_condition k ≡ true → BoundIs x k env
@@ -152,31 +139,32 @@ append_twice (x ∷ xs) ys zs = ap (λ l. x ∷ l) (append_twice xs ys zs)
 
 -- the kinds of a join
 joined_are : (k : JoinKind) (a b : BoundSource) (on : BoundExpr) (own right : List ScopeColumn)
-    (all : List ScopeColumn) (env : EnvKinds)
-    → from_kinds a env ≡ Some (row_kinds own) → from_kinds b env ≡ Some (row_kinds right)
+    (all : List ScopeColumn) (js : List Kind) (env : EnvKinds)
+    → from_kinds a js env ≡ Some (row_kinds own)
+    → from_kinds b (js ++ row_kinds own) env ≡ Some (row_kinds right)
     → (typing_of on).is_condition (row_kinds (own ++ right) ∷ env) ≡ true
     → from_kinds (joined_rows k
-    (record { left = a; right = b; width = length right; columns = all }) on).source env
+    (record { left = a; right = b; width = length right; columns = all }) on).source js env
     ≡ Some (row_kinds (own ++ right))
 unfolding joined_rows
-joined_are Inner a b on own right all env h i c =
+joined_are Inner a b on own right all js env h i c =
     let e = row_of_both own right in
     let both : (typing_of on).is_condition ((row_kinds own ++ row_kinds right) ∷ env) ≡ true =
     subst (λ ks. (typing_of on).is_condition (ks ∷ env) ≡ true) e c in
-    ap (λ (m : KindsMeaning). m env) (kinds_Inner a b on) ∙ rw (h, i, both) (ap Some (sym e))
-joined_are LeftOuter a b on own right all env h i c =
+    ap (λ (m : FromKinds). m js env) (kinds_Inner a b on) ∙ rw (h, i, both) (ap Some (sym e))
+joined_are LeftOuter a b on own right all js env h i c =
     let e = row_of_both own right in
     let both : (typing_of on).is_condition ((row_kinds own ++ row_kinds right) ∷ env) ≡ true =
     subst (λ ks. (typing_of on).is_condition (ks ∷ env) ≡ true) e c in
     let wide : (length right == length (row_kinds right))
     ≡ true = (Decides-eqb (length right) (length (row_kinds right))).1 (sym (kinds_length right)) in
-    ap (λ (m : KindsMeaning). m env) (kinds_Outer a b (length right) on)
+    ap (λ (m : FromKinds). m js env) (kinds_Outer a b (length right) on)
     ∙ rw (h, i, wide, both) (ap Some (sym e))
 
 chain_joined : (sight : Sight) (before : List ScopeColumn) (k : JoinKind) (j : Joining)
     (on : BoundExpr) (own : List ScopeColumn) → j.columns ≡ before ++ own
     → ((env : EnvKinds) → Fits sight env
-    → from_kinds (joined_rows k j on).source env ≡ Some (row_kinds own))
+    → from_kinds (joined_rows k j on).source (row_kinds before) env ≡ Some (row_kinds own))
     → ChainRows sight before (joined_rows k j on)
 unfolding joined_rows
 chain_joined sight before k j on own columns is =
@@ -194,6 +182,8 @@ join_is_typed item k m is also sight before done s ready empty chain f t h =
     let i = is sight done.columns s ready o w.it.1 w.is in
     let columns : done.columns ++ o.columns ≡ before ++ (chain.own ++ o.columns) =
     ap (λ l. l ++ o.columns) chain.columns ∙ append_twice before chain.own o.columns in
+    let so_far : row_kinds done.columns ≡ row_kinds before ++ row_kinds chain.own =
+    ap row_kinds chain.columns ∙ row_of_both before chain.own in
     let own : drop (length before) (done.columns ++ o.columns) ≡ chain.own ++ o.columns =
     ap (drop (length before)) columns ∙ drop-append_seam before (chain.own ++ o.columns) in
     let v = went (on_condition sight (drop (length before) (done.columns ++ o.columns)) m w.it.1) _
@@ -211,7 +201,9 @@ join_is_typed item k m is also sight before done s ready empty chain f t h =
     let rows : ChainRows sight before made =
     chain_joined sight before k j v.it.0 (chain.own ++ o.columns) columns
     (λ env fits. joined_are k done.source o.source v.it.0 chain.own o.columns
-    (done.columns ++ o.columns) env (chain.kinds env fits) (i.kinds env)
+    (done.columns ++ o.columns) (row_kinds before) env (chain.kinds env fits)
+    (subst (λ js. from_kinds o.source js env ≡ Some (row_kinds o.columns)) so_far
+    (i.kinds env fits))
     (subst (λ l. (typing_of v.it.0).is_condition (row_kinds l ∷ env) ≡ true) own
     (c.is env fits))) in (
       record {
@@ -247,7 +239,7 @@ joins_are (j ∷ js) sight before done s is ready empty chain f t h =
 -- rows of a list so far, under the rows around
 abbrev pub ListRows : Sight → FromRows → Type 0
 ListRows sight f = (env : EnvKinds) → Fits sight env
-    → from_kinds f.source env ≡ Some (row_kinds f.columns)
+    → from_kinds f.source [] env ≡ Some (row_kinds f.columns)
 
 abbrev pub DoneIs : Sight → Option FromRows → Type 0
 DoneIs sight None = Unit {0}
@@ -260,12 +252,12 @@ JoinedMeaningIs m = (sight : Sight) (done : Option FromRows) (s : Collected) →
     → (f : FromRows) (t : Collected) → m sight done s ≡ Ok (f, t) → Passed s t × ListRows sight f
 
 first_chain : (sight : Sight) (done : Option FromRows) (o : FromRows)
-    → ((env : EnvKinds) → from_kinds o.source env ≡ Some (row_kinds o.columns))
+    → ((env : EnvKinds) → Fits sight env
+    → from_kinds o.source (row_kinds (columns_so_far done)) env ≡ Some (row_kinds o.columns))
     → ChainRows sight (columns_so_far done) (first_rows done o).1
 unfolding first_rows
-first_chain sight None o is = record { own = o.columns; columns = refl; kinds = λ env f. is env }
-first_chain sight (Some d) o is =
-    record { own = o.columns; columns = refl; kinds = λ env f. is env }
+first_chain sight None o is = record { own = o.columns; columns = refl; kinds = is }
+first_chain sight (Some d) o is = record { own = o.columns; columns = refl; kinds = is }
 
 crossed_rows : (sight : Sight) (done : Option FromRows) (o f : FromRows) → DoneIs sight done
     → ChainRows sight (columns_so_far done) f → ListRows sight (crossed (first_rows done o).0 f)
@@ -273,7 +265,7 @@ unfolding first_rows crossed
 crossed_rows sight None o f d c env fits = c.kinds env fits
     ∙ ap (λ l. Some (row_kinds l)) (sym c.columns)
 crossed_rows sight (Some b) o f d c env fits =
-    ap (λ (m : KindsMeaning). m env) (kinds_Cross b.source f.source)
+    ap (λ (m : FromKinds). m [] env) (kinds_Cross b.source f.source)
     ∙ rw (d env fits, c.kinds env fits)
     (ap Some (sym (row_of_both b.columns c.own)) ∙ ap (λ l. Some (row_kinds l)) (sym c.columns))
 

@@ -1,14 +1,15 @@
 -- What an item of FROM binds is typed.
 use Rattle.std.proofs.Common.{◌≡◌, ℕ, ◌+◌, ◌-◌, ◌<◌, ◌≤◌, ◌==◌, List, [], ◌∷◌, length, map}
-use Rattle.std.proofs.Common.{suc, Bool, true, false, if◌then◌else◌, refl, sym, ap, ◌∙◌}
+use Rattle.std.proofs.Common.{zero, suc, Bool, true, false, if◌then◌else◌, refl, sym, ap, ◌∙◌}
 use Rattle.std.proofs.Common.{subst, arith}
-use Rattle.std.specs.Prelude.{Option, Some, None, Ok, Err}
+use Rattle.std.specs.Prelude.{Option, Some, None, Ok, Err, slice_get, slice_index_or}
 use Rattle.std.specs.Str.{bytes_eq}
 use Rattle.std.proofs.lemmas.Bool.Decides.{Decides-eqb}
-use Rattle.sql_bound_query.proofs.TypingOpened.{kinds_Table, kinds_Derived}
+use Rattle.sql_bound_query.proofs.TypingOpened.{kinds_Table, kinds_Derived, kinds_Lateral}
 use Rattle.sql_bound_query.specs.declared.query.BoundBlock.{BoundBlock}
+use Rattle.sql_bound_query.specs.declared.query.BoundSource.{BoundSource}
 use Rattle.sql_bound_query.specs.declared.query.BoundSource.TheVariants as source
-use Rattle.sql_bound_query.specs.Typing.{EnvKinds, KindsMeaning}
+use Rattle.sql_bound_query.specs.Typing.{EnvKinds, FromKinds}
 use Rattle.sql_bound_query.specs.Typing.{column_kinds, block_kinds, from_kinds}
 use Rattle.base_refusals.specs.declared.bind.BindRefusal.{BindRefusal}
 use Rattle.base_refusals.specs.declared.bind.BindRefusal.TheVariants.{TooManyTables}
@@ -26,15 +27,16 @@ use Rattle.sql_binder_steps.specs.declared.view.Header.{Header}
 use Rattle.sql_binder_steps.specs.declared.view.View.{View}
 use Rattle.sql_binder.specs.Meanings.{FromItemMeaning}
 use Rattle.sql_binder.specs.Meanings.{BlockMeaning}
-use Rattle.sql_binder_steps.specs.Names.{Sight}
-use Rattle.sql_binder_steps.specs.Parts.{hiding, table_headers, view_named, view_or_table}
+use Rattle.sql_binder_steps.specs.Names.{Around, Sight}
+use Rattle.sql_binder_steps.specs.Parts.{inside, hiding, table_headers, view_named, view_or_table}
 use Rattle.sql_binder_steps.specs.Parts.{named_item, unused, column_of, under_names, renamed_headers}
 use Rattle.sql_binder_steps.specs.Parts.{distinct_names, listed_headers, table_rows, named_rows}
+use Rattle.sql_binder_steps.specs.Parts.{derived_rows, lateral_rows}
 use Rattle.sql_binder_steps.specs.Steps.{Name, Checked, ◌>>=◌, lift}
 use Rattle.sql_binder_steps.specs.Steps.{counted}
 use Rattle.sql_binder_laws.specs.WellTyped.{header_kinds, ViewsAreTyped}
 use Rattle.sql_binder_laws.proofs.TypedOperands.{went, ok_is}
-use Rattle.sql_binder_laws.proofs.TypedSteps.{Ready, row_kinds, Fits, same_pair}
+use Rattle.sql_binder_laws.proofs.TypedSteps.{Ready, row_kinds, RowFits, Fits, same_pair}
 use Rattle.sql_binder_laws.proofs.TypedQueries.{BlockMeaningIs}
 
 -- ---- steps that only pass on or refuse
@@ -119,33 +121,73 @@ unfolding listed_headers
 listed_kinds_are names headers made h = let w = went (distinct_names names) _ made h in
     renamed_kinds names headers made w.gives
 
+-- ---- one query more around
+
+some_is : {A : Type 0} (a b : A) → Some a ≡ Some b → a ≡ b
+some_is a b h = cc
+
+-- rows under one more query
+pub fits_inner : (sight : Sight) (columns : List ScopeColumn) (keys : Option (List ℕ))
+    (env : EnvKinds) (row : List Kind) → Fits sight env → RowFits keys columns row
+    → (level : ℕ) (q : Around) → level < suc (length sight.levels) - sight.hidden
+    → slice_get (record { columns = columns; keys = keys } ∷ sight.levels) level ≡ Some q
+    → RowFits q.keys q.columns (slice_index_or (row ∷ env) level [])
+fits_inner sight columns keys env row f own zero q below at =
+    let made : Around = record { columns = columns; keys = keys } in
+    subst (λ (x : Around). RowFits x.keys x.columns row) (some_is made q at) own
+fits_inner sight columns keys env row f own (suc level) q below at =
+    f.row level q (omega (arith, below)) at
+
+pub ready_inside : (sight : Sight) (columns : List ScopeColumn) (keys : Option (List ℕ))
+    → Ready sight
+    → Ready (inside sight columns keys)
+unfolding inside
+ready_inside sight columns keys r =
+    record {
+      views = r.views;
+      hidden = let h = r.hidden in
+          let more : sight.hidden ≤ suc (length sight.levels) = omega (arith, h) in more;
+    }
+
+pub fits_inside : (sight : Sight) (columns : List ScopeColumn) (keys : Option (List ℕ))
+    (env : EnvKinds)
+    (row : List Kind) → Fits sight env → RowFits keys columns row
+    → Fits (inside sight columns keys) (row ∷ env)
+unfolding inside
+fits_inside sight columns keys env row f own =
+    record { row = fits_inner sight columns keys env row f own }
+
 -- ---- items of FROM
 
--- an item that was bound
-pub record FromIs (s t : Collected) (f : FromRows) : Type 0 where
+-- an item that was bound behind the columns to its left
+pub record FromIs (sight : Sight) (left : List ScopeColumn) (s t : Collected) (f : FromRows) :
+    Type 0 where
   pub inputs : t.inputs ≡ s.inputs
   pub aggregates : t.aggregates ≡ s.aggregates
-  pub kinds : (env : EnvKinds) → from_kinds f.source env ≡ Some (row_kinds f.columns)
+  pub kinds : (env : EnvKinds) → Fits sight env
+      → from_kinds f.source (row_kinds left) env ≡ Some (row_kinds f.columns)
 
 -- an item of FROM is typed wherever it stands
 abbrev pub FromItemMeaningIs : FromItemMeaning → Type 0
 FromItemMeaningIs m = (sight : Sight) (left : List ScopeColumn) (s : Collected) → Ready sight
-    → (f : FromRows) (t : Collected) → m sight left s ≡ Ok (f, t) → FromIs s t f
+    → (f : FromRows) (t : Collected) → m sight left s ≡ Ok (f, t) → FromIs sight left s t f
 
 -- what a name stands for is typed
 abbrev ItemIs : NamedItem → Type 0
-ItemIs i = (env : EnvKinds) → from_kinds i.source env ≡ Some (header_kinds i.headers)
+ItemIs i = (js : List Kind) (env : EnvKinds)
+    → from_kinds i.source js env ≡ Some (header_kinds i.headers)
 
-table_is : (t : TableName) (env : EnvKinds)
-    → from_kinds (source.Table t) env ≡ Some (header_kinds (table_headers t))
-table_is t env = ap (λ (m : KindsMeaning). m env) (kinds_Table t) ∙ ap Some (table_kinds t)
+table_is : (t : TableName) (js : List Kind) (env : EnvKinds)
+    → from_kinds (source.Table t) js env ≡ Some (header_kinds (table_headers t))
+table_is t js env = ap (λ (m : FromKinds). m js env) (kinds_Table t) ∙ ap Some (table_kinds t)
 
-derived_is : (q : BoundBlock) (ks : List Kind) (env : EnvKinds) → block_kinds q [] ≡ Some ks
-    → from_kinds (source.Derived q) env ≡ Some ks
-derived_is q ks env h = ap (λ (m : KindsMeaning). m env) (kinds_Derived q) ∙ h
+derived_is : (q : BoundBlock) (ks js : List Kind) (env : EnvKinds) → block_kinds q [] ≡ Some ks
+    → from_kinds (source.Derived q) js env ≡ Some ks
+derived_is q ks js env h = ap (λ (m : FromKinds). m js env) (kinds_Derived q) ∙ h
 
-some_item : (a b : NamedItem) → Some a ≡ Some b → a ≡ b
-some_item a b h = cc
+lateral_is : (q : BoundBlock) (ks js : List Kind) (env : EnvKinds)
+    → block_kinds q (js ∷ env) ≡ Some ks → from_kinds (source.Lateral q) js env ≡ Some ks
+lateral_is q ks js env h = ap (λ (m : FromKinds). m js env) (kinds_Lateral q) ∙ h
 
 view_step : (b : Bool) (v : View) (r : Option NamedItem) (i : NamedItem)
     → (let x : Option NamedItem =
@@ -161,7 +203,8 @@ view_step true v r i h is other =
       headers = v.columns;
       items = v.items + 1;
     } in
-    subst ItemIs (some_item made i h) (λ env. derived_is v.block (header_kinds v.columns) env is)
+    subst ItemIs (some_is made i h)
+    (λ js env. derived_is v.block (header_kinds v.columns) js env is)
 view_step false v r i h is other = other h
 
 view_is : (name : Name) (views : List View) (i : NamedItem) → ViewsAreTyped views
@@ -180,7 +223,7 @@ view_or_table_is None (Some t) i is h =
       headers = table_headers t;
       items = 1;
     } in
-    subst ItemIs (ok_is made i h) (λ env. table_is t env)
+    subst ItemIs (ok_is made i h) (λ js env. table_is t js env)
 view_or_table_is None None i is h = cc
 
 named_is : (name : Name) (views : List View) (i : NamedItem) → ViewsAreTyped views
@@ -205,12 +248,12 @@ table_rows_is name alias sight left s ready f t h =
     let made : FromRows = record { source = i.source; columns = map (column_of alias) i.headers } in
     let e = same_pair (made, x.it.1) f t (ok_is (made, x.it.1) (f, t) x.gives) in
     let is = named_is name sight.views i ready.views l.is in
-    subst (λ (g : FromRows). FromIs s t g) e.0 (record {
+    subst (λ (g : FromRows). FromIs sight left s t g) e.0 (record {
       inputs = ap (λ (c : Collected). c.inputs) (sym e.1 ∙ y.same) ∙ a.inputs
           ∙ ap (λ (c : Collected). c.inputs) l.same;
       aggregates = ap (λ (c : Collected). c.aggregates) (sym e.1 ∙ y.same) ∙ a.aggregates
           ∙ ap (λ (c : Collected). c.aggregates) l.same;
-      kinds = λ env. is env ∙ ap Some (sym (row_of_item alias i.headers));
+      kinds = λ env fits. is (row_kinds left) env ∙ ap Some (sym (row_of_item alias i.headers));
     })
 
 ready_hidden : (sight : Sight) (left : List ScopeColumn) → Ready sight → Ready (hiding sight left)
@@ -231,30 +274,74 @@ fits_hidden sight left =
           omega (arith, b));
     }
 
+-- what a query's rows are as an item of FROM
+record NamedRows (b : BoundSource) (headers : List Header) (f : FromRows) : Type 0 where
+  source : f.source ≡ b
+  kinds : row_kinds f.columns ≡ header_kinds headers
+
+named_rows_are : (b : BoundSource) (headers : List Header) (alias : Name) (names : List Name)
+    (left : List ScopeColumn) (f : FromRows) → named_rows b headers alias names left ≡ Ok f
+    → NamedRows b headers f
+unfolding named_rows
+named_rows_are b headers alias names left f h =
+    let x = went (unused left alias) _ f h in
+    let y = went (listed_headers names headers) _ f x.gives in
+    let made : FromRows = record { source = b; columns = map (column_of alias) y.it } in
+    let e : made ≡ f = ok_is made f y.gives in
+    subst (NamedRows b headers) e (record {
+      source = refl;
+      kinds = row_of_item alias y.it ∙ listed_kinds_are names headers y.it y.is;
+    })
+
+-- a sight in which an item's query is bound, and what makes a source of the query
+record InnerSight (inner : Sight → List ScopeColumn → Sight) (made : BoundBlock → BoundSource) : Type 0
+  where
+    ready : (sight : Sight) (left : List ScopeColumn) → Ready sight → Ready (inner sight left)
+    kinds : (sight : Sight) (left : List ScopeColumn) (b : BoundBlock) (ks : List Kind)
+        → ((env : EnvKinds) → Fits (inner sight left) env → block_kinds b env ≡ Some ks)
+        → (env : EnvKinds) → Fits sight env → from_kinds (made b) (row_kinds left) env ≡ Some ks
+
+query_rows_is : (inner : Sight → List ScopeColumn → Sight) (made : BoundBlock → BoundSource)
+    → InnerSight inner made → (q : BlockMeaning) (alias : Name) (names : List Name) → BlockMeaningIs q
+    → FromItemMeaningIs (λ sight left.
+    counted 1 >>= (λ u. q (inner sight left) >>=
+    (λ t. lift (named_rows (made t.block) t.headers alias names left))))
+query_rows_is inner made placed q alias names is sight left s ready f t h =
+    let w = went (counted 1 s) _ (f, t) h in
+    let a = added 1 s w.it.1 w.it.0 w.is in
+    let v = went (q (inner sight left) w.it.1) _ (f, t) w.gives in
+    let b = is (inner sight left) w.it.1 (placed.ready sight left ready) v.it.0 v.it.1 v.is in
+    let table = v.it.0 in
+    let l = lifted (named_rows (made table.block) table.headers alias names left) v.it.1 f t
+    v.gives in
+    let n = named_rows_are (made table.block) table.headers alias names left f l.is in
+    record {
+      inputs = ap (λ (c : Collected). c.inputs) l.same ∙ b.inputs ∙ a.inputs;
+      aggregates = ap (λ (c : Collected). c.aggregates) l.same ∙ b.aggregates ∙ a.aggregates;
+      kinds = λ env fits.
+          ap (λ (x : BoundSource). from_kinds x (row_kinds left) env) n.source
+          ∙ placed.kinds sight left table.block (header_kinds table.headers) b.kinds env fits
+          ∙ ap Some (sym n.kinds);
+    }
+
 -- a derived table
 pub derived_rows_is : (q : BlockMeaning) (alias : Name) (names : List Name) → BlockMeaningIs q
     → FromItemMeaningIs (λ sight left.
-    counted 1 >>= (λ u. q (hiding sight left) >>= (λ t. lift (named_rows t alias names left))))
-unfolding named_rows
-derived_rows_is q alias names is sight left s ready f t h =
-    let w = went (counted 1 s) _ (f, t) h in
-    let a = added 1 s w.it.1 w.it.0 w.is in
-    let v = went (q (hiding sight left) w.it.1) _ (f, t) w.gives in
-    let b = is (hiding sight left) w.it.1 (ready_hidden sight left ready) v.it.0 v.it.1 v.is in
-    let table = v.it.0 in
-    let l = lifted _ v.it.1 f t v.gives in
-    let x = went (unused left alias) _ f l.is in
-    let y = went (listed_headers names table.headers) _ f x.gives in
-    let made : FromRows = record {
-      source = source.Derived table.block;
-      columns = map (column_of alias) y.it;
-    } in
-    let e : made ≡ f = ok_is made f y.gives in
-    subst (λ (g : FromRows). FromIs s t g) e (record {
-      inputs = ap (λ (c : Collected). c.inputs) l.same ∙ b.inputs ∙ a.inputs;
-      aggregates = ap (λ (c : Collected). c.aggregates) l.same ∙ b.aggregates ∙ a.aggregates;
-      kinds = λ env.
-          derived_is table.block (header_kinds table.headers) env
-          (b.kinds [] (fits_hidden sight left))
-          ∙ ap Some (sym (row_of_item alias y.it ∙ listed_kinds_are names table.headers y.it y.is));
-    })
+    counted 1 >>= (λ u. q (hiding sight left) >>= (λ t. lift (derived_rows t alias names left))))
+derived_rows_is = query_rows_is hiding source.Derived (record {
+  ready = ready_hidden;
+  kinds = λ sight left b ks is env fits.
+      derived_is b ks (row_kinds left) env (is [] (fits_hidden sight left));
+})
+
+-- a lateral item
+pub lateral_rows_is : (q : BlockMeaning) (alias : Name) (names : List Name) → BlockMeaningIs q
+    → FromItemMeaningIs (λ sight left.
+    counted 1 >>= (λ u. q (inside sight left None) >>=
+    (λ t. lift (lateral_rows t alias names left))))
+lateral_rows_is = query_rows_is (λ sight left. inside sight left None) source.Lateral (record {
+  ready = λ sight left. ready_inside sight left None;
+  kinds = λ sight left b ks is env fits.
+      lateral_is b ks (row_kinds left) env
+      (is (row_kinds left ∷ env) (fits_inside sight left None env (row_kinds left) fits refl));
+})

@@ -76,6 +76,7 @@ use Rattle.sql_binder_laws.proofs.TypedQueries.{exists_goes, scalar_goes, in_que
 use Rattle.sql_binder_laws.proofs.TypedItems.{FromItemMeaningIs}
 use Rattle.sql_binder_laws.proofs.TypedFrom.{JoinMeaningIs, JoinedMeaningIs}
 use Rattle.sql_binder_laws.proofs.TypedItems.{renamed_kinds, table_rows_is, derived_rows_is}
+use Rattle.sql_binder_laws.proofs.TypedItems.{lateral_rows_is}
 use Rattle.sql_binder_laws.proofs.TypedFrom.{join_is_typed, joined_is_typed}
 use Rattle.sql_binder_laws.proofs.TypedClauses.{ClauseMeaningIs, SelectedMeaningIs, ItemMeaningIs}
 use Rattle.sql_binder_laws.proofs.TypedBlocks.{block_typed}
@@ -226,6 +227,8 @@ unfolding from_item_meaning_at
 from_item_node (FromItem-F.Table name alias) = table_rows_is name (unwrap_or alias name)
 from_item_node (FromItem-F.Derived q alias names) =
     derived_rows_is (block_meaning q.0) alias names q.1
+from_item_node (FromItem-F.Lateral q alias names) =
+    lateral_rows_is (block_meaning q.0) alias names q.1
 
 selected_node : (y : Selected-F ClauseWith ExprWith FromItemWith SelectedWith ArmWith BlockWith
     FactorWith ItemWith JoinWith JoinedWith TermWith)

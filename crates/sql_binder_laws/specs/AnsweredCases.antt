@@ -8,7 +8,8 @@ use Rattle.sql_ast.specs.declared.tree.Block.{Block, roll-Block}
 use Rattle.sql_ast.specs.declared.tree.Clause.TheVariants.{Absent, Condition}
 use Rattle.sql_ast.specs.declared.tree.Expr.{Expr}
 use Rattle.sql_ast.specs.declared.tree.Expr.TheVariants as e
-use Rattle.sql_ast.specs.declared.tree.FromItem.TheVariants.{Table, Derived}
+use Rattle.sql_ast.specs.declared.tree.FromItem.{FromItem}
+use Rattle.sql_ast.specs.declared.tree.FromItem.TheVariants.{Table, Derived, Lateral}
 use Rattle.sql_ast.specs.declared.tree.Joined.{Joined, roll-Joined}
 use Rattle.sql_ast.specs.declared.tree.Selected.TheVariants.{All, Items}
 use Rattle.sql_ast.specs.declared.words.Aggregate.TheVariants.{Sum, Avg}
@@ -272,6 +273,40 @@ SubqueriesOfOn = HasRows
     × HasRows (pairs_from (customers_with_orders
     (e.And is_of_customer (e.Exists (all_where (codes "region") is_sum_of_both) ∷ []))))
     ((whole 1 ∷ whole 8 ∷ []) ∷ [])
+
+-- lateral (query) as t (name)
+abbrev pub lateral_as : Block → Name → FromItem
+lateral_as q name = Lateral q (codes "t") (name ∷ [])
+
+-- customer left outer join lateral (select o_orderkey from orders where o_custkey = c_custkey)
+-- as t (k) on k > 7
+abbrev pub customers_with_later_orders : Joined
+customers_with_later_orders = roll-Joined (record {
+  first = Table (codes "customer") None;
+  joins = record {
+    kind = LeftOuter;
+    item = lateral_as (orders_where o_orderkey is_of_customer) (codes "k");
+    condition = e.Compare compared.Greater (named (codes "k")) (number 7);
+  } ∷ [];
+})
+
+-- A lateral item is taken anew for each row to its left: `select c_custkey, n from customer,
+-- lateral (select count(*) from orders where o_custkey = c_custkey) as t (n)`,
+-- `select c_custkey, k from customers_with_later_orders`
+abbrev pub AnsweredLaterals : Type 0
+AnsweredLaterals = HasRows
+    (statement
+    (select_from (item c_custkey ∷ item (named (codes "n")) ∷ [])
+    (from_table (codes "customer")
+    ∷ roll-Joined (record {
+      first = lateral_as (orders_where e.CountRows is_of_customer) (codes "n");
+      joins = [];
+    }) ∷ [])))
+    ((whole 1 ∷ whole 2 ∷ []) ∷ (whole 2 ∷ whole 0 ∷ []) ∷ [])
+    × HasRows (statement
+    (select_from (item c_custkey ∷ item (named (codes "k")) ∷ [])
+    (customers_with_later_orders ∷ [])))
+    ((whole 1 ∷ whole 8 ∷ []) ∷ (whole 2 ∷ Null ∷ []) ∷ [])
 
 -- select x from nation having ..
 abbrev pub nations_having : Expr → Expr → Query

@@ -9,7 +9,7 @@ ghost use Rattle.sql_binder_laws.specs.Settled.{TurnsOfColumns};
 ghost use Rattle.sql_binder_laws.specs.AnsweredCases.{PlainStatements, Balances, DividedConditions};
 ghost use Rattle.sql_binder_laws.specs.AnsweredCases.{SumsOfLargest, CountsOfOrders, KeysNotIn};
 ghost use Rattle.sql_binder_laws.specs.AnsweredCases.{OneOrder, RegionsOfOrders, GroupOfNoRows};
-ghost use Rattle.sql_binder_laws.specs.AnsweredCases.{SubqueriesOfOn, Distribution};
+ghost use Rattle.sql_binder_laws.specs.AnsweredCases.{SubqueriesOfOn, AnsweredLaterals, Distribution};
 
 /// Over views that are well typed, what is bound is well typed: a query's columns are of the kinds
 /// that are said of them, a view may stand beside the others, and a statement keeps the kinds and
@@ -51,6 +51,7 @@ pub fn answered_statements()
     ensures one { OneOrder }
     ensures nested { RegionsOfOrders }
     ensures joins { SubqueriesOfOn }
+    ensures laterals { AnsweredLaterals }
     ensures groups { GroupOfNoRows }
     ensures distribution { Distribution }
 {}

@@ -9,7 +9,6 @@ use Rattle.expr_aggregates.specs.declared.function.AggregateFunction.{AggregateF
 use Rattle.expr_aggregates.specs.declared.function.AggregateFunction.TheVariants as function
 use Rattle.sql_bound_query.specs.declared.query.BoundAggregate.{BoundAggregate}
 use Rattle.sql_bound_query.specs.declared.query.BoundAggregate.TheVariants as aggregate
-use Rattle.sql_bound_query.specs.declared.query.BoundBlock.{BoundBlock}
 use Rattle.sql_bound_query.specs.declared.query.BoundBlock.TheVariants as block
 use Rattle.sql_bound_query.specs.declared.query.BoundExpr.{BoundExpr}
 use Rattle.sql_bound_query.specs.declared.query.BoundSource.{BoundSource}
@@ -25,7 +24,6 @@ use Rattle.base_refusals.specs.declared.bind.BindRefusal.TheVariants.{OuterAggre
 use Rattle.base_refusals.specs.declared.bind.BindRefusal.TheVariants.{SubqueryPlace}
 use Rattle.expr_scalar.specs.declared.expr.Expr.TheVariants as e
 use Rattle.expr_scalar.specs.declared.kind.Kind.{Kind}
-use Rattle.expr_scalar.specs.declared.kind.Kind.TheVariants as kind
 use Rattle.sql_ast.specs.declared.statement.NamedKey.{NamedKey}
 use Rattle.sql_ast.specs.declared.words.Aggregate.{Aggregate}
 use Rattle.sql_ast.specs.declared.words.Aggregate.TheVariants as named
@@ -63,7 +61,8 @@ column sight wanted = do
   k ← input (input.Column c.level c.at)
   pure (typed (e.Column k) (Value c.kind))
 
--- over a FROM list, and where they are given over its groups
+-- over a FROM list, or the part of it to the left of a lateral item; where they are given, over its
+-- groups
 unfoldable pub inside : Sight → List ScopeColumn → Option (List ℕ) → Sight
 inside sight columns keys =
     record sight {
@@ -249,10 +248,6 @@ column_of item h = record { item = item; name = h.name; kind = h.kind }
 abbrev pub item_rows : BoundSource → Name → List Header → FromRows
 item_rows s alias headers = record { source = s; columns = map (column_of alias) headers }
 
--- a derived table or a view with its columns
-abbrev pub derived_rows : BoundBlock → Name → List Header → FromRows
-derived_rows q alias headers = item_rows (source.Derived q) alias headers
-
 -- a name stands in a list
 abbrev pub stands_in : Name → List Name → Bool
 stands_in name names = list_any (λ m. bytes_eq m name) names
@@ -281,7 +276,7 @@ renamed_headers (n ∷ names) headers =
 unfoldable pub distinct_names : List Name → Checked (Unit {0})
 distinct_names names = if has_twice names then Err DuplicateAlias else Ok tt
 
--- the column list of a derived table, which stands after its query
+-- the column list of a derived table or a lateral item, which stands after its query
 unfoldable pub listed_headers : List Name → List Header → Checked (List Header)
 listed_headers names headers =
     and_then (distinct_names names) (λ done. renamed_headers names headers)
@@ -299,12 +294,21 @@ table_rows sight name alias left = do
   _ ← lift (unused left alias)
   pure (item_rows found.source alias found.headers)
 
--- a derived table as an item of FROM, once its query is bound: its alias, then its column list
-unfoldable pub named_rows : BoundTable → Name → List Name → List ScopeColumn → Checked FromRows
-named_rows t alias names left =
+-- a query as an item of FROM, once it is bound: its alias, then its column list
+unfoldable pub named_rows : BoundSource → List Header → Name → List Name → List ScopeColumn
+    → Checked FromRows
+named_rows s headers alias names left =
     and_then (unused left alias)
-    (λ free. and_then (listed_headers names t.headers)
-    (λ headers. Ok (derived_rows t.block alias headers)))
+    (λ free. and_then (listed_headers names headers)
+    (λ listed. Ok (item_rows s alias listed)))
+
+-- a derived table
+abbrev pub derived_rows : BoundTable → Name → List Name → List ScopeColumn → Checked FromRows
+derived_rows t alias names left = named_rows (source.Derived t.block) t.headers alias names left
+
+-- a lateral item
+abbrev pub lateral_rows : BoundTable → Name → List Name → List ScopeColumn → Checked FromRows
+lateral_rows t alias names left = named_rows (source.Lateral t.block) t.headers alias names left
 
 -- the columns so far
 abbrev pub columns_so_far : Option FromRows → List ScopeColumn

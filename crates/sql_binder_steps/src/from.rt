@@ -122,20 +122,6 @@ pub fn item_rows(
     Ok(FromRows { source, columns })
 }
 
-/// A derived table as an item of FROM.
-pub fn derived_rows(
-    alloc: Global,
-    block: Boxed<sql_bound_query::BoundBlock>,
-    alias: &Name,
-    headers: &[Header],
-) -> Result<FromRows, AllocError>
-    ensures { IfOk result (λ f. f ≡ spec.derived_rows block alias.now headers.now) }
-{
-    let source = Boxed::new(alloc, BoundSource::Derived(block))?;
-    let rows = item_rows(alloc, source, alias, headers)?;
-    Ok(rows)
-}
-
 /// A table or a view as an item of FROM.
 #[tactic(auto, unfolding(crate::specs::Parts::table_rows))]
 pub fn table_rows(
@@ -155,20 +141,49 @@ pub fn table_rows(
     Ok(item_rows(alloc, found.source, alias, found.headers.as_slice())?)
 }
 
-/// A derived table as an item of FROM, once its query is bound.
+/// A query as an item of FROM, once it is bound.
 #[tactic(auto, unfolding(crate::specs::Parts::named_rows))]
-pub fn named_rows(
+fn named_rows(
+    alloc: Global,
+    source: Boxed<BoundSource>,
+    headers: Items<Header>,
+    alias: &Name,
+    names: &[Name],
+    left: &[ScopeColumn],
+) -> Result<FromRows, BindFault>
+    ensures { Gives (spec.named_rows source headers alias.now names.now left.now) result }
+{
+    unused(left, alias)?;
+    let headers = listed_headers(alloc, names, headers)?;
+    Ok(item_rows(alloc, source, alias, headers.as_slice())?)
+}
+
+/// A derived table as an item of FROM, once its query is bound.
+pub fn derived_rows(
     alloc: Global,
     t: BoundTable,
     alias: &Name,
     names: &[Name],
     left: &[ScopeColumn],
 ) -> Result<FromRows, BindFault>
-    ensures { Gives (spec.named_rows t alias.now names.now left.now) result }
+    ensures { Gives (spec.derived_rows t alias.now names.now left.now) result }
 {
-    unused(left, alias)?;
-    let headers = listed_headers(alloc, names, t.headers)?;
-    Ok(derived_rows(alloc, t.block, alias, headers.as_slice())?)
+    let source = Boxed::new(alloc, BoundSource::Derived(t.block))?;
+    named_rows(alloc, source, t.headers, alias, names, left)
+}
+
+/// A lateral item of FROM, once its query is bound.
+pub fn lateral_rows(
+    alloc: Global,
+    t: BoundTable,
+    alias: &Name,
+    names: &[Name],
+    left: &[ScopeColumn],
+) -> Result<FromRows, BindFault>
+    ensures { Gives (spec.lateral_rows t alias.now names.now left.now) result }
+{
+    let source = Boxed::new(alloc, BoundSource::Lateral(t.block))?;
+    named_rows(alloc, source, t.headers, alias, names, left)
 }
 
 /// The columns so far.

@@ -79,11 +79,11 @@ selection_first = k.Star ∷ part_first
 abbrev pub inside_first : List Kind
 inside_first = k.Select ∷ part_first
 
-abbrev pub derived_first : List Kind
-derived_first = k.OpenParen ∷ []
+abbrev pub from_query_first : List Kind
+from_query_first = k.OpenParen ∷ []
 
 abbrev pub item_first : List Kind
-item_first = k.OpenParen ∷ k.Name ∷ []
+item_first = k.OpenParen ∷ k.Lateral ∷ k.Name ∷ []
 
 abbrev pub filters_first : List Kind
 filters_first = k.Where ∷ k.Group ∷ k.Having ∷ []
@@ -126,8 +126,8 @@ on_items = k.Comma ∷ on_item
 abbrev pub on_names : List Kind
 on_names = k.Comma ∷ []
 
-abbrev pub on_derived : List Kind
-on_derived = k.OpenParen ∷ []
+abbrev pub on_from_query : List Kind
+on_from_query = k.OpenParen ∷ []
 
 abbrev pub on_from_item : List Kind
 on_from_item = k.OpenParen ∷ alias_words

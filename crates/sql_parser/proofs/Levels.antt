@@ -80,7 +80,7 @@ Sample-query_line wide room N B = Sample-then block select_star (Sample-then pai
     table : Sample (JoinedLine wide room N B)
     table =
         let l : Line kinds (Unit {0}) (Unit {0}) (k.Name ∷ []) alias_words _ _ = law-TableLine in
-        Sample-then joined (Sample-right (l.sample tt)) (no_links wide)
+        Sample-then joined (Sample-right (Sample-right (l.sample tt))) (no_links wide)
 
     no_where : Sample (WhereTail wide N)
     no_where = record { marks = []; value = clause.Absent; part = inr (refl, refl) }

@@ -24,9 +24,9 @@ use Rattle.sql_grammar_laws.specs.Lifting.{Lifts}
 use Rattle.sql_grammar_laws.proofs.Lift.{Lifts-one, Lifts-or, Lifts-map, Lifts-then, Lifts-empty, Lifts-list, Lifts-level, Below, below, always}
 use Rattle.sql_grammar_laws.proofs.Lawful.{Line, Deeper, line_nonempty}
 use Rattle.sql_parser_steps.specs.Kinds.{kinds}
-use Rattle.sql_parser_steps.specs.Values.{text_of, count_of, number, text, is_count, is_digits, first, second, pair, cons, constant, after_word, after_point, column, negative, negation, factor, term, product, sum, all_of, any_of, arm, case_of, date, interval, extract, substring, distinct_count, between, like, in_list, in_query, is_null, is_not_null, denied, tested, item, distinct, plain_selection, derived, join, joined, condition, filters, block, named_key, ordered, create_view, text_value, number_value, with_query, under_with}
+use Rattle.sql_parser_steps.specs.Values.{text_of, count_of, number, text, is_count, is_digits, first, second, pair, cons, constant, after_word, after_point, column, negative, negation, factor, term, product, sum, all_of, any_of, arm, case_of, date, interval, extract, substring, distinct_count, between, like, in_list, in_query, is_null, is_not_null, denied, tested, item, distinct, plain_selection, derived, lateral, join, joined, condition, filters, block, named_key, ordered, create_view, text_value, number_value, with_query, under_with}
 use Rattle.sql_parser.specs.Expressions.{NameLine, Literal, Number, Digits, SpanWord, ColumnTail, ColumnLine, MultiplyWord, AddWord, Product, Sum, Conjunction, Whole, ExprList, ArmLine, Arms, ElseTail, CaseBody, CaseLine, DateText, DateLine, Precision, IntervalLine, ExtractInside, ExtractLine, Places, SubstringInside, SubstringLine, CountInside, CountLine, AggregateWord, AggregateLine, Call, Leaf, Parens, Subquery, ExistsLine, Operand, UnaryLine, ComparisonWord, CompareLine, NullLine, BetweenLine, LikeLine, InLine, DenyTest, TestTail, Predicate, PartLine}
-use Rattle.sql_parser.specs.Grammar.{Alias, ItemLine, Selection, SelectLine, Names, ColumnNames, TableLine, DerivedAlias, FromItemLine, JoinWords, JoinedItem, JoinedLine, FromLine, WhereTail, GroupTail, HavingTail, FiltersTail, QueryLine, Direction, KeyLine, OrderTail, RowsOnly, LimitTail, VersionTail, OrderedLine, WithQueryLine, WithLine, WithOrderedLine, CreateLine, DropLine, RefreshLine, ValueLine, RunInside, RunLine, StatementLine, EndedLine}
+use Rattle.sql_parser.specs.Grammar.{Alias, ItemLine, Selection, SelectLine, Names, ColumnNames, TableLine, DerivedAlias, FromQueryLine, FromItemLine, JoinWords, JoinedItem, JoinedLine, FromLine, WhereTail, GroupTail, HavingTail, FiltersTail, QueryLine, Direction, KeyLine, OrderTail, RowsOnly, LimitTail, VersionTail, OrderedLine, WithQueryLine, WithLine, WithOrderedLine, CreateLine, DropLine, RefreshLine, ValueLine, RunInside, RunLine, StatementLine, EndedLine}
 use Rattle.sql_parser.proofs.LineLaws.{law-NameLine, law-ColumnLine, law-ValueLine, law-Product, law-Conjunction, law-Whole, law-ArmLine, law-ItemLine, law-JoinedItem, law-JoinedLine, law-KeyLine, law-WithQueryLine}
 use Rattle.sql_parser.proofs.KindLists.{unary_first, part_first, on_unary, on_part, on_query}
 
@@ -277,10 +277,12 @@ module _ {B C : Part Token Block} (n many : ℕ) (le : n ≤ many) (wide room : 
   pub lift-ExistsLine : Lifts n (ExistsLine room B) (ExistsLine n C)
   lift-ExistsLine = Lifts-then n second (Lifts-one n (is k.Exists)) (Lifts-map n e.Exists lift-Subquery)
 
+  pub lift-FromQueryLine : Lifts n (FromQueryLine wide room B) (FromQueryLine many n C)
+  lift-FromQueryLine = Lifts-then n pair lift-Subquery (Lifts-then n pair (lift-DerivedAlias n) (lift-ColumnNames n many le wide room))
+
   pub lift-FromItemLine : Lifts n (FromItemLine wide room B) (FromItemLine many n C)
-  lift-FromItemLine = Lifts-or n
-      (Lifts-then n derived lift-Subquery (Lifts-then n pair (lift-DerivedAlias n) (lift-ColumnNames n many le wide room)))
-      (lift-TableLine n)
+  lift-FromItemLine = Lifts-or n (Lifts-map n derived lift-FromQueryLine)
+      (Lifts-or n (Lifts-then n lateral (Lifts-one n (is k.Lateral)) lift-FromQueryLine) (lift-TableLine n))
 
 -- ---- what holds both one level further in
 module _ {S : Type 0} {N M : Part Token Expr} {w : Reading Token Expr} {B C : Part Token Block}

@@ -23,13 +23,13 @@ use Rattle.sql_grammar_laws.specs.Lines.{Part}
 use Rattle.sql_grammar_laws.specs.Readings.{Reading}
 use Rattle.sql_grammar_laws.proofs.Lawful.{Line, Tail, Deeper, is_among, line_kind, line_then, line_then_tail, tail_then, line_map, tail_empty, line_or, tail_or, line_opens, tail_links, tail_repeats}
 use Rattle.sql_parser_steps.specs.Kinds.{kinds}
-use Rattle.sql_parser_steps.specs.Values.{text_of, count_of, number, text, first, second, pair, cons, constant, after_word, after_point, column, negative, negation, factor, term, product, sum, all_of, any_of, arm, case_of, date, interval, extract, substring, distinct_count, between, like, in_list, in_query, is_null, is_not_null, denied, tested, item, distinct, plain_selection, derived, join, joined, condition, filters, block, named_key, ordered, create_view, text_value, number_value, with_query, under_with}
+use Rattle.sql_parser_steps.specs.Values.{text_of, count_of, number, text, first, second, pair, cons, constant, after_word, after_point, column, negative, negation, factor, term, product, sum, all_of, any_of, arm, case_of, date, interval, extract, substring, distinct_count, between, like, in_list, in_query, is_null, is_not_null, denied, tested, item, distinct, plain_selection, derived, lateral, join, joined, condition, filters, block, named_key, ordered, create_view, text_value, number_value, with_query, under_with}
 use Rattle.sql_parser.specs.Expressions.{NameLine, Literal, Number, Digits, SpanWord, ColumnTail, ColumnLine, MultiplyWord, AddWord, Product, Sum, Conjunction, Whole, ExprList, ArmLine, Arms, ElseTail, CaseBody, CaseLine, DateText, DateLine, Precision, IntervalLine, ExtractInside, ExtractLine, Places, SubstringInside, SubstringLine, CountInside, CountLine, AggregateWord, AggregateLine, Call, Leaf, ParensInside, Parens, Subquery, ExistsLine, Operand, UnaryLine, ComparisonWord, CompareLine, NullLine, BetweenLine, LikeLine, InInside, InLine, DenyTest, TestTail, Predicate, PartLine}
-use Rattle.sql_parser.specs.Grammar.{Alias, ItemLine, Selection, SelectLine, Names, ColumnNames, TableLine, DerivedAlias, DerivedLine, FromItemLine, InnerWords, LeftWords, JoinWords, JoinedItem, JoinedLine, FromLine, WhereTail, GroupTail, HavingTail, FiltersTail, QueryLine, Direction, KeyLine, OrderTail, RowsOnly, LimitTail, VersionTail, OrderedLine, WithQueryLine, WithLine, WithOrderedLine, CreateLine, DropLine, RefreshWord, RefreshLine, ValueLine, ValueList, RunInside, RunLine, StatementLine, EndedLine}
+use Rattle.sql_parser.specs.Grammar.{Alias, ItemLine, Selection, SelectLine, Names, ColumnNames, TableLine, DerivedAlias, FromQueryLine, DerivedLine, LateralLine, FromItemLine, InnerWords, LeftWords, JoinWords, JoinedItem, JoinedLine, FromLine, WhereTail, GroupTail, HavingTail, FiltersTail, QueryLine, Direction, KeyLine, OrderTail, RowsOnly, LimitTail, VersionTail, OrderedLine, WithQueryLine, WithLine, WithOrderedLine, CreateLine, DropLine, RefreshWord, RefreshLine, ValueLine, ValueList, RunInside, RunLine, StatementLine, EndedLine}
 use Rattle.sql_parser_steps.specs.ExpressionReadings.{read_name, read_literal, read_number, read_digits, read_span, read_column_tail, read_column, read_multiply, read_add, read_product, read_sum, read_conjunction, read_whole, read_expr_list, read_arm, read_arms, read_else, read_case_body, read_case, read_date_text, read_date, read_precision, read_interval, read_extract_inside, read_extract, read_places, read_substring_inside, read_substring, read_count_inside, read_count, read_aggregate_word, read_aggregate, read_call, read_leaf, read_parens_inside, read_parens, read_subquery, read_exists, read_operand, read_unary_line, read_comparison, read_compare, read_null, read_between, read_like, read_in_inside, read_in, read_deny_test, read_test, read_predicate, read_part_line}
-use Rattle.sql_parser_steps.specs.Readings.{read_alias, read_item, read_selection, read_select, read_names, read_column_names, read_table, read_derived_alias, read_derived, read_from_item, read_inner_words, read_left_words, read_join_words, read_joined_item, read_joined, read_from, read_where, read_group, read_having, read_filters, read_query_line, read_direction, read_named_key, read_order, read_rows_only, read_limit, read_version, read_ordered, read_with_query, read_with, read_with_ordered, read_view_name, read_create, read_drop, read_refresh_word, read_refresh, read_value, read_values, read_run_inside, read_run, read_statement, read_ended}
+use Rattle.sql_parser_steps.specs.Readings.{read_alias, read_item, read_selection, read_select, read_names, read_column_names, read_table, read_derived_alias, read_from_query, read_derived, read_lateral, read_from_item, read_inner_words, read_left_words, read_join_words, read_joined_item, read_joined, read_from, read_where, read_group, read_having, read_filters, read_query_line, read_direction, read_named_key, read_order, read_rows_only, read_limit, read_version, read_ordered, read_with_query, read_with, read_with_ordered, read_view_name, read_create, read_drop, read_refresh_word, read_refresh, read_value, read_values, read_run_inside, read_run, read_statement, read_ended}
 use Rattle.sql_parser.proofs.Samples.{line_count, line_digits}
-use Rattle.sql_parser.proofs.KindLists.{span_words, multiply_words, add_words, comparison_words, denied_words, aggregate_words, call_words, alias_words, direction_words, limit_words, inner_words, join_words, refresh_words, value_words, tail_words, statement_words, test_words, leaf_first, called_first, operand_first, unary_first, part_first, selection_first, inside_first, derived_first, item_first, filters_first, on_unary, on_product, on_sum, on_denied, on_part, on_conjunction, on_whole, on_list, on_arms, on_item, on_items, on_names, on_derived, on_from_item, on_joined, on_from, on_columns, on_keys, on_filters, on_query, on_limits, on_statement}
+use Rattle.sql_parser.proofs.KindLists.{span_words, multiply_words, add_words, comparison_words, denied_words, aggregate_words, call_words, alias_words, direction_words, limit_words, inner_words, join_words, refresh_words, value_words, tail_words, statement_words, test_words, leaf_first, called_first, operand_first, unary_first, part_first, selection_first, inside_first, from_query_first, item_first, filters_first, on_unary, on_product, on_sum, on_denied, on_part, on_conjunction, on_whole, on_list, on_arms, on_item, on_items, on_names, on_from_query, on_from_item, on_joined, on_from, on_columns, on_keys, on_filters, on_query, on_limits, on_statement}
 
 -- ---- what holds no expression
 module _ {P S : Type 0} where
@@ -345,13 +345,22 @@ module _ {P S : Type 0} {B : Part Token Block} {b : Reading Token Block}
   unfolding read_exists
   law-ExistsLine = line_then second (line_kind kinds k.Exists) (line_map e.Exists law-Subquery) refl
 
-  pub law-DerivedLine : Line kinds P S derived_first on_derived (DerivedLine wide room B) (read_derived wide room b)
+  pub law-FromQueryLine : Line kinds P S from_query_first on_from_query (FromQueryLine wide room B) (read_from_query wide room b)
+  unfolding read_from_query
+  law-FromQueryLine = line_then pair law-Subquery (line_then_tail {on = on_from_query} pair law-DerivedAlias (law-ColumnNames wide room) refl refl refl) refl
+
+  pub law-DerivedLine : Line kinds P S from_query_first on_from_query (DerivedLine wide room B) (read_derived wide room b)
   unfolding read_derived
-  law-DerivedLine = line_then derived law-Subquery (line_then_tail {on = on_derived} pair law-DerivedAlias (law-ColumnNames wide room) refl refl refl) refl
+  law-DerivedLine = line_map derived law-FromQueryLine
+
+  pub law-LateralLine : Line kinds P S (k.Lateral ∷ []) on_from_query (LateralLine wide room B) (read_lateral wide room b)
+  unfolding read_lateral
+  law-LateralLine = line_then lateral (line_kind kinds k.Lateral) law-FromQueryLine refl
 
   pub law-FromItemLine : Line kinds P S item_first on_from_item (FromItemLine wide room B) (read_from_item wide room b)
   unfolding read_from_item
-  law-FromItemLine = line_or {first = item_first} {on = on_from_item} (is k.OpenParen) (is_among kinds k.OpenParen) law-DerivedLine law-TableLine refl refl refl refl refl
+  law-FromItemLine = line_or {first = item_first} {on = on_from_item} (is k.OpenParen) (is_among kinds k.OpenParen) law-DerivedLine
+      (line_or {first = k.Lateral ∷ k.Name ∷ []} {on = on_from_item} (is k.Lateral) (is_among kinds k.Lateral) law-LateralLine law-TableLine refl refl refl refl refl) refl refl refl refl refl
 
 -- ---- what holds both at one level
 module _ {P S : Type 0} {N : Part Token Expr} {n : Reading Token Expr} {B : Part Token Block} {b : Reading Token Block}

@@ -29,8 +29,8 @@ use Rattle.sql_parser_steps.specs.declared.filters.Filters.{Filters}
 use Rattle.sql_lexer.specs.Kinds.{is}
 use Rattle.sql_grammar_laws.specs.Lines.{Part, One, Opens, Empty, Never, Then, Or, Map, less, Links}
 use Rattle.sql_parser_steps.specs.Values.{Name, first, second, pair, cons, constant, after_word, item}
-use Rattle.sql_parser_steps.specs.Values.{distinct, plain_selection, derived, join, joined, condition}
-use Rattle.sql_parser_steps.specs.Values.{filters, block, named_key, ordered, create_view, text_value}
+use Rattle.sql_parser_steps.specs.Values.{distinct, plain_selection, derived, lateral, join, joined}
+use Rattle.sql_parser_steps.specs.Values.{condition, filters, block, named_key, ordered, create_view, text_value}
 use Rattle.sql_parser_steps.specs.Values.{number_value, with_query, under_with}
 use Rattle.sql_parser.specs.Expressions.{NameLine, Number, ColumnLine, Whole, Subquery, UnaryLine}
 use Rattle.sql_parser.specs.Expressions.{PartLine}
@@ -76,13 +76,22 @@ abbrev pub DerivedAlias : Part Token Name
 DerivedAlias = Or (Then second (One (is k.As)) NameLine) NameLine
 
 -- "(" query ")" [as] name ["(" name {"," name} ")"]
-abbrev pub DerivedLine : ℕ → ℕ → Part Token Block → Part Token FromItem
-DerivedLine wide room query =
-    Then derived (Subquery room query) (Then pair DerivedAlias (ColumnNames wide room))
+abbrev pub FromQueryLine : ℕ → ℕ → Part Token Block → Part Token (Block × (Name × List Name))
+FromQueryLine wide room query =
+    Then pair (Subquery room query) (Then pair DerivedAlias (ColumnNames wide room))
 
--- a derived table or a table
+-- such a query, as a derived table
+abbrev pub DerivedLine : ℕ → ℕ → Part Token Block → Part Token FromItem
+DerivedLine wide room query = Map derived (FromQueryLine wide room query)
+
+-- lateral and such a query
+abbrev pub LateralLine : ℕ → ℕ → Part Token Block → Part Token FromItem
+LateralLine wide room query = Then lateral (One (is k.Lateral)) (FromQueryLine wide room query)
+
+-- a derived table, a lateral item or a table
 abbrev pub FromItemLine : ℕ → ℕ → Part Token Block → Part Token FromItem
-FromItemLine wide room query = Or (DerivedLine wide room query) TableLine
+FromItemLine wide room query =
+    Or (DerivedLine wide room query) (Or (LateralLine wide room query) TableLine)
 
 -- [inner] join
 abbrev pub InnerWords : Part Token JoinKind

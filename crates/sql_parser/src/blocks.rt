@@ -11,7 +11,7 @@ ghost use Rattle.sql_parser_steps.specs.Readings.{inner_query, part_at, query_at
 ghost use Rattle.sql_parser_steps.specs.Values as values;
 
 use crate::level::Level;
-use sql_ast::{Block, Expr, FromItem, Join, Joined};
+use sql_ast::{Block, Expr, FromItem, Join, Joined, Name};
 use sql_grammar_laws::SyntaxError;
 use sql_lexer::Kind;
 use sql_parser_steps::clauses::column_names;
@@ -35,12 +35,15 @@ impl<
     Q: Copy + Fn(Global, &mut Parser<'_>, usize) -> Result<Boxed<Block>, SyntaxError>,
 > Blocks<P, Q> {
     /// `"(" query ")" [as] name ["(" name {"," name} ")"]`.
-    #[tactic(auto, unfolding(sql_parser_steps::specs::Readings::read_derived))]
-    fn derived(&self, parser: &mut Parser<'_>) -> Result<FromItem, SyntaxError>
+    #[tactic(auto, unfolding(sql_parser_steps::specs::Readings::read_from_query))]
+    fn from_query(
+        &self,
+        parser: &mut Parser<'_>,
+    ) -> Result<(Boxed<Block>, (Name, Items<Name>)), SyntaxError>
         requires query { Below (query_at 1023) self.now.room (Q.pre self.now.query)
             (Q.post self.now.query) }
-        ensures { Reads (readings.read_derived 1023 self.now.room (inner_query 1023 self.now.room)
-            parser.old) result parser.new }
+        ensures { Reads (readings.read_from_query 1023 self.now.room
+            (inner_query 1023 self.now.room) parser.old) result parser.new }
     {
         let subqueries = Subqueries {
             alloc: self.alloc,
@@ -50,7 +53,32 @@ impl<
         let query = subqueries.subquery(parser)?;
         let alias = parser.derived_alias(self.alloc)?;
         let columns = column_names(self.alloc, parser, self.room)?;
+        Ok((query, (alias, columns)))
+    }
+
+    /// Such a query, as a derived table.
+    #[tactic(auto, unfolding(sql_parser_steps::specs::Readings::read_derived))]
+    fn derived(&self, parser: &mut Parser<'_>) -> Result<FromItem, SyntaxError>
+        requires query { Below (query_at 1023) self.now.room (Q.pre self.now.query)
+            (Q.post self.now.query) }
+        ensures { Reads (readings.read_derived 1023 self.now.room (inner_query 1023 self.now.room)
+            parser.old) result parser.new }
+    {
+        let (query, (alias, columns)) = self.from_query(parser)?;
         Ok(FromItem::Derived(query, alias, columns))
+    }
+
+    /// `lateral` and such a query.
+    #[tactic(auto, unfolding(sql_parser_steps::specs::Readings::read_lateral))]
+    fn lateral(&self, parser: &mut Parser<'_>) -> Result<FromItem, SyntaxError>
+        requires query { Below (query_at 1023) self.now.room (Q.pre self.now.query)
+            (Q.post self.now.query) }
+        ensures { Reads (readings.read_lateral 1023 self.now.room (inner_query 1023 self.now.room)
+            parser.old) result parser.new }
+    {
+        parser.one(Kind::Lateral)?;
+        let (query, (alias, columns)) = self.from_query(parser)?;
+        Ok(FromItem::Lateral(query, alias, columns))
     }
 
     /// `name [[as] name]`.
@@ -63,7 +91,7 @@ impl<
         Ok(FromItem::Table(name, alias))
     }
 
-    /// A derived table or a table.
+    /// A derived table, a lateral item or a table.
     #[tactic(auto, unfolding(sql_parser_steps::specs::Readings::read_from_item))]
     fn from_item(&self, parser: &mut Parser<'_>) -> Result<FromItem, SyntaxError>
         requires query { Below (query_at 1023) self.now.room (Q.pre self.now.query)
@@ -73,6 +101,9 @@ impl<
     {
         if parser.starts(Kind::OpenParen) {
             return self.derived(parser);
+        }
+        if parser.starts(Kind::Lateral) {
+            return self.lateral(parser);
         }
         self.table(parser)
     }

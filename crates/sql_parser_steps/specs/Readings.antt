@@ -30,8 +30,8 @@ use Rattle.sql_grammar_laws.specs.Readings.{Reading, one, opens, nothing, never,
 use Rattle.sql_grammar_laws.specs.Readings.{links}
 use Rattle.sql_parser_steps.specs.Kinds.{kinds}
 use Rattle.sql_parser_steps.specs.Values.{Name, first, second, pair, cons, constant, after_word, item}
-use Rattle.sql_parser_steps.specs.Values.{distinct, plain_selection, derived, join, joined, condition}
-use Rattle.sql_parser_steps.specs.Values.{filters, block, named_key, ordered, create_view, text_value}
+use Rattle.sql_parser_steps.specs.Values.{distinct, plain_selection, derived, lateral, join, joined}
+use Rattle.sql_parser_steps.specs.Values.{condition, filters, block, named_key, ordered, create_view, text_value}
 use Rattle.sql_parser_steps.specs.Values.{number_value, with_query, under_with}
 use Rattle.sql_parser_steps.specs.ExpressionReadings.{read_name, read_number, read_column, read_whole}
 use Rattle.sql_parser_steps.specs.ExpressionReadings.{read_subquery, read_unary_line, read_part_line}
@@ -80,14 +80,26 @@ unfoldable pub read_derived_alias : Reading Token Name
 read_derived_alias = either (is k.As) (both second (one (is k.As)) read_name) read_name
 
 -- a query between parentheses, its alias and perhaps the names of its columns
-unfoldable pub read_derived : ℕ → ℕ → Reading Token Block → Reading Token FromItem
-read_derived wide room query =
-    both derived (read_subquery room query)
+unfoldable pub read_from_query : ℕ → ℕ → Reading Token Block
+    → Reading Token (Block × (Name × List Name))
+read_from_query wide room query =
+    both pair (read_subquery room query)
     (both pair read_derived_alias (read_column_names wide room))
 
--- a derived table where a parenthesis comes next, else a table
+-- such a query, as a derived table
+unfoldable pub read_derived : ℕ → ℕ → Reading Token Block → Reading Token FromItem
+read_derived wide room query = mapped derived (read_from_query wide room query)
+
+-- LATERAL and such a query
+unfoldable pub read_lateral : ℕ → ℕ → Reading Token Block → Reading Token FromItem
+read_lateral wide room query =
+    both lateral (one (is k.Lateral)) (read_from_query wide room query)
+
+-- a derived table where a parenthesis comes next, a lateral item where LATERAL does, else a table
 unfoldable pub read_from_item : ℕ → ℕ → Reading Token Block → Reading Token FromItem
-read_from_item wide room query = either (is k.OpenParen) (read_derived wide room query) read_table
+read_from_item wide room query =
+    either (is k.OpenParen) (read_derived wide room query)
+    (either (is k.Lateral) (read_lateral wide room query) read_table)
 
 -- JOIN or INNER JOIN, told by the next token
 unfoldable pub read_inner_words : Reading Token JoinKind

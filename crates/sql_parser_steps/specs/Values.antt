@@ -280,8 +280,12 @@ abbrev pub plain_selection : Selected → Bool × Selected
 plain_selection s = (false, s)
 
 -- a query in parentheses, its alias and the names of its columns
-abbrev pub derived : Block → Name × List Name → FromItem
-derived query names = from_item.Derived query names.0 names.1
+abbrev pub derived : Block × (Name × List Name) → FromItem
+derived q = from_item.Derived q.0 q.1.0 q.1.1
+
+-- such a query after LATERAL
+abbrev pub lateral : Token → Block × (Name × List Name) → FromItem
+lateral word q = from_item.Lateral q.0 q.1.0 q.1.1
 
 -- an item joined to those before it, and the condition after ON
 abbrev pub join : JoinKind → FromItem × Expr → Join

@@ -18,9 +18,9 @@ use Rattle.sql_ast.specs.declared.statement.RefreshKind.TheVariants as refresh_k
 use Rattle.sql_ast.specs.declared.statement.Statement.TheVariants as statements
 use Rattle.sql_parser_steps.specs.declared.test.Test.TheVariants as t
 use Rattle.sql_grammar_laws.specs.Readings.{Reading}
-use Rattle.sql_parser_steps.specs.Values.{text_of, count_of, number, text, first, second, pair, cons, constant, after_word, after_point, column, negative, negation, factor, term, product, sum, all_of, any_of, arm, case_of, date, interval, extract, substring, distinct_count, between, like, in_list, in_query, is_null, is_not_null, denied, tested, item, distinct, plain_selection, derived, join, joined, condition, filters, block, named_key, ordered, create_view, text_value, number_value, with_query, under_with}
+use Rattle.sql_parser_steps.specs.Values.{text_of, count_of, number, text, first, second, pair, cons, constant, after_word, after_point, column, negative, negation, factor, term, product, sum, all_of, any_of, arm, case_of, date, interval, extract, substring, distinct_count, between, like, in_list, in_query, is_null, is_not_null, denied, tested, item, distinct, plain_selection, derived, lateral, join, joined, condition, filters, block, named_key, ordered, create_view, text_value, number_value, with_query, under_with}
 use Rattle.sql_parser_steps.specs.ExpressionReadings.{read_name, read_literal, read_number, read_digits, read_span, read_column_tail, read_column, read_multiply, read_add, read_product, read_sum, read_conjunction, read_whole, read_expr_list, read_arm, read_arms, read_else, read_case_body, read_case, read_date_text, read_date, read_precision, read_interval, read_extract_inside, read_extract, read_places, read_substring_inside, read_substring, read_count_inside, read_count, read_aggregate_word, read_aggregate, read_call, read_leaf, read_parens_inside, read_parens, read_subquery, read_exists, read_operand, read_unary_line, read_comparison, read_compare, read_null, read_between, read_like, read_in_inside, read_in, read_deny_test, read_test, read_predicate, read_part_line}
-use Rattle.sql_parser_steps.specs.Readings.{read_alias, read_item, read_selection, read_select, read_names, read_column_names, read_table, read_derived_alias, read_derived, read_from_item, read_inner_words, read_left_words, read_join_words, read_joined_item, read_joined, read_from, read_where, read_group, read_having, read_filters, read_query_line, read_direction, read_named_key, read_order, read_rows_only, read_limit, read_version, read_ordered, read_with_query, read_with, read_with_ordered, read_view_name, read_create, read_drop, read_refresh_word, read_refresh, read_value, read_values, read_run_inside, read_run, read_statement, read_ended, unary_at, part_at, query_at, inner_query, ended_at}
+use Rattle.sql_parser_steps.specs.Readings.{read_alias, read_item, read_selection, read_select, read_names, read_column_names, read_table, read_derived_alias, read_from_query, read_derived, read_lateral, read_from_item, read_inner_words, read_left_words, read_join_words, read_joined_item, read_joined, read_from, read_where, read_group, read_having, read_filters, read_query_line, read_direction, read_named_key, read_order, read_rows_only, read_limit, read_version, read_ordered, read_with_query, read_with, read_with_ordered, read_view_name, read_create, read_drop, read_refresh_word, read_refresh, read_value, read_values, read_run_inside, read_run, read_statement, read_ended, unary_at, part_at, query_at, inner_query, ended_at}
 use Rattle.sql_templates.proofs.Readings.{Follows, same_is, same_among, tests_is, tests_count, tests_digits, follow_one, follow_opens, follow_nothing, follow_never, follow_mapped, follow_both, follow_either, follow_links}
 
 pub follow_name : Follows read_name
@@ -259,13 +259,21 @@ pub follow_derived_alias : Follows read_derived_alias
 unfolding read_derived_alias
 follow_derived_alias = follow_either (same_is k.As) (follow_both second (follow_one (tests_is k.As)) follow_name) follow_name
 
+pub follow_from_query : (wide : ℕ) (room : ℕ) {query : Reading Token Block} → Follows query → Follows (read_from_query wide room query)
+unfolding read_from_query
+follow_from_query wide room by_query = follow_both pair (follow_subquery room by_query) (follow_both pair follow_derived_alias (follow_column_names wide room))
+
 pub follow_derived : (wide : ℕ) (room : ℕ) {query : Reading Token Block} → Follows query → Follows (read_derived wide room query)
 unfolding read_derived
-follow_derived wide room by_query = follow_both derived (follow_subquery room by_query) (follow_both pair follow_derived_alias (follow_column_names wide room))
+follow_derived wide room by_query = follow_mapped derived (follow_from_query wide room by_query)
+
+pub follow_lateral : (wide : ℕ) (room : ℕ) {query : Reading Token Block} → Follows query → Follows (read_lateral wide room query)
+unfolding read_lateral
+follow_lateral wide room by_query = follow_both lateral (follow_one (tests_is k.Lateral)) (follow_from_query wide room by_query)
 
 pub follow_from_item : (wide : ℕ) (room : ℕ) {query : Reading Token Block} → Follows query → Follows (read_from_item wide room query)
 unfolding read_from_item
-follow_from_item wide room by_query = follow_either (same_is k.OpenParen) (follow_derived wide room by_query) follow_table
+follow_from_item wide room by_query = follow_either (same_is k.OpenParen) (follow_derived wide room by_query) (follow_either (same_is k.Lateral) (follow_lateral wide room by_query) follow_table)
 
 pub follow_inner_words : Follows read_inner_words
 unfolding read_inner_words

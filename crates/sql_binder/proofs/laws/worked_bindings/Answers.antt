@@ -1,5 +1,6 @@
 use Rattle.sql_binder.proofs.EdgeProofs as edge
 use Rattle.sql_binder.proofs.WithProofs.{names_of_with}
+use Rattle.sql_binder.proofs.LateralProofs.{bound_laterals}
 use Rattle.sql_binder.proofs.laws.worked_bindings.Goals as goal
 
 pub returns : goal.returns
@@ -13,4 +14,5 @@ returns c = record {
   order = edge.order_in_from;
   view_order = edge.order_in_views;
   with_queries = names_of_with;
+  laterals = bound_laterals;
 }

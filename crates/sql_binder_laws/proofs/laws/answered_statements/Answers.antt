@@ -12,6 +12,7 @@ returns c = record {
   one = answered.one_order;
   nested = answered.regions_of_orders;
   joins = answered.subqueries_of_on;
+  laterals = answered.answered_laterals;
   groups = answered.group_of_no_rows;
   distribution = answered.distribution_of_orders;
 }
