@@ -10,7 +10,7 @@ use Rattle.store_versions.specs.declared.version_error.VersionError.TheVariants.
 use Rattle.store_snapshots.specs.declared.publisher.Published.TheVariants.{Published, Refused, NoMore, OutOfMemory as NoMemory}
 use Rattle.store_machine.specs.Machine.{SessionState, World, begun, begun_again, changed_in, gone_back, happens, is_cut, learnt, may_go_back, new_session, pinned, pinned_back, published, session_in, session_of, with_session}
 use Rattle.store_machine.specs.declared.steps.Step.TheVariants.{Back, Publish}
-use Rattle.law_versions.specs.RunningSteps.{BackLaw, BeginLaw, CompactLaw, LearnLaw, PublishLaw, world_at}
+use Rattle.law_versions.specs.RunningSteps.{BackLaw, BeginLaw, CompactLaw, LearnLaw, OfferLaw, PublishLaw, world_at}
 
 both_false : (a : Bool) → (a && false) ≡ false
 both_false true = refl
@@ -96,6 +96,9 @@ publish_law old new NoMore sessions tries not_memory =
     let no : nat_lt old.done (length old.list) ≡ false = let at = tries.0 in grind (arith, nat_tests, at) in
     rw no (ap (λ t. world_at t sessions) (sym tries.1))
 publish_law old new NoMemory sessions tries not_memory = absurd (not_memory refl)
+
+pub offer_law : OfferLaw
+offer_law old change sessions = refl
 
 pub compact_law : CompactLaw
 compact_law old new sessions is = ap (λ t. world_at t sessions) (sym is)

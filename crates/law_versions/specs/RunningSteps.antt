@@ -1,7 +1,8 @@
 -- What running sessions and the publisher do, in the machine's steps.
 use Rattle.std.specs.Prelude.{◌≡◌, ◌⊎◌, ℕ, ◌≤◌, List, max, true, is_some, Result, Ok, Err}
 use Rattle.store_versions.specs.Older.{GivesOlder}
-use Rattle.store_versions.specs.Trials.{Trials, version_of}
+use Rattle.store_state.specs.Refresh.{Change}
+use Rattle.store_versions.specs.Trials.{Trials, offered, version_of}
 use Rattle.store_versions.specs.declared.version_error.VersionError.{VersionError}
 use Rattle.store_versions.specs.declared.version_error.VersionError.TheVariants.{Unknown, Gone}
 use Rattle.store_versions.specs.declared.version_error.VersionError.TheVariants.{OutOfMemory}
@@ -14,7 +15,7 @@ use Rattle.store_machine.specs.Laws.{IsSession}
 use Rattle.store_machine.specs.Machine.{SessionState, World, happens, is_cut, pinned, pinned_back}
 use Rattle.store_machine.specs.Machine.{published, session_of}
 use Rattle.store_machine.specs.declared.steps.Step.TheVariants.{Again, Back, Begin, Compact}
-use Rattle.store_machine.specs.declared.steps.Step.TheVariants.{Learn, Publish}
+use Rattle.store_machine.specs.declared.steps.Step.TheVariants.{Learn, Offer, Publish}
 
 -- the machine at a version that a publisher keeps, beside some sessions
 abbrev pub world_at : Trials → List SessionState → World
@@ -62,6 +63,11 @@ LearnLaw = (world : World) (session note : ℕ)
     → IsSession world session → note ≤ published world
     → session_of (happens world (Learn session note)) session
     ≡ record (session_of world session) { seen = max (session_of world session).seen note }
+
+-- A version of a list that is longer by a refresh is offered: that is the step Offer.
+abbrev pub OfferLaw : Type 0
+OfferLaw = (old : Trials) (change : Change) (sessions : List SessionState)
+    → happens (world_at old sessions) (Offer change) ≡ world_at (offered change old) sessions
 
 -- A publisher tries the next refresh of its list, or finds that each was tried: that is the step
 -- Publish.
