@@ -1,5 +1,5 @@
 -- A version of a list that gets longer.
-use Rattle.std.proofs.Common.{◌≡◌, ℕ, ◌+◌, ◌<◌, ◌≤◌, List, [], ◌∷◌, ◌++◌, length, sym, ap, ◌∙◌, arith, length-append}
+use Rattle.std.proofs.Common.{◌≡◌, ℕ, ◌<◌, ◌≤◌, List, [], ◌∷◌, ◌++◌, length, sym, ap, ◌∙◌, arith, length-append}
 use Rattle.std.specs.List.{All}
 use Rattle.base_schema.specs.State.{State}
 use Rattle.store_state.specs.Refresh.{Change}
