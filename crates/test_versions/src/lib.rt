@@ -7,6 +7,8 @@ mod files;
 #[cfg(test)]
 mod lists_called;
 #[cfg(test)]
+mod longer_lists;
+#[cfg(test)]
 mod machine_called;
 #[cfg(test)]
 mod snapshots_called;
