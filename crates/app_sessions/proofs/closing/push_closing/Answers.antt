@@ -2,7 +2,7 @@ use Rattle.std.proofs.Common.{◌∙◌, ◌++◌, ap, append_assoc}
 use Rattle.store_versions.specs.Trials.{tables_of, version_of}
 use Rattle.app_sessions.specs.Counts.{counts_text}
 use Rattle.app_sessions.specs.Jobs.{closing_line}
-use Rattle.app_sessions.proofs.job.push_closing.Goals as goal
+use Rattle.app_sessions.proofs.closing.push_closing.Goals as goal
 
 pub returns : goal.returns
 returns c =

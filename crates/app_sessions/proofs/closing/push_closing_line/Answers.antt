@@ -1,7 +1,7 @@
 use Rattle.std.proofs.Common.{rules, ◌≡◌, ◌∙◌, ◌++◌, ◌∷◌, [], ap, codes}
 use Rattle.std.specs.Prelude.{decimal}
 use Rattle.app_sessions.proofs.JobTexts.{parts_joined}
-use Rattle.app_sessions.proofs.job.push_closing_line.Goals as goal
+use Rattle.app_sessions.proofs.closing.push_closing_line.Goals as goal
 
 pub returns : goal.returns
 returns c =

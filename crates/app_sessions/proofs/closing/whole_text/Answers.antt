@@ -1,5 +1,5 @@
 use Rattle.std.proofs.Common.{◌∙◌, ◌++◌, ap}
-use Rattle.app_sessions.proofs.job.whole_text.Goals as goal
+use Rattle.app_sessions.proofs.closing.whole_text.Goals as goal
 
 pub returns : goal.returns
 returns g c =
