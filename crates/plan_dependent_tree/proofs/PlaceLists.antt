@@ -46,7 +46,7 @@ pub length_put : {X : Type 0} (xs now : List X) (x : X) (n : ℕ) → length xs 
 length_put xs now x n h e = ap length e ∙ length-append xs (x ∷ []) ∙ ap (λ k. k + 1) h
 
 -- an element that is there, whatever stands for one that isn't
-same_get : {X : Type 0} (xs : List X) (i : ℕ) (d e : X) → i < length xs
+pub same_get : {X : Type 0} (xs : List X) (i : ℕ) (d e : X) → i < length xs
     → get_or xs i d ≡ get_or xs i e
 same_get [] i d e h = absurd (omega arith)
 same_get (x ∷ xs) zero d e h = refl

@@ -1,8 +1,10 @@
 -- Lists of places in a domain row with a left row after it, one more.
 use Rattle.std.proofs.Common.{◌≡◌, ℕ, suc, ◌+◌, ◌<◌, List, [], ◌∷◌, ◌++◌, map, refl, sym, ap, ◌∙◌}
-use Rattle.std.proofs.Common.{subst, arith, length, take, get_or}
+use Rattle.std.proofs.Common.{subst, arith, length, take, get_or, true, ◌==◌}
 use Rattle.std.specs.Prelude.{Some, slice_get, slice_index_or}
+use Rattle.std.proofs.lemmas.Bool.Decides.{Decides-eqb}
 use Rattle.std.proofs.lemmas.List.{append-nil, append_assoc, map-append, take_more}
+use Rattle.std.proofs.lemmas.List.Folds.{list_any_at}
 use Rattle.base_row_laws.specs.Rows.{columns}
 use Rattle.base_value.specs.declared.value.Value.{Value}
 use Rattle.base_value.specs.declared.value.Value.TheVariants.{Null}
@@ -14,7 +16,9 @@ use Rattle.plan_dependent_tree.specs.Dependence.{domain_row}
 use Rattle.plan_dependent_tree.specs.FromGrowth.{IsFromDomain, IsRightPlace, AreRightPlaces}
 use Rattle.plan_dependent_tree.specs.FromGrowth.{lateral_columns}
 use Rattle.plan_dependent_tree.proofs.FromPlaces.{front_of}
+use Rattle.plan_dependent_tree.specs.Seeks.{has_place}
 use Rattle.plan_dependent_tree.proofs.InputTrees.{both_more}
+use Rattle.plan_dependent_tree.proofs.PlaceLists.{same_get}
 
 module _ (outer : List OuterColumn) (so_far : List ℕ) (n start : ℕ) where
   -- the places of columns of the rows around
@@ -48,6 +52,15 @@ module _ (outer : List OuterColumn) (so_far : List ℕ) (n start : ℕ) where
         (a.reads env p d l m s) (outer_at c at found env p d l s);
   }
 
+  pub outer_put : (wanted : List OuterColumn) (i : ℕ) (places now : List ℕ) (at : ℕ)
+      → i < length wanted → now ≡ places ++ at ∷ [] → AreOuterPlaces (take i wanted) places
+      → slice_get outer at ≡ Some (get_or wanted i (record { level = 0; place = 0 }))
+      → AreOuterPlaces (take (i + 1) wanted) now
+  outer_put wanted i places now at below e a found =
+      let none : OuterColumn = record { level = 0; place = 0 } in
+      outer_more wanted i (get_or wanted i none) places now at below
+      (same_get wanted i none (get_or wanted i none) below) e a found
+
   -- and then of columns of the row so far
   pub right_none : (wanted : List OuterColumn) (places : List ℕ) → AreOuterPlaces wanted places
       → AreRightPlaces outer so_far n start wanted [] places
@@ -74,6 +87,22 @@ module _ (outer : List OuterColumn) (so_far : List ℕ) (n start : ℕ) where
         ∙ ap (λ z. W ++ z)
         (sym (map-append g (take j others) (k ∷ [])) ∙ ap (map g) (sym more));
   }
+
+  pub right_put : (wanted : List OuterColumn) (others : List ℕ) (j : ℕ) (places now : List ℕ)
+      (at : ℕ) → j < length others → now ≡ places ++ at ∷ []
+      → AreRightPlaces outer so_far n start wanted (take j others) places
+      → IsRightPlace outer so_far n start (get_or others j 0) at
+      → AreRightPlaces outer so_far n start wanted (take (j + 1) others) now
+  right_put wanted others j places now at below e a one =
+      right_more wanted others j (get_or others j 0) places now at below
+      (same_get others j 0 (get_or others j 0) below) e a one
+
+-- a list has its places
+pub place_at : (places : List ℕ) (j : ℕ) → j < length places
+    → has_place places (get_or places j 0) ≡ true
+place_at places j below =
+    list_any_at (λ (i : ℕ). i == get_or places j 0) places j 0 below
+    ((Decides-eqb (get_or places j 0) (get_or places j 0)).1 refl)
 
 -- ---- the left row
 

@@ -9,6 +9,7 @@ use Rattle.plan_dependent_tree.specs.declared.sight.OuterColumn.{OuterColumn}
 use Rattle.plan_dependent_tree.specs.Seeks.{has, has_place, seeks_of_source, seeks_so_far}
 use Rattle.plan_dependent_tree.specs.Seeks.{seeks_of_expr}
 use Rattle.plan_dependent_tree.specs.Supplied.{SourceIsSupplied, JoinIsSupplied, ExprIsSupplied}
+use Rattle.plan_dependent_tree.specs.Supplied.{IsSourceWidth}
 use Rattle.plan_dependent_tree.proofs.Supplies.{or_left, or_right, expr_supplied}
 use Rattle.plan_dependent_tree.proofs.Within.{either}
 
@@ -69,7 +70,15 @@ module _ (outer : List OuterColumn) (so_far : List ℕ) (n w v : ℕ) (s : Bound
         absurd (let f = sym e ∙ sym (near place) ∙ ap (λ z. has_place z place) none in cc);
   }
 
--- the right side of a left outer join, and its ON condition, by what both read
+-- the right side of a left outer join has as many columns as nulls stand for
+pub kept_nulls : (s : BoundSource) (on : BoundExpr) (nulls : ℕ) (outer : List OuterColumn)
+    (so_far : List ℕ) (n a : ℕ) → JoinIsSupplied s on nulls outer so_far n a → {u : ℕ}
+    → IsSourceWidth s u → u ≡ nulls
+kept_nulls s on nulls outer so_far n a supplied {u} right =
+    right.is (supplied.before ++ supplied.left) supplied.around supplied.kinds supplied.right
+    ∙ sym supplied.nulls_stand
+
+-- it, and its ON condition, by what both read
 module _ (s : BoundSource) (on : BoundExpr) (nulls : ℕ) (outer : List OuterColumn)
     (so_far : List ℕ) (n a : ℕ) (supplied : JoinIsSupplied s on nulls outer so_far n a)
     {wanted : List OuterColumn} {others : List ℕ}

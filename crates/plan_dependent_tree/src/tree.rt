@@ -262,14 +262,16 @@ fn right_source(
     ensures width { IfOk result (λ r. IsSourceWidth s.now r.rows.width) }
 {
     let before = sight.before.checked_add(width).ok_or(AllocError)?;
-    let outer = source_columns(alloc, s)?;
-    let so_far = so_far_places(alloc, s)?;
+    let around = source_columns(alloc, s)?;
+    let nearest = so_far_places(alloc, s)?;
+    let outer = around.as_slice();
+    let so_far = nearest.as_slice();
     if !so_far.is_empty() {
-        let columns = right_places(alloc, sight, outer.as_slice(), so_far.as_slice())?;
+        let columns = right_places(alloc, sight, outer, so_far)?;
         let start = u32::try_from(columns.len()).map_err(|_| AllocError)?;
         let own = SourceSight {
-            outer: outer.as_slice(),
-            so_far: so_far.as_slice(),
+            outer,
+            so_far,
             before,
             start,
         };
@@ -315,23 +317,25 @@ fn kept_right(
         → IsKeptRight s.now on.now sight.now.outer.now sight.now.so_far.now sight.now.before
         sight.now.start width r.rows.tree r.side nulls) }
 {
-    let outer = join_columns(alloc, s, on)?;
-    let so_far = so_far_places(alloc, s)?;
-    let columns = right_places(alloc, sight, outer.as_slice(), so_far.as_slice())?;
-    let begin = u32::try_from(columns.len()).map_err(|_| AllocError)?;
-    let columns = with_left_row(columns, sight.start, width)?;
+    let around = join_columns(alloc, s, on)?;
+    let nearest = so_far_places(alloc, s)?;
+    let outer = around.as_slice();
+    let so_far = nearest.as_slice();
+    let places = right_places(alloc, sight, outer, so_far)?;
+    let begin = u32::try_from(places.len()).map_err(|_| AllocError)?;
+    let columns = with_left_row(places, sight.start, width)?;
     let start = begin.checked_add(width).ok_or(AllocError)?;
     let before = sight.before.checked_add(width).ok_or(AllocError)?;
     let own = SourceSight {
-        outer: outer.as_slice(),
-        so_far: so_far.as_slice(),
+        outer,
+        so_far,
         before,
         start,
     };
     let rows = source(alloc, s, &own)?;
     let joined = width.checked_add(nulls).ok_or(AllocError)?;
     let sight = Sight {
-        outer: outer.as_slice(),
+        outer,
         start: begin,
         width: joined,
     };

@@ -70,13 +70,12 @@ source-returns-in-Derived t c = derived_found _ c.in-Derived.is
 pub source-returns-in_ok-block-in-Lateral : goal.source-returns-in_ok-block-in-Lateral
 source-returns-in_ok-block-in-Lateral t c =
     let same : c.in_ok-deeper-in-Lateral.deeper ≡ c.args.within + 1 = search rules in
-    lateral_found c.in-Lateral.is c.get-in-Lateral.ensures same c.in_ok-block-in-Lateral.ensures
+    lateral_found c.in-Lateral.is c.get.ensures same c.in_ok-block-in-Lateral.ensures
 
 pub source-returns-in_ok-source-in-Cross-2 : goal.source-returns-in_ok-source-in-Cross-2
 source-returns-in_ok-source-in-Cross-2 t c =
-    cross_found c.in-Cross.is c.get.ensures c.in_ok-source-in-Cross.ensures
-    c.get-in-Cross.ensures
-    c.in_ok-source-in-Cross-2.ensures
+    cross_found c.in-Cross.is c.get-in-Cross.ensures c.in_ok-source-in-Cross.ensures
+    c.get-in-Cross-2.ensures c.in_ok-source-in-Cross-2.ensures
 
 pub source-returns-in_ok-expr-in-Inner : goal.source-returns-in_ok-expr-in-Inner
 source-returns-in_ok-expr-in-Inner t c =

@@ -1,5 +1,5 @@
 use Rattle.std.proofs.Common.{◌≡◌, ◌+◌, ◌∙◌, refl, rules}
-use Rattle.plan_dependent_tree.proofs.FromTrees.{trim_same, trim_project}
+use Rattle.plan_dependent_tree.proofs.KeptTrees.{trim_same, trim_project}
 use Rattle.plan_dependent_tree.proofs.parts.trimmed.Goals as goal
 
 pub returns-then-end-last : goal.returns-then-end-last

@@ -5,6 +5,7 @@ use Rattle.sql_bound_query.specs.Reads.{tables_of_input, tables_of_expr, tables_
 use Rattle.sql_bound_query.specs.Reads.{joined_tables}
 use Rattle.plan_dependent_tree.specs.Growth.{Attaches, InputsAt, ListAt, AggregatesAt}
 use Rattle.plan_dependent_tree.proofs.PlaceLists.{length_put}
+use Rattle.plan_dependent_tree.specs.FromGrowth.{IsSourceTree}
 use Rattle.plan_dependent_tree.specs.Growth.{IsPlain}
 use Rattle.plan_dependent_tree.proofs.InputTrees.{inputs_none, inputs_more, list_none, list_more}
 use Rattle.plan_dependent_tree.proofs.InputTrees.{aggregates_none, aggregates_more, functions_none}
@@ -37,6 +38,7 @@ use Rattle.plan_dependent_tree.proofs.SuppliedRights.{dependent_supplied, depend
 use Rattle.plan_dependent_tree.proofs.SuppliedRights.{dependent_stands, shared_supplied}
 use Rattle.plan_dependent_tree.proofs.SuppliedRights.{closed_supplied, kept_supplied}
 use Rattle.plan_dependent_tree.proofs.SuppliedRights.{kept_on_supplied, kept_there, kept_stands}
+use Rattle.plan_dependent_tree.proofs.SuppliedRights.{kept_nulls}
 use Rattle.plan_dependent_tree.proofs.Supplies.{column_is_seen, exists_supplied, scalar_supplied}
 use Rattle.plan_dependent_tree.proofs.Supplies.{among_supplied, left_supplied, argument_supplied}
 use Rattle.plan_dependent_tree.proofs.Supplies.{found_seen, found_supplied, item_supplied}
@@ -384,6 +386,94 @@ outer_source-returns-in_ok-rows-in-None-clause-tree t c =
     (outer_join_supplied s.outer.now s.so_far.now s.before x c.args.right.now c.args.nulls
     c.args.on.now p refl width))
     c.in_ok-condition-in-None.ensures c.in_ok-rows-in-None.ensures
+
+pub right_source-returns-in_ok-rows-clause-tree : goal.right_source-returns-in_ok-rows-clause-tree
+right_source-returns-in_ok-rows-clause-tree t c =
+    let s = c.args.sight.now in
+    let source = c.args.s.now in
+    let more : c.in_ok-before.before ≡ s.before + c.args.width = search rules in
+    let size : c.in_ok-start.start ≡ length c.in_ok-columns.columns = search rules in
+    let reads = c.in_ok-around.ensures in
+    let near = c.in_ok-nearest.ensures in
+    let outer = c.as_slice.ensures in
+    let so_far = c.as_slice-2.ensures in
+    λ p.
+    dependent_seen s.outer.now s.so_far.now s.before s.start source c.in_ok-columns.columns more
+    (c.in_ok-rows.ensures.tree
+    (dependent_supplied s.outer.now s.so_far.now s.before (s.before + c.args.width)
+    c.in_ok-before.before source p more reads near outer so_far))
+    size
+    (c.in_ok-columns.ensures
+    (dependent_there s.outer.now s.so_far.now s.before (s.before + c.args.width)
+    c.in_ok-before.before source p more reads near outer)
+    (dependent_stands s.outer.now s.so_far.now s.before (s.before + c.args.width)
+    c.in_ok-before.before source p more reads near so_far))
+    refl refl
+
+pub right_source-returns-in_ok-rows-2-clause-tree :
+    goal.right_source-returns-in_ok-rows-2-clause-tree
+right_source-returns-in_ok-rows-2-clause-tree t c =
+    let s = c.args.sight.now in
+    let more : c.in_ok-before.before ≡ s.before + c.args.width = search rules in
+    let none = sym c.as_slice-2.ensures ∙ c.is_empty.ensures.0 c.if-not-is_empty.false in
+    λ p.
+    right_shared c.args.s.now s.outer.now s.so_far.now s.before s.start c.args.width
+    c.in_ok-rows-2.rows.width c.in_ok-rows-2.rows.tree
+    (subst (λ k. IsSourceTree c.args.s.now s.outer.now [] k s.start c.in_ok-rows-2.rows.tree
+    c.in_ok-rows-2.rows.width) more
+    (c.in_ok-rows-2.ensures.tree
+    (shared_supplied s.outer.now s.so_far.now s.before (s.before + c.args.width)
+    c.in_ok-before.before c.args.s.now p more c.in_ok-around.ensures c.in_ok-nearest.ensures none)))
+
+pub right_source-returns-in_ok-rows-3-clause-tree :
+    goal.right_source-returns-in_ok-rows-3-clause-tree
+right_source-returns-in_ok-rows-3-clause-tree t c =
+    let s = c.args.sight.now in
+    let more : c.in_ok-before.before ≡ s.before + c.args.width = search rules in
+    let none = sym c.as_slice-2.ensures ∙ c.is_empty.ensures.0 c.if-not-is_empty.false in
+    let empty = sym c.as_slice.ensures ∙ c.is_empty-2.ensures.0 c.if-not-is_empty-2.false in
+    λ p.
+    right_closed c.args.s.now s.outer.now s.so_far.now s.before s.start c.args.width
+    c.in_ok-rows-3.rows.width c.in_ok-rows-3.rows.tree
+    (subst (λ k. IsSourceTree c.args.s.now [] [] k 0 c.in_ok-rows-3.rows.tree
+    c.in_ok-rows-3.rows.width) more
+    (c.in_ok-rows-3.ensures.tree
+    (closed_supplied s.outer.now s.so_far.now s.before (s.before + c.args.width)
+    c.in_ok-before.before c.args.s.now p more c.in_ok-around.ensures c.in_ok-nearest.ensures none
+    empty)))
+
+pub kept_right-returns : goal.kept_right-returns
+kept_right-returns t c =
+    let s = c.args.sight.now in
+    let source = c.args.s.now in
+    let on = c.args.on.now in
+    let more : c.in_ok-before.before ≡ s.before + c.args.width = search rules in
+    let size : c.in_ok-begin.begin ≡ length c.in_ok-places.places = search rules in
+    let sum : c.in_ok-start.start ≡ c.in_ok-begin.begin + c.args.width = search rules in
+    let wide : c.in_ok-joined.joined ≡ c.args.width + c.args.nulls = search rules in
+    let reads = c.in_ok-around.ensures in
+    let near = c.in_ok-nearest.ensures in
+    let outer = c.as_slice.ensures in
+    let so_far = c.as_slice-2.ensures in
+    let rows = c.in_ok-rows.ensures in
+    λ p.
+    kept_right_seen s.outer.now s.so_far.now s.before s.start source on c.in_ok-on.on.expr
+    c.in_ok-places.places c.in_ok-columns.columns more
+    (rows.tree
+    (kept_supplied source on c.args.nulls s.outer.now s.so_far.now s.before c.args.width p reads near
+    outer so_far more))
+    (c.in_ok-places.ensures
+    (kept_there source on c.args.nulls s.outer.now s.so_far.now s.before c.args.width p reads near
+    outer)
+    (kept_stands source on c.args.nulls s.outer.now s.so_far.now s.before c.args.width p reads near
+    so_far))
+    refl refl size sum c.in_ok-columns.ensures
+    (kept_nulls source on c.args.nulls s.outer.now s.so_far.now s.before c.args.width p rows.width)
+    wide c.in_ok-grown.ensures
+    (c.in_ok-on.ensures
+    (kept_on_supplied source on c.args.nulls s.outer.now s.so_far.now s.before c.args.width p reads
+    near outer wide))
+    c.in_ok-grown-2.ensures c.in_ok-rows-2.ensures.0
 
 pub subquery-returns : goal.subquery-returns
 subquery-returns t c =
