@@ -1,5 +1,5 @@
 -- From the parts of a job to its sessions' text.
-use Rattle.std.proofs.Common.{◌≡◌, ◌∙◌, ℕ, ◌<◌, Some, List, length, slice_index_or, refl, sym, subst, ap}
+use Rattle.std.proofs.Common.{◌≡◌, ◌∙◌, ℕ, ◌<◌, ◌≤◌, false, List, length, slice_index_or, refl, sym, subst}
 use Rattle.std.proofs.lemmas.List.{length-map}
 use Rattle.store_snapshots.specs.Openings.{Opening, opening_at}
 use Rattle.store_state.specs.Refresh.{Change}
@@ -26,7 +26,7 @@ all_ready opening fits start low ss ws h i w less = record {
 }
 
 -- a session of a worker that has run and met the publisher is over, of the whole list
-over_whole : {E N : Type 0} (opening : E → Opening) (fits : E → List Change → Type 0) (start : Trials) (low seen : ℕ) (whole : List Change) (old new : E) (s : Session)
+over_whole : {E : Type 0} (opening : E → Opening) (fits : E → List Change → Type 0) (start : Trials) (low seen : ℕ) (whole : List Change) (old new : E) (s : Session)
     → opening old ≡ opening_at start → low ≤ seen → fits new whole
     → IsOverOf (opening old) (fits new) seen s → IsOver start.base whole low (last_version start.base whole) (job_session s) (course_of s)
 over_whole opening fits start low seen whole old new s opened least fit over =
@@ -46,7 +46,7 @@ placed_over {E} {N} opening fits start low whole all k p olds rans news informed
       round = λ w. subst (λ (l : List Session). p.1 < length l) (sym (met.each p.0 w in_rans).sessions) (round w);
       session = λ w s. subst (λ (l : List Session). IsNumberOver (start.base, whole) low (last_version start.base whole) all k (slice_index_or l p.1 s)) (sym (met.each p.0 w in_rans).sessions) (record {
         number = ((ran.each p.0 w h.turn).same (going w)).each p.1 s (h.round w) ∙ h.session w s;
-        over = over_whole {E} {N} opening fits start low _ whole _ _ (slice_index_or (sessions_of (slice_index_or rans p.0 w)) p.1 s)
+        over = over_whole opening fits start low _ whole _ _ (slice_index_or (sessions_of (slice_index_or rans p.0 w)) p.1 s)
             (informed p.0 w h.turn).opened (informed p.0 w h.turn).least (met.each p.0 w in_rans).whole
             ((ran.each p.0 w h.turn).over (going w) p.1 s (round w));
       });

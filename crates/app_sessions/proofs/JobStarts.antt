@@ -117,3 +117,10 @@ ends_later fits is_over start before first order same h =
       fitting = subst fits version_is h.fitting;
       over = subst is_over version_is h.over;
     }
+
+-- a version of which the list's feed tried so many more
+pub later_is : (before : ℕ) (start : Trials) (now : Edition) (order : RefreshOrder) → HasTried start now order
+    → now.version.done ≡ start.done + before → now.version.list ≡ start.list → now.version ≡ later_by before start
+later_is before start now order h done list =
+    let o = h.version (start.base, start.list, start.most) refl in
+    λ i. record { base = o.0 i; list = list i; done = done i; most = o.2 i }

@@ -231,3 +231,22 @@ told_few start now order report h told =
     let mapped = length-map order (λ e. e.1) in
     let c = told.count in
     omega (arith, done, taken_all, split, mapped, c)
+
+-- one more is done
+pub done_more : (change : Change) (version trials next : Trials) → IsNextIn change version trials → next ≡ one_more trials → next.done ≡ version.done + 1
+done_more change version trials next in_trials is =
+    ap (λ (t : Trials). t.done) is ∙ ap (λ n. n + 1) (next_in change version trials in_trials).done
+
+-- while refreshes of the list are left, none is given beside it
+pub list_kept : (change : Change) (version trials next : Trials) → IsNextIn change version trials → next ≡ one_more trials → version.done < length version.list
+    → next.list ≡ version.list
+list_kept change version trials next h is less = ap (λ (t : Trials). t.list) is ∙ ⊎_elim
+    (λ (t : (trials ≡ version) × (version.done < length version.list) × (slice_get version.list version.done ≡ Some change)). ap (λ (v : Trials). v.list) t.0)
+    (λ (t : (trials ≡ offered change version) × (version.done ≡ length version.list)). absurd (let all = t.1 in omega (arith, all, less)))
+    h
+
+-- and no more than the list has
+pub done_within : (change : Change) (version trials next : Trials) → IsNextIn change version trials → next ≡ one_more trials → next.done ≤ length next.list
+done_within change version trials next h is =
+    let w = slice_get_within trials.list trials.done change (next_in change version trials h).at in
+    subst (λ (t : Trials). t.done ≤ length t.list) (sym is) (omega (arith, w))

@@ -53,7 +53,7 @@ pub fn prepare<R: Wait>(
     ensures workers { IfOk result (λ r. ArePrepared opening_of list_fits publisher.old.version
         (accepted publisher.old.version.base publisher.old.version.list
         (publisher.old.version.done + before)) sessions.items r.0.workers.items) }
-    ensures sizes { IfOk result (λ r. (r.0.count ≡ vec_len sessions)
+    ensures sizes { IfOk result (λ r. (r.0.count ≡ length sessions.items)
         × (r.0.listed ≡ length publisher.old.version.list)) }
     ensures version { OnOk result (publisher.new.version
         ≡ later_by before publisher.old.version) }

@@ -42,7 +42,8 @@ fn end_refresh<R: Wait>(
     publisher: &mut Publisher,
     report: &mut Report,
 ) -> Result<(), AllocError>
-    requires { report.old.count < publisher.old.version.done }
+    requires room { report.old.count < publisher.old.version.done }
+    requires within { publisher.old.version.done ≤ length publisher.old.version.list }
     ensures version { publisher.new.version ≡ publisher.old.version }
     ensures shown { OnOk result ((publisher.new.shown ≡ publisher.old.shown)
         ⊎ (publisher.new.shown ≡ publisher.old.version)) }

@@ -10,26 +10,24 @@ pub meet_worker-requires-clause-opened : goal.meet_worker-requires-clause-opened
 meet_worker-requires-clause-opened g c =
     let i = c.meeting.invariant in
     let k = c.meeting.i in
-    let ws = c.meeting.workers in
-    let w = c.index_mut.result.now in
-    let less : k < length ws = search rules in
+    let d = c.index-workers-i.result in
+    let less : k < length c.meeting.workers = search rules in
     let l = i.len in
     let here : k < length c.args.workers.now = omega (arith, less, l) in
-    let is : w ≡ slice_index_or c.args.workers.now k w = c.index_mut.ensures.value ∙ get_or_default ws k _ w less ∙ i.rest k w (le_refl k) here in
-    subst (MayMeet opening_of c.args.publisher.now.shown) (sym is) (c.requires.opened k w here)
+    subst (MayMeet opening_of c.args.publisher.now.shown) (sym (i.rest k d (le_refl k) here)) (c.requires.opened k d here)
 
 pub meeting-preserved : goal.meeting-preserved
 meeting-preserved g c =
     let i = c.meeting.invariant in
     let k = c.meeting.i in
     let ws = c.meeting.workers in
-    let w = c.index_mut.result.now in
+    let w = c.index-workers-i.result in
     let x = c.meet_worker.new.worker in
     let less : k < length ws = search rules in
     let l = i.len in
     let here : k < length c.args.workers.now = omega (arith, less, l) in
     let met : HasMet list_fits c.args.publisher.now.shown.list w x = search rules in
-    let is : w ≡ slice_index_or c.args.workers.now k x = c.index_mut.ensures.value ∙ get_or_default ws k _ x less ∙ i.rest k x (le_refl k) here in
+    let is : w ≡ slice_index_or c.args.workers.now k x = c.index-workers-i.is ∙ get_or_default ws k _ x less ∙ i.rest k x (le_refl k) here in
     record {
       len = length-set ws k x ∙ i.len;
       met = λ j d below within.
