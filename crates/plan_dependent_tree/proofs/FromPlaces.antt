@@ -91,7 +91,7 @@ dependent_row (i ∷ places) d l = refl
 
 -- ---- places of columns
 
-front_of : {X : Type 0} (f : X → Value) (xs : List X) (rest : List Value) (i : ℕ) (x : X)
+pub front_of : {X : Type 0} (f : X → Value) (xs : List X) (rest : List Value) (i : ℕ) (x : X)
     → slice_get xs i ≡ Some x → slice_index_or (map f xs ++ rest) i Null ≡ f x
 front_of f xs rest i x e =
     let within : i < length xs = slice_get_within xs i x e in

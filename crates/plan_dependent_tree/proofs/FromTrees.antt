@@ -176,7 +176,7 @@ from_arm s outer start w tree is =
 -- ---- right sides
 
 -- a row of two parts
-both_long : (p l : List Value) (n a : ℕ) → length p ≡ n → length l ≡ a → length (p ++ l) ≡ n + a
+pub both_long : (p l : List Value) (n a : ℕ) → length p ≡ n → length l ≡ a → length (p ++ l) ≡ n + a
 both_long p l n a e f =
     length-append p l ∙ ap (λ k. k + length l) e ∙ ap (λ k. n + k) f
 

@@ -1,5 +1,6 @@
 -- The arms of the code for FROM's items: one variable for each value that the code reads.
-use Rattle.std.proofs.Common.{◌≡◌, ℕ, ◌+◌, List, [], ◌∷◌, ◌++◌, refl, sym, ap, ◌∙◌, subst, length}
+use Rattle.std.proofs.Common.{◌≡◌, ℕ, suc, ◌+◌, ◌<◌, List, [], ◌∷◌, ◌++◌, true, ◌||◌, refl, sym, ap}
+use Rattle.std.proofs.Common.{◌∙◌, subst, length}
 use Rattle.std.specs.Prelude.{Some}
 use Rattle.expr_scalar.specs.declared.expr.Expr.{Expr}
 use Rattle.expr_scalar.specs.declared.expr.Expr.TheVariants.{All}
@@ -18,10 +19,11 @@ use Rattle.plan_algebra.specs.declared.tree.Side.TheVariants.{Closed, Shared, De
 use Rattle.plan_dependent_tree.specs.declared.sight.OuterColumn.{OuterColumn}
 use Rattle.plan_dependent_tree.specs.FromGrowth.{FromDomains, AreRightPlaces, IsSourceTree}
 use Rattle.plan_dependent_tree.specs.FromGrowth.{IsRightSource, IsKeptRight, IsKept, lateral_columns}
+use Rattle.plan_dependent_tree.specs.FromGrowth.{IsKeptDomain, KeepsRight}
 use Rattle.plan_dependent_tree.specs.Growth.{RowsOf, IsTree, IsTreeIn, IsTrimmed, Attaches, IsPlain}
 use Rattle.plan_dependent_tree.specs.Growth.{ExprAt, block_of}
-use Rattle.plan_dependent_tree.specs.OuterGrowth.{IsOuterTree}
-use Rattle.plan_dependent_tree.specs.Supplied.{SourceIsSupplied, IsSourceWidth}
+use Rattle.plan_dependent_tree.specs.Seeks.{has, has_place, seeks_of_source, seeks_so_far}
+use Rattle.plan_dependent_tree.specs.Seeks.{seeks_of_expr}
 use Rattle.plan_dependent_tree.proofs.FromTrees.{table_arm, derived_arm, lateral_arm, cross_arm}
 use Rattle.plan_dependent_tree.proofs.FromTrees.{inner_arm, right_dependent}
 use Rattle.plan_dependent_tree.proofs.KeptTrees.{kept_arm}
@@ -112,41 +114,28 @@ module _ (outer : List OuterColumn) (so_far : List ℕ) (n start : ℕ) where
 
   -- ---- left outer joins
 
-  pub plain_outer_seen : (x y : BoundSource) (on : BoundExpr) (c : Expr)
-      {left right tree : DepTree} {side : Side} {a b m w nulls : ℕ}
+  pub plain_outer_seen : (x y : BoundSource) (on : BoundExpr) (c : Expr) {s : BoundSource}
+      {left right tree : DepTree} {side : Side} {a b w nulls : ℕ} → s ≡ source.Outer x y nulls on
       → IsSourceTree x outer so_far n start left a
-      → IsRightSource y outer so_far n start a right side b → b ≡ nulls → m ≡ a + nulls
-      → IsPlain outer start m on (Some c)
+      → IsRightSource y outer so_far n start a right side b → b ≡ nulls
+      → IsPlain outer start (a + nulls) on (Some c)
       → (tree ≡ t.Outer left right side c) × (w ≡ a + nulls)
-      → IsSourceTree (source.Outer x y nulls on) outer so_far n start tree w
-  plain_outer_seen x y on c {left} {right} {tree} {side} {a} {b} {m} {w} {nulls} l r same e p is =
-      of_source (ap (λ k. source.Outer x y k on) (sym same)) is.0 (is.1 ∙ sym e)
-      (λ q k. plain_outer_arm outer so_far start q x y on a b m
-      (e ∙ ap (λ z. a + z) (sym same)) left right side c (l q k) (r q k) p.0 p.1)
+      → IsSourceTree s outer so_far n start tree w
+  plain_outer_seen x y on c {s} {left} {right} {tree} {side} {a} {b} {w} {nulls} e l r same p is =
+      of_source (e ∙ ap (λ k. source.Outer x y k on) (sym same)) is.0 is.1
+      (λ q k. plain_outer_arm outer so_far start q x y on a b (a + nulls)
+      (ap (λ z. a + z) (sym same)) left right side c (l q k) (r q k) p.0 p.1)
 
-  pub kept_outer_seen : (x y : BoundSource) (on : BoundExpr) {left right tree : DepTree} {c : Expr}
-      {side : Side} {a w nulls : ℕ} → IsSourceTree x outer so_far n start left a
+  pub kept_outer_seen : (x y : BoundSource) (on : BoundExpr) {s : BoundSource}
+      {left right tree : DepTree} {c : Expr} {side : Side} {a w nulls : ℕ}
+      → s ≡ source.Outer x y nulls on → IsSourceTree x outer so_far n start left a
       → IsKeptRight y on outer so_far n start a right side nulls → c ≡ All []
       → (tree ≡ t.Outer left right side c) × (w ≡ a + nulls)
-      → IsSourceTree (source.Outer x y nulls on) outer so_far n start tree w
-  kept_outer_seen x y on {left} {right} {tree} {c} {side} {a} {w} {nulls} l r always is =
-      of_source refl (is.0 ∙ ap (λ z. t.Outer left right side z) always) is.1
+      → IsSourceTree s outer so_far n start tree w
+  kept_outer_seen x y on {s} {left} {right} {tree} {c} {side} {a} {w} {nulls} e l r always is =
+      of_source e (is.0 ∙ ap (λ z. t.Outer left right side z) always) is.1
       (λ q k. kept_outer_arm outer so_far start q x y on a nulls (a + nulls) refl left right side
       (l q k) (r q k))
-
-  pub outer_seen : (on : BoundExpr) {s x y read_x read_y : BoundSource} {left tree : DepTree}
-      {a w nulls : ℕ} → s ≡ source.Outer x y nulls on → read_x ≡ x → IsSourceWidth read_x a
-      → IsSourceTree read_x outer so_far n start left a → read_y ≡ y
-      → SourceIsSupplied s outer so_far n n
-      → IsOuterTree read_y nulls on outer so_far n start left a tree w
-      → IsSourceTree s outer so_far n start tree w
-  outer_seen on {s} {x} {y} {read_x} {read_y} {left} {tree} {a} {w} {nulls} e f width l g supplied
-      is =
-      let same : s ≡ source.Outer read_x read_y nulls on =
-      e ∙ ap (λ z. source.Outer z y nulls on) (sym f)
-      ∙ ap (λ z. source.Outer read_x z nulls on) (sym g) in
-      of_source same refl refl
-      (is read_x width (subst (λ z. SourceIsSupplied z outer so_far n n) same supplied) l)
 
   -- ---- right sides
 
@@ -162,30 +151,75 @@ module _ (outer : List OuterColumn) (so_far : List ℕ) (n start : ℕ) where
       (subst (λ z. IsSourceTree s wanted z v m tree w) g
       (subst (λ z. IsSourceTree s z nearest v m tree w) f is))) size at
 
-  pub kept_right_seen : (s : BoundSource) (on : BoundExpr) (c : Expr) (first places : List ℕ)
-      {a b v m begin from last after nulls joined : ℕ}
-      {tree begun grown selected new : DepTree} {wanted listed : List OuterColumn}
-      {others nearest : List ℕ} → v ≡ n + a → IsSourceTree s listed nearest v m tree b
-      → AreRightPlaces outer so_far n start wanted others first → listed ≡ wanted
-      → nearest ≡ others → begin ≡ length first → m ≡ begin + a
-      → places ≡ first ++ columns_from start a → b ≡ nulls → joined ≡ a + nulls
-      → (begun ≡ tree) × (from ≡ m + b)
-      → Attaches listed begin joined (tables_of_expr on) (ExprAt on c) begun from grown last
-      → (selected ≡ t.Select grown c) × (after ≡ last)
-      → IsTrimmed selected m nulls after new
-      → IsKeptRight s on outer so_far n start a new (Dependent places) nulls
-  kept_right_seen s on c first places {a} {b} {v} {m} {begin} {from} {last} {after} {nulls} {joined}
-      {tree} {begun} {grown} {selected} {new} {wanted} {listed} {others} {nearest} e is at f g size
-      sum all same wide i to sel trim =
-      kept_right_arm s on outer so_far n start a nulls wanted others first places begin m from last
-      tree grown c new at size sum all (i.1 ∙ ap (λ k. m + k) same)
-      (subst (λ z. IsSourceTree s wanted others z m tree nulls) e
-      (subst (λ z. IsSourceTree s wanted z v m tree nulls) g
-      (subst (λ z. IsSourceTree s z nearest v m tree nulls) f
-      (subst (λ k. IsSourceTree s listed nearest v m tree k) same is))))
-      (subst (λ z. Attaches z begin (a + nulls) (tables_of_expr on) (ExprAt on c) tree from grown
-      last) f
-      (subst (λ k. Attaches listed begin k (tables_of_expr on) (ExprAt on c) tree from grown last)
-      wide (attached_to i.0 refl to)))
-      (subst (λ z. IsTrimmed z m nulls last new) sel.0
-      (subst (λ k. IsTrimmed selected m nulls k new) sel.1 trim))
+-- a left outer join of the sides that were read
+pub outer_read : {s x y read_x read_y : BoundSource} (nulls : ℕ) (on : BoundExpr)
+    → s ≡ source.Outer x y nulls on → read_x ≡ x → read_y ≡ y
+    → s ≡ source.Outer read_x read_y nulls on
+outer_read {s} {x} {y} {read_x} {read_y} nulls on e f g =
+    e ∙ ap (λ z. source.Outer z y nulls on) (sym f)
+    ∙ ap (λ z. source.Outer read_x z nulls on) (sym g)
+
+-- the tree of an item of FROM by other names
+pub source_as : {x y : BoundSource} {outer listed : List OuterColumn} {so_far places : List ℕ}
+    {n m start begin w v : ℕ} (tree : DepTree) → x ≡ y → listed ≡ outer → places ≡ so_far → m ≡ n
+    → begin ≡ start → v ≡ w → IsSourceTree x listed places m begin tree v
+    → IsSourceTree y outer so_far n start tree w
+source_as {x} {y} {outer} {listed} {so_far} {places} {n} {m} {start} {begin} {w} {v} tree a b c d e
+    f is =
+    subst (λ z. IsSourceTree z outer so_far n start tree w) a
+    (subst (λ z. IsSourceTree x z so_far n start tree w) b
+    (subst (λ z. IsSourceTree x listed z n start tree w) c
+    (subst (λ z. IsSourceTree x listed places z start tree w) d
+    (subst (λ z. IsSourceTree x listed places m z tree w) e
+    (subst (λ z. IsSourceTree x listed places m begin tree z) f is)))))
+
+-- the domain of a right side and of ON
+pub domain_is : (s : BoundSource) (on : BoundExpr) (outer : List OuterColumn) (so_far : List ℕ)
+    (n start a : ℕ) (wanted listed : List OuterColumn) (others nearest first places : List ℕ)
+    (before begin end : ℕ) → listed ≡ wanted → nearest ≡ others
+    → ((level place : ℕ) → has wanted level place
+    ≡ (seeks_of_source s level place || seeks_of_expr on (suc level) place))
+    → ((place : ℕ) → has_place others place ≡ seeks_so_far s place)
+    → (((level place : ℕ) → has listed level place ≡ true → has outer level place ≡ true)
+    → ((place : ℕ) → has_place nearest place ≡ true → place < n
+    → has_place so_far place ≡ true)
+    → AreRightPlaces outer so_far n start listed nearest first)
+    → places ≡ first ++ columns_from start a → begin ≡ length first → end ≡ begin + a
+    → before ≡ n + a
+    → IsKeptDomain s on outer so_far n start a wanted others places before begin end
+domain_is s on outer so_far n start a wanted listed others nearest first places before begin end e f
+    reads near at all begins sum behind = record {
+      reads = reads;
+      near = near;
+      first = first;
+      at = λ there stands.
+          subst (λ z. AreRightPlaces outer so_far n start z others first) e
+          (subst (λ z. AreRightPlaces outer so_far n start listed z first) f
+          (at (λ level place h. there level place (ap (λ z. has z level place) (sym e) ∙ h))
+          (λ place h below. stands place (ap (λ z. has_place z place) (sym f) ∙ h) below)));
+      all = all;
+      begins = begins;
+      sum = sum;
+      behind = behind;
+    }
+
+-- its rows, by ON
+pub keeps_right_seen : (on : BoundExpr) (c : Expr) (wanted listed : List OuterColumn)
+    (others places : List ℕ) (begin end a : ℕ) {w from last after nulls joined : ℕ}
+    {tree begun grown selected new : DepTree} → listed ≡ wanted → w ≡ nulls → joined ≡ a + nulls
+    → (begun ≡ tree) × (from ≡ end + w)
+    → Attaches listed begin joined (tables_of_expr on) (ExprAt on c) begun from grown last
+    → (selected ≡ t.Select grown c) × (after ≡ last)
+    → IsTrimmed selected end nulls after new
+    → KeepsRight on wanted others places begin end a tree nulls new (Dependent places)
+keeps_right_seen on c wanted listed others places begin end a {w} {from} {last} {after} {nulls}
+    {joined} {tree} {begun} {grown} {selected} {new} e same wide i to sel trim s outer so_far n start
+    first at size sum all is =
+    kept_right_arm s on outer so_far n start a nulls wanted others first places begin end from last
+    tree grown c new at size sum all (i.1 ∙ ap (λ k. end + k) same) is
+    (subst (λ z. Attaches z begin (a + nulls) (tables_of_expr on) (ExprAt on c) tree from grown
+    last) e
+    (subst (λ k. Attaches listed begin k (tables_of_expr on) (ExprAt on c) tree from grown last)
+    wide (attached_to i.0 refl to)))
+    (subst (λ z. IsTrimmed z end nulls last new) sel.0
+    (subst (λ k. IsTrimmed selected end nulls k new) sel.1 trim))

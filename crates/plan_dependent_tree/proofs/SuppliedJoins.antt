@@ -134,6 +134,7 @@ module _ (outer : List OuterColumn) (so_far : List ℕ) (n : ℕ) (a b : BoundSo
 
   -- the left side and the nulls have as many columns as the join
   outer_long : {v : ℕ} → IsSourceWidth a v → v + nulls ≡ length supplied.kinds
+  unfolding outer_parts outer_sides
   outer_long {v} left =
       ap (λ k. k + nulls) (left.is supplied.before supplied.around outer_sides.ls outer_sides.left)
       ∙ ap (λ k. length outer_sides.ls + k) outer_parts.nulls
@@ -153,12 +154,14 @@ module _ (outer : List OuterColumn) (so_far : List ℕ) (n : ℕ) (a b : BoundSo
 
   -- the right side has as many columns as nulls stand for
   pub outer_nulls : {u : ℕ} → IsSourceWidth b u → u ≡ nulls
+  unfolding outer_parts outer_sides
   outer_nulls {u} right =
       right.is (supplied.before ++ outer_sides.ls) supplied.around outer_sides.rs outer_sides.right
       ∙ sym outer_parts.nulls
 
   pub outer_join_supplied : {v : ℕ} → IsSourceWidth a v
       → JoinIsSupplied b on nulls outer so_far n v
+  unfolding outer_parts outer_sides
   outer_join_supplied {v} left = record {
     before = supplied.before;
     before_width = supplied.width;
@@ -179,10 +182,10 @@ module _ (outer : List OuterColumn) (so_far : List ℕ) (n : ℕ) (a b : BoundSo
     reads = outer_reads;
   }
 
-pub outer_width : {s a b seen : BoundSource} (on : BoundExpr) {nulls w m : ℕ}
+pub outer_width : (b : BoundSource) (on : BoundExpr) {s a seen : BoundSource} {nulls w m : ℕ}
     → s ≡ source.Outer a b nulls on → seen ≡ a → IsSourceWidth seen w → m ≡ w + nulls
     → IsSourceWidth s m
-outer_width {s} {a} {b} {seen} on {nulls} {w} {m} is get left wide = record {
+outer_width b on {s} {a} {seen} {nulls} {w} {m} is get left wide = record {
   is = λ before around kinds e.
       let t : OuterTyped a b nulls on before around kinds =
       outer_typed a b nulls on before around kinds

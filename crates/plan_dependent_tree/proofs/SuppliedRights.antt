@@ -1,7 +1,8 @@
 -- Right sides are supplied by just what they read.
 use Rattle.std.proofs.Common.{◌≡◌, ℕ, zero, suc, ◌+◌, ◌<◌, List, [], ◌∷◌, ◌++◌, Bool, true, false}
-use Rattle.std.proofs.Common.{◌||◌, length, refl, sym, ap, ◌∙◌, subst, arith}
+use Rattle.std.proofs.Common.{◌||◌, ◌==◌, length, refl, sym, ap, ◌∙◌, subst, arith}
 use Rattle.std.specs.Prelude.{Option, Some}
+use Rattle.std.proofs.lemmas.Bool.{eqb-true}
 use Rattle.std.proofs.lemmas.List.{length-append}
 use Rattle.sql_bound_query.specs.declared.query.BoundExpr.{BoundExpr}
 use Rattle.sql_bound_query.specs.declared.query.BoundSource.{BoundSource}
@@ -13,10 +14,34 @@ use Rattle.plan_dependent_tree.specs.Supplied.{IsSourceWidth}
 use Rattle.plan_dependent_tree.proofs.Supplies.{or_left, or_right, expr_supplied}
 use Rattle.plan_dependent_tree.proofs.Within.{either}
 
--- the same of an item of FROM that reads this
+-- a slice that is found empty
+pub no_items : {X : Type 0} (items : List X) (result : Bool) → result ≡ (length items == 0)
+    → result ≡ true → items ≡ []
+no_items [] result is found = refl
+no_items (x ∷ items) result is found =
+    let l = eqb-true (length (x ∷ items)) 0 (sym is ∙ found) in absurd (omega (arith, l))
+
+-- ---- by other names
+
+pub read_width : {x y : BoundSource} {w : ℕ} → x ≡ y → IsSourceWidth x w → IsSourceWidth y w
+read_width {x} {y} {w} same width = subst (λ z. IsSourceWidth z w) same width
+
+pub read_supplied : {x y : BoundSource} {outer : List OuterColumn} {so_far : List ℕ} {n w : ℕ}
+    → x ≡ y → SourceIsSupplied x outer so_far n w → SourceIsSupplied y outer so_far n w
+read_supplied {x} {y} {outer} {so_far} {n} {w} same supplied =
+    subst (λ z. SourceIsSupplied z outer so_far n w) same supplied
+
+pub resupplied : (on : BoundExpr) {outer listed : List OuterColumn} {w m : ℕ} → listed ≡ outer
+    → m ≡ w → ExprIsSupplied on outer w → ExprIsSupplied on listed m
+resupplied on {outer} {listed} {w} {m} e f supplied =
+    subst (λ z. ExprIsSupplied on z m) (sym e)
+    (subst (λ k. ExprIsSupplied on outer k) (sym f) supplied)
+
+-- ---- an item of FROM that reads this
+
 module _ (outer : List OuterColumn) (so_far : List ℕ) (n w v : ℕ) (s : BoundSource)
     (supplied : SourceIsSupplied s outer so_far n w) (same : v ≡ w)
-    {wanted : List OuterColumn} {others : List ℕ}
+    (wanted : List OuterColumn) (others : List ℕ)
     (reads : (level place : ℕ) → has wanted level place ≡ seeks_of_source s level place)
     (near : (place : ℕ) → has_place others place ≡ seeks_so_far s place) where
   pub dependent_supplied : {listed : List OuterColumn} {places : List ℕ} → listed ≡ wanted
@@ -81,7 +106,7 @@ kept_nulls s on nulls outer so_far n a supplied {u} right =
 -- it, and its ON condition, by what both read
 module _ (s : BoundSource) (on : BoundExpr) (nulls : ℕ) (outer : List OuterColumn)
     (so_far : List ℕ) (n a : ℕ) (supplied : JoinIsSupplied s on nulls outer so_far n a)
-    {wanted : List OuterColumn} {others : List ℕ}
+    (wanted : List OuterColumn) (others : List ℕ)
     (reads : (level place : ℕ) → has wanted level place
     ≡ (seeks_of_source s level place || seeks_of_expr on (suc level) place))
     (near : (place : ℕ) → has_place others place ≡ seeks_so_far s place) where

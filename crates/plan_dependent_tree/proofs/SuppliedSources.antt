@@ -59,10 +59,11 @@ table_width {s} {table} {w} is wide = record {
 }
 
 module _ (outer : List OuterColumn) (so_far : List ℕ) (n : ℕ) {s : BoundSource}
-    {q seen : BoundBlock} (supplied : SourceIsSupplied s outer so_far n n) where
+    (supplied : SourceIsSupplied s outer so_far n n) where
   -- a derived table reads nothing of any row around
-  pub derived_supplied : s ≡ source.Derived q → seen ≡ q → QueryIsSupplied seen []
-  derived_supplied is get =
+  pub derived_supplied : {q seen : BoundBlock} → s ≡ source.Derived q → seen ≡ q
+      → QueryIsSupplied seen []
+  derived_supplied {q} {seen} is get =
       let t : block_kinds q [] ≡ Some supplied.kinds =
       sym (ap (λ (m : FromKinds). m supplied.before supplied.around) (kinds_Derived q))
       ∙ sym (ap (λ z. from_kinds z supplied.before supplied.around) is) ∙ supplied.typed in
@@ -75,39 +76,40 @@ module _ (outer : List OuterColumn) (so_far : List ℕ) (n : ℕ) {s : BoundSour
             omega (arith, n));
       })
 
-  lateral_typed : s ≡ source.Lateral q
+  lateral_typed : (q : BoundBlock) → s ≡ source.Lateral q
       → block_kinds q (supplied.before ∷ supplied.around) ≡ Some supplied.kinds
-  lateral_typed is =
+  lateral_typed q is =
       sym (ap (λ (m : FromKinds). m supplied.before supplied.around) (kinds_Lateral q))
       ∙ sym (ap (λ z. from_kinds z supplied.before supplied.around) is) ∙ supplied.typed
 
   -- what the query of a lateral item reads, its nearest row being the row so far
-  lateral_there : s ≡ source.Lateral q → (level place : ℕ) → seeks_of q level place ≡ true
+  lateral_there : (q : BoundBlock) → s ≡ source.Lateral q → (level place : ℕ)
+      → seeks_of q level place ≡ true
       → has (lateral_columns outer so_far) level place ≡ true
-  lateral_there is zero place e =
+  lateral_there q is zero place e =
       let within : place < length supplied.before =
-      query_within q (supplied.before ∷ supplied.around) supplied.kinds (lateral_typed is) 0 place e
+      query_within q (supplied.before ∷ supplied.around) supplied.kinds (lateral_typed q is) 0 place e
       in
       let wide : n ≡ length supplied.before = supplied.width in
       has_nearest outer so_far place
       (supplied.stands place (omega (arith, within, wide))
       (ap (λ z. seeks_so_far z place) is
       ∙ ap (λ (m : ℕ → Bool). m place) (so_far_Lateral q) ∙ e))
-  lateral_there is (suc level) place e =
+  lateral_there q is (suc level) place e =
       has_further outer so_far level place
       (supplied.there level place
       (ap (λ z. seeks_of_source z level place) is
       ∙ ap (λ (m : Seeks). m level place) (seeks_Lateral q) ∙ e))
 
-  pub lateral_supplied : {listed : List OuterColumn} → s ≡ source.Lateral q → seen ≡ q
-      → listed ≡ lateral_columns outer so_far → QueryIsSupplied seen listed
-  lateral_supplied {listed} is get all =
+  pub lateral_supplied : {q seen : BoundBlock} {listed : List OuterColumn} → s ≡ source.Lateral q
+      → seen ≡ q → listed ≡ lateral_columns outer so_far → QueryIsSupplied seen listed
+  lateral_supplied {q} {seen} {listed} is get all =
       subst (λ z. QueryIsSupplied z listed) (sym get)
       (subst (λ z. QueryIsSupplied q z) (sym all) (record {
         around = supplied.before ∷ supplied.around;
         kinds = supplied.kinds;
-        typed = lateral_typed is;
-        there = lateral_there is;
+        typed = lateral_typed q is;
+        there = lateral_there q is;
       }))
 
 pub derived_width : {s : BoundSource} {q seen : BoundBlock} {w : ℕ} → s ≡ source.Derived q

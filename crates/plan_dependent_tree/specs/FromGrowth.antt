@@ -1,10 +1,12 @@
 -- How the trees of FROM's items grow: their domain rows, which begin with columns of the rows around
 -- the query and of the row so far, and what stands where in them.
-use Rattle.std.specs.Prelude.{◌≡◌, ℕ, suc, ◌+◌, List, ◌++◌, map, length, slice_index_or}
+use Rattle.std.specs.Prelude.{◌≡◌, ℕ, suc, ◌+◌, ◌<◌, ◌||◌, List, ◌++◌, map, length, slice_index_or}
+use Rattle.std.specs.Prelude.{IsTrue}
 use Rattle.base_row_laws.specs.Operators.{select}
 use Rattle.base_row_laws.specs.Rows.{columns}
 use Rattle.base_value.specs.declared.value.Value.{Value}
 use Rattle.base_value.specs.declared.value.Value.TheVariants.{Null}
+use Rattle.expr_conditions.specs.Ranks.{columns_from}
 use Rattle.base_schema.specs.declared.table.TableName.{TableName}
 use Rattle.sql_bound_query.specs.declared.query.BoundExpr.{BoundExpr}
 use Rattle.sql_bound_query.specs.declared.query.BoundSource.{BoundSource}
@@ -15,6 +17,8 @@ use Rattle.plan_algebra.specs.declared.tree.Side.{Side}
 use Rattle.plan_dependent_tree.specs.declared.sight.OuterColumn.{OuterColumn}
 use Rattle.plan_dependent_tree.specs.Dependence.{domain_row}
 use Rattle.plan_dependent_tree.specs.Growth.{DomainRows, RowsOf, IsTreeIn, IsRightIn}
+use Rattle.plan_dependent_tree.specs.Seeks.{has, has_place, seeks_of_source, seeks_so_far}
+use Rattle.plan_dependent_tree.specs.Seeks.{seeks_of_expr}
 
 -- a domain row of `start` columns, which begins with these columns of the rows around and then
 -- these columns of the row so far p
@@ -78,3 +82,31 @@ IsKept on outer so_far start tree w new =
     → IsTreeIn (FromDomains outer so_far start p) occurs K tree w
     → IsTreeIn (FromDomains outer so_far start p) (occurs ++ tables_of_expr on)
     (λ state env. select (holds_for (expr_meaning state on) env) (K state env)) new w
+
+-- The domain of an item of FROM to the right of a left row of a columns, and of an ON condition on
+-- both: the columns that they read, and then the left row.
+pub record IsKeptDomain (s : BoundSource) (on : BoundExpr) (outer : List OuterColumn)
+    (so_far : List ℕ) (n start a : ℕ) (wanted : List OuterColumn) (others places : List ℕ)
+    (before begin end : ℕ) : Type 0 where
+  pub reads : (level place : ℕ) → has wanted level place
+      ≡ (seeks_of_source s level place || seeks_of_expr on (suc level) place)
+  pub near : (place : ℕ) → has_place others place ≡ seeks_so_far s place
+  pub first : List ℕ
+  pub at : ((level place : ℕ) → IsTrue (has wanted level place) → IsTrue (has outer level place))
+      → ((place : ℕ) → IsTrue (has_place others place) → place < n
+      → IsTrue (has_place so_far place))
+      → AreRightPlaces outer so_far n start wanted others first
+  pub all : places ≡ first ++ columns_from start a
+  pub begins : begin ≡ length first
+  pub sum : end ≡ begin + a
+  pub behind : before ≡ n + a
+
+-- Of a tree over such a domain, `new` has the rows that an ON condition keeps.
+abbrev pub KeepsRight : BoundExpr → List OuterColumn → List ℕ → List ℕ → ℕ → ℕ → ℕ → DepTree → ℕ
+    → DepTree → Side → Type 0
+KeepsRight on wanted others places begin end a tree w new side =
+    (s : BoundSource) (outer : List OuterColumn) (so_far : List ℕ) (n start : ℕ) (first : List ℕ)
+    → AreRightPlaces outer so_far n start wanted others first → begin ≡ length first
+    → end ≡ begin + a → places ≡ first ++ columns_from start a
+    → IsSourceTree s wanted others (n + a) end tree w
+    → IsKeptRight s on outer so_far n start a new side w

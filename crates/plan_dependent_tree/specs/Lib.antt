@@ -1,6 +1,5 @@
 pub mod Dependence
 pub mod Growth
 pub mod FromGrowth
-pub mod OuterGrowth
 pub mod Seeks
 pub mod Supplied

@@ -2,6 +2,7 @@
 //! domain row.
 #![tactic(auto)]
 
+mod kept_domain;
 mod outer;
 mod parts;
 mod sight;

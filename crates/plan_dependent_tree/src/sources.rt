@@ -9,6 +9,7 @@ ghost use Rattle.plan_dependent_tree.specs.Supplied.{ExprIsSupplied, InputsAreSu
 
 use crate::parts::{Right, Rows, always};
 use crate::sight::{Sight, place_of};
+use crate::source_sight::SourceSight;
 use base_schema::TableName;
 use expr_scalar::{Expr, rename};
 use plan_algebra::{DepTree, Side};
@@ -85,7 +86,7 @@ fn plain_places(
 }
 
 // A condition over a flat row; nothing where it has a subquery.
-pub fn plain_condition(
+fn plain_condition(
     alloc: Global,
     on: &BoundExpr,
     sight: &Sight,
@@ -101,6 +102,28 @@ pub fn plain_condition(
         }
         None => Ok(None),
     }
+}
+
+// ON of a left outer join whose right side has `nulls` columns, over the domain row and the joined
+// row; nothing where it has a subquery.
+pub fn outer_condition(
+    alloc: Global,
+    on: &BoundExpr,
+    sight: &SourceSight,
+    left: u32,
+    nulls: u32,
+) -> Result<Option<Boxed<Expr>>, AllocError>
+    ensures { IfOk result (λ o. ExprIsSupplied on.now sight.now.outer.now (left + nulls)
+        → IsPlain sight.now.outer.now sight.now.start (left + nulls) on.now o) }
+{
+    let width = left.checked_add(nulls).ok_or(AllocError)?;
+    let sight = Sight {
+        outer: sight.outer,
+        start: sight.start,
+        width,
+    };
+    let condition = plain_condition(alloc, on, &sight)?;
+    Ok(condition)
 }
 
 // LEFT OUTER JOIN under a condition, whose right side has `nulls` columns.

@@ -5,20 +5,20 @@ ghost use Rattle.sql_bound_query.specs.Typing.{IsWellTyped, block_kinds, from_ki
 ghost use Rattle.sql_bound_query.specs.Reads.{tables, tables_of_source, tables_of_input};
 ghost use Rattle.sql_bound_query.specs.Reads.{tables_of_expr, tables_of_aggregate, joined_tables};
 ghost use Rattle.plan_dependent_tree.specs.Dependence.{IsTreeOf};
-ghost use Rattle.plan_dependent_tree.specs.FromGrowth.{IsSourceTree, IsRightSource, IsKeptRight};
-ghost use Rattle.plan_dependent_tree.specs.FromGrowth.{IsKept};
+ghost use Rattle.plan_dependent_tree.specs.FromGrowth.{IsSourceTree, IsRightSource, IsKept};
+ghost use Rattle.plan_dependent_tree.specs.FromGrowth.{KeepsRight};
 ghost use Rattle.plan_dependent_tree.specs.Growth.{from_of, block_of, IsTree, IsSubquery};
 ghost use Rattle.plan_dependent_tree.specs.Growth.{Attaches, InputAt, InputsAt, ExprAt, ListAt};
 ghost use Rattle.plan_dependent_tree.specs.Growth.{AggregateAt, AggregatesAt, SameFunction};
 ghost use Rattle.plan_dependent_tree.specs.Growth.{SameFunctions};
-ghost use Rattle.plan_dependent_tree.specs.OuterGrowth.{IsOuterTree};
 ghost use Rattle.plan_dependent_tree.specs.Supplied.{AggregateIsSupplied, AggregatesAreSupplied};
 ghost use Rattle.plan_dependent_tree.specs.Supplied.{ExprIsSupplied, InputIsSupplied, IsWidthOf};
 ghost use Rattle.plan_dependent_tree.specs.Supplied.{InputsAreSupplied, ListIsSupplied, QueryIsSupplied};
 ghost use Rattle.plan_dependent_tree.specs.Supplied.{FromIsSupplied, SourceIsSupplied, IsSourceWidth};
-ghost use Rattle.plan_dependent_tree.specs.Supplied.{JoinIsSupplied, SubqueryIsSupplied};
+ghost use Rattle.plan_dependent_tree.specs.Supplied.{SubqueryIsSupplied};
 
-use crate::outer::{join_columns, outer_columns, source_columns};
+use crate::kept_domain::{KeptDomain, kept_domain};
+use crate::outer::{outer_columns, source_columns};
 use crate::parts::{
     Attached, Counted, Grown, Listed, Placed, Read, Right, Rows, Summed, always, applied,
     contained, distinct, existing, grouped, grown_from, key_places, outer_places, over_places,
@@ -26,8 +26,8 @@ use crate::parts::{
 };
 use crate::sight::{OuterColumn, Sight, place_of};
 use crate::so_far::so_far_places;
-use crate::source_sight::{SourceSight, lateral_columns, right_places, with_left_row};
-use crate::sources::{RightRows, crossed, depending, outer_joined, plain_condition, table_rows};
+use crate::source_sight::{SourceSight, lateral_columns, right_places};
+use crate::sources::{RightRows, crossed, depending, outer_condition, outer_joined, table_rows};
 use plan_algebra::{Aggregate, DepTree, Side};
 use sql_bound_query::{BoundAggregate, BoundBlock, BoundExpr, BoundQuery, BoundSource, Input};
 use sqlite_items::{Boxed, Items};
@@ -183,8 +183,21 @@ fn source(alloc: Global, s: &BoundSource, sight: &SourceSight) -> Result<Rows, A
         }
         BoundSource::Outer(a, b, nulls, on) => {
             let left = source(alloc, a.get(), sight)?;
-            let rows = outer_source(alloc, left, b.get(), *nulls, on, sight)?;
-            Ok(rows)
+            match outer_condition(alloc, on, sight, left.width, *nulls)? {
+                Some(condition) => {
+                    let right = right_source(alloc, b.get(), sight, left.width)?;
+                    let rows = outer_joined(alloc, left, right, *nulls, condition)?;
+                    Ok(rows)
+                }
+                None => {
+                    let domain = kept_domain(alloc, b.get(), on, sight, left.width)?;
+                    let rows = source(alloc, b.get(), &domain.sight())?;
+                    let right = kept_right(alloc, rows, *nulls, on, domain, left.width)?;
+                    let condition = always(alloc)?;
+                    let rows = outer_joined(alloc, left, right, *nulls, condition)?;
+                    Ok(rows)
+                }
+            }
         }
     }
 }
@@ -209,41 +222,6 @@ fn kept(alloc: Global, rows: Rows, on: &BoundExpr, sight: &SourceSight) -> Resul
     let grown = selected(alloc, on)?;
     let rows = trimmed(alloc, grown, start, width)?;
     Ok(rows)
-}
-
-// LEFT OUTER JOIN. Where ON has a subquery, the right side keeps its rows by ON itself.
-#[cycle(depend)]
-fn outer_source(
-    alloc: Global,
-    left: Rows,
-    right: &BoundSource,
-    nulls: u32,
-    on: &BoundExpr,
-    sight: &SourceSight,
-) -> Result<Rows, AllocError>
-    ensures tree { IfOk result (λ r. IsOuterTree right.now nulls on.now sight.now.outer.now
-        sight.now.so_far.now sight.now.before sight.now.start left.tree left.width r.tree r.width) }
-    ensures width { IfOk result (λ r. r.width ≡ left.width + nulls) }
-{
-    let width = left.width.checked_add(nulls).ok_or(AllocError)?;
-    let on_sight = Sight {
-        outer: sight.outer,
-        start: sight.start,
-        width,
-    };
-    match plain_condition(alloc, on, &on_sight)? {
-        Some(condition) => {
-            let right = right_source(alloc, right, sight, left.width)?;
-            let rows = outer_joined(alloc, left, right, nulls, condition)?;
-            Ok(rows)
-        }
-        None => {
-            let right = kept_right(alloc, right, nulls, on, sight, left.width)?;
-            let condition = always(alloc)?;
-            let rows = outer_joined(alloc, left, right, nulls, condition)?;
-            Ok(rows)
-        }
-    }
 }
 
 // A source to the right of a left row of `width` columns. Where it reads nothing of any row it has
@@ -301,41 +279,32 @@ fn right_source(
     }
 }
 
-// A source of `nulls` columns to the right of a left row of `width` columns, with the rows that ON
-// keeps: over the domain of what both read, and then the left row.
+// Rows of `nulls` columns to the right of a left row of `width` columns, of which ON keeps some: over
+// the domain of what both read, and then the left row.
 #[cycle(depend)]
 fn kept_right(
     alloc: Global,
-    s: &BoundSource,
+    rows: Rows,
     nulls: u32,
     on: &BoundExpr,
-    sight: &SourceSight,
+    domain: KeptDomain,
     width: u32,
 ) -> Result<RightRows, AllocError>
-    ensures { IfOk result (λ r. JoinIsSupplied s.now on.now nulls sight.now.outer.now
-        sight.now.so_far.now sight.now.before width
-        → IsKeptRight s.now on.now sight.now.outer.now sight.now.so_far.now sight.now.before
-        sight.now.start width r.rows.tree r.side nulls) }
+    ensures { IfOk result (λ r. ExprIsSupplied on.now domain.outer (width + nulls)
+        → rows.width ≡ nulls
+        → KeepsRight on.now domain.outer domain.so_far domain.columns domain.begin domain.start width
+        rows.tree nulls r.rows.tree r.side) }
 {
-    let around = join_columns(alloc, s, on)?;
-    let nearest = so_far_places(alloc, s)?;
-    let outer = around.as_slice();
-    let so_far = nearest.as_slice();
-    let places = right_places(alloc, sight, outer, so_far)?;
-    let begin = u32::try_from(places.len()).map_err(|_| AllocError)?;
-    let columns = with_left_row(places, sight.start, width)?;
-    let start = begin.checked_add(width).ok_or(AllocError)?;
-    let before = sight.before.checked_add(width).ok_or(AllocError)?;
-    let own = SourceSight {
+    let KeptDomain {
         outer,
-        so_far,
-        before,
+        columns,
+        begin,
         start,
-    };
-    let rows = source(alloc, s, &own)?;
+        ..
+    } = domain;
     let joined = width.checked_add(nulls).ok_or(AllocError)?;
     let sight = Sight {
-        outer,
+        outer: outer.as_slice(),
         start: begin,
         width: joined,
     };

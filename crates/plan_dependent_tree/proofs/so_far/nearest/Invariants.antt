@@ -5,4 +5,4 @@ use Rattle.plan_dependent_tree.proofs.so_far.nearest.Given as goal
 
 abbrev pub invariant-loop-column : goal.invariant-loop-column
 invariant-loop-column l =
-    Gathers (λ place. has (take l.column-index l.columns) 0 place) l.fn.found l.found
+    Gathers (λ place. has (take l.column-index l.column-items) 0 place) l.fn.found l.found

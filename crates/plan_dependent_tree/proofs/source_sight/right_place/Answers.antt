@@ -9,5 +9,5 @@ returns-in_ok-at c =
     let sum : c.in_ok-at.at ≡ c.in_ok-outer.outer + c.in_ok-index.index = search rules in
     λ there.
     place_before s.outer.now s.so_far.now s.before s.start c.args.place c.in_ok-index.index
-    c.in_ok-outer.outer c.in_ok-at.at c.if-place-before.true
-    (c.in_ok-index.ensures (there c.if-place-before.true)) same sum
+    c.in_ok-outer.outer c.in_ok-at.at c.if-place-sight.true
+    (c.in_ok-index.ensures (there c.if-place-sight.true)) same sum

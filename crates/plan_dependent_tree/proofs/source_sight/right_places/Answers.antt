@@ -39,7 +39,7 @@ loop-place-preserved c =
     let l = c.loop-place in
     λ there stands.
     right_put s.outer.now s.so_far.now s.before s.start c.args.outer.now c.args.so_far.now
-    l.place-index l.places c.push-2.new.self c.in_ok-at-2.at c.loop-place-test.true
+    l.place-index l.places c.push-in-loop-place.new.self c.in_ok-at-2.at c.loop-place-test.true
     c.in_ok-push-2.ensures.ok (l.invariant there stands)
     (c.in_ok-at-2.ensures
     (λ below. stands _ (place_at c.args.so_far.now l.place-index c.loop-place-test.true) below))

@@ -14,9 +14,9 @@ use Rattle.plan_dependent_tree.proofs.SeenArms.{column_seen, exists_seen, scalar
 use Rattle.plan_dependent_tree.proofs.SeenArms.{expr_seen, subquery_seen, plain_seen, grouped_seen}
 use Rattle.plan_dependent_tree.proofs.SeenArms.{distinct_seen}
 use Rattle.plan_dependent_tree.proofs.SeenSources.{table_seen, derived_seen, lateral_seen, cross_seen}
-use Rattle.plan_dependent_tree.proofs.SeenSources.{inner_seen, outer_seen, kept_seen}
+use Rattle.plan_dependent_tree.proofs.SeenSources.{inner_seen, kept_seen, outer_read, source_as}
 use Rattle.plan_dependent_tree.proofs.SeenSources.{plain_outer_seen, kept_outer_seen, dependent_seen}
-use Rattle.plan_dependent_tree.proofs.SeenSources.{kept_right_seen}
+use Rattle.plan_dependent_tree.proofs.SeenSources.{keeps_right_seen}
 use Rattle.plan_dependent_tree.proofs.FromTrees.{from_arm, right_shared, right_closed}
 use Rattle.plan_dependent_tree.proofs.SuppliedClauses.{plain_width, grouped_width, distinct_width}
 use Rattle.plan_dependent_tree.proofs.SuppliedClauses.{plain_from_supplied, plain_where_supplied}
@@ -38,7 +38,8 @@ use Rattle.plan_dependent_tree.proofs.SuppliedRights.{dependent_supplied, depend
 use Rattle.plan_dependent_tree.proofs.SuppliedRights.{dependent_stands, shared_supplied}
 use Rattle.plan_dependent_tree.proofs.SuppliedRights.{closed_supplied, kept_supplied}
 use Rattle.plan_dependent_tree.proofs.SuppliedRights.{kept_on_supplied, kept_there, kept_stands}
-use Rattle.plan_dependent_tree.proofs.SuppliedRights.{kept_nulls}
+use Rattle.plan_dependent_tree.proofs.SuppliedRights.{kept_nulls, no_items, read_width}
+use Rattle.plan_dependent_tree.proofs.SuppliedRights.{read_supplied, resupplied}
 use Rattle.plan_dependent_tree.proofs.Supplies.{column_is_seen, exists_supplied, scalar_supplied}
 use Rattle.plan_dependent_tree.proofs.Supplies.{among_supplied, left_supplied, argument_supplied}
 use Rattle.plan_dependent_tree.proofs.Supplies.{found_seen, found_supplied, item_supplied}
@@ -335,18 +336,60 @@ source-returns-in_ok-rows-in-Inner-2-clause-tree t c =
     c.in-Inner.is c.get-in-Inner.ensures left.width c.get-in-Inner-2.ensures right.width made.1))
     kept.width
 
-pub source-returns-in_ok-rows-in-Outer-clause-tree :
-    goal.source-returns-in_ok-rows-in-Outer-clause-tree
-source-returns-in_ok-rows-in-Outer-clause-tree t c =
+pub source-returns-in_ok-rows-in-Some-clause-tree : goal.source-returns-in_ok-rows-in-Some-clause-tree
+source-returns-in_ok-rows-in-Some-clause-tree t c =
     let s = c.args.sight.now in
+    let on = c.in-Outer.on in
+    let nulls = c.in-Outer.nulls in
     let left = c.in_ok-left-in-Outer.ensures in
+    let right = c.in_ok-right-in-Some.ensures in
+    let is = outer_read nulls on c.in-Outer.is c.get-in-Outer.ensures c.get-in-Some.ensures in
     λ p.
-    outer_seen s.outer.now s.so_far.now s.before s.start c.in-Outer.on c.in-Outer.is
-    c.get-in-Outer.ensures left.width
-    (left.tree
-    (outer_left_supplied s.outer.now s.so_far.now s.before c.in-Outer.a c.in-Outer.b
-    c.in-Outer.nulls c.in-Outer.on p c.in-Outer.is c.get-in-Outer.ensures))
-    c.get-in-Outer-2.ensures p c.in_ok-rows-in-Outer.ensures.tree
+    plain_outer_seen s.outer.now s.so_far.now s.before s.start _ _ on c.in-Some.condition is
+    (left.tree (outer_left_supplied s.outer.now s.so_far.now s.before _ _ nulls on p is refl))
+    (right.tree
+    (outer_right_supplied s.outer.now s.so_far.now s.before _ _ nulls on p is left.width))
+    (outer_nulls s.outer.now s.so_far.now s.before _ _ nulls on p is right.width)
+    (subst (IsPlain s.outer.now s.start (c.in_ok-left-in-Outer.left.width + nulls) on) c.in-Some.is
+    (c.in_ok-condition-in-Outer.ensures
+    (outer_on_supplied s.outer.now s.so_far.now s.before _ _ nulls on p is left.width refl)))
+    c.in_ok-rows-in-Some.ensures
+
+pub source-returns-in_ok-rows-in-None-2-clause-tree :
+    goal.source-returns-in_ok-rows-in-None-2-clause-tree
+source-returns-in_ok-rows-in-None-2-clause-tree t c =
+    let s = c.args.sight.now in
+    let on = c.in-Outer.on in
+    let nulls = c.in-Outer.nulls in
+    let left = c.in_ok-left-in-Outer.ensures in
+    let a = c.in_ok-left-in-Outer.left.width in
+    let it = c.in_ok-domain-in-None.domain in
+    let d = c.in_ok-domain-in-None.ensures in
+    let seen = c.sight-in-None.ensures in
+    let rows = c.in_ok-rows-in-None in
+    let is = outer_read nulls on c.in-Outer.is c.get-in-Outer.ensures c.get-in-None.ensures in
+    let again = c.get-in-None-2.ensures ∙ sym c.get-in-None.ensures in
+    λ p.
+    let join = outer_join_supplied s.outer.now s.so_far.now s.before _ _ nulls on p is left.width in
+    let supplied = kept_supplied _ on nulls s.outer.now s.so_far.now s.before a join it.outer it.so_far
+    d.reads d.near seen.outer seen.so_far (seen.before ∙ d.behind) in
+    let same = kept_nulls _ on nulls s.outer.now s.so_far.now s.before a join
+    (read_width again rows.ensures.width) in
+    kept_outer_seen s.outer.now s.so_far.now s.before s.start _ _ on is
+    (left.tree (outer_left_supplied s.outer.now s.so_far.now s.before _ _ nulls on p is refl))
+    (c.in_ok-right-in-None.ensures
+    (kept_on_supplied _ on nulls s.outer.now s.so_far.now s.before a join it.outer it.so_far d.reads
+    d.near refl refl)
+    same _ s.outer.now s.so_far.now s.before s.start d.first
+    (d.at
+    (kept_there _ on nulls s.outer.now s.so_far.now s.before a join it.outer it.so_far d.reads d.near
+    refl)
+    (kept_stands _ on nulls s.outer.now s.so_far.now s.before a join it.outer it.so_far d.reads
+    d.near refl))
+    d.begins d.sum d.all
+    (source_as rows.rows.tree again seen.outer seen.so_far (seen.before ∙ d.behind) seen.start same
+    (rows.ensures.tree (read_supplied (sym again) supplied))))
+    c.in_ok-condition-in-None.ensures c.in_ok-rows-in-None-2.ensures
 
 pub kept-returns-clause-tree : goal.kept-returns-clause-tree
 kept-returns-clause-tree t c =
@@ -355,67 +398,37 @@ kept-returns-clause-tree t c =
     kept_seen s.outer.now s.so_far.now s.before s.start c.args.on.now c.in_ok-on.on.expr
     c.in_ok-grown.ensures (c.in_ok-on.ensures p) c.in_ok-grown-2.ensures c.in_ok-rows.ensures.0
 
-pub outer_source-returns-in_ok-rows-in-Some-clause-tree :
-    goal.outer_source-returns-in_ok-rows-in-Some-clause-tree
-outer_source-returns-in_ok-rows-in-Some-clause-tree t c =
-    let s = c.args.sight.now in
-    let wide : c.in_ok-width.width ≡ c.args.left.width + c.args.nulls = search rules in
-    let right = c.in_ok-right-in-Some.ensures in
-    λ x width p is.
-    plain_outer_seen s.outer.now s.so_far.now s.before s.start x c.args.right.now c.args.on.now
-    c.in-Some.condition is
-    (right.tree
-    (outer_right_supplied s.outer.now s.so_far.now s.before x c.args.right.now c.args.nulls
-    c.args.on.now p refl width))
-    (outer_nulls s.outer.now s.so_far.now s.before x c.args.right.now c.args.nulls c.args.on.now p
-    refl right.width)
-    wide
-    (subst (IsPlain s.outer.now s.start c.in_ok-width.width c.args.on.now) c.in-Some.is
-    (c.in_ok-plain_condition.ensures
-    (outer_on_supplied s.outer.now s.so_far.now s.before x c.args.right.now c.args.nulls
-    c.args.on.now p refl width wide)))
-    c.in_ok-rows-in-Some.ensures
-
-pub outer_source-returns-in_ok-rows-in-None-clause-tree :
-    goal.outer_source-returns-in_ok-rows-in-None-clause-tree
-outer_source-returns-in_ok-rows-in-None-clause-tree t c =
-    let s = c.args.sight.now in
-    λ x width p is.
-    kept_outer_seen s.outer.now s.so_far.now s.before s.start x c.args.right.now c.args.on.now is
-    (c.in_ok-right-in-None.ensures
-    (outer_join_supplied s.outer.now s.so_far.now s.before x c.args.right.now c.args.nulls
-    c.args.on.now p refl width))
-    c.in_ok-condition-in-None.ensures c.in_ok-rows-in-None.ensures
-
-pub right_source-returns-in_ok-rows-clause-tree : goal.right_source-returns-in_ok-rows-clause-tree
-right_source-returns-in_ok-rows-clause-tree t c =
+pub right_source-returns-then-not-is_empty-clause-tree : goal.right_source-returns-then-not-is_empty-clause-tree
+right_source-returns-then-not-is_empty-clause-tree t c =
     let s = c.args.sight.now in
     let source = c.args.s.now in
     let more : c.in_ok-before.before ≡ s.before + c.args.width = search rules in
     let size : c.in_ok-start.start ≡ length c.in_ok-columns.columns = search rules in
+    let around = c.in_ok-around.around in
+    let nearest = c.in_ok-nearest.nearest in
     let reads = c.in_ok-around.ensures in
     let near = c.in_ok-nearest.ensures in
-    let outer = c.as_slice.ensures in
-    let so_far = c.as_slice-2.ensures in
+    let outer = c.as_slice-outer.ensures in
+    let so_far = c.as_slice-so_far.ensures in
     λ p.
     dependent_seen s.outer.now s.so_far.now s.before s.start source c.in_ok-columns.columns more
     (c.in_ok-rows.ensures.tree
     (dependent_supplied s.outer.now s.so_far.now s.before (s.before + c.args.width)
-    c.in_ok-before.before source p more reads near outer so_far))
+    c.in_ok-before.before source p more around nearest reads near outer so_far))
     size
     (c.in_ok-columns.ensures
     (dependent_there s.outer.now s.so_far.now s.before (s.before + c.args.width)
-    c.in_ok-before.before source p more reads near outer)
+    c.in_ok-before.before source p more around nearest reads near outer)
     (dependent_stands s.outer.now s.so_far.now s.before (s.before + c.args.width)
-    c.in_ok-before.before source p more reads near so_far))
+    c.in_ok-before.before source p more around nearest reads near so_far))
     refl refl
 
-pub right_source-returns-in_ok-rows-2-clause-tree :
-    goal.right_source-returns-in_ok-rows-2-clause-tree
-right_source-returns-in_ok-rows-2-clause-tree t c =
+pub right_source-returns-then-not-is_empty-2-clause-tree :
+    goal.right_source-returns-then-not-is_empty-2-clause-tree
+right_source-returns-then-not-is_empty-2-clause-tree t c =
     let s = c.args.sight.now in
     let more : c.in_ok-before.before ≡ s.before + c.args.width = search rules in
-    let none = sym c.as_slice-2.ensures ∙ c.is_empty.ensures.0 c.if-not-is_empty.false in
+    let none = sym c.as_slice-so_far.ensures ∙ no_items _ _ c.is_empty.ensures c.if-not-is_empty.false in
     λ p.
     right_shared c.args.s.now s.outer.now s.so_far.now s.before s.start c.args.width
     c.in_ok-rows-2.rows.width c.in_ok-rows-2.rows.tree
@@ -423,15 +436,16 @@ right_source-returns-in_ok-rows-2-clause-tree t c =
     c.in_ok-rows-2.rows.width) more
     (c.in_ok-rows-2.ensures.tree
     (shared_supplied s.outer.now s.so_far.now s.before (s.before + c.args.width)
-    c.in_ok-before.before c.args.s.now p more c.in_ok-around.ensures c.in_ok-nearest.ensures none)))
+    c.in_ok-before.before c.args.s.now p more c.in_ok-around.around c.in_ok-nearest.nearest
+    c.in_ok-around.ensures c.in_ok-nearest.ensures none)))
 
-pub right_source-returns-in_ok-rows-3-clause-tree :
-    goal.right_source-returns-in_ok-rows-3-clause-tree
-right_source-returns-in_ok-rows-3-clause-tree t c =
+pub right_source-returns-clause-tree :
+    goal.right_source-returns-clause-tree
+right_source-returns-clause-tree t c =
     let s = c.args.sight.now in
     let more : c.in_ok-before.before ≡ s.before + c.args.width = search rules in
-    let none = sym c.as_slice-2.ensures ∙ c.is_empty.ensures.0 c.if-not-is_empty.false in
-    let empty = sym c.as_slice.ensures ∙ c.is_empty-2.ensures.0 c.if-not-is_empty-2.false in
+    let none = sym c.as_slice-so_far.ensures ∙ no_items _ _ c.is_empty.ensures c.if-not-is_empty.false in
+    let empty = sym c.as_slice-outer.ensures ∙ no_items _ _ c.is_empty-else-not-is_empty.ensures c.if-not-is_empty-2.false in
     λ p.
     right_closed c.args.s.now s.outer.now s.so_far.now s.before s.start c.args.width
     c.in_ok-rows-3.rows.width c.in_ok-rows-3.rows.tree
@@ -439,41 +453,19 @@ right_source-returns-in_ok-rows-3-clause-tree t c =
     c.in_ok-rows-3.rows.width) more
     (c.in_ok-rows-3.ensures.tree
     (closed_supplied s.outer.now s.so_far.now s.before (s.before + c.args.width)
-    c.in_ok-before.before c.args.s.now p more c.in_ok-around.ensures c.in_ok-nearest.ensures none
+    c.in_ok-before.before c.args.s.now p more c.in_ok-around.around c.in_ok-nearest.nearest
+    c.in_ok-around.ensures c.in_ok-nearest.ensures none
     empty)))
 
 pub kept_right-returns : goal.kept_right-returns
 kept_right-returns t c =
-    let s = c.args.sight.now in
-    let source = c.args.s.now in
-    let on = c.args.on.now in
-    let more : c.in_ok-before.before ≡ s.before + c.args.width = search rules in
-    let size : c.in_ok-begin.begin ≡ length c.in_ok-places.places = search rules in
-    let sum : c.in_ok-start.start ≡ c.in_ok-begin.begin + c.args.width = search rules in
+    let d = c.args.domain in
     let wide : c.in_ok-joined.joined ≡ c.args.width + c.args.nulls = search rules in
-    let reads = c.in_ok-around.ensures in
-    let near = c.in_ok-nearest.ensures in
-    let outer = c.as_slice.ensures in
-    let so_far = c.as_slice-2.ensures in
-    let rows = c.in_ok-rows.ensures in
-    λ p.
-    kept_right_seen s.outer.now s.so_far.now s.before s.start source on c.in_ok-on.on.expr
-    c.in_ok-places.places c.in_ok-columns.columns more
-    (rows.tree
-    (kept_supplied source on c.args.nulls s.outer.now s.so_far.now s.before c.args.width p reads near
-    outer so_far more))
-    (c.in_ok-places.ensures
-    (kept_there source on c.args.nulls s.outer.now s.so_far.now s.before c.args.width p reads near
-    outer)
-    (kept_stands source on c.args.nulls s.outer.now s.so_far.now s.before c.args.width p reads near
-    so_far))
-    refl refl size sum c.in_ok-columns.ensures
-    (kept_nulls source on c.args.nulls s.outer.now s.so_far.now s.before c.args.width p rows.width)
-    wide c.in_ok-grown.ensures
-    (c.in_ok-on.ensures
-    (kept_on_supplied source on c.args.nulls s.outer.now s.so_far.now s.before c.args.width p reads
-    near outer wide))
-    c.in_ok-grown-2.ensures c.in_ok-rows-2.ensures.0
+    λ p same.
+    keeps_right_seen c.args.on.now c.in_ok-on.on.expr d.outer _ d.so_far d.columns d.begin d.start
+    c.args.width c.as_slice.ensures same wide c.in_ok-grown.ensures
+    (c.in_ok-on.ensures (resupplied c.args.on.now c.as_slice.ensures wide p))
+    c.in_ok-grown-2.ensures c.in_ok-rows.ensures.0
 
 pub subquery-returns : goal.subquery-returns
 subquery-returns t c =
@@ -539,11 +531,17 @@ source-returns-in_ok-rows-in-Inner-2-clause-width t c =
     c.in_ok-right-in-Inner.ensures.width c.in_ok-rows-in-Inner.ensures.1
     c.in_ok-rows-in-Inner-2.ensures.width
 
-pub source-returns-in_ok-rows-in-Outer-clause-width :
-    goal.source-returns-in_ok-rows-in-Outer-clause-width
-source-returns-in_ok-rows-in-Outer-clause-width t c =
-    outer_width c.in-Outer.on c.in-Outer.is c.get-in-Outer.ensures
-    c.in_ok-left-in-Outer.ensures.width c.in_ok-rows-in-Outer.ensures.width
+pub source-returns-in_ok-rows-in-Some-clause-width :
+    goal.source-returns-in_ok-rows-in-Some-clause-width
+source-returns-in_ok-rows-in-Some-clause-width t c =
+    outer_width c.in-Outer.b c.in-Outer.on c.in-Outer.is c.get-in-Outer.ensures
+    c.in_ok-left-in-Outer.ensures.width c.in_ok-rows-in-Some.ensures.1
+
+pub source-returns-in_ok-rows-in-None-2-clause-width :
+    goal.source-returns-in_ok-rows-in-None-2-clause-width
+source-returns-in_ok-rows-in-None-2-clause-width t c =
+    outer_width c.in-Outer.b c.in-Outer.on c.in-Outer.is c.get-in-Outer.ensures
+    c.in_ok-left-in-Outer.ensures.width c.in_ok-rows-in-None-2.ensures.1
 
 -- ---- the ends of loops
 
