@@ -68,15 +68,14 @@ pub shown_whole : (start : Trials) (now new : Edition) (order : RefreshOrder) (l
     → (new.shown.list ≡ now.version.list) × IsOf (opening_at start) new.shown
 shown_whole start now new order listed h is same shown = elim (cases_lt listed (length now.version.list)) [
   | inl more ↦ (
-      ap (λ (t : Trials). t.list) (shown more),
-      subst (IsOf (opening_at start)) (sym (shown more)) h.version,
-    )
+    ap (λ (t : Trials). t.list) (shown more),
+    subst (IsOf (opening_at start)) (sym (shown more)) h.version,
+  )
   | inr none ↦
       let kept = same none in
       let at_first = (h.shown (start.base, start.list, start.most) refl).1 in
       let least = length-prefix start.list now.shown.list at_first in
-      let whole : now.version.list ≡ now.shown.list = prefix-whole now.shown.list now.version.list h.behind (omega (arith, least, none, is)) in
-      (
+      let whole : now.version.list ≡ now.shown.list = prefix-whole now.shown.list now.version.list h.behind (omega (arith, least, none, is)) in (
         ap (λ (e : Edition). e.shown.list) kept ∙ sym whole,
         subst (λ (e : Edition). IsOf (opening_at start) e.shown) (sym kept) h.shown,
       )

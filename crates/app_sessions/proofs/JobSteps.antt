@@ -87,8 +87,8 @@ tried_next start old new order sender change trials h in_trials is shown =
     let list_is : new.version.list ≡ trials.list = ap (λ (t : Trials). t.list) is in
     let longer : IsPrefix old.version.list new.version.list = subst (IsPrefix old.version.list) (sym list_is) n.list in
     let version : IsOf (opening_at start) new.version = of_opening start new.version
-        (ap (λ (t : Trials). t.base) is ∙ came.base) (prefix-trans start.list old.version.list new.version.list o.1 longer)
-        (ap (λ (t : Trials). t.most) is ∙ n.most ∙ o.2) in
+    (ap (λ (t : Trials). t.base) is ∙ came.base) (prefix-trans start.list old.version.list new.version.list o.1 longer)
+    (ap (λ (t : Trials). t.most) is ∙ n.most ∙ o.2) in
     record {
       version = version;
       shown = ⊎_elim

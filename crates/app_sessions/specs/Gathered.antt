@@ -28,7 +28,8 @@ Gathers workers count job =
     → IsPlaced sessions_of workers (place_of (length workers) k) (IsNumberOver o low high all k))
     → IsSessionsText o low high all job
 
--- workers whose readers have seen at least that version, with these sessions, none of which was asked
+-- workers whose readers have seen at least a version of that number, with these sessions, none of
+-- which was asked
 pub record ArePrepared {E N : Type 0} (opening : E → Opening) (fits : E → List Change → Type 0)
     (start : Trials) (low : ℕ) (sessions : List Session) (workers : List (Worker E N))
     : Type 0 where

@@ -1,5 +1,5 @@
 -- Reports of jobs, worked out by hand over two orders.
-use Rattle.std.specs.Prelude.{◌≡◌, List, [], ◌∷◌, true, false, pos, codes, Some}
+use Rattle.std.specs.Prelude.{◌≡◌, List, [], ◌∷◌, ◌++◌, true, false, pos, codes, Some}
 use Rattle.base_value.specs.declared.value.Value.{Value}
 use Rattle.base_value.specs.declared.value.Value.TheVariants.{Date, Number, Text}
 use Rattle.store_snapshots.specs.Turns.{from_nobody}
@@ -47,7 +47,9 @@ three_listed = from_nobody (insert_nine ∷ insert_nine ∷ delete_seven ∷ [])
 -- what the definitions say of these
 pub record JobExamples : Type 0 where
   pub deleted_first : job_text small delete_first 0 [] []
-      ≡ codes "refresh 1 from 1 version 1\nrefresh 2 from 2 version 2\nclosing version 2\nregion rows 5\nnation rows 0\npart rows 0\nsupplier rows 0\npartsupp rows 0\ncustomer rows 2\norders rows 2\nlineitem rows 1\n"
+      ≡ codes "refresh 1 from 1 version 1\nrefresh 2 from 2 version 2\nclosing version 2\n"
+      ++ codes "region rows 5\nnation rows 0\npart rows 0\nsupplier rows 0\npartsupp rows 0\n"
+      ++ codes "customer rows 2\norders rows 2\nlineitem rows 1\n"
   pub inserted_first : refreshes_text small insert_first 0
       ≡ codes "refresh 1 from 2 version 1\nrefresh 2 from 1 version 2\n"
   pub none_refused : are_refreshes_accepted small insert_first 0 ≡ true

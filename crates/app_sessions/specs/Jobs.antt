@@ -83,8 +83,8 @@ closing_text base list version =
 abbrev pub last_version : State → List Change → ℕ
 last_version base list = accepted base list (length list)
 
--- the lines of a job's refreshes; the first `kept` of their order are done before the job begins, and
--- have none
+-- the lines of a job's refreshes; the first `kept` of their order are done before the job begins,
+-- and have none
 abbrev pub refreshes_text : State → RefreshOrder → ℕ → List ℕ
 refreshes_text base order kept =
     report_text (version_state base (changes_of order) (accepted base (changes_of order) kept))

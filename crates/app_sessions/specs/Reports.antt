@@ -46,8 +46,8 @@ refresh_line number sender tried =
     codes "refresh " ++ decimal number ++ codes " " ++ sender_written sender
     ++ result_written tried ++ codes "\n"
 
--- The lines of refreshes, numbered on, that are tried in this order, the first of them on the tables
--- of a version. Each is tried on what those before it leave.
+-- The lines of refreshes, numbered on, that are tried in this order, the first of them on the
+-- tables of a version. Each is tried on what those before it leave.
 abbrev pub report_text : State → ℕ → ℕ → RefreshOrder → List ℕ
 report_text tables version number [] = []
 report_text tables version number (entry ∷ order) =
@@ -61,9 +61,9 @@ are_accepted tables [] = true
 are_accepted tables (entry ∷ order) =
     is_accepted tables entry.1 && are_accepted (tried tables entry.1) order
 
--- The publisher has come from a version, at which readers were shown the whole list, by trying these
--- refreshes, the list's own or further ones: they are done after those that were done then. What
--- readers are shown may lack the last ones of the list.
+-- The publisher has come from a version, at which readers were shown the whole list, by trying
+-- these refreshes, the list's own or further ones: they are done after those that were done then.
+-- What readers are shown may lack the last ones of the list.
 pub record HasTried (start : Trials) (now : Edition) (order : RefreshOrder) : Type 0 where
   pub version : IsOf (opening_at start) now.version
   pub shown : IsOf (opening_at start) now.shown
@@ -96,8 +96,8 @@ pub record PublishesRefresh (tried more : RefreshOrder) (old new : Edition) (bef
   pub accepted : after.accepted ≡ (before.accepted && is_accepted (tables_of trials) change)
 
 -- so it did; or none is left, and all stays
-abbrev pub PublishesOne : RefreshOrder → RefreshOrder → (Trials → Type 0) → Edition → Edition → Report
-    → Report → Bool → Type 0
+abbrev pub PublishesOne : RefreshOrder → RefreshOrder → (Trials → Type 0) → Edition → Edition
+    → Report → Report → Bool → Type 0
 PublishesOne tried more over old new before after true =
     PublishesRefresh tried more old new before after
 PublishesOne tried more over old new before after false =

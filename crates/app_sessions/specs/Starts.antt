@@ -10,8 +10,8 @@ use Rattle.app_sessions.specs.Reports.{HasTried, IsTold}
 use Rattle.app_sessions.specs.declared.forking.JobRun.{JobRun}
 use Rattle.app_sessions.specs.declared.session.Session.{Session}
 
--- The run began at a version with these sessions, whose readers were told of `before` refreshes more.
--- Its publisher tried these refreshes since: the first ones, and those that its feed tried.
+-- The run began at a version with these sessions, whose readers were told of `before` refreshes
+-- more. Its publisher tried these refreshes since: the first ones, and those that its feed tried.
 pub record HasStarted (run : JobRun) (publisher : Edition) (tried : RefreshOrder) : Type 0 where
   pub start : Trials
   pub before : ℕ

@@ -79,8 +79,8 @@ pub fn prepare<R: Wait>(
     Ok((run, feed))
 }
 
-/// Runs all workers, each in a thread of its own, and beside them the publisher, and waits for all of
-/// them.
+/// Runs all workers, each in a thread of its own, and beside them the publisher, and waits for all
+/// of them.
 pub fn fork<E: Entry + Drop + Send, F: Feed + Send, G: Gate + Sync, R: Threads + Wait + Sync>(
     rt: &R,
     gate: &G,

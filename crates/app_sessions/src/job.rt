@@ -37,12 +37,12 @@ pub struct JobSetup {
 
 /// Runs sessions beside the publisher of a feed's refreshes, and gives their text.
 ///
-/// The first refreshes of the publisher's list are published, and all readers told of them, before a
-/// session begins; the feed's are published while the sessions run, as they come. Each reader has a
-/// thread of its own. Sessions are assigned to the readers in turn, and those of one reader run one
-/// after another. All threads are joined, whatever happens, and the publisher stays open. The text
-/// stands over the list of all that was tried, which no session knew when it was asked. Where the
-/// feed ended before the list had as many refreshes as it was to have, there is no text.
+/// The first refreshes of the publisher's list are published, and all readers told of them, before
+/// a session begins; the feed's are published while the sessions run, as they come. Each reader has
+/// a thread of its own. Sessions are assigned to the readers in turn, and those of one reader run
+/// one after another. All threads are joined, whatever happens, and the publisher stays open. The
+/// text is that of the list of all that was tried, which no session knew when it was asked. Where
+/// the feed ended before the list had as many refreshes as it was to have, there is no text.
 pub fn run_job<F: Feed + Send, G: Gate + Sync, R: Threads + Wait + Sync>(
     rt: &R,
     alloc: Global,
@@ -116,7 +116,14 @@ fn run_beside<F: Feed + Send, G: Gate + Sync, R: Threads + Wait + Sync>(
         mut report,
         listed,
     } = run;
-    fork(rt, gate, publisher, &mut report, feed, workers.as_mut_slice())?;
+    fork(
+        rt,
+        gate,
+        publisher,
+        &mut report,
+        feed,
+        workers.as_mut_slice(),
+    )?;
     if publisher.listed() < most {
         return Err(JobError::TooFewRefreshes);
     }
@@ -127,8 +134,8 @@ fn run_beside<F: Feed + Send, G: Gate + Sync, R: Threads + Wait + Sync>(
     Ok(text)
 }
 
-/// The same for the refreshes of the publisher's list alone, of which none is done. The publisher is
-/// closed, whatever happens. The only error is that memory ran out.
+/// The same for the refreshes of the publisher's list alone, of which none is done. The publisher
+/// is closed, whatever happens. The only error is that memory ran out.
 pub fn run_list_job<G: Gate + Sync, R: Threads + Wait + Sync>(
     rt: &R,
     alloc: Global,

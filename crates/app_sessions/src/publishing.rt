@@ -1,5 +1,5 @@
 //! What the publisher of a job does: it takes turns of a feed, and tells of each refresh.
-ghost use Rattle.std.specs.Prelude.{◌≡◌, ◌⊎◌, ◌+◌, ◌<◌, ◌≤◌, ◌++◌, ◌&&◌, ◌^◌, [], IfOk, OnOk, is_ok};
+ghost use Rattle.std.specs.Prelude.{◌≡◌, ◌⊎◌, ◌+◌, ◌<◌, ◌≤◌, ◌++◌, ◌&&◌, [], IfOk, OnOk, is_ok};
 ghost use Rattle.std.specs.Prelude.{length, true};
 ghost use Rattle.store_snapshots.specs.Publishers.{LiesJoined};
 ghost use Rattle.store_versions.specs.Trials.{Trials};
@@ -96,8 +96,8 @@ fn publish_one<F: Feed, R: Wait>(
     unreachable!()
 }
 
-/// Has `count` refreshes of the publisher's list tried by turns of a feed that tried none, and tells
-/// of them.
+/// Has `count` refreshes of the publisher's list tried by turns of a feed that tried none, and
+/// tells of them.
 pub fn publish_first<F: Feed, R: Wait>(
     rt: &R,
     count: usize,
@@ -126,8 +126,8 @@ pub fn publish_first<F: Feed, R: Wait>(
     Ok(())
 }
 
-/// Has the feed's refreshes tried until it ends, passes the gate before and after each, and tells of
-/// them. Before the feed's end it passes the gate once more.
+/// Has the feed's refreshes tried until it ends, passes the gate before and after each, and tells
+/// of them. Before the feed's end it passes the gate once more.
 pub fn publish_rest<F: Feed, G: Gate, R: Wait>(
     rt: &R,
     gate: &G,
