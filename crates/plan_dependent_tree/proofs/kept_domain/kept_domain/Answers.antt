@@ -2,8 +2,8 @@ use Rattle.std.proofs.Common.{◌≡◌, ◌+◌, length, rules}
 use Rattle.plan_dependent_tree.proofs.SeenSources.{domain_is}
 use Rattle.plan_dependent_tree.proofs.kept_domain.kept_domain.Goals as goal
 
-pub returns-in_ok-before : goal.returns-in_ok-before
-returns-in_ok-before c =
+pub returns : goal.returns
+returns c =
     let s = c.args.sight.now in
     let begins : c.in_ok-begin.begin ≡ length c.in_ok-places.places = search rules in
     let sum : c.in_ok-start.start ≡ c.in_ok-begin.begin + c.args.width = search rules in
