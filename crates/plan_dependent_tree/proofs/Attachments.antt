@@ -2,13 +2,12 @@
 use Rattle.std.proofs.Common.{◌≡◌, ℕ, ◌+◌, List, [], ◌∷◌, ◌++◌, map, refl, sym, ap, ◌∙◌, subst}
 use Rattle.std.proofs.Common.{arith, length, min, max}
 use Rattle.std.specs.Prelude.{slice_index_or}
-use Rattle.std.specs.List.{flat_map}
-use Rattle.std.proofs.lemmas.List.{append-nil, append_assoc, length-append, get_or-append-add}
+use Rattle.std.proofs.lemmas.List.{append-nil, append_assoc, length-append}
 use Rattle.std.proofs.Math.Seq.{get_or-append_seam}
-use Rattle.base_row_laws.specs.Bags.{Each, top}
-use Rattle.base_row_laws.specs.Operators.{mark_of, scalar_of, attach_loop}
-use Rattle.base_row_laws.specs.Ranked.{Ranked, ranked, true_rank}
-use Rattle.base_row_laws.proofs.Lists.{flat_map-single, map-map, Each-all}
+use Rattle.base_row_laws.specs.Bags.{top}
+use Rattle.base_row_laws.specs.Operators.{mark_of, attach_loop}
+use Rattle.base_row_laws.specs.Ranked.{Ranked, ranked}
+use Rattle.base_row_laws.proofs.Lists.{flat_map-single, Each-all}
 use Rattle.base_value.specs.declared.value.Value.{Value}
 use Rattle.base_value.specs.declared.value.Value.TheVariants.{Null}
 use Rattle.base_schema.specs.declared.table.TableName.{TableName}

@@ -23,7 +23,6 @@ use Rattle.sql_bound_query.proofs.TablesOpened.{of_Plain, of_Grouped, of_Distinc
 use Rattle.plan_algebra.specs.declared.aggregate.Aggregate.{Aggregate}
 use Rattle.plan_algebra.specs.declared.tree.DepTree.{DepTree}
 use Rattle.plan_algebra.specs.declared.tree.DepTree.TheVariants as t
-use Rattle.plan_algebra.specs.Trees.{listed}
 use Rattle.plan_dependent_tree.specs.declared.sight.OuterColumn.{OuterColumn}
 use Rattle.plan_dependent_tree.specs.Dependence.{domain_row, IsTreeOf}
 use Rattle.plan_dependent_tree.specs.Growth.{IsDomain, DomainRows, Attaches, RowsOf, IsTree}

@@ -1,9 +1,9 @@
 -- Where the columns of an item of FROM stand in its domain row.
-use Rattle.std.proofs.Common.{◌≡◌, ℕ, zero, suc, ◌+◌, ◌-◌, ◌<◌, ◌≤◌, List, [], ◌∷◌, ◌++◌, map, refl}
-use Rattle.std.proofs.Common.{sym, ap, ◌∙◌, subst, arith, length, take, get_or}
+use Rattle.std.proofs.Common.{◌≡◌, ℕ, suc, ◌+◌, ◌-◌, ◌<◌, ◌≤◌, List, [], ◌∷◌, ◌++◌, map, refl}
+use Rattle.std.proofs.Common.{sym, ap, ◌∙◌, arith, length}
 use Rattle.std.specs.Prelude.{Some, slice_get, slice_index_or, option_map}
-use Rattle.std.proofs.lemmas.List.{append-nil, append_assoc, length-append, length-map, map-append}
-use Rattle.std.proofs.lemmas.List.{get_or_append_left, get_or-append-add, take_more}
+use Rattle.std.proofs.lemmas.List.{append_assoc, length-map, map-append}
+use Rattle.std.proofs.lemmas.List.{get_or_append_left, get_or-append-add}
 use Rattle.std.proofs.lemmas.Option.{slice_get_within, slice_get-map, get_or_from_slice_get}
 use Rattle.base_row_laws.specs.Rows.{columns}
 use Rattle.base_row_laws.proofs.Lists.{map-map}
@@ -14,8 +14,8 @@ use Rattle.plan_algebra.specs.Trees.{right_row}
 use Rattle.sql_bound_query.specs.Meaning.{Env, column}
 use Rattle.plan_dependent_tree.specs.declared.sight.OuterColumn.{OuterColumn}
 use Rattle.plan_dependent_tree.specs.Dependence.{domain_row}
-use Rattle.plan_dependent_tree.specs.Growth.{IsDomain, Sees}
-use Rattle.plan_dependent_tree.specs.FromGrowth.{IsFromDomain, IsRightPlace, AreRightPlaces}
+use Rattle.plan_dependent_tree.specs.Growth.{IsDomain}
+use Rattle.plan_dependent_tree.specs.FromGrowth.{IsFromDomain, IsRightPlace}
 use Rattle.plan_dependent_tree.specs.FromGrowth.{lateral_columns}
 
 abbrev column_of : Env → OuterColumn → Value

@@ -1,15 +1,13 @@
 -- The inputs of expressions, attached one after the other, and what is read over them.
-use Rattle.std.proofs.Common.{◌≡◌, ℕ, ◌+◌, ◌<◌, List, [], ◌∷◌, ◌++◌, map, refl, sym, ap, ◌∙◌, subst}
+use Rattle.std.proofs.Common.{◌≡◌, ℕ, ◌+◌, ◌<◌, List, [], ◌∷◌, ◌++◌, map, refl, sym, ap, ◌∙◌}
 use Rattle.std.proofs.Common.{arith, length, take, get_or}
 use Rattle.std.specs.Prelude.{slice_index_or}
-use Rattle.std.specs.List.{flat_map}
 use Rattle.std.proofs.lemmas.Grind.{flat_map-append}
-use Rattle.std.proofs.lemmas.List.{append-nil, append_assoc, length-append, map-append, take_more}
+use Rattle.std.proofs.lemmas.List.{append-nil, map-append, take_more}
 use Rattle.std.proofs.lemmas.List.{get_or-append-add}
-use Rattle.base_row_laws.specs.Operators.{mark_of}
-use Rattle.base_row_laws.specs.Ranked.{Ranked, true_rank}
+use Rattle.base_row_laws.specs.Ranked.{true_rank}
 use Rattle.base_row_laws.proofs.Lists.{map-map}
-use Rattle.expr_aggregates.specs.Values.{written, value_rank}
+use Rattle.expr_aggregates.specs.Values.{written}
 use Rattle.expr_aggregates.specs.declared.function.AggregateFunction.{AggregateFunction}
 use Rattle.base_value.specs.declared.value.Value.{Value}
 use Rattle.base_value.specs.declared.value.Value.TheVariants.{Null}
@@ -31,9 +29,9 @@ use Rattle.sql_bound_query.specs.declared.query.BoundBlock.{BoundBlock}
 use Rattle.sql_bound_query.specs.declared.query.BoundExpr.{BoundExpr}
 use Rattle.sql_bound_query.specs.declared.query.Input.{Input}
 use Rattle.sql_bound_query.specs.declared.query.Input.TheVariants as input
-use Rattle.sql_bound_query.specs.Meaning.{Env, InputMeaning, ExprMeaning, AggregateMeaning}
+use Rattle.sql_bound_query.specs.Meaning.{Env, InputMeaning, ExprMeaning}
 use Rattle.sql_bound_query.specs.Meaning.{input_meaning, expr_meaning, aggregate_meaning}
-use Rattle.sql_bound_query.specs.Meaning.{block_meaning, exists_mark, in_mark, single_value}
+use Rattle.sql_bound_query.specs.Meaning.{block_meaning, single_value}
 use Rattle.sql_bound_query.specs.Reads.{tables, tables_of_input, tables_of_expr, tables_of_aggregate}
 use Rattle.sql_bound_query.specs.Reads.{joined_tables}
 use Rattle.sql_bound_query.proofs.Opened.{input_Column_at, input_Exists_at, input_In_at}
@@ -51,9 +49,9 @@ use Rattle.plan_algebra.specs.Trees.{tree_rows, scans_of, right_row, mark_under,
 use Rattle.plan_algebra.proofs.Opened.{rows_Mark, rows_Single, scans_Mark, scans_Single, width_Mark}
 use Rattle.plan_algebra.proofs.Opened.{width_Single}
 use Rattle.plan_dependent_tree.specs.declared.sight.OuterColumn.{OuterColumn}
-use Rattle.plan_dependent_tree.specs.Growth.{Sees, Attaches, Reading, IsAt, IsSubquery, InputAt}
+use Rattle.plan_dependent_tree.specs.Growth.{Attaches, Reading, IsAt, IsSubquery, InputAt}
 use Rattle.plan_dependent_tree.specs.Growth.{InputsAt, ExprAt, ListAt, AggregateAt, AggregatesAt}
-use Rattle.plan_dependent_tree.specs.Growth.{SameFunction, SameFunctions, widened}
+use Rattle.plan_dependent_tree.specs.Growth.{SameFunction, SameFunctions}
 use Rattle.plan_dependent_tree.proofs.Attachments.{attaches_none, attaches_as, attaches_then}
 use Rattle.plan_dependent_tree.proofs.Attachments.{attaches_column, attached_rows, marks_agree}
 

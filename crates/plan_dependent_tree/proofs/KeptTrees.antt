@@ -1,6 +1,6 @@
 -- The trees of the rows that an ON condition keeps, without what stands after them.
-use Rattle.std.proofs.Common.{◌≡◌, ℕ, zero, suc, ◌+◌, List, [], ◌∷◌, ◌++◌, map, refl, sym, ap, ◌∙◌}
-use Rattle.std.proofs.Common.{subst, arith, length}
+use Rattle.std.proofs.Common.{◌≡◌, ℕ, zero, suc, ◌+◌, List, [], ◌∷◌, ◌++◌, map, refl, ap, ◌∙◌}
+use Rattle.std.proofs.Common.{arith, length}
 use Rattle.std.specs.Prelude.{slice_index_or}
 use Rattle.std.proofs.lemmas.List.{length-map}
 use Rattle.base_row_laws.specs.Operators.{select, project}
@@ -16,7 +16,7 @@ use Rattle.expr_scalar.proofs.Opened.{value_Column}
 use Rattle.expr_conditions.specs.Ranks.{columns_from}
 use Rattle.expr_conditions.proofs.Gather.{gather_at}
 use Rattle.base_schema.specs.declared.table.TableName.{TableName}
-use Rattle.base_schema.specs.State.{State, table_rows}
+use Rattle.base_schema.specs.State.{table_rows}
 use Rattle.sql_bound_query.specs.declared.query.BoundExpr.{BoundExpr}
 use Rattle.sql_bound_query.specs.Meaning.{Env, holds_for, expr_meaning}
 use Rattle.sql_bound_query.specs.Reads.{tables_of_expr}

@@ -1,5 +1,5 @@
 -- The trees of left outer joins.
-use Rattle.std.proofs.Common.{◌≡◌, ℕ, ◌+◌, List, [], ◌∷◌, ◌++◌}
+use Rattle.std.proofs.Common.{◌≡◌, ℕ, ◌+◌, List, [], ◌++◌}
 use Rattle.std.proofs.Common.{map, refl, sym, ap, ◌∙◌, subst, arith, length, replicate}
 use Rattle.std.specs.Prelude.{slice_index_or}
 use Rattle.std.proofs.lemmas.List.{append-nil, append_assoc, length-append, length-map, map-append}
@@ -15,7 +15,6 @@ use Rattle.base_value.specs.declared.value.Value.TheVariants.{Null}
 use Rattle.base_value.specs.Truth.{truth_rank}
 use Rattle.expr_scalar.specs.declared.expr.Expr.{Expr}
 use Rattle.expr_scalar.specs.declared.expr.Expr.TheVariants.{All as all_of}
-use Rattle.expr_scalar.specs.Meaning.{values}
 use Rattle.expr_scalar.specs.Rename.{gathered}
 use Rattle.expr_conditions.specs.Ranks.{rank_of, says, columns_from}
 use Rattle.expr_conditions.proofs.Gather.{gather_at}
@@ -27,7 +26,6 @@ use Rattle.sql_bound_query.specs.declared.query.BoundSource.TheVariants as sourc
 use Rattle.sql_bound_query.specs.Meaning.{Env, FromMeaning, column, holds_for, expr_meaning}
 use Rattle.sql_bound_query.specs.Meaning.{source_meaning}
 use Rattle.sql_bound_query.specs.Reads.{tables_of_source, tables_of_expr}
-use Rattle.sql_bound_query.specs.Typing.{StateIsOf}
 use Rattle.sql_bound_query.proofs.KeptRows as kept
 use Rattle.sql_bound_query.proofs.Opened.{source_Outer_at}
 use Rattle.sql_bound_query.proofs.StandingQueries.{source_stands}
@@ -44,7 +42,7 @@ use Rattle.plan_dependent_tree.specs.declared.sight.OuterColumn.{OuterColumn}
 use Rattle.plan_dependent_tree.specs.Dependence.{domain_row}
 use Rattle.plan_dependent_tree.specs.FromGrowth.{FromDomains, AreRightPlaces, IsSourceTree}
 use Rattle.plan_dependent_tree.specs.FromGrowth.{IsKeptRight}
-use Rattle.plan_dependent_tree.specs.Growth.{IsDomain, Sees, DomainRows, Attaches, RowsOf, AreRows}
+use Rattle.plan_dependent_tree.specs.Growth.{Sees, DomainRows, Attaches, RowsOf}
 use Rattle.plan_dependent_tree.specs.Growth.{IsTreeIn, IsRightIn, ExprAt, IsTrimmed, widened}
 use Rattle.plan_dependent_tree.proofs.FromPlaces.{from_sees, from_wanted, dependent_row}
 use Rattle.plan_dependent_tree.proofs.Places.{sees_row}

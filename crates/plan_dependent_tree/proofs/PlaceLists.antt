@@ -1,10 +1,8 @@
 -- Lists of places, one more.
-use Rattle.std.proofs.Common.{◌≡◌, ℕ, zero, suc, add-one, ◌+◌, ◌<◌, List, [], ◌∷◌, ◌++◌, map, refl}
+use Rattle.std.proofs.Common.{◌≡◌, ℕ, zero, suc, ◌+◌, ◌<◌, List, [], ◌∷◌, ◌++◌, map, refl}
 use Rattle.std.proofs.Common.{sym, ap, ◌∙◌, subst, arith, length, take, get_or}
 use Rattle.std.specs.Prelude.{Option, Some, slice_index_or}
-use Rattle.std.proofs.lemmas.List.{append-nil, length-append, map-append, length-take-le}
-use Rattle.base_row_laws.proofs.Lists.{map-map}
-use Rattle.base_value.specs.declared.value.Value.{Value}
+use Rattle.std.proofs.lemmas.List.{length-append, map-append, length-take-le}
 use Rattle.base_value.specs.declared.value.Value.TheVariants.{Null}
 use Rattle.expr_scalar.specs.declared.expr.Expr.{Expr}
 use Rattle.expr_scalar.specs.declared.expr.Expr.TheVariants.{Column}
@@ -12,18 +10,15 @@ use Rattle.expr_scalar.specs.Meaning.{value, truth}
 use Rattle.expr_scalar.specs.Rename.{IsRenamed, gathered}
 use Rattle.expr_conditions.specs.Ranks.{columns_from}
 use Rattle.expr_conditions.proofs.Ranks.{run_more}
-use Rattle.base_schema.specs.State.{State}
 use Rattle.sql_bound_query.specs.declared.query.BoundExpr.{BoundExpr}
 use Rattle.sql_bound_query.specs.declared.query.Input.{Input}
 use Rattle.sql_bound_query.specs.declared.query.Input.TheVariants as input
-use Rattle.sql_bound_query.specs.Meaning.{Env, InputMeaning, ExprMeaning, column, input_meaning}
-use Rattle.sql_bound_query.specs.Meaning.{expr_meaning}
-use Rattle.sql_bound_query.specs.Reads.{tables_of_input, tables_of_expr, joined_tables}
+use Rattle.sql_bound_query.specs.Meaning.{InputMeaning, ExprMeaning, column, input_meaning}
+use Rattle.sql_bound_query.specs.Reads.{tables_of_input}
 use Rattle.sql_bound_query.proofs.Opened.{input_Column_at, expr_is}
 use Rattle.sql_bound_query.proofs.TablesOpened.{in_Column, expr_tables_is}
 use Rattle.plan_dependent_tree.specs.declared.sight.OuterColumn.{OuterColumn}
-use Rattle.plan_dependent_tree.specs.Dependence.{domain_row}
-use Rattle.plan_dependent_tree.specs.Growth.{Sees, IsAt, AreAt, AreKeys, ArePlain, IsPlain, InputsAt}
+use Rattle.plan_dependent_tree.specs.Growth.{IsAt, AreAt, AreKeys, ArePlain, IsPlain, InputsAt}
 use Rattle.plan_dependent_tree.specs.Growth.{ExprAt}
 use Rattle.plan_dependent_tree.proofs.InputTrees.{both_more, joined_more, inputs_valued}
 

@@ -7,8 +7,8 @@ use Rattle.std.proofs.lemmas.List.{append-nil, append_assoc, length-append, leng
 use Rattle.base_row_laws.specs.Aggregates.{aggregated}
 use Rattle.base_row_laws.specs.Bags.{Each}
 use Rattle.base_row_laws.specs.JoinGroups.{Width}
-use Rattle.base_row_laws.specs.Operators.{select, project, group_by, total, distinct}
-use Rattle.base_row_laws.specs.Ranked.{Ranked, ranked}
+use Rattle.base_row_laws.specs.Operators.{select, project, distinct}
+use Rattle.base_row_laws.specs.Ranked.{Ranked}
 use Rattle.base_row_laws.specs.Rows.{after, columns}
 use Rattle.base_row_laws.specs.StandingLaws.{Stands}
 use Rattle.base_row_laws.proofs.Lists.{map-map, Each-weaker, Each-all}
@@ -19,7 +19,7 @@ use Rattle.base_value.specs.Truth.{truth_rank}
 use Rattle.base_value.specs.Value.{same_value}
 use Rattle.base_value.proofs.Identity.{value_identity}
 use Rattle.expr_scalar.specs.declared.expr.Expr.{Expr}
-use Rattle.expr_scalar.specs.Meaning.{values, value, truth}
+use Rattle.expr_scalar.specs.Meaning.{values}
 use Rattle.expr_conditions.specs.Ranks.{rank_of, says}
 use Rattle.base_schema.specs.declared.table.TableName.{TableName}
 use Rattle.base_schema.specs.State.{State, table_rows}
@@ -44,7 +44,7 @@ use Rattle.plan_dependent_tree.specs.Growth.{IsDomain, Sees, Attaches, Reading, 
 use Rattle.plan_dependent_tree.specs.Growth.{DomainRows, IsTreeIn}
 use Rattle.plan_dependent_tree.specs.Growth.{AreKeys, ExprAt, ListAt, AggregatesAt, SameFunctions}
 use Rattle.plan_dependent_tree.specs.Growth.{IsTrimmed, widened}
-use Rattle.plan_dependent_tree.proofs.Places.{sees_row, sees_grown}
+use Rattle.plan_dependent_tree.proofs.Places.{sees_grown}
 use Rattle.plan_dependent_tree.proofs.Widenings.{Summing, select_widened, widened_twice, widened_none}
 use Rattle.plan_dependent_tree.proofs.Widenings.{project_widened, total_widened, group_widened}
 use Rattle.plan_dependent_tree.proofs.Widenings.{aggregates_alike}

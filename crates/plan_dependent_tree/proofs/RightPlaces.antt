@@ -1,6 +1,6 @@
 -- Lists of places in a domain row with a left row after it, one more.
-use Rattle.std.proofs.Common.{◌≡◌, ℕ, suc, ◌+◌, ◌<◌, List, [], ◌∷◌, ◌++◌, map, refl, sym, ap, ◌∙◌}
-use Rattle.std.proofs.Common.{subst, arith, length, take, get_or, true, ◌==◌}
+use Rattle.std.proofs.Common.{◌≡◌, ℕ, ◌+◌, ◌<◌, List, [], ◌∷◌, ◌++◌, map, refl, sym, ap, ◌∙◌}
+use Rattle.std.proofs.Common.{length, take, get_or, true, ◌==◌}
 use Rattle.std.specs.Prelude.{Some, slice_get, slice_index_or}
 use Rattle.std.proofs.lemmas.Bool.Decides.{Decides-eqb}
 use Rattle.std.proofs.lemmas.List.{append-nil, append_assoc, map-append, take_more}
@@ -14,7 +14,6 @@ use Rattle.sql_bound_query.specs.Meaning.{Env, column}
 use Rattle.plan_dependent_tree.specs.declared.sight.OuterColumn.{OuterColumn}
 use Rattle.plan_dependent_tree.specs.Dependence.{domain_row}
 use Rattle.plan_dependent_tree.specs.FromGrowth.{IsFromDomain, IsRightPlace, AreRightPlaces}
-use Rattle.plan_dependent_tree.specs.FromGrowth.{lateral_columns}
 use Rattle.plan_dependent_tree.proofs.FromPlaces.{front_of}
 use Rattle.plan_dependent_tree.specs.Seeks.{has_place}
 use Rattle.plan_dependent_tree.proofs.InputTrees.{both_more}

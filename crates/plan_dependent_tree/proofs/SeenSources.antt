@@ -1,5 +1,5 @@
 -- The arms of the code for FROM's items: one variable for each value that the code reads.
-use Rattle.std.proofs.Common.{◌≡◌, ℕ, suc, ◌+◌, ◌<◌, List, [], ◌∷◌, ◌++◌, true, ◌||◌, refl, sym, ap}
+use Rattle.std.proofs.Common.{◌≡◌, ℕ, suc, ◌+◌, ◌<◌, List, [], ◌++◌, true, ◌||◌, refl, sym, ap}
 use Rattle.std.proofs.Common.{◌∙◌, subst, length}
 use Rattle.std.specs.Prelude.{Some}
 use Rattle.expr_scalar.specs.declared.expr.Expr.{Expr}
@@ -15,12 +15,12 @@ use Rattle.sql_bound_query.specs.Reads.{tables, tables_of_expr}
 use Rattle.plan_algebra.specs.declared.tree.DepTree.{DepTree}
 use Rattle.plan_algebra.specs.declared.tree.DepTree.TheVariants as t
 use Rattle.plan_algebra.specs.declared.tree.Side.{Side}
-use Rattle.plan_algebra.specs.declared.tree.Side.TheVariants.{Closed, Shared, Dependent}
+use Rattle.plan_algebra.specs.declared.tree.Side.TheVariants.{Dependent}
 use Rattle.plan_dependent_tree.specs.declared.sight.OuterColumn.{OuterColumn}
 use Rattle.plan_dependent_tree.specs.FromGrowth.{FromDomains, AreRightPlaces, IsSourceTree}
 use Rattle.plan_dependent_tree.specs.FromGrowth.{IsRightSource, IsKeptRight, IsKept, lateral_columns}
 use Rattle.plan_dependent_tree.specs.FromGrowth.{IsKeptDomain, KeepsRight}
-use Rattle.plan_dependent_tree.specs.Growth.{RowsOf, IsTree, IsTreeIn, IsTrimmed, Attaches, IsPlain}
+use Rattle.plan_dependent_tree.specs.Growth.{IsTree, IsTreeIn, IsTrimmed, Attaches, IsPlain}
 use Rattle.plan_dependent_tree.specs.Growth.{ExprAt, block_of}
 use Rattle.plan_dependent_tree.specs.Seeks.{has, has_place, seeks_of_source, seeks_so_far}
 use Rattle.plan_dependent_tree.specs.Seeks.{seeks_of_expr}

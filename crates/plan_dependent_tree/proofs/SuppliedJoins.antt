@@ -1,7 +1,6 @@
 -- The sides of a well-typed join, and its ON condition, are supplied where it is.
-use Rattle.std.proofs.Common.{◌≡◌, ℕ, zero, suc, ◌+◌, ◌<◌, List, [], ◌∷◌, ◌++◌, Bool, true, false}
-use Rattle.std.proofs.Common.{◌||◌, length, refl, sym, ap, ◌∙◌, subst, arith}
-use Rattle.std.specs.Prelude.{Option, Some}
+use Rattle.std.proofs.Common.{◌≡◌, ℕ, suc, ◌+◌, ◌<◌, List, ◌∷◌, ◌++◌, Bool, true}
+use Rattle.std.proofs.Common.{◌||◌, length, refl, sym, ap, ◌∙◌}
 use Rattle.std.proofs.lemmas.List.{length-append}
 use Rattle.expr_scalar.specs.declared.kind.Kind.{Kind}
 use Rattle.sql_bound_query.specs.declared.query.BoundExpr.{BoundExpr}
@@ -78,8 +77,7 @@ module _ (outer : List OuterColumn) (so_far : List ℕ) (n : ℕ) (a b : BoundSo
 pub inner_width : (on : BoundExpr) {s a b seen other : BoundSource} {w v n m : ℕ}
     → s ≡ source.Inner a b on → seen ≡ a → IsSourceWidth seen w → other ≡ b
     → IsSourceWidth other v → n ≡ w + v → m ≡ n → IsSourceWidth s m
-inner_width on {s} {a} {b} {seen} {other} {w} {v} {n} {m} is get left also right wide same = record
-    {
+inner_width on {s} {a} {b} {seen} {other} {w} {v} {n} {m} is get left also right wide same = record {
   is = λ before around kinds e.
       let t : JoinTyped a b on before around kinds =
       inner_typed a b on before around kinds

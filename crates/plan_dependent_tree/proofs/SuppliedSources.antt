@@ -1,16 +1,15 @@
 -- What stands in FROM is supplied where its FROM is.
-use Rattle.std.proofs.Common.{◌≡◌, ℕ, zero, suc, ◌+◌, ◌<◌, List, [], ◌∷◌, ◌++◌, Bool, true, false}
+use Rattle.std.proofs.Common.{◌≡◌, ℕ, zero, suc, ◌+◌, ◌<◌, List, [], ◌∷◌, ◌++◌, Bool, true}
 use Rattle.std.proofs.Common.{◌||◌, length, refl, sym, ap, ◌∙◌, subst, arith}
-use Rattle.std.specs.Prelude.{Option, Some}
+use Rattle.std.specs.Prelude.{Some}
 use Rattle.std.proofs.lemmas.List.{length-append, length-map}
 use Rattle.expr_scalar.specs.declared.kind.Kind.{Kind}
 use Rattle.base_schema.specs.declared.table.TableName.{TableName}
 use Rattle.base_schema.specs.Tables.{kinds_of}
 use Rattle.sql_bound_query.specs.declared.query.BoundBlock.{BoundBlock}
-use Rattle.sql_bound_query.specs.declared.query.BoundExpr.{BoundExpr}
 use Rattle.sql_bound_query.specs.declared.query.BoundSource.{BoundSource}
 use Rattle.sql_bound_query.specs.declared.query.BoundSource.TheVariants as source
-use Rattle.sql_bound_query.specs.Typing.{EnvKinds, KindsMeaning, FromKinds, kind_of_column}
+use Rattle.sql_bound_query.specs.Typing.{EnvKinds, FromKinds, kind_of_column}
 use Rattle.sql_bound_query.specs.Typing.{column_kinds, block_kinds, from_kinds}
 use Rattle.sql_bound_query.proofs.TypingOpened.{kinds_Table, kinds_Derived, kinds_Lateral}
 use Rattle.sql_bound_query.proofs.Keeps.{some_is}

@@ -1,50 +1,39 @@
 -- The parts of a well-typed part of a query are supplied where it is.
-use Rattle.std.proofs.Common.{◌≡◌, ℕ, zero, suc, ◌+◌, ◌-◌, ◌<◌, List, [], ◌∷◌, ◌++◌, Bool, true, false}
+use Rattle.std.proofs.Common.{◌≡◌, ℕ, zero, suc, ◌-◌, ◌<◌, List, [], ◌∷◌, Bool, true, false}
 use Rattle.std.proofs.Common.{◌&&◌, ◌||◌, ◌==◌, map, length, refl, sym, ap, ◌∙◌, subst, arith, get_or}
-use Rattle.std.specs.Prelude.{Option, Some, None, slice_get, slice_index_or, IsTrue}
+use Rattle.std.specs.Prelude.{Option, Some, slice_get, slice_index_or}
 use Rattle.std.specs.List.{All}
 use Rattle.std.proofs.lemmas.Bool.Decides.{Decides-eqb}
-use Rattle.std.proofs.lemmas.List.{length-append, length-map}
 use Rattle.std.proofs.lemmas.List.Folds.{list_any_at}
 use Rattle.std.proofs.lemmas.Option.{slice_get_within}
 use Rattle.expr_aggregates.specs.declared.function.AggregateFunction.{AggregateFunction}
-use Rattle.expr_scalar.specs.declared.expr.Expr.{Expr}
 use Rattle.expr_scalar.specs.declared.kind.Kind.{Kind}
-use Rattle.base_schema.specs.declared.table.TableName.{TableName}
-use Rattle.base_schema.specs.Tables.{kinds_of}
 use Rattle.sql_bound_query.specs.declared.query.BoundAggregate.{BoundAggregate}
 use Rattle.sql_bound_query.specs.declared.query.BoundAggregate.TheVariants as aggregate
 use Rattle.sql_bound_query.specs.declared.query.BoundBlock.{BoundBlock}
-use Rattle.sql_bound_query.specs.declared.query.BoundBlock.TheVariants as block
 use Rattle.sql_bound_query.specs.declared.query.BoundExpr.{BoundExpr}
-use Rattle.sql_bound_query.specs.declared.query.BoundSource.{BoundSource}
-use Rattle.sql_bound_query.specs.declared.query.BoundSource.TheVariants as source
 use Rattle.sql_bound_query.specs.declared.query.Input.{Input}
 use Rattle.sql_bound_query.specs.declared.query.Input.TheVariants as input
-use Rattle.sql_bound_query.specs.Typing.{EnvKinds, KindMeaning, KindsMeaning, ExprTyping, where_some}
-use Rattle.sql_bound_query.specs.Typing.{all_some, kind_of_sort, kind_of_column, column_kinds}
-use Rattle.sql_bound_query.specs.Typing.{listed_kinds, kind_of_aggregate, block_kinds, from_kinds}
+use Rattle.sql_bound_query.specs.Typing.{EnvKinds, KindMeaning, where_some}
+use Rattle.sql_bound_query.specs.Typing.{all_some, kind_of_sort}
+use Rattle.sql_bound_query.specs.Typing.{listed_kinds, kind_of_aggregate, block_kinds}
 use Rattle.sql_bound_query.specs.Typing.{kind_of_input, typing_of}
-use Rattle.sql_bound_query.proofs.TypingOpened.{kind_Column, kinds_Table, kinds_Derived, kinds_Distinct}
-use Rattle.sql_bound_query.proofs.Keeps.{Found, some_of, some_is}
+use Rattle.sql_bound_query.proofs.TypingOpened.{kind_Column}
+use Rattle.sql_bound_query.proofs.Keeps.{Found, some_of}
 use Rattle.plan_dependent_tree.specs.declared.sight.OuterColumn.{OuterColumn}
-use Rattle.plan_dependent_tree.specs.Seeks.{Seeks, any_seeks, has, seeks_of, seeks_of_source}
+use Rattle.plan_dependent_tree.specs.Seeks.{Seeks, any_seeks, has, seeks_of}
 use Rattle.plan_dependent_tree.specs.Seeks.{seeks_of_input, seeks_of_expr, seeks_of_aggregate}
-use Rattle.plan_dependent_tree.specs.Supplied.{IsSupplied, IsSuppliedOver, QueryIsSupplied}
-use Rattle.plan_dependent_tree.specs.Supplied.{SourceIsSupplied, SubqueryIsSupplied, InputIsSupplied}
+use Rattle.plan_dependent_tree.specs.Supplied.{QueryIsSupplied}
+use Rattle.plan_dependent_tree.specs.Supplied.{SubqueryIsSupplied, InputIsSupplied}
 use Rattle.plan_dependent_tree.specs.Supplied.{InputsAreSupplied, ExprIsSupplied, ListIsSupplied}
 use Rattle.plan_dependent_tree.specs.Supplied.{AggregateIsSupplied, AggregatesAreSupplied, IsSeen}
-use Rattle.plan_dependent_tree.specs.Supplied.{AreSeen, IsWidthOf}
+use Rattle.plan_dependent_tree.specs.Supplied.{AreSeen}
 use Rattle.plan_dependent_tree.proofs.SeeksOpened.{seeks_Column, seeks_Exists, seeks_In, seeks_Scalar}
-use Rattle.plan_dependent_tree.proofs.SeeksOpened.{seeks_Of, seeks_Cross, seeks_Inner, seeks_Outer}
-use Rattle.plan_dependent_tree.proofs.SeeksOpened.{seeks_Plain, seeks_Grouped, seeks_Distinct}
+use Rattle.plan_dependent_tree.proofs.SeeksOpened.{seeks_Of}
 use Rattle.plan_dependent_tree.proofs.SeeksOpened.{seeks_expr}
 use Rattle.plan_dependent_tree.proofs.TypedParts.{There, input_kinds, sort_inputs, exists_typed}
-use Rattle.plan_dependent_tree.proofs.TypedParts.{scalar_typed, InTyped, in_typed, of_typed, CrossTyped}
-use Rattle.plan_dependent_tree.proofs.TypedParts.{cross_typed, JoinTyped, inner_typed, OuterTyped}
-use Rattle.plan_dependent_tree.proofs.TypedParts.{outer_typed, PlainTyped, plain_typed, GroupedTyped}
-use Rattle.plan_dependent_tree.proofs.TypedParts.{grouped_typed}
-use Rattle.plan_dependent_tree.proofs.Within.{Within, query_within}
+use Rattle.plan_dependent_tree.proofs.TypedParts.{scalar_typed, InTyped, in_typed, of_typed}
+use Rattle.plan_dependent_tree.proofs.Within.{query_within}
 
 pub or_left : (a b : Bool) → a ≡ true → (a || b) ≡ true
 or_left true b e = refl

@@ -1,13 +1,13 @@
 -- What the operators make of rows with more columns after them.
-use Rattle.std.proofs.Common.{◌≡◌, ℕ, ◌+◌, ◌<◌, ◌≤◌, List, [], ◌∷◌, ◌++◌, Bool, map, refl, sym, ap}
-use Rattle.std.proofs.Common.{◌∙◌, inl, inr, arith, length, min}
-use Rattle.std.specs.Prelude.{nat_lt, cond}
+use Rattle.std.proofs.Common.{◌≡◌, ℕ, ◌≤◌, List, [], ◌∷◌, ◌++◌, Bool, map, refl, sym, ap}
+use Rattle.std.proofs.Common.{◌∙◌, inl, inr, arith, min}
+use Rattle.std.specs.Prelude.{nat_lt}
 use Rattle.std.specs.List.{filter, flat_map}
 use Rattle.std.proofs.lemmas.Bool.{cases_Bool, le-ltb, ltb-false}
 use Rattle.std.proofs.lemmas.List.{append-nil, append_assoc}
 use Rattle.std.proofs.lemmas.Grind.{flat_map-append}
 use Rattle.base_row_laws.specs.Aggregates.{aggregated}
-use Rattle.base_row_laws.specs.Bags.{Each, each_once, classes, bottom}
+use Rattle.base_row_laws.specs.Bags.{Each, each_once}
 use Rattle.base_row_laws.specs.Operators.{select, project, pair, or_else, join_loop, outer_loop}
 use Rattle.base_row_laws.specs.Operators.{group_by, total, least}
 use Rattle.base_row_laws.specs.Ranked.{Ranked, ranked, unknown_rank, true_rank}

@@ -3,7 +3,6 @@ use Rattle.std.specs.Prelude.{◌≡◌, ℕ, ◌+◌, List, [], ◌∷◌, ◌+
 use Rattle.std.specs.Prelude.{Some, None}
 use Rattle.base_row_laws.specs.Bags.{Each}
 use Rattle.base_row_laws.specs.JoinGroups.{Width}
-use Rattle.base_row_laws.specs.Operators.{select, cross}
 use Rattle.base_row_laws.specs.Ranked.{Ranked, ranked}
 use Rattle.base_row_laws.specs.StandingLaws.{Stands}
 use Rattle.base_value.specs.declared.value.Value.{Value}
@@ -17,11 +16,11 @@ use Rattle.sql_bound_query.specs.declared.query.BoundBlock.{BoundBlock}
 use Rattle.sql_bound_query.specs.declared.query.BoundExpr.{BoundExpr}
 use Rattle.sql_bound_query.specs.declared.query.BoundSource.{BoundSource}
 use Rattle.sql_bound_query.specs.declared.query.Input.{Input}
-use Rattle.sql_bound_query.specs.Meaning.{Env, RowsMeaning, FromMeaning, InputMeaning, ExprMeaning}
-use Rattle.sql_bound_query.specs.Meaning.{AggregateMeaning, column, aggregate_meaning, block_meaning}
+use Rattle.sql_bound_query.specs.Meaning.{Env, RowsMeaning, FromMeaning}
+use Rattle.sql_bound_query.specs.Meaning.{column, aggregate_meaning, block_meaning}
 use Rattle.sql_bound_query.specs.Meaning.{source_meaning, input_meaning, expr_meaning}
-use Rattle.sql_bound_query.specs.Reads.{tables, tables_of_source, tables_of_input, tables_of_expr}
-use Rattle.sql_bound_query.specs.Reads.{tables_of_aggregate, joined_tables}
+use Rattle.sql_bound_query.specs.Reads.{tables, tables_of_input, tables_of_expr}
+use Rattle.sql_bound_query.specs.Reads.{joined_tables}
 use Rattle.sql_bound_query.specs.Typing.{StateIsOf}
 use Rattle.plan_algebra.specs.declared.aggregate.Aggregate.{Aggregate}
 use Rattle.plan_algebra.specs.declared.tree.DepTree.{DepTree}

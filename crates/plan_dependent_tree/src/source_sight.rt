@@ -25,10 +25,7 @@ pub struct SourceSight<'a> {
 
 /// The columns that a domain row begins with, as a lateral item's query sees them: its nearest row
 /// is the row so far.
-pub fn lateral_columns(
-    alloc: Global,
-    sight: &SourceSight,
-) -> Result<Items<OuterColumn>, AllocError>
+pub fn lateral_columns(alloc: Global, sight: &SourceSight) -> Result<Items<OuterColumn>, AllocError>
     ensures { IfOk result (λ all.
         all ≡ spec.lateral_columns sight.now.outer.now sight.now.so_far.now) }
 {
@@ -72,7 +69,10 @@ fn right_place(sight: &SourceSight, place: u32) -> Result<u32, AllocError>
         let at = outer.checked_add(index).ok_or(AllocError)?;
         Ok(at)
     } else {
-        let at = sight.start.checked_add(place - sight.before).ok_or(AllocError)?;
+        let at = sight
+            .start
+            .checked_add(place - sight.before)
+            .ok_or(AllocError)?;
         Ok(at)
     }
 }

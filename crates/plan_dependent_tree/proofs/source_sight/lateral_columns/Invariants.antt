@@ -1,5 +1,4 @@
-use Rattle.std.proofs.Common.{◌≡◌, ℕ, suc, ◌++◌, map, take}
-use Rattle.plan_dependent_tree.specs.declared.sight.OuterColumn.{OuterColumn}
+use Rattle.std.proofs.Common.{◌≡◌, ◌++◌, map, take}
 use Rattle.plan_dependent_tree.proofs.LateralColumns.{up, near}
 use Rattle.plan_dependent_tree.proofs.source_sight.lateral_columns.Given as goal
 

@@ -1,4 +1,4 @@
-use Rattle.std.proofs.Common.{arith, subst, take}
+use Rattle.std.proofs.Common.{arith, subst}
 use Rattle.std.proofs.lemmas.List.{take_all}
 use Rattle.plan_dependent_tree.specs.FromGrowth.{AreRightPlaces}
 use Rattle.plan_dependent_tree.proofs.RightPlaces.{AreOuterPlaces, outer_none, outer_put, right_none}
