@@ -26,8 +26,8 @@ abbrev pub gateway_name : TableId → List ℕ
 gateway_name gateway = gateway.words ∷ gateway.slots ∷ gateway.views_name ∷ gateway.atom
     ∷ gateway.block ∷ gateway.offset ∷ gateway.slot_names
 
--- A publisher of the version fits it: each refresh of the version's list was tried, and the list may
--- get longer by all that may still be taken.
+-- A publisher of the version fits it: each refresh of the version's list was tried, and the list
+-- may get longer by all that may still be taken.
 pub record GatewayFits (taker : Taking) (version : Trials) : Type 0 where
   pub all : version.done ≡ length version.list
   pub room : length version.list + (taker.quotas.0 + taker.quotas.1)

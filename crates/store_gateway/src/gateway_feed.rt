@@ -1,8 +1,8 @@
 //! A gateway as a feed.
 ghost use Rattle.std.specs.Prelude.{◌≡◌, true};
 ghost use Rattle.std.specs.List.{All};
-ghost use Rattle.store_gateway.specs.Feeds.{GatewayFits, GatewayIsOver, IsFromEither, gateway_tried};
-ghost use Rattle.store_gateway.specs.Feeds.{gateway_name, numbered, sent_from};
+ghost use Rattle.store_gateway.specs.Feeds.{GatewayFits, GatewayIsOver, IsFromEither};
+ghost use Rattle.store_gateway.specs.Feeds.{gateway_name, gateway_tried, numbered, sent_from};
 ghost use Rattle.store_gateway.specs.declared.message.SenderId.TheVariants.{First, Second};
 
 use crate::ended::Ended;

@@ -1,6 +1,5 @@
 //! A gateway: the queue from two senders of refreshes to one taker, which keeps what each sent and
-//! the order in which all was taken, and which is a feed for a publisher. The program doesn't use it
-//! yet.
+//! the order in which all was taken, and which is a feed for a publisher.
 #![tactic(auto)]
 
 mod ended;

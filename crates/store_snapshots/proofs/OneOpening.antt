@@ -1,14 +1,13 @@
 -- Versions of one opening.
-use Rattle.std.proofs.Common.{◌≡◌, ℕ, List, ◌++◌, Option, Some, None, true, false, length, take, drop, refl, sym, ap, subst, ◌∙◌, le_refl}
-use Rattle.std.specs.Option.{is_some}
+use Rattle.std.proofs.Common.{◌≡◌, ℕ, List, ◌++◌, Some, None, length, drop, refl, sym, ap, subst, ◌∙◌, le_refl}
 use Rattle.std.proofs.lemmas.List.{take-append-drop}
 use Rattle.std.proofs.Math.Seq.{take-length}
 use Rattle.base_schema.specs.State.{State}
 use Rattle.store_state.specs.Prefixes.{IsPrefix}
 use Rattle.store_state.specs.Refresh.{Change}
-use Rattle.store_state.proofs.Prefixes.{prefix-behind, prefix-whole, take-prefix}
+use Rattle.store_state.proofs.Prefixes.{prefix-behind, take-prefix}
 use Rattle.store_versions.specs.Trials.{Trials}
-use Rattle.store_snapshots.specs.Openings.{AreOfOne, HasOpening, IsNamed, IsOf, Opening, opening_at}
+use Rattle.store_snapshots.specs.Openings.{AreOfOne, HasOpening, IsNamed, IsOf, Opening}
 
 pub has_opening : (opening : Opening) (version : Trials) → IsOf opening version → HasOpening opening version
 has_opening opening version of_it o is =

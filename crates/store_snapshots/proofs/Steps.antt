@@ -1,5 +1,5 @@
 -- A step that keeps the opening, shortens no list and lowers no version keeps the rule.
-use Rattle.std.proofs.Common.{◌≡◌, ◌≢◌, ℕ, ◌+◌, ◌<◌, ◌≤◌, List, [], ◌∷◌, ◌++◌, Some, None, length, set, zero-le, refl, subst, ⊎_elim, ap, le_refl, le_trans, ◌∙◌, sym, arith, length-append}
+use Rattle.std.proofs.Common.{◌≡◌, ◌≢◌, ℕ, ◌<◌, ◌≤◌, List, [], ◌∷◌, ◌++◌, Some, None, length, set, zero-le, refl, subst, ⊎_elim, ap, le_refl, le_trans, ◌∙◌, sym, arith, length-append}
 use mathlib.Core.Option.{some, some-ne-none}
 use lib.ListN.{get_elem?}
 use Rattle.atomic_table.proofs.Lists.{at_set, at_snoc}
@@ -75,8 +75,7 @@ enters seat v x views h at =
 
 pub of_itself : (y : Trials) → IsOf (opening_at y) y
 of_itself y o is =
-    let first : Opening → State × List Change × ℕ = λ k. elim k [ Some p ↦ p | None ↦ (y.base, y.list, y.most) ] in
-    (
+    let first : Opening → State × List Change × ℕ = λ k. elim k [ Some p ↦ p | None ↦ (y.base, y.list, y.most) ] in (
       ap (λ k. (first k).0) is,
       subst (λ l. IsPrefix l y.list) (ap (λ k. (first k).1) is) (prefix-refl y.list),
       ap (λ k. (first k).2) is,

@@ -8,8 +8,8 @@ use Rattle.store_snapshots.specs.Openings.{AllBegin, Opening, IsOf, HasRisen}
 use Rattle.store_snapshots.specs.declared.entry.Entered.{Entered}
 use Rattle.store_snapshots.specs.declared.entry.Entered.TheVariants.{Share, Refused, OutOfMemory}
 
--- A version of that opening is entered, by the lists that fit before and after: its list begins with
--- each list that was seen before, and is itself one that was seen from then on.
+-- A version of that opening is entered, by the lists that fit before and after: its list begins
+-- with each list that was seen before, and is itself one that was seen from then on.
 pub record IsEntered (opening : Opening) (fits new : List Change → Type 0) (version : Trials)
     : Type 0 where
   pub opened : IsOf opening version
@@ -18,8 +18,8 @@ pub record IsEntered (opening : Opening) (fits new : List Change → Type 0) (ve
   pub added : AllBegin new version.list
 
 -- of an opening, with the lists that fit before and after, the number before and after, the entries
--- before and after, and the refusals before and after: a share is entered and of the new number, and
--- only the entries rose; of a refusal only the refusals rose; out of memory may have raised the
+-- before and after, and the refusals before and after: a share is entered and of the new number,
+-- and only the entries rose; of a refusal only the refusals rose; out of memory may have raised the
 -- number alone
 abbrev pub Enters : Opening → (List Change → Type 0) → (List Change → Type 0) → ℕ → ℕ → ℕ → ℕ → ℕ
     → ℕ → Entered → Type 0

@@ -13,9 +13,9 @@ use Rattle.store_snapshots.specs.declared.hall.Another.TheVariants.{Made, Refuse
 abbrev pub shown_in : RuledHall → Trials
 shown_in hall = on_shelf hall.writer.desk.shown.value
 
--- by the openings, the lists that fit and the numbers of entries, of the version that is shown, with
--- the refusals before and after: an entry of that opening and of number 0, which has seen that list,
--- and no refusal more; or none, and the refusals rose
+-- by the openings, the lists that fit and the numbers of entries, of the version that is shown,
+-- with the refusals before and after: an entry of that opening and of number 0, which has seen that
+-- list, and no refusal more; or none, and the refusals rose
 abbrev pub MakesEntry : {E : Type 0} → (E → Opening) → (E → List Change → Type 0) → (E → ℕ) → Trials
     → ℕ → ℕ → Another E → Type 0
 MakesEntry opening fits number shown refused more (Made entry) = (opening entry ≡ opening_at shown)

@@ -24,8 +24,8 @@ use Rattle.store_snapshots.specs.declared.publisher.Published.TheVariants.{NoMor
 abbrev pub Cut : Type 0
 Cut = List (List (List (List Value)))
 
--- the last version, the version that readers are shown, how often the hall refused an entry, and the
--- segments of the last version, where they are joined
+-- the last version, the version that readers are shown, how often the hall refused an entry, and
+-- the segments of the last version, where they are joined
 pub record Edition : Type 0 where
   pub version : Trials
   pub shown : Trials
@@ -85,8 +85,8 @@ StaysUntried old new (Refused cause) = Unit {0}
 StaysUntried old new NoMore = new ≡ old
 StaysUntried old new OutOfMemory = new ≡ old
 
--- the next refresh of these trials is accepted: the version after it is shown, and the note tells of
--- it
+-- the next refresh of these trials is accepted: the version after it is shown, and the note tells
+-- of it
 pub record AcceptsNext (trials : Trials) (new : Edition) (note : Note) : Type 0 where
   pub after : IsAfter trials trials (Ok new.version)
   pub shown : new.shown ≡ new.version

@@ -1,12 +1,12 @@
 -- What an entry and a note under the rule mean.
-use Rattle.std.specs.Prelude.{◌≡◌, ℕ, false, List}
+use Rattle.std.specs.Prelude.{◌≡◌, false, List}
 use Rattle.std.specs.Option.{ForSome}
 use Rattle.std.specs.Arc.{arc_value}
 use Rattle.store_state.specs.Refresh.{Change}
 use Rattle.store_state.specs.Prefixes.{IsPrefix}
-use Rattle.store_versions.specs.Trials.{Trials, version_of}
+use Rattle.store_versions.specs.Trials.{Trials}
 use Rattle.left_right.specs.Sides.{view}
-use Rattle.store_snapshots.specs.Openings.{Opening, opening_at}
+use Rattle.store_snapshots.specs.Openings.{Opening}
 use Rattle.store_snapshots.specs.declared.ruled.RuledEntry.{RuledEntry}
 use Rattle.store_snapshots.specs.declared.note.Note.{Note}
 

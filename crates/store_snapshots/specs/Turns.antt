@@ -1,6 +1,6 @@
 -- What a turn of a feed does.
-use Rattle.std.specs.Prelude.{◌≡◌, ◌⊎◌, ℕ, ◌+◌, ◌<◌, List, [], ◌∷◌, ◌++◌, Option, Some, None, length}
-use Rattle.std.specs.Prelude.{drop, map, slice_get, take}
+use Rattle.std.specs.Prelude.{◌≡◌, ◌⊎◌, ℕ, ◌+◌, ◌<◌, List, [], ◌∷◌, ◌++◌, Option, Some, None}
+use Rattle.std.specs.Prelude.{drop, length, map, slice_get, take}
 use Rattle.store_state.specs.Refresh.{Change}
 use Rattle.store_versions.specs.Trials.{Trials, offered}
 use Rattle.store_snapshots.specs.Publishers.{AcceptsNext, Edition, RefusesNext}

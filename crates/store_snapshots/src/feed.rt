@@ -10,7 +10,8 @@ use base_refusals::Cause;
 use std::alloc::AllocError;
 use std::sync::Wait;
 
-/// What comes of a turn of a feed. A refresh is told of with the number of its sender, if it has one.
+/// What comes of a turn of a feed. A refresh is told of with the number of its sender, if it has
+/// one.
 #[derive(Drop)]
 pub enum FeedTurn {
     /// A refresh was accepted, and readers are shown the version after it. The note tells of it.
@@ -25,7 +26,8 @@ pub enum FeedTurn {
 
 /// A source of refreshes for a publisher.
 pub trait Feed {
-    /// The refreshes that it tried, in this order, each with the number of its sender, if it has one.
+    /// The refreshes that it tried, in this order, each with the number of its sender, if it has
+    /// one.
     ghost tried: { Self → List (Option ℕ × Change) };
 
     /// What names its source. No turn changes it.
@@ -38,8 +40,8 @@ pub trait Feed {
     ghost is_over: { Self → Trials → Type 0 };
 
     /// Has the publisher try one refresh, if there is one. It doesn't wait for one to come: whoever
-    /// calls it again after `Idle` yields before. After an error no turn is to be asked for: a refresh
-    /// of the source may be lost.
+    /// calls it again after `Idle` yields before. After an error no turn is to be asked for: a
+    /// refresh of the source may be lost.
     fn turn<R: Wait>(&mut self, rt: &R, publisher: &mut Publisher) -> Result<FeedTurn, AllocError>
         requires { fits self.old publisher.old.version }
         ensures turn { IfOk result (TakesTurn (tried self.old) (tried self.new) (is_over self.new)

@@ -1,5 +1,6 @@
 //! The publisher, and the opening of readers for it.
-ghost use Rattle.std.specs.Prelude.{◌≡◌, ◌<◌, ◌≤◌, ◌↔◌, IfOk, IsTrue, OnErr, OnOk, length, slice_get};
+ghost use Rattle.std.specs.Prelude.{◌≡◌, ◌<◌, ◌≤◌, ◌↔◌, IfOk, IsTrue, OnErr, OnOk, length};
+ghost use Rattle.std.specs.Prelude.{slice_get};
 ghost use Rattle.std.specs.Arc.{arc_value};
 ghost use Rattle.store_versions.specs.Trials.{offered, tables_of, version_of};
 ghost use Rattle.store_snapshots.specs.Halls.{AreSeated, HaveSeenLists, SeatsEnough, shown_in};
@@ -24,9 +25,10 @@ use store_state::{Refresh, RefreshError, State};
 use store_versions::Directory;
 
 /// Tries refreshes one after the other, those of its list and then those that are given, which come
-/// to the list's end, and shows readers the versions. It is seen as its last version and the one that
-/// readers are shown, with how often its hall refused an entry, and with the last version's segments
-/// from a compaction up to the next refresh that is tried. It is not dropped: `close` ends it.
+/// to the list's end, and shows readers the versions. It is seen as its last version and the one
+/// that readers are shown, with how often its hall refused an entry, and with the last version's
+/// segments from a compaction up to the next refresh that is tried. It is not dropped: `close` ends
+/// it.
 pub struct Publisher {
     alloc: Global,
     writer: ShelfWriter,
@@ -276,8 +278,8 @@ impl Publisher {
 }
 
 /// A publisher of a base with nothing tried, and as many readers of its versions as are wanted;
-/// fewer, but one, only where its hall refused an entry. Its list will have at most so many refreshes
-/// in the end.
+/// fewer, but one, only where its hall refused an entry. Its list will have at most so many
+/// refreshes in the end.
 pub fn open<R: Wait>(
     rt: &R,
     alloc: Global,

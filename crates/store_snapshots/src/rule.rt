@@ -95,7 +95,8 @@ pub(crate) fn start<R: Wait>(
     }
 }
 
-/// A reader that knows the opening and the list of the writer's versions, and none of their numbers.
+/// A reader that knows the opening and the list of the writer's versions, but none of their
+/// numbers.
 pub(crate) fn joined(writer: &mut ShelfWriter) -> Result<ShelfReader, AllocError>
     ensures joined { IfOk result (λ r. view r.place ≡ named_only (view writer.old.desk.place)) }
     ensures kept { (view writer.new.desk.place ≡ view writer.old.desk.place)

@@ -16,12 +16,12 @@ use std::mem::replace;
 use std::sync::Arc;
 use store_versions::Directory;
 
-/// An entry by a reader of the shelf. Its number is that of the last version that it gave or was told
-/// of.
+/// An entry by a reader of the shelf. Its number is that of the last version that it gave or was
+/// told of.
 ///
-/// It keeps a version that it was told of up to the next one that it gives. The rule doesn't say that
-/// the list of a version which is entered begins with the kept one's, so the two are compared, from
-/// the end of the opening's list on.
+/// It keeps a version that it was told of up to the next one that it gives. The rule doesn't say
+/// that the list of a version which is entered begins with the kept one's, so the two are compared,
+/// from the end of the opening's list on.
 #[derive(Drop)]
 pub struct RuledEntry {
     reader: ShelfReader,
@@ -97,11 +97,7 @@ fn is_after(told: &Option<Arc<Directory>>, now: &Directory, first: usize) -> boo
 
 /// The one of two versions that were told of whose list is found to begin with the other's, and
 /// whether neither was found to do so.
-fn longer_of(
-    before: Arc<Directory>,
-    now: Arc<Directory>,
-    first: usize,
-) -> (Arc<Directory>, bool)
+fn longer_of(before: Arc<Directory>, now: Arc<Directory>, first: usize) -> (Arc<Directory>, bool)
     requires { AreOfOne first (arc_value before) (arc_value now) }
     ensures before { result.1 ≡ false → IsPrefix (arc_value before).list (arc_value result.0).list }
     ensures now { result.1 ≡ false → IsPrefix (arc_value now).list (arc_value result.0).list }

@@ -5,9 +5,9 @@
 #[cfg(test)]
 mod files;
 #[cfg(test)]
-mod lists_called;
+mod given_called;
 #[cfg(test)]
-mod longer_lists;
+mod lists_called;
 #[cfg(test)]
 mod machine_called;
 #[cfg(test)]

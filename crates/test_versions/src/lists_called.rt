@@ -32,7 +32,9 @@ fn finds_the_same_refreshes(rt: HostRuntime) -> Result<(), Fail> {
 /// should, and has the order after its refresh.
 fn gets_longer(alloc: Global, short: &Directory, mut long: Directory) -> Result<bool, Fail> {
     let mut good = long.listed() == 1 && long.most() == 2 && long.version() == 0;
-    good &= long.begins_with(short, 0) && !short.begins_with(&long, 0) && short.begins_with(&long, 1);
+    good &= long.begins_with(short, 0)
+        && !short.begins_with(&long, 0)
+        && short.begins_with(&long, 1);
     if long.is_done() {
         return Ok(false);
     }

@@ -121,7 +121,10 @@ fn publishes_what_is_offered(rt: HostRuntime) -> Result<(), Fail> {
     let base = state(alloc, &[ORDERS], &[])?;
     let mut machine = Machine::new(alloc, base, Vec::new(alloc), 1)?;
     step(&mut machine, Step::Publish)?;
-    step(&mut machine, Step::Offer(insert(alloc, &[NINE], &[NINE_ONE])?))?;
+    step(
+        &mut machine,
+        Step::Offer(insert(alloc, &[NINE], &[NINE_ONE])?),
+    )?;
     assert!(rt; begins(alloc, &mut machine, 2, 0)?);
     step(&mut machine, Step::Publish)?;
     assert!(rt; begins(alloc, &mut machine, 3, 1)?);

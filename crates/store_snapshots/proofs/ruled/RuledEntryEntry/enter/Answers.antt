@@ -1,4 +1,4 @@
-use Rattle.std.proofs.Common.{rules, ◌≡◌, List, false, true, subst, sym}
+use Rattle.std.proofs.Common.{rules, ◌≡◌, List, subst, sym}
 use Rattle.std.specs.Option.{ForSome}
 use Rattle.std.specs.Arc.{arc_value}
 use Rattle.left_right.specs.Sides.{view}

@@ -1,4 +1,4 @@
-use Rattle.std.proofs.Common.{◌≡◌, ◌∙◌, Some, false, true, ap, refl, subst, sym, ⊎_elim}
+use Rattle.std.proofs.Common.{◌≡◌, ◌∙◌, ap, refl, subst, sym, ⊎_elim}
 use Rattle.std.specs.Arc.{arc_value}
 use Rattle.left_right.specs.Sides.{view}
 use Rattle.store_state.specs.Prefixes.{IsPrefix}
@@ -42,8 +42,7 @@ returns-after-self-clause-more c list fits =
       | then-self w ↦ absurd (let yes_is = w.self-is in let no = fits.2 in cc)
       | else-self w ↦
           let before = c.longer_of-longer.ensures.before (sym w.self-is ∙ fits.2) in
-          let begins = prefix-trans (arc_value c.in-Some.before).list (arc_value longer).list list before (fits.1 longer refl) in
-          (
+          let begins = prefix-trans (arc_value c.in-Some.before).list (arc_value longer).list list before (fits.1 longer refl) in (
             fits.0,
             λ t is. let both = sym told ∙ is in let e : c.in-Some.before ≡ t = cc in subst (λ (d : Trials). IsPrefix d.list list) (ap arc_value e) begins,
             w.if-self.false,
