@@ -35,13 +35,16 @@ the Nth on; all of these must agree.
 
 The header of a text may end with a word that says how its lines are read: `escaped` knows \\r \\n
 \\t \\xNN \\\\ and no other line ends; `repeat` has lines `COUNT TEXT`, with TEXT escaped, and lines
-`FIRST-LAST TEXT`, where each # in TEXT is the number. The empty line before the next case or set
+`FIRST-LAST TEXT`, where each # in TEXT is the number. In `-- one of STATUS choice` the lines that
+begin with `| ` are choices, escaped: of those that follow one another one is printed there, and none
+may begin another; a line `|` parts two such lists. The empty line before the next case or set
 belongs to no text. A line that begins with `= ` is a heading, and nothing is read up to the next
 case or set. So a line of a text may not begin with `-- `, `= ` or `== `, unless it is escaped.
 """
 
 from __future__ import annotations
 
+import itertools
 import re
 import shlex
 from dataclasses import dataclass, field
@@ -119,6 +122,17 @@ def repeated(line: bytes) -> bytes:
     return b"".join(unescaped(text.replace(b"#", b"%d" % n)) for n in range(int(first), int(last) + 1))
 
 
+def chosen(lines: list[bytes]) -> list[bytes]:
+    """The texts that lines with choices stand for."""
+    parts: list[list[bytes]] = []
+    for is_choice, group in itertools.groupby(lines, lambda line: line.startswith(b"| ")):
+        if is_choice:
+            parts.append([unescaped(line[2:]) + b"\n" for line in group])
+        else:
+            parts.append([b"".join(line + b"\n" for line in group if line != b"|")])
+    return [b"".join(choices) for choices in itertools.product(*parts)]
+
+
 def text_of(how: list[str], lines: list[bytes]) -> bytes:
     """The bytes of a text whose header ends with these words."""
     if how == ["escaped"]:
@@ -157,6 +171,8 @@ def put_text(case: Case, line: int, header: list[str], lines: list[bytes]) -> No
     match header:
         case [("out" | "head" | "end") as kind, status, *how] if status.isdigit():
             case.expected.append(Expected(kind, int(status), text_of(how, lines), line))
+        case ["one", "of", status, "choice"] if status.isdigit():
+            case.expected.extend(Expected("out", int(status), text, line) for text in chosen(lines))
         case ["one", "of", status, *how] if status.isdigit():
             case.expected.append(Expected("out", int(status), text_of(how, lines), line))
         case ["after", file, *how]:

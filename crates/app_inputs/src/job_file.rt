@@ -8,7 +8,7 @@ ghost use Rattle.app_inputs.specs.Views.{Reads};
 
 use crate::input::collect;
 use crate::input_error::{InputError, InputFault, ReadError, refusal_of};
-use app_job_file::{Job, JobError, JobRefusal, MAX_JOB, RefusedLine, read_job};
+use app_job_file::{Job, JobFileError, JobRefusal, MAX_JOB, RefusedLine, read_job};
 use base_io::{Files, Open};
 use std::alloc::Global;
 
@@ -20,8 +20,8 @@ fn job_of_bytes(alloc: Global, bytes: &[u8]) -> Result<Result<Job, RefusedLine>,
 {
     match read_job(alloc, bytes) {
         Ok(job) => Ok(Ok(job)),
-        Err(JobError::Refused(line)) => Ok(Err(line)),
-        Err(JobError::OutOfMemory) => Err(ReadError::OutOfMemory),
+        Err(JobFileError::Refused(line)) => Ok(Err(line)),
+        Err(JobFileError::OutOfMemory) => Err(ReadError::OutOfMemory),
     }
 }
 

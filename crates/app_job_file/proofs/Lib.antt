@@ -1,2 +1,3 @@
 mod LineSteps
 mod Digits
+mod WorkedExamples

@@ -1,20 +1,22 @@
 -- What a job's file asks for, and its first refusal.
 use Rattle.std.specs.Prelude.{◌≡◌, ⊤, ℕ, ◌<◌, ◌≤◌, ◌+◌, List, [], ◌∷◌, ◌++◌, codes, length, nat_lt}
-use Rattle.std.specs.Prelude.{◌==◌, Option, None, Some}
+use Rattle.std.specs.Prelude.{◌==◌, Bool, nat_le, Option, None, Some}
 use Rattle.std.specs.Prelude.{map, Result, Ok, Err, if◌then◌else◌}
 use Rattle.std.specs.String.{string_bytes}
 use Rattle.store_file_reader.specs.File.{cut_lines}
 use Rattle.store_file_reader.specs.Line.{line_text}
 use Rattle.app_job_file.specs.Lines.{JobLine, line_of}
-use Rattle.app_job_file.specs.Lines.JobLine.{BeforeLine, BesideLine, ScriptLine}
+use Rattle.app_job_file.specs.Lines.JobLine.{BeforeLine, BesideLine, ScriptLine, SendLine}
 use Rattle.app_job_file.specs.declared.job.Job.{Job}
 use Rattle.app_job_file.specs.declared.job.Mention.{Mention}
-use Rattle.app_job_file.specs.declared.reading.JobError.{JobError}
-use Rattle.app_job_file.specs.declared.reading.JobError.TheVariants.{Refused, OutOfMemory}
+use Rattle.app_job_file.specs.declared.reading.JobFileError.{JobFileError}
+use Rattle.app_job_file.specs.declared.reading.JobFileError.TheVariants.{Refused, OutOfMemory}
 use Rattle.app_job_file.specs.declared.refusal.JobRefusal.{JobRefusal}
 use Rattle.app_job_file.specs.declared.refusal.JobRefusal.TheVariants.{BadLine, LateBefore, TooMany}
 use Rattle.app_job_file.specs.declared.refusal.JobRefusal.TheVariants.{NoSession, TooLong}
+use Rattle.app_job_file.specs.declared.refusal.JobRefusal.TheVariants.{MixedSenders}
 use Rattle.app_job_file.specs.declared.refusal.RefusedLine.{RefusedLine}
+use Rattle.store_gateway.specs.declared.message.SenderId.{SenderId}
 
 -- the number of a job's refusal
 abbrev pub job_refusal_number : JobRefusal → ℕ
@@ -23,6 +25,7 @@ job_refusal_number LateBefore = 2
 job_refusal_number TooMany = 3
 job_refusal_number NoSession = 4
 job_refusal_number TooLong = 5
+job_refusal_number MixedSenders = 6
 
 -- the name of a job's refusal
 abbrev pub job_refusal_name : JobRefusal → List ℕ
@@ -31,13 +34,16 @@ job_refusal_name LateBefore = codes "LateBefore"
 job_refusal_name TooMany = codes "TooMany"
 job_refusal_name NoSession = codes "NoSession"
 job_refusal_name TooLong = codes "TooLong"
+job_refusal_name MixedSenders = codes "MixedSenders"
 
--- What a job is made of: the names of the scripts of its sessions, its refreshes, and how many of
--- these are tried before the sessions.
+-- What a job is made of: the names of the scripts of its sessions; its refreshes, in the order of
+-- its lines; how many of these are tried before the sessions; and who sends each of the others, or
+-- nobody where they are tried in their order.
 pub record JobParts : Type 0 where
   pub scripts : List (List ℕ)
   pub refreshes : List Mention
   pub before : ℕ
+  pub senders : List SenderId
 
 -- the parts of a job that was read
 abbrev pub parts_of : Job → JobParts
@@ -45,6 +51,7 @@ parts_of job = record {
   scripts = map string_bytes job.scripts.items;
   refreshes = job.refreshes.items;
   before = job.before;
+  senders = job.senders.items;
 }
 
 -- the most sessions
@@ -61,7 +68,7 @@ job_limit = 1_048_576
 
 -- nothing yet
 abbrev pub no_parts : JobParts
-no_parts = record { scripts = []; refreshes = []; before = 0 }
+no_parts = record { scripts = []; refreshes = []; before = 0; senders = [] }
 
 -- one session more, but for the one that is too many
 abbrev pub with_script : JobParts → List ℕ → Result JobParts JobRefusal
@@ -70,22 +77,52 @@ with_script parts name =
     then Ok (record parts { scripts = parts.scripts ++ name ∷ [] })
     else Err TooMany
 
--- one refresh more, but for the one that is too many, with n of them before the sessions
-abbrev pub with_refresh : JobParts → Mention → ℕ → Result JobParts JobRefusal
-with_refresh parts mention before =
-    if nat_lt (length parts.refreshes) most_refreshes
-    then Ok (record parts { refreshes = parts.refreshes ++ mention ∷ []; before = before })
-    else Err TooMany
+-- another refresh would be one too many
+abbrev pub is_full : JobParts → Bool
+is_full parts = nat_le most_refreshes (length parts.refreshes)
 
--- what one line more makes; no refresh is tried before the sessions after one beside them
+-- a refresh beside the sessions is sent
+abbrev pub has_sent : JobParts → Bool
+has_sent parts = nat_lt 0 (length parts.senders)
+
+-- a refresh beside the sessions is sent by nobody
+abbrev pub has_unsent : JobParts → Bool
+has_unsent parts = nat_lt (parts.before + length parts.senders) (length parts.refreshes)
+
+-- one refresh more before the sessions; none may come after one beside them
+abbrev pub with_before : JobParts → Mention → Result JobParts JobRefusal
+with_before parts mention =
+    if nat_lt parts.before (length parts.refreshes) then Err LateBefore
+    else if is_full parts then Err TooMany
+    else Ok (record parts {
+      refreshes = parts.refreshes ++ mention ∷ [];
+      before = parts.before + 1;
+    })
+
+-- one refresh more beside the sessions, which nobody sends; none may come after one that is sent
+abbrev pub with_beside : JobParts → Mention → Result JobParts JobRefusal
+with_beside parts mention =
+    if is_full parts then Err TooMany
+    else if has_sent parts then Err MixedSenders
+    else Ok (record parts { refreshes = parts.refreshes ++ mention ∷ [] })
+
+-- one refresh more beside the sessions, which is sent; none may come after one that nobody sends
+abbrev pub with_sent : JobParts → SenderId → Mention → Result JobParts JobRefusal
+with_sent parts sender mention =
+    if is_full parts then Err TooMany
+    else if has_unsent parts then Err MixedSenders
+    else Ok (record parts {
+      refreshes = parts.refreshes ++ mention ∷ [];
+      senders = parts.senders ++ sender ∷ [];
+    })
+
+-- what one line more makes
 abbrev pub with_line : JobParts → Option JobLine → Result JobParts JobRefusal
 with_line parts None = Err BadLine
 with_line parts (Some (ScriptLine name)) = with_script parts name
-with_line parts (Some (BeforeLine mention)) =
-    if nat_lt parts.before (length parts.refreshes)
-    then Err LateBefore
-    else with_refresh parts mention (parts.before + 1)
-with_line parts (Some (BesideLine mention)) = with_refresh parts mention parts.before
+with_line parts (Some (BeforeLine mention)) = with_before parts mention
+with_line parts (Some (BesideLine mention)) = with_beside parts mention
+with_line parts (Some (SendLine sender mention)) = with_sent parts sender mention
 
 -- the same for the text of a line; an empty one is skipped
 abbrev pub with_text : JobParts → List ℕ → Result JobParts JobRefusal
@@ -122,22 +159,27 @@ job_of bytes =
     else with_session (with_lines 1 no_parts (cut_lines bytes))
 
 -- a job that was read, or the line for which it is refused; out of memory says nothing
-abbrev pub Says : Result JobParts RefusedLine → Result Job JobError → Type 0
+abbrev pub Says : Result JobParts RefusedLine → Result Job JobFileError → Type 0
 Says made (Ok job) = made ≡ Ok (parts_of job)
 Says made (Err (Refused line)) = made ≡ Err line
 Says made (Err OutOfMemory) = ⊤
 
 -- the same for one line more, of that number
-abbrev pub Puts : ℕ → Result JobParts JobRefusal → JobParts → Result (Unit {0}) JobError → Type 0
+abbrev pub Puts : ℕ → Result JobParts JobRefusal → JobParts → Result (Unit {0}) JobFileError → Type 0
 Puts number made new (Ok done) = made ≡ Ok new
 Puts number made new (Err (Refused refused)) =
     (made ≡ Err refused.refusal) × (refused.line ≡ number)
 Puts number made new (Err OutOfMemory) = ⊤
 
--- a job within its limits, with no more refreshes before the sessions than it has
+-- A job within its limits, with no more refreshes before the sessions than it has. Where some beside
+-- them are sent, all beside them are.
 pub record IsWithin (job : Job) : Type 0 where
   pub few : length job.scripts.items ≤ most_sessions
-  pub before : job.before ≤ length job.refreshes.items
+  pub refreshes : length job.refreshes.items ≤ most_refreshes
+  pub places : job.before + length job.senders.items ≤ length job.refreshes.items
+  pub all :
+      0 < length job.senders.items
+      → job.before + length job.senders.items ≡ length job.refreshes.items
 
 -- the same with a session
 pub record IsReadable (job : Job) : Type 0 where

@@ -10,7 +10,9 @@ use Rattle.sql_ast.specs.declared.statement.RefreshKind.{RefreshKind}
 use Rattle.sql_ast.specs.declared.statement.RefreshKind.TheVariants.{Insert, Delete}
 use Rattle.app_job_file.specs.declared.job.Mention.{Mention}
 use Rattle.app_job_file.specs.declared.line.Line.{Line}
-use Rattle.app_job_file.specs.declared.line.Line.TheVariants.{Session, Before, Beside}
+use Rattle.app_job_file.specs.declared.line.Line.TheVariants.{Session, Before, Beside, Send}
+use Rattle.store_gateway.specs.declared.message.SenderId.{SenderId}
+use Rattle.store_gateway.specs.declared.message.SenderId.TheVariants.{First, Second}
 
 -- what a line asks for
 pub data JobLine : Type 0 where
@@ -20,6 +22,8 @@ pub data JobLine : Type 0 where
   BeforeLine : (mention : Mention) → JobLine
   -- a refresh that is tried beside them
   BesideLine : (mention : Mention) → JobLine
+  -- a refresh that this sender sends beside them
+  SendLine : (sender : SenderId) → (mention : Mention) → JobLine
 
 -- what follows these bytes at a line's front, where they stand there
 abbrev pub rest_after : List ℕ → List ℕ → Option (List ℕ)
@@ -45,27 +49,38 @@ set_number digits =
 abbrev pub mention : RefreshKind → ℕ → Mention
 mention change set = record { change = change; set = set }
 
--- the refresh whose number follows these bytes
+-- the refresh of that kind whose number follows these bytes
 abbrev pub mention_after : List ℕ → RefreshKind → List ℕ → Option Mention
 mention_after front change line =
     option_map (mention change) (option_and_then set_number (rest_after front line))
 
--- the first of two lines that is there
-abbrev pub or_line : Option JobLine → Option JobLine → Option JobLine
-or_line (Some line) other = Some line
-or_line None other = other
+-- the first of two that is there
+abbrev pub or_second : {A : Type 0} → Option A → Option A → Option A
+or_second (Some first) second = Some first
+or_second None second = second
+
+-- the refresh that bytes write: what it does, and the number of its set
+abbrev pub mention_in : List ℕ → Option Mention
+mention_in bytes =
+    or_second (mention_after (codes "insert ") Insert bytes)
+    (mention_after (codes "delete ") Delete bytes)
+
+-- the refresh that follows these bytes at a line's front
+abbrev pub refresh_after : List ℕ → List ℕ → Option Mention
+refresh_after front line = option_and_then mention_in (rest_after front line)
 
 -- what a line asks for, if it is of one of the forms
 abbrev pub line_of : List ℕ → Option JobLine
 line_of line =
-    or_line (option_map ScriptLine (option_and_then word_of (rest_after (codes "session ") line)))
-    (or_line (option_map BeforeLine (mention_after (codes "before insert ") Insert line))
-    (or_line (option_map BeforeLine (mention_after (codes "before delete ") Delete line))
-    (or_line (option_map BesideLine (mention_after (codes "beside insert ") Insert line))
-    (option_map BesideLine (mention_after (codes "beside delete ") Delete line)))))
+    or_second (option_map ScriptLine (option_and_then word_of (rest_after (codes "session ") line)))
+    (or_second (option_map BeforeLine (refresh_after (codes "before ") line))
+    (or_second (option_map BesideLine (refresh_after (codes "beside ") line))
+    (or_second (option_map (SendLine First) (refresh_after (codes "send1 ") line))
+    (option_map (SendLine Second) (refresh_after (codes "send2 ") line)))))
 
 -- what a line that was read asks for
 abbrev pub line_view : Line → JobLine
 line_view (Session name) = ScriptLine name.now
 line_view (Before mention) = BeforeLine mention
 line_view (Beside mention) = BesideLine mention
+line_view (Send sender mention) = SendLine sender mention

@@ -4,6 +4,7 @@ ghost use Rattle.std.specs.String.{string_bytes};
 
 use sql_ast::RefreshKind;
 use std::alloc::{AllocError, Global};
+use store_gateway::SenderId;
 
 /// A refresh that a line or a statement names.
 #[derive(Clone, Copy, Debug, PartialEq, Eq)]
@@ -19,10 +20,13 @@ pub struct Mention {
 pub struct Job {
     /// The names of the scripts of its sessions, in order.
     pub scripts: Vec<String>,
-    /// Its refreshes, in the order in which they are tried.
+    /// Its refreshes, in the order of its lines.
     pub refreshes: Vec<Mention>,
     /// How many of them are tried before the sessions.
     pub before: usize,
+    /// Who sends each of the others, where two senders send them beside the sessions. Else nobody
+    /// does, and they are tried in their order.
+    pub senders: Vec<SenderId>,
 }
 
 impl Job {
@@ -36,6 +40,7 @@ impl Job {
             scripts: Vec::new(alloc),
             refreshes: Vec::new(alloc),
             before: 0,
+            senders: Vec::new(alloc),
         }
     }
 }

@@ -3,11 +3,12 @@ ghost use Rattle.std.specs.Prelude.{◌≡◌, codes, option_map};
 ghost use Rattle.std.specs.Char.{is_ascii_digit};
 ghost use Rattle.std.specs.List.{list_all};
 ghost use Rattle.std.specs.Option.{option_and_then};
-ghost use Rattle.app_job_file.specs.Lines.{is_visible, line_of, line_view, mention_after, rest_after};
-ghost use Rattle.app_job_file.specs.Lines.{set_number, word_of};
+ghost use Rattle.app_job_file.specs.Lines.{is_visible, line_of, line_view, mention_after, mention_in};
+ghost use Rattle.app_job_file.specs.Lines.{refresh_after, rest_after, set_number, word_of};
 
 use crate::job::Mention;
 use sql_ast::RefreshKind;
+use store_gateway::SenderId;
 
 /// What a line asks for.
 #[derive(Clone, Copy, Debug)]
@@ -18,6 +19,8 @@ pub enum Line<'a> {
     Before(Mention),
     /// A refresh that is tried beside them.
     Beside(Mention),
+    /// A refresh that this sender sends beside them.
+    Send(SenderId, Mention),
 }
 
 /// What follows these bytes at a line's front.
@@ -74,12 +77,29 @@ fn set_number(digits: &[u8]) -> Option<u32>
     Some(number)
 }
 
-/// The refresh whose number follows these bytes.
+/// The refresh of that kind whose number follows these bytes.
 fn mention_after(front: &[u8], change: RefreshKind, line: &[u8]) -> Option<Mention>
     ensures { result ≡ mention_after front.now change line.now }
 {
     let set = set_number(rest_after(front, line)?)?;
     Some(Mention { change, set })
+}
+
+/// The refresh that bytes write: what it does, and the number of its set.
+fn mention_in(bytes: &[u8]) -> Option<Mention>
+    ensures { result ≡ mention_in bytes.now }
+{
+    if let Some(mention) = mention_after(b"insert ", RefreshKind::Insert, bytes) {
+        return Some(mention);
+    }
+    mention_after(b"delete ", RefreshKind::Delete, bytes)
+}
+
+/// The refresh that follows these bytes at a line's front.
+fn refresh_after(front: &[u8], line: &[u8]) -> Option<Mention>
+    ensures { result ≡ refresh_after front.now line.now }
+{
+    mention_in(rest_after(front, line)?)
 }
 
 /// The session that a line asks for.
@@ -97,15 +117,15 @@ pub fn line_of(line: &[u8]) -> Option<Line<'_>>
     if let Some(name) = session_of(line) {
         return Some(Line::Session(name));
     }
-    if let Some(mention) = mention_after(b"before insert ", RefreshKind::Insert, line) {
+    if let Some(mention) = refresh_after(b"before ", line) {
         return Some(Line::Before(mention));
     }
-    if let Some(mention) = mention_after(b"before delete ", RefreshKind::Delete, line) {
-        return Some(Line::Before(mention));
-    }
-    if let Some(mention) = mention_after(b"beside insert ", RefreshKind::Insert, line) {
+    if let Some(mention) = refresh_after(b"beside ", line) {
         return Some(Line::Beside(mention));
     }
-    let mention = mention_after(b"beside delete ", RefreshKind::Delete, line)?;
-    Some(Line::Beside(mention))
+    if let Some(mention) = refresh_after(b"send1 ", line) {
+        return Some(Line::Send(SenderId::First, mention));
+    }
+    let mention = refresh_after(b"send2 ", line)?;
+    Some(Line::Send(SenderId::Second, mention))
 }

@@ -1,18 +1,18 @@
 //! Reading a job's file.
-ghost use Rattle.std.specs.Prelude.{◌≡◌, ◌+◌, ◌<◌, ◌≤◌, ◌^◌, ◌∷◌, Some, IfOk, drop, length, take};
-ghost use Rattle.std.specs.Prelude.{◌==◌};
+ghost use Rattle.std.specs.Prelude.{◌≡◌, ◌+◌, ◌<◌, ◌≤◌, ◌^◌, ◌∷◌, ◌==◌, IfOk, OnOk, drop, length};
+ghost use Rattle.std.specs.Prelude.{take};
 ghost use Rattle.std.specs.List.{position};
 ghost use Rattle.store_file_reader.specs.File.{cut_lines};
 ghost use Rattle.store_file_reader.specs.Line.{line_text, without_end};
-ghost use Rattle.app_job_file.specs.Files.{IsReadable, IsWithin, Puts, Says, job_of, no_parts};
-ghost use Rattle.app_job_file.specs.Files.{parts_of, with_line};
-ghost use Rattle.app_job_file.specs.Files.{with_lines, with_refresh, with_script, with_text};
-ghost use Rattle.app_job_file.specs.Lines.JobLine.{BeforeLine};
+ghost use Rattle.app_job_file.specs.Files.{IsReadable, IsWithin, Puts, Says, has_sent, has_unsent};
+ghost use Rattle.app_job_file.specs.Files.{is_full, job_of, no_parts, parts_of, with_before};
+ghost use Rattle.app_job_file.specs.Files.{with_beside, with_lines, with_script, with_sent, with_text};
 
 use crate::job::{Job, Mention};
 use crate::line::{Line, line_of};
 use crate::refusal::{JobRefusal, RefusedLine};
 use std::alloc::{AllocError, AllocFailed, Global};
+use store_gateway::SenderId;
 
 /// The most bytes of a job's file.
 pub const MAX_JOB: usize = 1_048_576;
@@ -25,46 +25,46 @@ const MOST_REFRESHES: usize = 1024;
 
 /// Why a job is not read.
 #[derive(Clone, Copy, Debug, PartialEq, Eq)]
-pub enum JobError {
+pub enum JobFileError {
     /// It is refused.
     Refused(RefusedLine),
     /// Memory ran out.
     OutOfMemory,
 }
 
-impl From<AllocError> for JobError {
-    ghost use Rattle.app_job_file.specs.declared.reading.JobError.TheVariants.{OutOfMemory};
+impl From<AllocError> for JobFileError {
+    ghost use Rattle.app_job_file.specs.declared.reading.JobFileError.TheVariants.{OutOfMemory};
 
     ghost from_gives = { λ _ e. e ≡ OutOfMemory };
 
     fn from(_: AllocError) -> Self {
-        JobError::OutOfMemory
+        JobFileError::OutOfMemory
     }
 }
 
-impl<T: Drop> From<AllocFailed<T>> for JobError {
-    ghost use Rattle.app_job_file.specs.declared.reading.JobError.TheVariants.{OutOfMemory};
+impl<T: Drop> From<AllocFailed<T>> for JobFileError {
+    ghost use Rattle.app_job_file.specs.declared.reading.JobFileError.TheVariants.{OutOfMemory};
 
     ghost from_gives = { λ _ e. e ≡ OutOfMemory };
 
     fn from(_: AllocFailed<T>) -> Self {
-        JobError::OutOfMemory
+        JobFileError::OutOfMemory
     }
 }
 
 /// The refusal of a line of that number.
-fn refusal_at(refusal: JobRefusal, line: usize) -> JobError
-    ensures { result ≡ JobError.Refused (record { refusal = refusal; line = line }) }
+fn refusal_at(refusal: JobRefusal, line: usize) -> JobFileError
+    ensures { result ≡ JobFileError.Refused (record { refusal = refusal; line = line }) }
 {
-    JobError::Refused(RefusedLine { refusal, line })
+    JobFileError::Refused(RefusedLine { refusal, line })
 }
 
 /// Adds a session, unless it is one too many.
-fn put_script(alloc: Global, job: &mut Job, number: usize, name: &str) -> Result<(), JobError>
+fn put_script(alloc: Global, job: &mut Job, number: usize, name: &str) -> Result<(), JobFileError>
     requires { IsWithin job.old }
     ensures script { Puts number (with_script (parts_of job.old) name.now)
         (parts_of job.new) result }
-    ensures within { IsWithin job.new }
+    ensures within { OnOk result (IsWithin job.new) }
 {
     if job.scripts.len() >= MOST_SESSIONS {
         return Err(refusal_at(JobRefusal::TooMany, number));
@@ -74,45 +74,92 @@ fn put_script(alloc: Global, job: &mut Job, number: usize, name: &str) -> Result
     Ok(())
 }
 
-/// Adds a refresh, unless it is one too many; with it `before` are tried before the sessions.
-fn put_refresh(
-    job: &mut Job,
-    number: usize,
-    mention: Mention,
-    before: usize,
-) -> Result<(), JobError>
-    requires few { before ≤ length job.old.refreshes.items + 1 }
-    requires within { IsWithin job.old }
-    ensures refresh { Puts number (with_refresh (parts_of job.old) mention before)
-        (parts_of job.new) result }
-    ensures within { IsWithin job.new }
+/// Whether another refresh would be one too many.
+fn is_full(job: &Job) -> bool
+    ensures { result ≡ is_full (parts_of job.now) }
 {
-    if job.refreshes.len() >= MOST_REFRESHES {
-        return Err(refusal_at(JobRefusal::TooMany, number));
-    }
-    job.refreshes.push(mention)?;
-    job.before = before;
-    Ok(())
+    job.refreshes.len() >= MOST_REFRESHES
 }
 
-/// Adds a refresh that is tried before the sessions, unless one beside them came before it.
-fn put_before(job: &mut Job, number: usize, mention: Mention) -> Result<(), JobError>
+/// Whether a refresh beside the sessions is sent.
+fn has_sent(job: &Job) -> bool
+    ensures { result ≡ has_sent (parts_of job.now) }
+{
+    !job.senders.is_empty()
+}
+
+/// Whether a refresh beside the sessions is sent by nobody.
+fn has_unsent(job: &Job) -> bool
+    requires { IsWithin job.now }
+    ensures { result ≡ has_unsent (parts_of job.now) }
+{
+    job.before + job.senders.len() < job.refreshes.len()
+}
+
+/// Adds a refresh that is tried before the sessions, unless one beside them came before it or it is
+/// one too many.
+fn put_before(job: &mut Job, number: usize, mention: Mention) -> Result<(), JobFileError>
     requires { IsWithin job.old }
-    ensures line { Puts number (with_line (parts_of job.old) (Some (BeforeLine mention)))
-        (parts_of job.new) result }
-    ensures within { IsWithin job.new }
+    ensures line { Puts number (with_before (parts_of job.old) mention) (parts_of job.new) result }
+    ensures within { OnOk result (IsWithin job.new) }
 {
     if job.before < job.refreshes.len() {
         return Err(refusal_at(JobRefusal::LateBefore, number));
     }
-    put_refresh(job, number, mention, job.before + 1)
+    if is_full(job) {
+        return Err(refusal_at(JobRefusal::TooMany, number));
+    }
+    job.refreshes.push(mention)?;
+    job.before += 1;
+    Ok(())
+}
+
+/// Adds a refresh beside the sessions that nobody sends, unless it is one too many or one that is
+/// sent came before it.
+fn put_beside(job: &mut Job, number: usize, mention: Mention) -> Result<(), JobFileError>
+    requires { IsWithin job.old }
+    ensures line { Puts number (with_beside (parts_of job.old) mention) (parts_of job.new) result }
+    ensures within { OnOk result (IsWithin job.new) }
+{
+    if is_full(job) {
+        return Err(refusal_at(JobRefusal::TooMany, number));
+    }
+    if has_sent(job) {
+        return Err(refusal_at(JobRefusal::MixedSenders, number));
+    }
+    job.refreshes.push(mention)?;
+    Ok(())
+}
+
+/// Adds a refresh beside the sessions that is sent, unless it is one too many or one that nobody
+/// sends came before it.
+fn put_sent(
+    job: &mut Job,
+    number: usize,
+    sender: SenderId,
+    mention: Mention,
+) -> Result<(), JobFileError>
+    requires { IsWithin job.old }
+    ensures line { Puts number (with_sent (parts_of job.old) sender mention) (parts_of job.new)
+        result }
+    ensures within { OnOk result (IsWithin job.new) }
+{
+    if is_full(job) {
+        return Err(refusal_at(JobRefusal::TooMany, number));
+    }
+    if has_unsent(job) {
+        return Err(refusal_at(JobRefusal::MixedSenders, number));
+    }
+    job.senders.push(sender)?;
+    job.refreshes.push(mention)?;
+    Ok(())
 }
 
 /// Adds what the text of a line asks for. An empty one is skipped.
-fn put_text(alloc: Global, job: &mut Job, number: usize, text: &[u8]) -> Result<(), JobError>
+fn put_text(alloc: Global, job: &mut Job, number: usize, text: &[u8]) -> Result<(), JobFileError>
     requires { IsWithin job.old }
     ensures text { Puts number (with_text (parts_of job.old) text.now) (parts_of job.new) result }
-    ensures within { IsWithin job.new }
+    ensures within { OnOk result (IsWithin job.new) }
 {
     if text.is_empty() {
         return Ok(());
@@ -120,7 +167,8 @@ fn put_text(alloc: Global, job: &mut Job, number: usize, text: &[u8]) -> Result<
     match line_of(text) {
         Some(Line::Session(name)) => put_script(alloc, job, number, name),
         Some(Line::Before(mention)) => put_before(job, number, mention),
-        Some(Line::Beside(mention)) => put_refresh(job, number, mention, job.before),
+        Some(Line::Beside(mention)) => put_beside(job, number, mention),
+        Some(Line::Send(sender, mention)) => put_sent(job, number, sender, mention),
         None => Err(refusal_at(JobRefusal::BadLine, number)),
     }
 }
@@ -164,7 +212,7 @@ fn line_len(text: &[u8]) -> usize
 }
 
 /// What the lines of a job's file ask for.
-fn read_lines(alloc: Global, bytes: &[u8]) -> Result<Job, JobError>
+fn read_lines(alloc: Global, bytes: &[u8]) -> Result<Job, JobFileError>
     requires { length bytes.now < 2 ^ 63 }
     ensures job { Says (with_lines 1 no_parts (cut_lines bytes.now)) result }
     ensures within { IfOk result IsWithin }
@@ -181,14 +229,15 @@ fn read_lines(alloc: Global, bytes: &[u8]) -> Result<Job, JobError>
     Ok(job)
 }
 
-/// What a job's file asks for: its lines `session NAME`, `before insert N`, `before delete N`,
-/// `beside insert N` and `beside delete N`, N having one to nine digits. Empty lines are skipped.
+/// What a job's file asks for: its lines `session NAME`, and `before insert N`, `beside insert N`,
+/// `send1 insert N` and `send2 insert N`, or `delete N` in place of `insert N`, N having one to nine
+/// digits. Empty lines are skipped.
 ///
 /// # Errors
 ///
 /// A file that is too long; else its first bad line, in it the refusal of the least number; else a
 /// file without a session. Nothing says when memory runs out.
-pub fn read_job(alloc: Global, bytes: &[u8]) -> Result<Job, JobError>
+pub fn read_job(alloc: Global, bytes: &[u8]) -> Result<Job, JobFileError>
     ensures job { Says (job_of bytes.now) result }
     ensures readable { IfOk result IsReadable }
 {

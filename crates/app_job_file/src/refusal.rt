@@ -2,12 +2,12 @@
 ghost use Rattle.std.specs.Prelude.{◌≡◌};
 ghost use Rattle.app_job_file.specs.Files.{job_refusal_name, job_refusal_number};
 
-/// Why a job's file is refused, in the order in which a line is tested.
+/// Why a job's file is refused. Of one line the refusal of the least number counts.
 #[derive(Clone, Copy, Debug, PartialEq, Eq)]
 pub enum JobRefusal {
     /// The line is of none of the forms.
     BadLine,
-    /// The line asks for a refresh before the sessions after one beside them.
+    /// The line asks for a refresh before the sessions after one beside them, tried or sent.
     LateBefore,
     /// The line asks for the 65th session or the 1025th refresh.
     TooMany,
@@ -15,10 +15,13 @@ pub enum JobRefusal {
     NoSession,
     /// The file is longer than 1048576 bytes.
     TooLong,
+    /// The line asks for a refresh that is sent after one that is tried beside the sessions, or the
+    /// other way round.
+    MixedSenders,
 }
 
 impl JobRefusal {
-    /// The number that is printed, from 1 to 5.
+    /// The number that is printed, from 1 to 6.
     pub fn number(self) -> u8
         ensures { result ≡ job_refusal_number self }
     {
@@ -28,6 +31,7 @@ impl JobRefusal {
             JobRefusal::TooMany => 3,
             JobRefusal::NoSession => 4,
             JobRefusal::TooLong => 5,
+            JobRefusal::MixedSenders => 6,
         }
     }
 
@@ -41,6 +45,7 @@ impl JobRefusal {
             JobRefusal::TooMany => "TooMany",
             JobRefusal::NoSession => "NoSession",
             JobRefusal::TooLong => "TooLong",
+            JobRefusal::MixedSenders => "MixedSenders",
         }
     }
 }

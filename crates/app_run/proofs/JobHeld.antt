@@ -51,7 +51,7 @@ base_unread view dir job (Some folder) (Some other) (Some third) parts scripts (
 pub inputs_read : (dir job : List ℕ) (held later last : Option Folder) (parts : JobParts) (scripts : List (List Statement)) (base : State) (list : List Change) → later ≡ held → last ≡ held
     → IfKnown held (λ folder. job_in job (file_of folder job) ≡ Ok parts) → IfKnown later (λ folder. AreJobScripts folder parts.scripts (Ok scripts))
     → IfKnown last (λ folder. job_base dir parts.refreshes folder ≡ Ok (base, list))
-    → IfKnown held (λ folder. AreJobInputs dir job folder (Ok (record { scripts = scripts; base = base; list = list; before = parts.before })))
+    → IfKnown held (λ folder. AreJobInputs dir job folder (Ok (record { scripts = scripts; base = base; list = list; before = parts.before; senders = parts.senders })))
 inputs_read dir job None later last parts scripts base list same end is are read = tt
 inputs_read dir job (Some folder) None last parts scripts base list same end is are read = absurd (cc)
 inputs_read dir job (Some folder) (Some other) None parts scripts base list same end is are read = absurd (cc)

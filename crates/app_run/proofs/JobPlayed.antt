@@ -6,7 +6,7 @@ use Rattle.std.specs.declared.result.Result.{Result}
 use Rattle.std.specs.declared.result.Result.TheVariants.{Ok, Err}
 use Rattle.app_job_file.specs.Files.{JobParts}
 use Rattle.app_sessions.specs.Asked.{job_session, job_sessions}
-use Rattle.app_sessions.specs.Jobs.{IsJobText, JobAnswer, JobSession}
+use Rattle.app_sessions.specs.Jobs.{JobAnswer, JobSession}
 use Rattle.app_sessions.specs.declared.session.Session.{Session}
 use Rattle.sql_ast.specs.declared.statement.Statement.{Statement}
 use Rattle.store_state.specs.Refresh.{Change}
@@ -15,8 +15,9 @@ use Rattle.base_schema.specs.State.{State}
 use Rattle.app_inputs.specs.Inputs.{BadInput, and_then}
 use Rattle.app_run.specs.JobInputs.{AreJobInputs, AreJobScripts, JobWork, job_base, job_work}
 use Rattle.app_inputs.specs.JobFile.{job_in}
-use Rattle.app_run.specs.JobMeaning.{MeansJob, session_with}
-use Rattle.app_run.specs.JobViews.{ShowRows, steps_of}
+use Rattle.app_run.specs.JobMeaning.{IsTextInOrder, MeansJob, session_with}
+use Rattle.app_run.specs.JobViews.{ShowRows, steps_of, work_view}
+use Rattle.app_run.specs.declared.job_sources.JobSources.{JobSources}
 use Rattle.app_inputs.specs.declared.status.Status.{Status}
 use Rattle.app_inputs.specs.declared.status.Status.TheVariants.{Done, SomeRefused}
 
@@ -31,11 +32,11 @@ shown shows (s ∷ ss) all =
     ∙ ap (λ l. session_with shows s.steps ∷ l) (shown shows ss (λ i d less. all (suc i) d (omega (arith, less))))
 
 -- the text of a job is what its work means
-pub job_means : (shows : Bool) (base : State) (list : List Change) (before : ℕ) (ss : List Session) (job : JobAnswer) (text : List ℕ) (s : Status) → ShowRows shows ss
-    → IsJobText base list before (job_sessions ss) job → text ≡ job.text → s ≡ (if job.is_clean then Done else SomeRefused)
-    → MeansJob shows (record { scripts = map steps_of ss; base = base; list = list; before = before }) text s
-job_means shows base list before ss job text s all is text_is status_is =
-    (job, subst (λ (l : List JobSession). IsJobText base list before l job) (shown shows ss all) is, text_is, status_is)
+pub job_means : (shows : Bool) (sources : JobSources) (job : JobAnswer) (text : List ℕ) (s : Status) → ShowRows shows sources.sessions.items
+    → IsTextInOrder (work_view sources) (job_sessions sources.sessions.items) job → text ≡ job.text → s ≡ (if job.is_clean then Done else SomeRefused)
+    → MeansJob shows (work_view sources) text s
+job_means shows sources job text s all is text_is status_is =
+    (job, subst (λ (l : List JobSession). IsTextInOrder (work_view sources) l job) (shown shows sources.sessions.items all) is, text_is, status_is)
 
 -- a refused job
 pub job_refused : (dir job : List ℕ) (folder : Folder) (refused : BadInput) → job_in job (file_of folder job) ≡ Err refused → AreJobInputs dir job folder (Err refused)
@@ -54,5 +55,5 @@ job_base_refused dir job folder parts scripts refused is are base = rw is (Ok sc
 -- all inputs of a job were read
 pub job_read : (dir job : List ℕ) (folder : Folder) (parts : JobParts) (scripts : List (List Statement)) (base : State) (list : List Change) → job_in job (file_of folder job) ≡ Ok parts
     → AreJobScripts folder parts.scripts (Ok scripts) → job_base dir parts.refreshes folder ≡ Ok (base, list)
-    → AreJobInputs dir job folder (Ok (record { scripts = scripts; base = base; list = list; before = parts.before }))
+    → AreJobInputs dir job folder (Ok (record { scripts = scripts; base = base; list = list; before = parts.before; senders = parts.senders }))
 job_read dir job folder parts scripts base list is are read = rw is (Ok scripts, are, rw read refl)

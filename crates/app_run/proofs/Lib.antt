@@ -7,6 +7,9 @@ mod OneWork
 mod Works
 mod OnTheWay
 mod OneText
+mod Orders
+mod Divided
+mod Taken
 mod JobScripts
 mod JobAlike
 mod JobPlayed

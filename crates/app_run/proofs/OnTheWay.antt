@@ -16,8 +16,8 @@ use Rattle.app_sessions.specs.Versions.{states_of}
 use Rattle.sql_ast.specs.declared.statement.RefreshKind.{RefreshKind}
 use Rattle.sql_ast.specs.declared.statement.Statement.{Statement}
 use Rattle.sql_ast.specs.declared.statement.Statement.TheVariants as statement
-use Rattle.app_run.specs.Turns.{IsOnTheWay, clean_from, left_of, moment_after, moments, refresh_count, text_from, trials_after}
-use Rattle.app_sessions.specs.Reports.{tried_next, version_or_cause}
+use Rattle.app_run.specs.Turns.{IsOnTheWay, clean_from, left_of, moment_after, moments, refresh_count, text_from, trials_after, tried_next}
+use Rattle.app_sessions.specs.Reports.{version_or_cause}
 
 -- the statements that are left begin with the next one
 left_is : (course : Course) (s : Statement) → next_of course ≡ Some s → left_of course ≡ s ∷ drop (course.answered + 1) course.steps

@@ -1,11 +1,16 @@
 -- Some values of the definitions, worked out by hand.
-use Rattle.std.specs.Prelude.{◌≡◌, ℕ, ℤ, pos, List, [], ◌∷◌, ◌++◌, Result, Err, Ok, codes, map}
+use Rattle.std.specs.Prelude.{◌≡◌, ℕ, ℤ, pos, List, [], ◌∷◌, ◌++◌, Result, Err, Ok, codes, map, Some}
 use Rattle.base_refusals.specs.declared.line.LineFault.TheVariants.{DuplicateKey}
 use Rattle.base_value.specs.declared.value.Value.{Value}
 use Rattle.base_value.specs.declared.value.Value.TheVariants as value
 use Rattle.base_io.specs.Outside.{Folder}
 use Rattle.base_schema.specs.State.{State}
 use Rattle.app_sessions.specs.Counts.{counts_text}
+use Rattle.store_gateway.specs.declared.message.SenderId.{SenderId}
+use Rattle.store_gateway.specs.declared.message.SenderId.TheVariants.{First, Second}
+use Rattle.store_state.specs.Refresh.{Change}
+use Rattle.app_run.specs.JobInputs.{JobWork}
+use Rattle.app_run.specs.JobOrders.{IsJobOrder}
 use Rattle.app_run.specs.SessionInputs.{AreInputs}
 use Rattle.app_inputs.specs.Inputs.{BadInput, refusal_line, state_in}
 use Rattle.app_inputs.specs.declared.input_error.InputFault.{InputFault}
@@ -68,6 +73,16 @@ bad_nation_line =
       fault = fault.Line (record { line = 2; fault = DuplicateKey });
     }
 
+-- a job of two refreshes beside its sessions, which these send
+abbrev pub sent_both : SenderId → SenderId → Change → Change → JobWork
+sent_both sender other one two = record {
+  scripts = [];
+  base = regions_only;
+  list = one ∷ two ∷ [];
+  before = 0;
+  senders = sender ∷ other ∷ [];
+}
+
 -- what the definitions say of these
 pub record Examples : Type 0 where
   -- the first refused input counts: the script comes before the tables, region before nation
@@ -88,3 +103,11 @@ pub record Examples : Type 0 where
   -- each table's rows are counted, in the schema's order
   pub counted : counts_text regions_only
       ≡ codes "region rows 3\nnation rows 0\npart rows 0\nsupplier rows 0\npartsupp rows 0\ncustomer rows 0\norders rows 0\nlineitem rows 0\n"
+  -- of two senders either one's refresh may come first
+  pub first_comes : (one two : Change)
+      → IsJobOrder (sent_both First Second one two) ((Some 1, one) ∷ (Some 2, two) ∷ [])
+  pub second_comes : (one two : Change)
+      → IsJobOrder (sent_both First Second one two) ((Some 2, two) ∷ (Some 1, one) ∷ [])
+  -- of one sender each comes in its turn
+  pub in_turn : (one two : Change)
+      → IsJobOrder (sent_both First First one two) ((Some 1, two) ∷ (Some 1, one) ∷ []) → two ≡ one

@@ -12,6 +12,7 @@ use Rattle.sql_lexer.specs.Kinds.{is}
 use Rattle.sql_lexer.specs.Lexing.{Lexes}
 use Rattle.sql_lexer.specs.declared.kind.Kind.TheVariants as kind
 use Rattle.sql_lexer.specs.declared.token.Token.{Token}
+use Rattle.store_gateway.specs.declared.message.SenderId.{SenderId}
 use Rattle.store_state.specs.Refresh.{Change}
 use Rattle.base_io.specs.Outside.{Folder, file_of}
 use Rattle.base_schema.specs.State.{State}
@@ -74,13 +75,15 @@ AreJobScripts folder (name ∷ names) scripts =
     × AreJobScripts folder names more
     × (result ≡ and_then more (λ others. Ok (steps ∷ others)))) scripts
 
--- What a job works on: the statements that the scripts of its sessions stand for, the tables, its
--- refreshes, and how many of these are tried before the sessions.
+-- What a job works on: the statements that the scripts of its sessions stand for; the tables; its
+-- refreshes, in the order of its lines; how many of these are tried before the sessions; and who
+-- sends each of the others, or nobody where they are tried in their order.
 pub record JobWork : Type 0 where
   pub scripts : List (List Statement)
   pub base : State
   pub list : List Change
   pub before : ℕ
+  pub senders : List SenderId
 
 -- the tables of a folder and these refreshes
 abbrev pub job_base : List ℕ → List Mention → Folder → Result (State × List Change) BadInput
@@ -90,7 +93,13 @@ job_base dir refreshes folder = and_then (state_in dir folder)
 -- what a job works on, once its scripts are read
 abbrev pub job_work : List ℕ → Folder → JobParts → List (List Statement) → Result JobWork BadInput
 job_work dir folder parts scripts = and_then (job_base dir parts.refreshes folder) (λ r.
-    Ok (record { scripts = scripts; base = r.0; list = r.1; before = parts.before }))
+    Ok (record {
+      scripts = scripts;
+      base = r.0;
+      list = r.1;
+      before = parts.before;
+      senders = parts.senders;
+    }))
 
 -- the inputs of a job in their reading order: the job, its scripts, the tables, the refresh files
 abbrev pub AreJobInputs : List ℕ → List ℕ → Folder → Result JobWork BadInput → Type 0

@@ -2,11 +2,13 @@
 use Rattle.std.specs.Prelude.{◌≡◌, Bool, ℕ, List, map, Option, if◌then◌else◌}
 use Rattle.std.specs.Result.{result_err}
 use Rattle.std.specs.declared.result.Result.{Result}
-use Rattle.app_sessions.specs.Jobs.{IsJobText, JobAnswer, JobSession}
+use Rattle.app_sessions.specs.Jobs.{IsOrderText, JobAnswer, JobSession}
+use Rattle.app_sessions.specs.Orders.{RefreshOrder}
 use Rattle.sql_ast.specs.declared.statement.Statement.{Statement}
 use Rattle.base_io.specs.Outside.{Folder}
 use Rattle.app_inputs.specs.Inputs.{BadInput}
 use Rattle.app_run.specs.JobInputs.{AreJobInputs, JobWork}
+use Rattle.app_run.specs.JobOrders.{IsJobOrder}
 use Rattle.app_inputs.specs.Printing.{PrintsOf}
 use Rattle.app_inputs.specs.declared.status.Status.{Status}
 use Rattle.app_inputs.specs.declared.status.Status.TheVariants.{Done, SomeRefused}
@@ -15,10 +17,17 @@ use Rattle.app_inputs.specs.declared.status.Status.TheVariants.{Done, SomeRefuse
 abbrev pub session_with : Bool → List Statement → JobSession
 session_with shows_rows steps = record { steps = steps; shows_rows = shows_rows }
 
--- the text of a job for the versions that the run chose, and whether a line of it is a refusal
+-- the text of these sessions beside the refreshes of a job, for the order of the refreshes and the
+-- versions that the run chose
+pub record IsTextInOrder (work : JobWork) (sessions : List JobSession) (job : JobAnswer) : Type 0 where
+  pub order : RefreshOrder
+  pub allowed : IsJobOrder work order
+  pub text : IsOrderText work.base order 0 work.before sessions job
+
+-- the text of a job, and whether a line of it is a refusal
 abbrev pub MeansJob : Bool → JobWork → List ℕ → Status → Type 0
 MeansJob shows_rows work text s = (job : JobAnswer)
-    × IsJobText work.base work.list work.before (map (session_with shows_rows) work.scripts) job
+    × IsTextInOrder work (map (session_with shows_rows) work.scripts) job
     × (text ≡ job.text) × (s ≡ (if job.is_clean then Done else SomeRefused))
 
 -- what a job of a file prints

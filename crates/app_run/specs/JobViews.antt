@@ -1,12 +1,12 @@
 -- What the code's values of a job stand for.
-use Rattle.std.specs.Prelude.{◌≡◌, ◌≢◌, ⊤, ℕ, ◌<◌, ◌≤◌, Bool, false, List, length, map}
+use Rattle.std.specs.Prelude.{◌≡◌, ◌≢◌, ⊤, ℕ, ◌+◌, ◌<◌, ◌≤◌, Bool, false, List, length, map}
 use Rattle.std.specs.Prelude.{slice_index_or}
 use Rattle.std.specs.Prelude.{Option, Some}
 use Rattle.std.specs.Global.{Vec}
 use Rattle.std.specs.List.{list_any}
 use Rattle.std.specs.declared.result.Result.{Result}
 use Rattle.std.specs.declared.result.Result.TheVariants.{Ok, Err}
-use Rattle.app_job_file.specs.Files.{most_sessions}
+use Rattle.app_job_file.specs.Files.{most_refreshes, most_sessions}
 use Rattle.app_sessions.specs.Expansion.{ExpandAll}
 use Rattle.app_sessions.specs.declared.session.Session.{Session}
 use Rattle.sql_ast.specs.declared.statement.Statement.{Statement}
@@ -24,7 +24,7 @@ use Rattle.app_inputs.specs.declared.input_error.InputError.TheVariants as error
 use Rattle.app_inputs.specs.declared.input_error.InputFault.TheVariants as fault
 use Rattle.app_inputs.specs.declared.input_error.ReadError.TheVariants as read
 use Rattle.app_inputs.specs.declared.status.Status.{Status}
-use Rattle.app_run.specs.declared.throughput.JobSources.{JobSources}
+use Rattle.app_run.specs.declared.job_sources.JobSources.{JobSources}
 use Rattle.app_sessions.specs.Asked.{AllUnasked}
 
 -- the statements of a session
@@ -79,16 +79,26 @@ work_view sources = record {
   base = sources.base;
   list = sources.list.items;
   before = sources.before;
+  senders = sources.senders.items;
 }
 
--- a job that can be run: it has sessions, not too many, which are at their beginning, and no more
--- refreshes before them than it has
-pub record IsPlayable (shows_rows : Bool) (sources : JobSources) : Type 0 where
+-- A job that can be run: it has sessions, not too many, which are at their beginning, not too many
+-- refreshes, and no more before the sessions than it has. Where some beside them are sent, all beside
+-- them are.
+pub record IsRunnable (sources : JobSources) : Type 0 where
   pub some : 0 < length sources.sessions.items
   pub few : length sources.sessions.items ≤ most_sessions
   pub unasked : AllUnasked sources.sessions.items
+  pub refreshes : length sources.list.items ≤ most_refreshes
+  pub places : sources.before + length sources.senders.items ≤ length sources.list.items
+  pub all :
+      0 < length sources.senders.items
+      → sources.before + length sources.senders.items ≡ length sources.list.items
+
+-- the same, and each session prints rows, or none does
+pub record IsPlayable (shows_rows : Bool) (sources : JobSources) : Type 0 where
+  pub runnable : IsRunnable sources
   pub rows : ShowRows shows_rows sources.sessions.items
-  pub before : sources.before ≤ length sources.list.items
 
 -- the text and its status are the job's, or the error explains why it has none
 abbrev pub IsTextOfJob : Bool → List ℕ → List ℕ → Option Folder

@@ -1,11 +1,14 @@
 -- What the definitions say in other words: which inputs are accepted, which is refused first, and
 -- that texts are unique.
-use Rattle.std.specs.Prelude.{◌≡◌, ℕ, List, ◌∷◌, ◌++◌, Some, Err, Ok, IsOk, ◌↔◌, ⊤}
+use Rattle.std.specs.Prelude.{◌≡◌, ℕ, List, [], ◌∷◌, ◌++◌, Some, Err, Ok, IsOk, ◌↔◌, ⊤}
 use Rattle.std.specs.List.{All}
 use Rattle.base_io.specs.Outside.{Folder}
 use Rattle.base_schema.specs.State.{State, table_rows}
 use Rattle.base_schema.specs.Tables.{all_tables}
 use Rattle.base_schema.specs.declared.table.TableName.{TableName}
+use Rattle.app_sessions.specs.Jobs.{IsJobText, JobAnswer, JobSession}
+use Rattle.app_run.specs.JobInputs.{JobWork}
+use Rattle.app_run.specs.JobMeaning.{IsTextInOrder}
 use Rattle.app_run.specs.SessionInputs.{AreInputs, AreSteps, Work}
 use Rattle.app_inputs.specs.Inputs.{BadInput, refreshes_in, state_in}
 use Rattle.app_inputs.specs.Inputs.{table_in}
@@ -42,6 +45,12 @@ SessionAcceptedLaw = (dir script : List ℕ) (folder : Folder) (work : Work)
     → AreInputs dir script folder (Ok work)
     ↔ (AreSteps folder script (Ok work.steps) × (state_in dir folder ≡ Ok work.base)
     × (refreshes_in dir work.steps folder ≡ Ok work.list))
+
+-- a job none of whose refreshes is sent has one order of them, that of its lines
+abbrev pub UnsentLaw : Type 0
+UnsentLaw = (work : JobWork) (sessions : List JobSession) (job : JobAnswer) → work.senders ≡ []
+    → IsTextInOrder work sessions job
+    ↔ IsJobText work.base work.list work.before sessions job
 
 -- the command has one text: no plan of a query is any other, and the versions of a job are chosen
 -- by the run

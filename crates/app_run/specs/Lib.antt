@@ -2,7 +2,10 @@ pub mod SessionInputs
 pub mod Turns
 pub mod NextVersions
 pub mod JobInputs
+pub mod JobOrders
 pub mod JobMeaning
+pub mod Senders
+pub mod Receivers
 pub mod ScriptPlans
 pub mod Trial
 pub mod Meaning

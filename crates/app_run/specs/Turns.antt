@@ -3,11 +3,11 @@
 use Rattle.std.specs.Prelude.{ℕ, ◌+◌, ◌≡◌, ◌&&◌, List, [], ◌∷◌, ◌++◌, drop, length, Bool, true}
 use Rattle.std.specs.Prelude.{Option, None, Some, Result, Ok, Err, slice_get, if◌then◌else◌}
 use Rattle.app_sessions.specs.Outcomes.{Moment}
-use Rattle.app_sessions.specs.Reports.{tried_next}
+use Rattle.app_sessions.specs.Reports.{result_on}
 use Rattle.app_sessions.specs.Sessions.{Course, are_clean, lines_of}
 use Rattle.app_sessions.specs.Versions.{states_of}
 use Rattle.base_refusals.specs.declared.refresh.Cause.{Cause}
-use Rattle.store_versions.specs.Trials.{Trials, one_more, version_of}
+use Rattle.store_versions.specs.Trials.{Trials, one_more, tables_of, trials_at, version_of}
 use Rattle.sql_ast.specs.declared.statement.Statement.{Statement}
 use Rattle.sql_ast.specs.declared.statement.Statement.TheVariants.{Refresh}
 use Rattle.store_state.specs.Refresh.{Change, after}
@@ -16,6 +16,11 @@ use Rattle.app_run.specs.SessionInputs.{Work}
 use Rattle.app_inputs.specs.Inputs.{mentions_of}
 use Rattle.app_inputs.specs.declared.status.Status.{Status}
 use Rattle.app_inputs.specs.declared.status.Status.TheVariants.{Done, SomeRefused}
+
+-- what comes of the next refresh of a list; nothing is left to try past its end
+abbrev pub tried_next : Trials → Option Change → Result ℕ Cause
+tried_next trials (Some change) = result_on (tables_of trials) (version_of trials) change
+tried_next trials None = Ok (version_of trials)
 
 -- the moment of a statement after the refreshes that were tried
 abbrev pub moment_after : Trials → Moment
@@ -39,7 +44,7 @@ moments trials (statement ∷ steps) =
 
 -- at first nothing is tried
 abbrev pub first_trials : Work → Trials
-first_trials work = record { base = work.base; list = work.list; done = 0 }
+first_trials work = trials_at work.base work.list 0 (length work.list)
 
 -- the text of a session
 abbrev pub session_text : Work → List ℕ

@@ -1,9 +1,9 @@
 //! Laws of the definitions that the top call's promise stands on, each the contract of a function
 //! that does nothing: inputs are accepted exactly where all of them are good, the first bad table
-//! is the one that is refused, and a text is the only one.
+//! is the one that is refused, a text is the only one, and refreshes that nobody sends have one order.
 ghost use Rattle.app_run.specs.Examples.{Examples};
 ghost use Rattle.app_run.specs.Laws.{SessionAcceptedLaw, TablesAcceptedLaw, TablesOrderLaw};
-ghost use Rattle.app_run.specs.Laws.{TextLaw};
+ghost use Rattle.app_run.specs.Laws.{TextLaw, UnsentLaw};
 
 /// Two texts that an accepted command prints are one text, with one status; but of `explain`, which
 /// may print any plan of a query.
@@ -22,6 +22,11 @@ pub fn first_bad_table_is_refused()
 pub fn good_inputs_are_accepted()
     ensures tables { TablesAcceptedLaw }
     ensures session { SessionAcceptedLaw }
+{}
+
+/// A job none of whose refreshes is sent has a text in just one order of them, that of its lines.
+pub fn unsent_refreshes_keep_their_order()
+    ensures { UnsentLaw }
 {}
 
 /// The definitions have the values that were worked out by hand.

@@ -1,6 +1,6 @@
 //! The commands: each reads the files that it names, and answers one text with its status. A
 //! session answers its statements one by one, a job runs its sessions beside a publisher of its
-//! refreshes, `explain` shows plans, `check` counts the rows of the eight tables, and a trial is a
+//! refreshes, which two senders may send, `explain` shows plans, `check` counts the rows of the eight tables, and a trial is a
 //! job over made data.
 #![tactic(auto)]
 
@@ -8,7 +8,9 @@ mod check;
 mod commands;
 mod explain;
 mod job_input;
+mod job_sources;
 pub mod laws;
+mod senders;
 mod session;
 mod throughput;
 mod trial;

@@ -40,14 +40,15 @@ fn open_directory<F: Files>(
 ) -> Result<Directory, InputError>
     ensures input { Reads (work_from steps.now) (F.held files.old)
         (λ held. work_of folder.now held steps.now) result }
-    ensures done { IfOk result (λ d. d.done ≡ 0) }
+    ensures fresh { IfOk result (λ d. (d.done ≡ 0) × (d.most ≡ length d.list)) }
     ensures places { IfOk result (λ d. length d.list ≡ refresh_count steps.now) }
     ensures files { FilesAfterInput F.held F.faults F.misses result files.old files.new }
 {
     let mentions = mentions_of(alloc, steps)?;
     let state = read_state(alloc, files, folder)?;
     let list = read_refreshes(alloc, files, folder, &mentions)?;
-    let directory = Directory::new(alloc, state, list)?;
+    let most = list.len();
+    let directory = Directory::new(alloc, state, list, most)?;
     Ok(directory)
 }
 
@@ -59,7 +60,7 @@ fn run_to_end<R: Threads + Sync>(
     directory: Directory,
 ) -> Result<(Vec<u8>, Status), AllocError>
     requires begun { IsBegun (course_of session) }
-    requires done { directory.done ≡ 0 }
+    requires fresh { (directory.done ≡ 0) × (directory.most ≡ length directory.list) }
     requires places { length directory.list ≡ refresh_count (course_of session).steps }
     ensures { IfOk result (λ printed. MeansSession (work_from (course_of session).steps directory)
         printed.0.items printed.1) }

@@ -1,36 +1,21 @@
 //! A job: its sessions beside the publisher of its refreshes.
-ghost use Rattle.std.specs.Prelude.{◌≡◌, IfOk, if◌then◌else◌, length, true};
+ghost use Rattle.std.specs.Prelude.{◌≡◌, [], IfOk, if◌then◌else◌, length, true};
+ghost use Rattle.app_sessions.specs.Asked.{job_sessions};
 ghost use Rattle.app_inputs.specs.FilesAfter.{FilesAfterInput};
-ghost use Rattle.app_run.specs.JobInputs.{AreJobInputs, job_base};
-ghost use Rattle.app_run.specs.JobMeaning.{MeansJob};
-ghost use Rattle.app_run.specs.JobViews.{IsPlayable, IsTextOfJob, base_view, work_view};
-ghost use Rattle.app_inputs.specs.Views.{Finds, Reads};
+ghost use Rattle.app_run.specs.JobMeaning.{IsTextInOrder, MeansJob};
+ghost use Rattle.app_run.specs.JobViews.{IsPlayable, IsRunnable, IsTextOfJob, work_view};
 ghost use Rattle.app_run.specs.Views.{IsTextOf};
 ghost use Rattle.app_inputs.specs.Words.Command.{throughput};
 
-use crate::job_input::read_sessions;
-use app_inputs::{InputError, Status, read_job_file, read_refreshes, read_state};
-use app_job_file::Mention;
-use app_sessions::{JobText, Session, run_job};
+use crate::job_sources::{JobSources, read_inputs};
+use crate::senders::run_with_senders;
+use app_inputs::{InputError, Status};
+use app_sessions::{JobText, run_list_job};
 use base_io::{Files, Gate};
 use std::alloc::{AllocError, Global};
 use std::sync::Wait;
 use std::thread::Threads;
 use store_snapshots::open;
-use store_state::{Refresh, State};
-
-/// What a job works on.
-#[derive(Drop)]
-struct JobSources {
-    /// Its sessions, at their beginning.
-    sessions: Vec<Session>,
-    /// The tables.
-    base: State,
-    /// Its refreshes.
-    list: Vec<Refresh>,
-    /// How many of them are tried before the sessions.
-    before: usize,
-}
 
 /// The bytes of a job's text, and its status.
 fn text_and_status(job: JobText) -> (Vec<u8>, Status)
@@ -45,7 +30,47 @@ fn text_and_status(job: JobText) -> (Vec<u8>, Status)
     (job.into_text(), status)
 }
 
-/// Runs the sessions beside a publisher of the refreshes.
+/// Runs the sessions beside a publisher of the refreshes, which nobody sends.
+fn run_without_senders<R: Threads + Wait + Sync, G: Gate + Sync>(
+    rt: &R,
+    alloc: Global,
+    gate: &G,
+    sources: JobSources,
+) -> Result<JobText, AllocError>
+    requires runnable { IsRunnable sources }
+    requires unsent { sources.senders.items ≡ [] }
+    ensures { IfOk result (IsTextInOrder (work_view sources) (job_sessions sources.sessions.items)) }
+{
+    let JobSources {
+        sessions,
+        base,
+        list,
+        before,
+        senders: _senders,
+    } = sources;
+    let most = list.len();
+    let (publisher, readers) = open(rt, alloc, base, list, sessions.len() as u32, most)?;
+    run_list_job(rt, alloc, sessions, readers, publisher, before, gate)
+}
+
+/// Runs the sessions beside a publisher of the refreshes, some of which may be sent.
+fn run_sources<R: Threads + Wait + Sync, G: Gate + Sync>(
+    rt: &R,
+    alloc: Global,
+    gate: &G,
+    sources: JobSources,
+) -> Result<JobText, AllocError>
+    requires { IsRunnable sources }
+    ensures { IfOk result (IsTextInOrder (work_view sources) (job_sessions sources.sessions.items)) }
+{
+    if sources.senders.is_empty() {
+        run_without_senders(rt, alloc, gate, sources)
+    } else {
+        run_with_senders(rt, alloc, gate, sources)
+    }
+}
+
+/// The text of what a job works on, and its status.
 fn run_sessions<R: Threads + Wait + Sync, G: Gate + Sync>(
     rt: &R,
     alloc: Global,
@@ -57,54 +82,8 @@ fn run_sessions<R: Threads + Wait + Sync, G: Gate + Sync>(
     ensures { IfOk result (λ printed. MeansJob shows_rows (work_view sources)
         printed.0.items printed.1) }
 {
-    let JobSources {
-        sessions,
-        base,
-        list,
-        before,
-    } = sources;
-    let (publisher, readers) = open(rt, alloc, base, list, sessions.len() as u32)?;
-    let job = run_job(rt, alloc, sessions, readers, publisher, before, gate)?;
+    let job = run_sources(rt, alloc, gate, sources)?;
     Ok(text_and_status(job))
-}
-
-/// The tables of the folder, and these refreshes.
-fn read_base<F: Files>(
-    alloc: Global,
-    files: &mut F,
-    folder: &str,
-    refreshes: &[Mention],
-) -> Result<(State, Vec<Refresh>), InputError>
-    ensures input { Reads base_view (F.held files.old) (job_base folder.now refreshes.now) result }
-    ensures length { IfOk result (λ r. length r.1.items ≡ length refreshes.now) }
-    ensures files { FilesAfterInput F.held F.faults F.misses result files.old files.new }
-{
-    let base = read_state(alloc, files, folder)?;
-    let list = read_refreshes(alloc, files, folder, refreshes)?;
-    Ok((base, list))
-}
-
-/// What the job of that file works on, over the tables of the folder.
-fn read_inputs<F: Files>(
-    alloc: Global,
-    files: &mut F,
-    folder: &str,
-    job: &str,
-    shows_rows: bool,
-) -> Result<JobSources, InputError>
-    ensures input { Finds work_view (F.held files.old) (AreJobInputs folder.now job.now) result }
-    ensures playable { IfOk result (IsPlayable shows_rows) }
-    ensures files { FilesAfterInput F.held F.faults F.misses result files.old files.new }
-{
-    let job = read_job_file(alloc, files, job)?;
-    let sessions = read_sessions(alloc, files, job.scripts.as_slice(), shows_rows)?;
-    let (base, list) = read_base(alloc, files, folder, job.refreshes.as_slice())?;
-    Ok(JobSources {
-        sessions,
-        base,
-        list,
-        before: job.before,
-    })
 }
 
 /// The text of a job over the tables of a folder, and its status.

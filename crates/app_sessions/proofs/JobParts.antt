@@ -1,92 +1,90 @@
--- From the parts of a job to its text.
-use Rattle.std.proofs.Common.{◌≡◌, ◌∙◌, ℕ, ◌<◌, Some, List, [], ◌∷◌, ◌++◌, length, slice_index_or, refl, sym, subst, ap, map, append_assoc}
-use Rattle.std.specs.Prelude.{Bool, ◌&&◌}
+-- From the parts of a job to its sessions' text.
+use Rattle.std.proofs.Common.{◌≡◌, ◌∙◌, ℕ, ◌<◌, ◌≤◌, false, List, length, slice_index_or, refl, sym, subst}
 use Rattle.std.proofs.lemmas.List.{length-map}
-use Rattle.store_snapshots.specs.Openings.{Opening}
+use Rattle.store_snapshots.specs.Openings.{Opening, opening_at}
 use Rattle.store_state.specs.Refresh.{Change}
 use Rattle.store_state.specs.Versions.{accepted}
 use Rattle.base_schema.specs.State.{State}
-use Rattle.app_sessions.specs.Asked.{IsOverOf, job_session, job_sessions}
-use Rattle.app_sessions.specs.Gathered.{ArePrepared, HavePlaces, IsJoined}
-use Rattle.app_sessions.specs.Jobs.{ArePermitted, IsJobText, JobAnswer, JobSession, are_sessions_clean, closing_text, last_version, sessions_text}
-use Rattle.app_sessions.specs.Reports.{IsTold, are_accepted, report_text}
-use Rattle.app_sessions.specs.declared.report.Report.{Report}
-use Rattle.store_versions.specs.Trials.{Trials, version_of}
-use Rattle.app_sessions.specs.Workers.{AllHaveRun, AllInformed, AllReady, IsNumber, IsNumberOver, IsPlaced, NoneIsLost, place_of, sessions_of}
+use Rattle.store_versions.specs.Trials.{Trials}
+use Rattle.app_sessions.specs.Asked.{IsOver, IsOverOf, job_session, job_sessions}
+use Rattle.app_sessions.specs.Sessions.{course_of}
+use Rattle.app_sessions.specs.Gathered.{ArePrepared, Gathers, HavePlaces, IsSessionsText}
+use Rattle.app_sessions.specs.Jobs.{JobAnswer, JobSession, last_version}
+use Rattle.app_sessions.specs.Workers.{AllHaveMet, AllHaveRun, AllInformed, AllMayMeet, AllReady, HasRun, IsNumber, IsNumberOver, IsPlaced, NoneIsLost, place_of, sessions_of}
+use Rattle.store_snapshots.specs.Openings.{IsOf}
 use Rattle.app_sessions.specs.declared.session.Session.{Session}
 use Rattle.app_sessions.specs.declared.worker.Worker.{Worker}
 use Rattle.app_sessions.proofs.JobRuns.{over_wider}
 
--- a session that stood at its place is over there
-placed_over : {E N : Type 0} (opening : E → Opening) (o : State × List Change) (low : ℕ) (all : List JobSession) (k : ℕ) (p : ℕ × ℕ) (olds news : List (Worker E N)) → AllInformed opening o low olds → AllHaveRun opening olds news → NoneIsLost news
-    → IsPlaced sessions_of olds p (IsNumber all k) → IsPlaced sessions_of news p (IsNumberOver o low (last_version o.0 o.1) all k)
-placed_over {E} {N} opening o low all k p olds news informed ran fine h =
-    let turn : p.0 < length news = subst (λ n. p.0 < n) (sym ran.len) h.turn in
-    let round : (w : Worker E N) → p.1 < length (sessions_of (slice_index_or news p.0 w)) = λ w. subst (λ n. p.1 < n) (sym (ran.each p.0 w h.turn).len) (h.round w) in
-    let over : (w : Worker E N) (s : Session) → IsOverOf (Some o) low (slice_index_or (sessions_of (slice_index_or news p.0 w)) p.1 s) = λ w s.
-    over_wider _ (Some o) _ low (slice_index_or (sessions_of (slice_index_or news p.0 w)) p.1 s) ((ran.each p.0 w h.turn).over (fine p.0 w turn) p.1 s (round w)) (informed p.0 w h.turn).opened (informed p.0 w h.turn).least in
-    record {
-      turn = turn;
-      round = round;
-      session = λ w s. record {
-        number = ((ran.each p.0 w h.turn).same (fine p.0 w turn)).each p.1 s (h.round w) ∙ h.session w s;
-        over = (over w s).over o refl;
-      };
-    }
-
-pub all_ready : {E N : Type 0} (opening : E → Opening) (o : State × List Change) (low : ℕ) (ss : List Session) (ws : List (Worker E N)) → ArePrepared opening o low ss ws → AllReady opening ws
-all_ready opening o low ss ws h i w less = record {
+pub all_ready : {E N : Type 0} (opening : E → Opening) (fits : E → List Change → Type 0) (start : Trials) (low : ℕ) (ss : List Session) (ws : List (Worker E N))
+    → ArePrepared opening fits start low ss ws → AllReady opening fits ws
+all_ready opening fits start low ss ws h i w less = record {
   seen = (h.informed i w less).seen;
+  list = (h.informed i w less).list;
   unasked = h.unasked i w less;
   going = (h.informed i w less).going;
 }
 
-pub job_over : {E N : Type 0} (opening : E → Opening) (base : State) (list : List Change) (before : ℕ) (ss : List Session) (olds news : List (Worker E N)) (lines : List ℕ) (clean : Bool) (count : ℕ) (job : JobAnswer)
-    → ArePrepared opening (base, list) (accepted base list before) ss olds → AllHaveRun opening olds news
-    → lines ≡ report_text base list (length list) ++ closing_text base list (last_version base list)
-    → clean ≡ are_accepted base list (length list) → count ≡ length ss → IsJoined news count lines clean job
-    → IsJobText base list before (job_sessions ss) job
-job_over {E} {N} opening base list before ss olds news lines clean count job h ran lines_is clean_is count_is over =
-    let o : State × List Change = (base, list) in
-    let low = accepted base list before in
-    let high = last_version base list in
-    let all : List JobSession = job_sessions ss in
-    let each : (k : ℕ) → k < count → IsPlaced sessions_of news (place_of (length news) k) (IsNumberOver o low high all k) = λ k less.
-    placed_over opening o low all k (place_of (length news) k) olds news h.informed ran over.none_lost
-    (subst (λ n. IsPlaced sessions_of olds (place_of n k) (IsNumber all k)) (sym ran.len) (h.placed k (subst (λ n. k < n) count_is less))) in
-    let g = over.gathers o low high all (length-map ss job_session ∙ sym count_is) each in
-    let rest = report_text base list (length list) ++ closing_text base list high in
+-- a session of a worker that has run and met the publisher is over, of the whole list
+over_whole : {E : Type 0} (opening : E → Opening) (fits : E → List Change → Type 0) (start : Trials) (low seen : ℕ) (whole : List Change) (old new : E) (s : Session)
+    → opening old ≡ opening_at start → low ≤ seen → fits new whole
+    → IsOverOf (opening old) (fits new) seen s → IsOver start.base whole low (last_version start.base whole) (job_session s) (course_of s)
+over_whole opening fits start low seen whole old new s opened least fit over =
+    (over_wider (opening old) (opening_at start) (fits new) (fits new) seen low s over opened (λ list f. f) least).over (start.base, start.list, start.most) refl whole fit
+
+-- a session that stood at its place is over there
+pub placed_over : {E N : Type 0} (opening : E → Opening) (fits : E → List Change → Type 0) (start : Trials) (low : ℕ) (whole : List Change) (all : List JobSession) (k : ℕ) (p : ℕ × ℕ) (olds rans news : List (Worker E N))
+    → AllInformed opening fits start low olds → AllHaveRun opening fits olds rans → AllHaveMet fits whole rans news → NoneIsLost news
+    → IsPlaced sessions_of olds p (IsNumber all k) → IsPlaced sessions_of news p (IsNumberOver (start.base, whole) low (last_version start.base whole) all k)
+placed_over {E} {N} opening fits start low whole all k p olds rans news informed ran met fine h =
+    let in_rans : p.0 < length rans = subst (λ n. p.0 < n) (sym ran.len) h.turn in
+    let turn : p.0 < length news = subst (λ n. p.0 < n) (sym met.len) in_rans in
+    let going : (w : Worker E N) → (slice_index_or rans p.0 w).is_lost ≡ false = λ w. sym (met.each p.0 w in_rans).going ∙ fine p.0 w turn in
+    let round : (w : Worker E N) → p.1 < length (sessions_of (slice_index_or rans p.0 w)) = λ w. subst (λ n. p.1 < n) (sym (ran.each p.0 w h.turn).len) (h.round w) in
     record {
-      versions = subst (ArePermitted low high all) (sym over.versions) g.versions;
-      text = over.whole ∙ ap (λ l. l ++ lines) (g.text ∙ ap (sessions_text base list 1 all) (sym over.versions))
-          ∙ ap (λ l. sessions_text base list 1 all job.versions ++ l) lines_is;
-      clean = over.clean ∙ ap (λ b. b && clean) (g.clean ∙ ap (are_sessions_clean base list all) (sym over.versions))
-          ∙ ap (λ b. are_sessions_clean base list all job.versions && b) clean_is;
+      turn = turn;
+      round = λ w. subst (λ (l : List Session). p.1 < length l) (sym (met.each p.0 w in_rans).sessions) (round w);
+      session = λ w s. subst (λ (l : List Session). IsNumberOver (start.base, whole) low (last_version start.base whole) all k (slice_index_or l p.1 s)) (sym (met.each p.0 w in_rans).sessions) (record {
+        number = ((ran.each p.0 w h.turn).same (going w)).each p.1 s (h.round w) ∙ h.session w s;
+        over = over_whole opening fits start low _ whole _ _ (slice_index_or (sessions_of (slice_index_or rans p.0 w)) p.1 s)
+            (informed p.0 w h.turn).opened (informed p.0 w h.turn).least (met.each p.0 w in_rans).whole
+            ((ran.each p.0 w h.turn).over (going w) p.1 s (round w));
+      });
     }
 
-pub all_placed : {E N : Type 0} (opening : E → Opening) (o : State × List Change) (low count : ℕ) (ss : List Session) (olds news : List (Worker E N)) → ArePrepared opening o low ss olds → AllHaveRun opening olds news → count ≡ length ss → HavePlaces news count
-all_placed opening o low count ss olds news h ran is k less =
+-- the text of the sessions
+pub sessions_over : {E N : Type 0} (opening : E → Opening) (fits : E → List Change → Type 0) (start : Trials) (low count : ℕ) (whole : List Change) (ss : List Session) (olds rans news : List (Worker E N)) (sessions : JobAnswer)
+    → ArePrepared opening fits start low ss olds → AllHaveRun opening fits olds rans → AllHaveMet fits whole rans news → NoneIsLost news
+    → count ≡ length ss → Gathers news count sessions
+    → IsSessionsText (start.base, whole) low (last_version start.base whole) (job_sessions ss) sessions
+sessions_over {E} {N} opening fits start low count whole ss olds rans news sessions h ran met fine is gathers =
+    let o : State × List Change = (start.base, whole) in
+    let high = last_version start.base whole in
+    let all : List JobSession = job_sessions ss in
+    gathers o low high all (length-map ss job_session ∙ sym is) (λ k less.
+    subst (λ n. IsPlaced sessions_of news (place_of n k) (IsNumberOver o low high all k)) (sym (met.len ∙ ran.len))
+    (placed_over opening fits start low whole all k (place_of (length olds) k) olds rans news h.informed ran met fine
+    (h.placed k (subst (λ n. k < n) is less))))
+
+pub all_placed : {E N : Type 0} (opening : E → Opening) (fits : E → List Change → Type 0) (start : Trials) (low count : ℕ) (whole : List Change) (ss : List Session) (olds rans news : List (Worker E N))
+    → ArePrepared opening fits start low ss olds → AllHaveRun opening fits olds rans → AllHaveMet fits whole rans news → count ≡ length ss → HavePlaces news count
+all_placed opening fits start low count whole ss olds rans news h ran met is k less =
     let p = h.placed k (subst (λ n. k < n) is less) in
-    subst (λ n. IsPlaced sessions_of news (place_of n k) (λ s. Unit {0})) (sym ran.len) (record {
-      turn = subst (λ n. (place_of (length olds) k).0 < n) (sym ran.len) p.turn;
-      round = λ w. subst (λ n. (place_of (length olds) k).1 < n) (sym (ran.each _ w p.turn).len) (p.round w);
+    let in_rans = subst (λ n. (place_of (length olds) k).0 < n) (sym ran.len) p.turn in
+    subst (λ n. IsPlaced sessions_of news (place_of n k) (λ s. Unit {0})) (sym (met.len ∙ ran.len)) (record {
+      turn = subst (λ n. (place_of (length olds) k).0 < n) (sym met.len) in_rans;
+      round = λ w. subst (λ (l : List Session). (place_of (length olds) k).1 < length l) (sym (met.each _ w in_rans).sessions)
+          (subst (λ n. (place_of (length olds) k).1 < n) (sym (ran.each _ w p.turn).len) (p.round w));
       session = λ w s. tt;
     })
 
--- what is told of all refreshes, and of the end
-abbrev told_whole : State → List Change → ℕ → List ℕ
-told_whole base list done = report_text base list done ++ closing_text base list (accepted base list done)
-
--- the lines after the sessions
-pub lines_are : (base : State) (list : List Change) (d : Trials) (report closed : Report) → d.base ≡ base → d.list ≡ list → d.done ≡ length d.list → IsTold d report
-    → closed.text.items ≡ report.text.items ++ closing_text d.base d.list (version_of d)
-    → closed.text.items ≡ report_text base list (length list) ++ closing_text base list (last_version base list)
-lines_are base list d report closed b l done told is =
-    is ∙ ap (λ t. t ++ closing_text d.base d.list (version_of d)) told.text
-    ∙ ap (told_whole d.base d.list) done ∙ ap (λ x. told_whole x d.list (length d.list)) b ∙ ap (λ x. told_whole base x (length x)) l
-
--- and whether each refresh was accepted
-pub accepted_are : (base : State) (list : List Change) (d : Trials) (report closed : Report) → d.base ≡ base → d.list ≡ list → d.done ≡ length d.list → IsTold d report
-    → closed.accepted ≡ report.accepted → closed.accepted ≡ are_accepted base list (length list)
-accepted_are base list d report closed b l done told is =
-    is ∙ told.accepted ∙ ap (are_accepted d.base d.list) done ∙ ap (λ x. are_accepted x d.list (length d.list)) b ∙ ap (λ x. are_accepted base x (length x)) l
+-- readers of an opening may meet a publisher that shows a version of it
+pub all_meet : {E N : Type 0} (opening : E → Opening) (fits : E → List Change → Type 0) (start shown : Trials) (low : ℕ) (olds rans : List (Worker E N))
+    → AllInformed opening fits start low olds → AllHaveRun opening fits olds rans → IsOf (opening_at start) shown → AllMayMeet opening shown rans
+all_meet opening fits start shown low olds rans informed ran is i w less =
+    let in_olds = subst (λ n. i < n) ran.len less in
+    record {
+      named = (start.base, start.list, start.most);
+      opened = (ran.each i w in_olds).opened ∙ (informed i w in_olds).opened;
+      version = is;
+    }

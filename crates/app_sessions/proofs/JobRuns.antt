@@ -4,13 +4,15 @@ use Rattle.std.proofs.Common.{drop, le_refl, le_trans, length, length-append, ma
 use Rattle.std.specs.Prelude.{Option, None, Some, Ok, slice_get, Bool, ◌&&◌, is_none, true, false}
 use Rattle.std.proofs.lemmas.List.{map-append}
 use Rattle.std.proofs.lemmas.Option.{get_or_from_slice_get, slice_get_cases, slice_get_within}
-use Rattle.store_snapshots.specs.Openings.{Opening, IsOf}
+use Rattle.store_snapshots.specs.Openings.{AllBegin, Narrower, Opening, IsOf}
 use Rattle.store_versions.specs.Trials.{Trials, version_of}
 use Rattle.sql_ast.specs.declared.statement.RefreshKind.{RefreshKind}
 use Rattle.sql_ast.specs.declared.statement.Statement.{Statement}
 use Rattle.sql_ast.specs.declared.statement.Statement.TheVariants.{Refresh}
+use Rattle.store_state.specs.Prefixes.{IsPrefix}
 use Rattle.store_state.specs.Refresh.{Change}
 use Rattle.store_state.specs.Versions.{accepted, version_state}
+use Rattle.store_state.proofs.Prefixes.{accepted-longer, state-prefix}
 use Rattle.store_state.proofs.VersionSteps.{accepted-most}
 use Rattle.base_schema.specs.State.{State}
 use Rattle.app_sessions.specs.Asked.{HaveNoRefresh, IsAsked, IsAskedOf, IsFresh, IsOver, IsOverOf, IsUnasked, job_session}
@@ -21,6 +23,7 @@ use Rattle.app_sessions.specs.Sessions.{Course, Takes, are_clean, course_after, 
 use Rattle.app_sessions.specs.Versions.{states_of}
 use Rattle.app_sessions.specs.declared.session.Session.{Session}
 use Rattle.app_sessions.specs.declared.session.Turn.TheVariants.{Answered, AskedRefresh, Ended}
+use Rattle.app_sessions.proofs.Alike.{course_alike}
 use Rattle.app_sessions.proofs.Texts.{sessions_text}
 
 run_more : (low high : ℕ) (vs : List ℕ) (v : ℕ) → IsRun low high vs → high ≤ v → IsRun low v (vs ++ v ∷ [])
@@ -39,21 +42,24 @@ course_more : (start : Course) (ms : List Moment) (m : Moment)
 course_more start [] m = refl
 course_more start (x ∷ ms) m = course_more (turn_or_end start x (next_of start)) ms m
 
--- the tables of each version of an opening
-tables_at : (base : State) (list : List Change) (d : Trials) → d.base ≡ base → d.list ≡ list
-    → states_of d ≡ version_state base list
-tables_at base list d b l = ap (λ s. version_state s d.list) b ∙ ap (version_state base) l
+-- the tables of the versions up to that of some trials, over each list that begins with theirs
+tables_at : (base : State) (list : List Change) (d : Trials) → d.base ≡ base → IsPrefix d.list list
+    → (k : ℕ) → k ≤ version_of d → states_of d k ≡ version_state base list k
+tables_at base list d b l k up =
+    let most = accepted-most d.base d.list d.done in
+    let within : k ≤ accepted d.base d.list (length d.list) = omega (arith, up, most) in
+    sym (state-prefix d.base d.list list k l within) ∙ ap (λ s. version_state s list k) b
 
 -- what one more turn does
 pub asked_more : (base : State) (list : List Change) (low high : ℕ) (start old new : Course) (d : Trials)
-    → IsAsked base list low high start old → d.base ≡ base → d.list ≡ list
+    → IsAsked base list low high start old → d.base ≡ base → IsPrefix d.list list
     → Takes old (version_of d) (states_of d) new Answered → high ≤ version_of d
     → IsAsked base list low (version_of d) start new
 asked_more base list low high start old new d h b l (s, is, never, made) up =
     let v = version_of d in
     let m = moment_at base list v in
     let new_is : new ≡ course_after old m s =
-    made (Ok v) ∙ ap (λ t. course_after old (record { version = v; tables = t; tried = Ok v }) s) (tables_at base list d b l) in
+    made (Ok v) ∙ course_alike old v (states_of d) (version_state base list) (Ok v) s (tables_at base list d b l) in
     let vs : new.versions ≡ old.versions ++ v ∷ [] = ap (λ (c : Course). c.versions) new_is in
     let many : new.answered ≡ old.answered + 1 = ap (λ (c : Course). c.answered) new_is in
     let within : old.answered < length old.steps = slice_get_within old.steps old.answered s is in
@@ -73,9 +79,10 @@ asked_more base list low high start old new d h b l (s, is, never, made) up =
     }
 
 -- before its first turn
-pub asked_none : (opening : Opening) (low : ℕ) (start : Course) → IsFresh start → IsAskedOf opening low low start start
-asked_none opening low start f o is = record {
-  made = ap (λ vs. course_through start (moments_at o.0 o.1 vs)) (sym f.versions);
+pub asked_none : (opening : Opening) (fits : List Change → Type 0) (low : ℕ) (start : Course) → IsFresh start
+    → IsAskedOf opening fits low low start start
+asked_none opening fits low start f o is list fit = record {
+  made = ap (λ vs. course_through start (moments_at o.0 list vs)) (sym f.versions);
   run = subst (IsRun low low) (sym f.versions) (le_refl low);
   count = ap length f.versions ∙ sym f.answered;
   steps = refl;
@@ -83,13 +90,12 @@ asked_none opening low start f o is = record {
   within = let e = f.answered in omega (arith, e);
 }
 
--- no version of an opening is above that of its whole list
-pub version_most : (o : State × List Change) (d : Trials) → d.base ≡ o.0 → d.list ≡ o.1 → version_of d ≤ last_version o.0 o.1
-version_most o d b l =
-    let h = accepted-most d.base d.list d.done in
-    let e : accepted d.base d.list (length d.list) ≡ last_version o.0 o.1 =
-    ap (λ n. accepted n d.list (length d.list)) b ∙ ap (λ xs. accepted o.0 xs (length xs)) l in
-    subst (λ n. version_of d ≤ n) e h
+-- no version is above the last one of a list that begins with its own
+pub version_most : (base : State) (list : List Change) (d : Trials) → d.base ≡ base → IsPrefix d.list list
+    → version_of d ≤ last_version base list
+version_most base list d b l =
+    subst (λ n. version_of d ≤ last_version n list) b
+    (le_trans (accepted-most d.base d.list d.done) (accepted-longer d.base d.list list l))
 
 fresh_text : (start : Course) (ms : List Moment) → IsFresh start
     → (course_through start ms).text ≡ lines_of start.shows_rows 1 [] start.steps ms
@@ -126,33 +132,33 @@ over_at base list low high start course f h past =
       all = let n = h.count in let w = h.within in let e = ap length h.steps in let p = past in omega (arith, n, w, e, p);
     }
 
--- a session that was asked to its end is over, at versions up to the last one of the list
-pub over_all : (opening : Opening) (low high : ℕ) (start session : Session) (d : Trials) → IsFresh (course_of start)
-    → IsAskedOf opening low high (course_of start) (course_of session) → IsOf opening d → high ≡ version_of d
-    → is_none (next_of (course_of session)) ≡ true → IsOverOf opening low session
-over_all opening low high start session d f h of_it top none = record {
-  over = λ o is.
-      let a = h o is in
+-- a session that was asked to its end is over, at versions up to the last one of each list that fits
+pub over_all : (opening : Opening) (fits : List Change → Type 0) (low high : ℕ) (start session : Session) (d : Trials) → IsFresh (course_of start)
+    → IsAskedOf opening fits low high (course_of start) (course_of session) → IsOf opening d → AllBegin fits d.list → high ≡ version_of d
+    → is_none (next_of (course_of session)) ≡ true → IsOverOf opening fits low session
+over_all opening fits low high start session d f h of_it begins top none = record {
+  over = λ o is list fit.
+      let a = h o is list fit in
       let w = of_it o is in
-      let all = over_at o.0 o.1 low high (course_of start) (course_of session) f a (past_end (course_of session) none) in
+      let all = over_at o.0 list low high (course_of start) (course_of session) f a (past_end (course_of session) none) in
       record {
         text = all.text;
         clean = all.clean;
-        run = run_wider low high low (last_version o.0 o.1) (course_of session).versions all.run (le_refl low)
-            (subst (λ n. n ≤ last_version o.0 o.1) (sym top) (version_most o d w.0 w.1));
+        run = run_wider low high low (last_version o.0 list) (course_of session).versions all.run (le_refl low)
+            (subst (λ n. n ≤ last_version o.0 list) (sym top) (version_most o.0 list d w.0 (begins list fit)));
         all = all.all;
       };
 }
 
-pub over_wider : (opening opening' : Opening) (low low' : ℕ) (session : Session) → IsOverOf opening low session
-    → opening ≡ opening' → low' ≤ low → IsOverOf opening' low' session
-over_wider opening opening' low low' session h same down = record {
-  over = λ o is.
-      let a = h.over o (same ∙ is) in
+pub over_wider : (opening opening' : Opening) (fits fits' : List Change → Type 0) (low low' : ℕ) (session : Session) → IsOverOf opening fits low session
+    → opening ≡ opening' → Narrower fits fits' → low' ≤ low → IsOverOf opening' fits' low' session
+over_wider opening opening' fits fits' low low' session h same fewer down = record {
+  over = λ o is list fit.
+      let a = h.over o (same ∙ is) list (fewer list fit) in
       record {
         text = a.text;
         clean = a.clean;
-        run = run_wider low (last_version o.0 o.1) low' (last_version o.0 o.1) (course_of session).versions a.run down (le_refl (last_version o.0 o.1));
+        run = run_wider low (last_version o.0 list) low' (last_version o.0 list) (course_of session).versions a.run down (le_refl (last_version o.0 list));
         all = a.all;
       };
 }

@@ -1,5 +1,6 @@
 mod Printable
 mod Beside
+mod Alike
 mod Worked
 mod Running
 mod Texts
@@ -10,7 +11,11 @@ mod JobSets
 mod JobDeals
 mod JobRuns
 mod JobReports
+mod JobSteps
 mod JobTexts
 mod JobParts
+mod JobEnds
+mod JobStarts
+mod JobMeets
 mod Crossing
 mod Compacting

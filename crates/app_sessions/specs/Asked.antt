@@ -52,10 +52,11 @@ pub record IsAsked (base : State) (list : List Change) (low high : ℕ) (start c
   pub shows : course.shows_rows ≡ start.shows_rows
   pub within : course.answered ≤ length start.steps
 
--- the same over the base and the list of an opening
-abbrev pub IsAskedOf : Opening → ℕ → ℕ → Course → Course → Type 0
-IsAskedOf opening low high start course =
-    ForSome opening (λ o. IsAsked o.0 o.1 low high start course)
+-- the same over the base of an opening and each list that fits
+abbrev pub IsAskedOf : Opening → (List Change → Type 0) → ℕ → ℕ → Course → Course → Type 0
+IsAskedOf opening fits low high start course =
+    ForSome opening
+    (λ o. (list : List Change) → fits list → IsAsked o.0 list low high start course)
 
 -- A session of which each statement had its turn, begun over versions that never fall, has this
 -- text.
@@ -66,16 +67,19 @@ pub record IsOver (base : State) (list : List Change) (low high : ℕ) (session 
   pub run : IsRun low high course.versions
   pub all : length course.versions ≡ length session.steps
 
--- so it is, up to the last version of the opening's list
-pub record IsOverOf (opening : Opening) (low : ℕ) (session : Session) : Type 0 where
+-- so it is over each list that fits, up to the last version of that list
+pub record IsOverOf (opening : Opening) (fits : List Change → Type 0) (low : ℕ) (session : Session)
+    : Type 0 where
   pub over :
       ForSome opening
-      (λ o. IsOver o.0 o.1 low (last_version o.0 o.1) (job_session session) (course_of session))
+      (λ o. (list : List Change) → fits list
+      → IsOver o.0 list low (last_version o.0 list) (job_session session) (course_of session))
 
 -- so are all of them
-abbrev pub AllOver : Opening → ℕ → List Session → Type 0
-AllOver opening low sessions =
-    (i : ℕ) (d : Session) → i < length sessions → IsOverOf opening low (slice_index_or sessions i d)
+abbrev pub AllOver : Opening → (List Change → Type 0) → ℕ → List Session → Type 0
+AllOver opening fits low sessions =
+    (i : ℕ) (d : Session) → i < length sessions
+    → IsOverOf opening fits low (slice_index_or sessions i d)
 
 -- the sessions have the statements that they had
 pub record SameSessions (old new : List Session) : Type 0 where

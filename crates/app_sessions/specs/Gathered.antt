@@ -1,6 +1,7 @@
 -- The parts of a job's text.
 use Rattle.std.specs.Prelude.{◌≡◌, ℕ, ◌<◌, ⊤, Bool, ◌&&◌, List, [], ◌++◌, length, slice_index_or}
 use Rattle.store_snapshots.specs.Openings.{Opening}
+use Rattle.store_versions.specs.Trials.{Trials}
 use Rattle.store_state.specs.Refresh.{Change}
 use Rattle.base_schema.specs.State.{State}
 use Rattle.app_sessions.specs.Asked.{AllUnasked, job_sessions}
@@ -27,11 +28,13 @@ Gathers workers count job =
     → IsPlaced sessions_of workers (place_of (length workers) k) (IsNumberOver o low high all k))
     → IsSessionsText o low high all job
 
--- workers whose readers have seen at least that version, with these sessions, none of which was asked
-pub record ArePrepared {E N : Type 0} (opening : E → Opening) (o : State × List Change) (low : ℕ)
-    (sessions : List Session) (workers : List (Worker E N)) : Type 0 where
+-- workers whose readers have seen at least a version of that number, with these sessions, none of
+-- which was asked
+pub record ArePrepared {E N : Type 0} (opening : E → Opening) (fits : E → List Change → Type 0)
+    (start : Trials) (low : ℕ) (sessions : List Session) (workers : List (Worker E N))
+    : Type 0 where
   pub some : 0 < length workers
-  pub informed : AllInformed opening o low workers
+  pub informed : AllInformed opening fits start low workers
   pub unasked :
       (i : ℕ) (d : Worker E N) → i < length workers
       → AllUnasked (sessions_of (slice_index_or workers i d))

@@ -2,12 +2,14 @@
 -- statements began.
 use Rattle.std.specs.Prelude.{◌≡◌, ℕ, ◌+◌, ◌≤◌, ⊤, Bool, true, ◌&&◌, List, [], ◌∷◌, ◌++◌, codes}
 use Rattle.std.specs.Prelude.{decimal}
-use Rattle.std.specs.Prelude.{Ok, length, map}
+use Rattle.std.specs.Prelude.{Ok, drop, length, map}
 use Rattle.sql_ast.specs.declared.statement.Statement.{Statement}
+use Rattle.store_snapshots.specs.Turns.{from_nobody}
 use Rattle.store_state.specs.Refresh.{Change}
 use Rattle.store_state.specs.Versions.{accepted, version_state}
 use Rattle.base_schema.specs.State.{State}
 use Rattle.app_sessions.specs.Counts.{counts_text}
+use Rattle.app_sessions.specs.Orders.{RefreshOrder, changes_of}
 use Rattle.app_sessions.specs.Outcomes.{Moment}
 use Rattle.app_sessions.specs.Reports.{are_accepted, report_text}
 use Rattle.app_sessions.specs.Sessions.{are_clean, lines_of}
@@ -81,16 +83,31 @@ closing_text base list version =
 abbrev pub last_version : State → List Change → ℕ
 last_version base list = accepted base list (length list)
 
--- the text of a job: its sessions, its refreshes, and its end
-abbrev pub job_text : State → List Change → List JobSession → List (List ℕ) → List ℕ
-job_text base list sessions lists =
-    sessions_text base list 1 sessions lists
-    ++ (report_text base list (length list) ++ closing_text base list (last_version base list))
+-- the lines of a job's refreshes; the first `kept` of their order are done before the job begins,
+-- and have none
+abbrev pub refreshes_text : State → RefreshOrder → ℕ → List ℕ
+refreshes_text base order kept =
+    report_text (version_state base (changes_of order) (accepted base (changes_of order) kept))
+    (accepted base (changes_of order) kept) 1 (drop kept order)
+
+-- none of the job's refreshes is refused
+abbrev pub are_refreshes_accepted : State → RefreshOrder → ℕ → Bool
+are_refreshes_accepted base order kept =
+    are_accepted (version_state base (changes_of order) (accepted base (changes_of order) kept))
+    (drop kept order)
+
+-- the text of a job that tries refreshes in this order: its sessions, its refreshes, and its end
+abbrev pub job_text : State → RefreshOrder → ℕ → List JobSession → List (List ℕ) → List ℕ
+job_text base order kept sessions lists =
+    sessions_text base (changes_of order) 1 sessions lists
+    ++ (refreshes_text base order kept
+    ++ closing_text base (changes_of order) (last_version base (changes_of order)))
 
 -- no statement and no refresh of a job is refused
-abbrev pub is_job_clean : State → List Change → List JobSession → List (List ℕ) → Bool
-is_job_clean base list sessions lists =
-    are_sessions_clean base list sessions lists && are_accepted base list (length list)
+abbrev pub is_job_clean : State → RefreshOrder → ℕ → List JobSession → List (List ℕ) → Bool
+is_job_clean base order kept sessions lists =
+    are_sessions_clean base (changes_of order) sessions lists
+    && are_refreshes_accepted base order kept
 
 -- what a job's text is seen as: its bytes, the versions over which the statements of each session
 -- began, and whether no line is a refusal
@@ -99,12 +116,18 @@ pub record JobAnswer : Type 0 where
   pub versions : List (List ℕ)
   pub is_clean : Bool
 
--- The text of a job for the versions over which its statements began. They go from the number
--- accepted of the first `before` refreshes, which were told of before the sessions began, up to the
--- closing version.
-pub record IsJobText (base : State) (list : List Change) (before : ℕ) (sessions : List JobSession)
-    (job : JobAnswer) : Type 0 where
-  pub versions : ArePermitted (accepted base list before) (last_version base list)
-      sessions job.versions
-  pub text : job.text ≡ job_text base list sessions job.versions
-  pub clean : job.is_clean ≡ is_job_clean base list sessions job.versions
+-- The text of a job that tries refreshes in this order, for the versions over which its statements
+-- began. The first `kept` refreshes are done before the job begins. The versions go from the number
+-- accepted of these and the `before` ones after them, which were told of before the sessions began,
+-- up to the closing version.
+pub record IsOrderText (base : State) (order : RefreshOrder) (kept before : ℕ)
+    (sessions : List JobSession) (job : JobAnswer) : Type 0 where
+  pub versions : ArePermitted (accepted base (changes_of order) (kept + before))
+      (last_version base (changes_of order)) sessions job.versions
+  pub text : job.text ≡ job_text base order kept sessions job.versions
+  pub clean : job.is_clean ≡ is_job_clean base order kept sessions job.versions
+
+-- the text of a job whose refreshes are those of a list, in the list's order
+abbrev pub IsJobText : State → List Change → ℕ → List JobSession → JobAnswer → Type 0
+IsJobText base list before sessions job =
+    IsOrderText base (from_nobody list) 0 before sessions job

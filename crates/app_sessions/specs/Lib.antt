@@ -8,9 +8,12 @@ pub mod Explained
 pub mod Laws
 pub mod Examples
 pub mod Counts
+pub mod Orders
 pub mod Reports
 pub mod Jobs
 pub mod Asked
 pub mod Workers
 pub mod Gathered
+pub mod Starts
+pub mod JobExamples
 pub mod Compaction

@@ -3,7 +3,7 @@ use Rattle.std.specs.Prelude.{◌≡◌, ℕ, ◌+◌, ◌<◌, ◌≤◌, zero,
 use Rattle.std.specs.Prelude.{length}
 use Rattle.std.specs.Prelude.{false, slice_index_or, Some}
 use Rattle.store_versions.specs.Trials.{Trials, version_of}
-use Rattle.store_snapshots.specs.Openings.{Opening, IsOf, opening_at}
+use Rattle.store_snapshots.specs.Openings.{AllBegin, Opening, IsOf, opening_at}
 use Rattle.store_snapshots.specs.Seen.{ReaderState}
 use Rattle.store_state.specs.Refresh.{Change}
 use Rattle.base_schema.specs.State.{State}
@@ -18,52 +18,93 @@ use Rattle.app_sessions.specs.declared.worker.Worker.{Worker}
 abbrev pub sessions_of : {E N : Type 0} → Worker E N → List Session
 sessions_of worker = worker.sessions.items
 
--- a worker that can begin: its reader is of an opening, and its sessions can be run
-pub record IsReady {E N : Type 0} (opening : E → Opening) (worker : Worker E N) : Type 0 where
+-- a worker that can begin: its reader is of an opening, each list that fits what its reader saw
+-- begins with the one that was seen, and its sessions can be run
+pub record IsReady {E N : Type 0} (opening : E → Opening) (fits : E → List Change → Type 0)
+    (worker : Worker E N) : Type 0 where
   pub seen : IsOf (opening worker.reader.entry) worker.reader.seen
+  pub list : AllBegin (fits worker.reader.entry) worker.reader.seen.list
   pub unasked : AllUnasked (sessions_of worker)
   pub going : worker.is_lost ≡ false
 
--- a worker that has run: where memory did not run out, its sessions have the statements that they
--- had, and each of these had its turn, at the version that its reader had seen or at later ones
-pub record HasRun {E N : Type 0} (opening : E → Opening) (old new : Worker E N) : Type 0 where
+-- A worker that has run, whose reader is of the same opening. Where memory did not run out, its
+-- sessions have the statements that they had, and each of these had its turn, at the version that
+-- its reader had seen or at later ones, of each list that fits what its reader saw by then.
+pub record HasRun {E N : Type 0} (opening : E → Opening) (fits : E → List Change → Type 0)
+    (old new : Worker E N) : Type 0 where
+  pub opened : opening new.reader.entry ≡ opening old.reader.entry
   pub len : length (sessions_of new) ≡ length (sessions_of old)
   pub same : new.is_lost ≡ false → SameSessions (sessions_of old) (sessions_of new)
   pub over :
       new.is_lost ≡ false
-      → AllOver (opening old.reader.entry) (version_of old.reader.seen) (sessions_of new)
+      → AllOver (opening old.reader.entry) (fits new.reader.entry) (version_of old.reader.seen)
+      (sessions_of new)
 
 -- so each of them can begin
-abbrev pub AllReady : {E N : Type 0} → (E → Opening) → List (Worker E N) → Type 0
-AllReady {E} {N} opening workers =
-    (i : ℕ) (d : Worker E N) → i < length workers → IsReady opening (slice_index_or workers i d)
+abbrev pub AllReady : {E N : Type 0} → (E → Opening) → (E → List Change → Type 0)
+    → List (Worker E N) → Type 0
+AllReady {E} {N} opening fits workers =
+    (i : ℕ) (d : Worker E N) → i < length workers
+    → IsReady opening fits (slice_index_or workers i d)
 
 -- so each of them has run
-pub record AllHaveRun {E N : Type 0} (opening : E → Opening) (olds news : List (Worker E N))
-    : Type 0 where
+pub record AllHaveRun {E N : Type 0} (opening : E → Opening) (fits : E → List Change → Type 0)
+    (olds news : List (Worker E N)) : Type 0 where
   pub len : length news ≡ length olds
   pub each :
       (i : ℕ) (d : Worker E N) → i < length olds
-      → HasRun opening (slice_index_or olds i d) (slice_index_or news i d)
+      → HasRun opening fits (slice_index_or olds i d) (slice_index_or news i d)
+
+-- a worker whose reader is of an opening of which this version is
+pub record MayMeet {E N : Type 0} (opening : E → Opening) (shown : Trials) (worker : Worker E N)
+    : Type 0 where
+  pub named : State × List Change × ℕ
+  pub opened : opening worker.reader.entry ≡ Some named
+  pub version : IsOf (Some named) shown
+
+-- so is each of them
+abbrev pub AllMayMeet : {E N : Type 0} → (E → Opening) → Trials → List (Worker E N) → Type 0
+AllMayMeet {E} {N} opening shown workers =
+    (i : ℕ) (d : Worker E N) → i < length workers
+    → MayMeet opening shown (slice_index_or workers i d)
+
+-- a worker that has met the publisher: all but its reader stays, and this list fits what its reader
+-- had seen
+pub record HasMet {E N : Type 0} (fits : E → List Change → Type 0) (list : List Change)
+    (old new : Worker E N) : Type 0 where
+  pub sessions : sessions_of new ≡ sessions_of old
+  pub going : new.is_lost ≡ old.is_lost
+  pub whole : fits old.reader.entry list
+
+-- so each of them has met it
+pub record AllHaveMet {E N : Type 0} (fits : E → List Change → Type 0) (list : List Change)
+    (olds news : List (Worker E N)) : Type 0 where
+  pub len : length news ≡ length olds
+  pub each :
+      (i : ℕ) (d : Worker E N) → i < length olds
+      → HasMet fits list (slice_index_or olds i d) (slice_index_or news i d)
 
 -- memory ran out for none of them
 abbrev pub NoneIsLost : {E N : Type 0} → List (Worker E N) → Type 0
 NoneIsLost {E} {N} workers =
     (i : ℕ) (d : Worker E N) → i < length workers → (slice_index_or workers i d).is_lost ≡ false
 
--- a worker whose reader has seen at least that version of the opening
-pub record IsInformed {E N : Type 0} (opening : E → Opening) (o : State × List Change) (low : ℕ)
-    (worker : Worker E N) : Type 0 where
-  pub opened : opening worker.reader.entry ≡ Some o
+-- a worker whose reader is of the opening of a version, and has seen at least a version of that
+-- number
+pub record IsInformed {E N : Type 0} (opening : E → Opening) (fits : E → List Change → Type 0)
+    (start : Trials) (low : ℕ) (worker : Worker E N) : Type 0 where
+  pub opened : opening worker.reader.entry ≡ opening_at start
   pub seen : IsOf (opening worker.reader.entry) worker.reader.seen
+  pub list : AllBegin (fits worker.reader.entry) worker.reader.seen.list
   pub least : low ≤ version_of worker.reader.seen
   pub going : worker.is_lost ≡ false
 
 -- so are all of them
-abbrev pub AllInformed : {E N : Type 0} → (E → Opening) → State × List Change → ℕ → List (Worker E N)
-    → Type 0
-AllInformed {E} {N} opening o low workers =
-    (i : ℕ) (d : Worker E N) → i < length workers → IsInformed opening o low (slice_index_or workers i d)
+abbrev pub AllInformed : {E N : Type 0} → (E → Opening) → (E → List Change → Type 0) → Trials → ℕ
+    → List (Worker E N) → Type 0
+AllInformed {E} {N} opening fits start low workers =
+    (i : ℕ) (d : Worker E N) → i < length workers
+    → IsInformed opening fits start low (slice_index_or workers i d)
 
 -- each reader is of the version's opening
 abbrev pub AreOfOpening : {E : Type 0} → (E → Opening) → Trials → List (ReaderState E) → Type 0

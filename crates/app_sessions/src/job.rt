@@ -1,37 +1,142 @@
 //! A job: sessions that run beside a publisher.
-ghost use Rattle.std.specs.Prelude.{◌≡◌, ℕ, ◌<◌, ◌≤◌, ◌++◌, ◌^◌, false, IfOk, OnOk, length};
+ghost use Rattle.std.specs.Prelude.{◌≡◌, ◌≢◌, ◌+◌, ◌<◌, ◌≤◌, ◌^◌, ◌++◌, [], IfOk, Err, length};
 ghost use Rattle.std.specs.Prelude.{vec_len};
-ghost use denote.Param.Send.{IsSync};
-ghost use Rattle.store_versions.specs.Trials.{version_of};
 ghost use Rattle.store_snapshots.specs.Ruled.{opening_of};
-ghost use Rattle.store_state.specs.Versions.{accepted};
 ghost use Rattle.app_sessions.specs.Asked.{AllUnasked, job_sessions};
-ghost use Rattle.app_sessions.specs.Gathered.{ArePrepared, HavePlaces, IsJoined};
-ghost use Rattle.app_sessions.specs.Jobs.{IsJobText, closing_line, closing_text};
-ghost use Rattle.app_sessions.specs.Reports.{IsTold};
-ghost use Rattle.app_sessions.specs.Workers.{AllHaveRun, AllReady, AreOfOpening, NoneIsLost};
+ghost use Rattle.app_sessions.specs.Jobs.{IsJobText, IsOrderText};
+ghost use Rattle.app_sessions.specs.Orders.{EndsFeed, later_by, whole_order};
+ghost use Rattle.app_sessions.specs.Starts.{HasStarted};
+ghost use Rattle.app_sessions.specs.Workers.{AreOfOpening};
+ghost use Rattle.app_sessions.specs.declared.job_error.JobError.TheVariants.{OutOfMemory};
+ghost use Rattle.app_sessions.specs.declared.job_error.JobError.TheVariants.{TooFewRefreshes};
 
-use crate::counts::push_counts;
-use crate::job_text::{JobText, gather};
-use crate::report::{Report, publish_first, publish_rest};
+use crate::closing::{close_report, show_list, whole_text};
+use crate::forking::{JobRun, fork, prepare};
+use crate::job_error::JobError;
+use crate::job_text::JobText;
+use crate::meeting::meet_workers;
 use crate::session::Session;
-use crate::worker::{Worker, run_workers};
-use crate::workers::{assign_sessions, make_workers};
 use base_io::Gate;
-use itoa::Buffer;
 use std::alloc::{AllocError, Global};
 use std::sync::Wait;
-use std::thread::{Threads, join_mut};
-use store_snapshots::{Entry, Publisher, Reader, RuledEntry, Snapshot};
+use std::thread::Threads;
+use store_snapshots::{Feed, Publisher, Reader, RuledEntry};
 
-/// Runs sessions beside the publisher of a list of refreshes, and gives their text.
+/// What a job runs.
+#[derive(Drop)]
+pub struct JobSetup {
+    /// Its sessions.
+    pub sessions: Vec<Session>,
+    /// What they read by.
+    pub readers: Vec<Reader<RuledEntry>>,
+    /// How many refreshes are tried before the sessions begin.
+    pub before: usize,
+    /// How many refreshes the publisher's list has in the end.
+    pub most: usize,
+}
+
+/// Runs sessions beside the publisher of a feed's refreshes, and gives their text.
 ///
-/// The first `before` refreshes are published, and all readers told of them, before a session
-/// begins; the others are published while the sessions run. Each reader has a thread of its own.
-/// Sessions are assigned to the readers in turn, and those of one reader run one after another. All
-/// threads are joined, and the publisher is closed, whatever happens. The only error is that memory
-/// ran out.
-pub fn run_job<G: Gate + Sync, R: Threads + Wait + Sync>(
+/// The first refreshes of the publisher's list are published, and all readers told of them, before
+/// a session begins; the feed's are published while the sessions run, as they come. Each reader has
+/// a thread of its own. Sessions are assigned to the readers in turn, and those of one reader run
+/// one after another. All threads are joined, whatever happens, and the publisher stays open. The
+/// text is that of the list of all that was tried, which no session knew when it was asked. Where
+/// the feed ended before the list had as many refreshes as it was to have, there is no text.
+pub fn run_job<F: Feed + Send, G: Gate + Sync, R: Threads + Wait + Sync>(
+    rt: &R,
+    alloc: Global,
+    gate: &G,
+    setup: JobSetup,
+    publisher: &mut Publisher,
+    feed: &mut F,
+) -> Result<JobText, JobError>
+    requires sessions { (0 < vec_len setup.sessions) × (vec_len setup.sessions < 2 ^ 32) }
+    requires unasked { AllUnasked setup.sessions.items }
+    requires readers { 0 < vec_len setup.readers }
+    requires opened { AreOfOpening opening_of publisher.old.version setup.readers.items }
+    requires shown { publisher.old.shown ≡ publisher.old.version }
+    requires before { publisher.old.version.done + setup.before
+        ≤ length publisher.old.version.list }
+    requires fits { F.fits feed.old (later_by setup.before publisher.old.version) }
+    requires fresh { F.tried feed.old ≡ [] }
+    requires most { setup.most ≡ publisher.old.version.most }
+    ensures text { IfOk result (IsOrderText publisher.old.version.base
+        (whole_order (later_by setup.before publisher.old.version) (F.tried feed.new))
+        publisher.old.version.done setup.before (job_sessions setup.sessions.items)) }
+    ensures many { IfOk result (λ _. length
+        (whole_order (later_by setup.before publisher.old.version) (F.tried feed.new))
+        ≡ publisher.old.version.most) }
+    ensures few { result ≡ Err TooFewRefreshes → length
+        (whole_order (later_by setup.before publisher.old.version) (F.tried feed.new))
+        < publisher.old.version.most }
+    ensures ended { result ≢ Err OutOfMemory → EndsFeed (F.fits feed.new) (F.is_over feed.new)
+        (later_by setup.before publisher.old.version) (F.tried feed.new) }
+    ensures source { F.source feed.new ≡ F.source feed.old }
+{
+    let JobSetup {
+        sessions,
+        readers,
+        before,
+        most,
+    } = setup;
+    let (run, _) = prepare(rt, alloc, before, sessions, readers, publisher)?;
+    run_beside(rt, alloc, gate, most, run, publisher, feed)
+}
+
+/// Runs a job's sessions beside the publisher of a feed's refreshes, and gives the job's text.
+fn run_beside<F: Feed + Send, G: Gate + Sync, R: Threads + Wait + Sync>(
+    rt: &R,
+    alloc: Global,
+    gate: &G,
+    most: usize,
+    run: JobRun,
+    publisher: &mut Publisher,
+    feed: &mut F,
+) -> Result<JobText, JobError>
+    requires started { HasStarted run publisher.old (F.tried feed.old) }
+    requires fits { F.fits feed.old publisher.old.version }
+    requires most { most ≡ publisher.old.version.most }
+    ensures text { (begun : HasStarted run publisher.old (F.tried feed.old)) → IfOk result
+        (IsOrderText begun.start.base (whole_order begun.start (begun.first ++ F.tried feed.new))
+        begun.start.done begun.before (job_sessions begun.sessions)) }
+    ensures many { (begun : HasStarted run publisher.old (F.tried feed.old)) → IfOk result
+        (λ _. length (whole_order begun.start (begun.first ++ F.tried feed.new)) ≡ most) }
+    ensures few { (begun : HasStarted run publisher.old (F.tried feed.old))
+        → result ≡ Err TooFewRefreshes
+        → length (whole_order begun.start (begun.first ++ F.tried feed.new)) < most }
+    ensures ended { (begun : HasStarted run publisher.old (F.tried feed.old))
+        → result ≢ Err OutOfMemory → EndsFeed (F.fits feed.new) (F.is_over feed.new)
+        begun.start (begun.first ++ F.tried feed.new) }
+    ensures source { F.source feed.new ≡ F.source feed.old }
+{
+    let JobRun {
+        mut workers,
+        count,
+        mut report,
+        listed,
+    } = run;
+    fork(
+        rt,
+        gate,
+        publisher,
+        &mut report,
+        feed,
+        workers.as_mut_slice(),
+    )?;
+    if publisher.listed() < most {
+        return Err(JobError::TooFewRefreshes);
+    }
+    show_list(rt, listed, publisher)?;
+    meet_workers(rt, publisher, workers.as_mut_slice())?;
+    close_report(publisher, &mut report)?;
+    let text = whole_text(alloc, workers.as_slice(), count, &report)?;
+    Ok(text)
+}
+
+/// The same for the refreshes of the publisher's list alone, of which none is done. The publisher
+/// is closed, whatever happens. The only error is that memory ran out.
+pub fn run_list_job<G: Gate + Sync, R: Threads + Wait + Sync>(
     rt: &R,
     alloc: Global,
     sessions: Vec<Session>,
@@ -44,18 +149,20 @@ pub fn run_job<G: Gate + Sync, R: Threads + Wait + Sync>(
     requires unasked { AllUnasked sessions.items }
     requires readers { 0 < vec_len readers }
     requires opened { AreOfOpening opening_of publisher.version readers.items }
+    requires shown { publisher.shown ≡ publisher.version }
+    requires whole { publisher.version.most ≡ length publisher.version.list }
     requires fresh { publisher.version.done ≡ 0 }
     requires before { before ≤ length publisher.version.list }
     ensures { IfOk result (IsJobText publisher.version.base publisher.version.list before
         (job_sessions sessions.items)) }
 {
-    let text = run_open(rt, alloc, before, gate, sessions, readers, &mut publisher);
+    let text = run_list(rt, alloc, before, gate, sessions, readers, &mut publisher);
     publisher.close(rt);
     text
 }
 
 /// The same with a publisher that stays open.
-fn run_open<G: Gate + Sync, R: Threads + Wait + Sync>(
+fn run_list<G: Gate + Sync, R: Threads + Wait + Sync>(
     rt: &R,
     alloc: Global,
     before: usize,
@@ -64,143 +171,22 @@ fn run_open<G: Gate + Sync, R: Threads + Wait + Sync>(
     readers: Vec<Reader<RuledEntry>>,
     publisher: &mut Publisher,
 ) -> Result<JobText, AllocError>
+    requires sessions { (0 < vec_len sessions) × (vec_len sessions < 2 ^ 32) }
     requires unasked { AllUnasked sessions.items }
     requires readers { 0 < vec_len readers }
     requires opened { AreOfOpening opening_of publisher.old.version readers.items }
+    requires shown { publisher.old.shown ≡ publisher.old.version }
+    requires whole { publisher.old.version.most ≡ length publisher.old.version.list }
     requires fresh { publisher.old.version.done ≡ 0 }
     requires before { before ≤ length publisher.old.version.list }
     ensures { IfOk result (IsJobText publisher.old.version.base publisher.old.version.list before
         (job_sessions sessions.items)) }
 {
-    let count = sessions.len();
-    let (mut workers, mut report) = prepare(rt, alloc, before, sessions, readers, publisher)?;
-    fork(rt, gate, publisher, &mut report, workers.as_mut_slice())?;
-    close_report(publisher, &mut report)?;
-    let text = whole_text(alloc, workers.as_slice(), count, &report)?;
-    Ok(text)
-}
-
-/// What is done before the fork: the first refreshes are tried, the readers are told of them, and
-/// the sessions are assigned to them.
-fn prepare<R: Wait>(
-    rt: &R,
-    alloc: Global,
-    before: usize,
-    sessions: Vec<Session>,
-    readers: Vec<Reader<RuledEntry>>,
-    publisher: &mut Publisher,
-) -> Result<(Vec<Worker<RuledEntry>>, Report), AllocError>
-    requires unasked { AllUnasked sessions.items }
-    requires readers { 0 < vec_len readers }
-    requires opened { AreOfOpening opening_of publisher.old.version readers.items }
-    requires fresh { publisher.old.version.done ≡ 0 }
-    requires before { before ≤ length publisher.old.version.list }
-    ensures kept { (publisher.new.version.base ≡ publisher.old.version.base)
-        × (publisher.new.version.list ≡ publisher.old.version.list) }
-    ensures workers { IfOk result (λ r. ArePrepared opening_of
-        (publisher.old.version.base, publisher.old.version.list)
-        (accepted publisher.old.version.base publisher.old.version.list before)
-        sessions.items r.0.items) }
-    ensures told { IfOk result (λ r. IsTold publisher.new.version r.1) }
-{
-    let mut report = Report::new(alloc);
-    publish_first(rt, before, publisher, &mut report)?;
-    let mut workers = make_workers(alloc, readers, publisher)?;
-    assign_sessions(sessions, workers.as_mut_slice())?;
-    Ok((workers, report))
-}
-
-/// Runs all workers, each in a thread of its own, and beside them the publisher, and waits for all of
-/// them.
-fn fork<E: Entry + Drop + Send, G: Gate + Sync, R: Threads + Wait + Sync>(
-    rt: &R,
-    gate: &G,
-    publisher: &mut Publisher,
-    report: &mut Report,
-    workers: &mut [Worker<E>],
-) -> Result<(), AllocError>
-    requires ready { AllReady E.opening workers.old }
-    requires told { IsTold publisher.old.version report.old }
-    ensures workers { AllHaveRun E.opening workers.old workers.new }
-    ensures kept { (publisher.new.version.base ≡ publisher.old.version.base)
-        × (publisher.new.version.list ≡ publisher.old.version.list) }
-    ensures done { OnOk result (publisher.new.version.done ≡ length publisher.new.version.list) }
-    ensures told { OnOk result (IsTold publisher.new.version report.new) }
-{
-    let mut front = ||
-        requires { IsSync R.row × IsSync G.row × AllReady E.opening workers.now }
-        ensures { AllHaveRun E.opening workers.entry.now workers.exit.now }
-    { run_workers(rt, gate, workers) };
-    let mut back = || -> Result<(), AllocError>
-        requires { IsTold publisher.now.version report.now }
-        ensures kept { (publisher.exit.now.version.base ≡ publisher.entry.now.version.base)
-            × (publisher.exit.now.version.list ≡ publisher.entry.now.version.list) }
-        ensures done { OnOk result (publisher.exit.now.version.done
-            ≡ length publisher.exit.now.version.list) }
-        ensures told { OnOk result (IsTold publisher.exit.now.version report.exit.now) }
-    { publish_rest(rt, gate, publisher, report) };
-    let (_, outcome) = join_mut(rt, &mut front, &mut back);
-    outcome
-}
-
-/// Appends the line of a closing version.
-fn push_closing_line(text: &mut Vec<u8>, version: u64) -> Result<(), AllocError>
-    ensures { OnOk result (text.new.items ≡ text.old.items ++ closing_line version) }
-{
-    let mut buffer = Buffer::new();
-    text.extend_from_slice(b"closing version ")?;
-    text.extend_from_slice(buffer.format(version).as_bytes())?;
-    text.push(b'\n')?;
-    Ok(())
-}
-
-/// Appends the line of a closing version, and those of the rows that its tables have.
-fn push_closing(text: &mut Vec<u8>, snapshot: &Snapshot) -> Result<(), AllocError>
-    ensures { OnOk result (text.new.items ≡ text.old.items
-        ++ closing_text snapshot.now.base snapshot.now.list (version_of snapshot.now)) }
-{
-    push_closing_line(text, snapshot.version())?;
-    push_counts(text, snapshot)?;
-    Ok(())
-}
-
-/// Appends the lines of the publisher's last version to a report.
-fn close_report(publisher: &Publisher, report: &mut Report) -> Result<(), AllocError>
-    ensures text { OnOk result (report.new.text.items ≡ report.old.text.items
-        ++ closing_text publisher.now.version.base publisher.now.version.list
-        (version_of publisher.now.version)) }
-    ensures accepted { report.new.accepted ≡ report.old.accepted }
-{
-    let snapshot = publisher.snapshot()?;
-    push_closing(&mut report.text, &snapshot)
-}
-
-/// Whether memory ran out for a worker.
-fn is_any_lost<E: Entry + Drop>(workers: &[Worker<E>]) -> bool
-    ensures { result ≡ false → NoneIsLost workers.now }
-{
-    'asking: for worker in workers {
-        if worker.is_lost {
-            return true;
-        }
+    let most = publisher.listed();
+    let (run, mut feed) = prepare(rt, alloc, before, sessions, readers, publisher)?;
+    match run_beside(rt, alloc, gate, most, run, publisher, &mut feed) {
+        Ok(text) => Ok(text),
+        Err(JobError::OutOfMemory) => Err(AllocError),
+        Err(JobError::TooFewRefreshes) => unreachable!(),
     }
-    false
-}
-
-/// The text of a job whose threads have ended.
-fn whole_text<E: Entry + Drop>(
-    alloc: Global,
-    workers: &[Worker<E>],
-    count: usize,
-    report: &Report,
-) -> Result<JobText, AllocError>
-    requires { HavePlaces workers.now count }
-    ensures { IfOk result (IsJoined workers.now count report.now.text.items report.now.accepted) }
-{
-    if is_any_lost(workers) {
-        return Err(AllocError);
-    }
-    let mut text = gather(alloc, workers, count)?;
-    text.close(report.text.as_slice(), report.accepted)?;
-    Ok(text)
 }

@@ -1,5 +1,6 @@
 //! Laws of sessions and of plans. Each function does nothing: its contract is the law.
 ghost use Rattle.app_sessions.specs.Examples.{Examples};
+ghost use Rattle.app_sessions.specs.JobExamples.{JobExamples};
 ghost use Rattle.app_sessions.specs.Laws.{ExpandOnce, PlansRun, SessionsText, VersionsAsked};
 ghost use Rattle.app_sessions.specs.VersionExamples.{VersionExamples};
 
@@ -33,4 +34,9 @@ pub fn worked_versions()
 /// Texts of sessions and of explanations, worked out by hand.
 pub fn worked_sessions()
     ensures { Examples }
+{}
+
+/// Reports of jobs, worked out by hand.
+pub fn worked_reports()
+    ensures { JobExamples }
 {}

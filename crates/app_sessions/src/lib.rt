@@ -2,14 +2,19 @@
 //! at, and their text. Jobs: sessions that run beside a publisher.
 #![tactic(auto)]
 
+mod closing;
 mod compaction;
 mod counts;
 mod expansion;
 mod explained;
+mod forking;
 mod job;
+mod job_error;
 mod job_text;
 pub mod laws;
+mod meeting;
 mod outcome;
+mod publishing;
 mod query;
 mod report;
 mod runs;
@@ -23,6 +28,7 @@ mod workers;
 pub use compaction::is_compaction_due;
 pub use counts::push_counts;
 pub use explained::{Explained, explain};
-pub use job::run_job;
+pub use job::{JobSetup, run_job, run_list_job};
+pub use job_error::JobError;
 pub use job_text::JobText;
 pub use session::{Session, Turn};

@@ -1,21 +1,13 @@
-//! What the publisher of a job does, and what is told of it.
-ghost use Rattle.std.specs.Prelude.{◌≡◌, ◌+◌, ◌<◌, ◌≤◌, ◌++◌, ◌&&◌, IfOk, OnOk, is_ok, length};
-ghost use Rattle.std.specs.Prelude.{true};
-ghost use Rattle.store_snapshots.specs.Publishers.{LiesJoined};
-ghost use Rattle.app_sessions.specs.Compaction.{IsCompactedWhenDue, is_compaction_due};
-ghost use Rattle.app_sessions.specs.Reports.{IsTold, IsVersionAfter, refresh_line, result_at};
-ghost use Rattle.app_sessions.specs.Reports.{result_written};
+//! What is told of the refreshes of a job.
+ghost use Rattle.std.specs.Prelude.{◌≡◌, ◌+◌, ◌<◌, ◌++◌, ◌^◌, ◌&&◌, OnOk, is_ok};
+ghost use Rattle.app_sessions.specs.Reports.{refresh_line, result_written, sender_written};
 
-use crate::compaction::is_compaction_due;
 use app_result_text::push_refusal;
-use base_io::Gate;
 use base_refusals::{Cause, Refusal};
 use itoa::Buffer;
 use std::alloc::{AllocError, Global};
-use std::sync::Wait;
-use store_snapshots::{Published, Publisher};
 
-/// What is told of the first refreshes of a list.
+/// What is told of refreshes that were tried one after another.
 #[derive(Drop)]
 pub struct Report {
     /// How many they are.
@@ -57,123 +49,54 @@ fn push_result(text: &mut Vec<u8>, tried: Result<u64, Cause>) -> Result<(), Allo
     }
 }
 
+/// Appends the sender that a refresh comes from, if it has one.
+fn push_sender(text: &mut Vec<u8>, sender: Option<u64>) -> Result<(), AllocError>
+    ensures { OnOk result (text.new.items ≡ text.old.items ++ sender_written sender) }
+{
+    let Some(sender) = sender else {
+        return Ok(());
+    };
+    let mut buffer = Buffer::new();
+    text.extend_from_slice(b"from ")?;
+    text.extend_from_slice(buffer.format(sender).as_bytes())?;
+    text.push(b' ')?;
+    Ok(())
+}
+
 /// Appends the line of a refresh of this number.
 fn push_refresh(
     text: &mut Vec<u8>,
     number: usize,
+    sender: Option<u64>,
     tried: Result<u64, Cause>,
 ) -> Result<(), AllocError>
-    ensures { OnOk result (text.new.items ≡ text.old.items ++ refresh_line number tried) }
+    ensures { OnOk result (text.new.items ≡ text.old.items ++ refresh_line number sender tried) }
 {
     let mut buffer = Buffer::new();
     text.extend_from_slice(b"refresh ")?;
     text.extend_from_slice(buffer.format(number).as_bytes())?;
     text.push(b' ')?;
+    push_sender(text, sender)?;
     push_result(text, tried)?;
     text.push(b'\n')?;
     Ok(())
 }
 
-/// Tries the next refresh: the version that it makes, or its first cause.
-fn try_next<R: Wait>(rt: &R, publisher: &mut Publisher) -> Result<Result<u64, Cause>, AllocError>
-    requires { publisher.old.version.done < length publisher.old.version.list }
-    ensures kept { (publisher.new.version.base ≡ publisher.old.version.base)
-        × (publisher.new.version.list ≡ publisher.old.version.list) }
-    ensures done { OnOk result (publisher.new.version.done ≡ publisher.old.version.done + 1) }
-    ensures tried { IfOk result (λ tried. tried ≡ result_at publisher.old.version.base
-        publisher.old.version.list publisher.old.version.done) }
-    ensures version { IfOk result (IsVersionAfter publisher.old.version publisher.new.version) }
-{
-    match publisher.publish_next(rt) {
-        Published::Published(note) => Ok(Ok(note.version())),
-        Published::Refused(cause) => Ok(Err(cause)),
-        Published::NoMore => unreachable!(),
-        Published::OutOfMemory => Err(AllocError),
-    }
-}
-
-/// Puts the segments together where that is due after a refresh.
-fn compact_if_due<R: Wait>(
-    rt: &R,
+/// Tells of one refresh more.
+pub fn tell_of(
+    sender: Option<u64>,
     tried: Result<u64, Cause>,
-    publisher: &mut Publisher,
-) -> Result<(), AllocError>
-    ensures version { publisher.new.version ≡ publisher.old.version }
-    ensures compacted { OnOk result (IfOk tried (λ version. is_compaction_due version ≡ true
-        → LiesJoined publisher.new.version publisher.new.joined)) }
-{
-    match tried {
-        Ok(version) if is_compaction_due(version) => publisher.compact(rt),
-        _ => Ok(()),
-    }
-}
-
-/// Tries the next refresh, puts the segments together where that is due, and tells of it.
-fn publish_one<R: Wait>(
-    rt: &R,
-    publisher: &mut Publisher,
     report: &mut Report,
 ) -> Result<(), AllocError>
-    requires place { publisher.old.version.done < length publisher.old.version.list }
-    requires told { IsTold publisher.old.version report.old }
-    ensures kept { (publisher.new.version.base ≡ publisher.old.version.base)
-        × (publisher.new.version.list ≡ publisher.old.version.list) }
-    ensures done { OnOk result (publisher.new.version.done ≡ publisher.old.version.done + 1) }
-    ensures compacted { OnOk result (IsCompactedWhenDue publisher.old.version
-        publisher.new.version publisher.new.joined) }
-    ensures told { OnOk result (IsTold publisher.new.version report.new) }
+    requires { report.old.count + 1 < 2 ^ 64 }
+    ensures count { report.new.count ≡ report.old.count + 1 }
+    ensures text { OnOk result (report.new.text.items
+        ≡ report.old.text.items ++ refresh_line (report.old.count + 1) sender tried) }
+    ensures accepted { OnOk result (report.new.accepted
+        ≡ (report.old.accepted && is_ok tried)) }
 {
-    let listed = publisher.listed();
-    prove!(report.count < listed);
-    let tried = try_next(rt, publisher)?;
-    compact_if_due(rt, tried, publisher)?;
     report.count += 1;
-    push_refresh(&mut report.text, report.count, tried)?;
+    push_refresh(&mut report.text, report.count, sender, tried)?;
     report.accepted = report.accepted && tried.is_ok();
-    Ok(())
-}
-
-/// Tries the first `count` refreshes of a list of which none was tried, and tells of them.
-pub fn publish_first<R: Wait>(
-    rt: &R,
-    count: usize,
-    publisher: &mut Publisher,
-    report: &mut Report,
-) -> Result<(), AllocError>
-    requires fresh { publisher.old.version.done ≡ 0 }
-    requires places { count ≤ length publisher.old.version.list }
-    requires told { IsTold publisher.old.version report.old }
-    ensures kept { (publisher.new.version.base ≡ publisher.old.version.base)
-        × (publisher.new.version.list ≡ publisher.old.version.list) }
-    ensures done { OnOk result (publisher.new.version.done ≡ count) }
-    ensures told { OnOk result (IsTold publisher.new.version report.new) }
-{
-    'publishing: for _k in 0..count {
-        publish_one(rt, publisher, report)?;
-    }
-    Ok(())
-}
-
-/// Tries the refreshes that are left, passes the gate before and after each, and tells of them.
-pub fn publish_rest<G: Gate, R: Wait>(
-    rt: &R,
-    gate: &G,
-    publisher: &mut Publisher,
-    report: &mut Report,
-) -> Result<(), AllocError>
-    requires told { IsTold publisher.old.version report.old }
-    ensures kept { (publisher.new.version.base ≡ publisher.old.version.base)
-        × (publisher.new.version.list ≡ publisher.old.version.list) }
-    ensures done { OnOk result (publisher.new.version.done
-        ≡ length publisher.new.version.list) }
-    ensures told { OnOk result (IsTold publisher.new.version report.new) }
-{
-    let mut turn = (report.count as u64).saturating_mul(2).saturating_add(2);
-    'publishing: while !publisher.is_done() {
-        gate.pass(0, turn);
-        publish_one(rt, publisher, report)?;
-        gate.pass(0, turn.saturating_add(1));
-        turn = turn.saturating_add(2);
-    }
     Ok(())
 }

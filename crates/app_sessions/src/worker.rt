@@ -2,7 +2,7 @@
 ghost use Rattle.std.specs.Prelude.{◌≡◌, ◌≤◌, OnOk};
 ghost use denote.Param.Send.{IsSync};
 ghost use Rattle.store_versions.specs.Trials.{version_of};
-ghost use Rattle.store_snapshots.specs.Openings.{IsOf};
+ghost use Rattle.store_snapshots.specs.Openings.{AllBegin, IsOf, Narrower};
 ghost use Rattle.app_sessions.specs.Asked.{IsOverOf, IsUnasked, job_session};
 ghost use Rattle.app_sessions.specs.Workers.{AllHaveRun, AllReady, HasRun, IsReady};
 
@@ -37,13 +37,16 @@ fn run_session<E: Entry + Drop, G: Gate, R: Threads + Sync>(
     session: &mut Session,
 ) -> Result<(), AllocError>
     requires seen { IsOf (E.opening reader.old.entry) reader.old.seen }
+    requires list { AllBegin (E.fits reader.old.entry) reader.old.seen.list }
     requires unasked { IsUnasked session.old }
     ensures opening { E.opening reader.new.entry ≡ E.opening reader.old.entry }
     ensures seen { IsOf (E.opening reader.new.entry) reader.new.seen }
+    ensures list { AllBegin (E.fits reader.new.entry) reader.new.seen.list }
+    ensures more { Narrower (E.fits reader.old.entry) (E.fits reader.new.entry) }
     ensures later { version_of reader.old.seen ≤ version_of reader.new.seen }
     ensures same { OnOk result (job_session session.new ≡ job_session session.old) }
-    ensures over { OnOk result (IsOverOf (E.opening reader.old.entry) (version_of reader.old.seen)
-        session.new) }
+    ensures over { OnOk result (IsOverOf (E.opening reader.old.entry) (E.fits reader.new.entry)
+        (version_of reader.old.seen) session.new) }
 {
     let mut turn = 2u64;
     'asking: while !session.is_ended() {
@@ -65,8 +68,8 @@ pub fn run_worker<E: Entry + Drop, G: Gate, R: Threads + Sync>(
     gate: &G,
     worker: &mut Worker<E>,
 )
-    requires { IsReady E.opening worker.old }
-    ensures { HasRun E.opening worker.old worker.new }
+    requires { IsReady E.opening E.fits worker.old }
+    ensures { HasRun E.opening E.fits worker.old worker.new }
 {
     let mut who = worker.first;
     'serving: for j in 0..worker.sessions.len() {
@@ -84,8 +87,8 @@ pub fn run_workers<E: Entry + Drop + Send, G: Gate + Sync, R: Threads + Sync>(
     gate: &G,
     workers: &mut [Worker<E>],
 )
-    requires { AllReady E.opening workers.old }
-    ensures { AllHaveRun E.opening workers.old workers.new }
+    requires { AllReady E.opening E.fits workers.old }
+    ensures { AllHaveRun E.opening E.fits workers.old workers.new }
 {
     let count = workers.len().max(1);
     for_each_mut(
@@ -93,8 +96,8 @@ pub fn run_workers<E: Entry + Drop + Send, G: Gate + Sync, R: Threads + Sync>(
         workers,
         count,
         &|_: usize, worker: &mut Worker<E>|
-            requires { IsSync R.row × IsReady E.opening worker.old }
-            ensures { HasRun E.opening worker.old worker.new }
+            requires { IsSync R.row × IsReady E.opening E.fits worker.old }
+            ensures { HasRun E.opening E.fits worker.old worker.new }
         { run_worker(rt, gate, worker) },
     );
 }

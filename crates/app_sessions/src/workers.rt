@@ -1,8 +1,8 @@
 //! Making the workers of a job, and assigning its sessions to them.
 ghost use Rattle.std.specs.Prelude.{◌≡◌, ◌<◌, [], ◌∷◌, ◌++◌, ℕ, IfOk, OnOk, Some, length, vec_len};
 ghost use Rattle.store_versions.specs.Trials.{version_of};
-ghost use Rattle.store_snapshots.specs.Openings.{opening_at};
-ghost use Rattle.store_snapshots.specs.Ruled.{opening_of};
+ghost use Rattle.store_snapshots.specs.Openings.{IsOf, opening_at};
+ghost use Rattle.store_snapshots.specs.Ruled.{list_fits, opening_of};
 ghost use Rattle.app_sessions.specs.Asked.{AllUnasked, IsUnasked};
 ghost use Rattle.app_sessions.specs.Workers.{AllInformed, AllIdle, AreAssigned, AreOfOpening, IsInformed};
 ghost use Rattle.app_sessions.specs.Workers.{next_place};
@@ -18,13 +18,12 @@ fn make_worker(
     first: u32,
     step: u32,
     mut reader: Reader<RuledEntry>,
-    publisher: &mut Publisher,
+    publisher: &Publisher,
 ) -> Result<Worker<RuledEntry>, AllocError>
-    requires { opening_of reader.entry ≡ opening_at publisher.old.version }
-    ensures same { publisher.new ≡ publisher.old }
-    ensures informed { IfOk result (IsInformed opening_of
-        (publisher.old.version.base, publisher.old.version.list)
-        (version_of publisher.old.version)) }
+    requires opened { opening_of reader.entry ≡ opening_at publisher.now.version }
+    requires shown { IsOf (opening_at publisher.now.version) publisher.now.shown }
+    ensures informed { IfOk result (IsInformed opening_of list_fits publisher.now.version
+        (version_of publisher.now.version)) }
     ensures idle { IfOk result (λ worker. worker.sessions.items ≡ []) }
 {
     reader.learn(publisher.tell()?);
@@ -41,14 +40,13 @@ fn make_worker(
 pub fn make_workers(
     alloc: Global,
     mut readers: Vec<Reader<RuledEntry>>,
-    publisher: &mut Publisher,
+    publisher: &Publisher,
 ) -> Result<Vec<Worker<RuledEntry>>, AllocError>
-    requires opened { AreOfOpening opening_of publisher.old.version readers.items }
-    ensures same { publisher.new ≡ publisher.old }
+    requires opened { AreOfOpening opening_of publisher.now.version readers.items }
+    requires shown { IsOf (opening_at publisher.now.version) publisher.now.shown }
     ensures len { IfOk result (λ workers. vec_len workers ≡ vec_len readers) }
-    ensures informed { IfOk result (λ workers. AllInformed opening_of
-        (publisher.old.version.base, publisher.old.version.list)
-        (version_of publisher.old.version) workers.items) }
+    ensures informed { IfOk result (λ workers. AllInformed opening_of list_fits
+        publisher.now.version (version_of publisher.now.version) workers.items) }
     ensures idle { IfOk result (λ workers. AllIdle workers.items) }
 {
     let step = readers.len().min(u32::MAX as usize) as u32;

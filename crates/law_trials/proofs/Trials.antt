@@ -45,6 +45,7 @@ parts = record {
   scripts = codes "queries" ∷ codes "queries" ∷ [];
   refreshes = first_insert ∷ first_delete ∷ [];
   before = 2;
+  senders = [];
 }
 
 job_read : job_of trial_job ≡ Ok parts
@@ -159,7 +160,7 @@ base_read number some few =
     }
 
 abbrev work_of : (scripts : List (List Statement)) → State × List Change → JobWork
-work_of scripts r = record { scripts = scripts; base = r.0; list = r.1; before = 2 }
+work_of scripts r = record { scripts = scripts; base = r.0; list = r.1; before = 2; senders = [] }
 
 work_read : (number : ℕ) (scripts : List (List Statement)) (b : HasBase number) → job_work (codes "made") (trial_files number) parts scripts ≡ Ok (work_of scripts (b.base, b.list))
 work_read number scripts b = ap (λ r. and_then r (λ pair. Ok (work_of scripts pair))) b.is

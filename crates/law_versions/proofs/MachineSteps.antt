@@ -1,16 +1,18 @@
 -- What running sessions and a publisher do, in the machine's steps.
-use Rattle.std.proofs.Common.{◌≡◌, ℕ, zero, suc, ◌+◌, ◌<◌, ◌≤◌, Bool, true, false, ◌&&◌, Some, Ok, Err, List, length, refl, sym, ap, subst, ◌∙◌, arith, inl, inr}
+use Rattle.std.proofs.Common.{◌≡◌, ℕ, zero, suc, ◌+◌, ◌<◌, ◌≤◌, Bool, true, false, ◌&&◌, Ok, Err, List, [], ◌∷◌, ◌++◌, length, refl, sym, ap, subst, ◌∙◌, arith, inl, inr, length-append}
 use Rattle.std.specs.Prelude.{nat_le, nat_lt, slice_index_or, slice_set}
 use Rattle.std.specs.Option.{is_some}
 use Rattle.std.proofs.lemmas.Bool.Decides.{nat_tests}
 use Rattle.std.proofs.lemmas.List.{get_or-set_same, set-get_or}
 use Rattle.store_versions.specs.Older.{IsGone, IsRecent, IsUnknown}
-use Rattle.store_versions.specs.Trials.{Trials, one_more, version_of}
+use Rattle.store_state.specs.Refresh.{Change}
+use Rattle.store_versions.specs.Trials.{Trials, offered, one_more, version_of}
 use Rattle.store_versions.specs.declared.version_error.VersionError.TheVariants.{Unknown, Gone, OutOfMemory}
+use Rattle.store_snapshots.specs.declared.publisher.Given.TheVariants.{Published as GivenPublished, Refused as GivenRefused, OutOfMemory as GivenNoMemory}
 use Rattle.store_snapshots.specs.declared.publisher.Published.TheVariants.{Published, Refused, NoMore, OutOfMemory as NoMemory}
 use Rattle.store_machine.specs.Machine.{SessionState, World, begun, begun_again, changed_in, gone_back, happens, is_cut, learnt, may_go_back, new_session, pinned, pinned_back, published, session_in, session_of, with_session}
 use Rattle.store_machine.specs.declared.steps.Step.TheVariants.{Back, Publish}
-use Rattle.law_versions.specs.RunningSteps.{BackLaw, BeginLaw, CompactLaw, LearnLaw, PublishLaw, world_at}
+use Rattle.law_versions.specs.RunningSteps.{BackLaw, BeginLaw, CompactLaw, GiveLaw, LearnLaw, OfferLaw, PublishLaw, world_at}
 
 both_false : (a : Bool) → (a && false) ≡ false
 both_false true = refl
@@ -96,6 +98,19 @@ publish_law old new NoMore sessions tries not_memory =
     let no : nat_lt old.done (length old.list) ≡ false = let at = tries.0 in grind (arith, nat_tests, at) in
     rw no (ap (λ t. world_at t sessions) (sym tries.1))
 publish_law old new NoMemory sessions tries not_memory = absurd (not_memory refl)
+
+pub offer_law : OfferLaw
+offer_law old change sessions = refl
+
+one_longer : (old : Trials) (change : Change) → old.done ≡ length old.list → old.done < length (old.list ++ change ∷ [])
+one_longer old change done = let long = length-append old.list (change ∷ []) in omega (arith, done, long)
+
+pub give_law : GiveLaw
+give_law old new change (GivenPublished note) sessions done tries not_memory =
+    next_world (offered change old.version) new.version sessions (one_longer old.version change done) tries.after.0
+give_law old new change (GivenRefused cause) sessions done tries not_memory =
+    next_world (offered change old.version) new.version sessions (one_longer old.version change done) tries.after.0
+give_law old new change GivenNoMemory sessions done tries not_memory = absurd (not_memory refl)
 
 pub compact_law : CompactLaw
 compact_law old new sessions is = ap (λ t. world_at t sessions) (sym is)

@@ -1,20 +1,25 @@
 -- What running sessions and the publisher do, in the machine's steps.
-use Rattle.std.specs.Prelude.{◌≡◌, ◌⊎◌, ℕ, ◌≤◌, List, max, true, is_some, Result, Ok, Err}
+use Rattle.std.specs.Prelude.{◌≡◌, ◌⊎◌, ℕ, ◌≤◌, List, [], ◌∷◌, length, max, true, is_some, Result}
+use Rattle.std.specs.Prelude.{Ok, Err}
 use Rattle.store_versions.specs.Older.{GivesOlder}
-use Rattle.store_versions.specs.Trials.{Trials, version_of}
+use Rattle.store_state.specs.Refresh.{Change}
+use Rattle.store_versions.specs.Trials.{Trials, offered, version_of}
 use Rattle.store_versions.specs.declared.version_error.VersionError.{VersionError}
 use Rattle.store_versions.specs.declared.version_error.VersionError.TheVariants.{Unknown, Gone}
 use Rattle.store_versions.specs.declared.version_error.VersionError.TheVariants.{OutOfMemory}
 use Rattle.store_snapshots.specs.Openings.{HasRisen}
-use Rattle.store_snapshots.specs.Publishers.{Tries}
+use Rattle.store_snapshots.specs.Given.{TriesNext}
+use Rattle.store_snapshots.specs.Publishers.{Edition, Tries}
 use Rattle.store_snapshots.specs.Seen.{Began}
+use Rattle.store_snapshots.specs.declared.publisher.Given.{Given}
+use Rattle.store_snapshots.specs.declared.publisher.Given.TheVariants.{OutOfMemory as GivenNoMemory}
 use Rattle.store_snapshots.specs.declared.publisher.Published.{Published as Answer}
 use Rattle.store_snapshots.specs.declared.publisher.Published.TheVariants.{OutOfMemory as NoMemory}
 use Rattle.store_machine.specs.Laws.{IsSession}
 use Rattle.store_machine.specs.Machine.{SessionState, World, happens, is_cut, pinned, pinned_back}
-use Rattle.store_machine.specs.Machine.{published, session_of}
+use Rattle.store_machine.specs.Machine.{published, run, session_of}
 use Rattle.store_machine.specs.declared.steps.Step.TheVariants.{Again, Back, Begin, Compact}
-use Rattle.store_machine.specs.declared.steps.Step.TheVariants.{Learn, Publish}
+use Rattle.store_machine.specs.declared.steps.Step.TheVariants.{Learn, Offer, Publish}
 
 -- the machine at a version that a publisher keeps, beside some sessions
 abbrev pub world_at : Trials → List SessionState → World
@@ -63,12 +68,26 @@ LearnLaw = (world : World) (session note : ℕ)
     → session_of (happens world (Learn session note)) session
     ≡ record (session_of world session) { seen = max (session_of world session).seen note }
 
+-- A version of a list that is longer by a refresh is offered: that is the step Offer.
+abbrev pub OfferLaw : Type 0
+OfferLaw = (old : Trials) (change : Change) (sessions : List SessionState)
+    → happens (world_at old sessions) (Offer change) ≡ world_at (offered change old) sessions
+
 -- A publisher tries the next refresh of its list, or finds that each was tried: that is the step
 -- Publish.
 abbrev pub PublishLaw : Type 0
 PublishLaw = (old new : Trials) (answer : Answer) (sessions : List SessionState)
     → Tries old new answer → (answer ≡ NoMemory → ⊥)
     → happens (world_at old sessions) Publish ≡ world_at new sessions
+
+-- A publisher whose whole list was tried is given a refresh, and tries it: these are the steps Offer
+-- and Publish.
+abbrev pub GiveLaw : Type 0
+GiveLaw = (old new : Edition) (change : Change) (answer : Given) (sessions : List SessionState)
+    → old.version.done ≡ length old.version.list
+    → TriesNext (offered change old.version) old new answer → (answer ≡ GivenNoMemory → ⊥)
+    → run (Offer change ∷ Publish ∷ []) (world_at old.version sessions)
+    ≡ world_at new.version sessions
 
 -- A publisher puts segments together, which leaves its version as it was: that is the step Compact.
 abbrev pub CompactLaw : Type 0

@@ -8,7 +8,6 @@ use Rattle.base_refusals.specs.declared.bind.BindRefusal.TheVariants.{TooManyTab
 use Rattle.expr_scalar.specs.declared.kind.Kind.TheVariants as kind
 use Rattle.sql_ast.specs.declared.statement.Query.{Query}
 use Rattle.sql_ast.specs.declared.statement.WithQuery.{WithQuery}
-use Rattle.sql_ast.specs.declared.tree.Block.{Block}
 use Rattle.sql_bound_query.specs.declared.query.BoundBlock.{BoundBlock}
 use Rattle.sql_bound_query.specs.declared.query.BoundQuery.{BoundQuery}
 use Rattle.sql_bound_query.specs.declared.query.BoundSource.TheVariants as source
@@ -37,7 +36,7 @@ use Rattle.sql_binder.specs.Blocks.{is_grouped, from_where, over_rows, group_lis
 use Rattle.sql_binder.specs.Binding.{clauses_of, is_grouped_block, bound_query, bound_view}
 use Rattle.sql_binder.proofs.Applied.{computed}
 use Rattle.sql_binder.specs.WithCases.{NamesOfWith, RefusalsOfWith, with_named, with_listed, under}
-use Rattle.sql_binder.specs.WithCases.{names_from, nope_from_region, first_column, bound_names, plainly}
+use Rattle.sql_binder.specs.WithCases.{names_from, nope_from_region, first_column, bound_names}
 
 -- one query of WITH is bound
 went_on : (done : List View) (w : WithQuery) (ws : List WithQuery) (views : List View) (v : View)

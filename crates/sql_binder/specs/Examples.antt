@@ -22,14 +22,12 @@ use Rattle.sql_ast.specs.declared.tree.Expr.TheVariants as e
 use Rattle.sql_ast.specs.declared.tree.FromItem.TheVariants.{Table, Derived}
 use Rattle.sql_ast.specs.declared.tree.Item.{Item}
 use Rattle.sql_ast.specs.declared.tree.Joined.{Joined, roll-Joined}
-use Rattle.sql_ast.specs.declared.tree.Selected.TheVariants.{All, Items}
+use Rattle.sql_ast.specs.declared.tree.Selected.TheVariants.{Items}
 use Rattle.sql_ast.specs.declared.tree.Term.{Term}
 use Rattle.sql_ast.specs.declared.words.Adding.TheVariants.{Plus, Minus}
 use Rattle.sql_ast.specs.declared.words.Aggregate.TheVariants.{Sum}
-use Rattle.sql_ast.specs.declared.words.Column.{Column}
 use Rattle.sql_ast.specs.declared.words.Multiplying.TheVariants.{Times}
 use Rattle.sql_ast.specs.declared.words.Span.TheVariants.{Day}
-use Rattle.base_value.specs.declared.value.Value.TheVariants as value
 use Rattle.base_schema.specs.declared.table.TableName.TheVariants as table
 use Rattle.sql_binder_steps.specs.declared.view.View.{View}
 use Rattle.sql_binder_steps.specs.Steps.{Name}

@@ -8,7 +8,6 @@ use Rattle.base_refusals.specs.declared.bind.BindRefusal.TheVariants.{IntervalOn
 use Rattle.expr_scalar.specs.declared.expr.Expr.TheVariants as e
 use Rattle.expr_scalar.specs.declared.kind.Kind.TheVariants as kind
 use Rattle.sql_ast.specs.declared.tree.Clause.TheOpen.{Expr-F}
-use Rattle.sql_ast.specs.declared.words.Column.{Column}
 use Rattle.sql_ast.specs.declared.words.Span.{Span}
 use Rattle.base_value.specs.declared.value.Value.TheVariants as value
 use Rattle.sql_binder_steps.specs.declared.collected.BoundKind.TheVariants.{Value}

@@ -1,4 +1,6 @@
 //! What the queue holds.
+ghost use Rattle.std.specs.Prelude.{◌≡◌};
+ghost use Rattle.store_gateway.specs.Feeds.{sender_number};
 
 use store_state::Refresh;
 
@@ -7,6 +9,18 @@ use store_state::Refresh;
 pub enum SenderId {
     First,
     Second,
+}
+
+impl SenderId {
+    /// The number of the sender.
+    pub fn number(self) -> u64
+        ensures { result ≡ sender_number self }
+    {
+        match self {
+            SenderId::First => 1,
+            SenderId::Second => 2,
+        }
+    }
 }
 
 /// A message of a sender or, before any of them, the quotas of both.

@@ -1,12 +1,14 @@
 -- What the machine keeps stays kept.
-use Rattle.std.proofs.Common.{◌≡◌, ℕ, zero, suc, ◌+◌, ◌<◌, ◌≤◌, Bool, true, false, cond, List, [], ◌∷◌, ◌++◌, length, get_or, set, Option, Some, None, refl, sym, ap, ◌∙◌, arith, inl, inr, length-append}
+use Rattle.std.proofs.Common.{◌≡◌, ℕ, zero, suc, ◌+◌, ◌<◌, ◌≤◌, Bool, true, false, cond, List, [], ◌∷◌, ◌++◌, length, get_or, set, Option, Some, None, refl, sym, ap, subst, ◌∙◌, arith, inl, inr, length-append}
 use Rattle.std.specs.Prelude.{IfSome, slice_get, slice_index_or}
+use Rattle.std.specs.List.{All}
 use Rattle.std.proofs.lemmas.Bool.{cases_lt}
 use Rattle.std.proofs.lemmas.Option.{slice_get_within}
 use Rattle.base_schema.specs.State.{State}
 use Rattle.store_state.specs.Refresh.{Change, changed}
 use Rattle.store_state.specs.Versions.{accepted, is_accepted, tried, version_state}
-use Rattle.store_state.proofs.VersionSteps.{accepted-more, state-more}
+use Rattle.store_state.proofs.Prefixes.{accepted-prefix, prefix-append, state-prefix}
+use Rattle.store_state.proofs.VersionSteps.{accepted-more, accepted-most, state-more}
 use Rattle.store_machine.specs.Kept.{IsBelow, AreVersionsKept, IsTried}
 use Rattle.store_machine.specs.Machine.{SessionState, World, changed_in, new_session, published}
 
@@ -120,3 +122,23 @@ kept_refused world versions kept less tried =
     kept_refused_at world versions found.0 kept found.1
     (refused_if (is_accepted (version_state world.base world.list (published world)) found.0)
     (changed (version_state world.base world.list (published world)) found.0) (tried found.0 found.1))
+
+-- a list that gets longer keeps its versions
+pub kept_offered : (world : World) (versions : List State) (refresh : Change) → AreVersionsKept world versions
+    → AreVersionsKept (record world { list = world.list ++ refresh ∷ [] }) versions
+kept_offered world versions refresh kept =
+    let longer = prefix-append world.list (refresh ∷ []) in
+    let long = length-append world.list (refresh ∷ []) in
+    let within = kept.within in
+    let count = kept.count in
+    let most = accepted-most world.base world.list world.done in
+    let same : accepted world.base (world.list ++ refresh ∷ []) world.done ≡ published world =
+    accepted-prefix world.base world.list (world.list ++ refresh ∷ []) world.done longer within in
+    record {
+      within = omega (arith, long, within);
+      count = omega (arith, count, same);
+      states = λ version other less.
+          kept.states version other (omega (arith, less, same))
+          ∙ sym (state-prefix world.base world.list (world.list ++ refresh ∷ []) version longer (omega (arith, less, same, most)));
+      sessions = subst (λ n. All (IsBelow n) world.sessions) (sym same) kept.sessions;
+    }

@@ -1,17 +1,21 @@
 -- Any list of steps.
-use Rattle.std.proofs.Common.{◌≡◌, ℕ, zero, suc, ◌+◌, ◌<◌, ◌≤◌, Bool, true, false, cond, List, [], ◌∷◌, length, replicate, Some, refl, sym, ap, subst, ◌∙◌, ⊎_elim, arith, length-set}
-use Rattle.std.specs.Prelude.{nat_le, nat_lt, slice_index_or}
+use Rattle.std.proofs.Common.{◌≡◌, ℕ, zero, suc, ◌+◌, ◌<◌, ◌≤◌, Bool, true, false, cond, List, [], ◌∷◌, ◌++◌, length, replicate, Some, refl, sym, ap, subst, ◌∙◌, ⊎_elim, append_assoc, arith, length-set}
+use Rattle.std.specs.Prelude.{◌==◌, nat_le, nat_lt, slice_index_or}
+use Rattle.std.specs.List.{list_all}
 use Rattle.std.specs.Option.{is_some}
 use Rattle.std.proofs.lemmas.Bool.Decides.{nat_tests}
-use Rattle.std.proofs.lemmas.List.{get_or-set_same, length-replicate}
-use Rattle.base_schema.specs.State.{State}
+use Rattle.std.proofs.lemmas.List.{append-nil, get_or-set_same, length-replicate}
+use Rattle.base_schema.specs.State.{State, table_rows}
+use Rattle.base_schema.specs.Tables.{all_tables}
+use Rattle.store_state.specs.Prefixes.{IsPrefix}
 use Rattle.store_state.specs.Refresh.{Change}
-use Rattle.store_state.specs.Versions.{accepted}
-use Rattle.store_state.proofs.VersionSteps.{accepted-rises}
+use Rattle.store_state.specs.Versions.{accepted, version_state}
+use Rattle.store_state.proofs.Prefixes.{accepted-grows, prefix-append, state-prefix}
+use Rattle.store_state.proofs.VersionSteps.{accepted-most, accepted-rises}
 use Rattle.store_machine.specs.declared.steps.Step.{Step}
-use Rattle.store_machine.specs.declared.steps.Step.TheVariants.{Begin, Again, Back, Scan, Publish, Compact, Finish, Learn}
-use Rattle.store_machine.specs.Laws.{AgainPinsLaw, BackPinsLaw, BeginPinsLaw, NotesLaw, PublishedLaw, ScanLaw, SeenRisesLaw, seen_of}
-use Rattle.store_machine.specs.Machine.{SessionState, World, begun, begun_again, changed_in, finished, gone_back, happens, learnt, may_go_back, new_session, published, rows_in, run, scanned_at, session_in, session_of, start}
+use Rattle.store_machine.specs.declared.steps.Step.TheVariants.{Begin, Again, Back, Scan, Offer, Publish, Compact, Finish, Learn}
+use Rattle.store_machine.specs.Laws.{AgainPinsLaw, BackPinsLaw, BeginPinsLaw, ListLaw, NotesLaw, PublishedLaw, ScanLaw, SeenRisesLaw, seen_of}
+use Rattle.store_machine.specs.Machine.{SessionState, World, begun, begun_again, changed_in, finished, gone_back, happens, learnt, lengths_of, may_go_back, new_session, offered_by, offered_in, pieces_of, published, rows_in, run, scanned_at, session_in, session_of, start, total}
 use Rattle.store_machine.proofs.Pieces.{scanned_keeps, session_scan_is}
 use Rattle.store_machine.proofs.Sessions.{IsSound, Keeps, again_keeps, back_keeps, begun_keeps, finished_keeps, learnt_keeps, nothing_kept, session_changed}
 
@@ -35,6 +39,7 @@ does world (Again number cuts) session = one_changed world number session (begun
 does world (Back number version cuts) session = one_changed world number session (gone_back world version cuts) (back_keeps world version cuts)
 does world (Scan number table piece) session =
     one_changed world number session (λ s. scanned_at world s.pin table piece s) (scanned_keeps world table piece)
+does world (Offer refresh) session = record { change = λ c. c; keeps = nothing_kept world.base world.list world.done; is = refl }
 does world Publish session = record { change = λ c. c; keeps = nothing_kept world.base world.list world.done; is = refl }
 does world Compact session = record { change = λ c. c; keeps = nothing_kept world.base world.list world.done; is = refl }
 does world (Finish number) session = one_changed world number session finished (finished_keeps world.base world.list world.done)
@@ -57,6 +62,25 @@ later_sound base list done later session less h = record {
   pieces = h.pieces;
 }
 
+-- a session stays sound where the list gets longer
+longer_sound : (base : State) (short long : List Change) (done : ℕ) (session : SessionState) → IsPrefix short long
+    → IsSound base short done session → IsSound base long done session
+longer_sound base short long done session longer h =
+    let seen = h.seen in
+    let most = accepted-most base short done in
+    let same : (version : ℕ) → session.pin ≡ Some version → version_state base long version ≡ version_state base short version = λ version e.
+    let pin = h.pin version e in
+    state-prefix base short long version longer (omega (arith, seen, most, pin)) in
+    record {
+      seen = let grows = accepted-grows base short long done longer in omega (arith, seen, grows);
+      pin = h.pin;
+      cut = λ version e. subst (λ (s : State). list_all (λ table. total (lengths_of session.cuts table) == length (table_rows s table)) all_tables ≡ true)
+          (sym (same version e)) (h.cut version e);
+      pieces = λ version e table number rows found.
+          h.pieces version e table number rows found
+          ∙ ap (λ (s : State). slice_index_or (pieces_of (lengths_of session.cuts table) (table_rows s table)) number []) (sym (same version e));
+    }
+
 published_rises : (base : State) (list : List Change) (done : ℕ) (b : Bool) → accepted base list done ≤ accepted base list (cond b (done + 1) done)
 published_rises base list done true = accepted-rises base list done 1
 published_rises base list done false = omega arith
@@ -66,6 +90,9 @@ sound_step world (Begin number cuts) h = λ s. still_sound world _ _ (does world
 sound_step world (Again number cuts) h = λ s. still_sound world _ _ (does world (Again number cuts) s) (h s)
 sound_step world (Back number version cuts) h = λ s. still_sound world _ _ (does world (Back number version cuts) s) (h s)
 sound_step world (Scan number table piece) h = λ s. still_sound world _ _ (does world (Scan number table piece) s) (h s)
+sound_step world (Offer refresh) h = λ s.
+    longer_sound world.base world.list (world.list ++ refresh ∷ []) world.done (session_of world s)
+    (prefix-append world.list (refresh ∷ [])) (h s)
 sound_step world Publish h = λ s.
     later_sound world.base world.list world.done (cond (nat_lt world.done (length world.list)) (world.done + 1) world.done) (session_of world s)
     (published_rises world.base world.list world.done (nat_lt world.done (length world.list))) (h s)
@@ -91,28 +118,33 @@ same_base world (Begin number cuts) = refl
 same_base world (Again number cuts) = refl
 same_base world (Back number version cuts) = refl
 same_base world (Scan number table piece) = refl
+same_base world (Offer refresh) = refl
 same_base world Publish = refl
 same_base world Compact = refl
 same_base world (Finish number) = refl
 same_base world (Learn number note) = refl
 
-same_list : (world : World) (step : Step) → (happens world step).list ≡ world.list
-same_list world (Begin number cuts) = refl
-same_list world (Again number cuts) = refl
-same_list world (Back number version cuts) = refl
-same_list world (Scan number table piece) = refl
-same_list world Publish = refl
-same_list world Compact = refl
-same_list world (Finish number) = refl
-same_list world (Learn number note) = refl
+longer_list : (world : World) (step : Step) → (happens world step).list ≡ world.list ++ offered_in step
+longer_list world (Begin number cuts) = sym (append-nil world.list)
+longer_list world (Again number cuts) = sym (append-nil world.list)
+longer_list world (Back number version cuts) = sym (append-nil world.list)
+longer_list world (Scan number table piece) = sym (append-nil world.list)
+longer_list world (Offer refresh) = refl
+longer_list world Publish = sym (append-nil world.list)
+longer_list world Compact = sym (append-nil world.list)
+longer_list world (Finish number) = sym (append-nil world.list)
+longer_list world (Learn number note) = sym (append-nil world.list)
 
 base_run : (steps : List Step) (world : World) → (run steps world).base ≡ world.base
 base_run [] world = refl
 base_run (step ∷ steps) world = base_run steps (happens world step) ∙ same_base world step
 
-list_run : (steps : List Step) (world : World) → (run steps world).list ≡ world.list
-list_run [] world = refl
-list_run (step ∷ steps) world = list_run steps (happens world step) ∙ same_list world step
+list_run : (steps : List Step) (world : World) → (run steps world).list ≡ world.list ++ offered_by steps
+list_run [] world = sym (append-nil world.list)
+list_run (step ∷ steps) world =
+    list_run steps (happens world step)
+    ∙ ap (λ l. l ++ offered_by steps) (longer_list world step)
+    ∙ append_assoc world.list (offered_in step) (offered_by steps)
 
 count_changed : (sessions : List SessionState) (number : ℕ) (change : SessionState → SessionState) → length (changed_in sessions number change) ≡ length sessions
 count_changed sessions zero change = refl
@@ -123,6 +155,7 @@ count_step world (Begin number cuts) = count_changed world.sessions number (begu
 count_step world (Again number cuts) = count_changed world.sessions number (begun_again world cuts)
 count_step world (Back number version cuts) = count_changed world.sessions number (gone_back world version cuts)
 count_step world (Scan number table piece) = count_changed world.sessions number (λ s. scanned_at world s.pin table piece s)
+count_step world (Offer refresh) = refl
 count_step world Publish = refl
 count_step world Compact = refl
 count_step world (Finish number) = count_changed world.sessions number finished
@@ -154,6 +187,9 @@ start_sound base list sessions = λ s. subst (IsSound base list 0) (sym (new_in 
 
 reached : (base : State) (list : List Change) (sessions : ℕ) (steps : List Step) → AllSound (run steps (start base list sessions))
 reached base list sessions steps = sound_run steps (start base list sessions) (start_sound base list sessions)
+
+pub list_law : ListLaw
+list_law base list sessions steps = list_run steps (start base list sessions)
 
 pub scan_law : ScanLaw
 scan_law base list sessions steps session table rows scan =

@@ -1,12 +1,12 @@
 -- What holds of the machine after any list of steps.
-use Rattle.std.specs.Prelude.{◌≡◌, ℕ, ◌+◌, ◌<◌, ◌≤◌, true, List, length, Option, Some}
+use Rattle.std.specs.Prelude.{◌≡◌, ℕ, ◌+◌, ◌<◌, ◌≤◌, true, List, ◌++◌, length, Option, Some}
 use Rattle.base_value.specs.declared.value.Value.{Value}
 use Rattle.base_schema.specs.declared.table.TableName.{TableName}
 use Rattle.base_schema.specs.State.{State, table_rows}
 use Rattle.store_state.specs.Refresh.{Change}
 use Rattle.store_state.specs.Versions.{version_state}
-use Rattle.store_machine.specs.Machine.{World, finished_scan, happens, is_cut, published, run}
-use Rattle.store_machine.specs.Machine.{session_of, start}
+use Rattle.store_machine.specs.Machine.{World, finished_scan, happens, is_cut, offered_by}
+use Rattle.store_machine.specs.Machine.{published, run, session_of, start}
 use Rattle.store_machine.specs.declared.steps.Step.{Step}
 use Rattle.store_machine.specs.declared.steps.Step.TheVariants.{Begin, Again, Back, Learn}
 
@@ -18,6 +18,11 @@ pin_of world number = (session_of world number).pin
 abbrev pub seen_of : World → ℕ → ℕ
 seen_of world number = (session_of world number).seen
 
+-- the list is the one at the start and then the refreshes that were put at its end, in their order
+abbrev pub ListLaw : Type 0
+ListLaw = (base : State) (list : List Change) (sessions : ℕ) (steps : List Step)
+    → (run steps (start base list sessions)).list ≡ list ++ offered_by steps
+
 -- whatever happened meanwhile, a finished scan of a table has the table's rows in the version that
 -- the session pins: the base after just that number of accepted refreshes
 abbrev pub ScanLaw : Type 0
@@ -26,7 +31,7 @@ ScanLaw = (base : State) (list : List Change) (sessions : ℕ) (steps : List Ste
     (rows : List (List Value))
     → finished_scan (run steps (start base list sessions)) session table ≡ Some rows
     → (version : ℕ) × (pin_of (run steps (start base list sessions)) session ≡ Some version)
-    × (rows ≡ table_rows (version_state base list version) table)
+    × (rows ≡ table_rows (version_state base (list ++ offered_by steps) version) table)
 
 -- the version that a session has seen never falls
 abbrev pub SeenRisesLaw : Type 0

@@ -13,7 +13,8 @@ use Rattle.store_state.specs.Refresh.{Change}
 use Rattle.store_state.specs.Versions.{accepted, version_state}
 use Rattle.store_machine.specs.declared.steps.Step.{Step}
 use Rattle.store_machine.specs.declared.steps.Step.TheVariants.{Begin, Again, Back, Scan}
-use Rattle.store_machine.specs.declared.steps.Step.TheVariants.{Publish, Compact, Finish, Learn}
+use Rattle.store_machine.specs.declared.steps.Step.TheVariants.{Offer, Publish, Compact, Finish}
+use Rattle.store_machine.specs.declared.steps.Step.TheVariants.{Learn}
 
 -- a piece that a session scanned: its table, its number among that table's pieces, and its rows
 pub record ScannedPiece : Type 0 where
@@ -165,16 +166,27 @@ happens world (Back session version cuts) =
     with_session world session (gone_back world version cuts)
 happens world (Scan session table number) =
     with_session world session (λ s. scanned_at world s.pin table number s)
+happens world (Offer change) = record world { list = world.list ++ change ∷ [] }
 happens world Publish = record world
     { done = if nat_lt world.done (length world.list) then world.done + 1 else world.done }
 happens world Compact = world
 happens world (Finish session) = with_session world session finished
 happens world (Learn session note) = with_session world session (learnt world note)
 
+-- the refresh that a step puts at the end of the list, if it puts one there
+abbrev pub offered_in : Step → List Change
+offered_in (Offer change) = change ∷ []
+offered_in step = []
+
 -- a whole list of steps
 abbrev pub run : List Step → World → World
 run [] world = world
 run (step ∷ steps) world = run steps (happens world step)
+
+-- the refreshes that steps put at the end of the list, in their order
+abbrev pub offered_by : List Step → List Change
+offered_by [] = []
+offered_by (step ∷ steps) = offered_in step ++ offered_by steps
 
 -- the rows of the first piece of that table and number
 abbrev pub piece_rows : List ScannedPiece → TableName → ℕ → Option (List (List Value))

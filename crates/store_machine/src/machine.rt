@@ -24,8 +24,8 @@ use std::alloc::{AllocError, Global};
 use std::marker::Model;
 use store_state::{Refresh, RefreshError, State, apply};
 
-/// A base, a list of refreshes of which the first ones were tried, and sessions that begin and scan
-/// beside them.
+/// A base, a list of refreshes of which the first ones were tried and which may get longer, and
+/// sessions that begin and scan beside them.
 #[derive(Drop)]
 pub struct Machine {
     alloc: Global,
@@ -240,6 +240,15 @@ impl Machine {
         }
     }
 
+    /// A refresh is put at the end of the list.
+    fn offer(&mut self, refresh: Refresh) -> Result<(), AllocError>
+        ensures ok { OnOk result (self.new ≡ happens self.old (Step.Offer refresh)) }
+        ensures err { OnErr result (self.new ≡ self.old) }
+    {
+        self.list.push(refresh)?;
+        Ok(())
+    }
+
     /// The next refresh is tried; an accepted one makes the next version.
     fn publish(&mut self) -> Result<(), AllocError>
         ensures ok { OnOk result (self.new ≡ happens self.old Step.Publish) }
@@ -301,6 +310,7 @@ pub fn step(machine: &mut Machine, step: Step) -> Result<(), AllocError>
             Ok(())
         }
         Step::Scan(session, table, piece) => machine.scan(session, table, piece),
+        Step::Offer(refresh) => machine.offer(refresh),
         Step::Publish => machine.publish(),
         Step::Compact => Ok(()),
         Step::Finish(session) => {

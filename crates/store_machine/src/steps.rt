@@ -5,7 +5,7 @@ ghost use Rattle.store_machine.specs.Machine.{lengths_of};
 
 use base_schema::TableName;
 use std::marker::Model;
-use store_state::place;
+use store_state::{Refresh, place};
 
 /// The lengths of the pieces into which the tables of a version are cut: a list for each table, in
 /// the schema's order.
@@ -55,6 +55,8 @@ pub enum Step {
     Back(u32, u64, Cuts),
     /// The session scans a piece of a table of the version that it pins.
     Scan(u32, TableName, usize),
+    /// The refresh is put at the end of the list.
+    Offer(Refresh),
     /// The next refresh of the list is tried.
     Publish,
     /// Segments are joined, of which the machine knows nothing.

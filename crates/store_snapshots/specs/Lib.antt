@@ -5,3 +5,5 @@ pub mod Rule
 pub mod Ruled
 pub mod Halls
 pub mod Publishers
+pub mod Given
+pub mod Turns

@@ -1,28 +1,34 @@
 -- What a publisher is seen as.
-use Rattle.std.specs.Prelude.{◌≡◌, ℕ, ◌<◌, List, Option, Some, None, Ok, Err, length}
+use Rattle.std.specs.Prelude.{◌≡◌, ℕ, ◌<◌, List, Option, Some, None, Result, Ok, Err, is_ok, length}
+use Rattle.std.specs.Prelude.{true, ⊤}
+use Rattle.base_refusals.specs.declared.refresh.Cause.{Cause}
+use Rattle.base_schema.specs.State.{State}
 use Rattle.base_value.specs.declared.value.Value.{Value}
+use Rattle.store_state.specs.Refresh.{Change, after}
+use Rattle.store_state.specs.declared.applied.RefreshError.{RefreshError}
 use Rattle.store_state.specs.declared.applied.RefreshError.TheVariants.{Refused as RefusedBy}
+use Rattle.store_state.specs.declared.applied.RefreshError.TheVariants.{OutOfMemory as NoRoom}
 use Rattle.store_versions.specs.Segments.{IsCompacted}
 use Rattle.store_versions.specs.Trials.{IsAfter, Trials, version_of}
-use Rattle.store_snapshots.specs.Openings.{opening_at}
-use Rattle.store_snapshots.specs.Rule.{on_shelf}
-use Rattle.store_snapshots.specs.Ruled.{note_number, note_opening}
+use Rattle.store_snapshots.specs.Rule.{MayFollow, on_shelf}
+use Rattle.store_snapshots.specs.Ruled.{note_version}
 use Rattle.store_snapshots.specs.declared.latest.Latest.{Latest}
 use Rattle.store_snapshots.specs.declared.latest.Latest.TheVariants.{Tried, Joined}
+use Rattle.store_snapshots.specs.declared.note.Note.{Note}
 use Rattle.store_snapshots.specs.declared.publisher.Publisher.TheInside.{Inside}
 use Rattle.store_snapshots.specs.declared.publisher.Published.{Published as Answer}
 use Rattle.store_snapshots.specs.declared.publisher.Published.TheVariants.{Published, Refused}
 use Rattle.store_snapshots.specs.declared.publisher.Published.TheVariants.{NoMore, OutOfMemory}
-use Rattle.store_snapshots.specs.declared.ruled.Note.{Note}
 
 -- the segments of each table, in the schema's order of tables
 abbrev pub Cut : Type 0
 Cut = List (List (List (List Value)))
 
--- the last version, how often the hall refused an entry, and the segments of the version, where
--- they are joined
+-- the last version, the version that readers are shown, how often the hall refused an entry, and
+-- the segments of the last version, where they are joined
 pub record Edition : Type 0 where
   pub version : Trials
+  pub shown : Trials
   pub refused : ℕ
   pub joined : Option Cut
 
@@ -42,19 +48,16 @@ LiesJoined version None = ⊥
 LiesJoined version (Some tables) =
     IsCompacted version (record { version = version; tables = tables })
 
--- the version that is shown is that of the publisher
+-- The version that is shown has the number of the publisher's last one, whose list begins with its
+-- list. The last one has tried more where that was refused.
 pub record IsInStep (publisher : Inside) : Type 0 where
-  pub base : (on_shelf publisher.hall.writer.desk.shown.value).base
-      ≡ (version_in publisher.latest).base
-  pub list : (on_shelf publisher.hall.writer.desk.shown.value).list
-      ≡ (version_in publisher.latest).list
-  pub version : version_of (on_shelf publisher.hall.writer.desk.shown.value)
+  pub follows : MayFollow (on_shelf publisher.writer.desk.shown.value) (version_in publisher.latest)
+  pub number : version_of (on_shelf publisher.writer.desk.shown.value)
       ≡ version_of (version_in publisher.latest)
 
 -- a note tells of the version
 abbrev pub TellsVersion : Trials → Note → Type 0
-TellsVersion version note = (note_opening note ≡ opening_at version)
-    × (note_number note ≡ version_of version)
+TellsVersion version note = note_version note ≡ version
 
 -- a trial of the next refresh: an accepted one leaves the version after it, of which the note
 -- tells; of a refused one only the number of tried refreshes rises; with no more refreshes, or out
@@ -67,6 +70,13 @@ Tries old new (Refused cause) = (old.done < length old.list)
 Tries old new NoMore = (old.done ≡ length old.list) × (new ≡ old)
 Tries old new OutOfMemory = new ≡ old
 
+-- what is shown after it: the version after an accepted refresh, and else what was shown
+abbrev pub Shows : Edition → Edition → Answer → Type 0
+Shows old new (Published note) = new.shown ≡ new.version
+Shows old new (Refused cause) = new.shown ≡ old.shown
+Shows old new NoMore = new.shown ≡ old.shown
+Shows old new OutOfMemory = new.shown ≡ old.shown
+
 -- with no more refreshes, or out of memory, all stays: the segments that the version is known to
 -- lie in too
 abbrev pub StaysUntried : Edition → Edition → Answer → Type 0
@@ -74,3 +84,22 @@ StaysUntried old new (Published note) = Unit {0}
 StaysUntried old new (Refused cause) = Unit {0}
 StaysUntried old new NoMore = new ≡ old
 StaysUntried old new OutOfMemory = new ≡ old
+
+-- the next refresh of these trials is accepted: the version after it is shown, and the note tells
+-- of it
+pub record AcceptsNext (trials : Trials) (new : Edition) (note : Note) : Type 0 where
+  pub after : IsAfter trials trials (Ok new.version)
+  pub shown : new.shown ≡ new.version
+  pub tells : TellsVersion new.version note
+
+-- the next refresh of these trials is refused for this cause, and what was shown stays shown
+pub record RefusesNext (trials : Trials) (cause : Cause) (before : Trials) (new : Edition)
+    : Type 0 where
+  pub after : IsAfter trials new.version (Err (RefusedBy cause))
+  pub shown : new.shown ≡ before
+
+-- whether a refresh would be accepted in a state, or its first cause
+abbrev pub Foretells : State → Change → Result ⊤ RefreshError → Type 0
+Foretells state change (Ok accepted) = is_ok (after state change) ≡ true
+Foretells state change (Err (RefusedBy cause)) = after state change ≡ Err cause
+Foretells state change (Err NoRoom) = Unit {0}

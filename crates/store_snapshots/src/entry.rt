@@ -1,8 +1,9 @@
 //! How a reader comes by the published version.
-ghost use Rattle.std.specs.Prelude.{◌≡◌, ℕ, max};
+ghost use Rattle.std.specs.Prelude.{◌≡◌, ℕ, List, max};
 ghost use Rattle.std.specs.Arc.{arc_value};
-ghost use Rattle.store_versions.specs.Trials.{version_of};
-ghost use Rattle.store_snapshots.specs.Openings.{IsOf, Opening};
+ghost use Rattle.store_state.specs.Refresh.{Change};
+ghost use Rattle.store_versions.specs.Trials.{Trials, version_of};
+ghost use Rattle.store_snapshots.specs.Openings.{AllBegin, IsOf, Narrower, Opening};
 ghost use Rattle.store_snapshots.specs.Entries.{Enters};
 
 use std::sync::Arc;
@@ -20,12 +21,17 @@ pub enum Entered {
 }
 
 /// A way into the published version. It counts how often it was gone and how often it was refused.
+/// The list of a version that it gives begins with each list that it saw before or was told of.
 pub trait Entry {
     /// What tells it of a version.
     type Note;
 
-    /// The base and the list of each version that it gives.
+    /// The base of each version that it gives, the list with which that version's list begins, and
+    /// how many refreshes the list will have in the end.
     ghost opening: { Self → Opening };
+
+    /// The lists that begin with each list that it saw or was told of.
+    ghost fits: { Self → List Change → Type 0 };
 
     /// The number of the last version that it gave or was told of.
     ghost number: { Self → ℕ };
@@ -34,23 +40,25 @@ pub trait Entry {
 
     ghost refusals: { Self → ℕ };
 
-    ghost note_opening: { Self.Note → Opening };
-
-    ghost note_number: { Self.Note → ℕ };
+    /// The version that a note tells of.
+    ghost note_version: { Self.Note → Trials };
 
     /// A share of the published version. Out of memory may have raised the number alone.
     fn enter(&mut self) -> Entered
         ensures opening { opening self.new ≡ opening self.old }
-        ensures entered { Enters (opening self.old) (number self.old) (number self.new)
-            (entries self.old) (entries self.new) (refusals self.old) (refusals self.new) result };
+        ensures more { Narrower (fits self.old) (fits self.new) }
+        ensures entered { Enters (opening self.old) (fits self.old) (fits self.new)
+            (number self.old) (number self.new) (entries self.old) (entries self.new)
+            (refusals self.old) (refusals self.new) result };
 
     /// The note's version, which its number is from now on at least. Nothing is counted.
     fn learn(&mut self, note: Self::Note) -> Arc<Directory>
-        requires { note_opening note ≡ opening self.old }
+        requires { IsOf (opening self.old) (note_version note) }
         ensures opening { opening self.new ≡ opening self.old }
-        ensures number { number self.new ≡ max (number self.old) (note_number note) }
-        ensures of_opening { IsOf (opening self.old) (arc_value result) }
-        ensures version { version_of (arc_value result) ≡ note_number note }
+        ensures more { Narrower (fits self.old) (fits self.new) }
+        ensures told { AllBegin (fits self.new) (note_version note).list }
+        ensures number { number self.new ≡ max (number self.old) (version_of (note_version note)) }
+        ensures share { arc_value result ≡ note_version note }
         ensures entries { entries self.new ≡ entries self.old }
         ensures refusals { refusals self.new ≡ refusals self.old };
 }

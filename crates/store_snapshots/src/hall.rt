@@ -2,8 +2,8 @@
 ghost use Rattle.std.specs.Prelude.{◌≡◌, ℕ, ◌≤◌, IfOk, length};
 ghost use Rattle.std.specs.Arc.{arc_value};
 ghost use Rattle.store_versions.specs.Trials.{Trials, version_of};
-ghost use Rattle.store_snapshots.specs.Halls.{AreSeated, MakesEntry, SeatsEnough};
-ghost use Rattle.store_snapshots.specs.Openings.{opening_at};
+ghost use Rattle.store_snapshots.specs.Halls.{AreSeated, HaveSeenLists, MakesEntry, SeatsEnough};
+ghost use Rattle.store_snapshots.specs.Openings.{AllBegin, opening_at};
 
 use crate::entry::Entry;
 use crate::reader::Reader;
@@ -30,7 +30,7 @@ pub trait Hall<E: Entry> {
     /// One entry more, of number 0; or none, and that alone is counted.
     fn another(&mut self) -> Another<E>
         ensures shown { shown self.new ≡ shown self.old }
-        ensures made { MakesEntry E.opening E.number (shown self.old) (refused self.old)
+        ensures made { MakesEntry E.opening E.fits E.number (shown self.old) (refused self.old)
             (refused self.new) result };
 }
 
@@ -46,12 +46,14 @@ pub fn seat<E: Entry + Drop, H: Hall<E>>(
 ) -> Result<Vec<Reader<E>>, AllocError>
     requires want { 1 ≤ want }
     requires opening { E.opening first ≡ opening_at (H.shown hall.old) }
+    requires list { AllBegin (E.fits first) (H.shown hall.old).list }
     requires number { E.number first ≡ 0 }
     requires start { arc_value start.now ≡ H.shown hall.old }
     requires fresh { version_of (H.shown hall.old) ≡ 0 }
     ensures shown { H.shown hall.new ≡ H.shown hall.old }
     ensures readers { IfOk result
         (λ readers. AreSeated E.opening (H.shown hall.old) readers.items) }
+    ensures lists { IfOk result (λ readers. HaveSeenLists E.fits readers.items) }
     ensures enough { IfOk result
         (λ readers. SeatsEnough want (length readers.items) (H.refused hall.old)
         (H.refused hall.new)) }

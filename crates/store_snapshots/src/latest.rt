@@ -28,7 +28,8 @@ impl Latest {
 
     /// How many refreshes the list has.
     pub(crate) fn listed(&self) -> usize
-        ensures { result ≡ length (version_in self.now).list }
+        ensures listed { result ≡ length (version_in self.now).list }
+        ensures most { result ≤ (version_in self.now).most }
     {
         match self {
             Latest::Tried(directory) => directory.listed(),

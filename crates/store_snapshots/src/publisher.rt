@@ -1,16 +1,19 @@
 //! The publisher, and the opening of readers for it.
-ghost use Rattle.std.specs.Prelude.{◌≡◌, ◌≤◌, ◌↔◌, IfOk, IsTrue, OnErr, OnOk, length};
+ghost use Rattle.std.specs.Prelude.{◌≡◌, ◌<◌, ◌≤◌, ◌↔◌, IfOk, IsTrue, OnErr, OnOk, length};
+ghost use Rattle.std.specs.Prelude.{slice_get};
 ghost use Rattle.std.specs.Arc.{arc_value};
-ghost use Rattle.store_versions.specs.Trials.{version_of};
-ghost use Rattle.store_snapshots.specs.Halls.{AreSeated, SeatsEnough, shown_in};
+ghost use Rattle.store_versions.specs.Trials.{offered, tables_of, version_of};
+ghost use Rattle.store_snapshots.specs.Halls.{AreSeated, HaveSeenLists, SeatsEnough, shown_in};
 ghost use Rattle.store_snapshots.specs.Publishers.{joined_in, version_in};
-ghost use Rattle.store_snapshots.specs.Ruled.{opening_of};
+ghost use Rattle.store_snapshots.specs.Rule.{MayFollow};
+ghost use Rattle.store_snapshots.specs.Ruled.{list_fits, opening_of};
 
 use crate::hall::seat;
 use crate::latest::Latest;
+use crate::note::Note;
 use crate::reader::Reader;
-use crate::rule::{publish, start};
-use crate::ruled::{Note, RuledEntry};
+use crate::rule::{ShelfWriter, publish, start};
+use crate::ruled::RuledEntry;
 use crate::ruled_hall::RuledHall;
 use crate::snapshot::Snapshot;
 use base_refusals::Cause;
@@ -21,23 +24,28 @@ use std::sync::{Arc, Wait};
 use store_state::{Refresh, RefreshError, State};
 use store_versions::Directory;
 
-/// Tries the refreshes of a list one after the other and shows readers the versions. It is seen as
-/// its last version, with how often its hall refused an entry, and with the version's segments
-/// from a compaction up to the next refresh that is tried. It is not dropped: `close` ends it.
+/// Tries refreshes one after the other, those of its list and then those that are given, which come
+/// to the list's end, and shows readers the versions. It is seen as its last version and the one
+/// that readers are shown, with how often its hall refused an entry, and with the last version's
+/// segments from a compaction up to the next refresh that is tried. It is not dropped: `close` ends
+/// it.
 pub struct Publisher {
     alloc: Global,
-    hall: RuledHall,
+    writer: ShelfWriter,
+    refused: u64,
     latest: Latest,
 }
 
 impl Model for Publisher {
     ghost use Rattle.store_snapshots.specs.Publishers.{Edition, IsInStep, joined_in, version_in};
+    ghost use Rattle.store_snapshots.specs.Rule.{on_shelf};
 
     ghost Value = { Edition };
 
     ghost view = { λ p. record {
       version = version_in p.latest;
-      refused = p.hall.refusals;
+      shown = on_shelf p.writer.desk.shown.value;
+      refused = p.refused;
       joined = joined_in p.latest;
     } };
 
@@ -57,9 +65,21 @@ pub enum Published {
     OutOfMemory,
 }
 
+/// What comes of a trial of a refresh that is given.
+#[derive(Drop)]
+pub enum Given {
+    /// The refresh was accepted, and readers are shown the version after it. The note tells of it.
+    Published(Note),
+    /// The refresh was refused.
+    Refused(Cause),
+    /// Memory ran out.
+    OutOfMemory,
+}
+
 impl Publisher {
-    ghost use Rattle.store_snapshots.specs.Publishers.{LiesJoined, StaysUntried, TellsVersion};
-    ghost use Rattle.store_snapshots.specs.Publishers.{Tries};
+    ghost use Rattle.store_snapshots.specs.Given.{TriesNext};
+    ghost use Rattle.store_snapshots.specs.Publishers.{Foretells, LiesJoined, Shows, StaysUntried};
+    ghost use Rattle.store_snapshots.specs.Publishers.{TellsVersion, Tries};
 
     /// Tries the next refresh of the list. Where memory runs out all stays as it was. Where each
     /// refresh was tried, no memory is taken.
@@ -68,28 +88,61 @@ impl Publisher {
         ensures none { self.old.version.done ≡ length self.old.version.list
             → result ≡ Published.NoMore }
         ensures untried { StaysUntried self.old self.new result }
+        ensures shown { Shows self.old self.new result }
         ensures refused { self.new.refused ≡ self.old.refused }
     {
         if self.latest.is_done() {
             return Published::NoMore;
         }
-        let Ok(mut tried) = self.latest.directory() else {
+        let Ok(trials) = self.latest.directory() else {
             return Published::OutOfMemory;
         };
-        match tried.after_next() {
-            Ok(next) => match self.show_next(rt, next) {
-                Ok(note) => Published::Published(note),
-                Err(_) => Published::OutOfMemory,
-            },
-            Err(RefreshError::Refused(cause)) => {
-                self.latest = Latest::Tried(tried);
-                Published::Refused(cause)
-            }
-            Err(RefreshError::OutOfMemory) => Published::OutOfMemory,
+        match self.try_next(rt, trials) {
+            Given::Published(note) => Published::Published(note),
+            Given::Refused(cause) => Published::Refused(cause),
+            Given::OutOfMemory => Published::OutOfMemory,
         }
     }
 
-    /// Shows readers a share of a version that is no earlier one, and keeps that version.
+    /// Puts a refresh at the end of a list of which each one was tried, and tries it there. Where
+    /// memory runs out all stays as it was, and the list too.
+    pub fn publish_given<R: Wait>(&mut self, rt: &R, refresh: Refresh) -> Given
+        requires done { self.old.version.done ≡ length self.old.version.list }
+        requires room { length self.old.version.list < self.old.version.most }
+        ensures tries { TriesNext (offered refresh self.old.version) self.old self.new result }
+        ensures refused { self.new.refused ≡ self.old.refused }
+    {
+        let Ok(directory) = self.latest.directory() else {
+            return Given::OutOfMemory;
+        };
+        let Ok(longer) = directory.offered(refresh) else {
+            return Given::OutOfMemory;
+        };
+        self.try_next(rt, longer)
+    }
+
+    /// Tries the next refresh of a version that is this one, but for a list that may be longer.
+    fn try_next<R: Wait>(&mut self, rt: &R, mut trials: Directory) -> Given
+        requires left { trials.done < length trials.list }
+        requires follows { MayFollow self.old.version trials }
+        requires number { version_of trials ≡ version_of self.old.version }
+        ensures tries { TriesNext trials self.old self.new result }
+        ensures refused { self.new.refused ≡ self.old.refused }
+    {
+        match trials.after_next() {
+            Ok(next) => match self.show_next(rt, next) {
+                Ok(note) => Given::Published(note),
+                Err(_) => Given::OutOfMemory,
+            },
+            Err(RefreshError::Refused(cause)) => {
+                self.latest = Latest::Tried(trials);
+                Given::Refused(cause)
+            }
+            Err(RefreshError::OutOfMemory) => Given::OutOfMemory,
+        }
+    }
+
+    /// Shows readers a share of a version that may follow, and keeps that version.
     fn show<R: Wait>(
         &mut self,
         rt: &R,
@@ -97,35 +150,63 @@ impl Publisher {
         latest: Latest,
     ) -> Result<(), AllocError>
         requires share { arc_value share ≡ version_in latest }
-        requires base { (version_in latest).base ≡ self.old.version.base }
-        requires list { (version_in latest).list ≡ self.old.version.list }
-        requires later { version_of self.old.version ≤ version_of (version_in latest) }
+        requires follows { MayFollow self.old.version (version_in latest) }
         ensures ok { OnOk result (self.new ≡ record {
           version = version_in latest;
+          shown = version_in latest;
           refused = self.old.refused;
           joined = joined_in latest;
         }) }
         ensures err { OnErr result (self.new ≡ self.old) }
     {
-        replace_with(&mut self.hall.writer, (rt, share), publish::<R>)?;
+        replace_with(&mut self.writer, (rt, share), publish::<R>)?;
         self.latest = latest;
         Ok(())
     }
 
     /// Shows readers the next version, and tells of it.
     fn show_next<R: Wait>(&mut self, rt: &R, next: Directory) -> Result<Note, AllocError>
-        requires base { next.base ≡ self.old.version.base }
-        requires list { next.list ≡ self.old.version.list }
-        requires later { version_of self.old.version ≤ version_of next }
-        ensures version { OnOk result (self.new.version ≡ next) }
+        requires { MayFollow self.old.version next }
+        ensures version { OnOk result ((self.new.version ≡ next) × (self.new.shown ≡ next)) }
         ensures refused { self.new.refused ≡ self.old.refused }
         ensures note { IfOk result (TellsVersion next) }
         ensures err { OnErr result (self.new ≡ self.old) }
     {
         let share = Arc::new(self.alloc, next.another()?)?;
-        let mine = Arc::try_clone(&share)?;
+        let note = Note::of(&share)?;
         self.show(rt, share, Latest::Tried(next))?;
-        Ok(Note::at(&mut self.hall.writer, mine))
+        Ok(note)
+    }
+
+    /// Whether a refresh would be accepted, if it were tried on the last version. Nothing is tried.
+    pub fn tried(&self, refresh: &Refresh) -> Result<(), RefreshError>
+        ensures { Foretells (tables_of self.now.version) refresh.now result }
+    {
+        let directory = self.latest.directory()?;
+        match directory.cause(refresh)? {
+            Some(cause) => Err(RefreshError::Refused(cause)),
+            None => Ok(()),
+        }
+    }
+
+    /// Whether a refresh of the list is left.
+    pub fn left(&self) -> bool
+        ensures left { IsTrue result ↔ (self.now.version.done < length self.now.version.list) }
+        ensures within { self.now.version.done ≤ length self.now.version.list }
+    {
+        !self.latest.is_done()
+    }
+
+    /// The next refresh of the list, if one is left. None of its rows is copied.
+    pub fn next(&self) -> Result<Option<Refresh>, AllocError>
+        ensures { IfOk result
+            (λ next. next ≡ slice_get self.now.version.list self.now.version.done) }
+    {
+        if self.latest.is_done() {
+            return Ok(None);
+        }
+        let refresh = self.latest.directory()?.next_refresh()?;
+        Ok(Some(refresh))
     }
 
     /// How many refreshes were accepted.
@@ -145,7 +226,8 @@ impl Publisher {
 
     /// How many refreshes the list has.
     pub fn listed(&self) -> usize
-        ensures { result ≡ length self.now.version.list }
+        ensures listed { result ≡ length self.now.version.list }
+        ensures most { result ≤ self.now.version.most }
     {
         self.latest.listed()
     }
@@ -158,20 +240,20 @@ impl Publisher {
         self.latest.is_done()
     }
 
-    /// A note of the last version. The publisher stays as it is.
-    pub fn tell(&mut self) -> Result<Note, AllocError>
-        ensures same { self.new ≡ self.old }
-        ensures note { IfOk result (TellsVersion self.old.version) }
+    /// A note of the version that is shown. Its number is the last version's.
+    pub fn tell(&self) -> Result<Note, AllocError>
+        ensures note { IfOk result (TellsVersion self.now.shown) }
+        ensures number { version_of self.now.shown ≡ version_of self.now.version }
     {
-        let share = Arc::try_clone(&self.hall.writer.published().directory)?;
-        Ok(Note::at(&mut self.hall.writer, share))
+        Note::of(&self.writer.published().directory)
     }
 
     /// Puts the version into segments of which no row is deleted and no two neighbours fit in one,
-    /// and shows readers a share of it. The clauses speak of what the publisher keeps. Where memory
-    /// runs out all stays as it was.
+    /// and shows readers a share of it, with the whole list. The clause `joined` speaks of what the
+    /// publisher keeps. Where memory runs out all stays as it was.
     pub fn compact<R: Wait>(&mut self, rt: &R) -> Result<(), AllocError>
         ensures version { self.new.version ≡ self.old.version }
+        ensures shown { OnOk result (self.new.shown ≡ self.old.version) }
         ensures refused { self.new.refused ≡ self.old.refused }
         ensures joined { OnOk result (LiesJoined self.old.version self.new.joined) }
         ensures err { OnErr result (self.new ≡ self.old) }
@@ -187,53 +269,65 @@ impl Publisher {
     pub fn close<R: Wait>(self, rt: &R) {
         let Publisher {
             alloc: _alloc,
-            hall,
+            writer,
+            refused: _refused,
             latest: _latest,
         } = self;
-        hall.close(rt);
+        drop(writer.take(rt));
     }
 }
 
-/// How many notes may be there at once, each with a reader of its own. A further one is a share
-/// alone.
-const NOTES: usize = 64;
-
 /// A publisher of a base with nothing tried, and as many readers of its versions as are wanted;
-/// fewer, but one, only where its hall refused an entry.
+/// fewer, but one, only where its hall refused an entry. Its list will have at most so many
+/// refreshes in the end.
 pub fn open<R: Wait>(
     rt: &R,
     alloc: Global,
     base: State,
     list: Vec<Refresh>,
     want: u32,
+    most: usize,
 ) -> Result<(Publisher, Vec<Reader<RuledEntry>>), AllocError>
-    requires { 1 ≤ want }
-    ensures publisher { IfOk result
-        (λ r. r.0.version ≡ record { base = base; list = list.items; done = 0 }) }
+    requires want { 1 ≤ want }
+    requires most { length list.items ≤ most }
+    ensures publisher { IfOk result (λ r. r.0.version
+        ≡ record { base = base; list = list.items; done = 0; most = most }) }
+    ensures shown { IfOk result (λ r. r.0.shown ≡ r.0.version) }
     ensures readers { IfOk result (λ r. AreSeated opening_of r.0.version r.1.items) }
+    ensures lists { IfOk result (λ r. HaveSeenLists list_fits r.1.items) }
     ensures enough { IfOk result (λ r. SeatsEnough want (length r.1.items) 0 r.0.refused) }
 {
-    let directory = Directory::new(alloc, base, list)?;
+    let directory = Directory::new(alloc, base, list, most)?;
     let share = Arc::new(alloc, directory.another()?)?;
     let shown = Arc::try_clone(&share)?;
-    let places = (want as usize + NOTES).min(u32::MAX as usize);
-    let Some(writer) = start(rt, alloc, shown, places) else {
+    let Some(writer) = start(rt, alloc, shown, want as usize) else {
         return Err(AllocError);
     };
     let mut hall = RuledHall::over(writer);
     match seat_all(alloc, &share, want as usize, &mut hall) {
-        Ok(readers) => Ok((
-            Publisher {
-                alloc,
-                hall,
-                latest: Latest::Tried(directory),
-            },
-            readers,
-        )),
+        Ok(readers) => Ok((publisher_of(alloc, hall, directory), readers)),
         Err(error) => {
             hall.close(rt);
             Err(error)
         }
+    }
+}
+
+/// A publisher of the version that a hall shows.
+fn publisher_of(alloc: Global, hall: RuledHall, directory: Directory) -> Publisher
+    requires { directory ≡ shown_in hall }
+    ensures version { (result.version ≡ directory) × (result.shown ≡ directory) }
+    ensures refused { result.refused ≡ hall.refusals }
+{
+    let RuledHall {
+        writer,
+        refusals: refused,
+    } = hall;
+    Publisher {
+        alloc,
+        writer,
+        refused,
+        latest: Latest::Tried(directory),
     }
 }
 
@@ -250,6 +344,7 @@ fn seat_all(
     ensures shown { shown_in hall.new ≡ shown_in hall.old }
     ensures readers { IfOk result
         (λ readers. AreSeated opening_of (arc_value start.now) readers.items) }
+    ensures lists { IfOk result (λ readers. HaveSeenLists list_fits readers.items) }
     ensures enough { IfOk result
         (λ readers. SeatsEnough want (length readers.items) hall.old.refusals hall.new.refusals) }
 {

@@ -1,11 +1,9 @@
 //! The rule over the published version and what is known of it, and the steps that keep it.
-ghost use Rattle.std.specs.Prelude.{◌≡◌, ◌≤◌, ◌<◌, ◌^◌, None, IfOk, OnOk, OnErr, Some, IfSome};
+ghost use Rattle.std.specs.Prelude.{◌≡◌, ◌≤◌, ◌<◌, ◌^◌, [], None, IfOk, OnOk, OnErr, IfSome};
 ghost use Rattle.std.specs.Arc.{arc_value};
 ghost use Rattle.left_right.specs.Sides.{view};
-ghost use Rattle.store_versions.specs.Trials.{version_of};
-ghost use Rattle.store_snapshots.specs.Openings.{IsOf};
-ghost use Rattle.store_snapshots.specs.Rule.{AllFit, KnowsVersion, SeesVersion, entered, named_only};
-ghost use Rattle.store_snapshots.specs.Rule.{on_shelf, own_view};
+ghost use Rattle.store_snapshots.specs.Rule.{AllFit, KnowsVersion, MayFollow, SeesVersion, entered};
+ghost use Rattle.store_snapshots.specs.Rule.{named_only, on_shelf, own_view};
 
 use crate::shelf::{Shelf, ShelfView};
 use atomic_table::{Join, Split};
@@ -22,10 +20,10 @@ pub struct Versions;
 impl Protocol<Shelf, ShelfView> for Versions {
     ghost holds = { λ s. AllFit (on_shelf s) };
 
-    ghost first = { record { opening = None; number = 0 } };
+    ghost first = { record { opening = None; list = []; number = 0 } };
 }
 
-/// An entry sees the number of the published version.
+/// An entry sees the list and the number of the published version.
 pub struct Seeing;
 
 impl Outcome<Shelf, ShelfView> for Seeing {
@@ -55,22 +53,13 @@ impl Split<ShelfView> for Telling {
     ghost right = { λ v. v };
 }
 
-/// A reader takes over what it is told.
-pub struct Learning;
-
-impl Join<ShelfView> for Learning {
-    ghost both = { λ v w. w };
-
-    ghost spent = { record { opening = None; number = 0 } };
-}
-
-/// A reader takes over the opening that it is told, and no number.
+/// A reader takes over the opening and the list that it is told, and no number.
 pub struct Joining;
 
 impl Join<ShelfView> for Joining {
     ghost both = { λ v w. named_only w };
 
-    ghost spent = { record { opening = None; number = 0 } };
+    ghost spent = { record { opening = None; list = []; number = 0 } };
 }
 
 pub(crate) type ShelfReader = Reader<Shelf, ShelfView, Versions>;
@@ -106,18 +95,8 @@ pub(crate) fn start<R: Wait>(
     }
 }
 
-/// A reader that knows what the writer knows.
-pub(crate) fn told(writer: &mut ShelfWriter) -> Result<ShelfReader, AllocError>
-    ensures told { IfOk result (λ r. view r.place ≡ view writer.old.desk.place) }
-    ensures kept { (view writer.new.desk.place ≡ view writer.old.desk.place)
-        × (writer.new.desk.shown ≡ writer.old.desk.shown) }
-{
-    let mut reader = writer.factory().reader()?;
-    reader.learn::<Learning>(writer.tell::<Telling>());
-    Ok(reader)
-}
-
-/// A reader that knows the opening of the writer's versions, and none of their numbers.
+/// A reader that knows the opening and the list of the writer's versions, but none of their
+/// numbers.
 pub(crate) fn joined(writer: &mut ShelfWriter) -> Result<ShelfReader, AllocError>
     ensures joined { IfOk result (λ r. view r.place ≡ named_only (view writer.old.desk.place)) }
     ensures kept { (view writer.new.desk.place ≡ view writer.old.desk.place)
@@ -128,14 +107,12 @@ pub(crate) fn joined(writer: &mut ShelfWriter) -> Result<ShelfReader, AllocError
     Ok(reader)
 }
 
-/// Shows readers the next version, whole or not at all.
+/// Shows readers a version that may follow, whole or not at all.
 pub(crate) fn publish<R: Wait>(
     mut writer: ShelfWriter,
     next: (&R, Arc<Directory>),
 ) -> (ShelfWriter, Result<(), AllocError>)
-    requires base { (arc_value next.1).base ≡ (on_shelf writer.desk.shown.value).base }
-    requires list { (arc_value next.1).list ≡ (on_shelf writer.desk.shown.value).list }
-    requires later { version_of (on_shelf writer.desk.shown.value) ≤ version_of (arc_value next.1) }
+    requires { MayFollow (on_shelf writer.desk.shown.value) (arc_value next.1) }
     ensures shown { OnOk result.1 ((on_shelf result.0.desk.shown.value ≡ arc_value next.entry.1)
         × (view result.0.desk.place ≡ entered (view writer.desk.place) (arc_value next.entry.1))) }
     ensures kept { OnErr result.1 ((result.0.desk.shown.value ≡ writer.desk.shown.value)

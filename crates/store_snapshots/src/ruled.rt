@@ -1,97 +1,114 @@
-//! An entry under the rule, and a note that brings a reader of its own.
-ghost use Rattle.std.specs.Prelude.{◌≡◌, ◌≤◌, IfSome, Some, max};
+//! An entry under the rule.
+ghost use Rattle.std.specs.Prelude.{◌≡◌, ◌≤◌, ◌⊎◌, IsTrue, None, false};
 ghost use Rattle.std.specs.Option.{ForSome};
 ghost use Rattle.std.specs.Arc.{arc_value};
 ghost use Rattle.left_right.specs.Sides.{view};
+ghost use Rattle.store_state.specs.Prefixes.{IsPrefix};
 ghost use Rattle.store_versions.specs.Trials.{version_of};
-ghost use Rattle.store_snapshots.specs.Openings.{opening_at};
-ghost use Rattle.store_snapshots.specs.Rule.{own_view};
 ghost use Rattle.store_snapshots.specs.Entries.{PassesUncounted};
+ghost use Rattle.store_snapshots.specs.Openings.{AreOfOne, HasOpening, IsNamed};
 
 use crate::entry::{Entered, Entry};
-use crate::rule::{Seeing, ShelfReader, ShelfWriter, told};
+use crate::note::Note;
+use crate::rule::{Seeing, ShelfReader};
 use core::mem::replace_with;
+use std::mem::replace;
 use std::sync::Arc;
 use store_versions::Directory;
 
-/// An entry by a reader of the shelf. Its number is the greater of what its reader knows and what
-/// it was told.
+/// An entry by a reader of the shelf. Its number is that of the last version that it gave or was
+/// told of.
+///
+/// It keeps a version that it was told of up to the next one that it gives. The rule doesn't say
+/// that the list of a version which is entered begins with the kept one's, so the two are compared,
+/// from the end of the opening's list on.
 #[derive(Drop)]
 pub struct RuledEntry {
     reader: ShelfReader,
+    /// How many refreshes the opening's list has.
+    first: usize,
     number: u64,
-    told: u64,
+    told: Option<Arc<Directory>>,
+    /// Whether it was told of two lists of which neither begins with the other. Then each entry is
+    /// refused from that moment on. No publisher tells so.
+    is_stuck: bool,
     entries: u64,
     refusals: u64,
-    ghost counted: { number ≡ (view reader.place).number },
-}
-
-/// A share of a version, and where there was a place for one, a reader that knows it.
-#[derive(Drop)]
-pub struct Note {
-    share: Arc<Directory>,
-    entry: Option<RuledEntry>,
-    ghost fits: { ForSome entry (λ e. view e.reader.place ≡ own_view (arc_value share)) },
+    ghost named: { IsNamed (view reader.place).opening first },
+    ghost opened: { ForSome told (λ t. HasOpening (view reader.place).opening (arc_value t)) },
 }
 
 impl RuledEntry {
-    /// An entry of this reader, which knows that number.
-    pub(crate) fn over(reader: ShelfReader, number: u64) -> RuledEntry
-        requires { number ≡ (view reader.place).number }
-        ensures { (result.reader ≡ reader) × (result.told ≡ 0) }
+    /// An entry of this reader that has given nothing and was told of nothing.
+    pub(crate) fn over(reader: ShelfReader, first: usize) -> RuledEntry
+        requires { IsNamed (view reader.place).opening first }
+        ensures reader { result.reader ≡ reader }
+        ensures fresh { (result.number ≡ 0) × (result.told ≡ None) × (result.is_stuck ≡ false) }
     {
         RuledEntry {
             reader,
-            number,
-            told: 0,
+            first,
+            number: 0,
+            told: None,
+            is_stuck: false,
             entries: 0,
             refusals: 0,
         }
     }
 }
 
-impl Note {
-    /// A note of the version that the writer shows, of which this is a share. It takes no memory
-    /// that must be there.
-    pub(crate) fn at(writer: &mut ShelfWriter, share: Arc<Directory>) -> Note
-        requires { view writer.old.desk.place ≡ own_view (arc_value share) }
-        ensures share { result.share ≡ share }
-        ensures kept { (view writer.new.desk.place ≡ view writer.old.desk.place)
-            × (writer.new.desk.shown ≡ writer.old.desk.shown) }
-    {
-        let number = share.version();
-        let entry = match told(writer) {
-            Ok(reader) => Some(RuledEntry::over(reader, number)),
-            Err(_) => None,
-        };
-        Note { share, entry }
-    }
-
-    /// The number of its version.
-    pub fn version(&self) -> u64
-        ensures { result ≡ version_of (arc_value self.now.share) }
-    {
-        self.share.version()
-    }
-}
-
-/// One entry of a reader, with the number that it then knows.
-fn enter_once(reader: ShelfReader, number: u64) -> (ShelfReader, (u64, Entered))
-    requires { number ≡ (view reader.place).number }
-    ensures number { result.1.0 ≡ (view result.0.place).number }
+/// One entry of a reader.
+fn enter_once(reader: ShelfReader, _nothing: ()) -> (ShelfReader, Entered)
     ensures opening { (view result.0.place).opening ≡ (view reader.place).opening }
-    ensures entered { PassesUncounted (view reader.place).opening number result.1.0 result.1.1 }
+    ensures entered { PassesUncounted (view reader.place).opening (view reader.place).list
+        (view result.0.place).list result.1 }
 {
     match reader.enter_as::<Seeing>() {
         Ok(reading) => {
-            let number = reading.get().directory.version();
             let share = match Arc::try_clone(&reading.get().directory) {
                 Ok(share) => Entered::Share(share),
                 Err(_) => Entered::OutOfMemory,
             };
-            (reading.leave(), (number, share))
+            (reading.leave(), share)
         }
-        Err(reader) => (reader, (number, Entered::Refused)),
+        Err(reader) => (reader, Entered::Refused),
+    }
+}
+
+/// Whether a version's list is found to begin with that of another of the same opening, whose list
+/// has so many refreshes.
+fn is_longer(now: &Directory, before: &Directory, first: usize) -> bool
+    requires { AreOfOne first before.now now.now }
+    ensures { IsTrue result → IsPrefix before.now.list now.now.list }
+{
+    now.begins_with(before, first)
+}
+
+/// Whether a version's list is found to begin with that of the version that was told of.
+fn is_after(told: &Option<Arc<Directory>>, now: &Directory, first: usize) -> bool
+    requires { ForSome told.now (λ t. AreOfOne first (arc_value t) now.now) }
+    ensures { IsTrue result → ForSome told.now (λ t. IsPrefix (arc_value t).list now.now.list) }
+{
+    match told {
+        Some(told) => is_longer(now, &**told, first),
+        None => true,
+    }
+}
+
+/// The one of two versions that were told of whose list is found to begin with the other's, and
+/// whether neither was found to do so.
+fn longer_of(before: Arc<Directory>, now: Arc<Directory>, first: usize) -> (Arc<Directory>, bool)
+    requires { AreOfOne first (arc_value before) (arc_value now) }
+    ensures before { result.1 ≡ false → IsPrefix (arc_value before).list (arc_value result.0).list }
+    ensures now { result.1 ≡ false → IsPrefix (arc_value now).list (arc_value result.0).list }
+    ensures either { (result.0 ≡ before) ⊎ (result.0 ≡ now) }
+{
+    if is_longer(&*now, &*before, first) {
+        (now, false)
+    } else if is_longer(&*before, &*now, first) {
+        (before, false)
+    } else {
+        (now, true)
     }
 }
 
@@ -100,27 +117,30 @@ impl Entry for RuledEntry {
 
     ghost opening = { λ e. (view e.reader.place).opening };
 
-    ghost number = { λ e. max (view e.reader.place).number e.told };
+    ghost fits = { λ e list. IsPrefix (view e.reader.place).list list
+        × ForSome e.told (λ t. IsPrefix (arc_value t).list list) × (e.is_stuck ≡ false) };
+
+    ghost number = { λ e. e.number };
 
     ghost entries = { λ e. e.entries };
 
     ghost refusals = { λ e. e.refusals };
 
-    ghost note_opening = { λ n. opening_at (arc_value n.share) };
-
-    ghost note_number = { λ n. version_of (arc_value n.share) };
+    ghost note_version = { λ n. arc_value n.share };
 
     fn enter(&mut self) -> Entered {
-        let number = self.number;
-        let (number, entered) = replace_with(&mut self.reader, number, enter_once);
-        self.number = number;
-        match entered {
+        match replace_with(&mut self.reader, (), enter_once) {
             Entered::Share(share) => {
                 // No version is published that is before one told of; the rule does not say so.
-                if share.version() < self.told {
+                if self.is_stuck
+                    || share.version() < self.number
+                    || !is_after(&self.told, &*share, self.first)
+                {
                     self.refusals = self.refusals.saturating_add(1);
                     return Entered::Refused;
                 }
+                self.number = share.version();
+                self.told = None;
                 self.entries = self.entries.saturating_add(1);
                 Entered::Share(share)
             }
@@ -133,15 +153,16 @@ impl Entry for RuledEntry {
     }
 
     fn learn(&mut self, note: Note) -> Arc<Directory> {
-        let Note { share, entry } = note;
-        if let Some(entry) = entry {
-            if entry.number > self.number {
-                let RuledEntry { reader, number, .. } = entry;
-                self.reader = reader;
-                self.number = number;
+        let Note { share, kept } = note;
+        self.number = self.number.max(share.version());
+        match replace(&mut self.told, None) {
+            Some(before) => {
+                let (longer, apart) = longer_of(before, kept, self.first);
+                self.told = Some(longer);
+                self.is_stuck = self.is_stuck || apart;
             }
+            None => self.told = Some(kept),
         }
-        self.told = self.told.max(share.version());
         share
     }
 }

@@ -1,5 +1,5 @@
 //! A hall under the rule.
-ghost use Rattle.std.specs.Prelude.{◌≡◌, IfOk, max};
+ghost use Rattle.std.specs.Prelude.{◌≡◌, false, IfOk, None};
 ghost use Rattle.left_right.specs.Sides.{view};
 ghost use Rattle.store_snapshots.specs.Openings.{opening_at};
 ghost use Rattle.store_snapshots.specs.Rule.{on_shelf, own_view};
@@ -10,10 +10,10 @@ use crate::ruled::RuledEntry;
 use std::alloc::AllocError;
 use std::sync::Wait;
 
-/// Makes entries to the shelf of a writer, which knows its opening.
+/// Makes entries to the shelf of a writer whose list is still the opening's.
 pub struct RuledHall {
     pub(crate) writer: ShelfWriter,
-    refusals: u64,
+    pub(crate) refusals: u64,
     ghost knows: { view writer.desk.place ≡ own_view (on_shelf writer.desk.shown.value) },
 }
 
@@ -34,12 +34,16 @@ impl RuledHall {
     pub(crate) fn entry(&mut self) -> Result<RuledEntry, AllocError>
         ensures opening { IfOk result (λ e. (view e.reader.place).opening
             ≡ opening_at (on_shelf self.old.writer.desk.shown.value)) }
-        ensures number { IfOk result (λ e. max (view e.reader.place).number e.told ≡ 0) }
+        ensures list { IfOk result (λ e. (view e.reader.place).list
+            ≡ (on_shelf self.old.writer.desk.shown.value).list) }
+        ensures fresh { IfOk result (λ e. (e.number ≡ 0) × (e.told ≡ None)
+            × (e.is_stuck ≡ false)) }
         ensures shown { self.new.writer.desk.shown ≡ self.old.writer.desk.shown }
         ensures refusals { self.new.refusals ≡ self.old.refusals }
     {
+        let first = self.writer.published().directory.listed();
         let reader = joined(&mut self.writer)?;
-        Ok(RuledEntry::over(reader, 0))
+        Ok(RuledEntry::over(reader, first))
     }
 
     /// Waits for the readers that are inside.

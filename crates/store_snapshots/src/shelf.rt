@@ -14,10 +14,11 @@ pub struct Shelf {
     pub(crate) directory: Arc<Directory>,
 }
 
-/// What is known of the shelf: the opening of its versions, once it is named, and the number of
-/// one. No value of it is made.
+/// What is known of the shelf: the opening of its versions, once it is named, and of the version
+/// that was seen last the list and the number. No value of it is made.
 pub struct ShelfView {
-    pub opening: Option<(State, LinkedList<Refresh>)>,
+    pub opening: Option<(State, LinkedList<Refresh>, u64)>,
+    pub list: LinkedList<Refresh>,
     pub number: u64,
 }
 

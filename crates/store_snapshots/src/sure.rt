@@ -1,49 +1,37 @@
 //! An entry that is never refused, for tests.
-ghost use Rattle.std.specs.Prelude.{◌≡◌, ◌≤◌, List, IfOk, length};
+ghost use Rattle.std.specs.Prelude.{◌≡◌, ◌≤◌, length, max};
 ghost use Rattle.std.specs.List.{All};
 ghost use Rattle.std.specs.Arc.{arc_value};
+ghost use Rattle.store_state.specs.Prefixes.{IsPrefix};
 ghost use Rattle.store_versions.specs.Trials.{version_of};
-ghost use Rattle.store_snapshots.specs.Openings.{IsOf, opening_at};
+ghost use Rattle.store_snapshots.specs.Openings.{opening_at};
 
 use crate::entry::{Entered, Entry};
+use crate::note::Note;
 use std::alloc::AllocError;
 use std::sync::Arc;
 use store_versions::Directory;
 
 /// An entry that gives the versions of a list in turn, and then its last again. It gives none that
-/// is before one that it gave or was told of: in its place it gives that one.
+/// is before one that it gave or was told of: in its place it gives that one. All of them have the
+/// opening's list, since that has all its refreshes from the first.
 #[derive(Drop)]
 pub struct SureEntry {
     versions: Vec<Arc<Directory>>,
     next: usize,
     last: Arc<Directory>,
     entries: u64,
-    ghost opened: { All (λ v. IsOf (opening_at (arc_value last)) (arc_value v)) versions.items },
-}
-
-/// Two shares of a version.
-#[derive(Drop)]
-pub struct SureNote {
-    given: Arc<Directory>,
-    kept: Arc<Directory>,
-    ghost same: { arc_value given ≡ arc_value kept },
-}
-
-impl SureNote {
-    /// A note of this version.
-    pub fn of(version: &Arc<Directory>) -> Result<SureNote, AllocError>
-        ensures { IfOk result (λ note. arc_value note.given ≡ arc_value version.now) }
-    {
-        let given = Arc::try_clone(version)?;
-        let kept = Arc::try_clone(version)?;
-        Ok(SureNote { given, kept })
-    }
+    ghost opened: { All (λ v. opening_at (arc_value v) ≡ opening_at (arc_value last))
+        versions.items },
+    ghost whole: { (arc_value last).most ≡ length (arc_value last).list },
 }
 
 impl SureEntry {
     /// An entry that gives these versions, the first of which is of number 0.
     pub fn new(first: Arc<Directory>, versions: Vec<Arc<Directory>>) -> SureEntry
-        requires { All (λ v. IsOf (opening_at (arc_value first)) (arc_value v)) versions.items }
+        requires opened { All (λ v. opening_at (arc_value v) ≡ opening_at (arc_value first))
+            versions.items }
+        requires whole { (arc_value first).most ≡ length (arc_value first).list }
         ensures last { result.last ≡ first }
         ensures given { (result.versions ≡ versions) × (result.next ≡ 0) }
         ensures entries { result.entries ≡ 0 }
@@ -56,6 +44,21 @@ impl SureEntry {
         }
     }
 
+    /// Goes on to a version of the opening, unless it is before the last one.
+    fn go_to(&mut self, version: Arc<Directory>)
+        requires { opening_at (arc_value version) ≡ opening_at (arc_value self.old.last) }
+        ensures given { (self.new.versions ≡ self.old.versions) × (self.new.next ≡ self.old.next) }
+        ensures entries { self.new.entries ≡ self.old.entries }
+        ensures opening { opening_at (arc_value self.new.last)
+            ≡ opening_at (arc_value self.old.last) }
+        ensures number { version_of (arc_value self.new.last)
+            ≡ max (version_of (arc_value self.old.last)) (version_of (arc_value version)) }
+    {
+        if version.version() >= self.last.version() {
+            self.last = version;
+        }
+    }
+
     /// Goes on to the next version of the list, unless there is none or it is before the last one.
     fn advance(&mut self) -> Result<(), AllocError>
         ensures entries { self.new.entries ≡ self.old.entries }
@@ -65,10 +68,8 @@ impl SureEntry {
             (arc_value self.new.last) }
     {
         if self.next < self.versions.len() {
-            let version = &self.versions[self.next];
-            if version.version() >= self.last.version() {
-                self.last = Arc::try_clone(version)?;
-            }
+            let version = Arc::try_clone(&self.versions[self.next])?;
+            self.go_to(version);
             self.next += 1;
         }
         Ok(())
@@ -76,9 +77,11 @@ impl SureEntry {
 }
 
 impl Entry for SureEntry {
-    type Note = SureNote;
+    type Note = Note;
 
     ghost opening = { λ e. opening_at (arc_value e.last) };
+
+    ghost fits = { λ e list. IsPrefix (arc_value e.last).list list };
 
     ghost number = { λ e. version_of (arc_value e.last) };
 
@@ -86,9 +89,7 @@ impl Entry for SureEntry {
 
     ghost refusals = { λ e. 0 };
 
-    ghost note_opening = { λ n. opening_at (arc_value n.given) };
-
-    ghost note_number = { λ n. version_of (arc_value n.given) };
+    ghost note_version = { λ n. arc_value n.share };
 
     fn enter(&mut self) -> Entered {
         if self.advance().is_err() {
@@ -103,11 +104,10 @@ impl Entry for SureEntry {
         }
     }
 
-    fn learn(&mut self, note: SureNote) -> Arc<Directory> {
-        let SureNote { given, kept } = note;
-        if kept.version() > self.last.version() {
-            self.last = kept;
-        }
-        given
+    fn learn(&mut self, note: Note) -> Arc<Directory> {
+        let Note { share, kept } = note;
+        let _listed = kept.listed();
+        self.go_to(kept);
+        share
     }
 }

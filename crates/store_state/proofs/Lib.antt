@@ -3,7 +3,9 @@ pub mod FoundKeys
 pub mod KeyRanges
 pub mod Order
 pub mod PartLists
+pub mod Prefixes
 pub mod LeftRows
 pub mod Sales
+pub mod SameRows
 pub mod Searches
 pub mod VersionSteps

@@ -1,4 +1,5 @@
 -- A refresh as its parts.
+use Rattle.std.specs.Arc.{arc_value}
 use Rattle.std.specs.List.{All}
 use Rattle.base_schema.specs.Kinds.{RowsAreOf}
 use Rattle.base_schema.specs.declared.table.TableName.TheVariants as table
@@ -9,12 +10,12 @@ use Rattle.store_state.specs.Refresh.{Change, DeleteKeys, InsertRows, IsOrderKey
 -- the change that the parts say
 abbrev pub change_of : Form → Change
 change_of (Insert orders lineitems) = InsertRows orders lineitems
-change_of (Delete keys) = DeleteKeys keys.items
+change_of (Delete keys) = DeleteKeys (arc_value keys).items
 change_of (Malformed file set refusal) = MalformedFile file set refusal
 
 -- the rows are of their tables' kinds, and the keys are keys of orders
 abbrev pub IsFormed : Form → Type 0
 IsFormed (Insert orders lineitems) = RowsAreOf table.Orders orders
     × RowsAreOf table.Lineitem lineitems
-IsFormed (Delete keys) = All IsOrderKey keys.items
+IsFormed (Delete keys) = All IsOrderKey (arc_value keys).items
 IsFormed (Malformed file set refusal) = Unit {0}

@@ -1,3 +1,4 @@
+pub mod Actions
 pub mod Applied
 pub mod Cases
 pub mod Form
@@ -6,6 +7,7 @@ pub mod Keys
 pub mod Laws
 pub mod Lists
 pub mod Parts
+pub mod Prefixes
 pub mod Refresh
 pub mod VersionLaws
 pub mod Versions

@@ -1,6 +1,6 @@
 -- Refreshes: one whole change of a state, or the first cause why there is none.
-use Rattle.std.specs.Prelude.{ℕ, not, List, [], ◌∷◌, ◌++◌, filter, ℤ, pos, ◌≤ℤ◌, ◌<ℤ◌, ◌^◌, Option}
-use Rattle.std.specs.Prelude.{Some, None, Result, Ok, Err, if◌then◌else◌}
+use Rattle.std.specs.Prelude.{ℕ, Bool, true, false, not, List, [], ◌∷◌, ◌++◌, filter, ℤ, pos, ◌≤ℤ◌}
+use Rattle.std.specs.Prelude.{◌<ℤ◌, ◌^◌, Option, Some, None, Result, Ok, Err, if◌then◌else◌}
 use Rattle.base_refusals.specs.declared.line.LineRefusal.{LineRefusal}
 use Rattle.base_refusals.specs.declared.refresh.Cause.{Cause}
 use Rattle.base_refusals.specs.declared.refresh.Cause.TheVariants.{OrderExists, OrderTwice, LineTwice}
@@ -19,6 +19,12 @@ pub data Change : Type 0 where
   DeleteKeys : (keys : List ℤ) → Change
   -- nothing, since a file of the set of this number has a bad line
   MalformedFile : (file : RefreshFile) → (set : ℕ) → (refusal : LineRefusal) → Change
+
+-- whether the change adds rows
+abbrev pub is_insert : Change → Bool
+is_insert (InsertRows orders lineitems) = true
+is_insert (DeleteKeys keys) = false
+is_insert (MalformedFile file set refusal) = false
 
 -- a number that an order's key can be
 abbrev pub IsOrderKey : ℤ → Type 0

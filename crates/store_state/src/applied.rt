@@ -7,6 +7,7 @@ ghost use Rattle.store_state.specs.Keys.{line_keys, order_keys};
 ghost use Rattle.store_state.specs.Refresh.{DeleteKeys, InsertRows, cause_of, changed, first_cause};
 ghost use Rattle.store_state.specs.Refresh.{insert_cause, line_cause, order_cause};
 
+use crate::action::Action;
 use crate::cause::{first_delete_cause, first_line_cause, first_order_cause};
 use crate::found::{key_set, lines_found, orders_found};
 use crate::keys::LineKey;
@@ -193,6 +194,28 @@ fn try_delete(alloc: Global, keys: &[i64], state: &mut State) -> Result<(), Refr
     }
 }
 
+/// The first cause why the state refuses a refresh; none where it accepts it.
+pub fn cause_of(
+    alloc: Global,
+    state: &State,
+    refresh: &Refresh,
+) -> Result<Option<Cause>, AllocError>
+    ensures { IfOk result (λ cause. cause ≡ cause_of state.now refresh.now) }
+{
+    match refresh.action() {
+        Action::Insert(orders, lineitems) => {
+            let orders = Parts::of(alloc, orders)?;
+            let lineitems = Parts::of(alloc, lineitems)?;
+            cause_of_insert(alloc, state, &orders, &lineitems)
+        }
+        Action::Delete(keys) => {
+            let wanted = key_set(alloc, keys)?;
+            cause_of_delete(alloc, state, keys, &wanted)
+        }
+        Action::Malformed(file, set, refusal) => Ok(Some(Cause::Malformed(file, set, refusal))),
+    }
+}
+
 /// Applies a refresh whole: adds its rows, or removes the orders of its keys with their lineitems.
 /// If it is refused, its first cause is answered and the state stays as it was; so it does when
 /// memory runs out.
@@ -201,7 +224,7 @@ pub fn apply(alloc: Global, state: &mut State, refresh: &Refresh) -> Result<(), 
 {
     match &refresh.form {
         Form::Insert(orders, lineitems) => try_insert(alloc, orders, lineitems, state),
-        Form::Delete(keys) => try_delete(alloc, keys, state),
+        Form::Delete(keys) => try_delete(alloc, keys.as_slice(), state),
         Form::Malformed(file, set, refusal) => {
             Err(RefreshError::Refused(Cause::Malformed(*file, *set, *refusal)))
         }

@@ -2,6 +2,7 @@
 //! that does nothing.
 ghost use Rattle.store_state.specs.Cases.{RefreshCases, VersionCases};
 ghost use Rattle.store_state.specs.Laws.{ListsLaw, PlaceLaw};
+ghost use Rattle.store_state.specs.Prefixes.{AcceptedLongerLaw, AcceptedPrefixLaw, StatePrefixLaw};
 ghost use Rattle.store_state.specs.VersionLaws.{AcceptedMoreLaw, AcceptedMostLaw, AcceptedRisesLaw};
 ghost use Rattle.store_state.specs.VersionLaws.{FirstVersionLaw, StateAcceptedLaw, StateMoreLaw};
 ghost use Rattle.store_state.specs.VersionLaws.{TakenAppendLaw};
@@ -29,6 +30,13 @@ pub fn accepted_refreshes_are_counted()
     ensures more { AcceptedMoreLaw }
     ensures rises { AcceptedRisesLaw }
     ensures most { AcceptedMostLaw }
+{}
+
+/// Each list that begins with a list accepts as many of that one's refreshes, and has its versions.
+pub fn longer_lists_keep_their_versions()
+    ensures accepted { AcceptedPrefixLaw }
+    ensures longer { AcceptedLongerLaw }
+    ensures state { StatePrefixLaw }
 {}
 
 /// Refreshes with each cause, causes that stand together, and the versions of a list with a refused

@@ -3,6 +3,7 @@
 //! A table's rows lie in shared segments, each with the places of its deleted rows.
 #![tactic(auto)]
 
+mod action;
 mod applied;
 mod cause;
 mod found;
@@ -12,10 +13,12 @@ pub mod laws;
 mod part;
 mod parts;
 mod refresh;
+mod same_rows;
 mod search;
 mod state;
 
-pub use applied::{RefreshError, apply};
+pub use action::Action;
+pub use applied::{RefreshError, apply, cause_of};
 pub use part::Part;
 pub use refresh::Refresh;
 pub use state::{State, place};

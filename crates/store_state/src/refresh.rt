@@ -1,17 +1,22 @@
 //! What a refresh is to do.
-ghost use Rattle.std.specs.Prelude.{◌≡◌, IfOk};
+ghost use Rattle.std.specs.Prelude.{◌≡◌, false, IfOk, IsTrue};
 ghost use Rattle.std.specs.List.{All};
 ghost use Rattle.base_schema.specs.Kinds.{RowsAreOf};
 ghost use Rattle.base_schema.specs.LineForm.{RowsFit, refresh_form};
+ghost use Rattle.store_state.specs.Actions.{change_by};
 ghost use Rattle.store_state.specs.Keys.{order_keys};
 ghost use Rattle.store_state.specs.Refresh.{DeleteKeys, InsertRows, IsOrderKey, MalformedFile};
+ghost use Rattle.store_state.specs.Refresh.{is_insert};
 
+use crate::action::Action;
 use crate::parts::Parts;
+use crate::same_rows::{are_same_numbers, are_same_rows};
 use base_columns::Rows;
 use base_refusals::{LineRefusal, RefreshFile};
 use base_schema::TableName;
 use std::alloc::{AllocError, Global};
 use std::marker::Model;
+use std::sync::Arc;
 
 /// What a refresh is to do, with the rows or keys of its files.
 #[derive(Drop)]
@@ -19,12 +24,13 @@ pub(crate) enum Form {
     /// Adds orders and their lineitems.
     Insert(Rows, Rows),
     /// Removes the orders of these keys with their lineitems.
-    Delete(Vec<i64>),
+    Delete(Arc<Vec<i64>>),
     /// Nothing, since a file of the set of this number has a bad line.
     Malformed(RefreshFile, u32, LineRefusal),
 }
 
-/// A refresh, read from its files. Rows are of their tables' kinds, and keys from 0 to 2^63 - 1.
+/// A refresh, read from its files. Rows are of their tables' kinds, and keys from 0 to 2^63 - 1. A
+/// clone has further shares of the same rows or keys.
 #[derive(Drop)]
 pub struct Refresh {
     pub(crate) form: Form,
@@ -54,14 +60,15 @@ impl Refresh {
         }
     }
 
-    /// Removes the orders of these keys, with all their lineitems. No memory is taken.
-    pub fn delete(keys: Vec<i64>) -> Refresh
+    /// Removes the orders of these keys, with all their lineitems.
+    pub fn delete(alloc: Global, keys: Vec<i64>) -> Result<Refresh, AllocError>
         requires { All IsOrderKey keys.items }
-        ensures { result ≡ DeleteKeys keys.items }
+        ensures { IfOk result (λ refresh. refresh ≡ DeleteKeys keys.items) }
     {
-        Refresh {
+        let keys = Arc::new(alloc, keys)?;
+        Ok(Refresh {
             form: Form::Delete(keys),
-        }
+        })
     }
 
     /// Removes the orders whose keys are the lines of a delete file, with all their lineitems.
@@ -71,7 +78,8 @@ impl Refresh {
         ensures { IfOk result (λ refresh. refresh ≡ DeleteKeys (order_keys rows.now)) }
     {
         let keys = Parts::of(alloc, rows)?.order_keys(alloc)?;
-        Ok(Refresh::delete(keys))
+        let refresh = Refresh::delete(alloc, keys)?;
+        Ok(refresh)
     }
 
     /// Is refused, since this file of the set of this number has a bad line.
@@ -81,5 +89,49 @@ impl Refresh {
         Refresh {
             form: Form::Malformed(file, set, refusal),
         }
+    }
+
+    /// What it is to do, of whose rows or keys nothing is copied.
+    pub fn action(&self) -> Action<'_>
+        ensures { change_by result ≡ self.now }
+    {
+        match &self.form {
+            Form::Insert(orders, lineitems) => Action::Insert(orders, lineitems),
+            Form::Delete(keys) => Action::Delete(keys.as_slice()),
+            Form::Malformed(file, set, refusal) => Action::Malformed(*file, *set, *refusal),
+        }
+    }
+
+    /// Whether the two are found to be the same. The rows of inserts are compared column by column
+    /// as they are stored, so it may not be found where they are stored in other ways.
+    pub fn is_same(&self, other: &Refresh) -> bool
+        ensures same { IsTrue result → self.now ≡ other.now }
+        ensures found { is_insert self.now ≡ false → self.now ≡ other.now → IsTrue result }
+    {
+        match (self.action(), other.action()) {
+            (Action::Insert(orders, lineitems), Action::Insert(others, lines)) => {
+                are_same_rows(orders, others) && are_same_rows(lineitems, lines)
+            }
+            (Action::Delete(keys), Action::Delete(others)) => are_same_numbers(keys, others),
+            (Action::Malformed(file, set, refusal), Action::Malformed(other, number, first)) => {
+                file == other && set == number && refusal == first
+            }
+            _ => false,
+        }
+    }
+}
+
+impl Clone for Refresh {
+    ghost is_clone = { λ r s. s ≡ r };
+
+    fn clone(&self) -> Result<Refresh, AllocError>
+        ensures { IfOk result (λ refresh. refresh ≡ self.now) }
+    {
+        let form = match &self.form {
+            Form::Insert(orders, lineitems) => Form::Insert(orders.clone()?, lineitems.clone()?),
+            Form::Delete(keys) => Form::Delete(Arc::try_clone(keys)?),
+            Form::Malformed(file, set, refusal) => Form::Malformed(*file, *set, *refusal),
+        };
+        Ok(Refresh { form })
     }
 }

@@ -1,3 +1,4 @@
+pub mod Longer
 pub mod Neighbours
 pub mod Next
 pub mod Rest

@@ -37,6 +37,7 @@ kept_next trials number before state kept less leaves =
     let few = kept.few in
     record {
       within = omega (arith, less);
+      short = kept.short;
       counted = omega (arith, counted, more);
       few = omega (arith, few);
       left = sym (state-more trials.base trials.list trials.done found.0 found.1 ∙ ap (λ b. cond b (changed last found.0) last) both.0 ∙ both.1);
@@ -55,6 +56,7 @@ kept_refused trials number state cause kept less leaves =
     let few = kept.few in
     record {
       within = omega (arith, less);
+      short = kept.short;
       counted = omega (arith, counted, same);
       few = omega (arith, few);
       left = kept.left ∙ sym (state-more trials.base trials.list trials.done found.0 found.1 ∙ ap (λ b. cond b (changed last found.0) last) no_change);

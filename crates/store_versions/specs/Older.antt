@@ -2,7 +2,6 @@
 use Rattle.std.specs.Prelude.{◌≡◌, ℕ, ◌+◌, ◌<◌, ◌≤◌, nat_lt, Bool, ◌&&◌, List, Result, Ok, Err}
 use Rattle.std.specs.List.{All}
 use Rattle.base_schema.specs.State.{State}
-use Rattle.store_state.specs.Refresh.{Change}
 use Rattle.store_state.specs.Versions.{version_state}
 use Rattle.store_versions.specs.Trials.{HasKept, Trials, tables_of, version_of}
 use Rattle.store_versions.specs.declared.version_error.VersionError.{VersionError}
@@ -26,6 +25,7 @@ IsRecent last number = (number ≤ last) × (last < number + 64)
 pub record IsOlder (last : Trials) (number : ℕ) (older : Trials) : Type 0 where
   pub base : older.base ≡ last.base
   pub list : older.list ≡ last.list
+  pub most : older.most ≡ last.most
   pub version : version_of older ≡ number
   pub tables : tables_of older ≡ version_state last.base last.list number
 
@@ -42,10 +42,9 @@ pub record KeptState : Type 0 where
   pub done : ℕ
   pub state : State
 
--- it is a version of this base and this list
-abbrev pub IsVersionOf : State → List Change → KeptState → Type 0
-IsVersionOf base list kept =
-    HasKept (record { base = base; list = list; done = kept.done }) kept.number kept.state
+-- it is a version of the same base and list
+abbrev pub IsVersionOf : Trials → KeptState → Type 0
+IsVersionOf trials kept = HasKept (record trials { done = kept.done }) kept.number kept.state
 
 -- it is one of the 63 versions before that of a number
 abbrev pub is_kept_at : ℕ → KeptState → Bool
@@ -55,4 +54,4 @@ is_kept_at number kept = nat_lt kept.number number && nat_lt number (kept.number
 pub record HasHistory (trials : Trials) (number : ℕ) (state : State) (before : List KeptState)
     : Type 0 where
   pub last : HasKept trials number state
-  pub earlier : All (IsVersionOf trials.base trials.list) before
+  pub earlier : All (IsVersionOf trials) before

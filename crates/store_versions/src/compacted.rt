@@ -25,6 +25,8 @@ pub struct Compacted {
     pub(crate) alloc: Global,
     pub(crate) base: Arc<State>,
     pub(crate) list: Arc<Vec<Refresh>>,
+    /// How many refreshes the list has in the end.
+    pub(crate) most: usize,
     pub(crate) done: usize,
     pub(crate) accepted: u64,
     /// The segments of each table, in the schema's order of tables.
@@ -41,21 +43,17 @@ impl Model for Compacted {
     ghost use Rattle.store_state.specs.Lists.{IsOfKinds, state_of};
     ghost use Rattle.store_versions.specs.Segments.{Compaction};
     ghost use Rattle.store_versions.specs.Older.{HasHistory};
+    ghost use Rattle.store_versions.specs.Trials.{trials_at};
 
     ghost Value = { Compaction };
 
     ghost view = { λ c. record {
-      version = record {
-        base = arc_value c.base;
-        list = (arc_value c.list).items;
-        done = c.done;
-      };
+      version = trials_at (arc_value c.base) (arc_value c.list).items c.done c.most;
       tables = map vec_items c.tables.items;
     } };
 
     ghost invariant = { λ c.
-        HasHistory
-        (record { base = arc_value c.base; list = (arc_value c.list).items; done = c.done })
+        HasHistory (trials_at (arc_value c.base) (arc_value c.list).items c.done c.most)
         c.accepted (state_of (map (λ segments. one_list segments.items) c.tables.items))
         (arc_value c.earlier).items
         × (length c.tables.items ≡ 8)
@@ -72,7 +70,8 @@ impl Compacted {
 
     /// How many refreshes the list has.
     pub fn listed(&self) -> usize
-        ensures { result ≡ length self.now.version.list }
+        ensures listed { result ≡ length self.now.version.list }
+        ensures most { result ≤ self.now.version.most }
     {
         self.list.len()
     }
@@ -95,7 +94,7 @@ impl Compacted {
         let list = Arc::try_clone(&self.list)?;
         let last = KeptVersion::new(self.accepted, self.done, state);
         let earlier = Arc::try_clone(&self.earlier)?;
-        Ok(Directory::at(self.alloc, base, list, last, earlier))
+        Ok(Directory::at(self.alloc, base, list, self.most, last, earlier))
     }
 
     /// The same version, whose tables' parts are these segments.

@@ -1,19 +1,24 @@
 //! A version with all that it came from.
-ghost use Rattle.std.specs.Prelude.{◌≡◌, ◌+◌, ◌<◌, ◌≤◌, ◌↔◌, length, IfOk, IsTrue, Ok};
+ghost use Rattle.std.specs.Prelude.{◌≡◌, ◌+◌, ◌<◌, ◌≤◌, ◌↔◌, drop, length, IfOk, IsTrue, Ok, Some};
+ghost use Rattle.std.specs.Prelude.{slice_get};
 ghost use Rattle.base_schema.specs.Kinds.{RowsAreOf};
 ghost use Rattle.base_schema.specs.State.{table_rows};
 ghost use Rattle.base_columns.specs.Lists.{one_list};
 ghost use Rattle.store_state.specs.Lists.{IsOfKinds};
+ghost use Rattle.store_state.specs.Prefixes.{IsPrefix};
+ghost use Rattle.store_state.specs.Refresh.{cause_of};
 ghost use Rattle.store_state.specs.Versions.{accepted};
 
 use crate::compacted::{Compacted, joined_tables};
 use crate::kept::{KeptVersion, kept_at};
+use crate::lists::{is_beginning, with_refresh};
+use base_refusals::Cause;
 use base_schema::{TABLES, TableName};
 use base_value::Row;
 use std::alloc::{AllocError, Global};
 use std::marker::Model;
 use std::sync::Arc;
-use store_state::{Part, Refresh, RefreshError, State, apply};
+use store_state::{Part, Refresh, RefreshError, State, apply, cause_of};
 
 /// The first refreshes of a list that were tried on a base, with the tables that they leave.
 #[derive(Drop)]
@@ -21,6 +26,8 @@ pub struct Directory {
     pub(crate) alloc: Global,
     base: Arc<State>,
     list: Arc<Vec<Refresh>>,
+    /// How many refreshes the list has in the end.
+    most: usize,
     done: usize,
     accepted: u64,
     state: Arc<State>,
@@ -31,18 +38,14 @@ pub struct Directory {
 impl Model for Directory {
     ghost use Rattle.std.specs.Arc.{arc_value};
     ghost use Rattle.store_versions.specs.Older.{HasHistory};
-    ghost use Rattle.store_versions.specs.Trials.{Trials};
+    ghost use Rattle.store_versions.specs.Trials.{Trials, trials_at};
 
     ghost Value = { Trials };
 
-    ghost view = { λ d. record {
-      base = arc_value d.base;
-      list = (arc_value d.list).items;
-      done = d.done;
-    } };
+    ghost view = { λ d. trials_at (arc_value d.base) (arc_value d.list).items d.done d.most };
 
-    ghost invariant = { λ d. HasHistory
-        (record { base = arc_value d.base; list = (arc_value d.list).items; done = d.done })
+    ghost invariant = { λ d.
+        HasHistory (trials_at (arc_value d.base) (arc_value d.list).items d.done d.most)
         d.accepted (arc_value d.state) (arc_value d.earlier).items };
 }
 
@@ -51,12 +54,19 @@ impl Directory {
     ghost use Rattle.std.specs.List.{All};
     ghost use Rattle.store_versions.specs.Older.{IsVersionOf};
     ghost use Rattle.store_versions.specs.Segments.{IsCompacted};
-    ghost use Rattle.store_versions.specs.Trials.{IsAfter, Leaves, one_more, tables_of};
-    ghost use Rattle.store_versions.specs.Trials.{version_of};
+    ghost use Rattle.store_versions.specs.Trials.{IsAfter, Leaves, offered, one_more, tables_of};
+    ghost use Rattle.store_versions.specs.Trials.{trials_at, version_of};
 
-    /// The base, with nothing tried.
-    pub fn new(alloc: Global, base: State, list: Vec<Refresh>) -> Result<Directory, AllocError>
-        ensures { IfOk result (λ d. d ≡ record { base = base; list = list.items; done = 0 }) }
+    /// The base, with nothing tried. The list may get longer, up to this length.
+    pub fn new(
+        alloc: Global,
+        base: State,
+        list: Vec<Refresh>,
+        most: usize,
+    ) -> Result<Directory, AllocError>
+        requires { length list.items ≤ most }
+        ensures { IfOk result (λ d. d
+            ≡ record { base = base; list = list.items; done = 0; most = most }) }
     {
         let base = Arc::new(alloc, base)?;
         let list = Arc::new(alloc, list)?;
@@ -66,6 +76,7 @@ impl Directory {
             alloc,
             base,
             list,
+            most,
             done: 0,
             accepted: 0,
             state,
@@ -85,6 +96,7 @@ impl Directory {
             alloc: self.alloc,
             base,
             list,
+            most: self.most,
             done: self.done,
             accepted: self.accepted,
             state,
@@ -110,9 +122,17 @@ impl Directory {
 
     /// How many refreshes the list has.
     pub fn listed(&self) -> usize
-        ensures { result ≡ length self.now.list }
+        ensures listed { result ≡ length self.now.list }
+        ensures most { result ≤ self.now.most }
     {
         self.list.len()
+    }
+
+    /// How many refreshes the list has in the end.
+    pub fn most(&self) -> usize
+        ensures { result ≡ self.now.most }
+    {
+        self.most
     }
 
     /// Whether each refresh of the list was tried.
@@ -128,17 +148,16 @@ impl Directory {
         alloc: Global,
         base: Arc<State>,
         list: Arc<Vec<Refresh>>,
+        most: usize,
         last: KeptVersion,
         earlier: Arc<Vec<KeptVersion>>,
     ) -> Directory
-        requires last { IsVersionOf (arc_value base) (arc_value list).items last }
-        requires earlier { All (IsVersionOf (arc_value base) (arc_value list).items)
+        requires last { IsVersionOf
+            (trials_at (arc_value base) (arc_value list).items last.done most) last }
+        requires earlier { All (IsVersionOf
+            (trials_at (arc_value base) (arc_value list).items last.done most))
             (arc_value earlier).items }
-        ensures { result ≡ record {
-          base = arc_value base;
-          list = (arc_value list).items;
-          done = last.done;
-        } }
+        ensures { result ≡ trials_at (arc_value base) (arc_value list).items last.done most }
     {
         let KeptVersion {
             number,
@@ -149,6 +168,7 @@ impl Directory {
             alloc,
             base,
             list,
+            most,
             done,
             accepted: number,
             state,
@@ -169,6 +189,7 @@ impl Directory {
             alloc: self.alloc,
             base,
             list,
+            most: self.most,
             done: self.done,
             accepted: self.accepted,
             tables,
@@ -199,6 +220,22 @@ impl Directory {
         self.state.rows(self.alloc, table)
     }
 
+    /// A share of the refresh that is tried next.
+    pub fn next_refresh(&self) -> Result<Refresh, AllocError>
+        requires { self.now.done < length self.now.list }
+        ensures { IfOk result
+            (λ refresh. slice_get self.now.list self.now.done ≡ Some refresh) }
+    {
+        self.list[self.done].clone()
+    }
+
+    /// The first cause why a refresh is refused in this version; none where it is accepted.
+    pub fn cause(&self, refresh: &Refresh) -> Result<Option<Cause>, AllocError>
+        ensures { IfOk result (λ cause. cause ≡ cause_of (tables_of self.now) refresh.now) }
+    {
+        cause_of(self.alloc, &self.state, refresh)
+    }
+
     /// The state that the next refresh leaves here, or its first cause.
     fn try_next(&self) -> Result<State, RefreshError>
         requires { self.now.done < length self.now.list }
@@ -213,7 +250,7 @@ impl Directory {
 
     /// The versions before it that are kept.
     pub(crate) fn earlier(&self) -> &[KeptVersion]
-        ensures { All (IsVersionOf self.now.base self.now.list) result.now }
+        ensures { All (IsVersionOf self.now) result.now }
     {
         self.earlier.as_slice()
     }
@@ -221,8 +258,7 @@ impl Directory {
     /// What the next version keeps: this version and those of the 62 before it that are kept here.
     fn earlier_of_next(&self) -> Result<Vec<KeptVersion>, AllocError>
         requires { self.now.done < length self.now.list }
-        ensures { IfOk result
-            (λ kept. All (IsVersionOf self.now.base self.now.list) kept.items) }
+        ensures { IfOk result (λ kept. All (IsVersionOf self.now) kept.items) }
     {
         let mut kept = kept_at(self.alloc, self.earlier(), self.accepted + 1)?;
         let state = Arc::try_clone(&self.state)?;
@@ -236,14 +272,46 @@ impl Directory {
         last: KeptVersion,
         earlier: Vec<KeptVersion>,
     ) -> Result<Directory, AllocError>
-        requires last { IsVersionOf self.now.base self.now.list last }
-        requires earlier { All (IsVersionOf self.now.base self.now.list) earlier.items }
+        requires last { IsVersionOf self.now last }
+        requires earlier { All (IsVersionOf self.now) earlier.items }
         ensures { IfOk result (λ d. d ≡ record self.now { done = last.done }) }
     {
         let base = Arc::try_clone(&self.base)?;
         let list = Arc::try_clone(&self.list)?;
         let earlier = Arc::new(self.alloc, earlier)?;
-        Ok(Directory::at(self.alloc, base, list, last, earlier))
+        Ok(Directory::at(self.alloc, base, list, self.most, last, earlier))
+    }
+
+    /// The same version of the list that is longer by this refresh.
+    pub fn offered(&self, refresh: Refresh) -> Result<Directory, AllocError>
+        requires { length self.now.list < self.now.most }
+        ensures offered { IfOk result (λ d. d ≡ offered refresh self.now) }
+        ensures version { IfOk result (λ d. version_of d ≡ version_of self.now) }
+        ensures tables { IfOk result (λ d. tables_of d ≡ tables_of self.now) }
+    {
+        let base = Arc::try_clone(&self.base)?;
+        let list = with_refresh(self.alloc, self.list.as_slice(), refresh)?;
+        let list = Arc::new(self.alloc, list)?;
+        let state = Arc::try_clone(&self.state)?;
+        let last = KeptVersion::new(self.accepted, self.done, state);
+        let earlier = Arc::try_clone(&self.earlier)?;
+        Ok(Directory::at(self.alloc, base, list, self.most, last, earlier))
+    }
+
+    /// Whether its list from a place on is found to begin with that of another from there on.
+    pub fn begins_with(&self, other: &Directory, from: usize) -> bool
+        ensures begins { IsTrue result
+            → IsPrefix (drop from other.now.list) (drop from self.now.list) }
+        ensures nothing { length other.now.list ≤ from → IsTrue result }
+    {
+        let (long, short) = (self.list.as_slice(), other.list.as_slice());
+        if short.len() <= from {
+            return true;
+        }
+        if long.len() < short.len() {
+            return false;
+        }
+        is_beginning(&short[from..], &long[from..])
     }
 
     /// The base, with nothing tried.

@@ -5,6 +5,7 @@ mod compacted;
 mod directory;
 mod joining;
 mod kept;
+mod lists;
 mod older;
 mod scan;
 mod version_error;

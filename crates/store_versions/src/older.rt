@@ -56,7 +56,7 @@ impl Directory {
 
     /// A version of this base and this list that is kept.
     fn kept(&self, kept: &KeptVersion) -> Result<Directory, AllocError>
-        requires { IsVersionOf self.now.base self.now.list kept.now }
+        requires { IsVersionOf self.now kept.now }
         ensures { IfOk result (IsOlder self.now kept.now.number) }
     {
         let earlier = kept_at(self.alloc, self.earlier(), kept.number)?;

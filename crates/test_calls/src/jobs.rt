@@ -60,7 +60,7 @@ fn run_job<R: Threads + Wait + Sync, G: Gate + Sync>(
 
 #[test]
 fn two_sessions_meet_the_publisher(rt: HostRuntime) -> Result<(), Fail> {
-    let gate = MeetGate::new();
+    let gate = MeetGate::new(&rt);
     let (status, text) = run_job(&rt, rt.alloc(), &[], &gate)?;
     assert_eq!(rt; status, Status::Done);
     assert_eq!(rt; text.as_slice(), MET.as_bytes());

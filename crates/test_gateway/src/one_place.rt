@@ -31,7 +31,7 @@ fn take_all<R: Wait>(rt: &R, mut taker: Taker) -> Taker
 }
 
 /// Sends all that two senders send, each in a thread of its own.
-fn send_both<R: Threads + Wait + Sync>(
+pub(crate) fn send_both<R: Threads + Wait + Sync>(
     rt: &R,
     first: Sender,
     second: Sender,
@@ -86,7 +86,7 @@ fn order_of<R: Threads + Wait + Sync>(
 }
 
 /// A refresh with this number, which does nothing.
-fn numbered(set: u32) -> Refresh {
+pub(crate) fn numbered(set: u32) -> Refresh {
     let refusal = LineRefusal {
         line: 1,
         fault: LineFault::FieldCount,

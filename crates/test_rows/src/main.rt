@@ -2,6 +2,7 @@
 //! in memory, and prints those that differ and the counts. `examples/pages.py` tells the format.
 #![tactic(auto)]
 
+mod choices;
 mod pages;
 mod runs;
 mod texts;

@@ -1,4 +1,5 @@
 //! One case, run over its files and a sink in memory.
+use crate::choices::is_chosen;
 use crate::pages::{Block, Text};
 use crate::texts::bytes_of;
 use app_main::tpch;
@@ -157,6 +158,9 @@ fn agrees(alloc: Global, text: &Text, status: u8, printed: &[u8]) -> Result<bool
                 .iter()
                 .any(|line| has_head(printed, line.as_str())),
         );
+    }
+    if way == "choice" {
+        return is_chosen(alloc, text, printed);
     }
     let bytes = bytes_of(alloc, text, way)?;
     if kind == "end" {

@@ -57,7 +57,7 @@ fn put_escaped(out: &mut Vec<u8>, escape: Escape, byte: u8) -> Result<Escape, Al
 }
 
 /// Puts the bytes of an escaped line.
-fn put_line(out: &mut Vec<u8>, line: &str) -> Result<(), AllocError> {
+pub fn put_escaped_line(out: &mut Vec<u8>, line: &str) -> Result<(), AllocError> {
     let mut escape = Escape::Outside;
     for byte in line.as_bytes() {
         escape = put_escaped(out, escape, *byte)?;
@@ -84,7 +84,7 @@ fn put_repeated(alloc: Global, out: &mut Vec<u8>, line: &str) -> Result<(), Allo
         return Ok(());
     };
     let mut piece = Vec::new(alloc);
-    put_line(&mut piece, text)?;
+    put_escaped_line(&mut piece, text)?;
     if let Some((first, last)) = count.split_once('-') {
         let first = first.parse::<u32>().unwrap_or(0);
         let last = last.parse::<u32>().unwrap_or(0);
@@ -104,7 +104,7 @@ pub fn bytes_of(alloc: Global, text: &Text, way: &str) -> Result<Vec<u8>, AllocE
     let mut out = Vec::new(alloc);
     for line in &text.lines {
         if way == "escaped" {
-            put_line(&mut out, line.as_str())?;
+            put_escaped_line(&mut out, line.as_str())?;
         } else if way == "repeat" {
             put_repeated(alloc, &mut out, line.as_str())?;
         } else {

@@ -114,3 +114,20 @@ fn goes_back(rt: HostRuntime) -> Result<(), Fail> {
     assert!(rt; scans(alloc, &mut machine, &[7, 8, 9])?);
     Ok(())
 }
+
+#[test]
+fn publishes_what_is_offered(rt: HostRuntime) -> Result<(), Fail> {
+    let alloc = rt.alloc();
+    let base = state(alloc, &[ORDERS], &[])?;
+    let mut machine = Machine::new(alloc, base, Vec::new(alloc), 1)?;
+    step(&mut machine, Step::Publish)?;
+    step(
+        &mut machine,
+        Step::Offer(insert(alloc, &[NINE], &[NINE_ONE])?),
+    )?;
+    assert!(rt; begins(alloc, &mut machine, 2, 0)?);
+    step(&mut machine, Step::Publish)?;
+    assert!(rt; begins(alloc, &mut machine, 3, 1)?);
+    assert!(rt; scans(alloc, &mut machine, &[7, 8, 9])?);
+    Ok(())
+}

@@ -1,5 +1,5 @@
 //! Readers of two orders and of what refreshes make of them.
-ghost use Rattle.std.specs.Prelude.{◌≡◌, IfOk, OnOk};
+ghost use Rattle.std.specs.Prelude.{◌≡◌, IfOk, OnOk, length};
 ghost use Rattle.store_snapshots.specs.Openings.{opening_at};
 ghost use Rattle.store_snapshots.specs.Ruled.{opening_of};
 
@@ -34,6 +34,7 @@ fn version_begun(reader: &mut Reader<RuledEntry>) -> Result<u64, Fail> {
 fn publish<R: Wait>(rt: &R, publisher: &mut Publisher, count: usize) -> u64
     ensures base { publisher.new.version.base ≡ publisher.old.version.base }
     ensures list { publisher.new.version.list ≡ publisher.old.version.list }
+    ensures most { publisher.new.version.most ≡ publisher.old.version.most }
 {
     let mut accepted: u64 = 0;
     'publishing: for _refresh in 0..count {
@@ -64,13 +65,10 @@ fn begin_twice<R: Wait>(
 #[test]
 fn begins_at_the_published_version(rt: HostRuntime) -> Result<(), Fail> {
     let alloc = rt.alloc();
-    let (mut publisher, mut readers) = open(
-        &rt,
-        alloc,
-        state(alloc, &[ORDERS], &[])?,
-        pairs(alloc, 1)?,
-        2,
-    )?;
+    let list = pairs(alloc, 1)?;
+    let most = list.len();
+    let base = state(alloc, &[ORDERS], &[])?;
+    let (mut publisher, mut readers) = open(&rt, alloc, base, list, 2, most)?;
     let good = begin_twice(&rt, &mut publisher, &mut readers);
     publisher.close(&rt);
     assert!(rt; good?);
@@ -107,23 +105,28 @@ fn hold<R: Wait>(
 #[test]
 fn holds_a_snapshot(rt: HostRuntime) -> Result<(), Fail> {
     let alloc = rt.alloc();
-    let (mut publisher, mut readers) = open(
-        &rt,
-        alloc,
-        state(alloc, &[ORDERS], &[])?,
-        pairs(alloc, 10)?,
-        1,
-    )?;
+    let list = pairs(alloc, 10)?;
+    let most = list.len();
+    let base = state(alloc, &[ORDERS], &[])?;
+    let (mut publisher, mut readers) = open(&rt, alloc, base, list, 1, most)?;
     let good = hold(&rt, alloc, &mut publisher, &mut readers[0]);
     publisher.close(&rt);
     assert!(rt; good?);
     Ok(())
 }
 
+/// Two orders and this list, with nothing tried.
+fn base(alloc: Global, list: Vec<Refresh>) -> Result<Directory, Fail>
+    ensures { IfOk result (λ d. d.most ≡ length d.list) }
+{
+    let most = list.len();
+    let directory = Directory::new(alloc, state(alloc, &[ORDERS], &[])?, list, most)?;
+    Ok(directory)
+}
+
 /// The version after the next refresh, which is accepted.
 fn next(directory: &mut Directory) -> Result<Directory, Fail>
-    ensures base { IfOk result (λ d. d.base ≡ directory.old.base) }
-    ensures list { IfOk result (λ d. d.list ≡ directory.old.list) }
+    ensures opening { IfOk result (λ d. opening_at d ≡ opening_at directory.old) }
     ensures same { OnOk result (directory.new ≡ directory.old) }
 {
     if directory.is_done() {
@@ -135,7 +138,7 @@ fn next(directory: &mut Directory) -> Result<Directory, Fail>
 
 /// A reader of the versions 0, 1 and 2.
 fn sure_reader(alloc: Global) -> Result<Reader<SureEntry>, Fail> {
-    let mut zero = Directory::new(alloc, state(alloc, &[ORDERS], &[])?, pairs(alloc, 1)?)?;
+    let mut zero = base(alloc, pairs(alloc, 1)?)?;
     let mut one = next(&mut zero)?;
     let two = next(&mut one)?;
     if keys(alloc, &two.rows(TableName::Orders)?)?.as_slice() != [7, 8].as_slice() {
@@ -182,7 +185,7 @@ fn has_orders(
 #[test]
 fn gives_earlier_versions(rt: HostRuntime) -> Result<(), Fail> {
     let alloc = rt.alloc();
-    let base = Directory::new(alloc, state(alloc, &[ORDERS], &[])?, pairs(alloc, 33)?)?;
+    let base = base(alloc, pairs(alloc, 33)?)?;
     let last = after(base, 66)?;
     let third = last.older(3)?;
     assert!(rt; has_orders(alloc, &third, 3, &[7, 8, 9])?);

@@ -22,12 +22,14 @@ asking-preserved g c =
     record {
       opening = b.opening ∙ i.opening;
       seen = b.of_opening;
+      list = b.seen_list;
+      more = λ list fit. i.more list (b.more list fit);
       later = le_trans i.later b.later;
       steps = kept.0 ∙ i.steps;
       shows = kept.1 ∙ i.shows;
-      asked = λ x is. let d = b.snapshot.0 x (i.opening ∙ is) in
-          subst (λ n. IsAsked x.0 x.1 (version_of c.args.reader.now.seen) n (course_of c.args.session.now) new) b.snapshot.1
-          (asked_more x.0 x.1 _ _ (course_of c.args.session.now) old new v (i.asked x is) d.0 d.1 took up);
+      asked = λ x is list fit. let d = b.snapshot.0 x (i.opening ∙ is) in
+          subst (λ n. IsAsked x.0 list (version_of c.args.reader.now.seen) n (course_of c.args.session.now) new) b.snapshot.1
+          (asked_more x.0 list _ _ (course_of c.args.session.now) old new v (i.asked x is list (b.more list fit)) d.0 (b.list list fit) took up);
     }
 
 pub asking-smaller : goal.asking-smaller
@@ -45,8 +47,8 @@ pub returns-clause-over : goal.returns-clause-over
 returns-clause-over g c =
     let i = c.asking.invariant in
     let none : is_none (next_of (course_of c.asking.session)) ≡ true = search rules in
-    over_all (g.E.Entry.opening c.args.reader.now.entry) _ (version_of c.asking.reader.seen) c.args.session.now c.asking.session c.asking.reader.seen
-    c.requires.unasked.fresh i.asked (λ o is. i.seen o (i.opening ∙ is)) refl none
+    over_all (g.E.Entry.opening c.args.reader.now.entry) (g.E.Entry.fits c.asking.reader.entry) _ (version_of c.asking.reader.seen) c.args.session.now c.asking.session c.asking.reader.seen
+    c.requires.unasked.fresh i.asked (λ o is. i.seen o (i.opening ∙ is)) i.list refl none
 
 pub unreachable-requires : goal.unreachable-requires
 unreachable-requires g c =

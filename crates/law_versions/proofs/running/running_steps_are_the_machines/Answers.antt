@@ -1,4 +1,4 @@
-use Rattle.law_versions.proofs.MachineSteps.{back_law, begin_law, compact_law, learn_law, publish_law}
+use Rattle.law_versions.proofs.MachineSteps.{back_law, begin_law, compact_law, give_law, learn_law, offer_law, publish_law}
 use Rattle.law_versions.proofs.running.running_steps_are_the_machines.Goals as goal
 
 pub returns-clause-begin : goal.returns-clause-begin
@@ -10,8 +10,14 @@ returns-clause-back c = back_law
 pub returns-clause-learn : goal.returns-clause-learn
 returns-clause-learn c = learn_law
 
+pub returns-clause-offer : goal.returns-clause-offer
+returns-clause-offer c = offer_law
+
 pub returns-clause-publish : goal.returns-clause-publish
 returns-clause-publish c = publish_law
+
+pub returns-clause-give : goal.returns-clause-give
+returns-clause-give c = give_law
 
 pub returns-clause-compact : goal.returns-clause-compact
 returns-clause-compact c = compact_law

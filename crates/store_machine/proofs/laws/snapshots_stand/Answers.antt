@@ -1,5 +1,8 @@
-use Rattle.store_machine.proofs.Runs.{again_pins_law, back_pins_law, begin_pins_law, notes_law, published_law, scan_law, seen_rises_law}
+use Rattle.store_machine.proofs.Runs.{again_pins_law, back_pins_law, begin_pins_law, list_law, notes_law, published_law, scan_law, seen_rises_law}
 use Rattle.store_machine.proofs.laws.snapshots_stand.Goals as goal
+
+pub returns-clause-list : goal.returns-clause-list
+returns-clause-list c = list_law
 
 pub returns-clause-scans : goal.returns-clause-scans
 returns-clause-scans c = scan_law

@@ -1,9 +1,9 @@
-use Rattle.std.proofs.Common.{◌≡◌, [], ◌∷◌, ◌++◌, rules, drop, ◌∙◌, ap, sym}
+use Rattle.std.proofs.Common.{◌≡◌, [], ◌∷◌, ◌++◌, rules, drop, ap, sym, subst}
 use Rattle.left_right.specs.Sides.{view}
 use Rattle.std.specs.Arc.{arc_value}
 use Rattle.std.proofs.lemmas.List.Sums.{fold-append}
 use Rattle.store_snapshots.proofs.Steps.{moves}
-use Rattle.store_snapshots.specs.Rule.{on_shelf}
+use Rattle.store_snapshots.specs.Rule.{MayFollow, on_shelf}
 use Rattle.store_versions.specs.Trials.{Trials}
 use Rattle.store_snapshots.proofs.rule.publish.Goals as goal
 
@@ -13,6 +13,4 @@ publish_as-requires g c next is views h at =
     let same : on_shelf next ≡ arc_value c.args.next.1 = simp (pending, fold-append) at is in
     let shown : on_shelf c.append.new.self.desk.shown.value ≡ on_shelf c.args.writer.desk.shown.value = ap (λ d. on_shelf d.shown.value) c.append.ensures.desk in
     moves _ (view c.append.new.self.desk.place) (on_shelf c.append.new.self.desk.shown.value) (on_shelf next) views h at
-    (ap (λ (d : Trials). d.base) same ∙ c.requires.base ∙ sym (ap (λ (d : Trials). d.base) shown))
-    (ap (λ (d : Trials). d.list) same ∙ c.requires.list ∙ sym (ap (λ (d : Trials). d.list) shown))
-    (rw (same, shown) c.requires.later)
+    (subst (λ (p : Trials × Trials). MayFollow p.0 p.1) (λ i. (sym shown i, sym same i)) c.requires)

@@ -1,8 +1,8 @@
-use Rattle.std.proofs.Common.{◌≡◌, true, false, ℤ, [], ◌<◌, ◌≤◌, length, slice_index_or, subst, sym, ap, ◌∙◌, arith, refl, w64, to_z, of_z}
+use Rattle.std.proofs.Common.{◌≡◌, false, [], ◌<◌, length, slice_index_or, subst, sym, ap, ◌∙◌, arith, refl, w64, to_z, of_z}
 use Rattle.std.specs.Prelude.{◌<ℤ◌, ◌≤ℤ◌}
 use Rattle.std.proofs.lemmas.Int.{ints}
 use Rattle.store_state.specs.Keys.{has_key, order_key, order_keys}
-use Rattle.store_state.specs.Parts.{has_place, left_rows}
+use Rattle.store_state.specs.Parts.{left_rows}
 use Rattle.store_state.proofs.Searches.{order_below, order_gone, order_here, order_nowhere, order_outside, order_past}
 use Rattle.store_state.proofs.search.has_order.Goals as goal
 

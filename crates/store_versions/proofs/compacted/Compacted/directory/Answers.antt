@@ -1,6 +1,6 @@
 use Rattle.std.proofs.Common.{◌≡◌, ap}
 use Rattle.std.specs.Arc.{arc_value}
-use Rattle.store_versions.specs.Trials.{HasKept}
+use Rattle.store_versions.specs.Trials.{HasKept, trials_at}
 use Rattle.store_versions.proofs.compacted.Compacted.directory.Goals as goal
 
 pub state_over-requires-clause-kinds : goal.state_over-requires-clause-kinds
@@ -11,11 +11,9 @@ at-requires-clause-last c =
     let base : arc_value c.in_ok-base.base ≡ arc_value c.self.inside.base = c.in_ok-base.ensures in
     let list : (arc_value c.in_ok-list.list).items ≡ (arc_value c.self.inside.list).items =
     ap (λ v. v.items) c.in_ok-list.ensures in
-    let kept : HasKept (record {
-      base = arc_value c.in_ok-base.base;
-      list = (arc_value c.in_ok-list.list).items;
-      done = c.self.inside.done;
-    }) c.self.inside.accepted c.in_ok-tables.tables =
+    let kept : HasKept
+    (trials_at (arc_value c.in_ok-base.base) (arc_value c.in_ok-list.list).items
+    c.self.inside.done c.self.inside.most) c.self.inside.accepted c.in_ok-tables.tables =
     rw (base, list, c.in_ok-tables.ensures, c.as_slice.ensures.value) c.self.invariant.0.last in
     rw (c.new-last.ensures, c.in_ok-state.ensures.ok) kept
 

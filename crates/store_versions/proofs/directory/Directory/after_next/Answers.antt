@@ -1,7 +1,7 @@
 use Rattle.std.proofs.Common.{◌<◌, Ok, Err, length, refl, ap, subst, sym, ◌∙◌}
 use Rattle.std.specs.Arc.{arc_value}
 use Rattle.store_state.specs.declared.applied.RefreshError.TheVariants.{Refused}
-use Rattle.store_versions.specs.Trials.{Leaves, Trials, one_more, tables_of, version_of}
+use Rattle.store_versions.specs.Trials.{Leaves, Trials, one_more, tables_of, trials_at, version_of}
 use Rattle.store_versions.proofs.Next.{kept_refused, same_version}
 use Rattle.store_versions.proofs.directory.Directory.after_next.Goals as goal
 
@@ -13,7 +13,7 @@ returns-in_ok-next-in-Ok c =
 
 pub invariant_of-self : goal.invariant_of-self
 invariant_of-self c =
-    let trials : Trials = record { base = arc_value c.self.inside.base; list = (arc_value c.self.inside.list).items; done = c.self.inside.done } in
+    let trials : Trials = trials_at (arc_value c.self.inside.base) (arc_value c.self.inside.list).items c.self.inside.done c.self.inside.most in
     let less : c.self.inside.done < length (arc_value c.self.inside.list).items = subst (λ (t : Trials). t.done < length t.list) (sym c.self.view_is) c.requires in
     let here : Leaves c.args.self.now (Err (Refused c.in-Err-Refused.cause)) = rw c.in-Err-Refused.field-0-is at c.in-Err-Refused.ensures in
     let leaves : Leaves trials (Err (Refused c.in-Err-Refused.cause)) = subst (λ (t : Trials). Leaves t (Err (Refused c.in-Err-Refused.cause))) (sym c.self.view_is) here in

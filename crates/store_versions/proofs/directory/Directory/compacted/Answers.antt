@@ -9,7 +9,7 @@ use Rattle.base_schema.specs.Tables.{all_tables}
 use Rattle.store_state.specs.Lists.{IsOfKinds, state_of}
 use Rattle.store_state.specs.Refresh.{Change}
 use Rattle.store_versions.specs.Segments.{AreJoined}
-use Rattle.store_versions.specs.Trials.{Trials, tables_of}
+use Rattle.store_versions.specs.Trials.{Trials, tables_of, trials_at}
 use Rattle.store_versions.proofs.Neighbours.{all-of-kinds, fused}
 use Rattle.store_versions.proofs.directory.Directory.compacted.Goals as goal
 
@@ -36,7 +36,7 @@ returns c =
     let list : (arc_value c.in_ok-list.list).items ≡ (arc_value c.self.inside.list).items =
     ap (λ v. v.items) c.in_ok-list.ensures in
     let made : State → List Change → Trials = λ b l.
-    record { base = b; list = l; done = c.self.inside.done } in
+    trials_at b l c.self.inside.done c.self.inside.most in
     record {
       same = ap (λ b. made b (arc_value c.in_ok-list.list).items) base
           ∙ ap (λ l. made (arc_value c.self.inside.base) l) list ∙ c.self.view_is;

@@ -11,13 +11,13 @@ returns c =
     subst (λ (t : Trials). HasKept t c.self.inside.accepted (arc_value c.self.inside.state))
     c.self.view_is c.self.invariant.last in
     let done = ap (λ (t : Trials). t.done) c.self.view_is in
-    let mine : IsVersionOf c.args.self.now.base c.args.self.now.list c.new.result =
+    let mine : IsVersionOf c.args.self.now c.new.result =
     rw (c.new.ensures, c.in_ok-state.ensures, done) here in
     rw c.in_ok-push.ensures.items
-    (All-push (IsVersionOf c.args.self.now.base c.args.self.now.list) c.in_ok-kept.kept.items
+    (All-push (IsVersionOf c.args.self.now) c.in_ok-kept.kept.items
     c.new.result
     (rw c.in_ok-kept.ensures
     (All-filter (is_kept_at (c.self.inside.accepted + 1))
-    (IsVersionOf c.args.self.now.base c.args.self.now.list) c.earlier.result.now
+    (IsVersionOf c.args.self.now) c.earlier.result.now
     c.earlier.ensures))
     mine)

@@ -6,4 +6,4 @@ pub sharing-requires-clause-earlier : goal.sharing-requires-clause-earlier
 sharing-requires-clause-earlier c =
     rw c.in_ok-earlier.ensures
     (All-filter (is_kept_at c.kept.inside.number)
-    (IsVersionOf c.args.self.now.base c.args.self.now.list) c.earlier.result.now c.earlier.ensures)
+    (IsVersionOf c.args.self.now) c.earlier.result.now c.earlier.ensures)

@@ -1,0 +1,13 @@
+-- The values worked out by hand are those of the definitions.
+use Rattle.std.proofs.Common.{refl}
+use Rattle.app_job_file.specs.Examples.{Examples}
+
+pub examples : Examples
+examples = record {
+  sent = refl;
+  sent_late = refl;
+  beside_late = refl;
+  before_late = refl;
+  no_third = refl;
+  no_number = refl;
+}

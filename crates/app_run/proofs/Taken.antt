@@ -1,0 +1,64 @@
+-- What a taker has taken once both senders have ended.
+use Rattle.std.proofs.Common.{◌≡◌, ◌∙◌, ℕ, ◌+◌, ◌<◌, List, [], ◌∷◌, ◌++◌, length, map, ap, arith, refl, sym}
+use Rattle.std.specs.List.{zip}
+use Rattle.std.proofs.lemmas.List.{length-append, length-map}
+use Rattle.base_schema.specs.State.{State}
+use Rattle.store_gateway.specs.Feeds.{numbered, sent_from, sender_number}
+use Rattle.store_gateway.specs.Roles.{Sending, Taking, sent_by}
+use Rattle.store_gateway.specs.declared.message.SenderId.{SenderId}
+use Rattle.store_gateway.specs.declared.message.SenderId.TheVariants.{First, Second}
+use Rattle.store_gateway.proofs.Numbers.{sent_from-numbered}
+use Rattle.store_snapshots.specs.Turns.{from_nobody}
+use Rattle.store_state.specs.Refresh.{Change}
+use Rattle.app_sessions.specs.Jobs.{IsOrderText, JobAnswer, JobSession}
+use Rattle.app_run.specs.Senders.{IsSentText, order_sent}
+
+-- what both senders sent is all that was sent
+both_counted : (sent : List (SenderId × Change)) → length sent ≡ length (sent_by First sent) + length (sent_by Second sent)
+both_counted [] = refl
+both_counted ((First, change) ∷ sent) = let so = both_counted sent in omega (arith, so)
+both_counted ((Second, change) ∷ sent) = let so = both_counted sent in omega (arith, so)
+
+-- what senders are given is all that is sent
+
+zip_counted : (senders : List SenderId) (sent : List Change) → length sent ≡ length senders → length (zip senders sent) ≡ length senders
+zip_counted [] sent same = refl
+zip_counted (s ∷ ss) [] same = absurd (omega (arith, same))
+zip_counted (s ∷ ss) (c ∷ cs) same = let so = zip_counted ss cs (omega (arith, same)) in omega (arith, so)
+
+pub given_counted : (senders : List SenderId) (sent firsts seconds : List Change) → length sent ≡ length senders → firsts ≡ sent_by First (zip senders sent) → seconds ≡ sent_by Second (zip senders sent)
+    → length firsts + length seconds ≡ length senders
+given_counted senders sent firsts seconds same first second =
+    let a : length firsts ≡ length (sent_by First (zip senders sent)) = ap length first in
+    let b : length seconds ≡ length (sent_by Second (zip senders sent)) = ap length second in
+    let c = both_counted (zip senders sent) in
+    let d = zip_counted senders sent same in
+    omega (arith, a, b, c, d)
+
+-- of each sender that is what it sent
+of_sender : (id : SenderId) (taken : List (SenderId × Change)) (sent : List Change) → sent_from (sender_number id) (numbered taken) ≡ sent → sent_by id taken ≡ sent
+of_sender id taken sent is = sym (sent_from-numbered id taken) ∙ is
+
+order_counted : (list : List Change) (sent : List (SenderId × Change)) → length (order_sent list sent) ≡ length list + length sent
+order_counted list sent =
+    let a = length-append (from_nobody list) (numbered sent) in
+    let b : length (from_nobody list) ≡ length list = length-map list _ in
+    let c : length (numbered sent) ≡ length sent = length-map sent _ in
+    omega (arith, a, b, c)
+
+-- so it is not too little
+pub never_few : (list firsts seconds : List Change) (taken : List (SenderId × Change)) (most : ℕ) → sent_from 1 (numbered taken) ≡ firsts → sent_from 2 (numbered taken) ≡ seconds
+    → length list + (length firsts + length seconds) ≡ most → length (order_sent list taken) < most → ⊥
+never_few list firsts seconds taken most first second all few =
+    let a : length (sent_by First taken) ≡ length firsts = ap length (of_sender First taken firsts first) in
+    let b : length (sent_by Second taken) ≡ length seconds = ap length (of_sender Second taken seconds second) in
+    let c = both_counted taken in
+    let d = order_counted list taken in
+    absurd (omega (arith, a, b, c, d, all, few))
+
+-- and a text in the order in which it was taken is one in an order that keeps each sender's own
+pub text_sent : (base : State) (list firsts seconds : List Change) (taken : List (SenderId × Change)) (sessions : List JobSession) (job : JobAnswer)
+    → sent_from 1 (numbered taken) ≡ firsts → sent_from 2 (numbered taken) ≡ seconds → IsOrderText base (order_sent list taken) 0 (length list) sessions job
+    → IsSentText base list firsts seconds sessions job
+text_sent base list firsts seconds taken sessions job first second text =
+    record { sent = taken; first = of_sender First taken firsts first; second = of_sender Second taken seconds second; text = text }

@@ -1,0 +1,70 @@
+//! What a job works on, and reading it.
+ghost use Rattle.std.specs.Prelude.{◌≡◌, IfOk, length};
+ghost use Rattle.app_inputs.specs.FilesAfter.{FilesAfterInput};
+ghost use Rattle.app_inputs.specs.Views.{Finds, Reads};
+ghost use Rattle.app_run.specs.JobInputs.{AreJobInputs, job_base};
+ghost use Rattle.app_run.specs.JobViews.{IsPlayable, base_view, work_view};
+
+use crate::job_input::read_sessions;
+use app_inputs::{InputError, read_job_file, read_refreshes, read_state};
+use app_job_file::Mention;
+use app_sessions::Session;
+use base_io::Files;
+use std::alloc::{AllocError, Global};
+use store_gateway::SenderId;
+use store_state::{Refresh, State};
+
+/// What a job works on.
+#[derive(Drop)]
+pub struct JobSources {
+    /// Its sessions, at their beginning.
+    pub sessions: Vec<Session>,
+    /// The tables.
+    pub base: State,
+    /// Its refreshes, in the order of its lines.
+    pub list: Vec<Refresh>,
+    /// How many of them are tried before the sessions.
+    pub before: usize,
+    /// Who sends each of the others, or nobody where they are tried in their order.
+    pub senders: Vec<SenderId>,
+}
+
+/// The tables of the folder, and these refreshes.
+fn read_base<F: Files>(
+    alloc: Global,
+    files: &mut F,
+    folder: &str,
+    refreshes: &[Mention],
+) -> Result<(State, Vec<Refresh>), InputError>
+    ensures input { Reads base_view (F.held files.old) (job_base folder.now refreshes.now) result }
+    ensures length { IfOk result (λ r. length r.1.items ≡ length refreshes.now) }
+    ensures files { FilesAfterInput F.held F.faults F.misses result files.old files.new }
+{
+    let base = read_state(alloc, files, folder)?;
+    let list = read_refreshes(alloc, files, folder, refreshes)?;
+    Ok((base, list))
+}
+
+/// What the job of that file works on, over the tables of the folder.
+pub fn read_inputs<F: Files>(
+    alloc: Global,
+    files: &mut F,
+    folder: &str,
+    job: &str,
+    shows_rows: bool,
+) -> Result<JobSources, InputError>
+    ensures input { Finds work_view (F.held files.old) (AreJobInputs folder.now job.now) result }
+    ensures playable { IfOk result (IsPlayable shows_rows) }
+    ensures files { FilesAfterInput F.held F.faults F.misses result files.old files.new }
+{
+    let job = read_job_file(alloc, files, job)?;
+    let sessions = read_sessions(alloc, files, job.scripts.as_slice(), shows_rows)?;
+    let (base, list) = read_base(alloc, files, folder, job.refreshes.as_slice())?;
+    Ok(JobSources {
+        sessions,
+        base,
+        list,
+        before: job.before,
+        senders: job.senders,
+    })
+}

@@ -1,0 +1,130 @@
+//! The threads of a job: what is done before they start, and their run.
+ghost use Rattle.std.specs.Prelude.{◌≡◌, ◌+◌, ◌<◌, ◌≤◌, ◌++◌, IfOk, OnOk, length, vec_len};
+ghost use denote.Param.Send.{IsSync};
+ghost use Rattle.store_state.specs.Versions.{accepted};
+ghost use Rattle.store_snapshots.specs.Ruled.{list_fits, opening_of};
+ghost use Rattle.store_snapshots.specs.Turns.{ListFits, list_tried};
+ghost use Rattle.store_versions.specs.Trials.{Trials};
+ghost use Rattle.app_sessions.specs.Asked.{AllUnasked};
+ghost use Rattle.app_sessions.specs.Gathered.{ArePrepared};
+ghost use Rattle.app_sessions.specs.Orders.{RefreshOrder, later_by};
+ghost use Rattle.app_sessions.specs.Reports.{HasTried, IsTold};
+ghost use Rattle.app_sessions.specs.Workers.{AllHaveRun, AllReady, AreOfOpening};
+
+use crate::publishing::{publish_first, publish_rest};
+use crate::report::Report;
+use crate::session::Session;
+use crate::worker::{Worker, run_workers};
+use crate::workers::{assign_sessions, make_workers};
+use base_io::Gate;
+use std::alloc::{AllocError, Global};
+use std::sync::Wait;
+use std::thread::{Threads, join_mut};
+use store_snapshots::{Entry, Feed, ListFeed, Publisher, Reader, RuledEntry};
+
+/// A job on its way.
+#[derive(Drop)]
+pub struct JobRun {
+    /// What runs its sessions.
+    pub workers: Vec<Worker<RuledEntry>>,
+    /// How many sessions it has.
+    pub count: usize,
+    /// What is told of its refreshes so far.
+    pub report: Report,
+    /// How many refreshes the publisher's list had when it began.
+    pub listed: usize,
+}
+
+/// What is done before the fork: the first refreshes are tried by turns of the list's feed, the
+/// readers are told of them, and the sessions are assigned to them.
+pub fn prepare<R: Wait>(
+    rt: &R,
+    alloc: Global,
+    before: usize,
+    sessions: Vec<Session>,
+    readers: Vec<Reader<RuledEntry>>,
+    publisher: &mut Publisher,
+) -> Result<(JobRun, ListFeed), AllocError>
+    requires unasked { AllUnasked sessions.items }
+    requires readers { 0 < vec_len readers }
+    requires opened { AreOfOpening opening_of publisher.old.version readers.items }
+    requires shown { publisher.old.shown ≡ publisher.old.version }
+    requires before { publisher.old.version.done + before ≤ length publisher.old.version.list }
+    ensures workers { IfOk result (λ r. ArePrepared opening_of list_fits publisher.old.version
+        (accepted publisher.old.version.base publisher.old.version.list
+        (publisher.old.version.done + before)) sessions.items r.0.workers.items) }
+    ensures sizes { IfOk result (λ r. (r.0.count ≡ length sessions.items)
+        × (r.0.listed ≡ length publisher.old.version.list)) }
+    ensures version { OnOk result (publisher.new.version
+        ≡ later_by before publisher.old.version) }
+    ensures fits { IfOk result (λ r. ListFits r.1.start r.1.count publisher.new.version) }
+    ensures tried { IfOk result (λ r. HasTried publisher.old.version publisher.new
+        (list_tried r.1.start r.1.count)) }
+    ensures told { IfOk result (λ r. IsTold publisher.old.version
+        (list_tried r.1.start r.1.count) r.0.report) }
+{
+    let count = sessions.len();
+    let listed = publisher.listed();
+    let mut report = Report::new(alloc);
+    let mut feed = ListFeed::new(publisher)?;
+    publish_first(rt, before, publisher, &mut report, &mut feed)?;
+    let mut workers = make_workers(alloc, readers, publisher)?;
+    assign_sessions(sessions, workers.as_mut_slice())?;
+    let run = JobRun {
+        workers,
+        count,
+        report,
+        listed,
+    };
+    Ok((run, feed))
+}
+
+/// Runs all workers, each in a thread of its own, and beside them the publisher, and waits for all
+/// of them.
+pub fn fork<E: Entry + Drop + Send, F: Feed + Send, G: Gate + Sync, R: Threads + Wait + Sync>(
+    rt: &R,
+    gate: &G,
+    publisher: &mut Publisher,
+    report: &mut Report,
+    feed: &mut F,
+    workers: &mut [Worker<E>],
+) -> Result<(), AllocError>
+    requires ready { AllReady E.opening E.fits workers.old }
+    requires fits { F.fits feed.old publisher.old.version }
+    requires room { report.old.count ≤ publisher.old.version.done }
+    ensures workers { AllHaveRun E.opening E.fits workers.old workers.new }
+    ensures fits { OnOk result (F.fits feed.new publisher.new.version) }
+    ensures over { OnOk result (F.is_over feed.new publisher.new.version) }
+    ensures done { OnOk result (publisher.new.version.done ≡ length publisher.new.version.list) }
+    ensures tried { OnOk result ((start : Trials) (first : RefreshOrder)
+        → HasTried start publisher.old (first ++ F.tried feed.old)
+        → HasTried start publisher.new (first ++ F.tried feed.new)) }
+    ensures told { OnOk result ((start : Trials) (first : RefreshOrder)
+        → HasTried start publisher.old (first ++ F.tried feed.old)
+        → IsTold start (first ++ F.tried feed.old) report.old
+        → IsTold start (first ++ F.tried feed.new) report.new) }
+    ensures source { F.source feed.new ≡ F.source feed.old }
+{
+    let mut front = ||
+        requires { IsSync R.row × IsSync G.row × AllReady E.opening E.fits workers.now }
+        ensures { AllHaveRun E.opening E.fits workers.entry.now workers.exit.now }
+    { run_workers(rt, gate, workers) };
+    let mut back = || -> Result<(), AllocError>
+        requires { F.fits feed.now publisher.now.version
+            × (report.now.count ≤ publisher.now.version.done) }
+        ensures fits { OnOk result (F.fits feed.exit.now publisher.exit.now.version) }
+        ensures over { OnOk result (F.is_over feed.exit.now publisher.exit.now.version) }
+        ensures done { OnOk result (publisher.exit.now.version.done
+            ≡ length publisher.exit.now.version.list) }
+        ensures tried { OnOk result ((start : Trials) (first : RefreshOrder)
+            → HasTried start publisher.entry.now (first ++ F.tried feed.entry.now)
+            → HasTried start publisher.exit.now (first ++ F.tried feed.exit.now)) }
+        ensures told { OnOk result ((start : Trials) (first : RefreshOrder)
+            → HasTried start publisher.entry.now (first ++ F.tried feed.entry.now)
+            → IsTold start (first ++ F.tried feed.entry.now) report.entry.now
+            → IsTold start (first ++ F.tried feed.exit.now) report.exit.now) }
+        ensures source { F.source feed.exit.now ≡ F.source feed.entry.now }
+    { publish_rest(rt, gate, publisher, report, feed) };
+    let (_, outcome) = join_mut(rt, &mut front, &mut back);
+    outcome
+}

@@ -1,0 +1,53 @@
+//! What hands a publisher its refreshes.
+ghost use Rattle.std.specs.Prelude.{◌≡◌, ℕ, List, Option, IfOk, OnErr, OnOk};
+ghost use Rattle.store_state.specs.Refresh.{Change};
+ghost use Rattle.store_versions.specs.Trials.{Trials};
+ghost use Rattle.store_snapshots.specs.Turns.{TakesTurn};
+
+use crate::note::Note;
+use crate::publisher::Publisher;
+use base_refusals::Cause;
+use std::alloc::AllocError;
+use std::sync::Wait;
+
+/// What comes of a turn of a feed. A refresh is told of with the number of its sender, if it has
+/// one.
+#[derive(Drop)]
+pub enum FeedTurn {
+    /// A refresh was accepted, and readers are shown the version after it. The note tells of it.
+    Published(Option<u64>, Note),
+    /// A refresh was refused.
+    Refused(Option<u64>, Cause),
+    /// Nothing: no refresh was there at a moment of the turn, and another may come.
+    Idle,
+    /// Nothing: no refresh comes any more.
+    Ended,
+}
+
+/// A source of refreshes for a publisher.
+pub trait Feed {
+    /// The refreshes that it tried, in this order, each with the number of its sender, if it has
+    /// one.
+    ghost tried: { Self → List (Option ℕ × Change) };
+
+    /// What names its source. No turn changes it.
+    ghost source: { Self → List ℕ };
+
+    /// A publisher of this version fits it.
+    ghost fits: { Self → Trials → Type 0 };
+
+    /// Its source stands at its end, beside a publisher of this version.
+    ghost is_over: { Self → Trials → Type 0 };
+
+    /// Has the publisher try one refresh, if there is one. It doesn't wait for one to come: whoever
+    /// calls it again after `Idle` yields before. After an error no turn is to be asked for: a
+    /// refresh of the source may be lost.
+    fn turn<R: Wait>(&mut self, rt: &R, publisher: &mut Publisher) -> Result<FeedTurn, AllocError>
+        requires { fits self.old publisher.old.version }
+        ensures turn { IfOk result (TakesTurn (tried self.old) (tried self.new) (is_over self.new)
+            publisher.old publisher.new) }
+        ensures fits { OnOk result (fits self.new publisher.new.version) }
+        ensures source { source self.new ≡ source self.old }
+        ensures refused { publisher.new.refused ≡ publisher.old.refused }
+        ensures err { OnErr result (publisher.new ≡ publisher.old) };
+}

@@ -1,0 +1,53 @@
+//! A publisher's list as a feed.
+ghost use Rattle.std.specs.Prelude.{◌≡◌, [], IfOk};
+ghost use Rattle.store_snapshots.specs.Turns.{IsAllTried, ListFits, list_tried};
+
+use crate::feed::{Feed, FeedTurn};
+use crate::publisher::{Published, Publisher};
+use crate::snapshot::Snapshot;
+use std::alloc::AllocError;
+use std::sync::Wait;
+
+/// The refreshes that a publisher's list has left, none of which has a sender. It keeps the version
+/// at which it began, so begin it at the opening's version, which each later one keeps too.
+#[derive(Drop)]
+pub struct ListFeed {
+    start: Snapshot,
+    count: usize,
+}
+
+impl ListFeed {
+    /// Those that this publisher has left.
+    pub fn new(publisher: &Publisher) -> Result<ListFeed, AllocError>
+        ensures { IfOk result (λ feed. (feed.start ≡ publisher.now.version) × (feed.count ≡ 0)) }
+    {
+        let start = publisher.snapshot()?;
+        Ok(ListFeed { start, count: 0 })
+    }
+}
+
+impl Feed for ListFeed {
+    ghost tried = { λ f. list_tried f.start f.count };
+
+    ghost source = { λ f. [] };
+
+    ghost fits = { λ f. ListFits f.start f.count };
+
+    ghost is_over = { λ f. IsAllTried };
+
+    fn turn<R: Wait>(&mut self, rt: &R, publisher: &mut Publisher) -> Result<FeedTurn, AllocError> {
+        let _listed = publisher.listed();
+        match publisher.publish_next(rt) {
+            Published::Published(note) => {
+                self.count += 1;
+                Ok(FeedTurn::Published(None, note))
+            }
+            Published::Refused(cause) => {
+                self.count += 1;
+                Ok(FeedTurn::Refused(None, cause))
+            }
+            Published::NoMore => Ok(FeedTurn::Ended),
+            Published::OutOfMemory => Err(AllocError),
+        }
+    }
+}
