@@ -1,15 +1,14 @@
 -- Joins whose right side is taken anew under each left row: what stands in the right side, above the
 -- join.
-use Rattle.std.proofs.Common.{◌≡◌, ℕ, ◌≤◌, List, [], ◌∷◌, ◌++◌, Bool, true, false, refl, sym, ◌∙◌, ap, subst, arith, inl, inr}
+use Rattle.std.proofs.Common.{◌≡◌, ℕ, ◌≤◌, List, [], ◌∷◌, ◌++◌, Bool, true, refl, sym, ◌∙◌, ap, subst, arith, inl, inr}
 use Rattle.std.specs.Prelude.{map, min, nat_lt, not}
 use Rattle.std.specs.List.{filter, flat_map}
 use Rattle.std.proofs.lemmas.Bool.{cases_Bool, lt-ltb}
 use Rattle.std.proofs.lemmas.Grind.{flat_map-append}
-use Rattle.std.proofs.lemmas.List.{map-append, append-nil, append_assoc}
+use Rattle.std.proofs.lemmas.List.{map-append, append-nil}
 use Rattle.base_row_laws.specs.Ranked.{Ranked, ranked, unknown_rank, true_rank}
 use Rattle.base_row_laws.specs.Bags.{SameBag, IsIdentity, Each, each_once}
 use Rattle.base_row_laws.specs.Rows.{keep, same_row}
-use Rattle.base_row_laws.specs.MoveLaws.{OfRight}
 use Rattle.base_row_laws.specs.Operators.{select, project, pair, or_else, join_loop, outer_loop, group_by, total, least}
 use Rattle.base_row_laws.specs.StandingLaws.{Stands}
 use Rattle.base_row_laws.proofs.Bags.{SameBag-refl, SameBag-append}

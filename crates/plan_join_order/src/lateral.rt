@@ -217,11 +217,7 @@ fn total_joined(
 }
 
 // The rows that a condition keeps.
-fn kept(
-    alloc: Global,
-    rows: Boxed<DepTree>,
-    on: &Expr,
-) -> Result<Boxed<DepTree>, AllocError>
+fn kept(alloc: Global, rows: Boxed<DepTree>, on: &Expr) -> Result<Boxed<DepTree>, AllocError>
     ensures { IfOk result (IsKept on.now rows) }
 {
     if is_always(on) {

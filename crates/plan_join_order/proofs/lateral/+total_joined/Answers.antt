@@ -1,4 +1,4 @@
-use Rattle.std.proofs.Common.{refl, ◌∙◌, ap, rules}
+use Rattle.std.proofs.Common.{rules}
 use Rattle.plan_join_order.proofs.Laterals.{project_made, select_made}
 use Rattle.plan_join_order.proofs.lateral.+total_joined.Goals as goal
 

@@ -1,5 +1,4 @@
-use Rattle.std.proofs.Common.{refl, ◌∙◌, ap}
-use Rattle.plan_algebra.specs.declared.tree.DepTree.TheVariants as t
+use Rattle.std.proofs.Common.{refl}
 use Rattle.plan_join_order.proofs.Laterals.{kept_all, kept_some}
 use Rattle.plan_join_order.proofs.lateral.kept.Goals as goal
 
