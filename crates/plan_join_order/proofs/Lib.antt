@@ -6,3 +6,5 @@ pub mod OfOrs
 pub mod Narrowing
 pub mod Regrouping
 pub mod Totals
+pub mod LateralRows
+pub mod Laterals

@@ -1,3 +1,4 @@
 pub mod Groups
 pub mod Narrow
 pub mod Implied
+pub mod Laterals

@@ -5,6 +5,7 @@ mod collect;
 mod estimate;
 mod group;
 mod implied;
+mod lateral;
 mod narrow;
 mod order;
 mod regroup;
