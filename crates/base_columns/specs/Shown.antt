@@ -16,7 +16,7 @@ shown (Texts texts) = map Text texts
 shown (Coded codes) = map Text codes
 shown (Values values) = values.items
 
--- the values of a form that a column has to itself or shares
+-- the values that a column has to itself or shares
 abbrev pub kept_values : Kept → List Value
-kept_values (Own form) = shown form
-kept_values (Shared form) = shown (arc_value form)
+kept_values (Own values) = values
+kept_values (Shared values) = arc_value values

@@ -1,12 +1,13 @@
 -- Lemmas on the words that marks are kept in.
-use Rattle.std.proofs.Common.{◌≡◌, ℕ, ◌-◌, ◌*◌, ◌/◌, ◌%◌, ◌^◌, ◌<◌, ◌≤◌, suc, zero, Bool, true, false, cond, List, [], ◌∷◌, ◌++◌, refl, sym, ap, ◌∙◌, arith, length, get_or, set, ⊎_elim}
-use Rattle.std.specs.Prelude.{nat_eq, bit_and, bit_or, max, ◌||◌}
+use Rattle.std.proofs.Common.{◌≡◌, ℕ, ◌-◌, ◌*◌, ◌/◌, ◌%◌, ◌^◌, ◌<◌, ◌≤◌, suc, zero, Bool, true, false, cond, List, [], ◌∷◌, ◌++◌, refl, sym, ap, ◌∙◌, arith, length, get_or, set, take, replicate, ⊎_elim}
+use Rattle.std.specs.Prelude.{nat_eq, nat_le, nat_lt, bit_and, bit_or, max, ◌||◌, ◌&&◌}
 use Rattle.std.specs.Int.{bit_at, w64}
-use Rattle.std.proofs.lemmas.Bool.{cases_lt, cases_eq, eq-eqb, ne_eqb}
-use Rattle.std.proofs.lemmas.List.{get_or_past, get_or-set_same, get_or-set_other, get_or_append_left, get_or_at, length_push}
+use Rattle.std.proofs.lemmas.Bool.{cases_lt, cases_eq, eq-eqb, ne_eqb, lt-ltb, le-ltb, lt-leb}
+use Rattle.std.proofs.lemmas.List.{get_or_past, get_or-set_same, get_or-set_other, get_or_append_left, get_or_at, get_or-replicate, get_or-take, length_push}
 use Rattle.std.proofs.lemmas.List.FromFn.{get_or-map-range_with_len, length-map-range_with_len}
-use Rattle.std.proofs.lemmas.Nat.Bits.{bit_at-zero, bit_at_set_same, bit_at_set_other, bit_at_clear_same, bit_at_clear_other, shr_and_one, bit_at_or, bit_at-lt}
-use Rattle.base_null_marks.specs.Marks.{has, is_marked, marks_of, AreEither}
+use Rattle.std.proofs.lemmas.Nat.Bits.{bit_at-zero, bit_at_set_same, bit_at_set_other, bit_at_clear_same, bit_at_clear_other, shr_and_one, bit_at_or, bit_at-lt, bit_at_ones}
+use Rattle.std.specs.List.{All}
+use Rattle.base_null_marks.specs.Marks.{has, is_marked, marks_of, AreEither, AreFirst, AreMarksAt}
 
 -- no bit past the words
 past : (words : List ℕ) (i : ℕ) → length words ≤ i / 64 → is_marked words i ≡ false
@@ -105,6 +106,33 @@ either_full us vs ws n e l m h k = ⊎_elim (λ (f : k < n). h k f)
 pub either_marks : (us vs ws : List ℕ) → ((i : ℕ) → is_marked ws i ≡ (is_marked us i || is_marked vs i)) → AreEither (marks_of us) (marks_of vs) (marks_of ws)
 either_marks us vs ws h i = rw (has-words ws i, has-words us i, has-words vs i) (h i)
 
-pub ruleset marks = (has-words, no_words, none_past, empty_words, either_marks)
+pub all_ones : (n i : ℕ) → i < n * 64 → is_marked (replicate n (2 ^ 64 - 1)) i ≡ true
+unfolding is_marked
+all_ones n i h =
+    let e : get_or (replicate n (2 ^ 64 - 1)) (i / 64) 0 ≡ 2 ^ 64 - 1 = get_or-replicate n (i / 64) (2 ^ 64 - 1) 0 (omega (arith, h)) in
+    rw e (ap (λ b. nat_eq b 1) (bit_at_ones 64 (i % 64) (omega arith)))
+
+pub are_ones : (words : List ℕ) (n : ℕ) → words ≡ replicate n (2 ^ 64 - 1) → (i : ℕ) → i < n * 64 → is_marked words i ≡ true
+are_ones words n e i h = ap (λ ws. is_marked ws i) e ∙ all_ones n i h
+
+pub cut_words : (words new : List ℕ) (n k : ℕ) → new ≡ take k words → n ≤ k * 64 → (i : ℕ) → i < n → is_marked new i ≡ is_marked words i
+unfolding is_marked
+cut_words words new n k e h i l =
+    ap (λ ws. is_marked ws i) e ∙ ap (λ w. nat_eq (bit_at w (i % 64)) 1) (get_or-take k words (i / 64) 0 (omega (arith, h, l)))
+
+pub no_places : (n : ℕ) (ms : List Bool) (places : List ℕ) → All (λ i. i < n) places → AreMarksAt n [] places []
+no_places n ms places h k l = rw (lt-leb n (get_or places k 0) (h k 0 l)) refl
+
+pub marks_first : (n : ℕ) (ms ns : List Bool) → ((i : ℕ) → i < n → has ns i ≡ has ms i) → ((i : ℕ) → (i < n → ⊥) → has ns i ≡ false) → AreFirst n ms ns
+marks_first n ms ns h l i = ⊎_elim
+    (λ (f : i < n). h i f ∙ ap (λ b. b && has ms i) (sym (lt-ltb i n f)))
+    (λ (f : n ≤ i). l i (λ g. omega (arith, f, g)) ∙ ap (λ b. b && has ms i) (sym (le-ltb i n f)))
+    (cases_lt i n)
+
+pub ruleset full = (are_ones)
+
+pub ruleset cuts = (cut_words)
+
+pub ruleset marks = (has-words, no_words, none_past, empty_words, either_marks, marks_first)
 
 pub ruleset bits = (shr_and_one)

@@ -1,8 +1,11 @@
 //! Marks of places.
-ghost use Rattle.std.specs.Prelude.{◌≡◌, ◌<◌, ◌≤◌, ◌+◌, ℕ, Bool, true, false, [], IfOk, OnOk, OnErr, IsTrue, ◌/◌, cond, nat_eq, ◌||◌, ◌^◌};
-ghost use Rattle.std.specs.Prelude.{length, slice_index_or};
-ghost use Rattle.base_null_marks.specs.Marks.{has, in_word, is_marked, marked, marks_of, SameMarks, IsMarkSet, AreEither};
-ghost use Rattle.base_null_marks.specs.Marks.{AreMarksAt, AreAppended};
+ghost use Rattle.std.specs.Prelude.{◌≡◌, ◌<◌, ◌≤◌, ◌+◌, ◌*◌, ◌/◌, ◌^◌, ◌||◌, ℕ, Bool, true, false};
+ghost use Rattle.std.specs.Prelude.{[], IfOk, OnOk, OnErr, IsTrue, cond, nat_eq, length};
+ghost use Rattle.std.specs.Prelude.{slice_index_or};
+ghost use Rattle.std.specs.List.{All};
+ghost use Rattle.base_null_marks.specs.Marks.{has, in_word, is_marked, marked, marks_of, SameMarks};
+ghost use Rattle.base_null_marks.specs.Marks.{IsMarkSet, AreEither, AreMarksAt, AreAppended};
+ghost use Rattle.base_null_marks.specs.Marks.{AreFirst};
 
 use std::alloc::{AllocError, Global};
 use std::marker::Model;
@@ -31,6 +34,38 @@ impl Marks {
         Marks {
             words: Vec::new(alloc),
         }
+    }
+
+    /// Marks of each of the first n places, and maybe of some after them.
+    pub fn all(alloc: Global, n: usize) -> Result<Marks, AllocError>
+        ensures { IfOk result (λ m. (i : ℕ) → i < n → has m i ≡ true) }
+    {
+        let words = ones(alloc, n / 64 + 1)?;
+        Ok(Marks { words })
+    }
+
+    /// The marks of the first n places alone. None are kept where none of these is marked.
+    pub fn first(&self, alloc: Global, n: usize) -> Result<Marks, AllocError>
+        ensures { IfOk result (λ m. AreFirst n self.now m) }
+    {
+        let mut marks = Marks::none(alloc);
+        if self.are_none() {
+            return Ok(marks);
+        }
+        for i in 0..n {
+            if self.has(i) {
+                marks.set(i)?;
+            }
+        }
+        Ok(marks)
+    }
+
+    /// Forgets marks past the first n places, all of them where n is 0.
+    pub fn truncate(&mut self, n: usize)
+        ensures kept { (i : ℕ) → i < n → has self.new i ≡ has self.old i }
+        ensures none { n ≡ 0 → self.new ≡ [] }
+    {
+        cut(&mut self.words, n);
     }
 
     /// Whether no mark is kept at all.
@@ -75,6 +110,23 @@ impl Marks {
         Ok(marks)
     }
 
+    /// Of each of these places, which are all below n, whether it is marked. Nothing is done where
+    /// no marks are kept.
+    pub fn at_places_below(
+        &self,
+        alloc: Global,
+        n: usize,
+        places: &[u32],
+    ) -> Result<Marks, AllocError>
+        requires { All (λ i. i < n) places.now }
+        ensures { IfOk result (λ m. AreMarksAt n self.now places.now m) }
+    {
+        if self.are_none() {
+            return Ok(Marks::none(alloc));
+        }
+        self.at_places(alloc, n, places)
+    }
+
     /// The marks of m places after those of n. Marks that lay past the n places don't count.
     pub fn append(&mut self, n: usize, other: &Marks, m: usize) -> Result<(), AllocError>
         requires { n + m < 2 ^ 64 }
@@ -111,6 +163,28 @@ impl Marks {
     }
 }
 
+// Words of ones alone.
+#[tactic(auto, using(crate::proofs::Words::full))]
+fn ones(alloc: Global, n: usize) -> Result<Vec<u64>, AllocError>
+    ensures { IfOk result (λ v. (i : ℕ) → i < n * 64 → is_marked v.items i ≡ true) }
+{
+    let words = Vec::from_elem(alloc, u64::MAX, n)?;
+    Ok(words)
+}
+
+// No words past those of the first n places.
+#[tactic(auto, using(crate::proofs::Words::cuts))]
+fn cut(words: &mut Vec<u64>, n: usize)
+    ensures kept { (i : ℕ) → i < n → is_marked words.new.items i ≡ is_marked words.old.items i }
+    ensures none { n ≡ 0 → words.new.items ≡ [] }
+{
+    if n == 0 {
+        words.truncate(0);
+    } else {
+        words.truncate((n - 1) / 64 + 1);
+    }
+}
+
 // A word, of zeros past the end.
 fn word(words: &[u64], k: usize) -> u64
     ensures { result ≡ slice_index_or words.now k 0 }
@@ -134,7 +208,8 @@ fn larger(a: usize, b: usize) -> usize
 
 // The ones of either's words.
 fn either_words(alloc: Global, a: &[u64], b: &[u64]) -> Result<Vec<u64>, AllocError>
-    ensures { IfOk result (λ v. (i : ℕ) → is_marked v.items i ≡ (is_marked a.now i || is_marked b.now i)) }
+    ensures { IfOk result
+        (λ v. (i : ℕ) → is_marked v.items i ≡ (is_marked a.now i || is_marked b.now i)) }
 {
     let n = larger(a.len(), b.len());
     let mut words = Vec::with_capacity(alloc, n)?;
@@ -172,7 +247,8 @@ fn grow(words: &mut Vec<u64>, place: usize) -> Result<(), AllocError>
 // A one at a place.
 fn set_bit(words: &mut Vec<u64>, i: usize)
     requires { i / 64 < length words.old.items }
-    ensures { (j : ℕ) → is_marked words.new.items j ≡ cond (nat_eq j i) true (is_marked words.old.items j) }
+    ensures { (j : ℕ)
+        → is_marked words.new.items j ≡ cond (nat_eq j i) true (is_marked words.old.items j) }
 {
     words[i / 64] |= 1 << (i % 64);
 }
@@ -180,7 +256,8 @@ fn set_bit(words: &mut Vec<u64>, i: usize)
 // A zero at a place.
 fn clear_bit(words: &mut Vec<u64>, i: usize)
     requires { i / 64 < length words.old.items }
-    ensures { (j : ℕ) → is_marked words.new.items j ≡ cond (nat_eq j i) false (is_marked words.old.items j) }
+    ensures { (j : ℕ)
+        → is_marked words.new.items j ≡ cond (nat_eq j i) false (is_marked words.old.items j) }
 {
     words[i / 64] &= !(1 << (i % 64));
 }
