@@ -1,7 +1,7 @@
 -- Lemmas on forms with marks.
 use Rattle.std.proofs.Common.{◌≡◌, ℕ, ◌+◌, ◌<◌, ◌≤◌, suc, zero, List, [], ◌∷◌, ◌++◌, sym, ap, ◌∙◌, refl, arith, length, get_or, take, map, replicate, Bool, true, false, cond, Result, Ok, Err, ⊎_elim, None, subst}
 use Rattle.std.specs.Result.{OnErr}
-use Rattle.std.specs.Prelude.{nat_le, ◌||◌, ◌&&◌, if◌then◌else◌}
+use Rattle.std.specs.Prelude.{nat_le, nat_eq, ◌||◌, ◌&&◌, if◌then◌else◌}
 use Rattle.std.specs.List.{All}
 use Rattle.std.proofs.lemmas.Bool.{cases_lt, ne_eqb, le-leb, lt-leb, lt-ltb}
 use Rattle.std.proofs.lemmas.List.{map-append, length-map, length-append, length_push, length-replicate, get_or_past, get_or-map, get_or-replicate, length-take-le, get_or-take}
@@ -181,6 +181,15 @@ all_put false ms ns os xs ys zs n m h k l e = kept_front ms os xs zs n h.before 
 pub on_err : {T E P : Type 0} (r : Result T E) → P → OnErr r P
 on_err (Ok x) p = tt {0}
 on_err (Err e) p = p
+
+pub none_set : (ms ns : List Bool) (n : ℕ) → ms ≡ [] → ns ≡ ms → IsMarkSet ms ns n false
+none_set ms ns n e f i = ap (λ os. has os i) (f ∙ e) ∙ sym (no_mark (nat_eq i n)) ∙ ap (λ os. cond (nat_eq i n) false (has os i)) (sym e)
+  where
+    no_mark : (b : Bool) → cond b false false ≡ false
+    no_mark true = refl
+    no_mark false = refl
+
+pub ruleset marks = (none_set, with_value, kept_past)
 
 pub ruleset columns = (long-marked, null_there, value_there, no_number_there, no_text_there, unmarked_is, of_any_form)
 

@@ -7,7 +7,6 @@ ghost use Rattle.base_value.specs.declared.value.Value.TheVariants.{Text as Text
 ghost use Rattle.base_columns.specs.Forms.{AreOfForm, is_text};
 ghost use Rattle.base_columns.specs.Lists.{gathered, AreBelow};
 ghost use Rattle.base_columns.specs.Numbers.{small_number};
-ghost use Rattle.base_columns.specs.Shown.{shown, kept_values};
 ghost use Rattle.base_null_marks.specs.Marks.{marked};
 
 use crate::column_builder::ColumnForm;
@@ -39,7 +38,7 @@ pub struct Column {
 impl Model for Column {
     ghost use Rattle.std.specs.Prelude.{List};
     ghost use Rattle.base_value.specs.declared.value.Value.{Value as Datum};
-    ghost use Rattle.base_columns.specs.Shown.{kept_values};
+    ghost use Rattle.base_columns.specs.KeptValues.{kept_values};
 
     ghost Value = { List Datum };
 

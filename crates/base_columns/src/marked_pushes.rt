@@ -1,17 +1,43 @@
 //! Values put at the end of marked ones.
 ghost use Rattle.std.specs.Prelude.{◌≡◌, ◌≤◌, ◌++◌, ◌∷◌, [], IfOk, OnOk, OnErr, length, take};
-ghost use Rattle.std.specs.Prelude.{if◌then◌else◌};
+ghost use Rattle.std.specs.Prelude.{if◌then◌else◌, false};
+ghost use Rattle.base_null_marks.specs.Marks.{marked, IsMarkSet};
 ghost use Rattle.base_value.specs.declared.value.Value.TheVariants.{Null};
 ghost use Rattle.base_columns.specs.Fields.{field_value, IsPrintableField};
+ghost use Rattle.base_columns.specs.Shown.{shown};
 
 use crate::field::{Field, field_of, value_of};
-use crate::form::{Form, form_len, truncate};
+use crate::form::{Form, form_len, truncate as cut};
 use crate::marked_form::MarkedForm;
 use crate::padding::put_any;
-use crate::pushes::{append_alike, put, put_spelled};
+use crate::pushes::{extend, put, put_spelled};
 use base_null_marks::Marks;
 use base_value::Value;
 use std::alloc::{AllocError, Global};
+
+// No mark at the place after the values of a form.
+#[tactic(auto, using(crate::proofs::MarkedColumns::marks))]
+fn clear_next(marks: &mut Marks, form: &Form)
+    ensures { IsMarkSet marks.old marks.new (length (shown form.now)) false }
+{
+    if marks.are_none() {
+        return;
+    }
+    marks.clear(form_len(form));
+}
+
+// One value more beside others of whatever kind, some of them marked.
+#[tactic(auto, using(crate::proofs::MarkedColumns::marks))]
+fn push_beside(values: &mut Vec<Value>, marks: &mut Marks, value: Value) -> Result<(), AllocError>
+    ensures ok { OnOk result (marked Null marks.new values.new.items
+        ≡ marked Null marks.old values.old.items ++ value ∷ []) }
+    ensures err { OnErr result (marked Null marks.new values.new.items
+        ≡ marked Null marks.old values.old.items) }
+{
+    marks.clear(values.len());
+    values.push(value)?;
+    Ok(())
+}
 
 // A mark that is set or cleared past the end means nothing: so a push writes the mark of the new
 // place first, and a failure after it leaves the values as they were.
@@ -52,6 +78,9 @@ impl MarkedForm {
         ensures ok { OnOk result (self.new ≡ self.old ++ Null ∷ []) }
         ensures err { OnErr result (self.new ≡ self.old) }
     {
+        if let Form::Values(_) = &self.form {
+            return self.push_any(alloc, Value::Null);
+        }
         if self.put_null(alloc)? {
             return Ok(());
         }
@@ -66,8 +95,7 @@ impl MarkedForm {
             ≡ (if done then self.old ++ field_value field.now ∷ [] else self.old)) }
         ensures err { OnErr result (self.new ≡ self.old) }
     {
-        let n = form_len(&self.form);
-        self.marks.clear(n);
+        clear_next(&mut self.marks, &self.form);
         if put(&mut self.form, alloc, field)? {
             return Ok(true);
         }
@@ -80,9 +108,6 @@ impl MarkedForm {
             (λ done. self.new ≡ (if done then self.old ++ Null ∷ [] else self.old)) }
         ensures err { OnErr result (self.new ≡ self.old) }
     {
-        if let Form::Values(_) = &self.form {
-            return Ok(false);
-        }
         let n = form_len(&self.form);
         self.marks.set(n)?;
         put_any(&mut self.form, alloc)
@@ -93,16 +118,20 @@ impl MarkedForm {
         ensures ok { OnOk result (self.new ≡ self.old ++ value ∷ []) }
         ensures err { OnErr result (self.new ≡ self.old) }
     {
-        let n = form_len(&self.form);
-        self.marks.clear(n);
         if let Form::Values(values) = &mut self.form {
-            values.push(value)?;
-            return Ok(());
+            return push_beside(values, &mut self.marks, value);
         }
+        self.push_wider(alloc, value)
+    }
+
+    // One value more in a form that holds any.
+    fn push_wider(&mut self, alloc: Global, value: Value) -> Result<(), AllocError>
+        ensures ok { OnOk result (self.new ≡ self.old ++ value ∷ []) }
+        ensures err { OnErr result (self.new ≡ self.old) }
+    {
         let mut values = self.widened(alloc)?;
         values.push(value)?;
-        self.form = Form::Values(values);
-        self.marks = Marks::none(alloc);
+        *self = MarkedForm::plain(alloc, Form::Values(values));
         Ok(())
     }
 
@@ -111,8 +140,8 @@ impl MarkedForm {
         requires { n ≤ length self.old }
         ensures { self.new ≡ take n self.old }
     {
-        truncate(&mut self.form, n);
         self.marks.truncate(n);
+        cut(&mut self.form, n);
     }
 
     // All values of another form, if both keep theirs alike.
@@ -122,7 +151,7 @@ impl MarkedForm {
         ensures err { OnErr result (self.new ≡ self.old) }
     {
         if self.marks.are_none() && other.marks.are_none() {
-            return append_alike(&mut self.form, &other.form);
+            return extend(&mut self.form, &other.form);
         }
         let n = form_len(&self.form);
         let m = form_len(&other.form);
@@ -130,7 +159,7 @@ impl MarkedForm {
             return Ok(false);
         }
         self.marks.append(n, &other.marks, m)?;
-        append_alike(&mut self.form, &other.form)
+        extend(&mut self.form, &other.form)
     }
 
     // All values of another form, one by one, as far as memory goes.

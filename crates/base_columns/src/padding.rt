@@ -13,7 +13,7 @@ use base_decimal::Scale;
 use base_value::Value;
 use std::alloc::{AllocError, Global};
 
-/// One value more, whichever it is, if the form has one.
+/// One value more, whichever it is, if the form is a typed one and has room for it.
 pub(crate) fn put_any(form: &mut Form, alloc: Global) -> Result<bool, AllocError>
     ensures ok { IfOk result (λ done. IsPadded done (shown form.old) (shown form.new)) }
     ensures err { OnErr result (shown form.new ≡ shown form.old) }
@@ -23,7 +23,7 @@ pub(crate) fn put_any(form: &mut Form, alloc: Global) -> Result<bool, AllocError
         Form::Dates(dates) => put_any_date(dates),
         Form::Texts(texts) => put_empty(texts),
         Form::Coded(codes) => put_any_code(alloc, codes),
-        Form::Values(values) => put_any_value(values),
+        Form::Values(_) => Ok(false),
     }
 }
 
@@ -80,16 +80,6 @@ fn put_any_code(alloc: Global, codes: &mut Codes) -> Result<bool, AllocError>
         return Ok(true);
     }
     codes.push(alloc, b"")
-}
-
-// A null more.
-#[tactic(auto, using(crate::proofs::MarkedColumns::longer))]
-fn put_any_value(values: &mut Vec<Value>) -> Result<bool, AllocError>
-    ensures ok { IfOk result (λ done. IsPadded done values.old.items values.new.items) }
-    ensures err { OnErr result (values.new.items ≡ values.old.items) }
-{
-    values.push(Value::Null)?;
-    Ok(true)
 }
 
 /// N values, whichever they are, in the form that another has.

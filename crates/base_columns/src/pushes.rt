@@ -60,7 +60,7 @@ pub(crate) fn put_spelled(
 
 /// All values of another form, if both keep theirs alike.
 #[tactic(auto, using(crate::proofs::ColumnLists::lists))]
-pub(crate) fn append_alike(form: &mut Form, other: &Form) -> Result<bool, AllocError>
+pub(crate) fn extend(form: &mut Form, other: &Form) -> Result<bool, AllocError>
     ensures ok { IfOk result
         (λ done. shown form.new
         ≡ (if done then shown form.old ++ shown other.now else shown form.old)) }
