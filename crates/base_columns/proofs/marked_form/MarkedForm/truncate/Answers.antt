@@ -11,6 +11,6 @@ use Rattle.base_columns.proofs.marked_form.MarkedForm.truncate.Goals as goal
 pub returns : goal.returns
 returns c =
     let xs = shown c.self.inside.form in
-    cut_marks c.self.inside.marks c.truncate.new.self xs (shown c.cut.new.form) c.args.n
-    (omega (arith, c.requires, ap length c.self.view_is, long-marked c.self.inside.marks xs)) c.truncate.ensures.kept c.cut.ensures
+    cut_marks c.self.inside.marks c.truncate.new.self xs (shown c.truncate-2.new.form) c.args.n
+    (omega (arith, c.requires, ap length c.self.view_is, long-marked c.self.inside.marks xs)) c.truncate.ensures.kept c.truncate-2.ensures
     ∙ ap (take c.args.n) c.self.view_is
