@@ -1,6 +1,7 @@
 -- The columns of a table, one by one.
-use Rattle.std.proofs.Common.{◌≡◌, ◌≢◌, ℕ, ◌+◌, ◌<◌, ◌≤◌, true, false, List, [], ◌∷◌, ◌++◌, length, map}
-use Rattle.std.proofs.Common.{take, get_or, refl, sym, ◌∙◌, arith}
+use Rattle.std.proofs.Common.{◌≡◌, ◌≢◌, ℕ, suc, ◌+◌, ◌<◌, ◌≤◌, Bool, true, false, ◌&&◌, ◌||◌, List, []}
+use Rattle.std.proofs.Common.{◌∷◌, ◌++◌, length, map, take, get_or, refl, sym, ap, subst, ◌∙◌, arith}
+use Rattle.std.proofs.lemmas.Bool.{and_parts, and_from}
 use Rattle.std.specs.Cmp.Lexicographic.{pointwise, unequal}
 use Rattle.std.specs.List.{range_with_len}
 use Rattle.std.proofs.lemmas.List.FromFn.{length-map-range_with_len, get_or-map-range_with_len}
@@ -12,7 +13,7 @@ use Rattle.base_schema.specs.declared.table.TableName.{TableName}
 use Rattle.base_schema.specs.declared.table.TableName.TheVariants.{Region, Nation, Part, Supplier}
 use Rattle.base_schema.specs.declared.table.TableName.TheVariants.{Partsupp, Customer, Orders}
 use Rattle.base_schema.specs.declared.table.TableName.TheVariants.{Lineitem}
-use Rattle.base_schema.specs.Kinds.{can_hold, can_hold_row}
+use Rattle.base_schema.specs.Kinds.{RowIsOf, is_null, is_of_kind, can_hold, can_hold_row}
 use Rattle.base_schema.specs.Tables.{kinds_of, column_of, columns_of}
 use Rattle.base_schema.proofs.Pairs.{pointwise_more, pointwise_fails, pointwise_all}
 
@@ -78,6 +79,48 @@ pub columns_more : (table : TableName) (columns new : List LineColumn) (place : 
     → new ≡ map (column_of table) (range_with_len 0 (place + 1))
 columns_more table columns new place column so_far is made =
     made ∙ (λ k. so_far k ++ is k ∷ []) ∙ sym (map-range_with_len_more (column_of table) 0 place place (omega arith))
+
+-- rows of a table
+
+-- null, or a value of that kind
+abbrev pub may_hold : ColumnKind → Value → Bool
+may_hold kind v = is_null v || is_of_kind kind v
+
+null_or_kind : (nullable null kind : Bool) → ((nullable && null) || kind) ≡ true → (null || kind) ≡ true
+null_or_kind nullable true kind e = refl
+null_or_kind true false kind e = e
+null_or_kind false false kind e = e
+
+held_by_kinds : (columns : List LineColumn) (row : List Value) → pointwise can_hold columns row ≡ true
+    → pointwise may_hold (map (λ column. column.kind) columns) row ≡ true
+held_by_kinds [] [] e = refl
+held_by_kinds [] (v ∷ row) e = cc
+held_by_kinds (column ∷ columns) [] e = cc
+held_by_kinds (column ∷ columns) (v ∷ row) e =
+    let parts = and_parts (can_hold column v) (pointwise can_hold columns row) e in
+    and_from (may_hold column.kind v) _
+    (null_or_kind column.nullable (is_null v) (is_of_kind column.kind v) parts.0)
+    (held_by_kinds columns row parts.1)
+
+-- each of its values is null or of its column's kind
+pub row_held : (table : TableName) (row : List Value) → RowIsOf table row
+    → pointwise may_hold (kinds_of table) row ≡ true
+row_held table row e =
+    subst (λ kinds. pointwise may_hold kinds row ≡ true) (columns_kinds table)
+    (held_by_kinds (columns_of table) row e)
+
+-- it has one for each column
+long : {A B : Type 0} (test : A → B → Bool) (xs : List A) (ys : List B)
+    → pointwise test xs ys ≡ true → length ys ≡ length xs
+long test [] [] e = refl
+long test [] (y ∷ ys) e = cc
+long test (x ∷ xs) [] e = cc
+long test (x ∷ xs) (y ∷ ys) e =
+    ap suc (long test xs ys (and_parts (test x y) (pointwise test xs ys) e).1)
+
+pub row_long : (table : TableName) (row : List Value) → RowIsOf table row
+    → length row ≡ length (kinds_of table)
+row_long table row e = long can_hold (columns_of table) row e ∙ columns_count table
 
 pub ruleset columns = (columns_more)
 

@@ -17,7 +17,8 @@ use Rattle.base_refusals.specs.declared.line.LineFault.TheVariants.{NumberTooWid
 use Rattle.base_value.specs.declared.value.Value.{Value}
 use Rattle.base_value.specs.declared.value.Value.TheVariants as value
 use Rattle.base_schema.specs.declared.column.ColumnKind.TheVariants.{Key, Whole, Decimal, Date, Text}
-use Rattle.base_schema.specs.LineForm.{LineColumn, LineForm, never_null}
+use Rattle.base_schema.specs.declared.column.LineColumn.{LineColumn}
+use Rattle.base_schema.specs.LineForm.{LineForm, never_null}
 use Rattle.store_file_reader.specs.Field.{kind_field, column_value, date_field}
 use Rattle.store_file_reader.specs.File.{line_row}
 use Rattle.store_file_reader.specs.Line.{is_bar, line_text, row_of, without_end}
