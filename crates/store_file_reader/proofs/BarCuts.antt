@@ -1,5 +1,5 @@
 -- A line that is cut at its bars from the left, and what the cuts say of its bars.
-use Rattle.std.proofs.Common.{◌≡◌, ℕ, suc, ◌+◌, ◌<◌, ◌≤◌, Bool, true, false, cond, ◌&&◌, ◌||◌, ◌==◌, nat_eq, nat_lt, List, [], ◌∷◌, ◌++◌, length, take, drop, position, refl, sym, ◌∙◌, ap, arith, append_assoc, Option, Some, None, is_some, inl, inr, map, Ok}
+use Rattle.std.proofs.Common.{◌≡◌, ℕ, suc, ◌+◌, ◌<◌, ◌≤◌, Bool, true, false, cond, ◌&&◌, ◌||◌, ◌==◌, nat_eq, nat_lt, List, [], ◌∷◌, ◌++◌, length, take, drop, position, refl, sym, ◌∙◌, ap, arith, append_assoc, Option, Some, None, is_some, inl, inr, Ok}
 use Rattle.std.specs.Prelude.{count_by}
 use Rattle.std.specs.List.{ends_with, position_or_len, after_first}
 use Rattle.std.proofs.lemmas.Bool.{and_from, ltb-true, ltb-false, eqb-true, eq-eqb}

@@ -24,7 +24,7 @@ value_of_other column field r other is = chosen column.nullable (spells_null fie
 
 -- numbers and dates don't
 
-not_null : (field : List ℕ) (b : Bool) → spells_null field ≡ b → (field ≡ 92 ∷ 78 ∷ [] → ⊥) → b ≡ false
+pub not_null : (field : List ℕ) (b : Bool) → spells_null field ≡ b → (field ≡ 92 ∷ 78 ∷ [] → ⊥) → b ≡ false
 not_null field true e no = absurd (no ((bytes_decides field (92 ∷ 78 ∷ [])).0 e))
 not_null field false e no = refl
 
