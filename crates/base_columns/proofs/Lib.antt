@@ -6,6 +6,7 @@ pub mod FieldLists
 pub mod FormLists
 pub mod GatheredTexts
 pub mod Kept
+pub mod MarkedColumns
 pub mod RowLists
 pub mod SegmentLists
 pub mod StandingLists

@@ -160,6 +160,10 @@ fn repeated_field(alloc: Global, field: &Field<'_>, n: usize) -> Result<Form, Al
             let codes = Codes::repeated(alloc, text, n)?;
             Ok(Form::Coded(codes))
         }
+        Field::Null => {
+            let values = repeated_value(alloc, &Value::Null, n)?;
+            Ok(Form::Values(values))
+        }
     }
 }
 
