@@ -40,7 +40,7 @@ fn has_null(form: &Form, i: usize) -> bool
     ensures { result ≡ is_null (slice_index_or (shown form.now) i Null) }
 {
     match form {
-        Form::Values(values) => matches!(values[i], Value::Null),
+        Form::Values(values) => matches!(&values[i], Value::Null),
         Form::Numbers(_, _) | Form::Dates(_) | Form::Texts(_) | Form::Coded(_) => false,
     }
 }

@@ -34,7 +34,7 @@ pub fn read_field(column: LineColumn, bytes: &[u8]) -> Result<Field<'_>, LineFau
 pub fn spells_null(bytes: &[u8]) -> bool
     ensures { result ≡ spells_null bytes.now }
 {
-    bytes == b"\\N"
+    bytes == b"\\N".as_slice()
 }
 
 // The value of that kind that the bytes say.
