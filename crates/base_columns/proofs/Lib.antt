@@ -7,6 +7,7 @@ pub mod FormLists
 pub mod GatheredTexts
 pub mod Kept
 pub mod MarkedColumns
+pub mod NullLists
 pub mod RowLists
 pub mod SegmentLists
 pub mod StandingLists

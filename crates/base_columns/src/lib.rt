@@ -15,6 +15,7 @@ mod field;
 mod form;
 mod marked_form;
 mod marked_pushes;
+mod nulls;
 mod padding;
 mod places;
 mod pushes;

@@ -78,6 +78,14 @@ impl Marks {
         true
     }
 
+    /// Whether the same places are marked, as the marks are kept: marks of the same places may be
+    /// kept in more room.
+    pub fn is_same(&self, other: &Marks) -> bool
+        ensures { IsTrue result → self.now ≡ other.now }
+    {
+        are_same(self.words.as_slice(), other.words.as_slice())
+    }
+
     /// Whether a place is marked.
     pub fn has(&self, i: usize) -> bool
         ensures { result ≡ has self.now i }
@@ -161,6 +169,13 @@ impl Marks {
             clear_bit(&mut self.words, i);
         }
     }
+}
+
+// Whether these are the same words.
+fn are_same(words: &[u64], others: &[u64]) -> bool
+    ensures { IsTrue result → words.now ≡ others.now }
+{
+    words == others
 }
 
 // Words of ones alone.
