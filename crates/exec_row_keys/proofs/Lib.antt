@@ -1,3 +1,4 @@
 pub mod CodeLists
 pub mod KeyLists
 pub mod Told
+mod NumberKeys
