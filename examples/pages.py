@@ -37,7 +37,7 @@ The header of a text may end with a word that says how its lines are read: `esca
 \\t \\xNN \\\\ and no other line ends; `repeat` has lines `COUNT TEXT`, with TEXT escaped, and lines
 `FIRST-LAST TEXT`, where each # in TEXT is the number. In `-- one of STATUS choice` the lines that
 begin with `| ` are choices, escaped: of those that follow one another one is printed there, and none
-may begin another; a line `|` parts two such lists. The empty line before the next case or set
+may begin another. The empty line before the next case or set
 belongs to no text. A line that begins with `= ` is a heading, and nothing is read up to the next
 case or set. So a line of a text may not begin with `-- `, `= ` or `== `, unless it is escaped.
 """
@@ -129,7 +129,7 @@ def chosen(lines: list[bytes]) -> list[bytes]:
         if is_choice:
             parts.append([unescaped(line[2:]) + b"\n" for line in group])
         else:
-            parts.append([b"".join(line + b"\n" for line in group if line != b"|")])
+            parts.append([b"".join(line + b"\n" for line in group)])
     return [b"".join(choices) for choices in itertools.product(*parts)]
 
 

@@ -1,7 +1,8 @@
 -- What a taker has taken once both senders have ended.
-use Rattle.std.proofs.Common.{◌≡◌, ◌∙◌, ℕ, ◌+◌, ◌<◌, List, [], ◌∷◌, ◌++◌, length, map, ap, arith, refl, sym}
+use Rattle.std.proofs.Common.{◌≡◌, ◌∙◌, ℕ, ◌+◌, ◌<◌, List, [], ◌∷◌, ◌++◌, length, map, take, ap, arith, refl, subst, sym}
 use Rattle.std.specs.List.{zip}
 use Rattle.std.proofs.lemmas.List.{length-append, length-map}
+use Rattle.std.proofs.Math.Seq.{take-length}
 use Rattle.base_schema.specs.State.{State}
 use Rattle.store_gateway.specs.Feeds.{numbered, sent_from, sender_number}
 use Rattle.store_gateway.specs.Roles.{Sending, Taking, sent_by}
@@ -10,7 +11,9 @@ use Rattle.store_gateway.specs.declared.message.SenderId.TheVariants.{First, Sec
 use Rattle.store_gateway.proofs.Numbers.{sent_from-numbered}
 use Rattle.store_snapshots.specs.Turns.{from_nobody}
 use Rattle.store_state.specs.Refresh.{Change}
+use Rattle.store_versions.specs.Trials.{Trials}
 use Rattle.app_sessions.specs.Jobs.{IsOrderText, JobAnswer, JobSession}
+use Rattle.app_sessions.specs.Orders.{RefreshOrder, later_by, whole_order}
 use Rattle.app_run.specs.Senders.{IsSentText, order_sent}
 
 -- what both senders sent is all that was sent
@@ -62,3 +65,16 @@ pub text_sent : (base : State) (list firsts seconds : List Change) (taken : List
     → IsSentText base list firsts seconds sessions job
 text_sent base list firsts seconds taken sessions job first second text =
     record { sent = taken; first = of_sender First taken firsts first; second = of_sender Second taken seconds second; text = text }
+
+-- the order of all that is done is the whole list and then what was taken, where the list was done before
+pub text_taken : (version : Trials) (before : ℕ) (taken : List (SenderId × Change)) (sessions : List JobSession) (job : JobAnswer) → version.done ≡ 0 → before ≡ length version.list
+    → IsOrderText version.base (whole_order (later_by before version) (numbered taken)) version.done before sessions job
+    → IsOrderText version.base (order_sent version.list taken) 0 (length version.list) sessions job
+text_taken version before taken sessions job fresh all text =
+    let done : version.done + before ≡ length version.list = omega (arith, fresh, all) in
+    let first : take (version.done + before) version.list ≡ version.list = ap (λ n. take n version.list) done ∙ take-length version.list in
+    let whole : whole_order (later_by before version) (numbered taken) ≡ order_sent version.list taken = ap (λ l. from_nobody l ++ numbered taken) first in
+    let A : RefreshOrder → Type 0 = λ o. IsOrderText version.base o version.done before sessions job in
+    let B : ℕ → Type 0 = λ n. IsOrderText version.base (order_sent version.list taken) n before sessions job in
+    let C : ℕ → Type 0 = λ n. IsOrderText version.base (order_sent version.list taken) 0 n sessions job in
+    subst C all (subst B fresh (subst A whole text))

@@ -11,7 +11,7 @@ unreachable-requires g c =
     let received = rw c.in_ok-text.was at c.join-first.ensures.second in
     let few = rw c.in-None.is at received.text_is in
     never_few receiver.list.items c.args.senders.firsts.items c.args.senders.seconds.items c.in_ok-text.feed.taker.taken receiver.most
-    (c.close.ensures.first ∙ c.join-first.ensures.first.first.sent) (c.close.ensures.second ∙ c.join-first.ensures.first.second.sent) c.requires.both.most few
+    (c.close-order.ensures.first ∙ c.join-first.ensures.first.first.sent) (c.close-order.ensures.second ∙ c.join-first.ensures.first.second.sent) c.requires.both.most few
 
 pub returns : goal.returns
 returns g c =
@@ -19,4 +19,4 @@ returns g c =
     let received = rw c.in_ok-text.was at c.join-first.ensures.second in
     let text = rw c.in-Some.is at received.text_is in
     text_sent receiver.base receiver.list.items c.args.senders.firsts.items c.args.senders.seconds.items c.in_ok-text.feed.taker.taken (job_sessions receiver.sessions.items) c.in-Some.text
-    (c.close.ensures.first ∙ c.join-first.ensures.first.first.sent) (c.close.ensures.second ∙ c.join-first.ensures.first.second.sent) text
+    (c.close-order.ensures.first ∙ c.join-first.ensures.first.first.sent) (c.close-order.ensures.second ∙ c.join-first.ensures.first.second.sent) text
