@@ -1,4 +1,3 @@
 pub mod CodeLists
 pub mod KeyLists
-pub mod NullCodes
 pub mod Told
