@@ -1,5 +1,4 @@
 pub mod CodedTexts
-pub mod MarkedZips
 pub mod Scales
 pub mod Words64
 pub mod Zips

@@ -5,7 +5,7 @@ ghost use Rattle.expr_operators.specs.Operators.{negative, extracted, part_of, a
 ghost use Rattle.exec_column_operators.specs.Choices.{choice};
 ghost use Rattle.exec_column_operators.specs.Zips.{zip_three};
 
-use base_columns::{Column, ColumnBuilder, ColumnForm};
+use base_columns::Column;
 use base_date::CivilDate;
 use base_decimal::Scale;
 use base_value::{Standing, Truth, Value};
@@ -17,23 +17,22 @@ use std::borrow::Cow;
 pub fn negative_column(alloc: Global, a: &Column) -> Result<Column, AllocError>
     ensures { IfOk result (λ c. c ≡ map negative a.now) }
 {
-    let mut column = ColumnBuilder::like(alloc, a, a.len())?;
+    let mut values = Vec::with_capacity(alloc, a.len())?;
     for i in 0..a.len() {
         let x = a.at(alloc, i)?;
-        column.push(alloc, &negative(&x))?;
+        values.push(negative(&x))?;
     }
-    Ok(column.finish())
+    Ok(Column::from_values(values))
 }
 
 /// A part of dates, row by row.
 pub fn extracted_column(alloc: Global, part: DatePart, a: &Column) -> Result<Column, AllocError>
     ensures { IfOk result (λ c. c ≡ map (extracted part) a.now) }
 {
-    match a.marked_dates() {
-        Some((dates, marks)) => {
+    match a.as_dates() {
+        Some(dates) => {
             let numbers = date_parts(alloc, part, dates)?;
-            let marks = marks.first(alloc, dates.len())?;
-            Ok(Column::from_marked_numbers(Scale::WHOLE, numbers, marks))
+            Ok(Column::from_numbers(Scale::WHOLE, numbers))
         }
         None => extracted_values(alloc, part, a),
     }
@@ -92,13 +91,13 @@ fn scaled(scale: Scale, x: Value) -> Result<Value, AllocError>
 pub fn scaled_column(alloc: Global, scale: Scale, a: &Column) -> Result<Column, AllocError>
     ensures { IfOk result (λ c. c ≡ map (at_scale scale) a.now) }
 {
-    let mut column = ColumnBuilder::new(alloc, ColumnForm::Numbers(scale))?;
+    let mut values = Vec::with_capacity(alloc, a.len())?;
     for i in 0..a.len() {
         let x = a.at(alloc, i)?;
         let y = scaled(scale, x)?;
-        column.push(alloc, &y)?;
+        values.push(y)?;
     }
-    Ok(column.finish())
+    Ok(Column::from_values(values))
 }
 
 // What a branch of a CASE gives at that truth, or else what the rest of the CASE does.
@@ -124,11 +123,11 @@ pub fn chosen_column(
     requires rest { length rest.now ≡ length truths.now }
     ensures { IfOk result (λ c. c ≡ zip_three choice truths.now gives.now rest.now) }
 {
-    let mut column = ColumnBuilder::like(alloc, gives, truths.len())?;
+    let mut values = Vec::with_capacity(alloc, truths.len())?;
     for i in 0..truths.len() {
         let given = gives.at(alloc, i)?;
         let other = rest.at(alloc, i)?;
-        column.push(alloc, &choice(truths[i], given, other))?;
+        values.push(choice(truths[i], given, other))?;
     }
-    Ok(column.finish())
+    Ok(Column::from_values(values))
 }

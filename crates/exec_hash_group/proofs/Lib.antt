@@ -9,4 +9,3 @@ pub mod NumberSums
 pub mod Regrouped
 pub mod Merging
 pub mod PartLists
-pub mod MarkedSums

@@ -9,4 +9,3 @@ pub mod Regrouping
 pub mod Runs
 pub mod Standings
 pub mod States
-pub mod Unmarked

@@ -15,7 +15,6 @@ mod part;
 mod parts;
 mod standings;
 mod states;
-mod unmarked;
 mod values;
 mod workers;
 

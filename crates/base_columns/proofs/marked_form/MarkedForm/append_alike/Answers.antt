@@ -1,6 +1,6 @@
-use Rattle.std.proofs.Common.{◌∙◌, ap, sym, refl, true, false, ◌++◌, ◌∷◌, [], length, take}
+use Rattle.std.proofs.Common.{◌∙◌, ap, refl, ◌++◌}
 use Rattle.std.specs.Prelude.{if◌then◌else◌}
-use Rattle.std.proofs.lemmas.Result.{on_ok_weaker, on_err_weaker, IfOk-weaker}
+use Rattle.std.proofs.lemmas.Result.{on_err_weaker, IfOk-weaker}
 use Rattle.base_value.specs.declared.value.Value.TheVariants.{Null}
 use Rattle.base_columns.specs.Shown.{shown}
 use Rattle.base_null_marks.specs.Marks.{marked}

@@ -1,9 +1,5 @@
-use Rattle.std.proofs.Common.{◌∙◌, ap, sym, refl, true, false, ◌++◌, ◌∷◌, [], length, take}
-use Rattle.std.specs.Prelude.{if◌then◌else◌}
-use Rattle.std.proofs.lemmas.Result.{on_ok_weaker, on_err_weaker, IfOk-weaker}
-use Rattle.base_value.specs.declared.value.Value.TheVariants.{Null}
+use Rattle.std.proofs.Common.{◌∙◌, ap, length, take}
 use Rattle.base_columns.specs.Shown.{shown}
-use Rattle.base_null_marks.specs.Marks.{marked}
 use Rattle.std.proofs.Common.{arith}
 use Rattle.base_columns.proofs.MarkedColumns.{cut_marks, long-marked}
 use Rattle.base_columns.proofs.marked_form.MarkedForm.truncate.Goals as goal
