@@ -2,9 +2,8 @@
 use Rattle.std.proofs.Common.{◌≡◌, ℕ, ◌+◌, ◌<◌, ◌≤◌, suc, zero, List, [], ◌∷◌, ◌++◌, sym, ap, ◌∙◌, refl, arith, length, get_or, take, map, replicate, Bool, true, false, cond, Result, Ok, Err, ⊎_elim, None, subst}
 use Rattle.std.specs.Result.{OnErr}
 use Rattle.std.specs.Prelude.{nat_le, nat_eq, ◌||◌, ◌&&◌, if◌then◌else◌}
-use Rattle.std.specs.List.{All}
 use Rattle.std.proofs.lemmas.Bool.{cases_lt, ne_eqb, le-leb, lt-leb, lt-ltb}
-use Rattle.std.proofs.lemmas.List.{map-append, length-map, length-append, length_push, length-replicate, get_or_past, get_or-map, get_or-replicate, length-take-le, get_or-take}
+use Rattle.std.proofs.lemmas.List.{map-append, length-map, length_push, length-replicate, get_or-map, get_or-replicate, length-take-le}
 use Rattle.base_null_marks.specs.Marks.{marked, has, SameMarks, IsMarkSet, AreMarksAt, AreAppended, AreFirst}
 use Rattle.base_null_marks.proofs.MarkLaws.{length-marked, get-marked, same-marked, null-pushed, value-pushed, gathered-marked, appended-marked, take-marked, is-marked}
 use Rattle.base_value.specs.declared.value.Value.{Value}

@@ -60,12 +60,8 @@ impl ColumnBuilder {
         })
     }
 
-    /// No values, with room for n in the form that the column has.
-    pub(crate) fn like(
-        alloc: Global,
-        column: &Column,
-        n: usize,
-    ) -> Result<ColumnBuilder, AllocError>
+    /// No values, with room for n kept as the column's are.
+    pub fn like(alloc: Global, column: &Column, n: usize) -> Result<ColumnBuilder, AllocError>
         ensures { IfOk result (λ c. c ≡ []) }
     {
         let values = column.values().emptied(alloc, n)?;

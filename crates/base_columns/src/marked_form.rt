@@ -79,8 +79,8 @@ impl MarkedForm {
         }
     }
 
-    // As many nulls as a form has values.
-    fn nulls(alloc: Global, form: Form, n: usize) -> Result<MarkedForm, AllocError>
+    /// As many nulls as a form has values.
+    pub(crate) fn nulls(alloc: Global, form: Form, n: usize) -> Result<MarkedForm, AllocError>
         requires { n ≡ length (shown form) }
         ensures { IfOk result (λ m. m ≡ replicate n Null) }
     {

@@ -1,15 +1,15 @@
 //! Values put at the end of marked ones.
 ghost use Rattle.std.specs.Prelude.{◌≡◌, ◌≤◌, ◌++◌, ◌∷◌, [], IfOk, OnOk, OnErr, length, take};
-ghost use Rattle.std.specs.Prelude.{if◌then◌else◌, false};
-ghost use Rattle.base_null_marks.specs.Marks.{marked, IsMarkSet};
+ghost use Rattle.std.specs.Prelude.{if◌then◌else◌, ◌<◌, ℕ, true, false, replicate, IsTrue};
+ghost use Rattle.base_null_marks.specs.Marks.{has, marked, IsMarkSet};
 ghost use Rattle.base_value.specs.declared.value.Value.TheVariants.{Null};
 ghost use Rattle.base_columns.specs.Fields.{field_value, IsPrintableField};
 ghost use Rattle.base_columns.specs.Shown.{shown};
 
 use crate::field::{Field, field_of, value_of};
-use crate::form::{Form, form_len, truncate as cut};
+use crate::form::{Form, form_len, repeated_field, truncate as cut};
 use crate::marked_form::MarkedForm;
-use crate::padding::put_any;
+use crate::padding::{padding, put_any};
 use crate::pushes::{extend, put, put_spelled};
 use base_null_marks::Marks;
 use base_value::Value;
@@ -37,6 +37,18 @@ fn push_beside(values: &mut Vec<Value>, marks: &mut Marks, value: Value) -> Resu
     marks.clear(values.len());
     values.push(value)?;
     Ok(())
+}
+
+// Whether the first n places are marked.
+fn are_all_set(marks: &Marks, n: usize) -> bool
+    ensures { IsTrue result → (i : ℕ) → i < n → has marks.now i ≡ true }
+{
+    for i in 0..n {
+        if !marks.has(i) {
+            return false;
+        }
+    }
+    true
 }
 
 // A mark that is set or cleared past the end means nothing: so a push writes the mark of the new
@@ -69,6 +81,10 @@ impl MarkedForm {
         if self.put_field(alloc, field)? {
             return Ok(());
         }
+        self.adopt(alloc, &repeated_field(alloc, field, 0)?)?;
+        if self.put_field(alloc, field)? {
+            return Ok(());
+        }
         let value = value_of(alloc, field)?;
         self.push_any(alloc, value)
     }
@@ -85,6 +101,26 @@ impl MarkedForm {
             return Ok(());
         }
         self.push_any(alloc, Value::Null)
+    }
+
+    // Takes the form of another one where there is no value but null.
+    fn adopt(&mut self, alloc: Global, form: &Form) -> Result<(), AllocError>
+        ensures { self.new ≡ self.old }
+    {
+        if !self.are_all_null() {
+            return Ok(());
+        }
+        let n = self.len();
+        let padding = padding(alloc, form, n)?;
+        *self = MarkedForm::nulls(alloc, padding, n)?;
+        Ok(())
+    }
+
+    // Whether all places are marked.
+    fn are_all_null(&self) -> bool
+        ensures { IsTrue result → self.now ≡ replicate (length self.now) Null }
+    {
+        are_all_set(&self.marks, form_len(&self.form))
     }
 
     // One field more, if the form holds it, maybe with its texts spelled.
@@ -180,6 +216,10 @@ impl MarkedForm {
         ensures ok { OnOk result (self.new ≡ self.old ++ other.now) }
         ensures err { OnErr result (self.new ≡ self.old) }
     {
+        if self.append_alike(other)? {
+            return Ok(());
+        }
+        self.adopt(alloc, &other.form)?;
         if self.append_alike(other)? {
             return Ok(());
         }

@@ -1,10 +1,8 @@
-use Rattle.std.proofs.Common.{◌∙◌, ap, sym, refl, true, false, ◌++◌, ◌∷◌, [], length, take}
+use Rattle.std.proofs.Common.{◌∙◌, ap, refl, false, ◌++◌, ◌∷◌, [], length}
 use Rattle.std.specs.Prelude.{if◌then◌else◌}
 use Rattle.std.proofs.lemmas.Result.{on_err_weaker, IfOk-weaker}
-use Rattle.base_value.specs.declared.value.Value.TheVariants.{Null}
 use Rattle.base_columns.specs.Shown.{shown}
 use Rattle.base_columns.specs.Fields.{field_value}
-use Rattle.base_null_marks.specs.Marks.{marked}
 use Rattle.base_columns.proofs.MarkedColumns.{kept_past, with_value, value_put, on_err}
 use Rattle.base_columns.proofs.marked_form.MarkedForm.put_field.Goals as goal
 

@@ -1,9 +1,5 @@
-use Rattle.std.proofs.Common.{◌∙◌, ap, sym, refl, true, false, ◌++◌, ◌∷◌, [], take}
-use Rattle.std.proofs.lemmas.Result.{on_ok_weaker, on_err_weaker}
-use Rattle.base_value.specs.declared.value.Value.TheVariants.{Null}
+use Rattle.std.proofs.Common.{◌∙◌}
 use Rattle.base_columns.specs.Shown.{shown}
-use Rattle.base_columns.specs.Lists.{gathered}
-use Rattle.base_null_marks.specs.Marks.{marked}
 use Rattle.base_columns.proofs.MarkedColumns.{first_marks}
 use Rattle.base_columns.proofs.marked_form.MarkedForm.stored.Goals as goal
 
