@@ -25,8 +25,8 @@ value_of_other column field r other is = chosen column.nullable (spells_null fie
 -- numbers and dates don't
 
 pub not_null : (field : List ℕ) (b : Bool) → spells_null field ≡ b → (field ≡ 92 ∷ 78 ∷ [] → ⊥) → b ≡ false
-not_null field true e no = absurd (no ((bytes_decides field (92 ∷ 78 ∷ [])).0 e))
-not_null field false e no = refl
+not_null field true e unlike = absurd (unlike ((bytes_decides field (92 ∷ 78 ∷ [])).0 e))
+not_null field false e unlike = refl
 
 no_number : (n : ℤ) → ◌≡◌ {A = Result ℤ Spelling} (Err NotANumber) (Ok n) → ⊥
 no_number n e = cc

@@ -22,8 +22,7 @@ use base_schema::ColumnKind;
 /// are spelled as usual: digits that 63 bits hold, for a decimal with a point before the last two;
 /// a date; a text that doesn't spell null. Other spellings, and bad fields, are for
 /// [`crate::field::read_field`].
-#[tactic(auto, using(crate::proofs::PlainNumbers::held, crate::proofs::FieldEnds::holds,
-    crate::proofs::Nulls::others))]
+#[tactic(auto, using(crate::proofs::PlainNumbers::held, crate::proofs::FieldEnds::holds, crate::proofs::Nulls::others))]
 pub fn plain_field(kind: ColumnKind, text: &[u8]) -> Option<(Field<'_>, usize)>
     ensures value { IfSome result
         (λ f. kind_field kind (take f.1 text.now) ≡ Ok (field_value f.0)) }
