@@ -1,0 +1,13 @@
+pub mod GroupLists
+pub mod CellLists
+pub mod EntryLists
+pub mod Picking
+pub mod Made
+pub mod Stages
+pub mod Passing
+pub mod Shows
+pub mod PageLists
+pub mod ViewLists
+pub mod FormLists
+pub mod FormLoops
+pub mod PartLists

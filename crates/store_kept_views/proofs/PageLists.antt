@@ -1,0 +1,161 @@
+-- Entries on the pages that their keys' hashes lead to.
+use Rattle.std.proofs.Common.{◌≡◌, ℕ, ◌+◌, ◌<◌, ◌≤◌, List, [], ◌∷◌, ◌++◌, Bool, true, false, cond, refl, sym, ◌∙◌, ap, subst, arith, inl, inr, Some, None, Option, zero, suc, set}
+use Rattle.std.specs.Prelude.{map, not, replicate}
+use Rattle.std.specs.List.{IsDistinct, AllByRecursion}
+use lib.ListN.{get_or, length}
+use Rattle.std.proofs.lemmas.Bool.{cases_Bool, cases_eq, true≢false}
+use Rattle.std.proofs.lemmas.List.{get_or-set_same, get_or-set_other, length-set, length-append}
+use Rattle.base_columns.specs.Lists.{one_list}
+use Rattle.base_value.specs.declared.value.Value.{Value}
+use Rattle.store_kept_views.specs.Groups.{Group}
+use Rattle.store_kept_views.specs.Standing.{Entries, same_key, group_at}
+use Rattle.store_kept_views.specs.Entries.{without_key}
+use Rattle.store_kept_views.specs.Pages.{ArePlaced, first_of}
+use Rattle.store_kept_views.proofs.EntryLists.{key_identity, keys, group_put, group_without, distinct_put, distinct_without}
+
+first_alone : (o : Option Group) → first_of o None ≡ o
+first_alone None = refl
+first_alone (Some g) = refl
+
+at_append : (xs ys : Entries) (q : List Value) → group_at (xs ++ ys) q ≡ first_of (group_at xs q) (group_at ys q)
+at_append [] ys q = refl
+at_append (e ∷ xs) ys q = elim (cases_Bool (same_key q e.0)) [ inl t ↦ rw t | inr f ↦ rw f (at_append xs ys q) ]
+
+-- an entry taken from the end of a list and put into a table
+pub popped : (xs : Entries) (e : List Value × Group) (old new : Option Group) (q : List Value) → new ≡ cond (same_key q e.0) (Some e.1) old
+    → first_of (group_at (xs ++ e ∷ []) q) old ≡ first_of (group_at xs q) new
+popped [] e old new q is = elim (cases_Bool (same_key q e.0)) [ inl t ↦ rw t (sym (rw t at is)) | inr f ↦ rw f (sym (rw f at is)) ]
+popped (x ∷ xs) e old new q is = elim (cases_Bool (same_key q x.0)) [ inl t ↦ rw t | inr f ↦ rw f (popped xs e old new q is) ]
+
+module _ (page : List Value → ℕ) where
+  abbrev AllOn : ℕ → Entries → Type 0
+  AllOn i es = AllByRecursion (λ e. page e.0 ≡ i) es
+
+  absent : (i : ℕ) (es : Entries) (q : List Value) → AllOn i es → (page q ≡ i → ⊥) → group_at es q ≡ None
+  absent i [] q all no = refl
+  absent i (e ∷ es) q all no = elim (cases_Bool (same_key q e.0)) [
+    | inl t ↦ absurd (no (ap page (key_identity.tells q e.0 t) ∙ all.0))
+    | inr f ↦ rw f (absent i es q all.1 no)
+  ]
+
+  before : (i : ℕ) (ps : List Entries) (q : List Value) → ArePlaced page i ps → page q < i → group_at (one_list ps) q ≡ None
+  before i [] q placed less = refl
+  before i (es ∷ ps) q placed less =
+      at_append es (one_list ps) q
+      ∙ ap (λ o. first_of o (group_at (one_list ps) q)) (absent i es q placed.0 (λ e. omega (arith, e, less)))
+      ∙ before (suc i) ps q placed.1.1 (omega arith)
+
+  -- a key's group is on its page
+  found_from : (i j : ℕ) (ps : List Entries) (q : List Value) → ArePlaced page i ps → page q ≡ i + j → j < length ps → group_at (one_list ps) q ≡ group_at (get_or ps j []) q
+  found_from i j [] q placed at less = absurd (omega arith)
+  found_from i zero (es ∷ ps) q placed at less =
+      at_append es (one_list ps) q
+      ∙ ap (λ o. first_of (group_at es q) o) (before (suc i) ps q placed.1.1 (omega arith))
+      ∙ first_alone (group_at es q)
+  found_from i (suc j) (es ∷ ps) q placed at less =
+      at_append es (one_list ps) q
+      ∙ ap (λ o. first_of o (group_at (one_list ps) q)) (absent i es q placed.0 (λ e. omega (arith, e, at)))
+      ∙ found_from (suc i) j ps q placed.1.1 (omega arith) (omega arith)
+
+  pub found : (ps : List Entries) (q : List Value) → ArePlaced page 0 ps → page q < length ps → group_at (one_list ps) q ≡ group_at (get_or ps (page q) []) q
+  found ps q placed less = found_from 0 (page q) ps q placed refl less
+
+  all_of_page : (i j : ℕ) (ps : List Entries) → ArePlaced page i ps → j < length ps → AllOn (i + j) (get_or ps j [])
+  all_of_page i j [] placed less = absurd (omega arith)
+  all_of_page i zero (es ∷ ps) placed less = let e : i ≡ i + 0 = omega arith in subst (λ n. AllOn n es) e placed.0
+  all_of_page i (suc j) (es ∷ ps) placed less = let e : suc i + j ≡ i + suc j = omega arith in subst (λ n. AllOn n (get_or ps j [])) e (all_of_page (suc i) j ps placed.1.1 (omega arith))
+
+  distinct_page : (i j : ℕ) (ps : List Entries) → ArePlaced page i ps → j < length ps → IsDistinct same_key (keys (get_or ps j []))
+  distinct_page i j [] placed less = absurd (omega arith)
+  distinct_page i zero (es ∷ ps) placed less = placed.1.0
+  distinct_page i (suc j) (es ∷ ps) placed less = distinct_page (suc i) j ps placed.1.1 (omega arith)
+
+  placed_set : (i j : ℕ) (ps : List Entries) (new : Entries) → ArePlaced page i ps → j < length ps → AllOn (i + j) new → IsDistinct same_key (keys new) → ArePlaced page i (set ps j new)
+  placed_set i j [] new placed less all distinct = placed
+  placed_set i zero (es ∷ ps) new placed less all distinct = let e : i + 0 ≡ i = omega arith in (subst (λ n. AllOn n new) e all, distinct, placed.1.1)
+  placed_set i (suc j) (es ∷ ps) new placed less all distinct = let e : i + suc j ≡ suc i + j = omega arith in
+      (placed.0, placed.1.0, placed_set (suc i) j ps new placed.1.1 (omega arith) (subst (λ n. AllOn n new) e all) distinct)
+
+  all_without : (i : ℕ) (k : List Value) (es : Entries) → AllOn i es → AllOn i (without_key k es)
+  all_without i k [] all = tt
+  all_without i k (e ∷ es) all = elim (cases_Bool (same_key k e.0)) [
+    | inl t ↦ rw t (all_without i k es all.1)
+    | inr f ↦ rw f (all.0, all_without i k es all.1)
+  ]
+
+  all_last : (i : ℕ) (es : Entries) (e : List Value × Group) → AllOn i es → page e.0 ≡ i → AllOn i (es ++ e ∷ [])
+  all_last i [] e all is = (is, tt)
+  all_last i (x ∷ es) e all is = (all.0, all_last i es e all.1 is)
+
+  -- the pages with an entry put or removed on its key's page
+  pub placed_put : (ps : List Entries) (j : ℕ) (e : List Value × Group) → ArePlaced page 0 ps → j ≡ page e.0 → j < length ps
+      → ArePlaced page 0 (set ps j (without_key e.0 (get_or ps j []) ++ e ∷ []))
+  placed_put ps j e placed is less =
+      placed_set 0 j ps (without_key e.0 (get_or ps j []) ++ e ∷ []) placed less
+      (all_last j (without_key e.0 (get_or ps j [])) e (all_without j e.0 (get_or ps j []) (all_of_page 0 j ps placed less)) (sym is))
+      (distinct_put e.0 e.1 (get_or ps j []) (distinct_page 0 j ps placed less))
+
+  pub placed_removed : (ps : List Entries) (j : ℕ) (k : List Value) → ArePlaced page 0 ps → j < length ps → ArePlaced page 0 (set ps j (without_key k (get_or ps j [])))
+  placed_removed ps j k placed less =
+      placed_set 0 j ps (without_key k (get_or ps j [])) placed less
+      (all_without j k (get_or ps j []) (all_of_page 0 j ps placed less))
+      (distinct_without k (get_or ps j []) (distinct_page 0 j ps placed less))
+
+  -- a page anew, whose groups differ from before at one key
+  pub at_set : (ps : List Entries) (j : ℕ) (k : List Value) (o : Option Group) (new : Entries) → ArePlaced page 0 ps → ArePlaced page 0 (set ps j new) → ((x : List Value) → page x < length ps)
+      → j ≡ page k → ((q : List Value) → group_at new q ≡ cond (same_key q k) o (group_at (get_or ps j []) q))
+      → (q : List Value) → group_at (one_list (set ps j new)) q ≡ cond (same_key q k) o (group_at (one_list ps) q)
+  at_set ps j k o new placed anew within is page_is q =
+      found (set ps j new) q anew (subst (λ n. page q < n) (sym (length-set ps j new)) (within q))
+      ∙ elim (cases_eq (page q) j) [
+        | inl t ↦
+          ap (λ n. group_at (get_or (set ps j new) n []) q) t
+          ∙ ap (λ (es : Entries). group_at es q) (get_or-set_same ps j new [] (subst (λ n. n < length ps) t (within q)))
+          ∙ page_is q
+          ∙ ap (λ x. cond (same_key q k) o x) (ap (λ n. group_at (get_or ps n []) q) (sym t) ∙ sym (found ps q placed (within q)))
+        | inr f ↦
+          ap (λ (es : Entries). group_at es q) (get_or-set_other ps j (page q) new [] f)
+          ∙ sym (found ps q placed (within q))
+          ∙ sym (ap (λ b. cond b o (group_at (one_list ps) q)) (elim (cases_Bool (same_key q k)) [
+            | inr u ↦ u
+            | inl u ↦ absurd (f (ap page (key_identity.tells q k u) ∙ sym is))
+          ]))
+      ]
+
+  pub put_at : (ps : List Entries) (j : ℕ) (e : List Value × Group) → ArePlaced page 0 ps → ((x : List Value) → page x < length ps) → j ≡ page e.0
+      → (q : List Value) → group_at (one_list (set ps j (without_key e.0 (get_or ps j []) ++ e ∷ []))) q ≡ cond (same_key q e.0) (Some e.1) (group_at (one_list ps) q)
+  put_at ps j e placed within is =
+      at_set ps j e.0 (Some e.1) (without_key e.0 (get_or ps j []) ++ e ∷ []) placed
+      (placed_put ps j e placed is (subst (λ n. n < length ps) (sym is) (within e.0))) within is (group_put e.0 e.1 (get_or ps j []))
+
+  pub removed_at : (ps : List Entries) (j : ℕ) (k : List Value) → ArePlaced page 0 ps → ((x : List Value) → page x < length ps) → j ≡ page k
+      → (q : List Value) → group_at (one_list (set ps j (without_key k (get_or ps j [])))) q ≡ cond (same_key q k) None (group_at (one_list ps) q)
+  removed_at ps j k placed within is =
+      at_set ps j k None (without_key k (get_or ps j [])) placed
+      (placed_removed ps j k placed (subst (λ n. n < length ps) (sym is) (within k))) within is (group_without k (get_or ps j []))
+
+-- how many entries there are with a page anew
+pub length_at : (ps : List Entries) (j : ℕ) → j < length ps → length (get_or ps j []) ≤ length (one_list ps)
+length_at [] j less = absurd (omega arith)
+length_at (es ∷ ps) zero less = let e = length-append es (one_list ps) in omega (arith, e)
+length_at (es ∷ ps) (suc j) less = let e = length-append es (one_list ps) in let ih = length_at ps j (omega arith) in omega (arith, e, ih)
+
+pub length_set : (ps : List Entries) (j : ℕ) (new : Entries) → j < length ps → length (one_list (set ps j new)) + length (get_or ps j []) ≡ length (one_list ps) + length new
+length_set [] j new less = absurd (omega arith)
+length_set (es ∷ ps) zero new less = let d = length-append new (one_list ps) in let e = length-append es (one_list ps) in omega (arith, d, e)
+length_set (es ∷ ps) (suc j) new less =
+    let d = length-append es (one_list (set ps j new)) in let e = length-append es (one_list ps) in
+    let ih = length_set ps j new (omega arith) in omega (arith, d, e, ih)
+
+-- pages without entries
+pub none_there : (n : ℕ) → one_list (replicate n []) ≡ []
+none_there zero = refl
+none_there (suc n) = none_there n
+
+pub none_placed : (page : List Value → ℕ) (i n : ℕ) → ArePlaced page i (replicate n [])
+none_placed page i zero = tt
+none_placed page i (suc n) = (tt, distinct, none_placed page (suc i) n)
+  where
+    distinct : IsDistinct same_key (keys [])
+    unfolding IsDistinct
+    distinct = tt

@@ -1,0 +1,9 @@
+use Rattle.std.proofs.Common.{subst, sym}
+use Rattle.base_row_laws.specs.Bags.{SameBag}
+use Rattle.store_kept_views.specs.Plans.{query_rows}
+use Rattle.store_kept_views.proofs.Shows.{rows_shown}
+use Rattle.store_kept_views.proofs.output.shown_rows.Goals as goal
+
+pub returns : goal.returns
+returns c = λ table stands. subst (λ l. SameBag l (query_rows c.args.plan.now table)) (sym c.in_ok-rows.ensures)
+    (rows_shown c.args.plan.now c.args.groups.now table c.entries-entries.ensures.distinct stands)

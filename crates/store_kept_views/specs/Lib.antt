@@ -1,0 +1,10 @@
+pub mod Plans
+pub mod Forms
+pub mod Groups
+pub mod Stored
+pub mod Standing
+pub mod Entries
+pub mod Pages
+pub mod Taken
+pub mod Output
+pub mod Kept

@@ -1,0 +1,23 @@
+//! Kept aggregates: the rows of grouped queries, kept while rows are added to and removed from
+//! their tables.
+#![tactic(auto)]
+
+mod bag;
+mod cell;
+mod cells;
+mod entry;
+mod form;
+mod group;
+mod groups;
+mod kept;
+mod moving;
+mod output;
+mod page;
+mod plan;
+mod reading;
+mod taking;
+mod view;
+
+pub use form::KeptPlanError;
+pub use kept::Kept;
+pub use plan::{KeptAggregate, KeptPlan};
