@@ -1,6 +1,6 @@
 -- The parts of a query, one by one.
 use Rattle.std.proofs.Common.{◌≡◌, ℕ, ◌+◌, ◌<◌, List, [], ◌∷◌, ◌++◌, map, Bool, true, false, ◌&&◌, sym, ◌∙◌, ap}
-use Rattle.std.specs.Prelude.{slice_index_or, take}
+use Rattle.std.specs.Prelude.{slice_index_or, take, Err}
 use Rattle.std.specs.List.{list_all}
 use lib.ListN.{get_or, length}
 use Rattle.std.proofs.lemmas.List.{map-append, take_more}
@@ -12,7 +12,9 @@ use Rattle.sql_bound_query.specs.declared.query.BoundExpr.{BoundExpr}
 use Rattle.sql_bound_query.specs.Meaning.{expr_meaning, aggregate_meaning}
 use Rattle.store_kept_views.specs.declared.plan.KeptAggregate.{KeptAggregate}
 use Rattle.store_kept_views.specs.Plans.{item_of}
-use Rattle.store_kept_views.specs.Forms.{IsItem, AreItems, IsShown, AreShown}
+use Rattle.store_kept_views.specs.declared.form.KeptPlanError.{KeptPlanError}
+use Rattle.store_kept_views.specs.declared.form.KeptPlanError.TheVariants.{NotKept, OutOfMemory}
+use Rattle.store_kept_views.specs.Forms.{IsFound, IsItem, AreItems, IsShown, AreShown}
 
 module _ {X : Type 0} (xs : List X) (i : ℕ) (x : X) (less : i < length xs) (is : x ≡ get_or xs i x) where
   pub all_more : (p : X → Bool) → list_all p (take i xs) ≡ true → p x ≡ true → list_all p (take (i + 1) xs) ≡ true
@@ -36,3 +38,8 @@ pub shown_more : (list : List BoundExpr) (places : List ℕ) (i : ℕ) (x : Boun
     → AreShown (take i list) places → IsShown x place → AreShown (take (i + 1) list) (places ++ place ∷ [])
 shown_more list places i x place less is before here state row =
     map_more list i x less is (λ e. (expr_meaning state e).value (row ∷ [])) (λ c. slice_index_or row c Null) places place (before state row) (here state row)
+
+-- what comes of a part that was not found
+pub not_found : {X Y : Type 0} (a b : Bool) (P : X → Type 0) (Q : Y → Type 0) (error : KeptPlanError) → (a ≡ false → b ≡ false) → IsFound a P (Err error) → IsFound b Q (Err error)
+not_found a b P Q NotKept f there = f there
+not_found a b P Q OutOfMemory f there = tt

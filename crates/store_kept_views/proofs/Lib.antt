@@ -8,6 +8,7 @@ pub mod Passing
 pub mod Shows
 pub mod PageLists
 pub mod ViewLists
+pub mod FormsOpened
 pub mod FormLists
 pub mod FormLoops
 pub mod PartLists

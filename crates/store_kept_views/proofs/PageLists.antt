@@ -1,17 +1,20 @@
 -- Entries on the pages that their keys' hashes lead to.
 use Rattle.std.proofs.Common.{◌≡◌, ℕ, ◌+◌, ◌<◌, ◌≤◌, List, [], ◌∷◌, ◌++◌, Bool, true, false, cond, refl, sym, ◌∙◌, ap, subst, arith, inl, inr, Some, None, Option, zero, suc, set}
 use Rattle.std.specs.Prelude.{map, not, replicate}
-use Rattle.std.specs.List.{IsDistinct, AllByRecursion}
+use Rattle.std.specs.List.{fold, IsDistinct, AllByRecursion}
 use lib.ListN.{get_or, length}
 use Rattle.std.proofs.lemmas.Bool.{cases_Bool, cases_eq, true≢false}
-use Rattle.std.proofs.lemmas.List.{get_or-set_same, get_or-set_other, length-set, length-append}
+use Rattle.std.proofs.lemmas.List.{get_or-set_same, get_or-set_other, length-set, length-append, length-replicate}
+use Rattle.std.proofs.lemmas.Map.Keys.{IsDistinct-head, IsDistinct-tail, IsDistinct-cons}
+use Rattle.std.proofs.lemmas.Nat.{mod_below}
+use Rattle.std.specs.Hash.FoldHasher.{initial, write, finish}
 use Rattle.base_columns.specs.Lists.{one_list}
 use Rattle.base_value.specs.declared.value.Value.{Value}
 use Rattle.store_kept_views.specs.Groups.{Group}
 use Rattle.store_kept_views.specs.Standing.{Entries, same_key, group_at}
 use Rattle.store_kept_views.specs.Entries.{without_key}
-use Rattle.store_kept_views.specs.Pages.{ArePlaced, first_of}
-use Rattle.store_kept_views.proofs.EntryLists.{key_identity, keys, group_put, group_without, distinct_put, distinct_without}
+use Rattle.store_kept_views.specs.Pages.{ArePlaced, IsTable, first_of, page_in}
+use Rattle.store_kept_views.proofs.EntryLists.{key_identity, keys, group_put, group_without, distinct_put, distinct_without, distinct_none}
 
 first_alone : (o : Option Group) → first_of o None ≡ o
 first_alone None = refl
@@ -24,8 +27,17 @@ at_append (e ∷ xs) ys q = elim (cases_Bool (same_key q e.0)) [ inl t ↦ rw t 
 -- an entry taken from the end of a list and put into a table
 pub popped : (xs : Entries) (e : List Value × Group) (old new : Option Group) (q : List Value) → new ≡ cond (same_key q e.0) (Some e.1) old
     → first_of (group_at (xs ++ e ∷ []) q) old ≡ first_of (group_at xs q) new
-popped [] e old new q is = elim (cases_Bool (same_key q e.0)) [ inl t ↦ rw t (sym (rw t at is)) | inr f ↦ rw f (sym (rw f at is)) ]
+popped [] e old new q is = elim (cases_Bool (same_key q e.0)) [
+  | inl t ↦ let h : new ≡ Some e.1 = rw t at is in rw t (sym h)
+  | inr f ↦ let h : new ≡ old = rw f at is in rw f (sym h)
+]
 popped (x ∷ xs) e old new q is = elim (cases_Bool (same_key q x.0)) [ inl t ↦ rw t | inr f ↦ rw f (popped xs e old new q is) ]
+
+-- no key of two lists is x
+far_both : (x : List Value) (es rest : Entries) → AllByRecursion (λ y. same_key x y ≡ false) (keys es) → AllByRecursion (λ y. same_key x y ≡ false) (keys rest)
+    → AllByRecursion (λ y. same_key x y ≡ false) (keys (es ++ rest))
+far_both x [] rest one two = two
+far_both x (e ∷ es) rest one two = (one.0, far_both x es rest one.1 two)
 
 module _ (page : List Value → ℕ) where
   abbrev AllOn : ℕ → Entries → Type 0
@@ -76,6 +88,36 @@ module _ (page : List Value → ℕ) where
   placed_set i (suc j) (es ∷ ps) new placed less all distinct = let e : i + suc j ≡ suc i + j = omega arith in
       (placed.0, placed.1.0, placed_set (suc i) j ps new placed.1.1 (omega arith) (subst (λ n. AllOn n new) e all) distinct)
 
+  -- keys of other pages are other keys
+  far_page : (i j : ℕ) (x : List Value) (es : Entries) → page x ≡ i → AllOn j es → (i ≡ j → ⊥) → AllByRecursion (λ y. same_key x y ≡ false) (keys es)
+  far_page i j x [] on all no = tt
+  far_page i j x (e ∷ es) on all no = (elsewhere_key x e.0 (λ is. no (sym on ∙ is ∙ all.0)), far_page i j x es on all.1 no)
+    where
+      elsewhere_key : (x y : List Value) → (page x ≡ page y → ⊥) → same_key x y ≡ false
+      elsewhere_key x y no = elim (cases_Bool (same_key x y)) [
+        | inr f ↦ f
+        | inl t ↦ absurd (no (ap page (key_identity.tells x y t)))
+      ]
+
+  far_pages : (i j : ℕ) (x : List Value) (ps : List Entries) → page x ≡ i → i < j → ArePlaced page j ps → AllByRecursion (λ y. same_key x y ≡ false) (keys (one_list ps))
+  far_pages i j x [] on less placed = tt
+  far_pages i j x (es ∷ ps) on less placed =
+      far_both x es (one_list ps) (far_page i j x es on placed.0 (λ is. omega arith)) (far_pages i (suc j) x ps on (omega arith) placed.1.1)
+
+  distinct_both : (i : ℕ) (es rest : Entries) → AllOn i es → IsDistinct same_key (keys es) → IsDistinct same_key (keys rest)
+      → ((x : List Value) → page x ≡ i → AllByRecursion (λ y. same_key x y ≡ false) (keys rest)) → IsDistinct same_key (keys (es ++ rest))
+  distinct_both i [] rest all one two far = two
+  distinct_both i (e ∷ es) rest all one two far =
+      IsDistinct-cons same_key e.0 (keys (es ++ rest))
+      (far_both e.0 es rest (IsDistinct-head same_key e.0 (keys es) one) (far e.0 all.0))
+      (distinct_both i es rest all.1 (IsDistinct-tail same_key e.0 (keys es) one) two far)
+
+  pub distinct_all : (i : ℕ) (ps : List Entries) → ArePlaced page i ps → IsDistinct same_key (keys (one_list ps))
+  distinct_all i [] placed = distinct_none [] refl
+  distinct_all i (es ∷ ps) placed =
+      distinct_both i es (one_list ps) placed.0 placed.1.0 (distinct_all (suc i) ps placed.1.1)
+      (λ x on. far_pages i (suc i) x ps on (omega arith) placed.1.1)
+
   all_without : (i : ℕ) (k : List Value) (es : Entries) → AllOn i es → AllOn i (without_key k es)
   all_without i k [] all = tt
   all_without i k (e ∷ es) all = elim (cases_Bool (same_key k e.0)) [
@@ -101,6 +143,13 @@ module _ (page : List Value → ℕ) where
       (all_without j k (get_or ps j []) (all_of_page 0 j ps placed less))
       (distinct_without k (get_or ps j []) (distinct_page 0 j ps placed less))
 
+  -- a key of another page is another key
+  elsewhere : (k q : List Value) (j : ℕ) → j ≡ page k → (page q ≡ j → ⊥) → same_key q k ≡ false
+  elsewhere k q j is no = elim (cases_Bool (same_key q k)) [
+    | inr f ↦ f
+    | inl t ↦ absurd (no (ap page (key_identity.tells q k t) ∙ sym is))
+  ]
+
   -- a page anew, whose groups differ from before at one key
   pub at_set : (ps : List Entries) (j : ℕ) (k : List Value) (o : Option Group) (new : Entries) → ArePlaced page 0 ps → ArePlaced page 0 (set ps j new) → ((x : List Value) → page x < length ps)
       → j ≡ page k → ((q : List Value) → group_at new q ≡ cond (same_key q k) o (group_at (get_or ps j []) q))
@@ -116,10 +165,7 @@ module _ (page : List Value → ℕ) where
         | inr f ↦
           ap (λ (es : Entries). group_at es q) (get_or-set_other ps j (page q) new [] f)
           ∙ sym (found ps q placed (within q))
-          ∙ sym (ap (λ b. cond b o (group_at (one_list ps) q)) (elim (cases_Bool (same_key q k)) [
-            | inr u ↦ u
-            | inl u ↦ absurd (f (ap page (key_identity.tells q k u) ∙ sym is))
-          ]))
+          ∙ sym (ap (λ b. cond b o (group_at (one_list ps) q)) (elsewhere k q j is f))
       ]
 
   pub put_at : (ps : List Entries) (j : ℕ) (e : List Value × Group) → ArePlaced page 0 ps → ((x : List Value) → page x < length ps) → j ≡ page e.0
@@ -154,8 +200,105 @@ none_there (suc n) = none_there n
 
 pub none_placed : (page : List Value → ℕ) (i n : ℕ) → ArePlaced page i (replicate n [])
 none_placed page i zero = tt
-none_placed page i (suc n) = (tt, distinct, none_placed page (suc i) n)
-  where
-    distinct : IsDistinct same_key (keys [])
-    unfolding IsDistinct
-    distinct = tt
+none_placed page i (suc n) = (tt, distinct_none [] refl, none_placed page (suc i) n)
+
+-- tables of pages
+default_any : (ps : List Entries) (i : ℕ) (d e : Entries) → i < length ps → get_or ps i d ≡ get_or ps i e
+default_any [] i d e less = absurd (omega arith)
+default_any (x ∷ ps) zero d e less = refl
+default_any (x ∷ ps) (suc i) d e less = default_any ps i d e (omega arith)
+
+within : (fed : List Value → List (List ℕ)) (n : ℕ) → 0 < n → (q : List Value) → page_in fed n q < n
+within fed n some q = mod_below (finish (fold write initial (fed q))) n some
+
+module _ (fed : List Value → List (List ℕ)) (ps : List Entries) (count : ℕ) (table : IsTable fed ps count) where
+  abbrev page : List Value → ℕ
+  page = page_in fed (length ps)
+
+  inside : (at : ℕ) (k : List Value) → at ≡ page k → at < length ps
+  inside at k is = subst (λ n. n < length ps) (sym is) (within fed (length ps) table.0 k)
+
+  -- the group of a key, by its page
+  pub table_get : (at : ℕ) (here : Entries) (q : List Value) → at ≡ page q → here ≡ get_or ps at here → group_at here q ≡ group_at (one_list ps) q
+  table_get at here q is on =
+      ap (λ (es : Entries). group_at es q) (on ∙ default_any ps at here [] (inside at q is) ∙ ap (λ n. get_or ps n []) is)
+      ∙ sym (found page ps q table.1.1 (within fed (length ps) table.0 q))
+
+  count_set : (at : ℕ) (here new : Entries) (count' : ℕ) → at < length ps → here ≡ get_or ps at here → count' + length here ≡ count + length new → count' ≡ length (one_list (set ps at new))
+  count_set at here new count' less on is =
+      let a = length_set ps at new less in
+      let b : length here ≡ length (get_or ps at []) = ap length (on ∙ default_any ps at here [] less) in
+      let c : count ≡ length (one_list ps) = table.1.0 in
+      omega (arith, a, b, c, is)
+
+  pub count_least : (at : ℕ) (here : Entries) (k : List Value) → at ≡ page k → here ≡ get_or ps at here → length here ≤ count
+  count_least at here k is on =
+      let less = inside at k is in
+      let a = length_at ps at less in
+      let b : length here ≡ length (get_or ps at []) = ap length (on ∙ default_any ps at here [] less) in
+      let c : count ≡ length (one_list ps) = table.1.0 in
+      omega (arith, a, b, c)
+
+  table_set : (at : ℕ) (here new : Entries) (count' : ℕ) → at < length ps → here ≡ get_or ps at here → count' + length here ≡ count + length new → ArePlaced page 0 (set ps at new) → IsTable fed (set ps at new) count'
+  table_set at here new count' less on is placed =
+      let same = sym (length-set ps at new) in
+      (
+        subst (λ n. 0 < n) same table.0,
+        count_set at here new count' less on is,
+        subst (λ n. ArePlaced (page_in fed n) 0 (set ps at new)) same placed,
+      )
+
+  -- with an entry put, and with one removed
+  pub table_put : (at : ℕ) (here new : Entries) (count' : ℕ) (e : List Value × Group) → at ≡ page e.0 → here ≡ get_or ps at here → new ≡ without_key e.0 here ++ e ∷ [] → count' + length here ≡ count + length new
+      → IsTable fed (set ps at new) count'
+  table_put at here new count' e is on made counts =
+      let less = inside at e.0 is in
+      let h : here ≡ get_or ps at [] = on ∙ default_any ps at here [] less in
+      let n : new ≡ without_key e.0 (get_or ps at []) ++ e ∷ [] = made ∙ ap (λ x. without_key e.0 x ++ e ∷ []) h in
+      table_set at here new count' less on counts (subst (λ x. ArePlaced page 0 (set ps at x)) (sym n) (placed_put page ps at e table.1.1 is less))
+
+  pub group_put_at : (at : ℕ) (here new : Entries) (e : List Value × Group) → at ≡ page e.0 → here ≡ get_or ps at here → new ≡ without_key e.0 here ++ e ∷ []
+      → (q : List Value) → group_at (one_list (set ps at new)) q ≡ cond (same_key q e.0) (Some e.1) (group_at (one_list ps) q)
+  group_put_at at here new e is on made q =
+      let less = inside at e.0 is in
+      let h : here ≡ get_or ps at [] = on ∙ default_any ps at here [] less in
+      let n : new ≡ without_key e.0 (get_or ps at []) ++ e ∷ [] = made ∙ ap (λ x. without_key e.0 x ++ e ∷ []) h in
+      ap (λ x. group_at (one_list (set ps at x)) q) n ∙ put_at page ps at e table.1.1 (within fed (length ps) table.0) is q
+
+  pub table_removed : (at : ℕ) (here new : Entries) (count' : ℕ) (k : List Value) → at ≡ page k → here ≡ get_or ps at here → new ≡ without_key k here → count' + length here ≡ count + length new
+      → IsTable fed (set ps at new) count'
+  table_removed at here new count' k is on made counts =
+      let less = inside at k is in
+      let h : here ≡ get_or ps at [] = on ∙ default_any ps at here [] less in
+      let n : new ≡ without_key k (get_or ps at []) = made ∙ ap (λ x. without_key k x) h in
+      table_set at here new count' less on counts (subst (λ x. ArePlaced page 0 (set ps at x)) (sym n) (placed_removed page ps at k table.1.1 less))
+
+  pub group_removed_at : (at : ℕ) (here new : Entries) (k : List Value) → at ≡ page k → here ≡ get_or ps at here → new ≡ without_key k here
+      → (q : List Value) → group_at (one_list (set ps at new)) q ≡ cond (same_key q k) None (group_at (one_list ps) q)
+  group_removed_at at here new k is on made q =
+      let less = inside at k is in
+      let h : here ≡ get_or ps at [] = on ∙ default_any ps at here [] less in
+      let n : new ≡ without_key k (get_or ps at []) = made ∙ ap (λ x. without_key k x) h in
+      ap (λ x. group_at (one_list (set ps at x)) q) n ∙ removed_at page ps at k table.1.1 (within fed (length ps) table.0) is q
+
+  -- the keys of all pages differ
+  pub table_distinct : IsDistinct same_key (keys (one_list ps))
+  table_distinct = distinct_all page 0 ps table.1.1
+
+-- no entries on so many pages
+pub table_none : (fed : List Value → List (List ℕ)) (n : ℕ) (ps : List Entries) (count : ℕ) → 0 < n → ps ≡ replicate n [] → count ≡ 0 → IsTable fed ps count
+table_none fed n ps count some is none =
+    let l : length ps ≡ n = ap length is ∙ length-replicate n [] in
+    (
+      subst (λ m. 0 < m) (sym l) some,
+      none ∙ sym (ap (λ x. length (one_list x)) is ∙ ap length (none_there n)),
+      subst (λ x. ArePlaced (page_in fed (length ps)) 0 x) (sym is) (none_placed (page_in fed (length ps)) 0 n),
+    )
+
+pub no_entries : (n : ℕ) (ps : List Entries) → ps ≡ replicate n [] → one_list ps ≡ []
+no_entries n ps is = ap one_list is ∙ none_there n
+
+-- whether there is an entry
+pub empty_told : (es : Entries) → length es ≡ 0 → es ≡ []
+empty_told [] is = refl
+empty_told (e ∷ es) is = absurd (omega arith)

@@ -1,13 +1,13 @@
 -- What groups show.
 use Rattle.std.proofs.Common.{◌≡◌, ℕ, ◌+◌, ◌<◌, ◌≤◌, List, [], ◌∷◌, ◌++◌, Bool, true, false, cond, refl, sym, ◌∙◌, ap, subst, arith, inl, inr, Some, None, Option, length, zero, suc}
 use Rattle.std.specs.Prelude.{map, take}
-use Rattle.std.specs.List.{filter, IsDistinct}
+use Rattle.std.specs.List.{All, filter, IsDistinct}
 use Rattle.std.specs.Map.{lookup}
 use Rattle.std.specs.Option.{is_some}
 use Rattle.std.specs.Prelude.{not}
 use Rattle.std.proofs.lemmas.Bool.{true≢false}
 use lib.ListN.{get_or}
-use Rattle.std.proofs.lemmas.List.{append_assoc, append-nil, map-append}
+use Rattle.std.proofs.lemmas.List.{append_assoc, append-nil, map-append, length-map}
 use Rattle.base_row_laws.specs.Ranked.{Ranked, ranked}
 use Rattle.base_row_laws.specs.Bags.{SameBag, has, IsIdentity, classes, each_once}
 use Rattle.base_row_laws.specs.Rows.{columns, same_row}
@@ -132,3 +132,18 @@ shown_by p (k ∷ ks) es ys is distinct stands =
 pub rows_shown : (p : KeptPlan) (es : Entries) (rows : List (List Value)) → IsDistinct same_key (map (λ e. e.0) es) → StandsFor p es rows → SameBag (output_rows p es) (query_rows p rows)
 unfolding query_rows
 rows_shown p es rows distinct stands = shown_by p p.by es (selected p rows) refl distinct stands
+
+-- each row has as many values as are shown
+wide_map : (p : KeptPlan) (es : Entries) → All (λ (r : Ranked Value). length r.values ≡ length p.list) (map (λ e. output_row p e.0 e.1) es)
+wide_map p [] i d less = absurd (omega arith)
+wide_map p (e ∷ es) zero d less = length-map p.list _
+wide_map p (e ∷ es) (suc i) d less = wide_map p es i d (omega arith)
+
+wide_by : (p : KeptPlan) (by : List ℕ) (es : Entries) → All (λ (r : Ranked Value). length r.values ≡ length p.list) (output_by p by es)
+wide_by p [] [] zero d less = length-map p.list _
+wide_by p [] [] (suc i) d less = absurd (omega arith)
+wide_by p [] (e ∷ es) i d less = wide_map p (e ∷ es) i d less
+wide_by p (k ∷ ks) es i d less = wide_map p es i d less
+
+pub rows_wide : (p : KeptPlan) (es : Entries) → All (λ (r : Ranked Value). length r.values ≡ length p.list) (output_rows p es)
+rows_wide p es = wide_by p p.by es

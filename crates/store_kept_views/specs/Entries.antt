@@ -2,7 +2,6 @@
 use Rattle.std.specs.Prelude.{List, not}
 use Rattle.std.specs.List.{filter}
 use Rattle.base_value.specs.declared.value.Value.{Value}
-use Rattle.store_kept_views.specs.Groups.{Group}
 use Rattle.store_kept_views.specs.Standing.{Entries, same_key}
 
 -- the entries of other keys

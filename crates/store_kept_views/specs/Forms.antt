@@ -1,6 +1,7 @@
 -- Which queries are kept, and what the parts of a plan are of those of its query.
 use Rattle.std.specs.Prelude.{◌≡◌, ℕ, ◌==◌, List, [], ◌∷◌, map, Bool, true, false, ◌&&◌, cond}
-use Rattle.std.specs.Prelude.{Option, Some, None, is_some, option_and_then, slice_get, slice_index_or, length, not, Result, Ok, Err}
+use Rattle.std.specs.Prelude.{Option, Some, None, is_some, option_and_then, slice_get}
+use Rattle.std.specs.Prelude.{slice_index_or, length, not, Result, Ok, Err}
 use Rattle.std.specs.List.{list_all}
 
 use Rattle.base_row_laws.specs.Ranked.{true_rank}

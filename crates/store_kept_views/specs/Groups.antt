@@ -1,15 +1,18 @@
 -- What is kept of a group of rows.
-use Rattle.std.specs.Prelude.{◌≡◌, ℕ, ◌+◌, ◌-◌, ◌<◌, ◌≤◌, ◌^◌, ◌==◌, List, [], ◌∷◌, ◌++◌, map, min, max, length}
-use Rattle.std.specs.Prelude.{Bool, true, false, ◌&&◌, cond, nat_lt, replicate, slice_index_or, ℤ, pos, ◌-ℤ◌}
+use Rattle.std.specs.Prelude.{◌≡◌, ℕ, ◌+◌, ◌-◌, ◌<◌, ◌≤◌, ◌==◌, List, [], ◌∷◌, ◌++◌, map, min}
+use Rattle.std.specs.Prelude.{length}
+use Rattle.std.specs.Prelude.{Bool, true, false, ◌&&◌, cond, nat_lt, replicate, slice_index_or, ℤ}
+use Rattle.std.specs.Prelude.{pos, ◌-ℤ◌}
 use Rattle.base_decimal.specs.Tally.{Sums, sums, no_terms, with_term, is_small, total_of}
 use Rattle.base_decimal.specs.Tally.{without_term, HasTerm, IsInRange}
-use Rattle.base_row_laws.specs.Ranked.{Ranked, ranked, number_range_rank, true_rank}
+use Rattle.base_row_laws.specs.Ranked.{Ranked, ranked, true_rank}
 use Rattle.base_row_laws.specs.Bags.{weigh}
 use Rattle.base_row_laws.specs.Operators.{least}
 use Rattle.base_row_laws.specs.Aggregates.{not_null, least_fault}
 use Rattle.base_value.specs.declared.value.Value.{Value}
 use Rattle.base_value.specs.declared.value.Value.TheVariants.{Null, Number}
-use Rattle.expr_aggregates.specs.Values.{written, value_rank, is_null, above, below, reading, number_or_fault}
+use Rattle.expr_aggregates.specs.Values.{written, value_rank, is_null, above, below, reading}
+use Rattle.expr_aggregates.specs.Values.{number_or_fault}
 use Rattle.store_kept_views.specs.declared.plan.KeptAggregate.{KeptAggregate}
 use Rattle.store_kept_views.specs.declared.plan.KeptAggregate.TheVariants as kept
 use Rattle.store_kept_views.specs.Plans.{item_of}

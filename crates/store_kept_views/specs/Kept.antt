@@ -1,5 +1,5 @@
 -- What kept views stand for.
-use Rattle.std.specs.Prelude.{◌≡◌, List, map}
+use Rattle.std.specs.Prelude.{List, map}
 use Rattle.std.specs.List.{All}
 use Rattle.base_schema.specs.declared.table.TableName.{TableName}
 use Rattle.base_schema.specs.State.{State, table_rows}
@@ -38,7 +38,8 @@ pub record CanMoveView (view : KeptPlan × Entries) (added removed rows : State)
   pub stands : IsKept old view
 
 -- so may each
-pub record CanMoveViews (views : List (KeptPlan × Entries)) (added removed rows : State) : Type 0 where
+pub record CanMoveViews (views : List (KeptPlan × Entries)) (added removed rows : State) : Type 0
+    where
   pub old : State
   pub moved : AreMoved old added removed rows
   pub stand : AreKept old views

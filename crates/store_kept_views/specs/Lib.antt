@@ -8,3 +8,4 @@ pub mod Pages
 pub mod Taken
 pub mod Output
 pub mod Kept
+pub mod Cases

@@ -1,5 +1,5 @@
 -- The rows that groups show.
-use Rattle.std.specs.Prelude.{◌≡◌, ℕ, List, [], ◌∷◌, map, length}
+use Rattle.std.specs.Prelude.{ℕ, List, [], ◌∷◌, map, length}
 use Rattle.base_row_laws.specs.Ranked.{Ranked, ranked}
 use Rattle.base_row_laws.specs.Rows.{columns}
 use Rattle.base_value.specs.declared.value.Value.{Value}

@@ -1,14 +1,12 @@
 -- Kept plans: grouped queries of one table, and what they give.
-use Rattle.std.specs.Prelude.{◌≡◌, ℕ, List, [], ◌∷◌, ◌++◌, map, min, slice_index_or}
-use Rattle.base_row_laws.specs.Ranked.{Ranked, ranked, true_rank}
-use Rattle.base_row_laws.specs.Bags.{SameBag}
-use Rattle.base_row_laws.specs.Rows.{columns, scanned, keep}
+use Rattle.std.specs.Prelude.{ℕ, List, map}
+use Rattle.base_row_laws.specs.Ranked.{Ranked}
+use Rattle.base_row_laws.specs.Rows.{columns, scanned}
 use Rattle.base_row_laws.specs.Operators.{select, project}
 use Rattle.base_row_laws.specs.Aggregates.{aggregated, count_rows}
 use Rattle.base_value.specs.declared.value.Value.{Value}
 use Rattle.base_value.specs.declared.value.Value.TheVariants.{Null}
 use Rattle.base_value.specs.Truth.{truth_rank}
-use Rattle.expr_scalar.specs.declared.expr.Expr.{Expr}
 use Rattle.expr_scalar.specs.Meaning.{value, truth}
 use Rattle.expr_aggregates.specs.declared.function.AggregateFunction.TheVariants.{Count, Sum}
 use Rattle.expr_aggregates.specs.Values.{reading, aggregate_of}

@@ -1,18 +1,18 @@
 -- What a table of groups stands for.
-use Rattle.std.specs.Prelude.{◌≡◌, ℕ, ◌+◌, ◌-◌, List, [], ◌∷◌, ◌++◌, map, length}
-use Rattle.std.specs.Prelude.{Bool, true, false, cond, nat_lt, ◌==◌, Option, Some, None, slice_index_or}
-use Rattle.std.specs.List.{filter, IsDistinct}
+use Rattle.std.specs.Prelude.{◌≡◌, ◌+◌, ◌-◌, List, [], ◌∷◌, ◌++◌, map, length}
+use Rattle.std.specs.Prelude.{Bool, cond, Option, Some, None}
+use Rattle.std.specs.List.{filter}
 use Rattle.std.specs.Map.{lookup}
 use Rattle.std.specs.Option.{is_some}
-use Rattle.base_row_laws.specs.Ranked.{Ranked, ranked, true_rank}
+use Rattle.base_row_laws.specs.Ranked.{Ranked}
 use Rattle.base_row_laws.specs.Bags.{SameBag, has}
-use Rattle.base_row_laws.specs.Rows.{same_row, keep}
+use Rattle.base_row_laws.specs.Rows.{same_row}
 use Rattle.base_value.specs.declared.value.Value.{Value}
 use Rattle.base_value.specs.Value.{same_value}
 use Rattle.store_kept_views.specs.declared.plan.KeptAggregate.{KeptAggregate}
 use Rattle.store_kept_views.specs.declared.plan.KeptPlan.{KeptPlan}
-use Rattle.store_kept_views.specs.Plans.{item_of, holds_for, selected, key_of, query_rows}
-use Rattle.store_kept_views.specs.Groups.{Group, group, group_of, with_row, without_row, is_faultless, HasRow, no_rows}
+use Rattle.store_kept_views.specs.Plans.{item_of, selected, key_of}
+use Rattle.store_kept_views.specs.Groups.{Group, group, group_of, no_rows}
 
 -- whether two keys are identical
 abbrev pub same_key : List Value → List Value → Bool
@@ -48,7 +48,8 @@ abbrev pub is_stale : Entries → List Value → Bool
 is_stale stale q = is_some (group_at stale q)
 
 -- the groups of the keys that are made anew are those of some rows, the others those of others
-abbrev pub StandsBy : KeptPlan → Entries → Entries → List (Ranked Value) → List (Ranked Value) → Type 0
+abbrev pub StandsBy : KeptPlan → Entries → Entries → List (Ranked Value) → List (Ranked Value)
+    → Type 0
 StandsBy p es stale xs ys = (q : List Value)
     → group_at es q ≡ cond (is_stale stale q) (made_at p q xs) (made_at p q ys)
 
@@ -79,7 +80,8 @@ pub record IsMoved (old added removed rows : List (List Value)) : Type 0 where
   pub after : SameBag rows (rest ++ added)
 
 -- a table stands for rows, which are moved to others
-pub record CanMove (p : KeptPlan) (es : Entries) (added removed rows : List (List Value)) : Type 0 where
+pub record CanMove (p : KeptPlan) (es : Entries) (added removed rows : List (List Value)) : Type 0
+    where
   pub old : List (List Value)
   pub moved : IsMoved old added removed rows
   pub stands : StandsFor p es old

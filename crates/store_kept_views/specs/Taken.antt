@@ -1,5 +1,5 @@
 -- What comes of a group when one of its rows is taken out.
-use Rattle.std.specs.Prelude.{◌≡◌, ℕ, ◌<◌, List, Bool, true, false, Option, Some, None}
+use Rattle.std.specs.Prelude.{◌≡◌, ◌<◌, List, true, false, Option, Some, None}
 use Rattle.base_value.specs.declared.value.Value.{Value}
 use Rattle.store_kept_views.specs.declared.taking.Taken.{Taken}
 use Rattle.store_kept_views.specs.declared.taking.Taken.TheVariants.{Absent, Left, Gone, Faulty}

@@ -1,5 +1,5 @@
 //! What is kept of the values of an aggregate's argument.
-ghost use Rattle.std.specs.Prelude.{◌≡◌, IfOk, length, map};
+ghost use Rattle.std.specs.Prelude.{◌≡◌};
 ghost use Rattle.base_row_laws.specs.Ranked.{true_rank};
 ghost use Rattle.base_decimal.specs.Tally.{no_terms};
 ghost use Rattle.base_value.specs.Truth.{standing_rank};
@@ -8,7 +8,6 @@ ghost use Rattle.store_kept_views.specs.Groups.{term_of};
 
 use base_decimal::Tally;
 use base_value::{Standing, Value};
-use std::alloc::AllocError;
 
 /// The least standing of the values, True's for one that is no fault, and the tally of those that
 /// are not null. What is no number counts as 0.

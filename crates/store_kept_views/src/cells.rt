@@ -1,8 +1,9 @@
 //! Cells with one value more or less.
-ghost use Rattle.std.specs.Prelude.{◌≡◌, ◌≤◌, ◌<◌, IfOk, length, map, replicate, slice_index_or};
+ghost use Rattle.std.specs.Prelude.{◌≡◌, ◌<◌, IfOk, length, map, replicate};
 ghost use Rattle.base_row_laws.specs.Ranked.{true_rank};
 ghost use Rattle.base_decimal.specs.Tally.{no_terms};
-ghost use Rattle.store_kept_views.specs.Groups.{HaveValues, HasValue, are_plain, cell, is_plain, with_value, with_values};
+ghost use Rattle.store_kept_views.specs.Groups.{HaveValues, HasValue, are_plain, cell, is_plain};
+ghost use Rattle.store_kept_views.specs.Groups.{with_value, with_values};
 ghost use Rattle.store_kept_views.specs.Groups.{without_value, without_values};
 ghost use Rattle.store_kept_views.specs.Stored.{cell_in};
 

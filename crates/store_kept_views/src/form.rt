@@ -3,10 +3,14 @@ ghost use Rattle.std.specs.Prelude.{◌≡◌, Some, map, is_some, IsTrue};
 ghost use Rattle.std.specs.List.{list_all};
 ghost use Rattle.store_kept_views.specs.Forms.{AreItems, AreShown, IsFound, IsItem, IsOver};
 ghost use Rattle.store_kept_views.specs.Forms.{IsPlanOf, IsShown, IsTrueAlways, holds_always};
-ghost use Rattle.store_kept_views.specs.Forms.{is_kept, is_kept_aggregate, is_kept_block};
+ghost use Rattle.sql_bound_query.specs.declared.query.BoundAggregate.TheOpen as node;
+ghost use Rattle.sql_bound_query.specs.declared.query.BoundAggregate.TheVariants as aggregate;
+ghost use Rattle.store_kept_views.specs.Forms.{is_kept, is_kept_aggregate, is_kept_at};
+ghost use Rattle.store_kept_views.specs.Forms.{is_kept_block};
 ghost use Rattle.store_kept_views.specs.Forms.{is_over_row, own_place, shown_place};
 
 use crate::plan::{KeptAggregate, KeptPlan};
+use base_decimal::Scale;
 use expr_aggregates::AggregateFunction;
 use expr_scalar::{Expr, rename};
 use sql_bound_query::{BoundAggregate, BoundBlock, BoundExpr, BoundQuery, BoundSource, Input};
@@ -38,10 +42,13 @@ fn own_place(input: &Input) -> Result<u32, KeptPlanError>
     ensures { IsFound (is_some (own_place input.now))
         (λ place. own_place input.now ≡ Some place) result }
 {
-    match input {
-        Input::Column(0, place) => Ok(*place),
-        _ => Err(KeptPlanError::NotKept),
+    let Input::Column(level, place) = input else {
+        return Err(KeptPlanError::NotKept);
+    };
+    if *level != 0 {
+        return Err(KeptPlanError::NotKept);
     }
+    Ok(*place)
 }
 
 // The places of inputs that are columns of the row itself.
@@ -59,30 +66,51 @@ fn own_places(alloc: Global, inputs: &[Input]) -> Result<Vec<u32>, KeptPlanError
 
 // An expression over the row itself.
 fn over_row(alloc: Global, e: &BoundExpr) -> Result<Expr, KeptPlanError>
-    ensures { IsFound (is_over_row e.now) (λ new. IsOver e.now new) result }
+    ensures { IsFound (is_over_row e.now) (IsOver e.now) result }
 {
     let places = own_places(alloc, e.inputs.as_slice())?;
     let new = rename(alloc, e.expr.get(), places.as_slice())?;
     Ok(new)
 }
 
-// An aggregate that is kept.
-fn kept_aggregate(alloc: Global, a: &BoundAggregate) -> Result<KeptAggregate, KeptPlanError>
-    ensures { IsFound (is_kept_aggregate a.now) (λ new. IsItem a.now new) result }
+// A function of an expression over the row itself, where it is kept.
+fn kept_function(
+    alloc: Global,
+    function: AggregateFunction,
+    scale: Scale,
+    e: &BoundExpr,
+) -> Result<KeptAggregate, KeptPlanError>
+    ensures { IsFound (is_kept_at (node.Of function scale e.now))
+        (IsItem (aggregate.Of function scale e.now)) result }
 {
-    match a {
-        BoundAggregate::CountRows => Ok(KeptAggregate::CountRows),
-        BoundAggregate::Of(AggregateFunction::Count, _, e) => {
+    match function {
+        AggregateFunction::Count => {
             let e = over_row(alloc, e)?;
             let e = Boxed::new(alloc, e)?;
             Ok(KeptAggregate::Count(e))
         }
-        BoundAggregate::Of(AggregateFunction::Sum, scale, e) => {
+        AggregateFunction::Sum => {
             let e = over_row(alloc, e)?;
             let e = Boxed::new(alloc, e)?;
-            Ok(KeptAggregate::Sum(*scale, e))
+            Ok(KeptAggregate::Sum(scale, e))
         }
-        _ => Err(KeptPlanError::NotKept),
+        AggregateFunction::CountDistinct
+        | AggregateFunction::Avg
+        | AggregateFunction::Min
+        | AggregateFunction::Max => Err(KeptPlanError::NotKept),
+    }
+}
+
+// An aggregate that is kept.
+fn kept_aggregate(alloc: Global, a: &BoundAggregate) -> Result<KeptAggregate, KeptPlanError>
+    ensures { IsFound (is_kept_aggregate a.now) (IsItem a.now) result }
+{
+    match a {
+        BoundAggregate::CountRows => Ok(KeptAggregate::CountRows),
+        BoundAggregate::Of(function, scale, e) => {
+            let kept = kept_function(alloc, *function, *scale, e)?;
+            Ok(kept)
+        }
     }
 }
 

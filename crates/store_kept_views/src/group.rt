@@ -1,7 +1,8 @@
 //! What is kept of a group of rows.
-ghost use Rattle.std.specs.Prelude.{◌≡◌, ◌++◌, IfOk, OnOk, length, map};
+ghost use Rattle.std.specs.Prelude.{◌≡◌, IfOk, length, map};
 ghost use Rattle.base_value.specs.Truth.{standing_rank};
-ghost use Rattle.store_kept_views.specs.Groups.{HasRow, is_faultless, no_rows, shown, unless_rank, with_row, without_row};
+ghost use Rattle.store_kept_views.specs.Groups.{HasRow, is_faultless, no_rows, with_row};
+ghost use Rattle.store_kept_views.specs.Groups.{without_row};
 ghost use Rattle.store_kept_views.specs.Stored.{cell_in};
 
 use crate::cell::Cell;

@@ -31,19 +31,15 @@ pub(crate) struct Groups {
 }
 
 impl Model for Groups {
-    ghost use Rattle.std.specs.Prelude.{◌≡◌, ◌<◌, length};
     ghost use Rattle.base_columns.specs.Lists.{one_list};
-    ghost use Rattle.store_kept_views.specs.Pages.{ArePlaced, page_in};
+    ghost use Rattle.store_kept_views.specs.Pages.{IsTable};
     ghost use Rattle.store_kept_views.specs.Standing.{Entries};
 
     ghost Value = { Entries };
 
     ghost view = { λ t. one_list t.pages.items };
 
-    ghost invariant = { λ t. (0 < length t.pages.items)
-        × (t.count ≡ length (one_list t.pages.items))
-        × ArePlaced (page_in ⟦<Row as Hash>⟧.hash_input (length t.pages.items)) 0
-        t.pages.items };
+    ghost invariant = { λ t. IsTable ⟦<Row as Hash>⟧.hash_input t.pages.items t.count };
 }
 
 /// The page of a key among `count`.
@@ -200,12 +196,19 @@ impl Groups {
         Ok(())
     }
 
-    /// Shares of the entries, each of another key.
+    /// Further shares of the entries.
     pub(crate) fn entries(&self) -> Result<Vec<Entry>, AllocError>
-        ensures entries { IfOk result (λ es. es.items ≡ self.now) }
-        ensures distinct { IsDistinct same_key (map (λ e. e.0) self.now) }
+        ensures { IfOk result (λ es. es.items ≡ self.now) }
     {
         page_entries(self.alloc, self.pages.as_slice(), self.count)
+    }
+
+    /// How many groups there are, each of another key.
+    pub(crate) fn len(&self) -> usize
+        ensures value { result ≡ length self.now }
+        ensures distinct { IsDistinct same_key (map (λ e. e.0) self.now) }
+    {
+        self.count
     }
 
     /// Whether there is no group.

@@ -10,6 +10,7 @@ mod form;
 mod group;
 mod groups;
 mod kept;
+pub mod laws;
 mod moving;
 mod output;
 mod page;

@@ -1,11 +1,12 @@
 //! A table of groups moved to other rows.
-ghost use Rattle.std.specs.Prelude.{◌≡◌, ◌++◌, List, [], IfOk, OnOk, cond, map};
+ghost use Rattle.std.specs.Prelude.{◌++◌, List, [], IfOk, OnOk, cond};
 ghost use Rattle.base_columns.specs.Lists.{one_list};
 ghost use Rattle.base_row_laws.specs.Ranked.{Ranked};
 ghost use Rattle.base_value.specs.declared.value.Value.{Value as Datum};
-ghost use Rattle.store_kept_views.specs.Plans.{key_of, selected};
-ghost use Rattle.store_kept_views.specs.Standing.{CanAdd, CanMove, CanTake, CanTakeAll, StandsBy, StandsFor};
-ghost use Rattle.store_kept_views.specs.Standing.{group_at, picked};
+ghost use Rattle.store_kept_views.specs.Plans.{selected};
+ghost use Rattle.store_kept_views.specs.Standing.{CanAdd, CanMove, CanTake, CanTakeAll, StandsBy};
+ghost use Rattle.store_kept_views.specs.Standing.{StandsFor};
+ghost use Rattle.store_kept_views.specs.Standing.{picked};
 ghost use Rattle.store_kept_views.specs.Taken.{IsPut};
 
 use crate::group::Group;
@@ -176,7 +177,11 @@ fn make_anew(
 }
 
 /// The groups of the rows of parts.
-pub(crate) fn started(alloc: Global, plan: &KeptPlan, parts: &[Part]) -> Result<Groups, AllocError>
+pub(crate) fn groups_of(
+    alloc: Global,
+    plan: &KeptPlan,
+    parts: &[Part],
+) -> Result<Groups, AllocError>
     ensures { IfOk result (λ groups. StandsFor plan.now groups (one_list parts.now)) }
 {
     let mut groups = Groups::new(alloc)?;
@@ -187,7 +192,7 @@ pub(crate) fn started(alloc: Global, plan: &KeptPlan, parts: &[Part]) -> Result<
 
 /// The groups of the rows of parts after some rows were removed and others added. The parts are
 /// read only where a group that holds a fault lost a row.
-pub(crate) fn moved(
+pub(crate) fn groups_after(
     alloc: Global,
     plan: &KeptPlan,
     groups: &Groups,

@@ -6,7 +6,7 @@ ghost use Rattle.base_row_laws.specs.Ranked.{ranked};
 ghost use Rattle.base_value.specs.Truth.{standing_rank};
 ghost use Rattle.base_value.specs.declared.value.Value.TheVariants.{Null};
 ghost use Rattle.expr_scalar.specs.Meaning.{value};
-ghost use Rattle.store_kept_views.specs.Plans.{item_of, key_of};
+ghost use Rattle.store_kept_views.specs.Plans.{item_of};
 ghost use Rattle.store_kept_views.specs.Standing.{arguments_in, picked};
 
 use crate::plan::{KeptAggregate, KeptPlan};

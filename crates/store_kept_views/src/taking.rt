@@ -1,17 +1,15 @@
 //! Rows taken out of groups and put into them.
-ghost use Rattle.std.specs.Prelude.{◌≡◌, ◌++◌, true, List, [], IfOk, IfSome, OnOk, length, cond};
+ghost use Rattle.std.specs.Prelude.{◌≡◌, true, IfOk, IfSome, length};
 ghost use Rattle.std.specs.Option.{option_copied};
-ghost use Rattle.base_row_laws.specs.Ranked.{Ranked};
 ghost use Rattle.base_value.specs.Truth.{standing_rank};
-ghost use Rattle.base_value.specs.declared.value.Value.{Value as Datum};
 ghost use Rattle.store_kept_views.specs.Groups.{HasRow, is_faultless, with_row};
-ghost use Rattle.store_kept_views.specs.Standing.{CanAdd, CanTake, StandsBy, arguments_in, or_none, picked};
+ghost use Rattle.store_kept_views.specs.Standing.{arguments_in, or_none};
 ghost use Rattle.store_kept_views.specs.Taken.{IsTaken};
 
 use crate::group::Group;
 use crate::groups::Groups;
 use crate::plan::KeptPlan;
-use crate::reading::{arguments, standing, values_at};
+use crate::reading::arguments;
 use base_value::{Row, Standing};
 use std::alloc::{AllocError, Global};
 

@@ -8,7 +8,7 @@ ghost use Rattle.store_kept_views.specs.Kept.{CanMoveView, IsKept};
 
 use crate::bag::bag_of;
 use crate::groups::Groups;
-use crate::moving::{moved, started};
+use crate::moving::{groups_after, groups_of};
 use crate::output::shown_rows;
 use crate::plan::KeptPlan;
 use base_columns::Bag;
@@ -48,7 +48,7 @@ impl View {
         ensures plan { IfOk result (λ v. v.0 ≡ arc_value plan.now) }
         ensures kept { IfOk result (IsKept tables.now) }
     {
-        let groups = started(alloc, plan, tables.parts(plan.table))?;
+        let groups = groups_of(alloc, plan, tables.parts(plan.table))?;
         let plan = Arc::try_clone(plan)?;
         Ok(View { plan, groups })
     }
@@ -69,7 +69,7 @@ impl View {
         let added = added.rows(alloc, table)?;
         let removed = removed.rows(alloc, table)?;
         let parts = tables.parts(table);
-        let groups = moved(alloc, &self.plan, &self.groups, &added, &removed, parts)?;
+        let groups = groups_after(alloc, &self.plan, &self.groups, &added, &removed, parts)?;
         let plan = Arc::try_clone(&self.plan)?;
         Ok(View { plan, groups })
     }

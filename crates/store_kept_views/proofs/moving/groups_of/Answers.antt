@@ -11,7 +11,7 @@ use Rattle.store_kept_views.specs.Plans.{selected, key_of}
 use Rattle.store_kept_views.specs.Standing.{StandsBy, picked}
 use Rattle.store_kept_views.specs.Standing.{CanAdd, StandsFor}
 use Rattle.store_kept_views.proofs.Stages.{nothing_stands, put_first}
-use Rattle.store_kept_views.proofs.moving.started.Goals as goal
+use Rattle.store_kept_views.proofs.moving.groups_of.Goals as goal
 
 pub put_parts-requires : goal.put_parts-requires
 put_parts-requires c = record {

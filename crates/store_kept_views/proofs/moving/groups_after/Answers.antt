@@ -11,7 +11,7 @@ use Rattle.store_kept_views.specs.Plans.{selected, key_of}
 use Rattle.store_kept_views.specs.Standing.{StandsBy, picked}
 use Rattle.store_kept_views.specs.Standing.{CanAdd, CanTakeAll, StandsFor}
 use Rattle.store_kept_views.proofs.Stages.{begun_stands, ended_stands}
-use Rattle.store_kept_views.proofs.moving.moved.Goals as goal
+use Rattle.store_kept_views.proofs.moving.groups_after.Goals as goal
 
 pub take_all-requires : goal.take_all-requires
 take_all-requires c = record {
