@@ -17,6 +17,8 @@ mod page;
 mod plan;
 mod reading;
 mod taking;
+#[cfg(test)]
+mod tests;
 mod view;
 
 pub use form::KeptPlanError;
