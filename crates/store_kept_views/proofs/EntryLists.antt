@@ -1,7 +1,7 @@
 -- Entries of other keys, and one more.
 use Rattle.std.proofs.Common.{◌≡◌, ℕ, ◌+◌, List, [], ◌∷◌, ◌++◌, Bool, true, false, cond, refl, sym, ◌∙◌, ap, subst, arith, inl, inr, Some, None, Option, ◌<◌, zero, suc}
 use Rattle.std.specs.Prelude.{map, not}
-use Rattle.std.specs.List.{filter, IsDistinct, AllByRecursion}
+use Rattle.std.specs.List.{filter, remove, IsDistinct, AllByRecursion}
 use Rattle.std.specs.Map.{lookup}
 use Rattle.std.specs.Option.{is_some}
 use lib.ListN.{get_or, drop, length}
@@ -15,7 +15,7 @@ use Rattle.base_value.specs.Value.{same_value, same_row as told_row}
 use Rattle.base_value.proofs.Identity.{value_identity}
 use Rattle.store_kept_views.specs.Groups.{Group}
 use Rattle.store_kept_views.specs.Standing.{Entries, same_key, group_at}
-use Rattle.store_kept_views.specs.Entries.{without_key}
+use Rattle.store_kept_views.specs.Entries.{IsPlace, or_empty, with_group, without_key}
 
 pub key_identity : IsIdentity same_key
 key_identity = same_row_is same_value value_identity
@@ -104,6 +104,61 @@ at_suc (x ∷ es) (suc i) e q less is = at_suc es i e q (omega arith) is
 
 pub at_place : (es : Entries) (i : ℕ) (e : List Value × Group) (q : List Value) → i < length es → e ≡ get_or es i e → group_at (drop i es) q ≡ cond (same_key q e.0) (Some e.1) (group_at (drop (i + 1) es) q)
 at_place es i e q less is = let s : i + 1 ≡ suc i = omega arith in rw s (at_suc es i e q less is)
+
+-- the group of a key set
+pub at_with_group : (k : List Value) (o : Option Group) (es : Entries) (q : List Value) → group_at (with_group k o es) q ≡ cond (same_key q k) o (group_at es q)
+at_with_group k None es q = group_without k es q
+at_with_group k (Some g) es q = group_put k g es q
+
+-- where a key has no entry, or one at a place
+pub absent_is : (k : List Value) (es : Entries) → group_at es k ≡ None → without_key k es ≡ es
+absent_is k [] e = refl
+absent_is k (x ∷ es) e = elim (cases_Bool (same_key k x.0)) [
+  | inl t ↦ let h : Some x.1 ≡ None = rw t at e in absurd (some_none x.1 h)
+  | inr f ↦ let h : group_at es k ≡ None = rw f at e in rw f (ap (λ l. x ∷ l) (absent_is k es h))
+]
+
+far_is : (k : List Value) (es : Entries) → AllByRecursion (λ y. same_key k y ≡ false) (keys es) → without_key k es ≡ es
+far_is k [] all = refl
+far_is k (x ∷ es) all = let f = all.0 in rw f (ap (λ l. x ∷ l) (far_is k es all.1))
+
+all_at : (x : List Value) (es : Entries) (i : ℕ) (d : List Value × Group) → AllByRecursion (λ y. same_key x y ≡ false) (keys es) → i < length es → same_key x (get_or es i d).0 ≡ false
+all_at x [] i d all less = absurd (omega arith)
+all_at x (e ∷ es) zero d all less = all.0
+all_at x (e ∷ es) (suc i) d all less = all_at x es i d all.1 (omega arith)
+
+pub removed_is : (k : List Value) (es : Entries) (i : ℕ) → IsDistinct same_key (keys es) → i < length es → ((d : List Value × Group) → (get_or es i d).0 ≡ k) → remove es i ≡ without_key k es
+removed_is k [] i distinct less here = absurd (omega arith)
+removed_is k (x ∷ es) zero distinct less here =
+    let is : x.0 ≡ k = here x in
+    let t : same_key k x.0 ≡ true = subst (λ z. same_key k z ≡ true) (sym is) (key_identity.meets k) in
+    let far : AllByRecursion (λ y. same_key k y ≡ false) (keys es) =
+    subst (λ z. AllByRecursion (λ y. same_key z y ≡ false) (keys es)) is (IsDistinct-head same_key x.0 (keys es) distinct) in
+    rw t (sym (far_is k es far))
+removed_is k (x ∷ es) (suc i) distinct less here =
+    let g : same_key x.0 (get_or es i x).0 ≡ false = all_at x.0 es i x (IsDistinct-head same_key x.0 (keys es) distinct) (omega arith) in
+    let f : same_key k x.0 ≡ false = apart same_key key_identity x.0 k (subst (λ z. same_key x.0 z ≡ false) (here x) g) in
+    rw f (ap (λ l. x ∷ l) (removed_is k es i (IsDistinct-tail same_key x.0 (keys es) distinct) (omega arith) here))
+
+any_default : (es : Entries) (i : ℕ) (d e : List Value × Group) → i < length es → get_or es i d ≡ get_or es i e
+any_default [] i d e less = absurd (omega arith)
+any_default (x ∷ es) zero d e less = refl
+any_default (x ∷ es) (suc i) d e less = any_default es i d e (omega arith)
+
+pub place_is : (es : Entries) (k : List Value) (i : ℕ) (x : List Value × Group) → i < length es → x ≡ get_or es i x → same_key k x.0 ≡ true → group_at es k ≡ group_at (drop i es) k → IsPlace es k i
+place_is es k i x less is same at = (less, λ d.
+    let same_entry : get_or es i d ≡ x = any_default es i d x less ∙ sym is in
+    (
+      ap (λ (y : List Value × Group). y.0) same_entry ∙ sym (key_identity.tells k x.0 same),
+      at ∙ at_place es i x k less is ∙ ap (λ b. cond b (Some x.1) (group_at (drop (i + 1) es) k)) same ∙ ap (λ (y : List Value × Group). Some y.1) (sym same_entry),
+    ))
+
+pub entry_is : (es : Entries) (k : List Value) (i n : ℕ) (e : List Value × Group) → IsPlace es k i → e ≡ get_or es i e → e ≡ (k, or_empty n (group_at es k))
+entry_is es k i n e place is =
+    let h = place.1 e in
+    let first : e.0 ≡ k = ap (λ (x : List Value × Group). x.0) is ∙ h.0 in
+    let second : e.1 ≡ or_empty n (group_at es k) = ap (λ (x : List Value × Group). x.1) is ∙ sym (ap (or_empty n) h.1) in
+    ap (λ a. (a, e.1)) first ∙ ap (λ b. (k, b)) second
 
 pub distinct_none : (es : Entries) → es ≡ [] → IsDistinct same_key (map (λ e. e.0) es)
 unfolding IsDistinct

@@ -139,13 +139,13 @@ cells_less (a ∷ ags) y ys e =
 
 have_values : (ags : List KeptAggregate) (y : Ranked Value) (ys : List (Ranked Value)) → are_plain (cells_of ags (y ∷ ys)) ≡ true → HaveValues (cells_of ags (y ∷ ys)) (arguments_in ags y.values)
 unfolding cells_of
-have_values [] y ys e i less = absurd (omega arith)
-have_values (a ∷ ags) y ys e zero less =
+have_values [] y ys e = tt
+have_values (a ∷ ags) y ys e =
     let c = cell_of (arguments a (y ∷ ys)) in
-    has_value ((item_of a).0 y.values) (arguments a ys) (and_left (is_plain c) (are_plain (cells_of ags (y ∷ ys))) e)
-have_values (a ∷ ags) y ys e (suc i) less =
-    let c = cell_of (arguments a (y ∷ ys)) in
-    have_values ags y ys (and_right (is_plain c) (are_plain (cells_of ags (y ∷ ys))) e) i (omega arith)
+    (
+      has_value ((item_of a).0 y.values) (arguments a ys) (and_left (is_plain c) (are_plain (cells_of ags (y ∷ ys))) e),
+      have_values ags y ys (and_right (is_plain c) (are_plain (cells_of ags (y ∷ ys))) e),
+    )
 
 within_least : (ys : List (Ranked Value)) → least ys ≤ 5
 within_least ys = bottom_most 5 (λ y. y.standing) ys

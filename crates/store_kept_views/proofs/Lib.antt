@@ -1,12 +1,11 @@
 pub mod GroupLists
-pub mod CellLists
 pub mod EntryLists
-pub mod Picking
 pub mod Made
 pub mod Stages
 pub mod Passing
 pub mod Shows
 pub mod PageLists
+pub mod ReadingLists
 pub mod ViewLists
 pub mod FormsOpened
 pub mod FormLists

@@ -15,7 +15,7 @@ use Rattle.base_value.specs.declared.value.Value.{Value}
 use Rattle.store_kept_views.specs.declared.plan.KeptPlan.{KeptPlan}
 use Rattle.store_kept_views.specs.Plans.{holds_for, selected, key_of}
 use Rattle.store_kept_views.specs.Groups.{Group, group_of, with_row, without_row, is_faultless, HasRow, no_rows}
-use Rattle.store_kept_views.specs.Standing.{Entries, same_key, group_at, rows_at, made_at, StandsFor, StandsBy, is_stale, picked, arguments_in, or_none}
+use Rattle.store_kept_views.specs.Standing.{Entries, same_key, group_at, rows_at, made_at, StandsFor, StandsBy, is_stale, arguments_in}
 use Rattle.store_kept_views.proofs.GroupLists.{group_more, group_less, group_none, group_alike, has_row}
 use Rattle.store_kept_views.proofs.EntryLists.{key_identity}
 
@@ -23,7 +23,10 @@ abbrev pub key : KeptPlan → Ranked Value → List Value
 key p y = key_of p y.values
 
 -- WHERE over lists
-pub selected_cons : (p : KeptPlan) (row : List Value) (rows : List (List Value)) → selected p (row ∷ rows) ≡ picked p row ++ selected p rows
+abbrev picked : KeptPlan → List Value → List (Ranked Value)
+picked p row = selected p (row ∷ [])
+
+selected_cons : (p : KeptPlan) (row : List Value) (rows : List (List Value)) → selected p (row ∷ rows) ≡ picked p row ++ selected p rows
 unfolding selected
 selected_cons p row rows = ap (λ l. l ++ select (holds_for p) (scanned rows)) (sym (append-nil (keep row (min 5 (holds_for p row)))))
 

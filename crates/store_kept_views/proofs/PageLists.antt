@@ -1,10 +1,10 @@
 -- Entries on the pages that their keys' hashes lead to.
 use Rattle.std.proofs.Common.{◌≡◌, ℕ, ◌+◌, ◌<◌, ◌≤◌, List, [], ◌∷◌, ◌++◌, Bool, true, false, cond, refl, sym, ◌∙◌, ap, subst, arith, inl, inr, Some, None, Option, zero, suc, set}
-use Rattle.std.specs.Prelude.{map, not, replicate}
+use Rattle.std.specs.Prelude.{map, not, replicate, ◌⊎◌}
 use Rattle.std.specs.List.{fold, IsDistinct, AllByRecursion}
 use lib.ListN.{get_or, length}
 use Rattle.std.proofs.lemmas.Bool.{cases_Bool, cases_eq, true≢false}
-use Rattle.std.proofs.lemmas.List.{get_or-set_same, get_or-set_other, length-set, length-append, length-replicate}
+use Rattle.std.proofs.lemmas.List.{get_or-set_same, get_or-set_other, length-set, set-get_or, length-replicate}
 use Rattle.std.proofs.lemmas.Map.Keys.{IsDistinct-head, IsDistinct-tail, IsDistinct-cons}
 use Rattle.std.proofs.lemmas.Nat.{mod_below}
 use Rattle.std.specs.Hash.FoldHasher.{initial, write, finish}
@@ -12,9 +12,10 @@ use Rattle.base_columns.specs.Lists.{one_list}
 use Rattle.base_value.specs.declared.value.Value.{Value}
 use Rattle.store_kept_views.specs.Groups.{Group}
 use Rattle.store_kept_views.specs.Standing.{Entries, same_key, group_at}
-use Rattle.store_kept_views.specs.Entries.{without_key}
+use Rattle.store_kept_views.specs.Entries.{with_group, without_key}
+use Rattle.store_kept_views.specs.Taken.{IsSet}
 use Rattle.store_kept_views.specs.Pages.{ArePlaced, IsTable, first_of, page_in}
-use Rattle.store_kept_views.proofs.EntryLists.{key_identity, keys, group_put, group_without, distinct_put, distinct_without, distinct_none}
+use Rattle.store_kept_views.proofs.EntryLists.{key_identity, keys, at_with_group, distinct_put, distinct_without, distinct_none}
 
 first_alone : (o : Option Group) → first_of o None ≡ o
 first_alone None = refl
@@ -150,48 +151,28 @@ module _ (page : List Value → ℕ) where
     | inl t ↦ absurd (no (ap page (key_identity.tells q k t) ∙ sym is))
   ]
 
-  -- a page anew, whose groups differ from before at one key
-  pub at_set : (ps : List Entries) (j : ℕ) (k : List Value) (o : Option Group) (new : Entries) → ArePlaced page 0 ps → ArePlaced page 0 (set ps j new) → ((x : List Value) → page x < length ps)
-      → j ≡ page k → ((q : List Value) → group_at new q ≡ cond (same_key q k) o (group_at (get_or ps j []) q))
-      → (q : List Value) → group_at (one_list (set ps j new)) q ≡ cond (same_key q k) o (group_at (one_list ps) q)
-  at_set ps j k o new placed anew within is page_is q =
-      found (set ps j new) q anew (subst (λ n. page q < n) (sym (length-set ps j new)) (within q))
+  -- a page with the group of its key set
+  pub placed_with : (ps : List Entries) (j : ℕ) (k : List Value) (o : Option Group) → ArePlaced page 0 ps → j ≡ page k → j < length ps → ArePlaced page 0 (set ps j (with_group k o (get_or ps j [])))
+  placed_with ps j k None placed is less = placed_removed ps j k placed less
+  placed_with ps j k (Some g) placed is less = placed_put ps j (k, g) placed is less
+
+  pub set_at : (ps : List Entries) (j : ℕ) (k : List Value) (o : Option Group) → ArePlaced page 0 ps → ((x : List Value) → page x < length ps) → j ≡ page k
+      → IsSet k o (one_list ps) (one_list (set ps j (with_group k o (get_or ps j []))))
+  set_at ps j k o placed within is q =
+      let less : j < length ps = subst (λ n. n < length ps) (sym is) (within k) in
+      let new : Entries = with_group k o (get_or ps j []) in
+      found (set ps j new) q (placed_with ps j k o placed is less) (subst (λ n. page q < n) (sym (length-set ps j new)) (within q))
       ∙ elim (cases_eq (page q) j) [
         | inl t ↦
           ap (λ n. group_at (get_or (set ps j new) n []) q) t
-          ∙ ap (λ (es : Entries). group_at es q) (get_or-set_same ps j new [] (subst (λ n. n < length ps) t (within q)))
-          ∙ page_is q
+          ∙ ap (λ (es : Entries). group_at es q) (get_or-set_same ps j new [] less)
+          ∙ at_with_group k o (get_or ps j []) q
           ∙ ap (λ x. cond (same_key q k) o x) (ap (λ n. group_at (get_or ps n []) q) (sym t) ∙ sym (found ps q placed (within q)))
         | inr f ↦
           ap (λ (es : Entries). group_at es q) (get_or-set_other ps j (page q) new [] f)
           ∙ sym (found ps q placed (within q))
           ∙ sym (ap (λ b. cond b o (group_at (one_list ps) q)) (elsewhere k q j is f))
       ]
-
-  pub put_at : (ps : List Entries) (j : ℕ) (e : List Value × Group) → ArePlaced page 0 ps → ((x : List Value) → page x < length ps) → j ≡ page e.0
-      → (q : List Value) → group_at (one_list (set ps j (without_key e.0 (get_or ps j []) ++ e ∷ []))) q ≡ cond (same_key q e.0) (Some e.1) (group_at (one_list ps) q)
-  put_at ps j e placed within is =
-      at_set ps j e.0 (Some e.1) (without_key e.0 (get_or ps j []) ++ e ∷ []) placed
-      (placed_put ps j e placed is (subst (λ n. n < length ps) (sym is) (within e.0))) within is (group_put e.0 e.1 (get_or ps j []))
-
-  pub removed_at : (ps : List Entries) (j : ℕ) (k : List Value) → ArePlaced page 0 ps → ((x : List Value) → page x < length ps) → j ≡ page k
-      → (q : List Value) → group_at (one_list (set ps j (without_key k (get_or ps j [])))) q ≡ cond (same_key q k) None (group_at (one_list ps) q)
-  removed_at ps j k placed within is =
-      at_set ps j k None (without_key k (get_or ps j [])) placed
-      (placed_removed ps j k placed (subst (λ n. n < length ps) (sym is) (within k))) within is (group_without k (get_or ps j []))
-
--- how many entries there are with a page anew
-pub length_at : (ps : List Entries) (j : ℕ) → j < length ps → length (get_or ps j []) ≤ length (one_list ps)
-length_at [] j less = absurd (omega arith)
-length_at (es ∷ ps) zero less = let e = length-append es (one_list ps) in omega (arith, e)
-length_at (es ∷ ps) (suc j) less = let e = length-append es (one_list ps) in let ih = length_at ps j (omega arith) in omega (arith, e, ih)
-
-pub length_set : (ps : List Entries) (j : ℕ) (new : Entries) → j < length ps → length (one_list (set ps j new)) + length (get_or ps j []) ≡ length (one_list ps) + length new
-length_set [] j new less = absurd (omega arith)
-length_set (es ∷ ps) zero new less = let d = length-append new (one_list ps) in let e = length-append es (one_list ps) in omega (arith, d, e)
-length_set (es ∷ ps) (suc j) new less =
-    let d = length-append es (one_list (set ps j new)) in let e = length-append es (one_list ps) in
-    let ih = length_set ps j new (omega arith) in omega (arith, d, e, ih)
 
 -- pages without entries
 pub none_there : (n : ℕ) → one_list (replicate n []) ≡ []
@@ -211,7 +192,7 @@ default_any (x ∷ ps) (suc i) d e less = default_any ps i d e (omega arith)
 within : (fed : List Value → List (List ℕ)) (n : ℕ) → 0 < n → (q : List Value) → page_in fed n q < n
 within fed n some q = mod_below (finish (fold write initial (fed q))) n some
 
-module _ (fed : List Value → List (List ℕ)) (ps : List Entries) (count : ℕ) (table : IsTable fed ps count) where
+module _ (fed : List Value → List (List ℕ)) (ps : List Entries) (table : IsTable fed ps) where
   abbrev page : List Value → ℕ
   page = page_in fed (length ps)
 
@@ -222,83 +203,49 @@ module _ (fed : List Value → List (List ℕ)) (ps : List Entries) (count : ℕ
   pub table_get : (at : ℕ) (here : Entries) (q : List Value) → at ≡ page q → here ≡ get_or ps at here → group_at here q ≡ group_at (one_list ps) q
   table_get at here q is on =
       ap (λ (es : Entries). group_at es q) (on ∙ default_any ps at here [] (inside at q is) ∙ ap (λ n. get_or ps n []) is)
-      ∙ sym (found page ps q table.1.1 (within fed (length ps) table.0 q))
+      ∙ sym (found page ps q table.1 (within fed (length ps) table.0 q))
 
-  count_set : (at : ℕ) (here new : Entries) (count' : ℕ) → at < length ps → here ≡ get_or ps at here → count' + length here ≡ count + length new → count' ≡ length (one_list (set ps at new))
-  count_set at here new count' less on is =
-      let a = length_set ps at new less in
-      let b : length here ≡ length (get_or ps at []) = ap length (on ∙ default_any ps at here [] less) in
-      let c : count ≡ length (one_list ps) = table.1.0 in
-      omega (arith, a, b, c, is)
-
-  pub count_least : (at : ℕ) (here : Entries) (k : List Value) → at ≡ page k → here ≡ get_or ps at here → length here ≤ count
-  count_least at here k is on =
+  -- with the group of a key set
+  pub table_with : (at : ℕ) (here new : Entries) (k : List Value) (o : Option Group) → at ≡ page k → here ≡ get_or ps at here → new ≡ with_group k o here → IsTable fed (set ps at new)
+  table_with at here new k o is on made =
       let less = inside at k is in
-      let a = length_at ps at less in
-      let b : length here ≡ length (get_or ps at []) = ap length (on ∙ default_any ps at here [] less) in
-      let c : count ≡ length (one_list ps) = table.1.0 in
-      omega (arith, a, b, c)
-
-  table_set : (at : ℕ) (here new : Entries) (count' : ℕ) → at < length ps → here ≡ get_or ps at here → count' + length here ≡ count + length new → ArePlaced page 0 (set ps at new) → IsTable fed (set ps at new) count'
-  table_set at here new count' less on is placed =
+      let h : here ≡ get_or ps at [] = on ∙ default_any ps at here [] less in
+      let n : new ≡ with_group k o (get_or ps at []) = made ∙ ap (λ x. with_group k o x) h in
       let same = sym (length-set ps at new) in
       (
         subst (λ n. 0 < n) same table.0,
-        count_set at here new count' less on is,
-        subst (λ n. ArePlaced (page_in fed n) 0 (set ps at new)) same placed,
+        subst (λ n. ArePlaced (page_in fed n) 0 (set ps at new)) same
+            (subst (λ x. ArePlaced page 0 (set ps at x)) (sym n) (placed_with page ps at k o table.1 is less)),
       )
 
-  -- with an entry put, and with one removed
-  pub table_put : (at : ℕ) (here new : Entries) (count' : ℕ) (e : List Value × Group) → at ≡ page e.0 → here ≡ get_or ps at here → new ≡ without_key e.0 here ++ e ∷ [] → count' + length here ≡ count + length new
-      → IsTable fed (set ps at new) count'
-  table_put at here new count' e is on made counts =
-      let less = inside at e.0 is in
-      let h : here ≡ get_or ps at [] = on ∙ default_any ps at here [] less in
-      let n : new ≡ without_key e.0 (get_or ps at []) ++ e ∷ [] = made ∙ ap (λ x. without_key e.0 x ++ e ∷ []) h in
-      table_set at here new count' less on counts (subst (λ x. ArePlaced page 0 (set ps at x)) (sym n) (placed_put page ps at e table.1.1 is less))
-
-  pub group_put_at : (at : ℕ) (here new : Entries) (e : List Value × Group) → at ≡ page e.0 → here ≡ get_or ps at here → new ≡ without_key e.0 here ++ e ∷ []
-      → (q : List Value) → group_at (one_list (set ps at new)) q ≡ cond (same_key q e.0) (Some e.1) (group_at (one_list ps) q)
-  group_put_at at here new e is on made q =
-      let less = inside at e.0 is in
-      let h : here ≡ get_or ps at [] = on ∙ default_any ps at here [] less in
-      let n : new ≡ without_key e.0 (get_or ps at []) ++ e ∷ [] = made ∙ ap (λ x. without_key e.0 x ++ e ∷ []) h in
-      ap (λ x. group_at (one_list (set ps at x)) q) n ∙ put_at page ps at e table.1.1 (within fed (length ps) table.0) is q
-
-  pub table_removed : (at : ℕ) (here new : Entries) (count' : ℕ) (k : List Value) → at ≡ page k → here ≡ get_or ps at here → new ≡ without_key k here → count' + length here ≡ count + length new
-      → IsTable fed (set ps at new) count'
-  table_removed at here new count' k is on made counts =
+  pub table_set : (at : ℕ) (here new : Entries) (k : List Value) (o : Option Group) → at ≡ page k → here ≡ get_or ps at here → new ≡ with_group k o here → IsSet k o (one_list ps) (one_list (set ps at new))
+  table_set at here new k o is on made q =
       let less = inside at k is in
       let h : here ≡ get_or ps at [] = on ∙ default_any ps at here [] less in
-      let n : new ≡ without_key k (get_or ps at []) = made ∙ ap (λ x. without_key k x) h in
-      table_set at here new count' less on counts (subst (λ x. ArePlaced page 0 (set ps at x)) (sym n) (placed_removed page ps at k table.1.1 less))
+      let n : new ≡ with_group k o (get_or ps at []) = made ∙ ap (λ x. with_group k o x) h in
+      ap (λ x. group_at (one_list (set ps at x)) q) n ∙ set_at page ps at k o table.1 (within fed (length ps) table.0) is q
 
-  pub group_removed_at : (at : ℕ) (here new : Entries) (k : List Value) → at ≡ page k → here ≡ get_or ps at here → new ≡ without_key k here
-      → (q : List Value) → group_at (one_list (set ps at new)) q ≡ cond (same_key q k) None (group_at (one_list ps) q)
-  group_removed_at at here new k is on made q =
-      let less = inside at k is in
-      let h : here ≡ get_or ps at [] = on ∙ default_any ps at here [] less in
-      let n : new ≡ without_key k (get_or ps at []) = made ∙ ap (λ x. without_key k x) h in
-      ap (λ x. group_at (one_list (set ps at x)) q) n ∙ removed_at page ps at k table.1.1 (within fed (length ps) table.0) is q
+  -- after want of memory
+  pub table_after : (at : ℕ) (here new : Entries) (k : List Value) → at ≡ page k → here ≡ get_or ps at here → (new ≡ here) ⊎ (new ≡ without_key k here) → IsTable fed (set ps at new)
+  table_after at here new k is on (inl same) =
+      subst (λ qs. IsTable fed qs) (sym (ap (λ x. set ps at x) (same ∙ on) ∙ set-get_or ps at here)) table
+  table_after at here new k is on (inr without) = table_with at here new k None is on without
 
   -- the keys of all pages differ
   pub table_distinct : IsDistinct same_key (keys (one_list ps))
-  table_distinct = distinct_all page 0 ps table.1.1
+  table_distinct = distinct_all page 0 ps table.1
+
+  pub page_distinct : (at : ℕ) (here : Entries) → at < length ps → here ≡ get_or ps at here → IsDistinct same_key (keys here)
+  page_distinct at here less on = subst (λ es. IsDistinct same_key (keys es)) (sym (on ∙ default_any ps at here [] less)) (distinct_page page 0 at ps table.1 less)
 
 -- no entries on so many pages
-pub table_none : (fed : List Value → List (List ℕ)) (n : ℕ) (ps : List Entries) (count : ℕ) → 0 < n → ps ≡ replicate n [] → count ≡ 0 → IsTable fed ps count
-table_none fed n ps count some is none =
+pub table_none : (fed : List Value → List (List ℕ)) (n : ℕ) (ps : List Entries) → 0 < n → ps ≡ replicate n [] → IsTable fed ps
+table_none fed n ps some is =
     let l : length ps ≡ n = ap length is ∙ length-replicate n [] in
     (
       subst (λ m. 0 < m) (sym l) some,
-      none ∙ sym (ap (λ x. length (one_list x)) is ∙ ap length (none_there n)),
       subst (λ x. ArePlaced (page_in fed (length ps)) 0 x) (sym is) (none_placed (page_in fed (length ps)) 0 n),
     )
 
 pub no_entries : (n : ℕ) (ps : List Entries) → ps ≡ replicate n [] → one_list ps ≡ []
 no_entries n ps is = ap one_list is ∙ none_there n
-
--- whether there is an entry
-pub empty_told : (es : Entries) → length es ≡ 0 → es ≡ []
-empty_told [] is = refl
-empty_told (e ∷ es) is = absurd (omega arith)

@@ -11,12 +11,13 @@ use Rattle.base_value.specs.declared.value.Value.{Value}
 use Rattle.store_kept_views.specs.declared.plan.KeptPlan.{KeptPlan}
 use Rattle.store_kept_views.specs.Plans.{holds_for, selected, key_of}
 use Rattle.store_kept_views.specs.Groups.{Group, group_of, with_row, without_row, is_faultless, HasRow, no_rows}
-use Rattle.store_kept_views.specs.Standing.{Entries, same_key, group_at, rows_at, made_at, StandsFor, StandsBy, is_stale, picked, arguments_in, or_none, IsMoved}
+use Rattle.store_kept_views.specs.Standing.{Entries, same_key, group_at, rows_at, made_at, StandsFor, StandsBy, is_stale, arguments_in, IsMoved}
+use Rattle.store_kept_views.specs.Entries.{or_empty}
 use Rattle.store_kept_views.proofs.GroupLists.{group_more, group_less, group_none, has_row}
 use Rattle.store_kept_views.proofs.EntryLists.{key_identity}
 use Rattle.store_kept_views.proofs.Made.{key, made_alike, made_none, made_other, made_here, made_some, made_gone, has_rows, filled, selected_append, selected_alike}
 
-abbrev args_of : KeptPlan → Ranked Value → List Value
+abbrev pub args_of : KeptPlan → Ranked Value → List Value
 args_of p y = arguments_in p.aggregates y.values
 
 pub some_is : {X : Type 0} (x y : X) → Some x ≡ Some y → x ≡ y
@@ -101,34 +102,34 @@ nothing_of : (xs : List (Ranked Value)) → filled xs ≡ false → xs ≡ []
 nothing_of [] e = refl
 nothing_of (x ∷ xs) e = absurd (true≢false e)
 
-or_made : (p : KeptPlan) (q : List Value) (ys : List (Ranked Value)) → or_none p (made_at p q ys) ≡ group_of p.aggregates (rows_at p q ys)
+or_made : (p : KeptPlan) (q : List Value) (ys : List (Ranked Value)) → or_empty (length p.aggregates) (made_at p q ys) ≡ group_of p.aggregates (rows_at p q ys)
 unfolding made_at
 or_made p q ys = elim (cases_Bool (has same_key q (map (key p) ys))) [
   | inl t ↦ rw t
   | inr f ↦ let e = nothing_of (rows_at p q ys) (sym (has_rows p q ys) ∙ f) in rw f (sym (group_none p.aggregates) ∙ ap (λ l. group_of p.aggregates l) (sym e))
 ]
 
-push_here : (p : KeptPlan) (ys : List (Ranked Value)) (y : Ranked Value) → made_at p (key p y) (ys ++ y ∷ []) ≡ Some (with_row (or_none p (made_at p (key p y) ys)) (args_of p y) y.standing)
+push_here : (p : KeptPlan) (ys : List (Ranked Value)) (y : Ranked Value) → made_at p (key p y) (ys ++ y ∷ []) ≡ Some (with_row (or_empty (length p.aggregates) (made_at p (key p y) ys)) (args_of p y) y.standing)
 push_here p ys y =
     push_front p (key p y) ys y ∙ made_here p y ys
     ∙ ap (λ g. Some g) (group_more p.aggregates y (rows_at p (key p y) ys) ∙ ap (λ g. with_row g (args_of p y) y.standing) (sym (or_made p (key p y) ys)))
 
 -- a row put in where its key is one of those that are wanted
 pub put_stands : (wanted : Bool) (p : KeptPlan) (es es' st : Entries) (y : Ranked Value) (h : Group) (xs ys : List (Ranked Value)) → StandsBy p es st xs ys
-    → is_stale st (key p y) ≡ wanted → h ≡ with_row (or_none p (group_at es (key p y))) (args_of p y) y.standing
+    → is_stale st (key p y) ≡ wanted → h ≡ with_row (or_empty (length p.aggregates) (group_at es (key p y))) (args_of p y) y.standing
     → ((q : List Value) → group_at es' q ≡ cond (same_key q (key p y)) (Some h) (group_at es q))
     → StandsBy p es' st (cond wanted (xs ++ y ∷ []) xs) (cond wanted ys (ys ++ y ∷ []))
 put_stands true p es es' st y h xs ys old w is new q = elim (cases_Bool (same_key q (key p y))) [
   | inr d ↦ (rw d at (new q)) ∙ old q ∙ ap (λ o. cond (is_stale st q) o (made_at p q ys)) (sym (push_other p q xs y d))
   | inl t ↦ subst (λ q. group_at es' q ≡ cond (is_stale st q) (made_at p q (xs ++ y ∷ [])) (made_at p q ys)) (sym (key_identity.tells q (key p y) t))
       (let m = key_identity.meets (key p y) in let o : group_at es (key p y) ≡ made_at p (key p y) xs = rw w at (old (key p y)) in
-      (rw m at (new (key p y))) ∙ rw w (ap (λ h. Some h) (is ∙ ap (λ g. with_row (or_none p g) (args_of p y) y.standing) o) ∙ sym (push_here p xs y)))
+      (rw m at (new (key p y))) ∙ rw w (ap (λ h. Some h) (is ∙ ap (λ g. with_row (or_empty (length p.aggregates) g) (args_of p y) y.standing) o) ∙ sym (push_here p xs y)))
 ]
 put_stands false p es es' st y h xs ys old w is new q = elim (cases_Bool (same_key q (key p y))) [
   | inr d ↦ (rw d at (new q)) ∙ old q ∙ ap (λ o. cond (is_stale st q) (made_at p q xs) o) (sym (push_other p q ys y d))
   | inl t ↦ subst (λ q. group_at es' q ≡ cond (is_stale st q) (made_at p q xs) (made_at p q (ys ++ y ∷ []))) (sym (key_identity.tells q (key p y) t))
       (let m = key_identity.meets (key p y) in let o : group_at es (key p y) ≡ made_at p (key p y) ys = rw w at (old (key p y)) in
-      (rw m at (new (key p y))) ∙ rw w (ap (λ h. Some h) (is ∙ ap (λ g. with_row (or_none p g) (args_of p y) y.standing) o) ∙ sym (push_here p ys y)))
+      (rw m at (new (key p y))) ∙ rw w (ap (λ h. Some h) (is ∙ ap (λ g. with_row (or_empty (length p.aggregates) g) (args_of p y) y.standing) o) ∙ sym (push_here p ys y)))
 ]
 
 -- a row passed over, since its key is none of those that are wanted

@@ -1,5 +1,5 @@
 -- Groups worked out by hand.
-use Rattle.std.specs.Prelude.{◌≡◌, ℕ, ◌^◌, List, [], ◌∷◌, pos, negsuc}
+use Rattle.std.specs.Prelude.{◌≡◌, ℕ, ◌^◌, [], ◌∷◌, pos, negsuc}
 use Rattle.base_decimal.specs.Tally.{sums}
 use Rattle.base_row_laws.specs.Ranked.{true_rank}
 use Rattle.base_value.specs.declared.truth.Fault.TheVariants.{DivideByZero, NumberRange}

@@ -1,7 +1,7 @@
 -- What is kept of a group of rows.
-use Rattle.std.specs.Prelude.{◌≡◌, ℕ, ◌+◌, ◌-◌, ◌<◌, ◌≤◌, ◌==◌, List, [], ◌∷◌, ◌++◌, map, min}
+use Rattle.std.specs.Prelude.{◌≡◌, ℕ, ◌+◌, ◌-◌, ◌≤◌, ◌==◌, List, [], ◌∷◌, ◌++◌, map, min}
 use Rattle.std.specs.Prelude.{length}
-use Rattle.std.specs.Prelude.{Bool, true, false, ◌&&◌, cond, nat_lt, replicate, slice_index_or, ℤ}
+use Rattle.std.specs.Prelude.{Bool, true, false, ◌&&◌, cond, nat_lt, replicate, ℤ}
 use Rattle.std.specs.Prelude.{pos, ◌-ℤ◌}
 use Rattle.base_decimal.specs.Tally.{Sums, sums, no_terms, with_term, is_small, total_of}
 use Rattle.base_decimal.specs.Tally.{without_term, HasTerm, IsInRange}
@@ -107,8 +107,9 @@ HasValue c v = is_null v ≡ false → HasTerm c.sums (term_of v) × IsInRange c
 
 -- cell by cell
 abbrev pub HaveValues : List Cell → List Value → Type 0
-HaveValues cs vs = (i : ℕ) → i < length cs
-    → HasValue (slice_index_or cs i (cell 0 no_terms)) (slice_index_or vs i Null)
+HaveValues [] vs = Unit {0}
+HaveValues (c ∷ cs) [] = Unit {0}
+HaveValues (c ∷ cs) (v ∷ vs) = HasValue c v × HaveValues cs vs
 
 -- a row of these arguments may be one of the group's
 pub record HasRow (g : Group) (args : List Value) : Type 0 where

@@ -2,7 +2,6 @@
 use Rattle.std.specs.Prelude.{◌≡◌, ℕ, suc, ◌%◌, ◌<◌, List, [], ◌∷◌, map, length, Option, Some, None}
 use Rattle.std.specs.List.{fold, IsDistinct, AllByRecursion}
 use Rattle.std.specs.Hash.FoldHasher.{initial, write, finish}
-use Rattle.base_columns.specs.Lists.{one_list}
 use Rattle.base_value.specs.declared.value.Value.{Value}
 use Rattle.store_kept_views.specs.Groups.{Group}
 use Rattle.store_kept_views.specs.Standing.{Entries, same_key}
@@ -18,10 +17,9 @@ ArePlaced page i [] = Unit {0}
 ArePlaced page i (es ∷ pages) = AllByRecursion (λ e. page e.0 ≡ i) es
     × IsDistinct same_key (map (λ e. e.0) es) × ArePlaced page (suc i) pages
 
--- so many entries lie on at least one page, each on the page of its key
-abbrev pub IsTable : (List Value → List (List ℕ)) → List Entries → ℕ → Type 0
-IsTable fed pages count = (0 < length pages) × (count ≡ length (one_list pages))
-    × ArePlaced (page_in fed (length pages)) 0 pages
+-- there is a page, and each entry lies on the page of its key
+abbrev pub IsTable : (List Value → List (List ℕ)) → List Entries → Type 0
+IsTable fed pages = (0 < length pages) × ArePlaced (page_in fed (length pages)) 0 pages
 
 -- the first of two groups that is there
 abbrev pub first_of : Option Group → Option Group → Option Group

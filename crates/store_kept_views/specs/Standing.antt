@@ -1,5 +1,5 @@
 -- What a table of groups stands for.
-use Rattle.std.specs.Prelude.{◌≡◌, ◌+◌, ◌-◌, List, [], ◌∷◌, ◌++◌, map, length}
+use Rattle.std.specs.Prelude.{◌≡◌, ◌+◌, ◌-◌, List, [], ◌++◌, map}
 use Rattle.std.specs.Prelude.{Bool, cond, Option, Some, None}
 use Rattle.std.specs.List.{filter}
 use Rattle.std.specs.Map.{lookup}
@@ -12,7 +12,7 @@ use Rattle.base_value.specs.Value.{same_value}
 use Rattle.store_kept_views.specs.declared.plan.KeptAggregate.{KeptAggregate}
 use Rattle.store_kept_views.specs.declared.plan.KeptPlan.{KeptPlan}
 use Rattle.store_kept_views.specs.Plans.{item_of, selected, key_of}
-use Rattle.store_kept_views.specs.Groups.{Group, group, group_of, no_rows}
+use Rattle.store_kept_views.specs.Groups.{Group, group, group_of}
 
 -- whether two keys are identical
 abbrev pub same_key : List Value → List Value → Bool
@@ -39,10 +39,6 @@ made_at p q ys = cond (has same_key q (map (λ y. key_of p y.values) ys))
 abbrev pub StandsFor : KeptPlan → Entries → List (List Value) → Type 0
 StandsFor p es rows = (q : List Value) → group_at es q ≡ made_at p q (selected p rows)
 
--- the row as WHERE leaves it, if it does
-abbrev pub picked : KeptPlan → List Value → List (Ranked Value)
-picked p row = selected p (row ∷ [])
-
 -- the key is one of those that are made anew
 abbrev pub is_stale : Entries → List Value → Bool
 is_stale stale q = is_some (group_at stale q)
@@ -53,15 +49,10 @@ abbrev pub StandsBy : KeptPlan → Entries → Entries → List (Ranked Value) �
 StandsBy p es stale xs ys = (q : List Value)
     → group_at es q ≡ cond (is_stale stale q) (made_at p q xs) (made_at p q ys)
 
--- a row is among those that a table stands for
-pub record CanTake (p : KeptPlan) (es stale : Entries) (row : List Value) : Type 0 where
+-- rows are among those that a table stands for
+pub record CanTakeAll (p : KeptPlan) (es stale : Entries) (ys : List (Ranked Value)) : Type 0 where
   pub left : List (Ranked Value)
-  pub stands : StandsBy p es stale [] (picked p row ++ left)
-
--- these rows are
-pub record CanTakeAll (p : KeptPlan) (es stale : Entries) (rows : List (List Value)) : Type 0 where
-  pub left : List (Ranked Value)
-  pub stands : StandsBy p es stale [] (selected p rows ++ left)
+  pub stands : StandsBy p es stale [] (ys ++ left)
 
 -- a table stands for some rows
 pub record CanAdd (p : KeptPlan) (es stale : Entries) : Type 0 where
@@ -85,8 +76,3 @@ pub record CanMove (p : KeptPlan) (es : Entries) (added removed rows : List (Lis
   pub old : List (List Value)
   pub moved : IsMoved old added removed rows
   pub stands : StandsFor p es old
-
--- the group of a key's rows, or of none
-abbrev pub or_none : KeptPlan → Option Group → Group
-or_none p None = no_rows (length p.aggregates)
-or_none p (Some g) = g

@@ -1,88 +1,40 @@
-//! Cells with one value more or less.
-ghost use Rattle.std.specs.Prelude.{◌≡◌, ◌<◌, IfOk, length, map, replicate};
+//! A cell for each aggregate, with the values of a row put in or taken out.
+ghost use Rattle.std.specs.Prelude.{◌≡◌, IfOk, OnOk, length, map, replicate};
 ghost use Rattle.base_row_laws.specs.Ranked.{true_rank};
 ghost use Rattle.base_decimal.specs.Tally.{no_terms};
-ghost use Rattle.store_kept_views.specs.Groups.{HaveValues, HasValue, are_plain, cell, is_plain};
-ghost use Rattle.store_kept_views.specs.Groups.{with_value, with_values};
-ghost use Rattle.store_kept_views.specs.Groups.{without_value, without_values};
+ghost use Rattle.store_kept_views.specs.Groups.{HaveValues, are_plain, cell, with_values};
+ghost use Rattle.store_kept_views.specs.Groups.{without_values};
 ghost use Rattle.store_kept_views.specs.Stored.{cell_in};
 
-use crate::cell::{Cell, is_null, standing_of, term_of};
-use base_value::{Standing, Value};
-use sqlite_items::Items;
+use crate::cell::Cell;
+use base_value::Value;
 use std::alloc::{AllocError, Global};
 
-/// A cell with one value more.
-fn with(cell: &Cell, value: &Value) -> Result<Cell, AllocError>
-    ensures { IfOk result (λ c. cell_in c ≡ with_value (cell_in cell.now) value.now) }
+/// Puts the values of a row into their cells.
+pub(crate) fn put_values(cells: &mut [Cell], values: &[Value]) -> Result<(), AllocError>
+    requires { length values.now ≡ length cells.old }
+    ensures { OnOk result (map cell_in cells.new
+        ≡ with_values (map cell_in cells.old) values.now) }
 {
-    let least = cell.least.lesser(standing_of(value));
-    let mut tally = cell.tally;
-    if !is_null(value) {
-        if tally.terms() == u64::MAX {
-            return Err(AllocError);
-        }
-        tally.put(term_of(value));
+    if cells.len() == 0 {
+        return Ok(());
     }
-    Ok(Cell { least, tally })
+    cells[0].put(&values[0])?;
+    put_values(&mut cells[1..], &values[1..])?;
+    Ok(())
 }
 
-/// A cell without one of its values.
-fn without(cell: &Cell, value: &Value) -> Cell
-    requires { HasValue (cell_in cell.now) value.now }
-    ensures { cell_in result ≡ without_value (cell_in cell.now) value.now }
+/// Takes the values of a row out of their cells.
+pub(crate) fn remove_values(cells: &mut [Cell], values: &[Value])
+    requires long { length values.now ≡ length cells.old }
+    requires have { HaveValues (map cell_in cells.old) values.now }
+    ensures { map cell_in cells.new ≡ without_values (map cell_in cells.old) values.now }
 {
-    let mut tally = cell.tally;
-    if !is_null(value) {
-        tally.remove(term_of(value));
+    if cells.len() == 0 {
+        return;
     }
-    Cell {
-        least: cell.least,
-        tally,
-    }
-}
-
-/// Whether no fault is among the values, and their sum is a number.
-fn is_plain(cell: &Cell) -> bool
-    ensures { result ≡ is_plain (cell_in cell.now) }
-{
-    matches!(cell.least, Standing::AtTrue) && cell.tally.total().is_ok()
-}
-
-/// The cells with the values of one row more.
-pub(crate) fn cells_with(
-    alloc: Global,
-    cells: &[Cell],
-    args: &[Value],
-) -> Result<Items<Cell>, AllocError>
-    requires { length args.now ≡ length cells.now }
-    ensures { IfOk result (λ cs. map cell_in cs ≡ with_values (map cell_in cells.now) args.now) }
-{
-    let mut all = Items::new(alloc);
-    for i in 0..cells.len() {
-        let next = with(&cells[i], &args[i])?;
-        all.push(next)?;
-    }
-    Ok(all)
-}
-
-/// The cells without the values of one row.
-pub(crate) fn cells_without(
-    alloc: Global,
-    cells: &[Cell],
-    args: &[Value],
-) -> Result<Items<Cell>, AllocError>
-    requires long { length args.now ≡ length cells.now }
-    requires have { HaveValues (map cell_in cells.now) args.now }
-    ensures { IfOk result (λ cs. map cell_in cs
-        ≡ without_values (map cell_in cells.now) args.now) }
-{
-    let mut all = Items::new(alloc);
-    for i in 0..cells.len() {
-        let next = without(&cells[i], &args[i]);
-        all.push(next)?;
-    }
-    Ok(all)
+    cells[0].remove(&values[0]);
+    remove_values(&mut cells[1..], &values[1..]);
 }
 
 /// Whether no fault is among the values of any cell, and the sums are numbers.
@@ -90,7 +42,7 @@ pub(crate) fn are_plain(cells: &[Cell]) -> bool
     ensures { result ≡ are_plain (map cell_in cells.now) }
 {
     for cell in cells {
-        if !is_plain(cell) {
+        if !cell.is_plain() {
             return false;
         }
     }
@@ -98,10 +50,11 @@ pub(crate) fn are_plain(cells: &[Cell]) -> bool
 }
 
 /// So many cells of no values.
-pub(crate) fn no_cells(alloc: Global, count: usize) -> Result<Items<Cell>, AllocError>
-    ensures { IfOk result (λ cs. map cell_in cs ≡ replicate count (cell true_rank no_terms)) }
+pub(crate) fn no_cells(alloc: Global, count: usize) -> Result<Vec<Cell>, AllocError>
+    ensures { IfOk result (λ cs. map cell_in cs.items
+        ≡ replicate count (cell true_rank no_terms)) }
 {
-    let mut all = Items::new(alloc);
+    let mut all = Vec::with_capacity(alloc, count)?;
     for _i in 0..count {
         all.push(Cell::none())?;
     }

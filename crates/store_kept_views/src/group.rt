@@ -1,14 +1,13 @@
 //! What is kept of a group of rows.
-ghost use Rattle.std.specs.Prelude.{◌≡◌, IfOk, length, map};
+ghost use Rattle.std.specs.Prelude.{◌≡◌, IfOk, OnOk, length, map};
 ghost use Rattle.base_value.specs.Truth.{standing_rank};
 ghost use Rattle.store_kept_views.specs.Groups.{HasRow, is_faultless, no_rows, with_row};
 ghost use Rattle.store_kept_views.specs.Groups.{without_row};
 ghost use Rattle.store_kept_views.specs.Stored.{cell_in};
 
 use crate::cell::Cell;
-use crate::cells::{are_plain, cells_with, cells_without, no_cells};
+use crate::cells::{are_plain, no_cells, put_values, remove_values};
 use base_value::{Standing, Value};
-use sqlite_items::Items;
 use std::alloc::{AllocError, Global};
 use std::marker::Model;
 
@@ -17,7 +16,7 @@ use std::marker::Model;
 pub(crate) struct Group {
     rows: u64,
     least: Standing,
-    cells: Items<Cell>,
+    cells: Vec<Cell>,
 }
 
 impl Model for Group {
@@ -28,7 +27,7 @@ impl Model for Group {
 
     ghost Value = { Kept };
 
-    ghost view = { λ g. group g.rows (standing_rank g.least) (map cell_in g.cells) };
+    ghost view = { λ g. group g.rows (standing_rank g.least) (map cell_in g.cells.items) };
 }
 
 impl Group {
@@ -40,6 +39,18 @@ impl Group {
         Ok(Group {
             rows: 0,
             least: Standing::AtTrue,
+            cells,
+        })
+    }
+
+    /// A copy of it.
+    pub(crate) fn copy(&self, alloc: Global) -> Result<Group, AllocError>
+        ensures { IfOk result (λ g. g ≡ self.now) }
+    {
+        let cells = Vec::from_slice(alloc, self.cells.as_slice())?;
+        Ok(Group {
+            rows: self.rows,
+            least: self.least,
             cells,
         })
     }
@@ -65,34 +76,31 @@ impl Group {
         self.cells.as_slice()
     }
 
-    /// With a row more, of these arguments.
-    pub(crate) fn with(
-        &self,
-        alloc: Global,
-        args: &[Value],
+    /// Puts a row in, of these arguments. More rows than are counted are an error, as memory that
+    /// isn't there.
+    pub(crate) fn put(
+        &mut self,
+        arguments: &[Value],
         standing: Standing,
-    ) -> Result<Group, AllocError>
-        requires { length args.now ≡ length self.now.cells }
-        ensures { IfOk result (λ g. g ≡ with_row self.now args.now (standing_rank standing)) }
+    ) -> Result<(), AllocError>
+        requires { length arguments.now ≡ length self.old.cells }
+        ensures { OnOk result
+            (self.new ≡ with_row self.old arguments.now (standing_rank standing)) }
     {
-        let rows = self.rows.checked_add(1).ok_or(AllocError)?;
-        let least = self.least.lesser(standing);
-        let cells = cells_with(alloc, self.cells.as_slice(), args)?;
-        Ok(Group { rows, least, cells })
+        self.rows = self.rows.checked_add(1).ok_or(AllocError)?;
+        self.least = self.least.lesser(standing);
+        put_values(self.cells.as_mut_slice(), arguments)?;
+        Ok(())
     }
 
-    /// Without one of its rows, of these arguments.
-    pub(crate) fn without(&self, alloc: Global, args: &[Value]) -> Result<Group, AllocError>
-        requires long { length args.now ≡ length self.now.cells }
-        requires has { HasRow self.now args.now }
-        ensures { IfOk result (λ g. g ≡ without_row self.now args.now) }
+    /// Takes one of its rows out, of these arguments.
+    pub(crate) fn remove(&mut self, arguments: &[Value])
+        requires long { length arguments.now ≡ length self.old.cells }
+        requires has { HasRow self.old arguments.now }
+        ensures { self.new ≡ without_row self.old arguments.now }
     {
-        let cells = cells_without(alloc, self.cells.as_slice(), args)?;
-        Ok(Group {
-            rows: self.rows - 1,
-            least: self.least,
-            cells,
-        })
+        remove_values(self.cells.as_mut_slice(), arguments);
+        self.rows -= 1;
     }
 
     /// Whether no fault is in a standing, a value or a sum.

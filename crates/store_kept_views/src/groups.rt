@@ -1,17 +1,19 @@
 //! A table of groups by the hashes of their keys.
-ghost use Rattle.std.specs.Prelude.{◌≡◌, ◌<◌, ◌≤◌, ◌+◌, [], None, Some, List, IfOk, OnOk, IsTrue};
-ghost use Rattle.std.specs.Prelude.{◌↔◌, cond, map, length, replicate};
+ghost use Rattle.std.specs.Prelude.{◌≡◌, ◌<◌, [], Some, List, IfOk, OnOk, is_some, map, length};
+ghost use Rattle.std.specs.Prelude.{replicate, IsTrue};
 ghost use Rattle.std.specs.List.{IsDistinct};
-ghost use Rattle.std.specs.Option.{option_copied};
 ghost use Rattle.base_columns.specs.Lists.{one_list};
+ghost use Rattle.base_value.specs.Truth.{standing_rank};
 ghost use Rattle.base_value.specs.declared.value.Value.{Value as Datum};
+ghost use Rattle.store_kept_views.specs.Entries.{CanTake, HasLong, or_empty};
+ghost use Rattle.store_kept_views.specs.Groups.{no_rows, with_row};
 ghost use Rattle.store_kept_views.specs.Pages.{first_of, page_in};
 ghost use Rattle.store_kept_views.specs.Standing.{group_at, same_key};
+ghost use Rattle.store_kept_views.specs.Taken.{IsSet, IsTaken, left_of};
 
-use crate::entry::{Entry, find, put_shares};
-use crate::group::Group;
+use crate::entry::{Entry, Taken, copies};
 use crate::page::Page;
-use base_value::Row;
+use base_value::{Row, Standing, Value};
 use std::alloc::{AllocError, Global};
 use std::hash::{FoldHasher, Hash, Hasher};
 use std::marker::Model;
@@ -20,13 +22,12 @@ use std::marker::Model;
 const PAGE_GROUPS: usize = 8;
 
 /// Groups, each of another key, seen as the list of the keys with their groups. They lie in pages
-/// by the hashes of their keys. A share of the table shares its pages, and a change makes the page
-/// of its key anew.
+/// by the hashes of their keys. A share of the table shares its pages.
 #[derive(Drop)]
 pub(crate) struct Groups {
     alloc: Global,
     pages: Vec<Page>,
-    // How many groups there are.
+    // How many groups there are, as far as memory never failed.
     count: usize,
 }
 
@@ -39,26 +40,18 @@ impl Model for Groups {
 
     ghost view = { λ t. one_list t.pages.items };
 
-    ghost invariant = { λ t. IsTable ⟦<Row as Hash>⟧.hash_input t.pages.items t.count };
+    ghost invariant = { λ t. IsTable ⟦<Row as Hash>⟧.hash_input t.pages.items };
 }
 
 /// The page of a key among `count`.
-fn page_of<K: Hash>(key: &K, count: usize) -> usize
+fn page_of(key: &[Value], count: usize) -> usize
     requires { 0 < count }
-    ensures value { result ≡ page_in K.hash_input count key.now }
+    ensures value { result ≡ page_in ⟦<Row as Hash>⟧.hash_input count key.now }
     ensures within { result < count }
 {
     let mut state = FoldHasher::default();
     key.hash(&mut state);
     (state.finish() % count as u64) as usize
-}
-
-/// The count of entries with a page of so many in the place of one of so many others.
-fn count_with(count: usize, old: usize, new: usize) -> Result<usize, AllocError>
-    requires { old ≤ count }
-    ensures { IfOk result (λ n. n + old ≡ count + new) }
-{
-    (count - old).checked_add(new).ok_or(AllocError)
 }
 
 /// So many pages without entries.
@@ -83,13 +76,14 @@ fn page_shares(alloc: Global, pages: &[Page]) -> Result<Vec<Page>, AllocError>
     Ok(all)
 }
 
-/// Further shares of the entries of pages.
-fn page_entries(alloc: Global, pages: &[Page], count: usize) -> Result<Vec<Entry>, AllocError>
+/// Copies of the entries of pages.
+fn page_entries(alloc: Global, pages: &[Page]) -> Result<Vec<Entry>, AllocError>
     ensures { IfOk result (λ all. all.items ≡ one_list pages.now) }
 {
-    let mut all = Vec::with_capacity(alloc, count)?;
+    let mut all = Vec::new(alloc);
     for page in pages {
-        put_shares(page.entries(), &mut all)?;
+        let mut entries = copies(alloc, page.entries())?;
+        all.append(&mut entries)?;
     }
     Ok(all)
 }
@@ -127,24 +121,40 @@ impl Groups {
         })
     }
 
-    /// The group of a key, if it has one.
-    pub(crate) fn get(&self, key: &Row) -> Option<&Group>
-        ensures { option_copied result ≡ group_at self.now key.now }
+    /// The pages, in the order of their entries.
+    pub(crate) fn pages(&self) -> &[Page]
+        ensures pages { one_list result.now ≡ self.now }
+        ensures distinct { IsDistinct same_key (map (λ e. e.0) self.now) }
     {
-        let at = page_of(key, self.pages.len());
-        find(self.pages[at].entries(), key)
+        self.pages.as_slice()
     }
 
-    /// Sets the entry of a key.
+    /// Whether there is no group.
+    pub(crate) fn is_empty(&self) -> bool
+        ensures { IsTrue result → self.now ≡ [] }
+    {
+        for page in &self.pages {
+            if page.len() > 0 {
+                return false;
+            }
+        }
+        true
+    }
+
+    /// Whether a key has a group.
+    pub(crate) fn contains(&self, key: &[Value]) -> bool
+        ensures { result ≡ is_some (group_at self.now key.now) }
+    {
+        let at = page_of(key, self.pages.len());
+        self.pages[at].contains(key)
+    }
+
+    /// Puts an entry in the place of its key's.
     fn put_entry(&mut self, entry: Entry) -> Result<(), AllocError>
-        ensures { OnOk result ((q : List Datum) → group_at self.new q
-            ≡ cond (same_key q entry.0) (Some entry.1) (group_at self.old q)) }
+        ensures { OnOk result (IsSet entry.0 (Some entry.1) self.old self.new) }
     {
         let at = page_of(entry.key(), self.pages.len());
-        let page = self.pages[at].with(self.alloc, entry)?;
-        self.count = count_with(self.count, self.pages[at].len(), page.len())?;
-        self.pages[at] = page;
-        Ok(())
+        self.pages[at].put(self.alloc, entry)
     }
 
     /// Puts the entries into the table, from the last to the first.
@@ -167,54 +177,71 @@ impl Groups {
     {
         let count = self.pages.len().checked_mul(2).ok_or(AllocError)?;
         let mut groups = Groups::of_pages(self.alloc, count)?;
-        groups.put_entries(self.entries()?)?;
+        groups.put_entries(page_entries(self.alloc, self.pages.as_slice())?)?;
+        groups.count = self.count;
         Ok(groups)
     }
 
-    /// Sets the group of a key.
-    pub(crate) fn put(&mut self, key: Row, group: Group) -> Result<(), AllocError>
-        ensures { OnOk result ((q : List Datum) → group_at self.new q
-            ≡ cond (same_key q key) (Some group) (group_at self.old q)) }
+    /// Makes room for a group more.
+    fn make_room(&mut self) -> Result<(), AllocError>
+        ensures { OnOk result ((q : List Datum) → group_at self.new q ≡ group_at self.old q) }
     {
-        let entry = Entry::new(self.alloc, key, group)?;
-        if self.count / PAGE_GROUPS >= self.pages.len() {
-            *self = self.grown()?;
+        if self.count / PAGE_GROUPS < self.pages.len() {
+            return Ok(());
         }
-        self.put_entry(entry)?;
+        *self = self.grown()?;
         Ok(())
     }
 
-    /// Removes the group of a key.
-    pub(crate) fn remove(&mut self, key: &Row) -> Result<(), AllocError>
-        ensures { OnOk result ((q : List Datum) → group_at self.new q
-            ≡ cond (same_key q key.now) None (group_at self.old q)) }
+    /// Sets the group of a key to one of no rows and no cells.
+    pub(crate) fn put_key(&mut self, key: &[Value]) -> Result<(), AllocError>
+        ensures { OnOk result (IsSet key.now (Some (no_rows 0)) self.old self.new) }
+    {
+        self.make_room()?;
+        let entry = Entry::none(self.alloc, key, 0)?;
+        self.put_entry(entry)?;
+        self.count = self.count.saturating_add(1);
+        Ok(())
+    }
+
+    /// Puts a row into the group of a key, or into one of no rows.
+    pub(crate) fn put_row(
+        &mut self,
+        key: &[Value],
+        arguments: &[Value],
+        standing: Standing,
+    ) -> Result<(), AllocError>
+        requires { HasLong (length arguments.now) (group_at self.old key.now) }
+        ensures { OnOk result (IsSet key.now (Some (with_row
+            (or_empty (length arguments.now) (group_at self.old key.now))
+            arguments.now (standing_rank standing))) self.old self.new) }
+    {
+        self.make_room()?;
+        let at = page_of(key, self.pages.len());
+        let before = self.pages[at].len();
+        self.pages[at].put_row(self.alloc, key, arguments, standing)?;
+        let after = self.pages[at].len();
+        self.count = self.count.saturating_add(after).saturating_sub(before);
+        Ok(())
+    }
+
+    /// Takes a row out of the group of a key. A group that holds a fault is dropped, and so is one
+    /// of which no row is left.
+    pub(crate) fn take_row(
+        &mut self,
+        key: &[Value],
+        arguments: &[Value],
+    ) -> Result<Taken, AllocError>
+        requires { CanTake arguments.now (group_at self.old key.now) }
+        ensures taken { IfOk result (IsTaken arguments.now (group_at self.old key.now)) }
+        ensures set { IfOk result (λ t. IsSet key.now
+            (left_of arguments.now (group_at self.old key.now) t) self.old self.new) }
     {
         let at = page_of(key, self.pages.len());
-        let page = self.pages[at].without(self.alloc, key)?;
-        self.count = count_with(self.count, self.pages[at].len(), page.len())?;
-        self.pages[at] = page;
-        Ok(())
-    }
-
-    /// Further shares of the entries.
-    pub(crate) fn entries(&self) -> Result<Vec<Entry>, AllocError>
-        ensures { IfOk result (λ es. es.items ≡ self.now) }
-    {
-        page_entries(self.alloc, self.pages.as_slice(), self.count)
-    }
-
-    /// How many groups there are, each of another key.
-    pub(crate) fn len(&self) -> usize
-        ensures value { result ≡ length self.now }
-        ensures distinct { IsDistinct same_key (map (λ e. e.0) self.now) }
-    {
-        self.count
-    }
-
-    /// Whether there is no group.
-    pub(crate) fn is_empty(&self) -> bool
-        ensures { IsTrue result ↔ (self.now ≡ []) }
-    {
-        self.count == 0
+        let before = self.pages[at].len();
+        let taken = self.pages[at].take_row(self.alloc, key, arguments)?;
+        let after = self.pages[at].len();
+        self.count = self.count.saturating_add(after).saturating_sub(before);
+        Ok(taken)
     }
 }

@@ -16,7 +16,6 @@ mod output;
 mod page;
 mod plan;
 mod reading;
-mod taking;
 mod view;
 
 pub use form::KeptPlanError;

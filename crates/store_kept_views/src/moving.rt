@@ -1,139 +1,163 @@
-//! A table of groups moved to other rows.
-ghost use Rattle.std.specs.Prelude.{◌++◌, List, [], IfOk, OnOk, cond};
+//! Rows of parts put into groups and taken out of them.
+ghost use Rattle.std.specs.Prelude.{◌≡◌, ◌++◌, ◌<◌, List, [], IfOk, OnOk, cond, length};
 ghost use Rattle.base_columns.specs.Lists.{one_list};
+ghost use Rattle.base_columns.specs.Tables.{standing_rows};
 ghost use Rattle.base_row_laws.specs.Ranked.{Ranked};
+ghost use Rattle.base_value.specs.Truth.{standing_rank};
 ghost use Rattle.base_value.specs.declared.value.Value.{Value as Datum};
+ghost use Rattle.store_kept_views.specs.Entries.{CanTake, HasLong};
+ghost use Rattle.store_kept_views.specs.Moving.{IsPut, IsTakenOut};
 ghost use Rattle.store_kept_views.specs.Plans.{selected};
-ghost use Rattle.store_kept_views.specs.Standing.{CanAdd, CanMove, CanTake, CanTakeAll, StandsBy};
-ghost use Rattle.store_kept_views.specs.Standing.{StandsFor};
-ghost use Rattle.store_kept_views.specs.Standing.{picked};
-ghost use Rattle.store_kept_views.specs.Taken.{IsPut};
+ghost use Rattle.store_kept_views.specs.Standing.{CanAdd, CanMove, CanTakeAll, StandsBy};
+ghost use Rattle.store_kept_views.specs.Standing.{StandsFor, group_at};
 
-use crate::group::Group;
+use crate::entry::Taken;
 use crate::groups::Groups;
 use crate::plan::KeptPlan;
-use crate::reading::{part_rows, standing, values_at};
-use crate::taking::{Taken, take_from, with_row_in};
-use base_value::Row;
+use crate::reading::Reading;
+use base_columns::Batch;
+use base_value::{Standing, Value};
+use plan_algebra::Piece;
+use sqlite_items::Items;
 use std::alloc::{AllocError, Global};
 use store_state::Part;
 
-/// Sets what comes of the group of a key. One that holds a fault is to be made anew.
-fn put_taken(
+// The rows of a part as a batch, all at True.
+fn batch_of(alloc: Global, part: &Part) -> Result<Batch, AllocError>
+    ensures { IfOk result (λ b. b.rows ≡ standing_rows part.now) }
+{
+    let (segment, places) = part.stored(alloc)?;
+    let piece = match places {
+        None => Piece::whole(segment),
+        Some(places) => Piece::at(segment, Items::from_vec(places)),
+    };
+    piece.batch(alloc)
+}
+
+// What a plan reads of a part.
+fn reading_of<'a>(
     alloc: Global,
-    key: Row,
-    taken: Taken,
+    plan: &'a KeptPlan,
+    part: &Part,
+) -> Result<Reading<'a>, AllocError>
+    ensures plan { IfOk result (λ r. r.plan ≡ plan.now) }
+    ensures rows { IfOk result (λ r. r.rows ≡ selected plan.now part.now) }
+{
+    let _count = part.len();
+    let batch = batch_of(alloc, part)?;
+    let reading = Reading::new(alloc, plan, &batch)?;
+    Ok(reading)
+}
+
+// Takes a row out of the group of a key. The key of a group that holds a fault is put into `stale`.
+fn take_out(
+    key: &[Value],
+    arguments: &[Value],
     groups: &mut Groups,
     stale: &mut Groups,
 ) -> Result<(), AllocError>
-    ensures { OnOk result (IsPut key taken groups.old groups.new stale.old stale.new) }
+    requires { CanTake arguments.now (group_at groups.old key.now) }
+    ensures { OnOk result (IsTakenOut key.now arguments.now (group_at groups.old key.now)
+        groups.old groups.new stale.old stale.new) }
 {
-    match taken {
-        Taken::Absent => Ok(()),
-        Taken::Left(group) => groups.put(key, group),
-        Taken::Gone => groups.remove(&key),
+    match groups.take_row(key, arguments)? {
         Taken::Faulty => {
-            groups.remove(&key)?;
-            stale.put(key, Group::none(alloc, 0)?)?;
+            stale.put_key(key)?;
             Ok(())
         }
+        Taken::Absent | Taken::Left | Taken::Gone => Ok(()),
     }
 }
 
-/// Takes a row out of its group.
-fn take_out(
+// Takes rows out of their groups.
+fn take_rows(
     alloc: Global,
-    plan: &KeptPlan,
-    row: &Row,
+    reading: &Reading<'_>,
     groups: &mut Groups,
     stale: &mut Groups,
 ) -> Result<(), AllocError>
-    requires { CanTake plan.now groups.old stale.old row.now }
-    ensures { OnOk result ((ys : List (Ranked Datum))
-        → StandsBy plan.now groups.old stale.old [] (picked plan.now row.now ++ ys)
-        → StandsBy plan.now groups.new stale.new [] ys) }
+    requires { CanTakeAll reading.now.plan groups.old stale.old reading.now.rows }
+    ensures { OnOk result ((zs : List (Ranked Datum))
+        → StandsBy reading.now.plan groups.old stale.old [] (reading.now.rows ++ zs)
+        → StandsBy reading.now.plan groups.new stale.new [] zs) }
 {
-    let Some(_standing) = standing(alloc, plan, row)? else {
-        return Ok(());
-    };
-    let key = values_at(alloc, row, plan.by.as_slice())?;
-    let taken = take_from(alloc, plan, row, groups.get(&key))?;
-    put_taken(alloc, key, taken, groups, stale)?;
-    Ok(())
-}
-
-/// Takes rows out of their groups. A group that holds a fault is dropped, and its key put into
-/// `stale`.
-fn take_all(
-    alloc: Global,
-    plan: &KeptPlan,
-    rows: &[Row],
-    groups: &mut Groups,
-    stale: &mut Groups,
-) -> Result<(), AllocError>
-    requires { CanTakeAll plan.now groups.old stale.old rows.now }
-    ensures { OnOk result ((ys : List (Ranked Datum))
-        → StandsBy plan.now groups.old stale.old [] (selected plan.now rows.now ++ ys)
-        → StandsBy plan.now groups.new stale.new [] ys) }
-{
-    for row in rows {
-        take_out(alloc, plan, row, groups, stale)?;
+    let mut key = Vec::new(alloc);
+    let mut arguments = Vec::new(alloc);
+    for i in 0..reading.len() {
+        reading.put_key(alloc, i, &mut key)?;
+        reading.put_arguments(alloc, i, &mut arguments)?;
+        take_out(key.as_slice(), arguments.as_slice(), groups, stale)?;
     }
     Ok(())
 }
 
-/// Puts a row into its group, if its key is one of those that are wanted: those in `stale`, or the
-/// others.
+// Takes the rows of parts out of their groups.
+fn take_parts(
+    alloc: Global,
+    plan: &KeptPlan,
+    parts: &[Part],
+    groups: &mut Groups,
+    stale: &mut Groups,
+) -> Result<(), AllocError>
+    requires { CanTakeAll plan.now groups.old stale.old (selected plan.now (one_list parts.now)) }
+    ensures { OnOk result ((zs : List (Ranked Datum))
+        → StandsBy plan.now groups.old stale.old [] (selected plan.now (one_list parts.now) ++ zs)
+        → StandsBy plan.now groups.new stale.new [] zs) }
+{
+    for part in parts {
+        let reading = reading_of(alloc, plan, part)?;
+        take_rows(alloc, &reading, groups, stale)?;
+    }
+    Ok(())
+}
+
+// Puts a row into the group of a key, if the key is one of those that are wanted: those in `stale`,
+// or the others.
 fn put_in(
-    alloc: Global,
-    plan: &KeptPlan,
-    row: &Row,
+    key: &[Value],
+    arguments: &[Value],
+    standing: Standing,
     wanted: bool,
     stale: &Groups,
     groups: &mut Groups,
 ) -> Result<(), AllocError>
-    requires { CanAdd plan.now groups.old stale.now }
-    ensures { OnOk result ((xs ys : List (Ranked Datum))
-        → StandsBy plan.now groups.old stale.now xs ys
-        → StandsBy plan.now groups.new stale.now
-        (cond wanted (xs ++ picked plan.now row.now) xs)
-        (cond wanted ys (ys ++ picked plan.now row.now))) }
+    requires { HasLong (length arguments.now) (group_at groups.old key.now) }
+    ensures { OnOk result (IsPut key.now arguments.now (standing_rank standing) wanted stale.now
+        groups.old groups.new) }
 {
-    let Some(standing) = standing(alloc, plan, row)? else {
-        return Ok(());
-    };
-    let key = values_at(alloc, row, plan.by.as_slice())?;
-    if stale.get(&key).is_some() != wanted {
+    if stale.contains(key) != wanted {
         return Ok(());
     }
-    let group = with_row_in(alloc, plan, row, standing, groups.get(&key))?;
-    groups.put(key, group)?;
+    groups.put_row(key, arguments, standing)?;
     Ok(())
 }
 
-/// Puts those of the rows whose keys are wanted into their groups.
-fn put_all(
+// Puts those of the rows whose keys are wanted into their groups.
+fn put_rows(
     alloc: Global,
-    plan: &KeptPlan,
-    rows: &[Row],
+    reading: &Reading<'_>,
     wanted: bool,
     stale: &Groups,
     groups: &mut Groups,
 ) -> Result<(), AllocError>
-    requires { CanAdd plan.now groups.old stale.now }
+    requires { CanAdd reading.now.plan groups.old stale.now }
     ensures { OnOk result ((xs ys : List (Ranked Datum))
-        → StandsBy plan.now groups.old stale.now xs ys
-        → StandsBy plan.now groups.new stale.now
-        (cond wanted (xs ++ selected plan.now rows.now) xs)
-        (cond wanted ys (ys ++ selected plan.now rows.now))) }
+        → StandsBy reading.now.plan groups.old stale.now xs ys
+        → StandsBy reading.now.plan groups.new stale.now
+        (cond wanted (xs ++ reading.now.rows) xs) (cond wanted ys (ys ++ reading.now.rows))) }
 {
-    for row in rows {
-        put_in(alloc, plan, row, wanted, stale, groups)?;
+    let mut key = Vec::new(alloc);
+    let mut arguments = Vec::new(alloc);
+    for i in 0..reading.len() {
+        reading.put_key(alloc, i, &mut key)?;
+        reading.put_arguments(alloc, i, &mut arguments)?;
+        let standing = reading.standing(i);
+        put_in(key.as_slice(), arguments.as_slice(), standing, wanted, stale, groups)?;
     }
     Ok(())
 }
 
-/// Puts those of the rows of parts whose keys are wanted into their groups.
+// Puts those of the rows of parts whose keys are wanted into their groups.
 fn put_parts(
     alloc: Global,
     plan: &KeptPlan,
@@ -150,13 +174,13 @@ fn put_parts(
         (cond wanted ys (ys ++ selected plan.now (one_list parts.now)))) }
 {
     for part in parts {
-        let rows = part_rows(alloc, part)?;
-        put_all(alloc, plan, rows.as_slice(), wanted, stale, groups)?;
+        let reading = reading_of(alloc, plan, part)?;
+        put_rows(alloc, &reading, wanted, stale, groups)?;
     }
     Ok(())
 }
 
-/// Makes the groups of the keys in `stale` anew. Where there is none, no row is read.
+// Makes the groups of the keys in `stale` anew. Where there is none, no row is read.
 fn make_anew(
     alloc: Global,
     plan: &KeptPlan,
@@ -196,17 +220,18 @@ pub(crate) fn groups_after(
     alloc: Global,
     plan: &KeptPlan,
     groups: &Groups,
-    added: &[Row],
-    removed: &[Row],
+    added: &[Part],
+    removed: &[Part],
     parts: &[Part],
 ) -> Result<Groups, AllocError>
-    requires { CanMove plan.now groups.now added.now removed.now (one_list parts.now) }
+    requires { CanMove plan.now groups.now
+        (one_list added.now) (one_list removed.now) (one_list parts.now) }
     ensures { IfOk result (λ groups. StandsFor plan.now groups (one_list parts.now)) }
 {
     let mut next = groups.share()?;
     let mut stale = Groups::new(alloc)?;
-    take_all(alloc, plan, removed, &mut next, &mut stale)?;
-    put_all(alloc, plan, added, false, &stale, &mut next)?;
+    take_parts(alloc, plan, removed, &mut next, &mut stale)?;
+    put_parts(alloc, plan, added, false, &stale, &mut next)?;
     make_anew(alloc, plan, parts, &stale, &mut next)?;
     Ok(next)
 }

@@ -1,10 +1,14 @@
 //! The rows of groups.
 ghost use Rattle.std.specs.List.{All};
+ghost use Rattle.base_columns.specs.Lists.{one_list};
+ghost use Rattle.base_row_laws.specs.Rows.{columns};
+ghost use Rattle.base_value.specs.declared.value.Value.TheVariants.{Null};
 ghost use Rattle.base_row_laws.specs.Bags.{SameBag};
 ghost use Rattle.base_value.specs.declared.value.Value.{Value as Datum};
 ghost use Rattle.store_kept_views.specs.Plans.{query_rows};
 ghost use Rattle.store_kept_views.specs.Standing.{StandsFor};
-ghost use Rattle.std.specs.Prelude.{List, ◌≡◌, ◌++◌, ◌∷◌, [], IfOk, OnOk, length, map};
+ghost use Rattle.std.specs.Prelude.{◌≡◌, ◌++◌, ◌∷◌, [], IfOk, List, OnOk, length, map};
+ghost use Rattle.std.specs.Prelude.{slice_index_or};
 ghost use Rattle.base_row_laws.specs.Ranked.{ranked};
 ghost use Rattle.base_value.specs.Truth.{standing_rank};
 ghost use Rattle.expr_aggregates.specs.Values.{number_or_fault};
@@ -16,8 +20,8 @@ use crate::cell::Cell;
 use crate::entry::Entry;
 use crate::group::Group;
 use crate::groups::Groups;
+use crate::page::Page;
 use crate::plan::{KeptAggregate, KeptPlan};
-use crate::reading::values_at;
 use base_decimal::{NumberFault, Scale};
 use base_value::{Fault, Row, Standing, Value};
 use std::alloc::{AllocError, Global};
@@ -40,7 +44,7 @@ impl Model for OutputRow {
     ghost view = { λ r. ranked r.values (standing_rank r.standing) };
 }
 
-/// The value, or the fault where a fault is the least standing.
+// The value, or the fault where a fault is the least standing.
 fn unless_fault(least: Standing, value: Value) -> Value
     ensures { result ≡ unless_rank (standing_rank least) value }
 {
@@ -50,7 +54,7 @@ fn unless_fault(least: Standing, value: Value) -> Value
     }
 }
 
-/// A coefficient of a scale, or its fault, as a value.
+// A coefficient of a scale, or its fault, as a value.
 fn number_or_fault(scale: Scale, coefficient: Result<i128, NumberFault>) -> Value
     ensures { result ≡ number_or_fault scale coefficient }
 {
@@ -61,7 +65,7 @@ fn number_or_fault(scale: Scale, coefficient: Result<i128, NumberFault>) -> Valu
     }
 }
 
-/// The value of an aggregate.
+// The value of an aggregate.
 fn shown(aggregate: &KeptAggregate, rows: u64, cell: &Cell) -> Value
     ensures { result ≡ shown aggregate.now rows (cell_in cell.now) }
 {
@@ -80,7 +84,7 @@ fn shown(aggregate: &KeptAggregate, rows: u64, cell: &Cell) -> Value
     }
 }
 
-/// Puts the values of aggregates after others.
+// Puts the values of aggregates after others.
 fn put_shown(
     aggregates: &[KeptAggregate],
     rows: u64,
@@ -99,7 +103,7 @@ fn put_shown(
     Ok(())
 }
 
-/// Puts copies of values after others.
+// Puts copies of values after others.
 fn put_clones(more: &[Value], values: &mut Vec<Value>) -> Result<(), AllocError>
     ensures { OnOk result (values.new.items ≡ values.old.items ++ more.now) }
 {
@@ -109,77 +113,112 @@ fn put_clones(more: &[Value], values: &mut Vec<Value>) -> Result<(), AllocError>
     Ok(())
 }
 
-/// A group's row: those of its key's values and its aggregates that the plan shows.
+// A value of a row, null where it is not there.
+fn value_at(values: &[Value], place: u32) -> Result<Value, AllocError>
+    ensures { IfOk result (λ v. v ≡ slice_index_or values.now place Null) }
+{
+    match values.get(place as usize) {
+        Some(value) => value.clone(),
+        None => Ok(Value::Null),
+    }
+}
+
+// The values of a row at these places.
+fn values_at(alloc: Global, values: &[Value], places: &[u32]) -> Result<Row, AllocError>
+    ensures { IfOk result (λ r. r ≡ columns Null places.now values.now) }
+{
+    let mut all = Vec::with_capacity(alloc, places.len())?;
+    for place in places {
+        all.push(value_at(values, *place)?)?;
+    }
+    Row::new(all)
+}
+
+// A group's row: those of its key's values and its aggregates that the plan shows.
 fn output_row(
     alloc: Global,
     plan: &KeptPlan,
-    key: &Row,
+    key: &[Value],
     group: &Group,
 ) -> Result<OutputRow, AllocError>
     ensures { IfOk result (λ r. r ≡ output_row plan.now key.now group.now) }
 {
     let mut values = Vec::new(alloc);
-    put_clones(key.values(), &mut values)?;
+    put_clones(key, &mut values)?;
     put_shown(
         plan.aggregates.as_slice(),
         group.len(),
         group.cells(),
         &mut values,
     )?;
-    let whole = Row::new(values)?;
-    let values = values_at(alloc, &whole, plan.list.as_slice())?;
+    let values = values_at(alloc, values.as_slice(), plan.list.as_slice())?;
     Ok(OutputRow {
         values,
         standing: group.standing(),
     })
 }
 
-/// The rows of entries.
-fn entry_rows(
+// Puts the rows of entries after others.
+fn put_rows(
     alloc: Global,
     plan: &KeptPlan,
     entries: &[Entry],
-) -> Result<Vec<OutputRow>, AllocError>
-    ensures { IfOk result (λ rows. rows.items
-        ≡ map (λ e. output_row plan.now e.0 e.1) entries.now) }
+    rows: &mut Vec<OutputRow>,
+) -> Result<(), AllocError>
+    ensures { OnOk result (rows.new.items ≡ rows.old.items
+        ++ map (λ e. output_row plan.now e.0 e.1) entries.now) }
 {
-    let mut rows = Vec::with_capacity(alloc, entries.len())?;
     for entry in entries {
         rows.push(output_row(alloc, plan, entry.key(), entry.group())?)?;
+    }
+    Ok(())
+}
+
+// The rows of the entries of pages.
+fn page_rows(
+    alloc: Global,
+    plan: &KeptPlan,
+    pages: &[Page],
+) -> Result<Vec<OutputRow>, AllocError>
+    ensures { IfOk result (λ rows. rows.items
+        ≡ map (λ e. output_row plan.now e.0 e.1) (one_list pages.now)) }
+{
+    let mut rows = Vec::new(alloc);
+    for page in pages {
+        put_rows(alloc, plan, page.entries(), &mut rows)?;
     }
     Ok(rows)
 }
 
-/// The row of the one group of no rows.
+// The row of the one group of no rows.
 fn empty_row(alloc: Global, plan: &KeptPlan) -> Result<Vec<OutputRow>, AllocError>
     ensures { IfOk result (λ rows. rows.items
         ≡ output_row plan.now [] (no_rows (length plan.now.aggregates)) ∷ []) }
 {
-    let key = Row::new(Vec::new(alloc))?;
     let none = Group::none(alloc, plan.aggregates.len())?;
     let mut rows = Vec::new(alloc);
-    rows.push(output_row(alloc, plan, &key, &none)?)?;
+    rows.push(output_row(alloc, plan, &[], &none)?)?;
     Ok(rows)
 }
 
-/// The rows of groups. Without GROUP BY the one group is there also where it has no row.
-pub(crate) fn output_rows(
+// The rows of groups. Without GROUP BY the one group is there also where it has no row.
+fn output_rows(
     alloc: Global,
     plan: &KeptPlan,
     groups: &Groups,
 ) -> Result<Vec<OutputRow>, AllocError>
     ensures { IfOk result (λ rows. rows.items ≡ output_rows plan.now groups.now) }
 {
-    if plan.by.is_empty() && groups.is_empty() {
+    let rows = page_rows(alloc, plan, groups.pages())?;
+    if plan.by.is_empty() && rows.is_empty() {
         let rows = empty_row(alloc, plan)?;
         return Ok(rows);
     }
-    let entries = groups.entries()?;
-    let rows = entry_rows(alloc, plan, entries.as_slice())?;
     Ok(rows)
 }
 
-/// The same: as a bag, the rows of the query over the table's rows that the groups stand for.
+/// The rows of groups: as a bag, those of the query over the table's rows that the groups stand
+/// for.
 pub(crate) fn shown_rows(
     alloc: Global,
     plan: &KeptPlan,
@@ -190,8 +229,8 @@ pub(crate) fn shown_rows(
     ensures rows { IfOk result (λ rows. (table : List (List Datum))
         → StandsFor plan.now groups.now table → SameBag rows.items (query_rows plan.now table)) }
 {
-    // What `len` says of the keys is what the proof needs.
-    let _count = groups.len();
+    // The pages' contract says that no two keys are the same.
+    let _pages = groups.pages();
     let rows = output_rows(alloc, plan, groups)?;
     Ok(rows)
 }

@@ -66,10 +66,14 @@ impl View {
         ensures kept { IfOk result (IsKept tables.now) }
     {
         let table = self.plan.table;
-        let added = added.rows(alloc, table)?;
-        let removed = removed.rows(alloc, table)?;
-        let parts = tables.parts(table);
-        let groups = groups_after(alloc, &self.plan, &self.groups, &added, &removed, parts)?;
+        let groups = groups_after(
+            alloc,
+            &self.plan,
+            &self.groups,
+            added.parts(table),
+            removed.parts(table),
+            tables.parts(table),
+        )?;
         let plan = Arc::try_clone(&self.plan)?;
         Ok(View { plan, groups })
     }

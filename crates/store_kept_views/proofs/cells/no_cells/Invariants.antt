@@ -1,9 +1,10 @@
-use Rattle.std.proofs.Common.{◌≡◌, ◌≤◌, ◌<◌, IfOk, length, map, replicate, slice_index_or, ℕ, ◌+◌, ◌-◌, ◌*◌}
-use Rattle.base_row_laws.specs.Ranked.{true_rank}
+use Rattle.std.proofs.Common.{◌≡◌, map}
+use Rattle.std.specs.Prelude.{replicate}
 use Rattle.base_decimal.specs.Tally.{no_terms}
-use Rattle.store_kept_views.specs.Groups.{HaveValues, HasValue, are_plain, cell, is_plain, with_value, with_values, without_value, without_values}
+use Rattle.base_row_laws.specs.Ranked.{true_rank}
+use Rattle.store_kept_views.specs.Groups.{cell}
 use Rattle.store_kept_views.specs.Stored.{cell_in}
 use Rattle.store_kept_views.proofs.cells.no_cells.Given as goal
 
 abbrev pub invariant-loop-i : goal.invariant-loop-i
-invariant-loop-i l = map cell_in l.all ≡ replicate l._i (cell true_rank no_terms)
+invariant-loop-i l = map cell_in l.all.items ≡ replicate l._i (cell true_rank no_terms)

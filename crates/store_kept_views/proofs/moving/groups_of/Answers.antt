@@ -8,7 +8,7 @@ use Rattle.base_value.specs.declared.value.Value.{Value}
 use Rattle.base_value.specs.declared.value.Value.TheVariants.{Null}
 use Rattle.base_value.specs.Truth.{standing_rank}
 use Rattle.store_kept_views.specs.Plans.{selected, key_of}
-use Rattle.store_kept_views.specs.Standing.{StandsBy, picked}
+use Rattle.store_kept_views.specs.Standing.{StandsBy}
 use Rattle.store_kept_views.specs.Standing.{CanAdd, StandsFor}
 use Rattle.store_kept_views.proofs.Stages.{nothing_stands, put_first}
 use Rattle.store_kept_views.proofs.moving.groups_of.Goals as goal
