@@ -154,7 +154,11 @@ impl Groups {
         ensures { OnOk result (IsSet entry.0 (Some entry.1) self.old self.new) }
     {
         let at = page_of(entry.key(), self.pages.len());
-        self.pages[at].put(self.alloc, entry)
+        let before = self.pages[at].len();
+        self.pages[at].put(self.alloc, entry)?;
+        let after = self.pages[at].len();
+        self.count = self.count.saturating_add(after).saturating_sub(before);
+        Ok(())
     }
 
     /// Puts the entries into the table, from the last to the first.
@@ -178,7 +182,6 @@ impl Groups {
         let count = self.pages.len().checked_mul(2).ok_or(AllocError)?;
         let mut groups = Groups::of_pages(self.alloc, count)?;
         groups.put_entries(page_entries(self.alloc, self.pages.as_slice())?)?;
-        groups.count = self.count;
         Ok(groups)
     }
 
@@ -197,10 +200,29 @@ impl Groups {
     pub(crate) fn put_key(&mut self, key: &[Value]) -> Result<(), AllocError>
         ensures { OnOk result (IsSet key.now (Some (no_rows 0)) self.old self.new) }
     {
-        self.make_room()?;
         let entry = Entry::none(self.alloc, key, 0)?;
+        self.make_room()?;
         self.put_entry(entry)?;
-        self.count = self.count.saturating_add(1);
+        Ok(())
+    }
+
+    /// Puts a row into the group of a key, or into one of no rows, on the pages that there are.
+    fn add_row(
+        &mut self,
+        key: &[Value],
+        arguments: &[Value],
+        standing: Standing,
+    ) -> Result<(), AllocError>
+        requires { HasLong (length arguments.now) (group_at self.old key.now) }
+        ensures { OnOk result (IsSet key.now (Some (with_row
+            (or_empty (length arguments.now) (group_at self.old key.now))
+            arguments.now (standing_rank standing))) self.old self.new) }
+    {
+        let at = page_of(key, self.pages.len());
+        let before = self.pages[at].len();
+        self.pages[at].put_row(self.alloc, key, arguments, standing)?;
+        let after = self.pages[at].len();
+        self.count = self.count.saturating_add(after).saturating_sub(before);
         Ok(())
     }
 
@@ -217,11 +239,7 @@ impl Groups {
             arguments.now (standing_rank standing))) self.old self.new) }
     {
         self.make_room()?;
-        let at = page_of(key, self.pages.len());
-        let before = self.pages[at].len();
-        self.pages[at].put_row(self.alloc, key, arguments, standing)?;
-        let after = self.pages[at].len();
-        self.count = self.count.saturating_add(after).saturating_sub(before);
+        self.add_row(key, arguments, standing)?;
         Ok(())
     }
 
