@@ -19,7 +19,7 @@ use Rattle.expr_aggregates.specs.declared.function.AggregateFunction.TheVariants
 use Rattle.expr_aggregates.specs.Values.{aggregate_of}
 use Rattle.expr_scalar.specs.declared.expr.Expr.{Expr, out-Expr}
 use Rattle.expr_scalar.specs.declared.expr.Expr.TheVariants as e
-use Rattle.expr_scalar.specs.Meaning.{value, truth}
+use Rattle.expr_scalar.specs.Meaning.{value, truth, truths}
 use Rattle.expr_scalar.specs.Rename.{IsRenamed, gathered}
 use Rattle.expr_scalar.proofs.Opened.{value_Column, truth_All}
 use Rattle.base_schema.specs.declared.table.TableName.{TableName}
@@ -142,6 +142,7 @@ unfolding holds_always
 holds_of x es is = ap (λ y. is_nothing (out-Expr y)) is ∙ ap is_nothing (e.outs-All es)
 
 pub true_always : (x : BoundExpr) (es : List Expr) → (out-BoundExpr x).expr ≡ e.All es → length es ≡ 0 → IsTrueAlways x
+unfolding truths
 true_always x [] is none state row =
     let values : List Value = map (λ (i : InputMeaning). i (row ∷ [])) (map (input_meaning state) (out-BoundExpr x).inputs) in
     ap (λ (m : ExprMeaning). truth_rank (m.truth (row ∷ []))) (expr_is state x)
@@ -174,8 +175,9 @@ plan_is t from condition having by old list p is table over same items always sh
     let stand : Each Stands (groups by f there) =
     groups_stand by f there (stands.select_stands (query.holds_for (expr_meaning state condition) []) (source_meaning state from [] [])
     (subst (λ xs. Each Stands xs) scans (scanned_stand (table_rows state p.table)))) in
+    let trues : query.holds_for (expr_meaning state having) [] ≡ (λ (row : List Value). true_rank) = fun_ext (λ row. always state row) in
     let all : select (query.holds_for (expr_meaning state having) []) (groups by f there) ≡ groups by f there =
-    ap (λ h. select h (groups by f there)) (fun_ext (λ row. always state row)) ∙ stands.select_true (groups by f there) stand in
+    ap (λ h. select h (groups by f there)) trues ∙ stands.select_true (groups by f there) stand in
     let lists : columns Null p.list ≡ query.listed (map (expr_meaning state) list) [] =
     fun_ext (λ row. shown state row ∙ sym (map-map (λ (m : ExprMeaning). m.value (row ∷ [])) (expr_meaning state) list)) in
     ap (λ xs. project (columns Null p.list) (groups p.by (aggregated (map item_of p.aggregates)) xs)) kept_rows

@@ -72,19 +72,19 @@ last_row rows i less = let s : i + 1 ≡ suc i = omega arith in ap (λ n. take n
 
 -- the row at a place is to be taken out
 module _ (p : KeptPlan) (es st : Entries) (rows left : List (Ranked Value)) (i : ℕ) (less : i < length rows) (old : StandsBy p es st [] (drop i rows ++ left)) where
-  abbrev at : StandsBy p es st [] (row_at rows i ∷ (drop (i + 1) rows ++ left))
-  at = subst (λ l. StandsBy p es st [] (l ++ left)) (next_row rows i less) old
+  stood : StandsBy p es st [] (row_at rows i ∷ (drop (i + 1) rows ++ left))
+  stood = subst (λ l. StandsBy p es st [] (l ++ left)) (next_row rows i less) old
 
   pub asked_row : (k arguments : List Value) → k ≡ key_of p (row_at rows i).values → arguments ≡ arguments_in p.aggregates (row_at rows i).values → CanTake arguments (group_at es k)
   asked_row k arguments is are =
       subst (λ x. CanTake x (group_at es k)) (sym are)
       (subst (λ x. CanTake (args_of p (row_at rows i)) (group_at es x)) (sym is)
-      (can_take_at p es st (row_at rows i) (drop (i + 1) rows ++ left) at (group_at es (key p (row_at rows i))) refl))
+      (can_take_at p es st (row_at rows i) (drop (i + 1) rows ++ left) stood (group_at es (key p (row_at rows i))) refl))
 
   pub taken_row : (es' st' : Entries) (k arguments : List Value) → k ≡ key_of p (row_at rows i).values → arguments ≡ arguments_in p.aggregates (row_at rows i).values
       → IsTakenOut k arguments (group_at es k) es es' st st' → StandsBy p es' st' [] (drop (i + 1) rows ++ left)
   taken_row es' st' k arguments is are out =
-      taken_at p es st (row_at rows i) (drop (i + 1) rows ++ left) at es' st' (group_at es (key p (row_at rows i))) refl
+      taken_at p es st (row_at rows i) (drop (i + 1) rows ++ left) stood es' st' (group_at es (key p (row_at rows i))) refl
       (subst (λ x. IsTakenOut x (args_of p (row_at rows i)) (group_at es x) es es' st st') is
       (subst (λ x. IsTakenOut k x (group_at es k) es es' st st') are out))
 

@@ -3,7 +3,6 @@ use Rattle.std.specs.Prelude.{◌≡◌, ℕ, ◌==◌, List, [], ◌∷◌, map
 use Rattle.std.specs.Prelude.{Option, Some, None, is_some, option_and_then, slice_get}
 use Rattle.std.specs.Prelude.{slice_index_or, length, not, Result, Ok, Err}
 use Rattle.std.specs.List.{list_all}
-
 use Rattle.base_row_laws.specs.Ranked.{true_rank}
 use Rattle.base_row_laws.specs.Rows.{columns}
 use Rattle.base_value.specs.declared.value.Value.{Value}

@@ -52,10 +52,10 @@ pub(crate) fn bag_of(alloc: Global, width: usize, rows: &[OutputRow]) -> Result<
     ensures { IfOk result (λ bag. bag.rows ≡ rows.now) }
 {
     let mut bag = Bag::new(alloc, width);
-    if rows.is_empty() {
+    let Some(first) = rows.first() else {
         return Ok(bag);
-    }
-    let forms = forms_of(alloc, rows[0].values.values())?;
+    };
+    let forms = forms_of(alloc, first.values.values())?;
     let mut builder = BatchBuilder::new(alloc, forms.as_slice())?;
     put_rows(alloc, width, rows, &mut builder)?;
     let batch = builder.finish(alloc)?;

@@ -52,11 +52,11 @@ fn own_place(input: &Input) -> Result<u32, KeptPlanError>
 }
 
 // The places of inputs that are columns of the row itself.
-fn own_places(alloc: Global, inputs: &[Input]) -> Result<Vec<u32>, KeptPlanError>
+fn own_places(alloc: Global, inputs: &[Input]) -> Result<Items<u32>, KeptPlanError>
     ensures { IsFound (list_all (λ i. is_some (own_place i)) inputs.now)
-        (λ places. map own_place inputs.now ≡ map Some places.items) result }
+        (λ places. map own_place inputs.now ≡ map Some places) result }
 {
-    let mut places = Vec::with_capacity(alloc, inputs.len())?;
+    let mut places = Items::new(alloc);
     for input in inputs {
         let place = own_place(input)?;
         places.push(place)?;

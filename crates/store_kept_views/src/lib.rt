@@ -16,6 +16,8 @@ mod output;
 mod page;
 mod plan;
 mod reading;
+#[cfg(test)]
+mod tests;
 mod view;
 
 pub use form::KeptPlanError;

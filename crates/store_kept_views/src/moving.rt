@@ -1,5 +1,5 @@
 //! Rows of parts put into groups and taken out of them.
-ghost use Rattle.std.specs.Prelude.{◌≡◌, ◌++◌, ◌<◌, List, [], IfOk, OnOk, cond, length};
+ghost use Rattle.std.specs.Prelude.{◌≡◌, ◌++◌, ◌<◌, ◌^◌, List, [], IfOk, OnOk, cond, length};
 ghost use Rattle.base_columns.specs.Lists.{one_list};
 ghost use Rattle.base_columns.specs.Tables.{standing_rows};
 ghost use Rattle.base_row_laws.specs.Ranked.{Ranked};
@@ -22,16 +22,26 @@ use sqlite_items::Items;
 use std::alloc::{AllocError, Global};
 use store_state::Part;
 
-// The rows of a part as a batch, all at True.
-fn batch_of(alloc: Global, part: &Part) -> Result<Batch, AllocError>
-    ensures { IfOk result (λ b. b.rows ≡ standing_rows part.now) }
+// A part's rows as a piece, of which nothing is copied.
+fn piece_of(alloc: Global, part: &Part) -> Result<Piece, AllocError>
+    ensures { IfOk result (λ piece. piece ≡ part.now) }
 {
     let (segment, places) = part.stored(alloc)?;
-    let piece = match places {
-        None => Piece::whole(segment),
-        Some(places) => Piece::at(segment, Items::from_vec(places)),
-    };
-    piece.batch(alloc)
+    match places {
+        None => Ok(Piece::whole(segment)),
+        Some(places) => Ok(Piece::at(segment, Items::from_vec(places))),
+    }
+}
+
+// The rows of a part as a batch, all at True.
+fn batch_of(alloc: Global, part: &Part) -> Result<Batch, AllocError>
+    ensures rows { IfOk result (λ b. b.rows ≡ standing_rows part.now) }
+    ensures short { IfOk result (λ b. length b.rows < 2 ^ 32) }
+{
+    let _count = part.len();
+    let piece = piece_of(alloc, part)?;
+    let batch = piece.batch(alloc)?;
+    Ok(batch)
 }
 
 // What a plan reads of a part.
@@ -43,7 +53,6 @@ fn reading_of<'a>(
     ensures plan { IfOk result (λ r. r.plan ≡ plan.now) }
     ensures rows { IfOk result (λ r. r.rows ≡ selected plan.now part.now) }
 {
-    let _count = part.len();
     let batch = batch_of(alloc, part)?;
     let reading = Reading::new(alloc, plan, &batch)?;
     Ok(reading)

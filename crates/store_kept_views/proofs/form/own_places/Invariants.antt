@@ -6,4 +6,4 @@ use Rattle.store_kept_views.proofs.form.own_places.Given as goal
 
 abbrev pub invariant-loop-input : goal.invariant-loop-input
 invariant-loop-input l = (list_all (λ i. is_some (own_place i)) (take l.input-index l.inputs) ≡ true)
-    × (map Some l.places.items ≡ map own_place (take l.input-index l.inputs))
+    × (map Some l.places ≡ map own_place (take l.input-index l.inputs))
