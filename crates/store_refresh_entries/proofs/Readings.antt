@@ -13,7 +13,7 @@ use Rattle.store_journal.specs.Format.{framed}
 use Rattle.store_refresh_text.specs.Laws.{IsTextOf}
 use Rattle.store_refresh_text.specs.Text.{keys_text, rows_text}
 use Rattle.store_refresh_entries.specs.Change.{IsNone, IsReadable, MayBe, spelling_of}
-use Rattle.store_refresh_entries.proofs.Frames.{one_entry}
+use Rattle.store_journal.proofs.Frames.{one_entry}
 
 tails : (x y : ℕ) (xs ys : List ℕ) → x ∷ xs ≡ y ∷ ys → xs ≡ ys
 tails x y xs ys e = cc

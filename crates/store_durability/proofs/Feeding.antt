@@ -1,0 +1,76 @@
+-- What a feed keeps from turn to turn.
+use Rattle.std.proofs.Common.{◌≡◌, inl, inr, ℕ, zero, suc, ◌+◌, ◌-◌, ◌*◌, ◌^◌, ◌≤◌, ◌<◌, Bool, true, false, List, [], ◌∷◌, length, drop, refl, sym, subst, arith, Some}
+use Rattle.std.specs.Prelude.{slice_get}
+use Rattle.std.specs.List.{AllByRecursion}
+use Rattle.std.proofs.lemmas.Option.{slice_get_within}
+use Rattle.base_disk.specs.Disk.{LeavesOnly}
+use Rattle.store_journal.specs.Journal.{WithOrWithout}
+use Rattle.store_journal.specs.declared.journal.Journal.{Journal}
+use Rattle.store_journal.proofs.Moments.{started, weaker}
+use Rattle.store_refresh_entries.specs.Change.{HasFewBytes, IsSpelled, IsStorable, spelling_of}
+use Rattle.store_state.specs.Refresh.{Change}
+use Rattle.store_versions.specs.Trials.{Trials, one_more}
+use Rattle.store_durability.specs.Feed.{StoredFits, WithNextOrWithout}
+use Rattle.store_durability.specs.Stored.{HasRoomForOne, Holds, payloads_of}
+
+-- what holds of all that is left holds of the next one, and of what is left behind it
+all_next : (P : Change → Type 0) (list : List Change) (place : ℕ) (change : Change) → slice_get list place ≡ Some change → AllByRecursion P (drop place list)
+    → P change × AllByRecursion P (drop (suc place) list)
+all_next P [] place change at all = absurd cc
+all_next P (x ∷ list) zero change at all = let is : x ≡ change = cc in (subst P is all.0, all.1)
+all_next P (x ∷ list) (suc place) change at all = all_next P list place change at all
+
+next_and_rest : (P : Change → Type 0) (list : List Change) (place : ℕ) (change : Change) → slice_get list place ≡ Some change → AllByRecursion P (drop place list)
+    → P change × AllByRecursion P (drop (place + 1) list)
+next_and_rest P list place change at all =
+    let up : suc place ≡ place + 1 = omega arith in
+    let both = all_next P list place change at all in
+    (both.0, subst (λ (n : ℕ). AllByRecursion P (drop n list)) up both.1)
+
+module _ {D : Type 0} (is_reached : D → Bool) (may_leave : D → List ℕ → Type 0) (journal : Journal) (disk : D) (version : Trials)
+    (fits : StoredFits is_reached may_leave journal disk version) (change : Change) (at : slice_get version.list version.done ≡ Some change) where
+  -- what the next refresh owes
+  pub next_storable : IsStorable change
+  next_storable = (next_and_rest IsStorable version.list version.done change at fits.storable).0
+
+  pub next_room : journal.end + (9 + length (spelling_of change)) < 2 ^ 62
+  next_room =
+      let few = (next_and_rest HasFewBytes version.list version.done change at fits.short).0 in
+      let left = slice_get_within version.list version.done change at in
+      let room = fits.room in
+      omega (arith, few, left, room)
+
+  pub next_listed : HasRoomForOne version
+  next_listed done = absurd (omega (arith, done, slice_get_within version.list version.done change at))
+
+  -- what is left fits
+  pub rest_fits : (later : Journal) (next : D) → is_reached next ≡ true → later.is_shut ≡ false → Holds (may_leave next) (one_more version) later
+      → later.end ≤ journal.end + (9 + length (spelling_of change)) → StoredFits is_reached may_leave later next (one_more version)
+  rest_fits later next reached working holds grown =
+      let few = next_and_rest HasFewBytes version.list version.done change at fits.short in
+      let left = slice_get_within version.list version.done change at in
+      let less = few.0 in
+      let room = fits.room in
+      record {
+        reached = reached;
+        working = working;
+        holds = holds;
+        storable = (next_and_rest IsStorable version.list version.done change at fits.storable).1;
+        short = few.1;
+        room = omega (arith, less, left, room, grown);
+      }
+
+module _ {D : Type 0} (moment : D → ℕ) (left_since : D → ℕ → List ℕ → Type 0) (version : Trials) where
+  -- a turn that tries a refresh
+  pub turn_leaves : (change : Change) → slice_get version.list version.done ≡ Some change → (old new : D)
+      → LeavesOnly moment left_since old new (WithOrWithout IsSpelled (payloads_of version) (spelling_of change))
+      → LeavesOnly moment left_since old new (WithNextOrWithout version)
+  turn_leaves change at old new leaves =
+      weaker moment left_since old new (WithOrWithout IsSpelled (payloads_of version) (spelling_of change)) (WithNextOrWithout version) leaves
+      (λ c with_it. inr (change, at, with_it))
+
+  -- one that doesn't
+  pub no_turn_leaves : (is_reached : D → Bool) (may_leave : D → List ℕ → Type 0) (journal : Journal) (disk : D) → StoredFits is_reached may_leave journal disk version
+      → ((c : List ℕ) → left_since disk (moment disk) c → may_leave disk c) → LeavesOnly moment left_since disk disk (WithNextOrWithout version)
+  no_turn_leaves is_reached may_leave journal disk fits only =
+      started moment left_since disk (WithNextOrWithout version) (λ c left. inl ((fits.holds fits.working).images c (only c left)))
