@@ -2,7 +2,7 @@
 ghost use Rattle.store_refresh_entries.specs.Laws.{DeletesAreReadable, DeletesAreShort};
 ghost use Rattle.store_refresh_entries.specs.Laws.{InsertsAreReadable, InsertsAreShort};
 
-use store_refresh_text::{texts_are_read_back, texts_are_short};
+use store_refresh_text::texts_are_read_back;
 
 /// A refresh whose rows or keys the files of a refresh set gave is read back from the bytes that
 /// spell it.
@@ -17,6 +17,4 @@ pub fn refreshes_of_files_are_readable()
 pub fn refreshes_of_files_are_short()
     ensures inserts { InsertsAreShort }
     ensures deletes { DeletesAreShort }
-{
-    texts_are_short();
-}
+{}
