@@ -16,12 +16,12 @@ use Rattle.base_columns.specs.Numbers.{is_small, small_number}
 use Rattle.base_schema.specs.declared.column.ColumnKind.{ColumnKind}
 use Rattle.base_schema.specs.declared.column.ColumnKind.TheVariants.{Key, Whole, Decimal, Date, Text}
 use Rattle.base_schema.specs.Kinds.{is_narrow, is_of_kind}
-use Rattle.base_schema.specs.LineForm.{LineColumn, LineForm, can_hold, fits}
+use Rattle.base_schema.specs.LineForm.{LineColumn, LineForm, can_hold}
 use Rattle.store_file_reader.specs.File.{cut_lines, file_rows, line_row}
 use Rattle.store_file_reader.specs.Laws.{AreLines, AreRowsOf}
 use Rattle.store_file_reader.specs.Line.{line_text}
 use Rattle.store_file_reader.proofs.FileLaws.{rows_are_those}
-use Rattle.store_file_reader.proofs.Rows.{row_fits}
+use Rattle.store_file_reader.proofs.Rows.{row_held}
 use Rattle.store_file_reader.proofs.WholeLines.{are_lines}
 use Rattle.store_state.specs.Keys.{order_key, order_keys}
 use Rattle.store_refresh_text.specs.Text.{field_written, fields_written, keys_text, row_written, rows_text}
@@ -132,7 +132,7 @@ rows_short form few (line ∷ lines) [] e = cc
 rows_short form few (line ∷ lines) (row ∷ rows) e =
     let said : line_row form line ≡ Ok row = cc in
     let behind : map (line_row form) lines ≡ map Ok rows = cc in
-    let here = fields_short form.columns row (row_fits form form.columns (line_text line) row refl said) in
+    let here = fields_short form.columns row (row_held form.columns (line_text line) row said) in
     let others = rows_short form few lines rows behind in
     omega (arith, few, here, others, length-append (row_written row) (rows_text rows), length-append (fields_written row) (10 ∷ []))
 
