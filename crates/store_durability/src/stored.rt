@@ -38,6 +38,7 @@ pub enum StoredAnswer {
 
 /// Tries a refresh, the list's next one or, where none is left, one that comes to the list's end;
 /// stores an accepted one, and only then publishes it.
+#[tactic(auto, using(crate::proofs::Outcomes::outcomes))]
 pub fn publish_stored<R: Wait, D: Disk>(
     rt: &R,
     alloc: Global,
@@ -87,6 +88,7 @@ pub fn publish_stored<R: Wait, D: Disk>(
 }
 
 /// Stores an accepted refresh, and then publishes it.
+#[tactic(auto, using(crate::proofs::Outcomes::outcomes))]
 fn store<R: Wait, D: Disk>(
     rt: &R,
     alloc: Global,
