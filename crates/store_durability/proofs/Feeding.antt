@@ -1,5 +1,5 @@
 -- What a feed keeps from turn to turn.
-use Rattle.std.proofs.Common.{◌≡◌, inl, inr, ℕ, zero, suc, ◌+◌, ◌-◌, ◌*◌, ◌^◌, ◌≤◌, ◌<◌, Bool, true, false, List, [], ◌∷◌, length, drop, refl, sym, subst, arith, Some}
+use Rattle.std.proofs.Common.{◌≡◌, inl, inr, ℕ, zero, suc, ◌+◌, ◌-◌, ◌*◌, ◌^◌, ◌≤◌, ◌<◌, Bool, true, false, List, [], ◌∷◌, length, drop, refl, sym, ap, subst, ◌∙◌, arith, Some}
 use Rattle.std.specs.Prelude.{slice_get}
 use Rattle.std.specs.List.{AllByRecursion}
 use Rattle.std.proofs.lemmas.Option.{slice_get_within}
@@ -11,7 +11,11 @@ use Rattle.store_refresh_entries.specs.Change.{HasFewBytes, IsSpelled, IsStorabl
 use Rattle.store_state.specs.Refresh.{Change}
 use Rattle.store_versions.specs.Trials.{Trials, one_more}
 use Rattle.store_durability.specs.Feed.{StoredFits, WithNextOrWithout}
-use Rattle.store_durability.specs.Stored.{HasRoomForOne, Holds, payloads_of}
+use Rattle.store_snapshots.specs.Publishers.{AcceptsNext, Edition, RefusesNext}
+use Rattle.store_snapshots.specs.declared.note.Note.{Note}
+use Rattle.base_refusals.specs.declared.refresh.Cause.{Cause}
+use Rattle.store_durability.specs.Stored.{HasRoomForOne, Holds, payloads_of, trials_with}
+use Rattle.store_durability.proofs.Accepted.{listed}
 
 -- what holds of all that is left holds of the next one, and of what is left behind it
 all_next : (P : Change → Type 0) (list : List Change) (place : ℕ) (change : Change) → slice_get list place ≡ Some change → AllByRecursion P (drop place list)
@@ -54,11 +58,30 @@ module _ {D : Type 0} (is_reached : D → Bool) (may_leave : D → List ℕ → 
       record {
         reached = reached;
         working = working;
+        within = omega (arith, left);
         holds = holds;
         storable = (next_and_rest IsStorable version.list version.done change at fits.storable).1;
         short = few.1;
         room = omega (arith, less, left, room, grown);
       }
+
+  same_trials : trials_with change version ≡ version
+  same_trials = listed change version (slice_get_within version.list version.done change at)
+
+  -- the same of the version that a turn leaves
+  pub turned_fits : (later : Journal) (next : D) (new : Trials) → new ≡ one_more (trials_with change version) → is_reached next ≡ true → later.is_shut ≡ false
+      → Holds (may_leave next) new later → later.end ≤ journal.end + (9 + length (spelling_of change)) → StoredFits is_reached may_leave later next new
+  turned_fits later next new is reached working holds grown =
+      let same : new ≡ one_more version = is ∙ ap (λ (t : Trials). one_more t) same_trials in
+      subst (λ (t : Trials). StoredFits is_reached may_leave later next t) (sym same)
+      (rest_fits later next reached working (subst (λ (t : Trials). Holds (may_leave next) t later) same holds) grown)
+
+  -- the trial is that of the list's own next refresh
+  pub turned_accepts : (new : Edition) (note : Note) → AcceptsNext (trials_with change version) new note → AcceptsNext version new note
+  turned_accepts new note accepts = subst (λ (t : Trials). AcceptsNext t new note) same_trials accepts
+
+  pub turned_refuses : (cause : Cause) (before : Trials) (new : Edition) → RefusesNext (trials_with change version) cause before new → RefusesNext version cause before new
+  turned_refuses cause before new refuses = subst (λ (t : Trials). RefusesNext t cause before new) same_trials refuses
 
 module _ {D : Type 0} (moment : D → ℕ) (left_since : D → ℕ → List ℕ → Type 0) (version : Trials) where
   -- a turn that tries a refresh
@@ -74,3 +97,5 @@ module _ {D : Type 0} (moment : D → ℕ) (left_since : D → ℕ → List ℕ 
       → ((c : List ℕ) → left_since disk (moment disk) c → may_leave disk c) → LeavesOnly moment left_since disk disk (WithNextOrWithout version)
   no_turn_leaves is_reached may_leave journal disk fits only =
       started moment left_since disk (WithNextOrWithout version) (λ c left. inl ((fits.holds fits.working).images c (only c left)))
+
+pub ruleset feeding = (next_storable, next_room, next_listed, turned_fits, turned_accepts, turned_refuses, turn_leaves, no_turn_leaves)

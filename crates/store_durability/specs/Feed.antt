@@ -1,5 +1,5 @@
 -- A publisher's list, each refresh of which is stored before it is published.
-use Rattle.std.specs.Prelude.{◌≡◌, ◌⊎◌, ◌<◌, ◌+◌, ◌-◌, ◌*◌, ◌^◌, ℕ, Bool, true, false, List, Some, length}
+use Rattle.std.specs.Prelude.{◌≡◌, ◌⊎◌, ◌<◌, ◌≤◌, ◌+◌, ◌-◌, ◌*◌, ◌^◌, ℕ, Bool, true, false, List, Some, length}
 use Rattle.std.specs.Prelude.{drop, slice_get}
 use Rattle.std.specs.List.{AllByRecursion}
 use Rattle.store_journal.specs.Format.{StandsFor}
@@ -21,6 +21,7 @@ pub record StoredFits {D : Type 0} (is_reached : D → Bool) (may_leave : D → 
     (journal : Journal) (disk : D) (version : Trials) : Type 0 where
   pub reached : is_reached disk ≡ true
   pub working : journal.is_shut ≡ false
+  pub within : version.done ≤ length version.list
   pub holds : Holds (may_leave disk) version journal
   pub storable : AllByRecursion IsStorable (drop version.done version.list)
   pub short : AllByRecursion HasFewBytes (drop version.done version.list)

@@ -37,6 +37,7 @@ pub struct StoredFeed<D: Disk> {
 impl<D: Disk> StoredFeed<D> {
     /// Has the publisher try its list's next refresh. After an error, or after Failed, no turn is to
     /// be asked for: the disk may hold one refresh more than the publisher.
+    #[tactic(auto, using(crate::proofs::Feeding::feeding))]
     pub fn turn<R: Wait>(
         &mut self,
         rt: &R,
