@@ -40,6 +40,7 @@ fn push_insert(bytes: &mut Vec<u8>, orders: &Rows, lineitems: &Rows) -> Result<(
 }
 
 /// Appends the bytes that spell a refresh; a malformed one has none.
+#[tactic(auto, using(crate::proofs::Readings::spells))]
 fn push_refresh(bytes: &mut Vec<u8>, refresh: &Refresh) -> Result<(), AllocError>
     ensures { OnOk result (bytes.new.items ≡ bytes.old.items ++ spelling_of refresh.now) }
 {
@@ -72,7 +73,7 @@ impl Payload for RefreshPayload {
         Ok(Some(refresh))
     }
 
-    fn spell(refresh: &Refresh, bytes: &mut Vec<u8>) -> Result<(), AllocError> {
-        push_refresh(bytes, refresh)
+    fn spell(value: &Refresh, bytes: &mut Vec<u8>) -> Result<(), AllocError> {
+        push_refresh(bytes, value)
     }
 }
