@@ -10,7 +10,7 @@ use Rattle.store_versions.specs.Trials.{Trials, offered, tables_of}
 use Rattle.store_snapshots.specs.Publishers.{AcceptsNext, Edition, RefusesNext}
 use Rattle.store_durability.specs.declared.stored.StoredAnswer.{StoredAnswer}
 use Rattle.store_durability.specs.declared.stored.StoredAnswer.TheVariants.{Published, Refused, Failed}
-use Rattle.store_durability.specs.declared.stored.StoredAnswer.TheVariants.{Shut, OutOfMemory}
+use Rattle.store_durability.specs.declared.stored.StoredAnswer.TheVariants.{Shut}
 
 -- the accepted ones of the refreshes that were tried
 abbrev pub accepted_list : Trials → List Change
@@ -53,7 +53,6 @@ Stores change shut old new Failed = (is_accepted (tables_of old.version) change 
     × (shut ≡ false) × (new ≡ old)
 Stores change shut old new Shut = (is_accepted (tables_of old.version) change ≡ true)
     × (shut ≡ true) × (new ≡ old)
-Stores change shut old new OutOfMemory = new ≡ old
 
 -- what comes of the journal: it takes more behind the entry of a published refresh, is as it was where
 -- nothing was stored, and is shut where the disk failed
@@ -63,4 +62,3 @@ LeavesJournal change old new (Published note) = (new.is_shut ≡ false)
 LeavesJournal change old new (Refused cause) = new ≡ old
 LeavesJournal change old new Failed = new.is_shut ≡ true
 LeavesJournal change old new Shut = new ≡ old
-LeavesJournal change old new OutOfMemory = Unit {0}

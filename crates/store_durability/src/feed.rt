@@ -63,12 +63,11 @@ impl<D: Disk> StoredFeed<D> {
             return Ok(StoredTurn::Ended);
         };
         let journal = &mut self.journal;
-        match publish_stored(rt, self.alloc, publisher, journal, &mut self.disk, refresh) {
+        match publish_stored(rt, self.alloc, publisher, journal, &mut self.disk, refresh)? {
             StoredAnswer::Published(note) => Ok(StoredTurn::Published(note)),
             StoredAnswer::Refused(cause) => Ok(StoredTurn::Refused(cause)),
             StoredAnswer::Failed => Ok(StoredTurn::Failed),
             StoredAnswer::Shut => unreachable!(),
-            StoredAnswer::OutOfMemory => Err(AllocError),
         }
     }
 }

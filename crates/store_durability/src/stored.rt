@@ -1,5 +1,5 @@
 //! A refresh is stored, and then published.
-ghost use Rattle.std.specs.Prelude.{◌≡◌, ◌<◌, ◌+◌, ◌^◌, false, true, length, is_some};
+ghost use Rattle.std.specs.Prelude.{◌≡◌, ◌<◌, ◌+◌, ◌^◌, false, true, length, is_some, Ok, IfOk, OnErr};
 ghost use Rattle.base_io.specs.Outside.{Counts};
 ghost use Rattle.base_disk.specs.Disk.{LeavesOnly};
 ghost use Rattle.store_journal.specs.Journal.{WithOrWithout};
@@ -10,14 +10,14 @@ ghost use Rattle.store_versions.specs.Trials.{tables_of};
 ghost use Rattle.store_durability.specs.Stored.{HasRoomForOne, Holds, IsNext, LeavesJournal, Stores};
 ghost use Rattle.store_durability.specs.Stored.{payloads_of};
 
-use crate::trial::try_refresh;
+use crate::trial::{accept, refuse};
 use base_disk::Disk;
 use base_refusals::Cause;
-use std::alloc::Global;
+use std::alloc::{AllocError, Global};
 use std::sync::Wait;
 use store_journal::{Appended, Journal};
 use store_refresh_entries::RefreshPayload;
-use store_snapshots::{Given, Note, Publisher};
+use store_snapshots::{Note, Publisher};
 use store_state::{Refresh, RefreshError};
 
 /// What comes of a refresh that is to be stored and published.
@@ -31,13 +31,12 @@ pub enum StoredAnswer {
     Failed,
     /// The journal was shut before, and nothing is published.
     Shut,
-    /// Memory ran out, and nothing is published. Where the refresh was stored before, the journal is
-    /// shut from now on.
-    OutOfMemory,
 }
 
 /// Tries a refresh, the list's next one or, where none is left, one that comes to the list's end;
-/// stores an accepted one, and only then publishes it.
+/// stores an accepted one, and only then publishes it. Where memory runs out nothing is published;
+/// where it does so behind the store, the journal has one refresh more than the publisher, and is
+/// shut from then on.
 #[tactic(auto, using(crate::proofs::Outcomes::outcomes))]
 pub fn publish_stored<R: Wait, D: Disk>(
     rt: &R,
@@ -46,7 +45,7 @@ pub fn publish_stored<R: Wait, D: Disk>(
     journal: &mut Journal,
     disk: &mut D,
     refresh: Refresh,
-) -> StoredAnswer
+) -> Result<StoredAnswer, AllocError>
     requires reached { D.is_reached disk.old ≡ true }
     requires next { IsNext refresh publisher.old.version }
     requires list_room { HasRoomForOne publisher.old.version }
@@ -58,8 +57,9 @@ pub fn publish_stored<R: Wait, D: Disk>(
     requires holds { Holds (D.may_leave disk.old) publisher.old.version journal.old }
     ensures holds { Holds (D.may_leave disk.new) publisher.new.version journal.new }
 
-    ensures outcome { Stores refresh journal.old.is_shut publisher.old publisher.new result }
-    ensures journal { LeavesJournal refresh journal.old journal.new result }
+    ensures outcome { IfOk result
+        (Stores refresh journal.old.is_shut publisher.old publisher.new) }
+    ensures journal { IfOk result (LeavesJournal refresh journal.old journal.new) }
 
     // A crash at any moment of the call leaves the accepted refreshes, with this one or without.
     ensures any_moment { journal.old.is_shut ≡ false
@@ -71,19 +71,20 @@ pub fn publish_stored<R: Wait, D: Disk>(
         → (disk.new ≡ disk.old) × (journal.new ≡ journal.old) }
     ensures shut { journal.old.is_shut ≡ true
         → (disk.new ≡ disk.old) × (journal.new ≡ journal.old) }
-    ensures failed { Counts (result ≡ StoredAnswer.Failed) (D.faults disk.old) (D.faults disk.new) }
+    ensures failed { Counts (result ≡ Ok StoredAnswer.Failed)
+        (D.faults disk.old) (D.faults disk.new) }
+    ensures memory { OnErr result (publisher.new ≡ publisher.old) }
     ensures refused { publisher.new.refused ≡ publisher.old.refused }
     ensures told { is_some (D.reads disk.new) ≡ is_some (D.reads disk.old) }
     ensures reached { D.is_reached disk.new ≡ true }
 {
     match publisher.tried(&refresh) {
         Ok(()) => store(rt, alloc, publisher, journal, disk, refresh),
-        Err(RefreshError::Refused(_)) => match try_refresh(rt, publisher, refresh) {
-            Given::Published(_) => unreachable!(),
-            Given::Refused(cause) => StoredAnswer::Refused(cause),
-            Given::OutOfMemory => StoredAnswer::OutOfMemory,
-        },
-        Err(RefreshError::OutOfMemory) => StoredAnswer::OutOfMemory,
+        Err(RefreshError::Refused(_)) => {
+            let cause = refuse(rt, publisher, refresh)?;
+            Ok(StoredAnswer::Refused(cause))
+        }
+        Err(RefreshError::OutOfMemory) => Err(AllocError),
     }
 }
 
@@ -96,7 +97,7 @@ fn store<R: Wait, D: Disk>(
     journal: &mut Journal,
     disk: &mut D,
     refresh: Refresh,
-) -> StoredAnswer
+) -> Result<StoredAnswer, AllocError>
     requires reached { D.is_reached disk.old ≡ true }
     requires next { IsNext refresh publisher.old.version }
     requires list_room { HasRoomForOne publisher.old.version }
@@ -106,30 +107,33 @@ fn store<R: Wait, D: Disk>(
         → journal.old.end + (9 + length (spelling_of refresh)) < 2 ^ 62 }
     requires holds { Holds (D.may_leave disk.old) publisher.old.version journal.old }
     ensures holds { Holds (D.may_leave disk.new) publisher.new.version journal.new }
-    ensures outcome { Stores refresh journal.old.is_shut publisher.old publisher.new result }
-    ensures journal { LeavesJournal refresh journal.old journal.new result }
+    ensures outcome { IfOk result
+        (Stores refresh journal.old.is_shut publisher.old publisher.new) }
+    ensures journal { IfOk result (LeavesJournal refresh journal.old journal.new) }
     ensures any_moment { journal.old.is_shut ≡ false
         → LeavesOnly D.moment D.left_since disk.old disk.new
         (WithOrWithout IsSpelled (payloads_of publisher.old.version) (spelling_of refresh)) }
+    ensures untouched { is_accepted (tables_of publisher.old.version) refresh ≡ false
+        → (disk.new ≡ disk.old) × (journal.new ≡ journal.old) }
     ensures shut { journal.old.is_shut ≡ true
         → (disk.new ≡ disk.old) × (journal.new ≡ journal.old) }
-    ensures failed { Counts (result ≡ StoredAnswer.Failed) (D.faults disk.old) (D.faults disk.new) }
+    ensures failed { Counts (result ≡ Ok StoredAnswer.Failed)
+        (D.faults disk.old) (D.faults disk.new) }
+    ensures memory { OnErr result (publisher.new ≡ publisher.old) }
     ensures refused { publisher.new.refused ≡ publisher.old.refused }
     ensures told { is_some (D.reads disk.new) ≡ is_some (D.reads disk.old) }
     ensures reached { D.is_reached disk.new ≡ true }
 {
-    match journal.append::<D, RefreshPayload>(alloc, disk, &refresh) {
-        Ok(Appended::Stored) => match try_refresh(rt, publisher, refresh) {
-            Given::Published(note) => StoredAnswer::Published(note),
-            Given::Refused(_) => unreachable!(),
-            Given::OutOfMemory => {
+    match journal.append::<D, RefreshPayload>(alloc, disk, &refresh)? {
+        Appended::Stored => match accept(rt, publisher, refresh) {
+            Ok(note) => Ok(StoredAnswer::Published(note)),
+            Err(error) => {
                 // The journal has one refresh more than the publisher: it takes no further one.
                 journal.shut();
-                StoredAnswer::OutOfMemory
+                Err(error)
             }
         },
-        Ok(Appended::Failed) => StoredAnswer::Failed,
-        Ok(Appended::Shut) => StoredAnswer::Shut,
-        Err(_) => StoredAnswer::OutOfMemory,
+        Appended::Failed => Ok(StoredAnswer::Failed),
+        Appended::Shut => Ok(StoredAnswer::Shut),
     }
 }
