@@ -1,6 +1,7 @@
 -- What comes of a refresh that is tried, by whether it is accepted.
-use Rattle.std.proofs.Common.{◌≡◌, ◌↔◌, ℕ, ◌<◌, ◌≤◌, Bool, true, false, List, [], ◌∷◌, ◌++◌, length, refl, sym, ap, subst, ◌∙◌, Ok, Err}
-use Rattle.std.specs.Prelude.{is_ok}
+use Rattle.std.proofs.Common.{◌≡◌, ◌↔◌, inl, inr, ℕ, ◌<◌, ◌≤◌, Bool, true, false, List, [], ◌∷◌, ◌++◌, length, refl, sym, ap, subst, ◌∙◌, Ok, Err}
+use Rattle.std.specs.Prelude.{IsTrue, is_ok}
+use Rattle.std.proofs.lemmas.Bool.{cases_lt}
 use Rattle.base_refusals.specs.declared.refresh.Cause.{Cause}
 use Rattle.base_schema.specs.State.{State}
 use Rattle.store_journal.specs.declared.journal.Appended.{Appended}
@@ -36,6 +37,13 @@ left_tries change old new told left tries = subst (λ (t : Trials). TriesNext t 
 pub end_tries : (change : Change) (old new : Edition) (told : Given) → length old.version.list ≤ old.version.done → TriesNext (offered change old.version) old new told
     → TriesNext (trials_with change old.version) old new told
 end_tries change old new told none tries = subst (λ (t : Trials). TriesNext t old new told) (sym (given change old.version none)) tries
+
+-- no refresh of the list is left
+pub none_left : (left : Bool) (done count : ℕ) → (IsTrue left ↔ (done < count)) → left ≡ false → count ≤ done
+none_left left done count both none = elim (cases_lt done count) [
+  | inl less ↦ let some : left ≡ true = both.1 less in let bad : true ≡ false = sym some ∙ none in absurd cc
+  | inr past ↦ past
+]
 
 pub ruleset either_trial = (left_tries, end_tries)
 

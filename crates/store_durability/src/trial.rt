@@ -41,10 +41,9 @@ fn try_refresh<R: Wait>(rt: &R, publisher: &mut Publisher, refresh: Refresh) -> 
     ensures refused { publisher.new.refused ≡ publisher.old.refused }
 {
     if publisher.left() {
-        try_listed(rt, publisher)
-    } else {
-        publisher.publish_given(rt, refresh)
+        return try_listed(rt, publisher);
     }
+    publisher.publish_given(rt, refresh)
 }
 
 /// Tries a refresh that the last version accepts.
