@@ -41,12 +41,12 @@ const BAD: LineRefusal = LineRefusal {
 };
 
 /// A delete of no order, and a malformed refresh.
-fn two(alloc: Global) -> Result<Vec<Refresh>, AllocError>
+fn two(alloc: Global, first: LineRefusal) -> Result<Vec<Refresh>, AllocError>
     ensures { IfOk result (λ list. list.items
-        ≡ DeleteKeys [] ∷ MalformedFile RefreshFile.Delete 1 BAD ∷ []) }
+        ≡ DeleteKeys [] ∷ MalformedFile RefreshFile.Delete 1 first ∷ []) }
 {
     let nothing = Refresh::delete(alloc, Vec::new(alloc))?;
-    let malformed = Refresh::malformed(RefreshFile::Delete, 1, BAD);
+    let malformed = Refresh::malformed(RefreshFile::Delete, 1, first);
     let list = vec![in alloc; nothing, malformed]?;
     Ok(list)
 }
@@ -80,6 +80,7 @@ fn turns_of<R: Wait, D: Disk>(
 
 /// What three turns of a list of two tell over a disk that fails at a call, how many refreshes were
 /// accepted, and what the disk's file holds.
+#[tactic(auto, using(crate::proofs::Fits::two_fit))]
 fn run_two<R: Wait>(
     rt: &R,
     alloc: Global,
@@ -97,7 +98,7 @@ fn run_two<R: Wait>(
         journal,
         disk,
     };
-    let (mut publisher, _readers) = open(rt, alloc, no_rows(alloc)?, two(alloc)?, 1, 2)?;
+    let (mut publisher, _readers) = open(rt, alloc, no_rows(alloc)?, two(alloc, BAD)?, 1, 2)?;
     let told = turns_of(rt, &mut feed, &mut publisher);
     let version = publisher.version();
     publisher.close(rt);
