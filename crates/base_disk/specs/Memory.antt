@@ -1,5 +1,5 @@
 -- What a disk in memory remembers, and what a crash at each moment may have left of it.
-use Rattle.std.specs.Prelude.{◌≡◌, ◌⊎◌, ℕ, ◌+◌, ◌≤◌, List, [], ◌∷◌, ◌++◌, length, take, Some, nat_lt}
+use Rattle.std.specs.Prelude.{◌≡◌, ◌⊎◌, ℕ, ◌≤◌, List, [], ◌∷◌, ◌++◌, length, take, Some}
 use Rattle.std.specs.Prelude.{Bool, true, false, not, ◌||◌, if◌then◌else◌}
 use Rattle.std.specs.Str.{bytes_eq}
 use Rattle.std.proofs.Common.{inl, sym, subst, arith}
@@ -61,11 +61,6 @@ file_only name bytes asked = if bytes_eq name asked then bytes else []
 -- a call that is to fail, or of another name, reaches no file
 abbrev pub is_unreached : Bool → List ℕ → List ℕ → Bool
 is_unreached failing name asked = failing || not (bytes_eq name asked)
-
--- a write that is to fail, that would leave a gap behind so many bytes, or that would go past the
--- most there is room for
-abbrev pub is_unwritten : Bool → ℕ → ℕ → ℕ → ℕ → Bool
-is_unwritten failing size most at count = failing || nat_lt size at || nat_lt most (at + count)
 
 -- the write failed
 abbrev pub is_write_failed : WriteAnswer → Bool

@@ -1,8 +1,8 @@
 //! A disk in memory with one file. It remembers what its file held at first and each call since, so
 //! that what a crash may leave at each moment can be told.
-ghost use Rattle.std.specs.Prelude.{min, drop, ◌-◌, ℕ, ◌≡◌, ◌==◌, ◌<◌, ◌≤◌, ◌++◌, [], ◌∷◌, Some, true};
-ghost use Rattle.std.specs.Prelude.{false, length, take, OnOk, OnErr, IfOk, IfSome, Vec, is_some, List};
-ghost use Rattle.std.specs.Prelude.{if◌then◌else◌};
+ghost use Rattle.std.specs.Prelude.{min, drop, ◌+◌, ◌-◌, ℕ, ◌≡◌, ◌==◌, ◌<◌, ◌≤◌, ◌++◌, [], ◌∷◌, Some};
+ghost use Rattle.std.specs.Prelude.{true, false, length, take, OnOk, OnErr, IfOk, IfSome, Vec, is_some};
+ghost use Rattle.std.specs.Prelude.{List, if◌then◌else◌};
 ghost use Rattle.std.specs.declared.alloc.Global.{Global};
 ghost use Rattle.base_io.specs.Memory.{is_failing, count_after};
 ghost use Rattle.base_io.specs.Outside.{Counts, next_count};
@@ -13,7 +13,7 @@ ghost use Rattle.std.specs.List.{list_any};
 ghost use Rattle.std.specs.String.{string_bytes};
 ghost use Rattle.base_disk.specs.Memory.{IsImage, LeftSince, State, TornBy, done, after, start};
 ghost use Rattle.base_disk.specs.Memory.{state_now, file_only, mem_reads_image, mem_counts_now};
-ghost use Rattle.base_disk.specs.Memory.{mem_only_now, is_unreached, is_unwritten, is_write_failed};
+ghost use Rattle.base_disk.specs.Memory.{mem_only_now, is_unreached, is_write_failed};
 ghost use Rattle.base_disk.specs.Memory.{is_sync_failed};
 
 use crate::{Disk, Got, Reach, Size, Synced, Wrote};
@@ -293,9 +293,10 @@ impl Disk for MemDisk {
         // It fails where the list has the call's number, and where it would leave a gap or go past
         // the room that there is; beside that only for want of memory. Where it fails it does
         // nothing.
-        ensures refused { is_unwritten (is_failing self.old.failing.items self.old.count)
-            (length self.old.bytes.items) self.old.most at (length piece.now) ≡ true
+        ensures refused { is_failing self.old.failing.items self.old.count ≡ true
             → result ≡ Wrote.Failed }
+        ensures gap { length self.old.bytes.items < at → result ≡ Wrote.Failed }
+        ensures room { self.old.most < at + length piece.now → result ≡ Wrote.Failed }
         ensures wrote { result ≡ Wrote.Wrote → (v : Vec ℕ Global) × (v.items ≡ piece.now)
             × (self.new.calls.items ≡ self.old.calls.items ++ called.Wrote at v ∷ []) }
         ensures failed { result ≡ Wrote.Failed → (self.new.calls.items ≡ self.old.calls.items)
