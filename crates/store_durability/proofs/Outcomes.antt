@@ -80,6 +80,7 @@ module _ (change : Change) (old : Trials) (within : old.done ≤ length old.list
       not_both (is_accepted (tables_of old) change) (accepted_ok (tables_of old) change (ap is_ok made)) e
 
 pub ruleset accepted_trial = (accepted_payloads, not_refused)
+
 pub ruleset refused_trial = (refused_payloads, told_cause, not_accepted)
 
 -- a journal that doesn't answer Shut wasn't
