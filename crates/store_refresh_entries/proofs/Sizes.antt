@@ -1,6 +1,6 @@
 -- How long the texts are that are written of the rows of files.
 use Rattle.std.proofs.Common.{◌≡◌, ℕ, zero, suc, ◌+◌, ◌*◌, ◌/◌, ◌^◌, ◌<◌, ◌≤◌, Bool, true, false, not, cond, ◌&&◌, ◌||◌, List, [], ◌∷◌, ◌++◌, length, map, refl, sym, ap, subst, arith, length-append, ℤ, pos, negsuc, Option, Some, None, Result, Ok}
-use Rattle.std.specs.Prelude.{◌==◌, int_lt, unsigned_abs, nat_lt, nat_le, unwrap_or}
+use Rattle.std.specs.Prelude.{◌==◌, int_lt, slice_index_or, unsigned_abs, nat_lt, nat_le, unwrap_or}
 use Rattle.std.specs.Cmp.Lexicographic.{pointwise}
 use Rattle.std.specs.Fmt.{decimal}
 use Rattle.std.specs.List.{concat}
@@ -159,7 +159,7 @@ lines_short form (line ∷ lines) [] e = cc
 lines_short form (line ∷ lines) (row ∷ rows) e =
     let behind : map (line_row form) lines ≡ map Ok rows = cc in
     let key = order_key row in
-    let here = length-written key 0 (number_small _) in
+    let here = length-written key 0 (number_small (slice_index_or row 0 value.Null)) in
     let others = lines_short form lines rows behind in
     omega (arith, here, others, length-append (decimal_written key 0 ++ 10 ∷ []) (keys_text (order_keys rows)), length-append (decimal_written key 0) (10 ∷ []))
 
