@@ -1,0 +1,131 @@
+//! What is shown of a statement, as an object of JSON.
+use crate::place::line_and_column;
+use crate::query_plan::{FormLines, QueryPlan};
+use crate::refused_name::NamePlace;
+use crate::statement_plan::StatementPlan;
+use crate::written::{WrittenStatement, bytes_between};
+use app_plan_text::{plan_lines, push_json_lines, push_json_text, push_number};
+use base_refusals::Refusal;
+use itoa::Buffer;
+use plan_spelling::plan_spelling;
+use std::alloc::{AllocError, Global};
+
+/// Appends a comma, and a field's name.
+fn push_key(text: &mut Vec<u8>, key: &[u8]) -> Result<(), AllocError> {
+    text.push(b',')?;
+    push_json_text(text, key)?;
+    text.push(b':')?;
+    Ok(())
+}
+
+/// Appends a comma, a field's name and its number.
+fn push_number_field(text: &mut Vec<u8>, key: &[u8], number: usize) -> Result<(), AllocError> {
+    push_key(text, key)?;
+    push_number(text, number)
+}
+
+/// Appends a comma, a field's name and its text.
+fn push_text_field(text: &mut Vec<u8>, key: &[u8], plain: &[u8]) -> Result<(), AllocError> {
+    push_key(text, key)?;
+    push_json_text(text, plain)
+}
+
+/// Appends the object of a form.
+fn push_form(text: &mut Vec<u8>, form: &FormLines) -> Result<(), AllocError> {
+    text.extend_from_slice(b"{\"form\":")?;
+    push_json_text(text, form.form.title().as_bytes())?;
+    push_key(text, b"lines")?;
+    push_json_lines(text, form.lines.as_slice())?;
+    text.push(b'}')?;
+    Ok(())
+}
+
+/// Appends the fields of a query.
+fn push_query(alloc: Global, text: &mut Vec<u8>, plan: &QueryPlan) -> Result<(), AllocError> {
+    push_text_field(text, b"answer", b"query")?;
+    push_key(text, b"forms")?;
+    text.push(b'[')?;
+    for (place, form) in plan.forms.iter().enumerate() {
+        if place > 0 {
+            text.push(b',')?;
+        }
+        push_form(text, form)?;
+    }
+    text.push(b']')?;
+    push_key(text, b"plan")?;
+    let nodes = plan.plan.nodes.as_slice();
+    let lines = plan_lines(alloc, nodes, plan.counts.as_slice())?;
+    push_json_lines(text, lines.as_slice())?;
+    push_key(text, b"spelling")?;
+    push_list(text, plan_spelling(alloc, nodes)?.as_slice())
+}
+
+/// Appends a list of numbers.
+fn push_list(text: &mut Vec<u8>, numbers: &[u128]) -> Result<(), AllocError> {
+    text.push(b'[')?;
+    for (place, number) in numbers.iter().enumerate() {
+        if place > 0 {
+            text.push(b',')?;
+        }
+        let mut buffer = Buffer::new();
+        text.extend_from_slice(buffer.format(*number).as_bytes())?;
+    }
+    text.push(b']')?;
+    Ok(())
+}
+
+/// Appends the fields of a name: the name, its line and column in the script, or for a statement of
+/// a run in its own text.
+fn push_name(
+    text: &mut Vec<u8>,
+    script: &[u8],
+    written: &WrittenStatement,
+    name: NamePlace,
+) -> Result<(), AllocError> {
+    let own = written.text.as_slice();
+    let (line, column) = match written.start {
+        Some(start) => line_and_column(script, start.saturating_add(name.start)),
+        None => line_and_column(own, name.start),
+    };
+    push_text_field(text, b"at", bytes_between(own, name.start, name.end))?;
+    push_number_field(text, b"line", line)?;
+    push_number_field(text, b"column", column)
+}
+
+/// Appends the fields of a refused statement.
+fn push_refused(
+    text: &mut Vec<u8>,
+    script: &[u8],
+    written: &WrittenStatement,
+    why: &Refusal,
+    name: Option<NamePlace>,
+) -> Result<(), AllocError> {
+    push_text_field(text, b"answer", b"refused")?;
+    push_number_field(text, b"number", why.number() as usize)?;
+    push_text_field(text, b"name", why.name().as_bytes())?;
+    match name {
+        Some(name) => push_name(text, script, written, name),
+        None => Ok(()),
+    }
+}
+
+/// Appends what is shown of a statement of this number, as an object on a line of its own.
+pub fn push_statement_object(
+    alloc: Global,
+    text: &mut Vec<u8>,
+    number: usize,
+    script: &[u8],
+    written: &WrittenStatement,
+    plan: &StatementPlan,
+) -> Result<(), AllocError> {
+    text.extend_from_slice(b"{\"statement\":")?;
+    push_number(text, number)?;
+    push_text_field(text, b"text", written.text.as_slice())?;
+    match plan {
+        StatementPlan::Query(plan) => push_query(alloc, text, plan)?,
+        StatementPlan::Done => push_text_field(text, b"answer", b"done")?,
+        StatementPlan::Refresh => push_text_field(text, b"answer", b"refresh")?,
+        StatementPlan::Refused(why, name) => push_refused(text, script, written, why, *name)?,
+    }
+    text.extend_from_slice(b"}\n")
+}

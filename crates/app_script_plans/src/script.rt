@@ -1,0 +1,74 @@
+//! What is shown of a script's statements.
+use crate::lines::push_statement_lines;
+use crate::objects::push_statement_object;
+use crate::statement_plan::{StatementPlan, statement_plan};
+use crate::views::TypedViews;
+use crate::written::{WrittenStatement, statements_of, written_statements};
+use plan_algebra::Tables;
+use std::alloc::{AllocError, Global};
+use std::thread::Threads;
+
+/// How plans are written.
+#[derive(Clone, Copy, Debug, PartialEq, Eq)]
+pub enum PlanForm {
+    /// As lines for readers.
+    Lines,
+    /// As JSON, an object a line.
+    Objects,
+}
+
+/// What is shown of a script.
+#[derive(Drop)]
+pub struct ScriptPlans {
+    /// The text.
+    pub text: Vec<u8>,
+    /// Whether no statement is refused.
+    pub is_clean: bool,
+}
+
+/// Appends what is shown of a statement of this number.
+fn push_plan(
+    alloc: Global,
+    text: &mut Vec<u8>,
+    form: PlanForm,
+    number: usize,
+    script: &[u8],
+    written: &WrittenStatement,
+    plan: &StatementPlan,
+) -> Result<(), AllocError> {
+    match form {
+        PlanForm::Lines => push_statement_lines(alloc, text, number, script, written, plan),
+        PlanForm::Objects => push_statement_object(alloc, text, number, script, written, plan),
+    }
+}
+
+/// What is shown of the statements that a script's stand for, which are numbered from 1. A run
+/// stands for those of its filled text, and refreshes aren't tried. Where tables are given, the rows
+/// of each node are counted over them, whatever version a query names.
+///
+/// # Errors
+///
+/// Memory ran out.
+pub fn script_plans<R: Threads + Sync, T: Tables>(
+    rt: &R,
+    alloc: Global,
+    script: &[u8],
+    form: PlanForm,
+    tables: Option<&T>,
+) -> Result<ScriptPlans, AllocError> {
+    let all = written_statements(alloc, script)?;
+    let mut views = TypedViews::new(alloc);
+    let mut text = Vec::new(alloc);
+    let mut is_clean = true;
+    for (place, written) in all.iter().enumerate() {
+        let own = written.text.as_slice();
+        let statements = statements_of(alloc, own)?;
+        for statement in statements.as_slice() {
+            let plan = statement_plan(rt, alloc, own, statement, &mut views, tables)?;
+            is_clean &= !matches!(plan, StatementPlan::Refused(_, _));
+            let number = place.saturating_add(1);
+            push_plan(alloc, &mut text, form, number, script, written, &plan)?;
+        }
+    }
+    Ok(ScriptPlans { text, is_clean })
+}

@@ -1,0 +1,7 @@
+pub mod Lists
+pub mod NodeSteps
+pub mod Opened
+pub mod Parts
+pub mod Readback
+pub mod Texts
+pub mod Written
