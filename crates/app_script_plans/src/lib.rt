@@ -1,8 +1,8 @@
 //! What becomes of each query of a script: its bound form, its trees and its flat plan, as lines
-//! for readers and as JSON, with the rows of each node where there are tables.
+//! for readers and as JSON, with what each node takes where there are tables.
 #![tactic(auto)]
 
-mod counts;
+mod figures;
 mod lines;
 mod lists;
 mod objects;
@@ -13,6 +13,7 @@ mod script;
 mod statement_plan;
 mod variants;
 mod views;
+mod ways;
 mod written;
 
 pub use place::push_place;

@@ -2,18 +2,20 @@
 ghost use Rattle.std.specs.Prelude.{◌≡◌, ◌++◌, List, OnOk, codes};
 ghost use Rattle.app_plan_text.specs.Lines.{AreLinesFrom, lines_text};
 ghost use Rattle.app_plan_text.specs.declared.line.PlanLine.{PlanLine};
-ghost use Rattle.app_script_plans.specs.Shown.{ShowsSpelling};
+ghost use Rattle.plan_spelling.specs.Plans.{EndsWithPlan};
 
+use crate::figures::{NodeFigures, rows_of};
 use crate::place::push_place;
 use crate::query_plan::{FormLines, QueryPlan};
 use crate::refused_name::NamePlace;
 use crate::statement_plan::StatementPlan;
+use crate::ways::way_of;
 use crate::written::{WrittenStatement, bytes_between};
 use app_plan_text::{plan_lines, push_lines, push_number};
 use app_result_text::push_refusal;
 use base_refusals::Refusal;
 use plan_algebra::Node;
-use plan_spelling::{plan_spelling, push_numbers};
+use plan_spelling::push_plan;
 use std::alloc::{AllocError, Global};
 
 /// Appends a statement's number, a word, and the statement's text.
@@ -56,28 +58,67 @@ fn push_flat_plan(
     push_lines(text, lines.as_slice())
 }
 
+/// Appends a word, a number before it.
+fn push_counted(text: &mut Vec<u8>, number: usize, word: &[u8]) -> Result<(), AllocError> {
+    push_number(text, number)?;
+    text.extend_from_slice(word)
+}
+
+/// Appends what the node of this number gives, and how it finds its pairs where it is a join.
+fn push_node_figures(
+    text: &mut Vec<u8>,
+    number: usize,
+    figures: NodeFigures,
+    way: Option<&'static str>,
+) -> Result<(), AllocError> {
+    text.extend_from_slice(b"  ")?;
+    push_counted(text, number, b": ")?;
+    push_counted(text, figures.rows, b" rows, ")?;
+    push_counted(text, figures.bytes, b" bytes, ")?;
+    push_counted(text, figures.micros as usize, b" microseconds")?;
+    if let Some(way) = way {
+        text.extend_from_slice(b", by ")?;
+        text.extend_from_slice(way.as_bytes())?;
+    }
+    text.push(b'\n')?;
+    Ok(())
+}
+
+/// Appends what each node of a plan gives, where there are tables.
+fn push_figures(alloc: Global, text: &mut Vec<u8>, plan: &QueryPlan) -> Result<(), AllocError> {
+    if plan.figures.is_empty() {
+        return Ok(());
+    }
+    let nodes = plan.plan.nodes.as_slice();
+    let lines = plan_lines(alloc, nodes, &[])?;
+    text.extend_from_slice(b"figures of the nodes, each with the time from the first one on\n")?;
+    for (number, node) in nodes.iter().enumerate() {
+        if let Some(figures) = plan.figures.get(number) {
+            push_node_figures(text, number, *figures, way_of(node, lines.as_slice()))?;
+        }
+    }
+    Ok(())
+}
+
 /// What is shown of a query before the spelling of its plan.
 fn query_text(alloc: Global, plan: &QueryPlan) -> Result<Vec<u8>, AllocError> {
     let mut text = Vec::new(alloc);
     for form in plan.forms.as_slice() {
         push_form(&mut text, form)?;
     }
-    let (nodes, counts) = (plan.plan.nodes.as_slice(), plan.counts.as_slice());
-    push_flat_plan(alloc, &mut text, nodes, counts)?;
+    let rows = rows_of(alloc, plan.figures.as_slice())?;
+    push_flat_plan(alloc, &mut text, plan.plan.nodes.as_slice(), rows.as_slice())?;
+    push_figures(alloc, &mut text, plan)?;
     Ok(text)
 }
 
 /// Appends what is shown of a query; at the end the spelling of its plan, which no other plan has.
 fn push_query(alloc: Global, text: &mut Vec<u8>, plan: &QueryPlan) -> Result<(), AllocError>
-    ensures { OnOk result (ShowsSpelling plan.now.plan.nodes text.old.items text.new.items) }
+    ensures { OnOk result (EndsWithPlan plan.now.plan.nodes text.new.items) }
 {
     let shown = query_text(alloc, plan)?;
-    let numbers = plan_spelling(alloc, plan.plan.nodes.as_slice())?;
     text.extend_from_slice(shown.as_slice())?;
-    text.extend_from_slice(b"spelling\n")?;
-    push_numbers(text, numbers.as_slice())?;
-    text.push(b'\n')?;
-    Ok(())
+    push_plan(alloc, text, plan.plan.nodes.as_slice())
 }
 
 /// Appends where a name stands, and the name: its place in the script, or for a statement of a run

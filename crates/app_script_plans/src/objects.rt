@@ -1,10 +1,12 @@
 //! What is shown of a statement, as an object of JSON.
+use crate::figures::rows_of;
 use crate::place::line_and_column;
 use crate::query_plan::{FormLines, QueryPlan};
 use crate::refused_name::NamePlace;
 use crate::statement_plan::StatementPlan;
+use crate::ways::way_of;
 use crate::written::{WrittenStatement, bytes_between};
-use app_plan_text::{plan_lines, push_json_lines, push_json_text, push_number};
+use app_plan_text::{PlanLine, plan_lines, push_json_lines, push_json_text, push_number};
 use base_refusals::Refusal;
 use itoa::Buffer;
 use plan_spelling::plan_spelling;
@@ -52,12 +54,47 @@ fn push_query(alloc: Global, text: &mut Vec<u8>, plan: &QueryPlan) -> Result<(),
         push_form(text, form)?;
     }
     text.push(b']')?;
-    push_key(text, b"plan")?;
+    push_plan(alloc, text, plan)
+}
+
+/// Appends the fields of a flat plan: its lines, what its nodes give, and its spelling.
+fn push_plan(alloc: Global, text: &mut Vec<u8>, plan: &QueryPlan) -> Result<(), AllocError> {
     let nodes = plan.plan.nodes.as_slice();
-    let lines = plan_lines(alloc, nodes, plan.counts.as_slice())?;
+    let rows = rows_of(alloc, plan.figures.as_slice())?;
+    let lines = plan_lines(alloc, nodes, rows.as_slice())?;
+    push_key(text, b"plan")?;
     push_json_lines(text, lines.as_slice())?;
+    push_key(text, b"figures")?;
+    push_figures(text, plan, lines.as_slice())?;
     push_key(text, b"spelling")?;
     push_list(text, plan_spelling(alloc, nodes)?.as_slice())
+}
+
+/// Appends the list of what each node gives.
+fn push_figures(
+    text: &mut Vec<u8>,
+    plan: &QueryPlan,
+    lines: &[PlanLine],
+) -> Result<(), AllocError> {
+    text.push(b'[')?;
+    for (number, node) in plan.plan.nodes.as_slice().iter().enumerate() {
+        if number > 0 {
+            text.push(b',')?;
+        }
+        text.extend_from_slice(b"{\"node\":")?;
+        push_number(text, number)?;
+        if let Some(figures) = plan.figures.get(number) {
+            push_number_field(text, b"rows", figures.rows)?;
+            push_number_field(text, b"bytes", figures.bytes)?;
+            push_number_field(text, b"microseconds", figures.micros as usize)?;
+        }
+        if let Some(way) = way_of(node, lines) {
+            push_text_field(text, b"way", way.as_bytes())?;
+        }
+        text.push(b'}')?;
+    }
+    text.push(b']')?;
+    Ok(())
 }
 
 /// Appends a list of numbers.

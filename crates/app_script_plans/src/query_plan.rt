@@ -1,11 +1,12 @@
 //! A query from its bound form to its flat plan.
-ghost use Rattle.std.specs.Prelude.{◌≡◌, List, Result, Ok, Err, IfOk};
+ghost use Rattle.std.specs.Prelude.{List};
 ghost use Rattle.expr_scalar.specs.declared.kind.Kind.{Kind};
 ghost use Rattle.sql_bound_query.specs.Typing.{IsWellTyped};
 ghost use Rattle.sql_binder.specs.Binding.{bound_query};
+ghost use Rattle.plan_planner.specs.Planned.{Plans};
 ghost use Rattle.app_script_plans.specs.Shown.{PlansQuery};
 
-use crate::counts::node_counts;
+use crate::figures::{NodeFigures, node_figures};
 use crate::views::TypedViews;
 use app_plan_text::{PlanLine, query_lines, tree_lines};
 use plan_algebra::{FlatPlan, Tables};
@@ -20,6 +21,7 @@ use sql_bound_query::BoundQuery;
 use sqlite_items::Items;
 use std::alloc::{AllocError, Global};
 use std::thread::Threads;
+use std::time::Clock;
 
 /// A form of a query before its flat plan.
 #[derive(Clone, Copy, Debug, PartialEq, Eq)]
@@ -65,8 +67,8 @@ pub struct QueryPlan {
     pub forms: Vec<FormLines>,
     /// The flat plan.
     pub plan: FlatPlan,
-    /// How many rows each node has; none where there are no tables.
-    pub counts: Vec<usize>,
+    /// What each node gives; nothing where there are no tables.
+    pub figures: Vec<NodeFigures>,
 }
 
 /// The forms of a bound query, by the calls with which its flat plan is made.
@@ -106,20 +108,20 @@ fn flat_plan(alloc: Global, query: &Query, views: &TypedViews) -> Result<FlatPla
     Ok(plan)
 }
 
-/// The rows of each node of a query's plan over tables. The plan is made for that once more, since
+/// What each node of a query's plan gives over tables. The plan is made for that once more, since
 /// it is taken apart node by node.
-fn rows_of_nodes<R: Threads + Sync, T: Tables>(
+fn figures_of_nodes<R: Threads + Sync + Clock, T: Tables>(
     rt: &R,
     alloc: Global,
     query: &Query,
     views: &TypedViews,
     tables: Option<&T>,
-) -> Result<Vec<usize>, BindFault> {
+) -> Result<Vec<NodeFigures>, BindFault> {
     match tables {
         Some(tables) => {
             let plan = flat_plan(alloc, query, views)?;
-            let counts = node_counts(rt, alloc, plan, tables)?;
-            Ok(counts)
+            let figures = node_figures(rt, alloc, plan, tables)?;
+            Ok(figures)
         }
         None => Ok(Vec::new(alloc)),
     }
@@ -138,7 +140,7 @@ fn bound_forms(
 }
 
 /// A query's forms and its flat plan over these views: refused exactly as binding is.
-pub fn query_plan<R: Threads + Sync, T: Tables>(
+pub fn query_plan<R: Threads + Sync + Clock, T: Tables>(
     rt: &R,
     alloc: Global,
     query: &Query,
@@ -152,13 +154,13 @@ pub fn query_plan<R: Threads + Sync, T: Tables>(
         Ok(forms) => forms,
         Err(_) => return Err(BindFault::OutOfMemory),
     };
-    let counts = match rows_of_nodes(rt, alloc, query, views, tables) {
-        Ok(counts) => counts,
+    let figures = match figures_of_nodes(rt, alloc, query, views, tables) {
+        Ok(figures) => figures,
         Err(_) => return Err(BindFault::OutOfMemory),
     };
     Ok(QueryPlan {
         forms,
         plan,
-        counts,
+        figures,
     })
 }

@@ -7,6 +7,7 @@ use crate::written::{WrittenStatement, statements_of, written_statements};
 use plan_algebra::Tables;
 use std::alloc::{AllocError, Global};
 use std::thread::Threads;
+use std::time::Clock;
 
 /// How plans are written.
 #[derive(Clone, Copy, Debug, PartialEq, Eq)]
@@ -49,7 +50,7 @@ fn push_plan(
 /// # Errors
 ///
 /// Memory ran out.
-pub fn script_plans<R: Threads + Sync, T: Tables>(
+pub fn script_plans<R: Threads + Sync + Clock, T: Tables>(
     rt: &R,
     alloc: Global,
     script: &[u8],

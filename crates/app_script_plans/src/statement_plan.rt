@@ -13,6 +13,7 @@ use sql_binder_steps::BindFault;
 use sql_templates::{TemplateFault, fill};
 use std::alloc::{AllocError, Global};
 use std::thread::Threads;
+use std::time::Clock;
 
 /// What is shown of a statement.
 #[derive(Drop)]
@@ -39,7 +40,7 @@ fn unbound(
 }
 
 /// What is shown of a query.
-fn shown_query<R: Threads + Sync, T: Tables>(
+fn shown_query<R: Threads + Sync + Clock, T: Tables>(
     rt: &R,
     alloc: Global,
     text: &[u8],
@@ -117,7 +118,7 @@ fn shown_run(
 }
 
 /// What is shown of a statement of this text over these views, to which it does what it says.
-pub fn statement_plan<R: Threads + Sync, T: Tables>(
+pub fn statement_plan<R: Threads + Sync + Clock, T: Tables>(
     rt: &R,
     alloc: Global,
     text: &[u8],

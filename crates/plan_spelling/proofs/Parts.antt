@@ -18,15 +18,13 @@ use Rattle.plan_algebra.specs.declared.aggregate.Aggregate.{Aggregate}
 use Rattle.plan_algebra.specs.declared.aggregate.Aggregate.TheVariants.{CountRows, Of}
 use Rattle.plan_algebra.specs.declared.node.Node.{Node}
 use Rattle.plan_algebra.specs.declared.node.Node.TheVariants as n
-use Rattle.plan_spelling.specs.Laws.{SpellingIsUnique}
 use Rattle.plan_spelling.specs.Plans.{aggregate_spelling, function_number, node_spelling, pair_numbers, plan_spelling, value_spelling}
 use Rattle.plan_spelling.specs.Exprs.{arithmetic_number, branch_spelling, comparison_number, expr_spelling, operation_spelling, part_number, spelled, value_numbers}
-use Rattle.plan_spelling.proofs.Lists.{Unique, spelled_unique}
 use Rattle.plan_spelling.proofs.Opened.{spelling_Branch, spelling_Operation, spelling_Column, spelling_Literal, spelling_Negative, spelling_Arithmetic, spelling_Case, spelling_Extract, spelling_Substring, spelling_Compare, spelling_Between, spelling_Like, spelling_InList, spelling_IsNull, spelling_Not, spelling_All, spelling_Any, spelling_IsMarked}
 use Rattle.plan_spelling.proofs.NodeSteps.{spelled_Scan, spelled_Domain, spelled_Select, spelled_Project, spelled_Join, spelled_Outer, spelled_Mark, spelled_Single, spelled_Group, spelled_Fill, spelled_Distinct}
 use Rattle.plan_spelling.proofs.Readback.{arithmetic_of, arithmetic_back, comparison_of, comparison_back, part_of, part_back, value_of, value_back, function_of, function_back, pairs_of, pairs_back}
 
-data Part : Type 0 where
+pub data Part : Type 0 where
   expr : Expr → Part
   branch : Branch → Part
   operation : Operation → Part
@@ -34,7 +32,7 @@ data Part : Type 0 where
   value : Value → Part
   node : Node → Part
 
-abbrev part_spelling : Part → List ℕ
+abbrev pub part_spelling : Part → List ℕ
 part_spelling (expr a) = expr_spelling a
 part_spelling (branch b) = branch_spelling b
 part_spelling (operation o) = operation_spelling o
@@ -181,7 +179,7 @@ abbrev or_else : Option Part → Option Part → Option Part
 or_else (Some p) other = Some p
 or_else None other = other
 
-abbrev rebuilt : List ℕ → List Part → Option Part
+abbrev pub rebuilt : List ℕ → List Part → Option Part
 rebuilt [] ps = None
 rebuilt (tag ∷ ns) ps = or_else (few tag ns ps) (or_else (more tag ns ps) (or_else (nodes tag ns ps) (joins tag ns ps)))
 
@@ -212,16 +210,16 @@ operations_spelled : (os : List Operation) → map part_spelling (map operation 
 operations_spelled = all_spelled operation_spelling operation (λ o. refl)
 
 -- what a part is, and the parts below it, from which it is rebuilt
-record Described (p : Part) : Type 0 where
-  what : List ℕ
-  below : List Part
-  is : part_spelling p ≡ spelled what (map part_spelling below)
-  back : rebuilt what below ≡ Some p
+pub record Described (p : Part) : Type 0 where
+  pub what : List ℕ
+  pub below : List Part
+  pub is : part_spelling p ≡ spelled what (map part_spelling below)
+  pub back : rebuilt what below ≡ Some p
 
-abbrev a_column : (place : ℕ) → Described (expr (e.Column place))
+abbrev pub a_column : (place : ℕ) → Described (expr (e.Column place))
 a_column place = record { what = 0 ∷ place ∷ []; below = []; is = spelling_Column place; back = refl }
 
-abbrev a_literal : (x : Value) → Described (expr (e.Literal x))
+abbrev pub a_literal : (x : Value) → Described (expr (e.Literal x))
 a_literal x = record {
   what = 1 ∷ value_numbers x;
   below = [];
@@ -229,10 +227,10 @@ a_literal x = record {
   back = ap (λ o. or_else (literal o []) None) (value_back x);
 }
 
-abbrev a_negative : (a : Expr) → Described (expr (e.Negative a))
+abbrev pub a_negative : (a : Expr) → Described (expr (e.Negative a))
 a_negative a = record { what = 2 ∷ []; below = expr a ∷ []; is = spelling_Negative a; back = refl }
 
-abbrev a_chain : (a : Expr) (os : List Operation) → Described (expr (e.Arithmetic a os))
+abbrev pub a_chain : (a : Expr) (os : List Operation) → Described (expr (e.Arithmetic a os))
 a_chain a os = record {
   what = 3 ∷ [];
   below = expr a ∷ map operation os;
@@ -240,7 +238,7 @@ a_chain a os = record {
   back = ap (λ o. or_else (option_map (λ xs. expr (e.Arithmetic a xs)) o) None) (operations_back os);
 }
 
-abbrev a_case : (scale : ℕ) (bs : List Branch) (a : Expr) → Described (expr (e.Case scale bs a))
+abbrev pub a_case : (scale : ℕ) (bs : List Branch) (a : Expr) → Described (expr (e.Case scale bs a))
 a_case scale bs a = record {
   what = 4 ∷ scale ∷ [];
   below = expr a ∷ map branch bs;
@@ -248,7 +246,7 @@ a_case scale bs a = record {
   back = ap (λ o. or_else (option_map (λ xs. expr (e.Case scale xs a)) o) None) (branches_back bs);
 }
 
-abbrev an_extract : (part : DatePart) (a : Expr) → Described (expr (e.Extract part a))
+abbrev pub an_extract : (part : DatePart) (a : Expr) → Described (expr (e.Extract part a))
 an_extract part a = record {
   what = 5 ∷ part_number part ∷ [];
   below = expr a ∷ [];
@@ -256,10 +254,10 @@ an_extract part a = record {
   back = ap (λ p. Some (expr (e.Extract p a))) (part_back part);
 }
 
-abbrev a_substring : (a : Expr) (from count : ℕ) → Described (expr (e.Substring a from count))
+abbrev pub a_substring : (a : Expr) (from count : ℕ) → Described (expr (e.Substring a from count))
 a_substring a from count = record { what = 6 ∷ from ∷ count ∷ []; below = expr a ∷ []; is = spelling_Substring a from count; back = refl }
 
-abbrev a_comparison : (c : Comparison) (a b : Expr) → Described (expr (e.Compare c a b))
+abbrev pub a_comparison : (c : Comparison) (a b : Expr) → Described (expr (e.Compare c a b))
 a_comparison c a b = record {
   what = 7 ∷ comparison_number c ∷ [];
   below = expr a ∷ expr b ∷ [];
@@ -267,13 +265,13 @@ a_comparison c a b = record {
   back = ap (λ d. Some (expr (e.Compare d a b))) (comparison_back c);
 }
 
-abbrev a_between : (a b d : Expr) → Described (expr (e.Between a b d))
+abbrev pub a_between : (a b d : Expr) → Described (expr (e.Between a b d))
 a_between a b d = record { what = 8 ∷ []; below = expr a ∷ expr b ∷ expr d ∷ []; is = spelling_Between a b d; back = refl }
 
-abbrev a_like : (a : Expr) (pattern : List ℕ) → Described (expr (e.Like a pattern))
+abbrev pub a_like : (a : Expr) (pattern : List ℕ) → Described (expr (e.Like a pattern))
 a_like a pattern = record { what = 9 ∷ pattern; below = expr a ∷ []; is = spelling_Like a pattern; back = refl }
 
-abbrev a_list : (a : Expr) (us : List Expr) → Described (expr (e.InList a us))
+abbrev pub a_list : (a : Expr) (us : List Expr) → Described (expr (e.InList a us))
 a_list a us = record {
   what = 10 ∷ [];
   below = expr a ∷ map expr us;
@@ -281,13 +279,13 @@ a_list a us = record {
   back = ap (λ o. or_else (option_map (λ xs. expr (e.InList a xs)) o) None) (exprs_back us);
 }
 
-abbrev a_null_test : (a : Expr) → Described (expr (e.IsNull a))
+abbrev pub a_null_test : (a : Expr) → Described (expr (e.IsNull a))
 a_null_test a = record { what = 11 ∷ []; below = expr a ∷ []; is = spelling_IsNull a; back = refl }
 
-abbrev a_not : (a : Expr) → Described (expr (e.Not a))
+abbrev pub a_not : (a : Expr) → Described (expr (e.Not a))
 a_not a = record { what = 12 ∷ []; below = expr a ∷ []; is = spelling_Not a; back = refl }
 
-abbrev an_all : (us : List Expr) → Described (expr (e.All us))
+abbrev pub an_all : (us : List Expr) → Described (expr (e.All us))
 an_all us = record {
   what = 13 ∷ [];
   below = map expr us;
@@ -295,7 +293,7 @@ an_all us = record {
   back = ap (λ o. or_else (option_map (λ xs. expr (e.All xs)) o) None) (exprs_back us);
 }
 
-abbrev an_any : (us : List Expr) → Described (expr (e.Any us))
+abbrev pub an_any : (us : List Expr) → Described (expr (e.Any us))
 an_any us = record {
   what = 14 ∷ [];
   below = map expr us;
@@ -303,13 +301,13 @@ an_any us = record {
   back = ap (λ o. or_else (option_map (λ xs. expr (e.Any xs)) o) None) (exprs_back us);
 }
 
-abbrev a_mark_test : (a : Expr) → Described (expr (e.IsMarked a))
+abbrev pub a_mark_test : (a : Expr) → Described (expr (e.IsMarked a))
 a_mark_test a = record { what = 15 ∷ []; below = expr a ∷ []; is = spelling_IsMarked a; back = refl }
 
-abbrev a_branch : (b : Branch) → Described (branch b)
+abbrev pub a_branch : (b : Branch) → Described (branch b)
 a_branch b = record { what = 16 ∷ []; below = expr b.when ∷ expr b.gives ∷ []; is = spelling_Branch b; back = refl }
 
-abbrev an_operation : (o : Operation) → Described (operation o)
+abbrev pub an_operation : (o : Operation) → Described (operation o)
 an_operation o = record {
   what = 17 ∷ arithmetic_number o.operator ∷ [];
   below = expr o.operand ∷ [];
@@ -317,7 +315,7 @@ an_operation o = record {
   back = ap (λ a. Some (operation (record { operator = a; operand = o.operand }))) (arithmetic_back o.operator);
 }
 
-abbrev an_aggregate : (a : Aggregate) → Described (aggregate a)
+abbrev pub an_aggregate : (a : Aggregate) → Described (aggregate a)
 an_aggregate CountRows = record { what = 18 ∷ []; below = []; is = refl; back = refl }
 an_aggregate (Of f scale a) = record {
   what = 19 ∷ function_number f ∷ scale ∷ [];
@@ -326,7 +324,7 @@ an_aggregate (Of f scale a) = record {
   back = ap (λ g. Some (aggregate (Of g scale a))) (function_back f);
 }
 
-abbrev a_value : (x : Value) → Described (value x)
+abbrev pub a_value : (x : Value) → Described (value x)
 a_value x = record {
   what = 20 ∷ value_numbers x;
   below = [];
@@ -344,7 +342,7 @@ table_back t.Customer = refl
 table_back t.Orders = refl
 table_back t.Lineitem = refl
 
-abbrev a_node : (x : Node) → Described (node x)
+abbrev pub a_node : (x : Node) → Described (node x)
 a_node (n.Scan table) = record {
   what = 21 ∷ table_name table;
   below = [];
@@ -397,7 +395,7 @@ a_node (n.Fill i j xs) = record {
 }
 a_node (n.Distinct i) = record { what = 31 ∷ i ∷ []; below = []; is = spelled_Distinct i; back = refl }
 
-described : (p : Part) → Described p
+pub described : (p : Part) → Described p
 described (expr x) =
     induction (λ a. Described (expr a)) (λ b. Unit {0}) (λ o. Unit {0}) (record {
       column = a_column;
@@ -424,94 +422,3 @@ described (operation o) = an_operation o
 described (aggregate a) = an_aggregate a
 described (value x) = a_value x
 described (node x) = a_node x
-
-abbrev U : Part → Type 0
-U p = Unique part_spelling p
-
-unique_part : (p : Part) (d : Described p) → Each U d.below → U p
-unique_part p d all q r s e =
-    let other = described q in
-    let whole : spelled d.what (map part_spelling d.below) ++ r ≡ spelled other.what (map part_spelling other.below) ++ s =
-        ap (λ l. l ++ r) (sym d.is) ∙ e ∙ ap (λ l. l ++ s) other.is in
-    let u = spelled_unique part_spelling d.what other.what r s d.below other.below all whole in
-    let same : rebuilt d.what d.below ≡ rebuilt other.what other.below =
-        ap (λ w. rebuilt w d.below) u.0 ∙ ap (rebuilt other.what) u.1 in
-    (ap (λ o. unwrap_or o p) (sym d.back ∙ same ∙ other.back), u.2)
-
-each_expr : (es : Exprs (λ a. U (expr a))) → Each U (map expr (exprs {P = λ a. U (expr a)} es))
-each_expr [] = tt
-each_expr (x ∷ es) = (x.1, each_expr es)
-
-each_branch : (bs : Branches (λ b. U (branch b))) → Each U (map branch (branches {Q = λ b. U (branch b)} bs))
-each_branch [] = tt
-each_branch (b ∷ bs) = (b.1, each_branch bs)
-
-each_operation : (os : Operations (λ o. U (operation o))) → Each U (map operation (operations {R = λ o. U (operation o)} os))
-each_operation [] = tt
-each_operation (o ∷ os) = (o.1, each_operation os)
-
-unique_expr : (x : Expr) → U (expr x)
-unique_expr =
-    induction (λ a. U (expr a)) (λ b. U (branch b)) (λ o. U (operation o)) (record {
-      column = λ place. unique_part _ (a_column place) tt;
-      literal = λ x. unique_part _ (a_literal x) tt;
-      negative = λ a is. unique_part _ (a_negative a) (is, tt);
-      arithmetic = λ a is os. unique_part _ (a_chain a (operations {R = λ o. U (operation o)} os)) (is, each_operation os);
-      case = λ scale bs a is. unique_part _ (a_case scale (branches {Q = λ b. U (branch b)} bs) a) (is, each_branch bs);
-      extract = λ part a is. unique_part _ (an_extract part a) (is, tt);
-      substring = λ a is from count. unique_part _ (a_substring a from count) (is, tt);
-      compare = λ c a is b also. unique_part _ (a_comparison c a b) (is, (also, tt));
-      between = λ a is b also d too. unique_part _ (a_between a b d) (is, (also, (too, tt)));
-      like = λ a is pattern. unique_part _ (a_like a pattern) (is, tt);
-      in_list = λ a is es. unique_part _ (a_list a (exprs {P = λ a. U (expr a)} es)) (is, each_expr es);
-      is_null = λ a is. unique_part _ (a_null_test a) (is, tt);
-      not = λ a is. unique_part _ (a_not a) (is, tt);
-      all = λ es. unique_part _ (an_all (exprs {P = λ a. U (expr a)} es)) (each_expr es);
-      any = λ es. unique_part _ (an_any (exprs {P = λ a. U (expr a)} es)) (each_expr es);
-      is_marked = λ a is. unique_part _ (a_mark_test a) (is, tt);
-      branch = λ a b is also. unique_part _ (a_branch (record { when = a; gives = b })) (is, (also, tt));
-      operation = λ o a is. unique_part _ (an_operation (record { operator = o; operand = a })) (is, tt);
-    })
-
-each_map : {A : Type 0} (f : A → Part) → ((a : A) → U (f a)) → (us : List A) → Each U (map f us)
-each_map f all [] = tt
-each_map f all (a ∷ us) = (all a, each_map f all us)
-
-unique_aggregate : (a : Aggregate) → U (aggregate a)
-unique_aggregate CountRows = unique_part _ (an_aggregate CountRows) tt
-unique_aggregate (Of f scale a) = unique_part _ (an_aggregate (Of f scale a)) (unique_expr a, tt)
-
-unique_value : (x : Value) → U (value x)
-unique_value x = unique_part _ (a_value x) tt
-
-unique_node : (x : Node) → U (node x)
-unique_node (n.Scan table) = unique_part _ (a_node (n.Scan table)) tt
-unique_node (n.Domain i cs) = unique_part _ (a_node (n.Domain i cs)) tt
-unique_node (n.Select i a) = unique_part _ (a_node (n.Select i a)) (unique_expr a, tt)
-unique_node (n.Project i us) = unique_part _ (a_node (n.Project i us)) (each_map expr unique_expr us)
-unique_node (n.Join i j matched a) = unique_part _ (a_node (n.Join i j matched a)) (unique_expr a, tt)
-unique_node (n.Outer i j matched k a) = unique_part _ (a_node (n.Outer i j matched k a)) (unique_expr a, tt)
-unique_node (n.Mark i j matched a) = unique_part _ (a_node (n.Mark i j matched a)) (unique_expr a, tt)
-unique_node (n.Single i j matched k) = unique_part _ (a_node (n.Single i j matched k)) tt
-unique_node (n.Group i by us) = unique_part _ (a_node (n.Group i by us)) (each_map aggregate unique_aggregate us)
-unique_node (n.Fill i j xs) = unique_part _ (a_node (n.Fill i j xs)) (each_map value unique_value xs)
-unique_node (n.Distinct i) = unique_part _ (a_node (n.Distinct i)) tt
-
-abbrev node_or : Node → Part → Node
-node_or x (node y) = y
-node_or x p = x
-
-node_unique : (x : Node) → Unique node_spelling x
-node_unique x y r s e =
-    let same = unique_node x (node y) r s e in
-    (ap (node_or x) same.0, same.1)
-
-each_node : (xs : List Node) → Each (Unique node_spelling) xs
-each_node [] = tt
-each_node (x ∷ xs) = (node_unique x, each_node xs)
-
-pub spelling_is_unique : SpellingIsUnique
-unfolding plan_spelling
-spelling_is_unique xs ys r s e =
-    let same = spelled_unique node_spelling [] [] r s xs ys (each_node xs) e in
-    (same.1, same.2)

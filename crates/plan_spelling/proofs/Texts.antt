@@ -1,5 +1,6 @@
 -- Numbers from their text.
-use Rattle.std.proofs.Common.{◌≡◌, ℕ, ◌<◌, ◌^◌, List, [], ◌∷◌, ◌++◌, arith, refl, sym, ap, ◌∙◌, append_assoc, append-nil, ◌==◌, true, false}
+use Rattle.std.specs.Prelude.{codes}
+use Rattle.std.proofs.Common.{◌≡◌, ℕ, suc, get_or, ◌<◌, ◌^◌, List, [], ◌∷◌, ◌++◌, arith, refl, sym, ap, ◌∙◌, append_assoc, append-nil, ◌==◌, true, false}
 use Rattle.std.specs.Fmt.{decimal}
 use Rattle.std.specs.Char.{digit_value}
 use Rattle.std.specs.Str.Parse.{AllDigits, digits_value}
@@ -7,9 +8,9 @@ use Rattle.std.proofs.lemmas.Fmt.{decimal_is_IsNumeral_wide}
 use Rattle.std.proofs.lemmas.Bool.Decides.{nat_tests}
 use Rattle.base_row_laws.specs.Bags.{Each}
 use Rattle.plan_algebra.specs.declared.node.Node.{Node}
-use Rattle.plan_spelling.specs.Laws.{TextIsUnique}
-use Rattle.plan_spelling.specs.Plans.{numbers_text, plan_spelling}
-use Rattle.plan_spelling.proofs.Parts.{spelling_is_unique}
+use Rattle.plan_spelling.specs.Laws.{TextDeterminesPlan}
+use Rattle.plan_spelling.specs.Plans.{numbers_text, plan_line, plan_spelling}
+use Rattle.plan_spelling.proofs.UniqueParts.{spelling_is_unique}
 
 -- a digit is no space
 no_space : (c : ℕ) → digit_value c < 10 → (c == 32) ≡ false
@@ -50,6 +51,10 @@ number_unique m n r s hm hn e =
 begins : (m : ℕ) (ms : List ℕ) → numbers_text (m ∷ ms) ≡ decimal m ++ 32 ∷ numbers_text ms
 begins m ms = append_assoc (decimal m) (32 ∷ []) (numbers_text ms)
 
+no_more : (xs : List ℕ) → [] ≡ xs ++ 10 ∷ [] → ⊥
+no_more [] e = cc
+no_more (x ∷ xs) e = cc
+
 no_text : (xs r : List ℕ) → [] ≡ xs ++ 32 ∷ r → ⊥
 no_text [] r e = cc
 no_text (x ∷ xs) r e = cc
@@ -64,8 +69,83 @@ numbers_unique (m ∷ ms) (n ∷ ns) hm hn e =
     let rest : ms ≡ ns = numbers_unique ms ns hm.1 hn.1 same.1 in
     cc
 
-pub text_is_unique : TextIsUnique
-text_is_unique xs ys hx hy e =
-    let numbers : plan_spelling xs ≡ plan_spelling ys = numbers_unique (plan_spelling xs) (plan_spelling ys) hx hy e in
-    let whole : plan_spelling xs ++ [] ≡ plan_spelling ys ++ [] = ap (λ l. l ++ []) numbers in
-    (spelling_is_unique xs ys [] [] whole).0
+-- no end of a line among them
+abbrev IsOneLine : List ℕ → Type 0
+IsOneLine = Each (λ c. (c == 10) ≡ false)
+
+one_line-append : (xs ys : List ℕ) → IsOneLine xs → IsOneLine ys → IsOneLine (xs ++ ys)
+one_line-append [] ys hx hy = hy
+one_line-append (x ∷ xs) ys hx hy = (hx.0, one_line-append xs ys hx.1 hy)
+
+no_end : (c : ℕ) → digit_value c < 10 → (c == 10) ≡ false
+no_end c h = grind (arith, nat_tests)
+
+end_is : (c : ℕ) → c ≡ 10 → (c == 10) ≡ true
+end_is c e = ap (λ n. n == 10) e
+
+digits_line : (xs : List ℕ) → AllDigits 10 xs → IsOneLine xs
+digits_line [] h = tt
+digits_line (x ∷ xs) h = (no_end x h.0, digits_line xs h.1)
+
+numbers_line : (ms : List ℕ) → Each (λ m. m < 10 ^ 64) ms → IsOneLine (numbers_text ms)
+numbers_line [] h = tt
+numbers_line (m ∷ ms) h =
+    one_line-append (decimal m ++ 32 ∷ []) (numbers_text ms)
+    (one_line-append (decimal m) (32 ∷ []) (digits_line (decimal m) (decimal_is_IsNumeral_wide m h.0).0.1) (refl, tt))
+    (numbers_line ms h.1)
+
+-- a line holds no end of a line
+no_inner_end : (xs ys zs : List ℕ) → IsOneLine xs → xs ≡ ys ++ 10 ∷ zs → ⊥
+no_inner_end [] [] zs h e = cc
+no_inner_end [] (y ∷ ys) zs h e = cc
+no_inner_end (x ∷ xs) [] zs h e =
+    let same : x ≡ 10 = cc in
+    never (sym (end_is x same) ∙ h.0)
+no_inner_end (x ∷ xs) (y ∷ ys) zs h e =
+    let rest : xs ≡ ys ++ 10 ∷ zs = cc in
+    no_inner_end xs ys zs h.1 rest
+
+-- the last line of a text
+last_line : (xs ys a b : List ℕ) → IsOneLine a → IsOneLine b → xs ++ 10 ∷ a ≡ ys ++ 10 ∷ b → a ≡ b
+last_line [] [] a b ha hb e = cc
+last_line [] (y ∷ ys) a b ha hb e =
+    let rest : a ≡ ys ++ 10 ∷ b = cc in
+    absurd (no_inner_end a ys b ha rest)
+last_line (x ∷ xs) [] a b ha hb e =
+    let rest : b ≡ xs ++ 10 ∷ a = cc in
+    absurd (no_inner_end b xs a hb rest)
+last_line (x ∷ xs) (y ∷ ys) a b ha hb e =
+    let rest : xs ++ 10 ∷ a ≡ ys ++ 10 ∷ b = cc in
+    last_line xs ys a b ha hb rest
+
+-- what stands before the last end of a line
+before_end : (xs ys : List ℕ) → xs ++ 10 ∷ [] ≡ ys ++ 10 ∷ [] → xs ≡ ys
+before_end [] [] e = refl
+before_end [] (y ∷ ys) e = absurd (no_more ys cc)
+before_end (x ∷ xs) [] e = absurd (no_more xs cc)
+before_end (x ∷ xs) (y ∷ ys) e =
+    let first : x ≡ y = cc in
+    let rest : xs ≡ ys = before_end xs ys cc in
+    cc
+
+-- a text that ends with a plan's line, with the end of the line before it in sight
+split : (before : List ℕ) (nodes : List Node)
+    → before ++ plan_line nodes ≡ ((before ++ codes "spelling") ++ 10 ∷ numbers_text (plan_spelling nodes)) ++ 10 ∷ []
+split before nodes =
+    let line : List ℕ = numbers_text (plan_spelling nodes) in
+    sym (append_assoc (before ++ codes "spelling") (10 ∷ line) (10 ∷ []) ∙ append_assoc before (codes "spelling") (10 ∷ (line ++ 10 ∷ [])))
+
+pub text_determines_plan : TextDeterminesPlan
+text_determines_plan xs ys text hx hy =
+    let whole : (hx.1.0 ++ codes "spelling") ++ 10 ∷ numbers_text (plan_spelling xs) ≡ (hy.1.0 ++ codes "spelling") ++ 10 ∷ numbers_text (plan_spelling ys) =
+        before_end _ _ (sym (split hx.1.0 xs) ∙ sym hx.1.1 ∙ hy.1.1 ∙ split hy.1.0 ys) in
+    let same = last_line (hx.1.0 ++ codes "spelling") (hy.1.0 ++ codes "spelling") _ _ (numbers_line (plan_spelling xs) hx.0) (numbers_line (plan_spelling ys) hy.0) whole in
+    let numbers : plan_spelling xs ≡ plan_spelling ys = numbers_unique (plan_spelling xs) (plan_spelling ys) hx.0 hy.0 same in
+    (spelling_is_unique xs ys [] [] (ap (λ l. l ++ []) numbers)).0
+
+-- a list of the machine's numbers
+pub short_numbers : (ms : List ℕ) → ((i : ℕ) → get_or ms i 0 < 2 ^ 128) → Each (λ m. m < 10 ^ 64) ms
+short_numbers [] h = tt
+short_numbers (m ∷ ms) h =
+    let first : m < 2 ^ 128 = h 0 in
+    (omega (arith, first), short_numbers ms (λ i. h (suc i)))

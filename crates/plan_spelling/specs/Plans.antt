@@ -1,6 +1,7 @@
 -- The numbers that spell a flat plan, and how they are printed.
-use Rattle.std.specs.Prelude.{ℕ, List, [], ◌∷◌, ◌++◌, map, codes, decimal}
+use Rattle.std.specs.Prelude.{◌≡◌, ℕ, ◌<◌, ◌^◌, List, [], ◌∷◌, ◌++◌, map, codes, decimal}
 use Rattle.std.specs.List.{flat_map}
+use Rattle.base_row_laws.specs.Bags.{Each}
 use Rattle.base_schema.specs.Tables.{table_name}
 use Rattle.base_value.specs.declared.value.Value.{Value}
 use Rattle.expr_aggregates.specs.declared.function.AggregateFunction.{AggregateFunction}
@@ -58,3 +59,16 @@ plan_spelling nodes = spelled [] (map node_spelling nodes)
 -- numbers as they are printed, a space after each
 abbrev pub numbers_text : List ℕ → List ℕ
 numbers_text numbers = flat_map (λ m. decimal m ++ codes " ") numbers
+
+-- the line of a plan, under its title
+abbrev pub plan_line : List Node → List ℕ
+plan_line nodes = codes "spelling\n" ++ numbers_text (plan_spelling nodes) ++ codes "\n"
+
+-- The numbers that spell a plan have at most 64 digits, as all numbers of the machine have.
+abbrev pub HasShortNumbers : List Node → Type 0
+HasShortNumbers nodes = Each (λ m. m < 10 ^ 64) (plan_spelling nodes)
+
+-- A text ends with the line of a plan.
+abbrev pub EndsWithPlan : List Node → List ℕ → Type 0
+EndsWithPlan nodes text = HasShortNumbers nodes × (before : List ℕ)
+    × (text ≡ before ++ plan_line nodes)

@@ -8,4 +8,4 @@ mod numbers;
 mod values;
 
 pub use nodes::plan_spelling;
-pub use numbers::push_numbers;
+pub use numbers::{push_numbers, push_plan};

@@ -1,9 +1,11 @@
-//! Numbers as they are printed.
+//! A plan as it is printed.
 ghost use Rattle.std.specs.Prelude.{◌≡◌, ◌++◌, OnOk};
-ghost use Rattle.plan_spelling.specs.Plans.{numbers_text};
+ghost use Rattle.plan_spelling.specs.Plans.{EndsWithPlan, numbers_text, plan_line};
 
+use crate::nodes::plan_spelling;
 use itoa::Buffer;
-use std::alloc::AllocError;
+use plan_algebra::Node;
+use std::alloc::{AllocError, Global};
 
 /// Appends numbers in decimal digits, a space after each.
 pub fn push_numbers(text: &mut Vec<u8>, numbers: &[u128]) -> Result<(), AllocError>
@@ -14,5 +16,17 @@ pub fn push_numbers(text: &mut Vec<u8>, numbers: &[u128]) -> Result<(), AllocErr
         text.extend_from_slice(buffer.format(*number).as_bytes())?;
         text.push(b' ')?;
     }
+    Ok(())
+}
+
+/// Appends the line of a plan of these nodes, under its title. No other plan has that line.
+pub fn push_plan(alloc: Global, text: &mut Vec<u8>, nodes: &[Node]) -> Result<(), AllocError>
+    ensures line { OnOk result (text.new.items ≡ text.old.items ++ plan_line nodes.now) }
+    ensures ends { OnOk result (EndsWithPlan nodes.now text.new.items) }
+{
+    let numbers = plan_spelling(alloc, nodes)?;
+    text.extend_from_slice(b"spelling\n")?;
+    push_numbers(text, numbers.as_slice())?;
+    text.push(b'\n')?;
     Ok(())
 }

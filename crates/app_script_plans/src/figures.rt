@@ -1,0 +1,163 @@
+//! What the nodes of a plan took: rows, bytes and time, and how joins found their pairs.
+ghost use Rattle.std.specs.Prelude.{◌≡◌, ◌<◌};
+
+use base_columns::{Bag, Batch, Column};
+use exec_flat_plan::run;
+use plan_algebra::{FlatPlan, Steps, Tables};
+use std::alloc::{AllocError, Global};
+use std::marker::Brand;
+use std::sync::ledger::{Blank, Ledger};
+use std::thread::Threads;
+use std::time::{Clock, Instant};
+
+/// What the run of a plan up to one of its nodes gave.
+#[derive(Clone, Copy)]
+pub struct NodeFigures {
+    /// How many rows the node has.
+    pub rows: usize,
+    /// How many bytes the values of its rows take.
+    pub bytes: usize,
+    /// How many microseconds the run took; 0 where the clock can't be read.
+    pub micros: u64,
+}
+
+/// The numbers of rows alone.
+pub fn rows_of(alloc: Global, figures: &[NodeFigures]) -> Result<Vec<usize>, AllocError> {
+    let mut rows = Vec::new(alloc);
+    for node in figures {
+        rows.push(node.rows)?;
+    }
+    Ok(rows)
+}
+
+/// How many bytes a value takes that is kept by itself.
+const VALUE_BYTES: usize = 32;
+
+/// How many bytes the value at a place takes.
+fn value_bytes(column: &Column, place: usize) -> usize {
+    if place >= column.len() {
+        return 0;
+    }
+    match column.text(place) {
+        Some(bytes) => bytes.len(),
+        None => VALUE_BYTES,
+    }
+}
+
+/// How many bytes the values of a column take.
+fn column_bytes(column: &Column) -> usize {
+    if column.as_numbers().is_some() {
+        return column.len().saturating_mul(8);
+    }
+    if column.as_dates().is_some() {
+        return column.len().saturating_mul(4);
+    }
+    if column.as_codes().is_some() {
+        return column.len();
+    }
+    let mut sum: usize = 0;
+    for place in 0..column.len() {
+        sum = sum.saturating_add(value_bytes(column, place));
+    }
+    sum
+}
+
+/// How many bytes the values of a batch take.
+fn batch_bytes(batch: &Batch) -> usize {
+    let mut sum: usize = 0;
+    for place in 0..batch.width() {
+        sum = sum.saturating_add(column_bytes(batch.column(place)));
+    }
+    sum
+}
+
+/// How many bytes the values of a bag take.
+fn bag_bytes(bag: &Bag) -> usize {
+    let mut sum: usize = 0;
+    for batch in bag.batches() {
+        sum = sum.saturating_add(batch_bytes(batch));
+    }
+    sum
+}
+
+/// How many microseconds went by since then.
+fn micros_since<R: Clock>(clock: &R, start: Option<Instant>) -> u64 {
+    let Some(start) = start else {
+        return 0;
+    };
+    match start.elapsed(clock) {
+        Ok(time) => u64::try_from(time.as_micros()).unwrap_or(u64::MAX),
+        Err(_) => 0,
+    }
+}
+
+/// What a run of a plan gives.
+fn last_figures<R: Threads + Sync + Clock, T: Tables, L: Ledger>(
+    rt: &R,
+    alloc: Global,
+    plan: &FlatPlan,
+    tables: &T,
+    blank: Blank,
+) -> Result<NodeFigures, AllocError>
+    requires name { blank.name ≡ L.name }
+    requires parts { blank.parts ≡ L.parts }
+    requires some { 0 < blank.parts }
+{
+    let mut steps: Steps<L> = Steps::new(blank);
+    let start = Instant::now(rt).ok();
+    let bag = run(rt, alloc, plan, tables, &mut steps)?;
+    let micros = micros_since(rt, start);
+    let (rows, bytes) = (bag.len(), bag_bytes(&bag));
+    Ok(NodeFigures {
+        rows,
+        bytes,
+        micros,
+    })
+}
+
+/// The same where the steps have a ledger of their own.
+fn own_figures<R: Threads + Sync + Clock, T: Tables>(
+    rt: &R,
+    alloc: Global,
+    plan: &FlatPlan,
+    tables: &T,
+) -> Result<NodeFigures, AllocError> {
+    let blank = Blank::new(1);
+    let figures = last_figures::<R, T, Brand>(rt, alloc, plan, tables, blank)?;
+    Ok(figures)
+}
+
+/// The plan without its last node.
+#[tactic(auto, using(crate::proofs::Fronts::front_formed))]
+fn without_last(plan: FlatPlan) -> FlatPlan {
+    let FlatPlan {
+        nodes,
+        order,
+        limit,
+    } = plan;
+    let mut nodes = nodes;
+    let _last = nodes.pop();
+    FlatPlan {
+        nodes,
+        order,
+        limit,
+    }
+}
+
+/// What each node of a plan gives over tables. The plan is run for each of its nodes, as if that were
+/// the last one.
+pub fn node_figures<R: Threads + Sync + Clock, T: Tables>(
+    rt: &R,
+    alloc: Global,
+    plan: FlatPlan,
+    tables: &T,
+) -> Result<Vec<NodeFigures>, AllocError> {
+    let mut left = plan;
+    let mut figures = Vec::new(alloc);
+    for _ in 0..left.nodes.len() {
+        figures.push(own_figures(rt, alloc, &left, tables)?)?;
+        left = without_last(left);
+    }
+    figures.reverse();
+    Ok(figures)
+}
