@@ -86,7 +86,10 @@ fn micros_since<R: Clock>(clock: &R, start: Option<Instant>) -> u64 {
         return 0;
     };
     match start.elapsed(clock) {
-        Ok(time) => u64::try_from(time.as_micros()).unwrap_or(u64::MAX),
+        Ok(time) => {
+            let micros = u64::from(time.subsec_micros());
+            time.as_secs().saturating_mul(1_000_000).saturating_add(micros)
+        }
         Err(_) => 0,
     }
 }

@@ -12,6 +12,7 @@ use base_io::{Files, Sink};
 use sql_parser::{MAX_SCRIPT, ScriptFault, ScriptRefusal, read_script};
 use std::alloc::{AllocError, Global};
 use std::thread::Threads;
+use std::time::Clock;
 use store_snapshots::Snapshot;
 use store_versions::Directory;
 
@@ -46,7 +47,7 @@ fn tables_of<F: Files>(
 }
 
 /// What is shown of a script, and its status.
-fn plans_text<R: Threads + Sync>(
+fn plans_text<R: Threads + Sync + Clock>(
     rt: &R,
     alloc: Global,
     script: &[u8],
@@ -82,7 +83,7 @@ fn refused_script(
 }
 
 /// The text for a request, and its status.
-fn request_text<R: Threads + Sync, F: Files>(
+fn request_text<R: Threads + Sync + Clock, F: Files>(
     rt: &R,
     alloc: Global,
     files: &mut F,
@@ -106,7 +107,7 @@ fn request_text<R: Threads + Sync, F: Files>(
 }
 
 /// The text for a request, or the line of its first refused input, and its status.
-fn output<R: Threads + Sync, F: Files>(
+fn output<R: Threads + Sync + Clock, F: Files>(
     rt: &R,
     alloc: Global,
     files: &mut F,
@@ -126,7 +127,7 @@ fn output<R: Threads + Sync, F: Files>(
 
 /// Reads the script and the tables that the words name, and writes what becomes of each query of the
 /// script; or the usage line where the words are of another form.
-pub fn show_plan<R: Threads + Sync, F: Files, S: Sink>(
+pub fn show_plan<R: Threads + Sync + Clock, F: Files, S: Sink>(
     rt: &R,
     alloc: Global,
     words: &[String],
