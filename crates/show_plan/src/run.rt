@@ -26,7 +26,7 @@ fn read_tables<F: Files>(
     folder: &str,
 ) -> Result<Snapshot, InputError> {
     let state = read_state(alloc, files, folder)?;
-    let directory = Directory::new(alloc, state, Vec::new(alloc))?;
+    let directory = Directory::new(alloc, state, Vec::new(alloc), 0)?;
     let snapshot = Snapshot::of(alloc, &directory)?;
     Ok(snapshot)
 }
