@@ -1,26 +1,20 @@
 -- Numbers from their text.
 use Rattle.std.specs.Prelude.{codes}
-use Rattle.std.proofs.Common.{◌≡◌, ℕ, suc, get_or, ◌<◌, ◌^◌, List, [], ◌∷◌, ◌++◌, arith, refl, sym, ap, ◌∙◌, append_assoc, append-nil, ◌==◌, true, false}
+use Rattle.std.proofs.Common.{◌≡◌, ℕ, suc, get_or, ◌<◌, ◌^◌, List, [], ◌∷◌, ◌++◌, arith, refl, sym, ap, ◌∙◌, append_assoc}
 use Rattle.std.specs.Fmt.{decimal}
 use Rattle.std.specs.Char.{digit_value}
 use Rattle.std.specs.Str.Parse.{AllDigits, digits_value}
 use Rattle.std.proofs.lemmas.Fmt.{decimal_is_IsNumeral_wide}
-use Rattle.std.proofs.lemmas.Bool.Decides.{nat_tests}
+use Rattle.std.proofs.lemmas.Str.Parse.{digit_from_value}
 use Rattle.base_row_laws.specs.Bags.{Each}
 use Rattle.plan_algebra.specs.declared.node.Node.{Node}
 use Rattle.plan_spelling.specs.Laws.{TextDeterminesPlan}
 use Rattle.plan_spelling.specs.Plans.{numbers_text, plan_line, plan_spelling}
 use Rattle.plan_spelling.proofs.UniqueParts.{spelling_is_unique}
 
--- a digit is no space
-no_space : (c : ℕ) → digit_value c < 10 → (c == 32) ≡ false
-no_space c h = grind (arith, nat_tests)
-
-space_is : (c : ℕ) → c ≡ 32 → (c == 32) ≡ true
-space_is c e = ap (λ n. n == 32) e
-
-never : true ≡ false → ⊥
-never e = cc
+-- a digit is none of the bytes below it, such as a space or the end of a line
+digit_above : (c : ℕ) → digit_value c < 10 → 47 < c
+digit_above c h = omega (arith, digit_from_value c h)
 
 -- digits up to a space
 digits_unique : (xs ys r s : List ℕ) → AllDigits 10 xs → AllDigits 10 ys → xs ++ 32 ∷ r ≡ ys ++ 32 ∷ s → (xs ≡ ys) × (r ≡ s)
@@ -29,10 +23,12 @@ digits_unique [] [] r s hx hy e =
     (refl, rest)
 digits_unique [] (y ∷ ys) r s hx hy e =
     let same : y ≡ 32 = cc in
-    absurd (never (sym (space_is y same) ∙ no_space y hy.0))
+    let no : ⊥ = omega (arith, same, digit_above y hy.0) in
+    absurd no
 digits_unique (x ∷ xs) [] r s hx hy e =
     let same : x ≡ 32 = cc in
-    absurd (never (sym (space_is x same) ∙ no_space x hx.0))
+    let no : ⊥ = omega (arith, same, digit_above x hx.0) in
+    absurd no
 digits_unique (x ∷ xs) (y ∷ ys) r s hx hy e =
     let first : x ≡ y = cc in
     let whole : xs ++ 32 ∷ r ≡ ys ++ 32 ∷ s = cc in
@@ -71,27 +67,28 @@ numbers_unique (m ∷ ms) (n ∷ ns) hm hn e =
 
 -- no end of a line among them
 abbrev IsOneLine : List ℕ → Type 0
-IsOneLine = Each (λ c. (c == 10) ≡ false)
+IsOneLine = Each (λ c. 10 < c)
 
 one_line-append : (xs ys : List ℕ) → IsOneLine xs → IsOneLine ys → IsOneLine (xs ++ ys)
 one_line-append [] ys hx hy = hy
 one_line-append (x ∷ xs) ys hx hy = (hx.0, one_line-append xs ys hx.1 hy)
 
-no_end : (c : ℕ) → digit_value c < 10 → (c == 10) ≡ false
-no_end c h = grind (arith, nat_tests)
-
-end_is : (c : ℕ) → c ≡ 10 → (c == 10) ≡ true
-end_is c e = ap (λ n. n == 10) e
-
 digits_line : (xs : List ℕ) → AllDigits 10 xs → IsOneLine xs
 digits_line [] h = tt
-digits_line (x ∷ xs) h = (no_end x h.0, digits_line xs h.1)
+digits_line (x ∷ xs) h =
+    let above : 10 < x = omega (arith, digit_above x h.0) in
+    (above, digits_line xs h.1)
+
+space_line : IsOneLine (32 ∷ [])
+space_line =
+    let above : 10 < 32 = omega arith in
+    (above, tt)
 
 numbers_line : (ms : List ℕ) → Each (λ m. m < 10 ^ 64) ms → IsOneLine (numbers_text ms)
 numbers_line [] h = tt
 numbers_line (m ∷ ms) h =
     one_line-append (decimal m ++ 32 ∷ []) (numbers_text ms)
-    (one_line-append (decimal m) (32 ∷ []) (digits_line (decimal m) (decimal_is_IsNumeral_wide m h.0).0.1) (refl, tt))
+    (one_line-append (decimal m) (32 ∷ []) (digits_line (decimal m) (decimal_is_IsNumeral_wide m h.0).0.1) space_line)
     (numbers_line ms h.1)
 
 -- a line holds no end of a line
@@ -100,7 +97,7 @@ no_inner_end [] [] zs h e = cc
 no_inner_end [] (y ∷ ys) zs h e = cc
 no_inner_end (x ∷ xs) [] zs h e =
     let same : x ≡ 10 = cc in
-    never (sym (end_is x same) ∙ h.0)
+    omega (arith, same, h.0)
 no_inner_end (x ∷ xs) (y ∷ ys) zs h e =
     let rest : xs ≡ ys ++ 10 ∷ zs = cc in
     no_inner_end xs ys zs h.1 rest
@@ -121,11 +118,16 @@ last_line (x ∷ xs) (y ∷ ys) a b ha hb e =
 -- what stands before the last end of a line
 before_end : (xs ys : List ℕ) → xs ++ 10 ∷ [] ≡ ys ++ 10 ∷ [] → xs ≡ ys
 before_end [] [] e = refl
-before_end [] (y ∷ ys) e = absurd (no_more ys cc)
-before_end (x ∷ xs) [] e = absurd (no_more xs cc)
+before_end [] (y ∷ ys) e =
+    let more : [] ≡ ys ++ 10 ∷ [] = cc in
+    absurd (no_more ys more)
+before_end (x ∷ xs) [] e =
+    let more : [] ≡ xs ++ 10 ∷ [] = cc in
+    absurd (no_more xs more)
 before_end (x ∷ xs) (y ∷ ys) e =
     let first : x ≡ y = cc in
-    let rest : xs ≡ ys = before_end xs ys cc in
+    let less : xs ++ 10 ∷ [] ≡ ys ++ 10 ∷ [] = cc in
+    let rest : xs ≡ ys = before_end xs ys less in
     cc
 
 -- a text that ends with a plan's line, with the end of the line before it in sight
@@ -137,9 +139,14 @@ split before nodes =
 
 pub text_determines_plan : TextDeterminesPlan
 text_determines_plan xs ys text hx hy =
-    let whole : (hx.1.0 ++ codes "spelling") ++ 10 ∷ numbers_text (plan_spelling xs) ≡ (hy.1.0 ++ codes "spelling") ++ 10 ∷ numbers_text (plan_spelling ys) =
-        before_end _ _ (sym (split hx.1.0 xs) ∙ sym hx.1.1 ∙ hy.1.1 ∙ split hy.1.0 ys) in
-    let same = last_line (hx.1.0 ++ codes "spelling") (hy.1.0 ++ codes "spelling") _ _ (numbers_line (plan_spelling xs) hx.0) (numbers_line (plan_spelling ys) hy.0) whole in
+    let one : List ℕ = numbers_text (plan_spelling xs) in
+    let other : List ℕ = numbers_text (plan_spelling ys) in
+    let first : List ℕ = hx.1 ++ codes "spelling" in
+    let second : List ℕ = hy.1 ++ codes "spelling" in
+    let whole : first ++ 10 ∷ one ≡ second ++ 10 ∷ other =
+        before_end (first ++ 10 ∷ one) (second ++ 10 ∷ other) (sym (split hx.1 xs) ∙ sym hx.2 ∙ hy.2 ∙ split hy.1 ys) in
+    let same : one ≡ other =
+        last_line first second one other (numbers_line (plan_spelling xs) hx.0) (numbers_line (plan_spelling ys) hy.0) whole in
     let numbers : plan_spelling xs ≡ plan_spelling ys = numbers_unique (plan_spelling xs) (plan_spelling ys) hx.0 hy.0 same in
     (spelling_is_unique xs ys [] [] (ap (λ l. l ++ []) numbers)).0
 
