@@ -1,6 +1,6 @@
 -- Numbers from their text.
 use Rattle.std.specs.Prelude.{codes}
-use Rattle.std.proofs.Common.{◌≡◌, ℕ, suc, get_or, ◌<◌, ◌^◌, List, [], ◌∷◌, ◌++◌, arith, refl, sym, ap, ◌∙◌, append_assoc}
+use Rattle.std.proofs.Common.{◌≡◌, ℕ, suc, get_or, ◌<◌, ◌^◌, List, [], ◌∷◌, ◌++◌, arith, refl, sym, ap, subst, ◌∙◌, append_assoc}
 use Rattle.std.specs.Fmt.{decimal}
 use Rattle.std.specs.Char.{digit_value}
 use Rattle.std.specs.Str.Parse.{AllDigits, digits_value}
@@ -9,7 +9,7 @@ use Rattle.std.proofs.lemmas.Str.Parse.{digit_from_value}
 use Rattle.base_row_laws.specs.Bags.{Each}
 use Rattle.plan_algebra.specs.declared.node.Node.{Node}
 use Rattle.plan_spelling.specs.Laws.{TextDeterminesPlan}
-use Rattle.plan_spelling.specs.Plans.{numbers_text, plan_line, plan_spelling}
+use Rattle.plan_spelling.specs.Plans.{EndsWithPlan, numbers_text, plan_line, plan_spelling}
 use Rattle.plan_spelling.proofs.UniqueParts.{spelling_is_unique}
 
 -- a digit is none of the bytes below it, such as a space or the end of a line
@@ -156,3 +156,8 @@ short_numbers [] h = tt
 short_numbers (m ∷ ms) h =
     let first : m < 2 ^ 128 = h 0 in
     (omega (arith, first), short_numbers ms (λ i. h (suc i)))
+
+-- a plan's line at the end of a text
+pub ends_with_plan : (nodes : List Node) (ms old new : List ℕ) → ms ≡ plan_spelling nodes → Each (λ m. m < 10 ^ 64) ms
+    → new ≡ old ++ plan_line nodes → EndsWithPlan nodes new
+ends_with_plan nodes ms old new is short e = (subst (Each (λ m. m < 10 ^ 64)) is short, old, e)

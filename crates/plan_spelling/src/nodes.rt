@@ -2,7 +2,6 @@
 ghost use Rattle.std.specs.Prelude.{◌≡◌, ◌++◌, IfOk, OnOk};
 ghost use Rattle.std.specs.List.{flat_map};
 ghost use Rattle.plan_spelling.specs.Plans as spec;
-ghost use Rattle.plan_spelling.specs.Plans.{HasShortNumbers};
 ghost use Rattle.plan_spelling.specs.Plans.{aggregate_spelling, node_spelling, value_spelling};
 
 use crate::exprs::{put_expr, put_exprs};
@@ -124,10 +123,9 @@ fn put_nodes(numbers: &mut Vec<u128>, nodes: &[Node]) -> Result<(), AllocError>
 }
 
 /// The numbers that spell a plan of these nodes.
-#[tactic(auto, using(crate::proofs::Written::plan_written, crate::proofs::Texts::short_numbers))]
+#[tactic(auto, using(crate::proofs::Written::plan_written))]
 pub fn plan_spelling(alloc: Global, nodes: &[Node]) -> Result<Vec<u128>, AllocError>
-    ensures numbers { IfOk result (λ numbers. numbers.items ≡ spec.plan_spelling nodes.now) }
-    ensures short { IfOk result (λ numbers. HasShortNumbers nodes.now) }
+    ensures { IfOk result (λ numbers. numbers.items ≡ spec.plan_spelling nodes.now) }
 {
     let mut numbers = Vec::new(alloc);
     numbers.extend_from_slice(&[0, nodes.len() as u128])?;
