@@ -80,6 +80,14 @@ fn bag_bytes(bag: &Bag) -> usize {
     sum
 }
 
+/// The time, where the clock can be read.
+fn time_now<R: Clock>(clock: &R) -> Option<Instant> {
+    match Instant::now(clock) {
+        Ok(time) => Some(time),
+        Err(_) => None,
+    }
+}
+
 /// How many microseconds went by since then.
 fn micros_since<R: Clock>(clock: &R, start: Option<Instant>) -> u64 {
     let Some(start) = start else {
@@ -107,7 +115,7 @@ fn last_figures<R: Threads + Sync + Clock, T: Tables, L: Ledger>(
     requires some { 0 < blank.parts }
 {
     let mut steps: Steps<L> = Steps::new(blank);
-    let start = Instant::now(rt).ok();
+    let start = time_now(rt);
     let bag = run(rt, alloc, plan, tables, &mut steps)?;
     let micros = micros_since(rt, start);
     let (rows, bytes) = (bag.len(), bag_bytes(&bag));

@@ -17,10 +17,13 @@ fn is_across(on: &Expr, left: usize) -> bool {
     let Expr::Compare(comparison, a, b) = on else {
         return false;
     };
-    let (Some(a), Some(b)) = (is_left(a.get(), left), is_left(b.get(), left)) else {
+    let Some(is_first_left) = is_left(a.get(), left) else {
         return false;
     };
-    matches!(*comparison, Comparison::Equal) && a != b
+    let Some(is_second_left) = is_left(b.get(), left) else {
+        return false;
+    };
+    matches!(comparison, Comparison::Equal) && is_first_left != is_second_left
 }
 
 /// Whether a condition asks for such an equality.
@@ -61,9 +64,6 @@ fn has_keys(node: &Node, lines: &[PlanLine]) -> Option<bool> {
 /// How a node finds its pairs, where it is a join: by the hashes of such columns, or by trying all
 /// pairs.
 pub fn way_of(node: &Node, lines: &[PlanLine]) -> Option<&'static str> {
-    match has_keys(node, lines) {
-        Some(true) => Some("hashes"),
-        Some(false) => Some("pairs"),
-        None => None,
-    }
+    let has_keys = has_keys(node, lines)?;
+    Some(if has_keys { "hashes" } else { "pairs" })
 }
