@@ -155,8 +155,8 @@ fn without_last(plan: FlatPlan) -> FlatPlan {
     }
 }
 
-/// What each node of a plan gives over tables. The plan is run for each of its nodes, as if that were
-/// the last one.
+/// What each node of a plan gives over tables. The plan is run for each of its nodes, as if that
+/// were the last one.
 pub fn node_figures<R: Threads + Sync + Clock, T: Tables>(
     rt: &R,
     alloc: Global,

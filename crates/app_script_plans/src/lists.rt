@@ -42,15 +42,16 @@ fn tokens_between(tokens: &[Token], start: usize, end: usize) -> &[Token] {
     }
 }
 
-/// The key of ORDER BY that is refused: the query without ORDER BY is bound, and with this key alone
-/// it is not.
+/// The key of ORDER BY that is refused: the query without ORDER BY is bound, and with this key
+/// alone it is not.
 pub fn order_name(alloc: Global, asked: &Asked<'_>) -> Result<Option<NamePlace>, AllocError> {
     let text = asked.text;
     for (place, token) in asked.tokens.iter().enumerate() {
         if token.kind == Kind::Order {
             let front = bytes_between(text, 0, token.start);
             if verdict_of_parts(alloc, &[front, b";"], asked.views)? == Verdict::Bound {
-                let names = names_in(alloc, tokens_between(asked.tokens, place, asked.tokens.len()))?;
+                let rest = tokens_between(asked.tokens, place, asked.tokens.len());
+                let names = names_in(alloc, rest)?;
                 return order_key(alloc, asked, front, names.as_slice());
             }
         }

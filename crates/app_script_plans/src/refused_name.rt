@@ -1,9 +1,9 @@
 //! The name at which binding stops.
 //!
-//! Binding answers why a statement is refused, and not where. So it is asked again for texts in which
-//! one name or two are replaced by expressions that are refused for other causes: where such a text
-//! is still refused for the first cause, binding stopped before it came to that name. The last name
-//! that it came to is the one at which it stopped. Names of GROUP BY and ORDER BY, where no
+//! Binding answers why a statement is refused, and not where. So it is asked again for texts in
+//! which one name or two are replaced by expressions that are refused for other causes: where such a
+//! text is still refused for the first cause, binding stopped before it came to that name. The last
+//! name that it came to is the one at which it stopped. Names of GROUP BY and ORDER BY, where no
 //! expression may stand, are tried by themselves.
 use crate::lists::{Asked, group_name, order_name};
 use crate::variants::{BadExpression, Place, Site, Verdict, other_expressions, variant, verdict};
@@ -71,8 +71,8 @@ fn reached_site(
     Ok(None)
 }
 
-/// That of two names, the first of which stands before the other in the text, to which binding comes
-/// later.
+/// That of two names, the first of which stands before the other in the text, to which binding
+/// comes later.
 fn later_site(
     alloc: Global,
     text: &[u8],

@@ -44,8 +44,8 @@ fn push_plan(
 }
 
 /// What is shown of the statements that a script's stand for, which are numbered from 1. A run
-/// stands for those of its filled text, and refreshes aren't tried. Where tables are given, the rows
-/// of each node are counted over them, whatever version a query names.
+/// stands for those of its filled text, and refreshes aren't tried. Where tables are given, each
+/// plan is run over them, whatever version its query names.
 ///
 /// # Errors
 ///

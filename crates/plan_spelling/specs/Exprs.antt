@@ -1,9 +1,10 @@
--- The numbers that spell values and expressions. Each node of an expression is spelled by two lists,
--- each after its length: the numbers that say what the node is, then the spellings of its parts.
+-- The numbers that spell values and expressions. Two lists spell a node of an expression, each after
+-- its length: the numbers that say what the node is, then the spellings of its parts.
 use Rattle.std.specs.Prelude.{ℕ, List, [], ◌∷◌, ◌++◌, length, unsigned_abs, ℤ, pos, negsuc}
 use Rattle.std.specs.List.{flat_map}
 use Rattle.base_value.specs.declared.truth.Fault.{Fault}
-use Rattle.base_value.specs.declared.truth.Fault.TheVariants.{TooManyRows, DivideByZero, NumberRange}
+use Rattle.base_value.specs.declared.truth.Fault.TheVariants.{TooManyRows, DivideByZero}
+use Rattle.base_value.specs.declared.truth.Fault.TheVariants.{NumberRange}
 use Rattle.base_value.specs.declared.value.Value.{Value}
 use Rattle.base_value.specs.declared.value.Value.TheVariants as v
 use Rattle.expr_operators.specs.declared.operator.Arithmetic.{Arithmetic}

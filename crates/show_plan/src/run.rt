@@ -125,8 +125,8 @@ fn output<R: Threads + Sync + Clock, F: Files>(
     }
 }
 
-/// Reads the script and the tables that the words name, and writes what becomes of each query of the
-/// script; or the usage line where the words are of another form.
+/// Reads the script and the tables that the words name, and writes what becomes of each query of
+/// the script; or the usage line where the words are of another form.
 pub fn show_plan<R: Threads + Sync + Clock, F: Files, S: Sink>(
     rt: &R,
     alloc: Global,
