@@ -3,7 +3,8 @@ use Rattle.std.specs.Prelude.{◌≡◌, ℕ, List, [], ⊤, IfOk, Option, None,
 use Rattle.base_refusals.specs.declared.line.LineRefusal.{LineRefusal}
 use Rattle.base_value.specs.declared.value.Value.{Value}
 use Rattle.base_schema.specs.Kinds.{RowsAreOf}
-use Rattle.base_schema.specs.LineForm.{LineForm, RowsFit, columns_of}
+use Rattle.base_schema.specs.LineForm.{LineForm, RowsFit}
+use Rattle.base_schema.specs.Tables.{columns_of}
 use Rattle.base_schema.specs.declared.table.TableName.{TableName}
 use Rattle.store_file_reader.specs.File.{file_rows, most_bytes}
 use Rattle.store_file_reader.specs.Reading.{HasRead, Reading, bytes_fed}

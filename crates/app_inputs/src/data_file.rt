@@ -3,7 +3,8 @@ ghost use Rattle.std.specs.Prelude.{◌≡◌, ℕ, ◌<◌, ◌≤◌, ◌++◌
 ghost use Rattle.std.specs.Prelude.{take, true};
 ghost use Rattle.std.specs.Io.KnownBytes.{Consumes, IsAtEnd};
 ghost use Rattle.base_schema.specs.Kinds.{RowsAreOf};
-ghost use Rattle.base_schema.specs.LineForm.{RowsFit, columns_of};
+ghost use Rattle.base_schema.specs.LineForm.{RowsFit};
+ghost use Rattle.base_schema.specs.Tables.{columns_of};
 ghost use Rattle.store_file_reader.specs.Error.{IsErrorOf};
 ghost use Rattle.store_file_reader.specs.Reading.{Feeds, HasRead, rows_for};
 ghost use Rattle.app_inputs.specs.DataFile.{FailsAs, FitForm, HasBegun, IsFileOf, reading_of};

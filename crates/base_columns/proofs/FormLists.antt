@@ -1,5 +1,5 @@
 -- Lemmas on the values of typed columns.
-use Rattle.std.proofs.Common.{◌≡◌, ℕ, ◌<◌, suc, zero, List, [], ◌∷◌, refl, arith, map, eq-eqb, true, ℤ}
+use Rattle.std.proofs.Common.{◌≡◌, ℕ, suc, zero, List, [], ◌∷◌, refl, arith, map, eq-eqb, true, ℤ}
 use Rattle.std.specs.List.{All}
 use Rattle.base_value.specs.declared.value.Value.{Value}
 use Rattle.base_value.specs.declared.value.Value.TheVariants.{Number, Date, Text}

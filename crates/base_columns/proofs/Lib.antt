@@ -6,6 +6,8 @@ pub mod FieldLists
 pub mod FormLists
 pub mod GatheredTexts
 pub mod Kept
+pub mod MarkedColumns
+pub mod NullLists
 pub mod RowLists
 pub mod SegmentLists
 pub mod StandingLists

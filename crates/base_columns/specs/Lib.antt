@@ -2,6 +2,7 @@ pub mod Bags
 pub mod Batches
 pub mod Fields
 pub mod Forms
+pub mod KeptValues
 pub mod Lists
 pub mod Numbers
 pub mod Selections

@@ -1,5 +1,5 @@
 -- Numbers of 64 bits.
-use Rattle.std.specs.Prelude.{ℤ, ◌&&◌, ◌^◌, Bool, Option, Some, None, if◌then◌else◌, pos, negsuc}
+use Rattle.std.specs.Prelude.{ℤ, ◌^◌, Bool, Option, Some, None, if◌then◌else◌, pos, negsuc}
 use Rattle.std.specs.Prelude.{nat_lt}
 use Rattle.base_value.specs.declared.value.Value.{Value}
 use Rattle.base_value.specs.declared.value.Value.TheVariants.{Number}

@@ -1,12 +1,9 @@
--- The values that a column holds.
+-- The values that a form holds.
 use Rattle.std.specs.Prelude.{List, map}
-use Rattle.std.specs.Arc.{arc_value}
 use Rattle.base_value.specs.declared.value.Value.{Value}
 use Rattle.base_value.specs.declared.value.Value.TheVariants.{Number, Date, Text}
 use Rattle.base_columns.specs.declared.form.Form.{Form}
 use Rattle.base_columns.specs.declared.form.Form.TheVariants.{Numbers, Dates, Texts, Coded, Values}
-use Rattle.base_columns.specs.declared.column.Kept.{Kept}
-use Rattle.base_columns.specs.declared.column.Kept.TheVariants.{Own, Shared}
 
 -- the values of a form
 abbrev pub shown : Form → List Value
@@ -15,8 +12,3 @@ shown (Dates dates) = map Date dates.items
 shown (Texts texts) = map Text texts
 shown (Coded codes) = map Text codes
 shown (Values values) = values.items
-
--- the values of a form that a column has to itself or shares
-abbrev pub kept_values : Kept → List Value
-kept_values (Own form) = shown form
-kept_values (Shared form) = shown (arc_value form)

@@ -3,7 +3,7 @@ ghost use Rattle.std.specs.Prelude.{◌≡◌, ◌<◌, ◌≤◌, ◌++◌, ◌
 ghost use Rattle.std.specs.Prelude.{take, if◌then◌else◌, slice_index_or, replicate};
 ghost use Rattle.std.specs.Arc.{arc_value};
 ghost use Rattle.base_text.specs.Printable.{AllPrintable};
-ghost use Rattle.base_columns.specs.Lists.{gathered, AreBelow};
+ghost use Rattle.base_columns.specs.Lists.{gathered, AreBelow, IsPadded};
 
 use crate::dictionary::{DICTIONARY_TEXTS, Dictionary};
 use crate::places::copies;
@@ -101,6 +101,18 @@ impl Codes {
         let dictionary = Arc::new(alloc, dictionary)?;
         self.codes.push(code as u8)?;
         self.dictionary = dictionary;
+        Ok(true)
+    }
+
+    /// One text more, the dictionary's first, if it has one.
+    pub(crate) fn push_first(&mut self) -> Result<bool, AllocError>
+        ensures ok { IfOk result (λ done. IsPadded done self.old self.new) }
+        ensures err { OnErr result (self.new ≡ self.old) }
+    {
+        if self.dictionary.len() == 0 {
+            return Ok(false);
+        }
+        self.codes.push(0)?;
         Ok(true)
     }
 

@@ -7,15 +7,15 @@ ghost use Rattle.base_value.specs.declared.value.Value.TheVariants.{Text as Text
 ghost use Rattle.base_columns.specs.Forms.{AreOfForm, is_text};
 ghost use Rattle.base_columns.specs.Lists.{gathered, AreBelow};
 ghost use Rattle.base_columns.specs.Numbers.{small_number};
-ghost use Rattle.base_columns.specs.Shown.{shown, kept_values};
+ghost use Rattle.base_null_marks.specs.Marks.{marked};
 
 use crate::column_builder::ColumnForm;
 use crate::dictionary::Dictionary;
-use crate::form::{
-    Form, form_at, form_len, form_number, form_text, form_type, gather, repeated, stored,
-};
+use crate::form::Form;
+use crate::marked_form::MarkedForm;
 use base_date::CivilDate;
 use base_decimal::Scale;
+use base_null_marks::Marks;
 use base_value::Value;
 use std::alloc::{AllocError, Global};
 use std::marker::Model;
@@ -24,12 +24,12 @@ use std::sync::Arc;
 // A column's values, its own or shared with others.
 #[derive(Drop)]
 pub(crate) enum Kept {
-    Own(Form),
-    Shared(Arc<Form>),
+    Own(MarkedForm),
+    Shared(Arc<MarkedForm>),
 }
 
 /// Values, seen as their list. Numbers of one scale and 64 bits, dates, and texts are kept in
-/// little room.
+/// little room, and nulls among them as marks.
 #[derive(Drop)]
 pub struct Column {
     pub(crate) kept: Kept,
@@ -38,62 +38,80 @@ pub struct Column {
 impl Model for Column {
     ghost use Rattle.std.specs.Prelude.{List};
     ghost use Rattle.base_value.specs.declared.value.Value.{Value as Datum};
-    ghost use Rattle.base_columns.specs.Shown.{kept_values};
+    ghost use Rattle.base_columns.specs.KeptValues.{kept_values};
 
     ghost Value = { List Datum };
 
     ghost view = { λ c. kept_values c.kept };
 }
 
+#[tactic(auto, using(crate::proofs::MarkedColumns::forms))]
 impl Column {
     /// Numbers of one scale.
     pub fn from_numbers(scale: Scale, numbers: Vec<i64>) -> Column
         ensures { result ≡ map (Number scale) numbers.items }
     {
-        Column::own(Form::Numbers(scale, numbers))
+        let alloc = *numbers.allocator();
+        Column::own(MarkedForm::plain(alloc, Form::Numbers(scale, numbers)))
+    }
+
+    /// Numbers of one scale, null where a place is marked.
+    pub fn from_marked_numbers(scale: Scale, numbers: Vec<i64>, marks: Marks) -> Column
+        ensures { result ≡ marked Null marks (map (Number scale) numbers.items) }
+    {
+        Column::own(MarkedForm::marked(Form::Numbers(scale, numbers), marks))
     }
 
     /// Values of whatever kind, each kept as it is.
     pub fn from_values(values: Vec<Value>) -> Column
         ensures { result ≡ values.items }
     {
-        Column::own(Form::Values(values))
+        let alloc = *values.allocator();
+        Column::own(MarkedForm::plain(alloc, Form::Values(values)))
     }
 
     /// The same value n times.
     pub fn repeated(alloc: Global, value: &Value, n: usize) -> Result<Column, AllocError>
         ensures { IfOk result (λ c. c ≡ replicate n value.now) }
     {
-        let form = repeated(alloc, value, n)?;
-        Column::shared(alloc, form)
+        let values = MarkedForm::repeated(alloc, value, n)?;
+        Column::shared(alloc, values)
+    }
+
+    /// N nulls, kept as this column's values are.
+    pub fn nulls_like(&self, alloc: Global, n: usize) -> Result<Column, AllocError>
+        ensures { IfOk result (λ c. c ≡ replicate n Null) }
+    {
+        let values = self.values().nulls_like(alloc, n)?;
+        Column::shared(alloc, values)
     }
 
     // A column that shares nothing.
-    pub(crate) fn own(form: Form) -> Column
-        ensures { result ≡ shown form }
+    pub(crate) fn own(values: MarkedForm) -> Column
+        ensures { result ≡ values }
     {
         Column {
-            kept: Kept::Own(form),
+            kept: Kept::Own(values),
         }
     }
 
     // A column whose further shares copy nothing.
-    fn shared(alloc: Global, form: Form) -> Result<Column, AllocError>
-        ensures { IfOk result (λ c. c ≡ shown form) }
+    fn shared(alloc: Global, values: MarkedForm) -> Result<Column, AllocError>
+        ensures { IfOk result (λ c. c ≡ values) }
     {
-        let form = Arc::new(alloc, form)?;
+        let values = Arc::new(alloc, values)?;
         Ok(Column {
-            kept: Kept::Shared(form),
+            kept: Kept::Shared(values),
         })
     }
 
-    // The values' form, own or shared.
-    pub(crate) fn form(&self) -> &Form
-        ensures { shown result.now ≡ self.now }
+    // The values, own or shared.
+    pub(crate) fn values(&self) -> &MarkedForm
+        ensures { result.now ≡ self.now }
     {
         match &self.kept {
-            Kept::Own(form) => form,
-            Kept::Shared(form) => &**form,
+            Kept::Own(values) => values,
+            Kept::Shared(values) => &**values,
         }
     }
 
@@ -101,7 +119,7 @@ impl Column {
     pub fn len(&self) -> usize
         ensures { result ≡ length self.now }
     {
-        form_len(self.form())
+        self.values().len()
     }
 
     /// Whether there is no value.
@@ -117,44 +135,91 @@ impl Column {
         requires { i < length self.now }
         ensures { IfOk result (λ v. v ≡ slice_index_or self.now i Null) }
     {
-        form_at(alloc, self.form(), i)
+        self.values().at(alloc, i)
     }
 
     /// What all values are, where the column keeps them as numbers of one scale, as dates or as
-    /// texts. `Values` says nothing of them.
+    /// texts, without marks of nulls. `Values` says nothing of them.
     pub fn typed(&self) -> ColumnForm
         ensures { AreOfForm result self.now }
     {
-        form_type(self.form())
+        self.values().typed()
     }
 
-    /// The numbers and their scale, where the column keeps all as 64 bits each.
+    /// What the values are kept as that are not null: the form for a column that is to take the
+    /// same and more.
+    pub fn kept_form(&self) -> ColumnForm {
+        self.values().kept_form()
+    }
+
+    /// The numbers and their scale, where the column keeps all as 64 bits each, without marks of
+    /// nulls.
     pub fn as_numbers(&self) -> Option<(Scale, &[i64])>
         ensures { IfSome result (λ p. self.now ≡ map (Number p.0) p.1.now) }
     {
-        match self.form() {
-            Form::Numbers(scale, numbers) => Some((*scale, numbers.as_slice())),
+        match self.values().unmarked() {
+            Some(Form::Numbers(scale, numbers)) => Some((*scale, numbers.as_slice())),
             _ => None,
         }
     }
 
-    /// The dates, where the column keeps all as dates.
+    /// The dates, where the column keeps all as dates, without marks of nulls.
     pub fn as_dates(&self) -> Option<&[CivilDate]>
         ensures { IfSome result (λ d. self.now ≡ map DateOf d.now) }
     {
-        match self.form() {
-            Form::Dates(dates) => Some(dates.as_slice()),
+        match self.values().unmarked() {
+            Some(Form::Dates(dates)) => Some(dates.as_slice()),
             _ => None,
         }
     }
 
-    /// The texts as places of a dictionary, where the column keeps all so.
+    /// The texts as places of a dictionary, where the column keeps all so, without marks of nulls.
     pub fn as_codes(&self) -> Option<(&[u8], &Dictionary)>
         ensures texts { IfSome result (λ p. self.now ≡ map TextOf (gathered [] p.1.now p.0.now)) }
         ensures below { IfSome result (λ p. AreBelow (length p.1.now) p.0.now) }
     {
-        match self.form() {
-            Form::Coded(codes) => Some(codes.parts()),
+        match self.values().unmarked() {
+            Some(Form::Coded(codes)) => Some(codes.parts()),
+            _ => None,
+        }
+    }
+
+    /// The numbers, their scale and where they are null, where the column keeps all as 64 bits
+    /// each. No mark at all is kept where `as_numbers` gives the numbers.
+    pub fn marked_numbers(&self) -> Option<(Scale, &[i64], &Marks)>
+        ensures { IfSome result
+            (λ p. self.now ≡ marked Null p.2.now (map (Number p.0) p.1.now)) }
+    {
+        let (form, marks) = self.values().parts();
+        match form {
+            Form::Numbers(scale, numbers) => Some((*scale, numbers.as_slice(), marks)),
+            _ => None,
+        }
+    }
+
+    /// The dates and where they are null, where the column keeps all as dates.
+    pub fn marked_dates(&self) -> Option<(&[CivilDate], &Marks)>
+        ensures { IfSome result (λ p. self.now ≡ marked Null p.1.now (map DateOf p.0.now)) }
+    {
+        let (form, marks) = self.values().parts();
+        match form {
+            Form::Dates(dates) => Some((dates.as_slice(), marks)),
+            _ => None,
+        }
+    }
+
+    /// The texts as places of a dictionary and where they are null, where the column keeps all so.
+    pub fn marked_codes(&self) -> Option<(&[u8], &Dictionary, &Marks)>
+        ensures texts { IfSome result (λ p. self.now
+            ≡ marked Null p.2.now (map TextOf (gathered [] p.1.now p.0.now))) }
+        ensures below { IfSome result (λ p. AreBelow (length p.1.now) p.0.now) }
+    {
+        let (form, marks) = self.values().parts();
+        match form {
+            Form::Coded(codes) => {
+                let (places, dictionary) = codes.parts();
+                Some((places, dictionary, marks))
+            }
             _ => None,
         }
     }
@@ -165,7 +230,7 @@ impl Column {
         ensures value { IfSome result (λ b. TextOf b.now ≡ slice_index_or self.now i Null) }
         ensures none { IsNone result → is_text (slice_index_or self.now i Null) ≡ false }
     {
-        form_text(self.form(), i)
+        self.values().text(i)
     }
 
     /// The number at a place, where it is one of 64 bits.
@@ -173,7 +238,7 @@ impl Column {
         requires { i < length self.now }
         ensures { result ≡ small_number (slice_index_or self.now i Null) }
     {
-        form_number(self.form(), i)
+        self.values().number(i)
     }
 
     /// The values at these places, in their order.
@@ -181,8 +246,16 @@ impl Column {
         requires { AreBelow (length self.now) places.now }
         ensures { IfOk result (λ c. c ≡ gathered Null self.now places.now) }
     {
-        let form = gather(alloc, self.form(), places)?;
-        Column::shared(alloc, form)
+        let values = self.values().gather(alloc, places)?;
+        Column::shared(alloc, values)
+    }
+
+    /// The values at these places, in their order, and null for a place past the end.
+    pub fn gather_or_null(&self, alloc: Global, places: &[u32]) -> Result<Column, AllocError>
+        ensures { IfOk result (λ c. c ≡ gathered Null self.now places.now) }
+    {
+        let values = self.values().gather_or_null(alloc, places)?;
+        Column::shared(alloc, values)
     }
 
     /// The same values: a further share of a stored or gathered column, else a copy, of which later
@@ -191,21 +264,21 @@ impl Column {
         ensures { IfOk result (λ c. c ≡ self.now) }
     {
         match &self.kept {
-            Kept::Own(form) => stored_column(alloc, form),
-            Kept::Shared(form) => {
-                let form = form.clone()?;
+            Kept::Own(values) => stored_column(alloc, values),
+            Kept::Shared(values) => {
+                let values = values.clone()?;
                 Ok(Column {
-                    kept: Kept::Shared(form),
+                    kept: Kept::Shared(values),
                 })
             }
         }
     }
 }
 
-/// A stored column: the values of a form, shared and without room for more.
-pub(crate) fn stored_column(alloc: Global, form: &Form) -> Result<Column, AllocError>
-    ensures { IfOk result (λ c. c ≡ shown form.now) }
+/// A stored column: the same values, shared and without room for more.
+pub(crate) fn stored_column(alloc: Global, values: &MarkedForm) -> Result<Column, AllocError>
+    ensures { IfOk result (λ c. c ≡ values.now) }
 {
-    let form = stored(alloc, form)?;
-    Column::shared(alloc, form)
+    let values = values.stored(alloc)?;
+    Column::shared(alloc, values)
 }

@@ -73,12 +73,12 @@ fn forms(alloc: Global, row: &[Value]) -> Result<Vec<ColumnForm>, AllocError>
     Ok(forms)
 }
 
-// The form that keeps a value in the least room.
+// The form that keeps a value in the least room. That of nulls gives way to the first other value.
 fn form_of(value: &Value) -> ColumnForm {
     match value {
         Value::Number(scale, _) => ColumnForm::Numbers(*scale),
         Value::Date(_) => ColumnForm::Dates,
-        Value::Text(_) => ColumnForm::Texts,
-        Value::Fault(_) | Value::Null => ColumnForm::Values,
+        Value::Text(_) | Value::Null => ColumnForm::Texts,
+        Value::Fault(_) => ColumnForm::Values,
     }
 }

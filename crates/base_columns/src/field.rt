@@ -16,6 +16,7 @@ pub enum Field<'a> {
     Date(CivilDate),
     /// The printable bytes of a text.
     Text(&'a [u8]),
+    Null,
 }
 
 /// The value that a field stands for.
@@ -30,10 +31,11 @@ pub(crate) fn value_of(alloc: Global, field: &Field<'_>) -> Result<Value, AllocE
             let text = Text::of_printable(alloc, bytes)?;
             Ok(Value::Text(text))
         }
+        Field::Null => Ok(Value::Null),
     }
 }
 
-/// A value as a field, if it is a text, a date or a number of 64 bits.
+/// A value as a field, if it is null, a text, a date or a number of 64 bits.
 pub(crate) fn field_of(value: &Value) -> Option<Field<'_>>
     ensures value { IfSome result (λ f. field_value f ≡ value.now) }
     ensures printable { IfSome result IsPrintableField }
@@ -45,6 +47,7 @@ pub(crate) fn field_of(value: &Value) -> Option<Field<'_>>
         },
         Value::Date(date) => Some(Field::Date(*date)),
         Value::Text(text) => Some(Field::Text(text.bytes())),
-        Value::Fault(_) | Value::Null => None,
+        Value::Null => Some(Field::Null),
+        Value::Fault(_) => None,
     }
 }

@@ -141,9 +141,9 @@ pub(crate) fn repeated(alloc: Global, value: &Value, n: usize) -> Result<Form, A
     }
 }
 
-// The same field n times.
+/// The same field n times.
 #[tactic(auto, using(crate::proofs::ColumnLists::repeats))]
-fn repeated_field(alloc: Global, field: &Field<'_>, n: usize) -> Result<Form, AllocError>
+pub(crate) fn repeated_field(alloc: Global, field: &Field<'_>, n: usize) -> Result<Form, AllocError>
     requires { IsPrintableField field.now }
     ensures { IfOk result (λ f. shown f ≡ replicate n (field_value field.now)) }
 {
@@ -159,6 +159,10 @@ fn repeated_field(alloc: Global, field: &Field<'_>, n: usize) -> Result<Form, Al
         Field::Text(text) => {
             let codes = Codes::repeated(alloc, text, n)?;
             Ok(Form::Coded(codes))
+        }
+        Field::Null => {
+            let values = repeated_value(alloc, &Value::Null, n)?;
+            Ok(Form::Values(values))
         }
     }
 }

@@ -3,7 +3,7 @@ use Rattle.std.specs.Prelude.{◌≡◌, ℕ, ◌+◌, ◌*◌, ◌≤◌, ◌<�
 use Rattle.std.specs.Prelude.{[], ◌∷◌, ◌++◌, unsigned_abs}
 use Rattle.base_decimal.specs.Decimal.{fits, rescaled, nearest, nearest_of}
 use Rattle.base_decimal.specs.Written.{decimal_read, decimal_written}
-use Rattle.base_decimal.specs.Tally.{sums_of, with_term, joined, added}
+use Rattle.base_decimal.specs.Tally.{sums_of, with_term, without_term, HasTerm, joined, added}
 
 -- what is written at a scale is read again at it
 abbrev pub ReadsBack : Type 0
@@ -33,6 +33,12 @@ QuotientIsNearest = (x y : ℤ) → 0 < unsigned_abs y
 abbrev pub PutIsOneTermMore : Type 0
 PutIsOneTermMore = (terms : List ℤ) (term : ℤ) → sums_of (terms ++ term ∷ [])
     ≡ with_term (sums_of terms) term
+
+-- a term of a list is held by the list's sums, and without it they are those of the others
+abbrev pub RemoveIsOneTermLess : Type 0
+RemoveIsOneTermLess = (terms more : List ℤ) (term : ℤ)
+    → HasTerm (sums_of (terms ++ term ∷ more)) term
+    × (without_term (sums_of (terms ++ term ∷ more)) term ≡ sums_of (terms ++ more))
 
 -- two lists of terms, one after the other
 abbrev pub MergeIsBothLists : Type 0

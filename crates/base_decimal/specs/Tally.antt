@@ -1,4 +1,5 @@
 -- Sums of many terms, and their averages.
+use Rattle.std.specs.Prelude.{◌≡◌, ◌-◌, ◌<◌, ◌≤◌}
 use Rattle.std.specs.Prelude.{ℕ, ◌+◌, ◌^◌, min, Bool, ◌&&◌, Option, Some, None, ℤ, pos, negsuc}
 use Rattle.std.specs.Prelude.{◌+ℤ◌, ◌-ℤ◌, Result, Ok, Err, nat_lt, if◌then◌else◌, List, [], ◌∷◌}
 use Rattle.base_decimal.specs.declared.arithmetic.NumberFault.{NumberFault}
@@ -23,6 +24,23 @@ no_terms = sums 0 0 0
 abbrev pub with_term : Sums → ℤ → Sums
 with_term s (pos n) = sums (s.terms + 1) (s.above + n) s.below
 with_term s (negsuc n) = sums (s.terms + 1) s.above (s.below + (n + 1))
+
+-- without one of its terms
+abbrev pub without_term : Sums → ℤ → Sums
+without_term s (pos n) = sums (s.terms - 1) (s.above - n) s.below
+without_term s (negsuc n) = sums (s.terms - 1) s.above (s.below - (n + 1))
+
+-- The term may be one of those that were added: there is one, its part is no less than it, and
+-- where there is no other nothing else was added.
+abbrev pub HasTerm : Sums → ℤ → Type 0
+HasTerm s (pos n) = (1 ≤ s.terms) × (n ≤ s.above)
+    × (s.terms ≡ 1 → (s.above ≡ n) × (s.below ≡ 0))
+HasTerm s (negsuc n) = (1 ≤ s.terms) × (n + 1 ≤ s.below)
+    × (s.terms ≡ 1 → (s.below ≡ n + 1) × (s.above ≡ 0))
+
+-- the total is a number
+abbrev pub IsInRange : Sums → Type 0
+IsInRange s = (s.above < 2 ^ 127) × (s.below < 2 ^ 127)
 
 -- of two lists of terms together
 abbrev pub joined : Sums → Sums → Sums

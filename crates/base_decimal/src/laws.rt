@@ -3,6 +3,7 @@
 ghost use Rattle.base_decimal.specs.Laws.{ReadsBack, RescalingKeepsTheValue, RoundsToNearest};
 ghost use Rattle.base_decimal.specs.Laws.{QuotientIsNearest};
 ghost use Rattle.base_decimal.specs.Laws.{PutIsOneTermMore, MergeIsBothLists, TotalIsTheSum};
+ghost use Rattle.base_decimal.specs.Laws.{RemoveIsOneTermLess};
 ghost use Rattle.base_decimal.specs.Cases.{Thirds, ZeroDivisor, SumPastTheEnd, AcrossScales};
 ghost use Rattle.base_decimal.specs.Cases.{SumsAtTheEnd, AverageOfThree, Spelled};
 
@@ -22,6 +23,7 @@ pub fn arithmetic_by_value()
 /// A tally counts and adds the terms of a list, however they came.
 pub fn tally_of_terms()
     ensures put { PutIsOneTermMore }
+    ensures remove { RemoveIsOneTermLess }
     ensures merge { MergeIsBothLists }
     ensures total { TotalIsTheSum }
 {}

@@ -2,6 +2,7 @@
 ghost use Rattle.std.specs.Prelude.{◌≡◌, ℕ, ◌+◌, ◌*◌, ◌^◌, ◌<◌, ◌≤◌, ℤ, pos};
 ghost use Rattle.base_decimal.specs.Tally.{no_terms, with_term, joined, total_of, average_of};
 ghost use Rattle.base_decimal.specs.Tally.{average_scale, small_sum};
+ghost use Rattle.base_decimal.specs.Tally.{HasTerm, IsInRange, without_term};
 
 use crate::arithmetic::divide;
 use crate::wide::Wide;
@@ -42,6 +43,13 @@ impl Tally {
         }
     }
 
+    /// How many terms there were.
+    pub fn terms(&self) -> u64
+        ensures { result ≡ self.now.terms }
+    {
+        self.terms
+    }
+
     /// Adds a term.
     pub fn put(&mut self, term: i128)
         requires { self.old.terms + 1 < 2 ^ 64 }
@@ -53,6 +61,20 @@ impl Tally {
             self.above.add(term as u128);
         }
         self.terms += 1;
+    }
+
+    /// Takes out a term that it holds, while its total is a number.
+    pub fn remove(&mut self, term: i128)
+        requires number { IsInRange self.old }
+        requires holds { HasTerm self.old term }
+        ensures { self.new ≡ without_term self.old term }
+    {
+        if term < 0 {
+            self.below.take_away(term.unsigned_abs());
+        } else {
+            self.above.take_away(term as u128);
+        }
+        self.terms -= 1;
     }
 
     /// Adds the terms of another.

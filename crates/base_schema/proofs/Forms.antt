@@ -1,4 +1,4 @@
--- How many columns a line has, and where its key stands.
+-- The key of a line stands within it.
 use Rattle.std.proofs.Common.{◌≡◌, ℕ, zero, suc, ◌<◌, ◌≤◌, true, List, [], ◌∷◌, length, get_or}
 use Rattle.std.proofs.Common.{refl, arith}
 use Rattle.std.specs.Prelude.{nat_lt}
@@ -14,20 +14,6 @@ use Rattle.base_schema.specs.declared.table.TableName.TheVariants.{Partsupp, Cus
 use Rattle.base_schema.specs.declared.table.TableName.TheVariants.{Lineitem}
 use Rattle.base_schema.specs.LineForm.{file_form}
 use Rattle.base_schema.specs.Tables.{kinds_of}
-
-short : (table : TableName) → length (kinds_of table) ≤ 16
-short Region = omega arith
-short Nation = omega arith
-short Part = omega arith
-short Supplier = omega arith
-short Partsupp = omega arith
-short Customer = omega arith
-short Orders = omega arith
-short Lineitem = omega arith
-
-pub kinds_short : (table : TableName) (kinds : List ColumnKind) → kinds ≡ kinds_of table
-    → length kinds ≤ 16
-kinds_short table kinds e = rw e (short table)
 
 all_below : (n : ℕ) (xs : List ℕ) → list_all (λ x. nat_lt x n) xs ≡ true → (k d : ℕ) → k < length xs
     → get_or xs k d < n

@@ -1,25 +1,19 @@
 -- What the lines of a file are.
-use Rattle.std.specs.Prelude.{ℕ, Bool, true, false, ◌&&◌, ◌||◌, List, [], ◌∷◌, map, slice_index_or}
-use Rattle.std.specs.Prelude.{IsTrue}
-use Rattle.std.specs.Cmp.Lexicographic.{pointwise}
+use Rattle.std.specs.Prelude.{ℕ, Bool, true, false, List, [], ◌∷◌, map, slice_index_or, IsTrue}
 use Rattle.std.specs.List.{All}
 use Rattle.base_value.specs.declared.value.Value.{Value}
 use Rattle.base_value.specs.declared.value.Value.TheVariants as value
 use Rattle.base_schema.specs.declared.column.ColumnKind.{ColumnKind}
 use Rattle.base_schema.specs.declared.column.ColumnKind.TheVariants.{Key}
+use Rattle.base_schema.specs.declared.column.LineColumn.{LineColumn}
 use Rattle.base_schema.specs.declared.file.DataFile.{DataFile}
 use Rattle.base_schema.specs.declared.file.DataFile.TheVariants.{Table, Refresh}
 use Rattle.base_refusals.specs.declared.refresh.RefreshFile.{RefreshFile}
 use Rattle.base_refusals.specs.declared.refresh.RefreshFile.TheVariants.{Orders, Lineitem, Delete}
 use Rattle.base_schema.specs.declared.table.TableName.{TableName}
 use Rattle.base_schema.specs.declared.table.TableName.TheVariants as name
-use Rattle.base_schema.specs.Kinds.{is_of_kind}
-use Rattle.base_schema.specs.Tables.{kinds_of, key_columns_of}
-
--- a column of a line: the kind of its values, and whether it may be null
-pub record LineColumn : Type 0 where
-  pub kind : ColumnKind
-  pub nullable : Bool
+use Rattle.base_schema.specs.Kinds.{can_hold_row}
+use Rattle.base_schema.specs.Tables.{columns_of, key_columns_of}
 
 -- the columns of a line, the places of the key's columns, counted from 0, and whether no two lines
 -- may have one key
@@ -31,10 +25,6 @@ pub record LineForm : Type 0 where
 -- a column of that kind without nulls
 abbrev pub never_null : ColumnKind → LineColumn
 never_null kind = record { kind = kind; nullable = false }
-
--- the columns of a table's lines
-abbrev pub columns_of : TableName → List LineColumn
-columns_of table = map never_null (kinds_of table)
 
 -- a table's lines, where the keys differ or where they need not
 abbrev pub lines_of : TableName → Bool → LineForm
@@ -64,18 +54,9 @@ file_form (Refresh file) = refresh_form file
 abbrev pub key_of : LineForm → List Value → List Value
 key_of form row = map (λ place. slice_index_or row place value.Null) form.key
 
--- the value is null
-abbrev pub is_null : Value → Bool
-is_null value.Null = true
-is_null v = false
-
--- a column can hold the value: one of its kind, or null where it may be null
-abbrev pub can_hold : LineColumn → Value → Bool
-can_hold column v = (column.nullable && is_null v) || is_of_kind column.kind v
-
 -- a row has a value for each column, which the column can hold
 abbrev pub fits : LineForm → List Value → Bool
-fits form = pointwise can_hold form.columns
+fits form = can_hold_row form.columns
 
 -- each of the rows does
 abbrev pub RowsFit : LineForm → List (List Value) → Type 0

@@ -1,9 +1,13 @@
--- The eight tables, with the names and kinds of their columns and their primary keys.
-use Rattle.std.specs.Prelude.{ℕ, List, [], ◌∷◌, codes, Option, find, ◌==◌}
+-- The eight tables: the names and kinds of their columns, their primary keys, and which columns may
+-- be null.
+use Rattle.std.specs.Prelude.{ℕ, Bool, not, List, [], ◌∷◌, length, map, slice_index_or, codes}
+use Rattle.std.specs.Prelude.{Option, find, ◌==◌}
+use Rattle.std.specs.List.{list_any, range_with_len}
 use Rattle.std.specs.Cmp.Lexicographic.{pointwise}
 use Rattle.base_schema.specs.declared.column.ColumnKind.{ColumnKind}
 use Rattle.base_schema.specs.declared.column.ColumnKind.TheVariants.{Key, Whole, Decimal, Date}
 use Rattle.base_schema.specs.declared.column.ColumnKind.TheVariants.{Text}
+use Rattle.base_schema.specs.declared.column.LineColumn.{LineColumn}
 use Rattle.base_schema.specs.declared.table.TableName.{TableName}
 use Rattle.base_schema.specs.declared.table.TableName.TheVariants.{Region, Nation, Part, Supplier}
 use Rattle.base_schema.specs.declared.table.TableName.TheVariants.{Partsupp, Customer, Orders}
@@ -70,3 +74,18 @@ abbrev pub key_columns_of : TableName → List ℕ
 key_columns_of Partsupp = 0 ∷ 1 ∷ []
 key_columns_of Lineitem = 0 ∷ 3 ∷ []
 key_columns_of table = 0 ∷ []
+
+-- the column at a place may be null: it is no part of the primary key
+abbrev pub may_be_null : TableName → ℕ → Bool
+may_be_null table place = not (list_any (λ key. key == place) (key_columns_of table))
+
+-- the column at a place, counted from 0
+abbrev pub column_of : TableName → ℕ → LineColumn
+column_of table place = record {
+  kind = slice_index_or (kinds_of table) place Key;
+  nullable = may_be_null table place;
+}
+
+-- a table's columns
+abbrev pub columns_of : TableName → List LineColumn
+columns_of table = map (column_of table) (range_with_len 0 (length (kinds_of table)))

@@ -1,6 +1,6 @@
-//! Kinds of columns, and what it is for values to be of them.
+//! Columns and their kinds, and which values they can hold.
 ghost use Rattle.std.specs.Prelude.{◌≡◌};
-ghost use Rattle.base_schema.specs.Kinds.{is_of_kind, are_of_kinds};
+ghost use Rattle.base_schema.specs.Kinds.{is_of_kind, can_hold};
 
 use base_value::Value;
 
@@ -20,7 +20,7 @@ pub enum ColumnKind {
 }
 
 impl ColumnKind {
-    /// Whether a column of this kind can hold the value. It holds no null and no fault.
+    /// Whether the value is of this kind. No null and no fault is.
     pub fn admits(self, value: &Value) -> bool
         ensures { result ≡ is_of_kind self value.now }
     {
@@ -41,18 +41,21 @@ impl ColumnKind {
     }
 }
 
-/// Whether a row is of these kinds: it has a value for each, of that kind.
-#[tactic(auto, using(crate::proofs::Pairs::pairs))]
-pub fn are_of_kinds(kinds: &[ColumnKind], row: &[Value]) -> bool
-    ensures { result ≡ are_of_kinds kinds.now row.now }
-{
-    if kinds.len() != row.len() {
-        return false;
+/// A column: the kind of its values, and whether it may be null.
+#[derive(Clone, Copy, Debug, PartialEq, Eq)]
+pub struct LineColumn {
+    /// The kind of its values.
+    pub kind: ColumnKind,
+    /// Whether it may be null.
+    pub nullable: bool,
+}
+
+impl LineColumn {
+    /// Whether the column can hold the value: one of its kind, or null where it may be null. It
+    /// holds no fault.
+    pub fn admits(&self, value: &Value) -> bool
+        ensures { result ≡ can_hold self.now value.now }
+    {
+        self.nullable && matches!(value, Value::Null) || self.kind.admits(value)
     }
-    for (i, value) in row.iter().enumerate() {
-        if !kinds[i].admits(value) {
-            return false;
-        }
-    }
-    true
 }

@@ -1,11 +1,13 @@
 //! Files whose lines are rows: a table's, and those of a refresh set.
-ghost use Rattle.std.specs.Prelude.{◌≡◌, ◌<◌, ◌≤◌, length, map};
+ghost use Rattle.std.specs.Prelude.{◌≡◌, ◌<◌, ◌∷◌, [], length, IfOk};
 ghost use Rattle.std.specs.List.{All};
+ghost use Rattle.base_schema.specs.declared.column.ColumnKind.TheVariants.{Key};
 ghost use Rattle.base_schema.specs.LineForm.{file_form, never_null};
 
-use crate::column::ColumnKind;
+use crate::column::{ColumnKind, LineColumn};
 use crate::table::TableName;
 use base_refusals::RefreshFile;
+use std::alloc::{AllocError, Global};
 
 /// A file whose lines are rows.
 #[derive(Clone, Copy, Debug, PartialEq, Eq, PartialOrd, Ord, Hash)]
@@ -16,21 +18,16 @@ pub enum DataFile {
     Refresh(RefreshFile),
 }
 
-static DELETE_KINDS: [ColumnKind; 1] = [ColumnKind::Key];
-
 impl DataFile {
-    /// The kinds of a line's columns, from left to right, at most 16. None of the columns holds
-    /// nulls.
-    #[tactic(auto, using(crate::proofs::Forms::kinds_short))]
-    pub fn kinds(self) -> &'static [ColumnKind]
-        ensures kinds { map never_null result.now ≡ (file_form self).columns }
-        ensures short { length result.now ≤ 16 }
+    /// A line's columns, from left to right.
+    pub fn columns(self, alloc: Global) -> Result<Vec<LineColumn>, AllocError>
+        ensures { IfOk result (λ columns. columns.items ≡ (file_form self).columns) }
     {
         match self {
-            DataFile::Table(table) => table.kinds(),
-            DataFile::Refresh(RefreshFile::Orders) => TableName::Orders.kinds(),
-            DataFile::Refresh(RefreshFile::Lineitem) => TableName::Lineitem.kinds(),
-            DataFile::Refresh(RefreshFile::Delete) => &DELETE_KINDS,
+            DataFile::Table(table) => table.columns(alloc),
+            DataFile::Refresh(RefreshFile::Orders) => TableName::Orders.columns(alloc),
+            DataFile::Refresh(RefreshFile::Lineitem) => TableName::Lineitem.columns(alloc),
+            DataFile::Refresh(RefreshFile::Delete) => delete_columns(alloc),
         }
     }
 
@@ -54,4 +51,16 @@ impl DataFile {
     {
         matches!(self, DataFile::Table(_))
     }
+}
+
+// The columns of a line of a delete file: the key of an order.
+fn delete_columns(alloc: Global) -> Result<Vec<LineColumn>, AllocError>
+    ensures { IfOk result (λ columns. columns.items ≡ never_null Key ∷ []) }
+{
+    let mut columns = Vec::with_capacity(alloc, 1)?;
+    columns.push(LineColumn {
+        kind: ColumnKind::Key,
+        nullable: false,
+    })?;
+    Ok(columns)
 }

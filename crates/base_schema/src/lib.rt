@@ -6,6 +6,6 @@ mod column;
 mod file;
 mod table;
 
-pub use column::{ColumnKind, are_of_kinds};
+pub use column::{ColumnKind, LineColumn};
 pub use file::DataFile;
 pub use table::{TABLES, TableName};

@@ -1,11 +1,14 @@
 //! The eight tables: their names, and the names, kinds and primary keys of their columns.
 //!
 //! The columns are those of TPC Benchmark H, section 1.4.
-ghost use Rattle.std.specs.Prelude.{◌≡◌, map, IfSome, Some};
+ghost use Rattle.std.specs.Prelude.{◌≡◌, ◌<◌, map, length, IfOk, IfSome, Some};
+ghost use Rattle.base_schema.specs.Kinds.{can_hold_row};
 ghost use Rattle.base_schema.specs.Tables.{table_name, table_of, kinds_of, column_names_of};
-ghost use Rattle.base_schema.specs.Tables.{key_columns_of};
+ghost use Rattle.base_schema.specs.Tables.{key_columns_of, may_be_null, column_of, columns_of};
 
-use crate::column::ColumnKind;
+use crate::column::{ColumnKind, LineColumn};
+use base_value::Value;
+use std::alloc::{AllocError, Global};
 
 /// One of the eight tables.
 #[derive(Clone, Copy, Debug, PartialEq, Eq, PartialOrd, Ord, Hash)]
@@ -108,6 +111,56 @@ impl TableName {
             TableName::Lineitem => &[0, 3],
             _ => &[0],
         }
+    }
+
+    /// Whether the column at a place may be null: each column may that is no part of the primary
+    /// key.
+    pub fn may_be_null(self, place: usize) -> bool
+        ensures { result ≡ may_be_null self place }
+    {
+        !self.key_columns().iter().any(|key| *key == place)
+    }
+
+    // The column at a place, counted from 0.
+    fn column(self, place: usize) -> LineColumn
+        requires { place < length (kinds_of self) }
+        ensures { result ≡ column_of self place }
+    {
+        LineColumn {
+            kind: self.kinds()[place],
+            nullable: self.may_be_null(place),
+        }
+    }
+
+    /// The table's columns, from left to right.
+    #[tactic(auto, using(crate::proofs::Columns::columns))]
+    pub fn columns(self, alloc: Global) -> Result<Vec<LineColumn>, AllocError>
+        ensures { IfOk result (λ columns. columns.items ≡ columns_of self) }
+    {
+        let kinds = self.kinds();
+        let count = kinds.len();
+        let mut columns = Vec::with_capacity(alloc, count)?;
+        for place in 0..count {
+            columns.push(self.column(place))?;
+        }
+        Ok(columns)
+    }
+
+    /// Whether a row is of the table: it has a value for each column, which the column can hold.
+    #[tactic(auto, using(crate::proofs::Columns::rows))]
+    pub fn admits(self, row: &[Value]) -> bool
+        ensures { result ≡ can_hold_row (columns_of self) row.now }
+    {
+        let kinds = self.kinds();
+        if kinds.len() != row.len() {
+            return false;
+        }
+        for (place, value) in row.iter().enumerate() {
+            if !self.column(place).admits(value) {
+                return false;
+            }
+        }
+        true
     }
 }
 

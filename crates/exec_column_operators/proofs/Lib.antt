@@ -1,4 +1,5 @@
 pub mod CodedTexts
+pub mod MarkedZips
 pub mod Scales
 pub mod Words64
 pub mod Zips

@@ -55,38 +55,20 @@ fn computed_numbers(
     requires { length a.now ≡ length b.now }
     ensures { IfOk result (λ r. IfSome r (λ c. c ≡ zip_with (computed operator) a.now b.now)) }
 {
-    let Some(left) = a.as_numbers() else {
+    let Some((s, xs, ms)) = a.marked_numbers() else {
         return Ok(None);
     };
-    let Some(right) = b.as_numbers() else {
+    let Some((t, ys, ns)) = b.marked_numbers() else {
         return Ok(None);
     };
-    if !is_exact(operator, left.0, right.0) {
+    if !is_exact(operator, s, t) {
         return Ok(None);
     }
-    exact_column(alloc, operator, left.0, left.1, right.0, right.1)
-}
-
-// The same at numbers of scales at which the operator is taken at coefficients.
-fn exact_column(
-    alloc: Global,
-    operator: Arithmetic,
-    s: Scale,
-    xs: &[i64],
-    t: Scale,
-    ys: &[i64],
-) -> Result<Option<Column>, AllocError>
-    requires long { length xs.now ≡ length ys.now }
-    requires exact { is_exact operator s t ≡ true }
-    ensures { IfOk result
-        (λ r. IfSome r
-        (λ c. c ≡ zip_with (computed operator) (map (Number s) xs.now)
-        (map (Number t) ys.now))) }
-{
     match numbers(alloc, operator, s, xs, t, ys)? {
         Some(zs) => {
             let scale = exact_scale(operator, s, t);
-            Ok(Some(Column::from_numbers(scale, zs)))
+            let marks = ms.either(alloc, ns)?;
+            Ok(Some(Column::from_marked_numbers(scale, zs, marks)))
         }
         None => Ok(None),
     }

@@ -1,5 +1,7 @@
 //! Comparison of two columns, row by row.
 ghost use Rattle.std.specs.Prelude.{◌≡◌, IfOk, IfSome, length, map};
+ghost use Rattle.base_null_marks.specs.Marks.{marked};
+ghost use Rattle.base_value.specs.declared.truth.Truth.TheVariants.{Unknown};
 ghost use Rattle.base_value.specs.declared.value.Value.TheVariants.{Number, Date as DateOf};
 ghost use Rattle.expr_operators.specs.Operators.{compared};
 ghost use Rattle.exec_column_operators.specs.Exact.{number_compared, dates_compared};
@@ -9,6 +11,7 @@ use crate::texts::compared_codes;
 use base_columns::Column;
 use base_date::CivilDate;
 use base_decimal::Scale;
+use base_null_marks::{Marks, masked};
 use base_value::{Truth, Value};
 use expr_operators::{Comparison, compared, holds};
 use std::alloc::{AllocError, Global};
@@ -54,8 +57,14 @@ fn compared_values(
     Ok(truths)
 }
 
+// The truths, but Unknown where either of two operands is null.
+fn unknown_at(ms: &Marks, ns: &Marks, truths: Vec<Truth>) -> Vec<Truth>
+    ensures { result.items ≡ marked Unknown ms.now (marked Unknown ns.now truths.items) }
+{
+    masked(masked(truths, ns, Truth::Unknown), ms, Truth::Unknown)
+}
+
 // The same for columns that keep numbers.
-#[tactic(auto, using(crate::proofs::Zips::numbers_zip))]
 fn compared_numbers(
     alloc: Global,
     comparison: Comparison,
@@ -66,14 +75,14 @@ fn compared_numbers(
     ensures { IfOk result (λ r.
         IfSome r (λ v. v.items ≡ zip_with (compared comparison) a.now b.now)) }
 {
-    let Some(left) = a.as_numbers() else {
+    let Some((s, xs, ms)) = a.marked_numbers() else {
         return Ok(None);
     };
-    let Some(right) = b.as_numbers() else {
+    let Some((t, ys, ns)) = b.marked_numbers() else {
         return Ok(None);
     };
-    let truths = numbers(alloc, comparison, left.0, left.1, right.0, right.1)?;
-    Ok(Some(truths))
+    let truths = numbers(alloc, comparison, s, xs, t, ys)?;
+    Ok(Some(unknown_at(ms, ns, truths)))
 }
 
 // The same for numbers of two scales.
@@ -113,7 +122,6 @@ fn compared_number(comparison: Comparison, s: Scale, x: &i64, t: Scale, y: &i64)
 }
 
 // The same for columns that keep dates.
-#[tactic(auto, using(crate::proofs::Zips::dates_zip))]
 fn compared_dates(
     alloc: Global,
     comparison: Comparison,
@@ -124,14 +132,14 @@ fn compared_dates(
     ensures { IfOk result (λ r.
         IfSome r (λ v. v.items ≡ zip_with (compared comparison) a.now b.now)) }
 {
-    let Some(xs) = a.as_dates() else {
+    let Some((xs, ms)) = a.marked_dates() else {
         return Ok(None);
     };
-    let Some(ys) = b.as_dates() else {
+    let Some((ys, ns)) = b.marked_dates() else {
         return Ok(None);
     };
     let truths = dates(alloc, comparison, xs, ys)?;
-    Ok(Some(truths))
+    Ok(Some(unknown_at(ms, ns, truths)))
 }
 
 // The same for dates.

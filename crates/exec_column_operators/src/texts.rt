@@ -8,6 +8,7 @@ ghost use Rattle.expr_operators.specs.Operators.{compared, liked};
 ghost use Rattle.exec_column_operators.specs.Zips.{zip_with};
 
 use base_columns::{Column, Dictionary};
+use base_null_marks::masked;
 use base_text::{Text, like};
 use base_value::Truth;
 use expr_operators::{Comparison, holds, truth_of};
@@ -22,12 +23,12 @@ pub(crate) fn liked_codes(
 ) -> Result<Option<Vec<Truth>>, AllocError>
     ensures { IfOk result (λ r. IfSome r (λ v. v.items ≡ map (liked pattern.now) a.now)) }
 {
-    let Some((codes, dictionary)) = a.as_codes() else {
+    let Some((codes, dictionary, marks)) = a.marked_codes() else {
         return Ok(None);
     };
     let table = liked_texts(alloc, dictionary.texts(), pattern)?;
     let truths = by_code(alloc, table.as_slice(), codes)?;
-    Ok(Some(truths))
+    Ok(Some(masked(truths, marks, Truth::Unknown)))
 }
 
 /// A comparison of a column's texts with one text, where they are codes of a dictionary.
@@ -42,7 +43,7 @@ pub(crate) fn compared_codes(
     ensures { IfOk result (λ r.
         IfSome r (λ v. v.items ≡ zip_with (compared comparison) a.now b.now)) }
 {
-    let Some((codes, dictionary)) = a.as_codes() else {
+    let Some((codes, dictionary, marks)) = a.marked_codes() else {
         return Ok(None);
     };
     let Some((_ones, one)) = b.as_codes() else {
@@ -53,7 +54,7 @@ pub(crate) fn compared_codes(
     }
     let table = compared_texts(alloc, comparison, dictionary.texts(), one.text(0))?;
     let truths = by_code(alloc, table.as_slice(), codes)?;
-    Ok(Some(truths))
+    Ok(Some(masked(truths, marks, Truth::Unknown)))
 }
 
 // LIKE of each text.

@@ -1,13 +1,17 @@
 //! Truths of rows, row by row.
-ghost use Rattle.std.specs.Prelude.{◌≡◌, IfOk, length, map};
+ghost use Rattle.std.specs.Prelude.{◌≡◌, IfOk, length, map, replicate};
+ghost use Rattle.base_null_marks.specs.Marks.{marked};
+ghost use Rattle.base_value.specs.declared.truth.Standing.TheVariants.{AtTrue};
+ghost use Rattle.base_value.specs.declared.truth.Truth.TheVariants.{Stands, False as Never};
 ghost use Rattle.base_value.specs.Truth.{lesser, greater, negated};
 ghost use Rattle.expr_operators.specs.Operators.{liked, null_test, truth_of_mark};
 ghost use Rattle.exec_column_operators.specs.Zips.{zip_with};
 
 use crate::texts::liked_codes;
 use base_columns::Column;
+use base_null_marks::{Marks, masked};
 use base_text::Text;
-use base_value::Truth;
+use base_value::{Standing, Truth};
 use expr_operators::{liked, null_test, truth_of_mark};
 use std::alloc::{AllocError, Global};
 
@@ -70,6 +74,30 @@ fn liked_values(alloc: Global, a: &Column, pattern: &Text) -> Result<Vec<Truth>,
 
 /// IS NULL, row by row.
 pub fn null_tests(alloc: Global, a: &Column) -> Result<Vec<Truth>, AllocError>
+    ensures { IfOk result (λ v. v.items ≡ map null_test a.now) }
+{
+    if let Some((_scale, numbers, marks)) = a.marked_numbers() {
+        return true_at(alloc, numbers.len(), marks);
+    }
+    if let Some((dates, marks)) = a.marked_dates() {
+        return true_at(alloc, dates.len(), marks);
+    }
+    if let Some((codes, _dictionary, marks)) = a.marked_codes() {
+        return true_at(alloc, codes.len(), marks);
+    }
+    null_values(alloc, a)
+}
+
+// True where a place is marked, n truths in all.
+fn true_at(alloc: Global, n: usize, marks: &Marks) -> Result<Vec<Truth>, AllocError>
+    ensures { IfOk result (λ v. v.items ≡ marked (Stands AtTrue) marks.now (replicate n Never)) }
+{
+    let truths = Vec::from_elem(alloc, Truth::False, n)?;
+    Ok(masked(truths, marks, Truth::Stands(Standing::AtTrue)))
+}
+
+// IS NULL, value by value.
+fn null_values(alloc: Global, a: &Column) -> Result<Vec<Truth>, AllocError>
     ensures { IfOk result (λ v. v.items ≡ map null_test a.now) }
 {
     let mut truths = Vec::with_capacity(alloc, a.len())?;

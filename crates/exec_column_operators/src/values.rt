@@ -5,7 +5,7 @@ ghost use Rattle.expr_operators.specs.Operators.{negative, extracted, part_of, a
 ghost use Rattle.exec_column_operators.specs.Choices.{choice};
 ghost use Rattle.exec_column_operators.specs.Zips.{zip_three};
 
-use base_columns::Column;
+use base_columns::{Column, ColumnBuilder, ColumnForm};
 use base_date::CivilDate;
 use base_decimal::Scale;
 use base_value::{Standing, Truth, Value};
@@ -17,22 +17,23 @@ use std::borrow::Cow;
 pub fn negative_column(alloc: Global, a: &Column) -> Result<Column, AllocError>
     ensures { IfOk result (λ c. c ≡ map negative a.now) }
 {
-    let mut values = Vec::with_capacity(alloc, a.len())?;
+    let mut column = ColumnBuilder::like(alloc, a, a.len())?;
     for i in 0..a.len() {
         let x = a.at(alloc, i)?;
-        values.push(negative(&x))?;
+        column.push(alloc, &negative(&x))?;
     }
-    Ok(Column::from_values(values))
+    Ok(column.finish())
 }
 
 /// A part of dates, row by row.
 pub fn extracted_column(alloc: Global, part: DatePart, a: &Column) -> Result<Column, AllocError>
     ensures { IfOk result (λ c. c ≡ map (extracted part) a.now) }
 {
-    match a.as_dates() {
-        Some(dates) => {
+    match a.marked_dates() {
+        Some((dates, marks)) => {
             let numbers = date_parts(alloc, part, dates)?;
-            Ok(Column::from_numbers(Scale::WHOLE, numbers))
+            let marks = marks.first(alloc, dates.len())?;
+            Ok(Column::from_marked_numbers(Scale::WHOLE, numbers, marks))
         }
         None => extracted_values(alloc, part, a),
     }
@@ -91,13 +92,13 @@ fn scaled(scale: Scale, x: Value) -> Result<Value, AllocError>
 pub fn scaled_column(alloc: Global, scale: Scale, a: &Column) -> Result<Column, AllocError>
     ensures { IfOk result (λ c. c ≡ map (at_scale scale) a.now) }
 {
-    let mut values = Vec::with_capacity(alloc, a.len())?;
+    let mut column = ColumnBuilder::new(alloc, ColumnForm::Numbers(scale))?;
     for i in 0..a.len() {
         let x = a.at(alloc, i)?;
         let y = scaled(scale, x)?;
-        values.push(y)?;
+        column.push(alloc, &y)?;
     }
-    Ok(Column::from_values(values))
+    Ok(column.finish())
 }
 
 // What a branch of a CASE gives at that truth, or else what the rest of the CASE does.
@@ -123,11 +124,11 @@ pub fn chosen_column(
     requires rest { length rest.now ≡ length truths.now }
     ensures { IfOk result (λ c. c ≡ zip_three choice truths.now gives.now rest.now) }
 {
-    let mut values = Vec::with_capacity(alloc, truths.len())?;
+    let mut column = ColumnBuilder::like(alloc, gives, truths.len())?;
     for i in 0..truths.len() {
         let given = gives.at(alloc, i)?;
         let other = rest.at(alloc, i)?;
-        values.push(choice(truths[i], given, other))?;
+        column.push(alloc, &choice(truths[i], given, other))?;
     }
-    Ok(Column::from_values(values))
+    Ok(column.finish())
 }

@@ -9,3 +9,4 @@ pub mod NumberSums
 pub mod Regrouped
 pub mod Merging
 pub mod PartLists
+pub mod MarkedSums

@@ -9,3 +9,4 @@ pub mod Regrouping
 pub mod Runs
 pub mod Standings
 pub mod States
+pub mod Unmarked

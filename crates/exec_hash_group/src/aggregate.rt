@@ -71,21 +71,25 @@ pub fn aggregated_by_number<L: ValueList>(
     }
 }
 
-// The form that keeps values like this one in the least room.
-fn form_of(value: Option<&Value>) -> ColumnForm {
-    match value {
-        Some(Value::Number(scale, _)) => ColumnForm::Numbers(*scale),
-        Some(Value::Date(_)) => ColumnForm::Dates,
-        Some(Value::Text(_)) => ColumnForm::Texts,
-        _ => ColumnForm::Values,
+// The form that keeps values like the first one that isn't null in the least room.
+fn form_of(values: &[Value]) -> ColumnForm {
+    for value in values {
+        match value {
+            Value::Number(scale, _) => return ColumnForm::Numbers(*scale),
+            Value::Date(_) => return ColumnForm::Dates,
+            Value::Text(_) => return ColumnForm::Texts,
+            Value::Fault(_) => return ColumnForm::Values,
+            Value::Null => {}
+        }
     }
+    ColumnForm::Values
 }
 
 /// The values as a column, in little room where they are alike.
 pub fn column_of(alloc: Global, values: &[Value]) -> Result<Column, AllocError>
     ensures { IfOk result (λ c. c ≡ values.now) }
 {
-    let mut builder = ColumnBuilder::new(alloc, form_of(values.first()))?;
+    let mut builder = ColumnBuilder::new(alloc, form_of(values))?;
     for value in values {
         builder.push(alloc, value)?;
     }

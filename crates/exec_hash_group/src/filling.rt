@@ -48,7 +48,7 @@ fn filled_places(
     requires { length right.now + length left.now < 2 ^ 32 }
     ensures { IfOk result (λ v. v.items ≡ places_from (length right.now) left.now right.now) }
 {
-    let chains = Chains::new(alloc, right)?;
+    let chains = Chains::for_probes(alloc, right, left.len())?;
     let mut places = Vec::with_capacity(alloc, left.len())?;
     for i in 0..left.len() {
         put_places(&left[i], &chains, (right.len() + i) as u32, &mut places)?;

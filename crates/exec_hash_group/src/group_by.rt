@@ -119,11 +119,11 @@ fn argument_aggregates(
     ensures { IfOk result (λ c. c
         ≡ values_by_number (aggregate_of function scale) numbers.now arguments.now 0 count) }
 {
-    if let (AggregateFunction::Sum, Some((own, coefficients))) = (
+    if let (AggregateFunction::Sum, Some((own, coefficients, marks))) = (
         function,
-        arguments.as_numbers(),
+        arguments.marked_numbers(),
     ) {
-        let sums = sum_column(alloc, scale, own, numbers, count, coefficients)?;
+        let sums = sum_column(alloc, scale, own, numbers, count, coefficients, marks)?;
         return Ok(sums);
     }
     let values = ColumnValues::new(alloc, arguments);

@@ -15,6 +15,7 @@ mod part;
 mod parts;
 mod standings;
 mod states;
+mod unmarked;
 mod values;
 mod workers;
 

@@ -1,7 +1,8 @@
 //! Sums of numbers of 64 bits, group by group.
 ghost use Rattle.std.specs.Prelude.{◌≡◌, ◌<◌, ◌+◌, ◌^◌, map, set, length, slice_index_or};
 ghost use Rattle.std.specs.Prelude.{IfOk, IfSome};
-ghost use Rattle.base_value.specs.declared.value.Value.TheVariants.{Number};
+ghost use Rattle.base_null_marks.specs.Marks.{marked};
+ghost use Rattle.base_value.specs.declared.value.Value.TheVariants.{Null, Number};
 ghost use Rattle.base_row_laws.specs.Aggregates.{sum_of};
 ghost use Rattle.expr_aggregates.specs.Values.{reading, above, below};
 ghost use Rattle.base_columns.specs.Lists.{AreBelow};
@@ -10,8 +11,10 @@ ghost use Rattle.exec_hash_group.specs.NumberSums.{AreSums, sum_value};
 ghost use Rattle.exec_hash_group.specs.Regrouping.{lists_by_number};
 ghost use Rattle.exec_hash_group.specs.States.{HaveTaken};
 
+use crate::unmarked::unmarked;
 use base_columns::{Column, ColumnBuilder, ColumnForm};
 use base_decimal::Scale;
+use base_null_marks::Marks;
 use base_value::Value;
 use exec_accumulators::Accumulator;
 use std::alloc::{AllocError, Global};
@@ -78,6 +81,30 @@ fn summed(
     Ok(NumberSums { terms, ups, downs })
 }
 
+// The same of coefficients of which those that are marked don't count.
+fn marked_sums(
+    alloc: Global,
+    _scale: Scale,
+    numbers: &[u32],
+    count: usize,
+    coefficients: &[i64],
+    marks: &Marks,
+) -> Result<NumberSums, AllocError>
+    requires rows { length numbers.now ≡ length coefficients.now }
+    requires small { length numbers.now < 2 ^ 32 }
+    requires numbers { AreBelow count numbers.now }
+    ensures { IfOk result (λ s.
+        AreSums numbers.now (marked Null marks.now (map (Number _scale) coefficients.now)) count
+        s.terms.items s.ups.items s.downs.items) }
+{
+    if marks.are_none() {
+        return summed(alloc, _scale, numbers, count, coefficients);
+    }
+    let kept = unmarked(alloc, numbers, marks)?;
+    let present = unmarked(alloc, coefficients, marks)?;
+    summed(alloc, _scale, kept.as_slice(), count, present.as_slice())
+}
+
 // A sum as a value: null of no terms.
 fn sum_value(scale: Scale, terms: u64, up: u128, down: u128) -> Value
     requires above { up < 2 ^ 127 }
@@ -91,7 +118,7 @@ fn sum_value(scale: Scale, terms: u64, up: u128, down: u128) -> Value
 }
 
 /// For each of `count` numbers the sum, as a number of a scale, of the coefficients of the rows
-/// with that number: null where there are none.
+/// with that number that aren't marked as null: null where there are none.
 pub(crate) fn sum_column(
     alloc: Global,
     scale: Scale,
@@ -99,14 +126,22 @@ pub(crate) fn sum_column(
     numbers: &[u32],
     count: usize,
     coefficients: &[i64],
+    marks: &Marks,
 ) -> Result<Column, AllocError>
     requires rows { length numbers.now ≡ length coefficients.now }
     requires small { length numbers.now < 2 ^ 32 }
     requires numbers { AreBelow count numbers.now }
     ensures { IfOk result (λ c. c ≡ values_by_number (sum_of (reading scale)) numbers.now
-        (map (Number own) coefficients.now) 0 count) }
+        (marked Null marks.now (map (Number own) coefficients.now)) 0 count) }
 {
-    let NumberSums { terms, ups, downs } = summed(alloc, own, numbers, count, coefficients)?;
+    let NumberSums { terms, ups, downs } = marked_sums(
+        alloc,
+        own,
+        numbers,
+        count,
+        coefficients,
+        marks,
+    )?;
     let mut column = ColumnBuilder::new(alloc, ColumnForm::Numbers(scale))?;
     for number in 0..count {
         column.push(

@@ -1,3 +1,5 @@
 pub mod CodeLists
 pub mod KeyLists
+pub mod NullCodes
 pub mod Told
+mod NumberKeys

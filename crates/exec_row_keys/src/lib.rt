@@ -6,6 +6,7 @@ mod column_codes;
 mod ends;
 mod key;
 mod keys;
+mod numbers;
 
 pub use column_codes::codes;
 pub use ends::end_to_end;

@@ -1,11 +1,12 @@
 -- The fields of made lines, and what a line of them says.
-use Rattle.std.proofs.Common.{◌≡◌, ℕ, suc, ◌-◌, ◌*◌, ◌^◌, ◌<◌, ◌≤◌, Bool, true, false, not, cond, ◌==◌, List, [], ◌∷◌, ◌++◌, length, map, drop, take, refl, sym, ap, ◌∙◌, arith, append_assoc, append-nil, length-append, ℤ, pos, negsuc, Result, Ok, Err, inr}
+use Rattle.std.proofs.Common.{◌≡◌, ℕ, suc, ◌-◌, ◌*◌, ◌^◌, ◌<◌, ◌≤◌, Bool, true, false, not, cond, ◌&&◌, ◌==◌, List, [], ◌∷◌, ◌++◌, length, map, drop, take, refl, sym, ap, ◌∙◌, arith, append_assoc, append-nil, length-append, ℤ, pos, negsuc, Result, Ok, Err, inr}
 use Rattle.std.specs.Prelude.{nat_le, nat_lt, unsigned_abs}
 use Rattle.std.specs.Fmt.{decimal}
 use Rattle.std.specs.List.{All, list_all, list_any, zip, join_with_byte}
 use Rattle.std.proofs.Math.Seq.{take-append_seam, drop-append_seam}
 use Rattle.std.proofs.lemmas.Bool.{and_parts, lt-ltb, le-leb}
 use Rattle.std.proofs.lemmas.Bool.Decides.{nat_tests}
+use Rattle.std.proofs.lemmas.List.{length-map}
 use Rattle.std.proofs.lemmas.List.Elements.{All-nil, All-cons}
 use Rattle.base_text.specs.Printable.{AllPrintable, is_printable}
 use Rattle.base_text.proofs.Printables.{append_printable}
@@ -16,15 +17,18 @@ use Rattle.base_refusals.specs.declared.line.LineFault.{LineFault}
 use Rattle.base_refusals.specs.declared.line.LineFault.TheVariants.{NumberTooWide, TextTooLong}
 use Rattle.base_value.specs.declared.value.Value.{Value}
 use Rattle.base_value.specs.declared.value.Value.TheVariants as value
+use Rattle.base_schema.specs.declared.column.ColumnKind.{ColumnKind}
 use Rattle.base_schema.specs.declared.column.ColumnKind.TheVariants.{Key, Whole, Decimal, Date, Text}
-use Rattle.base_schema.specs.LineForm.{LineColumn, LineForm, never_null}
-use Rattle.store_file_reader.specs.Field.{kind_field, column_value, date_field}
+use Rattle.base_schema.specs.declared.column.LineColumn.{LineColumn}
+use Rattle.base_schema.specs.LineForm.{LineForm}
+use Rattle.store_file_reader.specs.Field.{kind_field, spells_null, column_value, date_field}
 use Rattle.store_file_reader.specs.File.{line_row}
 use Rattle.store_file_reader.specs.Line.{is_bar, line_text, row_of, without_end}
 use Rattle.store_file_reader.specs.LineLaws.{value_said}
 use Rattle.store_file_reader.specs.Natural.{IsNatural}
 use Rattle.store_file_reader.specs.Reading.{is_unended}
 use Rattle.store_file_reader.proofs.FieldLaws.{values_to}
+use Rattle.store_file_reader.proofs.Nulls.{not_null, value_of_other}
 use Rattle.store_file_reader.proofs.LineCuts.{unended-nil, unended-append, unended-cons}
 use Rattle.store_file_reader.proofs.PlainNumbers.{key_holds, whole_holds}
 use Rattle.app_sample_data.specs.Fields.{field, money, date_text}
@@ -49,13 +53,17 @@ made_bytes (amount c) = money c
 made_bytes (text most bytes) = bytes
 made_bytes (date days) = date_text days
 
--- its column
-abbrev pub made_column : Made → LineColumn
-made_column (key n) = never_null Key
-made_column (whole n) = never_null Whole
-made_column (amount c) = never_null Decimal
-made_column (text most bytes) = never_null (Text most)
-made_column (date days) = never_null Date
+-- its column's kind
+abbrev pub made_kind : Made → ColumnKind
+made_kind (key n) = Key
+made_kind (whole n) = Whole
+made_kind (amount c) = Decimal
+made_kind (text most bytes) = Text most
+made_kind (date days) = Date
+
+-- the columns are of the kinds that the fields are for
+abbrev pub AreOf : List Made → List LineColumn → Type 0
+AreOf ms columns = map (λ column. column.kind) columns ≡ map made_kind ms
 
 -- its value
 abbrev pub made_value : Made → Value
@@ -131,18 +139,30 @@ printable : (bytes : List ℕ) → list_all is_plain bytes ≡ true → AllPrint
 printable [] e = refl
 printable (b ∷ bytes) e =
     let parts = and_parts (is_plain b) (list_all is_plain bytes) e in
-    append_printable (b ∷ []) bytes (one_printable b (and_parts (is_printable b) (not (b == 124)) parts.0).0) (printable bytes parts.1)
+    let no_slash = and_parts (is_printable b && not (b == 124)) (not (b == 92)) parts.0 in
+    append_printable (b ∷ []) bytes (one_printable b (and_parts (is_printable b) (not (b == 124)) no_slash.0).0) (printable bytes parts.1)
 
 text_holds : (most : ℕ) (bytes : List ℕ) → IsShort most bytes → kind_field (Text most) bytes ≡ Ok (value.Text bytes)
 text_holds most bytes h =
     rw (printable bytes h.is.plain) (held (nat_le (length bytes) most) (value.Text bytes) TextTooLong (le-leb (length bytes) most (omega (arith, h.is.short, h.within))))
 
-said : (m : Made) → IsMade m → column_value (made_column m) (made_bytes m) ≡ Ok (made_value m)
-said (key n) h = key_holds (decimal n) (pos n) (whole_read n h) (natural n h)
-said (whole n) h = whole_holds (decimal n) (pos n) (whole_read n h) (natural n h)
-said (amount c) h = amount_holds c h
-said (text most bytes) h = text_holds most bytes h
-said (date days) h = date_holds days h
+kind_said : (m : Made) → IsMade m → kind_field (made_kind m) (made_bytes m) ≡ Ok (made_value m)
+kind_said (key n) h = key_holds (decimal n) (pos n) (whole_read n h) (natural n h)
+kind_said (whole n) h = whole_holds (decimal n) (pos n) (whole_read n h) (natural n h)
+kind_said (amount c) h = amount_holds c h
+kind_said (text most bytes) h = text_holds most bytes h
+kind_said (date days) h = date_holds days h
+
+not_plain : ◌≡◌ {A = Bool} false true → ⊥
+not_plain e = cc
+
+not_null_bytes : (bytes : List ℕ) → list_all is_plain bytes ≡ true → spells_null bytes ≡ false
+not_null_bytes bytes e = not_null bytes (spells_null bytes) refl (λ is. not_plain (ap (list_all is_plain) (sym is) ∙ e))
+
+said : (column : LineColumn) (m : Made) → column.kind ≡ made_kind m → IsMade m → column_value column (made_bytes m) ≡ Ok (made_value m)
+said column m e h =
+    value_of_other column (made_bytes m) (Ok (made_value m)) (not_null_bytes (made_bytes m) (bytes_text m h).plain)
+    (ap (λ kind. kind_field kind (made_bytes m)) e ∙ kind_said m h)
 
 -- plain bytes
 
@@ -174,9 +194,14 @@ bars : (ms : List Made) → AreMade ms → All (λ bytes. list_any is_bar bytes 
 bars [] h = All-nil (λ bytes. list_any is_bar bytes ≡ false)
 bars (m ∷ ms) h = All-cons (λ bytes. list_any is_bar bytes ≡ false) (made_bytes m) (map made_bytes ms) (no_bar (made_bytes m) (bytes_text m h.0).plain) (bars ms h.1)
 
-all_said : (ms : List Made) → AreMade ms → map value_said (zip (map made_column ms) (map made_bytes ms)) ≡ map Ok (map made_value ms)
-all_said [] h = refl
-all_said (m ∷ ms) h = λ i. said m h.0 i ∷ all_said ms h.1 i
+all_said : (columns : List LineColumn) (ms : List Made) → AreOf ms columns → AreMade ms → map value_said (zip columns (map made_bytes ms)) ≡ map Ok (map made_value ms)
+all_said [] [] e h = refl
+all_said [] (m ∷ ms) e h = cc
+all_said (column ∷ columns) [] e h = cc
+all_said (column ∷ columns) (m ∷ ms) e h =
+    let here : column.kind ≡ made_kind m = cc in
+    let others : AreOf ms columns = cc in
+    λ i. said column m here h.0 i ∷ all_said columns ms others h.1 i
 
 joined : (m : Made) (ms : List Made) → body (m ∷ ms) ≡ join_with_byte 124 (map made_bytes (m ∷ ms)) ++ 124 ∷ []
 unfolding field
@@ -186,9 +211,9 @@ joined m (n ∷ ms) =
     ∙ append_assoc (made_bytes m) (124 ∷ []) (join_with_byte 124 (map made_bytes (n ∷ ms)) ++ 124 ∷ [])
     ∙ sym (append_assoc (made_bytes m) (124 ∷ join_with_byte 124 (map made_bytes (n ∷ ms))) (124 ∷ []))
 
-lengths : (ms : List Made) → length (map made_bytes ms) ≡ length (map made_column ms)
-lengths [] = refl
-lengths (m ∷ ms) = ap suc (lengths ms)
+lengths : (columns : List LineColumn) (ms : List Made) → AreOf ms columns → length (map made_bytes ms) ≡ length columns
+lengths columns ms e =
+    length-map ms made_bytes ∙ sym (length-map ms made_kind) ∙ sym (ap length e) ∙ length-map columns (λ column. column.kind)
 
 pub body_unended : (ms : List Made) → AreMade ms → is_unended (body ms) ≡ true
 unfolding field
@@ -225,17 +250,16 @@ line_is m ms =
     ap (without_end 13) (without_last (body (m ∷ ms)) ∙ joined m ms) ∙ without_other (join_with_byte 124 (map made_bytes (m ∷ ms))) ∙ sym (joined m ms)
 
 -- the row of a line
-pub row_read : (form : LineForm) (m : Made) (ms : List Made) → form.columns ≡ map made_column (m ∷ ms) → AreMade (m ∷ ms)
+pub row_read : (form : LineForm) (m : Made) (ms : List Made) → AreOf (m ∷ ms) form.columns → AreMade (m ∷ ms)
     → line_row form (body (m ∷ ms) ++ 10 ∷ []) ≡ Ok (map made_value (m ∷ ms))
 row_read form m ms columns h =
     ap (row_of form.columns) (line_is m ms)
-    ∙ ap (λ c. row_of c (body (m ∷ ms))) columns
-    ∙ values_to (map made_column (m ∷ ms)) (body (m ∷ ms)) (omega arith) (map made_value (m ∷ ms)) (record {
+    ∙ values_to form.columns (body (m ∷ ms)) (omega (arith, lengths form.columns (m ∷ ms) columns)) (map made_value (m ∷ ms)) (record {
       fields = map made_bytes (m ∷ ms);
       parted = record {
-        as_many = lengths (m ∷ ms);
+        as_many = lengths form.columns (m ∷ ms) columns;
         no_bar = bars (m ∷ ms) h;
         parted = inr (joined m ms);
       };
-      said = all_said (m ∷ ms) h;
+      said = all_said form.columns (m ∷ ms) columns h;
     })

@@ -16,7 +16,7 @@ use Rattle.store_file_reader.proofs.LineCuts.{cut_lines-ended}
 use Rattle.store_file_reader.proofs.WholeLines.{concat-cut_lines}
 use Rattle.app_sample_data.specs.Lines.{lines}
 use Rattle.app_sample_data.proofs.Steps.{lines_none, lines_more}
-use Rattle.law_made_tables.proofs.Fields.{Made, made_column, made_value, AreMade, body, body_unended, body_short, row_read}
+use Rattle.law_made_tables.proofs.Fields.{Made, AreOf, made_value, AreMade, body, body_unended, body_short, row_read}
 
 -- the natural number that a key's value is
 abbrev pub key_part : Value → ℕ
@@ -101,7 +101,7 @@ between form low below high above most text h g p = record {
 }
 
 -- one line
-pub one_line : (form : LineForm) (low high : ℕ) (m : Made) (ms : List Made) → form.columns ≡ map made_column (m ∷ ms) → AreMade (m ∷ ms) → length (m ∷ ms) ≤ 16
+pub one_line : (form : LineForm) (low high : ℕ) (m : Made) (ms : List Made) → AreOf (m ∷ ms) form.columns → AreMade (m ∷ ms) → length (m ∷ ms) ≤ 16
     → low ≤ place_of (key_of form (map made_value (m ∷ ms))) → place_of (key_of form (map made_value (m ∷ ms))) < high
     → Part form low high 500 (body (m ∷ ms) ++ 10 ∷ [])
 one_line form low high m ms columns made few from to = record {

@@ -12,7 +12,7 @@ use Rattle.base_schema.specs.declared.table.TableName.TheVariants.{Region, Natio
 use Rattle.app_sample_data.specs.Choices.{word, regions, nations, region_of, nation_regions, colours, type_sizes, type_finishes, type_metals, container_sizes, container_kinds, market_segments, order_statuses, order_priorities}
 use Rattle.app_sample_data.specs.Fields.{draw, field, labelled, address, phone, money, date_text, not_third}
 use Rattle.app_sample_data.specs.Lines.{fields, lines, region_line, nation_line, balance, residence, supplier_comment, supplier_tail, supplier_line, part_name, maker_of, manufacturer, brand, part_type, part_container, retail_price, part_head, part_tail, part_line, customer_tail, customer_line, order_day, order_comment, order_head, order_tail, order_line}
-use Rattle.law_made_tables.proofs.Fields.{Made, key, whole, amount, text, date, made_column, made_value, AreMade, IsShort, body}
+use Rattle.law_made_tables.proofs.Fields.{Made, key, whole, amount, text, date, AreOf, made_value, AreMade, IsShort, body}
 use Rattle.law_made_tables.proofs.Parts.{Part, place_of, one_line, all_lines, moved}
 use Rattle.law_made_tables.proofs.Texts.{IsText, is_text, tested, text_append, word_text, draw_below, decimal_text, labelled_text, address_text, phone_text}
 
@@ -40,7 +40,7 @@ drawn n column k count size most words h g all some same =
 
 -- a line of a table with one key
 pub record IsLineOf (form : LineForm) (line : List ℕ) (k : ℕ) (ms : List Made) : Type 0 where
-  pub columns : form.columns ≡ map made_column (key k ∷ ms)
+  pub columns : AreOf (key k ∷ ms) form.columns
   pub made : AreMade (key k ∷ ms)
   pub few : length (key k ∷ ms) ≤ 16
   pub is : line ≡ body (key k ∷ ms) ++ 10 ∷ []

@@ -17,9 +17,9 @@ use Rattle.base_decimal.specs.Written.{last_digits}
 use Rattle.app_sample_data.specs.Choices.{word}
 use Rattle.app_sample_data.specs.Fields.{draw, labelled, address, phone, money}
 
--- a byte that a field may have: printable, and no bar
+-- a byte that a field may have: printable, no bar and no backslash
 abbrev pub is_plain : ℕ → Bool
-is_plain b = is_printable b && not (b == 124)
+is_plain b = is_printable b && not (b == 124) && not (b == 92)
 
 -- a text of at most n of such bytes
 pub record IsText (most : ℕ) (text : List ℕ) : Type 0 where

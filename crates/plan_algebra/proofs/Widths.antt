@@ -22,9 +22,9 @@ use Rattle.base_value.proofs.Identity.{row_identity}
 use Rattle.expr_scalar.specs.declared.expr.Expr.{Expr}
 use Rattle.expr_scalar.specs.Meaning.{value, values}
 use Rattle.base_schema.specs.declared.table.TableName.{TableName}
-use Rattle.base_schema.specs.declared.column.ColumnKind.{ColumnKind}
 use Rattle.base_schema.specs.Tables.{kinds_of}
-use Rattle.base_schema.specs.Kinds.{RowIsOf, RowsAreOf, is_of_kind}
+use Rattle.base_schema.specs.Kinds.{RowIsOf, RowsAreOf}
+use Rattle.base_schema.proofs.Columns.{row_long}
 use Rattle.expr_aggregates.specs.Values.{written, value_rank}
 use Rattle.expr_conditions.specs.Ranks.{rank_of}
 use Rattle.plan_algebra.specs.declared.aggregate.Aggregate.{Aggregate}
@@ -164,16 +164,10 @@ each_of_all : {X : Type 0} (P : X → Type 0) (xs : List X) → All P xs → Eac
 each_of_all P [] h = tt
 each_of_all P (x ∷ xs) h = (h 0 x (omega arith), each_of_all P xs (λ k d p. h (suc k) d (omega (arith, p))))
 
-pairs_long : {A B : Type 0} (test : A → B → Bool) (xs : List A) (ys : List B) → IsTrue (pointwise test xs ys) → length ys ≡ length xs
-pairs_long test [] [] h = refl
-pairs_long test [] (y ∷ ys) h = cc
-pairs_long test (x ∷ xs) [] h = cc
-pairs_long test (x ∷ xs) (y ∷ ys) h = ap suc (pairs_long test xs ys (second_of_both (test x y) (pointwise test xs ys) h))
-
 scan_wide : (table : TableName) (rows : List (List Value)) → RowsAreOf table rows → Each (Has (length (kinds_of table))) (scanned rows)
 scan_wide table rows h =
     Each-map (Has (length (kinds_of table))) (λ r. ranked r true_rank) rows
-    (Each-weaker (RowIsOf table) (λ r. length r ≡ length (kinds_of table)) rows (λ r k. pairs_long is_of_kind (kinds_of table) r k) (each_of_all (RowIsOf table) rows h))
+    (Each-weaker (RowIsOf table) (λ r. length r ≡ length (kinds_of table)) rows (λ r k. row_long table r k) (each_of_all (RowIsOf table) rows h))
 
 -- the group that a fill reads
 pub record IsGroup (n : ℕ) (empty : List Value) (node : Option Node) : Type 0 where

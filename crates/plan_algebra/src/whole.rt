@@ -10,7 +10,7 @@ use crate::piece::Piece;
 use crate::steps::Steps;
 use crate::tables::Tables;
 use base_columns::{Rows, Segment};
-use base_schema::{TableName, are_of_kinds};
+use base_schema::TableName;
 use base_value::Row;
 use std::alloc::{AllocError, Global};
 use std::marker::Model;
@@ -131,10 +131,9 @@ impl Tables for WholeTables {
     }
 }
 
-/// Whether each row is of the table's kinds, as `WholeTables::put` asks.
+/// Whether each row is of the table, as `WholeTables::put` asks.
 pub fn rows_are_of(table: TableName, rows: &[Row]) -> bool
     ensures { IsTrue result ↔ RowsAreOf table rows.now }
 {
-    let kinds = table.kinds();
-    rows.iter().all(|row| are_of_kinds(kinds, row.values()))
+    rows.iter().all(|row| table.admits(row.values()))
 }

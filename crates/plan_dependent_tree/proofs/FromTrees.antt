@@ -1,8 +1,7 @@
 -- The trees of FROM's items.
-use Rattle.std.proofs.Common.{◌≡◌, ℕ, suc, ◌+◌, List, [], ◌∷◌, ◌++◌, true}
+use Rattle.std.proofs.Common.{◌≡◌, ℕ, suc, ◌+◌, List, [], ◌∷◌, ◌++◌}
 use Rattle.std.proofs.Common.{refl, sym, ap, ◌∙◌, subst, arith, length, replicate}
 use Rattle.std.specs.Prelude.{slice_index_or}
-use Rattle.std.specs.Cmp.{second_so}
 use Rattle.std.specs.List.{All}
 use Rattle.std.proofs.lemmas.List.{append-nil, length-append, length-map, length-replicate}
 use Rattle.base_row_laws.specs.Bags.{Each}
@@ -17,9 +16,9 @@ use Rattle.base_value.specs.declared.value.Value.TheVariants.{Null}
 use Rattle.expr_scalar.specs.declared.expr.Expr.TheVariants.{All as all_of}
 use Rattle.expr_conditions.specs.Ranks.{says}
 use Rattle.expr_conditions.proofs.Ranks.{rank_All}
-use Rattle.base_schema.specs.declared.column.ColumnKind.{ColumnKind}
 use Rattle.base_schema.specs.declared.table.TableName.{TableName}
-use Rattle.base_schema.specs.Kinds.{is_of_kind, are_of_kinds, RowIsOf}
+use Rattle.base_schema.specs.Kinds.{RowIsOf}
+use Rattle.base_schema.proofs.Columns.{row_long}
 use Rattle.base_schema.specs.State.{State, table_rows}
 use Rattle.base_schema.specs.Tables.{kinds_of}
 use Rattle.sql_bound_query.specs.declared.query.BoundBlock.{BoundBlock}
@@ -72,14 +71,6 @@ tree_as D scans others K L tree w is e h = record {
 
 -- ---- tables and derived tables
 
-kinds_length : (ks : List ColumnKind) (row : List Value) → are_of_kinds ks row ≡ true
-    → length row ≡ length ks
-kinds_length [] [] h = refl
-kinds_length [] (x ∷ row) h = cc
-kinds_length (k ∷ ks) [] h = cc
-kinds_length (k ∷ ks) (x ∷ row) h =
-    ap suc (kinds_length ks row (second_so (is_of_kind k x) (are_of_kinds ks row) h))
-
 each_of : {X : Type 0} (P : X → Type 0) (xs : List X) → All P xs → Each P xs
 each_of P [] h = tt
 each_of P (x ∷ xs) h = (h 0 x (omega arith), each_of P xs (λ k d below. h (suc k) d (omega arith)))
@@ -89,7 +80,7 @@ table_wide : (state : State) → StateIsOf state → (table : TableName)
 table_wide state ok table =
     kept.scanned_each (λ r. length r ≡ length (kinds_of table)) (table_rows state table)
     (Each-weaker (RowIsOf table) (λ r. length r ≡ length (kinds_of table)) (table_rows state table)
-    (λ r h. kinds_length (kinds_of table) r h)
+    (λ r h. row_long table r h)
     (each_of (RowIsOf table) (table_rows state table) (ok.tables table)))
 
 table_stands : (rs : List (List Value)) → Each Stands (scanned rs)

@@ -1,6 +1,7 @@
--- Joins whose right side is taken anew under each left row: what stands in the right side, above the
--- join.
-use Rattle.std.proofs.Common.{◌≡◌, ℕ, ◌≤◌, List, [], ◌∷◌, ◌++◌, Bool, true, refl, sym, ◌∙◌, ap, subst, arith, inl, inr}
+-- Joins whose right side is taken anew under each left row: what stands in the right side, moved
+-- above the join.
+use Rattle.std.proofs.Common.{◌≡◌, ℕ, ◌≤◌, List, [], ◌∷◌, ◌++◌, Bool, true, refl, sym, ◌∙◌, ap}
+use Rattle.std.proofs.Common.{subst, arith, inl, inr}
 use Rattle.std.specs.Prelude.{map, min, nat_lt, not}
 use Rattle.std.specs.List.{filter, flat_map}
 use Rattle.std.proofs.lemmas.Bool.{cases_Bool, lt-ltb}
@@ -9,7 +10,8 @@ use Rattle.std.proofs.lemmas.List.{map-append, append-nil}
 use Rattle.base_row_laws.specs.Ranked.{Ranked, ranked, unknown_rank, true_rank}
 use Rattle.base_row_laws.specs.Bags.{SameBag, IsIdentity, Each, each_once}
 use Rattle.base_row_laws.specs.Rows.{keep, same_row}
-use Rattle.base_row_laws.specs.Operators.{select, project, pair, or_else, join_loop, outer_loop, group_by, total, least}
+use Rattle.base_row_laws.specs.Operators.{select, project, pair, or_else, join_loop, outer_loop}
+use Rattle.base_row_laws.specs.Operators.{group_by, total, least}
 use Rattle.base_row_laws.specs.StandingLaws.{Stands}
 use Rattle.base_row_laws.proofs.Bags.{SameBag-refl, SameBag-append}
 use Rattle.base_row_laws.proofs.Lists.{Each-each_once, Each-map, Each-all}
@@ -25,8 +27,10 @@ module _ {V : Type 0} where
   abbrev pairs : Ranked V → List (Ranked V) → List (Ranked V)
   pairs l us = flat_map (λ r. pair always (λ a b. a ++ b) l r) us
 
-  pairs_under : (c e : List V → ℕ) (l : Ranked V) (us : List (Ranked V)) → ((r : List V) → c r ≡ e r)
-      → flat_map (λ r. pair c (λ a b. a ++ b) l r) us ≡ flat_map (λ r. pair e (λ a b. a ++ b) l r) us
+  pairs_under : (c e : List V → ℕ) (l : Ranked V) (us : List (Ranked V))
+      → ((r : List V) → c r ≡ e r)
+      → flat_map (λ r. pair c (λ a b. a ++ b) l r) us
+      ≡ flat_map (λ r. pair e (λ a b. a ++ b) l r) us
   pairs_under c e l [] i = refl
   pairs_under c e l (u ∷ us) i =
       let z = l.values ++ u.values in
@@ -36,12 +40,14 @@ module _ {V : Type 0} where
 
   -- the same condition and the same right side
   pub join_under : (c e : List V → ℕ) (ls : List (Ranked V)) (R S : List V → List (Ranked V))
-      → ((r : List V) → c r ≡ e r) → ((x : List V) → R x ≡ S x) → join_loop c ls R ≡ join_loop e ls S
+      → ((r : List V) → c r ≡ e r) → ((x : List V) → R x ≡ S x)
+      → join_loop c ls R ≡ join_loop e ls S
   join_under c e [] R S i j = refl
   join_under c e (l ∷ ls) R S i j =
       ap (λ us. flat_map (λ r. pair c (λ a b. a ++ b) l r) us ++ join_loop c ls R) (j l.values)
       ∙ ap (λ k. k ++ join_loop c ls R) (pairs_under c e l (S l.values) i)
-      ∙ ap (λ k. flat_map (λ r. pair e (λ a b. a ++ b) l r) (S l.values) ++ k) (join_under c e ls R S i j)
+      ∙ ap (λ k. flat_map (λ r. pair e (λ a b. a ++ b) l r) (S l.values) ++ k)
+      (join_under c e ls R S i j)
 
   pub outer_under : (nulls : List V) (c e : List V → ℕ) (ls : List (Ranked V))
       (R S : List V → List (Ranked V)) → ((r : List V) → c r ≡ e r) → ((x : List V) → R x ≡ S x)
@@ -49,9 +55,11 @@ module _ {V : Type 0} where
   outer_under nulls c e [] R S i j = refl
   outer_under nulls c e (l ∷ ls) R S i j =
       let z = ranked (l.values ++ nulls) l.standing in
-      ap (λ us. or_else (flat_map (λ r. pair c (λ a b. a ++ b) l r) us) z ++ outer_loop nulls c ls R) (j l.values)
+      ap (λ us. or_else (flat_map (λ r. pair c (λ a b. a ++ b) l r) us) z
+      ++ outer_loop nulls c ls R) (j l.values)
       ∙ ap (λ k. or_else k z ++ outer_loop nulls c ls R) (pairs_under c e l (S l.values) i)
-      ∙ ap (λ k. or_else (flat_map (λ r. pair e (λ a b. a ++ b) l r) (S l.values)) z ++ k) (outer_under nulls c e ls R S i j)
+      ∙ ap (λ k. or_else (flat_map (λ r. pair e (λ a b. a ++ b) l r) (S l.values)) z ++ k)
+      (outer_under nulls c e ls R S i j)
 
   keep_projected : (g : List V → List V) (r s : List V) (n : ℕ) → g r ≡ s
       → keep s n ≡ project g (keep r n)
@@ -60,7 +68,8 @@ module _ {V : Type 0} where
     | inr f ↦ rw f
   ]
 
-  pairs_projected : (g : List V → List V) (f : List V → List V) (l : Ranked V) (us : List (Ranked V))
+  pairs_projected : (g : List V → List V) (f : List V → List V) (l : Ranked V)
+      (us : List (Ranked V))
       → Each (λ r. g (l.values ++ r.values) ≡ l.values ++ f r.values) us
       → pairs l (project f us) ≡ project g (pairs l us)
   pairs_projected g f l [] all = refl
@@ -69,25 +78,30 @@ module _ {V : Type 0} where
       ap (λ k. k ++ pairs l (project f us))
       (keep_projected g (l.values ++ u.values) (l.values ++ f u.values) s all.0)
       ∙ ap (λ k. project g (keep (l.values ++ u.values) s) ++ k) (pairs_projected g f l us all.1)
-      ∙ sym (map-append (λ x. ranked (g x.values) x.standing) (keep (l.values ++ u.values) s) (pairs l us))
+      ∙ sym (map-append (λ x. ranked (g x.values) x.standing) (keep (l.values ++ u.values) s)
+      (pairs l us))
 
   -- a select list of the right side is one above the join
   pub project_above : (g : List V → List V) (f : List V → List V → List V) (ls : List (Ranked V))
       (R : List V → List (Ranked V))
-      → Each (λ l. Each (λ r. g (l.values ++ r.values) ≡ l.values ++ f l.values r.values) (R l.values)) ls
-      → join_loop (λ r. true_rank) ls (λ l. project (f l) (R l)) ≡ project g (join_loop (λ r. true_rank) ls R)
+      → Each (λ l. Each (λ r. g (l.values ++ r.values) ≡ l.values ++ f l.values r.values)
+      (R l.values)) ls
+      → join_loop (λ r. true_rank) ls (λ l. project (f l) (R l))
+      ≡ project g (join_loop (λ r. true_rank) ls R)
   project_above g f [] R all = refl
   project_above g f (l ∷ ls) R all =
       ap (λ k. k ++ join_loop always ls (λ l. project (f l) (R l)))
       (pairs_projected g (f l.values) l (R l.values) all.0)
       ∙ ap (λ k. project g (pairs l (R l.values)) ++ k) (project_above g f ls R all.1)
-      ∙ sym (map-append (λ x. ranked (g x.values) x.standing) (pairs l (R l.values)) (join_loop always ls R))
+      ∙ sym (map-append (λ x. ranked (g x.values) x.standing) (pairs l (R l.values))
+      (join_loop always ls R))
 
   -- a selection of the right side is one above the join
   pub select_above : (e : List V → ℕ) (p : List V → List V → ℕ) (ls : List (Ranked V))
       (R : List V → List (Ranked V))
       → Each (λ l. Each (λ r. e (l.values ++ r.values) ≡ p l.values r.values) (R l.values)) ls
-      → SameBag (select e (join_loop (λ r. true_rank) ls R)) (join_loop (λ r. true_rank) ls (λ l. select (p l) (R l)))
+      → SameBag (select e (join_loop (λ r. true_rank) ls R)) (join_loop (λ r. true_rank) ls
+      (λ l. select (p l) (R l)))
   select_above e p [] R all = SameBag-refl []
   select_above e p (l ∷ ls) R all =
       let A = pairs l (R l.values) in
@@ -95,9 +109,11 @@ module _ {V : Type 0} where
       let one : SameBag (select e (A ++ [])) (B ++ []) =
       select_below_right always e (p l.values) (l ∷ []) R (all.0, tt) in
       let here : SameBag (select e A) B =
-      subst (λ k. SameBag (select e k) B) (append-nil A) (subst (λ k. SameBag (select e (A ++ [])) k) (append-nil B) one) in
+      subst (λ k. SameBag (select e k) B) (append-nil A)
+      (subst (λ k. SameBag (select e (A ++ [])) k) (append-nil B) one) in
       subst (λ k. SameBag k (B ++ join_loop always ls (λ l. select (p l) (R l))))
-      (sym (flat_map-append (λ x. keep x.values (min x.standing (e x.values))) A (join_loop always ls R)))
+      (sym (flat_map-append (λ x. keep x.values (min x.standing (e x.values))) A
+      (join_loop always ls R)))
       (SameBag-append here (select_above e p ls R all.1))
 
   -- one combination of rows at True or at a fault
@@ -120,7 +136,8 @@ module _ {V : Type 0} where
         → ((x : List V) → key x ≡ k) → filter (λ x. same_row same (key x.values) k) xs ≡ xs
     all_of_key key k [] e = refl
     all_of_key key k (x ∷ xs) e =
-        let t : same_row same (key x.values) k ≡ true = ap (λ z. same_row same z k) (e x.values) ∙ same_row-refl same is k in
+        let t : same_row same (key x.values) k ≡ true = ap (λ z. same_row same z k) (e x.values)
+        ∙ same_row-refl same is k in
         rw (t, all_of_key key k xs e)
 
     -- rows of one key are one group
@@ -129,12 +146,15 @@ module _ {V : Type 0} where
         → group_by same key A (x ∷ xs) ≡ ranked (k ++ A (x ∷ xs)) (least (x ∷ xs)) ∷ []
     one_group key A k x xs e =
         let sr = same_row same in
-        let F : List V → Ranked V = λ q. let ys = filter (λ x. sr (key x.values) q) (x ∷ xs) in ranked (q ++ A ys) (least ys) in
+        let F : List V → Ranked V =
+        λ q. let ys = filter (λ x. sr (key x.values) q) (x ∷ xs) in ranked (q ++ A ys) (least ys) in
         let once : each_once sr (map (λ x. key x.values) (x ∷ xs)) ≡ k ∷ [] =
-        ap (λ z. z ∷ filter (λ y. not (sr z y)) (each_once sr (map (λ x. key x.values) xs))) (e x.values)
+        ap (λ z. z ∷ filter (λ y. not (sr z y)) (each_once sr (map (λ x. key x.values) xs)))
+        (e x.values)
         ∙ ap (λ l. k ∷ l) (none_other k (each_once sr (map (λ x. key x.values) xs))
         (Each-each_once (λ y. y ≡ k) sr (map (λ x. key x.values) xs)
-        (Each-map (λ y. y ≡ k) (λ x. key x.values) xs (Each-all (λ x. key x.values ≡ k) xs (λ x. e x.values))))) in
+        (Each-map (λ y. y ≡ k) (λ x. key x.values) xs (Each-all (λ x. key x.values ≡ k) xs
+        (λ x. e x.values))))) in
         ap (map F) once
         ∙ ap (λ ys. ranked (k ++ A ys) (least ys) ∷ []) (all_of_key key k (x ∷ xs) e)
 
@@ -152,11 +172,13 @@ module _ {V : Type 0} where
     one_total : (l : Ranked V) (us : List (Ranked V)) → Stands l → Each Stands us
         → IsOneGroup (key l.values) (A l.values) values g l.values
         → pairs l (total (A l.values) us)
-        ≡ project g (or_else (pairs l (group_by same (key l.values) (A l.values) us)) (ranked (l.values ++ values) l.standing))
+        ≡ project g (or_else (pairs l (group_by same (key l.values) (A l.values) us))
+        (ranked (l.values ++ values) l.standing))
     one_total l [] s all one =
         let a = s.not_dropped in let b = s.within in
         let e : min l.standing true_rank ≡ l.standing = omega arith in
-        ap (λ k. k ++ []) (kept_whole (l.values ++ A l.values []) l.standing true_rank a b (omega arith) (omega arith))
+        ap (λ k. k ++ []) (kept_whole (l.values ++ A l.values []) l.standing true_rank a b
+        (omega arith) (omega arith))
         ∙ ap (λ n. ranked (l.values ++ A l.values []) n ∷ []) e
         ∙ ap (λ r. ranked r l.standing ∷ []) (sym one.of_none)
     one_total l (u ∷ us) s all one =
@@ -169,8 +191,10 @@ module _ {V : Type 0} where
         let B = one.first ++ A l.values ts in
         ap (λ k. k ++ []) (kept_whole (l.values ++ A l.values ts) l.standing (least ts) a b c d)
         ∙ ap (λ r. ranked r m ∷ []) (sym (one.of_group ts))
-        ∙ sym (ap (λ k. project g (or_else (pairs l k) z)) (one_group same is (key l.values) (A l.values) one.first u us one.same_key)
-        ∙ ap (λ k. project g (or_else (k ++ []) z)) (kept_whole (l.values ++ B) l.standing (least ts) a b c d))
+        ∙ sym (ap (λ k. project g (or_else (pairs l k) z)) (one_group same is (key l.values)
+        (A l.values) one.first u us one.same_key)
+        ∙ ap (λ k. project g (or_else (k ++ []) z)) (kept_whole (l.values ++ B) l.standing
+        (least ts) a b c d))
 
     -- aggregates without GROUP BY of the right side are groups under an outer join
     pub total_above : (ls : List (Ranked V)) (T : List V → List (Ranked V)) → Each Stands ls
@@ -181,7 +205,10 @@ module _ {V : Type 0} where
     total_above [] T s t one = refl
     total_above (l ∷ ls) T s t one =
         let M : Ranked V → List (Ranked V) = λ l.
-        or_else (pairs l (group_by same (key l.values) (A l.values) (T l.values))) (ranked (l.values ++ values) l.standing) in
-        ap (λ k. k ++ join_loop always ls (λ l. total (A l) (T l))) (one_total l (T l.values) s.0 t.0 one.0)
+        or_else (pairs l (group_by same (key l.values) (A l.values) (T l.values)))
+        (ranked (l.values ++ values) l.standing) in
+        ap (λ k. k ++ join_loop always ls (λ l. total (A l) (T l)))
+        (one_total l (T l.values) s.0 t.0 one.0)
         ∙ ap (λ k. project g (M l) ++ k) (total_above ls T s.1 t.1 one.1)
-        ∙ sym (map-append (λ x. ranked (g x.values) x.standing) (M l) (outer_loop values always ls (λ l. group_by same (key l) (A l) (T l))))
+        ∙ sym (map-append (λ x. ranked (g x.values) x.standing) (M l) (outer_loop values always ls
+        (λ l. group_by same (key l) (A l) (T l))))

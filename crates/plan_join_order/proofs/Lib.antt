@@ -8,3 +8,4 @@ pub mod Regrouping
 pub mod Totals
 pub mod LateralRows
 pub mod Laterals
+pub mod LateralSteps

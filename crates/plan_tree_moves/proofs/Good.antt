@@ -1,8 +1,7 @@
 -- The rows of a tree have its width, and stand at True or at a fault.
 use Rattle.std.proofs.Common.{◌≡◌, ℕ, ◌+◌, Bool, List, [], ◌∷◌, ◌++◌, map, refl, sym, ◌∙◌, ap}
-use Rattle.std.proofs.Common.{subst, arith, zero, suc, length, true}
+use Rattle.std.proofs.Common.{subst, arith, zero, suc, length}
 use Rattle.std.specs.Prelude.{replicate, min}
-use Rattle.std.specs.Cmp.{second_so}
 use Rattle.std.specs.List.{flat_map, filter}
 use Rattle.std.proofs.lemmas.List.{length-append, length-map, length-replicate}
 use Rattle.base_row_laws.specs.Ranked.{Ranked, ranked}
@@ -21,9 +20,9 @@ use Rattle.base_value.specs.declared.value.Value.{Value}
 use Rattle.base_value.specs.declared.value.Value.TheVariants.{Null}
 use Rattle.base_value.specs.Value.{same_value}
 use Rattle.base_value.proofs.Identity.{value_identity}
-use Rattle.base_schema.specs.declared.column.ColumnKind.{ColumnKind}
 use Rattle.base_schema.specs.declared.table.TableName.{TableName}
-use Rattle.base_schema.specs.Kinds.{is_of_kind, are_of_kinds, RowsAreOf}
+use Rattle.base_schema.specs.Kinds.{RowsAreOf}
+use Rattle.base_schema.proofs.Columns.{row_long}
 use Rattle.base_schema.specs.Tables.{kinds_of}
 use Rattle.expr_scalar.specs.declared.expr.Expr.{Expr}
 use Rattle.expr_scalar.specs.Meaning.{values}
@@ -152,19 +151,11 @@ scanned_stands [] = tt
 scanned_stands (r ∷ rs) =
     (record { not_dropped = omega arith; within = omega arith }, scanned_stands rs)
 
-kinds_wide : (ks : List ColumnKind) (row : List Value) → are_of_kinds ks row ≡ true
-    → length row ≡ length ks
-kinds_wide [] [] h = refl
-kinds_wide [] (x ∷ row) h = cc
-kinds_wide (k ∷ ks) [] h = cc
-kinds_wide (k ∷ ks) (x ∷ row) h =
-    ap suc (kinds_wide ks row (second_so (is_of_kind k x) (are_of_kinds ks row) h))
-
 scanned_wide : (table : TableName) (rs : List (List Value)) → RowsAreOf table rs
     → Width (length (kinds_of table)) (scanned rs)
 scanned_wide table [] h = tt
 scanned_wide table (r ∷ rs) h = (
-  kinds_wide (kinds_of table) r (h 0 r (omega arith)),
+  row_long table r (h 0 r (omega arith)),
   scanned_wide table rs (λ k d below. h (suc k) d (omega arith)),
 )
 

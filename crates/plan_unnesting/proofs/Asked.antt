@@ -22,7 +22,8 @@ use Rattle.expr_conditions.specs.Ranks.{rank_of, all_rank}
 use Rattle.expr_conditions.proofs.Ranks.{rank_All}
 use Rattle.base_schema.specs.declared.column.ColumnKind.{ColumnKind}
 use Rattle.base_schema.specs.declared.column.ColumnKind.TheVariants as column
-use Rattle.base_schema.specs.Kinds.{is_narrow, is_of_kind}
+use Rattle.base_schema.specs.Kinds.{is_narrow}
+use Rattle.base_schema.proofs.Columns.{may_hold}
 use Rattle.plan_algebra.proofs.Fits.{first_of_both, second_of_both}
 use Rattle.plan_unnesting.specs.declared.domain.Origin.{Origin}
 use Rattle.plan_unnesting.specs.Domains.{is_unchanged, KeepsNotes}
@@ -101,8 +102,9 @@ stands_for {q = q} a s = record { kind = q; noted = a; asked = s }
 no : {A : Type 0} → false ≡ true → A
 no h = absurd (true≢false (sym h))
 
--- a stored value comes unchanged from its column
-pub stored_unchanged : (k : ColumnKind) (v : Value) → IsTrue (is_of_kind k v) → IsTrue (is_unchanged (stored_as k) v)
+-- a stored value comes unchanged from its column, a null too
+pub stored_unchanged : (k : ColumnKind) (v : Value) → IsTrue (may_hold k v) → IsTrue (is_unchanged (stored_as k) v)
+stored_unchanged k Null h = refl
 stored_unchanged column.Key (Number s c) h =
     rw (eqb-true s 0 (first_of_both (s == 0) (not (int_lt c (pos 0))) (first_of_both ((s == 0) && not (int_lt c (pos 0))) (is_narrow c) h))) refl
 stored_unchanged column.Whole (Number s c) h = rw (eqb-true s 0 (first_of_both (s == 0) (is_narrow c) h)) refl
@@ -112,23 +114,18 @@ stored_unchanged (column.Text most) (Text t) h = refl
 stored_unchanged column.Key (Text t) h = no h
 stored_unchanged column.Key (Date t) h = no h
 stored_unchanged column.Key (Fault t) h = no h
-stored_unchanged column.Key Null h = no h
 stored_unchanged column.Whole (Text t) h = no h
 stored_unchanged column.Whole (Date t) h = no h
 stored_unchanged column.Whole (Fault t) h = no h
-stored_unchanged column.Whole Null h = no h
 stored_unchanged column.Decimal (Text t) h = no h
 stored_unchanged column.Decimal (Date t) h = no h
 stored_unchanged column.Decimal (Fault t) h = no h
-stored_unchanged column.Decimal Null h = no h
 stored_unchanged column.Date (Number s c) h = no h
 stored_unchanged column.Date (Text t) h = no h
 stored_unchanged column.Date (Fault t) h = no h
-stored_unchanged column.Date Null h = no h
 stored_unchanged (column.Text most) (Number s c) h = no h
 stored_unchanged (column.Text most) (Date t) h = no h
 stored_unchanged (column.Text most) (Fault t) h = no h
-stored_unchanged (column.Text most) Null h = no h
 
 one_kind : (j k : Kind) → IsTrue (same_kind j k) → j ≡ k
 one_kind (kind.Number s) (kind.Number t) h = ap kind.Number (eqb-true s t h)
@@ -146,17 +143,11 @@ pub is_stored : (ks : List (Option Kind)) (b : ℕ) (j q : Kind) {o : Option Kin
 is_stored ks b j q g e h = sym g ∙ e ∙ ap (λ k. Some k) (one_kind j q h)
 
 -- a table's row keeps the kinds of its columns
-pub kinds_fit : (kinds : List ColumnKind) (row : List Value) → IsTrue (pointwise is_of_kind kinds row) → FitsKinds (map known_as kinds) row
+pub kinds_fit : (kinds : List ColumnKind) (row : List Value) → IsTrue (pointwise may_hold kinds row) → FitsKinds (map known_as kinds) row
 kinds_fit [] row h c = refl
 kinds_fit (k ∷ kinds) [] h c = no h
-kinds_fit (k ∷ kinds) (v ∷ row) h zero = stored_unchanged k v (first_of_both (is_of_kind k v) (pointwise is_of_kind kinds row) h)
-kinds_fit (k ∷ kinds) (v ∷ row) h (suc c) = kinds_fit kinds row (second_of_both (is_of_kind k v) (pointwise is_of_kind kinds row) h) c
-
-pub row_long : (kinds : List ColumnKind) (row : List Value) → IsTrue (pointwise is_of_kind kinds row) → length row ≡ length kinds
-row_long [] [] h = refl
-row_long [] (v ∷ row) h = no h
-row_long (k ∷ kinds) [] h = no h
-row_long (k ∷ kinds) (v ∷ row) h = ap suc (row_long kinds row (second_of_both (is_of_kind k v) (pointwise is_of_kind kinds row) h))
+kinds_fit (k ∷ kinds) (v ∷ row) h zero = stored_unchanged k v (first_of_both (may_hold k v) (pointwise may_hold kinds row) h)
+kinds_fit (k ∷ kinds) (v ∷ row) h (suc c) = kinds_fit kinds row (second_of_both (may_hold k v) (pointwise may_hold kinds row) h) c
 
 each_at : {X : Type 0} (P : X → Type 0) (xs : List X) (i : ℕ) (d : X) → i < length xs → Each P xs → P (get_or xs i d)
 each_at P [] i d h all = absurd (omega arith)

@@ -18,6 +18,7 @@ use Rattle.expr_conditions.specs.Ranks.{rank_of}
 use Rattle.expr_aggregates.specs.Values.{written, value_rank}
 use Rattle.base_schema.specs.declared.table.TableName.{TableName}
 use Rattle.base_schema.specs.Kinds.{RowIsOf}
+use Rattle.base_schema.proofs.Columns.{row_held}
 use Rattle.base_schema.specs.Tables.{kinds_of}
 use Rattle.plan_algebra.specs.declared.aggregate.Aggregate.{Aggregate}
 use Rattle.plan_algebra.specs.declared.node.Node.{Node}
@@ -142,7 +143,7 @@ module _ (nodes : List Node) (i : ℕ) (formed : IsTrue (is_formed nodes)) (with
       gives nodes i (node.Scan table) formed within at (map known_as (kinds_of table)) (length-map (kinds_of table) known_as)
       (λ db k.
       Each-map (Fit (map known_as (kinds_of table))) (λ r. ranked r 5) (db table)
-      (Each-weaker (RowIsOf table) (λ r. FitsKinds (map known_as (kinds_of table)) r) (db table) (λ r h. kinds_fit (kinds_of table) r h) (each_of_all (RowIsOf table) (db table) (k table))))
+      (Each-weaker (RowIsOf table) (λ r. FitsKinds (map known_as (kinds_of table)) r) (db table) (λ r h. kinds_fit (kinds_of table) r (row_held table r h)) (each_of_all (RowIsOf table) (db table) (k table))))
 
   module _ (j : ℕ) (ks : ColumnKinds) (a : AreKindsOf nodes j ks) where
     pub select_kinds : (e : Expr) → node.Select j e ≡ get_or nodes i (node.Select j e) → AreKindsOf nodes i ks

@@ -21,6 +21,7 @@ use Rattle.expr_scalar.specs.declared.kind.Kind.{Kind}
 use Rattle.expr_conditions.specs.Ranks.{rank_of, says}
 use Rattle.base_schema.specs.declared.table.TableName.{TableName}
 use Rattle.base_schema.specs.Kinds.{RowIsOf}
+use Rattle.base_schema.proofs.Columns.{row_held, row_long}
 use Rattle.base_schema.specs.Tables.{kinds_of}
 use Rattle.plan_algebra.specs.declared.node.Node.{Node}
 use Rattle.plan_algebra.specs.declared.node.Node.TheVariants as node
@@ -34,7 +35,7 @@ use Rattle.plan_unnesting.specs.Growth.{Grows, IsPut}
 use Rattle.plan_unnesting.specs.Lowerings.{Lowers, IsOwn, IsOwnSelection}
 use Rattle.plan_unnesting.specs.OwnColumns.{StandForAll, with_own}
 use Rattle.plan_unnesting.specs.PlanKinds.{known_as}
-use Rattle.plan_unnesting.proofs.Asked.{kinds_fit, row_long}
+use Rattle.plan_unnesting.proofs.Asked.{kinds_fit}
 use Rattle.plan_unnesting.proofs.Grown.{same_plan, put_more, both_more, put_rows, put_width, put_last}
 use Rattle.plan_unnesting.proofs.Kept.{same_footing}
 use Rattle.plan_unnesting.proofs.Owned.{OfKinds, beside_own, own_answers}
@@ -85,7 +86,7 @@ table_rows : (table : TableName) (rows : List (List Value)) → Each (RowIsOf ta
     → Each (OfKinds (map known_as (kinds_of table))) (scanned rows) × Each (λ x. length x.values ≡ length (kinds_of table)) (scanned rows)
 table_rows table [] all = (tt, tt)
 table_rows table (r ∷ rows) all =
-    let rest = table_rows table rows all.1 in ((kinds_fit (kinds_of table) r all.0, rest.0), (row_long (kinds_of table) r all.0, rest.1))
+    let rest = table_rows table rows all.1 in ((kinds_fit (kinds_of table) r (row_held table r all.0), rest.0), (row_long table r all.0, rest.1))
 
 pub own_lowers : (before new : List Node) (table : TableName) (c : Expr) (f : Footing) (own : List ℕ) (id : ℕ) → IsFooting before f.rows
     → StandForAll (map known_as (kinds_of table)) f.unchanged (footing_width f.rows) c own

@@ -1,17 +1,16 @@
 -- A line that is cut at its bars from the left, and what the cuts say of its bars.
-use Rattle.std.proofs.Common.{◌≡◌, ℕ, suc, ◌+◌, ◌<◌, ◌≤◌, Bool, true, false, cond, ◌&&◌, ◌||◌, ◌==◌, nat_eq, nat_lt, List, [], ◌∷◌, ◌++◌, length, take, drop, position, refl, sym, ◌∙◌, ap, arith, append_assoc, Option, Some, None, is_some, inl, inr, map, Ok}
+use Rattle.std.proofs.Common.{◌≡◌, ℕ, suc, ◌+◌, ◌<◌, ◌≤◌, Bool, true, false, cond, ◌&&◌, ◌||◌, ◌==◌, nat_eq, nat_lt, List, [], ◌∷◌, ◌++◌, length, take, drop, position, refl, sym, ◌∙◌, ap, arith, append_assoc, Option, Some, None, is_some, inl, inr, Ok}
 use Rattle.std.specs.Prelude.{count_by}
 use Rattle.std.specs.List.{ends_with, position_or_len, after_first}
 use Rattle.std.proofs.lemmas.Bool.{and_from, ltb-true, ltb-false, eqb-true, eq-eqb}
 use Rattle.std.proofs.lemmas.Bool.Decides.{Decides-eqb}
-use Rattle.std.proofs.lemmas.List.{append-nil, length-map, take_all, take-append-drop}
+use Rattle.std.proofs.lemmas.List.{append-nil, take_all, take-append-drop}
 use Rattle.std.proofs.lemmas.List.Sums.{split_at_first, passes_at_first}
 use Rattle.std.proofs.lemmas.Option.{cond_some}
 use Rattle.std.proofs.lemmas.Slice.Eq.{ends_is}
 use Rattle.std.proofs.Common.{get_or}
 use Rattle.base_value.specs.declared.value.Value.{Value}
-use Rattle.base_schema.specs.declared.column.ColumnKind.{ColumnKind}
-use Rattle.base_schema.specs.LineForm.{never_null}
+use Rattle.base_schema.specs.declared.column.LineColumn.{LineColumn}
 use Rattle.store_file_reader.specs.Line.{is_bar, has_fields, IsWholeCut, values_of, row_of}
 use Rattle.store_file_reader.proofs.Cuts.{after_first-some, after_first-none, values_all}
 use Rattle.store_file_reader.proofs.FieldCuts.{HasNoBar, bars-cons, bars-append, no_bars}
@@ -61,7 +60,7 @@ bar_at text place e =
           ∙ rw none (omega (arith, bars-cons 124 (drop (place + 1) text)));
     }
 
--- a line of which `base_columns` columns were cut: `bars` bars stood before the rest, which is empty
+-- a line of which `columns` columns were cut: `bars` bars stood before the rest, which is empty
 -- where one was missing
 pub record CutSoFar (line rest : List ℕ) (bars columns : ℕ) : Type 0 where
   pub front : List ℕ
@@ -152,10 +151,9 @@ cut_more line rest more bars now columns found so_far is rest_is now_is =
     rw (now_is, rest_is, is) (cut_by line rest bars columns (position is_bar rest) refl so_far)
 
 -- the row of a line that was cut whole
-pub good_row : (kinds : List ColumnKind) (line rest : List ℕ) (bars columns : ℕ) (values : List Value) → CutSoFar line rest bars columns → columns ≡ length kinds
-    → IsWholeCut columns bars rest → values_of (map never_null kinds) line ≡ Ok values → row_of (map never_null kinds) line ≡ Ok values
-good_row kinds line rest bars columns values so_far all whole e =
-    let count : length (map never_null kinds) ≡ columns = length-map kinds never_null ∙ sym all in
-    rw (count, whole_cut line rest bars columns so_far whole) e
+pub good_row : (columns : List LineColumn) (line rest : List ℕ) (bars count : ℕ) (values : List Value) → CutSoFar line rest bars count → count ≡ length columns
+    → IsWholeCut count bars rest → values_of columns line ≡ Ok values → row_of columns line ≡ Ok values
+good_row columns line rest bars count values so_far all whole e =
+    rw (← all, whole_cut line rest bars count so_far whole) e
 
 pub ruleset good = (good_row, cut_start, values_all)

@@ -11,9 +11,8 @@ use Rattle.base_columns.specs.declared.field.Field.{Field}
 use Rattle.base_columns.specs.Fields.{field_value}
 use Rattle.base_refusals.specs.declared.line.LineFault.{LineFault}
 use Rattle.base_value.specs.declared.value.Value.{Value}
-use Rattle.base_schema.specs.declared.column.ColumnKind.{ColumnKind}
-use Rattle.base_schema.specs.LineForm.{never_null}
-use Rattle.store_file_reader.specs.Field.{kind_field}
+use Rattle.base_schema.specs.declared.column.LineColumn.{LineColumn}
+use Rattle.store_file_reader.specs.Field.{column_value}
 use Rattle.store_file_reader.specs.Line.{is_bar, put_first, values_of}
 
 none_from : (b : Bool) (a : ℕ) → cond b (Some a) None ≡ None → b ≡ false
@@ -44,29 +43,29 @@ before-put_first : (vs : List Value) (v : Value) (r : Result (List Value) LineFa
 before-put_first vs v (Ok ws) = ap Ok (sym (append_assoc vs (v ∷ []) ws))
 before-put_first vs v (Err fault) = refl
 
-pub values_more : (kinds : List ColumnKind) (i : ℕ) (d : ColumnKind) (text : List ℕ) (vs : List Value) (v : Value) → i < length kinds
-    → kind_field (get_or kinds i d) (before_first is_bar text) ≡ Ok v
-    → before vs (values_of (map never_null (drop i kinds)) text) ≡ before (vs ++ v ∷ []) (values_of (map never_null (drop (i + 1) kinds)) (after_first is_bar text))
-values_more kinds i d text vs v h e =
-    rw (add-one, drop-cons kinds i d h, e) (before-put_first vs v _)
+pub values_more : (columns : List LineColumn) (i : ℕ) (d : LineColumn) (text : List ℕ) (vs : List Value) (v : Value) → i < length columns
+    → column_value (get_or columns i d) (before_first is_bar text) ≡ Ok v
+    → before vs (values_of (drop i columns) text) ≡ before (vs ++ v ∷ []) (values_of (drop (i + 1) columns) (after_first is_bar text))
+values_more columns i d text vs v h e =
+    rw (add-one, drop-cons columns i d h, e) (before-put_first vs v _)
 
-pub fields_more : (kinds : List ColumnKind) (i : ℕ) (d : ColumnKind) (text : List ℕ) (fields new : List Field) (field : Field) → i < length kinds
-    → kind_field (get_or kinds i d) (before_first is_bar text) ≡ Ok (field_value field) → new ≡ fields ++ field ∷ []
-    → before (map field_value fields) (values_of (map never_null (drop i kinds)) text)
-    ≡ before (map field_value new) (values_of (map never_null (drop (i + 1) kinds)) (after_first is_bar text))
-fields_more kinds i d text fields new field h e made =
+pub fields_more : (columns : List LineColumn) (i : ℕ) (d : LineColumn) (text : List ℕ) (fields new : List Field) (field : Field) → i < length columns
+    → column_value (get_or columns i d) (before_first is_bar text) ≡ Ok (field_value field) → new ≡ fields ++ field ∷ []
+    → before (map field_value fields) (values_of (drop i columns) text)
+    ≡ before (map field_value new) (values_of (drop (i + 1) columns) (after_first is_bar text))
+fields_more columns i d text fields new field h e made =
     let shape : map field_value new ≡ map field_value fields ++ field_value field ∷ [] = ap (map field_value) made ∙ map-append field_value fields (field ∷ []) in
-    values_more kinds i d text (map field_value fields) (field_value field) h e
-    ∙ ap (λ vs. before vs (values_of (map never_null (drop (i + 1) kinds)) (after_first is_bar text))) (sym shape)
+    values_more columns i d text (map field_value fields) (field_value field) h e
+    ∙ ap (λ vs. before vs (values_of (drop (i + 1) columns) (after_first is_bar text))) (sym shape)
 
-pub values_fault : (kinds : List ColumnKind) (i : ℕ) (d : ColumnKind) (text : List ℕ) (vs : List Value) (fault : LineFault) → i < length kinds
-    → kind_field (get_or kinds i d) (before_first is_bar text) ≡ Err fault
-    → before vs (values_of (map never_null (drop i kinds)) text) ≡ Err fault
-values_fault kinds i d text vs fault h e = rw (drop-cons kinds i d h, e) refl
+pub values_fault : (columns : List LineColumn) (i : ℕ) (d : LineColumn) (text : List ℕ) (vs : List Value) (fault : LineFault) → i < length columns
+    → column_value (get_or columns i d) (before_first is_bar text) ≡ Err fault
+    → before vs (values_of (drop i columns) text) ≡ Err fault
+values_fault columns i d text vs fault h e = rw (drop-cons columns i d h, e) refl
 
-pub values_all : (kinds : List ColumnKind) (i : ℕ) (text : List ℕ) (vs : List Value) → length kinds ≤ i
-    → before vs (values_of (map never_null (drop i kinds)) text) ≡ Ok vs
-values_all kinds i text vs h = rw (drop_of_length-le kinds h) (ap Ok (append-nil vs))
+pub values_all : (columns : List LineColumn) (i : ℕ) (text : List ℕ) (vs : List Value) → length columns ≤ i
+    → before vs (values_of (drop i columns) text) ≡ Ok vs
+values_all columns i text vs h = rw (drop_of_length-le columns h) (ap Ok (append-nil vs))
 
 pub ruleset cuts = (before_first-some, after_first-some, before_first-none, after_first-none)
 

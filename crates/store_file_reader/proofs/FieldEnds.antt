@@ -17,10 +17,11 @@ use Rattle.base_refusals.specs.declared.line.LineFault.{LineFault}
 use Rattle.base_refusals.specs.declared.line.LineFault.TheVariants.{TextTooLong}
 use Rattle.base_value.specs.declared.value.Value.{Value}
 use Rattle.base_value.specs.declared.value.Value.TheVariants as value
-use Rattle.base_schema.specs.declared.column.ColumnKind.{ColumnKind}
+use Rattle.base_schema.specs.declared.column.LineColumn.{LineColumn}
 use Rattle.base_schema.specs.declared.column.ColumnKind.TheVariants.{Date, Text}
-use Rattle.store_file_reader.specs.Field.{kind_field}
+use Rattle.store_file_reader.specs.Field.{kind_field, spells_null, column_value}
 use Rattle.store_file_reader.specs.Line.{is_bar}
+use Rattle.store_file_reader.proofs.Nulls.{value_of_other}
 use Rattle.store_file_reader.proofs.FieldCuts.{HasNoBar, neither, none-cons}
 use Rattle.store_file_reader.proofs.PlainNumbers.{point_after_digits}
 
@@ -67,9 +68,9 @@ bar_found text end e h = rw e (some_bar end (length text) h)
 pub bar_missed : (text : List ℕ) (end : ℕ) → position_or_len is_bar text ≡ end → length text ≤ end → is_some (position is_bar text) ≡ false
 bar_missed text end e h = rw e (no_bar end (length text) h)
 
-pub before_end : (kind : ColumnKind) (text : List ℕ) (end : ℕ) (r : Result Value LineFault) → position_or_len is_bar text ≡ end → kind_field kind (take end text) ≡ r
-    → kind_field kind (before_first is_bar text) ≡ r
-before_end kind text end r e is = rw e is
+pub before_end : (column : LineColumn) (text : List ℕ) (end : ℕ) (r : Result Value LineFault) → position_or_len is_bar text ≡ end
+    → kind_field column.kind (take end text) ≡ r → spells_null (take end text) ≡ false → column_value column (before_first is_bar text) ≡ r
+before_end column text end r e is other = rw e (value_of_other column (take end text) r other is)
 
 pub ruleset cuts = (before_end, after_end, after_last, bar_found, bar_missed)
 

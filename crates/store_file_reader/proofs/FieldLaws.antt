@@ -4,7 +4,7 @@ use Rattle.std.specs.List.{before_first, after_first, zip}
 use Rattle.base_refusals.specs.declared.line.LineFault.{LineFault}
 use Rattle.base_refusals.specs.declared.line.LineFault.TheVariants.{FieldCount, BadNumber, NumberTooWide, BadDate, BadText, TextTooLong, DuplicateKey, FileTooLong}
 use Rattle.base_value.specs.declared.value.Value.{Value}
-use Rattle.base_schema.specs.LineForm.{LineColumn}
+use Rattle.base_schema.specs.declared.column.LineColumn.{LineColumn}
 use Rattle.store_file_reader.specs.Field.{column_value}
 use Rattle.store_file_reader.specs.Line.{is_bar, has_fields, put_first, values_of, row_of}
 use Rattle.store_file_reader.specs.LineLaws.{AreFieldsOf, value_said, AreValuesOf, IsFirstBadField, IsBadLine}

@@ -20,8 +20,9 @@ use Rattle.base_schema.specs.declared.column.ColumnKind.TheVariants.{Key as KeyK
 use Rattle.base_schema.specs.declared.file.DataFile.{DataFile}
 use Rattle.base_schema.specs.declared.file.DataFile.TheVariants.{Table, Refresh}
 use Rattle.base_schema.specs.declared.table.TableName.TheVariants.{Region, Nation, Part, Supplier, Partsupp, Customer, Orders, Lineitem}
-use Rattle.base_schema.specs.Kinds.{is_of_kind, is_narrow}
-use Rattle.base_schema.specs.LineForm.{LineColumn, LineForm, never_null, can_hold, fits, RowsFit, file_form, key_of}
+use Rattle.base_schema.specs.Kinds.{is_of_kind, is_narrow, can_hold}
+use Rattle.base_schema.specs.declared.column.LineColumn.{LineColumn}
+use Rattle.base_schema.specs.LineForm.{LineForm, never_null, fits, RowsFit, file_form, key_of}
 use Rattle.store_file_reader.specs.declared.key.Key.{Key}
 use Rattle.store_file_reader.specs.contracts.key.KeyPartialEq.TheImpl.{eq-value as eq-key}
 use Rattle.store_file_reader.specs.declared.key.Keys.TheVariants.{Ascending}

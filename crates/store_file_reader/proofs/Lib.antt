@@ -13,6 +13,7 @@ pub mod FileLaws
 pub mod Readers
 pub mod Held
 pub mod PlainNumbers
+pub mod Nulls
 pub mod FieldEnds
 pub mod FirstBytes
 pub mod BarCuts

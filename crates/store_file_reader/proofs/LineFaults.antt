@@ -11,7 +11,7 @@ use Rattle.base_refusals.specs.declared.line.LineFault.TheVariants.{FieldCount, 
 use Rattle.base_value.specs.declared.value.Value.{Value}
 use Rattle.base_schema.specs.declared.column.ColumnKind.{ColumnKind}
 use Rattle.base_schema.specs.declared.column.ColumnKind.TheVariants.{Key, Whole, Decimal, Date, Text}
-use Rattle.base_schema.specs.LineForm.{LineColumn}
+use Rattle.base_schema.specs.declared.column.LineColumn.{LineColumn}
 use Rattle.store_file_reader.specs.Field.{kind_field, spells_null, column_value, number_field, date_field, printable_field}
 use Rattle.store_file_reader.specs.Line.{is_bar, has_fields, put_first, values_of, row_of}
 

@@ -17,8 +17,9 @@ use Rattle.base_value.specs.declared.value.Value.{Value}
 use Rattle.base_value.specs.declared.value.Value.TheVariants as value
 use Rattle.base_schema.specs.declared.column.ColumnKind.{ColumnKind}
 use Rattle.base_schema.specs.declared.column.ColumnKind.TheVariants.{Key, Whole, Decimal, Date, Text}
-use Rattle.base_schema.specs.Kinds.{is_of_kind}
-use Rattle.base_schema.specs.LineForm.{LineColumn, LineForm, can_hold, fits, is_null}
+use Rattle.base_schema.specs.Kinds.{is_of_kind, is_null, can_hold}
+use Rattle.base_schema.specs.declared.column.LineColumn.{LineColumn}
+use Rattle.base_schema.specs.LineForm.{LineForm, fits}
 use Rattle.store_file_reader.specs.Field.{kind_field, spells_null, column_value, number_field, date_field, printable_field}
 use Rattle.store_file_reader.specs.Line.{is_bar, put_first, values_of, row_of}
 
@@ -85,10 +86,6 @@ only_then false r fault vs e = cc
 pub row_held : (columns : List LineColumn) (line : List ℕ) (vs : List Value) → row_of columns line ≡ Ok vs → pointwise can_hold columns vs ≡ true
 row_held columns line vs e = values_held columns line vs (only_then _ _ _ vs e)
 
--- the same for the row that was read by the columns of a form
-pub row_fits : (form : LineForm) (columns : List LineColumn) (line : List ℕ) (vs : List Value) → columns ≡ form.columns → row_of columns line ≡ Ok vs → fits form vs ≡ true
-row_fits form columns line vs same e = rw (← same) (row_held columns line vs e)
-
 -- a row that fits has a value for each column
 as_long : {A B : Type 0} (test : A → B → Bool) (xs : List A) (ys : List B) → pointwise test xs ys ≡ true → length ys ≡ length xs
 as_long test [] [] e = refl
@@ -99,6 +96,6 @@ as_long test (x ∷ xs) (y ∷ ys) e = ap suc (as_long test xs ys (and_parts _ _
 pub field_count : (form : LineForm) (fields : List Field) (n : ℕ) → fits form (map field_value fields) ≡ true → n ≡ length form.columns → length fields ≡ n
 field_count form fields n fit e = sym (length-map fields field_value) ∙ as_long can_hold form.columns (map field_value fields) fit ∙ sym e
 
-pub ruleset held_rows = (row_fits)
+pub ruleset held_rows = (row_held)
 
 pub ruleset keyed = (field_count, All-push)

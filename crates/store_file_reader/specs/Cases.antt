@@ -9,9 +9,8 @@ use Rattle.base_refusals.specs.declared.line.LineRefusal.{LineRefusal}
 use Rattle.base_value.specs.declared.value.Value.{Value}
 use Rattle.base_value.specs.declared.value.Value.TheVariants.{Null, Number, Text}
 use Rattle.base_refusals.specs.declared.refresh.RefreshFile.TheVariants.{Orders as RefreshOrders, Delete}
-use Rattle.base_schema.specs.declared.column.ColumnKind.TheVariants.{Key, Text as TextKind}
 use Rattle.base_schema.specs.declared.table.TableName.TheVariants.{Region, Orders}
-use Rattle.base_schema.specs.LineForm.{LineForm, table_form, refresh_form}
+use Rattle.base_schema.specs.LineForm.{table_form, refresh_form}
 use Rattle.store_file_reader.specs.File.{cut_lines, file_rows, most_bytes}
 
 -- a refusal of a line, counted from 1
@@ -111,24 +110,26 @@ Refreshes =
     × (file_rows (refresh_form RefreshOrders) most_bytes (codes "9|2|O|5|1996-02-30|L|K|0|z")
     ≡ refusal_at 1 BadDate)
 
--- lines of a key and a text that may be null
-abbrev pub nullable_lines : LineForm
-nullable_lines = record {
-  columns = record { kind = Key; nullable = false } ∷ record { kind = TextKind 1; nullable = true }
-      ∷ [];
-  key = 0 ∷ [];
-  unique = true;
-}
+-- a field of the two bytes \N
+abbrev pub null_field : List ℕ
+null_field = 92 ∷ 78 ∷ []
 
--- where a column may be null, the two bytes \N are null before their length is tested; elsewhere
--- they are a field as others
+-- outside the primary key the two bytes \N are null, before their kind and their length are tested;
+-- in it and in a delete file they are no number, and a field with other bytes is a field as others
 abbrev pub Nulls : Type 0
 Nulls =
-    (file_rows nullable_lines most_bytes (codes "1|" ++ 92 ∷ codes "N|")
-    ≡ Ok ((Number 0 (pos 1) ∷ Null ∷ []) ∷ []))
-    × (file_rows nullable_lines most_bytes (codes "1|" ++ 92 ∷ [])
-    ≡ Ok ((Number 0 (pos 1) ∷ Text (92 ∷ []) ∷ []) ∷ []))
-    × (file_rows nullable_lines most_bytes (codes "1|" ++ 92 ∷ codes "NN")
+    (file_rows (table_form Region) most_bytes (codes "0|A|" ++ null_field ++ codes "|")
+    ≡ Ok ((Number 0 (pos 0) ∷ Text (codes "A") ∷ Null ∷ []) ∷ []))
+    × (file_rows (table_form Region) most_bytes (codes "0|" ++ 92 ∷ codes "n| " ++ null_field)
+    ≡ Ok (region 0 (92 ∷ codes "n") (32 ∷ null_field) ∷ []))
+    × (file_rows (refresh_form RefreshOrders) most_bytes
+    (codes "8|" ++ null_field ++ codes "|" ++ null_field ++ codes "|20.00|" ++ null_field
+    ++ codes "|5-LOW|K|0|y|")
+    ≡ Ok ((Number 0 (pos 8) ∷ Null ∷ Null ∷ Number 2 (pos 2000) ∷ Null ∷ Text (codes "5-LOW")
+    ∷ Text (codes "K") ∷ Number 0 (pos 0) ∷ Text (codes "y") ∷ []) ∷ []))
+    × (file_rows (table_form Orders) most_bytes
+    (codes "8|1|" ++ null_field ++ codes "N|20.00|1996-01-03|5-LOW|K|0|y|")
     ≡ refusal_at 1 TextTooLong)
-    × (file_rows nullable_lines most_bytes (92 ∷ codes "N|" ++ 92 ∷ codes "N")
-    ≡ refusal_at 1 BadNumber)
+    × (file_rows (table_form Orders) most_bytes
+    (null_field ++ codes "|1|O|10.00|1996-01-02|1-URGENT|K|0|x|") ≡ refusal_at 1 BadNumber)
+    × (file_rows (refresh_form Delete) most_bytes null_field ≡ refusal_at 1 BadNumber)

@@ -16,7 +16,7 @@ use Rattle.base_schema.specs.declared.column.ColumnKind.{ColumnKind}
 use Rattle.base_schema.specs.declared.column.ColumnKind.TheVariants.{Key, Whole, Decimal, Date}
 use Rattle.base_schema.specs.declared.column.ColumnKind.TheVariants.{Text}
 use Rattle.base_schema.specs.Kinds.{is_of_kind}
-use Rattle.base_schema.specs.LineForm.{LineColumn}
+use Rattle.base_schema.specs.declared.column.LineColumn.{LineColumn}
 
 -- the number that was read at a scale, where the column can hold it
 abbrev pub number_field : ColumnKind → ℕ → Result ℤ Spelling → Result Value LineFault

@@ -5,7 +5,7 @@ use Rattle.std.specs.List.{before_first, after_first, ends_with}
 use Rattle.base_refusals.specs.declared.line.LineFault.{LineFault}
 use Rattle.base_refusals.specs.declared.line.LineFault.TheVariants.{FieldCount}
 use Rattle.base_value.specs.declared.value.Value.{Value}
-use Rattle.base_schema.specs.LineForm.{LineColumn}
+use Rattle.base_schema.specs.declared.column.LineColumn.{LineColumn}
 use Rattle.store_file_reader.specs.Field.{column_value}
 
 -- the bytes without that one at their end, if it stands there

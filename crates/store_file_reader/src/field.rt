@@ -7,17 +7,38 @@ ghost use Rattle.base_decimal.specs.Written.{decimal_read};
 ghost use Rattle.base_value.specs.declared.value.Value.TheVariants.{Number};
 ghost use Rattle.base_schema.specs.declared.column.ColumnKind.TheVariants.{Text as TextKind};
 ghost use Rattle.base_schema.specs.Kinds.{is_of_kind};
+ghost use Rattle.store_file_reader.specs.Field.{column_value, spells_null};
 ghost use Rattle.store_file_reader.specs.Field.{kind_field, number_field, text_field, date_field};
 
 use base_columns::Field;
 use base_date::CivilDate;
 use base_decimal::{Scale, Spelling, read_decimal};
 use base_refusals::LineFault;
-use base_schema::ColumnKind;
+use base_schema::{ColumnKind, LineColumn};
 use base_value::Value;
 
-/// What the bytes between two bars say in a column of that kind.
-pub fn read_field(kind: ColumnKind, bytes: &[u8]) -> Result<Field<'_>, LineFault>
+/// What the bytes between two bars say in a column: null where they spell it and the column may be
+/// null, whatever its kind.
+pub fn read_field(column: LineColumn, bytes: &[u8]) -> Result<Field<'_>, LineFault>
+    ensures value { MatchResult result (λ f. column_value column bytes.now ≡ Ok (field_value f))
+        (λ fault. column_value column bytes.now ≡ Err fault) }
+    ensures printable { IfOk result IsPrintableField }
+{
+    if column.nullable && spells_null(bytes) {
+        return Ok(Field::Null);
+    }
+    read_value(column.kind, bytes)
+}
+
+/// Whether the bytes are `\N`.
+pub fn spells_null(bytes: &[u8]) -> bool
+    ensures { result ≡ spells_null bytes.now }
+{
+    bytes == b"\\N".as_slice()
+}
+
+// The value of that kind that the bytes say.
+fn read_value(kind: ColumnKind, bytes: &[u8]) -> Result<Field<'_>, LineFault>
     ensures value { MatchResult result (λ f. kind_field kind bytes.now ≡ Ok (field_value f))
         (λ fault. kind_field kind bytes.now ≡ Err fault) }
     ensures printable { IfOk result IsPrintableField }

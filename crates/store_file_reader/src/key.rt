@@ -87,7 +87,7 @@ fn key_number(field: &Field<'_>) -> i64
 {
     match field {
         Field::Number(_, number) => *number,
-        Field::Date(_) | Field::Text(_) => 0,
+        Field::Date(_) | Field::Text(_) | Field::Null => 0,
     }
 }
 

@@ -9,7 +9,7 @@ ghost use Rattle.store_file_reader.specs.File.{is_taken};
 use crate::key::{Keys, note_row};
 use base_columns::{ColumnForm, Field, Rows, RowsBuilder};
 use base_decimal::Scale;
-use base_schema::{ColumnKind, DataFile};
+use base_schema::{ColumnKind, DataFile, LineColumn};
 use std::alloc::{AllocError, Global};
 use std::marker::Model;
 
@@ -18,6 +18,7 @@ use std::marker::Model;
 pub struct KeyedRows {
     alloc: Global,
     file: DataFile,
+    columns: Vec<LineColumn>,
     rows: RowsBuilder,
     keys: Keys,
 }
@@ -37,7 +38,8 @@ impl Model for KeyedRows {
         ((file_form r.file).unique ≡ true
         → AreKeys r.keys (map (row_key (file_form r.file)) r.rows.rows))
         × RowsFit (file_form r.file) r.rows.rows
-        × (r.rows.width ≡ length (file_form r.file).columns) };
+        × (r.rows.width ≡ length (file_form r.file).columns)
+        × (r.columns.items ≡ (file_form r.file).columns) };
 }
 
 #[tactic(auto, using(crate::proofs::Rows::keyed))]
@@ -47,21 +49,23 @@ impl KeyedRows {
         ensures form { IfOk result (λ r. r.form ≡ file_form file) }
         ensures rows { IfOk result (λ r. r.rows ≡ []) }
     {
-        let forms = column_forms(alloc, file.kinds())?;
+        let columns = file.columns(alloc)?;
+        let forms = column_forms(alloc, columns.as_slice())?;
         let rows = RowsBuilder::new(alloc, forms.as_slice())?;
         Ok(KeyedRows {
             alloc,
             file,
+            columns,
             rows,
             keys: Keys::Ascending(None),
         })
     }
 
-    /// The file whose rows these are.
-    pub fn file(&self) -> DataFile
-        ensures { file_form result ≡ self.now.form }
+    /// The columns of the file's lines.
+    pub fn columns(&self) -> &[LineColumn]
+        ensures { result.now ≡ self.now.form.columns }
     {
-        self.file
+        self.columns.as_slice()
     }
 
     /// The number, from 1, of the row that comes next.
@@ -79,6 +83,7 @@ impl KeyedRows {
         let KeyedRows {
             alloc,
             file: _,
+            columns: _,
             rows,
             keys: _,
         } = self;
@@ -114,13 +119,13 @@ impl KeyedRows {
     }
 }
 
-// What columns of these kinds are expected to hold.
-fn column_forms(alloc: Global, kinds: &[ColumnKind]) -> Result<Vec<ColumnForm>, AllocError>
-    ensures { IfOk result (λ forms. length forms.items ≡ length kinds.now) }
+// What these columns are expected to hold.
+fn column_forms(alloc: Global, columns: &[LineColumn]) -> Result<Vec<ColumnForm>, AllocError>
+    ensures { IfOk result (λ forms. length forms.items ≡ length columns.now) }
 {
-    let mut forms = Vec::with_capacity(alloc, kinds.len())?;
-    for kind in kinds {
-        forms.push(column_form(*kind))?;
+    let mut forms = Vec::with_capacity(alloc, columns.len())?;
+    for column in columns {
+        forms.push(column_form(column.kind))?;
     }
     Ok(forms)
 }

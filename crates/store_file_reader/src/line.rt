@@ -5,9 +5,8 @@ ghost use Rattle.std.specs.List.{All, before_first, after_first};
 ghost use Rattle.base_columns.specs.Fields.{field_value, IsPrintableField};
 ghost use Rattle.store_file_reader.specs.declared.error.FieldsError.{FieldsError};
 ghost use Rattle.store_file_reader.specs.Error.{Blames};
-ghost use Rattle.base_schema.specs.LineForm.{file_form, fits, never_null};
-ghost use Rattle.store_file_reader.specs.Field.{kind_field};
-ghost use Rattle.store_file_reader.specs.File.{line_row};
+ghost use Rattle.base_schema.specs.Kinds.{can_hold_row};
+ghost use Rattle.store_file_reader.specs.Field.{column_value};
 ghost use Rattle.store_file_reader.specs.Line.{is_bar, has_fields, IsWholeCut, without_end, line_text};
 ghost use Rattle.store_file_reader.specs.Line.{values_of, row_of};
 
@@ -16,7 +15,7 @@ use crate::field::read_field;
 use crate::plain::plain_field;
 use base_columns::Field;
 use base_refusals::LineFault;
-use base_schema::{ColumnKind, DataFile};
+use base_schema::LineColumn;
 use memchr::memchr;
 
 // The bytes of a line without the LF at its end and one CR directly before that.
@@ -37,44 +36,44 @@ fn without_end(text: &[u8], byte: u8) -> &[u8]
     }
 }
 
-/// Puts the fields of the row that a line of a file says in place of those that were there. The
-/// line may have its end.
+/// Puts the fields of the row that a line says in place of those that were there: one for each of
+/// these columns. The line may have its end.
 #[tactic(auto, using(crate::proofs::Rows::held_rows))]
 pub fn put_line<'a>(
     fields: &mut Vec<Field<'a>>,
-    file: DataFile,
+    columns: &[LineColumn],
     line: &'a [u8],
 ) -> Result<(), FieldsError>
     ensures ok { OnOk result
-        (line_row (file_form file) line.now ≡ Ok (map field_value fields.new.items)) }
+        (row_of columns.now (line_text line.now) ≡ Ok (map field_value fields.new.items)) }
     ensures printable { OnOk result (All IsPrintableField fields.new.items) }
-    ensures fits { OnOk result (IsTrue (fits (file_form file) (map field_value fields.new.items))) }
-    ensures err { IfErr result (Blames (line_row (file_form file) line.now)) }
+    ensures held { OnOk result
+        (IsTrue (can_hold_row columns.now (map field_value fields.new.items))) }
+    ensures err { IfErr result (Blames (row_of columns.now (line_text line.now))) }
 {
-    put_row(fields, file.kinds(), line_text(line))?;
+    put_row(fields, columns, line_text(line))?;
     Ok(())
 }
 
-// Puts the fields of a line's row: one for each of the kinds, of columns that hold no null. A good
-// line is read once; only of another its bars are counted, since their number comes before what is
-// wrong with a field.
+// Puts the fields of a line's row. A good line is read once; only of another its bars are counted,
+// since their number comes before what is wrong with a field.
 fn put_row<'a>(
     fields: &mut Vec<Field<'a>>,
-    kinds: &[ColumnKind],
+    columns: &[LineColumn],
     line: &'a [u8],
 ) -> Result<(), FieldsError>
     ensures ok { OnOk result
-        (row_of (map never_null kinds.now) line.now ≡ Ok (map field_value fields.new.items)) }
+        (row_of columns.now line.now ≡ Ok (map field_value fields.new.items)) }
     ensures printable { OnOk result (All IsPrintableField fields.new.items) }
-    ensures err { IfErr result (Blames (row_of (map never_null kinds.now) line.now)) }
+    ensures err { IfErr result (Blames (row_of columns.now line.now)) }
 {
-    if put_good(fields, kinds, line)? {
+    if put_good(fields, columns, line)? {
         return Ok(());
     }
-    if !has_fields(kinds.len(), line) {
+    if !has_fields(columns.len(), line) {
         return Err(FieldsError::Bad(LineFault::FieldCount));
     }
-    put_fields(fields, kinds, line)?;
+    put_fields(fields, columns, line)?;
     Ok(())
 }
 
@@ -83,11 +82,11 @@ fn put_row<'a>(
 #[tactic(auto, using(crate::proofs::BarCuts::good))]
 fn put_good<'a>(
     fields: &mut Vec<Field<'a>>,
-    kinds: &[ColumnKind],
+    columns: &[LineColumn],
     line: &'a [u8],
 ) -> Result<bool, FieldsError>
     ensures row { IfOk result
-        (λ good. good ≡ true → row_of (map never_null kinds.now) line.now
+        (λ good. good ≡ true → row_of columns.now line.now
         ≡ Ok (map field_value fields.new.items)) }
     ensures printable { IfOk result (λ good. good ≡ true → All IsPrintableField fields.new.items) }
     ensures err { IfErr result (λ error. error ≡ FieldsError.OutOfMemory) }
@@ -95,8 +94,8 @@ fn put_good<'a>(
     fields.clear();
     let mut rest = line;
     let mut bars: usize = 0;
-    for kind in kinds {
-        let Some((field, more, found)) = next_field(*kind, rest) else {
+    for column in columns {
+        let Some((field, more, found)) = next_field(*column, rest) else {
             return Ok(false);
         };
         if fields.push(field).is_err() {
@@ -105,21 +104,21 @@ fn put_good<'a>(
         rest = more;
         bars += usize::from(found);
     }
-    Ok(are_whole(kinds.len(), bars, rest))
+    Ok(are_whole(columns.len(), bars, rest))
 }
 
-// The field before the first bar in a column of that kind, the bytes after that bar, and whether
+// The field before the first bar in a column, the bytes after that bar, and whether
 // there is one; none where the field is bad.
 #[tactic(auto, using(crate::proofs::FieldEnds::cuts))]
-fn next_field(kind: ColumnKind, text: &[u8]) -> Option<(Field<'_>, &[u8], bool)>
+fn next_field(column: LineColumn, text: &[u8]) -> Option<(Field<'_>, &[u8], bool)>
     ensures value { IfSome result
-        (λ f. kind_field kind (before_first is_bar text.now) ≡ Ok (field_value f.0)) }
+        (λ f. column_value column (before_first is_bar text.now) ≡ Ok (field_value f.0)) }
     ensures printable { IfSome result (λ f. IsPrintableField f.0) }
     ensures rest { IfSome result (λ f. f.1.now ≡ after_first is_bar text.now) }
     ensures found { IfSome result (λ f. f.2 ≡ is_some (position is_bar text.now)) }
 {
-    let Some((field, end)) = plain_field(kind, text) else {
-        return other_field(kind, text);
+    let Some((field, end)) = plain_field(column.kind, text) else {
+        return other_field(column, text);
     };
     if end < text.len() {
         Some((field, &text[end + 1..], true))
@@ -129,21 +128,21 @@ fn next_field(kind: ColumnKind, text: &[u8]) -> Option<(Field<'_>, &[u8], bool)>
 }
 
 // The same of a field in whatever spelling.
-fn other_field(kind: ColumnKind, text: &[u8]) -> Option<(Field<'_>, &[u8], bool)>
+fn other_field(column: LineColumn, text: &[u8]) -> Option<(Field<'_>, &[u8], bool)>
     ensures value { IfSome result
-        (λ f. kind_field kind (before_first is_bar text.now) ≡ Ok (field_value f.0)) }
+        (λ f. column_value column (before_first is_bar text.now) ≡ Ok (field_value f.0)) }
     ensures printable { IfSome result (λ f. IsPrintableField f.0) }
     ensures rest { IfSome result (λ f. f.1.now ≡ after_first is_bar text.now) }
     ensures found { IfSome result (λ f. f.2 ≡ is_some (position is_bar text.now)) }
 {
     let (bytes, more, found) = cut_at_bar(text);
-    match read_field(kind, bytes) {
+    match read_field(column, bytes) {
         Ok(field) => Some((field, more, found)),
         Err(_) => None,
     }
 }
 
-// Whether `bars` bars part `base_columns` fields, before this rest.
+// Whether `bars` bars part `columns` fields, before this rest.
 fn are_whole(columns: usize, bars: usize, rest: &[u8]) -> bool
     requires { bars ≤ columns }
     ensures { result ≡ true → IsWholeCut columns bars rest.now }
@@ -163,23 +162,23 @@ fn has_fields(columns: usize, line: &[u8]) -> bool
     bars + 1 == columns || bars == columns && line.ends_with(b"|")
 }
 
-// Puts what the bytes between bars say in columns of these kinds.
+// Puts what the bytes between bars say in these columns.
 #[tactic(auto, using(crate::proofs::Cuts::fields))]
 fn put_fields<'a>(
     fields: &mut Vec<Field<'a>>,
-    kinds: &[ColumnKind],
+    columns: &[LineColumn],
     line: &'a [u8],
 ) -> Result<(), FieldsError>
     ensures ok { OnOk result
-        (values_of (map never_null kinds.now) line.now ≡ Ok (map field_value fields.new.items)) }
+        (values_of columns.now line.now ≡ Ok (map field_value fields.new.items)) }
     ensures printable { OnOk result (All IsPrintableField fields.new.items) }
-    ensures err { IfErr result (Blames (values_of (map never_null kinds.now) line.now)) }
+    ensures err { IfErr result (Blames (values_of columns.now line.now)) }
 {
     fields.clear();
     let mut rest = line;
-    for kind in kinds {
+    for column in columns {
         let (bytes, more, _) = cut_at_bar(rest);
-        match read_field(*kind, bytes) {
+        match read_field(*column, bytes) {
             Ok(field) => {
                 if fields.push(field).is_err() {
                     return Err(FieldsError::OutOfMemory);

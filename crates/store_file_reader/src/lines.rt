@@ -127,7 +127,7 @@ impl Lines {
         if size > self.room() {
             return Err(TableError::Refused(self.refusal(LineFault::FileTooLong)));
         }
-        match put_line(fields, self.keyed.file(), line) {
+        match put_line(fields, self.keyed.columns(), line) {
             Ok(()) => (),
             Err(FieldsError::Bad(fault)) => return Err(TableError::Refused(self.refusal(fault))),
             Err(FieldsError::OutOfMemory) => return Err(TableError::OutOfMemory),

@@ -1,6 +1,6 @@
 //! Fields in their usual spelling, which are cut and read in one pass.
-ghost use Rattle.std.specs.Prelude.{◌≡◌, ◌^◌, ◌<◌, ◌≤◌, IfSome, Some, true, length, take};
-ghost use Rattle.std.specs.Prelude.{slice_index};
+ghost use Rattle.std.specs.Prelude.{◌≡◌, ◌^◌, ◌<◌, ◌≤◌, IfSome, Some, false, true, length};
+ghost use Rattle.std.specs.Prelude.{slice_index, take};
 ghost use Rattle.std.specs.List.{position_or_len};
 ghost use Rattle.std.specs.Str.{all_ascii_digits};
 ghost use Rattle.std.specs.Str.Parse.{digits_value_after};
@@ -8,10 +8,11 @@ ghost use Rattle.base_text.specs.Printable.{AllPrintable};
 ghost use Rattle.base_date.specs.Date.{date_of};
 ghost use Rattle.base_columns.specs.Fields.{field_value, IsPrintableField};
 ghost use Rattle.base_decimal.specs.Written.{decimal_read};
-ghost use Rattle.store_file_reader.specs.Field.{kind_field};
+ghost use Rattle.store_file_reader.specs.Field.{kind_field, spells_null};
 ghost use Rattle.store_file_reader.specs.Line.{is_bar};
 ghost use Rattle.store_file_reader.specs.Natural.{IsNatural};
 
+use crate::field::spells_null;
 use base_columns::Field;
 use base_date::CivilDate;
 use base_decimal::Scale;
@@ -19,11 +20,13 @@ use base_schema::ColumnKind;
 
 /// What the bytes before the first bar say in a column of that kind, and where they end, where they
 /// are spelled as usual: digits that 63 bits hold, for a decimal with a point before the last two;
-/// a date; a text. Other spellings, and bad fields, are for [`crate::field::read_field`].
-#[tactic(auto, using(crate::proofs::PlainNumbers::held, crate::proofs::FieldEnds::holds))]
+/// a date; a text that doesn't spell null. Other spellings, and bad fields, are for
+/// [`crate::field::read_field`].
+#[tactic(auto, using(crate::proofs::PlainNumbers::held, crate::proofs::FieldEnds::holds, crate::proofs::Nulls::others))]
 pub fn plain_field(kind: ColumnKind, text: &[u8]) -> Option<(Field<'_>, usize)>
     ensures value { IfSome result
         (λ f. kind_field kind (take f.1 text.now) ≡ Ok (field_value f.0)) }
+    ensures other { IfSome result (λ f. spells_null (take f.1 text.now) ≡ false) }
     ensures end { IfSome result (λ f. position_or_len is_bar text.now ≡ f.1) }
     ensures inside { IfSome result (λ f. f.1 ≤ length text.now) }
     ensures printable { IfSome result (λ f. IsPrintableField f.0) }
@@ -43,10 +46,11 @@ pub fn plain_field(kind: ColumnKind, text: &[u8]) -> Option<(Field<'_>, usize)>
         }
         ColumnKind::Text(most) => {
             let end = plain_text(text)?;
-            if end > most as usize {
+            let field = &text[..end];
+            if end > most as usize || spells_null(field) {
                 return None;
             }
-            Some((Field::Text(&text[..end]), end))
+            Some((Field::Text(field), end))
         }
     }
 }

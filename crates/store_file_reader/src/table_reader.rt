@@ -2,7 +2,8 @@
 ghost use Rattle.std.specs.Prelude.{◌≡◌, ℕ, List, [], Some, IfOk, MatchResult};
 ghost use Rattle.base_schema.specs.declared.table.TableName.{TableName};
 ghost use Rattle.base_schema.specs.Kinds.{RowsAreOf};
-ghost use Rattle.base_schema.specs.LineForm.{RowsFit, columns_of, table_form};
+ghost use Rattle.base_schema.specs.LineForm.{RowsFit, table_form};
+ghost use Rattle.base_schema.specs.Tables.{columns_of};
 ghost use Rattle.store_file_reader.specs.declared.error.TableError.{TableError};
 ghost use Rattle.store_file_reader.specs.Error.{IsErrorOf};
 ghost use Rattle.store_file_reader.specs.File.{most_bytes};

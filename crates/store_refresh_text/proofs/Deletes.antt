@@ -38,16 +38,16 @@ key_is c e = rw e refl
 -- a row is its key, which is read back
 record KeyRow (row : List Value) : Type 0 where
   is : row ≡ value.Number 0 (order_key row) ∷ []
-  again : Again Key (value.Number 0 (order_key row))
+  again : Again (never_null Key) (value.Number 0 (order_key row))
 
-key_row : (row : List Value) → AreAgain (Key ∷ []) row → KeyRow row
+key_row : (row : List Value) → AreAgain (never_null Key ∷ []) row → KeyRow row
 key_row [] a = absurd a
 key_row (v ∷ []) a =
     let n = number Key 0 (decimal_read (field_written v) 0) v a.0.said in
     let narrow : is_narrow n.c ≡ true = (and_parts (not (int_lt n.c (pos 0))) (is_narrow n.c) n.holds).1 in
     let key : order_key (v ∷ []) ≡ n.c = ap (λ (x : Value). order_key (x ∷ [])) (sym n.is) ∙ key_is n.c (small n.c narrow) in
     let whole : v ≡ value.Number 0 (order_key (v ∷ [])) = sym n.is ∙ ap (λ (k : ℤ). value.Number 0 k) (sym key) in
-    record { is = ap (λ (x : Value). x ∷ []) whole; again = subst (λ x. Again Key x) whole a.0 }
+    record { is = ap (λ (x : Value). x ∷ []) whole; again = subst (λ x. Again (never_null Key) x) whole a.0 }
 key_row (v ∷ w ∷ row) a = absurd a.1
 
 -- a key's line
@@ -70,28 +70,28 @@ line_said row k =
     })
     ∙ ap Ok (sym k.is)
 
-lines_said : (rows : List (List Value)) → All (AreAgain (Key ∷ [])) rows → map (line_row form) (map key_line (order_keys rows)) ≡ map Ok rows
+lines_said : (rows : List (List Value)) → All (AreAgain (never_null Key ∷ [])) rows → map (line_row form) (map key_line (order_keys rows)) ≡ map Ok rows
 lines_said [] a = refl
 lines_said (row ∷ rows) a =
-    let here = line_said row (key_row row (All-head (AreAgain (Key ∷ [])) row rows a)) in
-    let others = lines_said rows (All-tail (AreAgain (Key ∷ [])) row rows a) in
+    let here = line_said row (key_row row (All-head (AreAgain (never_null Key ∷ [])) row rows a)) in
+    let others = lines_said rows (All-tail (AreAgain (never_null Key ∷ [])) row rows a) in
     λ i. here i ∷ others i
 
-cut_keys : (rows : List (List Value)) → All (AreAgain (Key ∷ [])) rows → cut_lines (keys_text (order_keys rows)) ≡ map key_line (order_keys rows)
+cut_keys : (rows : List (List Value)) → All (AreAgain (never_null Key ∷ [])) rows → cut_lines (keys_text (order_keys rows)) ≡ map key_line (order_keys rows)
 cut_keys [] a = refl
 cut_keys (row ∷ rows) a =
-    let k = key_row row (All-head (AreAgain (Key ∷ [])) row rows a) in
+    let k = key_row row (All-head (AreAgain (never_null Key ∷ [])) row rows a) in
     let f = decimal_written (order_key row) 0 in
     ap cut_lines (append_assoc f (10 ∷ []) (keys_text (order_keys rows)))
     ∙ cut_lines-ended f (keys_text (order_keys rows)) (unended f k.again.clean)
-    ∙ ap (λ (l : List (List ℕ)). key_line (order_key row) ∷ l) (cut_keys rows (All-tail (AreAgain (Key ∷ [])) row rows a))
+    ∙ ap (λ (l : List (List ℕ)). key_line (order_key row) ∷ l) (cut_keys rows (All-tail (AreAgain (never_null Key ∷ [])) row rows a))
 
 -- what a delete file gives is read back from the keys' own text
 pub keys_read : (limit : ℕ) (text : List ℕ) (rows : List (List Value)) → file_rows form limit text ≡ Ok rows
     → file_rows form (length (keys_text (order_keys rows))) (keys_text (order_keys rows)) ≡ Ok rows
 keys_read limit text rows e =
     let are : AreRowsOf form limit (cut_lines text) rows = (rows_are_those form limit text rows).0 e in
-    let each = rows_again form Key [] refl (cut_lines text) rows are.fields in
+    let each = rows_again form (never_null Key) [] refl (cut_lines text) rows are.fields in
     let own = keys_text (order_keys rows) in
     (rows_are_those form (length own) own rows).1 (record {
       fields = ap (λ ls. map (line_row form) ls) (cut_keys rows each) ∙ lines_said rows each;

@@ -15,22 +15,28 @@ use Rattle.base_decimal.specs.declared.read.Spelling.{Spelling}
 use Rattle.base_decimal.specs.declared.read.Spelling.TheVariants.{NotANumber, TooWide}
 use Rattle.base_decimal.proofs.RoundTrip.{reads_back}
 use Rattle.base_refusals.specs.declared.line.LineFault.{LineFault}
-use Rattle.base_refusals.specs.declared.line.LineFault.TheVariants.{NumberTooWide, TextTooLong}
+use Rattle.base_refusals.specs.declared.line.LineFault.TheVariants.{BadNumber, NumberTooWide, BadDate, TextTooLong}
 use Rattle.base_value.specs.declared.value.Value.{Value}
 use Rattle.base_value.specs.declared.value.Value.TheVariants as value
 use Rattle.base_schema.specs.declared.column.ColumnKind.{ColumnKind}
 use Rattle.base_schema.specs.declared.column.ColumnKind.TheVariants.{Key, Whole, Decimal, Date, Text}
 use Rattle.base_schema.specs.Kinds.{is_of_kind, is_narrow}
-use Rattle.base_schema.specs.LineForm.{never_null}
-use Rattle.store_file_reader.specs.Field.{column_value, date_field, number_field, printable_field}
+use Rattle.base_schema.specs.declared.column.LineColumn.{LineColumn}
+use Rattle.store_file_reader.specs.Field.{kind_field, spells_null, column_value, date_field, number_field, printable_field}
 use Rattle.store_file_reader.specs.Line.{is_bar}
+use Rattle.store_file_reader.proofs.Nulls.{not_null, value_of_other}
 use Rattle.store_refresh_text.specs.Text.{date_written, field_written}
 use Rattle.store_refresh_text.proofs.Clean.{is_clean, clean_append, last_digits_clean, number_clean, text_clean}
 
--- the value's field says it in a column of that kind, and no cut meets the field
-pub record Again (kind : ColumnKind) (v : Value) : Type 0 where
-  pub said : column_value (never_null kind) (field_written v) ≡ Ok v
+-- the value's field says it in a column, and no cut meets the field
+pub record Again (column : LineColumn) (v : Value) : Type 0 where
+  pub said : column_value column (field_written v) ≡ Ok v
   pub clean : list_all is_clean (field_written v) ≡ true
+
+-- the same of a column of that kind that is never null
+record OfKind (kind : ColumnKind) (v : Value) : Type 0 where
+  said : kind_field kind (field_written v) ≡ Ok v
+  clean : list_all is_clean (field_written v) ≡ true
 
 -- an answer that is one only if a test holds
 held : (b : Bool) (x v : Value) (fault : LineFault) → ◌≡◌ {A = Result Value LineFault} (cond b (Ok x) (Err fault)) (Ok v) → (b ≡ true) × (x ≡ v)
@@ -64,17 +70,17 @@ number_said kind scale c le narrow holds =
 short_clean : (c : ℤ) (scale : ℕ) → is_narrow c ≡ true → list_all is_clean (decimal_written c scale) ≡ true
 short_clean c scale e = let less : unsigned_abs c < 2 ^ 63 = ltb-true (unsigned_abs c) (2 ^ 63) e in number_clean c scale (omega arith)
 
-key_again : (c : ℤ) → is_of_kind Key (value.Number 0 c) ≡ true → Again Key (value.Number 0 c)
+key_again : (c : ℤ) → is_of_kind Key (value.Number 0 c) ≡ true → OfKind Key (value.Number 0 c)
 key_again c e =
     let narrow : is_narrow c ≡ true = (and_parts (not (int_lt c (pos 0))) (is_narrow c) e).1 in
     record { said = number_said Key 0 c (omega arith) narrow e; clean = short_clean c 0 narrow }
 
-whole_again : (c : ℤ) → is_of_kind Whole (value.Number 0 c) ≡ true → Again Whole (value.Number 0 c)
+whole_again : (c : ℤ) → is_of_kind Whole (value.Number 0 c) ≡ true → OfKind Whole (value.Number 0 c)
 whole_again c e =
     let narrow : is_narrow c ≡ true = e in
     record { said = number_said Whole 0 c (omega arith) narrow e; clean = short_clean c 0 narrow }
 
-decimal_again : (c : ℤ) → is_of_kind Decimal (value.Number 2 c) ≡ true → Again Decimal (value.Number 2 c)
+decimal_again : (c : ℤ) → is_of_kind Decimal (value.Number 2 c) ≡ true → OfKind Decimal (value.Number 2 c)
 decimal_again c e =
     let narrow : is_narrow c ≡ true = e in
     record { said = number_said Decimal 2 c (omega arith) narrow e; clean = short_clean c 2 narrow }
@@ -147,37 +153,37 @@ date_clean date =
     clean_append (last_digits 4 (date / 10000)) (45 ∷ (last_digits 2 (date / 100 % 100) ++ 45 ∷ last_digits 2 (date % 100))) (last_digits_clean 4 (date / 10000))
     (clean_append (last_digits 2 (date / 100 % 100)) (45 ∷ last_digits 2 (date % 100)) (last_digits_clean 2 (date / 100 % 100)) (last_digits_clean 2 (date % 100)))
 
-date_again : (r : Option ℕ) (v : Value) → ((date : ℕ) → r ≡ Some date → Day date) → date_field r ≡ Ok v → Again Date v
+date_again : (r : Option ℕ) (v : Value) → ((date : ℕ) → r ≡ Some date → Day date) → date_field r ≡ Ok v → OfKind Date v
 date_again (Some date) v day e =
     let is : value.Date date ≡ v = cc in
-    let again : Again Date (value.Date date) = record { said = ap date_field (date_read date (day date refl)); clean = date_clean date } in
-    subst (λ x. Again Date x) is again
+    let again : OfKind Date (value.Date date) = record { said = ap date_field (date_read date (day date refl)); clean = date_clean date } in
+    subst (λ x. OfKind Date x) is again
 date_again None v day e = cc
 
 -- texts
 
 text_again : (most : ℕ) (text : List ℕ) (place : Option ℕ) (v : Value) → first_unprintable text ≡ place → list_any is_bar text ≡ false
-    → printable_field (Text most) text place ≡ Ok v → Again (Text most) v
+    → printable_field (Text most) text place ≡ Ok v → OfKind (Text most) v
 text_again most text (Some at) v is bar e = cc
 text_again most text None v is bar e =
     let h = held (is_of_kind (Text most) (value.Text text)) (value.Text text) v TextTooLong e in
-    let again : Again (Text most) (value.Text text) = record {
+    let again : OfKind (Text most) (value.Text text) = record {
       said = ap (printable_field (Text most) text) is ∙ rw h.0 refl;
       clean = text_clean text is bar;
     } in
-    subst (λ x. Again (Text most) x) h.1 again
+    subst (λ x. OfKind (Text most) x) h.1 again
 
 -- each kind
-pub again : (kind : ColumnKind) (field : List ℕ) (v : Value) → list_any is_bar field ≡ false → column_value (never_null kind) field ≡ Ok v → Again kind v
+again : (kind : ColumnKind) (field : List ℕ) (v : Value) → list_any is_bar field ≡ false → kind_field kind field ≡ Ok v → OfKind kind v
 again Key field v bar e =
     let n = number Key 0 (decimal_read field 0) v e in
-    subst (λ x. Again Key x) n.is (key_again n.c n.holds)
+    subst (λ x. OfKind Key x) n.is (key_again n.c n.holds)
 again Whole field v bar e =
     let n = number Whole 0 (decimal_read field 0) v e in
-    subst (λ x. Again Whole x) n.is (whole_again n.c n.holds)
+    subst (λ x. OfKind Whole x) n.is (whole_again n.c n.holds)
 again Decimal field v bar e =
     let n = number Decimal 2 (decimal_read field 2) v e in
-    subst (λ x. Again Decimal x) n.is (decimal_again n.c n.holds)
+    subst (λ x. OfKind Decimal x) n.is (decimal_again n.c n.holds)
 again Date field v bar e =
     let year = number_of (slice_range field 0 4) in
     let month = number_of (slice_range field 5 7) in
@@ -185,3 +191,47 @@ again Date field v bar e =
     let test = (length field == 10) && (slice_index field 4 == 45) && (slice_index field 7 == 45) in
     date_again (date_of field) v (λ date is. day_parts year month day date (some_held test (day_of year month day) date is)) e
 again (Text most) field v bar e = text_again most field (first_unprintable field) v refl bar e
+
+-- nulls
+
+no_value : (fault : LineFault) (v : Value) → ◌≡◌ {A = Result Value LineFault} (Err fault) (Ok v) → ⊥
+no_value fault v e = cc
+
+same_text : (most : ℕ) (text : List ℕ) (place : Option ℕ) (v : Value) → printable_field (Text most) text place ≡ Ok v → field_written v ≡ text
+same_text most text (Some at) v e = cc
+same_text most text None v e =
+    let h = held (is_of_kind (Text most) (value.Text text)) (value.Text text) v TextTooLong e in
+    ap field_written (sym h.1)
+
+-- the field of a value that was not spelled as null doesn't spell null
+other : (kind : ColumnKind) (field : List ℕ) (v : Value) → spells_null field ≡ false → kind_field kind field ≡ Ok v → kind_field kind (field_written v) ≡ Ok v
+    → spells_null (field_written v) ≡ false
+other Key field v none e said = not_null (field_written v) (spells_null (field_written v)) refl (λ is. no_value BadNumber v (ap (kind_field Key) (sym is) ∙ said))
+other Whole field v none e said = not_null (field_written v) (spells_null (field_written v)) refl (λ is. no_value BadNumber v (ap (kind_field Whole) (sym is) ∙ said))
+other Decimal field v none e said = not_null (field_written v) (spells_null (field_written v)) refl (λ is. no_value BadNumber v (ap (kind_field Decimal) (sym is) ∙ said))
+other Date field v none e said = not_null (field_written v) (spells_null (field_written v)) refl (λ is. no_value BadDate v (ap (kind_field Date) (sym is) ∙ said))
+other (Text most) field v none e said = ap spells_null (same_text most field (first_unprintable field) v e) ∙ none
+
+-- a column of that kind, which may be null or not
+abbrev column : Bool → ColumnKind → LineColumn
+column nullable kind = record { kind = kind; nullable = nullable }
+
+nulls_again : (kind : ColumnKind) → Again (column true kind) value.Null
+nulls_again kind = record { said = refl; clean = refl }
+
+by_null : (nullable null : Bool) (kind : ColumnKind) (field : List ℕ) (v : Value) → spells_null field ≡ null → list_any is_bar field ≡ false
+    → cond (nullable && null) (Ok value.Null) (kind_field kind field) ≡ Ok v → Again (column nullable kind) v
+by_null true true kind field v spelled bar e =
+    let is : value.Null ≡ v = cc in
+    subst (λ x. Again (column true kind) x) is (nulls_again kind)
+by_null true false kind field v spelled bar e =
+    let a = again kind field v bar e in
+    let none : spells_null (field_written v) ≡ false = other kind field v spelled e a.said in
+    record { said = value_of_other (column true kind) (field_written v) (Ok v) none a.said; clean = a.clean }
+by_null false null kind field v spelled bar e =
+    let a = again kind field v bar e in
+    record { said = a.said; clean = a.clean }
+
+-- each column
+pub column_again : (c : LineColumn) (field : List ℕ) (v : Value) → list_any is_bar field ≡ false → column_value c field ≡ Ok v → Again c v
+column_again c field v bar e = by_null c.nullable (spells_null field) c.kind field v refl bar e

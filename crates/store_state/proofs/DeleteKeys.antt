@@ -9,8 +9,8 @@ use Rattle.std.proofs.lemmas.List.Elements.{All-map, All-weaker}
 use Rattle.base_refusals.specs.declared.refresh.RefreshFile.TheVariants.{Delete}
 use Rattle.base_value.specs.declared.value.Value.{Value}
 use Rattle.base_value.specs.declared.value.Value.TheVariants as value
-use Rattle.base_schema.specs.Kinds.{is_narrow}
-use Rattle.base_schema.specs.LineForm.{RowsFit, can_hold, fits, refresh_form}
+use Rattle.base_schema.specs.Kinds.{is_narrow, can_hold}
+use Rattle.base_schema.specs.LineForm.{RowsFit, fits, refresh_form}
 use Rattle.store_state.specs.Keys.{order_key, order_keys}
 use Rattle.store_state.specs.Refresh.{IsOrderKey}
 

@@ -1,10 +1,11 @@
 -- Rows that are found to be the same.
-use Rattle.std.proofs.Common.{◌≡◌, ℕ, suc, ◌<◌, List, [], ◌∷◌, length, refl, sym, ap, ◌∙◌, arith}
+use Rattle.std.proofs.Common.{◌≡◌, ℕ, suc, ◌<◌, List, [], ◌∷◌, length, true, refl, sym, ap, ◌∙◌, arith}
 use Rattle.std.specs.Prelude.{slice_index_or}
 use Rattle.std.specs.List.{All}
 use Rattle.base_value.specs.declared.value.Value.{Value}
-use Rattle.base_value.specs.declared.value.Value.TheVariants.{Null}
+use Rattle.base_value.specs.declared.value.Value.TheVariants.{Null, Number, Text, Date, Fault}
 use Rattle.base_columns.specs.Batches.{column_at}
+use Rattle.base_columns.specs.Forms.{is_null}
 use Rattle.base_columns.specs.Tables.{standing_rows}
 
 head_same : {A : Type 0} (x y : A) (xs ys : List A) → (x ∷ xs) ≡ (y ∷ ys) → x ≡ y
@@ -38,3 +39,17 @@ same_columns width (x ∷ xs) (y ∷ ys) wide broad e same =
     let rest : xs ≡ ys = same_columns width xs ys (λ k other less. wide (suc k) other (omega (arith, less)))
     (λ k other less. broad (suc k) other (omega (arith, less))) (omega (arith, e)) (λ j less. tail_same _ _ _ _ (same j less)) in
     ap (λ z. z ∷ xs) first ∙ ap (λ l. y ∷ l) rest
+
+-- two nulls
+pub both_null : (v w : Value) → is_null v ≡ true → is_null w ≡ true → v ≡ w
+both_null Null Null e f = refl
+both_null Null (Number s c) e f = cc
+both_null Null (Text t) e f = cc
+both_null Null (Date d) e f = cc
+both_null Null (Fault k) e f = cc
+both_null (Number s c) w e f = cc
+both_null (Text t) w e f = cc
+both_null (Date d) w e f = cc
+both_null (Fault k) w e f = cc
+
+pub ruleset nulls = (both_null)

@@ -13,13 +13,13 @@ pub(crate) fn are_same_numbers(numbers: &[i64], others: &[i64]) -> bool
     numbers == others
 }
 
-/// Whether two columns are found to be the same numbers of one scale.
+/// Whether two columns are found to be the same numbers of one scale, and null at the same places.
 fn have_same_numbers(first: &Column, second: &Column) -> bool
     ensures { IsTrue result → first.now ≡ second.now }
 {
-    match (first.as_numbers(), second.as_numbers()) {
-        (Some((scale, numbers)), Some((other, others))) => {
-            scale == other && are_same_numbers(numbers, others)
+    match (first.marked_numbers(), second.marked_numbers()) {
+        (Some((scale, numbers, nulls)), Some((other, others, marks))) => {
+            scale == other && are_same_numbers(numbers, others) && nulls.is_same(marks)
         }
         _ => false,
     }
@@ -32,17 +32,20 @@ fn are_same_dates(dates: &[CivilDate], others: &[CivilDate]) -> bool
     dates == others
 }
 
-/// Whether two columns are found to be the same dates.
+/// Whether two columns are found to be the same dates, and null at the same places.
 fn have_same_dates(first: &Column, second: &Column) -> bool
     ensures { IsTrue result → first.now ≡ second.now }
 {
-    match (first.as_dates(), second.as_dates()) {
-        (Some(dates), Some(others)) => are_same_dates(dates, others),
+    match (first.marked_dates(), second.marked_dates()) {
+        (Some((dates, nulls)), Some((others, marks))) => {
+            are_same_dates(dates, others) && nulls.is_same(marks)
+        }
         _ => false,
     }
 }
 
-/// Whether two columns are found to have the same text at a place.
+/// Whether two columns are found to have the same text at a place, or null.
+#[tactic(auto, using(crate::proofs::SameRows::nulls))]
 fn is_same_text(first: &Column, second: &Column, i: usize) -> bool
     requires first { i < length first.now }
     requires second { i < length second.now }
@@ -51,11 +54,12 @@ fn is_same_text(first: &Column, second: &Column, i: usize) -> bool
 {
     match (first.text(i), second.text(i)) {
         (Some(text), Some(other)) => text == other,
+        (None, None) => first.is_null(i) && second.is_null(i),
         _ => false,
     }
 }
 
-/// Whether two columns are found to be the same texts.
+/// Whether two columns are found to be the same texts and nulls.
 fn have_same_texts(first: &Column, second: &Column) -> bool
     ensures { IsTrue result → first.now ≡ second.now }
 {

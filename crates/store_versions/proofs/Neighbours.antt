@@ -1,16 +1,15 @@
 -- Segments that are joined to their neighbours.
 use Rattle.std.proofs.Common.{◌≡◌, ℕ, zero, suc, ◌+◌, ◌-◌, ◌<◌, ◌≤◌, List, [], ◌∷◌, ◌++◌, length}
 use Rattle.std.proofs.Common.{take, get_or, refl, sym, ap, ◌∙◌, subst, arith}
-use Rattle.std.proofs.Common.{length-append, map, true, Bool}
-use Rattle.std.specs.Cmp.Lexicographic.{pointwise}
+use Rattle.std.proofs.Common.{length-append, map, Bool}
 use Rattle.std.specs.List.{All}
 use Rattle.std.proofs.lemmas.List.{append-nil, get_or-append_right, get_or_append_left, length-map}
 use Rattle.std.proofs.lemmas.List.{map-append, nil_from_length, take_more}
-use Rattle.std.proofs.lemmas.Bool.{and_parts}
 use Rattle.std.proofs.lemmas.List.Elements.{All-map, All-push}
 use Rattle.base_row_laws.specs.Ranked.{Ranked, ranked, Relation, true_rank}
 use Rattle.base_value.specs.declared.value.Value.{Value}
-use Rattle.base_schema.specs.Kinds.{RowsAreOf, is_of_kind}
+use Rattle.base_schema.specs.Kinds.{RowsAreOf}
+use Rattle.base_schema.proofs.Columns.{row_long}
 use Rattle.base_schema.specs.State.{State, table_rows}
 use Rattle.base_schema.specs.Tables.{all_tables, kinds_of}
 use Rattle.base_schema.specs.declared.table.TableName.TheVariants.{Region, Nation, Part, Supplier}
@@ -140,17 +139,10 @@ All-part P (ys ∷ xss) zero xs less is all =
 All-part P (ys ∷ xss) (suc k) xs less is all =
     All-part P xss k xs (omega (arith, less)) is (All-back P ys (one_list xss) all)
 
-as-long : {A B : Type 0} (test : A → B → Bool) (xs : List A) (ys : List B)
-    → pointwise test xs ys ≡ true → length ys ≡ length xs
-as-long test [] [] h = refl
-as-long test [] (y ∷ ys) h = cc
-as-long test (x ∷ xs) [] h = cc
-as-long test (x ∷ xs) (y ∷ ys) h = ap suc (as-long test xs ys ((and_parts (test x y) (pointwise test xs ys) h).1))
-
 -- a table's rows are as wide as the table
 pub kinds-wide : (table : TableName) (rows : List (List Value)) → RowsAreOf table rows
     → All (λ row. length row ≡ length (kinds_of table)) rows
-kinds-wide table rows kinds k d less = as-long is_of_kind (kinds_of table) (get_or rows k d) (kinds k d less)
+kinds-wide table rows kinds k d less = row_long table (get_or rows k d) (kinds k d less)
 
 -- there is room already
 pub has-room : (count : ℕ) (full : List (List (List Value))) (rest : Relation Value)

@@ -1,4 +1,4 @@
-use Rattle.base_decimal.proofs.Sums.{sums_of-append, sums_of-put, total_is}
+use Rattle.base_decimal.proofs.Sums.{sums_of-append, sums_of-put, remove_is, total_is}
 use Rattle.base_decimal.proofs.laws.tally_of_terms.Goals as goal
 
 pub returns-clause-put : goal.returns-clause-put
@@ -9,3 +9,6 @@ returns-clause-merge c = sums_of-append
 
 pub returns-clause-total : goal.returns-clause-total
 returns-clause-total c = total_is
+
+pub returns-clause-remove : goal.returns-clause-remove
+returns-clause-remove c = remove_is

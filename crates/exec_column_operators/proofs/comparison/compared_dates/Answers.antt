@@ -1,9 +1,12 @@
-use Rattle.std.proofs.Common.{◌∙◌}
+use Rattle.std.proofs.Common.{◌∙◌, map}
+use Rattle.base_value.specs.declared.value.Value.TheVariants.{Date}
 use Rattle.exec_column_operators.proofs.Zips.{dates_zip}
+use Rattle.exec_column_operators.proofs.MarkedZips.{compared_marks}
 use Rattle.exec_column_operators.proofs.comparison.compared_dates.Goals as goal
 
 pub returns : goal.returns
 returns c =
-    let e = rw c.in-Some.is at c.as_dates.ensures in
-    let g = rw c.in-Some-as_dates.is at c.as_dates-2.ensures in
-    rw (e, g) (c.in_ok-truths.ensures ∙ dates_zip c.args.comparison c.in-Some.xs.now c.in-Some-as_dates.ys.now)
+    let a = c.in-Some in
+    let b = c.in-Some-marked_dates in
+    compared_marks c.args.comparison a.ms.now b.ns.now (map Date a.xs.now) (map Date b.ys.now) c.args.a.now c.args.b.now c.in_ok-truths.truths.items c.unknown_at.result.items
+    a.ensures b.ensures c.requires (c.in_ok-truths.ensures ∙ dates_zip c.args.comparison a.xs.now b.ys.now) c.unknown_at.ensures

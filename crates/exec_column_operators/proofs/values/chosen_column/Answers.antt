@@ -1,4 +1,4 @@
-use Rattle.std.proofs.Common.{arith, ◌<◌, length}
+use Rattle.std.proofs.Common.{arith, ◌<◌, ◌∙◌, ap, length}
 use Rattle.base_value.specs.declared.truth.Truth.TheVariants.{False}
 use Rattle.base_value.specs.declared.value.Value.TheVariants.{Null}
 use Rattle.exec_column_operators.specs.Choices.{choice}
@@ -10,5 +10,5 @@ loop-i-preserved c =
     let h : c.loop-i.i < length c.args.truths.now = omega arith in
     let l : c.loop-i.i < length c.args.gives.now = omega arith in
     let m : c.loop-i.i < length c.args.rest.now = omega arith in
-    three_push choice c.args.truths.now c.args.gives.now c.args.rest.now c.loop-i.i False Null Null c.loop-i.values.items c.push.new.self.items c.choice.result
-    h l m c.loop-i.invariant (rw (← c.in_ok-given.ensures, ← c.in_ok-other.ensures) c.choice.ensures) c.in_ok-push.ensures.items
+    three_push choice c.args.truths.now c.args.gives.now c.args.rest.now c.loop-i.i False Null Null c.loop-i.column c.push.new.self c.choice.result
+    h l m c.loop-i.invariant (rw (← c.in_ok-given.ensures, ← c.in_ok-other.ensures) c.choice.ensures) c.in_ok-push.ensures.ok

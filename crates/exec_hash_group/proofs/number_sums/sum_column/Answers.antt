@@ -1,6 +1,7 @@
 use Rattle.std.proofs.Common.{ℕ, List, ◌++◌, ◌∷◌, [], map, get_or, arith, ap, ◌∙◌}
 use Rattle.std.proofs.lemmas.List.{get_or_default}
-use Rattle.base_value.specs.declared.value.Value.TheVariants.{Number}
+use Rattle.base_null_marks.specs.Marks.{marked}
+use Rattle.base_value.specs.declared.value.Value.TheVariants.{Null, Number}
 use Rattle.base_row_laws.specs.Aggregates.{sum_of}
 use Rattle.expr_aggregates.specs.Values.{reading}
 use Rattle.exec_hash_group.specs.ByNumber.{values_by_number}
@@ -15,7 +16,7 @@ sum_value-requires-clause-above c =
     let are = c.in_ok-terms.ensures in
     let n = are.above_long in
     let read = c.index-in-loop-number.ensures ∙ get_or_default ups number _ 0 (omega (arith, n)) in
-    let fit = sums_fit c.args.numbers.now (map (Number c.args.own) c.args.coefficients.now) c.args.count number c.in_ok-terms.field-0.terms.items ups c.in_ok-terms.field-0.downs.items are c.requires.small (omega arith) in
+    let fit = sums_fit c.args.numbers.now (marked Null c.args.marks.now (map (Number c.args.own) c.args.coefficients.now)) c.args.count number c.in_ok-terms.field-0.terms.items ups c.in_ok-terms.field-0.downs.items are c.requires.small (omega arith) in
     omega (arith, read, fit.0)
 
 pub sum_value-requires-clause-below : goal.sum_value-requires-clause-below
@@ -25,7 +26,7 @@ sum_value-requires-clause-below c =
     let are = c.in_ok-terms.ensures in
     let n = are.below_long in
     let read = c.index-in-loop-number-2.ensures ∙ get_or_default downs number _ 0 (omega (arith, n)) in
-    let fit = sums_fit c.args.numbers.now (map (Number c.args.own) c.args.coefficients.now) c.args.count number c.in_ok-terms.field-0.terms.items c.in_ok-terms.field-0.ups.items downs are c.requires.small (omega arith) in
+    let fit = sums_fit c.args.numbers.now (marked Null c.args.marks.now (map (Number c.args.own) c.args.coefficients.now)) c.args.count number c.in_ok-terms.field-0.terms.items c.in_ok-terms.field-0.ups.items downs are c.requires.small (omega arith) in
     omega (arith, read, fit.1)
 
 pub loop-number-preserved : goal.loop-number-preserved
@@ -42,10 +43,10 @@ loop-number-preserved c =
     c.sum_value.ensures ∙ ap (λ t. sum_value c.args.scale t c.index-in-loop-number.result.now c.index-in-loop-number-2.result.now) (c.index.ensures ∙ get_or_default terms number _ 0 (omega (arith, nt)))
     ∙ ap (λ u. sum_value c.args.scale (get_or terms number 0) u c.index-in-loop-number-2.result.now) (c.index-in-loop-number.ensures ∙ get_or_default ups number _ 0 (omega (arith, nu)))
     ∙ ap (sum_value c.args.scale (get_or terms number 0) (get_or ups number 0)) (c.index-in-loop-number-2.ensures ∙ get_or_default downs number _ 0 (omega (arith, nd))) in
-    sum_more c.args.scale c.args.numbers.now (map (Number c.args.own) c.args.coefficients.now) c.args.count number terms ups downs c.loop-number.column c.push.new.self
+    sum_more c.args.scale c.args.numbers.now (marked Null c.args.marks.now (map (Number c.args.own) c.args.coefficients.now)) c.args.count number terms ups downs c.loop-number.column c.push.new.self
     are c.requires.small (omega arith) c.loop-number.invariant (c.in_ok-push.ensures.ok ∙ ap (λ v. c.loop-number.column ++ v ∷ []) value)
 
 pub returns : goal.returns
 returns c =
     c.finish.ensures ∙ c.loop-number.invariant
-    ∙ ap (values_by_number (sum_of (reading c.args.scale)) c.args.numbers.now (map (Number c.args.own) c.args.coefficients.now) 0) (omega arith)
+    ∙ ap (values_by_number (sum_of (reading c.args.scale)) c.args.numbers.now (marked Null c.args.marks.now (map (Number c.args.own) c.args.coefficients.now)) 0) (omega arith)

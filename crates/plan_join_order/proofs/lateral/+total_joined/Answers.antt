@@ -1,5 +1,5 @@
 use Rattle.std.proofs.Common.{rules}
-use Rattle.plan_join_order.proofs.Laterals.{project_made, select_made}
+use Rattle.plan_join_order.proofs.LateralSteps.{project_made, select_made}
 use Rattle.plan_join_order.proofs.lateral.+total_joined.Goals as goal
 
 pub returns-in_ok-new-in-Project : goal.returns-in_ok-new-in-Project

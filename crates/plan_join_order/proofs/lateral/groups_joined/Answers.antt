@@ -1,7 +1,7 @@
 use Rattle.std.proofs.Common.{◌∙◌, ◌++◌, ap, rules}
 use Rattle.expr_conditions.specs.Ranks.{columns_from}
 use Rattle.plan_algebra.specs.declared.tree.DepTree.TheVariants as t
-use Rattle.plan_join_order.proofs.Laterals.{groups_made}
+use Rattle.plan_join_order.proofs.LateralSteps.{groups_made}
 use Rattle.plan_join_order.proofs.lateral.groups_joined.Goals as goal
 
 pub returns : goal.returns

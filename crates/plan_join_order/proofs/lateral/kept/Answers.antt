@@ -1,5 +1,5 @@
 use Rattle.std.proofs.Common.{refl}
-use Rattle.plan_join_order.proofs.Laterals.{kept_all, kept_some}
+use Rattle.plan_join_order.proofs.LateralSteps.{kept_all, kept_some}
 use Rattle.plan_join_order.proofs.lateral.kept.Goals as goal
 
 pub returns-then-is_always : goal.returns-then-is_always

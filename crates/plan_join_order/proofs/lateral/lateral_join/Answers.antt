@@ -1,4 +1,4 @@
-use Rattle.plan_join_order.proofs.Laterals.{lateral_made}
+use Rattle.plan_join_order.proofs.LateralSteps.{lateral_made}
 use Rattle.plan_join_order.proofs.lateral.lateral_join.Goals as goal
 
 pub returns-then-are_below : goal.returns-then-are_below

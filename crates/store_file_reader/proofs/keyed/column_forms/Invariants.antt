@@ -1,5 +1,5 @@
 use Rattle.std.proofs.Common.{◌≡◌, length}
 use Rattle.store_file_reader.proofs.keyed.column_forms.Given as goal
 
-abbrev pub invariant-loop-kind : goal.invariant-loop-kind
-invariant-loop-kind l = length l.forms.items ≡ l.kind-index
+abbrev pub invariant-loop-column : goal.invariant-loop-column
+invariant-loop-column l = length l.forms.items ≡ l.column-index

@@ -27,4 +27,4 @@ returns-clause-refreshes c = (refl, refl, refl, refl)
 
 pub returns-clause-nulls : goal.returns-clause-nulls
 unfolding file_rows
-returns-clause-nulls c = (refl, refl, refl, refl)
+returns-clause-nulls c = (refl, refl, refl, refl, refl, refl)

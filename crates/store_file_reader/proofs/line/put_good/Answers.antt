@@ -2,19 +2,20 @@ use Rattle.std.proofs.Common.{◌≡◌, ◌∙◌, sym, true, is_ok, rules}
 use Rattle.std.proofs.lemmas.List.Elements.{All-push}
 use Rattle.base_columns.specs.Fields.{IsPrintableField}
 use Rattle.base_schema.specs.declared.column.ColumnKind.TheVariants.{Key}
+use Rattle.base_schema.specs.LineForm.{never_null}
 use Rattle.store_file_reader.proofs.BarCuts.{cut_more}
 use Rattle.store_file_reader.proofs.Cuts.{fields_more, ok_since}
 use Rattle.store_file_reader.proofs.line.put_good.Goals as goal
 
-pub loop-kind-preserved : goal.loop-kind-preserved
-loop-kind-preserved c =
+pub loop-column-preserved : goal.loop-column-preserved
+loop-column-preserved c =
     let ok : is_ok c.push.result ≡ true = ok_since c.push.result (sym c.is_err.ensures.value ∙ c.if-is_err.false) in
     let made = rw ok at c.push.ensures.items in (
-      c.loop-kind.invariant.0
+      c.loop-column.invariant.0
           ∙ rw c.in-Some.ensures.rest
-          (fields_more c.args.kinds.now c.loop-kind.kind-index Key c.loop-kind.rest.now c.loop-kind.fields.items c.push.new.self.items c.in-Some.field c.loop-kind-test.true c.in-Some.ensures.value made),
-      rw made (All-push IsPrintableField c.loop-kind.fields.items c.in-Some.field c.loop-kind.invariant.1 c.in-Some.ensures.printable),
-      cut_more c.args.line.now c.loop-kind.rest.now _ c.loop-kind.bars _ c.loop-kind.kind-index c.in-Some.found c.loop-kind.invariant.2
+          (fields_more c.args.columns.now c.loop-column.column-index (never_null Key) c.loop-column.rest.now c.loop-column.fields.items c.push.new.self.items c.in-Some.field c.loop-column-test.true c.in-Some.ensures.value made),
+      rw made (All-push IsPrintableField c.loop-column.fields.items c.in-Some.field c.loop-column.invariant.1 c.in-Some.ensures.printable),
+      cut_more c.args.line.now c.loop-column.rest.now _ c.loop-column.bars _ c.loop-column.column-index c.in-Some.found c.loop-column.invariant.2
           c.in-Some.ensures.found
           c.in-Some.ensures.rest
           (search rules),

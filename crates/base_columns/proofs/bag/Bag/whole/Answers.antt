@@ -1,4 +1,4 @@
-use Rattle.std.proofs.Common.{◌≡◌, ◌∙◌, ap, sym, arith}
+use Rattle.std.proofs.Common.{◌∙◌, ap, sym}
 use Rattle.base_row_laws.specs.Ranked.{Relation}
 use Rattle.base_value.specs.declared.value.Value.{Value}
 use Rattle.base_columns.specs.Bags.{bag_rows}

@@ -1,4 +1,4 @@
-use Rattle.std.proofs.Common.{sym, true}
+use Rattle.std.proofs.Common.{sym}
 use Rattle.base_columns.proofs.Kept.{relation-all_kept}
 use Rattle.base_columns.proofs.batch.Batch.keep.Goals as goal
 

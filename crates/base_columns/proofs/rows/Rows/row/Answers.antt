@@ -1,4 +1,4 @@
-use Rattle.std.proofs.Common.{◌≡◌, ◌<◌, ◌≤◌, ◌∙◌, [], ap, sym, length, arith}
+use Rattle.std.proofs.Common.{◌≡◌, ◌<◌, ◌≤◌, [], ap, sym, length, arith}
 use Rattle.base_columns.specs.Lists.{one_list}
 use Rattle.base_columns.proofs.RowLists.{row_found, row_passed, row_within}
 use Rattle.base_columns.proofs.rows.Rows.row.Goals as goal

@@ -1,4 +1,4 @@
-use Rattle.std.proofs.Common.{◌≡◌, ◌-◌, ◌*◌, ◌/◌, ◌<◌, ◌≤◌, rules, sym, length, arith}
+use Rattle.std.proofs.Common.{◌≡◌, ◌-◌, ◌*◌, ◌/◌, ◌<◌, ◌≤◌, rules, sym, length}
 use Rattle.base_columns.proofs.TableLists.{number_full, number_rest}
 use Rattle.base_columns.proofs.rows_builder.RowsBuilder.number.Goals as goal
 

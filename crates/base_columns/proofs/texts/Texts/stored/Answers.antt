@@ -1,4 +1,4 @@
-use Rattle.std.proofs.Common.{◌≡◌, ◌≤◌, ◌∙◌, arith, ap, length, sym, get_or, ◌∷◌}
+use Rattle.std.proofs.Common.{◌≡◌, ◌≤◌, arith, ap, length, sym, get_or, ◌∷◌}
 use Rattle.std.proofs.lemmas.List.{length-take-le}
 use Rattle.base_columns.specs.Texts.{buffer_bytes}
 use Rattle.base_columns.proofs.TextLists.{last_within}
