@@ -14,8 +14,9 @@ use crate::from_rows::{
     Part, own_list, own_on, put_apart_join, put_apart_list, put_apart_outer, put_apart_select,
     put_apart_table, put_whole,
 };
+use crate::groups::put_groups;
 use crate::put::{
-    own_footing, put_distinct, put_group_by, put_join, put_mark, put_outer, put_project, put_scan,
+    own_footing, put_distinct, put_join, put_mark, put_outer, put_project, put_scan,
     put_select, put_selection, put_single, put_total,
 };
 use plan_algebra::{Builder, DepTree, NodeId, Side, width};
@@ -295,7 +296,7 @@ fn lowered_node(
             }
             let width = footing.width()?;
             let rows = lowered(alloc, builder, input.get(), footing)?;
-            let id = put_group_by(alloc, builder, rows, width, by, aggregates.as_slice())?;
+            let id = put_groups(alloc, builder, rows, width, by, aggregates.as_slice())?;
             Ok(id)
         }
         DepTree::Distinct(input) => {
