@@ -165,9 +165,9 @@ list_part {input = input} {table = table} {es = es} {read = read} {own = own} {n
     let own_is : AreOwn n read own = subst (λ x. IfSome x (AreOwn n read)) there h in (
       refl,
       gives_as (ap tree_meaning is ∙ meaning_Project input es
-      ∙ ap (λ m. tree_step (o.Project m es)) (ap tree_meaning (sym same ∙ scan) ∙ meaning_Scan table))
-      (g (footing_width f.rows) es
-      (subst (λ x. AreOwn (footing_width f.rows) x own) r (subst (λ k. AreOwn k read own) w own_is))),
+          ∙ ap (λ m. tree_step (o.Project m es)) (ap tree_meaning (sym same ∙ scan) ∙ meaning_Scan table))
+          (g (footing_width f.rows) es
+          (subst (λ x. AreOwn (footing_width f.rows) x own) r (subst (λ k. AreOwn k read own) w own_is))),
     )
 
 -- a selection

@@ -16,8 +16,8 @@ use crate::from_rows::{
 };
 use crate::groups::put_groups;
 use crate::put::{
-    own_footing, put_distinct, put_join, put_mark, put_outer, put_project, put_scan,
-    put_select, put_selection, put_single, put_total,
+    own_footing, put_distinct, put_join, put_mark, put_outer, put_project, put_scan, put_select,
+    put_selection, put_single, put_total,
 };
 use plan_algebra::{Builder, DepTree, NodeId, Side, width};
 use sqlite_items::Boxed;
