@@ -21,15 +21,19 @@ use Rattle.base_value.specs.declared.value.Value.{Value}
 use Rattle.base_value.specs.declared.value.Value.TheVariants.{Null}
 use Rattle.base_value.specs.Value.{same_value}
 use Rattle.base_value.proofs.Identity.{value_identity}
+use Rattle.expr_scalar.specs.declared.expr.Expr.{Expr}
 use Rattle.expr_scalar.specs.declared.expr.Expr.TheVariants.{Column}
 use Rattle.expr_scalar.specs.Meaning.{values}
 use Rattle.expr_scalar.specs.Rename.{gathered}
 use Rattle.expr_conditions.specs.Ranks.{columns_from}
 use Rattle.expr_conditions.proofs.Gather.{gather_append, gather_at}
 use Rattle.plan_algebra.specs.declared.aggregate.Aggregate.{Aggregate}
+use Rattle.plan_algebra.specs.declared.node.Node.{Node}
+use Rattle.plan_algebra.specs.declared.node.Node.TheVariants.{Group, Project}
 use Rattle.plan_algebra.specs.Aggregates.{aggregates_of}
 use Rattle.plan_algebra.proofs.NoRows.{length-aggregates_of}
-use Rattle.plan_unnesting.specs.Lowerings.{with_again}
+use Rattle.plan_unnesting.specs.Growth.{IsPut}
+use Rattle.plan_unnesting.specs.Lowerings.{IsGrouped, with_again}
 use Rattle.plan_unnesting.proofs.Wide.{column_values, keyed_wide}
 
 -- a key, and after it some of its columns
@@ -143,3 +147,18 @@ regrouped_wide n by aggregates xs below wide =
     (λ x. again by (take n x.values) ≡ take n x.values ++ columns Null by x.values) xs
     (λ x h. ap (λ l. take n x.values ++ l) (taken_columns n by x.values h below)) wide)
     (λ p. refl)
+
+-- the nodes as the code puts them
+pub again_put : {old mid new : List Node} {rows width n groups id : ℕ} {by keys places : List ℕ}
+    {aggregates computed : List Aggregate} {list : List Expr} → All (λ c. c < width) by
+    → keys ≡ range_with_len 0 width → computed ≡ aggregates → n ≡ length aggregates
+    → places ≡ with_again width by n → list ≡ map Column places
+    → IsPut old mid (Group rows keys computed) groups → IsPut mid new (Project groups list) id
+    → IsGrouped old new rows width by aggregates id
+again_put {old = old} {mid = mid} {new = new} {rows = rows} {width = width} {id = id} {by = by} {aggregates = aggregates} below k a m cs l p q =
+    let node : Node = Project (length old) (map Column (with_again width by (length aggregates))) in
+    let here : mid ≡ old ++ Group rows (range_with_len 0 width) aggregates ∷ [] =
+    p.nodes ∙ (λ i. old ++ Group rows (k i) (a i) ∷ []) in
+    let there = l ∙ ap (map Column) (cs ∙ ap (with_again width by) m) in
+    inr (below, subst (λ z. IsPut z new node id) here
+    (subst (λ y. IsPut mid new y id) (λ i. Project (p.number i) (there i)) q))
