@@ -5,7 +5,7 @@ mod carried;
 mod domain;
 mod footing;
 mod from_rows;
-mod groups;
+mod grouped;
 mod lists;
 mod lowering;
 mod origins;

@@ -14,7 +14,7 @@ use crate::from_rows::{
     Part, own_list, own_on, put_apart_join, put_apart_list, put_apart_outer, put_apart_select,
     put_apart_table, put_whole,
 };
-use crate::groups::put_groups;
+use crate::grouped::put_groups;
 use crate::put::{
     own_footing, put_distinct, put_join, put_mark, put_outer, put_project, put_scan, put_select,
     put_selection, put_single, put_total,

@@ -4,7 +4,7 @@ use Rattle.plan_algebra.specs.declared.node.Node.TheVariants as node
 use Rattle.plan_algebra.proofs.Fits.{group_fits, project_fits}
 use Rattle.plan_unnesting.proofs.Grown.{put_within}
 use Rattle.plan_unnesting.proofs.Regrouped.{again_put}
-use Rattle.plan_unnesting.proofs.groups.put_groups.Goals as goal
+use Rattle.plan_unnesting.proofs.grouped.put_groups.Goals as goal
 
 pub put-requires : goal.put-requires
 put-requires c = group_fits c.args.builder.now.nodes c.args.rows c.in_ok-keys.keys c.in_ok-computed.computed c.requires
