@@ -1,6 +1,6 @@
 -- Groups by a domain's columns, some of them twice.
 use Rattle.std.proofs.Common.{◌≡◌, ℕ, ◌+◌, ◌<◌, ◌≤◌, List, [], ◌∷◌, ◌++◌, map, refl, sym, ◌∙◌, ap, subst}
-use Rattle.std.proofs.Common.{arith, length, take, drop, Bool, inl, inr, slice_index_or}
+use Rattle.std.proofs.Common.{arith, length, take, drop, Bool, false, inl, inr, slice_index_or}
 use Rattle.std.specs.List.{All, filter, range_with_len}
 use Rattle.std.proofs.Math.Seq.{take-append_seam}
 use Rattle.std.proofs.lemmas.Bool.{cases_Bool, true≢false}
@@ -149,13 +149,14 @@ regrouped_wide n by aggregates xs below wide =
     (λ p. refl)
 
 -- the nodes as the code puts them
-pub again_put : {old mid new : List Node} {rows width n groups id : ℕ} {by keys places : List ℕ}
-    {aggregates computed : List Aggregate} {list : List Expr} → All (λ c. c < width) by
+pub again_put : {old mid new : List Node} {rows width n groups id : ℕ} {keys places : List ℕ}
+    {aggregates computed : List Aggregate} {list : List Expr} (by : List ℕ)
+    → All (λ c. c < width) by
     → keys ≡ range_with_len 0 width → computed ≡ aggregates → n ≡ length aggregates
     → places ≡ with_again width by n → list ≡ map Column places
     → IsPut old mid (Group rows keys computed) groups → IsPut mid new (Project groups list) id
     → IsGrouped old new rows width by aggregates id
-again_put {old = old} {mid = mid} {new = new} {rows = rows} {width = width} {id = id} {by = by} {aggregates = aggregates} below k a m cs l p q =
+again_put {old = old} {mid = mid} {new = new} {rows = rows} {width = width} {id = id} {aggregates = aggregates} by below k a m cs l p q =
     let node : Node = Project (length old) (map Column (with_again width by (length aggregates))) in
     let here : mid ≡ old ++ Group rows (range_with_len 0 width) aggregates ∷ [] =
     p.nodes ∙ (λ i. old ++ Group rows (k i) (a i) ∷ []) in

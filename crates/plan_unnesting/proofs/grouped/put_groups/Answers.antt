@@ -1,4 +1,4 @@
-use Rattle.std.proofs.Common.{map, ap, ◌∙◌, inl}
+use Rattle.std.proofs.Common.{map, refl, ap, ◌∙◌, inl}
 use Rattle.expr_scalar.specs.declared.expr.Expr.TheVariants.{Column}
 use Rattle.plan_algebra.specs.declared.node.Node.TheVariants as node
 use Rattle.plan_algebra.proofs.Fits.{group_fits, project_fits}
@@ -20,8 +20,8 @@ returns-then-not-are_below c = inl c.in_ok-id.ensures
 
 pub returns : goal.returns
 returns c =
-    again_put (c.are_below.ensures c.if-not-are_below.false) c.in_ok-keys.ensures
-    c.in_ok-computed.ensures c.len.ensures c.in_ok-columns.ensures
+    again_put c.args.by.now (c.are_below.ensures c.if-not-are_below.false) c.in_ok-keys.ensures
+    c.in_ok-computed.ensures refl c.in_ok-columns.ensures
     (c.in_ok-list.ensures ∙ ap (map Column) c.deref.ensures.value)
     (record { number = c.in_ok-groups.ensures.number; nodes = c.in_ok-groups.ensures.nodes })
     (record { number = c.in_ok-id-2.ensures.number; nodes = c.in_ok-id-2.ensures.nodes })
