@@ -95,8 +95,9 @@ fn tried(
     Ok(Some(Asked { parts, output }))
 }
 
-// Whether inputs keep all their columns: under a domain each table does that is not alone.
-fn stay(n: u32, inputs: &[DepTree]) -> bool {
+// Whether inputs keep all their columns: under a domain they do, but for one table alone.
+fn stay(n: u32, parts: &Collected) -> bool {
+    let inputs = parts.inputs.as_slice();
     n > 0 && !(inputs.len() == 1 && matches!(&inputs[0], DepTree::Scan(_)))
 }
 
@@ -113,7 +114,7 @@ pub(crate) fn narrowed(
         Narrows n parts.inputs parts.conditions output new.parts.inputs new.parts.conditions
         new.output) }
 {
-    if stay(n, parts.inputs.as_slice()) {
+    if stay(n, &parts) {
         return Ok(Asked { parts, output });
     }
     match tried(alloc, n, &parts, output.as_slice())? {
