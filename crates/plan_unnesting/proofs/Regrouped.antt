@@ -161,5 +161,8 @@ again_put {old = old} {mid = mid} {new = new} {rows = rows} {width = width} {id 
     let here : mid ≡ old ++ Group rows (range_with_len 0 width) aggregates ∷ [] =
     p.nodes ∙ (λ i. old ++ Group rows (k i) (a i) ∷ []) in
     let there = l ∙ ap (map Column) (cs ∙ ap (with_again width by) m) in
-    inr (below, subst (λ z. IsPut z new node id) here
-    (subst (λ y. IsPut mid new y id) (λ i. Project (p.number i) (there i)) q))
+    inr (
+      below,
+      subst (λ z. IsPut z new node id) here
+          (subst (λ y. IsPut mid new y id) (λ i. Project (p.number i) (there i)) q),
+    )
