@@ -1,10 +1,10 @@
-use Rattle.std.proofs.Common.{rules, ◌≡◌, List, subst, sym}
+use Rattle.std.proofs.Common.{rules, ◌≡◌, List, false, subst, sym}
 use Rattle.std.specs.Option.{ForSome}
 use Rattle.std.specs.Arc.{arc_value}
 use Rattle.left_right.specs.Sides.{view}
 use Rattle.store_state.specs.Prefixes.{IsPrefix}
 use Rattle.store_state.specs.Refresh.{Change}
-use Rattle.store_state.proofs.Prefixes.{prefix-trans}
+use Rattle.store_state.proofs.Prefixes.{prefix-refl, prefix-trans}
 use Rattle.store_snapshots.specs.Openings.{HasOpening, IsNamed, IsOf}
 use Rattle.store_snapshots.proofs.OneOpening.{of_opening}
 use Rattle.store_snapshots.proofs.ruled.RuledEntryEntry.enter.Goals as goal
@@ -48,3 +48,25 @@ returns-else-not-is_after-clause-more c list fits =
     let long : IsPrefix share.list list = subst (λ (l : List Change). IsPrefix l list) here fits.0 in
     let begins : ForSome old.told (λ t. IsPrefix (arc_value t).list share.list) = search rules in
     (prefix-trans (view old.reader.place).list share.list list seen long, λ told is. prefix-trans (arc_value told).list share.list list (begins told is) long, fits.2)
+
+pub returns-else-not-is_after-clause-entered : goal.returns-else-not-is_after-clause-entered
+returns-else-not-is_after-clause-entered c =
+    let old = c.args.self.now in
+    let share = arc_value c.in-Share.share in
+    let opened : IsOf (view old.reader.place).opening share = search rules in
+    let seen : IsPrefix (view old.reader.place).list share.list = search rules in
+    let here : (view c.replace_with.new.dest.place).list ≡ share.list = search rules in
+    let begins : ForSome old.told (λ t. IsPrefix (arc_value t).list share.list) = search rules in
+    let clear : old.is_stuck ≡ false = search rules in
+    let whole : IsPrefix share.list share.list = prefix-refl share.list in (
+      record {
+        opened = opened;
+        begins = (seen, begins, clear);
+        seen = (subst (λ (l : List Change). IsPrefix l share.list) (sym here) whole, search rules, clear);
+        added = λ list fits. subst (λ (l : List Change). IsPrefix l list) here fits.0;
+      },
+      search rules,
+      search rules,
+      search rules,
+      search rules,
+    )
