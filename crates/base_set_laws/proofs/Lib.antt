@@ -1,0 +1,5 @@
+pub mod Numbers
+pub mod SetRows
+pub mod Counted
+pub mod Taken
+pub mod Sunk
