@@ -1,5 +1,0 @@
-pub mod Numbers
-pub mod SetRows
-pub mod Counted
-pub mod Taken
-pub mod Sunk

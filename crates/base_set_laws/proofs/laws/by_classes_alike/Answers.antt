@@ -1,5 +1,0 @@
-use Rattle.base_set_laws.proofs.SetRows.{by_classes_alike}
-use Rattle.base_set_laws.proofs.laws.by_classes_alike.Goals as goal
-
-pub returns : goal.returns
-returns g c = λ same is. by_classes_alike same is

@@ -1,5 +1,0 @@
-use Rattle.base_set_laws.proofs.SetRows.{union_answers}
-use Rattle.base_set_laws.proofs.laws.union_answers.Goals as goal
-
-pub returns : goal.returns
-returns g c = λ same is. union_answers same is

@@ -1,5 +1,0 @@
-use Rattle.base_set_laws.proofs.Counted.{union_stands}
-use Rattle.base_set_laws.proofs.laws.union_stands.Goals as goal
-
-pub returns : goal.returns
-returns g c = λ same is. union_stands same is
