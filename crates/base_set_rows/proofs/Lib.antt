@@ -4,3 +4,4 @@ pub mod Counted
 pub mod Taken
 pub mod Sunk
 pub mod Steps
+pub mod Operations

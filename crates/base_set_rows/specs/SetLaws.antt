@@ -6,7 +6,8 @@ use Rattle.base_row_laws.specs.Operators.{least, select}
 use Rattle.base_row_laws.specs.Domains.{Meets, Answers}
 use Rattle.base_row_laws.specs.StandingLaws.{Stands}
 use Rattle.base_set_rows.specs.declared.kind.ClassKind.{ClassKind}
-use Rattle.base_set_rows.specs.SetOperations.{copies, alike, by_classes, union}
+use Rattle.base_set_rows.specs.declared.kind.SetOperation.{SetOperation}
+use Rattle.base_set_rows.specs.SetOperations.{copies, alike, by_classes, union, set_rows}
 
 -- One bag on each side gives one bag.
 abbrev pub ByClassesAlike : {V : Type 0} → (V → V → Bool) → Type 0
@@ -86,3 +87,30 @@ SelectBelowClasses {V} same = (kind : ClassKind) (all : Bool) (c : List V → �
     (xs ys : List (Ranked V)) → Each Stands xs → Each Stands ys
     → SameBag (select c (by_classes same kind all xs ys))
     (by_classes same kind all (select c xs) (select c ys))
+
+-- ---- the same of every set operation
+
+abbrev pub SetRowsAlike : {V : Type 0} → (V → V → Bool) → Type 0
+SetRowsAlike {V} same = (operation : SetOperation) (xs us ys vs : List (Ranked V))
+    → SameBag xs us → SameBag ys vs
+    → SameBag (set_rows same operation xs ys) (set_rows same operation us vs)
+
+abbrev pub SetRowsAnswer : {V : Type 0} → (V → V → Bool) → Type 0
+SetRowsAnswer {V} same = (operation : SetOperation) (ds xs ys : List (Ranked V))
+    (L R : List V → List (Ranked V)) → Answers same ds xs L → Answers same ds ys R
+    → Answers same ds (set_rows same operation xs ys) (λ d. set_rows same operation (L d) (R d))
+
+abbrev pub SetRowsStand : {V : Type 0} → (V → V → Bool) → Type 0
+SetRowsStand {V} same = (operation : SetOperation) (xs ys : List (Ranked V))
+    → Each Stands xs → Each Stands ys → Each Stands (set_rows same operation xs ys)
+
+abbrev pub SetRowsKeep : {V : Type 0} → (V → V → Bool) → Type 0
+SetRowsKeep {V} same = (p : List V → Bool) (operation : SetOperation)
+    (xs ys : List (Ranked V)) → Each (λ x. p x.values ≡ true) xs → Each (λ x. p x.values ≡ true) ys
+    → Each (λ x. p x.values ≡ true) (set_rows same operation xs ys)
+
+abbrev pub SelectBelowSetRows : {V : Type 0} → (V → V → Bool) → Type 0
+SelectBelowSetRows {V} same = (operation : SetOperation) (c : List V → ℕ)
+    (xs ys : List (Ranked V)) → Each Stands xs → Each Stands ys
+    → SameBag (select c (set_rows same operation xs ys))
+    (set_rows same operation (select c xs) (select c ys))

@@ -9,6 +9,8 @@ use Rattle.base_row_laws.specs.Operators.{least, distinct}
 use Rattle.base_row_laws.specs.Domains.{values_of}
 use Rattle.base_set_rows.specs.declared.kind.ClassKind.{ClassKind}
 use Rattle.base_set_rows.specs.declared.kind.ClassKind.TheVariants.{Intersect, Except}
+use Rattle.base_set_rows.specs.declared.kind.SetOperation.{SetOperation}
+use Rattle.base_set_rows.specs.declared.kind.SetOperation.TheVariants.{Union, Classes}
 
 -- How many rows a class gives that has a rows on the left and b on the right: with ALL, and without.
 abbrev pub copies : ClassKind → Bool → ℕ → ℕ → ℕ
@@ -38,3 +40,8 @@ module _ {V : Type 0} (same : V → V → Bool) where
   abbrev pub union : Bool → List (Ranked V) → List (Ranked V) → List (Ranked V)
   union true xs ys = xs ++ ys
   union false xs ys = distinct same (xs ++ ys)
+
+  -- the rows of a set operation
+  abbrev pub set_rows : SetOperation → List (Ranked V) → List (Ranked V) → List (Ranked V)
+  set_rows Union xs ys = union true xs ys
+  set_rows (Classes kind all) xs ys = by_classes kind all xs ys

@@ -1,4 +1,4 @@
-//! The set operations that go by classes of identical rows.
+//! Set operations, and those of them that go by classes of identical rows.
 ghost use Rattle.std.specs.Prelude.{◌≡◌};
 ghost use Rattle.base_set_rows.specs.SetOperations.{copies};
 
@@ -9,6 +9,15 @@ pub enum ClassKind {
     Intersect,
     /// What the left side has beyond the right one.
     Except,
+}
+
+/// What is made of the rows of two sides. UNION without ALL is the DISTINCT of UNION ALL.
+#[derive(Clone, Copy, Drop, PartialEq, Eq)]
+pub enum SetOperation {
+    /// UNION ALL.
+    Union,
+    /// INTERSECT or EXCEPT, and whether with ALL.
+    Classes(ClassKind, bool),
 }
 
 /// How many rows a class gives that has a rows on the left and b on the right: with ALL, and

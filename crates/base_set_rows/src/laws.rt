@@ -6,6 +6,8 @@ ghost use Rattle.base_set_rows.specs.SetLaws.{ByClassesCounts, ByClassesStanding
 ghost use Rattle.base_set_rows.specs.SetLaws.{ByClassesKeep, UnionKeeps, UnionStands, UnionAlike};
 ghost use Rattle.base_set_rows.specs.SetLaws.{SelectBelowUnion, SelectBelowClasses};
 ghost use Rattle.base_set_rows.specs.SetLaws.{UnionMeets, UnionAnswers};
+ghost use Rattle.base_set_rows.specs.SetLaws.{SetRowsAlike, SetRowsAnswer, SetRowsStand};
+ghost use Rattle.base_set_rows.specs.SetLaws.{SetRowsKeep, SelectBelowSetRows};
 ghost use Rattle.base_set_rows.specs.Numbered.{ByNumbers};
 ghost use Rattle.base_set_rows.specs.Cases.{OfTwoAndOne, OfDuplicates, OfFaults, OfDomains};
 
@@ -90,4 +92,29 @@ pub fn select_below_union<V>()
 /// A selection sinks below INTERSECT and EXCEPT.
 pub fn select_below_classes<V>()
     ensures { (same : V → V → Bool) → IsIdentity same → SelectBelowClasses same }
+{}
+
+/// One bag on each side of a set operation gives one bag.
+pub fn set_rows_alike<V>()
+    ensures { (same : V → V → Bool) → IsIdentity same → SetRowsAlike same }
+{}
+
+/// A set operation over a domain that is pushed into both sides.
+pub fn set_rows_answer<V>()
+    ensures { (same : V → V → Bool) → IsIdentity same → SetRowsAnswer same }
+{}
+
+/// A set operation leaves rows at True or at a fault.
+pub fn set_rows_stand<V>()
+    ensures { (same : V → V → Bool) → IsIdentity same → SetRowsStand same }
+{}
+
+/// What is so of the values of both sides' rows is so of a set operation's.
+pub fn set_rows_keep<V>()
+    ensures { (same : V → V → Bool) → IsIdentity same → SetRowsKeep same }
+{}
+
+/// A selection sinks below a set operation.
+pub fn select_below_set_rows<V>()
+    ensures { (same : V → V → Bool) → IsIdentity same → SelectBelowSetRows same }
 {}

@@ -6,5 +6,5 @@ mod kind;
 pub mod laws;
 mod taking;
 
-pub use kind::{ClassKind, copies};
+pub use kind::{ClassKind, SetOperation, copies};
 pub use taking::numbers_taken;

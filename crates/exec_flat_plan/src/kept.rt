@@ -54,8 +54,7 @@ fn reads_node(node: &Node, id: NodeId) -> bool
         | Node::Mark(left, right, _, _)
         | Node::Single(left, right, _, _)
         | Node::Fill(left, right, _)
-        | Node::Union(left, right)
-        | Node::Classes(left, right, _, _) => id == *left || id == *right,
+        | Node::Set(left, right, _) => id == *left || id == *right,
     }
 }
 
@@ -122,8 +121,7 @@ pub(crate) fn release_read(
         | Node::Mark(left, right, _, _)
         | Node::Single(left, right, _, _)
         | Node::Fill(left, right, _)
-        | Node::Union(left, right)
-        | Node::Classes(left, right, _, _) => {
+        | Node::Set(left, right, _) => {
             release(bags, *left, nodes, k);
             release(bags, *right, nodes, k);
         }

@@ -20,7 +20,7 @@ fn put_rows(alloc: Global, bag: &mut Bag, others: &Bag) -> Result<(), AllocError
 
 /// UNION ALL: the rows of the left side and then those of the right one, each at its own standing,
 /// in batches that share their columns.
-pub fn union_all(alloc: Global, left: &Bag, right: &Bag) -> Result<Bag, AllocError>
+pub(crate) fn union_all(alloc: Global, left: &Bag, right: &Bag) -> Result<Bag, AllocError>
     requires { right.now.width ≡ left.now.width }
     ensures width { IfOk result (λ b. b.width ≡ left.now.width) }
     ensures rows { IfOk result (λ b. b.rows ≡ left.now.rows ++ right.now.rows) }

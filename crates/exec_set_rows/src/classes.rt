@@ -76,7 +76,7 @@ fn rows_taken(
 /// rows on both sides, in the order in which they first come, as many rows as the operation says,
 /// at the least of the class's standings. 2^32 rows or more are an error, as memory that isn't
 /// there.
-pub fn by_classes<R: Threads + Sync>(
+pub(crate) fn by_classes<R: Threads + Sync>(
     rt: &R,
     alloc: Global,
     kind: ClassKind,

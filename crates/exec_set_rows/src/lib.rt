@@ -3,6 +3,6 @@
 
 mod bags;
 mod classes;
+mod operation;
 
-pub use bags::union_all;
-pub use classes::by_classes;
+pub use operation::set_rows;

@@ -5,7 +5,7 @@ use Rattle.std.specs.Prelude.{◌&&◌, IsTrue, nat_lt, nat_le, ◌==◌, Some, 
 use Rattle.std.specs.List.{list_all, range_with_len}
 use Rattle.std.specs.Cmp.Lexicographic.{pointwise}
 use Rattle.std.proofs.lemmas.List.{append_assoc, append-nil}
-use Rattle.base_set_rows.specs.declared.kind.ClassKind.{ClassKind}
+use Rattle.base_set_rows.specs.declared.kind.SetOperation.{SetOperation}
 use Rattle.plan_algebra.specs.declared.node.Node.{Node}
 use Rattle.base_row_laws.specs.Matched.{right_places}
 use Rattle.base_value.specs.declared.value.Value.{Value}
@@ -91,15 +91,10 @@ pub distinct_fits : (before : List Node) (i : ℕ) → i < length before → IsT
 unfolding fits
 distinct_fits before i h = both (list_all (λ k. nat_lt k (length before)) (i ∷ [])) true (one_below (length before) i h) refl
 
-pub union_fits : (before : List Node) (i j : ℕ) → i < length before → j < length before → plan_width before i ≡ plan_width before j → IsTrue (fits before (node.Union i j))
+pub set_fits : (before : List Node) (i j : ℕ) (operation : SetOperation) → i < length before → j < length before → plan_width before i ≡ plan_width before j
+    → IsTrue (fits before (node.Set i j operation))
 unfolding fits
-union_fits before i j h k w =
-    both (list_all (λ k. nat_lt k (length before)) (i ∷ j ∷ [])) (plan_width before i == plan_width before j) (two_below (length before) i j h k) (eq-eqb (plan_width before i) (plan_width before j) w)
-
-pub classes_fits : (before : List Node) (i j : ℕ) (kind : ClassKind) (all : Bool) → i < length before → j < length before → plan_width before i ≡ plan_width before j
-    → IsTrue (fits before (node.Classes i j kind all))
-unfolding fits
-classes_fits before i j kind all h k w =
+set_fits before i j operation h k w =
     both (list_all (λ k. nat_lt k (length before)) (i ∷ j ∷ [])) (plan_width before i == plan_width before j) (two_below (length before) i j h k) (eq-eqb (plan_width before i) (plan_width before j) w)
 
 pub join_fits : (before : List Node) (i j : ℕ) (matched : List (ℕ × ℕ)) (e : Expr) → i < length before → j < length before → IsTrue (matches_first (plan_width before j) matched)

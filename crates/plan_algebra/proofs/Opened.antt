@@ -1,12 +1,12 @@
 -- What a tree means at each node, and its width.
-use Rattle.std.proofs.Common.{◌≡◌, ◌==◌, refl, inl, inr, eq-eqb, ℕ, ◌+◌, Bool, true, false, List, [], ◌∷◌, ◌++◌, ap, ◌∙◌, length}
+use Rattle.std.proofs.Common.{◌≡◌, ◌==◌, refl, inl, inr, eq-eqb, ℕ, ◌+◌, true, false, List, [], ◌∷◌, ◌++◌, ap, ◌∙◌, length}
 use Rattle.std.specs.Prelude.{replicate}
 use Rattle.std.proofs.lemmas.Bool.{cases_Bool}
 use Rattle.base_row_laws.specs.Ranked.{Ranked}
 use Rattle.base_row_laws.specs.Rows.{scanned}
 use Rattle.base_row_laws.specs.Operators.{select, project, join_loop, outer_loop, attach_loop, distinct}
-use Rattle.base_set_rows.specs.declared.kind.ClassKind.{ClassKind}
-use Rattle.base_set_rows.specs.SetOperations.{by_classes, union}
+use Rattle.base_set_rows.specs.declared.kind.SetOperation.{SetOperation}
+use Rattle.base_set_rows.specs.SetOperations.{set_rows}
 use Rattle.base_value.specs.declared.value.Value.{Value}
 use Rattle.base_value.specs.declared.value.Value.TheVariants.{Null}
 use Rattle.base_value.specs.Value.{same_value}
@@ -56,11 +56,8 @@ meaning_Group a by aggregates = meaning_is (t.Group a by aggregates) ∙ ap mean
 pub meaning_Distinct : (a : DepTree) → tree_meaning (t.Distinct a) ≡ tree_step (f.Distinct (tree_meaning a))
 meaning_Distinct a = meaning_is (t.Distinct a) ∙ ap meaning_at (t.outs-Distinct a)
 
-pub meaning_Union : (l r : DepTree) → tree_meaning (t.Union l r) ≡ tree_step (f.Union (tree_meaning l) (tree_meaning r))
-meaning_Union l r = meaning_is (t.Union l r) ∙ ap meaning_at (t.outs-Union l r)
-
-pub meaning_Classes : (l r : DepTree) (kind : ClassKind) (all : Bool) → tree_meaning (t.Classes l r kind all) ≡ tree_step (f.Classes (tree_meaning l) (tree_meaning r) kind all)
-meaning_Classes l r kind all = meaning_is (t.Classes l r kind all) ∙ ap meaning_at (t.outs-Classes l r kind all)
+pub meaning_Set : (l r : DepTree) (operation : SetOperation) → tree_meaning (t.Set l r operation) ≡ tree_step (f.Set (tree_meaning l) (tree_meaning r) operation)
+meaning_Set l r operation = meaning_is (t.Set l r operation) ∙ ap meaning_at (t.outs-Set l r operation)
 
 abbrev wide : TreeMeaning → ℕ
 wide m = m.width
@@ -104,13 +101,9 @@ width_Distinct a = ap wide (meaning_Distinct a)
 left_width : (operation : SetOperation) (l r : TreeMeaning) → (combined operation l r).width ≡ l.width
 left_width operation l r = elim (cases_Bool (l.width == r.width)) [ inl t ↦ rw t refl | inr f ↦ rw f refl ]
 
-pub width_Union : (l r : DepTree) → width_of (t.Union l r) ≡ width_of l
+pub width_Set : (l r : DepTree) (operation : SetOperation) → width_of (t.Set l r operation) ≡ width_of l
 unfolding width_of
-width_Union l r = ap wide (meaning_Union l r) ∙ left_width (union same_value true) (tree_meaning l) (tree_meaning r)
-
-pub width_Classes : (l r : DepTree) (kind : ClassKind) (all : Bool) → width_of (t.Classes l r kind all) ≡ width_of l
-unfolding width_of
-width_Classes l r kind all = ap wide (meaning_Classes l r kind all) ∙ left_width (by_classes same_value kind all) (tree_meaning l) (tree_meaning r)
+width_Set l r operation = ap wide (meaning_Set l r operation) ∙ left_width operation (tree_meaning l) (tree_meaning r)
 
 abbrev rows_in : Database → List Value → TreeMeaning → List (Ranked Value)
 rows_in db d m = m.rows db d
@@ -190,51 +183,34 @@ pub scans_Distinct : (a : DepTree) → scans_of (t.Distinct a) ≡ scans_of a
 unfolding scans_of
 scans_Distinct a = ap tables_in (meaning_Distinct a)
 
--- set operations of sides of one width
+-- a set operation of sides of one width
 together_is : (operation : SetOperation) (l r : TreeMeaning) → l.width ≡ r.width → combined operation l r ≡ together operation l r
-together_is operation l r e = let same : l.width == r.width ≡ true = eq-eqb l.width r.width e in rw same refl
+together_is operation l r e = let same : (l.width == r.width) ≡ true = eq-eqb l.width r.width e in rw same refl
 
-pub even_Union : (l r : DepTree) → width_of l ≡ width_of r → tree_meaning (t.Union l r) ≡ together (union same_value true) (tree_meaning l) (tree_meaning r)
+pub even_Set : (l r : DepTree) (operation : SetOperation) → width_of l ≡ width_of r → tree_meaning (t.Set l r operation) ≡ together operation (tree_meaning l) (tree_meaning r)
 unfolding width_of
-even_Union l r e = meaning_Union l r ∙ together_is (union same_value true) (tree_meaning l) (tree_meaning r) e
+even_Set l r operation e = meaning_Set l r operation ∙ together_is operation (tree_meaning l) (tree_meaning r) e
 
-pub even_Classes : (l r : DepTree) (kind : ClassKind) (all : Bool) → width_of l ≡ width_of r
-    → tree_meaning (t.Classes l r kind all) ≡ together (by_classes same_value kind all) (tree_meaning l) (tree_meaning r)
-unfolding width_of
-even_Classes l r kind all e = meaning_Classes l r kind all ∙ together_is (by_classes same_value kind all) (tree_meaning l) (tree_meaning r) e
-
-pub rows_Union : (l r : DepTree) (db : Database) (d : List Value) → width_of l ≡ width_of r → tree_rows (t.Union l r) db d ≡ union same_value true (tree_rows l db d) (tree_rows r db d)
+pub rows_Set : (l r : DepTree) (operation : SetOperation) (db : Database) (d : List Value) → width_of l ≡ width_of r
+    → tree_rows (t.Set l r operation) db d ≡ set_rows same_value operation (tree_rows l db d) (tree_rows r db d)
 unfolding tree_rows
-rows_Union l r db d e = ap (rows_in db d) (even_Union l r e)
+rows_Set l r operation db d e = ap (rows_in db d) (even_Set l r operation e)
 
-pub rows_Classes : (l r : DepTree) (kind : ClassKind) (all : Bool) (db : Database) (d : List Value) → width_of l ≡ width_of r
-    → tree_rows (t.Classes l r kind all) db d ≡ by_classes same_value kind all (tree_rows l db d) (tree_rows r db d)
-unfolding tree_rows
-rows_Classes l r kind all db d e = ap (rows_in db d) (even_Classes l r kind all e)
-
-pub scans_Union : (l r : DepTree) → width_of l ≡ width_of r → scans_of (t.Union l r) ≡ scans_of l ++ scans_of r
+pub scans_Set : (l r : DepTree) (operation : SetOperation) → width_of l ≡ width_of r → scans_of (t.Set l r operation) ≡ scans_of l ++ scans_of r
 unfolding scans_of
-scans_Union l r e = ap tables_in (even_Union l r e)
+scans_Set l r operation e = ap tables_in (even_Set l r operation e)
 
-pub scans_Classes : (l r : DepTree) (kind : ClassKind) (all : Bool) → width_of l ≡ width_of r → scans_of (t.Classes l r kind all) ≡ scans_of l ++ scans_of r
-unfolding scans_of
-scans_Classes l r kind all e = ap tables_in (even_Classes l r kind all e)
-
--- those of sides of different widths are the left one
+-- one of sides of different widths is the left one
 left_is : (operation : SetOperation) (l r : TreeMeaning) → (l.width == r.width) ≡ false → combined operation l r ≡ l
 left_is operation l r e = rw e refl
 
-pub uneven_Union : (l r : DepTree) → (width_of l == width_of r) ≡ false → tree_meaning (t.Union l r) ≡ tree_meaning l
+pub uneven_Set : (l r : DepTree) (operation : SetOperation) → (width_of l == width_of r) ≡ false → tree_meaning (t.Set l r operation) ≡ tree_meaning l
 unfolding width_of
-uneven_Union l r e = meaning_Union l r ∙ left_is (union same_value true) (tree_meaning l) (tree_meaning r) e
-
-pub uneven_Classes : (l r : DepTree) (kind : ClassKind) (all : Bool) → (width_of l == width_of r) ≡ false → tree_meaning (t.Classes l r kind all) ≡ tree_meaning l
-unfolding width_of
-uneven_Classes l r kind all e = meaning_Classes l r kind all ∙ left_is (by_classes same_value kind all) (tree_meaning l) (tree_meaning r) e
+uneven_Set l r operation e = meaning_Set l r operation ∙ left_is operation (tree_meaning l) (tree_meaning r) e
 
 pub ruleset rows_opened = (rows_Scan, rows_Select, rows_Project, rows_Join, rows_Outer, rows_Mark, rows_Single, rows_Group, rows_Distinct)
 
 pub ruleset scans_opened = (scans_Scan, scans_Select, scans_Project, scans_Join, scans_Outer, scans_Mark, scans_Single, scans_Group, scans_Distinct)
 
 -- for the function that goes over the nodes
-pub ruleset widths_opened = (width_Scan, width_Select, width_Project, width_Join, width_Outer, width_Mark, width_Single, width_Group, width_Distinct, width_Union, width_Classes)
+pub ruleset widths_opened = (width_Scan, width_Select, width_Project, width_Join, width_Outer, width_Mark, width_Single, width_Group, width_Distinct, width_Set)

@@ -15,8 +15,7 @@ use Rattle.base_row_laws.specs.Operators.{select, project, pair, or_else, least,
 use Rattle.base_row_laws.specs.Matched.{right_places, without_from, without, glue_matched, matches_of, inner_matched, outer_matched, attach_matched}
 use Rattle.base_row_laws.proofs.Lists.{Each-map, Each-filter, Each-weaker, Each-flat_map, Each-all, Each-each_once}
 use Rattle.base_row_laws.proofs.Nodes.{Each-or_else}
-use Rattle.base_set_rows.proofs.SetRows.{by_classes_each}
-use Rattle.base_set_rows.proofs.Counted.{union_any}
+use Rattle.base_set_rows.proofs.Operations.{set_rows_each}
 use Rattle.base_value.specs.declared.value.Value.{Value}
 use Rattle.base_value.specs.declared.value.Value.TheVariants.{Null}
 use Rattle.base_value.specs.Value.{same_value, same_row}
@@ -31,7 +30,7 @@ use Rattle.expr_aggregates.specs.Values.{written, value_rank}
 use Rattle.expr_conditions.specs.Ranks.{rank_of}
 use Rattle.plan_algebra.specs.declared.aggregate.Aggregate.{Aggregate}
 use Rattle.plan_algebra.specs.declared.node.Node.{Node}
-use Rattle.plan_algebra.specs.declared.node.Node.TheVariants.{Scan, Domain, Select, Project, Join, Outer, Mark, Single, Group, Fill, Distinct, Union, Classes}
+use Rattle.plan_algebra.specs.declared.node.Node.TheVariants.{Scan, Domain, Select, Project, Join, Outer, Mark, Single, Group, Fill, Distinct, Set}
 use Rattle.plan_algebra.specs.Aggregates.{aggregates_of}
 use Rattle.plan_algebra.specs.Trees.{Database, HasKinds}
 use Rattle.plan_algebra.specs.NodeLaws.{RowsAreWide}
@@ -254,10 +253,8 @@ node_wide db before (Group i by aggregates) kinds s wide = groups_wide by aggreg
 node_wide db before (Fill i j empty) kinds s wide =
     fill_wide (plan_width before j) (plan_width before i) empty (plan_rows db before j) (plan_rows db before i) (group_width before i (plan_width before j) empty s) (wide j) (wide i)
 node_wide db before (Distinct i) kinds s wide = distinct_wide (plan_width before i) (plan_rows db before i) (wide i)
-node_wide db before (Union i j) kinds s wide =
-    union_any same_value value_identity (Long (plan_width before i)) true (plan_rows db before i) (plan_rows db before j) (wide i) (as_wide db before i j s (wide j))
-node_wide db before (Classes i j kind all) kinds s wide =
-    by_classes_each same_value value_identity (Long (plan_width before i)) kind all (plan_rows db before i) (plan_rows db before j) (wide i) (as_wide db before i j s (wide j))
+node_wide db before (Set i j operation) kinds s wide =
+    set_rows_each same_value value_identity (Long (plan_width before i)) operation (plan_rows db before i) (plan_rows db before j) (wide i) (as_wide db before i j s (wide j))
 
 one_more : (db : Database) (before : List Node) (node : Node) → HasKinds db → IsTrue (fits before node) → EachWide db before → EachWide db (before ++ node ∷ [])
 unfolding plan_rows plan_width fits

@@ -1,7 +1,7 @@
 //! The nodes of a flat plan.
 use crate::aggregate::Aggregate;
 use base_schema::TableName;
-use base_set_rows::ClassKind;
+use base_set_rows::SetOperation;
 use base_value::Value;
 use expr_scalar::Expr;
 use sqlite_items::{Boxed, Items};
@@ -42,8 +42,6 @@ pub enum Node {
     Fill(NodeId, NodeId, Items<Value>),
     /// Identical rows once.
     Distinct(NodeId),
-    /// UNION ALL: the rows of the left node and those of the right one.
-    Union(NodeId, NodeId),
-    /// INTERSECT or EXCEPT of the left and the right node, and whether with ALL.
-    Classes(NodeId, NodeId, ClassKind, bool),
+    /// A set operation of the left and the right node.
+    Set(NodeId, NodeId, SetOperation),
 }
