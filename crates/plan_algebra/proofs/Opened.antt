@@ -184,7 +184,7 @@ unfolding scans_of
 scans_Distinct a = ap tables_in (meaning_Distinct a)
 
 -- a set operation of sides of one width
-together_is : (operation : SetOperation) (l r : TreeMeaning) → l.width ≡ r.width → combined operation l r ≡ together operation l r
+pub together_is : (operation : SetOperation) (l r : TreeMeaning) → l.width ≡ r.width → combined operation l r ≡ together operation l r
 together_is operation l r e = let same : (l.width == r.width) ≡ true = eq-eqb l.width r.width e in rw same refl
 
 pub even_Set : (l r : DepTree) (operation : SetOperation) → width_of l ≡ width_of r → tree_meaning (t.Set l r operation) ≡ together operation (tree_meaning l) (tree_meaning r)
@@ -201,7 +201,7 @@ unfolding scans_of
 scans_Set l r operation e = ap tables_in (even_Set l r operation e)
 
 -- one of sides of different widths is the left one
-left_is : (operation : SetOperation) (l r : TreeMeaning) → (l.width == r.width) ≡ false → combined operation l r ≡ l
+pub left_is : (operation : SetOperation) (l r : TreeMeaning) → (l.width == r.width) ≡ false → combined operation l r ≡ l
 left_is operation l r e = rw e refl
 
 pub uneven_Set : (l r : DepTree) (operation : SetOperation) → (width_of l == width_of r) ≡ false → tree_meaning (t.Set l r operation) ≡ tree_meaning l
