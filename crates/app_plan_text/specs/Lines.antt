@@ -3,7 +3,10 @@ use Rattle.std.specs.Prelude.{◌≡◌, ℕ, ◌+◌, ◌*◌, List, [], ◌∷
 use Rattle.std.specs.Prelude.{codes, decimal, min, take}
 use Rattle.plan_algebra.specs.declared.node.Node.{Node}
 use Rattle.plan_algebra.specs.declared.node.Node.TheVariants.{Scan, Domain, Select, Project, Join, Outer}
-use Rattle.plan_algebra.specs.declared.node.Node.TheVariants.{Mark, Single, Group, Fill, Distinct}
+use Rattle.plan_algebra.specs.declared.node.Node.TheVariants.{Mark, Single, Group, Fill, Distinct, Set}
+use Rattle.base_set_rows.specs.declared.kind.ClassKind.TheVariants.{Intersect, Except}
+use Rattle.base_set_rows.specs.declared.kind.SetOperation.{SetOperation}
+use Rattle.base_set_rows.specs.declared.kind.SetOperation.TheVariants.{Union, Classes}
 use Rattle.plan_algebra.specs.Plans.{inputs_of}
 use Rattle.app_plan_text.specs.declared.line.PlanLine.{PlanLine}
 
@@ -43,6 +46,12 @@ abbrev pub lines_text : List PlanLine → List ℕ
 lines_text [] = []
 lines_text (line ∷ lines) = line_text line ++ lines_text lines
 
+-- the word for a set operation: ALL of INTERSECT and EXCEPT stands in the detail
+abbrev pub operation_word : SetOperation → List ℕ
+operation_word Union = codes "union"
+operation_word (Classes Intersect all) = codes "intersect"
+operation_word (Classes Except all) = codes "except"
+
 -- the word for a node's kind
 abbrev pub kind_word : Node → List ℕ
 kind_word (Scan table) = codes "scan"
@@ -56,6 +65,7 @@ kind_word (Single i j matched c) = codes "single"
 kind_word (Group i by aggregates) = codes "group"
 kind_word (Fill i j empty) = codes "fill"
 kind_word (Distinct i) = codes "distinct"
+kind_word (Set i j operation) = operation_word operation
 
 -- a line is of the node of this number: it has its kind, and names the nodes that it reads
 abbrev pub IsLineOf : ℕ → Node → PlanLine → Type 0

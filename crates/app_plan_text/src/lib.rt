@@ -9,6 +9,7 @@ mod literal;
 mod names;
 mod node;
 mod numbering;
+mod operation;
 mod plan;
 mod query;
 mod source;

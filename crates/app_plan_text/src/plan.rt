@@ -8,6 +8,7 @@ use crate::literal::push_literal;
 use crate::names::{Names, both, names_at, push_name, push_names, put_names, worded};
 use crate::node::{Done, condition, grouped, listed, push_comma};
 use crate::numbering::Numbering;
+use crate::operation::{operation_detail, operation_word};
 use base_schema::TableName;
 use base_value::Value;
 use expr_scalar::Expr;
@@ -186,6 +187,11 @@ fn done(
             let detail = Vec::new(alloc);
             Ok(Done { detail, columns })
         }
+        Node::Set(i, _, operation) => {
+            let columns = both(alloc, columns_of(lines, *i), &[])?;
+            let detail = operation_detail(alloc, *operation)?;
+            Ok(Done { detail, columns })
+        }
     }
 }
 
@@ -205,6 +211,7 @@ fn kind_word(node: &Node) -> &'static str
         Node::Group(_, _, _) => "group",
         Node::Fill(_, _, _) => "fill",
         Node::Distinct(_) => "distinct",
+        Node::Set(_, _, operation) => operation_word(*operation),
     }
 }
 
@@ -227,7 +234,8 @@ fn inputs_of(alloc: Global, node: &Node) -> Result<Vec<NodeId>, AllocError>
         | Node::Outer(i, j, _, _, _)
         | Node::Mark(i, j, _, _)
         | Node::Single(i, j, _, _)
-        | Node::Fill(i, j, _) => {
+        | Node::Fill(i, j, _)
+        | Node::Set(i, j, _) => {
             inputs.push(*i)?;
             inputs.push(*j)?;
             Ok(inputs)

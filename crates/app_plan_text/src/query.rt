@@ -5,12 +5,16 @@ use crate::line::PlanLine;
 use crate::names::{Names, both, names_at, push_name, push_names, push_number, put_names};
 use crate::node::{Done, push_comma};
 use crate::numbering::Numbering;
+use crate::operation::{any_words, operation_detail, operation_word, side_text};
 use crate::source::{SourceText, joined_sources, table_source};
-use crate::subquery::{ShownQuery, clause, query_name};
+use crate::subquery::{ShownQuery, clause, first_clauses, put_condition, query_name};
 use crate::tables::put_tables;
 use base_order_limit::OrderKey;
+use base_set_rows::SetOperation;
 use expr_scalar::Expr;
-use sql_bound_query::{BoundAggregate, BoundBlock, BoundExpr, BoundQuery, BoundSource, Input};
+use sql_bound_query::{
+    BoundAggregate, BoundBlock, BoundExpr, BoundQuery, BoundSource, Input, SetColumn,
+};
 use sqlite_items::Boxed;
 use std::alloc::{AllocError, Global};
 use std::mem;
@@ -98,12 +102,12 @@ fn put_input(
             text.extend_from_slice(name.as_slice())?;
             text.extend_from_slice(b")")
         }
-        Input::In(e, q) => {
+        Input::Any(comparison, e, q) => {
             let left = put_expr(alloc, page, sight, e.get())?;
             let name = put_inner(alloc, page, sight, q)?;
             text.extend_from_slice(b"(")?;
             text.extend_from_slice(left.as_slice())?;
-            text.extend_from_slice(b" in (")?;
+            text.extend_from_slice(any_words(*comparison).as_bytes())?;
             text.extend_from_slice(name.as_slice())?;
             text.extend_from_slice(b"))")
         }
@@ -311,37 +315,6 @@ fn put_derived(
     Ok(SourceText { text, columns })
 }
 
-/// Appends the line of a condition, unless it always holds.
-fn put_condition(
-    alloc: Global,
-    lines: &mut Vec<PlanLine>,
-    number: usize,
-    depth: usize,
-    kind: &[u8],
-    detail: Vec<u8>,
-) -> Result<(), AllocError> {
-    if detail.as_slice() != b"true".as_slice() {
-        lines.push(clause(alloc, number, depth, kind, detail)?)?;
-    }
-    Ok(())
-}
-
-/// The lines of SELECT, of FROM, and of WHERE where a condition stands there.
-fn first_clauses(
-    alloc: Global,
-    number: usize,
-    depth: usize,
-    list: Vec<u8>,
-    from: Vec<u8>,
-    condition: Vec<u8>,
-) -> Result<Vec<PlanLine>, AllocError> {
-    let mut lines = Vec::new(alloc);
-    lines.push(clause(alloc, number, depth, b"select", list)?)?;
-    lines.push(clause(alloc, number, depth, b"from", from)?)?;
-    put_condition(alloc, &mut lines, number, depth, b"where", condition)?;
-    Ok(lines)
-}
-
 /// The clauses of a query, and the names of its columns.
 #[cycle(query_lines)]
 fn put_clauses(
@@ -387,6 +360,9 @@ fn put_clauses(
                 lines,
             })
         }
+        BoundBlock::Set(l, r, columns, operation) => {
+            put_combined(alloc, page, sight, l, r, columns.as_slice(), *operation)
+        }
         BoundBlock::Distinct(q) => {
             let shown = put_block(alloc, page, sight, q.get())?;
             let ShownQuery {
@@ -405,6 +381,50 @@ fn put_clauses(
             })
         }
     }
+}
+
+/// A set operation: what its columns are of both sides, each of which is written by its number.
+#[cycle(query_lines)]
+fn put_combined(
+    alloc: Global,
+    page: &mut Page,
+    sight: &[Names],
+    left: &Boxed<BoundBlock>,
+    right: &Boxed<BoundBlock>,
+    columns: &[SetColumn],
+    operation: SetOperation,
+) -> Result<ShownQuery, AllocError> {
+    let depth = page.depth;
+    let number = page.numbering.number();
+    page.depth = depth.saturating_add(1);
+    let first = put_block(alloc, page, sight, left.get())?;
+    let second = put_block(alloc, page, sight, right.get())?;
+    page.depth = depth;
+    let mut detail = side_text(alloc, &first, columns, true)?;
+    detail.extend_from_slice(b" and ")?;
+    detail.append(&mut side_text(alloc, &second, columns, false)?)?;
+    let mut all = operation_detail(alloc, operation)?;
+    if !all.is_empty() {
+        detail.push(b' ')?;
+        detail.append(&mut all)?;
+    }
+    let word = operation_word(operation).as_bytes();
+    let mut lines = Vec::new(alloc);
+    lines.push(clause(alloc, number, depth, word, detail)?)?;
+    let ShownQuery {
+        columns: names,
+        lines: one,
+        ..
+    } = first;
+    let ShownQuery { lines: two, .. } = second;
+    let (mut one, mut two) = (one, two);
+    page.lines.append(&mut one)?;
+    page.lines.append(&mut two)?;
+    Ok(ShownQuery {
+        number,
+        columns: names,
+        lines,
+    })
 }
 
 /// A query, and after its lines those of the queries in it.

@@ -39,3 +39,34 @@ pub fn clause(
         rows: None,
     })
 }
+
+/// Appends the line of a condition, unless it always holds.
+pub fn put_condition(
+    alloc: Global,
+    lines: &mut Vec<PlanLine>,
+    number: usize,
+    depth: usize,
+    kind: &[u8],
+    detail: Vec<u8>,
+) -> Result<(), AllocError> {
+    if detail.as_slice() != b"true".as_slice() {
+        lines.push(clause(alloc, number, depth, kind, detail)?)?;
+    }
+    Ok(())
+}
+
+/// The lines of SELECT, of FROM, and of WHERE where a condition stands there.
+pub fn first_clauses(
+    alloc: Global,
+    number: usize,
+    depth: usize,
+    list: Vec<u8>,
+    from: Vec<u8>,
+    condition: Vec<u8>,
+) -> Result<Vec<PlanLine>, AllocError> {
+    let mut lines = Vec::new(alloc);
+    lines.push(clause(alloc, number, depth, b"select", list)?)?;
+    lines.push(clause(alloc, number, depth, b"from", from)?)?;
+    put_condition(alloc, &mut lines, number, depth, b"where", condition)?;
+    Ok(lines)
+}

@@ -19,6 +19,10 @@ pub fn put_tables(tables: &mut Vec<TableName>, q: &BoundBlock) -> Result<(), All
             put_list_tables(tables, list.as_slice())
         }
         BoundBlock::Distinct(q) => put_tables(tables, q.get()),
+        BoundBlock::Set(l, r, _, _) => {
+            put_tables(tables, l.get())?;
+            put_tables(tables, r.get())
+        }
     }
 }
 
@@ -46,7 +50,7 @@ fn put_input_tables(tables: &mut Vec<TableName>, input: &Input) -> Result<(), Al
     match input {
         Input::Column(_, _) => Ok(()),
         Input::Exists(q) | Input::Scalar(q) => put_tables(tables, q.get()),
-        Input::In(e, q) => {
+        Input::Any(_, e, q) => {
             put_expr_tables(tables, e.get())?;
             put_tables(tables, q.get())
         }

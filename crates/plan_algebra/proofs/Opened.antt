@@ -208,6 +208,14 @@ pub uneven_Set : (l r : DepTree) (operation : SetOperation) → (width_of l == w
 unfolding width_of
 uneven_Set l r operation e = meaning_Set l r operation ∙ left_is operation (tree_meaning l) (tree_meaning r) e
 
+pub rows_uneven : (l r : DepTree) (operation : SetOperation) (db : Database) (d : List Value) → (width_of l == width_of r) ≡ false → tree_rows (t.Set l r operation) db d ≡ tree_rows l db d
+unfolding tree_rows
+rows_uneven l r operation db d e = ap (rows_in db d) (uneven_Set l r operation e)
+
+pub scans_uneven : (l r : DepTree) (operation : SetOperation) → (width_of l == width_of r) ≡ false → scans_of (t.Set l r operation) ≡ scans_of l
+unfolding scans_of
+scans_uneven l r operation e = ap tables_in (uneven_Set l r operation e)
+
 pub ruleset rows_opened = (rows_Scan, rows_Select, rows_Project, rows_Join, rows_Outer, rows_Mark, rows_Single, rows_Group, rows_Distinct)
 
 pub ruleset scans_opened = (scans_Scan, scans_Select, scans_Project, scans_Join, scans_Outer, scans_Mark, scans_Single, scans_Group, scans_Distinct)
