@@ -15,6 +15,7 @@ ByClassesAlike {V} same = (kind : ClassKind) (all : Bool) (xs us ys vs : List (R
     → SameBag xs us → SameBag ys vs
     → SameBag (by_classes same kind all xs ys) (by_classes same kind all us vs)
 
+-- The same of UNION.
 abbrev pub UnionAlike : {V : Type 0} → (V → V → Bool) → Type 0
 UnionAlike {V} same = (all : Bool) (xs us ys vs : List (Ranked V))
     → SameBag xs us → SameBag ys vs → SameBag (union same all xs ys) (union same all us vs)
@@ -36,6 +37,7 @@ abbrev pub ByClassesStand : {V : Type 0} → (V → V → Bool) → Type 0
 ByClassesStand {V} same = (kind : ClassKind) (all : Bool) (xs ys : List (Ranked V))
     → Each Stands xs → Each Stands ys → Each Stands (by_classes same kind all xs ys)
 
+-- The same of UNION.
 abbrev pub UnionStands : {V : Type 0} → (V → V → Bool) → Type 0
 UnionStands {V} same = (all : Bool) (xs ys : List (Ranked V))
     → Each Stands xs → Each Stands ys → Each Stands (union same all xs ys)
@@ -47,6 +49,7 @@ ByClassesKeep {V} same = (p : List V → Bool) (kind : ClassKind) (all : Bool)
     (xs ys : List (Ranked V)) → Each (λ x. p x.values ≡ true) xs → Each (λ x. p x.values ≡ true) ys
     → Each (λ x. p x.values ≡ true) (by_classes same kind all xs ys)
 
+-- The same of UNION.
 abbrev pub UnionKeeps : {V : Type 0} → (V → V → Bool) → Type 0
 UnionKeeps {V} same = (p : List V → Bool) (all : Bool)
     (xs ys : List (Ranked V)) → Each (λ x. p x.values ≡ true) xs → Each (λ x. p x.values ≡ true) ys
@@ -59,6 +62,7 @@ ByClassesMeets {V} same = (kind : ClassKind) (all : Bool) (d : List V)
     (xs ys ts us : List (Ranked V)) → Meets same d xs ts → Meets same d ys us
     → Meets same d (by_classes same kind all xs ys) (by_classes same kind all ts us)
 
+-- The same of UNION.
 abbrev pub UnionMeets : {V : Type 0} → (V → V → Bool) → Type 0
 UnionMeets {V} same = (all : Bool) (d : List V) (xs ys ts us : List (Ranked V))
     → Meets same d xs ts → Meets same d ys us
@@ -70,6 +74,7 @@ ByClassesAnswers {V} same = (kind : ClassKind) (all : Bool) (ds xs ys : List (Ra
     (L R : List V → List (Ranked V)) → Answers same ds xs L → Answers same ds ys R
     → Answers same ds (by_classes same kind all xs ys) (λ d. by_classes same kind all (L d) (R d))
 
+-- The same of UNION.
 abbrev pub UnionAnswers : {V : Type 0} → (V → V → Bool) → Type 0
 UnionAnswers {V} same = (all : Bool) (ds xs ys : List (Ranked V))
     (L R : List V → List (Ranked V)) → Answers same ds xs L → Answers same ds ys R
@@ -82,6 +87,7 @@ SelectBelowUnion {V} same = (all : Bool) (c : List V → ℕ) (xs ys : List (Ran
     → Each Stands xs → Each Stands ys
     → SameBag (select c (union same all xs ys)) (union same all (select c xs) (select c ys))
 
+-- The same of INTERSECT and EXCEPT.
 abbrev pub SelectBelowClasses : {V : Type 0} → (V → V → Bool) → Type 0
 SelectBelowClasses {V} same = (kind : ClassKind) (all : Bool) (c : List V → ℕ)
     (xs ys : List (Ranked V)) → Each Stands xs → Each Stands ys
@@ -90,25 +96,30 @@ SelectBelowClasses {V} same = (kind : ClassKind) (all : Bool) (c : List V → �
 
 -- ---- the same of every set operation
 
+-- One bag on each side gives one bag.
 abbrev pub SetRowsAlike : {V : Type 0} → (V → V → Bool) → Type 0
 SetRowsAlike {V} same = (operation : SetOperation) (xs us ys vs : List (Ranked V))
     → SameBag xs us → SameBag ys vs
     → SameBag (set_rows same operation xs ys) (set_rows same operation us vs)
 
+-- Over a domain that is pushed into both sides.
 abbrev pub SetRowsAnswer : {V : Type 0} → (V → V → Bool) → Type 0
 SetRowsAnswer {V} same = (operation : SetOperation) (ds xs ys : List (Ranked V))
     (L R : List V → List (Ranked V)) → Answers same ds xs L → Answers same ds ys R
     → Answers same ds (set_rows same operation xs ys) (λ d. set_rows same operation (L d) (R d))
 
+-- Rows that stand at True or at a fault give such rows.
 abbrev pub SetRowsStand : {V : Type 0} → (V → V → Bool) → Type 0
 SetRowsStand {V} same = (operation : SetOperation) (xs ys : List (Ranked V))
     → Each Stands xs → Each Stands ys → Each Stands (set_rows same operation xs ys)
 
+-- What a test says of the values of each row of both sides it says of each row.
 abbrev pub SetRowsKeep : {V : Type 0} → (V → V → Bool) → Type 0
 SetRowsKeep {V} same = (p : List V → Bool) (operation : SetOperation)
     (xs ys : List (Ranked V)) → Each (λ x. p x.values ≡ true) xs → Each (λ x. p x.values ≡ true) ys
     → Each (λ x. p x.values ≡ true) (set_rows same operation xs ys)
 
+-- A selection of what an operation gives is the operation of the selections.
 abbrev pub SelectBelowSetRows : {V : Type 0} → (V → V → Bool) → Type 0
 SelectBelowSetRows {V} same = (operation : SetOperation) (c : List V → ℕ)
     (xs ys : List (Ranked V)) → Each Stands xs → Each Stands ys
