@@ -10,6 +10,7 @@ mod names;
 mod node;
 mod numbering;
 mod operation;
+mod order;
 mod plan;
 mod query;
 mod source;

@@ -6,10 +6,10 @@ use crate::names::{Names, both, names_at, push_name, push_names, push_number, pu
 use crate::node::{Done, push_comma};
 use crate::numbering::Numbering;
 use crate::operation::{any_words, operation_detail, operation_word, side_text};
+use crate::order::push_order;
 use crate::source::{SourceText, joined_sources, table_source};
 use crate::subquery::{ShownQuery, clause, first_clauses, put_condition, query_name};
 use crate::tables::put_tables;
-use base_order_limit::OrderKey;
 use base_set_rows::SetOperation;
 use expr_scalar::Expr;
 use sql_bound_query::{
@@ -480,26 +480,4 @@ pub fn query_lines(alloc: Global, query: &BoundQuery) -> Result<Vec<PlanLine>, A
         lines.push(clause(alloc, number, 0, b"order", order)?)?;
     }
     Ok(lines)
-}
-
-/// Appends the keys of an order by the names of their columns, and a limit.
-fn push_order(
-    text: &mut Vec<u8>,
-    names: &[Vec<u8>],
-    order: &[OrderKey],
-    limit: Option<u32>,
-) -> Result<(), AllocError> {
-    for key in order {
-        push_comma(text)?;
-        push_name(text, names, key.column)?;
-        if key.is_descending {
-            text.extend_from_slice(b" desc")?;
-        }
-    }
-    if let Some(most) = limit {
-        push_comma(text)?;
-        text.extend_from_slice(b"limit ")?;
-        push_number(text, most as usize)?;
-    }
-    Ok(())
 }
