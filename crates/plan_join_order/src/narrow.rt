@@ -95,9 +95,15 @@ fn tried(
     Ok(Some(Asked { parts, output }))
 }
 
+// Whether inputs keep all their columns: under a domain they do, but for one table alone.
+fn stay(n: u32, parts: &Collected) -> bool {
+    let inputs = parts.inputs.as_slice();
+    n > 0 && !(inputs.len() == 1 && matches!(&inputs[0], DepTree::Scan(_)))
+}
+
 /// The same rows of inputs without the columns that neither the conditions nor the select list
-/// read. Under a domain they stay as they are, so that a table is not read together with the
-/// domain.
+/// read. Under a domain only one table alone is narrowed, so that no other is read together with
+/// the domain.
 pub(crate) fn narrowed(
     alloc: Global,
     n: u32,
@@ -108,7 +114,7 @@ pub(crate) fn narrowed(
         Narrows n parts.inputs parts.conditions output new.parts.inputs new.parts.conditions
         new.output) }
 {
-    if n > 0 {
+    if stay(n, &parts) {
         return Ok(Asked { parts, output });
     }
     match tried(alloc, n, &parts, output.as_slice())? {

@@ -33,7 +33,7 @@ use Rattle.plan_algebra.specs.declared.tree.Side.{Side}
 use Rattle.plan_algebra.specs.declared.tree.Side.TheVariants.{Closed}
 use Rattle.plan_algebra.specs.Trees.{Database, HasKinds, TreeMeaning, tree_step, tree_meaning, width_of, side_of, right_row}
 use Rattle.plan_algebra.specs.Plans.{plan_rows, plan_width, is_formed}
-use Rattle.plan_algebra.proofs.Opened.{meaning_Scan, meaning_Select, meaning_Join, meaning_Outer}
+use Rattle.plan_algebra.proofs.Opened.{meaning_Scan, meaning_Select, meaning_Project, meaning_Join, meaning_Outer}
 use Rattle.plan_unnesting.specs.declared.domain.DomainRows.{DomainRows}
 use Rattle.plan_unnesting.specs.declared.domain.DomainRows.TheVariants as domain
 use Rattle.plan_unnesting.specs.declared.domain.Origin.{Origin}
@@ -47,7 +47,7 @@ use Rattle.plan_unnesting.specs.Growth.{IsPut}
 use Rattle.plan_unnesting.specs.Lowerings.{Lowers, IsOwn}
 use Rattle.plan_unnesting.specs.OwnColumns.{StandForAll}
 use Rattle.plan_unnesting.specs.PlanKinds.{AreKindsOf}
-use Rattle.plan_unnesting.specs.FromRows.{apart_rows, apart_meaning, GivesApart, IsPart, IsOwnCondition, IsOwnOn, SelectsApart, JoinsApart, OutersApart, IsOverDomain, LowersApart}
+use Rattle.plan_unnesting.specs.FromRows.{apart_rows, apart_meaning, GivesApart, IsPart, AreOwn, IsOwnCondition, IsOwnOn, SelectsApart, JoinsApart, OutersApart, IsOverDomain, LowersApart}
 use Rattle.plan_unnesting.proofs.Arms.{puts, selection_over}
 use Rattle.plan_unnesting.proofs.Grown.{same_plan, both_more, grows_as, grown_length, kept_rows, kept_width}
 use Rattle.plan_unnesting.proofs.Kept.{kept_in_plan, same_footing, both_same, holds_later, settled_first}
@@ -152,6 +152,23 @@ gives_as {before = before} {after = after} {n = n} {a = a} e g = subst (λ k. Gi
 pub scan_part : {before new : List Node} {tree : DepTree} {table : TableName} {a : Apart} (f : Footing) → tree ≡ t.Scan table → ((n : ℕ) → GivesApart before new (tree_step (o.Scan table)) n a)
     → IsPart before new (tree_meaning tree) f f (part.Apart a)
 scan_part {table = table} f is g = (refl, gives_as (ap tree_meaning is ∙ meaning_Scan table) (g (footing_width f.rows)))
+
+-- columns of a table
+pub list_part : {before new : List Node} {tree input seen : DepTree} {table : TableName}
+    {es read own : List Expr} {a : Apart} {n : ℕ} (f : Footing) (found : Option (List Expr))
+    → tree ≡ t.Project input es → seen ≡ input → seen ≡ t.Scan table → n ≡ footing_width f.rows
+    → read ≡ es → IfSome found (AreOwn n read) → found ≡ Some own
+    → ((n : ℕ) (es : List Expr) → AreOwn n es own
+    → GivesApart before new (tree_step (o.Project (tree_step (o.Scan table)) es)) n a)
+    → IsPart before new (tree_meaning tree) f f (part.Apart a)
+list_part {input = input} {table = table} {es = es} {read = read} {own = own} {n = n} f found is same scan w r h there g =
+    let own_is : AreOwn n read own = subst (λ x. IfSome x (AreOwn n read)) there h in (
+      refl,
+      gives_as (ap tree_meaning is ∙ meaning_Project input es
+          ∙ ap (λ m. tree_step (o.Project m es)) (ap tree_meaning (sym same ∙ scan) ∙ meaning_Scan table))
+          (g (footing_width f.rows) es
+          (subst (λ x. AreOwn (footing_width f.rows) x own) r (subst (λ k. AreOwn k read own) w own_is))),
+    )
 
 -- a selection
 pub select_part : {before old new : List Node} {tree input seen : DepTree} {condition read : Expr} {f g : Footing} {p : Part} {a next : Apart} {n : ℕ} → tree ≡ t.Select input condition → seen ≡ input

@@ -2,11 +2,11 @@
 use Rattle.std.proofs.Common.{◌≡◌, ℕ, ◌+◌, List, [], ◌∷◌, ◌++◌, refl, sym, ◌∙◌, ap, subst, arith, length}
 use Rattle.std.specs.Prelude.{true, min, IsTrue, replicate}
 use Rattle.std.specs.List.{filter, flat_map}
-use Rattle.std.proofs.lemmas.List.{length-append}
+use Rattle.std.proofs.lemmas.List.{length-append, length-map, length-replicate}
 use Rattle.base_row_laws.specs.Ranked.{Ranked, ranked, true_rank}
 use Rattle.base_row_laws.specs.Bags.{SameBag, Each}
 use Rattle.base_row_laws.specs.Rows.{scanned}
-use Rattle.base_row_laws.specs.Operators.{select, join, pair, or_else, outer_loop}
+use Rattle.base_row_laws.specs.Operators.{select, project, join, pair, or_else, outer_loop}
 use Rattle.base_row_laws.specs.Matched.{without_from, outer_matched}
 use Rattle.base_row_laws.specs.MoveLaws.{OfLeft}
 use Rattle.base_row_laws.proofs.Bags.{SameBag-refl, SameBag-sym, SameBag-trans}
@@ -21,17 +21,18 @@ use Rattle.base_schema.specs.declared.table.TableName.{TableName}
 use Rattle.base_schema.specs.Tables.{kinds_of}
 use Rattle.expr_scalar.specs.declared.expr.Expr.{Expr}
 use Rattle.expr_scalar.specs.declared.expr.Expr.TheVariants as e
+use Rattle.expr_scalar.specs.Meaning.{value, values}
 use Rattle.expr_conditions.specs.Ranks.{rank_of, all_rank, says}
 use Rattle.expr_conditions.proofs.Ranks.{rank_All, all_rank-le}
 use Rattle.plan_algebra.specs.declared.node.Node.{Node}
 use Rattle.plan_algebra.specs.declared.node.Node.TheVariants as node
 use Rattle.plan_algebra.specs.declared.tree.DepTree.TheOpen as t
-use Rattle.plan_algebra.specs.Trees.{Database, HasKinds, tree_step}
+use Rattle.plan_algebra.specs.Trees.{Database, HasKinds, tree_step, listed}
 use Rattle.plan_algebra.specs.Plans.{plan_rows, plan_width, is_formed}
 use Rattle.plan_algebra.proofs.Widths.{rows_are_wide}
 use Rattle.plan_unnesting.specs.declared.from_rows.Apart.{Apart}
 use Rattle.plan_unnesting.specs.Growth.{IsPut}
-use Rattle.plan_unnesting.specs.FromRows.{GivesApart, IsGrown, AreOwnAndRest, IsOwnCondition, KeepsRows, SelectsApart, JoinsApart, OutersApart}
+use Rattle.plan_unnesting.specs.FromRows.{GivesApart, AreOwn, IsGrown, AreOwnAndRest, IsOwnCondition, KeepsRows, SelectsApart, JoinsApart, OutersApart}
 use Rattle.plan_unnesting.proofs.Grown.{same_plan, put_more, put_rows, put_width, put_last}
 use Rattle.plan_unnesting.proofs.Owned.{rank_within}
 
@@ -60,6 +61,42 @@ scan_apart {before = before} {new = new} {table = table} part n p w none = recor
   rows = λ db k d ld.
       same_list (ap (select (λ t. all_rank part.conditions (d ++ t))) (put_rows db p)
       ∙ all_scanned (λ t. all_rank part.conditions (d ++ t)) (λ t. ap (λ es. all_rank es (d ++ t)) none) (db table));
+}
+
+-- columns of a table
+all_listed : (c : List Value → ℕ) (f g : List Value → List Value)
+    → ((row : List Value) → c row ≡ true_rank) → ((row : List Value) → f row ≡ g row)
+    → (rows : List (List Value)) → select c (project f (scanned rows)) ≡ project g (scanned rows)
+all_listed c f g e s [] = refl
+all_listed c f g e s (r ∷ rows) =
+    rw (e (f r)) (ap (λ v. ranked v true_rank ∷ select c (project f (scanned rows))) (s r)
+    ∙ ap (λ l. ranked (g r) true_rank ∷ l) (all_listed c f g e s rows))
+
+own_long : (n : ℕ) (es own : List Expr) → AreOwn n es own → length own ≡ length es
+unfolding values
+own_long n es own a =
+    let row : List Value = replicate n Null in
+    sym (length-map own (λ e. value e [])) ∙ ap length (a.gives row [] (length-replicate n Null))
+    ∙ length-map es (λ e. value e (row ++ []))
+
+pub list_apart : {before mid new : List Node} {table : TableName} {own : List Expr} {scan : ℕ}
+    (part : Apart) (n : ℕ) (es : List Expr) → AreOwn n es own
+    → IsPut before mid (node.Scan table) scan → IsPut mid new (node.Project scan own) part.rows
+    → part.width ≡ length own → part.conditions ≡ []
+    → GivesApart before new (tree_step (t.Project (tree_step (t.Scan table)) es)) n part
+unfolding plan_width plan_rows listed
+list_apart {before = before} {table = table} {own = own} part n es is q p w none = record {
+  most = 0;
+  plan = put_more (put_more (same_plan before) q) p;
+  few = omega arith;
+  last = put_last p;
+  wide = put_width p ∙ sym w;
+  width = w ∙ own_long n es own is;
+  rows = λ db k d ld.
+      let C : List Value → ℕ = λ t. all_rank part.conditions (d ++ t) in
+      same_list (ap (select C) (put_rows db p ∙ ap (project (values own)) (put_rows db q))
+      ∙ all_listed C (values own) (λ t. values es (d ++ t))
+      (λ t. ap (λ es. all_rank es (d ++ t)) none) (λ t. is.gives d t ld) (db table));
 }
 
 -- the rows that no conditions keep are all

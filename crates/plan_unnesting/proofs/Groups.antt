@@ -1,11 +1,13 @@
 -- Groups under each row of a domain.
-use Rattle.std.proofs.Common.{◌≡◌, ℕ, zero, suc, ◌+◌, List, [], ◌∷◌, ◌++◌, refl, sym, ◌∙◌, ap, subst, arith, length, take}
-use Rattle.std.specs.List.{range_with_len}
-use Rattle.std.proofs.lemmas.List.{append-nil, length-append}
+use Rattle.std.proofs.Common.{◌≡◌, ℕ, zero, suc, ◌+◌, ◌<◌, List, [], ◌∷◌, ◌++◌, map, refl, sym, ◌∙◌, ap, subst, arith, length, take}
+use Rattle.std.proofs.Common.{inl, inr}
+use Rattle.std.specs.List.{All, range_with_len}
+use Rattle.std.proofs.lemmas.List.{append-nil, length-append, length-map}
+use Rattle.std.proofs.lemmas.List.Elements.{All-head}
 use Rattle.std.proofs.lemmas.List.FromFn.{length-range_with_len}
 use Rattle.base_row_laws.specs.Ranked.{Ranked, ranked, true_rank}
 use Rattle.base_row_laws.specs.Rows.{columns}
-use Rattle.base_row_laws.specs.Operators.{total, group_by, fill, or_else, partners}
+use Rattle.base_row_laws.specs.Operators.{project, total, group_by, fill, or_else, partners}
 use Rattle.base_row_laws.specs.Domains.{IsDomain, Answers}
 use Rattle.base_row_laws.proofs.Lists.{flat_map-ext_each}
 use Rattle.base_row_laws.proofs.Trees.{total_alone, without_fill, group_step, total_step}
@@ -13,6 +15,9 @@ use Rattle.base_value.specs.declared.value.Value.{Value}
 use Rattle.base_value.specs.declared.value.Value.TheVariants.{Null}
 use Rattle.base_value.specs.Value.{same_value}
 use Rattle.base_value.proofs.Identity.{value_identity}
+use Rattle.expr_scalar.specs.declared.expr.Expr.TheVariants.{Column}
+use Rattle.expr_scalar.specs.Meaning.{values}
+use Rattle.expr_conditions.specs.Ranks.{columns_from}
 use Rattle.plan_algebra.specs.declared.aggregate.Aggregate.{Aggregate}
 use Rattle.plan_algebra.specs.declared.node.Node.{Node}
 use Rattle.plan_algebra.specs.declared.node.Node.TheVariants as node
@@ -28,11 +33,12 @@ use Rattle.plan_unnesting.specs.declared.footing.FootingRows.TheVariants.{One, N
 use Rattle.plan_unnesting.specs.Domains.{IsInPlan}
 use Rattle.plan_unnesting.specs.Footings.{footing_width, footing_rows, as_footing, IsFooting, Settles}
 use Rattle.plan_unnesting.specs.Growth.{IsPut}
-use Rattle.plan_unnesting.specs.Lowerings.{Lowers, IsFilled, IsTotal}
+use Rattle.plan_unnesting.specs.Lowerings.{Lowers, IsFilled, IsGrouped, IsTotal, with_again}
 use Rattle.plan_unnesting.proofs.Grown.{same_plan, grown_length, put_more, kept_rows, kept_width, put_rows}
 use Rattle.plan_unnesting.proofs.Kept.{same_later, settled_first}
 use Rattle.plan_unnesting.proofs.Wide.{over_wide, grouped_wide, keyed_wide, groups_some}
 use Rattle.plan_unnesting.proofs.Arms.{puts}
+use Rattle.plan_unnesting.proofs.Regrouped.{regrouped_wide}
 
 -- by columns of their own
 some_groups : (c : ℕ) (cs : List ℕ) (aggregates : List Aggregate) (n : ℕ) (ds xs : List (Ranked Value)) (L : List Value → List (Ranked Value)) → IsDomain same_value n ds → Answers same_value ds xs L
@@ -44,6 +50,28 @@ some_groups c cs aggregates n ds xs L dom a =
     (λ d. groups_under (c ∷ cs) aggregates d (L d)) dom a
     (λ w. groups_some (range_with_len 0 n) c cs aggregates xs ∙ grouped_wide n (c ∷ cs) A xs w)
     (group_step same_value value_identity (columns Null (c ∷ cs)) A (aggregates_bag aggregates) n ds xs L dom a)
+
+-- the same by columns of the domain, each grouped by once
+some_again : (c : ℕ) (cs : List ℕ) (aggregates : List Aggregate) (n : ℕ)
+    (ds xs : List (Ranked Value)) (L : List Value → List (Ranked Value))
+    → IsDomain same_value n ds → Answers same_value ds xs L → All (λ b. b < n) (c ∷ cs)
+    → Answers same_value ds
+    (project (values (map Column (with_again n (c ∷ cs) (length aggregates))))
+    (groups (range_with_len 0 n) aggregates xs))
+    (λ d. groups_under (c ∷ cs) aggregates d (L d))
+unfolding keys_under aggregates_under
+some_again c cs aggregates zero ds xs L dom a below =
+    let none = All-head (λ b. b < zero) c cs below in absurd (omega (arith, none))
+some_again c cs aggregates (suc n) ds xs L dom a below =
+    let A = aggregates_of aggregates in
+    over_wide (suc n) ds xs
+    (project (values (map Column (with_again (suc n) (c ∷ cs) (length aggregates))))
+    (groups (range_with_len 0 (suc n)) aggregates xs))
+    (group_by same_value (λ x. take (suc n) x ++ columns Null (c ∷ cs) x) A xs) L
+    (λ d. groups_under (c ∷ cs) aggregates d (L d)) dom a
+    (λ w. regrouped_wide (suc n) (c ∷ cs) aggregates xs below w)
+    (group_step same_value value_identity (columns Null (c ∷ cs)) A (aggregates_bag aggregates)
+    (suc n) ds xs L dom a)
 
 -- a fill over the one group of all rows, where the domain has no columns
 fill_total : (A : List (Ranked Value) → List Value) (ds xs : List (Ranked Value)) → IsDomain same_value 0 ds
@@ -100,11 +128,55 @@ group_some before old new m f g rows id c cs aggregates l p =
     (append-nil m.scans) (let d = l.few in omega arith) (group_width n (c ∷ cs) aggregates)
     (λ db h. some_groups c cs aggregates n (footing_rows db before f.rows) (plan_rows db old rows) (m.rows db) h.is_domain (l.answers db h))
 
+-- by columns of the domain
+again_width : (n : ℕ) (by : List ℕ) (m : ℕ)
+    → length (map Column (with_again n by m)) ≡ n + (length by + m)
+again_width n by m =
+    let one = length-map (with_again n by m) Column in
+    let two = length-append (columns_from 0 n ++ by) (columns_from n m) in
+    let three = length-append (columns_from 0 n) by in
+    let four = run_long 0 n in
+    let five = run_long n m in
+    omega (arith, one, two, three, four, five)
+  where
+    run_long : (k n : ℕ) → length (columns_from k n) ≡ n
+    run_long k zero = refl
+    run_long k (suc n) = ap suc (run_long (suc k) n)
+
+group_again : (before old new : List Node) (m : TreeMeaning) (f g : Footing) (rows id c : ℕ)
+    (cs : List ℕ) (aggregates : List Aggregate) → Lowers before old m f g rows
+    → All (λ b. b < footing_width f.rows) (c ∷ cs)
+    → IsPut (old ++ node.Group rows (range_with_len 0 (footing_width f.rows)) aggregates ∷ []) new
+    (node.Project (length old)
+    (map Column (with_again (footing_width f.rows) (c ∷ cs) (length aggregates)))) id
+    → Lowers before new (tree_step (t.Group m (c ∷ cs) aggregates)) f g id
+unfolding plan_rows plan_width
+group_again before old new m f g rows id c cs aggregates l below p =
+    let n = footing_width f.rows in
+    let group = node.Group rows (range_with_len 0 n) aggregates in
+    let list = map Column (with_again n (c ∷ cs) (length aggregates)) in
+    let mid = old ++ group ∷ [] in
+    let q : IsPut old mid group (length old) = record { number = refl; nodes = refl } in
+    let more = put_more l.plan q in
+    puts before mid new (m.scans ++ []) (l.most + 0) (tree_step (t.Group m (c ∷ cs) aggregates)) f g
+    id (node.Project (length old) list) more (same_later l.same (put_more (same_plan old) q)) p
+    (append-nil (m.scans ++ []) ∙ append-nil m.scans) (let z = l.few in omega arith)
+    (again_width n (c ∷ cs) (length aggregates))
+    (λ db h.
+    let xs = plan_rows db old rows in
+    let ds = footing_rows db before f.rows in
+    let here : plan_rows db mid (length old) ≡ groups (range_with_len 0 n) aggregates xs =
+    put_rows db q in
+    subst (λ z. Answers same_value ds (project (values list) z)
+    ((tree_step (t.Group m (c ∷ cs) aggregates)).rows db)) (sym here)
+    (some_again c cs aggregates n ds xs (m.rows db) h.is_domain (l.answers db h) below))
+
 pub group_lowers : (before old new : List Node) (m : TreeMeaning) (f g : Footing) (rows id : ℕ) (by : List ℕ) (aggregates : List Aggregate) → (by ≡ [] → ⊥)
-    → Lowers before old m f g rows → IsPut old new (node.Group rows (range_with_len 0 (footing_width f.rows) ++ by) aggregates) id
+    → Lowers before old m f g rows → IsGrouped old new rows (footing_width f.rows) by aggregates id
     → Lowers before new (tree_step (t.Group m by aggregates)) f g id
 group_lowers before old new m f g rows id [] aggregates some l p = absurd (some refl)
-group_lowers before old new m f g rows id (c ∷ cs) aggregates some l p = group_some before old new m f g rows id c cs aggregates l p
+group_lowers before old new m f g rows id (c ∷ cs) aggregates some l (inl p) = group_some before old new m f g rows id c cs aggregates l p
+group_lowers before old new m f g rows id (c ∷ cs) aggregates some l (inr p) = group_again before old new m f g rows id c cs aggregates l p.0 p.1
 
 -- over a node, without
 total_filled : (before old new : List Node) (m : TreeMeaning) (f g : Footing) (rows d width id : ℕ) (aggregates : List Aggregate) → f.rows ≡ AtNode d width → IsFooting before f.rows

@@ -13,6 +13,7 @@ pub mod Kept
 pub mod KindNodes
 pub mod Turns
 pub mod OwnNodes
+pub mod Regrouped
 pub mod Owned
 pub mod Sides
 pub mod Steps

@@ -25,7 +25,7 @@ use Rattle.plan_unnesting.specs.declared.footing.FootingRows.TheVariants.{One}
 use Rattle.plan_unnesting.specs.declared.domain.DomainRows.{DomainRows}
 use Rattle.plan_unnesting.specs.Footings.{footing_width, IsFooting, Settles}
 use Rattle.plan_unnesting.specs.Growth.{IsPut}
-use Rattle.plan_unnesting.specs.Lowerings.{Lowers, LowersRight, LowersSides, IsOwnFooting, IsTotal}
+use Rattle.plan_unnesting.specs.Lowerings.{Lowers, LowersRight, LowersSides, IsOwnFooting, IsGrouped, IsTotal}
 use Rattle.plan_unnesting.proofs.Arms.{select_lowers, project_lowers, distinct_lowers}
 use Rattle.plan_unnesting.proofs.Both.{sides, join_lowers, outer_lowers, mark_lowers, single_lowers, set_lowers, set_wide}
 use Rattle.plan_unnesting.proofs.Groups.{group_lowers, total_put}
@@ -74,13 +74,13 @@ distinct_arm {before = before} {old = old} {new = new} {input = input} {f = f} {
 
 pub group_arm : {before old new : List Node} {tree input seen : DepTree} {by columns : List ℕ} {aggregates read : List Aggregate} {f g : Footing} {rows w id : ℕ} → (columns ≡ [] → ⊥)
     → tree ≡ t.Group input by aggregates → w ≡ footing_width f.rows → seen ≡ input → Lowers before old (tree_meaning seen) f g rows → columns ≡ by → read ≡ aggregates
-    → IsPut old new (node.Group rows (range_with_len 0 w ++ columns) read) id → Lowers before new (tree_meaning tree) f g id
+    → IsGrouped old new rows w columns read id → Lowers before new (tree_meaning tree) f g id
 group_arm {before = before} {old = old} {new = new} {input = input} {by = by} {columns = columns} {aggregates = aggregates} {read = read} {f = f} {g = g} {rows = rows} {id = id} some is w e l c r p =
     means (ap tree_meaning is ∙ meaning_Group input by aggregates)
     (group_lowers before old new (tree_meaning input) f g rows id by aggregates (λ none. some (c ∙ none)) (read_as e l)
-    (subst (λ a. IsPut old new (node.Group rows (range_with_len 0 (footing_width f.rows) ++ by) a) id) r
-    (subst (λ b. IsPut old new (node.Group rows (range_with_len 0 (footing_width f.rows) ++ b) read) id) c
-    (subst (λ n. IsPut old new (node.Group rows (range_with_len 0 n ++ columns) read) id) w p))))
+    (subst (λ a. IsGrouped old new rows (footing_width f.rows) by a id) r
+    (subst (λ b. IsGrouped old new rows (footing_width f.rows) b read id) c
+    (subst (λ n. IsGrouped old new rows n columns read id) w p))))
 
 pub total_arm : {before mid old new : List Node} {tree input seen : DepTree} {by columns : List ℕ} {aggregates read : List Aggregate} {f g h : Footing} {r : DomainRows} {rows id : ℕ}
     → columns ≡ [] → tree ≡ t.Group input by aggregates → Settles before mid f g r → seen ≡ input → Lowers mid old (tree_meaning seen) g h rows → columns ≡ by → read ≡ aggregates

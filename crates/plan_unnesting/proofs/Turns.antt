@@ -3,18 +3,24 @@ use Rattle.std.proofs.Common.{◌≡◌, ◌⊎◌, inl, inr, ℕ, zero, suc, �
 use Rattle.std.specs.Prelude.{replicate, IsTrue, Option, Some, None, slice_get, slice_index_or}
 use Rattle.std.proofs.lemmas.Bool.{cases_lt}
 use Rattle.std.proofs.lemmas.List.{append_assoc, take_more, map-append, length-append, get_or_append_left, get_or_push}
+use Rattle.std.proofs.lemmas.List.{get_or-append_right}
 use Rattle.std.proofs.lemmas.Grind.{replicate_next}
 use Rattle.base_row_laws.specs.Bags.{Each}
 use Rattle.base_row_laws.specs.Rows.{columns}
 use Rattle.base_value.specs.declared.value.Value.{Value}
 use Rattle.base_value.specs.declared.value.Value.TheVariants.{Null}
 use Rattle.expr_scalar.specs.declared.expr.Expr.{Expr}
+use Rattle.expr_scalar.specs.declared.expr.Expr.TheVariants.{Column}
+use Rattle.expr_scalar.specs.Meaning.{value, values}
+use Rattle.expr_scalar.proofs.Opened.{value_Column}
 use Rattle.expr_scalar.specs.declared.kind.Kind.{Kind}
 use Rattle.plan_algebra.specs.declared.node.Node.{Node}
 use Rattle.plan_unnesting.specs.declared.domain.Origin.{Origin}
 use Rattle.plan_unnesting.specs.Domains.{is_unchanged}
 use Rattle.plan_unnesting.specs.OwnColumns.{StandsFor, StandForAll}
+use Rattle.plan_unnesting.specs.FromRows.{AreOwn}
 use Rattle.plan_unnesting.specs.PlanKinds.{ColumnKinds, can_stand, IsListed, AreListed, AreKindsOf, AreKindsOfFirst, AreNotesOf}
+use Rattle.plan_unnesting.proofs.Wide.{values-append}
 
 -- f of one element more
 pub map_put : {X Y : Type 0} (f : X → Y) (xs : List X) (i : ℕ) (x : X) (all now : List Y) → i < length xs → x ≡ get_or xs i x → all ≡ map f (take i xs) → now ≡ all ++ f x ∷ []
@@ -42,6 +48,35 @@ pub listed_put : (ks : ColumnKinds) (es : List Expr) (i : ℕ) (e : Expr) (k : O
     → now ≡ all ++ k ∷ [] → AreListed ks (take (i + 1) es) now
 listed_put ks es i e k all now h is a l g =
     subst (λ x. AreListed ks x now) (ap (λ y. take i es ++ y ∷ []) is ∙ sym (take_more es i e h)) (subst (AreListed ks (take i es ++ e ∷ [])) (sym g) (listed_more ks (take i es) all e k a l))
+
+-- a select list of columns behind a domain's, and one more
+pub none_own : (n : ℕ) → AreOwn n [] []
+unfolding values
+none_own n = record { gives = λ d t ld. refl }
+
+own_more : (n place : ℕ) (es own : List Expr) → AreOwn n es own
+    → AreOwn n (es ++ Column (n + place) ∷ []) (own ++ Column place ∷ [])
+unfolding values
+own_more n place es own a = record {
+  gives = λ d t ld.
+      let right : slice_index_or (d ++ t) (n + place) Null ≡ slice_index_or t place Null =
+      get_or-append_right d t n (n + place) Null ld (omega arith)
+      ∙ ap (λ j. slice_index_or t j Null) (omega arith) in
+      values-append own (Column place ∷ []) t
+      ∙ ap (λ l. l ++ value (Column place) t ∷ []) (a.gives d t ld)
+      ∙ ap (λ v. values es (d ++ t) ++ v ∷ [])
+      (value_Column place t ∙ sym right ∙ sym (value_Column (n + place) (d ++ t)))
+      ∙ sym (values-append es (Column (n + place) ∷ []) (d ++ t));
+}
+
+pub own_put : (n : ℕ) (es : List Expr) (i : ℕ) (e : Expr) (place : ℕ) (all now : List Expr)
+    → i < length es → e ≡ get_or es i e → e ≡ Column (n + place) → AreOwn n (take i es) all
+    → now ≡ all ++ Column place ∷ [] → AreOwn n (take (i + 1) es) now
+own_put n es i e place all now h is c a g =
+    subst (λ x. AreOwn n x now)
+    (ap (λ y. take i es ++ y ∷ []) (sym c ∙ is) ∙ sym (take_more es i e h))
+    (subst (AreOwn n (take i es ++ Column (n + place) ∷ [])) (sym g)
+    (own_more n place (take i es) all a))
 
 -- columns that stand for the first ones, and one more
 pub record StandSoFar (ks : List (Option Kind)) (notes : List Origin) (n : ℕ) (c : Expr) (count : ℕ) (own : List ℕ) : Type 0 where

@@ -41,7 +41,7 @@ unfolding values
 column_values [] row = refl
 column_values (c ∷ cs) row = ap (λ v. v ∷ values (map Column cs) row) (value_Column c row) ∙ ap (λ l. slice_index_or row c Null ∷ l) (column_values cs row)
 
-values-append : (es fs : List Expr) (row : List Value) → values (es ++ fs) row ≡ values es row ++ values fs row
+pub values-append : (es fs : List Expr) (row : List Value) → values (es ++ fs) row ≡ values es row ++ values fs row
 unfolding values
 values-append es fs row = map-append (λ e. value e row) es fs
 

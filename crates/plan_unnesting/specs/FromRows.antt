@@ -6,6 +6,7 @@ use Rattle.base_row_laws.specs.Operators.{select, join_loop, outer_loop}
 use Rattle.base_value.specs.declared.value.Value.{Value}
 use Rattle.base_value.specs.declared.value.Value.TheVariants.{Null}
 use Rattle.expr_scalar.specs.declared.expr.Expr.{Expr}
+use Rattle.expr_scalar.specs.Meaning.{values}
 use Rattle.expr_conditions.specs.Ranks.{rank_of, all_rank, says}
 use Rattle.plan_algebra.specs.declared.node.Node.{Node}
 use Rattle.plan_algebra.specs.declared.node.Node.TheVariants.{Select, Join}
@@ -55,6 +56,11 @@ abbrev pub IsPart : (before after : List Node) → TreeMeaning → (old new : Fo
 IsPart before after m old new (Whole id) = Lowers before after m old new id
 IsPart before after m old new (WithoutDomain part) =
     (new ≡ old) × GivesApart before after m (footing_width old.rows) part
+
+-- a select list over rows of n domain columns and others gives what another gives over the others
+-- alone
+pub record AreOwn (n : ℕ) (es own : List Expr) : Type 0 where
+  pub gives : (d t : List Value) → length d ≡ n → values own t ≡ values es (d ++ t)
 
 -- the conditions say of rows of n domain columns, w others and more after these what others say
 -- without these

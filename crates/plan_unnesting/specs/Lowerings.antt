@@ -1,6 +1,7 @@
 -- What it is for a plan's node to stand for a dependent tree over a domain.
-use Rattle.std.specs.Prelude.{◌≡◌, ℕ, ◌+◌, ◌≤◌, ◌<◌, List, [], ◌∷◌, ◌++◌, length, map}
+use Rattle.std.specs.Prelude.{◌≡◌, ℕ, ◌+◌, ◌≤◌, ◌<◌, ◌⊎◌, List, [], ◌∷◌, ◌++◌, length, map}
 use Rattle.std.specs.List.{range_with_len}
+use Rattle.std.specs.List.{All as Every}
 use Rattle.base_row_laws.specs.Ranked.{Ranked}
 use Rattle.base_row_laws.specs.Bags.{SameBag}
 use Rattle.base_row_laws.specs.Domains.{values_of, under, meeting, Answers}
@@ -13,6 +14,7 @@ use Rattle.base_schema.specs.declared.table.TableName.{TableName}
 use Rattle.base_schema.specs.Tables.{kinds_of}
 use Rattle.expr_scalar.specs.declared.expr.Expr.{Expr}
 use Rattle.expr_scalar.specs.declared.expr.Expr.TheVariants.{All, Column}
+use Rattle.expr_conditions.specs.Ranks.{columns_from}
 use Rattle.plan_algebra.specs.declared.aggregate.Aggregate.{Aggregate}
 use Rattle.plan_algebra.specs.declared.node.Node.{Node}
 use Rattle.plan_algebra.specs.declared.node.Node.TheVariants.{Scan, Select, Project, Join, Group, Fill}
@@ -129,6 +131,23 @@ abbrev pub IsSelection : (old new : List Node) → TableName → Expr → Domain
 IsSelection old new table c One id = IsPut (old ++ Scan table ∷ []) new (Select (length old) c) id
 IsSelection old new table c (AtNode d width) id =
     IsPut (old ++ Scan table ∷ []) new (Join d (length old) [] c) id
+
+-- the columns of groups by a domain's columns, and before their aggregates some of the domain's once
+-- more
+abbrev pub with_again : (width : ℕ) → List ℕ → (aggregates : ℕ) → List ℕ
+with_again width by aggregates =
+    (columns_from 0 width ++ by) ++ columns_from width aggregates
+
+-- The plan grew by the groups of the node `rows` by a domain's columns and by others. Where the
+-- others are the domain's too, it grew by the groups by the domain's columns alone, and by these
+-- with the others once more.
+abbrev pub IsGrouped : (old new : List Node) (rows width : ℕ) → List ℕ → List Aggregate → ℕ
+    → Type 0
+IsGrouped old new rows width by aggregates id =
+    IsPut old new (Group rows (range_with_len 0 width ++ by) aggregates) id
+    ⊎ (Every (λ c. c < width) by
+    × IsPut (old ++ Group rows (range_with_len 0 width) aggregates ∷ []) new
+    (Project (length old) (map Column (with_again width by (length aggregates)))) id)
 
 -- the plan grew by the groups of the node `rows` by a domain's columns alone, and by the fill over
 -- them

@@ -1,6 +1,7 @@
-//! Whether the tables of a FROM have columns of their own for all of a domain's, but not the first
-//! ones of them alone, and are connected with one another. Whatever is said here, the rows are the
-//! same, so no clause speaks of it.
+//! Whether the tables of a FROM are read without the domain at first: one table, or several that
+//! have columns of their own for all of a domain's, but not the first ones of them alone, and are
+//! connected with one another. Whatever is said here, the rows are the same, so no clause speaks of
+//! it.
 use crate::domain::Origin;
 use crate::footing::Footing;
 use crate::origins::{joined_kinds, known_kinds, put_unknown};
@@ -11,8 +12,9 @@ use plan_algebra::{DepTree, Side, width};
 use sqlite_items::Items;
 use std::alloc::{AllocError, Global};
 
-/// Whether a tree's tables have such columns and are connected, and the first input of its last join
-/// has not all of these columns.
+/// Whether a tree is the rows of one table that a condition or a select list reads, or its tables
+/// have such columns and are connected, and the first input of its last join has not all of these
+/// columns.
 pub(crate) fn is_carried(
     alloc: Global,
     tree: &DepTree,
@@ -21,6 +23,9 @@ pub(crate) fn is_carried(
     let n = footing.width()?;
     if n == 0 {
         return Ok(false);
+    }
+    if is_of_table(tree) {
+        return Ok(true);
     }
     let notes = footing.unchanged.as_slice();
     let Some(first) = first_input(tree) else {
@@ -32,14 +37,25 @@ pub(crate) fn is_carried(
     Ok(is_later && has_all && connected)
 }
 
-// The input whose rows come first in those of a part of FROM. A selection of one table has none: it
-// is lowered as a whole.
+// Whether a tree is the selected rows of one table, or its select list. The conditions that read the
+// table alone are then asked before the others, and the rows that they drop are no longer there.
+fn is_of_table(tree: &DepTree) -> bool {
+    match tree {
+        DepTree::Select(t, _) => is_table(t.get()) || is_of_table(t.get()),
+        DepTree::Project(t, _) => is_table(t.get()),
+        _ => false,
+    }
+}
+
+// Whether a tree is a table.
+fn is_table(tree: &DepTree) -> bool {
+    matches!(tree, DepTree::Scan(_))
+}
+
+// The input whose rows come first in those of a part of FROM.
 fn first_input(tree: &DepTree) -> Option<&DepTree> {
     match tree {
-        DepTree::Select(t, _) => match t.get() {
-            DepTree::Scan(_) => None,
-            input => Some(input),
-        },
+        DepTree::Select(t, _) => Some(t.get()),
         DepTree::Join(l, _, Side::Closed, _) => Some(l.get()),
         _ => None,
     }

@@ -1,7 +1,8 @@
 //! Rows of FROM without the domain: tables that are joined first, and asked for the domain's
 //! columns in the end.
-ghost use Rattle.std.specs.Prelude.{◌≡◌, ℕ, ◌+◌, ◌<◌, ◌++◌, length, IfOk, IfSome};
+ghost use Rattle.std.specs.Prelude.{◌≡◌, ℕ, ◌+◌, ◌<◌, ◌++◌, List, length, IfOk, IfSome};
 ghost use Rattle.expr_scalar.specs.declared.expr.Expr.{Expr as Expression};
+ghost use Rattle.expr_scalar.specs.declared.expr.Expr.TheVariants.{Column};
 ghost use Rattle.expr_conditions.specs.Ranks.{columns_from};
 ghost use Rattle.plan_algebra.specs.declared.tree.DepTree.TheOpen as tree;
 ghost use Rattle.plan_algebra.specs.Trees.{tree_step, width_of};
@@ -10,6 +11,7 @@ ghost use Rattle.plan_unnesting.specs.Domains.{IsInPlan};
 ghost use Rattle.plan_unnesting.specs.Footings.{footing_width, IsFooting};
 ghost use Rattle.plan_unnesting.specs.FromRows.{
   GivesApart,
+  AreOwn,
   AreOwnAndRest,
   IsGrown,
   IsOwnCondition,
@@ -67,6 +69,61 @@ pub(crate) fn put_apart_table(
 {
     let width = u32::try_from(table.kinds().len()).map_err(|_| AllocError)?;
     let rows = builder.put(Node::Scan(table))?;
+    let conditions = Items::new(alloc);
+    Ok(Apart {
+        rows,
+        width,
+        conditions,
+    })
+}
+
+// The column that an expression is, without the n columns of a domain before it.
+fn own_place(n: u32, e: &Expr) -> Option<u32>
+    ensures { IfSome result (λ place. e.now ≡ Column (n + place)) }
+{
+    let Expr::Column(column) = e else {
+        return None;
+    };
+    if *column < n {
+        return None;
+    }
+    Some(*column - n)
+}
+
+/// A select list of columns that stand after a domain's n, over the rows without the domain;
+/// nothing where it has something else.
+pub(crate) fn own_list(
+    alloc: Global,
+    n: u32,
+    es: &[Expr],
+) -> Result<Option<Items<Expr>>, AllocError>
+    ensures { IfOk result (λ own. IfSome own (AreOwn n es.now)) }
+{
+    let mut own = Items::new(alloc);
+    for e in es {
+        let Some(place) = own_place(n, e) else {
+            return Ok(None);
+        };
+        own.push(Expr::Column(place))?;
+    }
+    Ok(Some(own))
+}
+
+/// These columns of a table's rows.
+#[tactic(auto, using(plan_algebra::proofs::Fits::scan_fits))]
+pub(crate) fn put_apart_list(
+    alloc: Global,
+    builder: &mut Builder,
+    table: TableName,
+    own: Items<Expr>,
+) -> Result<Apart, AllocError>
+    ensures { IfOk result (λ part. (n : ℕ) (es : List Expression) → AreOwn n es own
+        → GivesApart builder.old.nodes builder.new.nodes
+        (tree_step (tree.Project (tree_step (tree.Scan table)) es)) n part) }
+{
+    let width = u32::try_from(own.len()).map_err(|_| AllocError)?;
+    let all = builder.put(Node::Scan(table))?;
+    let rows = builder.put(Node::Project(all, own))?;
     let conditions = Items::new(alloc);
     Ok(Apart {
         rows,

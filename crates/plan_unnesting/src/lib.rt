@@ -5,6 +5,7 @@ mod carried;
 mod domain;
 mod footing;
 mod from_rows;
+mod grouped;
 mod lists;
 mod lowering;
 mod origins;

@@ -11,11 +11,13 @@ use crate::carried::is_carried;
 use crate::domain::Domain;
 use crate::footing::Footing;
 use crate::from_rows::{
-    Part, own_on, put_apart_join, put_apart_outer, put_apart_select, put_apart_table, put_whole,
+    Part, own_list, own_on, put_apart_join, put_apart_list, put_apart_outer, put_apart_select,
+    put_apart_table, put_whole,
 };
+use crate::grouped::put_groups;
 use crate::put::{
-    own_footing, put_distinct, put_group_by, put_join, put_mark, put_outer, put_project, put_scan,
-    put_select, put_selection, put_set, put_single, put_total,
+    own_footing, put_distinct, put_join, put_mark, put_outer, put_project, put_scan, put_select,
+    put_selection, put_set, put_single, put_total,
 };
 use base_set_rows::SetOperation;
 use plan_algebra::{Builder, DepTree, NodeId, Side, width};
@@ -147,11 +149,41 @@ fn lowered_part(
             let part = lowered_outer(alloc, builder, tree, footing)?;
             Ok(part)
         }
+        DepTree::Project(_, _) => {
+            let part = lowered_list(alloc, builder, tree, footing)?;
+            Ok(part)
+        }
         _ => {
             let id = lowered_node(alloc, builder, tree, footing)?;
             Ok(Part::Whole(id))
         }
     }
+}
+
+// A select list of columns of a table. Any other one is lowered as a whole.
+#[cycle(lower)]
+fn lowered_list(
+    alloc: Global,
+    builder: &mut Builder,
+    tree: &DepTree,
+    footing: &mut Footing,
+) -> Result<Part, AllocError>
+    requires { IsFooting builder.old.nodes footing.old.rows }
+    ensures { IfOk result
+        (IsPart builder.old.nodes builder.new.nodes (tree_meaning tree.now)
+        footing.old footing.new) }
+{
+    if let DepTree::Project(input, es) = tree {
+        if let DepTree::Scan(table) = input.get() {
+            let n = footing.width()?;
+            if let Some(own) = own_list(alloc, n, es.as_slice())? {
+                let part = put_apart_list(alloc, builder, *table, own)?;
+                return Ok(Part::Apart(part));
+            }
+        }
+    }
+    let id = lowered_node(alloc, builder, tree, footing)?;
+    Ok(Part::Whole(id))
 }
 
 // A left outer join of such a part, where neither the right side nor the condition reads a domain.
@@ -265,7 +297,7 @@ fn lowered_node(
             }
             let width = footing.width()?;
             let rows = lowered(alloc, builder, input.get(), footing)?;
-            let id = put_group_by(alloc, builder, rows, width, by, aggregates.as_slice())?;
+            let id = put_groups(alloc, builder, rows, width, by, aggregates.as_slice())?;
             Ok(id)
         }
         DepTree::Distinct(input) => {

@@ -1,8 +1,8 @@
 use Rattle.plan_join_order.proofs.Narrowing.{narrows_none, narrows_as}
 use Rattle.plan_join_order.proofs.narrow.narrowed.Goals as goal
 
-pub returns-then-n-gt0 : goal.returns-then-n-gt0
-returns-then-n-gt0 c =
+pub returns-then-stay : goal.returns-then-stay
+returns-then-stay c =
     narrows_none c.args.n c.args.parts.inputs c.args.parts.conditions c.args.output
 
 pub returns-in-Some : goal.returns-in-Some

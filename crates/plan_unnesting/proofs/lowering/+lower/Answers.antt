@@ -3,7 +3,7 @@ use Rattle.plan_algebra.specs.declared.tree.DepTree.TheVariants as tree
 use Rattle.plan_unnesting.proofs.Kept.{settled_in_plan}
 use Rattle.plan_unnesting.proofs.Groups.{total_in_plan}
 use Rattle.plan_unnesting.proofs.Sides.{none_of, some_of}
-use Rattle.plan_unnesting.proofs.ApartArms.{read_whole, scan_part, select_part, join_part, whole_part, part_footing, part_last, part_within, part_wide, later_within, later_wide, right_long, outer_part, closed_long, found_own, found_closed}
+use Rattle.plan_unnesting.proofs.ApartArms.{read_whole, scan_part, list_part, select_part, join_part, whole_part, part_footing, part_last, part_within, part_wide, later_within, later_wide, right_long, outer_part, closed_long, found_own, found_closed}
 use Rattle.plan_unnesting.proofs.Steps.{scan_arm, selection_arm, select_arm, project_arm, distinct_arm, group_arm, total_arm, join_arm, outer_arm, mark_arm, single_arm, outer_wide, right_wide, shared_arm, closed_arm, own_arm, set_arm, set_put, set_even, set_left}
 use Rattle.plan_unnesting.proofs.lowering.+lower.Goals as goal
 
@@ -138,6 +138,11 @@ lowered_part-returns-in-Closed t c =
     join_part (c.in-Join.is ∙ ap (λ s. tree.Join c.in-Join.left c.in-Join.right s c.in-Join.on) c.in-Closed.is) c.in_ok-n-in-Closed.ensures c.get-in-Closed.ensures c.in_ok-outer-in-Closed.ensures c.in-Apart-outer.is
     c.one-none.ensures.rows c.one-none.ensures.unchanged c.get-in-Closed-2.ensures c.in_ok-rows-in-Closed.ensures c.get-in-Apart-outer.ensures c.in_ok-more-in-Apart-outer.ensures c.get-in-Apart-outer-2.ensures
     c.in_ok-part-in-Apart-outer.ensures
+
+pub lowered_list-returns-in-Some : goal.lowered_list-returns-in-Some
+lowered_list-returns-in-Some t c =
+    list_part c.args.footing.now c.in_ok-own.field-0 c.in-Project.is c.get.ensures c.in-Scan.is
+    c.in_ok-n.ensures c.as_slice.ensures c.in_ok-own.ensures c.in-Some.is c.in_ok-part.ensures
 
 pub lowered_outer-put_outer-requires-clause-width : goal.lowered_outer-put_outer-requires-clause-width
 lowered_outer-put_outer-requires-clause-width t c =
