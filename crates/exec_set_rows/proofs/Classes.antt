@@ -1,9 +1,9 @@
 -- INTERSECT and EXCEPT by the groups of both sides' rows by all their columns.
-use Rattle.std.proofs.Common.{◌≡◌, ℕ, zero, suc, ◌<◌, List, [], ◌∷◌, ◌++◌, Bool, true, false, not, refl, sym, ◌∙◌, ap, subst, arith, length, map, inl, inr}
-use Rattle.std.specs.Prelude.{replicate, slice_index_or, get_or}
+use Rattle.std.proofs.Common.{◌≡◌, ℕ, zero, suc, List, [], ◌∷◌, ◌++◌, Bool, not, refl, sym, ◌∙◌, ap, subst, arith, length, map, inl, inr}
+use Rattle.std.specs.Prelude.{replicate}
 use Rattle.std.specs.List.{All, filter, range_with_len}
 use Rattle.std.proofs.lemmas.Bool.{cases_Bool}
-use Rattle.std.proofs.lemmas.List.{append-nil, length-map}
+use Rattle.std.proofs.lemmas.List.{append-nil}
 use Rattle.base_row_laws.specs.Ranked.{Ranked, ranked, true_rank}
 use Rattle.base_row_laws.specs.Bags.{each_once, classes, Each}
 use Rattle.base_row_laws.specs.Rows.{same_row, columns}
@@ -16,7 +16,7 @@ use Rattle.base_value.specs.declared.value.Value.TheVariants.{Null}
 use Rattle.base_value.specs.Value.{same_value}
 use Rattle.base_value.proofs.Identity.{value_identity}
 use Rattle.base_set_rows.specs.declared.kind.ClassKind.{ClassKind}
-use Rattle.base_set_rows.specs.SetOperations.{copies, by_classes}
+use Rattle.base_set_rows.specs.SetOperations.{by_classes}
 use Rattle.base_set_rows.specs.Numbered.{numbers_taken, each_class}
 use Rattle.base_set_rows.proofs.Counted.{no_copies}
 use Rattle.base_set_rows.proofs.Taken.{by_numbers}

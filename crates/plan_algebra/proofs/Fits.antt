@@ -1,5 +1,5 @@
 -- Plans in which each node fits stay so as they grow, and which nodes fit.
-use Rattle.std.proofs.Common.{◌≡◌, ℕ, ◌+◌, ◌<◌, ◌≤◌, List, [], ◌∷◌, ◌++◌, Bool, true, false, refl, sym, ap, ◌∙◌, subst, arith, rules, length, eq-eqb}
+use Rattle.std.proofs.Common.{◌≡◌, ℕ, ◌+◌, ◌<◌, ◌≤◌, List, [], ◌∷◌, ◌++◌, Bool, true, false, refl, sym, subst, rules, length, eq-eqb}
 use Rattle.std.proofs.lemmas.Bool.Decides.{nat_tests}
 use Rattle.std.specs.Prelude.{◌&&◌, IsTrue, nat_lt, nat_le, ◌==◌, Some, slice_get}
 use Rattle.std.specs.List.{list_all, range_with_len}
@@ -16,7 +16,7 @@ use Rattle.base_schema.specs.declared.table.TableName.{TableName}
 use Rattle.plan_algebra.specs.declared.aggregate.Aggregate.{Aggregate}
 use Rattle.plan_algebra.specs.declared.node.Node.TheVariants as node
 use Rattle.plan_algebra.specs.Aggregates.{aggregates_of}
-use Rattle.plan_algebra.specs.Plans.{fits, suits, matches_first, groups_by_domain, plan_width, all_fit, is_formed}
+use Rattle.plan_algebra.specs.Plans.{fits, matches_first, groups_by_domain, plan_width, all_fit, is_formed}
 
 both : (a b : Bool) → IsTrue a → IsTrue b → IsTrue (a && b)
 both true b p q = q

@@ -4,10 +4,9 @@ use Rattle.std.proofs.Common.{length, take, get_or}
 use Rattle.std.proofs.Common.{◌<◌}
 use Rattle.std.proofs.lemmas.List.{append-nil, length-map}
 use Rattle.base_row_laws.specs.Bags.{Each}
-use Rattle.base_row_laws.specs.JoinGroups.{Width}
 use Rattle.base_row_laws.specs.Operators.{project}
 use Rattle.base_row_laws.specs.Ranked.{Ranked, ranked}
-use Rattle.base_row_laws.proofs.Lists.{map-ext_each, Each-weaker}
+use Rattle.base_row_laws.proofs.Lists.{map-ext_each}
 use Rattle.base_row_laws.proofs.Standings as stands
 use Rattle.base_set_rows.specs.declared.kind.SetOperation.{SetOperation}
 use Rattle.base_set_rows.specs.SetOperations.{set_rows}
@@ -21,7 +20,7 @@ use Rattle.expr_scalar.specs.Rename.{IsRenamed, gathered}
 use Rattle.expr_conditions.specs.Ranks.{columns_from}
 use Rattle.expr_conditions.proofs.Gather.{gather_at}
 use Rattle.base_schema.specs.declared.table.TableName.{TableName}
-use Rattle.base_schema.specs.State.{State, table_rows}
+use Rattle.base_schema.specs.State.{table_rows}
 use Rattle.sql_bound_query.specs.declared.query.BoundBlock.{BoundBlock}
 use Rattle.sql_bound_query.specs.declared.query.BoundBlock.TheVariants as block
 use Rattle.sql_bound_query.specs.declared.query.SetColumn.{SetColumn}

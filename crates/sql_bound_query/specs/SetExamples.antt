@@ -1,5 +1,5 @@
 -- Set operations and ANY and ALL worked out by hand over the small tables.
-use Rattle.std.specs.Prelude.{◌≡◌, ℕ, true, false, List, [], ◌∷◌, Ok, Option, pos}
+use Rattle.std.specs.Prelude.{◌≡◌, true, false, List, [], ◌∷◌, Ok, pos}
 use Rattle.base_set_rows.specs.declared.kind.ClassKind.TheVariants.{Intersect, Except}
 use Rattle.base_set_rows.specs.declared.kind.SetOperation.{SetOperation}
 use Rattle.base_set_rows.specs.declared.kind.SetOperation.TheVariants.{Union, Classes}
@@ -7,7 +7,6 @@ use Rattle.expr_operators.specs.declared.operator.Comparison.{Comparison}
 use Rattle.expr_operators.specs.declared.operator.Comparison.TheVariants.{Equal, Less}
 use Rattle.expr_scalar.specs.declared.expr.Expr.{Expr}
 use Rattle.expr_scalar.specs.declared.expr.Expr.TheVariants as e
-use Rattle.expr_scalar.specs.declared.kind.Kind.{Kind}
 use Rattle.base_value.specs.declared.value.Value.TheVariants.{Number}
 use Rattle.base_schema.specs.declared.table.TableName.TheVariants.{Orders}
 use Rattle.sql_bound_query.specs.declared.query.BoundBlock.{BoundBlock}

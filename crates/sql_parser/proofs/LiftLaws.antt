@@ -28,7 +28,7 @@ use Rattle.sql_grammar_laws.proofs.Lift.{Lifts-one, Lifts-or, Lifts-map, Lifts-t
 use Rattle.sql_grammar_laws.proofs.Lawful.{Line, Deeper, line_nonempty}
 use Rattle.sql_parser_steps.specs.Kinds.{kinds}
 use Rattle.sql_parser_steps.specs.Values.{text_of, count_of, number, text, is_count, is_digits, first, second, pair, cons, constant, after_word, after_point, column, negative, negation, factor, term, product, sum, all_of, any_of, arm, case_of, date, interval, extract, substring, distinct_count, between, like, in_list, in_query, is_null, is_not_null, denied, tested, item, distinct, plain_selection, derived, lateral, join, joined, condition, filters, block, named_key, ordered, create_view, text_value, number_value, with_query, under_with, set_part, combined}
-use Rattle.sql_parser.specs.Expressions.{NameLine, Literal, Number, Digits, SpanWord, ColumnTail, ColumnLine, MultiplyWord, AddWord, Product, Sum, Conjunction, Whole, ExprList, ArmLine, Arms, ElseTail, CaseBody, CaseLine, DateText, DateLine, Precision, IntervalLine, ExtractInside, ExtractLine, Places, SubstringInside, SubstringLine, CountInside, CountLine, AggregateWord, AggregateLine, Call, Leaf, Parens, Subquery, ExistsLine, Operand, UnaryLine, ComparisonWord, QuantifierWord, ComparedQuery, ComparedLine, CompareLine, NullLine, BetweenLine, LikeLine, InLine, DenyTest, TestTail, Predicate, PartLine}
+use Rattle.sql_parser.specs.Expressions.{NameLine, Literal, Number, Digits, SpanWord, ColumnTail, ColumnLine, MultiplyWord, AddWord, Product, Sum, Conjunction, Whole, ExprList, ArmLine, Arms, ElseTail, CaseBody, CaseLine, DateText, DateLine, Precision, IntervalLine, ExtractInside, ExtractLine, Places, SubstringInside, SubstringLine, CountInside, CountLine, AggregateWord, AggregateLine, Call, Leaf, Parens, Subquery, ExistsLine, Operand, UnaryLine, ComparisonWord, QuantifierWord, ComparedQuery, CompareLine, NullLine, BetweenLine, LikeLine, InLine, DenyTest, TestTail, Predicate, PartLine}
 use Rattle.sql_parser.specs.Grammar.{Alias, ItemLine, Selection, SelectLine, Names, ColumnNames, TableLine, DerivedAlias, FromQueryLine, FromItemLine, JoinWords, JoinedItem, JoinedLine, FromLine, WhereTail, GroupTail, HavingTail, FiltersTail, BlockLine, AllWord, IntersectWords, SetWords, TermLine, QueryLine, Direction, KeyLine, OrderTail, RowsOnly, LimitTail, VersionTail, OrderedLine, WithQueryLine, WithLine, WithOrderedLine, CreateLine, DropLine, RefreshLine, ValueLine, RunInside, RunLine, StatementLine, EndedLine}
 use Rattle.sql_parser.proofs.LineLaws.{law-NameLine, law-ColumnLine, law-ValueLine, law-Product, law-Conjunction, law-Whole, law-ArmLine, law-ItemLine, law-JoinedItem, law-JoinedLine, law-BlockLine, law-TermLine, law-KeyLine, law-WithQueryLine}
 use Rattle.sql_parser.proofs.KindLists.{unary_first, part_first, on_unary, on_part, on_query}

@@ -1,9 +1,8 @@
-use Rattle.std.proofs.Common.{refl, ◌≡◌, ◌<◌, ◌^◌, ℕ, List, ap, sym, subst, ◌∙◌, arith, length}
+use Rattle.std.proofs.Common.{refl, ◌≡◌, ℕ, List, ap, sym, subst, ◌∙◌, arith, length}
 use Rattle.base_columns.specs.Lists.{AreBelow}
-use Rattle.base_columns.specs.Batches.{column_relation}
 use Rattle.exec_hash_group.specs.Standings.{ranks, row_ranks, least_of, AreOfNumbers}
 use Rattle.exec_hash_group.proofs.GroupRows.{groups_below}
-use Rattle.exec_hash_group.proofs.PartLists.{part_below, part_keys_are, part_long, part_width}
+use Rattle.exec_hash_group.proofs.PartLists.{part_below, part_keys_are, part_width}
 use Rattle.exec_hash_group.proofs.parts.part_of.Goals as goal
 
 pub least_standings-requires-clause-numbers : goal.least_standings-requires-clause-numbers

@@ -1,4 +1,4 @@
-use Rattle.std.proofs.Common.{◌≡◌, ◌++◌, [], length, refl, rules, ap, ◌∙◌, subst}
+use Rattle.std.proofs.Common.{◌≡◌, ◌++◌, length, refl, rules, ap, ◌∙◌, subst}
 use Rattle.sql_bound_query.specs.Meaning.{left_columns, right_columns}
 use Rattle.expr_conditions.specs.Ranks.{columns_from}
 use Rattle.plan_dependent_tree.specs.SetGrowth.{ReadsOf}

@@ -1,4 +1,3 @@
-use Rattle.std.proofs.Common.{arith, subst}
 use Rattle.sql_bound_query.specs.declared.query.SetColumn.{SetColumn}
 use Rattle.plan_dependent_tree.proofs.SetTrees.{reads_none, reads_more}
 use Rattle.plan_dependent_tree.proofs.sets.right_list.Goals as goal

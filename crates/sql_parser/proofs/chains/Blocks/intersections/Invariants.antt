@@ -1,4 +1,4 @@
-use Rattle.std.proofs.Common.{◌≡◌, ◌∷◌, []}
+use Rattle.std.proofs.Common.{◌≡◌}
 use Rattle.sql_grammar_laws.specs.Readings.{links}
 use Rattle.sql_grammar_laws.proofs.Loop.{with_front}
 use Rattle.sql_lexer.specs.Kinds.{is}
