@@ -25,13 +25,13 @@ use Rattle.sql_ast.specs.declared.tree.Item.{Item, roll-Item, out-roll-Item}
 use Rattle.sql_ast.specs.declared.tree.Join.{Join, roll-Join, out-roll-Join}
 use Rattle.sql_ast.specs.declared.tree.Joined.{Joined, roll-Joined, out-roll-Joined}
 use Rattle.sql_ast.specs.declared.tree.Term.{Term, roll-Term, out-roll-Term}
-use Rattle.sql_ast.specs.declared.tree.Clause.TheOpen.{Clause-F, Expr-F, FromItem-F, Selected-F}
-use Rattle.sql_ast.specs.declared.tree.Clause.TheOpen.{Arm-F, Block-F, Factor-F, Item-F, Join-F}
-use Rattle.sql_ast.specs.declared.tree.Clause.TheOpen.{Joined-F, Term-F}
-use Rattle.sql_ast.specs.declared.tree.Clause.TheFolds.{ind-Block, map-Clause, map-Expr}
-use Rattle.sql_ast.specs.declared.tree.Clause.TheFolds.{map-FromItem, map-Selected, map-Arm}
-use Rattle.sql_ast.specs.declared.tree.Clause.TheFolds.{map-Block, map-Factor, map-Item, map-Join}
-use Rattle.sql_ast.specs.declared.tree.Clause.TheFolds.{map-Joined, map-Term}
+use Rattle.sql_ast.specs.declared.tree.Block.TheOpen.{Clause-F, Expr-F, FromItem-F, Selected-F}
+use Rattle.sql_ast.specs.declared.tree.Block.TheOpen.{Arm-F, Block-F, Factor-F, Item-F, Join-F}
+use Rattle.sql_ast.specs.declared.tree.Block.TheOpen.{Joined-F, Term-F}
+use Rattle.sql_ast.specs.declared.tree.Block.TheFolds.{ind-Block, map-Clause, map-Expr}
+use Rattle.sql_ast.specs.declared.tree.Block.TheFolds.{map-FromItem, map-Selected, map-Arm}
+use Rattle.sql_ast.specs.declared.tree.Block.TheFolds.{map-Block, map-Factor, map-Item, map-Join}
+use Rattle.sql_ast.specs.declared.tree.Block.TheFolds.{map-Joined, map-Term}
 use Rattle.sql_ast.specs.declared.words.Adding.{Adding}
 use Rattle.sql_ast.specs.declared.words.Span.{Span}
 use Rattle.sql_bound_query.specs.declared.query.BoundQuery.{BoundQuery}
@@ -100,6 +100,12 @@ ArmWith = (x : Arm) × ArmMeaningIs (arm_meaning x)
 abbrev BlockWith : Type 0
 BlockWith = (x : Block) × BlockMeaningIs (block_meaning x)
 
+abbrev SelectWith : Type 0
+SelectWith = (x : Select) × BlockMeaningIs (select_meaning x)
+
+abbrev SetPartWith : Type 0
+SetPartWith = (x : SetPart) × SetPartMeaningIs (set_part_meaning x)
+
 abbrev FactorWith : Type 0
 FactorWith = (x : Factor) × ChainMeaningIs (factor_meaning x)
 
@@ -146,12 +152,14 @@ term_goes None operator m is sight s c ready known =
     (λ d h. λ w p q. operated_is (adding_of operator) c b d w.kinds h
     (known_on sight (λ v. ChainIs c v.kinds) s t g known w p q) (k w p q)))
 
-expr_node : (y : Expr-F ClauseWith ExprWith FromItemWith SelectedWith ArmWith BlockWith FactorWith
-    ItemWith JoinWith JoinedWith TermWith)
-    → MeaningIs (meaning_at (map-Expr ClauseWith ExprWith FromItemWith SelectedWith ArmWith
-    BlockWith FactorWith ItemWith JoinWith JoinedWith TermWith Clause Expr FromItem Selected Arm
-    Block Factor Item Join Joined Term (λ x. x.0) (λ x. x.0) (λ x. x.0) (λ x. x.0) (λ x. x.0)
-    (λ x. x.0) (λ x. x.0) (λ x. x.0) (λ x. x.0) (λ x. x.0) (λ x. x.0) y))
+expr_node : (y : Expr-F BlockWith ClauseWith ExprWith FromItemWith SelectedWith ArmWith FactorWith
+    ItemWith JoinWith JoinedWith SelectWith SetPartWith TermWith)
+    → MeaningIs (meaning_at (map-Expr BlockWith ClauseWith ExprWith FromItemWith SelectedWith
+    ArmWith FactorWith ItemWith JoinWith JoinedWith SelectWith SetPartWith TermWith Block Clause
+    Expr FromItem Selected
+    Arm Factor Item Join Joined Select SetPart Term (λ x. x.0) (λ x. x.0) (λ x. x.0) (λ x. x.0) (λ
+    x. x.0) (λ x. x.0) (λ x. x.0) (λ x. x.0) (λ x. x.0) (λ x. x.0) (λ x. x.0) (λ x. x.0) (λ x. x.0)
+    y))
 unfolding meaning_at
 expr_node (Expr-F.Number c scale) sight s ready =
     goes_pure sight (TypedIn sight) _ s (λ w p q. number_typed scale c w.kinds)
@@ -205,24 +213,26 @@ expr_node (Expr-F.CountDistinct a) sight s ready =
 expr_node (Expr-F.Aggregate f a) sight s ready =
     aggregate_goes sight ready (function_of f) (meaning a.0) s a.1
 
-clause_node : (y : Clause-F ClauseWith ExprWith FromItemWith SelectedWith ArmWith BlockWith
-    FactorWith ItemWith JoinWith JoinedWith TermWith)
+clause_node : (y : Clause-F BlockWith ClauseWith ExprWith FromItemWith SelectedWith ArmWith
+    FactorWith ItemWith JoinWith JoinedWith SelectWith SetPartWith TermWith)
     → ClauseMeaningIs (clause_meaning_at
-    (map-Clause ClauseWith ExprWith FromItemWith SelectedWith ArmWith BlockWith FactorWith ItemWith
-    JoinWith JoinedWith TermWith Clause Expr FromItem Selected Arm Block Factor Item Join Joined
-    Term (λ x. x.0) (λ x. x.0) (λ x. x.0) (λ x. x.0) (λ x. x.0) (λ x. x.0) (λ x. x.0) (λ x. x.0)
-    (λ x. x.0) (λ x. x.0) (λ x. x.0) y))
+    (map-Clause BlockWith ClauseWith ExprWith FromItemWith SelectedWith ArmWith FactorWith ItemWith
+    JoinWith JoinedWith SelectWith SetPartWith TermWith Block Clause Expr FromItem Selected Arm
+    Factor Item Join Joined
+    Select SetPart Term (λ x. x.0) (λ x. x.0) (λ x. x.0) (λ x. x.0) (λ x. x.0) (λ x. x.0) (λ x. x.0)
+    (λ x. x.0) (λ x. x.0) (λ x. x.0) (λ x. x.0) (λ x. x.0) (λ x. x.0) y))
 unfolding clause_meaning_at
 clause_node Clause-F.Absent = tt
 clause_node (Clause-F.Condition e) = e.1
 
-from_item_node : (y : FromItem-F ClauseWith ExprWith FromItemWith SelectedWith ArmWith BlockWith
-    FactorWith ItemWith JoinWith JoinedWith TermWith)
+from_item_node : (y : FromItem-F BlockWith ClauseWith ExprWith FromItemWith SelectedWith ArmWith
+    FactorWith ItemWith JoinWith JoinedWith SelectWith SetPartWith TermWith)
     → FromItemMeaningIs (from_item_meaning_at
-    (map-FromItem ClauseWith ExprWith FromItemWith SelectedWith ArmWith BlockWith FactorWith
-    ItemWith JoinWith JoinedWith TermWith Clause Expr FromItem Selected Arm Block Factor Item Join
-    Joined Term (λ x. x.0) (λ x. x.0) (λ x. x.0) (λ x. x.0) (λ x. x.0) (λ x. x.0) (λ x. x.0)
-    (λ x. x.0) (λ x. x.0) (λ x. x.0) (λ x. x.0) y))
+    (map-FromItem BlockWith ClauseWith ExprWith FromItemWith SelectedWith ArmWith FactorWith
+    ItemWith JoinWith JoinedWith SelectWith SetPartWith TermWith Block Clause Expr FromItem Selected
+    Arm Factor Item Join
+    Joined Select SetPart Term (λ x. x.0) (λ x. x.0) (λ x. x.0) (λ x. x.0) (λ x. x.0) (λ x. x.0) (λ
+    x. x.0) (λ x. x.0) (λ x. x.0) (λ x. x.0) (λ x. x.0) (λ x. x.0) (λ x. x.0) y))
 unfolding from_item_meaning_at
 from_item_node (FromItem-F.Table name alias) = table_rows_is name (unwrap_or alias name)
 from_item_node (FromItem-F.Derived q alias names) =
@@ -230,46 +240,50 @@ from_item_node (FromItem-F.Derived q alias names) =
 from_item_node (FromItem-F.Lateral q alias names) =
     lateral_rows_is (block_meaning q.0) alias names q.1
 
-selected_node : (y : Selected-F ClauseWith ExprWith FromItemWith SelectedWith ArmWith BlockWith
-    FactorWith ItemWith JoinWith JoinedWith TermWith)
+selected_node : (y : Selected-F BlockWith ClauseWith ExprWith FromItemWith SelectedWith ArmWith
+    FactorWith ItemWith JoinWith JoinedWith SelectWith SetPartWith TermWith)
     → SelectedMeaningIs (selected_meaning_at
-    (map-Selected ClauseWith ExprWith FromItemWith SelectedWith ArmWith BlockWith FactorWith
-    ItemWith JoinWith JoinedWith TermWith Clause Expr FromItem Selected Arm Block Factor Item Join
-    Joined Term (λ x. x.0) (λ x. x.0) (λ x. x.0) (λ x. x.0) (λ x. x.0) (λ x. x.0) (λ x. x.0)
-    (λ x. x.0) (λ x. x.0) (λ x. x.0) (λ x. x.0) y))
+    (map-Selected BlockWith ClauseWith ExprWith FromItemWith SelectedWith ArmWith FactorWith
+    ItemWith JoinWith JoinedWith SelectWith SetPartWith TermWith Block Clause Expr FromItem Selected
+    Arm Factor Item Join
+    Joined Select SetPart Term (λ x. x.0) (λ x. x.0) (λ x. x.0) (λ x. x.0) (λ x. x.0) (λ x. x.0) (λ
+    x. x.0) (λ x. x.0) (λ x. x.0) (λ x. x.0) (λ x. x.0) (λ x. x.0) (λ x. x.0) y))
 unfolding selected_meaning_at
 selected_node Selected-F.All = tt
 selected_node (Selected-F.Items items) = each_of item_meaning ItemMeaningIs items
 
-arm_node : (y : Arm-F ClauseWith ExprWith FromItemWith SelectedWith ArmWith BlockWith FactorWith
-    ItemWith JoinWith JoinedWith TermWith)
+arm_node : (y : Arm-F BlockWith ClauseWith ExprWith FromItemWith SelectedWith ArmWith FactorWith
+    ItemWith JoinWith JoinedWith SelectWith SetPartWith TermWith)
     → ArmMeaningIs (arm_meaning_at
-    (map-Arm ClauseWith ExprWith FromItemWith SelectedWith ArmWith BlockWith FactorWith ItemWith
-    JoinWith JoinedWith TermWith Clause Expr FromItem Selected Arm Block Factor Item Join Joined
-    Term (λ x. x.0) (λ x. x.0) (λ x. x.0) (λ x. x.0) (λ x. x.0) (λ x. x.0) (λ x. x.0) (λ x. x.0)
-    (λ x. x.0) (λ x. x.0) (λ x. x.0) y))
+    (map-Arm BlockWith ClauseWith ExprWith FromItemWith SelectedWith ArmWith FactorWith ItemWith
+    JoinWith JoinedWith SelectWith SetPartWith TermWith Block Clause Expr FromItem Selected Arm
+    Factor Item Join Joined
+    Select SetPart Term (λ x. x.0) (λ x. x.0) (λ x. x.0) (λ x. x.0) (λ x. x.0) (λ x. x.0) (λ x. x.0)
+    (λ x. x.0) (λ x. x.0) (λ x. x.0) (λ x. x.0) (λ x. x.0) (λ x. x.0) y))
 unfolding arm_meaning_at
 arm_node y = (y.condition.1, y.value.1)
 
-block_node : (y : Block-F ClauseWith ExprWith FromItemWith SelectedWith ArmWith BlockWith FactorWith
-    ItemWith JoinWith JoinedWith TermWith)
+block_node : (y : Block-F BlockWith ClauseWith ExprWith FromItemWith SelectedWith ArmWith FactorWith
+    ItemWith JoinWith JoinedWith SelectWith SetPartWith TermWith)
     → BlockMeaningIs (block_meaning_at
-    (map-Block ClauseWith ExprWith FromItemWith SelectedWith ArmWith BlockWith FactorWith ItemWith
-    JoinWith JoinedWith TermWith Clause Expr FromItem Selected Arm Block Factor Item Join Joined
-    Term (λ x. x.0) (λ x. x.0) (λ x. x.0) (λ x. x.0) (λ x. x.0) (λ x. x.0) (λ x. x.0) (λ x. x.0)
-    (λ x. x.0) (λ x. x.0) (λ x. x.0) y))
+    (map-Block BlockWith ClauseWith ExprWith FromItemWith SelectedWith ArmWith FactorWith ItemWith
+    JoinWith JoinedWith SelectWith SetPartWith TermWith Block Clause Expr FromItem Selected Arm
+    Factor Item Join Joined
+    Select SetPart Term (λ x. x.0) (λ x. x.0) (λ x. x.0) (λ x. x.0) (λ x. x.0) (λ x. x.0) (λ x. x.0)
+    (λ x. x.0) (λ x. x.0) (λ x. x.0) (λ x. x.0) (λ x. x.0) (λ x. x.0) y))
 unfolding block_meaning_at
 block_node y =
     block_typed _ y.selected.1 (each_of joined_meaning JoinedMeaningIs y.from) y.condition.1
     y.having.1
 
-factor_node : (y : Factor-F ClauseWith ExprWith FromItemWith SelectedWith ArmWith BlockWith
-    FactorWith ItemWith JoinWith JoinedWith TermWith)
+factor_node : (y : Factor-F BlockWith ClauseWith ExprWith FromItemWith SelectedWith ArmWith
+    FactorWith ItemWith JoinWith JoinedWith SelectWith SetPartWith TermWith)
     → ChainMeaningIs (factor_meaning_at
-    (map-Factor ClauseWith ExprWith FromItemWith SelectedWith ArmWith BlockWith FactorWith ItemWith
-    JoinWith JoinedWith TermWith Clause Expr FromItem Selected Arm Block Factor Item Join Joined
-    Term (λ x. x.0) (λ x. x.0) (λ x. x.0) (λ x. x.0) (λ x. x.0) (λ x. x.0) (λ x. x.0) (λ x. x.0)
-    (λ x. x.0) (λ x. x.0) (λ x. x.0) y))
+    (map-Factor BlockWith ClauseWith ExprWith FromItemWith SelectedWith ArmWith FactorWith ItemWith
+    JoinWith JoinedWith SelectWith SetPartWith TermWith Block Clause Expr FromItem Selected Arm
+    Factor Item Join Joined
+    Select SetPart Term (λ x. x.0) (λ x. x.0) (λ x. x.0) (λ x. x.0) (λ x. x.0) (λ x. x.0) (λ x. x.0)
+    (λ x. x.0) (λ x. x.0) (λ x. x.0) (λ x. x.0) (λ x. x.0) (λ x. x.0) y))
 unfolding factor_meaning_at
 factor_node y sight s c ready known =
     goes_on sight (TypedIn sight) (λ w d. ChainIs d w.kinds) ((meaning y.value.0).binds sight)
@@ -279,102 +293,115 @@ factor_node y sight s c ready known =
     (λ d h. λ w p q. operated_is (multiplying_of y.operator) c b d w.kinds h
     (known_on sight (λ v. ChainIs c v.kinds) s t g known w p q) (k w p q)))
 
-item_node : (y : Item-F ClauseWith ExprWith FromItemWith SelectedWith ArmWith BlockWith FactorWith
-    ItemWith JoinWith JoinedWith TermWith)
+item_node : (y : Item-F BlockWith ClauseWith ExprWith FromItemWith SelectedWith ArmWith FactorWith
+    ItemWith JoinWith JoinedWith SelectWith SetPartWith TermWith)
     → ItemMeaningIs (item_meaning_at
-    (map-Item ClauseWith ExprWith FromItemWith SelectedWith ArmWith BlockWith FactorWith ItemWith
-    JoinWith JoinedWith TermWith Clause Expr FromItem Selected Arm Block Factor Item Join Joined
-    Term (λ x. x.0) (λ x. x.0) (λ x. x.0) (λ x. x.0) (λ x. x.0) (λ x. x.0) (λ x. x.0) (λ x. x.0)
-    (λ x. x.0) (λ x. x.0) (λ x. x.0) y))
+    (map-Item BlockWith ClauseWith ExprWith FromItemWith SelectedWith ArmWith FactorWith ItemWith
+    JoinWith JoinedWith SelectWith SetPartWith TermWith Block Clause Expr FromItem Selected Arm
+    Factor Item Join Joined
+    Select SetPart Term (λ x. x.0) (λ x. x.0) (λ x. x.0) (λ x. x.0) (λ x. x.0) (λ x. x.0) (λ x. x.0)
+    (λ x. x.0) (λ x. x.0) (λ x. x.0) (λ x. x.0) (λ x. x.0) (λ x. x.0) y))
 unfolding item_meaning_at
 item_node y = y.value.1
 
-join_node : (y : Join-F ClauseWith ExprWith FromItemWith SelectedWith ArmWith BlockWith FactorWith
-    ItemWith JoinWith JoinedWith TermWith)
+join_node : (y : Join-F BlockWith ClauseWith ExprWith FromItemWith SelectedWith ArmWith FactorWith
+    ItemWith JoinWith JoinedWith SelectWith SetPartWith TermWith)
     → JoinMeaningIs (join_meaning_at
-    (map-Join ClauseWith ExprWith FromItemWith SelectedWith ArmWith BlockWith FactorWith ItemWith
-    JoinWith JoinedWith TermWith Clause Expr FromItem Selected Arm Block Factor Item Join Joined
-    Term (λ x. x.0) (λ x. x.0) (λ x. x.0) (λ x. x.0) (λ x. x.0) (λ x. x.0) (λ x. x.0) (λ x. x.0)
-    (λ x. x.0) (λ x. x.0) (λ x. x.0) y))
+    (map-Join BlockWith ClauseWith ExprWith FromItemWith SelectedWith ArmWith FactorWith ItemWith
+    JoinWith JoinedWith SelectWith SetPartWith TermWith Block Clause Expr FromItem Selected Arm
+    Factor Item Join Joined
+    Select SetPart Term (λ x. x.0) (λ x. x.0) (λ x. x.0) (λ x. x.0) (λ x. x.0) (λ x. x.0) (λ x. x.0)
+    (λ x. x.0) (λ x. x.0) (λ x. x.0) (λ x. x.0) (λ x. x.0) (λ x. x.0) y))
 unfolding join_meaning_at
 join_node y = join_is_typed (from_item_meaning y.item.0) y.kind (meaning y.condition.0) y.item.1
     y.condition.1
 
-joined_node : (y : Joined-F ClauseWith ExprWith FromItemWith SelectedWith ArmWith BlockWith
-    FactorWith ItemWith JoinWith JoinedWith TermWith)
+joined_node : (y : Joined-F BlockWith ClauseWith ExprWith FromItemWith SelectedWith ArmWith
+    FactorWith ItemWith JoinWith JoinedWith SelectWith SetPartWith TermWith)
     → JoinedMeaningIs (joined_meaning_at
-    (map-Joined ClauseWith ExprWith FromItemWith SelectedWith ArmWith BlockWith FactorWith ItemWith
-    JoinWith JoinedWith TermWith Clause Expr FromItem Selected Arm Block Factor Item Join Joined
-    Term (λ x. x.0) (λ x. x.0) (λ x. x.0) (λ x. x.0) (λ x. x.0) (λ x. x.0) (λ x. x.0) (λ x. x.0)
-    (λ x. x.0) (λ x. x.0) (λ x. x.0) y))
+    (map-Joined BlockWith ClauseWith ExprWith FromItemWith SelectedWith ArmWith FactorWith ItemWith
+    JoinWith JoinedWith SelectWith SetPartWith TermWith Block Clause Expr FromItem Selected Arm
+    Factor Item Join Joined
+    Select SetPart Term (λ x. x.0) (λ x. x.0) (λ x. x.0) (λ x. x.0) (λ x. x.0) (λ x. x.0) (λ x. x.0)
+    (λ x. x.0) (λ x. x.0) (λ x. x.0) (λ x. x.0) (λ x. x.0) (λ x. x.0) y))
 unfolding joined_meaning_at
 joined_node y = joined_is_typed (from_item_meaning y.first.0)
     (map join_meaning (map (λ x. x.0) y.joins)) y.first.1
     (each_of join_meaning JoinMeaningIs y.joins)
 
-term_node : (y : Term-F ClauseWith ExprWith FromItemWith SelectedWith ArmWith BlockWith FactorWith
-    ItemWith JoinWith JoinedWith TermWith)
+term_node : (y : Term-F BlockWith ClauseWith ExprWith FromItemWith SelectedWith ArmWith FactorWith
+    ItemWith JoinWith JoinedWith SelectWith SetPartWith TermWith)
     → ChainMeaningIs (term_meaning_at
-    (map-Term ClauseWith ExprWith FromItemWith SelectedWith ArmWith BlockWith FactorWith ItemWith
-    JoinWith JoinedWith TermWith Clause Expr FromItem Selected Arm Block Factor Item Join Joined
-    Term (λ x. x.0) (λ x. x.0) (λ x. x.0) (λ x. x.0) (λ x. x.0) (λ x. x.0) (λ x. x.0) (λ x. x.0)
-    (λ x. x.0) (λ x. x.0) (λ x. x.0) y))
+    (map-Term BlockWith ClauseWith ExprWith FromItemWith SelectedWith ArmWith FactorWith ItemWith
+    JoinWith JoinedWith SelectWith SetPartWith TermWith Block Clause Expr FromItem Selected Arm
+    Factor Item Join Joined
+    Select SetPart Term (λ x. x.0) (λ x. x.0) (λ x. x.0) (λ x. x.0) (λ x. x.0) (λ x. x.0) (λ x. x.0)
+    (λ x. x.0) (λ x. x.0) (λ x. x.0) (λ x. x.0) (λ x. x.0) (λ x. x.0) y))
 unfolding term_meaning_at
 term_node y = term_goes (meaning y.value.0).interval y.operator (meaning y.value.0) y.value.1
 
-clause_rolled : (z : Clause-F Clause Expr FromItem Selected Arm Block Factor Item Join Joined Term)
+clause_rolled : (z : Clause-F Block Clause Expr FromItem Selected Arm Factor Item Join Joined Select
+    SetPart Term)
     → ClauseMeaningIs (clause_meaning_at z) → ClauseMeaningIs (clause_meaning (roll-Clause z))
 clause_rolled z h = subst ClauseMeaningIs
     (sym (clause_meaning_is (roll-Clause z) ∙ ap clause_meaning_at (out-roll-Clause z))) h
 
-expr_rolled : (z : Expr-F Clause Expr FromItem Selected Arm Block Factor Item Join Joined Term)
+expr_rolled : (z : Expr-F Block Clause Expr FromItem Selected Arm Factor Item Join Joined Select
+    SetPart Term)
     → MeaningIs (meaning_at z) → MeaningIs (meaning (roll-Expr z))
 expr_rolled z h = subst MeaningIs (sym (meaning_is (roll-Expr z) ∙ ap meaning_at (out-roll-Expr z)))
     h
 
-from_item_rolled : (z : FromItem-F Clause Expr FromItem Selected Arm Block Factor Item Join Joined
-    Term) → FromItemMeaningIs (from_item_meaning_at z)
+from_item_rolled : (z : FromItem-F Block Clause Expr FromItem Selected Arm Factor Item Join Joined
+    Select SetPart Term) → FromItemMeaningIs (from_item_meaning_at z)
     → FromItemMeaningIs (from_item_meaning (roll-FromItem z))
 from_item_rolled z h = subst FromItemMeaningIs
     (sym (from_item_meaning_is (roll-FromItem z) ∙ ap from_item_meaning_at (out-roll-FromItem z))) h
 
-selected_rolled : (z : Selected-F Clause Expr FromItem Selected Arm Block Factor Item Join Joined
-    Term) → SelectedMeaningIs (selected_meaning_at z)
+selected_rolled : (z : Selected-F Block Clause Expr FromItem Selected Arm Factor Item Join Joined
+    Select SetPart Term) → SelectedMeaningIs (selected_meaning_at z)
     → SelectedMeaningIs (selected_meaning (roll-Selected z))
 selected_rolled z h = subst SelectedMeaningIs
     (sym (selected_meaning_is (roll-Selected z) ∙ ap selected_meaning_at (out-roll-Selected z))) h
 
-arm_rolled : (z : Arm-F Clause Expr FromItem Selected Arm Block Factor Item Join Joined Term)
+arm_rolled : (z : Arm-F Block Clause Expr FromItem Selected Arm Factor Item Join Joined Select
+    SetPart Term)
     → ArmMeaningIs (arm_meaning_at z) → ArmMeaningIs (arm_meaning (roll-Arm z))
 arm_rolled z h = subst ArmMeaningIs
     (sym (arm_meaning_is (roll-Arm z) ∙ ap arm_meaning_at (out-roll-Arm z))) h
 
-block_rolled : (z : Block-F Clause Expr FromItem Selected Arm Block Factor Item Join Joined Term)
+block_rolled : (z : Block-F Block Clause Expr FromItem Selected Arm Factor Item Join Joined Select
+    SetPart Term)
     → BlockMeaningIs (block_meaning_at z) → BlockMeaningIs (block_meaning (roll-Block z))
 block_rolled z h = subst BlockMeaningIs
     (sym (block_meaning_is (roll-Block z) ∙ ap block_meaning_at (out-roll-Block z))) h
 
-factor_rolled : (z : Factor-F Clause Expr FromItem Selected Arm Block Factor Item Join Joined Term)
+factor_rolled : (z : Factor-F Block Clause Expr FromItem Selected Arm Factor Item Join Joined Select
+    SetPart Term)
     → ChainMeaningIs (factor_meaning_at z) → ChainMeaningIs (factor_meaning (roll-Factor z))
 factor_rolled z h = subst ChainMeaningIs
     (sym (factor_meaning_is (roll-Factor z) ∙ ap factor_meaning_at (out-roll-Factor z))) h
 
-item_rolled : (z : Item-F Clause Expr FromItem Selected Arm Block Factor Item Join Joined Term)
+item_rolled : (z : Item-F Block Clause Expr FromItem Selected Arm Factor Item Join Joined Select
+    SetPart Term)
     → ItemMeaningIs (item_meaning_at z) → ItemMeaningIs (item_meaning (roll-Item z))
 item_rolled z h = subst ItemMeaningIs
     (sym (item_meaning_is (roll-Item z) ∙ ap item_meaning_at (out-roll-Item z))) h
 
-join_rolled : (z : Join-F Clause Expr FromItem Selected Arm Block Factor Item Join Joined Term)
+join_rolled : (z : Join-F Block Clause Expr FromItem Selected Arm Factor Item Join Joined Select
+    SetPart Term)
     → JoinMeaningIs (join_meaning_at z) → JoinMeaningIs (join_meaning (roll-Join z))
 join_rolled z h = subst JoinMeaningIs
     (sym (join_meaning_is (roll-Join z) ∙ ap join_meaning_at (out-roll-Join z))) h
 
-joined_rolled : (z : Joined-F Clause Expr FromItem Selected Arm Block Factor Item Join Joined Term)
+joined_rolled : (z : Joined-F Block Clause Expr FromItem Selected Arm Factor Item Join Joined Select
+    SetPart Term)
     → JoinedMeaningIs (joined_meaning_at z) → JoinedMeaningIs (joined_meaning (roll-Joined z))
 joined_rolled z h = subst JoinedMeaningIs
     (sym (joined_meaning_is (roll-Joined z) ∙ ap joined_meaning_at (out-roll-Joined z))) h
 
-term_rolled : (z : Term-F Clause Expr FromItem Selected Arm Block Factor Item Join Joined Term)
+term_rolled : (z : Term-F Block Clause Expr FromItem Selected Arm Factor Item Join Joined Select
+    SetPart Term)
     → ChainMeaningIs (term_meaning_at z) → ChainMeaningIs (term_meaning (roll-Term z))
 term_rolled z h = subst ChainMeaningIs
     (sym (term_meaning_is (roll-Term z) ∙ ap term_meaning_at (out-roll-Term z))) h
