@@ -16,6 +16,8 @@ use Rattle.sql_ast.specs.declared.tree.Clause.{Clause, roll-Clause, out-roll-Cla
 use Rattle.sql_ast.specs.declared.tree.Expr.{Expr, roll-Expr, out-roll-Expr}
 use Rattle.sql_ast.specs.declared.tree.FromItem.{FromItem, roll-FromItem}
 use Rattle.sql_ast.specs.declared.tree.FromItem.{out-roll-FromItem}
+use Rattle.sql_ast.specs.declared.tree.Select.{Select, roll-Select, out-roll-Select}
+use Rattle.sql_ast.specs.declared.tree.SetPart.{SetPart, roll-SetPart, out-roll-SetPart}
 use Rattle.sql_ast.specs.declared.tree.Selected.{Selected, roll-Selected}
 use Rattle.sql_ast.specs.declared.tree.Selected.{out-roll-Selected}
 use Rattle.sql_ast.specs.declared.tree.Arm.{Arm, roll-Arm, out-roll-Arm}
@@ -27,11 +29,11 @@ use Rattle.sql_ast.specs.declared.tree.Joined.{Joined, roll-Joined, out-roll-Joi
 use Rattle.sql_ast.specs.declared.tree.Term.{Term, roll-Term, out-roll-Term}
 use Rattle.sql_ast.specs.declared.tree.Block.TheOpen.{Clause-F, Expr-F, FromItem-F, Selected-F}
 use Rattle.sql_ast.specs.declared.tree.Block.TheOpen.{Arm-F, Block-F, Factor-F, Item-F, Join-F}
-use Rattle.sql_ast.specs.declared.tree.Block.TheOpen.{Joined-F, Term-F}
+use Rattle.sql_ast.specs.declared.tree.Block.TheOpen.{Joined-F, Term-F, Select-F, SetPart-F}
 use Rattle.sql_ast.specs.declared.tree.Block.TheFolds.{ind-Block, map-Clause, map-Expr}
 use Rattle.sql_ast.specs.declared.tree.Block.TheFolds.{map-FromItem, map-Selected, map-Arm}
 use Rattle.sql_ast.specs.declared.tree.Block.TheFolds.{map-Block, map-Factor, map-Item, map-Join}
-use Rattle.sql_ast.specs.declared.tree.Block.TheFolds.{map-Joined, map-Term}
+use Rattle.sql_ast.specs.declared.tree.Block.TheFolds.{map-Joined, map-Term, map-Select, map-SetPart}
 use Rattle.sql_ast.specs.declared.words.Adding.{Adding}
 use Rattle.sql_ast.specs.declared.words.Span.{Span}
 use Rattle.sql_bound_query.specs.declared.query.BoundQuery.{BoundQuery}
@@ -41,6 +43,7 @@ use Rattle.sql_binder_steps.specs.declared.collected.Typed.{Typed}
 use Rattle.sql_binder.specs.Binding.{bound_view, clause_meaning, meaning, from_item_meaning}
 use Rattle.sql_binder.specs.Binding.{selected_meaning, arm_meaning, block_meaning, factor_meaning}
 use Rattle.sql_binder.specs.Binding.{item_meaning, join_meaning, joined_meaning, term_meaning}
+use Rattle.sql_binder.specs.Binding.{select_meaning, set_part_meaning}
 use Rattle.sql_binder.specs.Binding.{bound_query, bound_table, counted_table, start, with_views, with_views_from}
 use Rattle.sql_binder.specs.Meanings.{Meaning}
 use Rattle.sql_binder_steps.specs.Names.{Sight}
@@ -57,7 +60,8 @@ use Rattle.sql_binder.proofs.Opened.{arm_meaning_is, block_meaning_at, block_mea
 use Rattle.sql_binder.proofs.Opened.{factor_meaning_at, factor_meaning_is, item_meaning_at}
 use Rattle.sql_binder.proofs.Opened.{item_meaning_is, join_meaning_at, join_meaning_is}
 use Rattle.sql_binder.proofs.Opened.{joined_meaning_at, joined_meaning_is, term_meaning_at}
-use Rattle.sql_binder.proofs.Opened.{term_meaning_is}
+use Rattle.sql_binder.proofs.Opened.{term_meaning_is, select_meaning_at, select_meaning_is}
+use Rattle.sql_binder.proofs.Opened.{set_part_meaning_at, set_part_meaning_is}
 use Rattle.sql_binder_laws.specs.WellTyped.{TableIsWellTyped, ViewIsWellTyped, BoundIsWellTyped}
 use Rattle.sql_binder_laws.specs.WellTyped.{header_kinds, ViewsAreTyped}
 use Rattle.sql_binder_laws.proofs.TypedOperands.{went, ok_is, number_typed, text_typed, date_typed}
@@ -72,14 +76,15 @@ use Rattle.sql_binder_laws.proofs.TypedNodes.{substring_goes, compare_goes, betw
 use Rattle.sql_binder_laws.proofs.TypedNodes.{and_goes, or_goes, chain_goes, case_goes, case_else_goes}
 use Rattle.sql_binder_laws.proofs.TypedNodes.{column_goes}
 use Rattle.sql_binder_laws.proofs.TypedQueries.{BlockMeaningIs, count_rows_goes, aggregate_goes}
-use Rattle.sql_binder_laws.proofs.TypedQueries.{exists_goes, scalar_goes, in_query_goes}
+use Rattle.sql_binder_laws.proofs.TypedQueries.{exists_goes, scalar_goes, in_query_goes, compare_query_goes}
 use Rattle.sql_binder_laws.proofs.TypedItems.{FromItemMeaningIs}
 use Rattle.sql_binder_laws.proofs.TypedFrom.{JoinMeaningIs, JoinedMeaningIs}
 use Rattle.sql_binder_laws.proofs.TypedItems.{renamed_kinds, table_rows_is, derived_rows_is}
 use Rattle.sql_binder_laws.proofs.TypedItems.{lateral_rows_is}
 use Rattle.sql_binder_laws.proofs.TypedFrom.{join_is_typed, joined_is_typed}
 use Rattle.sql_binder_laws.proofs.TypedClauses.{ClauseMeaningIs, SelectedMeaningIs, ItemMeaningIs}
-use Rattle.sql_binder_laws.proofs.TypedBlocks.{block_typed}
+use Rattle.sql_binder_laws.proofs.TypedBlocks.{select_typed}
+use Rattle.sql_binder_laws.proofs.TypedSets.{SetPartMeaningIs, set_part_typed, combined_typed}
 
 -- each part with what there is to show of it
 abbrev ClauseWith : Type 0
@@ -179,6 +184,8 @@ expr_node (Expr-F.Product a factors) sight s ready =
     (each_of factor_meaning ChainMeaningIs factors)
 expr_node (Expr-F.Compare c a b) sight s ready =
     compare_goes sight ready c (meaning a.0) (meaning b.0) s a.1 b.1
+expr_node (Expr-F.CompareQuery c k a q) sight s ready =
+    compare_query_goes sight ready c k (meaning a.0) (block_meaning q.0) s a.1 q.1
 expr_node (Expr-F.IsNull a) sight s ready = null_test_goes sight ready (meaning a.0) s a.1
 expr_node (Expr-F.Between a low high) sight s ready =
     between_goes sight ready (meaning a.0) (meaning low.0) (meaning high.0) s a.1 low.1 high.1
@@ -272,9 +279,35 @@ block_node : (y : Block-F BlockWith ClauseWith ExprWith FromItemWith SelectedWit
     Select SetPart Term (λ x. x.0) (λ x. x.0) (λ x. x.0) (λ x. x.0) (λ x. x.0) (λ x. x.0) (λ x. x.0)
     (λ x. x.0) (λ x. x.0) (λ x. x.0) (λ x. x.0) (λ x. x.0) (λ x. x.0) y))
 unfolding block_meaning_at
-block_node y =
-    block_typed _ y.selected.1 (each_of joined_meaning JoinedMeaningIs y.from) y.condition.1
+block_node (Block-F.Select q) = q.1
+block_node (Block-F.Combined first parts) =
+    combined_typed (block_meaning first.0) (map set_part_meaning (map (λ x. x.0) parts)) first.1
+    (each_of set_part_meaning SetPartMeaningIs parts)
+
+select_node : (y : Select-F BlockWith ClauseWith ExprWith FromItemWith SelectedWith ArmWith FactorWith
+    ItemWith JoinWith JoinedWith SelectWith SetPartWith TermWith)
+    → BlockMeaningIs (select_meaning_at
+    (map-Select BlockWith ClauseWith ExprWith FromItemWith SelectedWith ArmWith FactorWith ItemWith
+    JoinWith JoinedWith SelectWith SetPartWith TermWith Block Clause Expr FromItem Selected Arm
+    Factor Item Join Joined
+    Select SetPart Term (λ x. x.0) (λ x. x.0) (λ x. x.0) (λ x. x.0) (λ x. x.0) (λ x. x.0) (λ x. x.0)
+    (λ x. x.0) (λ x. x.0) (λ x. x.0) (λ x. x.0) (λ x. x.0) (λ x. x.0) y))
+unfolding select_meaning_at
+select_node y =
+    select_typed _ y.selected.1 (each_of joined_meaning JoinedMeaningIs y.from) y.condition.1
     y.having.1
+
+set_part_node : (y : SetPart-F BlockWith ClauseWith ExprWith FromItemWith SelectedWith ArmWith FactorWith
+    ItemWith JoinWith JoinedWith SelectWith SetPartWith TermWith)
+    → SetPartMeaningIs (set_part_meaning_at
+    (map-SetPart BlockWith ClauseWith ExprWith FromItemWith SelectedWith ArmWith FactorWith ItemWith
+    JoinWith JoinedWith SelectWith SetPartWith TermWith Block Clause Expr FromItem Selected Arm
+    Factor Item Join Joined
+    Select SetPart Term (λ x. x.0) (λ x. x.0) (λ x. x.0) (λ x. x.0) (λ x. x.0) (λ x. x.0) (λ x. x.0)
+    (λ x. x.0) (λ x. x.0) (λ x. x.0) (λ x. x.0) (λ x. x.0) (λ x. x.0) y))
+unfolding set_part_meaning_at
+set_part_node y =
+    set_part_typed y.operator y.keeps_all (block_meaning y.query.0) y.query.1
 
 factor_node : (y : Factor-F BlockWith ClauseWith ExprWith FromItemWith SelectedWith ArmWith
     FactorWith ItemWith JoinWith JoinedWith SelectWith SetPartWith TermWith)
@@ -376,6 +409,18 @@ block_rolled : (z : Block-F Block Clause Expr FromItem Selected Arm Factor Item 
 block_rolled z h = subst BlockMeaningIs
     (sym (block_meaning_is (roll-Block z) ∙ ap block_meaning_at (out-roll-Block z))) h
 
+select_rolled : (z : Select-F Block Clause Expr FromItem Selected Arm Factor Item Join Joined Select
+    SetPart Term)
+    → BlockMeaningIs (select_meaning_at z) → BlockMeaningIs (select_meaning (roll-Select z))
+select_rolled z h = subst BlockMeaningIs
+    (sym (select_meaning_is (roll-Select z) ∙ ap select_meaning_at (out-roll-Select z))) h
+
+set_part_rolled : (z : SetPart-F Block Clause Expr FromItem Selected Arm Factor Item Join Joined Select
+    SetPart Term)
+    → SetPartMeaningIs (set_part_meaning_at z) → SetPartMeaningIs (set_part_meaning (roll-SetPart z))
+set_part_rolled z h = subst SetPartMeaningIs
+    (sym (set_part_meaning_is (roll-SetPart z) ∙ ap set_part_meaning_at (out-roll-SetPart z))) h
+
 factor_rolled : (z : Factor-F Block Clause Expr FromItem Selected Arm Factor Item Join Joined Select
     SetPart Term)
     → ChainMeaningIs (factor_meaning_at z) → ChainMeaningIs (factor_meaning (roll-Factor z))
@@ -408,22 +453,32 @@ term_rolled z h = subst ChainMeaningIs
 
 pub each_block : (q : Block) → BlockMeaningIs (block_meaning q)
 each_block =
-    ind-Block (λ x. ClauseMeaningIs (clause_meaning x)) (λ x. MeaningIs (meaning x))
-    (λ x. FromItemMeaningIs (from_item_meaning x)) (λ x. SelectedMeaningIs (selected_meaning x))
-    (λ x. ArmMeaningIs (arm_meaning x)) (λ x. BlockMeaningIs (block_meaning x))
-    (λ x. ChainMeaningIs (factor_meaning x)) (λ x. ItemMeaningIs (item_meaning x))
-    (λ x. JoinMeaningIs (join_meaning x)) (λ x. JoinedMeaningIs (joined_meaning x))
+    ind-Block
+    (λ x. BlockMeaningIs (block_meaning x))
+    (λ x. ClauseMeaningIs (clause_meaning x))
+    (λ x. MeaningIs (meaning x))
+    (λ x. FromItemMeaningIs (from_item_meaning x))
+    (λ x. SelectedMeaningIs (selected_meaning x))
+    (λ x. ArmMeaningIs (arm_meaning x))
+    (λ x. ChainMeaningIs (factor_meaning x))
+    (λ x. ItemMeaningIs (item_meaning x))
+    (λ x. JoinMeaningIs (join_meaning x))
+    (λ x. JoinedMeaningIs (joined_meaning x))
+    (λ x. BlockMeaningIs (select_meaning x))
+    (λ x. SetPartMeaningIs (set_part_meaning x))
     (λ x. ChainMeaningIs (term_meaning x))
+    (λ x y is. subst (λ z. BlockMeaningIs (block_meaning (roll-Block z))) is
+    (block_rolled _ (block_node y)))
     (λ x y is. subst (λ z. ClauseMeaningIs (clause_meaning (roll-Clause z))) is
     (clause_rolled _ (clause_node y)))
-    (λ x y is. subst (λ z. MeaningIs (meaning (roll-Expr z))) is (expr_rolled _ (expr_node y)))
+    (λ x y is. subst (λ z. MeaningIs (meaning (roll-Expr z))) is
+    (expr_rolled _ (expr_node y)))
     (λ x y is. subst (λ z. FromItemMeaningIs (from_item_meaning (roll-FromItem z))) is
     (from_item_rolled _ (from_item_node y)))
     (λ x y is. subst (λ z. SelectedMeaningIs (selected_meaning (roll-Selected z))) is
     (selected_rolled _ (selected_node y)))
-    (λ x y is. subst (λ z. ArmMeaningIs (arm_meaning (roll-Arm z))) is (arm_rolled _ (arm_node y)))
-    (λ x y is. subst (λ z. BlockMeaningIs (block_meaning (roll-Block z))) is
-    (block_rolled _ (block_node y)))
+    (λ x y is. subst (λ z. ArmMeaningIs (arm_meaning (roll-Arm z))) is
+    (arm_rolled _ (arm_node y)))
     (λ x y is. subst (λ z. ChainMeaningIs (factor_meaning (roll-Factor z))) is
     (factor_rolled _ (factor_node y)))
     (λ x y is. subst (λ z. ItemMeaningIs (item_meaning (roll-Item z))) is
@@ -432,6 +487,10 @@ each_block =
     (join_rolled _ (join_node y)))
     (λ x y is. subst (λ z. JoinedMeaningIs (joined_meaning (roll-Joined z))) is
     (joined_rolled _ (joined_node y)))
+    (λ x y is. subst (λ z. BlockMeaningIs (select_meaning (roll-Select z))) is
+    (select_rolled _ (select_node y)))
+    (λ x y is. subst (λ z. SetPartMeaningIs (set_part_meaning (roll-SetPart z))) is
+    (set_part_rolled _ (set_part_node y)))
     (λ x y is. subst (λ z. ChainMeaningIs (term_meaning (roll-Term z))) is
     (term_rolled _ (term_node y)))
 
