@@ -10,30 +10,30 @@ use Rattle.base_row_laws.proofs.Lists.{Each-append}
 use Rattle.base_date.specs.Date.{date_of}
 use Rattle.base_date.specs.declared.DateFault.{DateFault}
 use Rattle.base_date.specs.declared.DateFault.TheVariants as fault
-use Rattle.expr_aggregates.specs.declared.function.AggregateFunction.TheVariants.{Count, CountDistinct}
+use Rattle.expr_aggregates.specs.declared.function.AggregateFunction.TheVariants.{Count}
+use Rattle.expr_aggregates.specs.declared.function.AggregateFunction.TheVariants.{CountDistinct}
 use Rattle.sql_ast.specs.declared.statement.WithQuery.{WithQuery}
-use Rattle.sql_ast.specs.declared.tree.Clause.{Clause, roll-Clause, out-roll-Clause}
-use Rattle.sql_ast.specs.declared.tree.Expr.{Expr, roll-Expr, out-roll-Expr}
+use Rattle.sql_ast.specs.declared.tree.Clause.{Clause, roll-Clause}
+use Rattle.sql_ast.specs.declared.tree.Expr.{Expr, roll-Expr}
 use Rattle.sql_ast.specs.declared.tree.FromItem.{FromItem, roll-FromItem}
-use Rattle.sql_ast.specs.declared.tree.FromItem.{out-roll-FromItem}
-use Rattle.sql_ast.specs.declared.tree.Select.{Select, roll-Select, out-roll-Select}
-use Rattle.sql_ast.specs.declared.tree.SetPart.{SetPart, roll-SetPart, out-roll-SetPart}
+use Rattle.sql_ast.specs.declared.tree.Select.{Select, roll-Select}
+use Rattle.sql_ast.specs.declared.tree.SetPart.{SetPart, roll-SetPart}
 use Rattle.sql_ast.specs.declared.tree.Selected.{Selected, roll-Selected}
-use Rattle.sql_ast.specs.declared.tree.Selected.{out-roll-Selected}
-use Rattle.sql_ast.specs.declared.tree.Arm.{Arm, roll-Arm, out-roll-Arm}
-use Rattle.sql_ast.specs.declared.tree.Block.{Block, roll-Block, out-roll-Block}
-use Rattle.sql_ast.specs.declared.tree.Factor.{Factor, roll-Factor, out-roll-Factor}
-use Rattle.sql_ast.specs.declared.tree.Item.{Item, roll-Item, out-roll-Item}
-use Rattle.sql_ast.specs.declared.tree.Join.{Join, roll-Join, out-roll-Join}
-use Rattle.sql_ast.specs.declared.tree.Joined.{Joined, roll-Joined, out-roll-Joined}
-use Rattle.sql_ast.specs.declared.tree.Term.{Term, roll-Term, out-roll-Term}
+use Rattle.sql_ast.specs.declared.tree.Arm.{Arm, roll-Arm}
+use Rattle.sql_ast.specs.declared.tree.Block.{Block, roll-Block}
+use Rattle.sql_ast.specs.declared.tree.Factor.{Factor, roll-Factor}
+use Rattle.sql_ast.specs.declared.tree.Item.{Item, roll-Item}
+use Rattle.sql_ast.specs.declared.tree.Join.{Join, roll-Join}
+use Rattle.sql_ast.specs.declared.tree.Joined.{Joined, roll-Joined}
+use Rattle.sql_ast.specs.declared.tree.Term.{Term, roll-Term}
 use Rattle.sql_ast.specs.declared.tree.Block.TheOpen.{Clause-F, Expr-F, FromItem-F, Selected-F}
 use Rattle.sql_ast.specs.declared.tree.Block.TheOpen.{Arm-F, Block-F, Factor-F, Item-F, Join-F}
 use Rattle.sql_ast.specs.declared.tree.Block.TheOpen.{Joined-F, Term-F, Select-F, SetPart-F}
 use Rattle.sql_ast.specs.declared.tree.Block.TheFolds.{ind-Block, map-Clause, map-Expr}
 use Rattle.sql_ast.specs.declared.tree.Block.TheFolds.{map-FromItem, map-Selected, map-Arm}
 use Rattle.sql_ast.specs.declared.tree.Block.TheFolds.{map-Block, map-Factor, map-Item, map-Join}
-use Rattle.sql_ast.specs.declared.tree.Block.TheFolds.{map-Joined, map-Term, map-Select, map-SetPart}
+use Rattle.sql_ast.specs.declared.tree.Block.TheFolds.{map-Joined, map-Term, map-Select}
+use Rattle.sql_ast.specs.declared.tree.Block.TheFolds.{map-SetPart}
 use Rattle.sql_ast.specs.declared.words.Adding.{Adding}
 use Rattle.sql_ast.specs.declared.words.Span.{Span}
 use Rattle.sql_bound_query.specs.declared.query.BoundQuery.{BoundQuery}
@@ -44,39 +44,45 @@ use Rattle.sql_binder.specs.Binding.{bound_view, clause_meaning, meaning, from_i
 use Rattle.sql_binder.specs.Binding.{selected_meaning, arm_meaning, block_meaning, factor_meaning}
 use Rattle.sql_binder.specs.Binding.{item_meaning, join_meaning, joined_meaning, term_meaning}
 use Rattle.sql_binder.specs.Binding.{select_meaning, set_part_meaning}
-use Rattle.sql_binder.specs.Binding.{bound_query, bound_table, counted_table, start, with_views, with_views_from}
+use Rattle.sql_binder.specs.Binding.{bound_query, bound_table, counted_table, start, with_views}
+use Rattle.sql_binder.specs.Binding.{with_views_from}
 use Rattle.sql_binder.specs.Meanings.{Meaning}
 use Rattle.sql_binder_steps.specs.Names.{Sight}
 use Rattle.sql_binder.specs.Operands.{term_by}
 use Rattle.sql_binder_steps.specs.Parts.{function_of, order_of, outermost, distinct_names}
 use Rattle.sql_binder_steps.specs.Parts.{renamed_headers, new_name}
 use Rattle.sql_binder_steps.specs.Steps.{Name, lift}
-use Rattle.sql_binder_steps.specs.Values.{adding_of, multiplying_of, date_literal, dated_by, shifted}
+use Rattle.sql_binder_steps.specs.Values.{adding_of, multiplying_of, date_literal, dated_by}
+use Rattle.sql_binder_steps.specs.Values.{shifted}
 use Rattle.sql_binder_steps.specs.Values.{operated}
-use Rattle.sql_binder.proofs.Opened.{clause_meaning_at, clause_meaning_is, meaning_at, meaning_is}
-use Rattle.sql_binder.proofs.Opened.{from_item_meaning_at, from_item_meaning_is}
-use Rattle.sql_binder.proofs.Opened.{selected_meaning_at, selected_meaning_is, arm_meaning_at}
-use Rattle.sql_binder.proofs.Opened.{arm_meaning_is, block_meaning_at, block_meaning_is}
-use Rattle.sql_binder.proofs.Opened.{factor_meaning_at, factor_meaning_is, item_meaning_at}
-use Rattle.sql_binder.proofs.Opened.{item_meaning_is, join_meaning_at, join_meaning_is}
-use Rattle.sql_binder.proofs.Opened.{joined_meaning_at, joined_meaning_is, term_meaning_at}
-use Rattle.sql_binder.proofs.Opened.{term_meaning_is, select_meaning_at, select_meaning_is}
-use Rattle.sql_binder.proofs.Opened.{set_part_meaning_at, set_part_meaning_is}
+use Rattle.sql_binder.proofs.Opened.{clause_meaning_at, meaning_at}
+use Rattle.sql_binder.proofs.Opened.{from_item_meaning_at}
+use Rattle.sql_binder.proofs.Opened.{selected_meaning_at, arm_meaning_at}
+use Rattle.sql_binder.proofs.Opened.{block_meaning_at}
+use Rattle.sql_binder.proofs.Opened.{factor_meaning_at, item_meaning_at}
+use Rattle.sql_binder.proofs.Opened.{join_meaning_at}
+use Rattle.sql_binder.proofs.Opened.{joined_meaning_at, term_meaning_at}
+use Rattle.sql_binder.proofs.Opened.{select_meaning_at}
+use Rattle.sql_binder.proofs.Opened.{set_part_meaning_at}
 use Rattle.sql_binder_laws.specs.WellTyped.{TableIsWellTyped, ViewIsWellTyped, BoundIsWellTyped}
 use Rattle.sql_binder_laws.specs.WellTyped.{header_kinds, ViewsAreTyped}
 use Rattle.sql_binder_laws.proofs.TypedOperands.{went, ok_is, number_typed, text_typed, date_typed}
-use Rattle.sql_binder_laws.proofs.TypedSteps.{Ready, Fits, Known, Goes, goes_on, goes_lift, goes_pure}
+use Rattle.sql_binder_laws.proofs.TypedSteps.{Ready, Fits, Known, Goes, goes_on, goes_lift}
+use Rattle.sql_binder_laws.proofs.TypedSteps.{goes_pure}
 use Rattle.sql_binder_laws.proofs.TypedSteps.{known_on}
 use Rattle.sql_binder_laws.proofs.TypedMade.{TypedIs}
 use Rattle.sql_binder_laws.proofs.TypedNodes.{TypedIn, MeaningIs, ChainMeaningIs, ArmMeaningIs}
 use Rattle.sql_binder_laws.proofs.TypedMade.{ChainIs, operated_is, shifted_is}
 use Rattle.sql_binder_laws.proofs.TypedNodes.{negative_goes}
 use Rattle.sql_binder_laws.proofs.TypedNodes.{null_test_goes, not_goes, like_goes, extract_goes}
-use Rattle.sql_binder_laws.proofs.TypedNodes.{substring_goes, compare_goes, between_goes, in_list_goes}
-use Rattle.sql_binder_laws.proofs.TypedNodes.{and_goes, or_goes, chain_goes, case_goes, case_else_goes}
+use Rattle.sql_binder_laws.proofs.TypedNodes.{substring_goes, compare_goes, between_goes}
+use Rattle.sql_binder_laws.proofs.TypedNodes.{in_list_goes}
+use Rattle.sql_binder_laws.proofs.TypedNodes.{and_goes, or_goes, chain_goes, case_goes}
+use Rattle.sql_binder_laws.proofs.TypedNodes.{case_else_goes}
 use Rattle.sql_binder_laws.proofs.TypedNodes.{column_goes}
 use Rattle.sql_binder_laws.proofs.TypedQueries.{BlockMeaningIs, count_rows_goes, aggregate_goes}
-use Rattle.sql_binder_laws.proofs.TypedQueries.{exists_goes, scalar_goes, in_query_goes, compare_query_goes}
+use Rattle.sql_binder_laws.proofs.TypedQueries.{exists_goes, scalar_goes, in_query_goes}
+use Rattle.sql_binder_laws.proofs.TypedQueries.{compare_query_goes}
 use Rattle.sql_binder_laws.proofs.TypedItems.{FromItemMeaningIs}
 use Rattle.sql_binder_laws.proofs.TypedFrom.{JoinMeaningIs, JoinedMeaningIs}
 use Rattle.sql_binder_laws.proofs.TypedItems.{renamed_kinds, table_rows_is, derived_rows_is}
@@ -85,6 +91,10 @@ use Rattle.sql_binder_laws.proofs.TypedFrom.{join_is_typed, joined_is_typed}
 use Rattle.sql_binder_laws.proofs.TypedClauses.{ClauseMeaningIs, SelectedMeaningIs, ItemMeaningIs}
 use Rattle.sql_binder_laws.proofs.TypedBlocks.{select_typed}
 use Rattle.sql_binder_laws.proofs.TypedSets.{SetPartMeaningIs, set_part_typed, combined_typed}
+use Rattle.sql_binder_laws.proofs.RolledTrees.{clause_rolled, expr_rolled, from_item_rolled}
+use Rattle.sql_binder_laws.proofs.RolledTrees.{selected_rolled, arm_rolled, block_rolled}
+use Rattle.sql_binder_laws.proofs.RolledTrees.{select_rolled, set_part_rolled, factor_rolled}
+use Rattle.sql_binder_laws.proofs.RolledTrees.{item_rolled, join_rolled, joined_rolled, term_rolled}
 
 -- each part with what there is to show of it
 abbrev ClauseWith : Type 0
@@ -372,84 +382,6 @@ term_node : (y : Term-F BlockWith ClauseWith ExprWith FromItemWith SelectedWith 
     (λ x. x.0) (λ x. x.0) (λ x. x.0) (λ x. x.0) (λ x. x.0) (λ x. x.0) y))
 unfolding term_meaning_at
 term_node y = term_goes (meaning y.value.0).interval y.operator (meaning y.value.0) y.value.1
-
-clause_rolled : (z : Clause-F Block Clause Expr FromItem Selected Arm Factor Item Join Joined Select
-    SetPart Term)
-    → ClauseMeaningIs (clause_meaning_at z) → ClauseMeaningIs (clause_meaning (roll-Clause z))
-clause_rolled z h = subst ClauseMeaningIs
-    (sym (clause_meaning_is (roll-Clause z) ∙ ap clause_meaning_at (out-roll-Clause z))) h
-
-expr_rolled : (z : Expr-F Block Clause Expr FromItem Selected Arm Factor Item Join Joined Select
-    SetPart Term)
-    → MeaningIs (meaning_at z) → MeaningIs (meaning (roll-Expr z))
-expr_rolled z h = subst MeaningIs (sym (meaning_is (roll-Expr z) ∙ ap meaning_at (out-roll-Expr z)))
-    h
-
-from_item_rolled : (z : FromItem-F Block Clause Expr FromItem Selected Arm Factor Item Join Joined
-    Select SetPart Term) → FromItemMeaningIs (from_item_meaning_at z)
-    → FromItemMeaningIs (from_item_meaning (roll-FromItem z))
-from_item_rolled z h = subst FromItemMeaningIs
-    (sym (from_item_meaning_is (roll-FromItem z) ∙ ap from_item_meaning_at (out-roll-FromItem z))) h
-
-selected_rolled : (z : Selected-F Block Clause Expr FromItem Selected Arm Factor Item Join Joined
-    Select SetPart Term) → SelectedMeaningIs (selected_meaning_at z)
-    → SelectedMeaningIs (selected_meaning (roll-Selected z))
-selected_rolled z h = subst SelectedMeaningIs
-    (sym (selected_meaning_is (roll-Selected z) ∙ ap selected_meaning_at (out-roll-Selected z))) h
-
-arm_rolled : (z : Arm-F Block Clause Expr FromItem Selected Arm Factor Item Join Joined Select
-    SetPart Term)
-    → ArmMeaningIs (arm_meaning_at z) → ArmMeaningIs (arm_meaning (roll-Arm z))
-arm_rolled z h = subst ArmMeaningIs
-    (sym (arm_meaning_is (roll-Arm z) ∙ ap arm_meaning_at (out-roll-Arm z))) h
-
-block_rolled : (z : Block-F Block Clause Expr FromItem Selected Arm Factor Item Join Joined Select
-    SetPart Term)
-    → BlockMeaningIs (block_meaning_at z) → BlockMeaningIs (block_meaning (roll-Block z))
-block_rolled z h = subst BlockMeaningIs
-    (sym (block_meaning_is (roll-Block z) ∙ ap block_meaning_at (out-roll-Block z))) h
-
-select_rolled : (z : Select-F Block Clause Expr FromItem Selected Arm Factor Item Join Joined Select
-    SetPart Term)
-    → BlockMeaningIs (select_meaning_at z) → BlockMeaningIs (select_meaning (roll-Select z))
-select_rolled z h = subst BlockMeaningIs
-    (sym (select_meaning_is (roll-Select z) ∙ ap select_meaning_at (out-roll-Select z))) h
-
-set_part_rolled : (z : SetPart-F Block Clause Expr FromItem Selected Arm Factor Item Join Joined Select
-    SetPart Term)
-    → SetPartMeaningIs (set_part_meaning_at z) → SetPartMeaningIs (set_part_meaning (roll-SetPart z))
-set_part_rolled z h = subst SetPartMeaningIs
-    (sym (set_part_meaning_is (roll-SetPart z) ∙ ap set_part_meaning_at (out-roll-SetPart z))) h
-
-factor_rolled : (z : Factor-F Block Clause Expr FromItem Selected Arm Factor Item Join Joined Select
-    SetPart Term)
-    → ChainMeaningIs (factor_meaning_at z) → ChainMeaningIs (factor_meaning (roll-Factor z))
-factor_rolled z h = subst ChainMeaningIs
-    (sym (factor_meaning_is (roll-Factor z) ∙ ap factor_meaning_at (out-roll-Factor z))) h
-
-item_rolled : (z : Item-F Block Clause Expr FromItem Selected Arm Factor Item Join Joined Select
-    SetPart Term)
-    → ItemMeaningIs (item_meaning_at z) → ItemMeaningIs (item_meaning (roll-Item z))
-item_rolled z h = subst ItemMeaningIs
-    (sym (item_meaning_is (roll-Item z) ∙ ap item_meaning_at (out-roll-Item z))) h
-
-join_rolled : (z : Join-F Block Clause Expr FromItem Selected Arm Factor Item Join Joined Select
-    SetPart Term)
-    → JoinMeaningIs (join_meaning_at z) → JoinMeaningIs (join_meaning (roll-Join z))
-join_rolled z h = subst JoinMeaningIs
-    (sym (join_meaning_is (roll-Join z) ∙ ap join_meaning_at (out-roll-Join z))) h
-
-joined_rolled : (z : Joined-F Block Clause Expr FromItem Selected Arm Factor Item Join Joined Select
-    SetPart Term)
-    → JoinedMeaningIs (joined_meaning_at z) → JoinedMeaningIs (joined_meaning (roll-Joined z))
-joined_rolled z h = subst JoinedMeaningIs
-    (sym (joined_meaning_is (roll-Joined z) ∙ ap joined_meaning_at (out-roll-Joined z))) h
-
-term_rolled : (z : Term-F Block Clause Expr FromItem Selected Arm Factor Item Join Joined Select
-    SetPart Term)
-    → ChainMeaningIs (term_meaning_at z) → ChainMeaningIs (term_meaning (roll-Term z))
-term_rolled z h = subst ChainMeaningIs
-    (sym (term_meaning_is (roll-Term z) ∙ ap term_meaning_at (out-roll-Term z))) h
 
 pub each_block : (q : Block) → BlockMeaningIs (block_meaning q)
 each_block =
