@@ -21,7 +21,7 @@ use Rattle.sql_binder.specs.Meanings.{FromItemMeaning, BlockMeaning}
 use Rattle.sql_binder.specs.FromLists.{from_item_step, on_joining, chained}
 use Rattle.sql_binder.specs.Blocks.{combined}
 use Rattle.sql_binder.specs.Binding.{from_item_meaning, join_meaning, joined_meaning, block_meaning}
-use Rattle.sql_binder.specs.Binding.{meaning, clauses_of, set_part_meaning, select_meaning}
+use Rattle.sql_binder.specs.Binding.{meaning, clauses_of, set_part_meaning}
 use Rattle.sql_binder.proofs.Opened.{from_item_Table, from_item_Derived, from_item_Lateral, join_is}
 use Rattle.sql_binder.proofs.Opened.{joined_is, select_is, set_part_is, block_Select, block_Combined}
 use Rattle.sql_binder.proofs.Opened.{expr_opened, clause_opened}

@@ -1,5 +1,5 @@
 -- Set operations, and comparisons with ANY and ALL: what they are bound to and refused for.
-use Rattle.std.specs.Prelude.{◌≡◌, Bool, true, false, List, [], ◌∷◌, None, Ok, Err, pos, codes}
+use Rattle.std.specs.Prelude.{◌≡◌, Bool, true, false, [], ◌∷◌, Ok, pos, codes}
 use Rattle.base_refusals.specs.declared.bind.BindRefusal.TheVariants.{UnknownColumn, TypeMismatch}
 use Rattle.base_refusals.specs.declared.bind.BindRefusal.TheVariants.{SetColumns, SubqueryColumns}
 use Rattle.base_schema.specs.declared.table.TableName.TheVariants as table
@@ -8,7 +8,6 @@ use Rattle.base_set_rows.specs.declared.kind.SetOperation.TheVariants.{Union, Cl
 use Rattle.base_value.specs.declared.value.Value.TheVariants as value
 use Rattle.expr_operators.specs.declared.operator.Comparison.TheVariants as operator
 use Rattle.expr_scalar.specs.declared.expr.Expr.TheVariants as scalar
-use Rattle.sql_ast.specs.declared.statement.Query.{Query}
 use Rattle.sql_ast.specs.declared.tree.Block.{Block}
 use Rattle.sql_ast.specs.declared.tree.Block.TheVariants as block
 use Rattle.sql_ast.specs.declared.tree.Expr.TheVariants as e

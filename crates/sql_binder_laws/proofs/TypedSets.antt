@@ -1,12 +1,11 @@
 -- What set operations bind is typed.
-use Rattle.std.proofs.Common.{◌≡◌, ℕ, ◌+◌, ◌==◌, List, [], ◌∷◌, ◌++◌, length, map, arith, zero, suc}
+use Rattle.std.proofs.Common.{◌≡◌, ℕ, ◌+◌, ◌==◌, List, [], ◌∷◌, ◌++◌, length, map}
 use Rattle.std.proofs.Common.{Bool, true, false, if◌then◌else◌, refl, sym, ap, ◌∙◌, subst, inl, inr}
 use Rattle.std.specs.Prelude.{Option, Some, None, Ok, slice_get}
 use Rattle.std.proofs.lemmas.Bool.{cases_Bool, eqb-true, eq-eqb}
 use Rattle.std.proofs.lemmas.List.{append_assoc, length-append, map-append}
 use Rattle.base_row_laws.specs.Bags.{Each}
 use Rattle.base_set_rows.specs.declared.kind.SetOperation.{SetOperation}
-use Rattle.expr_scalar.specs.declared.expr.Expr.{Expr}
 use Rattle.expr_scalar.specs.declared.expr.Expr.TheVariants as e
 use Rattle.expr_scalar.specs.declared.kind.Kind.{Kind}
 use Rattle.expr_scalar.specs.declared.kind.Kind.TheVariants.{Number, Text, Date}
@@ -28,13 +27,13 @@ use Rattle.sql_binder_steps.specs.Kinds as kinds
 use Rattle.sql_binder_steps.specs.Names.{Sight}
 use Rattle.sql_binder_steps.specs.Sets.{rescaled, set_column, with_column, columns_from, set_columns}
 use Rattle.sql_binder_steps.specs.Sets.{set_block, set_table}
-use Rattle.sql_binder_steps.specs.Steps.{Checked, and_then, Binding, ◌>>=◌, pure, lift}
+use Rattle.sql_binder_steps.specs.Steps.{◌>>=◌, lift}
 use Rattle.sql_binder.specs.Blocks.{combined, combined_from}
 use Rattle.sql_binder.specs.Meanings.{BlockMeaning, SetPartMeaning}
 use Rattle.sql_binder_laws.specs.WellTyped.{header_kinds}
 use Rattle.sql_binder_laws.proofs.TypedOperands.{went, ok_is, case_is, column_typed}
 use Rattle.sql_binder_laws.proofs.TypedCases.{RaisesKind, AllRaise, all_raise, scaled_is}
-use Rattle.sql_binder_laws.proofs.TypedSteps.{Ready, Fits, same_pair}
+use Rattle.sql_binder_laws.proofs.TypedSteps.{Ready, same_pair}
 use Rattle.sql_binder_laws.proofs.TypedQueries.{BlockIs, BlockMeaningIs}
 
 -- ---- columns

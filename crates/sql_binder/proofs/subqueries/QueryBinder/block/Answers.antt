@@ -1,4 +1,3 @@
-use Rattle.std.proofs.Common.{subst}
 use Rattle.sql_binder.proofs.Opened.{block_Select, block_Combined}
 use Rattle.sql_binder.proofs.Sized.{select_of, first_of, parts_of}
 use Rattle.sql_binder.proofs.Smaller.{block_below, each_part, at_size}
