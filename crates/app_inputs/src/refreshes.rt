@@ -21,21 +21,25 @@ use store_state::Refresh;
 
 /// An insert of what these files hold: a bad line of the orders comes before one of the lineitems.
 fn insert_of(
+    alloc: Global,
     set: u32,
     orders: Result<Rows, LineRefusal>,
     lineitems: Result<Rows, LineRefusal>,
-) -> Refresh
+) -> Result<Refresh, AllocError>
     requires orders { FitsFile Orders orders }
     requires lineitems { FitsFile Lineitem lineitems }
-    ensures { result ≡ insert_of set orders lineitems }
+    ensures { IfOk result (λ refresh. refresh ≡ insert_of set orders lineitems) }
 {
     let orders = match orders {
         Ok(orders) => orders,
-        Err(first) => return Refresh::malformed(RefreshFile::Orders, set, first),
+        Err(first) => return Ok(Refresh::malformed(RefreshFile::Orders, set, first)),
     };
     match lineitems {
-        Ok(lineitems) => Refresh::insert(orders, lineitems),
-        Err(first) => Refresh::malformed(RefreshFile::Lineitem, set, first),
+        Ok(lineitems) => {
+            let refresh = Refresh::insert(alloc, orders, lineitems)?;
+            Ok(refresh)
+        }
+        Err(first) => Ok(Refresh::malformed(RefreshFile::Lineitem, set, first)),
     }
 }
 
@@ -73,7 +77,8 @@ fn read_insert<F: Files>(
 {
     let orders = set_rows(alloc, files, folder, known, RefreshFile::Orders, set)?;
     let lineitems = set_rows(alloc, files, folder, known, RefreshFile::Lineitem, set)?;
-    Ok(insert_of(set, orders, lineitems))
+    let refresh = insert_of(alloc, set, orders, lineitems)?;
+    Ok(refresh)
 }
 
 /// A delete of what its file in the folder holds.

@@ -8,7 +8,6 @@ mod Works
 mod OnTheWay
 mod OneText
 mod Orders
-mod Divided
 mod Taken
 mod JobScripts
 mod JobAlike

@@ -50,7 +50,7 @@ fn give(
 fn divide(
     alloc: Global,
     senders: &[SenderId],
-    mut sent: Vec<Refresh>,
+    sent: Vec<Refresh>,
 ) -> Result<(Vec<Refresh>, Vec<Refresh>), AllocError>
     requires { length sent.items ≡ length senders.now }
     ensures first { IfOk result (λ r. r.0.items ≡ sent_by First (zip senders.now sent.items)) }
@@ -58,9 +58,12 @@ fn divide(
 {
     let mut first = Vec::new(alloc);
     let mut second = Vec::new(alloc);
+    let mut left = sent.into_iter();
     'dividing: for sender in senders {
-        let refresh = sent.remove(0);
-        give(*sender, refresh, &mut first, &mut second)?;
+        match left.next() {
+            Some(refresh) => give(*sender, refresh, &mut first, &mut second)?,
+            None => unreachable!(),
+        }
     }
     Ok((first, second))
 }

@@ -1,5 +1,5 @@
 -- Lemmas on texts that lie in a dictionary.
-use Rattle.std.proofs.Common.{◌≡◌, ◌<◌, ℕ, suc, zero, List, [], ◌∷◌, refl, sym, ap, ◌∙◌, subst, arith, length, get_or, map}
+use Rattle.std.proofs.Common.{◌≡◌, ℕ, suc, List, [], ◌∷◌, refl, sym, ap, ◌∙◌, subst, arith, length, get_or, map}
 use Rattle.std.proofs.lemmas.List.{length-map}
 use Rattle.base_value.specs.declared.truth.Truth.{Truth}
 use Rattle.base_value.specs.declared.truth.Truth.TheVariants.{False}

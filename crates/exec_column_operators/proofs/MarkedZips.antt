@@ -35,7 +35,7 @@ compared_null c (Number s a) = refl
 compared_null c (Text t) = refl
 compared_null c (Date d) = refl
 
-computed_null : (o : Arithmetic) (x : Value) → computed o x Null ≡ Null
+pub computed_null : (o : Arithmetic) (x : Value) → computed o x Null ≡ Null
 computed_null o Null = refl
 computed_null o (Fault f) = refl
 computed_null o (Number s a) = refl
@@ -59,7 +59,7 @@ pub compared_marks : (c : Comparison) (ms ns : List Bool) (xs ys us vs : List Va
 compared_marks c ms ns xs ys us vs plain found e k l p f =
     f ∙ ap (λ ts. marked Unknown ms (marked Unknown ns ts)) p
     ∙ sym (zip-marks (compared c) Null Null Unknown ms ns xs ys (λ y. refl) (compared_null c) (plain_long ms ns xs ys us vs e k l))
-    ∙ ap (λ as. zip_with (compared c) as (marked Null ns ys)) (sym e) ∙ ap (zip_with (compared c) us) (sym k)
+    ∙ ap (λ ws. zip_with (compared c) ws (marked Null ns ys)) (sym e) ∙ ap (zip_with (compared c) us) (sym k)
 
 -- the same where the right side has no marks
 pub compared_marked : (c : Comparison) (ms : List Bool) (xs us vs : List Value) (plain found : List Truth) → us ≡ marked Null ms xs → length us ≡ length vs
@@ -72,7 +72,7 @@ pub computed_marks : (o : Arithmetic) (ms ns os : List Bool) (xs ys us vs plain 
 computed_marks o ms ns os xs ys us vs plain found e k l h p f =
     f ∙ sym (marked-either Null ms ns os plain h) ∙ ap (λ ts. marked Null ms (marked Null ns ts)) p
     ∙ sym (zip-marks (computed o) Null Null Null ms ns xs ys (λ y. refl) (computed_null o) (plain_long ms ns xs ys us vs e k l))
-    ∙ ap (λ as. zip_with (computed o) as (marked Null ns ys)) (sym e) ∙ ap (zip_with (computed o) us) (sym k)
+    ∙ ap (λ ws. zip_with (computed o) ws (marked Null ns ys)) (sym e) ∙ ap (zip_with (computed o) us) (sym k)
 
 -- what a function makes of values with marks
 pub mapped_marks : {A : Type 0} (f : Value → A) (z : A) (ms : List Bool) (xs us : List Value) (plain found : List A) → f Null ≡ z → us ≡ marked Null ms xs → plain ≡ map f xs

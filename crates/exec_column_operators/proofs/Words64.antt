@@ -1,5 +1,5 @@
 -- Arithmetic of decimals whose coefficients are of 64 bits.
-use Rattle.std.proofs.Common.{◌≡◌, ℕ, ◌+◌, max, List, [], ◌∷◌, map, arith, refl, sym, ap, ℤ, pos, negsuc, ◌+ℤ◌, ◌*ℤ◌, Ok, true}
+use Rattle.std.proofs.Common.{◌≡◌, ℕ, ◌+◌, max, arith, refl, sym, ℤ, pos, negsuc, ◌+ℤ◌, ◌*ℤ◌, Ok, true}
 use Rattle.std.specs.Prelude.{FitsSigned, nat_le, ◌-ℤ◌}
 use Rattle.std.specs.Int.{w64, w128}
 use Rattle.std.proofs.lemmas.Bool.Decides.{nat_tests}

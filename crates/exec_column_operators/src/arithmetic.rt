@@ -55,19 +55,19 @@ fn computed_numbers(
     requires { length a.now ≡ length b.now }
     ensures { IfOk result (λ r. IfSome r (λ c. c ≡ zip_with (computed operator) a.now b.now)) }
 {
-    let Some((s, xs, ms)) = a.marked_numbers() else {
+    let Some(left) = a.marked_numbers() else {
         return Ok(None);
     };
-    let Some((t, ys, ns)) = b.marked_numbers() else {
+    let Some(right) = b.marked_numbers() else {
         return Ok(None);
     };
-    if !is_exact(operator, s, t) {
+    if !is_exact(operator, left.0, right.0) {
         return Ok(None);
     }
-    match numbers(alloc, operator, s, xs, t, ys)? {
+    match numbers(alloc, operator, left.0, left.1, right.0, right.1)? {
         Some(zs) => {
-            let scale = exact_scale(operator, s, t);
-            let marks = ms.either(alloc, ns)?;
+            let scale = exact_scale(operator, left.0, right.0);
+            let marks = left.2.either(alloc, right.2)?;
             Ok(Some(Column::from_marked_numbers(scale, zs, marks)))
         }
         None => Ok(None),

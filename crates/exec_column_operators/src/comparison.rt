@@ -75,14 +75,14 @@ fn compared_numbers(
     ensures { IfOk result (λ r.
         IfSome r (λ v. v.items ≡ zip_with (compared comparison) a.now b.now)) }
 {
-    let Some((s, xs, ms)) = a.marked_numbers() else {
+    let Some(left) = a.marked_numbers() else {
         return Ok(None);
     };
-    let Some((t, ys, ns)) = b.marked_numbers() else {
+    let Some(right) = b.marked_numbers() else {
         return Ok(None);
     };
-    let truths = numbers(alloc, comparison, s, xs, t, ys)?;
-    Ok(Some(unknown_at(ms, ns, truths)))
+    let truths = numbers(alloc, comparison, left.0, left.1, right.0, right.1)?;
+    Ok(Some(unknown_at(left.2, right.2, truths)))
 }
 
 // The same for numbers of two scales.

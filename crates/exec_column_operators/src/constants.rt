@@ -51,10 +51,10 @@ fn of_its_scale(operator: Arithmetic, a: &Column, y: &Value) -> Option<Value>
     ensures before { IfSome result (λ w. map (computed operator w) a.now
         ≡ map (computed operator y.now) a.now) }
 {
-    let Some((scale, _numbers, _marks)) = a.marked_numbers() else {
+    let Some(numbers) = a.marked_numbers() else {
         return None;
     };
-    let number = number_at(scale, y)?;
+    let number = number_at(numbers.0, y)?;
     match operator {
         Arithmetic::Add => Some(number),
         Arithmetic::Subtract => Some(number),

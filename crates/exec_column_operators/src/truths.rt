@@ -76,8 +76,8 @@ fn liked_values(alloc: Global, a: &Column, pattern: &Text) -> Result<Vec<Truth>,
 pub fn null_tests(alloc: Global, a: &Column) -> Result<Vec<Truth>, AllocError>
     ensures { IfOk result (λ v. v.items ≡ map null_test a.now) }
 {
-    if let Some((_scale, numbers, marks)) = a.marked_numbers() {
-        return true_at(alloc, numbers.len(), marks);
+    if let Some(numbers) = a.marked_numbers() {
+        return true_at(alloc, numbers.1.len(), numbers.2);
     }
     if let Some((dates, marks)) = a.marked_dates() {
         return true_at(alloc, dates.len(), marks);

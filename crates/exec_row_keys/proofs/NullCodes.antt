@@ -1,6 +1,5 @@
 -- Lemmas on codes of values some of which are null.
 use Rattle.std.proofs.Common.{◌≡◌, ℕ, ◌+◌, ◌<◌, ◌≤◌, suc, zero, List, [], ◌∷◌, refl, sym, ap, ◌∙◌, arith, length, get_or, take, map, Bool, true, false, cond, ℤ}
-use Rattle.std.specs.List.{All}
 use Rattle.std.specs.Ordering.{int_eq}
 use Rattle.std.proofs.lemmas.List.{take_all}
 use Rattle.std.proofs.lemmas.Cmp.{int_eq_equiv}

@@ -38,7 +38,8 @@ fn send_end<R: Wait>(rt: &R, mut sender: Sender) -> Ended
     unreachable!()
 }
 
-/// Sends these refreshes in their order, and then the end. While the queue is full it yields.
+/// Sends these refreshes in their order, and then the end. It yields after each of them, so that
+/// other senders come in between, and while the queue is full.
 pub fn send_all<R: Wait>(rt: &R, mut sender: Sender, refreshes: Vec<Refresh>) -> Ended
     requires { length sender.sent + length refreshes.items ≤ pick sender.id sender.quotas }
     ensures sender { (result.gateway ≡ sender.gateway) × (result.id ≡ sender.id) }
@@ -46,6 +47,7 @@ pub fn send_all<R: Wait>(rt: &R, mut sender: Sender, refreshes: Vec<Refresh>) ->
 {
     for refresh in refreshes {
         send_one(rt, refresh, &mut sender);
+        thread::yield_now();
     }
     send_end(rt, sender)
 }

@@ -9,13 +9,13 @@ use Rattle.store_state.specs.Refresh.{Change, DeleteKeys, InsertRows, IsOrderKey
 
 -- the change that the parts say
 abbrev pub change_of : Form → Change
-change_of (Insert orders lineitems) = InsertRows orders lineitems
+change_of (Insert sales) = InsertRows (arc_value sales).orders (arc_value sales).lineitems
 change_of (Delete keys) = DeleteKeys (arc_value keys).items
 change_of (Malformed file set refusal) = MalformedFile file set refusal
 
 -- the rows are of their tables' kinds, and the keys are keys of orders
 abbrev pub IsFormed : Form → Type 0
-IsFormed (Insert orders lineitems) = RowsAreOf table.Orders orders
-    × RowsAreOf table.Lineitem lineitems
+IsFormed (Insert sales) = RowsAreOf table.Orders (arc_value sales).orders
+    × RowsAreOf table.Lineitem (arc_value sales).lineitems
 IsFormed (Delete keys) = All IsOrderKey (arc_value keys).items
 IsFormed (Malformed file set refusal) = Unit {0}

@@ -223,7 +223,7 @@ pub fn apply(alloc: Global, state: &mut State, refresh: &Refresh) -> Result<(), 
     ensures { Applies state.old state.new refresh.now result }
 {
     match &refresh.form {
-        Form::Insert(orders, lineitems) => try_insert(alloc, orders, lineitems, state),
+        Form::Insert(sales) => try_insert(alloc, &sales.orders, &sales.lineitems, state),
         Form::Delete(keys) => try_delete(alloc, keys.as_slice(), state),
         Form::Malformed(file, set, refusal) => {
             Err(RefreshError::Refused(Cause::Malformed(*file, *set, *refusal)))

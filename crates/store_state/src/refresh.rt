@@ -18,11 +18,18 @@ use std::alloc::{AllocError, Global};
 use std::marker::Model;
 use std::sync::Arc;
 
+/// Orders and their lineitems, as an insert adds them.
+#[derive(Drop)]
+pub(crate) struct Sales {
+    pub(crate) orders: Rows,
+    pub(crate) lineitems: Rows,
+}
+
 /// What a refresh is to do, with the rows or keys of its files.
 #[derive(Drop)]
 pub(crate) enum Form {
-    /// Adds orders and their lineitems.
-    Insert(Rows, Rows),
+    /// Adds these orders and lineitems.
+    Insert(Arc<Sales>),
     /// Removes the orders of these keys with their lineitems.
     Delete(Arc<Vec<i64>>),
     /// Nothing, since a file of the set of this number has a bad line.
@@ -30,7 +37,7 @@ pub(crate) enum Form {
 }
 
 /// A refresh, read from its files. Rows are of their tables' kinds, and keys from 0 to 2^63 - 1. A
-/// clone has further shares of the same rows or keys.
+/// clone is one share more of the same rows or keys, and takes no memory.
 #[derive(Drop)]
 pub struct Refresh {
     pub(crate) form: Form,
@@ -49,15 +56,16 @@ impl Model for Refresh {
 }
 
 impl Refresh {
-    /// Adds these orders and lineitems at the ends of their tables. No memory is taken.
-    pub fn insert(orders: Rows, lineitems: Rows) -> Refresh
+    /// Adds these orders and lineitems at the ends of their tables.
+    pub fn insert(alloc: Global, orders: Rows, lineitems: Rows) -> Result<Refresh, AllocError>
         requires orders { RowsAreOf TableName.Orders orders }
         requires lineitems { RowsAreOf TableName.Lineitem lineitems }
-        ensures { result ≡ InsertRows orders lineitems }
+        ensures { IfOk result (λ refresh. refresh ≡ InsertRows orders lineitems) }
     {
-        Refresh {
-            form: Form::Insert(orders, lineitems),
-        }
+        let sales = Arc::new(alloc, Sales { orders, lineitems })?;
+        Ok(Refresh {
+            form: Form::Insert(sales),
+        })
     }
 
     /// Removes the orders of these keys, with all their lineitems.
@@ -96,7 +104,7 @@ impl Refresh {
         ensures { change_by result ≡ self.now }
     {
         match &self.form {
-            Form::Insert(orders, lineitems) => Action::Insert(orders, lineitems),
+            Form::Insert(sales) => Action::Insert(&sales.orders, &sales.lineitems),
             Form::Delete(keys) => Action::Delete(keys.as_slice()),
             Form::Malformed(file, set, refusal) => Action::Malformed(*file, *set, *refusal),
         }
@@ -128,7 +136,7 @@ impl Clone for Refresh {
         ensures { IfOk result (λ refresh. refresh ≡ self.now) }
     {
         let form = match &self.form {
-            Form::Insert(orders, lineitems) => Form::Insert(orders.clone()?, lineitems.clone()?),
+            Form::Insert(sales) => Form::Insert(Arc::try_clone(sales)?),
             Form::Delete(keys) => Form::Delete(Arc::try_clone(keys)?),
             Form::Malformed(file, set, refusal) => Form::Malformed(*file, *set, *refusal),
         };

@@ -83,7 +83,8 @@ pub(crate) fn insert(
 ) -> Result<Refresh, Fail> {
     let orders = orders(alloc, new_orders)?;
     let lineitems = lineitems(alloc, new_lineitems)?;
-    Ok(Refresh::insert(orders, lineitems))
+    let refresh = Refresh::insert(alloc, orders, lineitems)?;
+    Ok(refresh)
 }
 
 /// A delete of this file.

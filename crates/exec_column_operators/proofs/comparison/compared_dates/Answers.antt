@@ -1,8 +1,14 @@
 use Rattle.std.proofs.Common.{◌∙◌, map}
 use Rattle.base_value.specs.declared.value.Value.TheVariants.{Date}
 use Rattle.exec_column_operators.proofs.Zips.{dates_zip}
-use Rattle.exec_column_operators.proofs.MarkedZips.{compared_marks}
+use Rattle.exec_column_operators.proofs.MarkedZips.{as_long, compared_marks}
 use Rattle.exec_column_operators.proofs.comparison.compared_dates.Goals as goal
+
+pub dates-requires : goal.dates-requires
+dates-requires c =
+    let a = c.in-Some in
+    let b = c.in-Some-marked_dates in
+    as_long Date Date a.ms.now b.ns.now a.xs.now b.ys.now c.args.a.now c.args.b.now a.ensures b.ensures c.requires
 
 pub returns : goal.returns
 returns c =

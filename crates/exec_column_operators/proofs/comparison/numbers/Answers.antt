@@ -1,6 +1,5 @@
 use Rattle.std.proofs.Common.{arith}
 use Rattle.std.specs.Prelude.{pos}
-use Rattle.base_value.specs.declared.truth.Truth.TheVariants.{False}
 use Rattle.exec_column_operators.specs.Exact.{number_compared}
 use Rattle.exec_column_operators.proofs.Zips.{zip_push}
 use Rattle.exec_column_operators.proofs.comparison.numbers.Goals as goal

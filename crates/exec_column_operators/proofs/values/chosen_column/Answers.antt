@@ -1,4 +1,4 @@
-use Rattle.std.proofs.Common.{arith, ◌<◌, ◌∙◌, ap, length}
+use Rattle.std.proofs.Common.{arith, ◌<◌, length}
 use Rattle.base_value.specs.declared.truth.Truth.TheVariants.{False}
 use Rattle.base_value.specs.declared.value.Value.TheVariants.{Null}
 use Rattle.exec_column_operators.specs.Choices.{choice}
