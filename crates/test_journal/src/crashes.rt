@@ -15,7 +15,7 @@ fn sevens(alloc: Global, bytes: &[u8]) -> Result<Option<usize>, AllocError> {
         Ok((_, values)) => {
             let alike = values
                 .iter()
-                .all(|value| value.bytes.as_slice() == SEVEN.as_slice());
+                .all(|value| value.as_slice() == SEVEN.as_slice());
             Ok(if alike { Some(values.len()) } else { None })
         }
         Err(_) => Ok(None),
@@ -56,7 +56,10 @@ fn each_image_is_read(rt: HostRuntime) -> Result<(), Fail> {
     let mut journal = make::<_, Plain>(&mut disk).ok().ok_or("a journal")?;
     let made = disk.calls.len();
     let value = seven(alloc)?;
-    assert_eq!(rt; journal.append(alloc, &mut disk, &value)?, Appended::Stored);
+    assert_eq!(rt;
+        journal.append::<_, Plain>(alloc, &mut disk, &value)?,
+        Appended::Stored
+    );
     assert_eq!(rt; disk.bytes.as_slice(), ONE.as_slice());
     let last = disk.calls.len();
     for count in made..=last {
@@ -79,8 +82,14 @@ fn each_failing_call_is_told(rt: HostRuntime) -> Result<(), Fail> {
         let mut disk = disk_of(alloc, &[], &[failing])?;
         assert_eq!(rt; disk.reach("j"), Reach::Reached);
         let mut journal = make::<_, Plain>(&mut disk).ok().ok_or("a journal")?;
-        assert_eq!(rt; journal.append(alloc, &mut disk, &value)?, Appended::Failed);
-        assert_eq!(rt; journal.append(alloc, &mut disk, &value)?, Appended::Shut);
+        assert_eq!(rt;
+            journal.append::<_, Plain>(alloc, &mut disk, &value)?,
+            Appended::Failed
+        );
+        assert_eq!(rt;
+            journal.append::<_, Plain>(alloc, &mut disk, &value)?,
+            Appended::Shut
+        );
         assert_eq!(rt; disk.faults, 1);
         assert!(rt; sevens(alloc, &disk.bytes)?.is_some());
     }
@@ -94,8 +103,76 @@ fn two_are_added(rt: HostRuntime) -> Result<(), Fail> {
     assert_eq!(rt; disk.reach("j"), Reach::Reached);
     let mut journal = make::<_, Plain>(&mut disk).ok().ok_or("a journal")?;
     let value = seven(alloc)?;
-    assert_eq!(rt; journal.append(alloc, &mut disk, &value)?, Appended::Stored);
-    assert_eq!(rt; journal.append(alloc, &mut disk, &value)?, Appended::Stored);
+    assert_eq!(rt;
+        journal.append::<_, Plain>(alloc, &mut disk, &value)?,
+        Appended::Stored
+    );
+    assert_eq!(rt;
+        journal.append::<_, Plain>(alloc, &mut disk, &value)?,
+        Appended::Stored
+    );
     assert_eq!(rt; sevens(alloc, &disk.bytes)?, Some(2));
+    Ok(())
+}
+
+/// A journal of one entry that is cut at one of its bytes is bad: at the entry's gate or, where only
+/// the closed gate is missing, behind the entry.
+#[test]
+fn a_cut_journal_is_bad(rt: HostRuntime) -> Result<(), Fail> {
+    let alloc = rt.alloc();
+    for len in 0..ONE.len() {
+        let mut disk = disk_of(alloc, &ONE[..len], &[])?;
+        assert_eq!(rt; disk.reach("j"), Reach::Reached);
+        let place = if len == 12 { 12 } else { 0 };
+        let answer = reopen::<_, Plain>(alloc, &mut disk);
+        assert!(rt; matches!(answer, Err(JournalFault::BadEntry(found)) if found == place));
+    }
+    Ok(())
+}
+
+/// Each byte of a journal of one entry, changed to each other one: a closed gate in front hides the
+/// entry, the closed gate behind it may be any byte but 1, and no other change leaves the entry.
+#[test]
+fn a_changed_byte_counts(rt: HostRuntime) -> Result<(), Fail> {
+    let alloc = rt.alloc();
+    for place in 0..ONE.len() {
+        for value in 0..=255u8 {
+            let mut bytes = ONE;
+            bytes[place] = value;
+            let expected = if value == ONE[place] || (place == 12 && value != 1) {
+                Some(1)
+            } else if place == 0 {
+                Some(0)
+            } else {
+                None
+            };
+            assert_eq!(rt; sevens(alloc, &bytes)?, expected);
+        }
+    }
+    Ok(())
+}
+
+/// Forty entries over a disk that fails at one call: those that were stored are read, and at most the
+/// one that was being added.
+#[test]
+fn forty_are_added(rt: HostRuntime) -> Result<(), Fail> {
+    let alloc = rt.alloc();
+    let value = seven(alloc)?;
+    // The calls are: reach, two of `make`, and four of each append; the last one never comes.
+    for failing in 4..=164u64 {
+        let mut disk = disk_of(alloc, &[], &[failing])?;
+        assert_eq!(rt; disk.reach("j"), Reach::Reached);
+        let mut journal = make::<_, Plain>(&mut disk).ok().ok_or("a journal")?;
+        let mut stored = 0u64;
+        for _ in 0..40 {
+            assert!(rt; disk.is_reached && journal.end < 1000);
+            if journal.append::<_, Plain>(alloc, &mut disk, &value)? == Appended::Stored {
+                stored = stored.saturating_add(1);
+            }
+        }
+        assert_eq!(rt; stored, (failing - 4) / 4);
+        let found = sevens(alloc, &disk.bytes)?.ok_or("a journal")? as u64;
+        assert!(rt; stored <= found && found <= stored.saturating_add(1));
+    }
     Ok(())
 }
