@@ -5,8 +5,8 @@ ghost use Rattle.app_run.specs.Examples.{Examples};
 ghost use Rattle.app_run.specs.Laws.{SessionAcceptedLaw, TablesAcceptedLaw, TablesOrderLaw};
 ghost use Rattle.app_run.specs.Laws.{TextLaw, UnsentLaw};
 
-/// Two texts that an accepted command prints are one text, with one status; but of `explain`, which
-/// may print any plan of a query.
+/// Two texts that an accepted `session` or `check` prints are one text, with one status. A job may
+/// choose other versions, and `explain` may print any plan of a query.
 pub fn texts_are_unique()
     ensures { TextLaw }
 {}

@@ -14,6 +14,7 @@ order_nine =
     whole 9 ∷ whole 2 ∷ Text (codes "O") ∷ Number 2 (pos 500) ∷ Date 19960104
     ∷ Text (codes "5-LOW") ∷ Text (codes "K") ∷ whole 0 ∷ Text (codes "z") ∷ []
 
+-- the lineitem of that order
 abbrev pub line_nine : List Value
 line_nine =
     whole 9 ∷ whole 1 ∷ whole 1 ∷ whole 1 ∷ Number 2 (pos 100) ∷ Number 2 (pos 500)
@@ -33,6 +34,7 @@ delete_seven = DeleteKeys (pos 7 ∷ [])
 abbrev pub delete_first : RefreshOrder
 delete_first = (Some 1, delete_seven) ∷ (Some 2, insert_nine) ∷ []
 
+-- the other one first
 abbrev pub insert_first : RefreshOrder
 insert_first = (Some 2, insert_nine) ∷ (Some 1, delete_seven) ∷ []
 

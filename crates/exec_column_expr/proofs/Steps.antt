@@ -1,6 +1,6 @@
 -- One round of each loop over the parts of a node.
-use Rattle.std.proofs.Common.{◌≡◌, ℕ, ◌+◌, ◌-◌, ◌<◌, ◌≤◌, List, [], ◌∷◌, drop, length, get_or, refl, ap, sym, ◌∙◌, arith}
-use Rattle.std.proofs.lemmas.List.{drop_more, drop_all}
+use Rattle.std.proofs.Common.{◌≡◌, ℕ, ◌+◌, ◌-◌, ◌<◌, ◌≤◌, List, [], ◌∷◌, ◌++◌, drop, length, map, take, get_or, refl, ap, sym, ◌∙◌, arith}
+use Rattle.std.proofs.lemmas.List.{drop_more, drop_all, map-append, take_more}
 use Rattle.base_row_laws.specs.Ranked.{Ranked}
 use Rattle.base_value.specs.Truth.{lesser, greater}
 use Rattle.base_value.specs.declared.truth.Truth.{Truth}
@@ -10,9 +10,10 @@ use Rattle.expr_operators.specs.Operators.{computed, compared}
 use Rattle.expr_scalar.specs.declared.expr.Branch.{Branch}
 use Rattle.expr_scalar.specs.declared.expr.Expr.{Expr}
 use Rattle.expr_scalar.specs.declared.expr.Operation.{Operation}
+use Rattle.expr_scalar.specs.Meaning.{value}
 use Rattle.exec_column_operators.specs.Choices.{choice}
 use Rattle.exec_column_operators.specs.Zips.{zip_with, zip_three}
-use Rattle.exec_column_expr.specs.Rows.{values_over, truths_over, operated_over, least_over, greatest_over, equal_over, chosen_over}
+use Rattle.exec_column_expr.specs.Rows.{values_over, truths_over, operated_over, least_over, greatest_over, equal_over, chosen_over, columns_over}
 
 abbrev Rows : Type 0
 Rows = List (Ranked Value)
@@ -90,3 +91,15 @@ equal_more xs es i rows ys ts more new total e lt is by found made inv =
 pub equal_end : (xs : List Value) (es : List Expr) (i : ℕ) (rows : Rows) (ts total : List Truth) → length es ≤ i → equal_over xs ts (drop i es) rows ≡ total → ts ≡ total
 unfolding equal_over
 equal_end xs es i rows ts total h inv = sym (ap (λ l. equal_over xs ts l rows) (drop_all i es h)) ∙ inv
+
+-- the columns of a list of expressions
+pub columns_more : (es : List Expr) (i : ℕ) (rows : Rows) (e : Expr) (old new : List (List Value)) (column : List Value) → i < length es → e ≡ get_or es i e
+    → old ≡ columns_over (take i es) rows → column ≡ map (λ r. value e r.values) rows → new ≡ old ++ column ∷ [] → new ≡ columns_over (take (i + 1) es) rows
+unfolding values_over
+columns_more es i rows e old new column inside is so_far made pushed =
+    let f : Expr → List Value = λ e. map (λ r. value e r.values) rows in
+    pushed
+    ∙ ap (λ l. l ++ column ∷ []) so_far
+    ∙ ap (λ c. map f (take i es) ++ c ∷ []) made
+    ∙ sym (map-append f (take i es) (e ∷ []))
+    ∙ ap (map f) (ap (λ x. take i es ++ x ∷ []) is ∙ sym (take_more es i e inside))

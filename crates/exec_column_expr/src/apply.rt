@@ -1,10 +1,7 @@
 //! Operators at the values of expressions: at one value for all rows, or column by column.
 ghost use Rattle.std.specs.Prelude.{◌≡◌, IfOk, length, map};
-ghost use Rattle.expr_operators.specs.declared.operator.Comparison.TheVariants.{LessOrEqual as AtMost};
-ghost use Rattle.expr_operators.specs.declared.operator.Comparison.TheVariants.{GreaterOrEqual as AtLeast};
 ghost use Rattle.expr_operators.specs.Operators.{at_scale, compared, computed, extracted, liked};
 ghost use Rattle.expr_operators.specs.Operators.{negative, null_test, part_of, truth_of_mark};
-ghost use Rattle.base_value.specs.Truth.{lesser};
 ghost use Rattle.exec_column_operators.specs.Choices.{choice};
 ghost use Rattle.exec_column_operators.specs.Zips.{zip_three, zip_with};
 ghost use Rattle.exec_column_expr.specs.Lanes.{over, shape_lanes};
@@ -15,7 +12,7 @@ use base_decimal::Scale;
 use base_text::Text;
 use base_value::{Truth, Value};
 use exec_column_operators::{
-    both, compared_columns, compared_with, computed_columns, computed_from, computed_with,
+    compared_columns, compared_with, computed_columns, computed_from, computed_with,
     extracted_column, liked_column, marked_truths, negative_column, null_tests, part_column,
     scaled_column,
 };
@@ -172,29 +169,6 @@ pub(crate) fn compared_truths(
         (Shape::Each(a), Shape::One(w)) => compared_with(alloc, comparison, a, w),
         (Shape::Each(a), Shape::Each(b)) => compared_columns(alloc, comparison, a, b),
     }
-}
-
-/// BETWEEN: the AND of two comparisons.
-#[tactic(auto, using(crate::proofs::Lists::ones))]
-pub(crate) fn between_truths(
-    alloc: Global,
-    x: Shape<'_>,
-    least: Shape<'_>,
-    greatest: Shape<'_>,
-    n: usize,
-) -> Result<Vec<Truth>, AllocError>
-    requires x { length (over n (shape_lanes x)) ≡ n }
-    requires least { length (over n (shape_lanes least)) ≡ n }
-    requires greatest { length (over n (shape_lanes greatest)) ≡ n }
-    ensures { IfOk result (λ v. v.items
-        ≡ zip_with lesser (zip_with (compared AtLeast) (over n (shape_lanes x.entry))
-        (over n (shape_lanes least.entry)))
-        (zip_with (compared AtMost) (over n (shape_lanes x.entry))
-        (over n (shape_lanes greatest.entry)))) }
-{
-    let above = compared_truths(alloc, Comparison::GreaterOrEqual, x, least, n)?;
-    let below = compared_truths(alloc, Comparison::LessOrEqual, x, greatest, n)?;
-    both(alloc, above.as_slice(), below.as_slice())
 }
 
 /// LIKE.

@@ -1,20 +1,23 @@
 //! Evaluation over the rows of a batch. Each node is evaluated over all rows at once; a fault is a
 //! value like any other, so that what a row doesn't ask for does no harm.
-ghost use Rattle.std.specs.Prelude.{◌≡◌, IfOk, length, replicate};
+ghost use Rattle.std.specs.Prelude.{◌≡◌, IfOk, length, map, replicate};
 ghost use Rattle.base_value.specs.declared.truth.Standing.TheVariants.{AtTrue as True};
 ghost use Rattle.base_value.specs.declared.truth.Truth.TheVariants.{False as Never, Stands as At};
 ghost use Rattle.base_columns.specs.Batches.{column_at};
+ghost use Rattle.expr_operators.specs.Operators.{compared, liked, null_test, truth_of_mark};
+ghost use Rattle.exec_column_operators.specs.Zips.{zip_with};
 ghost use Rattle.exec_column_expr.specs.Lanes.{over};
 ghost use Rattle.exec_column_expr.specs.Rows.{chosen_over, equal_over, greatest_over, least_over};
 ghost use Rattle.exec_column_expr.specs.Rows.{operated_over, truths_over, values_over};
 
 use crate::apply::{
-    between_truths, compared_truths, computed_operand, extracted_operand, liked_truths,
-    mark_truths, negative_operand, null_truths, part_operand, scaled_operand,
+    compared_truths, computed_operand, extracted_operand, liked_truths, mark_truths,
+    negative_operand, null_truths, part_operand, scaled_operand,
 };
 use crate::choose::chosen_operand;
 use crate::operand::Operand;
 use base_columns::Batch;
+use base_text::Text;
 use base_value::{Standing, Truth, Value};
 use exec_column_operators::{both, either, negated_truths};
 use expr_operators::Comparison;
@@ -171,37 +174,27 @@ fn tested(alloc: Global, e: &Expr, batch: &Batch, n: usize) -> Result<Vec<Truth>
     match e {
         Expr::Compare(comparison, a, b) => {
             let x = operand(alloc, a.get(), batch, n)?;
-            let y = operand(alloc, b.get(), batch, n)?;
-            compared_truths(alloc, *comparison, x.shape(), y.shape(), n)
+            comparison_of(alloc, *comparison, &x, b.get(), batch, n)
         }
         Expr::Between(e, low, high) => {
             let x = operand(alloc, e.get(), batch, n)?;
-            let low = operand(alloc, low.get(), batch, n)?;
-            let high = operand(alloc, high.get(), batch, n)?;
-            between_truths(alloc, x.shape(), low.shape(), high.shape(), n)
+            let above = comparison_of(alloc, Comparison::GreaterOrEqual, &x, low.get(), batch, n)?;
+            let below = comparison_of(alloc, Comparison::LessOrEqual, &x, high.get(), batch, n)?;
+            both(alloc, above.as_slice(), below.as_slice())
         }
-        Expr::Like(e, pattern) => {
-            let x = operand(alloc, e.get(), batch, n)?;
-            liked_truths(alloc, x.shape(), pattern, n)
-        }
+        Expr::Like(e, pattern) => like_of(alloc, e.get(), pattern, batch, n),
         Expr::InList(e, es) => {
             let x = operand(alloc, e.get(), batch, n)?;
             equal_to_any(alloc, &x, es.as_slice(), batch, n)
         }
-        Expr::IsNull(e) => {
-            let x = operand(alloc, e.get(), batch, n)?;
-            null_truths(alloc, x.shape(), n)
-        }
+        Expr::IsNull(e) => null_test_of(alloc, e.get(), batch, n),
         Expr::Not(e) => {
             let truths = condition(alloc, e.get(), batch, n)?;
             negated_truths(alloc, truths.as_slice())
         }
         Expr::All(es) => least(alloc, es.as_slice(), batch, n),
         Expr::Any(es) => greatest(alloc, es.as_slice(), batch, n),
-        Expr::IsMarked(e) => {
-            let x = operand(alloc, e.get(), batch, n)?;
-            mark_truths(alloc, x.shape(), n)
-        }
+        Expr::IsMarked(e) => mark_of(alloc, e.get(), batch, n),
         Expr::Column(_)
         | Expr::Literal(_)
         | Expr::Negative(_)
@@ -210,6 +203,68 @@ fn tested(alloc: Global, e: &Expr, batch: &Batch, n: usize) -> Result<Vec<Truth>
         | Expr::Extract(_, _)
         | Expr::Substring(_, _, _) => Vec::from_elem(alloc, Truth::Unknown, n),
     }
+}
+
+// A comparison of values with those of an expression.
+#[cycle(evaluate)]
+#[tactic(auto, using(crate::proofs::Nodes::lengths))]
+fn comparison_of(
+    alloc: Global,
+    comparison: Comparison,
+    x: &Operand<'_>,
+    e: &Expr,
+    batch: &Batch,
+    n: usize,
+) -> Result<Vec<Truth>, AllocError>
+    requires rows { n ≡ length batch.now.rows }
+    requires long { length (over n x.now) ≡ n }
+    ensures truths { IfOk result (λ v. v.items ≡ zip_with (compared comparison)
+        (over n x.now) (values_over e.now batch.now.rows)) }
+    ensures long { IfOk result (λ v. length v.items ≡ n) }
+{
+    let y = operand(alloc, e, batch, n)?;
+    let truths = compared_truths(alloc, comparison, x.shape(), y.shape(), n)?;
+    Ok(truths)
+}
+
+// LIKE.
+#[cycle(evaluate)]
+#[tactic(auto, using(crate::proofs::Nodes::lengths))]
+fn like_of(
+    alloc: Global,
+    e: &Expr,
+    pattern: &Text,
+    batch: &Batch,
+    n: usize,
+) -> Result<Vec<Truth>, AllocError>
+    requires { n ≡ length batch.now.rows }
+    ensures { IfOk result (λ v. v.items
+        ≡ map (liked pattern.now) (values_over e.now batch.now.rows)) }
+{
+    let x = operand(alloc, e, batch, n)?;
+    liked_truths(alloc, x.shape(), pattern, n)
+}
+
+// IS NULL.
+#[cycle(evaluate)]
+#[tactic(auto, using(crate::proofs::Nodes::lengths))]
+fn null_test_of(alloc: Global, e: &Expr, batch: &Batch, n: usize) -> Result<Vec<Truth>, AllocError>
+    requires { n ≡ length batch.now.rows }
+    ensures { IfOk result (λ v. v.items ≡ map null_test (values_over e.now batch.now.rows)) }
+{
+    let x = operand(alloc, e, batch, n)?;
+    null_truths(alloc, x.shape(), n)
+}
+
+// The truth that a mark stands for.
+#[cycle(evaluate)]
+#[tactic(auto, using(crate::proofs::Nodes::lengths))]
+fn mark_of(alloc: Global, e: &Expr, batch: &Batch, n: usize) -> Result<Vec<Truth>, AllocError>
+    requires { n ≡ length batch.now.rows }
+    ensures { IfOk result (λ v. v.items ≡ map truth_of_mark (values_over e.now batch.now.rows)) }
+{
+    let x = operand(alloc, e, batch, n)?;
+    mark_truths(alloc, x.shape(), n)
 }
 
 // AND.

@@ -10,7 +10,6 @@ use expr_scalar::Expr;
 use std::alloc::{AllocError, Global};
 
 // The values of each expression.
-#[tactic(auto, unfolding(crate::specs::Rows::values_over))]
 fn columns_of(alloc: Global, es: &[Expr], batch: &Batch) -> Result<Vec<Column>, AllocError>
     ensures { IfOk result (λ v. v.items ≡ columns_over es.now batch.now.rows) }
 {

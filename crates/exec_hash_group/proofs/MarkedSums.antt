@@ -63,7 +63,7 @@ unmarked_fewer (true ∷ ms) (x ∷ xs) = let h = unmarked_fewer ms xs in omega 
 unmarked_fewer (false ∷ ms) (x ∷ xs) = let h = unmarked_fewer ms xs in omega (arith, h)
 
 pub unmarked_below : (n : ℕ) (ms : List Bool) (xs : List ℕ) → AreBelow n xs → AreBelow n (unmarked ms xs)
-unmarked_below n [] xs h = h
+unmarked_below n [] xs h k d l = h k d l
 unmarked_below n (m ∷ ms) [] h k d l = absurd (omega (arith, l))
 unmarked_below n (true ∷ ms) (x ∷ xs) h k d l = unmarked_below n ms xs (λ j e i. h (suc j) e (omega (arith, i))) k d l
 unmarked_below n (false ∷ ms) (x ∷ xs) h zero d l = h 0 d (omega arith)
@@ -118,7 +118,7 @@ present_skips = record { skip = λ vs. refl; cons = λ v vs ws e. one v vs ws e 
 
 weigh_skips : (h : Value → ℕ) → h Null ≡ 0 → LeavesNullsOut (weigh h)
 weigh_skips h e = record {
-  skip = λ vs. ap (λ n. n + weigh h vs) e;
+  skip = λ vs. omega (arith, e);
   cons = λ v vs ws f. ap (λ n. h v + n) f;
 }
 

@@ -1,4 +1,4 @@
-//! Aggregates of groups: the values of a column, each put into the accumulator of its row's group.
+//! GROUP BY with its aggregates, DISTINCT, domains and their fill, by numbers of keys.
 #![tactic(auto)]
 
 mod aggregate;

@@ -40,8 +40,8 @@ fn shared_bag(alloc: Global, width: usize, batches: &[Batch]) -> Result<Bag, All
     Ok(bag)
 }
 
-/// A part of rows, in batches of that width, with its groups by these columns. 2^32 rows or more
-/// are an error, as memory that isn't there.
+/// A part of rows, in batches of that width, with its groups by these columns. `AllocError` at 2^32
+/// rows: row numbers are `u32`.
 pub fn grouped_part(
     alloc: Global,
     width: usize,
@@ -84,8 +84,8 @@ fn keys_bag(alloc: Global, width: usize, parts: &[GroupedPart]) -> Result<Bag, A
     Ok(bag)
 }
 
-/// The groups by these columns of the rows of all parts, from the parts' groups. 2^32 groups of
-/// parts or more are an error, as memory that isn't there.
+/// The groups by these columns of the rows of all parts, from the parts' groups. `AllocError` at
+/// 2^32 groups of parts: their numbers are `u32`.
 pub fn merged_groups(
     alloc: Global,
     parts: &[GroupedPart],

@@ -44,7 +44,7 @@ fn at_place(alloc: Global, place: u32, aggregate: &Aggregate) -> Result<Aggregat
     }
 }
 
-// A number of columns as a place; 2^32 or more are an error, as memory that isn't there.
+// A number of columns as a place. `AllocError` at 2^32: places are `u32`.
 fn place_of(count: usize) -> Result<u32, AllocError>
     ensures { IfOk result (λ place. place ≡ count) }
 {

@@ -44,8 +44,8 @@ fn keep_few(truths: &[Truth]) -> bool {
     kept < truths.len() / 2
 }
 
-// The rows of a batch that truths keep: a share of the batch where each is True. 2^32 rows or more
-// are an error, as memory that isn't there.
+// The rows of a batch that truths keep: a share of the batch where each is True. `AllocError` at
+// 2^32 rows: row numbers are `u32`.
 fn rows_kept(alloc: Global, batch: &Batch, truths: &[Truth]) -> Result<Batch, AllocError>
     requires { length truths.now ≡ length batch.now.rows }
     ensures width { IfOk result (λ b. b.width ≡ batch.now.width) }
@@ -112,7 +112,7 @@ fn kept_by_all(alloc: Global, es: &[Expr], batch: &Batch) -> Result<Batch, Alloc
 }
 
 /// The rows of a batch that a condition keeps: a share of the batch where it is True for each row.
-/// 2^32 rows or more are an error, as memory that isn't there.
+/// `AllocError` at 2^32 rows: row numbers are `u32`.
 pub(crate) fn kept_batch(alloc: Global, e: &Expr, batch: &Batch) -> Result<Batch, AllocError>
     ensures width { IfOk result (λ b. b.width ≡ batch.now.width) }
     ensures rows { IfOk result (λ b. b.rows ≡ select (rank_of e.now) batch.now.rows) }

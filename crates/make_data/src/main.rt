@@ -17,7 +17,7 @@ use std::env;
 use std::io::ErrorKind;
 use std::process::ExitCode;
 
-/// The words after the program's name. Words that aren't UTF-8 are as good as none.
+/// The words after the program's name. None where a word isn't UTF-8.
 fn given_words(rt: &HostRuntime) -> Result<Vec<String>, AllocError> {
     match env::args(rt) {
         Ok(args) => args.skip(1).collect(rt.alloc()),

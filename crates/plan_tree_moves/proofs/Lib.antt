@@ -7,6 +7,7 @@ pub mod OnParts
 pub mod Narrowing
 pub mod Regrouping
 pub mod Pruning
+pub mod SlimJoins
 pub mod BelowLists
 pub mod BelowGroups
 pub mod BelowJoins

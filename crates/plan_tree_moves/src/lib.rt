@@ -3,6 +3,7 @@
 #![tactic(auto)]
 
 mod below;
+mod columns;
 mod copy;
 mod domain;
 mod joined;

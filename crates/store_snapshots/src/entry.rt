@@ -20,7 +20,7 @@ pub enum Entered {
     OutOfMemory,
 }
 
-/// A way into the published version. It counts how often it was gone and how often it was refused.
+/// A way into the published version. It counts its successful and its refused reads.
 /// The list of a version that it gives begins with each list that it saw before or was told of.
 pub trait Entry {
     /// What tells it of a version.

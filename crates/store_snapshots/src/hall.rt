@@ -34,9 +34,8 @@ pub trait Hall<E: Entry> {
             (refused self.new) result };
 }
 
-/// Seats readers by this entry and further ones of the hall, each of which has seen the opening's
-/// directory. They are as many as are wanted, and fewer, but one, only where the hall refused an
-/// entry.
+/// Makes readers by this entry and further ones of the hall, each of which has seen the opening's
+/// directory: as many as are wanted, or fewer, but at least one, only where the hall refused.
 pub fn seat<E: Entry + Drop, H: Hall<E>>(
     alloc: Global,
     first: E,

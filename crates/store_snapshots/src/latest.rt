@@ -49,7 +49,7 @@ impl Latest {
         }
     }
 
-    /// The version as a directory, of whose rows nothing is copied.
+    /// The version as a directory. It shares the rows and copies none.
     pub(crate) fn directory(&self) -> Result<Directory, AllocError>
         ensures { IfOk result (λ directory. directory ≡ version_in self.now) }
     {

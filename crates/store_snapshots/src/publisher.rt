@@ -216,7 +216,7 @@ impl Publisher {
         self.latest.version()
     }
 
-    /// A snapshot of the last version, of whose rows nothing is copied.
+    /// A snapshot of the last version. It shares the rows and copies none.
     pub fn snapshot(&self) -> Result<Snapshot, AllocError>
         ensures { IfOk result (λ snapshot. snapshot ≡ self.now.version) }
     {

@@ -39,7 +39,7 @@ impl Snapshot {
         Snapshot { share }
     }
 
-    /// A snapshot of this version, of whose rows nothing is copied.
+    /// A snapshot of this version. It shares the rows and copies none.
     pub fn of(alloc: Global, directory: &Directory) -> Result<Snapshot, AllocError>
         ensures { IfOk result (λ snapshot. snapshot ≡ directory.now) }
     {

@@ -96,8 +96,8 @@ fn finished(alloc: Global, mut full: Vec<Segment>, rest: &Bag) -> Result<Vec<Seg
     Ok(full)
 }
 
-/// The rows of parts, which are so wide, in segments of which no two neighbours fit in one. A
-/// segment of which no row is deleted and that has no neighbour to join is shared.
+/// Joins parts of this width into segments; no two neighbours would fit in one. A segment of which
+/// no row is deleted and that has no neighbour to join is shared.
 pub(crate) fn joined(
     alloc: Global,
     width: usize,

@@ -91,3 +91,9 @@ equal_to_any-loop-e-preserved t c =
 pub equal_to_any-returns : goal.equal_to_any-returns
 equal_to_any-returns t c =
     equal_end (over c.args.n c.args.x.now) c.args.es.now c.loop-e.e-index c.args.batch.now.rows c.loop-e.truths.items _ (omega arith) c.loop-e.invariant.is
+
+pub comparison_of-returns-clause-long : goal.comparison_of-returns-clause-long
+comparison_of-returns-clause-long t c =
+    let n = c.args.n in
+    let found = rw (c.shape.ensures, c.shape-2.ensures) at c.in_ok-truths.ensures in
+    ap length found ∙ zip_long (compared c.args.comparison) (over n c.args.x.now) (over n c.in_ok-y.y) n c.requires.long c.in_ok-y.ensures.long

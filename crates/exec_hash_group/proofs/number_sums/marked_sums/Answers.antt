@@ -17,19 +17,19 @@ returns-then-are_none c =
     (λ s h. subst (λ vs. AreSums c.args.numbers.now vs c.args.count s.terms.items s.ups.items s.downs.items) (sym plain) h)
     c.summed.ensures
 
-pub summed-requires-clause-rows : goal.summed-requires-clause-rows
-summed-requires-clause-rows c =
+pub summed-requires-2-clause-rows : goal.summed-requires-2-clause-rows
+summed-requires-2-clause-rows c =
     ap length (c.as_slice.ensures.value ∙ c.in_ok-kept.ensures) ∙ unmarked_long c.args.marks.now c.args.numbers.now c.args.coefficients.now c.requires.rows
     ∙ sym (ap length (c.as_slice-2.ensures.value ∙ c.in_ok-present.ensures))
 
-pub summed-requires-clause-small : goal.summed-requires-clause-small
-summed-requires-clause-small c =
+pub summed-requires-2-clause-small : goal.summed-requires-2-clause-small
+summed-requires-2-clause-small c =
     let n = ap length (c.as_slice.ensures.value ∙ c.in_ok-kept.ensures) in
     let f = unmarked_fewer c.args.marks.now c.args.numbers.now in
     omega (arith, n, f, c.requires.small)
 
-pub summed-requires-clause-numbers : goal.summed-requires-clause-numbers
-summed-requires-clause-numbers c =
+pub summed-requires-2-clause-numbers : goal.summed-requires-2-clause-numbers
+summed-requires-2-clause-numbers c =
     subst (AreBelow c.args.count) (sym (c.as_slice.ensures.value ∙ c.in_ok-kept.ensures)) (unmarked_below c.args.count c.args.marks.now c.args.numbers.now c.requires.numbers)
 
 pub returns : goal.returns

@@ -2,13 +2,14 @@ use Rattle.plan_tree_moves.proofs.SameNodes.{select_made, project_made, distinct
 use Rattle.plan_tree_moves.proofs.SameNodes.{join_made, outer_made, mark_made, single_made}
 use Rattle.plan_tree_moves.proofs.Pruning.{read_slimmed, select_slimmed, mark_slimmed, single_slimmed}
 use Rattle.plan_tree_moves.proofs.Pruning.{list_slimmed, groups_slimmed, same_as_seen}
+use Rattle.plan_tree_moves.proofs.SlimJoins.{join_slimmed}
 use Rattle.plan_tree_moves.proofs.prune.+prune.Goals as goal
 
-pub slimmed-returns-then-not-has_mark : goal.slimmed-returns-then-not-has_mark
-slimmed-returns-then-not-has_mark t c =
+pub slimmed-returns-then-not-is_slimmed : goal.slimmed-returns-then-not-is_slimmed
+slimmed-returns-then-not-is_slimmed t c =
     read_slimmed c.args.n c.args.tree.now c.in_ok-whole-in-Select.whole _
     c.in_ok-new-in-Select.new.tree c.in_ok-new-in-Select.new.kept.items
-    c.get-then-not-has_mark.ensures
+    c.get-then-not-is_slimmed.ensures
     c.in_ok-whole-in-Select.ensures c.in_ok-new-in-Select.ensures
 
 pub slimmed-returns-in-Some : goal.slimmed-returns-in-Some
@@ -39,6 +40,14 @@ slimmed-returns-in-Some-3 t c =
     c.in_ok-right-in-Single.ensures c.in-Single.column c.in-Single.is
     (rw c.in-Some-3.is at c.in_ok-slim-in-Single.ensures)
 
+pub slimmed_join-returns-in-Some : goal.slimmed_join-returns-in-Some
+slimmed_join-returns-in-Some t c =
+    join_slimmed c.args.n c.in_ok-m.m c.args.tree.now c.in-Join.l _ _ c.in-Join.r
+    c.in_ok-left.left.tree c.in_ok-right.right c.in-Some.slim.tree c.in_ok-left.left.kept.items
+    c.in-Some.slim.kept.items c.in_ok-w.w c.in-Join.side c.get.ensures c.get-3.ensures
+    c.in_ok-w.ensures c.in_ok-left.ensures c.in_ok-m.ensures c.in_ok-right.ensures
+    c.in-Join.c _ c.in-Join.is c.get-4.ensures (rw c.in-Some.is at c.in_ok-slim.ensures)
+
 pub pruned-returns-in_ok-new-in-Select : goal.pruned-returns-in_ok-new-in-Select
 pruned-returns-in_ok-new-in-Select t c =
     select_made c.args.n c.args.tree.now c.in-Select.t c.in_ok-child-in-Select.child
@@ -49,7 +58,7 @@ pub pruned-returns-in-Some : goal.pruned-returns-in-Some
 pruned-returns-in-Some t c =
     list_slimmed c.args.n c.args.tree.now c.in-Project.t _ c.in_ok-input-in-Project.input.tree
     c.in-Some.slim c.in-Project.es _ c.in_ok-input-in-Project.input.kept.items c.in-Project.is
-    c.get-then-has_mark.ensures c.in_ok-input-in-Project.ensures c.as_slice-then-has_mark.ensures
+    c.get-then-is_slimmed.ensures c.in_ok-input-in-Project.ensures c.as_slice-then-is_slimmed.ensures
     (rw c.in-Some.is at c.in_ok-slim-in-Project.ensures)
 
 pub pruned-returns-in_ok-new-in-Project : goal.pruned-returns-in_ok-new-in-Project
@@ -91,8 +100,8 @@ pub pruned-returns-in-Some-2 : goal.pruned-returns-in-Some-2
 pruned-returns-in-Some-2 t c =
     groups_slimmed c.args.n c.args.tree.now c.in-Group.t _ c.in_ok-input-in-Group.input.tree
     c.in-Some-2.slim c.in-Group.by _ c.in-Group.aggregates _
-    c.in_ok-input-in-Group.input.kept.items c.in-Group.is c.get-then-has_mark-2.ensures
-    c.in_ok-input-in-Group.ensures c.as_slice-keys.ensures c.as_slice-then-has_mark-2-3.ensures
+    c.in_ok-input-in-Group.input.kept.items c.in-Group.is c.get-then-is_slimmed-2.ensures
+    c.in_ok-input-in-Group.ensures c.as_slice-keys.ensures c.as_slice-then-is_slimmed-2-3.ensures
     (rw c.in-Some-2.is at c.in_ok-slim-in-Group.ensures)
 
 pub pruned-returns-in_ok-new-in-Group : goal.pruned-returns-in_ok-new-in-Group
