@@ -10,8 +10,8 @@ use plan_algebra::{Steps, Tables};
 use std::alloc::{AllocError, Global};
 use std::sync::ledger::{Blank, Ledger};
 use std::test::Fail;
-use store_file_reader::{RefreshReader, TableReader};
-use store_state::{Refresh, State};
+use store_file_reader::RefreshReader;
+use store_state::{Refresh, State, apply};
 
 /// Two orders of a base.
 pub(crate) const ORDERS: &[u8] =
@@ -23,20 +23,8 @@ pub(crate) const NINE: &[u8] = b"9|2|O|5.00|1996-01-04|5-LOW|K|0|z|\n";
 pub(crate) const NINE_ONE: &[u8] =
     b"9|1|1|1|1.00|5.00|0.00|0.00|N|O|1996-02-01|1996-02-02|1996-02-03|NONE|MAIL|w|\n";
 
-/// The rows of a table's file.
-pub(crate) fn table(alloc: Global, table: TableName, pieces: &[&[u8]]) -> Result<Rows, Fail>
-    ensures { IfOk result (RowsAreOf table) }
-{
-    let mut reader = TableReader::new(alloc, table)?;
-    for piece in pieces {
-        reader.feed(piece)?;
-    }
-    let rows = reader.finish()?;
-    Ok(rows)
-}
-
-/// A state of these orders and lineitems alone.
-pub(crate) fn state(alloc: Global, orders: &[&[u8]], lineitems: &[&[u8]]) -> Result<State, Fail> {
+/// Eight tables without rows.
+fn no_rows(alloc: Global) -> Result<State, AllocError> {
     let tables = vec![in alloc;
         Rows::new(alloc),
         Rows::new(alloc),
@@ -44,10 +32,17 @@ pub(crate) fn state(alloc: Global, orders: &[&[u8]], lineitems: &[&[u8]]) -> Res
         Rows::new(alloc),
         Rows::new(alloc),
         Rows::new(alloc),
-        table(alloc, TableName::Orders, orders)?,
-        table(alloc, TableName::Lineitem, lineitems)?,
+        Rows::new(alloc),
+        Rows::new(alloc),
     ]?;
-    let state = State::new(alloc, tables)?;
+    State::new(alloc, tables)
+}
+
+/// A state of these orders and lineitems alone.
+pub(crate) fn state(alloc: Global, orders: &[&[u8]], lineitems: &[&[u8]]) -> Result<State, Fail> {
+    let mut state = no_rows(alloc)?;
+    let refresh = insert(alloc, orders, lineitems)?;
+    apply(alloc, &mut state, &refresh)?;
     Ok(state)
 }
 
