@@ -36,6 +36,8 @@ select count(*) from nation a1, nation a2, nation a3, nation a4, nation a5, nati
   nation a16, nation a17, nation a18, nation a19, nation a20, nation a21, nation a22, nation a23,
   nation a24, nation a25, nation a26, nation a27, nation a28, nation a29, nation a30, nation a31,
   nation a32, nation a33;
+-- 18: both sides of a set operation need as many columns
+select r_regionkey, r_name from region union select n_regionkey from nation;
 -- 20: the name is taken
 create view region as select n_name from nation;
 -- 21: no view of that name

@@ -8,7 +8,7 @@ use Rattle.base_refusals.specs.declared.bind.BindRefusal.TheVariants.{NestedAggr
 use Rattle.base_refusals.specs.declared.bind.BindRefusal.TheVariants.{LateralReference, SubqueryColumns}
 use Rattle.base_refusals.specs.declared.bind.BindRefusal.TheVariants.{ScaleTooWide, IntervalOnColumn}
 use Rattle.base_refusals.specs.declared.bind.BindRefusal.TheVariants.{BadDate, DateRange, SubqueryPlace}
-use Rattle.base_refusals.specs.declared.bind.BindRefusal.TheVariants.{TooManyTables}
+use Rattle.base_refusals.specs.declared.bind.BindRefusal.TheVariants.{TooManyTables, SetColumns}
 
 -- the number of a query's refusal
 abbrev pub bind_refusal_number : BindRefusal → ℕ
@@ -28,6 +28,7 @@ bind_refusal_number BadDate = 13
 bind_refusal_number DateRange = 14
 bind_refusal_number SubqueryPlace = 15
 bind_refusal_number TooManyTables = 16
+bind_refusal_number SetColumns = 18
 
 -- the name of a query's refusal
 abbrev pub bind_refusal_name : BindRefusal → List ℕ
@@ -47,3 +48,4 @@ bind_refusal_name BadDate = codes "BadDate"
 bind_refusal_name DateRange = codes "DateRange"
 bind_refusal_name SubqueryPlace = codes "SubqueryPlace"
 bind_refusal_name TooManyTables = codes "TooManyTables"
+bind_refusal_name SetColumns = codes "SetColumns"

@@ -38,10 +38,12 @@ pub enum BindRefusal {
     SubqueryPlace,
     /// The statement has more than 32 FROM items.
     TooManyTables,
+    /// The sides of a set operation have different numbers of columns.
+    SetColumns,
 }
 
 impl BindRefusal {
-    /// The number that is printed, from 1 to 16.
+    /// The number that is printed: from 1 to 16, and 18.
     pub fn number(self) -> u8
         ensures { result ≡ bind_refusal_number self }
     {
@@ -62,6 +64,7 @@ impl BindRefusal {
             BindRefusal::DateRange => 14,
             BindRefusal::SubqueryPlace => 15,
             BindRefusal::TooManyTables => 16,
+            BindRefusal::SetColumns => 18,
         }
     }
 
@@ -86,6 +89,7 @@ impl BindRefusal {
             BindRefusal::DateRange => "DateRange",
             BindRefusal::SubqueryPlace => "SubqueryPlace",
             BindRefusal::TooManyTables => "TooManyTables",
+            BindRefusal::SetColumns => "SetColumns",
         }
     }
 }

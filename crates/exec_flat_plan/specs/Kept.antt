@@ -7,6 +7,7 @@ use Rattle.base_row_laws.specs.Bags.{SameBag, has}
 use Rattle.base_value.specs.declared.value.Value.{Value}
 use Rattle.plan_algebra.specs.declared.node.Node.{Node}
 use Rattle.plan_algebra.specs.declared.node.Node.TheVariants.{Scan, Join, Outer, Mark, Single, Fill}
+use Rattle.plan_algebra.specs.declared.node.Node.TheVariants.{Set}
 use Rattle.plan_algebra.specs.Trees.{Database}
 use Rattle.plan_algebra.specs.Plans.{plan_rows, plan_width, inputs_of, matches_first}
 
@@ -49,6 +50,7 @@ suits_widths widths (Outer i j matched nulls e) = matches_first (slice_index wid
 suits_widths widths (Mark i j matched e) = matches_first (slice_index widths j) matched
 suits_widths widths (Single i j matched c) = matches_first (slice_index widths j) matched
 suits_widths widths (Fill i j empty) = slice_index widths i == slice_index widths j + length empty
+suits_widths widths (Set i j operation) = slice_index widths i == slice_index widths j
 suits_widths widths other = true
 
 -- how many rows are read for a node: those of its table, if it scans one

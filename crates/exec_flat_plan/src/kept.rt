@@ -53,7 +53,8 @@ fn reads_node(node: &Node, id: NodeId) -> bool
         | Node::Outer(left, right, _, _, _)
         | Node::Mark(left, right, _, _)
         | Node::Single(left, right, _, _)
-        | Node::Fill(left, right, _) => id == *left || id == *right,
+        | Node::Fill(left, right, _)
+        | Node::Set(left, right, _) => id == *left || id == *right,
     }
 }
 
@@ -119,7 +120,8 @@ pub(crate) fn release_read(
         | Node::Outer(left, right, _, _, _)
         | Node::Mark(left, right, _, _)
         | Node::Single(left, right, _, _)
-        | Node::Fill(left, right, _) => {
+        | Node::Fill(left, right, _)
+        | Node::Set(left, right, _) => {
             release(bags, *left, nodes, k);
             release(bags, *right, nodes, k);
         }

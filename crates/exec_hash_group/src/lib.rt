@@ -27,6 +27,6 @@ pub use grouping::{Places, places_below};
 pub use groups::merged_by_number;
 pub use identical::{distinct, domain};
 pub use part::GroupedPart;
-pub use parts::{MergedGroups, grouped_part, merged_groups};
+pub use parts::{MergedGroups, grouped_part, merged_groups, part_by_threads};
 pub use states::{part_states, scale_of};
 pub use values::{ColumnValues, Nulls, SliceValues, ValueList};

@@ -25,6 +25,23 @@ impl GroupedPart {
         self.rows.len()
     }
 
+    /// The number of each row's group.
+    pub fn numbers(&self) -> &[u32]
+        ensures value { result.now ≡ self.now.numbers.items }
+        ensures long { length result.now ≡ length self.now.rows.rows }
+        ensures few { length result.now < 2 ^ 32 }
+        ensures below { AreBelow (length self.now.keys.rows) result.now }
+    {
+        self.numbers.as_slice()
+    }
+
+    /// The key of each group, at the least standing of its rows.
+    pub fn keys(&self) -> &Batch
+        ensures { result.now ≡ self.now.keys }
+    {
+        &self.keys
+    }
+
     /// How many groups its rows have.
     pub fn group_count(&self) -> usize
         ensures { result ≡ length self.now.keys.rows }

@@ -8,10 +8,11 @@ use crate::group_by::{Groups, groups_of};
 use crate::grouping::all_places;
 use crate::part::GroupedPart;
 use crate::standings::{least_standings, row_standings};
-use crate::workers::OneThread;
+use crate::workers::{OneThread, SeveralThreads, Workers};
 use base_columns::{Bag, Batch, Column};
 use base_value::Standing;
 use std::alloc::{AllocError, Global};
+use std::thread::Threads;
 
 /// The groups of all parts: columns of their keys, the least standings of their rows, the number
 /// of each part's groups among them, and how many there are.
@@ -40,6 +41,35 @@ fn shared_bag(alloc: Global, width: usize, batches: &[Batch]) -> Result<Bag, All
     Ok(bag)
 }
 
+// Rows as a part, with their groups by these columns, which these workers make. `AllocError` at 2^32
+// rows: row numbers are `u32`.
+fn part_of<W: Workers>(
+    workers: &W,
+    alloc: Global,
+    rows: Bag,
+    by: &[u32],
+) -> Result<GroupedPart, AllocError>
+    requires { W.ready workers.now }
+    ensures { IfOk result (λ p. (p.rows.rows ≡ rows.rows) × IsGrouped by.now p) }
+{
+    if rows.len() > u32::MAX as usize {
+        return Err(AllocError);
+    }
+    let Groups {
+        keys,
+        numbers,
+        count,
+    } = groups_of(workers, alloc, &rows, by)?;
+    let standings = row_standings(alloc, &rows)?;
+    let least = least_standings(alloc, standings.as_slice(), numbers.as_slice(), count)?;
+    let keys = Batch::of(keys, least);
+    Ok(GroupedPart {
+        rows,
+        numbers,
+        keys,
+    })
+}
+
 /// A part of rows, in batches of that width, with its groups by these columns. `AllocError` at 2^32
 /// rows: row numbers are `u32`.
 pub fn grouped_part(
@@ -52,22 +82,26 @@ pub fn grouped_part(
     ensures { IfOk result (λ p. (p.rows.rows ≡ bag_rows batches.now) × IsGrouped by.now p) }
 {
     let rows = shared_bag(alloc, width, batches)?;
-    if rows.len() > u32::MAX as usize {
-        return Err(AllocError);
-    }
-    let Groups {
-        keys,
-        numbers,
-        count,
-    } = groups_of(&OneThread, alloc, &rows, by)?;
-    let standings = row_standings(alloc, &rows)?;
-    let least = least_standings(alloc, standings.as_slice(), numbers.as_slice(), count)?;
-    let keys = Batch::of(keys, least);
-    Ok(GroupedPart {
-        rows,
-        numbers,
-        keys,
-    })
+    let part = part_of(&OneThread, alloc, rows, by)?;
+    Ok(part)
+}
+
+/// The same, by as many threads as there are processors: each reads all keys and numbers those of
+/// its own part of the hash.
+pub fn part_by_threads<R: Threads + Sync>(
+    rt: &R,
+    alloc: Global,
+    width: usize,
+    batches: &[Batch],
+    by: &[u32],
+) -> Result<GroupedPart, AllocError>
+    requires { AreWide width batches.now }
+    ensures { IfOk result (λ p. (p.rows.rows ≡ bag_rows batches.now) × IsGrouped by.now p) }
+{
+    let rows = shared_bag(alloc, width, batches)?;
+    let workers = SeveralThreads { rt };
+    let part = part_of(&workers, alloc, rows, by)?;
+    Ok(part)
 }
 
 // The keys of all parts' groups, of `width` columns.

@@ -15,9 +15,9 @@ use Rattle.sql_ast.specs.declared.statement.TemplateValue.{TemplateValue}
 use Rattle.sql_ast.specs.declared.statement.TemplateValue.TheVariants as value
 use Rattle.sql_lexer.specs.Kinds.{is}
 use Rattle.sql_lexer.specs.declared.token.Token.{Token}
-use Rattle.sql_parser_steps.specs.ExpressionReadings.{read_name, read_literal, read_number, read_digits, read_span, read_column_tail, read_column, read_multiply, read_add, read_product, read_sum, read_conjunction, read_whole, read_expr_list, read_arm, read_arms, read_else, read_case_body, read_case, read_date_text, read_date, read_precision, read_interval, read_extract_inside, read_extract, read_places, read_substring_inside, read_substring, read_count_inside, read_count, read_aggregate_word, read_aggregate, read_call, read_leaf, read_parens_inside, read_parens, read_subquery, read_exists, read_operand, read_unary_line, read_comparison, read_compare, read_null, read_between, read_like, read_in_inside, read_in, read_deny_test, read_test, read_predicate, read_part_line}
+use Rattle.sql_parser_steps.specs.ExpressionReadings.{read_name, read_literal, read_number, read_digits, read_span, read_column_tail, read_column, read_multiply, read_add, read_product, read_sum, read_conjunction, read_whole, read_expr_list, read_arm, read_arms, read_else, read_case_body, read_case, read_date_text, read_date, read_precision, read_interval, read_extract_inside, read_extract, read_places, read_substring_inside, read_substring, read_count_inside, read_count, read_aggregate_word, read_aggregate, read_call, read_leaf, read_parens_inside, read_parens, read_subquery, read_exists, read_operand, read_unary_line, read_comparison, read_quantifier, read_compared_query, read_compared, read_compare, read_null, read_between, read_like, read_in_inside, read_in, read_deny_test, read_test, read_predicate, read_part_line}
 use Rattle.sql_parser.specs.Grammar.{Ended}
-use Rattle.sql_parser_steps.specs.Readings.{read_alias, read_item, read_selection, read_select, read_names, read_column_names, read_table, read_derived_alias, read_derived, read_from_item, read_inner_words, read_left_words, read_join_words, read_joined_item, read_joined, read_from, read_where, read_group, read_having, read_filters, read_query_line, read_direction, read_named_key, read_order, read_rows_only, read_limit, read_version, read_ordered, read_with_query, read_with, read_with_ordered, read_view_name, read_create, read_drop, read_refresh_word, read_refresh, read_value, read_values, read_run_inside, read_run, read_statement, read_ended, unary_at, ended_at}
+use Rattle.sql_parser_steps.specs.Readings.{read_alias, read_item, read_selection, read_select, read_names, read_column_names, read_table, read_derived_alias, read_derived, read_from_item, read_inner_words, read_left_words, read_join_words, read_joined_item, read_joined, read_from, read_where, read_group, read_having, read_filters, read_block, read_all, read_intersect_words, read_set_word, read_set_words, read_term, read_query_line, read_direction, read_named_key, read_order, read_rows_only, read_limit, read_version, read_ordered, read_with_query, read_with, read_with_ordered, read_view_name, read_create, read_drop, read_refresh_word, read_refresh, read_value, read_values, read_run_inside, read_run, read_statement, read_ended, unary_at, ended_at}
 use Rattle.sql_parser.specs.Script.{IsReadScript, max_script}
 use Rattle.sql_parser.proofs.Levels.{is_read}
 use Rattle.sql_templates.specs.Writable.{AreWritable}
@@ -50,7 +50,7 @@ read_runs None = false
 read_runs (Some ts) = are_runs (statements (ended_at 1023 64) (length ts) ts)
 
 queries_read : read_runs (lexed 800 0 trial_queries) ≡ true
-unfolding lexed is links statements read_name read_literal read_number read_digits read_span read_column_tail read_column read_multiply read_add read_product read_sum read_conjunction read_whole read_expr_list read_arm read_arms read_else read_case_body read_case read_date_text read_date read_precision read_interval read_extract_inside read_extract read_places read_substring_inside read_substring read_count_inside read_count read_aggregate_word read_aggregate read_call read_leaf read_parens_inside read_parens read_subquery read_exists read_operand read_unary_line read_comparison read_compare read_null read_between read_like read_in_inside read_in read_deny_test read_test read_predicate read_part_line read_alias read_item read_selection read_select read_names read_column_names read_table read_derived_alias read_derived read_from_item read_inner_words read_left_words read_join_words read_joined_item read_joined read_from read_where read_group read_having read_filters read_query_line read_direction read_named_key read_order read_rows_only read_limit read_version read_ordered read_with_query read_with read_with_ordered read_view_name read_create read_drop read_refresh_word read_refresh read_value read_values read_run_inside read_run read_statement read_ended unary_at
+unfolding lexed is links statements read_name read_literal read_number read_digits read_span read_column_tail read_column read_multiply read_add read_product read_sum read_conjunction read_whole read_expr_list read_arm read_arms read_else read_case_body read_case read_date_text read_date read_precision read_interval read_extract_inside read_extract read_places read_substring_inside read_substring read_count_inside read_count read_aggregate_word read_aggregate read_call read_leaf read_parens_inside read_parens read_subquery read_exists read_operand read_unary_line read_comparison read_quantifier read_compared_query read_compared read_compare read_null read_between read_like read_in_inside read_in read_deny_test read_test read_predicate read_part_line read_alias read_item read_selection read_select read_names read_column_names read_table read_derived_alias read_derived read_from_item read_inner_words read_left_words read_join_words read_joined_item read_joined read_from read_where read_group read_having read_filters read_block read_all read_intersect_words read_set_word read_set_words read_term read_query_line read_direction read_named_key read_order read_rows_only read_limit read_version read_ordered read_with_query read_with read_with_ordered read_view_name read_create read_drop read_refresh_word read_refresh read_value read_values read_run_inside read_run read_statement read_ended unary_at
 queries_read = refl
 
 queries_short : nat_le (length trial_queries) max_script ≡ true

@@ -9,6 +9,7 @@ use Rattle.base_row_laws.proofs.Bags.{SameBag-refl}
 use Rattle.base_row_laws.proofs.Alike.{select_alike, project_alike, total_alike, fill_alike, domain_alike, group_alike, distinct_alike}
 use Rattle.base_row_laws.proofs.Pairs.{inner_matched_alike, outer_matched_alike, attach_matched_alike}
 use Rattle.base_row_laws.proofs.Values.{mark_bag, scalar_bag}
+use Rattle.base_set_rows.proofs.Operations.{set_rows_alike}
 use Rattle.base_value.specs.declared.value.Value.{Value}
 use Rattle.base_value.specs.declared.value.Value.TheVariants.{Null}
 use Rattle.base_value.specs.Value.{same_value}
@@ -17,7 +18,7 @@ use Rattle.expr_scalar.specs.Meaning.{values}
 use Rattle.expr_aggregates.specs.Values.{written, value_rank}
 use Rattle.expr_conditions.specs.Ranks.{rank_of}
 use Rattle.plan_algebra.specs.declared.aggregate.Aggregate.{Aggregate}
-use Rattle.plan_algebra.specs.declared.node.Node.TheVariants.{Scan, Domain, Select, Project, Join, Outer, Mark, Single, Group, Fill, Distinct}
+use Rattle.plan_algebra.specs.declared.node.Node.TheVariants.{Scan, Domain, Select, Project, Join, Outer, Mark, Single, Group, Fill, Distinct, Set}
 use Rattle.plan_algebra.specs.Aggregates.{aggregates_of}
 use Rattle.plan_algebra.specs.NodeLaws.{NodesAlike}
 use Rattle.plan_algebra.specs.Plans.{groups, rows_at}
@@ -44,3 +45,4 @@ nodes_alike db some others (Single i j matched c) all =
 nodes_alike db some others (Group i by aggregates) all = groups_alike by aggregates (rows_at some i) (rows_at others i) all.0
 nodes_alike db some others (Fill i j empty) all = fill_alike same_value value_identity empty (rows_at some j) (rows_at others j) (rows_at some i) (rows_at others i) all.1.0 all.0
 nodes_alike db some others (Distinct i) all = distinct_alike same_value value_identity (rows_at some i) (rows_at others i) all.0
+nodes_alike db some others (Set i j operation) all = set_rows_alike same_value value_identity operation (rows_at some i) (rows_at others i) (rows_at some j) (rows_at others j) all.0 all.1.0

@@ -1,10 +1,11 @@
 -- Plans in which each node fits stay so as they grow, and which nodes fit.
-use Rattle.std.proofs.Common.{◌≡◌, ℕ, ◌+◌, ◌<◌, ◌≤◌, List, [], ◌∷◌, ◌++◌, Bool, true, false, refl, sym, ap, ◌∙◌, subst, arith, rules, length, eq-eqb}
+use Rattle.std.proofs.Common.{◌≡◌, ℕ, ◌+◌, ◌<◌, ◌≤◌, List, [], ◌∷◌, ◌++◌, Bool, true, false, refl, sym, subst, rules, length, eq-eqb}
 use Rattle.std.proofs.lemmas.Bool.Decides.{nat_tests}
 use Rattle.std.specs.Prelude.{◌&&◌, IsTrue, nat_lt, nat_le, ◌==◌, Some, slice_get}
 use Rattle.std.specs.List.{list_all, range_with_len}
 use Rattle.std.specs.Cmp.Lexicographic.{pointwise}
 use Rattle.std.proofs.lemmas.List.{append_assoc, append-nil}
+use Rattle.base_set_rows.specs.declared.kind.SetOperation.{SetOperation}
 use Rattle.plan_algebra.specs.declared.node.Node.{Node}
 use Rattle.base_row_laws.specs.Matched.{right_places}
 use Rattle.base_value.specs.declared.value.Value.{Value}
@@ -15,7 +16,7 @@ use Rattle.base_schema.specs.declared.table.TableName.{TableName}
 use Rattle.plan_algebra.specs.declared.aggregate.Aggregate.{Aggregate}
 use Rattle.plan_algebra.specs.declared.node.Node.TheVariants as node
 use Rattle.plan_algebra.specs.Aggregates.{aggregates_of}
-use Rattle.plan_algebra.specs.Plans.{fits, suits, matches_first, groups_by_domain, plan_width, all_fit, is_formed}
+use Rattle.plan_algebra.specs.Plans.{fits, matches_first, groups_by_domain, plan_width, all_fit, is_formed}
 
 both : (a b : Bool) → IsTrue a → IsTrue b → IsTrue (a && b)
 both true b p q = q
@@ -89,6 +90,12 @@ group_fits before i by aggregates h = both (list_all (λ k. nat_lt k (length bef
 pub distinct_fits : (before : List Node) (i : ℕ) → i < length before → IsTrue (fits before (node.Distinct i))
 unfolding fits
 distinct_fits before i h = both (list_all (λ k. nat_lt k (length before)) (i ∷ [])) true (one_below (length before) i h) refl
+
+pub set_fits : (before : List Node) (i j : ℕ) (operation : SetOperation) → i < length before → j < length before → plan_width before i ≡ plan_width before j
+    → IsTrue (fits before (node.Set i j operation))
+unfolding fits
+set_fits before i j operation h k w =
+    both (list_all (λ k. nat_lt k (length before)) (i ∷ j ∷ [])) (plan_width before i == plan_width before j) (two_below (length before) i j h k) (eq-eqb (plan_width before i) (plan_width before j) w)
 
 pub join_fits : (before : List Node) (i j : ℕ) (matched : List (ℕ × ℕ)) (e : Expr) → i < length before → j < length before → IsTrue (matches_first (plan_width before j) matched)
     → IsTrue (fits before (node.Join i j matched e))

@@ -1,9 +1,12 @@
 -- What a tree means at each node, and its width.
-use Rattle.std.proofs.Common.{◌≡◌, ℕ, ◌+◌, List, [], ◌∷◌, ◌++◌, ap, ◌∙◌, length}
+use Rattle.std.proofs.Common.{◌≡◌, ◌==◌, refl, inl, inr, eq-eqb, ℕ, ◌+◌, true, false, List, [], ◌∷◌, ◌++◌, ap, ◌∙◌, length}
 use Rattle.std.specs.Prelude.{replicate}
+use Rattle.std.proofs.lemmas.Bool.{cases_Bool}
 use Rattle.base_row_laws.specs.Ranked.{Ranked}
 use Rattle.base_row_laws.specs.Rows.{scanned}
 use Rattle.base_row_laws.specs.Operators.{select, project, join_loop, outer_loop, attach_loop, distinct}
+use Rattle.base_set_rows.specs.declared.kind.SetOperation.{SetOperation}
+use Rattle.base_set_rows.specs.SetOperations.{set_rows}
 use Rattle.base_value.specs.declared.value.Value.{Value}
 use Rattle.base_value.specs.declared.value.Value.TheVariants.{Null}
 use Rattle.base_value.specs.Value.{same_value}
@@ -17,7 +20,7 @@ use Rattle.plan_algebra.specs.declared.tree.DepTree.TheVariants as t
 use Rattle.plan_algebra.specs.declared.tree.DepTree.TheOpen as f
 use Rattle.plan_algebra.specs.declared.tree.DepTree.TheFolds.{fold_out-DepTree, map-DepTree}
 use Rattle.plan_algebra.specs.declared.tree.Side.{Side}
-use Rattle.plan_algebra.specs.Trees.{Database, TreeMeaning, tree_step, tree_meaning, width_of, tree_rows, scans_of, right_row, listed, mark_under, scalar_at, groups_under}
+use Rattle.plan_algebra.specs.Trees.{Database, TreeMeaning, SetOperation, together, combined, tree_step, tree_meaning, width_of, tree_rows, scans_of, right_row, listed, mark_under, scalar_at, groups_under}
 
 abbrev meaning_at : DepTree-F DepTree → TreeMeaning
 meaning_at x = tree_step (map-DepTree DepTree TreeMeaning tree_meaning x)
@@ -52,6 +55,9 @@ meaning_Group a by aggregates = meaning_is (t.Group a by aggregates) ∙ ap mean
 
 pub meaning_Distinct : (a : DepTree) → tree_meaning (t.Distinct a) ≡ tree_step (f.Distinct (tree_meaning a))
 meaning_Distinct a = meaning_is (t.Distinct a) ∙ ap meaning_at (t.outs-Distinct a)
+
+pub meaning_Set : (l r : DepTree) (operation : SetOperation) → tree_meaning (t.Set l r operation) ≡ tree_step (f.Set (tree_meaning l) (tree_meaning r) operation)
+meaning_Set l r operation = meaning_is (t.Set l r operation) ∙ ap meaning_at (t.outs-Set l r operation)
 
 abbrev wide : TreeMeaning → ℕ
 wide m = m.width
@@ -91,6 +97,13 @@ width_Group a by aggregates = ap wide (meaning_Group a by aggregates)
 pub width_Distinct : (a : DepTree) → width_of (t.Distinct a) ≡ width_of a
 unfolding width_of
 width_Distinct a = ap wide (meaning_Distinct a)
+
+left_width : (operation : SetOperation) (l r : TreeMeaning) → (combined operation l r).width ≡ l.width
+left_width operation l r = elim (cases_Bool (l.width == r.width)) [ inl t ↦ rw t refl | inr f ↦ rw f refl ]
+
+pub width_Set : (l r : DepTree) (operation : SetOperation) → width_of (t.Set l r operation) ≡ width_of l
+unfolding width_of
+width_Set l r operation = ap wide (meaning_Set l r operation) ∙ left_width operation (tree_meaning l) (tree_meaning r)
 
 abbrev rows_in : Database → List Value → TreeMeaning → List (Ranked Value)
 rows_in db d m = m.rows db d
@@ -170,9 +183,42 @@ pub scans_Distinct : (a : DepTree) → scans_of (t.Distinct a) ≡ scans_of a
 unfolding scans_of
 scans_Distinct a = ap tables_in (meaning_Distinct a)
 
+-- a set operation of sides of one width
+pub together_is : (operation : SetOperation) (l r : TreeMeaning) → l.width ≡ r.width → combined operation l r ≡ together operation l r
+together_is operation l r e = let same : (l.width == r.width) ≡ true = eq-eqb l.width r.width e in rw same refl
+
+pub even_Set : (l r : DepTree) (operation : SetOperation) → width_of l ≡ width_of r → tree_meaning (t.Set l r operation) ≡ together operation (tree_meaning l) (tree_meaning r)
+unfolding width_of
+even_Set l r operation e = meaning_Set l r operation ∙ together_is operation (tree_meaning l) (tree_meaning r) e
+
+pub rows_Set : (l r : DepTree) (operation : SetOperation) (db : Database) (d : List Value) → width_of l ≡ width_of r
+    → tree_rows (t.Set l r operation) db d ≡ set_rows same_value operation (tree_rows l db d) (tree_rows r db d)
+unfolding tree_rows
+rows_Set l r operation db d e = ap (rows_in db d) (even_Set l r operation e)
+
+pub scans_Set : (l r : DepTree) (operation : SetOperation) → width_of l ≡ width_of r → scans_of (t.Set l r operation) ≡ scans_of l ++ scans_of r
+unfolding scans_of
+scans_Set l r operation e = ap tables_in (even_Set l r operation e)
+
+-- one of sides of different widths is the left one
+pub left_is : (operation : SetOperation) (l r : TreeMeaning) → (l.width == r.width) ≡ false → combined operation l r ≡ l
+left_is operation l r e = rw e refl
+
+pub uneven_Set : (l r : DepTree) (operation : SetOperation) → (width_of l == width_of r) ≡ false → tree_meaning (t.Set l r operation) ≡ tree_meaning l
+unfolding width_of
+uneven_Set l r operation e = meaning_Set l r operation ∙ left_is operation (tree_meaning l) (tree_meaning r) e
+
+pub rows_uneven : (l r : DepTree) (operation : SetOperation) (db : Database) (d : List Value) → (width_of l == width_of r) ≡ false → tree_rows (t.Set l r operation) db d ≡ tree_rows l db d
+unfolding tree_rows
+rows_uneven l r operation db d e = ap (rows_in db d) (uneven_Set l r operation e)
+
+pub scans_uneven : (l r : DepTree) (operation : SetOperation) → (width_of l == width_of r) ≡ false → scans_of (t.Set l r operation) ≡ scans_of l
+unfolding scans_of
+scans_uneven l r operation e = ap tables_in (uneven_Set l r operation e)
+
 pub ruleset rows_opened = (rows_Scan, rows_Select, rows_Project, rows_Join, rows_Outer, rows_Mark, rows_Single, rows_Group, rows_Distinct)
 
 pub ruleset scans_opened = (scans_Scan, scans_Select, scans_Project, scans_Join, scans_Outer, scans_Mark, scans_Single, scans_Group, scans_Distinct)
 
 -- for the function that goes over the nodes
-pub ruleset widths_opened = (width_Scan, width_Select, width_Project, width_Join, width_Outer, width_Mark, width_Single, width_Group, width_Distinct)
+pub ruleset widths_opened = (width_Scan, width_Select, width_Project, width_Join, width_Outer, width_Mark, width_Single, width_Group, width_Distinct, width_Set)

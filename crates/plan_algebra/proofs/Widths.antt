@@ -15,10 +15,11 @@ use Rattle.base_row_laws.specs.Operators.{select, project, pair, or_else, least,
 use Rattle.base_row_laws.specs.Matched.{right_places, without_from, without, glue_matched, matches_of, inner_matched, outer_matched, attach_matched}
 use Rattle.base_row_laws.proofs.Lists.{Each-map, Each-filter, Each-weaker, Each-flat_map, Each-all, Each-each_once}
 use Rattle.base_row_laws.proofs.Nodes.{Each-or_else}
+use Rattle.base_set_rows.proofs.Operations.{set_rows_each}
 use Rattle.base_value.specs.declared.value.Value.{Value}
 use Rattle.base_value.specs.declared.value.Value.TheVariants.{Null}
 use Rattle.base_value.specs.Value.{same_value, same_row}
-use Rattle.base_value.proofs.Identity.{row_identity}
+use Rattle.base_value.proofs.Identity.{value_identity, row_identity}
 use Rattle.expr_scalar.specs.declared.expr.Expr.{Expr}
 use Rattle.expr_scalar.specs.Meaning.{value, values}
 use Rattle.base_schema.specs.declared.table.TableName.{TableName}
@@ -29,7 +30,7 @@ use Rattle.expr_aggregates.specs.Values.{written, value_rank}
 use Rattle.expr_conditions.specs.Ranks.{rank_of}
 use Rattle.plan_algebra.specs.declared.aggregate.Aggregate.{Aggregate}
 use Rattle.plan_algebra.specs.declared.node.Node.{Node}
-use Rattle.plan_algebra.specs.declared.node.Node.TheVariants.{Scan, Domain, Select, Project, Join, Outer, Mark, Single, Group, Fill, Distinct}
+use Rattle.plan_algebra.specs.declared.node.Node.TheVariants.{Scan, Domain, Select, Project, Join, Outer, Mark, Single, Group, Fill, Distinct, Set}
 use Rattle.plan_algebra.specs.Aggregates.{aggregates_of}
 use Rattle.plan_algebra.specs.Trees.{Database, HasKinds}
 use Rattle.plan_algebra.specs.NodeLaws.{RowsAreWide}
@@ -225,6 +226,11 @@ values_long : (es : List Expr) (r : List Value) → length (values es r) ≡ len
 unfolding values
 values_long es r = length-map es (λ e. value e r)
 
+-- the right side of a set operation is as wide as the left one
+as_wide : (db : Database) (before : List Node) (i j : ℕ) → IsTrue (plan_width before i == plan_width before j) → Each (Has (plan_width before j)) (plan_rows db before j)
+    → Each (Has (plan_width before i)) (plan_rows db before j)
+as_wide db before i j s wide = subst (λ k. Each (Has k) (plan_rows db before j)) (sym (eqb-true (plan_width before i) (plan_width before j) s)) wide
+
 node_wide : (db : Database) (before : List Node) (node : Node) → HasKinds db → IsTrue (suits before node) → EachWide db before
     → Each (Has (node_width (made_from node_width [] before) node)) (node_rows db (made_from (node_rows db) [] before) node)
 unfolding plan_rows plan_width
@@ -247,6 +253,8 @@ node_wide db before (Group i by aggregates) kinds s wide = groups_wide by aggreg
 node_wide db before (Fill i j empty) kinds s wide =
     fill_wide (plan_width before j) (plan_width before i) empty (plan_rows db before j) (plan_rows db before i) (group_width before i (plan_width before j) empty s) (wide j) (wide i)
 node_wide db before (Distinct i) kinds s wide = distinct_wide (plan_width before i) (plan_rows db before i) (wide i)
+node_wide db before (Set i j operation) kinds s wide =
+    set_rows_each same_value value_identity (Long (plan_width before i)) operation (plan_rows db before i) (plan_rows db before j) (wide i) (as_wide db before i j s (wide j))
 
 one_more : (db : Database) (before : List Node) (node : Node) → HasKinds db → IsTrue (fits before node) → EachWide db before → EachWide db (before ++ node ∷ [])
 unfolding plan_rows plan_width fits

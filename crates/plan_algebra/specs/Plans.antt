@@ -10,6 +10,7 @@ use Rattle.base_row_laws.specs.Rows.{columns, scanned}
 use Rattle.base_row_laws.specs.Operators.{select, project, group_by, total, distinct, domain_node, fill}
 use Rattle.base_row_laws.specs.Matched.{right_places, inner_matched, outer_matched, mark_matched}
 use Rattle.base_row_laws.specs.Matched.{single_matched}
+use Rattle.base_set_rows.specs.SetOperations.{set_rows}
 use Rattle.base_value.specs.declared.value.Value.{Value}
 use Rattle.base_value.specs.declared.value.Value.TheVariants.{Null}
 use Rattle.base_value.specs.Value.{same_value, same_row}
@@ -20,6 +21,7 @@ use Rattle.plan_algebra.specs.declared.aggregate.Aggregate.{Aggregate}
 use Rattle.plan_algebra.specs.declared.node.Node.{Node}
 use Rattle.plan_algebra.specs.declared.node.Node.TheVariants.{Scan, Domain, Select, Project, Join, Outer}
 use Rattle.plan_algebra.specs.declared.node.Node.TheVariants.{Mark, Single, Group, Fill, Distinct}
+use Rattle.plan_algebra.specs.declared.node.Node.TheVariants.{Set}
 use Rattle.expr_aggregates.specs.Values.{written, value_rank}
 use Rattle.expr_conditions.specs.Ranks.{rank_of}
 use Rattle.plan_algebra.specs.Aggregates.{aggregates_of}
@@ -55,6 +57,8 @@ node_rows db before (Single i j matched c) =
 node_rows db before (Group i by aggregates) = groups by aggregates (rows_at before i)
 node_rows db before (Fill i j empty) = fill same_value empty (rows_at before j) (rows_at before i)
 node_rows db before (Distinct i) = distinct same_value (rows_at before i)
+node_rows db before (Set i j operation) =
+    set_rows same_value operation (rows_at before i) (rows_at before j)
 
 -- what f makes of each node, from what it made of the nodes before it
 abbrev pub made_from : {X : Type 0} → (List X → Node → X) → List X → List Node → List X
@@ -83,6 +87,7 @@ node_width before (Single i j matched c) = slice_index before i + 1
 node_width before (Group i by aggregates) = length by + length aggregates
 node_width before (Fill i j empty) = slice_index before j + length empty
 node_width before (Distinct i) = slice_index before i
+node_width before (Set i j operation) = slice_index before i
 
 -- the number of columns of the node of this number
 unfoldable pub plan_width : List Node → ℕ → ℕ
@@ -131,6 +136,7 @@ inputs_of (Single i j matched c) = i ∷ j ∷ []
 inputs_of (Group i by aggregates) = i ∷ []
 inputs_of (Fill i j empty) = i ∷ j ∷ []
 inputs_of (Distinct i) = i ∷ []
+inputs_of (Set i j operation) = i ∷ j ∷ []
 
 -- the pairs match columns with the right side's first ones, which are there
 abbrev pub matches_first : ℕ → List (ℕ × ℕ) → Bool
@@ -152,6 +158,7 @@ suits before (Outer i j matched nulls e) = matches_first (plan_width before j) m
 suits before (Mark i j matched e) = matches_first (plan_width before j) matched
 suits before (Single i j matched c) = matches_first (plan_width before j) matched
 suits before (Fill i j empty) = groups_by_domain (plan_width before j) empty (slice_get before i)
+suits before (Set i j operation) = plan_width before i == plan_width before j
 suits before other = true
 
 -- a node reads nodes before it only, and suits them

@@ -1,10 +1,13 @@
 -- What a dependent tree means: its rows by nested loops. What it scans, how many columns its rows
 -- have, and how many right sides have a domain of their own are read off it too.
-use Rattle.std.specs.Prelude.{ℕ, ◌+◌, List, [], ◌∷◌, ◌++◌, map, length, replicate}
+use Rattle.std.specs.Prelude.{ℕ, ◌+◌, ◌==◌, if◌then◌else◌, List, [], ◌∷◌, ◌++◌, map}
+use Rattle.std.specs.Prelude.{length, replicate}
 use Rattle.base_row_laws.specs.Ranked.{Ranked}
 use Rattle.base_row_laws.specs.Rows.{after, columns, scanned}
 use Rattle.base_row_laws.specs.Operators.{select, project, mark_of, scalar_of, join_loop, outer_loop}
 use Rattle.base_row_laws.specs.Operators.{attach_loop, group_by, total, distinct}
+use Rattle.base_set_rows.specs.declared.kind.SetOperation.{SetOperation}
+use Rattle.base_set_rows.specs.SetOperations.{set_rows}
 use Rattle.base_row_laws.specs.Trees.{side_row}
 use Rattle.base_row_laws.specs.Trees.{Side as SideKind}
 use Rattle.base_row_laws.specs.Trees.Side.{Closed as ClosedKind, Shared as SharedKind}
@@ -21,7 +24,7 @@ use Rattle.plan_algebra.specs.declared.aggregate.Aggregate.{Aggregate}
 use Rattle.plan_algebra.specs.declared.tree.DepTree.{DepTree, DepTree-F}
 use Rattle.plan_algebra.specs.declared.tree.DepTree.TheFolds.{fold-DepTree}
 use Rattle.plan_algebra.specs.declared.tree.DepTree.TheOpen.{Scan, Select, Project, Join, Outer, Mark}
-use Rattle.plan_algebra.specs.declared.tree.DepTree.TheOpen.{Single, Group, Distinct}
+use Rattle.plan_algebra.specs.declared.tree.DepTree.TheOpen.{Single, Group, Distinct, Set}
 use Rattle.plan_algebra.specs.declared.tree.Side.{Side}
 use Rattle.plan_algebra.specs.declared.tree.Side.TheVariants.{Closed, Shared, Dependent}
 use Rattle.expr_aggregates.specs.Values.{written, value_rank}
@@ -117,6 +120,19 @@ attached l r side value = record {
   rows = λ db d. attach_loop (value d) (l.rows db d) (λ x. r.rows db (right_row side d x));
 }
 
+-- a set operation of two meanings, both under the domain row d
+abbrev pub together : SetOperation → TreeMeaning → TreeMeaning → TreeMeaning
+together operation l r = record {
+  scans = l.scans ++ r.scans;
+  domains = l.domains + r.domains;
+  width = l.width;
+  rows = λ db d. set_rows same_value operation (l.rows db d) (r.rows db d);
+}
+
+-- the same where both sides are of one width; sides of different widths mean the left one
+abbrev pub combined : SetOperation → TreeMeaning → TreeMeaning → TreeMeaning
+combined operation l r = if l.width == r.width then together operation l r else l
+
 -- a node, from the meanings of its parts
 abbrev pub tree_step : DepTree-F TreeMeaning → TreeMeaning
 tree_step (Scan table) = record {
@@ -137,6 +153,7 @@ tree_step (Group t by aggregates) = record t {
   rows = λ db d. groups_under by aggregates d (t.rows db d);
 }
 tree_step (Distinct t) = record t { rows = λ db d. distinct same_value (t.rows db d) }
+tree_step (Set l r operation) = combined operation l r
 
 -- a whole tree, node by node from its leaves
 unfoldable pub tree_meaning : DepTree → TreeMeaning

@@ -1,6 +1,7 @@
 //! The nodes of a flat plan.
 use crate::aggregate::Aggregate;
 use base_schema::TableName;
+use base_set_rows::SetOperation;
 use base_value::Value;
 use expr_scalar::Expr;
 use sqlite_items::{Boxed, Items};
@@ -41,4 +42,6 @@ pub enum Node {
     Fill(NodeId, NodeId, Items<Value>),
     /// Identical rows once.
     Distinct(NodeId),
+    /// A set operation of the left and the right node.
+    Set(NodeId, NodeId, SetOperation),
 }

@@ -4,6 +4,7 @@ ghost use Rattle.plan_algebra.specs.Trees.{width_of};
 
 use crate::aggregate::Aggregate;
 use base_schema::TableName;
+use base_set_rows::SetOperation;
 use expr_scalar::Expr;
 use sqlite_items::{Boxed, Items};
 use std::alloc::AllocError;
@@ -46,6 +47,9 @@ pub enum DepTree {
     Group(Boxed<DepTree>, Items<u32>, Items<Aggregate>),
     /// DISTINCT.
     Distinct(Boxed<DepTree>),
+    /// A set operation of two trees over the same domain row. Trees of different widths mean the
+    /// left one.
+    Set(Boxed<DepTree>, Boxed<DepTree>, SetOperation),
 }
 
 /// How many columns of its own the tree's rows have.
@@ -56,6 +60,7 @@ pub fn width(tree: &DepTree) -> Result<u32, AllocError>
     match tree {
         DepTree::Scan(table) => u32::try_from(table.kinds().len()).map_err(|_| AllocError),
         DepTree::Select(t, _) | DepTree::Distinct(t) => width(t.get()),
+        DepTree::Set(l, _, _) => width(l.get()),
         DepTree::Project(_, es) => u32::try_from(es.len()).map_err(|_| AllocError),
         DepTree::Join(l, r, _, _) | DepTree::Outer(l, r, _, _) => {
             let left = width(l.get())?;

@@ -4,7 +4,9 @@ use Rattle.std.proofs.Common.{false, ◌||◌, map, refl, sym, ap, ◌∙◌, su
 use Rattle.std.proofs.Common.{take, get_or}
 use Rattle.std.proofs.Math.Bool.{or_assoc, or-false}
 use Rattle.std.proofs.lemmas.List.{map-append, take_more}
+use Rattle.base_set_rows.specs.declared.kind.SetOperation.{SetOperation}
 use Rattle.expr_aggregates.specs.declared.function.AggregateFunction.{AggregateFunction}
+use Rattle.expr_operators.specs.declared.operator.Comparison.{Comparison}
 use Rattle.base_schema.specs.declared.table.TableName.{TableName}
 use Rattle.sql_bound_query.specs.declared.query.BoundAggregate.{BoundAggregate}
 use Rattle.sql_bound_query.specs.declared.query.BoundAggregate.TheVariants as aggregate
@@ -16,16 +18,17 @@ use Rattle.sql_bound_query.specs.declared.query.BoundSource.{BoundSource}
 use Rattle.sql_bound_query.specs.declared.query.BoundSource.TheVariants as source
 use Rattle.sql_bound_query.specs.declared.query.Input.{Input}
 use Rattle.sql_bound_query.specs.declared.query.Input.TheVariants as input
+use Rattle.sql_bound_query.specs.declared.query.SetColumn.{SetColumn}
 use Rattle.plan_dependent_tree.specs.declared.sight.OuterColumn.{OuterColumn}
 use Rattle.plan_dependent_tree.specs.Seeks.{Seeks, any_seeks, has, input_seeks, seeks_of}
 use Rattle.plan_dependent_tree.specs.Seeks.{seeks_of_source, seeks_of_input, seeks_of_expr}
 use Rattle.plan_dependent_tree.specs.Seeks.{seeks_of_aggregate}
 use Rattle.plan_dependent_tree.specs.Supplied.{Finds}
-use Rattle.plan_dependent_tree.proofs.SeeksOpened.{seeks_Column, seeks_Exists, seeks_In, seeks_Scalar}
+use Rattle.plan_dependent_tree.proofs.SeeksOpened.{seeks_Column, seeks_Exists, seeks_Any, seeks_Scalar}
 use Rattle.plan_dependent_tree.proofs.SeeksOpened.{seeks_CountRows, seeks_Of, seeks_Table, seeks_Derived}
 use Rattle.plan_dependent_tree.proofs.SeeksOpened.{seeks_Lateral, seeks_Cross, seeks_Inner}
 use Rattle.plan_dependent_tree.proofs.SeeksOpened.{seeks_Outer, seeks_Plain}
-use Rattle.plan_dependent_tree.proofs.SeeksOpened.{seeks_Grouped, seeks_Distinct, seeks_expr}
+use Rattle.plan_dependent_tree.proofs.SeeksOpened.{seeks_Grouped, seeks_Distinct, seeks_Set, seeks_expr}
 
 -- ---- one part after the other
 
@@ -122,13 +125,13 @@ scalar_found {i} {q} {seen} {n} {deeper} {old} {new} is get same f =
     (subst (λ k. Finds (seeks_of q) k old new) same
     (subst (λ z. Finds (seeks_of z) deeper old new) get f)))
 
-pub among_found : {i : Input} {x read : BoundExpr} {q seen : BoundBlock} {n deeper : ℕ}
-    {old mid new : List OuterColumn} → i ≡ input.In x q → read ≡ x
+pub any_found : {i : Input} {c : Comparison} {x read : BoundExpr} {q seen : BoundBlock}
+    {n deeper : ℕ} {old mid new : List OuterColumn} → i ≡ input.Any c x q → read ≡ x
     → Finds (seeks_of_expr read) n old mid → seen ≡ q → deeper ≡ n
     → Finds (seeks_of seen) deeper mid new → Finds (seeks_of_input i) n old new
-among_found {i} {x} {read} {q} {seen} {n} {deeper} {old} {mid} {new} is left f get same g =
-    finds_as seeks_of_input n old new i (input.In x q) is
-    (subst (λ (z : Seeks). Finds z n old new) (sym (seeks_In x q))
+any_found {i} {c} {x} {read} {q} {seen} {n} {deeper} {old} {mid} {new} is left f get same g =
+    finds_as seeks_of_input n old new i (input.Any c x q) is
+    (subst (λ (z : Seeks). Finds z n old new) (sym (seeks_Any c x q))
     (finds_then (seeks_of_expr x) (seeks_of q) n old mid new
     (subst (λ z. Finds (seeks_of_expr z) n old mid) left f)
     (subst (λ k. Finds (seeks_of q) k mid new) same
@@ -302,6 +305,18 @@ distinct_found {q} {x} {seen} {within} {old} {new} is get f =
     finds_as seeks_of within old new q (block.Distinct x) is
     (subst (λ (z : Seeks). Finds z within old new) (sym (seeks_Distinct x))
     (subst (λ z. Finds (seeks_of z) within old new) get f))
+
+pub set_found : {q a b read other : BoundBlock} {columns : List SetColumn}
+    {operation : SetOperation} {within : ℕ} {old mid new : List OuterColumn}
+    → q ≡ block.Set a b columns operation → read ≡ a → Finds (seeks_of read) within old mid
+    → other ≡ b → Finds (seeks_of other) within mid new → Finds (seeks_of q) within old new
+set_found {q} {a} {b} {read} {other} {columns} {operation} {within} {old} {mid} {new} is get f also
+    g =
+    finds_as seeks_of within old new q (block.Set a b columns operation) is
+    (subst (λ (z : Seeks). Finds z within old new) (sym (seeks_Set a b columns operation))
+    (finds_then (seeks_of a) (seeks_of b) within old mid new
+    (subst (λ z. Finds (seeks_of z) within old mid) get f)
+    (subst (λ z. Finds (seeks_of z) within mid new) also g)))
 
 -- ---- whole parts
 

@@ -12,7 +12,7 @@ use Rattle.expr_aggregates.specs.declared.function.AggregateFunction.{AggregateF
 use Rattle.base_value.specs.declared.value.Value.{Value}
 use Rattle.base_value.specs.declared.value.Value.TheVariants.{Null}
 use Rattle.base_value.specs.Truth.{truth_rank}
-use Rattle.expr_operators.specs.declared.operator.Comparison.TheVariants.{Equal}
+use Rattle.expr_operators.specs.declared.operator.Comparison.{Comparison}
 use Rattle.expr_operators.specs.Operators.{compared}
 use Rattle.expr_scalar.specs.declared.expr.Expr.{Expr}
 use Rattle.expr_scalar.specs.declared.expr.Expr.TheVariants.{Column, All, Compare}
@@ -34,10 +34,10 @@ use Rattle.sql_bound_query.specs.Meaning.{input_meaning, expr_meaning, aggregate
 use Rattle.sql_bound_query.specs.Meaning.{block_meaning, single_value}
 use Rattle.sql_bound_query.specs.Reads.{tables, tables_of_input, tables_of_expr, tables_of_aggregate}
 use Rattle.sql_bound_query.specs.Reads.{joined_tables}
-use Rattle.sql_bound_query.proofs.Opened.{input_Column_at, input_Exists_at, input_In_at}
+use Rattle.sql_bound_query.proofs.Opened.{input_Column_at, input_Exists_at, input_Any_at}
 use Rattle.sql_bound_query.proofs.Opened.{input_Scalar_at, aggregate_CountRows_at, aggregate_Of_at}
 use Rattle.sql_bound_query.proofs.Opened.{expr_is}
-use Rattle.sql_bound_query.proofs.TablesOpened.{in_Column, in_Exists, in_In, in_Scalar, in_CountRows}
+use Rattle.sql_bound_query.proofs.TablesOpened.{in_Column, in_Exists, in_Any, in_Scalar, in_CountRows}
 use Rattle.sql_bound_query.proofs.TablesOpened.{in_Of, expr_tables_is}
 use Rattle.plan_algebra.specs.declared.aggregate.Aggregate.{Aggregate}
 use Rattle.plan_algebra.specs.declared.aggregate.Aggregate.TheVariants as counted
@@ -173,42 +173,43 @@ module _ (outer : List OuterColumn) (start w : ℕ) where
   next_column flat v n e = let m : n ≡ length flat + 0 = omega (arith, e) in
       ap (λ k. slice_index_or (flat ++ v) k Null) m ∙ get_or-append-add flat v 0 Null
 
-  pub in_arm : (e : BoundExpr) (x : Expr) (q : BoundBlock) (right : DepTree) (side : Side)
-      (old : DepTree) (end : ℕ) (mid : DepTree) (between : ℕ)
+  pub any_arm : (c : Comparison) (e : BoundExpr) (x : Expr) (q : BoundBlock) (right : DepTree)
+      (side : Side) (old : DepTree) (end : ℕ) (mid : DepTree) (between : ℕ)
       → Attaches outer start w (tables_of_expr e) (ExprAt e x) old end mid between
       → IsSubquery q outer start w right side
-      → Attaches outer start w (tables_of_input (input.In e q)) (InputAt (input.In e q) between) old
-      end (t.Mark mid right side (Compare Equal x (Column between))) (between + 1)
+      → Attaches outer start w (tables_of_input (input.Any c e q))
+      (InputAt (input.Any c e q) between) old end
+      (t.Mark mid right side (Compare c x (Column between))) (between + 1)
   unfolding InputAt ExprAt mark_under rank_of
-  in_arm e x q right side old end mid between a sub =
-      let c : Expr = Compare Equal x (Column between) in
+  any_arm c e x q right side old end mid between a sub =
+      let on : Expr = Compare c x (Column between) in
       let own : State → List Value → List Value → Value =
-      λ state d u. mark_under c d u (tree_rows right (table_rows state) (right_row side d u)) in
+      λ state d u. mark_under on d u (tree_rows right (table_rows state) (right_row side d u)) in
       let M : State → Env → List Value → Value =
-      λ state env r. input_meaning state (input.In e q) (r ∷ env) in
-      attaches_as outer start w (tables_of_expr e ++ tables q) (tables_of_input (input.In e q))
+      λ state env r. input_meaning state (input.Any c e q) (r ∷ env) in
+      attaches_as outer start w (tables_of_expr e ++ tables q) (tables_of_input (input.Any c e q))
       (λ state env r flat. slice_index_or flat between Null ≡ M state env r)
-      (InputAt (input.In e q) between) old end (t.Mark mid right side c) (between + 1)
+      (InputAt (input.Any c e q) between) old end (t.Mark mid right side on) (between + 1)
       (attaches_column outer start w (tables_of_expr e) (tables q) (ExprAt e x) old end mid between
-      (t.Mark mid right side c) own M a
-      (scans_Mark mid right side c ∙ ap (λ l. scans_of mid ++ l) sub.scans)
-      (width_Mark mid right side c)
-      (λ state d. rows_Mark mid right side c (table_rows state) d
-      ∙ attached_rows (mark_under c d) (tree_rows mid (table_rows state) d)
+      (t.Mark mid right side on) own M a
+      (scans_Mark mid right side on ∙ ap (λ l. scans_of mid ++ l) sub.scans)
+      (width_Mark mid right side on)
+      (λ state d. rows_Mark mid right side on (table_rows state) d
+      ∙ attached_rows (mark_under on d) (tree_rows mid (table_rows state) d)
       (λ u. tree_rows right (table_rows state) (right_row side d u)))
       (λ state ok env d u r s n f.
       let left : Value = (expr_meaning state e).value (r ∷ env) in
-      marks_agree written (rank_of c)
-      (λ v. truth_rank (compared Equal left (slice_index_or v 0 Null))) (d ++ u) []
+      marks_agree written (rank_of on)
+      (λ v. truth_rank (compared c left (slice_index_or v 0 Null))) (d ++ u) []
       (tree_rows right (table_rows state) (right_row side d u)) (block_meaning state q (r ∷ env))
       (λ v. ap truth_rank
-      (truth_Compare Equal x (Column between) ((d ++ u) ++ v)
-      ∙ ap (λ y. compared Equal y (value (Column between) ((d ++ u) ++ v))) (f v).0
-      ∙ ap (compared Equal left)
+      (truth_Compare c x (Column between) ((d ++ u) ++ v)
+      ∙ ap (λ y. compared c y (value (Column between) ((d ++ u) ++ v))) (f v).0
+      ∙ ap (compared c left)
       (value_Column between ((d ++ u) ++ v) ∙ next_column (d ++ u) v between n)))
       (sub.rows state ok env d u r s)
-      ∙ sym (input_In_at state e q (r ∷ env))))
-      (sym (in_In e q)) (λ state env r flat p. p)
+      ∙ sym (input_Any_at state c e q (r ∷ env))))
+      (sym (in_Any c e q)) (λ state env r flat p. p)
 
   -- ---- all inputs, and an expression over them
 

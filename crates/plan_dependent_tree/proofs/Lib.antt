@@ -10,6 +10,7 @@ pub mod FromTrees
 pub mod KeptTrees
 pub mod OuterTrees
 pub mod BlockTrees
+pub mod SetTrees
 pub mod SeenArms
 pub mod SeenSources
 pub mod SeeksOpened

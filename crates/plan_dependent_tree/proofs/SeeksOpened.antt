@@ -1,6 +1,8 @@
 -- What the parts of a query read of the rows around, at each node.
 use Rattle.std.proofs.Common.{◌≡◌, ℕ, suc, List, Bool, false, ◌||◌, map, ap, ◌∙◌}
+use Rattle.base_set_rows.specs.declared.kind.SetOperation.{SetOperation}
 use Rattle.expr_aggregates.specs.declared.function.AggregateFunction.{AggregateFunction}
+use Rattle.expr_operators.specs.declared.operator.Comparison.{Comparison}
 use Rattle.base_schema.specs.declared.table.TableName.{TableName}
 use Rattle.sql_bound_query.specs.declared.query.BoundAggregate.{BoundAggregate, out-BoundAggregate}
 use Rattle.sql_bound_query.specs.declared.query.BoundAggregate.TheVariants as aggregate
@@ -21,6 +23,7 @@ use Rattle.sql_bound_query.specs.declared.query.BoundSource.{BoundSource, out-Bo
 use Rattle.sql_bound_query.specs.declared.query.BoundSource.TheVariants as source
 use Rattle.sql_bound_query.specs.declared.query.Input.{Input, out-Input}
 use Rattle.sql_bound_query.specs.declared.query.Input.TheVariants as input
+use Rattle.sql_bound_query.specs.declared.query.SetColumn.{SetColumn}
 use Rattle.plan_dependent_tree.specs.Seeks.{Seeks, any_seeks, aggregate_seeks, block_seeks}
 use Rattle.plan_dependent_tree.specs.Seeks.{source_seeks, seeks_of_source, seeks_so_far}
 use Rattle.plan_dependent_tree.specs.Seeks.{input_seeks, expr_seeks, seeks_of, seeks_in_from}
@@ -100,10 +103,11 @@ pub seeks_Exists : (q : BoundBlock)
 unfolding seeks_of_input_at
 seeks_Exists q = seeks_of_input_is (input.Exists q) ∙ ap seeks_of_input_at (input.outs-Exists q)
 
-pub seeks_In : (e : BoundExpr) (q : BoundBlock)
-    → seeks_of_input (input.In e q) ≡ input_seeks (node.In (seeks_of_expr e) (seeks_of q))
+pub seeks_Any : (c : Comparison) (e : BoundExpr) (q : BoundBlock)
+    → seeks_of_input (input.Any c e q) ≡ input_seeks (node.Any c (seeks_of_expr e) (seeks_of q))
 unfolding seeks_of_input_at
-seeks_In e q = seeks_of_input_is (input.In e q) ∙ ap seeks_of_input_at (input.outs-In e q)
+seeks_Any c e q = seeks_of_input_is (input.Any c e q)
+    ∙ ap seeks_of_input_at (input.outs-Any c e q)
 
 pub seeks_Scalar : (q : BoundBlock)
     → seeks_of_input (input.Scalar q) ≡ input_seeks (node.Scalar (seeks_of q))
@@ -258,6 +262,13 @@ pub seeks_Distinct : (q : BoundBlock)
     → seeks_of (block.Distinct q) ≡ block_seeks (node.Distinct (seeks_of q))
 unfolding seeks_of_at
 seeks_Distinct q = seeks_of_is (block.Distinct q) ∙ ap seeks_of_at (block.outs-Distinct q)
+
+pub seeks_Set : (a b : BoundBlock) (columns : List SetColumn) (operation : SetOperation)
+    → seeks_of (block.Set a b columns operation)
+    ≡ block_seeks (node.Set (seeks_of a) (seeks_of b) columns operation)
+unfolding seeks_of_at
+seeks_Set a b columns operation = seeks_of_is (block.Set a b columns operation)
+    ∙ ap seeks_of_at (block.outs-Set a b columns operation)
 
 pub seeks_expr : (e : BoundExpr)
     → seeks_of_expr e ≡ expr_seeks

@@ -1,10 +1,11 @@
 -- The arms of the code: one variable for each value that the code reads.
 use Rattle.std.proofs.Common.{◌≡◌, ℕ, ◌+◌, List, [], ◌∷◌, map, refl, sym, ap, ◌∙◌, subst}
 use Rattle.std.proofs.Common.{length}
+use Rattle.base_set_rows.specs.declared.kind.SetOperation.{SetOperation}
 use Rattle.expr_scalar.specs.declared.expr.Expr.{Expr}
 use Rattle.expr_scalar.specs.declared.expr.Expr.TheVariants.{Column, All, Compare}
 use Rattle.expr_scalar.specs.Rename.{IsRenamed}
-use Rattle.expr_operators.specs.declared.operator.Comparison.TheVariants.{Equal}
+use Rattle.expr_operators.specs.declared.operator.Comparison.{Comparison}
 use Rattle.base_schema.specs.declared.table.TableName.{TableName}
 use Rattle.sql_bound_query.specs.declared.query.BoundAggregate.{BoundAggregate}
 use Rattle.sql_bound_query.specs.declared.query.BoundBlock.{BoundBlock}
@@ -13,6 +14,7 @@ use Rattle.sql_bound_query.specs.declared.query.BoundExpr.{BoundExpr}
 use Rattle.sql_bound_query.specs.declared.query.BoundSource.{BoundSource}
 use Rattle.sql_bound_query.specs.declared.query.Input.{Input}
 use Rattle.sql_bound_query.specs.declared.query.Input.TheVariants as input
+use Rattle.sql_bound_query.specs.declared.query.SetColumn.{SetColumn}
 use Rattle.sql_bound_query.specs.Reads.{tables, tables_of_source, tables_of_input, tables_of_expr}
 use Rattle.sql_bound_query.specs.Reads.{tables_of_aggregate, joined_tables}
 use Rattle.plan_algebra.specs.declared.aggregate.Aggregate.{Aggregate}
@@ -24,10 +26,12 @@ use Rattle.plan_dependent_tree.specs.Growth.{RowsOf, Reading, IsTree, IsSubquery
 use Rattle.plan_dependent_tree.specs.Growth.{AreKeys, IsAt, DependsOn, InputAt}
 use Rattle.plan_dependent_tree.specs.Growth.{InputsAt, ExprAt, ListAt, AggregatesAt, SameFunctions}
 use Rattle.plan_dependent_tree.specs.Growth.{from_of, block_of}
-use Rattle.plan_dependent_tree.proofs.InputTrees.{column_arm, exists_arm, scalar_arm, in_arm, expr_arm}
+use Rattle.plan_dependent_tree.specs.SetGrowth.{IsSetTree}
+use Rattle.plan_dependent_tree.proofs.InputTrees.{column_arm, exists_arm, scalar_arm, any_arm, expr_arm}
 use Rattle.plan_dependent_tree.proofs.BlockTrees.{plain_arm}
 use Rattle.plan_dependent_tree.proofs.BlockTrees.{grouped_arm, distinct_arm}
 use Rattle.plan_dependent_tree.proofs.FromTrees.{subquery_dependent, subquery_closed}
+use Rattle.plan_dependent_tree.proofs.SetTrees.{set_arm}
 
 -- a tree by another name
 named : {occurs : List TableName} {K : RowsOf} {outer : List OuterColumn} {start w n : ℕ}
@@ -122,17 +126,18 @@ module _ (outer : List OuterColumn) (start w : ℕ) (old : DepTree) (end : ℕ) 
   scalar_seen {x} {q} {right} {new} {side} e sub is =
       of_input e is.2 is.0 is.1 (scalar_arm outer start w q right side old end sub)
 
-  pub in_seen : (y : Expr) {x : Input} {left seen : BoundExpr} {q : BoundBlock}
-      {right mid new : DepTree} {side : Side} {at between last : ℕ} → x ≡ input.In left q
+  pub any_seen : (c : Comparison) (y : Expr) {x : Input} {left seen : BoundExpr} {q : BoundBlock}
+      {right mid new : DepTree} {side : Side} {at between last : ℕ} → x ≡ input.Any c left q
       → seen ≡ left
       → Attaches outer start w (tables_of_expr seen) (ExprAt seen y) old end mid between
       → IsSubquery q outer start w right side
-      → (new ≡ t.Mark mid right side (Compare Equal y (Column between))) × (last ≡ between + 1)
+      → (new ≡ t.Mark mid right side (Compare c y (Column between))) × (last ≡ between + 1)
       × (at ≡ between)
       → Attaches outer start w (tables_of_input x) (InputAt x at) old end new last
-  in_seen y {x} {left} {seen} {q} {right} {mid} {new} {side} {at} {between} {last} e f a sub is =
+  any_seen c y {x} {left} {seen} {q} {right} {mid} {new} {side} {at} {between} {last} e f a sub
+      is =
       of_input e is.2 is.0 is.1
-      (in_arm outer start w left y q right side old end mid between
+      (any_arm outer start w c left y q right side old end mid between
       (subst (λ z. Attaches outer start w (tables_of_expr z) (ExprAt z y) old end mid between) f a)
       sub)
 
@@ -239,3 +244,17 @@ module _ (outer : List OuterColumn) (start : ℕ) where
   distinct_seen {q} {x} {seen} {rows} {tree} {w} {n} e f is p =
       of_block e p.0 p.1 (distinct_arm outer start x w rows
       (subst (λ z. IsTree (tables z) (block_of z) outer start rows w) f is))
+
+  pub set_seen : {q a b read other : BoundBlock} {columns seen : List SetColumn}
+      {operation : SetOperation} {left right tree : DepTree} {w v n : ℕ}
+      → q ≡ block.Set a b columns operation → read ≡ a
+      → IsTree (tables read) (block_of read) outer start left w → other ≡ b
+      → IsTree (tables other) (block_of other) outer start right v → seen ≡ columns
+      → IsSetTree left w right v seen operation start tree n
+      → IsTree (tables q) (block_of q) outer start tree n
+  set_seen {q} {a} {b} {read} {other} {columns} {seen} {operation} {left} {right} {tree} {w} {v}
+      {n} e f l g r h is =
+      of_block e refl refl (set_arm outer start a b columns operation left w right v tree n
+      (subst (λ z. IsTree (tables z) (block_of z) outer start left w) f l)
+      (subst (λ z. IsTree (tables z) (block_of z) outer start right v) g r)
+      (subst (λ z. IsSetTree left w right v z operation start tree n) h is))

@@ -4,6 +4,7 @@ use Rattle.std.proofs.Common.{◌||◌, map, length, refl, sym, ap, ◌∙◌, s
 use Rattle.std.specs.Prelude.{Option, Some, slice_get}
 use Rattle.std.specs.List.{All}
 use Rattle.std.proofs.lemmas.List.{length-append, length-map}
+use Rattle.base_set_rows.specs.declared.kind.SetOperation.{SetOperation}
 use Rattle.plan_algebra.specs.declared.aggregate.Aggregate.{Aggregate}
 use Rattle.expr_scalar.specs.declared.expr.Expr.{Expr}
 use Rattle.expr_scalar.specs.declared.kind.Kind.{Kind}
@@ -12,10 +13,11 @@ use Rattle.sql_bound_query.specs.declared.query.BoundBlock.{BoundBlock}
 use Rattle.sql_bound_query.specs.declared.query.BoundBlock.TheVariants as block
 use Rattle.sql_bound_query.specs.declared.query.BoundExpr.{BoundExpr}
 use Rattle.sql_bound_query.specs.declared.query.BoundSource.{BoundSource}
+use Rattle.sql_bound_query.specs.declared.query.SetColumn.{SetColumn}
 use Rattle.sql_bound_query.specs.Typing.{EnvKinds, KindMeaning, KindsMeaning, ExprTyping, where_some}
 use Rattle.sql_bound_query.specs.Typing.{all_some, kind_of_sort}
 use Rattle.sql_bound_query.specs.Typing.{listed_kinds, kind_of_aggregate, block_kinds, from_kinds}
-use Rattle.sql_bound_query.specs.Typing.{typing_of}
+use Rattle.sql_bound_query.specs.Typing.{typing_of, common_kind, set_kinds, sort_of}
 use Rattle.sql_bound_query.proofs.TypingOpened.{kinds_Distinct}
 use Rattle.sql_bound_query.proofs.Keeps.{Found, some_of, some_is}
 use Rattle.plan_dependent_tree.specs.declared.sight.OuterColumn.{OuterColumn}
@@ -26,9 +28,9 @@ use Rattle.plan_dependent_tree.specs.Supplied.{FromIsSupplied}
 use Rattle.plan_dependent_tree.specs.Supplied.{ExprIsSupplied, ListIsSupplied}
 use Rattle.plan_dependent_tree.specs.Supplied.{AggregatesAreSupplied}
 use Rattle.plan_dependent_tree.specs.Supplied.{IsWidthOf}
-use Rattle.plan_dependent_tree.proofs.SeeksOpened.{seeks_Plain, seeks_Grouped, seeks_Distinct}
+use Rattle.plan_dependent_tree.proofs.SeeksOpened.{seeks_Plain, seeks_Grouped, seeks_Distinct, seeks_Set}
 use Rattle.plan_dependent_tree.proofs.TypedParts.{PlainTyped, plain_typed, GroupedTyped}
-use Rattle.plan_dependent_tree.proofs.TypedParts.{grouped_typed}
+use Rattle.plan_dependent_tree.proofs.TypedParts.{grouped_typed, SetTyped, set_typed}
 use Rattle.plan_dependent_tree.proofs.Within.{query_within}
 use Rattle.plan_dependent_tree.proofs.Supplies.{or_left, or_right, expr_supplied, list_supplied}
 use Rattle.plan_dependent_tree.proofs.Supplies.{aggregates_supplied, keys_within}
@@ -283,6 +285,58 @@ distinct_width {q} {x} {seen} {w} {v} is get width same = record {
       (ap (λ z. block_kinds z around) get
       ∙ sym (ap (λ (m : KindsMeaning). m around) (kinds_Distinct x))
       ∙ sym (ap (λ z. block_kinds z around) is) ∙ e);
+}
+
+-- the kinds of the columns of a set operation are as many
+length_set : (columns : List SetColumn) (ls rs ks : List Kind)
+    → set_kinds columns ls rs ≡ Some ks → length ks ≡ length columns
+length_set columns ls rs ks e =
+    length_all (map (λ (c : SetColumn). common_kind (sort_of c.left ls) (sort_of c.right rs))
+    columns) ks e
+    ∙ length-map columns (λ (c : SetColumn). common_kind (sort_of c.left ls) (sort_of c.right rs))
+
+module _ (outer : List OuterColumn) (a b : BoundBlock) (columns : List SetColumn)
+    (operation : SetOperation) {q : BoundBlock} (supplied : QueryIsSupplied q outer)
+    (is : q ≡ block.Set a b columns operation) where
+  set_parts : SetTyped a b columns supplied.around supplied.kinds
+  set_parts = set_typed a b columns operation supplied.around supplied.kinds
+      (sym (ap (λ z. block_kinds z supplied.around) is) ∙ supplied.typed)
+
+  -- what the sides read is among the columns
+  set_there : (level place : ℕ) → (seeks_of a level place || seeks_of b level place) ≡ true
+      → has outer level place ≡ true
+  set_there level place e =
+      supplied.there level place
+      (ap (λ z. seeks_of z level place) is
+      ∙ ap (λ (m : Seeks). m level place) (seeks_Set a b columns operation) ∙ e)
+
+  pub set_left_supplied : {seen : BoundBlock} → seen ≡ a → QueryIsSupplied seen outer
+  set_left_supplied {seen} get = subst (λ z. QueryIsSupplied z outer) (sym get) (record {
+    around = supplied.around;
+    kinds = set_parts.ls;
+    typed = set_parts.left;
+    there = λ level place e.
+        set_there level place (or_left (seeks_of a level place) (seeks_of b level place) e);
+  })
+
+  pub set_right_supplied : {seen : BoundBlock} → seen ≡ b → QueryIsSupplied seen outer
+  set_right_supplied {seen} get = subst (λ z. QueryIsSupplied z outer) (sym get) (record {
+    around = supplied.around;
+    kinds = set_parts.rs;
+    typed = set_parts.right;
+    there = λ level place e.
+        set_there level place (or_right (seeks_of a level place) (seeks_of b level place) e);
+  })
+
+pub set_width : (a b : BoundBlock) (operation : SetOperation) {q : BoundBlock}
+    {columns seen : List SetColumn} {w : ℕ} → q ≡ block.Set a b columns operation → seen ≡ columns
+    → w ≡ length seen → IsWidthOf (block_kinds q) w
+set_width a b operation {q} {columns} {seen} {w} is get same = record {
+  is = λ around kinds e.
+      let t : SetTyped a b columns around kinds =
+      set_typed a b columns operation around kinds
+      (sym (ap (λ z. block_kinds z around) is) ∙ e) in
+      same ∙ ap length get ∙ sym (length_set columns t.ls t.rs kinds t.both);
 }
 
 -- ---- whole queries

@@ -7,6 +7,7 @@ use Rattle.std.proofs.lemmas.Bool.Decides.{Decides-eqb}
 use Rattle.std.proofs.lemmas.List.Folds.{list_any_at}
 use Rattle.std.proofs.lemmas.Option.{slice_get_within}
 use Rattle.expr_aggregates.specs.declared.function.AggregateFunction.{AggregateFunction}
+use Rattle.expr_operators.specs.declared.operator.Comparison.{Comparison}
 use Rattle.expr_scalar.specs.declared.kind.Kind.{Kind}
 use Rattle.sql_bound_query.specs.declared.query.BoundAggregate.{BoundAggregate}
 use Rattle.sql_bound_query.specs.declared.query.BoundAggregate.TheVariants as aggregate
@@ -28,11 +29,11 @@ use Rattle.plan_dependent_tree.specs.Supplied.{SubqueryIsSupplied, InputIsSuppli
 use Rattle.plan_dependent_tree.specs.Supplied.{InputsAreSupplied, ExprIsSupplied, ListIsSupplied}
 use Rattle.plan_dependent_tree.specs.Supplied.{AggregateIsSupplied, AggregatesAreSupplied, IsSeen}
 use Rattle.plan_dependent_tree.specs.Supplied.{AreSeen}
-use Rattle.plan_dependent_tree.proofs.SeeksOpened.{seeks_Column, seeks_Exists, seeks_In, seeks_Scalar}
+use Rattle.plan_dependent_tree.proofs.SeeksOpened.{seeks_Column, seeks_Exists, seeks_Any, seeks_Scalar}
 use Rattle.plan_dependent_tree.proofs.SeeksOpened.{seeks_Of}
 use Rattle.plan_dependent_tree.proofs.SeeksOpened.{seeks_expr}
 use Rattle.plan_dependent_tree.proofs.TypedParts.{There, input_kinds, sort_inputs, exists_typed}
-use Rattle.plan_dependent_tree.proofs.TypedParts.{scalar_typed, InTyped, in_typed, of_typed}
+use Rattle.plan_dependent_tree.proofs.TypedParts.{scalar_typed, AnyTyped, any_typed, of_typed}
 use Rattle.plan_dependent_tree.proofs.Within.{query_within}
 
 pub or_left : (a b : Bool) → a ≡ true → (a || b) ≡ true
@@ -264,11 +265,11 @@ module _ (outer : List OuterColumn) (w : ℕ) where
             ∙ ap (λ (m : Seeks). m (suc level) place) (seeks_Scalar q) ∙ e);
       }
 
-  pub among_supplied : {i : Input} (x : BoundExpr) (q : BoundBlock) → InputIsSupplied i outer w
-      → i ≡ input.In x q → SubqueryIsSupplied q outer w
-  among_supplied {i} x q supplied is =
-      let t : InTyped x q (supplied.own ∷ supplied.around) =
-      in_typed x q (supplied.own ∷ supplied.around) supplied.kinds
+  pub any_supplied : {i : Input} (c : Comparison) (x : BoundExpr) (q : BoundBlock)
+      → InputIsSupplied i outer w → i ≡ input.Any c x q → SubqueryIsSupplied q outer w
+  any_supplied {i} c x q supplied is =
+      let t : AnyTyped x q (supplied.own ∷ supplied.around) =
+      any_typed c x q (supplied.own ∷ supplied.around) supplied.kinds
       (sym (ap (λ z. kind_of_input z (supplied.own ∷ supplied.around)) is) ∙ supplied.typed) in
       record {
         own = supplied.own;
@@ -279,23 +280,23 @@ module _ (outer : List OuterColumn) (w : ℕ) where
         there = λ level place e.
             supplied.there level place
             (ap (λ z. seeks_of_input z (suc level) place) is
-            ∙ ap (λ (m : Seeks). m (suc level) place) (seeks_In x q)
+            ∙ ap (λ (m : Seeks). m (suc level) place) (seeks_Any c x q)
             ∙ or_right (seeks_of_expr x (suc level) place) (seeks_of q (suc level) place) e);
       }
 
-  -- the left side of IN
-  pub left_supplied : {i : Input} {x seen : BoundExpr} (q : BoundBlock)
-      → InputIsSupplied i outer w → i ≡ input.In x q → seen ≡ x → ExprIsSupplied seen outer w
-  left_supplied {i} {x} {seen} q supplied is get =
-      let t : InTyped x q (supplied.own ∷ supplied.around) =
-      in_typed x q (supplied.own ∷ supplied.around) supplied.kinds
+  -- the left side of ANY
+  pub left_supplied : {i : Input} {c : Comparison} {x seen : BoundExpr} (q : BoundBlock)
+      → InputIsSupplied i outer w → i ≡ input.Any c x q → seen ≡ x → ExprIsSupplied seen outer w
+  left_supplied {i} {c} {x} {seen} q supplied is get =
+      let t : AnyTyped x q (supplied.own ∷ supplied.around) =
+      any_typed c x q (supplied.own ∷ supplied.around) supplied.kinds
       (sym (ap (λ z. kind_of_input z (supplied.own ∷ supplied.around)) is) ∙ supplied.typed) in
       subst (λ z. ExprIsSupplied z outer w) (sym get)
       (expr_supplied supplied.own supplied.around outer w supplied.width x t.left
       (λ level place e.
       supplied.there level place
       (ap (λ z. seeks_of_input z (suc level) place) is
-      ∙ ap (λ (m : Seeks). m (suc level) place) (seeks_In x q)
+      ∙ ap (λ (m : Seeks). m (suc level) place) (seeks_Any c x q)
       ∙ or_left (seeks_of_expr x (suc level) place) (seeks_of q (suc level) place) e)))
 
   -- the argument of an aggregate

@@ -2,9 +2,11 @@
 use Rattle.std.proofs.Common.{◌≡◌, ℕ, List, [], ◌∷◌, ◌++◌, true, ◌==◌, map, length, refl, sym, ap, ◌∙◌}
 use Rattle.std.specs.Prelude.{Option, Some, None, slice_get, if◌then◌else◌}
 use Rattle.std.proofs.lemmas.Bool.Decides.{Decides-eqb}
+use Rattle.base_set_rows.specs.declared.kind.SetOperation.{SetOperation}
 use Rattle.expr_aggregates.specs.declared.function.AggregateFunction.{AggregateFunction}
 use Rattle.expr_aggregates.specs.declared.function.AggregateFunction.TheVariants.{Count, CountDistinct}
 use Rattle.expr_aggregates.specs.declared.function.AggregateFunction.TheVariants.{Sum, Avg, Min, Max}
+use Rattle.expr_operators.specs.declared.operator.Comparison.{Comparison}
 use Rattle.expr_scalar.specs.declared.expr.Expr.{Expr}
 use Rattle.expr_scalar.specs.declared.kind.Kind.{Kind}
 use Rattle.expr_scalar.specs.declared.kind.Kind.TheVariants as kind
@@ -19,15 +21,16 @@ use Rattle.sql_bound_query.specs.declared.query.BoundSource.{BoundSource}
 use Rattle.sql_bound_query.specs.declared.query.BoundSource.TheVariants as source
 use Rattle.sql_bound_query.specs.declared.query.Input.{Input}
 use Rattle.sql_bound_query.specs.declared.query.Input.TheVariants as input
+use Rattle.sql_bound_query.specs.declared.query.SetColumn.{SetColumn}
 use Rattle.sql_bound_query.specs.Typing.{EnvKinds, KindMeaning, KindsMeaning, FromKinds, ExprTyping}
 use Rattle.sql_bound_query.specs.Typing.{where_some}
 use Rattle.sql_bound_query.specs.Typing.{where_true, all_some, kind_of_sort, sort_over, only_kind}
 use Rattle.sql_bound_query.specs.Typing.{is_condition_over, aggregate_sort, joined_kinds, listed_kinds}
 use Rattle.sql_bound_query.specs.Typing.{group_kinds, kind_of_aggregate, block_kinds, from_kinds}
-use Rattle.sql_bound_query.specs.Typing.{kind_of_input, typing_of}
-use Rattle.sql_bound_query.proofs.TypingOpened.{kind_Exists, kind_In, kind_Scalar, kind_Of}
+use Rattle.sql_bound_query.specs.Typing.{kind_of_input, typing_of, set_kinds}
+use Rattle.sql_bound_query.proofs.TypingOpened.{kind_Exists, kind_Any, kind_Scalar, kind_Of}
 use Rattle.sql_bound_query.proofs.TypingOpened.{kinds_Cross, kinds_Inner, kinds_Outer, kinds_Plain}
-use Rattle.sql_bound_query.proofs.TypingOpened.{kinds_Grouped, typing_is}
+use Rattle.sql_bound_query.proofs.TypingOpened.{kinds_Grouped, kinds_Set, typing_is}
 use Rattle.sql_bound_query.proofs.Keeps.{Found, some_of, Passed, passed, some_is}
 
 -- ---- inputs of expressions
@@ -98,17 +101,17 @@ scalar_typed q kinds k e =
     some_of (block_kinds q kinds) only_kind k t in
     record { it = f.it; is = f.is }
 
-pub record InTyped (x : BoundExpr) (q : BoundBlock) (kinds : EnvKinds) : Type 0 where
+pub record AnyTyped (x : BoundExpr) (q : BoundBlock) (kinds : EnvKinds) : Type 0 where
   pub left : There (input_kinds x.inputs kinds)
   pub right : There (block_kinds q kinds)
 
-pub in_typed : (x : BoundExpr) (q : BoundBlock) (kinds : EnvKinds) (k : Kind)
-    → kind_of_input (input.In x q) kinds ≡ Some k → InTyped x q kinds
-in_typed x q kinds k e =
+pub any_typed : (c : Comparison) (x : BoundExpr) (q : BoundBlock) (kinds : EnvKinds) (k : Kind)
+    → kind_of_input (input.Any c x q) kinds ≡ Some k → AnyTyped x q kinds
+any_typed c x q kinds k e =
     let last : Kind → Option Kind =
     λ j. where_true (comparable ((typing_of x).sort kinds) (Of j)) (kind.Number 0) in
     let t : where_some (block_kinds q kinds) (λ js. where_some (only_kind js) last) ≡ Some k =
-    sym (ap (λ (m : KindMeaning). m kinds) (kind_In x q)) ∙ e in
+    sym (ap (λ (m : KindMeaning). m kinds) (kind_Any c x q)) ∙ e in
     let f : Found (block_kinds q kinds) (λ js. where_some (only_kind js) last) k =
     some_of (block_kinds q kinds) (λ js. where_some (only_kind js) last) k t in
     let g : Found (only_kind f.it) last k = some_of (only_kind f.it) last k f.gives in
@@ -305,3 +308,25 @@ grouped_typed f c keys as' h es kinds ks e =
           (ap (λ z. (typing_of h).is_condition (z ∷ kinds)) both ∙ q.test);
       list = ap (λ z. listed_kinds (map typing_of es) (z ∷ kinds)) both ∙ q.is;
     }
+
+pub record SetTyped (a b : BoundBlock) (columns : List SetColumn) (kinds : EnvKinds)
+    (ks : List Kind) : Type 0 where
+  pub ls : List Kind
+  pub rs : List Kind
+  pub left : block_kinds a kinds ≡ Some ls
+  pub right : block_kinds b kinds ≡ Some rs
+  pub both : set_kinds columns ls rs ≡ Some ks
+
+pub set_typed : (a b : BoundBlock) (columns : List SetColumn) (operation : SetOperation)
+    (kinds : EnvKinds) (ks : List Kind)
+    → block_kinds (block.Set a b columns operation) kinds ≡ Some ks
+    → SetTyped a b columns kinds ks
+set_typed a b columns operation kinds ks e =
+    let last : List Kind → List Kind → Option (List Kind) = λ ls rs. set_kinds columns ls rs in
+    let right : Option (List Kind) = block_kinds b kinds in
+    let t : where_some (block_kinds a kinds) (λ ls. where_some right (last ls)) ≡ Some ks =
+    sym (ap (λ (m : KindsMeaning). m kinds) (kinds_Set a b columns operation)) ∙ e in
+    let f : Found (block_kinds a kinds) (λ ls. where_some right (last ls)) ks =
+    some_of (block_kinds a kinds) (λ ls. where_some right (last ls)) ks t in
+    let g : Found right (last f.it) ks = some_of right (last f.it) ks f.gives in
+    record { ls = f.it; rs = g.it; left = f.is; right = g.is; both = g.gives }

@@ -5,7 +5,9 @@ use Rattle.std.specs.Prelude.{Option, Some, slice_get, slice_index_or}
 use Rattle.std.specs.Cmp.{first_so, second_so}
 use Rattle.std.proofs.lemmas.Bool.{eqb-true}
 use Rattle.std.proofs.lemmas.Option.{slice_get_within}
+use Rattle.base_set_rows.specs.declared.kind.SetOperation.{SetOperation}
 use Rattle.expr_aggregates.specs.declared.function.AggregateFunction.{AggregateFunction}
+use Rattle.expr_operators.specs.declared.operator.Comparison.{Comparison}
 use Rattle.expr_scalar.specs.declared.expr.Expr.{Expr}
 use Rattle.expr_scalar.specs.declared.kind.Kind.{Kind}
 use Rattle.base_schema.specs.declared.table.TableName.{TableName}
@@ -18,6 +20,7 @@ use Rattle.sql_bound_query.specs.declared.query.BoundSource.{BoundSource}
 use Rattle.sql_bound_query.specs.declared.query.BoundSource.TheVariants as source
 use Rattle.sql_bound_query.specs.declared.query.Input.{Input}
 use Rattle.sql_bound_query.specs.declared.query.Input.TheVariants as input
+use Rattle.sql_bound_query.specs.declared.query.SetColumn.{SetColumn}
 use Rattle.sql_bound_query.specs.Typing.{EnvKinds, KindMeaning, KindsMeaning, FromKinds}
 use Rattle.sql_bound_query.specs.Typing.{where_some}
 use Rattle.sql_bound_query.specs.Typing.{all_some, kind_of_sort, listed_kinds, kind_of_aggregate}
@@ -27,16 +30,16 @@ use Rattle.sql_bound_query.proofs.Induction.{Withs, parts, induction}
 use Rattle.sql_bound_query.proofs.Keeps.{Found, some_of}
 use Rattle.plan_dependent_tree.specs.Seeks.{Seeks, any_seeks, seeks_of, seeks_of_source, seeks_of_input}
 use Rattle.plan_dependent_tree.specs.Seeks.{seeks_of_expr, seeks_of_aggregate}
-use Rattle.plan_dependent_tree.proofs.SeeksOpened.{seeks_Column, seeks_Exists, seeks_In, seeks_Scalar}
+use Rattle.plan_dependent_tree.proofs.SeeksOpened.{seeks_Column, seeks_Exists, seeks_Any, seeks_Scalar}
 use Rattle.plan_dependent_tree.proofs.SeeksOpened.{seeks_CountRows, seeks_Of, seeks_Table, seeks_Derived}
 use Rattle.plan_dependent_tree.proofs.SeeksOpened.{seeks_Lateral, seeks_Cross, seeks_Inner}
 use Rattle.plan_dependent_tree.proofs.SeeksOpened.{seeks_Outer, seeks_Plain}
-use Rattle.plan_dependent_tree.proofs.SeeksOpened.{seeks_Grouped, seeks_Distinct, seeks_expr}
+use Rattle.plan_dependent_tree.proofs.SeeksOpened.{seeks_Grouped, seeks_Distinct, seeks_Set, seeks_expr}
 use Rattle.plan_dependent_tree.proofs.TypedParts.{There, input_kinds, sort_inputs, exists_typed}
-use Rattle.plan_dependent_tree.proofs.TypedParts.{scalar_typed, InTyped, in_typed, of_typed, CrossTyped}
+use Rattle.plan_dependent_tree.proofs.TypedParts.{scalar_typed, AnyTyped, any_typed, of_typed, CrossTyped}
 use Rattle.plan_dependent_tree.proofs.TypedParts.{cross_typed, JoinTyped, inner_typed, OuterTyped}
 use Rattle.plan_dependent_tree.proofs.TypedParts.{outer_typed, PlainTyped, plain_typed, GroupedTyped}
-use Rattle.plan_dependent_tree.proofs.TypedParts.{grouped_typed}
+use Rattle.plan_dependent_tree.proofs.TypedParts.{grouped_typed, SetTyped, set_typed}
 
 -- what is read is there in rows of these kinds
 abbrev pub Within : EnvKinds → Seeks → Type 0
@@ -236,6 +239,13 @@ distinct_within q b kinds ks e =
     subst (Within kinds) (sym (seeks_Distinct q))
     (b kinds ks (sym (ap (λ (m : KindsMeaning). m kinds) (kinds_Distinct q)) ∙ e))
 
+set_within : (a : BoundBlock) → B a → (b : BoundBlock) → B b → (columns : List SetColumn)
+    → (operation : SetOperation) → B (block.Set a b columns operation)
+set_within a f b g columns operation kinds ks e =
+    let t : SetTyped a b columns kinds ks = set_typed a b columns operation kinds ks e in
+    subst (Within kinds) (sym (seeks_Set a b columns operation))
+    (both_within kinds (seeks_of a) (seeks_of b) (f kinds t.ls t.left) (g kinds t.rs t.right))
+
 -- ---- inputs
 
 column_within : (out at : ℕ) → I (input.Column out at)
@@ -255,10 +265,11 @@ exists_within q b kinds k e =
     let t : There (block_kinds q kinds) = exists_typed q kinds k e in
     subst (Within kinds) (sym (seeks_Exists q)) (b kinds t.it t.is)
 
-in_within : (x : BoundExpr) → E x → (q : BoundBlock) → B q → I (input.In x q)
-in_within x ex q b kinds k e =
-    let t : InTyped x q kinds = in_typed x q kinds k e in
-    subst (Within kinds) (sym (seeks_In x q))
+any_within : (c : Comparison) (x : BoundExpr) → E x → (q : BoundBlock) → B q
+    → I (input.Any c x q)
+any_within c x ex q b kinds k e =
+    let t : AnyTyped x q kinds = any_typed c x q kinds k e in
+    subst (Within kinds) (sym (seeks_Any c x q))
     (both_within kinds (seeks_of_expr x) (seeks_of q) (ex kinds t.left)
     (b kinds t.right.it t.right.is))
 
@@ -274,6 +285,7 @@ query_within = induction A B S I E (record {
   plain = plain_within;
   grouped = grouped_within;
   distinct = distinct_within;
+  set = set_within;
   table = table_within;
   derived = derived_within;
   lateral = lateral_within;
@@ -282,7 +294,7 @@ query_within = induction A B S I E (record {
   outer = outer_within;
   column = column_within;
   exists = exists_within;
-  among = in_within;
+  any = any_within;
   scalar = scalar_within;
   expr = expr_within;
 })

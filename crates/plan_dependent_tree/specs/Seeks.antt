@@ -35,7 +35,7 @@ any_seeks (part ∷ parts) level place = part level place || any_seeks parts lev
 abbrev pub input_seeks : node.Input-F Seeks Seeks Seeks Seeks Seeks → Seeks
 input_seeks (node.Column out at) level place = (out == level) && (at == place)
 input_seeks (node.Exists q) level place = q level place
-input_seeks (node.In e q) level place = e level place || q level place
+input_seeks (node.Any c e q) level place = e level place || q level place
 input_seeks (node.Scalar q) level place = q level place
 
 -- an expression: what its inputs read
@@ -70,6 +70,7 @@ block_seeks (node.Grouped from condition keys aggregates having list) level plac
     from (suc level) place || condition (suc level) place || any_seeks aggregates (suc level) place
     || having (suc level) place || any_seeks list (suc level) place
 block_seeks (node.Distinct q) level place = q level place
+block_seeks (node.Set a b columns operation) level place = a level place || b level place
 
 -- what a query reads of the rows around it, the nearest one being 0 rows out
 unfoldable pub seeks_of : BoundBlock → Seeks

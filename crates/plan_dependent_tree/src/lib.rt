@@ -5,6 +5,7 @@
 mod kept_domain;
 mod outer;
 mod parts;
+mod sets;
 mod sight;
 mod so_far;
 mod source_sight;

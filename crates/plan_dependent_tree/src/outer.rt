@@ -102,7 +102,7 @@ fn input(i: &Input, within: u32, found: &mut Items<OuterColumn>) -> Result<(), A
             block(q.get(), deeper, found)?;
             Ok(())
         }
-        Input::In(e, q) => {
+        Input::Any(_, e, q) => {
             expr(e.get(), within, found)?;
             let deeper = within.checked_add(1).ok_or(AllocError)?;
             block(q.get(), deeper, found)?;
@@ -222,6 +222,11 @@ fn block(q: &BoundBlock, within: u32, found: &mut Items<OuterColumn>) -> Result<
         }
         BoundBlock::Distinct(q) => {
             block(q.get(), within, found)?;
+            Ok(())
+        }
+        BoundBlock::Set(a, b, _, _) => {
+            block(a.get(), within, found)?;
+            block(b.get(), within, found)?;
             Ok(())
         }
     }

@@ -5,7 +5,6 @@ ghost use Rattle.expr_scalar.specs.declared.expr.Expr.TheVariants.{Column as col
 ghost use Rattle.expr_scalar.specs.declared.expr.Expr.TheVariants.{All as all_of};
 ghost use Rattle.expr_scalar.specs.declared.expr.Expr.TheVariants.{Compare as compare_of};
 ghost use Rattle.expr_scalar.specs.Rename.{IsRenamed};
-ghost use Rattle.expr_operators.specs.declared.operator.Comparison.TheVariants.{Equal as equal_of};
 ghost use Rattle.expr_conditions.specs.Ranks.{columns_from};
 ghost use Rattle.plan_algebra.specs.declared.aggregate.Aggregate.TheVariants as aggregate;
 ghost use Rattle.plan_algebra.specs.declared.tree.DepTree.TheVariants as node;
@@ -148,16 +147,21 @@ pub fn existing(alloc: Global, grown: Grown, right: Right) -> Result<Attached, A
     Ok(attached)
 }
 
-// IN: the left side equals the right side's only column, the first one after the flat row.
-pub fn contained(alloc: Global, left: Read, right: Right) -> Result<Attached, AllocError>
+// ANY: the left side compared with the right side's only column, the first one after the flat row.
+pub fn contained(
+    alloc: Global,
+    comparison: Comparison,
+    left: Read,
+    right: Right,
+) -> Result<Attached, AllocError>
     ensures { IfOk result (λ a.
         (a.grown.tree ≡ node.Mark left.grown.tree right.tree right.side
-        (compare_of equal_of left.expr (column_of left.grown.end)))
+        (compare_of comparison left.expr (column_of left.grown.end)))
         × (a.grown.end ≡ left.grown.end + 1) × (a.column ≡ left.grown.end)) }
 {
     let Read { grown, expr } = left;
     let only = Boxed::new(alloc, Expr::Column(grown.end))?;
-    let condition = Boxed::new(alloc, Expr::Compare(Comparison::Equal, expr, only))?;
+    let condition = Boxed::new(alloc, Expr::Compare(comparison, expr, only))?;
     let attached = marked(alloc, grown, right, condition)?;
     Ok(attached)
 }

@@ -24,6 +24,7 @@ use crate::parts::{
     contained, distinct, existing, grouped, grown_from, key_places, outer_places, over_places,
     projected, selected, trimmed, valued,
 };
+use crate::sets::combined;
 use crate::sight::{OuterColumn, Sight, place_of};
 use crate::so_far::so_far_places;
 use crate::source_sight::{SourceSight, lateral_columns, right_places};
@@ -35,7 +36,7 @@ use std::alloc::{AllocError, Global};
 
 /// The dependent tree of a query.
 ///
-/// EXISTS and IN become marks and scalar subqueries single values, attached to the rows of FROM one
+/// EXISTS, IN and ANY become marks and scalar subqueries single values, attached to the rows of FROM one
 /// after the other; an expression is then read from the flat row of the domain's columns, the row's
 /// own and these. A subquery's domain row has just the columns of the rows around that it reads.
 pub fn depend(alloc: Global, query: &BoundQuery) -> Result<Boxed<DepTree>, AllocError>
@@ -118,6 +119,12 @@ fn block(
         BoundBlock::Distinct(q) => {
             let rows = block(alloc, q.get(), outer, start)?;
             let rows = distinct(alloc, rows)?;
+            Ok(rows)
+        }
+        BoundBlock::Set(a, b, columns, operation) => {
+            let left = block(alloc, a.get(), outer, start)?;
+            let right = block(alloc, b.get(), outer, start)?;
+            let rows = combined(alloc, left, right, columns.as_slice(), *operation, start)?;
             Ok(rows)
         }
     }
@@ -352,10 +359,10 @@ fn attach_input(
             let attached = existing(alloc, grown, right)?;
             Ok(attached)
         }
-        Input::In(left, q) => {
+        Input::Any(comparison, left, q) => {
             let left = attach_expr(alloc, left.get(), sight, grown)?;
             let right = subquery(alloc, q, sight)?;
-            let attached = contained(alloc, left, right)?;
+            let attached = contained(alloc, *comparison, left, right)?;
             Ok(attached)
         }
         Input::Scalar(q) => {

@@ -2,6 +2,7 @@
 //! version of the tables, so a table counts as at scale factor 1: only the proportions matter.
 //! Any order of joins is right, so no clause speaks of an estimate.
 use base_schema::{ColumnKind, TableName};
+use base_set_rows::SetOperation;
 use expr_scalar::{Comparison, Expr};
 use plan_algebra::{DepTree, Side, width};
 use plan_tree_moves::side_columns;
@@ -136,6 +137,7 @@ fn source_of(tree: &DepTree, n: u32, place: u32) -> Option<Source> {
         | DepTree::Distinct(t)
         | DepTree::Mark(t, _, _, _)
         | DepTree::Single(t, _, _, _) => source_of(t.get(), n, place),
+        DepTree::Set(_, _, _) => None,
         DepTree::Project(t, es) => {
             let place = own_place(column_of(at(es.as_slice(), place as usize)?)?, n)?;
             source_of(t.get(), n, place)
@@ -361,7 +363,11 @@ pub(crate) fn rows_of(tree: &DepTree, n: u32) -> u64 {
         DepTree::Project(t, _)
         | DepTree::Distinct(t)
         | DepTree::Mark(t, _, _, _)
-        | DepTree::Single(t, _, _, _) => rows_of(t.get(), n),
+        | DepTree::Single(t, _, _, _)
+        | DepTree::Set(t, _, SetOperation::Classes(_, _)) => rows_of(t.get(), n),
+        DepTree::Set(l, r, SetOperation::Union) => {
+            rows_of(l.get(), n).saturating_add(rows_of(r.get(), n))
+        }
         DepTree::Join(l, r, side, on) => {
             let left = rows_of(l.get(), n);
             let right = rows_of(r.get(), right_domain(n, side));

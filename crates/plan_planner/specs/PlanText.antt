@@ -5,8 +5,17 @@ use Rattle.std.specs.List.{flat_map}
 use Rattle.base_schema.specs.Tables.{table_name}
 use Rattle.plan_algebra.specs.declared.node.Node.{Node}
 use Rattle.plan_algebra.specs.declared.node.Node.TheVariants.{Scan, Domain, Select, Project, Join, Outer}
-use Rattle.plan_algebra.specs.declared.node.Node.TheVariants.{Mark, Single, Group, Fill, Distinct}
+use Rattle.plan_algebra.specs.declared.node.Node.TheVariants.{Mark, Single, Group, Fill, Distinct, Set}
+use Rattle.base_set_rows.specs.declared.kind.ClassKind.TheVariants.{Intersect, Except}
+use Rattle.base_set_rows.specs.declared.kind.SetOperation.{SetOperation}
+use Rattle.base_set_rows.specs.declared.kind.SetOperation.TheVariants.{Union, Classes}
 use Rattle.plan_algebra.specs.Plans.{inputs_of, plan_scans}
+
+-- the name of a set operation, with ALL and without
+abbrev pub operation_name : SetOperation → List ℕ
+operation_name Union = codes "union"
+operation_name (Classes Intersect all) = codes "intersect"
+operation_name (Classes Except all) = codes "except"
 
 -- the name of a node's kind
 abbrev pub kind_name : Node → List ℕ
@@ -21,6 +30,7 @@ kind_name (Single i j matched c) = codes "single"
 kind_name (Group i by aggregates) = codes "group"
 kind_name (Fill i j empty) = codes "fill"
 kind_name (Distinct i) = codes "distinct"
+kind_name (Set i j operation) = operation_name operation
 
 -- whether a node is a scan
 abbrev pub is_scan : Node → Bool

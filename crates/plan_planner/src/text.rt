@@ -2,8 +2,9 @@
 ghost use Rattle.std.specs.Prelude.{◌≡◌, ◌++◌, length, IfOk, OnOk};
 ghost use Rattle.plan_algebra.specs.Plans.{plan_scans};
 ghost use Rattle.plan_planner.specs.PlanText.{kind_name, is_scan, spaced, reads_text, node_line};
-ghost use Rattle.plan_planner.specs.PlanText.{head_line, text_of_plan};
+ghost use Rattle.plan_planner.specs.PlanText.{head_line, text_of_plan, operation_name};
 
+use base_set_rows::{ClassKind, SetOperation};
 use itoa::Buffer;
 use plan_algebra::{FlatPlan, Node, NodeId};
 use std::alloc::{AllocError, Global};
@@ -61,6 +62,17 @@ fn push_head(text: &mut Vec<u8>, nodes: &[Node]) -> Result<(), AllocError>
     Ok(())
 }
 
+// The name of a set operation, with ALL and without.
+fn operation_name(operation: SetOperation) -> &'static str
+    ensures { result.now ≡ operation_name operation }
+{
+    match operation {
+        SetOperation::Union => "union",
+        SetOperation::Classes(ClassKind::Intersect, _) => "intersect",
+        SetOperation::Classes(ClassKind::Except, _) => "except",
+    }
+}
+
 // The name of a node's kind.
 fn kind_name(node: &Node) -> &'static str
     ensures { result.now ≡ kind_name node.now }
@@ -77,6 +89,7 @@ fn kind_name(node: &Node) -> &'static str
         Node::Group(_, _, _) => "group",
         Node::Fill(_, _, _) => "fill",
         Node::Distinct(_) => "distinct",
+        Node::Set(_, _, operation) => operation_name(*operation),
     }
 }
 
@@ -112,7 +125,8 @@ fn push_reads(text: &mut Vec<u8>, node: &Node) -> Result<(), AllocError>
         | Node::Outer(i, j, _, _, _)
         | Node::Mark(i, j, _, _)
         | Node::Single(i, j, _, _)
-        | Node::Fill(i, j, _) => {
+        | Node::Fill(i, j, _)
+        | Node::Set(i, j, _) => {
             push_spaced(text, *i)?;
             push_spaced(text, *j)?;
             Ok(())

@@ -2,6 +2,8 @@
 -- column.
 use Rattle.std.proofs.Common.{◌≡◌, ℕ, ◌+◌, ◌-◌, ◌<◌, ◌≤◌, List, [], ◌∷◌, ◌++◌, refl, sym, ◌∙◌, ap}
 use Rattle.std.proofs.Common.{subst, arith, zero, suc, length, take, get_or, slice_index_or, Some}
+use Rattle.std.proofs.Common.{◌==◌, false, inl, inr}
+use Rattle.std.proofs.lemmas.Bool.{cases_Bool, eqb-true}
 use Rattle.std.specs.Prelude.{min, slice_get}
 use Rattle.std.specs.List.{All}
 use Rattle.std.proofs.lemmas.List.{append-nil, length-map, take_more, take_all, get_or_append_left}
@@ -9,7 +11,7 @@ use Rattle.std.proofs.lemmas.List.{get_or-append-add}
 use Rattle.std.proofs.lemmas.List.Elements.{All-append, All-nil, All-cons, All-head, All-tail}
 use Rattle.base_row_laws.specs.Bags.{SameBag}
 use Rattle.base_row_laws.specs.Operators.{select, project, distinct}
-use Rattle.base_row_laws.proofs.Bags.{SameBag-sym, SameBag-trans}
+use Rattle.base_row_laws.proofs.Bags.{SameBag-refl, SameBag-sym, SameBag-trans}
 use Rattle.base_row_laws.proofs.Lists.{Each-all}
 use Rattle.base_row_laws.proofs.Alike.{project_alike}
 use Rattle.base_row_laws.proofs.AtHand.{select_at_hand}
@@ -31,10 +33,14 @@ use Rattle.expr_conditions.specs.Ranks.{rank_of, all_rank, all_say, says, ReadsB
 use Rattle.expr_conditions.proofs.Ranks.{all_rank-push, rank_renamed}
 use Rattle.plan_algebra.specs.declared.tree.DepTree.{DepTree}
 use Rattle.plan_algebra.specs.declared.tree.DepTree.TheVariants as t
-use Rattle.plan_algebra.specs.Trees.{tree_rows, listed}
+use Rattle.plan_algebra.specs.Trees.{tree_rows, listed, width_of, scans_of}
 use Rattle.plan_algebra.proofs.Opened.{width_Select, width_Project, width_Distinct, rows_Select}
 use Rattle.plan_algebra.proofs.Opened.{rows_Project, rows_Distinct, scans_Select, scans_Project}
-use Rattle.plan_algebra.proofs.Opened.{scans_Distinct}
+use Rattle.plan_algebra.proofs.Opened.{scans_Distinct, width_Set, rows_Set, scans_Set, rows_uneven}
+use Rattle.plan_algebra.proofs.Opened.{scans_uneven}
+use Rattle.base_set_rows.specs.declared.kind.SetOperation.{SetOperation}
+use Rattle.base_set_rows.specs.SetOperations.{set_rows}
+use Rattle.base_set_rows.proofs.Operations.{select_below_set_rows}
 use Rattle.plan_tree_moves.specs.Arranged.{SameRows}
 use Rattle.plan_tree_moves.specs.Below.{IsPlaceBelow, IsReadBelow, IsMovable, AreLowered, PutLowered}
 use Rattle.plan_tree_moves.specs.Selected.{IsSelected}
@@ -42,7 +48,7 @@ use Rattle.plan_tree_moves.specs.Sink.{Sinks}
 use Rattle.plan_tree_moves.proofs.Conditions.{all_is}
 use Rattle.plan_tree_moves.proofs.Good.{tree_is_good}
 use Rattle.plan_tree_moves.proofs.Narrowing.{at_place}
-use Rattle.plan_tree_moves.proofs.SameNodes.{alike, same_project, same_distinct}
+use Rattle.plan_tree_moves.proofs.SameNodes.{alike, same_project, same_distinct, same_set}
 use Rattle.plan_tree_moves.proofs.Scans.{same_list}
 use Rattle.plan_tree_moves.proofs.Sinking.{trans, sunk_over, split_none}
 
@@ -281,3 +287,65 @@ sunk_distinct n tree a a1 child made conditions is ia s made_is =
     (trans n (t.Select (t.Distinct a) (e.All conditions)) (t.Distinct S) (t.Distinct child)
     (distinct_law n a conditions)
     (same_distinct n S child (subst (λ y. Sinks n y conditions child) ia s))))
+
+-- Conditions on what a set operation gives are conditions on both its sides.
+set_law : (n : ℕ) (a b : DepTree) (operation : SetOperation) (conditions : List Expr)
+    → SameRows n (t.Select (t.Set a b operation) (e.All conditions))
+    (t.Set (t.Select a (e.All conditions)) (t.Select b (e.All conditions)) operation)
+set_law n a b operation conditions =
+    let all = e.All conditions in
+    let A = t.Select a all in
+    let B = t.Select b all in
+    let wide = width_Select (t.Set a b operation) all ∙ width_Set a b operation
+    ∙ sym (width_Select a all) ∙ sym (width_Set A B operation) in
+    elim (cases_Bool (width_of a == width_of b)) [
+      | inl even ↦
+          let i : width_of a ≡ width_of b = eqb-true (width_of a) (width_of b) even in
+          let j : width_of A ≡ width_of B = width_Select a all ∙ i ∙ sym (width_Select b all) in
+          record {
+            scans = same_list (scans_Select (t.Set a b operation) all ∙ scans_Set a b operation i
+                ∙ sym (scans_Set A B operation j ∙ ap (λ l. l ++ scans_of B) (scans_Select a all)
+                ∙ ap (λ l. scans_of a ++ l) (scans_Select b all)));
+            width = wide;
+            rows = λ db d k ld.
+                let P = says all d in
+                let T = tree_rows a db d in
+                let U = tree_rows b db d in
+                alike (rows_Select (t.Set a b operation) all db d
+                ∙ ap (select P) (rows_Set a b operation db d i))
+                (rows_Set A B operation db d j
+                ∙ ap (λ l. set_rows same_value operation l (tree_rows B db d))
+                (rows_Select a all db d)
+                ∙ ap (λ l. set_rows same_value operation (select P T) l) (rows_Select b all db d))
+                (select_below_set_rows same_value value_identity operation P T U
+                (tree_is_good a db d k).stands (tree_is_good b db d k).stands);
+          }
+      | inr uneven ↦
+          let f : (width_of A == width_of B) ≡ false =
+          ap (λ w. w == width_of B) (width_Select a all) ∙ ap (λ w. width_of a == w)
+          (width_Select b all) ∙ uneven in
+          record {
+            scans = same_list (scans_Select (t.Set a b operation) all
+                ∙ scans_uneven a b operation uneven
+                ∙ sym (scans_uneven A B operation f ∙ scans_Select a all));
+            width = wide;
+            rows = λ db d k ld. alike (rows_Select (t.Set a b operation) all db d
+                ∙ ap (select (says all d)) (rows_uneven a b operation db d uneven))
+                (rows_uneven A B operation db d f ∙ rows_Select a all db d)
+                (SameBag-refl (select (says all d) (tree_rows a db d)));
+          }
+    ]
+
+pub sunk_set : (n : ℕ) (tree a a1 b b1 child other made : DepTree) (operation : SetOperation)
+    (conditions same : List Expr) → tree ≡ t.Set a b operation → a1 ≡ a
+    → Sinks n a1 conditions child → b1 ≡ b → same ≡ conditions → Sinks n b1 same other
+    → made ≡ t.Set child other operation → Sinks n tree conditions made
+sunk_set n tree a a1 b b1 child other made operation conditions same is ia s ib ic u made_is =
+    let A = t.Select a (e.All conditions) in
+    let B = t.Select b (e.All conditions) in
+    subst (λ y. Sinks n y conditions made) (sym is)
+    (subst (λ y. Sinks n (t.Set a b operation) conditions y) (sym made_is)
+    (trans n (t.Select (t.Set a b operation) (e.All conditions)) (t.Set A B operation)
+    (t.Set child other operation) (set_law n a b operation conditions)
+    (same_set n A child B other operation (subst (λ y. Sinks n y conditions child) ia s)
+    (subst (λ y. Sinks n y conditions other) ib (subst (λ cs. Sinks n b1 cs other) ic u)))))

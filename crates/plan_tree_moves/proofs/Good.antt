@@ -38,7 +38,10 @@ use Rattle.plan_algebra.proofs.NoRows.{length-aggregates_of}
 use Rattle.plan_algebra.proofs.Opened.{width_Scan, width_Select, width_Project, width_Join, width_Outer}
 use Rattle.plan_algebra.proofs.Opened.{width_Mark, width_Single, width_Group, width_Distinct, rows_Scan}
 use Rattle.plan_algebra.proofs.Opened.{rows_Select, rows_Project, rows_Join, rows_Outer, rows_Mark}
-use Rattle.plan_algebra.proofs.Opened.{rows_Single, rows_Group, rows_Distinct}
+use Rattle.plan_algebra.proofs.Opened.{rows_Single, rows_Group, rows_Distinct, width_Set, rows_Set}
+use Rattle.plan_algebra.proofs.Opened.{rows_uneven}
+use Rattle.base_set_rows.specs.SetOperations.{set_rows}
+use Rattle.base_set_rows.proofs.Operations.{set_rows_each, set_rows_stand}
 
 pub length-columns_from : (k n : ℕ) → length (columns_from k n) ≡ n
 length-columns_from k zero = refl
@@ -256,6 +259,24 @@ node (f.Distinct a) = subst Goods (sym (t.rolls-Distinct a.0)) (λ db d k.
     (width_Distinct a.0) (rows_Distinct a.0 db d)
     (width-distinct same_value (width_of a.0) (tree_rows a.0 db d) g.wide)
     (distinct_stands same_value value_identity (tree_rows a.0 db d) g.stands))
+node (f.Set l r operation) = subst Goods (sym (t.rolls-Set l.0 r.0 operation)) (λ db d k.
+    let g = l.1 db d k in
+    let h = r.1 db d k in
+    let w = width_of l.0 in
+    elim (cases_Bool (width_of l.0 == width_of r.0)) [
+      | inl even ↦
+          let e : width_of l.0 ≡ width_of r.0 = eqb-true (width_of l.0) (width_of r.0) even in
+          good (t.Set l.0 r.0 operation) db d w
+          (set_rows same_value operation (tree_rows l.0 db d) (tree_rows r.0 db d))
+          (width_Set l.0 r.0 operation) (rows_Set l.0 r.0 operation db d e)
+          (set_rows_each same_value value_identity (λ v. length v ≡ w) operation
+          (tree_rows l.0 db d) (tree_rows r.0 db d) g.wide
+          (subst (λ m. Width m (tree_rows r.0 db d)) (sym e) h.wide))
+          (set_rows_stand same_value value_identity operation (tree_rows l.0 db d)
+          (tree_rows r.0 db d) g.stands h.stands)
+      | inr uneven ↦ good (t.Set l.0 r.0 operation) db d w (tree_rows l.0 db d)
+          (width_Set l.0 r.0 operation) (rows_uneven l.0 r.0 operation db d uneven) g.wide g.stands
+    ])
 
 pub tree_is_good : (a : DepTree) (db : Database) (d : List Value) → HasKinds db → Good a db d
 tree_is_good = ind-DepTree Goods (λ x y is. subst (λ z. Goods (roll-DepTree z)) is (node y))

@@ -1,6 +1,8 @@
 -- The same node over inputs of the same rows.
 use Rattle.std.proofs.Common.{◌≡◌, ℕ, ◌+◌, List, [], ◌∷◌, ◌++◌, refl, sym, ◌∙◌, ap, subst, length}
+use Rattle.std.proofs.Common.{◌==◌, false, inl, inr}
 use Rattle.std.specs.Prelude.{replicate}
+use Rattle.std.proofs.lemmas.Bool.{cases_Bool, eqb-true}
 use Rattle.std.proofs.lemmas.List.{length-map}
 use Rattle.base_row_laws.specs.Ranked.{Ranked}
 use Rattle.base_row_laws.specs.Bags.{SameBag, Each, OfBag}
@@ -36,7 +38,10 @@ use Rattle.plan_algebra.proofs.Opened.{width_Single, width_Group, width_Distinct
 use Rattle.plan_algebra.proofs.Opened.{rows_Project, rows_Join, rows_Outer, rows_Mark, rows_Single}
 use Rattle.plan_algebra.proofs.Opened.{rows_Group, rows_Distinct, scans_Select, scans_Project}
 use Rattle.plan_algebra.proofs.Opened.{scans_Join, scans_Outer, scans_Mark, scans_Single, scans_Group}
-use Rattle.plan_algebra.proofs.Opened.{scans_Distinct}
+use Rattle.plan_algebra.proofs.Opened.{scans_Distinct, width_Set, rows_Set, scans_Set, rows_uneven}
+use Rattle.plan_algebra.proofs.Opened.{scans_uneven}
+use Rattle.base_set_rows.specs.declared.kind.SetOperation.{SetOperation}
+use Rattle.base_set_rows.proofs.Operations.{set_rows_alike}
 use Rattle.plan_tree_moves.specs.Arranged.{SameRows}
 use Rattle.plan_tree_moves.proofs.Scans.{as_bags, same_list}
 
@@ -91,6 +96,44 @@ same_distinct n a b s = record {
       (distinct_alike same_value value_identity (tree_rows a db d) (tree_rows b db d)
       (s.rows db d k ld));
 }
+
+pub same_set : (n : ℕ) (l m r s : DepTree) (operation : SetOperation) → SameRows n l m
+    → SameRows n r s → SameRows n (t.Set l r operation) (t.Set m s operation)
+same_set n l m r s operation a b =
+    let wide = width_Set l r operation ∙ a.width ∙ sym (width_Set m s operation) in
+    elim (cases_Bool (width_of l == width_of r)) [
+      | inl even ↦
+          let e : width_of l ≡ width_of r = eqb-true (width_of l) (width_of r) even in
+          let f : width_of m ≡ width_of s = sym a.width ∙ e ∙ b.width in
+          record {
+            scans = as_bags (scans_Set l r operation e) (scans_Set m s operation f)
+                (SameBag-append a.scans b.scans);
+            width = wide;
+            rows = λ db d k ld. alike (rows_Set l r operation db d e) (rows_Set m s operation db d f)
+                (set_rows_alike same_value value_identity operation (tree_rows l db d)
+                (tree_rows m db d) (tree_rows r db d) (tree_rows s db d) (a.rows db d k ld)
+                (b.rows db d k ld));
+          }
+      | inr uneven ↦
+          let f : (width_of m == width_of s) ≡ false =
+          ap (λ w. w == width_of s) (sym a.width) ∙ ap (λ w. width_of l == w) (sym b.width)
+          ∙ uneven in
+          record {
+            scans = as_bags (scans_uneven l r operation uneven) (scans_uneven m s operation f)
+                a.scans;
+            width = wide;
+            rows = λ db d k ld. alike (rows_uneven l r operation db d uneven)
+                (rows_uneven m s operation db d f) (a.rows db d k ld);
+          }
+    ]
+
+pub set_made : (n : ℕ) (tree a child b other new : DepTree) (operation : SetOperation)
+    → tree ≡ t.Set a b operation → SameRows n a child → SameRows n b other
+    → new ≡ t.Set child other operation → SameRows n tree new
+set_made n tree a child b other new operation is s u made =
+    subst (λ y. SameRows n y new) (sym is)
+    (subst (λ y. SameRows n (t.Set a b operation) y) (sym made)
+    (same_set n a child b other operation s u))
 
 pub under_bag : (aggregates : List Aggregate) (d : List Value)
     → OfBag (aggregates_under aggregates d)

@@ -7,6 +7,8 @@ use Rattle.base_row_laws.specs.Operators.{mark_of, scalar_of}
 use Rattle.base_row_laws.specs.Matched.{side_matched}
 use Rattle.base_row_laws.specs.Trees.{side_width, side_domain}
 use Rattle.base_row_laws.proofs.Sides.{inner_side, outer_side, attach_side}
+use Rattle.base_set_rows.specs.declared.kind.SetOperation.{SetOperation}
+use Rattle.base_set_rows.proofs.Operations.{set_rows_answer}
 use Rattle.base_row_laws.proofs.Values.{mark_bag, scalar_bag}
 use Rattle.base_value.specs.declared.value.Value.TheVariants.{Null}
 use Rattle.base_value.specs.Value.{same_value}
@@ -17,8 +19,10 @@ use Rattle.plan_algebra.specs.declared.node.Node.{Node}
 use Rattle.plan_algebra.specs.declared.node.Node.TheVariants as node
 use Rattle.plan_algebra.specs.declared.tree.DepTree.TheOpen as t
 use Rattle.plan_algebra.specs.declared.tree.Side.{Side}
+use Rattle.plan_algebra.specs.declared.tree.Side.TheVariants.{Shared}
+use Rattle.plan_algebra.proofs.Opened.{together_is}
 use Rattle.expr_conditions.specs.Ranks.{rank_of, says}
-use Rattle.plan_algebra.specs.Trees.{TreeMeaning, tree_step, side_of, right_row, mark_under, scalar_at}
+use Rattle.plan_algebra.specs.Trees.{TreeMeaning, tree_step, side_of, right_row, mark_under, scalar_at, together, combined}
 use Rattle.plan_algebra.specs.Plans.{node_rows, plan_rows, plan_width, made_from}
 use Rattle.plan_unnesting.specs.declared.footing.Footing.{Footing}
 use Rattle.plan_unnesting.specs.Footings.{footing_width, footing_rows}
@@ -115,3 +119,19 @@ single_lowers before c new l r side f h outer rows id column s p =
     let a = s.answers db k in
     attach_side same_value value_identity Null (side_of side) (λ x us. scalar_of written value_rank column us) (λ x. scalar_bag same_value value_identity written value_rank column) n
     (footing_rows db before f.rows) (plan_rows db c outer) (plan_rows db c rows) (l.rows db) (r.rows db) a.domain a.left a.right)
+
+-- a set operation, whose right side is over the same rows as the left one
+pub set_lowers : (before c new : List Node) (l r : TreeMeaning) (operation : SetOperation) (f h : Footing) (outer rows id : ℕ) → l.width ≡ r.width
+    → LowersSides before c l r Shared f h outer rows → IsPut c new (node.Set outer rows operation) id → Lowers before new (combined operation l r) f h id
+unfolding plan_rows plan_width
+set_lowers before c new l r operation f h outer rows id even s p =
+    subst (λ m. Lowers before new m f h id) (sym (together_is operation l r even))
+    (puts before c new (l.scans ++ r.scans) s.most (together operation l r) f h id (node.Set outer rows operation) s.plan s.same p (append-nil (l.scans ++ r.scans)) (let d = s.few in omega arith)
+    s.outer_width
+    (λ db k.
+    let a = s.answers db k in
+    set_rows_answer same_value value_identity operation (footing_rows db before f.rows) (plan_rows db c outer) (plan_rows db c rows) (l.rows db) (r.rows db) a.left a.right))
+
+-- both sides are of one width
+pub set_wide : {before c : List Node} {l r : TreeMeaning} {f h : Footing} {outer rows : ℕ} → l.width ≡ r.width → LowersSides before c l r Shared f h outer rows → plan_width c outer ≡ plan_width c rows
+set_wide {f = f} even s = s.outer_width ∙ ap (λ w. footing_width f.rows + w) even ∙ sym s.rows_width

@@ -21,6 +21,7 @@ use Rattle.base_schema.specs.Kinds.{RowIsOf}
 use Rattle.base_schema.proofs.Columns.{row_held}
 use Rattle.base_schema.specs.Tables.{kinds_of}
 use Rattle.plan_algebra.specs.declared.aggregate.Aggregate.{Aggregate}
+use Rattle.base_set_rows.specs.declared.kind.SetOperation.{SetOperation}
 use Rattle.plan_algebra.specs.declared.node.Node.{Node}
 use Rattle.plan_algebra.specs.declared.node.Node.TheVariants as node
 use Rattle.plan_algebra.specs.Aggregates.{aggregates_of}
@@ -215,6 +216,18 @@ module _ (nodes : List Node) (i : ℕ) (formed : IsTrue (is_formed nodes)) (with
         ∙ (let x = length-unknown (length ks) in let y = length-unknown (length empty) in omega (arith, w, x, y)))
         (λ db k. unknown_rows (length ks) (length empty) _)
 
+    -- unknown ones, as many as the left side has
+    pub set_kinds : (right : ℕ) (operation : SetOperation) → node.Set j right operation ≡ get_or nodes i (node.Set j right operation)
+        → AreKindsOf nodes i (replicate (length ks) None ++ replicate 0 None)
+    unfolding plan_rows plan_width
+    set_kinds right operation at =
+        let n = node.Set j right operation in let h = (inputs_before nodes i n formed within at).0 in
+        let w = long_before nodes i n formed within at j ks h a in
+        gives nodes i n formed within at (replicate (length ks) None ++ replicate 0 None)
+        (length-append (replicate (length ks) None) (replicate 0 None)
+        ∙ (let x = length-unknown (length ks) in omega (arith, w, x)))
+        (λ db k. unknown_rows (length ks) 0 _)
+
     module _ (right : ℕ) (ms : ColumnKinds) (b : AreKindsOf nodes right ms) where
       pub join_kinds : (matched : List (ℕ × ℕ)) (e : Expr) → node.Join j right matched e ≡ get_or nodes i (node.Join j right matched e)
           → AreKindsOf nodes i (ks ++ drop (length matched) ms)
@@ -297,6 +310,7 @@ module _ (nodes : List Node) (i : ℕ) (kinds : List ColumnKinds) (formed : IsTr
   matched_there (node.Group j by aggregates) at = refl
   matched_there (node.Fill j k empty) at = refl
   matched_there (node.Distinct j) at = refl
+  matched_there (node.Set j k operation) at = refl
 
   -- the kinds of a node, as they are made
   pub made_kinds : (n : Node) (new : ColumnKinds) → n ≡ get_or nodes i n → AreMade kinds n new → AreKindsOf nodes i new
@@ -333,6 +347,9 @@ module _ (nodes : List Node) (i : ℕ) (kinds : List ColumnKinds) (formed : IsTr
   made_kinds (node.Distinct j) new at m =
       let h = (before_at (node.Distinct j) at).0 in
       subst (AreKindsOf nodes i) (sym m) (distinct_kinds nodes i formed within j (kinds_at kinds j) (a.each j h) at)
+  made_kinds (node.Set j k operation) new at m =
+      let h = (before_at (node.Set j k operation) at).0 in
+      subst (AreKindsOf nodes i) (sym m) (set_kinds nodes i formed within j (kinds_at kinds j) (a.each j h) k operation at)
 
 -- notes of some columns of a node
 pub origins_are : {nodes : List Node} {i : ℕ} {kinds read : List ColumnKinds} {seen : ColumnKinds} {cs : List ℕ} {notes : List Origin} → AreKindsOfFirst nodes (length nodes) kinds

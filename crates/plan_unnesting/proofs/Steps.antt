@@ -5,6 +5,7 @@ use Rattle.base_row_laws.specs.Matched.{side_matched}
 use Rattle.base_row_laws.specs.Trees.{side_width}
 use Rattle.expr_scalar.specs.declared.expr.Expr.{Expr}
 use Rattle.expr_scalar.specs.declared.expr.Expr.TheVariants.{Column}
+use Rattle.base_set_rows.specs.declared.kind.SetOperation.{SetOperation}
 use Rattle.base_schema.specs.declared.table.TableName.{TableName}
 use Rattle.plan_algebra.specs.declared.aggregate.Aggregate.{Aggregate}
 use Rattle.plan_algebra.specs.declared.node.Node.{Node}
@@ -14,9 +15,11 @@ use Rattle.plan_algebra.specs.declared.tree.DepTree.TheVariants as t
 use Rattle.plan_algebra.specs.declared.tree.DepTree.TheOpen as o
 use Rattle.plan_algebra.specs.declared.tree.Side.{Side}
 use Rattle.plan_algebra.specs.declared.tree.Side.TheVariants.{Closed, Shared, Dependent}
-use Rattle.plan_algebra.specs.Trees.{TreeMeaning, tree_step, tree_meaning, width_of, side_of}
+use Rattle.plan_algebra.specs.Trees.{TreeMeaning, tree_step, tree_meaning, width_of, side_of, combined}
+use Rattle.std.specs.Prelude.{false, ◌==◌, nat_eq}
+use Rattle.std.proofs.lemmas.Bool.{ne_eqb}
 use Rattle.plan_algebra.specs.Plans.{plan_width}
-use Rattle.plan_algebra.proofs.Opened.{meaning_Scan, meaning_Select, meaning_Project, meaning_Join, meaning_Outer, meaning_Mark, meaning_Single, meaning_Group, meaning_Distinct}
+use Rattle.plan_algebra.proofs.Opened.{meaning_Scan, meaning_Select, meaning_Project, meaning_Join, meaning_Outer, meaning_Mark, meaning_Single, meaning_Group, meaning_Distinct, meaning_Set, left_is}
 use Rattle.plan_unnesting.specs.declared.footing.Footing.{Footing}
 use Rattle.plan_unnesting.specs.declared.footing.FootingRows.TheVariants.{One}
 use Rattle.plan_unnesting.specs.declared.domain.DomainRows.{DomainRows}
@@ -24,7 +27,7 @@ use Rattle.plan_unnesting.specs.Footings.{footing_width, IsFooting, Settles}
 use Rattle.plan_unnesting.specs.Growth.{IsPut}
 use Rattle.plan_unnesting.specs.Lowerings.{Lowers, LowersRight, LowersSides, IsOwnFooting, IsGrouped, IsTotal}
 use Rattle.plan_unnesting.proofs.Arms.{select_lowers, project_lowers, distinct_lowers}
-use Rattle.plan_unnesting.proofs.Both.{sides, join_lowers, outer_lowers, mark_lowers, single_lowers}
+use Rattle.plan_unnesting.proofs.Both.{sides, join_lowers, outer_lowers, mark_lowers, single_lowers, set_lowers, set_wide}
 use Rattle.plan_unnesting.proofs.Groups.{group_lowers, total_put}
 use Rattle.plan_unnesting.proofs.Sides.{shared_right, closed_right, own_right}
 
@@ -164,3 +167,38 @@ pub own_arm : {before new : List Node} {right seen : DepTree} {side : Side} {cs 
     → read ≡ cs → seen ≡ right → IsOwnFooting before outer read first → Lowers before new (tree_meaning seen) first last id → LowersRight before new (tree_meaning right) side f f outer id
 own_arm {before = before} {new = new} {right = right} {read = read} {id = id} f outer within is c e own l =
     subst (λ s. LowersRight before new (tree_meaning right) s f f outer id) (sym (is ∙ ap (λ (l : List ℕ). Dependent l) (sym c))) (own_right f outer within own (read_as e l))
+
+-- the sides of a set operation
+set_sides : {before a c : List Node} {left right seen other : DepTree} {f g h : Footing} {outer rows : ℕ} → seen ≡ left → Lowers before a (tree_meaning seen) f g outer → other ≡ right
+    → Lowers a c (tree_meaning other) g h rows → LowersSides before c (tree_meaning left) (tree_meaning right) Shared f h outer rows
+set_sides {before = before} {a = a} {c = c} {left = left} {right = right} {f = f} {g = g} {h = h} {outer = outer} {rows = rows} e l x r =
+    sides before a c (tree_meaning left) (tree_meaning right) Shared f g h outer rows (read_as e l) (shared_right outer (read_as x r))
+
+even_sides : {left right seen other : DepTree} {v w : ℕ} → seen ≡ left → v ≡ width_of seen → other ≡ right → w ≡ width_of other → v ≡ w → (tree_meaning left).width ≡ (tree_meaning right).width
+unfolding width_of
+even_sides e v x w s = ap width_of (sym e) ∙ sym v ∙ s ∙ w ∙ ap width_of x
+
+-- of trees of one width
+pub set_put : {before a c new : List Node} {left right seen seen' other other' : DepTree} {operation : SetOperation} {f g h : Footing} {v w outer rows id : ℕ}
+    → seen ≡ left → v ≡ width_of seen → other ≡ right → w ≡ width_of other → v ≡ w → seen' ≡ left → Lowers before a (tree_meaning seen') f g outer → other' ≡ right
+    → Lowers a c (tree_meaning other') g h rows → IsPut c new (node.Set outer rows operation) id → Lowers before new (combined operation (tree_meaning left) (tree_meaning right)) f h id
+set_put {before = before} {c = c} {new = new} {left = left} {right = right} {operation = operation} {f = f} {h = h} {outer = outer} {rows = rows} {id = id} e v x w s e' l x' r p =
+    set_lowers before c new (tree_meaning left) (tree_meaning right) operation f h outer rows id (even_sides e v x w s) (set_sides e' l x' r) p
+
+-- both sides are then of one width
+pub set_even : {before a c : List Node} {left right seen seen' other other' : DepTree} {f g h : Footing} {v w outer rows : ℕ}
+    → seen ≡ left → v ≡ width_of seen → other ≡ right → w ≡ width_of other → v ≡ w → seen' ≡ left → Lowers before a (tree_meaning seen') f g outer → other' ≡ right
+    → Lowers a c (tree_meaning other') g h rows → plan_width c outer ≡ plan_width c rows
+set_even e v x w s e' l x' r = set_wide (even_sides e v x w s) (set_sides e' l x' r)
+
+-- of trees of different widths
+pub set_left : {before new : List Node} {left right seen seen' other : DepTree} {operation : SetOperation} {f g : Footing} {v w id : ℕ}
+    → seen ≡ left → v ≡ width_of seen → other ≡ right → w ≡ width_of other → (v ≡ w → ⊥) → seen' ≡ left → Lowers before new (tree_meaning seen') f g id
+    → Lowers before new (combined operation (tree_meaning left) (tree_meaning right)) f g id
+unfolding width_of
+set_left {left = left} {right = right} {operation = operation} e v x w ne e' l =
+    means (left_is operation (tree_meaning left) (tree_meaning right) (ne_eqb (width_of left) (width_of right) (λ s. ne (v ∙ ap width_of e ∙ s ∙ sym (w ∙ ap width_of x))))) (read_as e' l)
+
+pub set_arm : {before new : List Node} {tree left right : DepTree} {operation : SetOperation} {f g : Footing} {id : ℕ} → tree ≡ t.Set left right operation
+    → Lowers before new (combined operation (tree_meaning left) (tree_meaning right)) f g id → Lowers before new (tree_meaning tree) f g id
+set_arm {left = left} {right = right} {operation = operation} is l = means (ap tree_meaning is ∙ meaning_Set left right operation) l

@@ -80,6 +80,8 @@ AreMade kinds (node.Group i by aggregates) new =
 AreMade kinds (node.Fill i j empty) new =
     new ≡ replicate (length (kinds_at kinds j)) None ++ replicate (length empty) None
 AreMade kinds (node.Distinct i) new = new ≡ kinds_at kinds i
+AreMade kinds (node.Set i j operation) new =
+    new ≡ replicate (length (kinds_at kinds i)) None ++ replicate 0 None
 
 -- the kinds of a node's columns: one for each, and its rows keep them over tables of their kinds
 pub record AreKindsOf (nodes : List Node) (i : ℕ) (ks : ColumnKinds) : Type 0 where

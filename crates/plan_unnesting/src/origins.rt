@@ -163,6 +163,10 @@ fn node_kinds(
             let own = padded_kinds(alloc, kinds_at(kinds, *left), 1)?;
             Ok(own)
         }
+        Node::Set(left, _, _) => {
+            let own = unknown_kinds(alloc, kinds_at(kinds, *left).len(), 0)?;
+            Ok(own)
+        }
         Node::Fill(_, rows, empty) => {
             let own = unknown_kinds(alloc, kinds_at(kinds, *rows).len(), empty.len())?;
             Ok(own)

@@ -30,6 +30,7 @@ use crate::lists::{
 use crate::origins::{known_kinds, origins};
 use crate::own_columns::own_columns;
 use base_schema::TableName;
+use base_set_rows::SetOperation;
 use expr_scalar::Expr;
 use plan_algebra::{
     Aggregate, Builder, Node, NodeId, Side, copy_aggregates, copy_expr, values_of_none,
@@ -254,6 +255,24 @@ pub(crate) fn put_distinct(builder: &mut Builder, rows: NodeId) -> Result<NodeId
     ensures { IfOk result (IsPut builder.old.nodes builder.new.nodes (node.Distinct rows)) }
 {
     let id = builder.put(Node::Distinct(rows))?;
+    Ok(id)
+}
+
+// A set operation of two nodes.
+#[tactic(auto, using(plan_algebra::proofs::Fits::set_fits))]
+pub(crate) fn put_set(
+    builder: &mut Builder,
+    outer: NodeId,
+    rows: NodeId,
+    operation: SetOperation,
+) -> Result<NodeId, AllocError>
+    requires outer { outer < length builder.old.nodes }
+    requires rows { rows < length builder.old.nodes }
+    requires width { plan_width builder.old.nodes outer ≡ plan_width builder.old.nodes rows }
+    ensures { IfOk result
+        (IsPut builder.old.nodes builder.new.nodes (node.Set outer rows operation)) }
+{
+    let id = builder.put(Node::Set(outer, rows, operation))?;
     Ok(id)
 }
 

@@ -7,5 +7,10 @@ mod tree;
 mod words;
 
 pub use statement::{NamedKey, Query, RefreshKind, Statement, TemplateValue, WithQuery};
-pub use tree::{Arm, Block, Clause, Expr, Factor, FromItem, Item, Join, Joined, Selected, Term};
-pub use words::{Adding, Aggregate, Column, Comparison, JoinKind, Multiplying, Name, Span};
+pub use tree::{
+    Arm, Block, Clause, Expr, Factor, FromItem, Item, Join, Joined, Select, Selected, SetPart, Term,
+};
+pub use words::{
+    Adding, Aggregate, Column, Comparison, JoinKind, Multiplying, Name, Quantifier, SetOperator,
+    Span,
+};

@@ -31,7 +31,7 @@ pub struct WithQuery {
 pub struct Query {
     /// The queries of WITH from left to right; none where it is absent.
     pub with_queries: Items<WithQuery>,
-    /// The query from SELECT to HAVING.
+    /// The query without them.
     pub block: Block,
     /// The keys of ORDER BY; none where it is absent.
     pub order: Items<NamedKey>,

@@ -1,5 +1,8 @@
 //! Expressions and queries, which hold each other.
-use crate::words::{Adding, Aggregate, Column, Comparison, JoinKind, Multiplying, Name, Span};
+use crate::words::{
+    Adding, Aggregate, Column, Comparison, JoinKind, Multiplying, Name, Quantifier, SetOperator,
+    Span,
+};
 use base_decimal::Scale;
 use base_text::Text;
 use sqlite_items::{Boxed, Items};
@@ -26,6 +29,8 @@ pub enum Expr {
     Product(Boxed<Expr>, Items<Factor>),
     /// The left side and the right side.
     Compare(Comparison, Boxed<Expr>, Boxed<Expr>),
+    /// The left side, and the query with whose values it is compared, with any or with all of them.
+    CompareQuery(Comparison, Quantifier, Boxed<Expr>, Boxed<Block>),
     /// What may be null.
     IsNull(Boxed<Expr>),
     /// The value, the least and the greatest that it may be.
@@ -159,10 +164,10 @@ pub enum Clause {
     Condition(Boxed<Expr>),
 }
 
-/// A query from SELECT to HAVING, as it stands also in other queries and in views.
+/// A query from SELECT to HAVING.
 #[cycle(tree)]
 #[derive(Drop)]
-pub struct Block {
+pub struct Select {
     /// Whether DISTINCT stands after SELECT.
     pub is_distinct: bool,
     /// The select list.
@@ -175,4 +180,26 @@ pub struct Block {
     pub group: Items<Column>,
     /// HAVING.
     pub having: Clause,
+}
+
+/// A query, as it stands also in other queries and in views.
+#[cycle(tree)]
+#[derive(Drop)]
+pub enum Block {
+    /// One SELECT with its clauses.
+    Select(Select),
+    /// The first query, and at least one that a set operation joins to those before it.
+    Combined(Boxed<Block>, Items<SetPart>),
+}
+
+/// A query after its first part, with what joins it to those before it.
+#[cycle(tree)]
+#[derive(Drop)]
+pub struct SetPart {
+    /// The set operation.
+    pub operator: SetOperator,
+    /// Whether ALL stands after it.
+    pub keeps_all: bool,
+    /// The query.
+    pub query: Block,
 }

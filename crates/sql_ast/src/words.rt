@@ -30,6 +30,15 @@ pub enum Comparison {
     GreaterOrEqual,
 }
 
+/// Of which rows of a query a comparison has to be true.
+#[derive(Clone, Copy, Debug, PartialEq, Eq)]
+pub enum Quantifier {
+    /// `any` or `some`: of one row at least.
+    Any,
+    /// `all`: of each row.
+    All,
+}
+
 /// A part of a date, and the unit of an interval.
 #[derive(Clone, Copy, Debug, PartialEq, Eq)]
 pub enum Span {
@@ -72,4 +81,15 @@ pub enum JoinKind {
     Inner,
     /// `left join` or `left outer join`: also rows of the left side without a partner.
     LeftOuter,
+}
+
+/// How a query is joined to those before it.
+#[derive(Clone, Copy, Debug, PartialEq, Eq)]
+pub enum SetOperator {
+    /// `union`: the rows of both.
+    Union,
+    /// `intersect`: the rows that both have.
+    Intersect,
+    /// `except`: the rows that only those before it have.
+    Except,
 }

@@ -17,7 +17,7 @@ use Rattle.sql_binder.specs.Operands.{conditions, operands, chain, arm_condition
 use Rattle.sql_binder.specs.FromLists.{on_condition, on_joining, joins, chained, from_list}
 use Rattle.sql_binder.specs.Clauses.{condition, shown_item, shown_items, select}
 use Rattle.sql_binder.specs.Blocks.{is_grouped, from_where, over_rows, group_lists, over_groups}
-use Rattle.sql_binder.specs.Binding.{clauses_of, is_grouped_block, bound_query, bound_view}
+use Rattle.sql_binder.specs.Binding.{clauses_of, is_grouped_select, bound_query, bound_view}
 use Rattle.base_date.specs.Move.{times}
 use Rattle.sql_binder.proofs.Applied.{computed}
 use Rattle.sql_binder.specs.EdgeCases.{MovedDates, ViewOfNames, Chains, ConditionsAsValues, Groups}
@@ -33,7 +33,7 @@ unfolding input aggregate alone apart counted take_aggregates is_met ends means 
     shown_part star keys_of plain closing once_each output_place order_of conditions operands chain
     arm_conditions arm_values on_condition on_joining joins chained from_list condition shown_item
     shown_items select is_grouped from_where over_rows group_lists over_groups clauses_of
-    is_grouped_block bound_query bound_view times
+    is_grouped_select bound_query bound_view times
 moved_dates = simp computed
 
 pub view_of_names : ViewOfNames
@@ -46,7 +46,7 @@ unfolding input aggregate alone apart counted take_aggregates is_met ends means 
     shown_part star keys_of plain closing once_each output_place order_of conditions operands chain
     arm_conditions arm_values on_condition on_joining joins chained from_list condition shown_item
     shown_items select is_grouped from_where over_rows group_lists over_groups clauses_of
-    is_grouped_block bound_query bound_view times
+    is_grouped_select bound_query bound_view times
 view_of_names = simp computed
 
 pub chains : Chains
@@ -59,7 +59,7 @@ unfolding input aggregate alone apart counted take_aggregates is_met ends means 
     shown_part star keys_of plain closing once_each output_place order_of conditions operands chain
     arm_conditions arm_values on_condition on_joining joins chained from_list condition shown_item
     shown_items select is_grouped from_where over_rows group_lists over_groups clauses_of
-    is_grouped_block bound_query bound_view times
+    is_grouped_select bound_query bound_view times
 chains = (
   simp computed,
   simp computed,
@@ -80,7 +80,7 @@ unfolding input aggregate alone apart counted take_aggregates is_met ends means 
     shown_part star keys_of plain closing once_each output_place order_of conditions operands chain
     arm_conditions arm_values on_condition on_joining joins chained from_list condition shown_item
     shown_items select is_grouped from_where over_rows group_lists over_groups clauses_of
-    is_grouped_block bound_query bound_view times
+    is_grouped_select bound_query bound_view times
 conditions_as_values = (simp computed, simp computed, simp computed, simp computed)
 
 pub groups : Groups
@@ -93,7 +93,7 @@ unfolding input aggregate alone apart counted take_aggregates is_met ends means 
     shown_part star keys_of plain closing once_each output_place order_of conditions operands chain
     arm_conditions arm_values on_condition on_joining joins chained from_list condition shown_item
     shown_items select is_grouped from_where over_rows group_lists over_groups clauses_of
-    is_grouped_block bound_query bound_view times
+    is_grouped_select bound_query bound_view times
 groups = (simp computed, simp computed, simp computed, simp computed, simp computed)
 
 pub sights_of_parts : SightsOfParts
@@ -106,7 +106,7 @@ unfolding input aggregate alone apart counted take_aggregates is_met ends means 
     shown_part star keys_of plain closing once_each output_place order_of conditions operands chain
     arm_conditions arm_values on_condition on_joining joins chained from_list condition shown_item
     shown_items select is_grouped from_where over_rows group_lists over_groups clauses_of
-    is_grouped_block bound_query bound_view times
+    is_grouped_select bound_query bound_view times
 sights_of_parts = (simp computed, simp computed, simp computed, simp computed, simp computed)
 
 pub order_in_from : OrderInFrom
@@ -119,7 +119,7 @@ unfolding input aggregate alone apart counted take_aggregates is_met ends means 
     shown_part star keys_of plain closing once_each output_place order_of conditions operands chain
     arm_conditions arm_values on_condition on_joining joins chained from_list condition shown_item
     shown_items select is_grouped from_where over_rows group_lists over_groups clauses_of
-    is_grouped_block bound_query bound_view times
+    is_grouped_select bound_query bound_view times
 order_in_from = (simp computed, simp computed, simp computed, simp computed)
 
 pub order_in_views : OrderInViews
@@ -132,5 +132,5 @@ unfolding input aggregate alone apart counted take_aggregates is_met ends means 
     shown_part star keys_of plain closing once_each output_place order_of conditions operands chain
     arm_conditions arm_values on_condition on_joining joins chained from_list condition shown_item
     shown_items select is_grouped from_where over_rows group_lists over_groups clauses_of
-    is_grouped_block bound_query bound_view times
+    is_grouped_select bound_query bound_view times
 order_in_views = (refl, simp computed, simp computed)

@@ -16,7 +16,7 @@ use Rattle.sql_binder.specs.Operands.{conditions, operands, chain, arm_condition
 use Rattle.sql_binder.specs.FromLists.{on_condition, on_joining, joins, chained, from_list}
 use Rattle.sql_binder.specs.Clauses.{condition, shown_item, shown_items, select}
 use Rattle.sql_binder.specs.Blocks.{is_grouped, from_where, over_rows, group_lists, over_groups}
-use Rattle.sql_binder.specs.Binding.{clauses_of, is_grouped_block, bound_query, bound_view}
+use Rattle.sql_binder.specs.Binding.{clauses_of, is_grouped_select, bound_query, bound_view}
 use Rattle.sql_binder.specs.LateralCases.{BoundLaterals, RefusedLaterals}
 use Rattle.sql_binder.proofs.Applied.{computed}
 
@@ -30,7 +30,7 @@ unfolding input aggregate alone apart counted take_aggregates is_met ends means 
     shown_part star keys_of plain closing once_each output_place order_of conditions operands chain
     arm_conditions arm_values on_condition on_joining joins chained from_list condition shown_item
     shown_items select is_grouped from_where over_rows group_lists over_groups clauses_of
-    is_grouped_block bound_query bound_view
+    is_grouped_select bound_query bound_view
 bound_laterals = (simp computed, simp computed, simp computed, simp computed)
 
 pub refused_laterals : RefusedLaterals
@@ -43,7 +43,7 @@ unfolding input aggregate alone apart counted take_aggregates is_met ends means 
     shown_part star keys_of plain closing once_each output_place order_of conditions operands chain
     arm_conditions arm_values on_condition on_joining joins chained from_list condition shown_item
     shown_items select is_grouped from_where over_rows group_lists over_groups clauses_of
-    is_grouped_block bound_query bound_view
+    is_grouped_select bound_query bound_view
 refused_laterals = (
   simp computed,
   simp computed,

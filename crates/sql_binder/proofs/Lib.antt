@@ -8,4 +8,5 @@ pub mod ExampleProofs
 pub mod EdgeProofs
 pub mod WithProofs
 pub mod LateralProofs
+pub mod SetProofs
 pub mod ByHand

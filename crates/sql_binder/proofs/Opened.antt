@@ -3,20 +3,22 @@ use Rattle.std.proofs.Common.{◌≡◌, ℕ, ℤ, List, map, ap, ◌∙◌, len
 use Rattle.std.specs.Prelude.{Option}
 use Rattle.sql_ast.specs.declared.tree.Arm.{Arm, out-Arm}
 use Rattle.sql_ast.specs.declared.tree.Block.{Block, out-Block}
+use Rattle.sql_ast.specs.declared.tree.Block.TheVariants as block
 use Rattle.sql_ast.specs.declared.tree.Clause.{Clause, out-Clause}
 use Rattle.sql_ast.specs.declared.tree.Clause.TheVariants as clause
-use Rattle.sql_ast.specs.declared.tree.Clause.TheOpen.{Expr-F, Term-F, Factor-F, Arm-F, Item-F}
-use Rattle.sql_ast.specs.declared.tree.Clause.TheOpen.{Selected-F, FromItem-F, Join-F, Joined-F}
-use Rattle.sql_ast.specs.declared.tree.Clause.TheOpen.{Clause-F, Block-F}
-use Rattle.sql_ast.specs.declared.tree.Clause.TheFolds.{fold_out-Clause, fold_out-Expr}
-use Rattle.sql_ast.specs.declared.tree.Clause.TheFolds.{fold_out-FromItem, fold_out-Selected}
-use Rattle.sql_ast.specs.declared.tree.Clause.TheFolds.{fold_out-Arm, fold_out-Block}
-use Rattle.sql_ast.specs.declared.tree.Clause.TheFolds.{fold_out-Factor, fold_out-Item}
-use Rattle.sql_ast.specs.declared.tree.Clause.TheFolds.{fold_out-Join, fold_out-Joined}
-use Rattle.sql_ast.specs.declared.tree.Clause.TheFolds.{fold_out-Term, map-Clause, map-Expr}
-use Rattle.sql_ast.specs.declared.tree.Clause.TheFolds.{map-FromItem, map-Selected, map-Arm}
-use Rattle.sql_ast.specs.declared.tree.Clause.TheFolds.{map-Block, map-Factor, map-Item, map-Join}
-use Rattle.sql_ast.specs.declared.tree.Clause.TheFolds.{map-Joined, map-Term}
+use Rattle.sql_ast.specs.declared.tree.Block.TheOpen.{Expr-F, Term-F, Factor-F, Arm-F, Item-F}
+use Rattle.sql_ast.specs.declared.tree.Block.TheOpen.{Selected-F, FromItem-F, Join-F, Joined-F}
+use Rattle.sql_ast.specs.declared.tree.Block.TheOpen.{Clause-F, Block-F, Select-F, SetPart-F}
+use Rattle.sql_ast.specs.declared.tree.Block.TheFolds.{fold_out-Clause, fold_out-Expr}
+use Rattle.sql_ast.specs.declared.tree.Block.TheFolds.{fold_out-FromItem, fold_out-Selected}
+use Rattle.sql_ast.specs.declared.tree.Block.TheFolds.{fold_out-Arm, fold_out-Block}
+use Rattle.sql_ast.specs.declared.tree.Block.TheFolds.{fold_out-Factor, fold_out-Item}
+use Rattle.sql_ast.specs.declared.tree.Block.TheFolds.{fold_out-Join, fold_out-Joined}
+use Rattle.sql_ast.specs.declared.tree.Block.TheFolds.{fold_out-Term, map-Clause, map-Expr}
+use Rattle.sql_ast.specs.declared.tree.Block.TheFolds.{map-FromItem, map-Selected, map-Arm}
+use Rattle.sql_ast.specs.declared.tree.Block.TheFolds.{map-Block, map-Factor, map-Item, map-Join}
+use Rattle.sql_ast.specs.declared.tree.Block.TheFolds.{map-Joined, map-Term, map-Select, map-SetPart}
+use Rattle.sql_ast.specs.declared.tree.Block.TheFolds.{fold_out-Select, fold_out-SetPart}
 use Rattle.sql_ast.specs.declared.tree.Expr.{Expr, out-Expr}
 use Rattle.sql_ast.specs.declared.tree.Expr.TheVariants as expr
 use Rattle.sql_ast.specs.declared.tree.Factor.{Factor, out-Factor}
@@ -25,216 +27,283 @@ use Rattle.sql_ast.specs.declared.tree.FromItem.TheVariants as from_item
 use Rattle.sql_ast.specs.declared.tree.Item.{Item, out-Item}
 use Rattle.sql_ast.specs.declared.tree.Join.{Join, out-Join}
 use Rattle.sql_ast.specs.declared.tree.Joined.{Joined, out-Joined}
+use Rattle.sql_ast.specs.declared.tree.Select.{Select, out-Select}
 use Rattle.sql_ast.specs.declared.tree.Selected.{Selected, out-Selected}
 use Rattle.sql_ast.specs.declared.tree.Selected.TheVariants as selected
+use Rattle.sql_ast.specs.declared.tree.SetPart.{SetPart, out-SetPart}
 use Rattle.sql_ast.specs.declared.tree.Term.{Term, out-Term}
 use Rattle.sql_ast.specs.declared.words.Aggregate.{Aggregate}
 use Rattle.sql_ast.specs.declared.words.Column.{Column}
 use Rattle.sql_ast.specs.declared.words.Comparison.{Comparison}
+use Rattle.sql_ast.specs.declared.words.Quantifier.{Quantifier}
 use Rattle.sql_ast.specs.declared.words.Span.{Span}
+use Rattle.sql_binder_steps.specs.declared.collected.BoundTable.{BoundTable}
 use Rattle.sql_binder_steps.specs.declared.collected.FromRows.{FromRows}
-use Rattle.sql_binder_steps.specs.Steps.{Name, apart, pure, ◌>>=◌}
+use Rattle.sql_binder_steps.specs.Steps.{Name, apart, pure, lift, ◌>>=◌}
 use Rattle.sql_binder_steps.specs.Names.{Sight}
 use Rattle.sql_binder_steps.specs.Parts.{columns_so_far, first_rows, joining, once_each}
+use Rattle.sql_binder_steps.specs.Sets.{set_table}
 use Rattle.sql_binder.specs.Meanings.{Meaning, ChainMeaning, ArmMeaning, ItemMeaning}
 use Rattle.sql_binder.specs.Meanings.{SelectedMeaning, ClauseMeaning, FromItemMeaning, JoinMeaning}
-use Rattle.sql_binder.specs.Meanings.{JoinedMeaning, BlockMeaning}
+use Rattle.sql_binder.specs.Meanings.{JoinedMeaning, BlockMeaning, SetPartMeaning}
 use Rattle.sql_binder.specs.Clauses.{clause_step, selected_step, item_step}
 use Rattle.sql_binder.specs.Expressions.{expr_step, arm_step, factor_step, term_step}
 use Rattle.sql_binder.specs.FromLists.{from_item_step, join_step, joined_step, on_joining, chained}
-use Rattle.sql_binder.specs.Blocks.{block_step}
+use Rattle.sql_binder.specs.Blocks.{block_step, select_step, set_part_step, combined}
 use Rattle.sql_binder.specs.Binding.{clause_meaning, meaning, from_item_meaning, selected_meaning}
 use Rattle.sql_binder.specs.Binding.{arm_meaning, block_meaning, factor_meaning, item_meaning}
-use Rattle.sql_binder.specs.Binding.{join_meaning, joined_meaning, term_meaning}
+use Rattle.sql_binder.specs.Binding.{join_meaning, joined_meaning, term_meaning, select_meaning, set_part_meaning}
 use Rattle.sql_binder.specs.Binding.{clauses_of}
 
-unfoldable pub clause_meaning_at : Clause-F Clause Expr FromItem Selected Arm Block Factor Item Join
-    Joined Term → ClauseMeaning
+unfoldable pub clause_meaning_at : Clause-F Block Clause Expr FromItem Selected Arm Factor Item Join
+    Joined Select SetPart Term → ClauseMeaning
 clause_meaning_at x = clause_step
-    (map-Clause Clause Expr FromItem Selected Arm Block Factor Item Join Joined Term ClauseMeaning
-    Meaning FromItemMeaning SelectedMeaning ArmMeaning BlockMeaning ChainMeaning ItemMeaning
-    JoinMeaning JoinedMeaning ChainMeaning clause_meaning meaning from_item_meaning selected_meaning
-    arm_meaning block_meaning factor_meaning item_meaning join_meaning joined_meaning term_meaning
+    (map-Clause Block Clause Expr FromItem Selected Arm Factor Item Join Joined Select SetPart Term
+    BlockMeaning ClauseMeaning Meaning FromItemMeaning SelectedMeaning ArmMeaning ChainMeaning
+    ItemMeaning JoinMeaning JoinedMeaning BlockMeaning SetPartMeaning ChainMeaning block_meaning
+    clause_meaning meaning from_item_meaning selected_meaning arm_meaning factor_meaning
+    item_meaning join_meaning joined_meaning select_meaning set_part_meaning term_meaning
     x)
 
 pub clause_meaning_is : (x : Clause) → clause_meaning x ≡ clause_meaning_at (out-Clause x)
-unfolding clause_meaning meaning from_item_meaning selected_meaning arm_meaning block_meaning
-    factor_meaning item_meaning join_meaning joined_meaning term_meaning clause_meaning_at
-clause_meaning_is = fold_out-Clause ClauseMeaning Meaning FromItemMeaning SelectedMeaning ArmMeaning
-    BlockMeaning ChainMeaning ItemMeaning JoinMeaning JoinedMeaning ChainMeaning clause_step
-    expr_step from_item_step selected_step arm_step block_step factor_step item_step join_step
-    joined_step term_step
+unfolding block_meaning clause_meaning meaning from_item_meaning selected_meaning arm_meaning
+    factor_meaning item_meaning join_meaning joined_meaning select_meaning set_part_meaning
+    term_meaning clause_meaning_at
+clause_meaning_is = fold_out-Clause BlockMeaning ClauseMeaning Meaning FromItemMeaning
+    SelectedMeaning ArmMeaning ChainMeaning ItemMeaning JoinMeaning JoinedMeaning BlockMeaning
+    SetPartMeaning ChainMeaning block_step clause_step expr_step from_item_step selected_step
+    arm_step factor_step item_step join_step joined_step select_step set_part_step term_step
 
-unfoldable pub meaning_at : Expr-F Clause Expr FromItem Selected Arm Block Factor Item Join Joined
-    Term → Meaning
+unfoldable pub meaning_at : Expr-F Block Clause Expr FromItem Selected Arm Factor Item Join Joined
+    Select SetPart Term → Meaning
 meaning_at x = expr_step
-    (map-Expr Clause Expr FromItem Selected Arm Block Factor Item Join Joined Term ClauseMeaning
-    Meaning FromItemMeaning SelectedMeaning ArmMeaning BlockMeaning ChainMeaning ItemMeaning
-    JoinMeaning JoinedMeaning ChainMeaning clause_meaning meaning from_item_meaning selected_meaning
-    arm_meaning block_meaning factor_meaning item_meaning join_meaning joined_meaning term_meaning
+    (map-Expr Block Clause Expr FromItem Selected Arm Factor Item Join Joined Select SetPart Term
+    BlockMeaning ClauseMeaning Meaning FromItemMeaning SelectedMeaning ArmMeaning ChainMeaning
+    ItemMeaning JoinMeaning JoinedMeaning BlockMeaning SetPartMeaning ChainMeaning block_meaning
+    clause_meaning meaning from_item_meaning selected_meaning arm_meaning factor_meaning
+    item_meaning join_meaning joined_meaning select_meaning set_part_meaning term_meaning
     x)
 
 pub meaning_is : (x : Expr) → meaning x ≡ meaning_at (out-Expr x)
-unfolding clause_meaning meaning from_item_meaning selected_meaning arm_meaning block_meaning
-    factor_meaning item_meaning join_meaning joined_meaning term_meaning meaning_at
-meaning_is = fold_out-Expr ClauseMeaning Meaning FromItemMeaning SelectedMeaning ArmMeaning
-    BlockMeaning ChainMeaning ItemMeaning JoinMeaning JoinedMeaning ChainMeaning clause_step
-    expr_step from_item_step selected_step arm_step block_step factor_step item_step join_step
-    joined_step term_step
+unfolding block_meaning clause_meaning meaning from_item_meaning selected_meaning arm_meaning
+    factor_meaning item_meaning join_meaning joined_meaning select_meaning set_part_meaning
+    term_meaning meaning_at
+meaning_is = fold_out-Expr BlockMeaning ClauseMeaning Meaning FromItemMeaning SelectedMeaning
+    ArmMeaning ChainMeaning ItemMeaning JoinMeaning JoinedMeaning BlockMeaning SetPartMeaning
+    ChainMeaning block_step clause_step expr_step from_item_step selected_step arm_step factor_step
+    item_step join_step joined_step select_step set_part_step term_step
 
-unfoldable pub from_item_meaning_at : FromItem-F Clause Expr FromItem Selected Arm Block Factor Item
-    Join Joined Term → FromItemMeaning
+unfoldable pub from_item_meaning_at : FromItem-F Block Clause Expr FromItem Selected Arm Factor Item
+    Join Joined Select SetPart Term → FromItemMeaning
 from_item_meaning_at x =
-    from_item_step (map-FromItem Clause Expr FromItem Selected Arm Block Factor Item Join Joined
-    Term ClauseMeaning Meaning FromItemMeaning SelectedMeaning ArmMeaning BlockMeaning ChainMeaning
-    ItemMeaning JoinMeaning JoinedMeaning ChainMeaning clause_meaning meaning from_item_meaning
-    selected_meaning arm_meaning block_meaning factor_meaning item_meaning join_meaning
-    joined_meaning term_meaning x)
+    from_item_step (map-FromItem Block Clause Expr FromItem Selected Arm Factor Item Join Joined
+    Select SetPart Term BlockMeaning ClauseMeaning Meaning FromItemMeaning SelectedMeaning
+    ArmMeaning ChainMeaning ItemMeaning JoinMeaning JoinedMeaning BlockMeaning SetPartMeaning
+    ChainMeaning block_meaning clause_meaning meaning from_item_meaning selected_meaning arm_meaning
+    factor_meaning item_meaning join_meaning joined_meaning select_meaning set_part_meaning
+    term_meaning x)
 
 pub from_item_meaning_is : (x : FromItem)
     → from_item_meaning x ≡ from_item_meaning_at (out-FromItem x)
-unfolding clause_meaning meaning from_item_meaning selected_meaning arm_meaning block_meaning
-    factor_meaning item_meaning join_meaning joined_meaning term_meaning from_item_meaning_at
-from_item_meaning_is = fold_out-FromItem ClauseMeaning Meaning FromItemMeaning SelectedMeaning
-    ArmMeaning BlockMeaning ChainMeaning ItemMeaning JoinMeaning JoinedMeaning ChainMeaning
-    clause_step expr_step from_item_step selected_step arm_step block_step factor_step item_step
-    join_step joined_step term_step
+unfolding block_meaning clause_meaning meaning from_item_meaning selected_meaning arm_meaning
+    factor_meaning item_meaning join_meaning joined_meaning select_meaning set_part_meaning
+    term_meaning from_item_meaning_at
+from_item_meaning_is = fold_out-FromItem BlockMeaning ClauseMeaning Meaning FromItemMeaning
+    SelectedMeaning ArmMeaning ChainMeaning ItemMeaning JoinMeaning JoinedMeaning BlockMeaning
+    SetPartMeaning ChainMeaning
+    block_step clause_step expr_step from_item_step selected_step arm_step factor_step item_step
+    join_step joined_step select_step set_part_step term_step
 
-unfoldable pub selected_meaning_at : Selected-F Clause Expr FromItem Selected Arm Block Factor Item
-    Join Joined Term → SelectedMeaning
+unfoldable pub selected_meaning_at : Selected-F Block Clause Expr FromItem Selected Arm Factor Item
+    Join Joined Select SetPart Term → SelectedMeaning
 selected_meaning_at x = selected_step
-    (map-Selected Clause Expr FromItem Selected Arm Block Factor Item Join Joined Term ClauseMeaning
-    Meaning FromItemMeaning SelectedMeaning ArmMeaning BlockMeaning ChainMeaning ItemMeaning
-    JoinMeaning JoinedMeaning ChainMeaning clause_meaning meaning from_item_meaning selected_meaning
-    arm_meaning block_meaning factor_meaning item_meaning join_meaning joined_meaning term_meaning
+    (map-Selected Block Clause Expr FromItem Selected Arm Factor Item Join Joined Select SetPart
+    Term BlockMeaning ClauseMeaning Meaning FromItemMeaning SelectedMeaning ArmMeaning ChainMeaning
+    ItemMeaning JoinMeaning JoinedMeaning BlockMeaning SetPartMeaning ChainMeaning block_meaning
+    clause_meaning meaning from_item_meaning selected_meaning arm_meaning factor_meaning
+    item_meaning join_meaning joined_meaning select_meaning set_part_meaning term_meaning
     x)
 
 pub selected_meaning_is : (x : Selected) → selected_meaning x ≡ selected_meaning_at (out-Selected x)
-unfolding clause_meaning meaning from_item_meaning selected_meaning arm_meaning block_meaning
-    factor_meaning item_meaning join_meaning joined_meaning term_meaning selected_meaning_at
-selected_meaning_is = fold_out-Selected ClauseMeaning Meaning FromItemMeaning SelectedMeaning
-    ArmMeaning BlockMeaning ChainMeaning ItemMeaning JoinMeaning JoinedMeaning ChainMeaning
-    clause_step expr_step from_item_step selected_step arm_step block_step factor_step item_step
-    join_step joined_step term_step
+unfolding block_meaning clause_meaning meaning from_item_meaning selected_meaning arm_meaning
+    factor_meaning item_meaning join_meaning joined_meaning select_meaning set_part_meaning
+    term_meaning selected_meaning_at
+selected_meaning_is = fold_out-Selected BlockMeaning ClauseMeaning Meaning FromItemMeaning
+    SelectedMeaning ArmMeaning ChainMeaning ItemMeaning JoinMeaning JoinedMeaning BlockMeaning
+    SetPartMeaning ChainMeaning
+    block_step clause_step expr_step from_item_step selected_step arm_step factor_step item_step
+    join_step joined_step select_step set_part_step term_step
 
-unfoldable pub arm_meaning_at : Arm-F Clause Expr FromItem Selected Arm Block Factor Item Join
-    Joined Term → ArmMeaning
+unfoldable pub arm_meaning_at : Arm-F Block Clause Expr FromItem Selected Arm Factor Item Join
+    Joined Select SetPart Term → ArmMeaning
 arm_meaning_at x = arm_step
-    (map-Arm Clause Expr FromItem Selected Arm Block Factor Item Join Joined Term ClauseMeaning
-    Meaning FromItemMeaning SelectedMeaning ArmMeaning BlockMeaning ChainMeaning ItemMeaning
-    JoinMeaning JoinedMeaning ChainMeaning clause_meaning meaning from_item_meaning selected_meaning
-    arm_meaning block_meaning factor_meaning item_meaning join_meaning joined_meaning term_meaning
+    (map-Arm Block Clause Expr FromItem Selected Arm Factor Item Join Joined Select SetPart Term
+    BlockMeaning ClauseMeaning Meaning FromItemMeaning SelectedMeaning ArmMeaning ChainMeaning
+    ItemMeaning JoinMeaning JoinedMeaning BlockMeaning SetPartMeaning ChainMeaning block_meaning
+    clause_meaning meaning from_item_meaning selected_meaning arm_meaning factor_meaning
+    item_meaning join_meaning joined_meaning select_meaning set_part_meaning term_meaning
     x)
 
 pub arm_meaning_is : (x : Arm) → arm_meaning x ≡ arm_meaning_at (out-Arm x)
-unfolding clause_meaning meaning from_item_meaning selected_meaning arm_meaning block_meaning
-    factor_meaning item_meaning join_meaning joined_meaning term_meaning arm_meaning_at
-arm_meaning_is = fold_out-Arm ClauseMeaning Meaning FromItemMeaning SelectedMeaning ArmMeaning
-    BlockMeaning ChainMeaning ItemMeaning JoinMeaning JoinedMeaning ChainMeaning clause_step
-    expr_step from_item_step selected_step arm_step block_step factor_step item_step join_step
-    joined_step term_step
+unfolding block_meaning clause_meaning meaning from_item_meaning selected_meaning arm_meaning
+    factor_meaning item_meaning join_meaning joined_meaning select_meaning set_part_meaning
+    term_meaning arm_meaning_at
+arm_meaning_is = fold_out-Arm BlockMeaning ClauseMeaning Meaning FromItemMeaning SelectedMeaning
+    ArmMeaning ChainMeaning ItemMeaning JoinMeaning JoinedMeaning BlockMeaning SetPartMeaning
+    ChainMeaning block_step clause_step expr_step from_item_step selected_step arm_step factor_step
+    item_step join_step joined_step select_step set_part_step term_step
 
-unfoldable pub block_meaning_at : Block-F Clause Expr FromItem Selected Arm Block Factor Item Join
-    Joined Term → BlockMeaning
+unfoldable pub block_meaning_at : Block-F Block Clause Expr FromItem Selected Arm Factor Item Join
+    Joined Select SetPart Term → BlockMeaning
 block_meaning_at x = block_step
-    (map-Block Clause Expr FromItem Selected Arm Block Factor Item Join Joined Term ClauseMeaning
-    Meaning FromItemMeaning SelectedMeaning ArmMeaning BlockMeaning ChainMeaning ItemMeaning
-    JoinMeaning JoinedMeaning ChainMeaning clause_meaning meaning from_item_meaning selected_meaning
-    arm_meaning block_meaning factor_meaning item_meaning join_meaning joined_meaning term_meaning
+    (map-Block Block Clause Expr FromItem Selected Arm Factor Item Join Joined Select SetPart Term
+    BlockMeaning ClauseMeaning Meaning FromItemMeaning SelectedMeaning ArmMeaning ChainMeaning
+    ItemMeaning JoinMeaning JoinedMeaning BlockMeaning SetPartMeaning ChainMeaning block_meaning
+    clause_meaning meaning from_item_meaning selected_meaning arm_meaning factor_meaning
+    item_meaning join_meaning joined_meaning select_meaning set_part_meaning term_meaning
     x)
 
 pub block_meaning_is : (x : Block) → block_meaning x ≡ block_meaning_at (out-Block x)
-unfolding clause_meaning meaning from_item_meaning selected_meaning arm_meaning block_meaning
-    factor_meaning item_meaning join_meaning joined_meaning term_meaning block_meaning_at
-block_meaning_is = fold_out-Block ClauseMeaning Meaning FromItemMeaning SelectedMeaning ArmMeaning
-    BlockMeaning ChainMeaning ItemMeaning JoinMeaning JoinedMeaning ChainMeaning clause_step
-    expr_step from_item_step selected_step arm_step block_step factor_step item_step join_step
-    joined_step term_step
+unfolding block_meaning clause_meaning meaning from_item_meaning selected_meaning arm_meaning
+    factor_meaning item_meaning join_meaning joined_meaning select_meaning set_part_meaning
+    term_meaning block_meaning_at
+block_meaning_is = fold_out-Block BlockMeaning ClauseMeaning Meaning FromItemMeaning SelectedMeaning
+    ArmMeaning ChainMeaning ItemMeaning JoinMeaning JoinedMeaning BlockMeaning SetPartMeaning
+    ChainMeaning block_step clause_step expr_step from_item_step selected_step arm_step factor_step
+    item_step join_step joined_step select_step set_part_step term_step
 
-unfoldable pub factor_meaning_at : Factor-F Clause Expr FromItem Selected Arm Block Factor Item Join
-    Joined Term → ChainMeaning
+unfoldable pub select_meaning_at : Select-F Block Clause Expr FromItem Selected Arm Factor Item Join
+    Joined Select SetPart Term → BlockMeaning
+select_meaning_at x = select_step
+    (map-Select Block Clause Expr FromItem Selected Arm Factor Item Join Joined Select SetPart Term
+    BlockMeaning ClauseMeaning Meaning FromItemMeaning SelectedMeaning ArmMeaning ChainMeaning
+    ItemMeaning JoinMeaning JoinedMeaning BlockMeaning SetPartMeaning ChainMeaning block_meaning
+    clause_meaning meaning from_item_meaning selected_meaning arm_meaning factor_meaning
+    item_meaning join_meaning joined_meaning select_meaning set_part_meaning term_meaning
+    x)
+
+pub select_meaning_is : (x : Select) → select_meaning x ≡ select_meaning_at (out-Select x)
+unfolding block_meaning clause_meaning meaning from_item_meaning selected_meaning arm_meaning
+    factor_meaning item_meaning join_meaning joined_meaning select_meaning set_part_meaning
+    term_meaning select_meaning_at
+select_meaning_is = fold_out-Select BlockMeaning ClauseMeaning Meaning FromItemMeaning SelectedMeaning
+    ArmMeaning ChainMeaning ItemMeaning JoinMeaning JoinedMeaning BlockMeaning SetPartMeaning
+    ChainMeaning block_step clause_step expr_step from_item_step selected_step arm_step factor_step
+    item_step join_step joined_step select_step set_part_step term_step
+
+unfoldable pub set_part_meaning_at : SetPart-F Block Clause Expr FromItem Selected Arm Factor Item Join
+    Joined Select SetPart Term → SetPartMeaning
+set_part_meaning_at x = set_part_step
+    (map-SetPart Block Clause Expr FromItem Selected Arm Factor Item Join Joined Select SetPart Term
+    BlockMeaning ClauseMeaning Meaning FromItemMeaning SelectedMeaning ArmMeaning ChainMeaning
+    ItemMeaning JoinMeaning JoinedMeaning BlockMeaning SetPartMeaning ChainMeaning block_meaning
+    clause_meaning meaning from_item_meaning selected_meaning arm_meaning factor_meaning
+    item_meaning join_meaning joined_meaning select_meaning set_part_meaning term_meaning
+    x)
+
+pub set_part_meaning_is : (x : SetPart) → set_part_meaning x ≡ set_part_meaning_at (out-SetPart x)
+unfolding block_meaning clause_meaning meaning from_item_meaning selected_meaning arm_meaning
+    factor_meaning item_meaning join_meaning joined_meaning select_meaning set_part_meaning
+    term_meaning set_part_meaning_at
+set_part_meaning_is = fold_out-SetPart BlockMeaning ClauseMeaning Meaning FromItemMeaning SelectedMeaning
+    ArmMeaning ChainMeaning ItemMeaning JoinMeaning JoinedMeaning BlockMeaning SetPartMeaning
+    ChainMeaning block_step clause_step expr_step from_item_step selected_step arm_step factor_step
+    item_step join_step joined_step select_step set_part_step term_step
+
+unfoldable pub factor_meaning_at : Factor-F Block Clause Expr FromItem Selected Arm Factor Item Join
+    Joined Select SetPart Term → ChainMeaning
 factor_meaning_at x = factor_step
-    (map-Factor Clause Expr FromItem Selected Arm Block Factor Item Join Joined Term ClauseMeaning
-    Meaning FromItemMeaning SelectedMeaning ArmMeaning BlockMeaning ChainMeaning ItemMeaning
-    JoinMeaning JoinedMeaning ChainMeaning clause_meaning meaning from_item_meaning selected_meaning
-    arm_meaning block_meaning factor_meaning item_meaning join_meaning joined_meaning term_meaning
+    (map-Factor Block Clause Expr FromItem Selected Arm Factor Item Join Joined Select SetPart Term
+    BlockMeaning ClauseMeaning Meaning FromItemMeaning SelectedMeaning ArmMeaning ChainMeaning
+    ItemMeaning JoinMeaning JoinedMeaning BlockMeaning SetPartMeaning ChainMeaning block_meaning
+    clause_meaning meaning from_item_meaning selected_meaning arm_meaning factor_meaning
+    item_meaning join_meaning joined_meaning select_meaning set_part_meaning term_meaning
     x)
 
 pub factor_meaning_is : (x : Factor) → factor_meaning x ≡ factor_meaning_at (out-Factor x)
-unfolding clause_meaning meaning from_item_meaning selected_meaning arm_meaning block_meaning
-    factor_meaning item_meaning join_meaning joined_meaning term_meaning factor_meaning_at
-factor_meaning_is = fold_out-Factor ClauseMeaning Meaning FromItemMeaning SelectedMeaning ArmMeaning
-    BlockMeaning ChainMeaning ItemMeaning JoinMeaning JoinedMeaning ChainMeaning clause_step
-    expr_step from_item_step selected_step arm_step block_step factor_step item_step join_step
-    joined_step term_step
+unfolding block_meaning clause_meaning meaning from_item_meaning selected_meaning arm_meaning
+    factor_meaning item_meaning join_meaning joined_meaning select_meaning set_part_meaning
+    term_meaning factor_meaning_at
+factor_meaning_is = fold_out-Factor BlockMeaning ClauseMeaning Meaning FromItemMeaning
+    SelectedMeaning ArmMeaning ChainMeaning ItemMeaning JoinMeaning JoinedMeaning BlockMeaning
+    SetPartMeaning ChainMeaning block_step clause_step expr_step from_item_step selected_step
+    arm_step factor_step item_step join_step joined_step select_step set_part_step term_step
 
-unfoldable pub item_meaning_at : Item-F Clause Expr FromItem Selected Arm Block Factor Item Join
-    Joined Term → ItemMeaning
+unfoldable pub item_meaning_at : Item-F Block Clause Expr FromItem Selected Arm Factor Item Join
+    Joined Select SetPart Term → ItemMeaning
 item_meaning_at x = item_step
-    (map-Item Clause Expr FromItem Selected Arm Block Factor Item Join Joined Term ClauseMeaning
-    Meaning FromItemMeaning SelectedMeaning ArmMeaning BlockMeaning ChainMeaning ItemMeaning
-    JoinMeaning JoinedMeaning ChainMeaning clause_meaning meaning from_item_meaning selected_meaning
-    arm_meaning block_meaning factor_meaning item_meaning join_meaning joined_meaning term_meaning
+    (map-Item Block Clause Expr FromItem Selected Arm Factor Item Join Joined Select SetPart Term
+    BlockMeaning ClauseMeaning Meaning FromItemMeaning SelectedMeaning ArmMeaning ChainMeaning
+    ItemMeaning JoinMeaning JoinedMeaning BlockMeaning SetPartMeaning ChainMeaning block_meaning
+    clause_meaning meaning from_item_meaning selected_meaning arm_meaning factor_meaning
+    item_meaning join_meaning joined_meaning select_meaning set_part_meaning term_meaning
     x)
 
 pub item_meaning_is : (x : Item) → item_meaning x ≡ item_meaning_at (out-Item x)
-unfolding clause_meaning meaning from_item_meaning selected_meaning arm_meaning block_meaning
-    factor_meaning item_meaning join_meaning joined_meaning term_meaning item_meaning_at
-item_meaning_is = fold_out-Item ClauseMeaning Meaning FromItemMeaning SelectedMeaning ArmMeaning
-    BlockMeaning ChainMeaning ItemMeaning JoinMeaning JoinedMeaning ChainMeaning clause_step
-    expr_step from_item_step selected_step arm_step block_step factor_step item_step join_step
-    joined_step term_step
+unfolding block_meaning clause_meaning meaning from_item_meaning selected_meaning arm_meaning
+    factor_meaning item_meaning join_meaning joined_meaning select_meaning set_part_meaning
+    term_meaning item_meaning_at
+item_meaning_is = fold_out-Item BlockMeaning ClauseMeaning Meaning FromItemMeaning SelectedMeaning
+    ArmMeaning ChainMeaning ItemMeaning JoinMeaning JoinedMeaning BlockMeaning SetPartMeaning
+    ChainMeaning block_step clause_step expr_step from_item_step selected_step arm_step factor_step
+    item_step join_step joined_step select_step set_part_step term_step
 
-unfoldable pub join_meaning_at : Join-F Clause Expr FromItem Selected Arm Block Factor Item Join
-    Joined Term → JoinMeaning
+unfoldable pub join_meaning_at : Join-F Block Clause Expr FromItem Selected Arm Factor Item Join
+    Joined Select SetPart Term → JoinMeaning
 join_meaning_at x = join_step
-    (map-Join Clause Expr FromItem Selected Arm Block Factor Item Join Joined Term ClauseMeaning
-    Meaning FromItemMeaning SelectedMeaning ArmMeaning BlockMeaning ChainMeaning ItemMeaning
-    JoinMeaning JoinedMeaning ChainMeaning clause_meaning meaning from_item_meaning selected_meaning
-    arm_meaning block_meaning factor_meaning item_meaning join_meaning joined_meaning term_meaning
+    (map-Join Block Clause Expr FromItem Selected Arm Factor Item Join Joined Select SetPart Term
+    BlockMeaning ClauseMeaning Meaning FromItemMeaning SelectedMeaning ArmMeaning ChainMeaning
+    ItemMeaning JoinMeaning JoinedMeaning BlockMeaning SetPartMeaning ChainMeaning block_meaning
+    clause_meaning meaning from_item_meaning selected_meaning arm_meaning factor_meaning
+    item_meaning join_meaning joined_meaning select_meaning set_part_meaning term_meaning
     x)
 
 pub join_meaning_is : (x : Join) → join_meaning x ≡ join_meaning_at (out-Join x)
-unfolding clause_meaning meaning from_item_meaning selected_meaning arm_meaning block_meaning
-    factor_meaning item_meaning join_meaning joined_meaning term_meaning join_meaning_at
-join_meaning_is = fold_out-Join ClauseMeaning Meaning FromItemMeaning SelectedMeaning ArmMeaning
-    BlockMeaning ChainMeaning ItemMeaning JoinMeaning JoinedMeaning ChainMeaning clause_step
-    expr_step from_item_step selected_step arm_step block_step factor_step item_step join_step
-    joined_step term_step
+unfolding block_meaning clause_meaning meaning from_item_meaning selected_meaning arm_meaning
+    factor_meaning item_meaning join_meaning joined_meaning select_meaning set_part_meaning
+    term_meaning join_meaning_at
+join_meaning_is = fold_out-Join BlockMeaning ClauseMeaning Meaning FromItemMeaning SelectedMeaning
+    ArmMeaning ChainMeaning ItemMeaning JoinMeaning JoinedMeaning BlockMeaning SetPartMeaning
+    ChainMeaning block_step clause_step expr_step from_item_step selected_step arm_step factor_step
+    item_step join_step joined_step select_step set_part_step term_step
 
-unfoldable pub joined_meaning_at : Joined-F Clause Expr FromItem Selected Arm Block Factor Item Join
-    Joined Term → JoinedMeaning
+unfoldable pub joined_meaning_at : Joined-F Block Clause Expr FromItem Selected Arm Factor Item Join
+    Joined Select SetPart Term → JoinedMeaning
 joined_meaning_at x = joined_step
-    (map-Joined Clause Expr FromItem Selected Arm Block Factor Item Join Joined Term ClauseMeaning
-    Meaning FromItemMeaning SelectedMeaning ArmMeaning BlockMeaning ChainMeaning ItemMeaning
-    JoinMeaning JoinedMeaning ChainMeaning clause_meaning meaning from_item_meaning selected_meaning
-    arm_meaning block_meaning factor_meaning item_meaning join_meaning joined_meaning term_meaning
+    (map-Joined Block Clause Expr FromItem Selected Arm Factor Item Join Joined Select SetPart Term
+    BlockMeaning ClauseMeaning Meaning FromItemMeaning SelectedMeaning ArmMeaning ChainMeaning
+    ItemMeaning JoinMeaning JoinedMeaning BlockMeaning SetPartMeaning ChainMeaning block_meaning
+    clause_meaning meaning from_item_meaning selected_meaning arm_meaning factor_meaning
+    item_meaning join_meaning joined_meaning select_meaning set_part_meaning term_meaning
     x)
 
 pub joined_meaning_is : (x : Joined) → joined_meaning x ≡ joined_meaning_at (out-Joined x)
-unfolding clause_meaning meaning from_item_meaning selected_meaning arm_meaning block_meaning
-    factor_meaning item_meaning join_meaning joined_meaning term_meaning joined_meaning_at
-joined_meaning_is = fold_out-Joined ClauseMeaning Meaning FromItemMeaning SelectedMeaning ArmMeaning
-    BlockMeaning ChainMeaning ItemMeaning JoinMeaning JoinedMeaning ChainMeaning clause_step
-    expr_step from_item_step selected_step arm_step block_step factor_step item_step join_step
-    joined_step term_step
+unfolding block_meaning clause_meaning meaning from_item_meaning selected_meaning arm_meaning
+    factor_meaning item_meaning join_meaning joined_meaning select_meaning set_part_meaning
+    term_meaning joined_meaning_at
+joined_meaning_is = fold_out-Joined BlockMeaning ClauseMeaning Meaning FromItemMeaning
+    SelectedMeaning ArmMeaning ChainMeaning ItemMeaning JoinMeaning JoinedMeaning BlockMeaning
+    SetPartMeaning ChainMeaning block_step clause_step expr_step from_item_step selected_step
+    arm_step factor_step item_step join_step joined_step select_step set_part_step term_step
 
-unfoldable pub term_meaning_at : Term-F Clause Expr FromItem Selected Arm Block Factor Item Join
-    Joined Term → ChainMeaning
+unfoldable pub term_meaning_at : Term-F Block Clause Expr FromItem Selected Arm Factor Item Join
+    Joined Select SetPart Term → ChainMeaning
 term_meaning_at x = term_step
-    (map-Term Clause Expr FromItem Selected Arm Block Factor Item Join Joined Term ClauseMeaning
-    Meaning FromItemMeaning SelectedMeaning ArmMeaning BlockMeaning ChainMeaning ItemMeaning
-    JoinMeaning JoinedMeaning ChainMeaning clause_meaning meaning from_item_meaning selected_meaning
-    arm_meaning block_meaning factor_meaning item_meaning join_meaning joined_meaning term_meaning
+    (map-Term Block Clause Expr FromItem Selected Arm Factor Item Join Joined Select SetPart Term
+    BlockMeaning ClauseMeaning Meaning FromItemMeaning SelectedMeaning ArmMeaning ChainMeaning
+    ItemMeaning JoinMeaning JoinedMeaning BlockMeaning SetPartMeaning ChainMeaning block_meaning
+    clause_meaning meaning from_item_meaning selected_meaning arm_meaning factor_meaning
+    item_meaning join_meaning joined_meaning select_meaning set_part_meaning term_meaning
     x)
 
 pub term_meaning_is : (x : Term) → term_meaning x ≡ term_meaning_at (out-Term x)
-unfolding clause_meaning meaning from_item_meaning selected_meaning arm_meaning block_meaning
-    factor_meaning item_meaning join_meaning joined_meaning term_meaning term_meaning_at
-term_meaning_is = fold_out-Term ClauseMeaning Meaning FromItemMeaning SelectedMeaning ArmMeaning
-    BlockMeaning ChainMeaning ItemMeaning JoinMeaning JoinedMeaning ChainMeaning clause_step
-    expr_step from_item_step selected_step arm_step block_step factor_step item_step join_step
-    joined_step term_step
+unfolding block_meaning clause_meaning meaning from_item_meaning selected_meaning arm_meaning
+    factor_meaning item_meaning join_meaning joined_meaning select_meaning set_part_meaning
+    term_meaning term_meaning_at
+term_meaning_is = fold_out-Term BlockMeaning ClauseMeaning Meaning FromItemMeaning SelectedMeaning
+    ArmMeaning ChainMeaning ItemMeaning JoinMeaning JoinedMeaning BlockMeaning SetPartMeaning
+    ChainMeaning block_step clause_step expr_step from_item_step selected_step arm_step factor_step
+    item_step join_step joined_step select_step set_part_step term_step
 
 pub meaning_Number : (c : ℤ) (s : ℕ) → meaning (expr.Number c s) ≡ expr_step (Expr-F.Number c s)
 unfolding meaning_at
@@ -299,6 +368,13 @@ pub meaning_InList : (a : Expr) (list : List Expr)
     → meaning (expr.InList a list) ≡ expr_step (Expr-F.InList (meaning a) (map meaning list))
 unfolding meaning_at
 meaning_InList a list = meaning_is (expr.InList a list) ∙ ap meaning_at (expr.outs-InList a list)
+
+pub meaning_CompareQuery : (c : Comparison) (k : Quantifier) (a : Expr) (q : Block)
+    → meaning (expr.CompareQuery c k a q)
+    ≡ expr_step (Expr-F.CompareQuery c k (meaning a) (block_meaning q))
+unfolding meaning_at
+meaning_CompareQuery c k a q = meaning_is (expr.CompareQuery c k a q)
+    ∙ ap meaning_at (expr.outs-CompareQuery c k a q)
 
 pub meaning_InQuery : (a : Expr) (q : Block)
     → meaning (expr.InQuery a q) ≡ expr_step (Expr-F.InQuery (meaning a) (block_meaning q))
@@ -450,11 +526,28 @@ pub joined_is : (j : Joined) (sight : Sight) (done : Option FromRows) → joined
 unfolding joined_meaning_at
 joined_is j sight done = ap (λ (m : JoinedMeaning). m sight done) (joined_meaning_is j)
 
-pub block_is : (q : Block) (sight : Sight)
-    → block_meaning q sight ≡ (apart (clauses_of q sight) >>=
-    (λ t. pure (once_each (out-Block q).is_distinct t)))
-unfolding block_meaning_at clauses_of
-block_is q sight = ap (λ (m : BlockMeaning). m sight) (block_meaning_is q)
+pub select_is : (q : Select) (sight : Sight)
+    → select_meaning q sight ≡ (apart (clauses_of q sight) >>=
+    (λ t. pure (once_each (out-Select q).is_distinct t)))
+unfolding select_meaning_at clauses_of
+select_is q sight = ap (λ (m : BlockMeaning). m sight) (select_meaning_is q)
+
+pub set_part_is : (p : SetPart) (sight : Sight) (t : BoundTable)
+    → set_part_meaning p sight t ≡ (block_meaning (out-SetPart p).query sight >>=
+    (λ u. lift (set_table (out-SetPart p).operator (out-SetPart p).keeps_all t u)))
+unfolding set_part_meaning_at
+set_part_is p sight t = ap (λ (m : SetPartMeaning). m sight t) (set_part_meaning_is p)
+
+pub block_Select : (q : Select) → block_meaning (block.Select q) ≡ select_meaning q
+unfolding block_meaning_at
+block_Select q = block_meaning_is (block.Select q) ∙ ap block_meaning_at (block.outs-Select q)
+
+pub block_Combined : (first : Block) (parts : List SetPart)
+    → block_meaning (block.Combined first parts)
+    ≡ combined (block_meaning first) (map set_part_meaning parts)
+unfolding block_meaning_at
+block_Combined first parts = block_meaning_is (block.Combined first parts)
+    ∙ ap block_meaning_at (block.outs-Combined first parts)
 
 pub ruleset expr_opened = (
   meaning_Number,
@@ -466,6 +559,7 @@ pub ruleset expr_opened = (
   meaning_Sum,
   meaning_Product,
   meaning_Compare,
+  meaning_CompareQuery,
   meaning_IsNull,
   meaning_Between,
   meaning_Like,
@@ -491,3 +585,5 @@ pub ruleset clause_opened = (clause_Absent, clause_Condition)
 pub ruleset selected_opened = (selected_All, selected_Items)
 
 pub ruleset from_item_opened = (from_item_Table, from_item_Derived, from_item_Lateral)
+
+pub ruleset block_opened = (block_Select, block_Combined)

@@ -1,8 +1,8 @@
 -- Functions that bind all that is smaller than a part bind what stands in it.
-use Rattle.std.proofs.Common.{◌≡◌, ℕ, ◌+◌, ◌<◌, List, [], ◌∷◌, map, subst, arith}
+use Rattle.std.proofs.Common.{◌≡◌, ℕ, ◌+◌, ◌<◌, List, [], ◌∷◌, map, subst, sym, arith}
 use Rattle.base_row_laws.specs.Bags.{Each}
 use Rattle.sql_ast.specs.declared.tree.Arm.{Arm, out-Arm}
-use Rattle.sql_ast.specs.declared.tree.Block.{Block, out-Block}
+use Rattle.sql_ast.specs.declared.tree.Block.{Block}
 use Rattle.sql_ast.specs.declared.tree.Clause.{Clause}
 use Rattle.sql_ast.specs.declared.tree.Expr.{Expr}
 use Rattle.sql_ast.specs.declared.tree.Factor.{Factor, out-Factor}
@@ -10,7 +10,9 @@ use Rattle.sql_ast.specs.declared.tree.FromItem.{FromItem}
 use Rattle.sql_ast.specs.declared.tree.Item.{Item, out-Item}
 use Rattle.sql_ast.specs.declared.tree.Join.{Join, out-Join}
 use Rattle.sql_ast.specs.declared.tree.Joined.{Joined, out-Joined}
+use Rattle.sql_ast.specs.declared.tree.Select.{Select, out-Select}
 use Rattle.sql_ast.specs.declared.tree.Selected.{Selected}
+use Rattle.sql_ast.specs.declared.tree.SetPart.{SetPart, out-SetPart}
 use Rattle.sql_ast.specs.declared.tree.Term.{Term, out-Term}
 use Rattle.sql_binder_steps.specs.declared.collected.BoundTable.{BoundTable}
 use Rattle.sql_binder_steps.specs.declared.collected.Typed.{Typed}
@@ -19,13 +21,13 @@ use Rattle.sql_binder_steps.specs.Names.{sight_of}
 use Rattle.sql_binder.specs.Binding.{meaning, block_meaning}
 use Rattle.sql_binder.specs.Nests.{Pre, Post, Below, BindsExpr, BindsBlock, BindsExprs, BindsTerm}
 use Rattle.sql_binder.specs.Nests.{BindsFactor, BindsArm, BindsItem, BindsSelected, BindsClause}
-use Rattle.sql_binder.specs.Nests.{BindsFromItem, BindsJoin, BindsJoined, BindsParts}
+use Rattle.sql_binder.specs.Nests.{BindsFromItem, BindsJoin, BindsJoined, BindsParts, BindsSetPart}
 use Rattle.sql_binder.specs.Sizes.{total, size, term_size, factor_size, arm_size, item_size}
 use Rattle.sql_binder.specs.Sizes.{selected_size, from_item_size, join_size, joined_size}
-use Rattle.sql_binder.specs.Sizes.{clause_size, block_size}
+use Rattle.sql_binder.specs.Sizes.{clause_size, block_size, select_size, set_part_size}
 use Rattle.sql_binder.proofs.Sized.{clause_falls, selected_falls, derived_falls, lateral_falls}
 use Rattle.sql_binder.proofs.Sized.{term_size_of, factor_size_of, arm_size_of, item_size_of}
-use Rattle.sql_binder.proofs.Sized.{join_size_of, joined_size_of, block_size_of}
+use Rattle.sql_binder.proofs.Sized.{join_size_of, joined_size_of, select_size_of, set_part_size_of}
 
 module _ {n : ℕ} {pre : Pre Expr} {post : Post Expr Typed} {pre_block : Pre Block}
     {post_block : Post Block BoundTable} (below : Below n pre post pre_block post_block) where
@@ -126,12 +128,27 @@ module _ {n : ℕ} {pre : Pre Expr} {post : Post Expr Typed} {pre_block : Pre Bl
         each_joined js (omega (arith, h')),
       )
 
-  pub parts_below : (q : Block) → n ≡ block_size q → BindsParts pre post pre_block post_block q
+  pub parts_below : (q : Select) → n ≡ select_size q → BindsParts pre post pre_block post_block q
   parts_below q e =
-      let s = block_size_of q in
+      let s = select_size_of q in
       record {
-        from = each_joined (out-Block q).from (omega (arith, e, s));
-        condition = clause_below (out-Block q).condition (omega (arith, e, s));
-        selected = selected_below (out-Block q).selected (omega (arith, e, s));
-        having = clause_below (out-Block q).having (omega (arith, e, s));
+        from = each_joined (out-Select q).from (omega (arith, e, s));
+        condition = clause_below (out-Select q).condition (omega (arith, e, s));
+        selected = selected_below (out-Select q).selected (omega (arith, e, s));
+        having = clause_below (out-Select q).having (omega (arith, e, s));
       }
+
+  pub each_part : (ps : List SetPart) → total (map set_part_size ps) < n
+      → Each (BindsSetPart pre_block post_block) ps
+  each_part [] h = tt
+  each_part (p ∷ ps) h =
+      let h' : set_part_size p + total (map set_part_size ps) < n = h in
+      let s = set_part_size_of p in
+      (block_below (out-SetPart p).query (omega (arith, h', s)), each_part ps (omega (arith, h')))
+
+-- the same below an equal size
+pub at_size : {m n : ℕ} {pre : Pre Expr} {post : Post Expr Typed} {pre_block : Pre Block}
+    {post_block : Post Block BoundTable} → Below n pre post pre_block post_block → m ≡ n
+    → Below m pre post pre_block post_block
+at_size {m} {n} {pre} {post} {pre_block} {post_block} below e =
+    subst (λ k. Below k pre post pre_block post_block) (sym e) below

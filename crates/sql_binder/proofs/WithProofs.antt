@@ -33,7 +33,7 @@ use Rattle.sql_binder.specs.Operands.{conditions, operands, chain, arm_condition
 use Rattle.sql_binder.specs.FromLists.{on_condition, on_joining, joins, chained, from_list}
 use Rattle.sql_binder.specs.Clauses.{condition, shown_item, shown_items, select}
 use Rattle.sql_binder.specs.Blocks.{is_grouped, from_where, over_rows, group_lists, over_groups}
-use Rattle.sql_binder.specs.Binding.{clauses_of, is_grouped_block, bound_query, bound_view}
+use Rattle.sql_binder.specs.Binding.{clauses_of, is_grouped_select, bound_query, bound_view}
 use Rattle.sql_binder.proofs.Applied.{computed}
 use Rattle.sql_binder.specs.WithCases.{NamesOfWith, RefusalsOfWith, with_named, with_listed, under}
 use Rattle.sql_binder.specs.WithCases.{names_from, nope_from_region, first_column, bound_names}
@@ -107,7 +107,7 @@ unfolding input aggregate alone apart counted take_aggregates is_met ends means 
     shown_part star keys_of plain closing once_each output_place order_of conditions operands chain
     arm_conditions arm_values on_condition on_joining joins chained from_list condition shown_item
     shown_items select is_grouped from_where over_rows group_lists over_groups clauses_of
-    is_grouped_block bound_query bound_view
+    is_grouped_select bound_query bound_view
 names_of_with =
     let a = codes "a" in
     let b = codes "b" in
@@ -153,7 +153,7 @@ unfolding input aggregate alone apart counted take_aggregates is_met ends means 
     shown_part star keys_of plain closing once_each output_place order_of conditions operands chain
     arm_conditions arm_values on_condition on_joining joins chained from_list condition shown_item
     shown_items select is_grouped from_where over_rows group_lists over_groups clauses_of
-    is_grouped_block bound_query bound_view
+    is_grouped_select bound_query bound_view
 refusals_of_with =
     let a = codes "a" in
     let b = codes "b" in

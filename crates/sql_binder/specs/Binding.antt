@@ -5,19 +5,21 @@ use Rattle.sql_bound_query.specs.declared.query.BoundQuery.{BoundQuery}
 use Rattle.sql_ast.specs.declared.statement.Query.{Query}
 use Rattle.sql_ast.specs.declared.statement.WithQuery.{WithQuery}
 use Rattle.sql_ast.specs.declared.tree.Arm.{Arm}
-use Rattle.sql_ast.specs.declared.tree.Block.{Block, out-Block}
+use Rattle.sql_ast.specs.declared.tree.Block.{Block}
 use Rattle.sql_ast.specs.declared.tree.Clause.{Clause}
 use Rattle.sql_ast.specs.declared.tree.Expr.{Expr}
-use Rattle.sql_ast.specs.declared.tree.Clause.TheFolds.{fold-Expr, fold-Term, fold-Factor, fold-Arm}
-use Rattle.sql_ast.specs.declared.tree.Clause.TheFolds.{fold-Item, fold-Selected, fold-FromItem}
-use Rattle.sql_ast.specs.declared.tree.Clause.TheFolds.{fold-Join, fold-Joined, fold-Clause}
-use Rattle.sql_ast.specs.declared.tree.Clause.TheFolds.{fold-Block}
+use Rattle.sql_ast.specs.declared.tree.Block.TheFolds.{fold-Expr, fold-Term, fold-Factor, fold-Arm}
+use Rattle.sql_ast.specs.declared.tree.Block.TheFolds.{fold-Item, fold-Selected, fold-FromItem}
+use Rattle.sql_ast.specs.declared.tree.Block.TheFolds.{fold-Join, fold-Joined, fold-Clause}
+use Rattle.sql_ast.specs.declared.tree.Block.TheFolds.{fold-Block, fold-Select, fold-SetPart}
 use Rattle.sql_ast.specs.declared.tree.Factor.{Factor}
 use Rattle.sql_ast.specs.declared.tree.FromItem.{FromItem}
 use Rattle.sql_ast.specs.declared.tree.Item.{Item}
 use Rattle.sql_ast.specs.declared.tree.Join.{Join}
 use Rattle.sql_ast.specs.declared.tree.Joined.{Joined}
+use Rattle.sql_ast.specs.declared.tree.Select.{Select, out-Select}
 use Rattle.sql_ast.specs.declared.tree.Selected.{Selected}
+use Rattle.sql_ast.specs.declared.tree.SetPart.{SetPart}
 use Rattle.sql_ast.specs.declared.tree.Term.{Term}
 use Rattle.sql_binder_steps.specs.declared.collected.BoundTable.{BoundTable}
 use Rattle.sql_binder_steps.specs.declared.collected.Collected.{Collected}
@@ -26,107 +28,121 @@ use Rattle.sql_binder_steps.specs.Steps.{Name, Checked, and_then}
 use Rattle.sql_binder_steps.specs.Parts.{outermost, distinct_names, renamed_headers, order_of, new_name}
 use Rattle.sql_binder.specs.Meanings.{Meaning, ChainMeaning, ArmMeaning, ItemMeaning}
 use Rattle.sql_binder.specs.Meanings.{SelectedMeaning, ClauseMeaning, FromItemMeaning, JoinMeaning}
-use Rattle.sql_binder.specs.Meanings.{JoinedMeaning, BlockMeaning, BlockNode}
+use Rattle.sql_binder.specs.Meanings.{JoinedMeaning, BlockMeaning, SelectNode, SetPartMeaning}
 use Rattle.sql_binder.specs.Expressions.{expr_step, term_step, factor_step, arm_step}
 use Rattle.sql_binder.specs.FromLists.{from_item_step, join_step, joined_step}
 use Rattle.sql_binder.specs.Clauses.{clause_step, item_step, selected_step}
-use Rattle.sql_binder.specs.Blocks.{is_grouped, clauses, block_step}
+use Rattle.sql_binder.specs.Blocks.{is_grouped, clauses, block_step, select_step, set_part_step}
 
 -- an expression
 unfoldable pub meaning : Expr → Meaning
-meaning = fold-Expr ClauseMeaning Meaning FromItemMeaning SelectedMeaning ArmMeaning BlockMeaning
-    ChainMeaning ItemMeaning JoinMeaning JoinedMeaning ChainMeaning clause_step expr_step
-    from_item_step selected_step arm_step block_step factor_step item_step join_step joined_step
-    term_step
+meaning = fold-Expr BlockMeaning ClauseMeaning Meaning FromItemMeaning SelectedMeaning ArmMeaning
+    ChainMeaning ItemMeaning JoinMeaning JoinedMeaning BlockMeaning SetPartMeaning ChainMeaning
+    block_step clause_step expr_step from_item_step selected_step arm_step factor_step item_step
+    join_step joined_step select_step set_part_step term_step
 
 -- a term
 unfoldable pub term_meaning : Term → ChainMeaning
-term_meaning = fold-Term ClauseMeaning Meaning FromItemMeaning SelectedMeaning ArmMeaning
-    BlockMeaning ChainMeaning ItemMeaning JoinMeaning JoinedMeaning ChainMeaning clause_step
-    expr_step from_item_step selected_step arm_step block_step factor_step item_step join_step
-    joined_step term_step
+term_meaning = fold-Term BlockMeaning ClauseMeaning Meaning FromItemMeaning SelectedMeaning
+    ArmMeaning ChainMeaning ItemMeaning JoinMeaning JoinedMeaning BlockMeaning SetPartMeaning
+    ChainMeaning block_step clause_step expr_step from_item_step selected_step arm_step factor_step
+    item_step join_step joined_step select_step set_part_step term_step
 
 -- a factor
 unfoldable pub factor_meaning : Factor → ChainMeaning
-factor_meaning = fold-Factor ClauseMeaning Meaning FromItemMeaning SelectedMeaning ArmMeaning
-    BlockMeaning ChainMeaning ItemMeaning JoinMeaning JoinedMeaning ChainMeaning clause_step
-    expr_step from_item_step selected_step arm_step block_step factor_step item_step join_step
-    joined_step term_step
+factor_meaning = fold-Factor BlockMeaning ClauseMeaning Meaning FromItemMeaning SelectedMeaning
+    ArmMeaning ChainMeaning ItemMeaning JoinMeaning JoinedMeaning BlockMeaning SetPartMeaning
+    ChainMeaning block_step clause_step expr_step from_item_step selected_step arm_step factor_step
+    item_step join_step joined_step select_step set_part_step term_step
 
 -- an arm of a CASE
 unfoldable pub arm_meaning : Arm → ArmMeaning
-arm_meaning = fold-Arm ClauseMeaning Meaning FromItemMeaning SelectedMeaning ArmMeaning BlockMeaning
-    ChainMeaning ItemMeaning JoinMeaning JoinedMeaning ChainMeaning clause_step expr_step
-    from_item_step selected_step arm_step block_step factor_step item_step join_step joined_step
-    term_step
+arm_meaning = fold-Arm BlockMeaning ClauseMeaning Meaning FromItemMeaning SelectedMeaning ArmMeaning
+    ChainMeaning ItemMeaning JoinMeaning JoinedMeaning BlockMeaning SetPartMeaning ChainMeaning
+    block_step clause_step expr_step from_item_step selected_step arm_step factor_step item_step
+    join_step joined_step select_step set_part_step term_step
 
 -- an item of a select list
 unfoldable pub item_meaning : Item → ItemMeaning
-item_meaning = fold-Item ClauseMeaning Meaning FromItemMeaning SelectedMeaning ArmMeaning
-    BlockMeaning ChainMeaning ItemMeaning JoinMeaning JoinedMeaning ChainMeaning clause_step
-    expr_step from_item_step selected_step arm_step block_step factor_step item_step join_step
-    joined_step term_step
+item_meaning = fold-Item BlockMeaning ClauseMeaning Meaning FromItemMeaning SelectedMeaning
+    ArmMeaning ChainMeaning ItemMeaning JoinMeaning JoinedMeaning BlockMeaning SetPartMeaning
+    ChainMeaning block_step clause_step expr_step from_item_step selected_step arm_step factor_step
+    item_step join_step joined_step select_step set_part_step term_step
 
 -- a select list
 unfoldable pub selected_meaning : Selected → SelectedMeaning
-selected_meaning = fold-Selected ClauseMeaning Meaning FromItemMeaning SelectedMeaning ArmMeaning
-    BlockMeaning ChainMeaning ItemMeaning JoinMeaning JoinedMeaning ChainMeaning clause_step
-    expr_step from_item_step selected_step arm_step block_step factor_step item_step join_step
-    joined_step term_step
+selected_meaning = fold-Selected BlockMeaning ClauseMeaning Meaning FromItemMeaning SelectedMeaning
+    ArmMeaning ChainMeaning ItemMeaning JoinMeaning JoinedMeaning BlockMeaning SetPartMeaning
+    ChainMeaning block_step clause_step expr_step from_item_step selected_step arm_step factor_step
+    item_step join_step joined_step select_step set_part_step term_step
 
 -- an item of FROM
 unfoldable pub from_item_meaning : FromItem → FromItemMeaning
-from_item_meaning = fold-FromItem ClauseMeaning Meaning FromItemMeaning SelectedMeaning ArmMeaning
-    BlockMeaning ChainMeaning ItemMeaning JoinMeaning JoinedMeaning ChainMeaning clause_step
-    expr_step from_item_step selected_step arm_step block_step factor_step item_step join_step
-    joined_step term_step
+from_item_meaning = fold-FromItem BlockMeaning ClauseMeaning Meaning FromItemMeaning SelectedMeaning
+    ArmMeaning ChainMeaning ItemMeaning JoinMeaning JoinedMeaning BlockMeaning SetPartMeaning
+    ChainMeaning block_step clause_step expr_step from_item_step selected_step arm_step factor_step
+    item_step join_step joined_step select_step set_part_step term_step
 
 -- a join
 unfoldable pub join_meaning : Join → JoinMeaning
-join_meaning = fold-Join ClauseMeaning Meaning FromItemMeaning SelectedMeaning ArmMeaning
-    BlockMeaning ChainMeaning ItemMeaning JoinMeaning JoinedMeaning ChainMeaning clause_step
-    expr_step from_item_step selected_step arm_step block_step factor_step item_step join_step
-    joined_step term_step
+join_meaning = fold-Join BlockMeaning ClauseMeaning Meaning FromItemMeaning SelectedMeaning
+    ArmMeaning ChainMeaning ItemMeaning JoinMeaning JoinedMeaning BlockMeaning SetPartMeaning
+    ChainMeaning block_step clause_step expr_step from_item_step selected_step arm_step factor_step
+    item_step join_step joined_step select_step set_part_step term_step
 
 -- what stands between commas
 unfoldable pub joined_meaning : Joined → JoinedMeaning
-joined_meaning = fold-Joined ClauseMeaning Meaning FromItemMeaning SelectedMeaning ArmMeaning
-    BlockMeaning ChainMeaning ItemMeaning JoinMeaning JoinedMeaning ChainMeaning clause_step
-    expr_step from_item_step selected_step arm_step block_step factor_step item_step join_step
-    joined_step term_step
+joined_meaning = fold-Joined BlockMeaning ClauseMeaning Meaning FromItemMeaning SelectedMeaning
+    ArmMeaning ChainMeaning ItemMeaning JoinMeaning JoinedMeaning BlockMeaning SetPartMeaning
+    ChainMeaning block_step clause_step expr_step from_item_step selected_step arm_step factor_step
+    item_step join_step joined_step select_step set_part_step term_step
 
 -- WHERE or HAVING
 unfoldable pub clause_meaning : Clause → ClauseMeaning
-clause_meaning = fold-Clause ClauseMeaning Meaning FromItemMeaning SelectedMeaning ArmMeaning
-    BlockMeaning ChainMeaning ItemMeaning JoinMeaning JoinedMeaning ChainMeaning clause_step
-    expr_step from_item_step selected_step arm_step block_step factor_step item_step join_step
-    joined_step term_step
+clause_meaning = fold-Clause BlockMeaning ClauseMeaning Meaning FromItemMeaning SelectedMeaning
+    ArmMeaning ChainMeaning ItemMeaning JoinMeaning JoinedMeaning BlockMeaning SetPartMeaning
+    ChainMeaning block_step clause_step expr_step from_item_step selected_step arm_step factor_step
+    item_step join_step joined_step select_step set_part_step term_step
 
 -- a query
 unfoldable pub block_meaning : Block → BlockMeaning
-block_meaning = fold-Block ClauseMeaning Meaning FromItemMeaning SelectedMeaning ArmMeaning
-    BlockMeaning ChainMeaning ItemMeaning JoinMeaning JoinedMeaning ChainMeaning clause_step
-    expr_step from_item_step selected_step arm_step block_step factor_step item_step join_step
-    joined_step term_step
+block_meaning = fold-Block BlockMeaning ClauseMeaning Meaning FromItemMeaning SelectedMeaning
+    ArmMeaning ChainMeaning ItemMeaning JoinMeaning JoinedMeaning BlockMeaning SetPartMeaning
+    ChainMeaning block_step clause_step expr_step from_item_step selected_step arm_step factor_step
+    item_step join_step joined_step select_step set_part_step term_step
 
--- a query with the meanings of its parts in their place
-abbrev pub opened_block : Block → BlockNode
-opened_block q = record {
-  is_distinct = (out-Block q).is_distinct;
-  selected = selected_meaning (out-Block q).selected;
-  from = map joined_meaning (out-Block q).from;
-  condition = clause_meaning (out-Block q).condition;
-  group = (out-Block q).group;
-  having = clause_meaning (out-Block q).having;
+-- one SELECT
+unfoldable pub select_meaning : Select → BlockMeaning
+select_meaning = fold-Select BlockMeaning ClauseMeaning Meaning FromItemMeaning SelectedMeaning
+    ArmMeaning ChainMeaning ItemMeaning JoinMeaning JoinedMeaning BlockMeaning SetPartMeaning
+    ChainMeaning block_step clause_step expr_step from_item_step selected_step arm_step factor_step
+    item_step join_step joined_step select_step set_part_step term_step
+
+-- a query after the first one of a set operation
+unfoldable pub set_part_meaning : SetPart → SetPartMeaning
+set_part_meaning = fold-SetPart BlockMeaning ClauseMeaning Meaning FromItemMeaning SelectedMeaning
+    ArmMeaning ChainMeaning ItemMeaning JoinMeaning JoinedMeaning BlockMeaning SetPartMeaning
+    ChainMeaning block_step clause_step expr_step from_item_step selected_step arm_step factor_step
+    item_step join_step joined_step select_step set_part_step term_step
+
+-- one SELECT with the meanings of its parts in their place
+abbrev pub opened_select : Select → SelectNode
+opened_select q = record {
+  is_distinct = (out-Select q).is_distinct;
+  selected = selected_meaning (out-Select q).selected;
+  from = map joined_meaning (out-Select q).from;
+  condition = clause_meaning (out-Select q).condition;
+  group = (out-Select q).group;
+  having = clause_meaning (out-Select q).having;
 }
 
--- the meaning of a query, from its clauses
-unfoldable pub clauses_of : Block → BlockMeaning
-clauses_of q = clauses (opened_block q)
+-- the meaning of one SELECT, from its clauses
+unfoldable pub clauses_of : Select → BlockMeaning
+clauses_of q = clauses (opened_select q)
 
--- whether a query makes groups
-unfoldable pub is_grouped_block : Block → Bool
-is_grouped_block q = is_grouped (opened_block q)
+-- whether it makes groups
+unfoldable pub is_grouped_select : Select → Bool
+is_grouped_select q = is_grouped (opened_select q)
 
 -- nothing collected
 abbrev pub start : Collected

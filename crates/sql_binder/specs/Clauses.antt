@@ -1,7 +1,7 @@
 -- What WHERE, HAVING and the select list mean.
 use Rattle.std.specs.Prelude.{ℕ, List, [], ◌∷◌, Option, Some, None, unwrap_or}
 use Rattle.sql_bound_query.specs.declared.query.BoundExpr.{BoundExpr}
-use Rattle.sql_ast.specs.declared.tree.Clause.TheOpen.{Selected-F, Clause-F}
+use Rattle.sql_ast.specs.declared.tree.Block.TheOpen.{Selected-F, Clause-F}
 use Rattle.sql_binder_steps.specs.declared.collected.Shown.{Shown}
 use Rattle.sql_binder_steps.specs.declared.scope.ScopeColumn.{ScopeColumn}
 use Rattle.sql_binder_steps.specs.Steps.{Binding, ◌>>=◌, pure, lift, alone}

@@ -13,7 +13,9 @@ use Rattle.base_refusals.specs.declared.bind.BindRefusal.TheVariants.{TooManyTab
 use Rattle.expr_scalar.specs.declared.expr.Expr.{Expr as Scalar}
 use Rattle.expr_scalar.specs.declared.expr.Expr.TheVariants as scalar
 use Rattle.expr_scalar.specs.declared.kind.Kind.TheVariants as kind
-use Rattle.sql_ast.specs.declared.tree.Block.{Block, roll-Block}
+use Rattle.sql_ast.specs.declared.tree.Block.{Block}
+use Rattle.sql_ast.specs.declared.tree.Block.TheVariants as block
+use Rattle.sql_ast.specs.declared.tree.Select.{roll-Select}
 use Rattle.sql_ast.specs.declared.tree.Clause.TheVariants.{Absent, Condition}
 use Rattle.sql_ast.specs.declared.tree.Expr.{Expr}
 use Rattle.sql_ast.specs.declared.tree.Expr.TheVariants as e
@@ -62,26 +64,26 @@ from_region items = select_from items (from_table (codes "region") ∷ [])
 
 -- select items from region group by columns
 abbrev pub grouped_by : List Item → List Name → List Joined → Block
-grouped_by items columns from = roll-Block (record {
+grouped_by items columns from = block.Select (roll-Select (record {
   is_distinct = false;
   selected = Items items;
   from = from;
   condition = Absent;
   group = map (λ n. record { item = None; name = n }) columns;
   having = Absent;
-})
+}))
 
 -- `.. having true`
 abbrev pub having_where : Selected → Expr → Block
 having_where selected x =
-    roll-Block (record {
+    block.Select (roll-Select (record {
       is_distinct = false;
       selected = selected;
       from = from_table (codes "region") ∷ [];
       condition = Absent;
       group = [];
       having = Condition x;
-    })
+    }))
 
 -- a join under its own name
 abbrev pub join_on : Name → Expr → Join

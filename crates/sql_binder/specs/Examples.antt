@@ -15,7 +15,9 @@ use Rattle.base_refusals.specs.declared.bind.BindRefusal.TheVariants.{TooManyTab
 use Rattle.expr_scalar.specs.declared.expr.Expr.TheVariants as scalar
 use Rattle.expr_scalar.specs.declared.kind.Kind.TheVariants as kind
 use Rattle.sql_ast.specs.declared.statement.Query.{Query}
-use Rattle.sql_ast.specs.declared.tree.Block.{Block, roll-Block}
+use Rattle.sql_ast.specs.declared.tree.Block.{Block}
+use Rattle.sql_ast.specs.declared.tree.Block.TheVariants as block
+use Rattle.sql_ast.specs.declared.tree.Select.{roll-Select}
 use Rattle.sql_ast.specs.declared.tree.Clause.TheVariants.{Absent, Condition}
 use Rattle.sql_ast.specs.declared.tree.Expr.{Expr}
 use Rattle.sql_ast.specs.declared.tree.Expr.TheVariants as e
@@ -72,26 +74,26 @@ from_derived q alias = roll-Joined (record { first = Derived q alias []; joins =
 -- select items from ..
 abbrev pub select_from : List Item → List Joined → Block
 select_from items from =
-    roll-Block (record {
+    block.Select (roll-Select (record {
       is_distinct = false;
       selected = Items items;
       from = from;
       condition = Absent;
       group = [];
       having = Absent;
-    })
+    }))
 
 -- select items from .. where ..
 abbrev pub select_where : List Item → List Joined → Expr → Block
 select_where items from x =
-    roll-Block (record {
+    block.Select (roll-Select (record {
       is_distinct = false;
       selected = Items items;
       from = from;
       condition = Condition x;
       group = [];
       having = Absent;
-    })
+    }))
 
 -- a statement without order and limit
 abbrev pub statement : Block → Query

@@ -7,7 +7,7 @@ use Rattle.sql_bound_query.specs.declared.query.BoundAggregate.TheVariants.{Coun
 use Rattle.base_refusals.specs.declared.bind.BindRefusal.TheVariants.{IntervalOnColumn}
 use Rattle.expr_scalar.specs.declared.expr.Expr.TheVariants as e
 use Rattle.expr_scalar.specs.declared.kind.Kind.TheVariants as kind
-use Rattle.sql_ast.specs.declared.tree.Clause.TheOpen.{Expr-F}
+use Rattle.sql_ast.specs.declared.tree.Block.TheOpen.{Expr-F}
 use Rattle.sql_ast.specs.declared.words.Span.{Span}
 use Rattle.base_value.specs.declared.value.Value.TheVariants as value
 use Rattle.sql_binder_steps.specs.declared.collected.BoundKind.TheVariants.{Value}
@@ -19,6 +19,7 @@ use Rattle.sql_binder_steps.specs.Values.{liked, in_list, denied, extracted, sub
 use Rattle.sql_binder_steps.specs.Values.{multiplying_of, all_of, any_of, case_of, case_else_of}
 use Rattle.sql_binder_steps.specs.Parts.{column, among_rows, grouped, aggregated, function_of, existing}
 use Rattle.sql_binder_steps.specs.Parts.{containing, only_value}
+use Rattle.sql_binder_steps.specs.Sets.{comparing}
 use Rattle.sql_binder.specs.Meanings.{Meaning, ChainMeaning, ArmMeaning, ExprNode, TermNode}
 use Rattle.sql_binder.specs.Meanings.{FactorNode, ArmNode}
 use Rattle.sql_binder.specs.Operands.{conditions, operands, chain, arm_conditions, arm_values}
@@ -40,6 +41,10 @@ module _ (sight : Sight) where
     x ← a.binds sight
     y ← b.binds sight
     lift (compared c x y)
+  binds_step (Expr-F.CompareQuery c q a t) = do
+    left ← alone (a.binds sight)
+    rows ← t sight
+    comparing sight c q left rows
   binds_step (Expr-F.IsNull a) = a.binds sight >>= (λ x. lift (null_test x))
   binds_step (Expr-F.Between a low high) = do
     x ← a.binds sight
@@ -103,6 +108,7 @@ aggregates_step (Expr-F.Negative a) = a.aggregates
 aggregates_step (Expr-F.Sum a terms) = a.aggregates || any_in_chain terms
 aggregates_step (Expr-F.Product a factors) = a.aggregates || any_in_chain factors
 aggregates_step (Expr-F.Compare c a b) = a.aggregates || b.aggregates
+aggregates_step (Expr-F.CompareQuery c q a t) = a.aggregates
 aggregates_step (Expr-F.IsNull a) = a.aggregates
 aggregates_step (Expr-F.Between a low high) = a.aggregates || low.aggregates || high.aggregates
 aggregates_step (Expr-F.Like a pattern) = a.aggregates

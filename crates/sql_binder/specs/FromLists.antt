@@ -2,7 +2,7 @@
 use Rattle.std.specs.Prelude.{ℕ, List, [], ◌∷◌, length, drop, Option, Some, None, unwrap_or}
 use Rattle.sql_bound_query.specs.declared.query.BoundExpr.{BoundExpr}
 use Rattle.sql_bound_query.specs.declared.query.BoundSource.{BoundSource}
-use Rattle.sql_ast.specs.declared.tree.Clause.TheOpen.{FromItem-F}
+use Rattle.sql_ast.specs.declared.tree.Block.TheOpen.{FromItem-F}
 use Rattle.sql_ast.specs.declared.words.JoinKind.{JoinKind}
 use Rattle.sql_binder_steps.specs.declared.collected.FromRows.{FromRows}
 use Rattle.sql_binder_steps.specs.declared.from.Joining.{Joining}

@@ -12,3 +12,4 @@ pub mod Examples
 pub mod EdgeCases
 pub mod WithCases
 pub mod LateralCases
+pub mod SetCases

@@ -1,8 +1,8 @@
 -- What each kind of node means: how it is bound, and what is read off it before.
 use Rattle.std.specs.Prelude.{ℕ, Bool, List, Option}
-use Rattle.sql_ast.specs.declared.tree.Clause.TheOpen.{Expr-F, Term-F, Factor-F, Arm-F, Item-F}
-use Rattle.sql_ast.specs.declared.tree.Clause.TheOpen.{Selected-F, FromItem-F, Join-F, Joined-F}
-use Rattle.sql_ast.specs.declared.tree.Clause.TheOpen.{Clause-F, Block-F}
+use Rattle.sql_ast.specs.declared.tree.Block.TheOpen.{Expr-F, Term-F, Factor-F, Arm-F, Item-F}
+use Rattle.sql_ast.specs.declared.tree.Block.TheOpen.{Selected-F, FromItem-F, Join-F, Joined-F}
+use Rattle.sql_ast.specs.declared.tree.Block.TheOpen.{Clause-F, Block-F, Select-F, SetPart-F}
 use Rattle.sql_ast.specs.declared.words.Span.{Span}
 use Rattle.sql_binder_steps.specs.declared.collected.BoundTable.{BoundTable}
 use Rattle.sql_binder_steps.specs.declared.collected.Chain.{Chain}
@@ -60,57 +60,73 @@ JoinedMeaning = Sight → Option FromRows → Binding FromRows
 abbrev pub BlockMeaning : Type 0
 BlockMeaning = Sight → Binding BoundTable
 
+-- a query after the first one of a set operation, from those before it
+abbrev pub SetPartMeaning : Type 0
+SetPartMeaning = Sight → BoundTable → Binding BoundTable
+
 -- an expression with the meanings of its parts in their place
 abbrev pub ExprNode : Type 0
-ExprNode = Expr-F ClauseMeaning Meaning FromItemMeaning SelectedMeaning ArmMeaning BlockMeaning
-    ChainMeaning ItemMeaning JoinMeaning JoinedMeaning ChainMeaning
+ExprNode = Expr-F BlockMeaning ClauseMeaning Meaning FromItemMeaning SelectedMeaning ArmMeaning
+    ChainMeaning ItemMeaning JoinMeaning JoinedMeaning BlockMeaning SetPartMeaning ChainMeaning
 
 -- a term with the meanings of its parts in their place
 abbrev pub TermNode : Type 0
-TermNode = Term-F ClauseMeaning Meaning FromItemMeaning SelectedMeaning ArmMeaning BlockMeaning
-    ChainMeaning ItemMeaning JoinMeaning JoinedMeaning ChainMeaning
+TermNode = Term-F BlockMeaning ClauseMeaning Meaning FromItemMeaning SelectedMeaning ArmMeaning
+    ChainMeaning ItemMeaning JoinMeaning JoinedMeaning BlockMeaning SetPartMeaning ChainMeaning
 
 -- a factor with the meanings of its parts in their place
 abbrev pub FactorNode : Type 0
-FactorNode = Factor-F ClauseMeaning Meaning FromItemMeaning SelectedMeaning ArmMeaning BlockMeaning
-    ChainMeaning ItemMeaning JoinMeaning JoinedMeaning ChainMeaning
+FactorNode = Factor-F BlockMeaning ClauseMeaning Meaning FromItemMeaning SelectedMeaning ArmMeaning
+    ChainMeaning ItemMeaning JoinMeaning JoinedMeaning BlockMeaning SetPartMeaning ChainMeaning
 
 -- an arm of a CASE with the meanings of its parts in their place
 abbrev pub ArmNode : Type 0
-ArmNode = Arm-F ClauseMeaning Meaning FromItemMeaning SelectedMeaning ArmMeaning BlockMeaning
-    ChainMeaning ItemMeaning JoinMeaning JoinedMeaning ChainMeaning
+ArmNode = Arm-F BlockMeaning ClauseMeaning Meaning FromItemMeaning SelectedMeaning ArmMeaning
+    ChainMeaning ItemMeaning JoinMeaning JoinedMeaning BlockMeaning SetPartMeaning ChainMeaning
 
 -- an item of a select list with the meanings of its parts in their place
 abbrev pub ItemNode : Type 0
-ItemNode = Item-F ClauseMeaning Meaning FromItemMeaning SelectedMeaning ArmMeaning BlockMeaning
-    ChainMeaning ItemMeaning JoinMeaning JoinedMeaning ChainMeaning
+ItemNode = Item-F BlockMeaning ClauseMeaning Meaning FromItemMeaning SelectedMeaning ArmMeaning
+    ChainMeaning ItemMeaning JoinMeaning JoinedMeaning BlockMeaning SetPartMeaning ChainMeaning
 
 -- a select list with the meanings of its parts in their place
 abbrev pub SelectedNode : Type 0
-SelectedNode = Selected-F ClauseMeaning Meaning FromItemMeaning SelectedMeaning ArmMeaning
-    BlockMeaning ChainMeaning ItemMeaning JoinMeaning JoinedMeaning ChainMeaning
+SelectedNode = Selected-F BlockMeaning ClauseMeaning Meaning FromItemMeaning SelectedMeaning
+    ArmMeaning ChainMeaning ItemMeaning JoinMeaning JoinedMeaning BlockMeaning SetPartMeaning
+    ChainMeaning
 
 -- an item of FROM with the meanings of its parts in their place
 abbrev pub FromItemNode : Type 0
-FromItemNode = FromItem-F ClauseMeaning Meaning FromItemMeaning SelectedMeaning ArmMeaning
-    BlockMeaning ChainMeaning ItemMeaning JoinMeaning JoinedMeaning ChainMeaning
+FromItemNode = FromItem-F BlockMeaning ClauseMeaning Meaning FromItemMeaning SelectedMeaning
+    ArmMeaning ChainMeaning ItemMeaning JoinMeaning JoinedMeaning BlockMeaning SetPartMeaning
+    ChainMeaning
 
 -- a join with the meanings of its parts in their place
 abbrev pub JoinNode : Type 0
-JoinNode = Join-F ClauseMeaning Meaning FromItemMeaning SelectedMeaning ArmMeaning BlockMeaning
-    ChainMeaning ItemMeaning JoinMeaning JoinedMeaning ChainMeaning
+JoinNode = Join-F BlockMeaning ClauseMeaning Meaning FromItemMeaning SelectedMeaning ArmMeaning
+    ChainMeaning ItemMeaning JoinMeaning JoinedMeaning BlockMeaning SetPartMeaning ChainMeaning
 
 -- what stands between commas with the meanings of its parts in their place
 abbrev pub JoinedNode : Type 0
-JoinedNode = Joined-F ClauseMeaning Meaning FromItemMeaning SelectedMeaning ArmMeaning BlockMeaning
-    ChainMeaning ItemMeaning JoinMeaning JoinedMeaning ChainMeaning
+JoinedNode = Joined-F BlockMeaning ClauseMeaning Meaning FromItemMeaning SelectedMeaning ArmMeaning
+    ChainMeaning ItemMeaning JoinMeaning JoinedMeaning BlockMeaning SetPartMeaning ChainMeaning
 
 -- WHERE or HAVING with the meanings of its parts in their place
 abbrev pub ClauseNode : Type 0
-ClauseNode = Clause-F ClauseMeaning Meaning FromItemMeaning SelectedMeaning ArmMeaning BlockMeaning
-    ChainMeaning ItemMeaning JoinMeaning JoinedMeaning ChainMeaning
+ClauseNode = Clause-F BlockMeaning ClauseMeaning Meaning FromItemMeaning SelectedMeaning ArmMeaning
+    ChainMeaning ItemMeaning JoinMeaning JoinedMeaning BlockMeaning SetPartMeaning ChainMeaning
 
 -- a query with the meanings of its parts in their place
 abbrev pub BlockNode : Type 0
-BlockNode = Block-F ClauseMeaning Meaning FromItemMeaning SelectedMeaning ArmMeaning BlockMeaning
-    ChainMeaning ItemMeaning JoinMeaning JoinedMeaning ChainMeaning
+BlockNode = Block-F BlockMeaning ClauseMeaning Meaning FromItemMeaning SelectedMeaning ArmMeaning
+    ChainMeaning ItemMeaning JoinMeaning JoinedMeaning BlockMeaning SetPartMeaning ChainMeaning
+
+-- one SELECT with the meanings of its parts in their place
+abbrev pub SelectNode : Type 0
+SelectNode = Select-F BlockMeaning ClauseMeaning Meaning FromItemMeaning SelectedMeaning ArmMeaning
+    ChainMeaning ItemMeaning JoinMeaning JoinedMeaning BlockMeaning SetPartMeaning ChainMeaning
+
+-- a query after the first one with the meaning of its query in its place
+abbrev pub SetPartNode : Type 0
+SetPartNode = SetPart-F BlockMeaning ClauseMeaning Meaning FromItemMeaning SelectedMeaning ArmMeaning
+    ChainMeaning ItemMeaning JoinMeaning JoinedMeaning BlockMeaning SetPartMeaning ChainMeaning

@@ -5,7 +5,7 @@ use Rattle.std.specs.declared.alloc.Global.{Global}
 use denote.Ref.{Bor, MutBor}
 use Rattle.base_row_laws.specs.Bags.{Each}
 use Rattle.sql_ast.specs.declared.tree.Arm.{Arm, out-Arm}
-use Rattle.sql_ast.specs.declared.tree.Block.{Block, out-Block}
+use Rattle.sql_ast.specs.declared.tree.Block.{Block}
 use Rattle.sql_ast.specs.declared.tree.Clause.{Clause}
 use Rattle.sql_ast.specs.declared.tree.Clause.TheVariants as clause
 use Rattle.sql_ast.specs.declared.tree.Expr.{Expr}
@@ -15,8 +15,10 @@ use Rattle.sql_ast.specs.declared.tree.FromItem.TheVariants as from_item
 use Rattle.sql_ast.specs.declared.tree.Item.{Item, out-Item}
 use Rattle.sql_ast.specs.declared.tree.Join.{Join, out-Join}
 use Rattle.sql_ast.specs.declared.tree.Joined.{Joined, out-Joined}
+use Rattle.sql_ast.specs.declared.tree.Select.{Select, out-Select}
 use Rattle.sql_ast.specs.declared.tree.Selected.{Selected}
 use Rattle.sql_ast.specs.declared.tree.Selected.TheVariants as selected
+use Rattle.sql_ast.specs.declared.tree.SetPart.{SetPart, out-SetPart}
 use Rattle.sql_ast.specs.declared.tree.Term.{Term, out-Term}
 use Rattle.sql_binder_steps.specs.declared.collected.BoundTable.{BoundTable}
 use Rattle.sql_binder_steps.specs.declared.collected.Collected.{Collected}
@@ -102,6 +104,10 @@ module _ (pre : Pre Expr) (post : Post Expr Typed) where
   abbrev pub BindsClause : Clause → Type 0
   BindsClause c = (e : Expr) → c ≡ clause.Condition e → BindsExpr pre post e
 
+-- the query after the first one of a set operation
+abbrev pub BindsSetPart : Pre Block → Post Block BoundTable → SetPart → Type 0
+BindsSetPart pre post p = BindsBlock pre post (out-SetPart p).query
+
 -- the query of a derived table or of a lateral item
 pub record BindsFromItem (pre : Pre Block) (post : Post Block BoundTable) (i : FromItem) : Type 0
   where
@@ -122,9 +128,9 @@ module _ (pre : Pre Expr) (post : Post Expr Typed) (pre_block : Pre Block)
   BindsJoined j = BindsFromItem pre_block post_block (out-Joined j).first
       × Each BindsJoin (out-Joined j).joins
 
-  -- what stands in a query
-  pub record BindsParts (q : Block) : Type 0 where
-    pub from : Each BindsJoined (out-Block q).from
-    pub condition : BindsClause pre post (out-Block q).condition
-    pub selected : BindsSelected pre post (out-Block q).selected
-    pub having : BindsClause pre post (out-Block q).having
+  -- what stands in one SELECT
+  pub record BindsParts (q : Select) : Type 0 where
+    pub from : Each BindsJoined (out-Select q).from
+    pub condition : BindsClause pre post (out-Select q).condition
+    pub selected : BindsSelected pre post (out-Select q).selected
+    pub having : BindsClause pre post (out-Select q).having

@@ -1,6 +1,6 @@
 //! Expressions that hold others. The function that binds an expression is a value here, so that
 //! each rule is proved alone.
-ghost use Rattle.sql_ast.specs.declared.tree.Clause.TheOpen.{Expr-F};
+ghost use Rattle.sql_ast.specs.declared.tree.Block.TheOpen.{Expr-F};
 ghost use Rattle.sql_binder.specs.Expressions as spec;
 ghost use Rattle.sql_binder.specs.Binding.{meaning};
 ghost use Rattle.sql_binder_steps.specs.Names.{sight_of};

@@ -4,6 +4,7 @@ ghost use Rattle.sql_binder.specs.EdgeCases.{MovedDates, ViewOfNames, Chains, Co
 ghost use Rattle.sql_binder.specs.EdgeCases.{Groups, SightsOfParts, OrderInFrom, OrderInViews};
 ghost use Rattle.sql_binder.specs.WithCases.{NamesOfWith, RefusalsOfWith};
 ghost use Rattle.sql_binder.specs.LateralCases.{BoundLaterals, RefusedLaterals};
+ghost use Rattle.sql_binder.specs.SetCases.{BoundSets, RefusedSets};
 ghost use Rattle.sql_binder.specs.Laws.{Resolution, OnlyColumn, BoundOrRefused, NotBoth, OneWay};
 
 /// A name is looked for in the innermost query that has it, and nowhere else; and the place that it
@@ -26,6 +27,7 @@ pub fn worked_refusals()
     ensures later { LaterRefusals }
     ensures with_queries { RefusalsOfWith }
     ensures laterals { RefusedLaterals }
+    ensures sets { RefusedSets }
 {}
 
 /// Queries bound by hand, and where the order of binding or the sight of a part decides.
@@ -40,4 +42,5 @@ pub fn worked_bindings()
     ensures view_order { OrderInViews }
     ensures with_queries { NamesOfWith }
     ensures laterals { BoundLaterals }
+    ensures sets { BoundSets }
 {}

@@ -92,6 +92,7 @@ impl<
             Expr::Sum(a, terms) => self.exprs.sum(site, state, a, terms.as_slice()),
             Expr::Product(a, factors) => self.exprs.product(site, state, a, factors.as_slice()),
             Expr::Compare(c, a, b) => self.exprs.compare(site, state, *c, a, b),
+            Expr::CompareQuery(c, k, a, q) => self.compare_query(site, state, *c, *k, a, q),
             Expr::IsNull(a) => self.exprs.null_test(site, state, a),
             Expr::Between(a, low, high) => self.exprs.between(site, state, a, low, high),
             Expr::Like(a, pattern) => self.exprs.like(site, state, a, pattern),

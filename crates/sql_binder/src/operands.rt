@@ -1,7 +1,7 @@
 //! Lists of operands: AND and OR, IN lists, chains of operations, and CASE.
 ghost use Rattle.std.specs.Prelude.{map};
 ghost use Rattle.base_row_laws.specs.Bags.{Each};
-ghost use Rattle.sql_ast.specs.declared.tree.Clause.TheOpen.{Expr-F};
+ghost use Rattle.sql_ast.specs.declared.tree.Block.TheOpen.{Expr-F};
 ghost use Rattle.sql_binder.specs.Operands as operands;
 ghost use Rattle.sql_binder.specs.Expressions as exprs;
 ghost use Rattle.sql_binder.specs.Binding.{meaning, term_meaning, factor_meaning, arm_meaning};

@@ -1,7 +1,7 @@
 //! Queries in other queries: in expressions, and as items of FROM. The function that binds a query
 //! is a value here too.
 ghost use Rattle.std.specs.Prelude.{None};
-ghost use Rattle.sql_ast.specs.declared.tree.Clause.TheOpen.{Expr-F};
+ghost use Rattle.sql_ast.specs.declared.tree.Block.TheOpen.{Expr-F};
 ghost use Rattle.sql_binder.specs.Expressions as spec;
 ghost use Rattle.sql_binder.specs.Binding.{meaning, block_meaning, from_item_meaning};
 ghost use Rattle.sql_binder_steps.specs.Names.{sight_of};
@@ -10,13 +10,13 @@ ghost use Rattle.sql_binder_steps.specs.Parts.{hiding, inside};
 ghost use Rattle.sql_binder_steps.specs.Steps.{Binds, alone};
 
 use crate::exprs::ExprBinder;
-use sql_ast::{Block, Expr, FromItem};
+use sql_ast::{Block, Comparison, Expr, FromItem, Quantifier};
 use sql_binder_steps::BindFault;
 use sql_binder_steps::collected::{BoundTable, Collected, FromRows, Typed};
 use sql_binder_steps::from::{derived_rows, lateral_rows, table_rows};
 use sql_binder_steps::names::alias_of;
 use sql_binder_steps::scope::{Level, ScopeColumn, Site};
-use sql_binder_steps::steps::{before, containing, existing, only_value};
+use sql_binder_steps::steps::{before, comparing, containing, existing, only_value};
 use sqlite_items::Boxed;
 use std::alloc::Global;
 
@@ -92,6 +92,28 @@ impl<
         let left = self.exprs.part(site, state, a.get())?;
         let t = self.subquery(site, state, q)?;
         let t = containing(self.exprs.alloc, site, state, left, t)?;
+        Ok(t)
+    }
+
+    /// `a < any (select ..)` and `a < all (select ..)`
+    pub(crate) fn compare_query(
+        &self,
+        site: &Site<'_>,
+        state: &mut Collected,
+        c: Comparison,
+        k: Quantifier,
+        a: &Boxed<Expr>,
+        q: &Boxed<Block>,
+    ) -> Result<Typed, BindFault>
+        requires left { BindsExpr (E.pre self.now.exprs.expr) (E.post self.now.exprs.expr) a.now }
+        requires query { BindsBlock (Q.pre self.now.query) (Q.post self.now.query) q.now }
+        ensures { Binds (spec.binds_step (sight_of site.now)
+            (Expr-F.CompareQuery c k (meaning a.now) (block_meaning q.now)) state.old) result
+            state.new }
+    {
+        let left = self.exprs.part(site, state, a.get())?;
+        let t = self.subquery(site, state, q)?;
+        let t = comparing(self.exprs.alloc, site, state, c, k, left, t)?;
         Ok(t)
     }
 

@@ -7,7 +7,7 @@ ghost use Rattle.sql_binder.specs.Binding.{meaning, term_meaning, factor_meaning
 ghost use Rattle.sql_binder.specs.Binding.{item_meaning, selected_meaning};
 
 use base_text::Text;
-use sql_ast::{Arm, Block, Clause, Expr, Factor, Item, Name, Selected, Span, Term};
+use sql_ast::{Arm, Clause, Expr, Factor, Item, Name, Select, Selected, Span, Term};
 use sql_binder_steps::names::share;
 use std::alloc::{AllocError, Global};
 
@@ -24,6 +24,7 @@ fn aggregates(e: &Expr) -> bool
             aggregates(a.get())
         }
         Expr::Not(a) | Expr::Extract(_, a) | Expr::Substring(a, _, _) => aggregates(a.get()),
+        Expr::CompareQuery(_, _, a, _) => aggregates(a.get()),
         Expr::Sum(a, terms) => aggregates(a.get()) || any_in_terms(terms.as_slice()),
         Expr::Product(a, factors) => aggregates(a.get()) || any_in_factors(factors.as_slice()),
         Expr::Compare(_, a, b) => aggregates(a.get()) || aggregates(b.get()),
@@ -152,9 +153,9 @@ fn is_there(c: &Clause) -> bool
 }
 
 /// Whether groups are made.
-#[tactic(auto, unfolding(crate::specs::Binding::is_grouped_block, crate::specs::Blocks::is_grouped))]
-pub fn is_grouped(q: &Block) -> bool
-    ensures { result ≡ trees.is_grouped_block q.now }
+#[tactic(auto, unfolding(crate::specs::Binding::is_grouped_select, crate::specs::Blocks::is_grouped))]
+pub fn is_grouped(q: &Select) -> bool
+    ensures { result ≡ trees.is_grouped_select q.now }
 {
     !q.group.is_empty() || is_there(&q.having) || items_aggregate(&q.selected)
 }
@@ -173,6 +174,7 @@ pub fn interval_of(e: &Expr) -> Result<Option<(Text, Span)>, AllocError>
         Expr::Negative(_) | Expr::Sum(_, _) | Expr::Product(_, _) => Ok(None),
         Expr::Compare(_, _, _) | Expr::IsNull(_) | Expr::Between(_, _, _) => Ok(None),
         Expr::Like(_, _) | Expr::InList(_, _) | Expr::InQuery(_, _) => Ok(None),
+        Expr::CompareQuery(_, _, _, _) => Ok(None),
         Expr::Exists(_) | Expr::Scalar(_) | Expr::Not(_) => Ok(None),
         Expr::And(_, _) | Expr::Or(_, _) | Expr::Case(_) | Expr::CaseElse(_, _) => Ok(None),
         Expr::Extract(_, _) | Expr::Substring(_, _, _) | Expr::CountRows => Ok(None),
@@ -194,6 +196,7 @@ fn own_name(alloc: Global, e: &Expr) -> Result<Name, AllocError>
         Expr::Negative(_) | Expr::Sum(_, _) | Expr::Product(_, _) => no_name(alloc),
         Expr::Compare(_, _, _) | Expr::IsNull(_) | Expr::Between(_, _, _) => no_name(alloc),
         Expr::Like(_, _) | Expr::InList(_, _) | Expr::InQuery(_, _) => no_name(alloc),
+        Expr::CompareQuery(_, _, _, _) => no_name(alloc),
         Expr::Exists(_) | Expr::Scalar(_) | Expr::Not(_) => no_name(alloc),
         Expr::And(_, _) | Expr::Or(_, _) | Expr::Case(_) | Expr::CaseElse(_, _) => no_name(alloc),
         Expr::Extract(_, _) | Expr::Substring(_, _, _) | Expr::CountRows => no_name(alloc),

@@ -17,7 +17,7 @@ use Rattle.sql_binder.specs.Operands.{conditions, operands, chain, arm_condition
 use Rattle.sql_binder.specs.FromLists.{on_condition, on_joining, joins, chained, from_list}
 use Rattle.sql_binder.specs.Clauses.{condition, shown_item, shown_items, select}
 use Rattle.sql_binder.specs.Blocks.{is_grouped, from_where, over_rows, group_lists, over_groups}
-use Rattle.sql_binder.specs.Binding.{clauses_of, is_grouped_block, bound_query, bound_view}
+use Rattle.sql_binder.specs.Binding.{clauses_of, is_grouped_select, bound_query, bound_view}
 use Rattle.base_date.specs.Move.{times}
 use Rattle.base_decimal.specs.Decimal.{rescaled, sum_of, difference_of, quotient_of}
 use Rattle.base_text.specs.Pattern.{is_like, some_rest}
@@ -51,7 +51,7 @@ unfolding input aggregate alone apart counted take_aggregates is_met ends means 
     present holding shown_part star keys_of plain closing once_each output_place order_of conditions
     operands chain arm_conditions arm_values on_condition on_joining joins chained from_list
     condition shown_item shown_items select is_grouped from_where over_rows group_lists over_groups
-    clauses_of is_grouped_block bound_query bound_view times answer rows operated values truths
+    clauses_of is_grouped_select bound_query bound_view times answer rows operated values truths
     chosen rescaled sum_of difference_of quotient_of is_like some_rest
 plain_statements = (simp answered, simp answered, simp answered, simp answered)
 
@@ -65,7 +65,7 @@ unfolding input aggregate alone apart counted take_aggregates is_met ends means 
     present holding shown_part star keys_of plain closing once_each output_place order_of conditions
     operands chain arm_conditions arm_values on_condition on_joining joins chained from_list
     condition shown_item shown_items select is_grouped from_where over_rows group_lists over_groups
-    clauses_of is_grouped_block bound_query bound_view times answer rows operated values truths
+    clauses_of is_grouped_select bound_query bound_view times answer rows operated values truths
     chosen rescaled sum_of difference_of quotient_of is_like some_rest
 balances = (simp answered, simp answered)
 
@@ -79,7 +79,7 @@ unfolding input aggregate alone apart counted take_aggregates is_met ends means 
     present holding shown_part star keys_of plain closing once_each output_place order_of conditions
     operands chain arm_conditions arm_values on_condition on_joining joins chained from_list
     condition shown_item shown_items select is_grouped from_where over_rows group_lists over_groups
-    clauses_of is_grouped_block bound_query bound_view times answer rows operated values truths
+    clauses_of is_grouped_select bound_query bound_view times answer rows operated values truths
     chosen rescaled sum_of difference_of quotient_of is_like some_rest
 divided_conditions = (simp answered, simp answered, simp answered, simp answered)
 
@@ -93,7 +93,7 @@ unfolding input aggregate alone apart counted take_aggregates is_met ends means 
     present holding shown_part star keys_of plain closing once_each output_place order_of conditions
     operands chain arm_conditions arm_values on_condition on_joining joins chained from_list
     condition shown_item shown_items select is_grouped from_where over_rows group_lists over_groups
-    clauses_of is_grouped_block bound_query bound_view times answer rows operated values truths
+    clauses_of is_grouped_select bound_query bound_view times answer rows operated values truths
     chosen rescaled sum_of difference_of quotient_of is_like some_rest
 sums_of_largest = (simp answered, simp answered, simp answered)
 
@@ -107,7 +107,7 @@ unfolding input aggregate alone apart counted take_aggregates is_met ends means 
     present holding shown_part star keys_of plain closing once_each output_place order_of conditions
     operands chain arm_conditions arm_values on_condition on_joining joins chained from_list
     condition shown_item shown_items select is_grouped from_where over_rows group_lists over_groups
-    clauses_of is_grouped_block bound_query bound_view times answer rows operated values truths
+    clauses_of is_grouped_select bound_query bound_view times answer rows operated values truths
     chosen rescaled sum_of difference_of quotient_of is_like some_rest
 counts_of_orders = (simp answered, simp answered)
 
@@ -121,7 +121,7 @@ unfolding input aggregate alone apart counted take_aggregates is_met ends means 
     present holding shown_part star keys_of plain closing once_each output_place order_of conditions
     operands chain arm_conditions arm_values on_condition on_joining joins chained from_list
     condition shown_item shown_items select is_grouped from_where over_rows group_lists over_groups
-    clauses_of is_grouped_block bound_query bound_view times answer rows operated values truths
+    clauses_of is_grouped_select bound_query bound_view times answer rows operated values truths
     chosen rescaled sum_of difference_of quotient_of is_like some_rest
 regions_not_in = (simp answered, simp answered, simp answered)
 
@@ -135,7 +135,7 @@ unfolding input aggregate alone apart counted take_aggregates is_met ends means 
     present holding shown_part star keys_of plain closing once_each output_place order_of conditions
     operands chain arm_conditions arm_values on_condition on_joining joins chained from_list
     condition shown_item shown_items select is_grouped from_where over_rows group_lists over_groups
-    clauses_of is_grouped_block bound_query bound_view times answer rows operated values truths
+    clauses_of is_grouped_select bound_query bound_view times answer rows operated values truths
     chosen rescaled sum_of difference_of quotient_of is_like some_rest
 one_order = (simp answered, simp answered)
 
@@ -149,7 +149,7 @@ unfolding input aggregate alone apart counted take_aggregates is_met ends means 
     present holding shown_part star keys_of plain closing once_each output_place order_of conditions
     operands chain arm_conditions arm_values on_condition on_joining joins chained from_list
     condition shown_item shown_items select is_grouped from_where over_rows group_lists over_groups
-    clauses_of is_grouped_block bound_query bound_view times answer rows operated values truths
+    clauses_of is_grouped_select bound_query bound_view times answer rows operated values truths
     chosen rescaled sum_of difference_of quotient_of is_like some_rest
 regions_of_orders = simp answered
 
@@ -163,7 +163,7 @@ unfolding input aggregate alone apart counted take_aggregates is_met ends means 
     present holding shown_part star keys_of plain closing once_each output_place order_of conditions
     operands chain arm_conditions arm_values on_condition on_joining joins chained from_list
     condition shown_item shown_items select is_grouped from_where over_rows group_lists over_groups
-    clauses_of is_grouped_block bound_query bound_view times answer rows operated values truths
+    clauses_of is_grouped_select bound_query bound_view times answer rows operated values truths
     chosen rescaled sum_of difference_of quotient_of is_like some_rest
 subqueries_of_on = (simp answered, simp answered)
 
@@ -177,7 +177,7 @@ unfolding input aggregate alone apart counted take_aggregates is_met ends means 
     present holding shown_part star keys_of plain closing once_each output_place order_of conditions
     operands chain arm_conditions arm_values on_condition on_joining joins chained from_list
     condition shown_item shown_items select is_grouped from_where over_rows group_lists over_groups
-    clauses_of is_grouped_block bound_query bound_view times answer rows operated values truths
+    clauses_of is_grouped_select bound_query bound_view times answer rows operated values truths
     chosen rescaled sum_of difference_of quotient_of is_like some_rest
 answered_laterals = (simp answered, simp answered)
 
@@ -191,7 +191,7 @@ unfolding input aggregate alone apart counted take_aggregates is_met ends means 
     present holding shown_part star keys_of plain closing once_each output_place order_of conditions
     operands chain arm_conditions arm_values on_condition on_joining joins chained from_list
     condition shown_item shown_items select is_grouped from_where over_rows group_lists over_groups
-    clauses_of is_grouped_block bound_query bound_view times answer rows operated values truths
+    clauses_of is_grouped_select bound_query bound_view times answer rows operated values truths
     chosen rescaled sum_of difference_of quotient_of is_like some_rest
 group_of_no_rows = (simp answered, simp answered, simp answered, simp answered)
 
@@ -205,6 +205,6 @@ unfolding input aggregate alone apart counted take_aggregates is_met ends means 
     present holding shown_part star keys_of plain closing once_each output_place order_of conditions
     operands chain arm_conditions arm_values on_condition on_joining joins chained from_list
     condition shown_item shown_items select is_grouped from_where over_rows group_lists over_groups
-    clauses_of is_grouped_block bound_query bound_view times answer rows operated values truths
+    clauses_of is_grouped_select bound_query bound_view times answer rows operated values truths
     chosen rescaled sum_of difference_of quotient_of is_like some_rest
 distribution_of_orders = simp answered

@@ -9,6 +9,8 @@ pub mod TypedItems
 pub mod TypedFrom
 pub mod TypedClauses
 pub mod TypedBlocks
+pub mod TypedSets
+pub mod RolledTrees
 pub mod TypedTrees
 pub mod KeepsProofs
 pub mod NamesProofs

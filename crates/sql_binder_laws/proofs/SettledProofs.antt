@@ -16,7 +16,7 @@ use Rattle.sql_binder.specs.Operands.{conditions, operands, chain, arm_condition
 use Rattle.sql_binder.specs.FromLists.{on_condition, on_joining, joins, chained, from_list}
 use Rattle.sql_binder.specs.Clauses.{condition, shown_item, shown_items, select}
 use Rattle.sql_binder.specs.Blocks.{is_grouped, from_where, over_rows, group_lists, over_groups}
-use Rattle.sql_binder.specs.Binding.{clauses_of, is_grouped_block, bound_query, bound_view}
+use Rattle.sql_binder.specs.Binding.{clauses_of, is_grouped_select, bound_query, bound_view}
 use Rattle.base_date.specs.Move.{times}
 use Rattle.sql_binder.proofs.Applied.{computed}
 use Rattle.sql_binder_laws.specs.Settled.{ItemsOfFrom, OrderOfIn, OperandsFirst, NamesFurtherOut}
@@ -33,7 +33,7 @@ unfolding input aggregate alone apart counted take_aggregates is_met ends means 
     shown_part star keys_of plain closing once_each output_place order_of conditions operands chain
     arm_conditions arm_values on_condition on_joining joins chained from_list condition shown_item
     shown_items select is_grouped from_where over_rows group_lists over_groups clauses_of
-    is_grouped_block bound_query bound_view times
+    is_grouped_select bound_query bound_view times
 items_of_from = (
   simp computed,
   simp computed,
@@ -53,7 +53,7 @@ unfolding input aggregate alone apart counted take_aggregates is_met ends means 
     shown_part star keys_of plain closing once_each output_place order_of conditions operands chain
     arm_conditions arm_values on_condition on_joining joins chained from_list condition shown_item
     shown_items select is_grouped from_where over_rows group_lists over_groups clauses_of
-    is_grouped_block bound_query bound_view times
+    is_grouped_select bound_query bound_view times
 values_as_conditions = (
   simp computed,
   simp computed,
@@ -75,7 +75,7 @@ unfolding input aggregate alone apart counted take_aggregates is_met ends means 
     shown_part star keys_of plain closing once_each output_place order_of conditions operands chain
     arm_conditions arm_values on_condition on_joining joins chained from_list condition shown_item
     shown_items select is_grouped from_where over_rows group_lists over_groups clauses_of
-    is_grouped_block bound_query bound_view times
+    is_grouped_select bound_query bound_view times
 order_of_in = (
   simp computed,
   simp computed,
@@ -101,7 +101,7 @@ unfolding input aggregate alone apart counted take_aggregates is_met ends means 
     shown_part star keys_of plain closing once_each output_place order_of conditions operands chain
     arm_conditions arm_values on_condition on_joining joins chained from_list condition shown_item
     shown_items select is_grouped from_where over_rows group_lists over_groups clauses_of
-    is_grouped_block bound_query bound_view times
+    is_grouped_select bound_query bound_view times
 operands_first = (simp computed, simp computed, simp computed)
 
 pub names_further_out : NamesFurtherOut
@@ -114,7 +114,7 @@ unfolding input aggregate alone apart counted take_aggregates is_met ends means 
     shown_part star keys_of plain closing once_each output_place order_of conditions operands chain
     arm_conditions arm_values on_condition on_joining joins chained from_list condition shown_item
     shown_items select is_grouped from_where over_rows group_lists over_groups clauses_of
-    is_grouped_block bound_query bound_view times
+    is_grouped_select bound_query bound_view times
 names_further_out = (simp computed, simp computed, simp computed, simp computed)
 
 pub names_of_on : NamesOfOn
@@ -127,7 +127,7 @@ unfolding input aggregate alone apart counted take_aggregates is_met ends means 
     shown_part star keys_of plain closing once_each output_place order_of conditions operands chain
     arm_conditions arm_values on_condition on_joining joins chained from_list condition shown_item
     shown_items select is_grouped from_where over_rows group_lists over_groups clauses_of
-    is_grouped_block bound_query bound_view times
+    is_grouped_select bound_query bound_view times
 names_of_on = simp computed
 
 pub repeated_keys : RepeatedKeys
@@ -140,7 +140,7 @@ unfolding input aggregate alone apart counted take_aggregates is_met ends means 
     shown_part star keys_of plain closing once_each output_place order_of conditions operands chain
     arm_conditions arm_values on_condition on_joining joins chained from_list condition shown_item
     shown_items select is_grouped from_where over_rows group_lists over_groups clauses_of
-    is_grouped_block bound_query bound_view times
+    is_grouped_select bound_query bound_view times
 repeated_keys = simp computed
 
 pub output_names : OutputNames
@@ -153,7 +153,7 @@ unfolding input aggregate alone apart counted take_aggregates is_met ends means 
     shown_part star keys_of plain closing once_each output_place order_of conditions operands chain
     arm_conditions arm_values on_condition on_joining joins chained from_list condition shown_item
     shown_items select is_grouped from_where over_rows group_lists over_groups clauses_of
-    is_grouped_block bound_query bound_view times
+    is_grouped_select bound_query bound_view times
 output_names = (simp computed, simp computed, simp computed, simp computed, simp computed)
 
 pub places_of_aggregates : PlacesOfAggregates
@@ -166,7 +166,7 @@ unfolding input aggregate alone apart counted take_aggregates is_met ends means 
     shown_part star keys_of plain closing once_each output_place order_of conditions operands chain
     arm_conditions arm_values on_condition on_joining joins chained from_list condition shown_item
     shown_items select is_grouped from_where over_rows group_lists over_groups clauses_of
-    is_grouped_block bound_query bound_view times
+    is_grouped_select bound_query bound_view times
 places_of_aggregates = (
   simp computed,
   simp computed,
@@ -186,5 +186,5 @@ unfolding input aggregate alone apart counted take_aggregates is_met ends means 
     shown_part star keys_of plain closing once_each output_place order_of conditions operands chain
     arm_conditions arm_values on_condition on_joining joins chained from_list condition shown_item
     shown_items select is_grouped from_where over_rows group_lists over_groups clauses_of
-    is_grouped_block bound_query bound_view times
+    is_grouped_select bound_query bound_view times
 turns_of_columns = (simp computed, simp computed, simp computed, simp computed)

@@ -21,12 +21,12 @@ use Rattle.sql_binder_steps.specs.declared.collected.FromRows.{FromRows}
 use Rattle.sql_binder_steps.specs.declared.collected.Shown.{Shown}
 use Rattle.sql_binder_steps.specs.declared.scope.ScopeColumn.{ScopeColumn}
 use Rattle.sql_binder.specs.Blocks.{is_grouped, from_where, over_rows, group_lists, over_groups}
-use Rattle.sql_binder.specs.Blocks.{clauses, block_step}
+use Rattle.sql_binder.specs.Blocks.{clauses, select_step}
 use Rattle.sql_binder.specs.Clauses.{condition_in, condition}
 use Rattle.sql_binder.specs.Clauses.{select_in, select}
 use Rattle.sql_binder.specs.FromLists.{from_list}
 use Rattle.sql_binder.specs.Meanings.{SelectedMeaning, ClauseMeaning}
-use Rattle.sql_binder.specs.Meanings.{JoinedMeaning, BlockNode}
+use Rattle.sql_binder.specs.Meanings.{JoinedMeaning, SelectNode}
 use Rattle.sql_binder_steps.specs.Names.{Sight, the_one}
 use Rattle.sql_binder_steps.specs.Parts.{inside}
 use Rattle.sql_binder_steps.specs.Parts.{keys_from, keys_of, plain, closing, once_each}
@@ -353,11 +353,11 @@ unfolding once_each
 once_kinds true t env h = ap (λ (m : KindsMeaning). m env) (kinds_Distinct t.block) ∙ h
 once_kinds false t env h = h
 
--- what a query means is typed, where its parts are
-pub block_typed : (q : BlockNode) → SelectedMeaningIs q.selected → Each JoinedMeaningIs q.from
-    → ClauseMeaningIs q.condition → ClauseMeaningIs q.having → BlockMeaningIs (block_step q)
+-- what one SELECT means is typed, where its parts are
+pub select_typed : (q : SelectNode) → SelectedMeaningIs q.selected → Each JoinedMeaningIs q.from
+    → ClauseMeaningIs q.condition → ClauseMeaningIs q.having → BlockMeaningIs (select_step q)
 unfolding apart
-block_typed q selected from condition having sight s ready b t h =
+select_typed q selected from condition having sight s ready b t h =
     let w = went (apart (clauses q sight) s) _ (b, t) h in
     let s0 : Collected = record s { aggregates = [] } in
     let v = went (clauses q sight s0) (λ r. Ok (r.0, record r.1 { aggregates = s.aggregates })) w.it

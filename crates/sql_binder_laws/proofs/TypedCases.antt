@@ -40,13 +40,13 @@ tests_of (v ∷ vs) (j ∷ js) ks f a = (
 )
 
 -- a kind that CASE brings to another
-abbrev RaisesKind : Kind → Kind → Type 0
+abbrev pub RaisesKind : Kind → Kind → Type 0
 RaisesKind (Number s) (Number t) = s ≤ t
 RaisesKind Text Text = Unit {0}
 RaisesKind Date Date = Unit {0}
 RaisesKind j k = ⊥
 
-abbrev Raises : BoundKind → Kind → Type 0
+abbrev pub Raises : BoundKind → Kind → Type 0
 Raises (Value j) k = RaisesKind j k
 Raises Condition k = ⊥
 
@@ -97,7 +97,7 @@ merged Date (Value Text) m h = cc
 merged Date Condition m h = cc
 
 -- all are brought to one kind
-abbrev AllRaise : List BoundKind → Kind → Type 0
+abbrev pub AllRaise : List BoundKind → Kind → Type 0
 AllRaise [] k = Unit {0}
 AllRaise (j ∷ js) k = Raises j k × AllRaise js k
 
@@ -128,7 +128,7 @@ value_kind_is : (k : BoundKind) (j : Kind) → kinds.value_kind k ≡ Ok j → k
 value_kind_is (Value i) j h = ap Value (ok_is i j h)
 value_kind_is Condition j h = cc
 
-all_raise : (js : List BoundKind) (m : Kind) → kinds.common_kind js ≡ Ok m → AllRaise js m
+pub all_raise : (js : List BoundKind) (m : Kind) → kinds.common_kind js ≡ Ok m → AllRaise js m
 all_raise [] m h = cc
 all_raise (k ∷ js) m h =
     let w = went (kinds.value_kind k) _ m h in
@@ -138,7 +138,7 @@ all_raise (k ∷ js) m h =
 scaled_number : (s t : ℕ) → s ≤ t → scaled_sort t (Of (Number s)) ≡ Of (Number t)
 scaled_number s t h = rw (le-leb s t h) refl
 
-scaled_is : (j : BoundKind) (m : Kind) (v : Expr) (ks : List Kind) → Raises j m → IsOf v j ks
+pub scaled_is : (j : BoundKind) (m : Kind) (v : Expr) (ks : List Kind) → Raises j m → IsOf v j ks
     → scaled_sort (kinds.scale_of m) (sort_of v ks) ≡ Of m
 scaled_is (Value (Number s)) (Number t) v ks r h = ap (scaled_sort t) h ∙ scaled_number s t r
 scaled_is (Value Text) Text v ks r h = ap (scaled_sort 0) h

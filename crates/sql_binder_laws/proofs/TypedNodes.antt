@@ -34,7 +34,7 @@ use Rattle.sql_binder.specs.Operands.{chain_from, chain, conditions_of_arms, arm
 use Rattle.sql_binder.specs.Operands.{values_of_arms, arm_values}
 use Rattle.sql_binder_steps.specs.Parts.{column}
 use Rattle.sql_binder_laws.proofs.TypedOperands.{AreOf}
-use Rattle.sql_binder_laws.proofs.TypedOperands.{column_typed, mark_typed}
+use Rattle.sql_binder_laws.proofs.TypedOperands.{column_typed, mark_typed, denied_typed}
 use Rattle.sql_binder_laws.proofs.TypedOperands.{are_more}
 use Rattle.sql_binder_laws.proofs.TypedSteps.{Ready, World, world_at, Known, Goes}
 use Rattle.sql_binder_laws.proofs.TypedSteps.{front_self, goes_on, goes_lift, goes_pure}
@@ -366,6 +366,24 @@ module _ (sight : Sight) (ready : Ready sight) where
       (λ w p q. mark_typed n 0 w.kinds
       (w.are n i (at w p q) ∙ known_on sight (λ v. kind_of_input i v.env ≡ Some (Number 0)) s t g
       known w p q)))
+
+  -- the same denied
+  pub denied_mark_goes : (i : Input) (s : Collected)
+      → Known sight (λ w. kind_of_input i w.env ≡ Some (Number 0)) s
+      → Goes sight (TypedIn sight)
+      (one_input i >>= (λ n. pure (typed (e.Not (e.IsMarked (e.Column n))) Condition))) s
+  denied_mark_goes i s known =
+      goes_on sight (λ w n. slice_get w.inputs n ≡ Some i) (TypedIn sight) (one_input i)
+      (λ n. pure (typed (e.Not (e.IsMarked (e.Column n))) Condition)) s
+      (goes_input sight i s (λ env f c ih ah. (
+        Number 0,
+        known (world_at sight s env f c ih ah) (front_self s.inputs)
+            (front_self s.aggregates),
+      )))
+      (λ n t g at. goes_pure sight (TypedIn sight) (typed (e.Not (e.IsMarked (e.Column n))) Condition) t
+      (λ w p q. denied_typed Condition (e.IsMarked (e.Column n)) w.kinds refl (mark_typed n 0 w.kinds
+      (w.are n i (at w p q) ∙ known_on sight (λ v. kind_of_input i v.env ≡ Some (Number 0)) s t g
+      known w p q))))
 
   -- a column
   pub column_goes : (wanted : Column) (s : Collected)

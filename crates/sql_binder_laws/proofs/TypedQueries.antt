@@ -7,17 +7,23 @@ use Rattle.std.proofs.lemmas.Bool.Decides.{Decides-eqb}
 use Rattle.expr_aggregates.specs.declared.function.AggregateFunction.{AggregateFunction}
 use Rattle.expr_aggregates.specs.declared.function.AggregateFunction.TheVariants.{Count, CountDistinct}
 use Rattle.expr_aggregates.specs.declared.function.AggregateFunction.TheVariants.{Sum, Avg, Min, Max}
-use Rattle.sql_bound_query.proofs.TypingOpened.{kind_Column, kind_Exists, kind_In, kind_Scalar}
+use Rattle.sql_bound_query.proofs.TypingOpened.{kind_Column, kind_Exists, kind_Any, kind_Scalar}
 use Rattle.sql_bound_query.proofs.TypingOpened.{kind_CountRows, kind_Of}
 use Rattle.sql_bound_query.specs.declared.query.BoundAggregate.{BoundAggregate}
 use Rattle.sql_bound_query.specs.declared.query.BoundAggregate.TheVariants as aggregate
 use Rattle.sql_bound_query.specs.declared.query.BoundBlock.{BoundBlock}
 use Rattle.sql_bound_query.specs.declared.query.BoundExpr.{BoundExpr}
+use Rattle.sql_ast.specs.declared.words.Comparison.{Comparison as Compared}
+use Rattle.sql_ast.specs.declared.words.Quantifier.{Quantifier}
+use Rattle.sql_ast.specs.declared.words.Quantifier.TheVariants as quantifier
+use Rattle.sql_bound_query.specs.declared.query.Input.{Input}
 use Rattle.sql_bound_query.specs.declared.query.Input.TheVariants as input
 use Rattle.sql_bound_query.specs.Typing.{EnvKinds, KindMeaning, where_some, where_true}
 use Rattle.sql_bound_query.specs.Typing.{only_kind, aggregate_sort, block_kinds, kind_of_input}
 use Rattle.sql_bound_query.specs.Typing.{kind_of_aggregate, typing_of}
 use Rattle.base_refusals.specs.declared.bind.BindRefusal.{BindRefusal}
+use Rattle.expr_operators.specs.declared.operator.Comparison.{Comparison}
+use Rattle.expr_operators.specs.declared.operator.Comparison.TheVariants.{Equal}
 use Rattle.expr_scalar.specs.declared.expr.Expr.TheVariants as e
 use Rattle.expr_scalar.specs.declared.kind.Kind.{Kind}
 use Rattle.expr_scalar.specs.declared.kind.Kind.TheVariants.{Number, Text, Date}
@@ -36,6 +42,7 @@ use Rattle.sql_binder_steps.specs.Names.{Around, Sight}
 use Rattle.sql_binder_steps.specs.Parts.{keys_by, rows_of, among_rows, grouped_by, grouped, aggregated}
 use Rattle.sql_binder_steps.specs.Parts.{reads_groups, any_outer, place_of, single, member, existing}
 use Rattle.sql_binder_steps.specs.Parts.{containing, only_value, mark}
+use Rattle.sql_binder_steps.specs.Sets.{comparing, asked, quantified}
 use Rattle.sql_binder_steps.specs.Steps.{Binding, ◌>>=◌, pure, refuse, lift, alone}
 use Rattle.sql_binder_steps.specs.Steps.{aggregate as one_aggregate, input as one_input}
 use Rattle.sql_binder_steps.specs.Values.{typed}
@@ -46,7 +53,7 @@ use Rattle.sql_binder_laws.proofs.TypedSteps.{HasKind, AggregatesHave, World, wo
 use Rattle.sql_binder_laws.proofs.TypedSteps.{Outcome, Goes, BoundIs, bound_is, same_pair, front_self}
 use Rattle.sql_binder_laws.proofs.TypedSteps.{each_front, goes_on, goes_lift, goes_aggregate}
 use Rattle.sql_binder_laws.proofs.TypedSteps.{goes_alone, known_on, grows_by}
-use Rattle.sql_binder_laws.proofs.TypedNodes.{TypedIn, MeaningIs, value_goes, mark_goes}
+use Rattle.sql_binder_laws.proofs.TypedNodes.{TypedIn, MeaningIs, value_goes, mark_goes, denied_mark_goes}
 
 some_is : {A : Type 0} (a b : A) → Some a ≡ Some b → a ≡ b
 some_is a b h = cc
@@ -275,12 +282,12 @@ comparable_by (Value Date) (Number t) x env f h = cc
 comparable_by (Value Date) Text x env f h = cc
 comparable_by Condition k x env f h = cc
 
-in_kind : (left : BoundKind) (x : BoundExpr) (q : BoundBlock) (headers : List Header) (k : Kind)
+any_kind : (c : Comparison) (left : BoundKind) (x : BoundExpr) (q : BoundBlock) (headers : List Header) (k : Kind)
     (env : EnvKinds) → single headers ≡ Ok k → fits left (Value k) ≡ true
     → BoundIs x left env → block_kinds q env ≡ Some (header_kinds headers)
-    → kind_of_input (input.In x q) env ≡ Some (Number 0)
-in_kind left x q headers k env one f is h =
-    ap (λ (m : KindMeaning). m env) (kind_In x q)
+    → kind_of_input (input.Any c x q) env ≡ Some (Number 0)
+any_kind c left x q headers k env one f is h =
+    ap (λ (m : KindMeaning). m env) (kind_Any c x q)
     ∙ ap (λ o. where_some o (λ js.
     where_some (only_kind js)
     (λ j. where_true (comparable ((typing_of x).sort env) (Of j)) (Number 0)))) h
@@ -364,16 +371,47 @@ module _ (sight : Sight) (ready : Ready sight) where
       goes_on sight (λ w (u : Unit {0}). Member left.kind b.headers) (TypedIn sight)
       (lift (member left.kind b.headers))
       (λ u. lift (place_of sight) >>=
-      (λ v. one_input (input.In left.expr b.block) >>= (λ k. pure (mark k)))) s
+      (λ v. one_input (input.Any Equal left.expr b.block) >>= (λ k. pure (mark k)))) s
       (goes_lift sight (λ w (u : Unit {0}). Member left.kind b.headers) (member left.kind b.headers)
       s (λ u h. λ w p q. member_is left.kind b.headers u h))
       (λ u t g m. goes_on sight (λ w (v : Unit {0}). Unit {0}) (TypedIn sight)
-      (lift (place_of sight)) (λ v. one_input (input.In left.expr b.block) >>= (λ k. pure (mark k)))
+      (lift (place_of sight)) (λ v. one_input (input.Any Equal left.expr b.block) >>= (λ k. pure (mark k)))
       t (placed_goes t)
-      (λ v x g' y. mark_goes sight ready (input.In left.expr b.block) x
+      (λ v x g' y. mark_goes sight ready (input.Any Equal left.expr b.block) x
       (λ w p q.
       let is = known_on sight (λ n. Member left.kind b.headers) t x g' m w p q in
-      in_kind left.kind left.expr b.block b.headers is.0 w.env is.1 is.2
+      any_kind Equal left.kind left.expr b.block b.headers is.0 w.env is.1 is.2
+      (known_on sight (λ n. BoundIs left.expr left.kind n.env) t x g'
+      (known_on sight (λ n. BoundIs left.expr left.kind n.env) s t g bound) w p q)
+      (known_on sight (λ n. KindsIn sight n b) t x g'
+      (known_on sight (λ n. KindsIn sight n b) s t g known) w p q))))
+
+  -- a mark, or what denies it
+  quantified_goes : (k : Quantifier) (i : Input) (s : Collected)
+      → Known sight (λ w. kind_of_input i w.env ≡ Some (Number 0)) s
+      → Goes sight (TypedIn sight) (one_input i >>= (λ j. pure (quantified k (mark j)))) s
+  quantified_goes quantifier.Any i s known = mark_goes sight ready i s known
+  quantified_goes quantifier.All i s known = denied_mark_goes sight ready i s known
+
+  comparing_goes : (c : Compared) (k : Quantifier) (left : Part) (b : BoundTable) (s : Collected)
+      → Known sight (λ w. BoundIs left.expr left.kind w.env) s
+      → Known sight (λ w. KindsIn sight w b) s
+      → Goes sight (TypedIn sight) (comparing sight c k left b) s
+  unfolding comparing
+  comparing_goes c k left b s bound known =
+      goes_on sight (λ w (u : Unit {0}). Member left.kind b.headers) (TypedIn sight)
+      (lift (member left.kind b.headers))
+      (λ u. lift (place_of sight) >>=
+      (λ v. one_input (input.Any (asked k c) left.expr b.block) >>= (λ j. pure (quantified k (mark j))))) s
+      (goes_lift sight (λ w (u : Unit {0}). Member left.kind b.headers) (member left.kind b.headers)
+      s (λ u h. λ w p q. member_is left.kind b.headers u h))
+      (λ u t g m. goes_on sight (λ w (v : Unit {0}). Unit {0}) (TypedIn sight)
+      (lift (place_of sight)) (λ v. one_input (input.Any (asked k c) left.expr b.block) >>= (λ j. pure (quantified k (mark j))))
+      t (placed_goes t)
+      (λ v x g' y. quantified_goes k (input.Any (asked k c) left.expr b.block) x
+      (λ w p q.
+      let is = known_on sight (λ n. Member left.kind b.headers) t x g' m w p q in
+      any_kind (asked k c) left.kind left.expr b.block b.headers is.0 w.env is.1 is.2
       (known_on sight (λ n. BoundIs left.expr left.kind n.env) t x g'
       (known_on sight (λ n. BoundIs left.expr left.kind n.env) s t g bound) w p q)
       (known_on sight (λ n. KindsIn sight n b) t x g'
@@ -390,4 +428,17 @@ module _ (sight : Sight) (ready : Ready sight) where
       (λ left t g bound. goes_on sight (KindsIn sight) (TypedIn sight) (q sight)
       (λ b. containing sight left b) t (block_goes q t also)
       (λ b u g' k. containing_goes left b u
+      (known_on sight (λ w. BoundIs left.expr left.kind w.env) t u g' bound) k))
+
+  pub compare_query_goes : (c : Compared) (k : Quantifier) (a : Meaning) (q : BlockMeaning) (s : Collected) → MeaningIs a
+      → BlockMeaningIs q
+      → Goes sight (TypedIn sight)
+      (alone (a.binds sight) >>= (λ left. q sight >>= (λ t. comparing sight c k left t))) s
+  compare_query_goes c k a q s is also =
+      goes_on sight (λ w (p : Part). BoundIs p.expr p.kind w.env) (TypedIn sight)
+      (alone (a.binds sight)) (λ left. q sight >>= (λ t. comparing sight c k left t)) s
+      (goes_alone sight (a.binds sight) s (is sight (record s { inputs = [] }) ready))
+      (λ left t g bound. goes_on sight (KindsIn sight) (TypedIn sight) (q sight)
+      (λ b. comparing sight c k left b) t (block_goes q t also)
+      (λ b u g' k. comparing_goes c k left b u
       (known_on sight (λ w. BoundIs left.expr left.kind w.env) t u g' bound) k))

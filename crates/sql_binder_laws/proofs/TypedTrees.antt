@@ -10,28 +10,30 @@ use Rattle.base_row_laws.proofs.Lists.{Each-append}
 use Rattle.base_date.specs.Date.{date_of}
 use Rattle.base_date.specs.declared.DateFault.{DateFault}
 use Rattle.base_date.specs.declared.DateFault.TheVariants as fault
-use Rattle.expr_aggregates.specs.declared.function.AggregateFunction.TheVariants.{Count, CountDistinct}
+use Rattle.expr_aggregates.specs.declared.function.AggregateFunction.TheVariants.{Count}
+use Rattle.expr_aggregates.specs.declared.function.AggregateFunction.TheVariants.{CountDistinct}
 use Rattle.sql_ast.specs.declared.statement.WithQuery.{WithQuery}
-use Rattle.sql_ast.specs.declared.tree.Clause.{Clause, roll-Clause, out-roll-Clause}
-use Rattle.sql_ast.specs.declared.tree.Expr.{Expr, roll-Expr, out-roll-Expr}
+use Rattle.sql_ast.specs.declared.tree.Clause.{Clause, roll-Clause}
+use Rattle.sql_ast.specs.declared.tree.Expr.{Expr, roll-Expr}
 use Rattle.sql_ast.specs.declared.tree.FromItem.{FromItem, roll-FromItem}
-use Rattle.sql_ast.specs.declared.tree.FromItem.{out-roll-FromItem}
+use Rattle.sql_ast.specs.declared.tree.Select.{Select, roll-Select}
+use Rattle.sql_ast.specs.declared.tree.SetPart.{SetPart, roll-SetPart}
 use Rattle.sql_ast.specs.declared.tree.Selected.{Selected, roll-Selected}
-use Rattle.sql_ast.specs.declared.tree.Selected.{out-roll-Selected}
-use Rattle.sql_ast.specs.declared.tree.Arm.{Arm, roll-Arm, out-roll-Arm}
-use Rattle.sql_ast.specs.declared.tree.Block.{Block, roll-Block, out-roll-Block}
-use Rattle.sql_ast.specs.declared.tree.Factor.{Factor, roll-Factor, out-roll-Factor}
-use Rattle.sql_ast.specs.declared.tree.Item.{Item, roll-Item, out-roll-Item}
-use Rattle.sql_ast.specs.declared.tree.Join.{Join, roll-Join, out-roll-Join}
-use Rattle.sql_ast.specs.declared.tree.Joined.{Joined, roll-Joined, out-roll-Joined}
-use Rattle.sql_ast.specs.declared.tree.Term.{Term, roll-Term, out-roll-Term}
-use Rattle.sql_ast.specs.declared.tree.Clause.TheOpen.{Clause-F, Expr-F, FromItem-F, Selected-F}
-use Rattle.sql_ast.specs.declared.tree.Clause.TheOpen.{Arm-F, Block-F, Factor-F, Item-F, Join-F}
-use Rattle.sql_ast.specs.declared.tree.Clause.TheOpen.{Joined-F, Term-F}
-use Rattle.sql_ast.specs.declared.tree.Clause.TheFolds.{ind-Block, map-Clause, map-Expr}
-use Rattle.sql_ast.specs.declared.tree.Clause.TheFolds.{map-FromItem, map-Selected, map-Arm}
-use Rattle.sql_ast.specs.declared.tree.Clause.TheFolds.{map-Block, map-Factor, map-Item, map-Join}
-use Rattle.sql_ast.specs.declared.tree.Clause.TheFolds.{map-Joined, map-Term}
+use Rattle.sql_ast.specs.declared.tree.Arm.{Arm, roll-Arm}
+use Rattle.sql_ast.specs.declared.tree.Block.{Block, roll-Block}
+use Rattle.sql_ast.specs.declared.tree.Factor.{Factor, roll-Factor}
+use Rattle.sql_ast.specs.declared.tree.Item.{Item, roll-Item}
+use Rattle.sql_ast.specs.declared.tree.Join.{Join, roll-Join}
+use Rattle.sql_ast.specs.declared.tree.Joined.{Joined, roll-Joined}
+use Rattle.sql_ast.specs.declared.tree.Term.{Term, roll-Term}
+use Rattle.sql_ast.specs.declared.tree.Block.TheOpen.{Clause-F, Expr-F, FromItem-F, Selected-F}
+use Rattle.sql_ast.specs.declared.tree.Block.TheOpen.{Arm-F, Block-F, Factor-F, Item-F, Join-F}
+use Rattle.sql_ast.specs.declared.tree.Block.TheOpen.{Joined-F, Term-F, Select-F, SetPart-F}
+use Rattle.sql_ast.specs.declared.tree.Block.TheFolds.{ind-Block, map-Clause, map-Expr}
+use Rattle.sql_ast.specs.declared.tree.Block.TheFolds.{map-FromItem, map-Selected, map-Arm}
+use Rattle.sql_ast.specs.declared.tree.Block.TheFolds.{map-Block, map-Factor, map-Item, map-Join}
+use Rattle.sql_ast.specs.declared.tree.Block.TheFolds.{map-Joined, map-Term, map-Select}
+use Rattle.sql_ast.specs.declared.tree.Block.TheFolds.{map-SetPart}
 use Rattle.sql_ast.specs.declared.words.Adding.{Adding}
 use Rattle.sql_ast.specs.declared.words.Span.{Span}
 use Rattle.sql_bound_query.specs.declared.query.BoundQuery.{BoundQuery}
@@ -41,45 +43,58 @@ use Rattle.sql_binder_steps.specs.declared.collected.Typed.{Typed}
 use Rattle.sql_binder.specs.Binding.{bound_view, clause_meaning, meaning, from_item_meaning}
 use Rattle.sql_binder.specs.Binding.{selected_meaning, arm_meaning, block_meaning, factor_meaning}
 use Rattle.sql_binder.specs.Binding.{item_meaning, join_meaning, joined_meaning, term_meaning}
-use Rattle.sql_binder.specs.Binding.{bound_query, bound_table, counted_table, start, with_views, with_views_from}
+use Rattle.sql_binder.specs.Binding.{select_meaning, set_part_meaning}
+use Rattle.sql_binder.specs.Binding.{bound_query, bound_table, counted_table, start, with_views}
+use Rattle.sql_binder.specs.Binding.{with_views_from}
 use Rattle.sql_binder.specs.Meanings.{Meaning}
 use Rattle.sql_binder_steps.specs.Names.{Sight}
 use Rattle.sql_binder.specs.Operands.{term_by}
 use Rattle.sql_binder_steps.specs.Parts.{function_of, order_of, outermost, distinct_names}
 use Rattle.sql_binder_steps.specs.Parts.{renamed_headers, new_name}
 use Rattle.sql_binder_steps.specs.Steps.{Name, lift}
-use Rattle.sql_binder_steps.specs.Values.{adding_of, multiplying_of, date_literal, dated_by, shifted}
+use Rattle.sql_binder_steps.specs.Values.{adding_of, multiplying_of, date_literal, dated_by}
+use Rattle.sql_binder_steps.specs.Values.{shifted}
 use Rattle.sql_binder_steps.specs.Values.{operated}
-use Rattle.sql_binder.proofs.Opened.{clause_meaning_at, clause_meaning_is, meaning_at, meaning_is}
-use Rattle.sql_binder.proofs.Opened.{from_item_meaning_at, from_item_meaning_is}
-use Rattle.sql_binder.proofs.Opened.{selected_meaning_at, selected_meaning_is, arm_meaning_at}
-use Rattle.sql_binder.proofs.Opened.{arm_meaning_is, block_meaning_at, block_meaning_is}
-use Rattle.sql_binder.proofs.Opened.{factor_meaning_at, factor_meaning_is, item_meaning_at}
-use Rattle.sql_binder.proofs.Opened.{item_meaning_is, join_meaning_at, join_meaning_is}
-use Rattle.sql_binder.proofs.Opened.{joined_meaning_at, joined_meaning_is, term_meaning_at}
-use Rattle.sql_binder.proofs.Opened.{term_meaning_is}
+use Rattle.sql_binder.proofs.Opened.{clause_meaning_at, meaning_at}
+use Rattle.sql_binder.proofs.Opened.{from_item_meaning_at}
+use Rattle.sql_binder.proofs.Opened.{selected_meaning_at, arm_meaning_at}
+use Rattle.sql_binder.proofs.Opened.{block_meaning_at}
+use Rattle.sql_binder.proofs.Opened.{factor_meaning_at, item_meaning_at}
+use Rattle.sql_binder.proofs.Opened.{join_meaning_at}
+use Rattle.sql_binder.proofs.Opened.{joined_meaning_at, term_meaning_at}
+use Rattle.sql_binder.proofs.Opened.{select_meaning_at}
+use Rattle.sql_binder.proofs.Opened.{set_part_meaning_at}
 use Rattle.sql_binder_laws.specs.WellTyped.{TableIsWellTyped, ViewIsWellTyped, BoundIsWellTyped}
 use Rattle.sql_binder_laws.specs.WellTyped.{header_kinds, ViewsAreTyped}
 use Rattle.sql_binder_laws.proofs.TypedOperands.{went, ok_is, number_typed, text_typed, date_typed}
-use Rattle.sql_binder_laws.proofs.TypedSteps.{Ready, Fits, Known, Goes, goes_on, goes_lift, goes_pure}
+use Rattle.sql_binder_laws.proofs.TypedSteps.{Ready, Fits, Known, Goes, goes_on, goes_lift}
+use Rattle.sql_binder_laws.proofs.TypedSteps.{goes_pure}
 use Rattle.sql_binder_laws.proofs.TypedSteps.{known_on}
 use Rattle.sql_binder_laws.proofs.TypedMade.{TypedIs}
 use Rattle.sql_binder_laws.proofs.TypedNodes.{TypedIn, MeaningIs, ChainMeaningIs, ArmMeaningIs}
 use Rattle.sql_binder_laws.proofs.TypedMade.{ChainIs, operated_is, shifted_is}
 use Rattle.sql_binder_laws.proofs.TypedNodes.{negative_goes}
 use Rattle.sql_binder_laws.proofs.TypedNodes.{null_test_goes, not_goes, like_goes, extract_goes}
-use Rattle.sql_binder_laws.proofs.TypedNodes.{substring_goes, compare_goes, between_goes, in_list_goes}
-use Rattle.sql_binder_laws.proofs.TypedNodes.{and_goes, or_goes, chain_goes, case_goes, case_else_goes}
+use Rattle.sql_binder_laws.proofs.TypedNodes.{substring_goes, compare_goes, between_goes}
+use Rattle.sql_binder_laws.proofs.TypedNodes.{in_list_goes}
+use Rattle.sql_binder_laws.proofs.TypedNodes.{and_goes, or_goes, chain_goes, case_goes}
+use Rattle.sql_binder_laws.proofs.TypedNodes.{case_else_goes}
 use Rattle.sql_binder_laws.proofs.TypedNodes.{column_goes}
 use Rattle.sql_binder_laws.proofs.TypedQueries.{BlockMeaningIs, count_rows_goes, aggregate_goes}
 use Rattle.sql_binder_laws.proofs.TypedQueries.{exists_goes, scalar_goes, in_query_goes}
+use Rattle.sql_binder_laws.proofs.TypedQueries.{compare_query_goes}
 use Rattle.sql_binder_laws.proofs.TypedItems.{FromItemMeaningIs}
 use Rattle.sql_binder_laws.proofs.TypedFrom.{JoinMeaningIs, JoinedMeaningIs}
 use Rattle.sql_binder_laws.proofs.TypedItems.{renamed_kinds, table_rows_is, derived_rows_is}
 use Rattle.sql_binder_laws.proofs.TypedItems.{lateral_rows_is}
 use Rattle.sql_binder_laws.proofs.TypedFrom.{join_is_typed, joined_is_typed}
 use Rattle.sql_binder_laws.proofs.TypedClauses.{ClauseMeaningIs, SelectedMeaningIs, ItemMeaningIs}
-use Rattle.sql_binder_laws.proofs.TypedBlocks.{block_typed}
+use Rattle.sql_binder_laws.proofs.TypedBlocks.{select_typed}
+use Rattle.sql_binder_laws.proofs.TypedSets.{SetPartMeaningIs, set_part_typed, combined_typed}
+use Rattle.sql_binder_laws.proofs.RolledTrees.{clause_rolled, expr_rolled, from_item_rolled}
+use Rattle.sql_binder_laws.proofs.RolledTrees.{selected_rolled, arm_rolled, block_rolled}
+use Rattle.sql_binder_laws.proofs.RolledTrees.{select_rolled, set_part_rolled, factor_rolled}
+use Rattle.sql_binder_laws.proofs.RolledTrees.{item_rolled, join_rolled, joined_rolled, term_rolled}
 
 -- each part with what there is to show of it
 abbrev ClauseWith : Type 0
@@ -99,6 +114,12 @@ ArmWith = (x : Arm) × ArmMeaningIs (arm_meaning x)
 
 abbrev BlockWith : Type 0
 BlockWith = (x : Block) × BlockMeaningIs (block_meaning x)
+
+abbrev SelectWith : Type 0
+SelectWith = (x : Select) × BlockMeaningIs (select_meaning x)
+
+abbrev SetPartWith : Type 0
+SetPartWith = (x : SetPart) × SetPartMeaningIs (set_part_meaning x)
 
 abbrev FactorWith : Type 0
 FactorWith = (x : Factor) × ChainMeaningIs (factor_meaning x)
@@ -146,12 +167,14 @@ term_goes None operator m is sight s c ready known =
     (λ d h. λ w p q. operated_is (adding_of operator) c b d w.kinds h
     (known_on sight (λ v. ChainIs c v.kinds) s t g known w p q) (k w p q)))
 
-expr_node : (y : Expr-F ClauseWith ExprWith FromItemWith SelectedWith ArmWith BlockWith FactorWith
-    ItemWith JoinWith JoinedWith TermWith)
-    → MeaningIs (meaning_at (map-Expr ClauseWith ExprWith FromItemWith SelectedWith ArmWith
-    BlockWith FactorWith ItemWith JoinWith JoinedWith TermWith Clause Expr FromItem Selected Arm
-    Block Factor Item Join Joined Term (λ x. x.0) (λ x. x.0) (λ x. x.0) (λ x. x.0) (λ x. x.0)
-    (λ x. x.0) (λ x. x.0) (λ x. x.0) (λ x. x.0) (λ x. x.0) (λ x. x.0) y))
+expr_node : (y : Expr-F BlockWith ClauseWith ExprWith FromItemWith SelectedWith ArmWith FactorWith
+    ItemWith JoinWith JoinedWith SelectWith SetPartWith TermWith)
+    → MeaningIs (meaning_at (map-Expr BlockWith ClauseWith ExprWith FromItemWith SelectedWith
+    ArmWith FactorWith ItemWith JoinWith JoinedWith SelectWith SetPartWith TermWith Block Clause
+    Expr FromItem Selected
+    Arm Factor Item Join Joined Select SetPart Term (λ x. x.0) (λ x. x.0) (λ x. x.0) (λ x. x.0) (λ
+    x. x.0) (λ x. x.0) (λ x. x.0) (λ x. x.0) (λ x. x.0) (λ x. x.0) (λ x. x.0) (λ x. x.0) (λ x. x.0)
+    y))
 unfolding meaning_at
 expr_node (Expr-F.Number c scale) sight s ready =
     goes_pure sight (TypedIn sight) _ s (λ w p q. number_typed scale c w.kinds)
@@ -171,6 +194,8 @@ expr_node (Expr-F.Product a factors) sight s ready =
     (each_of factor_meaning ChainMeaningIs factors)
 expr_node (Expr-F.Compare c a b) sight s ready =
     compare_goes sight ready c (meaning a.0) (meaning b.0) s a.1 b.1
+expr_node (Expr-F.CompareQuery c k a q) sight s ready =
+    compare_query_goes sight ready c k (meaning a.0) (block_meaning q.0) s a.1 q.1
 expr_node (Expr-F.IsNull a) sight s ready = null_test_goes sight ready (meaning a.0) s a.1
 expr_node (Expr-F.Between a low high) sight s ready =
     between_goes sight ready (meaning a.0) (meaning low.0) (meaning high.0) s a.1 low.1 high.1
@@ -205,24 +230,26 @@ expr_node (Expr-F.CountDistinct a) sight s ready =
 expr_node (Expr-F.Aggregate f a) sight s ready =
     aggregate_goes sight ready (function_of f) (meaning a.0) s a.1
 
-clause_node : (y : Clause-F ClauseWith ExprWith FromItemWith SelectedWith ArmWith BlockWith
-    FactorWith ItemWith JoinWith JoinedWith TermWith)
+clause_node : (y : Clause-F BlockWith ClauseWith ExprWith FromItemWith SelectedWith ArmWith
+    FactorWith ItemWith JoinWith JoinedWith SelectWith SetPartWith TermWith)
     → ClauseMeaningIs (clause_meaning_at
-    (map-Clause ClauseWith ExprWith FromItemWith SelectedWith ArmWith BlockWith FactorWith ItemWith
-    JoinWith JoinedWith TermWith Clause Expr FromItem Selected Arm Block Factor Item Join Joined
-    Term (λ x. x.0) (λ x. x.0) (λ x. x.0) (λ x. x.0) (λ x. x.0) (λ x. x.0) (λ x. x.0) (λ x. x.0)
-    (λ x. x.0) (λ x. x.0) (λ x. x.0) y))
+    (map-Clause BlockWith ClauseWith ExprWith FromItemWith SelectedWith ArmWith FactorWith ItemWith
+    JoinWith JoinedWith SelectWith SetPartWith TermWith Block Clause Expr FromItem Selected Arm
+    Factor Item Join Joined
+    Select SetPart Term (λ x. x.0) (λ x. x.0) (λ x. x.0) (λ x. x.0) (λ x. x.0) (λ x. x.0) (λ x. x.0)
+    (λ x. x.0) (λ x. x.0) (λ x. x.0) (λ x. x.0) (λ x. x.0) (λ x. x.0) y))
 unfolding clause_meaning_at
 clause_node Clause-F.Absent = tt
 clause_node (Clause-F.Condition e) = e.1
 
-from_item_node : (y : FromItem-F ClauseWith ExprWith FromItemWith SelectedWith ArmWith BlockWith
-    FactorWith ItemWith JoinWith JoinedWith TermWith)
+from_item_node : (y : FromItem-F BlockWith ClauseWith ExprWith FromItemWith SelectedWith ArmWith
+    FactorWith ItemWith JoinWith JoinedWith SelectWith SetPartWith TermWith)
     → FromItemMeaningIs (from_item_meaning_at
-    (map-FromItem ClauseWith ExprWith FromItemWith SelectedWith ArmWith BlockWith FactorWith
-    ItemWith JoinWith JoinedWith TermWith Clause Expr FromItem Selected Arm Block Factor Item Join
-    Joined Term (λ x. x.0) (λ x. x.0) (λ x. x.0) (λ x. x.0) (λ x. x.0) (λ x. x.0) (λ x. x.0)
-    (λ x. x.0) (λ x. x.0) (λ x. x.0) (λ x. x.0) y))
+    (map-FromItem BlockWith ClauseWith ExprWith FromItemWith SelectedWith ArmWith FactorWith
+    ItemWith JoinWith JoinedWith SelectWith SetPartWith TermWith Block Clause Expr FromItem Selected
+    Arm Factor Item Join
+    Joined Select SetPart Term (λ x. x.0) (λ x. x.0) (λ x. x.0) (λ x. x.0) (λ x. x.0) (λ x. x.0) (λ
+    x. x.0) (λ x. x.0) (λ x. x.0) (λ x. x.0) (λ x. x.0) (λ x. x.0) (λ x. x.0) y))
 unfolding from_item_meaning_at
 from_item_node (FromItem-F.Table name alias) = table_rows_is name (unwrap_or alias name)
 from_item_node (FromItem-F.Derived q alias names) =
@@ -230,46 +257,76 @@ from_item_node (FromItem-F.Derived q alias names) =
 from_item_node (FromItem-F.Lateral q alias names) =
     lateral_rows_is (block_meaning q.0) alias names q.1
 
-selected_node : (y : Selected-F ClauseWith ExprWith FromItemWith SelectedWith ArmWith BlockWith
-    FactorWith ItemWith JoinWith JoinedWith TermWith)
+selected_node : (y : Selected-F BlockWith ClauseWith ExprWith FromItemWith SelectedWith ArmWith
+    FactorWith ItemWith JoinWith JoinedWith SelectWith SetPartWith TermWith)
     → SelectedMeaningIs (selected_meaning_at
-    (map-Selected ClauseWith ExprWith FromItemWith SelectedWith ArmWith BlockWith FactorWith
-    ItemWith JoinWith JoinedWith TermWith Clause Expr FromItem Selected Arm Block Factor Item Join
-    Joined Term (λ x. x.0) (λ x. x.0) (λ x. x.0) (λ x. x.0) (λ x. x.0) (λ x. x.0) (λ x. x.0)
-    (λ x. x.0) (λ x. x.0) (λ x. x.0) (λ x. x.0) y))
+    (map-Selected BlockWith ClauseWith ExprWith FromItemWith SelectedWith ArmWith FactorWith
+    ItemWith JoinWith JoinedWith SelectWith SetPartWith TermWith Block Clause Expr FromItem Selected
+    Arm Factor Item Join
+    Joined Select SetPart Term (λ x. x.0) (λ x. x.0) (λ x. x.0) (λ x. x.0) (λ x. x.0) (λ x. x.0) (λ
+    x. x.0) (λ x. x.0) (λ x. x.0) (λ x. x.0) (λ x. x.0) (λ x. x.0) (λ x. x.0) y))
 unfolding selected_meaning_at
 selected_node Selected-F.All = tt
 selected_node (Selected-F.Items items) = each_of item_meaning ItemMeaningIs items
 
-arm_node : (y : Arm-F ClauseWith ExprWith FromItemWith SelectedWith ArmWith BlockWith FactorWith
-    ItemWith JoinWith JoinedWith TermWith)
+arm_node : (y : Arm-F BlockWith ClauseWith ExprWith FromItemWith SelectedWith ArmWith FactorWith
+    ItemWith JoinWith JoinedWith SelectWith SetPartWith TermWith)
     → ArmMeaningIs (arm_meaning_at
-    (map-Arm ClauseWith ExprWith FromItemWith SelectedWith ArmWith BlockWith FactorWith ItemWith
-    JoinWith JoinedWith TermWith Clause Expr FromItem Selected Arm Block Factor Item Join Joined
-    Term (λ x. x.0) (λ x. x.0) (λ x. x.0) (λ x. x.0) (λ x. x.0) (λ x. x.0) (λ x. x.0) (λ x. x.0)
-    (λ x. x.0) (λ x. x.0) (λ x. x.0) y))
+    (map-Arm BlockWith ClauseWith ExprWith FromItemWith SelectedWith ArmWith FactorWith ItemWith
+    JoinWith JoinedWith SelectWith SetPartWith TermWith Block Clause Expr FromItem Selected Arm
+    Factor Item Join Joined
+    Select SetPart Term (λ x. x.0) (λ x. x.0) (λ x. x.0) (λ x. x.0) (λ x. x.0) (λ x. x.0) (λ x. x.0)
+    (λ x. x.0) (λ x. x.0) (λ x. x.0) (λ x. x.0) (λ x. x.0) (λ x. x.0) y))
 unfolding arm_meaning_at
 arm_node y = (y.condition.1, y.value.1)
 
-block_node : (y : Block-F ClauseWith ExprWith FromItemWith SelectedWith ArmWith BlockWith FactorWith
-    ItemWith JoinWith JoinedWith TermWith)
+block_node : (y : Block-F BlockWith ClauseWith ExprWith FromItemWith SelectedWith ArmWith FactorWith
+    ItemWith JoinWith JoinedWith SelectWith SetPartWith TermWith)
     → BlockMeaningIs (block_meaning_at
-    (map-Block ClauseWith ExprWith FromItemWith SelectedWith ArmWith BlockWith FactorWith ItemWith
-    JoinWith JoinedWith TermWith Clause Expr FromItem Selected Arm Block Factor Item Join Joined
-    Term (λ x. x.0) (λ x. x.0) (λ x. x.0) (λ x. x.0) (λ x. x.0) (λ x. x.0) (λ x. x.0) (λ x. x.0)
-    (λ x. x.0) (λ x. x.0) (λ x. x.0) y))
+    (map-Block BlockWith ClauseWith ExprWith FromItemWith SelectedWith ArmWith FactorWith ItemWith
+    JoinWith JoinedWith SelectWith SetPartWith TermWith Block Clause Expr FromItem Selected Arm
+    Factor Item Join Joined
+    Select SetPart Term (λ x. x.0) (λ x. x.0) (λ x. x.0) (λ x. x.0) (λ x. x.0) (λ x. x.0) (λ x. x.0)
+    (λ x. x.0) (λ x. x.0) (λ x. x.0) (λ x. x.0) (λ x. x.0) (λ x. x.0) y))
 unfolding block_meaning_at
-block_node y =
-    block_typed _ y.selected.1 (each_of joined_meaning JoinedMeaningIs y.from) y.condition.1
+block_node (Block-F.Select q) = q.1
+block_node (Block-F.Combined first parts) =
+    combined_typed (block_meaning first.0) (map set_part_meaning (map (λ x. x.0) parts)) first.1
+    (each_of set_part_meaning SetPartMeaningIs parts)
+
+select_node : (y : Select-F BlockWith ClauseWith ExprWith FromItemWith SelectedWith ArmWith FactorWith
+    ItemWith JoinWith JoinedWith SelectWith SetPartWith TermWith)
+    → BlockMeaningIs (select_meaning_at
+    (map-Select BlockWith ClauseWith ExprWith FromItemWith SelectedWith ArmWith FactorWith ItemWith
+    JoinWith JoinedWith SelectWith SetPartWith TermWith Block Clause Expr FromItem Selected Arm
+    Factor Item Join Joined
+    Select SetPart Term (λ x. x.0) (λ x. x.0) (λ x. x.0) (λ x. x.0) (λ x. x.0) (λ x. x.0) (λ x. x.0)
+    (λ x. x.0) (λ x. x.0) (λ x. x.0) (λ x. x.0) (λ x. x.0) (λ x. x.0) y))
+unfolding select_meaning_at
+select_node y =
+    select_typed _ y.selected.1 (each_of joined_meaning JoinedMeaningIs y.from) y.condition.1
     y.having.1
 
-factor_node : (y : Factor-F ClauseWith ExprWith FromItemWith SelectedWith ArmWith BlockWith
-    FactorWith ItemWith JoinWith JoinedWith TermWith)
+set_part_node : (y : SetPart-F BlockWith ClauseWith ExprWith FromItemWith SelectedWith ArmWith FactorWith
+    ItemWith JoinWith JoinedWith SelectWith SetPartWith TermWith)
+    → SetPartMeaningIs (set_part_meaning_at
+    (map-SetPart BlockWith ClauseWith ExprWith FromItemWith SelectedWith ArmWith FactorWith ItemWith
+    JoinWith JoinedWith SelectWith SetPartWith TermWith Block Clause Expr FromItem Selected Arm
+    Factor Item Join Joined
+    Select SetPart Term (λ x. x.0) (λ x. x.0) (λ x. x.0) (λ x. x.0) (λ x. x.0) (λ x. x.0) (λ x. x.0)
+    (λ x. x.0) (λ x. x.0) (λ x. x.0) (λ x. x.0) (λ x. x.0) (λ x. x.0) y))
+unfolding set_part_meaning_at
+set_part_node y =
+    set_part_typed y.operator y.keeps_all (block_meaning y.query.0) y.query.1
+
+factor_node : (y : Factor-F BlockWith ClauseWith ExprWith FromItemWith SelectedWith ArmWith
+    FactorWith ItemWith JoinWith JoinedWith SelectWith SetPartWith TermWith)
     → ChainMeaningIs (factor_meaning_at
-    (map-Factor ClauseWith ExprWith FromItemWith SelectedWith ArmWith BlockWith FactorWith ItemWith
-    JoinWith JoinedWith TermWith Clause Expr FromItem Selected Arm Block Factor Item Join Joined
-    Term (λ x. x.0) (λ x. x.0) (λ x. x.0) (λ x. x.0) (λ x. x.0) (λ x. x.0) (λ x. x.0) (λ x. x.0)
-    (λ x. x.0) (λ x. x.0) (λ x. x.0) y))
+    (map-Factor BlockWith ClauseWith ExprWith FromItemWith SelectedWith ArmWith FactorWith ItemWith
+    JoinWith JoinedWith SelectWith SetPartWith TermWith Block Clause Expr FromItem Selected Arm
+    Factor Item Join Joined
+    Select SetPart Term (λ x. x.0) (λ x. x.0) (λ x. x.0) (λ x. x.0) (λ x. x.0) (λ x. x.0) (λ x. x.0)
+    (λ x. x.0) (λ x. x.0) (λ x. x.0) (λ x. x.0) (λ x. x.0) (λ x. x.0) y))
 unfolding factor_meaning_at
 factor_node y sight s c ready known =
     goes_on sight (TypedIn sight) (λ w d. ChainIs d w.kinds) ((meaning y.value.0).binds sight)
@@ -279,124 +336,81 @@ factor_node y sight s c ready known =
     (λ d h. λ w p q. operated_is (multiplying_of y.operator) c b d w.kinds h
     (known_on sight (λ v. ChainIs c v.kinds) s t g known w p q) (k w p q)))
 
-item_node : (y : Item-F ClauseWith ExprWith FromItemWith SelectedWith ArmWith BlockWith FactorWith
-    ItemWith JoinWith JoinedWith TermWith)
+item_node : (y : Item-F BlockWith ClauseWith ExprWith FromItemWith SelectedWith ArmWith FactorWith
+    ItemWith JoinWith JoinedWith SelectWith SetPartWith TermWith)
     → ItemMeaningIs (item_meaning_at
-    (map-Item ClauseWith ExprWith FromItemWith SelectedWith ArmWith BlockWith FactorWith ItemWith
-    JoinWith JoinedWith TermWith Clause Expr FromItem Selected Arm Block Factor Item Join Joined
-    Term (λ x. x.0) (λ x. x.0) (λ x. x.0) (λ x. x.0) (λ x. x.0) (λ x. x.0) (λ x. x.0) (λ x. x.0)
-    (λ x. x.0) (λ x. x.0) (λ x. x.0) y))
+    (map-Item BlockWith ClauseWith ExprWith FromItemWith SelectedWith ArmWith FactorWith ItemWith
+    JoinWith JoinedWith SelectWith SetPartWith TermWith Block Clause Expr FromItem Selected Arm
+    Factor Item Join Joined
+    Select SetPart Term (λ x. x.0) (λ x. x.0) (λ x. x.0) (λ x. x.0) (λ x. x.0) (λ x. x.0) (λ x. x.0)
+    (λ x. x.0) (λ x. x.0) (λ x. x.0) (λ x. x.0) (λ x. x.0) (λ x. x.0) y))
 unfolding item_meaning_at
 item_node y = y.value.1
 
-join_node : (y : Join-F ClauseWith ExprWith FromItemWith SelectedWith ArmWith BlockWith FactorWith
-    ItemWith JoinWith JoinedWith TermWith)
+join_node : (y : Join-F BlockWith ClauseWith ExprWith FromItemWith SelectedWith ArmWith FactorWith
+    ItemWith JoinWith JoinedWith SelectWith SetPartWith TermWith)
     → JoinMeaningIs (join_meaning_at
-    (map-Join ClauseWith ExprWith FromItemWith SelectedWith ArmWith BlockWith FactorWith ItemWith
-    JoinWith JoinedWith TermWith Clause Expr FromItem Selected Arm Block Factor Item Join Joined
-    Term (λ x. x.0) (λ x. x.0) (λ x. x.0) (λ x. x.0) (λ x. x.0) (λ x. x.0) (λ x. x.0) (λ x. x.0)
-    (λ x. x.0) (λ x. x.0) (λ x. x.0) y))
+    (map-Join BlockWith ClauseWith ExprWith FromItemWith SelectedWith ArmWith FactorWith ItemWith
+    JoinWith JoinedWith SelectWith SetPartWith TermWith Block Clause Expr FromItem Selected Arm
+    Factor Item Join Joined
+    Select SetPart Term (λ x. x.0) (λ x. x.0) (λ x. x.0) (λ x. x.0) (λ x. x.0) (λ x. x.0) (λ x. x.0)
+    (λ x. x.0) (λ x. x.0) (λ x. x.0) (λ x. x.0) (λ x. x.0) (λ x. x.0) y))
 unfolding join_meaning_at
 join_node y = join_is_typed (from_item_meaning y.item.0) y.kind (meaning y.condition.0) y.item.1
     y.condition.1
 
-joined_node : (y : Joined-F ClauseWith ExprWith FromItemWith SelectedWith ArmWith BlockWith
-    FactorWith ItemWith JoinWith JoinedWith TermWith)
+joined_node : (y : Joined-F BlockWith ClauseWith ExprWith FromItemWith SelectedWith ArmWith
+    FactorWith ItemWith JoinWith JoinedWith SelectWith SetPartWith TermWith)
     → JoinedMeaningIs (joined_meaning_at
-    (map-Joined ClauseWith ExprWith FromItemWith SelectedWith ArmWith BlockWith FactorWith ItemWith
-    JoinWith JoinedWith TermWith Clause Expr FromItem Selected Arm Block Factor Item Join Joined
-    Term (λ x. x.0) (λ x. x.0) (λ x. x.0) (λ x. x.0) (λ x. x.0) (λ x. x.0) (λ x. x.0) (λ x. x.0)
-    (λ x. x.0) (λ x. x.0) (λ x. x.0) y))
+    (map-Joined BlockWith ClauseWith ExprWith FromItemWith SelectedWith ArmWith FactorWith ItemWith
+    JoinWith JoinedWith SelectWith SetPartWith TermWith Block Clause Expr FromItem Selected Arm
+    Factor Item Join Joined
+    Select SetPart Term (λ x. x.0) (λ x. x.0) (λ x. x.0) (λ x. x.0) (λ x. x.0) (λ x. x.0) (λ x. x.0)
+    (λ x. x.0) (λ x. x.0) (λ x. x.0) (λ x. x.0) (λ x. x.0) (λ x. x.0) y))
 unfolding joined_meaning_at
 joined_node y = joined_is_typed (from_item_meaning y.first.0)
     (map join_meaning (map (λ x. x.0) y.joins)) y.first.1
     (each_of join_meaning JoinMeaningIs y.joins)
 
-term_node : (y : Term-F ClauseWith ExprWith FromItemWith SelectedWith ArmWith BlockWith FactorWith
-    ItemWith JoinWith JoinedWith TermWith)
+term_node : (y : Term-F BlockWith ClauseWith ExprWith FromItemWith SelectedWith ArmWith FactorWith
+    ItemWith JoinWith JoinedWith SelectWith SetPartWith TermWith)
     → ChainMeaningIs (term_meaning_at
-    (map-Term ClauseWith ExprWith FromItemWith SelectedWith ArmWith BlockWith FactorWith ItemWith
-    JoinWith JoinedWith TermWith Clause Expr FromItem Selected Arm Block Factor Item Join Joined
-    Term (λ x. x.0) (λ x. x.0) (λ x. x.0) (λ x. x.0) (λ x. x.0) (λ x. x.0) (λ x. x.0) (λ x. x.0)
-    (λ x. x.0) (λ x. x.0) (λ x. x.0) y))
+    (map-Term BlockWith ClauseWith ExprWith FromItemWith SelectedWith ArmWith FactorWith ItemWith
+    JoinWith JoinedWith SelectWith SetPartWith TermWith Block Clause Expr FromItem Selected Arm
+    Factor Item Join Joined
+    Select SetPart Term (λ x. x.0) (λ x. x.0) (λ x. x.0) (λ x. x.0) (λ x. x.0) (λ x. x.0) (λ x. x.0)
+    (λ x. x.0) (λ x. x.0) (λ x. x.0) (λ x. x.0) (λ x. x.0) (λ x. x.0) y))
 unfolding term_meaning_at
 term_node y = term_goes (meaning y.value.0).interval y.operator (meaning y.value.0) y.value.1
 
-clause_rolled : (z : Clause-F Clause Expr FromItem Selected Arm Block Factor Item Join Joined Term)
-    → ClauseMeaningIs (clause_meaning_at z) → ClauseMeaningIs (clause_meaning (roll-Clause z))
-clause_rolled z h = subst ClauseMeaningIs
-    (sym (clause_meaning_is (roll-Clause z) ∙ ap clause_meaning_at (out-roll-Clause z))) h
-
-expr_rolled : (z : Expr-F Clause Expr FromItem Selected Arm Block Factor Item Join Joined Term)
-    → MeaningIs (meaning_at z) → MeaningIs (meaning (roll-Expr z))
-expr_rolled z h = subst MeaningIs (sym (meaning_is (roll-Expr z) ∙ ap meaning_at (out-roll-Expr z)))
-    h
-
-from_item_rolled : (z : FromItem-F Clause Expr FromItem Selected Arm Block Factor Item Join Joined
-    Term) → FromItemMeaningIs (from_item_meaning_at z)
-    → FromItemMeaningIs (from_item_meaning (roll-FromItem z))
-from_item_rolled z h = subst FromItemMeaningIs
-    (sym (from_item_meaning_is (roll-FromItem z) ∙ ap from_item_meaning_at (out-roll-FromItem z))) h
-
-selected_rolled : (z : Selected-F Clause Expr FromItem Selected Arm Block Factor Item Join Joined
-    Term) → SelectedMeaningIs (selected_meaning_at z)
-    → SelectedMeaningIs (selected_meaning (roll-Selected z))
-selected_rolled z h = subst SelectedMeaningIs
-    (sym (selected_meaning_is (roll-Selected z) ∙ ap selected_meaning_at (out-roll-Selected z))) h
-
-arm_rolled : (z : Arm-F Clause Expr FromItem Selected Arm Block Factor Item Join Joined Term)
-    → ArmMeaningIs (arm_meaning_at z) → ArmMeaningIs (arm_meaning (roll-Arm z))
-arm_rolled z h = subst ArmMeaningIs
-    (sym (arm_meaning_is (roll-Arm z) ∙ ap arm_meaning_at (out-roll-Arm z))) h
-
-block_rolled : (z : Block-F Clause Expr FromItem Selected Arm Block Factor Item Join Joined Term)
-    → BlockMeaningIs (block_meaning_at z) → BlockMeaningIs (block_meaning (roll-Block z))
-block_rolled z h = subst BlockMeaningIs
-    (sym (block_meaning_is (roll-Block z) ∙ ap block_meaning_at (out-roll-Block z))) h
-
-factor_rolled : (z : Factor-F Clause Expr FromItem Selected Arm Block Factor Item Join Joined Term)
-    → ChainMeaningIs (factor_meaning_at z) → ChainMeaningIs (factor_meaning (roll-Factor z))
-factor_rolled z h = subst ChainMeaningIs
-    (sym (factor_meaning_is (roll-Factor z) ∙ ap factor_meaning_at (out-roll-Factor z))) h
-
-item_rolled : (z : Item-F Clause Expr FromItem Selected Arm Block Factor Item Join Joined Term)
-    → ItemMeaningIs (item_meaning_at z) → ItemMeaningIs (item_meaning (roll-Item z))
-item_rolled z h = subst ItemMeaningIs
-    (sym (item_meaning_is (roll-Item z) ∙ ap item_meaning_at (out-roll-Item z))) h
-
-join_rolled : (z : Join-F Clause Expr FromItem Selected Arm Block Factor Item Join Joined Term)
-    → JoinMeaningIs (join_meaning_at z) → JoinMeaningIs (join_meaning (roll-Join z))
-join_rolled z h = subst JoinMeaningIs
-    (sym (join_meaning_is (roll-Join z) ∙ ap join_meaning_at (out-roll-Join z))) h
-
-joined_rolled : (z : Joined-F Clause Expr FromItem Selected Arm Block Factor Item Join Joined Term)
-    → JoinedMeaningIs (joined_meaning_at z) → JoinedMeaningIs (joined_meaning (roll-Joined z))
-joined_rolled z h = subst JoinedMeaningIs
-    (sym (joined_meaning_is (roll-Joined z) ∙ ap joined_meaning_at (out-roll-Joined z))) h
-
-term_rolled : (z : Term-F Clause Expr FromItem Selected Arm Block Factor Item Join Joined Term)
-    → ChainMeaningIs (term_meaning_at z) → ChainMeaningIs (term_meaning (roll-Term z))
-term_rolled z h = subst ChainMeaningIs
-    (sym (term_meaning_is (roll-Term z) ∙ ap term_meaning_at (out-roll-Term z))) h
-
 pub each_block : (q : Block) → BlockMeaningIs (block_meaning q)
 each_block =
-    ind-Block (λ x. ClauseMeaningIs (clause_meaning x)) (λ x. MeaningIs (meaning x))
-    (λ x. FromItemMeaningIs (from_item_meaning x)) (λ x. SelectedMeaningIs (selected_meaning x))
-    (λ x. ArmMeaningIs (arm_meaning x)) (λ x. BlockMeaningIs (block_meaning x))
-    (λ x. ChainMeaningIs (factor_meaning x)) (λ x. ItemMeaningIs (item_meaning x))
-    (λ x. JoinMeaningIs (join_meaning x)) (λ x. JoinedMeaningIs (joined_meaning x))
+    ind-Block
+    (λ x. BlockMeaningIs (block_meaning x))
+    (λ x. ClauseMeaningIs (clause_meaning x))
+    (λ x. MeaningIs (meaning x))
+    (λ x. FromItemMeaningIs (from_item_meaning x))
+    (λ x. SelectedMeaningIs (selected_meaning x))
+    (λ x. ArmMeaningIs (arm_meaning x))
+    (λ x. ChainMeaningIs (factor_meaning x))
+    (λ x. ItemMeaningIs (item_meaning x))
+    (λ x. JoinMeaningIs (join_meaning x))
+    (λ x. JoinedMeaningIs (joined_meaning x))
+    (λ x. BlockMeaningIs (select_meaning x))
+    (λ x. SetPartMeaningIs (set_part_meaning x))
     (λ x. ChainMeaningIs (term_meaning x))
+    (λ x y is. subst (λ z. BlockMeaningIs (block_meaning (roll-Block z))) is
+    (block_rolled _ (block_node y)))
     (λ x y is. subst (λ z. ClauseMeaningIs (clause_meaning (roll-Clause z))) is
     (clause_rolled _ (clause_node y)))
-    (λ x y is. subst (λ z. MeaningIs (meaning (roll-Expr z))) is (expr_rolled _ (expr_node y)))
+    (λ x y is. subst (λ z. MeaningIs (meaning (roll-Expr z))) is
+    (expr_rolled _ (expr_node y)))
     (λ x y is. subst (λ z. FromItemMeaningIs (from_item_meaning (roll-FromItem z))) is
     (from_item_rolled _ (from_item_node y)))
     (λ x y is. subst (λ z. SelectedMeaningIs (selected_meaning (roll-Selected z))) is
     (selected_rolled _ (selected_node y)))
-    (λ x y is. subst (λ z. ArmMeaningIs (arm_meaning (roll-Arm z))) is (arm_rolled _ (arm_node y)))
-    (λ x y is. subst (λ z. BlockMeaningIs (block_meaning (roll-Block z))) is
-    (block_rolled _ (block_node y)))
+    (λ x y is. subst (λ z. ArmMeaningIs (arm_meaning (roll-Arm z))) is
+    (arm_rolled _ (arm_node y)))
     (λ x y is. subst (λ z. ChainMeaningIs (factor_meaning (roll-Factor z))) is
     (factor_rolled _ (factor_node y)))
     (λ x y is. subst (λ z. ItemMeaningIs (item_meaning (roll-Item z))) is
@@ -405,6 +419,10 @@ each_block =
     (join_rolled _ (join_node y)))
     (λ x y is. subst (λ z. JoinedMeaningIs (joined_meaning (roll-Joined z))) is
     (joined_rolled _ (joined_node y)))
+    (λ x y is. subst (λ z. BlockMeaningIs (select_meaning (roll-Select z))) is
+    (select_rolled _ (select_node y)))
+    (λ x y is. subst (λ z. SetPartMeaningIs (set_part_meaning (roll-SetPart z))) is
+    (set_part_rolled _ (set_part_node y)))
     (λ x y is. subst (λ z. ChainMeaningIs (term_meaning (roll-Term z))) is
     (term_rolled _ (term_node y)))
 

@@ -4,7 +4,9 @@ use Rattle.std.specs.Prelude.{codes, true, false}
 use Rattle.sql_bound_query.specs.Answer.{answer}
 use Rattle.sql_bound_query.specs.Examples.{small, whole, wholes, largest}
 use Rattle.sql_ast.specs.declared.statement.Query.{Query}
-use Rattle.sql_ast.specs.declared.tree.Block.{Block, roll-Block}
+use Rattle.sql_ast.specs.declared.tree.Block.{Block}
+use Rattle.sql_ast.specs.declared.tree.Block.TheVariants as block
+use Rattle.sql_ast.specs.declared.tree.Select.{roll-Select}
 use Rattle.sql_ast.specs.declared.tree.Clause.TheVariants.{Absent, Condition}
 use Rattle.sql_ast.specs.declared.tree.Expr.{Expr}
 use Rattle.sql_ast.specs.declared.tree.Expr.TheVariants as e
@@ -97,14 +99,14 @@ abbrev pub Balances : Type 0
 Balances = (answer_over with_suppliers (statement
     (select_from (item (e.Aggregate Avg s_acctbal) ∷ []) (from_table (codes "supplier") ∷ [])))
     ≡ Ok (Ok ((Number 6 (pos 1333333) ∷ []) ∷ [])))
-    × (answer_over with_suppliers (statement (roll-Block (record {
+    × (answer_over with_suppliers (statement (block.Select (roll-Select (record {
       is_distinct = true;
       selected = Items (item s_acctbal ∷ []);
       from = from_table (codes "supplier") ∷ [];
       condition = Absent;
       group = [];
       having = Absent;
-    }))) ≡ Ok (Ok ((Number 2 (pos 100) ∷ []) ∷ (Number 2 (pos 200) ∷ []) ∷ [])))
+    })))) ≡ Ok (Ok ((Number 2 (pos 100) ∷ []) ∷ (Number 2 (pos 200) ∷ []) ∷ [])))
 
 -- 1 / 0 = 1
 abbrev pub divides_by_zero : Expr
@@ -224,14 +226,14 @@ OneOrder = HasRows (customers_where (e.And (equal c_custkey (number 2)) (seven_i
 
 -- select * from .. where ..
 abbrev pub all_where : Name → Expr → Block
-all_where table x = roll-Block (record {
+all_where table x = block.Select (roll-Select (record {
   is_distinct = false;
   selected = All;
   from = from_table table ∷ [];
   condition = Condition x;
   group = [];
   having = Absent;
-})
+}))
 
 -- select * from region where r_regionkey + c_custkey = 1 and o_orderkey = 8
 abbrev pub region_of_order : Block
@@ -311,14 +313,14 @@ AnsweredLaterals = HasRows
 -- select x from nation having ..
 abbrev pub nations_having : Expr → Expr → Query
 nations_having x condition = statement
-    (roll-Block (record {
+    (block.Select (roll-Select (record {
       is_distinct = false;
       selected = Items (item x ∷ []);
       from = from_table (codes "nation") ∷ [];
       condition = Absent;
       group = [];
       having = Condition condition;
-    }))
+    })))
 
 -- l_discount, of lineitem
 abbrev pub l_discount : Expr
@@ -357,7 +359,7 @@ GroupOfNoRows = HasRows (nations_having (number 1) (equal (number 1) (number 1))
 -- select c_custkey, count(o_orderkey) from customer left outer join orders
 -- on c_custkey = o_custkey and o_comment not like '%special%requests%' group by c_custkey
 abbrev pub counted_orders : Block
-counted_orders = roll-Block (record {
+counted_orders = block.Select (roll-Select (record {
   is_distinct = false;
   selected = Items (item c_custkey ∷ item (e.Count o_orderkey) ∷ []);
   from = customers_joined_on
@@ -366,14 +368,14 @@ counted_orders = roll-Block (record {
   condition = Absent;
   group = record { item = None; name = codes "c_custkey" } ∷ [];
   having = Absent;
-})
+}))
 
 -- select c_count, count(*) as custdist from (counted_orders) as c_orders (c_custkey, c_count)
 -- group by c_count order by custdist desc, c_count desc
 abbrev pub distribution : Query
 distribution = record {
   with_queries = [];
-  block = roll-Block (record {
+  block = block.Select (roll-Select (record {
     is_distinct = false;
     selected = Items (item (named (codes "c_count")) ∷ with_alias e.CountRows (codes "custdist")
         ∷ []);
@@ -384,7 +386,7 @@ distribution = record {
     condition = Absent;
     group = record { item = None; name = codes "c_count" } ∷ [];
     having = Absent;
-  });
+  }));
   order = record { column = codes "custdist"; is_descending = true }
       ∷ record { column = codes "c_count"; is_descending = true } ∷ [];
   limit = None;

@@ -3,3 +3,4 @@ pub mod Names
 pub mod Kinds
 pub mod Values
 pub mod Parts
+pub mod Sets

@@ -22,6 +22,7 @@ use Rattle.base_refusals.specs.declared.bind.BindRefusal.TheVariants.{AmbiguousC
 use Rattle.base_refusals.specs.declared.bind.BindRefusal.TheVariants.{TypeMismatch, NestedAggregate}
 use Rattle.base_refusals.specs.declared.bind.BindRefusal.TheVariants.{OuterAggregate, SubqueryColumns}
 use Rattle.base_refusals.specs.declared.bind.BindRefusal.TheVariants.{SubqueryPlace}
+use Rattle.expr_operators.specs.declared.operator.Comparison.TheVariants.{Equal}
 use Rattle.expr_scalar.specs.declared.expr.Expr.TheVariants as e
 use Rattle.expr_scalar.specs.declared.kind.Kind.{Kind}
 use Rattle.sql_ast.specs.declared.statement.NamedKey.{NamedKey}
@@ -180,7 +181,7 @@ unfoldable pub containing : Sight → Part → BoundTable → Binding Typed
 containing sight left t = do
   _ ← lift (member left.kind t.headers)
   _ ← lift (place_of sight)
-  k ← input (input.In left.expr t.block)
+  k ← input (input.Any Equal left.expr t.block)
   pure (mark k)
 
 -- a scalar subquery: the value of its one column, as an input

@@ -10,6 +10,7 @@ pub mod kinds;
 pub mod lists;
 pub mod names;
 pub mod scope;
+pub mod sets;
 pub mod steps;
 pub mod values;
 mod view;

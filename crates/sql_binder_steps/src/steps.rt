@@ -3,17 +3,19 @@ ghost use Rattle.std.specs.Prelude.{◌≡◌, ◌∷◌, map, length, IfOk};
 ghost use Rattle.sql_binder_steps.specs.Steps.{Gives, Binds};
 ghost use Rattle.sql_binder_steps.specs.Names.{sight_of, level_of};
 ghost use Rattle.sql_binder_steps.specs.Parts as spec;
+ghost use Rattle.sql_binder_steps.specs.Sets as sets;
 
 use crate::collected::{BoundKind, BoundTable, Collected, Part, Typed};
 use crate::fault::BindFault;
 use crate::kinds::{aggregate_kind, argument_scale, fits};
 use crate::scope::{Level, ScopeColumn, Site, narrow, resolved};
-use crate::values::typed;
+use crate::values::{comparison_of, typed};
 use crate::view::Header;
 use base_refusals::BindRefusal;
 use expr_aggregates::AggregateFunction;
+use expr_operators::Comparison;
 use expr_scalar::{Expr, Kind};
-use sql_ast::{Aggregate, Column};
+use sql_ast::{Aggregate, Column, Quantifier};
 use sql_bound_query::{BoundAggregate, Input};
 use sqlite_items::Boxed;
 use std::alloc::{AllocError, Global};
@@ -54,7 +56,7 @@ fn is_outer(i: &Input) -> bool
 {
     match i {
         Input::Column(level, _) => *level > 0,
-        Input::Exists(_) | Input::In(_, _) | Input::Scalar(_) => false,
+        Input::Exists(_) | Input::Any(_, _, _) | Input::Scalar(_) => false,
     }
 }
 
@@ -205,8 +207,64 @@ pub fn containing(
 {
     member(left.kind, t.headers.as_slice())?;
     allowed(site)?;
-    let k = state.input(Input::In(Boxed::new(alloc, left.expr)?, t.block))?;
+    let k = state.input(Input::Any(Comparison::Equal, Boxed::new(alloc, left.expr)?, t.block))?;
     let t = mark(alloc, k)?;
+    Ok(t)
+}
+
+// The comparison that is true where another is false.
+fn contrary(c: sql_ast::Comparison) -> sql_ast::Comparison
+    ensures { result ≡ sets.contrary c }
+{
+    match c {
+        sql_ast::Comparison::Equal => sql_ast::Comparison::NotEqual,
+        sql_ast::Comparison::NotEqual => sql_ast::Comparison::Equal,
+        sql_ast::Comparison::Less => sql_ast::Comparison::GreaterOrEqual,
+        sql_ast::Comparison::LessOrEqual => sql_ast::Comparison::Greater,
+        sql_ast::Comparison::Greater => sql_ast::Comparison::LessOrEqual,
+        sql_ast::Comparison::GreaterOrEqual => sql_ast::Comparison::Less,
+    }
+}
+
+fn asked(q: Quantifier, c: sql_ast::Comparison) -> Comparison
+    ensures { result ≡ sets.asked q c }
+{
+    match q {
+        Quantifier::Any => comparison_of(c),
+        Quantifier::All => comparison_of(contrary(c)),
+    }
+}
+
+fn quantified(alloc: Global, q: Quantifier, k: u32) -> Result<Typed, AllocError>
+    ensures { IfOk result (λ t. t ≡ sets.quantified q (spec.mark k)) }
+{
+    let m = mark(alloc, k)?;
+    match q {
+        Quantifier::Any => Ok(m),
+        Quantifier::All => {
+            let t = typed(alloc, Expr::Not(m.value), BoundKind::Condition)?;
+            Ok(t)
+        }
+    }
+}
+
+/// A comparison with ANY or ALL.
+#[tactic(auto, unfolding(crate::specs::Sets::comparing))]
+pub fn comparing(
+    alloc: Global,
+    site: &Site<'_>,
+    state: &mut Collected,
+    c: sql_ast::Comparison,
+    q: Quantifier,
+    left: Part,
+    t: BoundTable,
+) -> Result<Typed, BindFault>
+    ensures { Binds (sets.comparing (sight_of site.now) c q left t state.old) result state.new }
+{
+    member(left.kind, t.headers.as_slice())?;
+    allowed(site)?;
+    let k = state.input(Input::Any(asked(q, c), Boxed::new(alloc, left.expr)?, t.block))?;
+    let t = quantified(alloc, q, k)?;
     Ok(t)
 }
 

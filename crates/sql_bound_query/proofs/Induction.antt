@@ -2,6 +2,9 @@
 use Rattle.std.proofs.Common.{ℕ, List, map, sym, subst}
 use Rattle.expr_aggregates.specs.declared.function.AggregateFunction.{AggregateFunction}
 use Rattle.expr_scalar.specs.declared.expr.Expr.{Expr}
+use Rattle.base_set_rows.specs.declared.kind.SetOperation.{SetOperation}
+use Rattle.expr_operators.specs.declared.operator.Comparison.{Comparison}
+use Rattle.sql_bound_query.specs.declared.query.SetColumn.{SetColumn}
 use Rattle.base_schema.specs.declared.table.TableName.{TableName}
 use Rattle.sql_bound_query.specs.declared.query.BoundAggregate.{BoundAggregate, roll-BoundAggregate}
 use Rattle.sql_bound_query.specs.declared.query.BoundAggregate.TheFolds.{ind-BoundBlock}
@@ -46,6 +49,8 @@ module _ (A : BoundAggregate → Type 0) (B : BoundBlock → Type 0) (S : BoundS
         → B (block.Grouped from condition keys (parts {P = A} aggregates) having
         (parts {P = E} list))
     pub distinct : (q : BoundBlock) → B q → B (block.Distinct q)
+    pub set : (a : BoundBlock) → B a → (b : BoundBlock) → B b → (columns : List SetColumn)
+        → (operation : SetOperation) → B (block.Set a b columns operation)
     pub table : (t : TableName) → S (source.Table t)
     pub derived : (q : BoundBlock) → B q → S (source.Derived q)
     pub lateral : (q : BoundBlock) → B q → S (source.Lateral q)
@@ -56,7 +61,8 @@ module _ (A : BoundAggregate → Type 0) (B : BoundBlock → Type 0) (S : BoundS
         → E on → S (source.Outer a b width on)
     pub column : (level place : ℕ) → I (input.Column level place)
     pub exists : (q : BoundBlock) → B q → I (input.Exists q)
-    pub among : (e : BoundExpr) → E e → (q : BoundBlock) → B q → I (input.In e q)
+    pub any : (c : Comparison) → (e : BoundExpr) → E e → (q : BoundBlock) → B q
+        → I (input.Any c e q)
     pub scalar : (q : BoundBlock) → B q → I (input.Scalar q)
     pub expr : (inputs : Withs Input I) (x : Expr)
         → E (record { inputs = parts {P = I} inputs; expr = x })
@@ -84,6 +90,9 @@ module _ (A : BoundAggregate → Type 0) (B : BoundBlock → Type 0) (S : BoundS
       (parts {P = E} list)))
       (s.grouped from.0 from.1 condition.0 condition.1 keys aggregates having.0 having.1 list)
   block_node s (f.Distinct q) = subst B (sym (block.rolls-Distinct q.0)) (s.distinct q.0 q.1)
+  block_node s (f.Set a b columns operation) =
+      subst B (sym (block.rolls-Set a.0 b.0 columns operation))
+      (s.set a.0 a.1 b.0 b.1 columns operation)
 
   source_node : Steps → (y : f.BoundSource-F (With BoundAggregate A) (With BoundBlock B)
       (With BoundSource S) (With Input I) (With BoundExpr E))
@@ -108,7 +117,7 @@ module _ (A : BoundAggregate → Type 0) (B : BoundBlock → Type 0) (S : BoundS
   input_node s (f.Column level place) =
       subst I (sym (input.rolls-Column level place)) (s.column level place)
   input_node s (f.Exists q) = subst I (sym (input.rolls-Exists q.0)) (s.exists q.0 q.1)
-  input_node s (f.In e q) = subst I (sym (input.rolls-In e.0 q.0)) (s.among e.0 e.1 q.0 q.1)
+  input_node s (f.Any c e q) = subst I (sym (input.rolls-Any c e.0 q.0)) (s.any c e.0 e.1 q.0 q.1)
   input_node s (f.Scalar q) = subst I (sym (input.rolls-Scalar q.0)) (s.scalar q.0 q.1)
 
   -- the same of a source

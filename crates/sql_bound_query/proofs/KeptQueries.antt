@@ -9,7 +9,7 @@ use Rattle.base_row_laws.specs.Aggregates.{aggregated, count_rows}
 use Rattle.base_row_laws.specs.Bags.{Each}
 use Rattle.base_row_laws.specs.Ranked.{Ranked}
 use Rattle.base_row_laws.specs.Rows.{columns, scanned}
-use Rattle.base_row_laws.specs.Operators.{select}
+use Rattle.base_row_laws.specs.Operators.{select, project}
 use Rattle.base_row_laws.proofs.Lists.{Each-map, Each-weaker}
 use Rattle.expr_scalar.specs.declared.expr.Expr.{Expr}
 use Rattle.expr_scalar.specs.declared.kind.Kind.{Kind}
@@ -23,6 +23,10 @@ use Rattle.expr_scalar.proofs.Typed.{well_typed}
 use Rattle.base_value.specs.declared.value.Value.{Value}
 use Rattle.base_value.specs.declared.value.Value.TheVariants.{Null}
 use Rattle.base_value.specs.Value.{same_value}
+use Rattle.base_set_rows.specs.declared.kind.SetOperation.{SetOperation}
+use Rattle.base_set_rows.proofs.Operations.{set_rows_each}
+use Rattle.expr_operators.specs.declared.operator.Comparison.{Comparison}
+use Rattle.base_value.proofs.Identity.{value_identity}
 use Rattle.base_schema.specs.State.{State, table_rows}
 use Rattle.base_schema.specs.declared.table.TableName.{TableName}
 use Rattle.sql_bound_query.specs.declared.query.BoundAggregate.{BoundAggregate}
@@ -32,29 +36,32 @@ use Rattle.sql_bound_query.specs.declared.query.BoundBlock.TheVariants as block
 use Rattle.sql_bound_query.specs.declared.query.BoundExpr.{BoundExpr}
 use Rattle.sql_bound_query.specs.declared.query.BoundSource.{BoundSource}
 use Rattle.sql_bound_query.specs.declared.query.BoundSource.TheVariants as source
+use Rattle.sql_bound_query.specs.declared.query.SetColumn.{SetColumn}
 use Rattle.sql_bound_query.specs.declared.query.Input.{Input}
 use Rattle.sql_bound_query.specs.declared.query.Input.TheVariants as input
 use Rattle.sql_bound_query.specs.Meaning.{Env, InputMeaning, ExprMeaning, AggregateMeaning}
 use Rattle.sql_bound_query.specs.Meaning.{RowsMeaning, FromMeaning, holds_for, listed, groups}
-use Rattle.sql_bound_query.specs.Meaning.{single_value, aggregate_meaning, block_meaning}
+use Rattle.sql_bound_query.specs.Meaning.{single_value, left_columns, right_columns}
+use Rattle.sql_bound_query.specs.Meaning.{aggregate_meaning, block_meaning}
 use Rattle.sql_bound_query.specs.Meaning.{source_meaning}
 use Rattle.sql_bound_query.specs.Meaning.{input_meaning, expr_meaning}
 use Rattle.sql_bound_query.specs.Typing.{EnvKinds, KindMeaning, KindsMeaning, FromKinds, ExprTyping}
 use Rattle.sql_bound_query.specs.Typing.{env_is_of}
 use Rattle.sql_bound_query.specs.Typing.{where_some, where_true, all_some, kind_of_sort, sort_over}
 use Rattle.sql_bound_query.specs.Typing.{only_kind, column_kinds, joined_kinds, listed_kinds}
+use Rattle.sql_bound_query.specs.Typing.{common_kind, set_kinds}
 use Rattle.sql_bound_query.specs.Typing.{group_kinds, kind_of_aggregate, block_kinds, from_kinds}
 use Rattle.sql_bound_query.specs.Typing.{kind_of_input, typing_of}
-use Rattle.sql_bound_query.proofs.Opened.{input_Column, input_Exists, input_In, input_Scalar}
+use Rattle.sql_bound_query.proofs.Opened.{input_Column, input_Exists, input_Any, input_Scalar}
 use Rattle.sql_bound_query.proofs.Opened.{aggregate_CountRows, aggregate_Of, source_Table}
 use Rattle.sql_bound_query.proofs.Opened.{source_Derived, source_Lateral, source_Cross, source_Inner}
 use Rattle.sql_bound_query.proofs.Opened.{source_Outer}
-use Rattle.sql_bound_query.proofs.Opened.{block_Plain, block_Grouped, block_Distinct, expr_is}
-use Rattle.sql_bound_query.proofs.TypingOpened.{kind_Column, kind_Exists, kind_In, kind_Scalar}
+use Rattle.sql_bound_query.proofs.Opened.{block_Plain, block_Grouped, block_Distinct, block_Set, expr_is}
+use Rattle.sql_bound_query.proofs.TypingOpened.{kind_Column, kind_Exists, kind_Any, kind_Scalar}
 use Rattle.sql_bound_query.proofs.TypingOpened.{kind_CountRows, kind_Of, kinds_Table, kinds_Derived}
 use Rattle.sql_bound_query.proofs.TypingOpened.{kinds_Lateral, kinds_Cross, kinds_Inner, kinds_Outer}
 use Rattle.sql_bound_query.proofs.TypingOpened.{kinds_Plain}
-use Rattle.sql_bound_query.proofs.TypingOpened.{kinds_Grouped, kinds_Distinct, typing_is}
+use Rattle.sql_bound_query.proofs.TypingOpened.{kinds_Grouped, kinds_Distinct, kinds_Set, typing_is}
 use Rattle.sql_bound_query.proofs.Induction.{Withs, parts, induction}
 use Rattle.sql_bound_query.proofs.KeptRows as kept
 use Rattle.sql_bound_query.proofs.Keeps.{Found, some_of, Passed, passed, some_is, both_so, to_kind}
@@ -428,6 +435,93 @@ module _ (state : State)
       (kept.distinct_each (λ r. row_is_of ks r ≡ true) same_value (block_meaning state q env)
       (b kinds env ks h f))
 
+  -- a column of a set operation, of a row of either side
+  left_kind : (s t : Sort) (k : Kind) → common_kind s t ≡ Some k → s ≡ Of k
+  left_kind Unfit t k e = cc
+  left_kind Nulls t k e = cc
+  left_kind (Of j) Unfit k e = cc
+  left_kind (Of j) Nulls k e = cc
+  left_kind (Of j) (Of i) k e = ap Of (some_is j k (passed (same_kind j i) (Some j) k e).is)
+
+  right_kind : (s t : Sort) (k : Kind) → common_kind s t ≡ Some k → sort_gives t k ≡ true
+  right_kind Unfit t k e = cc
+  right_kind Nulls t k e = cc
+  right_kind (Of j) Unfit k e = cc
+  right_kind (Of j) Nulls k e = cc
+  right_kind (Of j) (Of i) k e =
+      let p : Passed (same_kind j i) (Some j) k = passed (same_kind j i) (Some j) k e in
+      same_turned i k (subst (λ z. same_kind z i ≡ true) (some_is j k p.is) p.test)
+    where
+      same_turned : (i k : Kind) → same_kind k i ≡ true → same_kind i k ≡ true
+      same_turned (kind.Number s) (kind.Number t) h = (Decides-eqb s t).1 (sym ((Decides-eqb t s).0 h))
+      same_turned (kind.Number s) kind.Text h = cc
+      same_turned (kind.Number s) kind.Date h = cc
+      same_turned kind.Text (kind.Number t) h = cc
+      same_turned kind.Text kind.Text h = refl
+      same_turned kind.Text kind.Date h = cc
+      same_turned kind.Date (kind.Number t) h = cc
+      same_turned kind.Date kind.Text h = cc
+      same_turned kind.Date kind.Date h = refl
+
+  set_left : (columns : List SetColumn) (ls rs ks : List Kind) (r : List Value)
+      → row_is_of ls r ≡ true → set_kinds columns ls rs ≡ Some ks
+      → row_is_of ks (left_columns columns r) ≡ true
+  set_left [] ls rs ks r h e = subst (λ z. row_is_of z [] ≡ true) (some_is [] ks e) refl
+  set_left (c ∷ columns) ls rs ks r h e =
+      let own : Option Kind = common_kind (sort_of c.left ls) (sort_of c.right rs) in
+      let rest : Option (List Kind) = set_kinds columns ls rs in
+      let f : Found own (λ a. where_some rest (λ all. Some (a ∷ all))) ks =
+      some_of own (λ a. where_some rest (λ all. Some (a ∷ all))) ks e in
+      let g : Found rest (λ all. Some (f.it ∷ all)) ks =
+      some_of rest (λ all. Some (f.it ∷ all)) ks f.gives in
+      let s : sort_of c.left ls ≡ Of f.it = left_kind (sort_of c.left ls) (sort_of c.right rs) f.it f.is in
+      let t : gives c.left ls f.it ≡ true =
+      ap (λ (z : Sort). sort_gives z f.it) s ∙ same_kind_itself f.it in
+      subst (λ z. row_is_of z (value c.left r ∷ left_columns columns r) ≡ true)
+      (some_is (f.it ∷ g.it) ks g.gives)
+      (both_so (is_of_kind f.it (value c.left r)) (row_is_of g.it (left_columns columns r))
+      (well_typed c.left ls f.it r t h) (set_left columns ls rs g.it r h g.is))
+
+  set_right : (columns : List SetColumn) (ls rs ks : List Kind) (r : List Value)
+      → row_is_of rs r ≡ true → set_kinds columns ls rs ≡ Some ks
+      → row_is_of ks (right_columns columns r) ≡ true
+  set_right [] ls rs ks r h e = subst (λ z. row_is_of z [] ≡ true) (some_is [] ks e) refl
+  set_right (c ∷ columns) ls rs ks r h e =
+      let own : Option Kind = common_kind (sort_of c.left ls) (sort_of c.right rs) in
+      let rest : Option (List Kind) = set_kinds columns ls rs in
+      let f : Found own (λ a. where_some rest (λ all. Some (a ∷ all))) ks =
+      some_of own (λ a. where_some rest (λ all. Some (a ∷ all))) ks e in
+      let g : Found rest (λ all. Some (f.it ∷ all)) ks =
+      some_of rest (λ all. Some (f.it ∷ all)) ks f.gives in
+      let t : gives c.right rs f.it ≡ true =
+      right_kind (sort_of c.left ls) (sort_of c.right rs) f.it f.is in
+      subst (λ z. row_is_of z (value c.right r ∷ right_columns columns r) ≡ true)
+      (some_is (f.it ∷ g.it) ks g.gives)
+      (both_so (is_of_kind f.it (value c.right r)) (row_is_of g.it (right_columns columns r))
+      (well_typed c.right rs f.it r t h) (set_right columns ls rs g.it r h g.is))
+
+  set_kept : (a : BoundBlock) → B a → (b : BoundBlock) → B b → (columns : List SetColumn)
+      → (operation : SetOperation) → B (block.Set a b columns operation)
+  set_kept a ba b bb columns operation kinds env ks h e =
+      let last : List Kind → Option (List Kind) =
+      λ ls. where_some (block_kinds b kinds) (λ rs. set_kinds columns ls rs) in
+      let t : where_some (block_kinds a kinds) last ≡ Some ks =
+      sym (ap (λ (m : KindsMeaning). m kinds) (kinds_Set a b columns operation)) ∙ e in
+      let f : Found (block_kinds a kinds) last ks = some_of (block_kinds a kinds) last ks t in
+      let g : Found (block_kinds b kinds) (λ rs. set_kinds columns f.it rs) ks =
+      some_of (block_kinds b kinds) (λ rs. set_kinds columns f.it rs) ks f.gives in
+      let ls : List (Ranked Value) = block_meaning state a env in
+      let rs : List (Ranked Value) = block_meaning state b env in
+      subst (λ (m : RowsMeaning). Each (Rows ks) (m env)) (sym (block_Set state a b columns operation))
+      (set_rows_each same_value value_identity (λ r. row_is_of ks r ≡ true) operation
+      (project (left_columns columns) ls) (project (right_columns columns) rs)
+      (kept.project_each (λ r. row_is_of f.it r ≡ true) (λ r. row_is_of ks r ≡ true)
+      (left_columns columns) ls (λ r k. set_left columns f.it g.it ks r k g.gives)
+      (ba kinds env f.it h f.is))
+      (kept.project_each (λ r. row_is_of g.it r ≡ true) (λ r. row_is_of ks r ≡ true)
+      (right_columns columns) rs (λ r k. set_right columns f.it g.it ks r k g.gives)
+      (bb kinds env g.it h g.is)))
+
   -- ---- inputs
 
   column_input : (level place : ℕ) → I (input.Column level place)
@@ -446,18 +540,18 @@ module _ (state : State)
       subst (λ (m : InputMeaning). is_of_kind k (m env) ≡ true) (sym (input_Exists state q))
       (to_kind (kind.Number 0) k _ f.gives (mark_kept _))
 
-  in_input : (x : BoundExpr) → E x → (q : BoundBlock) → B q → I (input.In x q)
-  in_input x ex q b kinds env k h e =
+  any_input : (c : Comparison) (x : BoundExpr) → E x → (q : BoundBlock) → B q → I (input.Any c x q)
+  any_input c x ex q b kinds env k h e =
       let last : Kind → Option Kind =
       λ j. where_true (comparable ((typing_of x).sort kinds) (Of j)) (kind.Number 0) in
       let t : where_some (block_kinds q kinds) (λ js. where_some (only_kind js) last) ≡ Some k =
-      sym (ap (λ (m : KindMeaning). m kinds) (kind_In x q)) ∙ e in
+      sym (ap (λ (m : KindMeaning). m kinds) (kind_Any c x q)) ∙ e in
       let f : Found (block_kinds q kinds) (λ js. where_some (only_kind js) last) k =
       some_of (block_kinds q kinds) (λ js. where_some (only_kind js) last) k t in
       let g : Found (only_kind f.it) last k = some_of (only_kind f.it) last k f.gives in
       let p : Passed (comparable ((typing_of x).sort kinds) (Of g.it)) (Some (kind.Number 0)) k =
       passed (comparable ((typing_of x).sort kinds) (Of g.it)) (Some (kind.Number 0)) k g.gives in
-      subst (λ (m : InputMeaning). is_of_kind k (m env) ≡ true) (sym (input_In state x q))
+      subst (λ (m : InputMeaning). is_of_kind k (m env) ≡ true) (sym (input_Any state c x q))
       (to_kind (kind.Number 0) k _ p.is (mark_kept _))
 
   only_is : (js : List Kind) (k : Kind) → only_kind js ≡ Some k → js ≡ k ∷ []
@@ -492,6 +586,7 @@ module _ (state : State)
     plain = plain_kept;
     grouped = grouped_kept;
     distinct = distinct_kept;
+    set = set_kept;
     table = table_kept;
     derived = derived_kept;
     lateral = lateral_kept;
@@ -500,7 +595,7 @@ module _ (state : State)
     outer = outer_kept;
     column = column_input;
     exists = exists_input;
-    among = in_input;
+    any = any_input;
     scalar = scalar_input;
     expr = expr_kept;
   })

@@ -10,3 +10,4 @@ pub mod KeepsLaw
 pub mod ReadsProofs
 pub mod TablesOpened
 pub mod LateralProofs
+pub mod SetProofs

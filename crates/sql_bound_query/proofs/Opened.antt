@@ -1,5 +1,7 @@
 -- The meanings of a bound query at each node.
 use Rattle.std.proofs.Common.{◌≡◌, ℕ, List, map, ap, ◌∙◌}
+use Rattle.base_set_rows.specs.declared.kind.SetOperation.{SetOperation}
+use Rattle.expr_operators.specs.declared.operator.Comparison.{Comparison}
 use Rattle.expr_aggregates.specs.declared.function.AggregateFunction.{AggregateFunction}
 use Rattle.base_schema.specs.State.{State}
 use Rattle.base_value.specs.declared.value.Value.{Value}
@@ -21,6 +23,7 @@ use Rattle.sql_bound_query.specs.declared.query.BoundBlock.TheVariants as block
 use Rattle.sql_bound_query.specs.declared.query.BoundExpr.{BoundExpr, out-BoundExpr}
 use Rattle.sql_bound_query.specs.declared.query.BoundSource.{BoundSource, out-BoundSource}
 use Rattle.sql_bound_query.specs.declared.query.BoundSource.TheVariants as source
+use Rattle.sql_bound_query.specs.declared.query.SetColumn.{SetColumn}
 use Rattle.sql_bound_query.specs.declared.query.Input.{Input, out-Input}
 use Rattle.sql_bound_query.specs.declared.query.Input.TheVariants as input
 use Rattle.sql_bound_query.specs.Meaning.{Env, InputMeaning, ExprMeaning, AggregateMeaning}
@@ -111,12 +114,12 @@ unfolding input_meaning_at
 input_Exists state q = input_meaning_is state (input.Exists q)
     ∙ ap (input_meaning_at state) (input.outs-Exists q)
 
-pub input_In : (state : State) (e : BoundExpr) (q : BoundBlock)
-    → input_meaning state (input.In e q)
-    ≡ input_step (node.In (expr_meaning state e) (block_meaning state q))
+pub input_Any : (state : State) (c : Comparison) (e : BoundExpr) (q : BoundBlock)
+    → input_meaning state (input.Any c e q)
+    ≡ input_step (node.Any c (expr_meaning state e) (block_meaning state q))
 unfolding input_meaning_at
-input_In state e q = input_meaning_is state (input.In e q)
-    ∙ ap (input_meaning_at state) (input.outs-In e q)
+input_Any state c e q = input_meaning_is state (input.Any c e q)
+    ∙ ap (input_meaning_at state) (input.outs-Any c e q)
 
 pub input_Scalar : (state : State) (q : BoundBlock)
     → input_meaning state (input.Scalar q) ≡ input_step (node.Scalar (block_meaning state q))
@@ -206,6 +209,13 @@ unfolding block_meaning_at
 block_Distinct state q = block_meaning_is state (block.Distinct q)
     ∙ ap (block_meaning_at state) (block.outs-Distinct q)
 
+pub block_Set : (state : State) (a b : BoundBlock) (columns : List SetColumn)
+    (operation : SetOperation) → block_meaning state (block.Set a b columns operation)
+    ≡ block_step (node.Set (block_meaning state a) (block_meaning state b) columns operation)
+unfolding block_meaning_at
+block_Set state a b columns operation = block_meaning_is state (block.Set a b columns operation)
+    ∙ ap (block_meaning_at state) (block.outs-Set a b columns operation)
+
 pub expr_is : (state : State) (e : BoundExpr)
     → expr_meaning state e ≡ expr_step
     (record {
@@ -225,10 +235,10 @@ pub input_Exists_at : (state : State) (q : BoundBlock) (env : Env)
     ≡ input_step (node.Exists (block_meaning state q)) env
 input_Exists_at state q env = ap (λ (m : InputMeaning). m env) (input_Exists state q)
 
-pub input_In_at : (state : State) (e : BoundExpr) (q : BoundBlock) (env : Env)
-    → input_meaning state (input.In e q) env
-    ≡ input_step (node.In (expr_meaning state e) (block_meaning state q)) env
-input_In_at state e q env = ap (λ (m : InputMeaning). m env) (input_In state e q)
+pub input_Any_at : (state : State) (c : Comparison) (e : BoundExpr) (q : BoundBlock) (env : Env)
+    → input_meaning state (input.Any c e q) env
+    ≡ input_step (node.Any c (expr_meaning state e) (block_meaning state q)) env
+input_Any_at state c e q env = ap (λ (m : InputMeaning). m env) (input_Any state c e q)
 
 pub input_Scalar_at : (state : State) (q : BoundBlock) (env : Env)
     → input_meaning state (input.Scalar q) env
@@ -302,11 +312,18 @@ pub block_Distinct_at : (state : State) (q : BoundBlock) (env : Env)
     ≡ block_step (node.Distinct (block_meaning state q)) env
 block_Distinct_at state q env = ap (λ (m : RowsMeaning). m env) (block_Distinct state q)
 
+pub block_Set_at : (state : State) (a b : BoundBlock) (columns : List SetColumn)
+    (operation : SetOperation) (env : Env)
+    → block_meaning state (block.Set a b columns operation) env
+    ≡ block_step (node.Set (block_meaning state a) (block_meaning state b) columns operation) env
+block_Set_at state a b columns operation env =
+    ap (λ (m : RowsMeaning). m env) (block_Set state a b columns operation)
+
 -- each equation at an environment, by which a query computes
 pub ruleset query_opened = (
   input_Column_at,
   input_Exists_at,
-  input_In_at,
+  input_Any_at,
   input_Scalar_at,
   aggregate_CountRows_at,
   aggregate_Of_at,
@@ -319,5 +336,6 @@ pub ruleset query_opened = (
   block_Plain_at,
   block_Grouped_at,
   block_Distinct_at,
+  block_Set_at,
   expr_is,
 )

@@ -20,11 +20,14 @@ use Rattle.sql_bound_query.specs.declared.query.BoundSource.{BoundSource}
 use Rattle.sql_bound_query.specs.declared.query.Input.{Input}
 use Rattle.sql_bound_query.specs.Meaning.{Env, AggregateMeaning, RowsMeaning, FromMeaning, holds_for}
 use Rattle.sql_bound_query.specs.Meaning.{listed, groups, cross_loop, aggregate_meaning}
+use Rattle.sql_bound_query.specs.Meaning.{left_columns, right_columns}
+use Rattle.base_set_rows.proofs.Operations.{set_rows_stand}
+use Rattle.base_row_laws.specs.Operators.{project}
 use Rattle.sql_bound_query.specs.Meaning.{block_meaning, source_meaning}
 use Rattle.sql_bound_query.specs.Meaning.{expr_meaning}
 use Rattle.sql_bound_query.proofs.Opened.{source_Table, source_Derived, source_Lateral, source_Cross}
 use Rattle.sql_bound_query.proofs.Opened.{source_Inner, source_Outer, block_Plain, block_Grouped}
-use Rattle.sql_bound_query.proofs.Opened.{block_Distinct}
+use Rattle.sql_bound_query.proofs.Opened.{block_Distinct, block_Set}
 use Rattle.sql_bound_query.proofs.Induction.{Steps, parts, induction, source_induction}
 
 -- combinations, each at the lesser standing
@@ -97,6 +100,13 @@ module _ (state : State) where
     distinct = λ q b env. subst (λ (m : RowsMeaning). Each Stands (m env))
         (sym (block_Distinct state q))
         (stands.distinct_stands same_value value_identity (block_meaning state q env) (b env));
+    set = λ a sa b sb columns operation env.
+        let ls : List (Ranked Value) = block_meaning state a env in
+        let rs : List (Ranked Value) = block_meaning state b env in
+        subst (λ (m : RowsMeaning). Each Stands (m env)) (sym (block_Set state a b columns operation))
+        (set_rows_stand same_value value_identity operation (project (left_columns columns) ls)
+        (project (right_columns columns) rs) (stands.project_stands (left_columns columns) ls (sa env))
+        (stands.project_stands (right_columns columns) rs (sb env)));
     table = λ t p env. subst (λ (m : FromMeaning). Each Stands (m p env))
         (sym (source_Table state t)) (scanned_stand (table_rows state t));
     derived = λ q b p env. subst (λ (m : FromMeaning). Each Stands (m p env))
@@ -117,7 +127,7 @@ module _ (state : State) where
         (source_meaning state a p env) (λ l. source_meaning state b (p ++ l) env) (sa p env));
     column = λ level place. tt;
     exists = λ q b. tt;
-    among = λ e u q b. tt;
+    any = λ c e u q b. tt;
     scalar = λ q b. tt;
     expr = λ is x. tt;
   }

@@ -1,6 +1,9 @@
 -- The tables of a bound query at each node.
 use Rattle.std.proofs.Common.{◌≡◌, ℕ, List, map, ap, ◌∙◌}
 use Rattle.expr_aggregates.specs.declared.function.AggregateFunction.{AggregateFunction}
+use Rattle.base_set_rows.specs.declared.kind.SetOperation.{SetOperation}
+use Rattle.expr_operators.specs.declared.operator.Comparison.{Comparison}
+use Rattle.sql_bound_query.specs.declared.query.SetColumn.{SetColumn}
 use Rattle.base_schema.specs.declared.table.TableName.{TableName}
 use Rattle.sql_bound_query.specs.declared.query.BoundAggregate.{BoundAggregate, out-BoundAggregate}
 use Rattle.sql_bound_query.specs.declared.query.BoundAggregate.TheVariants as aggregate
@@ -99,10 +102,10 @@ pub in_Exists : (q : BoundBlock)
 unfolding tables_of_input_at
 in_Exists q = tables_of_input_is (input.Exists q) ∙ ap tables_of_input_at (input.outs-Exists q)
 
-pub in_In : (e : BoundExpr) (q : BoundBlock)
-    → tables_of_input (input.In e q) ≡ input_tables (node.In (tables_of_expr e) (tables q))
+pub in_Any : (c : Comparison) (e : BoundExpr) (q : BoundBlock)
+    → tables_of_input (input.Any c e q) ≡ input_tables (node.Any c (tables_of_expr e) (tables q))
 unfolding tables_of_input_at
-in_In e q = tables_of_input_is (input.In e q) ∙ ap tables_of_input_at (input.outs-In e q)
+in_Any c e q = tables_of_input_is (input.Any c e q) ∙ ap tables_of_input_at (input.outs-Any c e q)
 
 pub in_Scalar : (q : BoundBlock)
     → tables_of_input (input.Scalar q) ≡ input_tables (node.Scalar (tables q))
@@ -181,6 +184,13 @@ pub of_Distinct : (q : BoundBlock)
 unfolding tables_at
 of_Distinct q = tables_is (block.Distinct q) ∙ ap tables_at (block.outs-Distinct q)
 
+pub of_Set : (a b : BoundBlock) (columns : List SetColumn) (operation : SetOperation)
+    → tables (block.Set a b columns operation)
+    ≡ block_tables (node.Set (tables a) (tables b) columns operation)
+unfolding tables_at
+of_Set a b columns operation = tables_is (block.Set a b columns operation)
+    ∙ ap tables_at (block.outs-Set a b columns operation)
+
 pub expr_tables_is : (e : BoundExpr)
     → tables_of_expr e ≡ expr_tables
     (record {
@@ -193,7 +203,7 @@ expr_tables_is e = tables_of_expr_is e
 pub ruleset tables_opened = (
   in_Column,
   in_Exists,
-  in_In,
+  in_Any,
   in_Scalar,
   in_CountRows,
   in_Of,
@@ -206,5 +216,6 @@ pub ruleset tables_opened = (
   of_Plain,
   of_Grouped,
   of_Distinct,
+  of_Set,
   expr_tables_is,
 )

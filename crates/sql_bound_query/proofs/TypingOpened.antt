@@ -1,6 +1,9 @@
 -- The typing of a bound query at each node.
 use Rattle.std.proofs.Common.{◌≡◌, ℕ, List, map, ap, ◌∙◌}
 use Rattle.expr_aggregates.specs.declared.function.AggregateFunction.{AggregateFunction}
+use Rattle.base_set_rows.specs.declared.kind.SetOperation.{SetOperation}
+use Rattle.expr_operators.specs.declared.operator.Comparison.{Comparison}
+use Rattle.sql_bound_query.specs.declared.query.SetColumn.{SetColumn}
 use Rattle.base_schema.specs.declared.table.TableName.{TableName}
 use Rattle.sql_bound_query.specs.declared.query.BoundAggregate.{BoundAggregate, out-BoundAggregate}
 use Rattle.sql_bound_query.specs.declared.query.BoundAggregate.TheVariants as aggregate
@@ -98,10 +101,10 @@ pub kind_Exists : (q : BoundBlock)
 unfolding kind_of_input_at
 kind_Exists q = kind_of_input_is (input.Exists q) ∙ ap kind_of_input_at (input.outs-Exists q)
 
-pub kind_In : (e : BoundExpr) (q : BoundBlock)
-    → kind_of_input (input.In e q) ≡ input_kind (node.In (typing_of e) (block_kinds q))
+pub kind_Any : (c : Comparison) (e : BoundExpr) (q : BoundBlock)
+    → kind_of_input (input.Any c e q) ≡ input_kind (node.Any c (typing_of e) (block_kinds q))
 unfolding kind_of_input_at
-kind_In e q = kind_of_input_is (input.In e q) ∙ ap kind_of_input_at (input.outs-In e q)
+kind_Any c e q = kind_of_input_is (input.Any c e q) ∙ ap kind_of_input_at (input.outs-Any c e q)
 
 pub kind_Scalar : (q : BoundBlock)
     → kind_of_input (input.Scalar q) ≡ input_kind (node.Scalar (block_kinds q))
@@ -175,6 +178,13 @@ pub kinds_Distinct : (q : BoundBlock)
 unfolding block_kinds_at
 kinds_Distinct q = block_kinds_is (block.Distinct q) ∙ ap block_kinds_at (block.outs-Distinct q)
 
+pub kinds_Set : (a b : BoundBlock) (columns : List SetColumn) (operation : SetOperation)
+    → block_kinds (block.Set a b columns operation)
+    ≡ query_kinds (node.Set (block_kinds a) (block_kinds b) columns operation)
+unfolding block_kinds_at
+kinds_Set a b columns operation = block_kinds_is (block.Set a b columns operation)
+    ∙ ap block_kinds_at (block.outs-Set a b columns operation)
+
 pub typing_is : (e : BoundExpr)
     → typing_of e ≡ expr_typing
     (record { inputs = map kind_of_input (out-BoundExpr e).inputs; expr = (out-BoundExpr e).expr })
@@ -184,7 +194,7 @@ typing_is e = typing_of_is e
 pub ruleset typing_opened = (
   kind_Column,
   kind_Exists,
-  kind_In,
+  kind_Any,
   kind_Scalar,
   kind_CountRows,
   kind_Of,
@@ -197,5 +207,6 @@ pub ruleset typing_opened = (
   kinds_Plain,
   kinds_Grouped,
   kinds_Distinct,
+  kinds_Set,
   typing_is,
 )

@@ -206,7 +206,7 @@ is_order n = over (input.Column 0 0) (e.Compare Equal (e.Column 0) (number n))
 
 -- select r_regionkey from region where r_regionkey not in (..)
 abbrev pub not_among : BoundBlock → BoundBlock
-not_among q = keys_where (over (input.In (at 0) q) (e.Not (e.IsMarked (e.Column 0))))
+not_among q = keys_where (over (input.Any Equal (at 0) q) (e.Not (e.IsMarked (e.Column 0))))
 
 -- NOT IN over a null is never True; over no null and over no row it is.
 abbrev pub NotIn : Type 0

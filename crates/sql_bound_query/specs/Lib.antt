@@ -4,3 +4,4 @@ pub mod Reads
 pub mod Typing
 pub mod Examples
 pub mod LateralExamples
+pub mod SetExamples

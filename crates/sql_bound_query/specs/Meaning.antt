@@ -6,12 +6,13 @@ use Rattle.base_row_laws.specs.Rows.{columns, scanned}
 use Rattle.base_row_laws.specs.Operators.{select, project, join_loop, outer_loop, group_by, total}
 use Rattle.base_row_laws.specs.Operators.{distinct, mark_of, scalar_of}
 use Rattle.base_row_laws.specs.Aggregates.{aggregated, count_rows}
+use Rattle.base_set_rows.specs.SetOperations.{set_rows}
 use Rattle.base_value.specs.declared.truth.Truth.{Truth}
 use Rattle.base_value.specs.declared.value.Value.{Value}
 use Rattle.base_value.specs.declared.value.Value.TheVariants.{Null}
 use Rattle.base_value.specs.Truth.{truth_rank}
 use Rattle.base_value.specs.Value.{same_value}
-use Rattle.expr_operators.specs.declared.operator.Comparison.TheVariants.{Equal}
+use Rattle.expr_operators.specs.declared.operator.Comparison.{Comparison}
 use Rattle.expr_scalar.specs.Meaning.{value, truth}
 use Rattle.expr_operators.specs.Operators.{compared}
 use Rattle.base_schema.specs.State.{State, table_rows}
@@ -20,6 +21,7 @@ use Rattle.sql_bound_query.specs.declared.query.BoundBlock.{BoundBlock}
 use Rattle.sql_bound_query.specs.declared.query.BoundExpr.{BoundExpr}
 use Rattle.sql_bound_query.specs.declared.query.BoundSource.{BoundSource}
 use Rattle.sql_bound_query.specs.declared.query.Input.{Input}
+use Rattle.sql_bound_query.specs.declared.query.SetColumn.{SetColumn}
 use Rattle.sql_bound_query.specs.declared.query.BoundAggregate.TheOpen as node
 use Rattle.sql_bound_query.specs.declared.query.BoundAggregate.TheFolds.{fold-Input, fold-BoundExpr}
 use Rattle.sql_bound_query.specs.declared.query.BoundAggregate.TheFolds.{fold-BoundAggregate}
@@ -70,9 +72,9 @@ listed es env r = map (λ (e : ExprMeaning). e.value (r ∷ env)) es
 abbrev pub exists_mark : List (Ranked Value) → Value
 exists_mark rows = mark_of written (λ r. true_rank) [] rows
 
--- IN: the greatest of lesser(standing, x = the row's first value), False for none
-abbrev pub in_mark : Value → List (Ranked Value) → Value
-in_mark x rows = mark_of written (λ r. truth_rank (compared Equal x (slice_index_or r 0 Null))) []
+-- ANY: the greatest of lesser(standing, x compared with the row's first value), False for none
+abbrev pub any_mark : Comparison → Value → List (Ranked Value) → Value
+any_mark c x rows = mark_of written (λ r. truth_rank (compared c x (slice_index_or r 0 Null))) []
     rows
 
 -- null for no row, TooManyRows for more than one, else the one row's first value
@@ -93,12 +95,20 @@ abbrev pub groups : List ℕ → (List (Ranked Value) → List Value) → List (
 groups [] aggregates rows = total aggregates rows
 groups (k ∷ ks) aggregates rows = group_by same_value (columns Null (k ∷ ks)) aggregates rows
 
+-- what the columns of a set operation are of a row of the left side
+abbrev pub left_columns : List SetColumn → List Value → List Value
+left_columns columns r = map (λ (c : SetColumn). value c.left r) columns
+
+-- what they are of a row of the right side
+abbrev pub right_columns : List SetColumn → List Value → List Value
+right_columns columns r = map (λ (c : SetColumn). value c.right r) columns
+
 -- each input
 abbrev pub input_step : node.Input-F AggregateMeaning RowsMeaning FromMeaning InputMeaning
     ExprMeaning → InputMeaning
 input_step (node.Column level place) env = column env level place
 input_step (node.Exists q) env = exists_mark (q env)
-input_step (node.In e q) env = in_mark (e.value env) (q env)
+input_step (node.Any c e q) env = any_mark c (e.value env) (q env)
 input_step (node.Scalar q) env = single_value (q env)
 
 -- an expression: over the row of its inputs
@@ -132,7 +142,8 @@ source_step state (node.Inner a b on) p env =
 source_step state (node.Outer a b width on) p env =
     outer_loop (replicate width Null) (holds_for on env) (a p env) (λ l. b (p ++ l) env)
 
--- the rows of a query: FROM, which begins with a row so far of no columns, WHERE, groups with their aggregates, HAVING, the select list; DISTINCT
+-- the rows of a query: FROM, which begins with a row so far of no columns, WHERE, groups with their
+-- aggregates, HAVING, the select list; DISTINCT; set operations
 abbrev pub block_step : node.BoundBlock-F AggregateMeaning RowsMeaning FromMeaning InputMeaning
     ExprMeaning → RowsMeaning
 block_step (node.Plain from condition list) env =
@@ -143,6 +154,9 @@ block_step (node.Grouped from condition keys aggregates having list) env =
     there in
     project (listed list env) (select (holds_for having env) grouped)
 block_step (node.Distinct q) env = distinct same_value (q env)
+block_step (node.Set a b columns operation) env =
+    set_rows same_value operation (project (left_columns columns) (a env))
+    (project (right_columns columns) (b env))
 
 -- an input in a state, node by node from the leaves of its tree
 unfoldable pub input_meaning : State → Input → InputMeaning

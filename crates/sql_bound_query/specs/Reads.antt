@@ -23,11 +23,11 @@ Tables = List TableName
 abbrev pub joined_tables : List Tables → Tables
 joined_tables parts = flat_map (λ ts. ts) parts
 
--- of an input: those of its subquery, for IN after those of its left side
+-- of an input: those of its subquery, for ANY after those of its left side
 abbrev pub input_tables : node.Input-F Tables Tables Tables Tables Tables → Tables
 input_tables (node.Column level place) = []
 input_tables (node.Exists q) = q
-input_tables (node.In e q) = e ++ q
+input_tables (node.Any c e q) = e ++ q
 input_tables (node.Scalar q) = q
 
 -- of an expression: those of its inputs
@@ -54,6 +54,7 @@ block_tables (node.Plain from condition list) = from ++ condition ++ joined_tabl
 block_tables (node.Grouped from condition keys aggregates having list) =
     from ++ condition ++ joined_tables aggregates ++ having ++ joined_tables list
 block_tables (node.Distinct q) = q
+block_tables (node.Set a b columns operation) = a ++ b
 
 -- the tables that stand in a query, its subqueries, derived tables, lateral items and each use of a view, each as
 -- often as it does

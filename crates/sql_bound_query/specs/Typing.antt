@@ -11,7 +11,7 @@ use Rattle.base_row_laws.specs.Ranked.{Ranked}
 use Rattle.expr_scalar.specs.declared.expr.Expr.{Expr}
 use Rattle.expr_scalar.specs.declared.kind.Kind.{Kind}
 use Rattle.expr_scalar.specs.declared.kind.Kind.TheVariants as kind
-use Rattle.expr_scalar.specs.Typing.{Sort, row_is_of, sort_of, is_condition, comparable}
+use Rattle.expr_scalar.specs.Typing.{Sort, row_is_of, sort_of, is_condition, comparable, same_kind}
 use Rattle.expr_scalar.specs.Typing.Sort.{Unfit, Of}
 use Rattle.base_value.specs.declared.value.Value.{Value}
 use Rattle.base_schema.specs.declared.column.ColumnKind.{ColumnKind}
@@ -30,6 +30,7 @@ use Rattle.sql_bound_query.specs.declared.query.BoundBlock.{BoundBlock}
 use Rattle.sql_bound_query.specs.declared.query.BoundExpr.{BoundExpr}
 use Rattle.sql_bound_query.specs.declared.query.BoundSource.{BoundSource}
 use Rattle.sql_bound_query.specs.declared.query.Input.{Input}
+use Rattle.sql_bound_query.specs.declared.query.SetColumn.{SetColumn}
 use Rattle.sql_bound_query.specs.Meaning.{Env, rows}
 
 -- the kind of a table's column
@@ -116,7 +117,7 @@ abbrev pub input_kind : node.Input-F KindMeaning KindsMeaning FromKinds KindMean
     → KindMeaning
 input_kind (node.Column level place) ks = slice_get (slice_index_or ks level []) place
 input_kind (node.Exists q) ks = where_some (q ks) (λ js. Some (kind.Number 0))
-input_kind (node.In e q) ks =
+input_kind (node.Any c e q) ks =
     where_some (q ks) (λ js.
     where_some (only_kind js) (λ j. where_true (comparable (e.sort ks) (Of j)) (kind.Number 0)))
 input_kind (node.Scalar q) ks = where_some (q ks) only_kind
@@ -168,6 +169,16 @@ group_kinds keys aggregates ls ks =
     (λ js. where_some (all_some (map (λ (a : KindMeaning). a (ls ∷ ks)) aggregates))
     (λ ms. Some (js ++ ms)))
 
+-- the kind of a column of a set operation, of which both sides give values
+abbrev pub common_kind : Sort → Sort → Option Kind
+common_kind (Of j) (Of k) = where_true (same_kind j k) j
+common_kind s t = None
+
+-- the kinds of the columns of a set operation, over rows of these kinds on its sides
+abbrev pub set_kinds : List SetColumn → List Kind → List Kind → Option (List Kind)
+set_kinds columns ls rs =
+    all_some (map (λ (c : SetColumn). common_kind (sort_of c.left ls) (sort_of c.right rs)) columns)
+
 -- each query: its conditions are conditions, and its columns have these kinds
 abbrev pub query_kinds : node.BoundBlock-F KindMeaning KindsMeaning FromKinds KindMeaning
     ExprTyping → KindsMeaning
@@ -181,6 +192,8 @@ query_kinds (node.Grouped from condition keys aggregates having list) ks =
     (λ gs. if having.is_condition (gs ∷ ks) then listed_kinds list (gs ∷ ks) else None)
     else None)
 query_kinds (node.Distinct q) ks = q ks
+query_kinds (node.Set a b columns operation) ks =
+    where_some (a ks) (λ ls. where_some (b ks) (λ rs. set_kinds columns ls rs))
 
 -- the kinds of a query's columns under rows of these kinds, where it is well typed
 unfoldable pub block_kinds : BoundBlock → EnvKinds → Option (List Kind)

@@ -1,7 +1,7 @@
 //! Copies of bound queries.
 ghost use Rattle.std.specs.Prelude.{◌≡◌, IfOk};
 
-use crate::query::{BoundAggregate, BoundBlock, BoundExpr, BoundSource, Input};
+use crate::query::{BoundAggregate, BoundBlock, BoundExpr, BoundSource, Input, SetColumn};
 use expr_conditions::copy_of;
 use sqlite_items::{Boxed, Items};
 use std::alloc::{AllocError, Global};
@@ -14,6 +14,19 @@ pub fn copy_block(alloc: Global, q: &BoundBlock) -> Result<BoundBlock, AllocErro
     Ok(new)
 }
 
+// Copies of the columns of a set operation.
+fn set_columns(alloc: Global, all: &[SetColumn]) -> Result<Items<SetColumn>, AllocError>
+    ensures { IfOk result (λ new. new ≡ all.now) }
+{
+    let mut new = Items::new(alloc);
+    for column in all {
+        let left = copy_of(alloc, &column.left)?;
+        let right = copy_of(alloc, &column.right)?;
+        new.push(SetColumn { left, right })?;
+    }
+    Ok(new)
+}
+
 #[cycle(copy)]
 fn input(alloc: Global, i: &Input) -> Result<Input, AllocError>
     ensures { IfOk result (λ new. new ≡ i.now) }
@@ -21,10 +34,10 @@ fn input(alloc: Global, i: &Input) -> Result<Input, AllocError>
     match i {
         Input::Column(level, place) => Ok(Input::Column(*level, *place)),
         Input::Exists(q) => Ok(Input::Exists(boxed_block(alloc, q)?)),
-        Input::In(e, q) => {
+        Input::Any(comparison, e, q) => {
             let left = boxed_expr(alloc, e)?;
             let q = boxed_block(alloc, q)?;
-            Ok(Input::In(left, q))
+            Ok(Input::Any(*comparison, left, q))
         }
         Input::Scalar(q) => Ok(Input::Scalar(boxed_block(alloc, q)?)),
     }
@@ -156,6 +169,12 @@ fn block(alloc: Global, q: &BoundBlock) -> Result<BoundBlock, AllocError>
             Ok(BoundBlock::Grouped(from, condition, keys, all, having, list))
         }
         BoundBlock::Distinct(q) => Ok(BoundBlock::Distinct(boxed_block(alloc, q)?)),
+        BoundBlock::Set(a, b, columns, operation) => {
+            let left = boxed_block(alloc, a)?;
+            let right = boxed_block(alloc, b)?;
+            let columns = set_columns(alloc, columns.as_slice())?;
+            Ok(BoundBlock::Set(left, right, columns, *operation))
+        }
     }
 }
 

@@ -9,4 +9,4 @@ mod query;
 
 pub use copy::copy_block;
 pub use kinds::kind_of_column;
-pub use query::{BoundAggregate, BoundBlock, BoundExpr, BoundQuery, BoundSource, Input};
+pub use query::{BoundAggregate, BoundBlock, BoundExpr, BoundQuery, BoundSource, Input, SetColumn};

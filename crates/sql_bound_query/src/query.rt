@@ -2,7 +2,9 @@
 use base_decimal::Scale;
 use base_order_limit::OrderKey;
 use base_schema::TableName;
+use base_set_rows::SetOperation;
 use expr_aggregates::AggregateFunction;
+use expr_operators::Comparison;
 use expr_scalar::Expr;
 use sqlite_items::{Boxed, Items};
 
@@ -15,8 +17,9 @@ pub enum Input {
     Column(u32, u32),
     /// EXISTS, as a mark.
     Exists(Boxed<BoundBlock>),
-    /// IN: the left side, and the query of one column, as a mark.
-    In(Boxed<BoundExpr>, Boxed<BoundBlock>),
+    /// ANY: how the left side is compared with the values of the query, which has one column, as a
+    /// mark. IN compares by `=`, and ALL is the NOT of the contrary comparison with any.
+    Any(Comparison, Boxed<BoundExpr>, Boxed<BoundBlock>),
     /// The value of a query of one column.
     Scalar(Boxed<BoundBlock>),
 }
@@ -64,7 +67,16 @@ pub enum BoundSource {
     Outer(Boxed<BoundSource>, Boxed<BoundSource>, u32, BoundExpr),
 }
 
-/// A query from SELECT to HAVING. No condition is the condition that always holds.
+/// A column of a set operation: what it is of a row of each side.
+#[derive(Drop)]
+pub struct SetColumn {
+    /// An expression over the columns of a row of the left side.
+    pub left: Expr,
+    /// An expression over the columns of a row of the right side.
+    pub right: Expr,
+}
+
+/// A query from its first SELECT on. No condition is the condition that always holds.
 #[cycle(query)]
 #[derive(Drop)]
 pub enum BoundBlock {
@@ -83,12 +95,14 @@ pub enum BoundBlock {
     ),
     /// DISTINCT.
     Distinct(Boxed<BoundBlock>),
+    /// A set operation of the rows that its columns are of those of two queries.
+    Set(Boxed<BoundBlock>, Boxed<BoundBlock>, Items<SetColumn>, SetOperation),
 }
 
 /// A query that is a statement, with its order and row limit.
 #[derive(Drop)]
 pub struct BoundQuery {
-    /// The query from SELECT to HAVING.
+    /// The query without them.
     pub block: Boxed<BoundBlock>,
     /// The keys of ORDER BY; none where it is absent.
     pub order: Items<OrderKey>,

@@ -41,6 +41,12 @@ inner_words = k.Join ∷ k.Inner ∷ []
 abbrev pub join_words : List Kind
 join_words = k.Left ∷ inner_words
 
+abbrev pub quantifier_words : List Kind
+quantifier_words = k.Any ∷ k.Some ∷ k.All ∷ []
+
+abbrev pub set_words : List Kind
+set_words = k.Union ∷ k.Except ∷ []
+
 abbrev pub refresh_words : List Kind
 refresh_words = k.Insert ∷ k.Delete ∷ []
 
@@ -69,6 +75,9 @@ operand_first = k.OpenParen ∷ k.Exists ∷ k.Case ∷ called_first
 
 abbrev pub unary_first : List Kind
 unary_first = k.Minus ∷ operand_first
+
+abbrev pub compared_first : List Kind
+compared_first = k.Any ∷ k.Some ∷ k.All ∷ unary_first
 
 abbrev pub part_first : List Kind
 part_first = k.Not ∷ unary_first
@@ -147,8 +156,17 @@ on_keys = k.Comma ∷ direction_words
 abbrev pub on_filters : List Kind
 on_filters = k.Where ∷ k.Group ∷ k.Having ∷ on_list
 
+abbrev pub on_block : List Kind
+on_block = k.Left ∷ k.Join ∷ k.Inner ∷ k.As ∷ k.Name ∷ on_filters
+
+abbrev pub on_all : List Kind
+on_all = k.All ∷ []
+
+abbrev pub on_term : List Kind
+on_term = k.Intersect ∷ on_block
+
 abbrev pub on_query : List Kind
-on_query = k.Left ∷ k.Join ∷ k.Inner ∷ k.As ∷ k.Name ∷ on_filters
+on_query = k.Union ∷ k.Except ∷ on_term
 
 abbrev pub on_limits : List Kind
 on_limits = k.Order ∷ k.Limit ∷ k.Fetch ∷ k.At ∷ on_keys

@@ -23,9 +23,9 @@ use Rattle.sql_grammar_laws.proofs.Lift.{Below, Lifts-never, always}
 use Rattle.sql_grammar_laws.proofs.Lawful.{Line, Deeper, Sample-then, Sample-map, Sample-left, Sample-right, line_kind, line_never, line_nothing, line_nonempty, ends_nil}
 use Rattle.sql_grammar_laws.proofs.OneMeaning.{one_meaning}
 use Rattle.sql_parser_steps.specs.Kinds.{kinds}
-use Rattle.sql_parser_steps.specs.Values.{product, sum, tested, second, pair, cons, constant, plain_selection, joined, filters, block}
+use Rattle.sql_parser_steps.specs.Values.{product, sum, tested, second, pair, cons, constant, plain_selection, joined, filters, block, combined}
 use Rattle.sql_parser.specs.Expressions.{UnaryLine, PartLine, TestTail}
-use Rattle.sql_parser.specs.Grammar.{QueryLine, SelectLine, JoinedLine, WhereTail, GroupTail, HavingTail, Unary, NotPart, Query, InnerQuery, Ended}
+use Rattle.sql_parser.specs.Grammar.{BlockLine, QueryLine, SelectLine, JoinedLine, WhereTail, GroupTail, HavingTail, Unary, NotPart, Query, InnerQuery, Ended}
 use Rattle.sql_parser_steps.specs.ExpressionReadings.{read_unary_line, read_part_line}
 use Rattle.sql_parser_steps.specs.Readings.{read_query_line, unary_at, part_at, query_at, inner_unary, inner_part, inner_query, ended_at}
 use Rattle.sql_parser.proofs.KindLists.{leaf_first, unary_first, part_first, on_unary, on_part, on_query, alias_words, statement_words}
@@ -65,8 +65,8 @@ Sample-part_line wide room U N B s = Sample-right (Sample-then tested (Sample-th
     no_test = record { marks = []; value = t.Absent; part = inr (inr (inr (inr (refl, refl)))) }
 
 -- select * from a name
-Sample-query_line : (wide room : ℕ) (N : P) (B : Q) → Sample (QueryLine wide room N B)
-Sample-query_line wide room N B = Sample-then block select_star (Sample-then pair (Sample-then second from_word (Sample-then cons table (no_links wide))) (Sample-then filters no_where (Sample-then pair no_group no_having)))
+Sample-block_line : (wide room : ℕ) (N : P) (B : Q) → Sample (BlockLine wide room N B)
+Sample-block_line wide room N B = Sample-then block select_star (Sample-then pair (Sample-then second from_word (Sample-then cons table (no_links wide))) (Sample-then filters no_where (Sample-then pair no_group no_having)))
   where
     word : (kind : Kind) → Sample (One (is kind))
     word kind = let l : Line kinds (Unit {0}) (Unit {0}) (kind ∷ []) [] _ _ = line_kind kinds kind in l.sample tt
@@ -90,6 +90,9 @@ Sample-query_line wide room N B = Sample-then block select_star (Sample-then pai
 
     no_having : Sample (HavingTail wide N)
     no_having = record { marks = []; value = clause.Absent; part = inr (refl, refl) }
+
+Sample-query_line : (wide room : ℕ) (N : P) (B : Q) → Sample (QueryLine wide room N B)
+Sample-query_line wide room N B = Sample-then combined (Sample-then combined (Sample-block_line wide room N B) (no_links wide)) (no_links wide)
 
 Sample-unary : (h wide room : ℕ) → Sample (Unary h wide room)
 unfolding Unary

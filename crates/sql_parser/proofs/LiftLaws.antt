@@ -5,6 +5,8 @@ use Rattle.sql_lexer.specs.declared.token.Token.{Token}
 use Rattle.sql_ast.specs.declared.tree.Expr.{Expr}
 use Rattle.sql_ast.specs.declared.tree.Expr.TheVariants as e
 use Rattle.sql_ast.specs.declared.words.Comparison.TheVariants as comparison
+use Rattle.sql_ast.specs.declared.words.Quantifier.TheVariants as quantifier
+use Rattle.sql_ast.specs.declared.words.SetOperator.TheVariants as set_operator
 use Rattle.sql_ast.specs.declared.words.Span.TheVariants as span
 use Rattle.sql_ast.specs.declared.words.Aggregate.TheVariants as aggregate
 use Rattle.sql_ast.specs.declared.words.Adding.TheVariants as adding
@@ -16,6 +18,7 @@ use Rattle.sql_ast.specs.declared.tree.Block.{Block}
 use Rattle.sql_ast.specs.declared.words.JoinKind.TheVariants as join_kind
 use Rattle.sql_ast.specs.declared.statement.RefreshKind.TheVariants as refresh_kind
 use Rattle.sql_ast.specs.declared.statement.Statement.TheVariants as statements
+use Rattle.sql_parser_steps.specs.declared.test.Compared.TheVariants as compared
 use Rattle.sql_parser_steps.specs.declared.test.Test.TheVariants as t
 use Rattle.sql_lexer.specs.Kinds.{is}
 use Rattle.sql_grammar_laws.specs.Lines.{Part, Then, One}
@@ -24,10 +27,10 @@ use Rattle.sql_grammar_laws.specs.Lifting.{Lifts}
 use Rattle.sql_grammar_laws.proofs.Lift.{Lifts-one, Lifts-or, Lifts-map, Lifts-then, Lifts-empty, Lifts-list, Lifts-level, Below, below, always}
 use Rattle.sql_grammar_laws.proofs.Lawful.{Line, Deeper, line_nonempty}
 use Rattle.sql_parser_steps.specs.Kinds.{kinds}
-use Rattle.sql_parser_steps.specs.Values.{text_of, count_of, number, text, is_count, is_digits, first, second, pair, cons, constant, after_word, after_point, column, negative, negation, factor, term, product, sum, all_of, any_of, arm, case_of, date, interval, extract, substring, distinct_count, between, like, in_list, in_query, is_null, is_not_null, denied, tested, item, distinct, plain_selection, derived, lateral, join, joined, condition, filters, block, named_key, ordered, create_view, text_value, number_value, with_query, under_with}
-use Rattle.sql_parser.specs.Expressions.{NameLine, Literal, Number, Digits, SpanWord, ColumnTail, ColumnLine, MultiplyWord, AddWord, Product, Sum, Conjunction, Whole, ExprList, ArmLine, Arms, ElseTail, CaseBody, CaseLine, DateText, DateLine, Precision, IntervalLine, ExtractInside, ExtractLine, Places, SubstringInside, SubstringLine, CountInside, CountLine, AggregateWord, AggregateLine, Call, Leaf, Parens, Subquery, ExistsLine, Operand, UnaryLine, ComparisonWord, CompareLine, NullLine, BetweenLine, LikeLine, InLine, DenyTest, TestTail, Predicate, PartLine}
-use Rattle.sql_parser.specs.Grammar.{Alias, ItemLine, Selection, SelectLine, Names, ColumnNames, TableLine, DerivedAlias, FromQueryLine, FromItemLine, JoinWords, JoinedItem, JoinedLine, FromLine, WhereTail, GroupTail, HavingTail, FiltersTail, QueryLine, Direction, KeyLine, OrderTail, RowsOnly, LimitTail, VersionTail, OrderedLine, WithQueryLine, WithLine, WithOrderedLine, CreateLine, DropLine, RefreshLine, ValueLine, RunInside, RunLine, StatementLine, EndedLine}
-use Rattle.sql_parser.proofs.LineLaws.{law-NameLine, law-ColumnLine, law-ValueLine, law-Product, law-Conjunction, law-Whole, law-ArmLine, law-ItemLine, law-JoinedItem, law-JoinedLine, law-KeyLine, law-WithQueryLine}
+use Rattle.sql_parser_steps.specs.Values.{text_of, count_of, number, text, is_count, is_digits, first, second, pair, cons, constant, after_word, after_point, column, negative, negation, factor, term, product, sum, all_of, any_of, arm, case_of, date, interval, extract, substring, distinct_count, between, like, in_list, in_query, is_null, is_not_null, denied, tested, item, distinct, plain_selection, derived, lateral, join, joined, condition, filters, block, named_key, ordered, create_view, text_value, number_value, with_query, under_with, set_part, combined}
+use Rattle.sql_parser.specs.Expressions.{NameLine, Literal, Number, Digits, SpanWord, ColumnTail, ColumnLine, MultiplyWord, AddWord, Product, Sum, Conjunction, Whole, ExprList, ArmLine, Arms, ElseTail, CaseBody, CaseLine, DateText, DateLine, Precision, IntervalLine, ExtractInside, ExtractLine, Places, SubstringInside, SubstringLine, CountInside, CountLine, AggregateWord, AggregateLine, Call, Leaf, Parens, Subquery, ExistsLine, Operand, UnaryLine, ComparisonWord, QuantifierWord, ComparedQuery, CompareLine, NullLine, BetweenLine, LikeLine, InLine, DenyTest, TestTail, Predicate, PartLine}
+use Rattle.sql_parser.specs.Grammar.{Alias, ItemLine, Selection, SelectLine, Names, ColumnNames, TableLine, DerivedAlias, FromQueryLine, FromItemLine, JoinWords, JoinedItem, JoinedLine, FromLine, WhereTail, GroupTail, HavingTail, FiltersTail, BlockLine, AllWord, IntersectWords, SetWords, TermLine, QueryLine, Direction, KeyLine, OrderTail, RowsOnly, LimitTail, VersionTail, OrderedLine, WithQueryLine, WithLine, WithOrderedLine, CreateLine, DropLine, RefreshLine, ValueLine, RunInside, RunLine, StatementLine, EndedLine}
+use Rattle.sql_parser.proofs.LineLaws.{law-NameLine, law-ColumnLine, law-ValueLine, law-Product, law-Conjunction, law-Whole, law-ArmLine, law-ItemLine, law-JoinedItem, law-JoinedLine, law-BlockLine, law-TermLine, law-KeyLine, law-WithQueryLine}
 use Rattle.sql_parser.proofs.KindLists.{unary_first, part_first, on_unary, on_part, on_query}
 
 -- of two things that stand inside a level
@@ -129,6 +132,20 @@ module _ (n : ℕ) where
   pub lift-VersionTail : Lifts n VersionTail VersionTail
   lift-VersionTail = Lifts-or n (Lifts-then n after_word (Lifts-then n second (Lifts-one n (is k.At)) (Lifts-one n (is k.Version))) lift-Number) (Lifts-empty n None)
 
+  pub lift-QuantifierWord : Lifts n QuantifierWord QuantifierWord
+  lift-QuantifierWord = Lifts-or n (Lifts-map n (constant quantifier.Any) (Lifts-one n (is k.Any)))
+      (Lifts-or n (Lifts-map n (constant quantifier.Any) (Lifts-one n (is k.Some))) (Lifts-map n (constant quantifier.All) (Lifts-one n (is k.All))))
+
+  pub lift-AllWord : Lifts n AllWord AllWord
+  lift-AllWord = Lifts-or n (Lifts-map n (constant true) (Lifts-one n (is k.All))) (Lifts-empty n false)
+
+  pub lift-IntersectWords : Lifts n IntersectWords IntersectWords
+  lift-IntersectWords = Lifts-then n pair (Lifts-map n (constant set_operator.Intersect) (Lifts-one n (is k.Intersect))) lift-AllWord
+
+  pub lift-SetWords : Lifts n SetWords SetWords
+  lift-SetWords = Lifts-then n pair
+      (Lifts-or n (Lifts-map n (constant set_operator.Union) (Lifts-one n (is k.Union))) (Lifts-map n (constant set_operator.Except) (Lifts-one n (is k.Except)))) lift-AllWord
+
 -- ---- what holds no expression, but may open a level
 module _ (n room : ℕ) where
   pub lift-DateText : Lifts n (DateText room) (DateText n)
@@ -188,9 +205,6 @@ module _ {P S : Type 0} {U V : Part Token Expr} {u : Reading Token Expr}
 
   pub lift-Sum : Lifts n (Sum wide U) (Sum many V)
   lift-Sum = Lifts-then n sum lift-Product (Lifts-list n many term wide le (line_nonempty (law-Product wide law_unary)) (lift-AddWord n) lift-Product)
-
-  pub lift-CompareLine : Lifts n (CompareLine wide U) (CompareLine many V)
-  lift-CompareLine = Lifts-then n t.Compare (lift-ComparisonWord n) lift-Sum
 
   pub lift-BetweenLine : Lifts n (BetweenLine wide U) (BetweenLine many V)
   lift-BetweenLine = Lifts-then n second (Lifts-one n (is k.Between)) (Lifts-then n between lift-Sum (Lifts-then n second (Lifts-one n (is k.And)) lift-Sum))
@@ -277,6 +291,9 @@ module _ {B C : Part Token Block} (n many : ℕ) (le : n ≤ many) (wide room : 
   pub lift-ExistsLine : Lifts n (ExistsLine room B) (ExistsLine n C)
   lift-ExistsLine = Lifts-then n second (Lifts-one n (is k.Exists)) (Lifts-map n e.Exists lift-Subquery)
 
+  pub lift-ComparedQuery : Lifts n (ComparedQuery room B) (ComparedQuery n C)
+  lift-ComparedQuery = Lifts-then n compared.Query (lift-QuantifierWord n) lift-Subquery
+
   pub lift-FromQueryLine : Lifts n (FromQueryLine wide room B) (FromQueryLine many n C)
   lift-FromQueryLine = Lifts-then n pair lift-Subquery (Lifts-then n pair (lift-DerivedAlias n) (lift-ColumnNames n many le wide room))
 
@@ -310,12 +327,16 @@ module _ {S : Type 0} {U V : Part Token Expr} {N M : Part Token Expr} {w : Readi
 module _ {P S : Type 0} {U V : Part Token Expr} {u : Reading Token Expr} {N M : Part Token Expr} {w : Reading Token Expr} {B C : Part Token Block}
     (n many : ℕ) (le : n ≤ many) (wide room : ℕ) (law_unary : Line kinds P S unary_first on_unary U u) (law_part : Line kinds (Deeper room) S part_first on_part N w)
     (lift_unary : Lifts n U V) (lift_part : Below n N M) (lift_query : Below n B C) where
+  pub lift-CompareLine : Lifts n (CompareLine wide room U B) (CompareLine many n V C)
+  lift-CompareLine = Lifts-then n t.Compare (lift-ComparisonWord n)
+      (Lifts-or n (lift-ComparedQuery n many le wide room lift_query) (Lifts-map n compared.Sum (lift-Sum n many le wide law_unary lift_unary)))
+
   pub lift-DenyTest : Lifts n (DenyTest wide room U N B) (DenyTest many n V M C)
   lift-DenyTest = Lifts-or n (lift-BetweenLine n many le wide law_unary lift_unary)
       (Lifts-or n (lift-LikeLine n) (lift-InLine n many le wide room law_part lift_part lift_query))
 
   pub lift-TestTail : Lifts n (TestTail wide room U N B) (TestTail many n V M C)
-  lift-TestTail = Lifts-or n (lift-CompareLine n many le wide law_unary lift_unary)
+  lift-TestTail = Lifts-or n lift-CompareLine
       (Lifts-or n (lift-NullLine n)
       (Lifts-or n (Lifts-then n denied (Lifts-one n (is k.Not)) lift-DenyTest)
       (Lifts-or n lift-DenyTest (Lifts-empty n t.Absent))))
@@ -340,8 +361,14 @@ module _ {P S : Type 0} {N M : Part Token Expr} {w : Reading Token Expr} {B C : 
   lift-FromLine = Lifts-then n second (Lifts-one n (is k.From))
       (Lifts-then n cons lift-JoinedLine (Lifts-list n many second wide le (line_nonempty (law-JoinedLine wide room law_part law_query)) (Lifts-one n (is k.Comma)) lift-JoinedLine))
 
+  pub lift-BlockLine : Lifts n (BlockLine wide room N B) (BlockLine many n M C)
+  lift-BlockLine = Lifts-then n block (lift-SelectLine n many le wide law_part lift_part) (Lifts-then n pair lift-FromLine (lift-FiltersTail n many le wide law_part lift_part))
+
+  pub lift-TermLine : Lifts n (TermLine wide room N B) (TermLine many n M C)
+  lift-TermLine = Lifts-then n combined lift-BlockLine (Lifts-list n many set_part wide le (line_nonempty (law-BlockLine wide room law_part law_query)) (lift-IntersectWords n) lift-BlockLine)
+
   pub lift-QueryLine : Lifts n (QueryLine wide room N B) (QueryLine many n M C)
-  lift-QueryLine = Lifts-then n block (lift-SelectLine n many le wide law_part lift_part) (Lifts-then n pair lift-FromLine (lift-FiltersTail n many le wide law_part lift_part))
+  lift-QueryLine = Lifts-then n combined lift-TermLine (Lifts-list n many set_part wide le (line_nonempty (law-TermLine wide room law_part law_query)) (lift-SetWords n) lift-TermLine)
 
 -- ---- statements
 module _ {B B' : Part Token Block} (n many : ℕ) (le : n ≤ many) (wide room : ℕ) (lift_query : Lifts n B B') where

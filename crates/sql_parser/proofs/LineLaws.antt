@@ -5,6 +5,8 @@ use Rattle.sql_lexer.specs.declared.token.Token.{Token}
 use Rattle.sql_ast.specs.declared.tree.Expr.{Expr}
 use Rattle.sql_ast.specs.declared.tree.Expr.TheVariants as e
 use Rattle.sql_ast.specs.declared.words.Comparison.TheVariants as comparison
+use Rattle.sql_ast.specs.declared.words.Quantifier.TheVariants as quantifier
+use Rattle.sql_ast.specs.declared.words.SetOperator.TheVariants as set_operator
 use Rattle.sql_ast.specs.declared.words.Span.TheVariants as span
 use Rattle.sql_ast.specs.declared.words.Aggregate.TheVariants as aggregate
 use Rattle.sql_ast.specs.declared.words.Adding.TheVariants as adding
@@ -16,6 +18,7 @@ use Rattle.sql_ast.specs.declared.tree.Block.{Block}
 use Rattle.sql_ast.specs.declared.words.JoinKind.TheVariants as join_kind
 use Rattle.sql_ast.specs.declared.statement.RefreshKind.TheVariants as refresh_kind
 use Rattle.sql_ast.specs.declared.statement.Statement.TheVariants as statements
+use Rattle.sql_parser_steps.specs.declared.test.Compared.TheVariants as compared
 use Rattle.sql_parser_steps.specs.declared.test.Test.TheVariants as t
 use Rattle.sql_lexer.specs.Kinds.{is}
 use Rattle.sql_grammar_laws.specs.Kinds.{among}
@@ -23,13 +26,13 @@ use Rattle.sql_grammar_laws.specs.Lines.{Part}
 use Rattle.sql_grammar_laws.specs.Readings.{Reading}
 use Rattle.sql_grammar_laws.proofs.Lawful.{Line, Tail, Deeper, is_among, line_kind, line_then, line_then_tail, tail_then, line_map, tail_empty, line_or, tail_or, line_opens, tail_links, tail_repeats}
 use Rattle.sql_parser_steps.specs.Kinds.{kinds}
-use Rattle.sql_parser_steps.specs.Values.{text_of, count_of, number, text, first, second, pair, cons, constant, after_word, after_point, column, negative, negation, factor, term, product, sum, all_of, any_of, arm, case_of, date, interval, extract, substring, distinct_count, between, like, in_list, in_query, is_null, is_not_null, denied, tested, item, distinct, plain_selection, derived, lateral, join, joined, condition, filters, block, named_key, ordered, create_view, text_value, number_value, with_query, under_with}
-use Rattle.sql_parser.specs.Expressions.{NameLine, Literal, Number, Digits, SpanWord, ColumnTail, ColumnLine, MultiplyWord, AddWord, Product, Sum, Conjunction, Whole, ExprList, ArmLine, Arms, ElseTail, CaseBody, CaseLine, DateText, DateLine, Precision, IntervalLine, ExtractInside, ExtractLine, Places, SubstringInside, SubstringLine, CountInside, CountLine, AggregateWord, AggregateLine, Call, Leaf, ParensInside, Parens, Subquery, ExistsLine, Operand, UnaryLine, ComparisonWord, CompareLine, NullLine, BetweenLine, LikeLine, InInside, InLine, DenyTest, TestTail, Predicate, PartLine}
-use Rattle.sql_parser.specs.Grammar.{Alias, ItemLine, Selection, SelectLine, Names, ColumnNames, TableLine, DerivedAlias, FromQueryLine, DerivedLine, LateralLine, FromItemLine, InnerWords, LeftWords, JoinWords, JoinedItem, JoinedLine, FromLine, WhereTail, GroupTail, HavingTail, FiltersTail, QueryLine, Direction, KeyLine, OrderTail, RowsOnly, LimitTail, VersionTail, OrderedLine, WithQueryLine, WithLine, WithOrderedLine, CreateLine, DropLine, RefreshWord, RefreshLine, ValueLine, ValueList, RunInside, RunLine, StatementLine, EndedLine}
-use Rattle.sql_parser_steps.specs.ExpressionReadings.{read_name, read_literal, read_number, read_digits, read_span, read_column_tail, read_column, read_multiply, read_add, read_product, read_sum, read_conjunction, read_whole, read_expr_list, read_arm, read_arms, read_else, read_case_body, read_case, read_date_text, read_date, read_precision, read_interval, read_extract_inside, read_extract, read_places, read_substring_inside, read_substring, read_count_inside, read_count, read_aggregate_word, read_aggregate, read_call, read_leaf, read_parens_inside, read_parens, read_subquery, read_exists, read_operand, read_unary_line, read_comparison, read_compare, read_null, read_between, read_like, read_in_inside, read_in, read_deny_test, read_test, read_predicate, read_part_line}
-use Rattle.sql_parser_steps.specs.Readings.{read_alias, read_item, read_selection, read_select, read_names, read_column_names, read_table, read_derived_alias, read_from_query, read_derived, read_lateral, read_from_item, read_inner_words, read_left_words, read_join_words, read_joined_item, read_joined, read_from, read_where, read_group, read_having, read_filters, read_query_line, read_direction, read_named_key, read_order, read_rows_only, read_limit, read_version, read_ordered, read_with_query, read_with, read_with_ordered, read_view_name, read_create, read_drop, read_refresh_word, read_refresh, read_value, read_values, read_run_inside, read_run, read_statement, read_ended}
+use Rattle.sql_parser_steps.specs.Values.{text_of, count_of, number, text, first, second, pair, cons, constant, after_word, after_point, column, negative, negation, factor, term, product, sum, all_of, any_of, arm, case_of, date, interval, extract, substring, distinct_count, between, like, in_list, in_query, is_null, is_not_null, denied, tested, item, distinct, plain_selection, derived, lateral, join, joined, condition, filters, block, named_key, ordered, create_view, text_value, number_value, with_query, under_with, set_part, combined}
+use Rattle.sql_parser.specs.Expressions.{NameLine, Literal, Number, Digits, SpanWord, ColumnTail, ColumnLine, MultiplyWord, AddWord, Product, Sum, Conjunction, Whole, ExprList, ArmLine, Arms, ElseTail, CaseBody, CaseLine, DateText, DateLine, Precision, IntervalLine, ExtractInside, ExtractLine, Places, SubstringInside, SubstringLine, CountInside, CountLine, AggregateWord, AggregateLine, Call, Leaf, ParensInside, Parens, Subquery, ExistsLine, Operand, UnaryLine, ComparisonWord, QuantifierWord, ComparedQuery, ComparedLine, CompareLine, NullLine, BetweenLine, LikeLine, InInside, InLine, DenyTest, TestTail, Predicate, PartLine}
+use Rattle.sql_parser.specs.Grammar.{Alias, ItemLine, Selection, SelectLine, Names, ColumnNames, TableLine, DerivedAlias, FromQueryLine, DerivedLine, LateralLine, FromItemLine, InnerWords, LeftWords, JoinWords, JoinedItem, JoinedLine, FromLine, WhereTail, GroupTail, HavingTail, FiltersTail, BlockLine, AllWord, IntersectWords, SetWord, SetWords, TermLine, QueryLine, Direction, KeyLine, OrderTail, RowsOnly, LimitTail, VersionTail, OrderedLine, WithQueryLine, WithLine, WithOrderedLine, CreateLine, DropLine, RefreshWord, RefreshLine, ValueLine, ValueList, RunInside, RunLine, StatementLine, EndedLine}
+use Rattle.sql_parser_steps.specs.ExpressionReadings.{read_name, read_literal, read_number, read_digits, read_span, read_column_tail, read_column, read_multiply, read_add, read_product, read_sum, read_conjunction, read_whole, read_expr_list, read_arm, read_arms, read_else, read_case_body, read_case, read_date_text, read_date, read_precision, read_interval, read_extract_inside, read_extract, read_places, read_substring_inside, read_substring, read_count_inside, read_count, read_aggregate_word, read_aggregate, read_call, read_leaf, read_parens_inside, read_parens, read_subquery, read_exists, read_operand, read_unary_line, read_comparison, read_quantifier, read_compared_query, read_compared, read_compare, read_null, read_between, read_like, read_in_inside, read_in, read_deny_test, read_test, read_predicate, read_part_line}
+use Rattle.sql_parser_steps.specs.Readings.{read_alias, read_item, read_selection, read_select, read_names, read_column_names, read_table, read_derived_alias, read_from_query, read_derived, read_lateral, read_from_item, read_inner_words, read_left_words, read_join_words, read_joined_item, read_joined, read_from, read_where, read_group, read_having, read_filters, read_block, read_all, read_intersect_words, read_set_word, read_set_words, read_term, read_query_line, read_direction, read_named_key, read_order, read_rows_only, read_limit, read_version, read_ordered, read_with_query, read_with, read_with_ordered, read_view_name, read_create, read_drop, read_refresh_word, read_refresh, read_value, read_values, read_run_inside, read_run, read_statement, read_ended}
 use Rattle.sql_parser.proofs.Samples.{line_count, line_digits}
-use Rattle.sql_parser.proofs.KindLists.{span_words, multiply_words, add_words, comparison_words, denied_words, aggregate_words, call_words, alias_words, direction_words, limit_words, inner_words, join_words, refresh_words, value_words, tail_words, statement_words, test_words, leaf_first, called_first, operand_first, unary_first, part_first, selection_first, inside_first, from_query_first, item_first, filters_first, on_unary, on_product, on_sum, on_denied, on_part, on_conjunction, on_whole, on_list, on_arms, on_item, on_items, on_names, on_from_query, on_from_item, on_joined, on_from, on_columns, on_keys, on_filters, on_query, on_limits, on_statement}
+use Rattle.sql_parser.proofs.KindLists.{span_words, multiply_words, add_words, comparison_words, denied_words, aggregate_words, call_words, alias_words, direction_words, limit_words, inner_words, join_words, quantifier_words, set_words, refresh_words, value_words, tail_words, statement_words, test_words, leaf_first, called_first, operand_first, unary_first, compared_first, part_first, selection_first, inside_first, from_query_first, item_first, filters_first, on_unary, on_product, on_sum, on_denied, on_part, on_conjunction, on_whole, on_list, on_arms, on_item, on_items, on_names, on_from_query, on_from_item, on_joined, on_from, on_columns, on_keys, on_filters, on_block, on_all, on_term, on_query, on_limits, on_statement}
 
 -- ---- what holds no expression
 module _ {P S : Type 0} where
@@ -162,6 +165,27 @@ module _ {P S : Type 0} where
   unfolding read_version
   law-VersionTail = tail_or {first = k.At ∷ []} {on = k.At ∷ []} (is k.At) (is_among kinds k.At) (line_then after_word (line_then second (line_kind kinds k.At) (line_kind kinds k.Version) refl) law-Number refl) (tail_empty None) refl refl refl refl refl refl
 
+  pub law-QuantifierWord : Line kinds P S quantifier_words [] QuantifierWord read_quantifier
+  unfolding read_quantifier
+  law-QuantifierWord = line_or {first = quantifier_words} {on = []} (is k.Any) (is_among kinds k.Any) (line_map (constant quantifier.Any) (line_kind kinds k.Any))
+      (line_or {first = k.Some ∷ k.All ∷ []} {on = []} (is k.Some) (is_among kinds k.Some) (line_map (constant quantifier.Any) (line_kind kinds k.Some)) (line_map (constant quantifier.All) (line_kind kinds k.All)) refl refl refl refl refl) refl refl refl refl refl
+
+  pub law-AllWord : Tail kinds P S (k.All ∷ []) on_all AllWord read_all
+  unfolding read_all
+  law-AllWord = tail_or {first = k.All ∷ []} {on = on_all} (is k.All) (is_among kinds k.All) (line_map (constant true) (line_kind kinds k.All)) (tail_empty false) refl refl refl refl refl refl
+
+  pub law-IntersectWords : Line kinds P S (k.Intersect ∷ []) on_all IntersectWords read_intersect_words
+  unfolding read_intersect_words
+  law-IntersectWords = line_then_tail {on = on_all} pair (line_map (constant set_operator.Intersect) (line_kind kinds k.Intersect)) law-AllWord refl refl refl
+
+  pub law-SetWord : Line kinds P S set_words [] SetWord read_set_word
+  unfolding read_set_word
+  law-SetWord = line_or {first = set_words} {on = []} (is k.Union) (is_among kinds k.Union) (line_map (constant set_operator.Union) (line_kind kinds k.Union)) (line_map (constant set_operator.Except) (line_kind kinds k.Except)) refl refl refl refl refl
+
+  pub law-SetWords : Line kinds P S set_words on_all SetWords read_set_words
+  unfolding read_set_words
+  law-SetWords = line_then_tail {on = on_all} pair law-SetWord law-AllWord refl refl refl
+
 -- ---- what holds no expression, but may open a level
 module _ {P S : Type 0} (room : ℕ) where
   pub law-DateText : Line kinds P S (k.OpenParen ∷ k.Text ∷ []) [] (DateText room) (read_date_text room)
@@ -228,10 +252,6 @@ module _ {P S : Type 0} {U : Part Token Expr} {u : Reading Token Expr} (wide : �
   pub law-Sum : Line kinds P S unary_first on_sum (Sum wide U) (read_sum wide u)
   unfolding read_sum
   law-Sum = line_then_tail {on = on_sum} sum law-Product (tail_links {on = on_sum} wide (among kinds add_words) term (λ t. refl) law-AddWord law-Product refl refl refl refl) refl refl refl
-
-  pub law-CompareLine : Line kinds P S comparison_words on_sum (CompareLine wide U) (read_compare wide u)
-  unfolding read_compare
-  law-CompareLine = line_then t.Compare law-ComparisonWord law-Sum refl
 
   pub law-BetweenLine : Line kinds P S (k.Between ∷ []) on_sum (BetweenLine wide U) (read_between wide u)
   unfolding read_between
@@ -345,6 +365,10 @@ module _ {P S : Type 0} {B : Part Token Block} {b : Reading Token Block}
   unfolding read_exists
   law-ExistsLine = line_then second (line_kind kinds k.Exists) (line_map e.Exists law-Subquery) refl
 
+  pub law-ComparedQuery : Line kinds P S quantifier_words [] (ComparedQuery room B) (read_compared_query room b)
+  unfolding read_compared_query
+  law-ComparedQuery = line_then compared.Query law-QuantifierWord law-Subquery refl
+
   pub law-FromQueryLine : Line kinds P S from_query_first on_from_query (FromQueryLine wide room B) (read_from_query wide room b)
   unfolding read_from_query
   law-FromQueryLine = line_then pair law-Subquery (line_then_tail {on = on_from_query} pair law-DerivedAlias (law-ColumnNames wide room) refl refl refl) refl
@@ -402,6 +426,14 @@ module _ {P S : Type 0} {U : Part Token Expr} {u : Reading Token Expr} {N : Part
 module _ {P S : Type 0} {U : Part Token Expr} {u : Reading Token Expr} {N : Part Token Expr} {n : Reading Token Expr} {B : Part Token Block} {b : Reading Token Block}
     (wide room : ℕ) (unary : Line kinds P S unary_first on_unary U u) (part : Line kinds (Deeper room) S part_first on_part N n)
     (query : Line kinds (Deeper room) S (k.Select ∷ []) on_query B b) where
+  pub law-ComparedLine : Line kinds P S compared_first on_sum (ComparedLine wide room U B) (read_compared wide room u b)
+  unfolding read_compared
+  law-ComparedLine = line_or {first = compared_first} {on = on_sum} (among kinds quantifier_words) (λ t. refl) (law-ComparedQuery wide room query) (line_map compared.Sum (law-Sum wide unary)) refl refl refl refl refl
+
+  pub law-CompareLine : Line kinds P S comparison_words on_sum (CompareLine wide room U B) (read_compare wide room u b)
+  unfolding read_compare
+  law-CompareLine = line_then t.Compare law-ComparisonWord law-ComparedLine refl
+
   pub law-DenyTest : Line kinds P S denied_words on_sum (DenyTest wide room U N B) (read_deny_test wide room u n b)
   unfolding read_deny_test
   law-DenyTest = line_or {first = denied_words} {on = on_sum} (is k.Between) (is_among kinds k.Between) (law-BetweenLine wide unary)
@@ -409,7 +441,7 @@ module _ {P S : Type 0} {U : Part Token Expr} {u : Reading Token Expr} {N : Part
 
   pub law-TestTail : Tail kinds P S test_words on_part (TestTail wide room U N B) (read_test wide room u n b)
   unfolding read_test
-  law-TestTail = tail_or {first = test_words} {on = on_part} (among kinds comparison_words) (λ t. refl) (law-CompareLine wide unary)
+  law-TestTail = tail_or {first = test_words} {on = on_part} (among kinds comparison_words) (λ t. refl) law-CompareLine
       (tail_or {first = k.Is ∷ k.Not ∷ denied_words} {on = k.Is ∷ k.Not ∷ on_denied} (is k.Is) (is_among kinds k.Is) law-NullLine
       (tail_or {first = k.Not ∷ denied_words} {on = k.Not ∷ on_denied} (is k.Not) (is_among kinds k.Not) (line_then denied (line_kind kinds k.Not) law-DenyTest refl)
       (tail_or {first = denied_words} {on = on_denied} (among kinds denied_words) (λ t. refl) law-DenyTest (tail_empty t.Absent) refl refl refl refl refl refl) refl refl refl refl refl refl) refl refl refl refl refl refl) refl refl refl refl refl refl
@@ -436,9 +468,17 @@ module _ {P S : Type 0} {N : Part Token Expr} {n : Reading Token Expr} {B : Part
   unfolding read_from
   law-FromLine = line_then second (line_kind kinds k.From) (line_then_tail {on = on_from} cons law-JoinedLine (tail_links {on = on_from} wide (is k.Comma) second (is_among kinds k.Comma) (line_kind kinds k.Comma) law-JoinedLine refl refl refl refl) refl refl refl) refl
 
+  pub law-BlockLine : Line kinds P S (k.Select ∷ []) on_block (BlockLine wide room N B) (read_block wide room n b)
+  unfolding read_block
+  law-BlockLine = line_then block (law-SelectLine wide part) (line_then_tail {on = on_block} pair law-FromLine (law-FiltersTail wide part) refl refl refl) refl
+
+  pub law-TermLine : Line kinds P S (k.Select ∷ []) on_term (TermLine wide room N B) (read_term wide room n b)
+  unfolding read_term
+  law-TermLine = line_then_tail {on = on_term} combined law-BlockLine (tail_links {on = on_term} wide (is k.Intersect) set_part (is_among kinds k.Intersect) law-IntersectWords law-BlockLine refl refl refl refl) refl refl refl
+
   pub law-QueryLine : Line kinds P S (k.Select ∷ []) on_query (QueryLine wide room N B) (read_query_line wide room n b)
   unfolding read_query_line
-  law-QueryLine = line_then block (law-SelectLine wide part) (line_then_tail {on = on_query} pair law-FromLine (law-FiltersTail wide part) refl refl refl) refl
+  law-QueryLine = line_then_tail {on = on_query} combined law-TermLine (tail_links {on = on_query} wide (among kinds set_words) set_part (λ t. refl) law-SetWords law-TermLine refl refl refl refl) refl refl refl
 
 -- ---- statements
 module _ {P S : Type 0} {B C : Part Token Block} {b d : Reading Token Block}

@@ -9,6 +9,8 @@ use Rattle.sql_ast.specs.declared.tree.Arm.{Arm}
 use Rattle.sql_ast.specs.declared.words.Column.{Column}
 use Rattle.sql_ast.specs.declared.words.Comparison.{Comparison}
 use Rattle.sql_ast.specs.declared.words.Comparison.TheVariants as comparison
+use Rattle.sql_ast.specs.declared.words.Quantifier.{Quantifier}
+use Rattle.sql_ast.specs.declared.words.Quantifier.TheVariants as quantifier
 use Rattle.sql_ast.specs.declared.words.Span.{Span}
 use Rattle.sql_ast.specs.declared.words.Span.TheVariants as span
 use Rattle.sql_ast.specs.declared.words.Aggregate.{Aggregate}
@@ -18,6 +20,8 @@ use Rattle.sql_ast.specs.declared.words.Adding.TheVariants as adding
 use Rattle.sql_ast.specs.declared.words.Multiplying.{Multiplying}
 use Rattle.sql_ast.specs.declared.words.Multiplying.TheVariants as multiplying
 use Rattle.sql_ast.specs.declared.tree.Block.{Block}
+use Rattle.sql_parser_steps.specs.declared.test.Compared.{Compared}
+use Rattle.sql_parser_steps.specs.declared.test.Compared.TheVariants as compared
 use Rattle.sql_parser_steps.specs.declared.test.Test.{Test}
 use Rattle.sql_parser_steps.specs.declared.test.Test.TheVariants as t
 use Rattle.sql_lexer.specs.Kinds.{is}
@@ -243,9 +247,25 @@ ComparisonWord = Or (Map (constant comparison.Equal) (One (is k.Equal)))
     (Or (Map (constant comparison.Greater) (One (is k.Greater)))
     (Map (constant comparison.GreaterOrEqual) (One (is k.GreaterOrEqual)))))))
 
--- (= | <> | < | <= | > | >=) sum
-abbrev pub CompareLine : ℕ → Part Token Expr → Part Token Test
-CompareLine wide unary = Then t.Compare ComparisonWord (Sum wide unary)
+-- any | some | all
+abbrev pub QuantifierWord : Part Token Quantifier
+QuantifierWord = Or (Map (constant quantifier.Any) (One (is k.Any)))
+    (Or (Map (constant quantifier.Any) (One (is k.Some)))
+    (Map (constant quantifier.All) (One (is k.All))))
+
+-- (any | some | all) "(" query ")"
+abbrev pub ComparedQuery : ℕ → Part Token Block → Part Token Compared
+ComparedQuery room query = Then compared.Query QuantifierWord (Subquery room query)
+
+-- such a query, or a sum
+abbrev pub ComparedLine : ℕ → ℕ → Part Token Expr → Part Token Block → Part Token Compared
+ComparedLine wide room unary query =
+    Or (ComparedQuery room query) (Map compared.Sum (Sum wide unary))
+
+-- (= | <> | < | <= | > | >=) (sum | (any | some | all) "(" query ")")
+abbrev pub CompareLine : ℕ → ℕ → Part Token Expr → Part Token Block → Part Token Test
+CompareLine wide room unary query =
+    Then t.Compare ComparisonWord (ComparedLine wide room unary query)
 
 -- is [not] null
 abbrev pub NullLine : Part Token Test
@@ -281,7 +301,7 @@ DenyTest wide room unary part query =
 -- [a comparison | is [not] null | [not] between .. | [not] like .. | [not] in ..]
 abbrev pub TestTail : ℕ → ℕ → Part Token Expr → Part Token Expr → Part Token Block → Part Token Test
 TestTail wide room unary part query =
-    Or (CompareLine wide unary)
+    Or (CompareLine wide room unary query)
     (Or NullLine (Or (Then denied (One (is k.Not)) (DenyTest wide room unary part query))
     (Or (DenyTest wide room unary part query) (Empty t.Absent))))
 

@@ -20,6 +20,8 @@ use Rattle.sql_ast.specs.declared.words.JoinKind.{JoinKind}
 use Rattle.sql_ast.specs.declared.words.JoinKind.TheVariants as join_kind
 use Rattle.sql_ast.specs.declared.tree.Joined.{Joined}
 use Rattle.sql_ast.specs.declared.tree.Block.{Block}
+use Rattle.sql_ast.specs.declared.words.SetOperator.{SetOperator}
+use Rattle.sql_ast.specs.declared.words.SetOperator.TheVariants as set_operator
 use Rattle.sql_ast.specs.declared.statement.RefreshKind.{RefreshKind}
 use Rattle.sql_ast.specs.declared.statement.RefreshKind.TheVariants as refresh_kind
 use Rattle.sql_ast.specs.declared.statement.TemplateValue.{TemplateValue}
@@ -31,7 +33,7 @@ use Rattle.sql_grammar_laws.specs.Lines.{Part, One, Opens, Empty, Never, Then, O
 use Rattle.sql_parser_steps.specs.Values.{Name, first, second, pair, cons, constant, after_word, item}
 use Rattle.sql_parser_steps.specs.Values.{distinct, plain_selection, derived, lateral, join, joined}
 use Rattle.sql_parser_steps.specs.Values.{condition, filters, block, named_key, ordered, create_view, text_value}
-use Rattle.sql_parser_steps.specs.Values.{number_value, with_query, under_with}
+use Rattle.sql_parser_steps.specs.Values.{number_value, with_query, under_with, set_part, combined}
 use Rattle.sql_parser.specs.Expressions.{NameLine, Number, ColumnLine, Whole, Subquery, UnaryLine}
 use Rattle.sql_parser.specs.Expressions.{PartLine}
 
@@ -147,10 +149,39 @@ FiltersTail wide part =
     Then filters (WhereTail wide part) (Then pair (GroupTail wide) (HavingTail wide part))
 
 -- select .. from .. [where ..] [group by ..] [having ..]
-abbrev pub QueryLine : ℕ → ℕ → Part Token Expr → Part Token Block → Part Token Block
-QueryLine wide room part query =
+abbrev pub BlockLine : ℕ → ℕ → Part Token Expr → Part Token Block → Part Token Block
+BlockLine wide room part query =
     Then block (SelectLine wide part)
     (Then pair (FromLine wide room part query) (FiltersTail wide part))
+
+-- [all]
+abbrev pub AllWord : Part Token Bool
+AllWord = Or (Map (constant true) (One (is k.All))) (Empty false)
+
+-- intersect [all]
+abbrev pub IntersectWords : Part Token (SetOperator × Bool)
+IntersectWords = Then pair (Map (constant set_operator.Intersect) (One (is k.Intersect))) AllWord
+
+-- union | except
+abbrev pub SetWord : Part Token SetOperator
+SetWord = Or (Map (constant set_operator.Union) (One (is k.Union)))
+    (Map (constant set_operator.Except) (One (is k.Except)))
+
+-- (union | except) [all]
+abbrev pub SetWords : Part Token (SetOperator × Bool)
+SetWords = Then pair SetWord AllWord
+
+-- select .. {intersect [all] select ..}
+abbrev pub TermLine : ℕ → ℕ → Part Token Expr → Part Token Block → Part Token Block
+TermLine wide room part query =
+    Then combined (BlockLine wide room part query)
+    (Links IntersectWords set_part (BlockLine wide room part query) wide)
+
+-- term {(union | except) [all] term}
+abbrev pub QueryLine : ℕ → ℕ → Part Token Expr → Part Token Block → Part Token Block
+QueryLine wide room part query =
+    Then combined (TermLine wide room part query)
+    (Links SetWords set_part (TermLine wide room part query) wide)
 
 -- [asc|desc]
 abbrev pub Direction : Part Token Bool

@@ -217,13 +217,13 @@ impl<
     }
 
     /// `select .. from .. [where ..] [group by ..] [having ..]`.
-    #[tactic(auto, unfolding(sql_parser_steps::specs::Readings::read_query_line))]
+    #[tactic(auto, unfolding(sql_parser_steps::specs::Readings::read_block))]
     pub(crate) fn block(&self, parser: &mut Parser<'_>) -> Result<Boxed<Block>, SyntaxError>
         requires part { At (part_at 1023) self.now.room (P.pre self.now.part)
             (P.post self.now.part) }
         requires query { Below (query_at 1023) self.now.room (Q.pre self.now.query)
             (Q.post self.now.query) }
-        ensures { Reads (readings.read_query_line 1023 self.now.room (part_at 1023 self.now.room)
+        ensures { Reads (readings.read_block 1023 self.now.room (part_at 1023 self.now.room)
             (inner_query 1023 self.now.room) parser.old) result parser.new }
     {
         let level = Level {

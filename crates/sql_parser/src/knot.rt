@@ -65,7 +65,7 @@ pub(crate) fn part(
     Ok(value)
 }
 
-/// A query from SELECT to HAVING.
+/// A query: SELECTs with their clauses, joined by set operations.
 #[cycle(knot)]
 #[tactic(auto, using(crate::proofs::Unfold::query_is))]
 pub(crate) fn query(
@@ -81,6 +81,6 @@ pub(crate) fn query(
         part,
         query,
     };
-    let block = blocks.block(parser)?;
-    Ok(block)
+    let query = blocks.query(parser)?;
+    Ok(query)
 }

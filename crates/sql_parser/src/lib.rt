@@ -3,6 +3,7 @@
 
 mod blocks;
 mod calls;
+mod chains;
 mod fault;
 mod insides;
 mod knot;

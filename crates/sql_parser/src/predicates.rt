@@ -10,7 +10,7 @@ use sql_ast::{Block, Expr};
 use sql_grammar_laws::SyntaxError;
 use sql_lexer::Kind;
 use sql_parser_steps::parts::{opposite, tested};
-use sql_parser_steps::{Parser, Test};
+use sql_parser_steps::{Compared, Parser, Subqueries, Test};
 use sqlite_items::Boxed;
 use std::alloc::Global;
 
@@ -63,6 +63,48 @@ impl<
         nested.in_test(parser)
     }
 
+    /// What a sum is compared with.
+    #[tactic(auto, unfolding(sql_parser_steps::specs::ExpressionReadings::read_compared))]
+    fn compared(&self, parser: &mut Parser<'_>) -> Result<Compared, SyntaxError>
+        requires unary { At (unary_at 1023) self.now.room (U.pre self.now.unary)
+            (U.post self.now.unary) }
+        requires query { Below (query_at 1023) self.now.room (Q.pre self.now.query)
+            (Q.post self.now.query) }
+        ensures { Reads (readings.read_compared 1023 self.now.room (unary_at 1023 self.now.room)
+            (inner_query 1023 self.now.room) parser.old) result parser.new }
+    {
+        if parser.starts_any(&[Kind::Any, Kind::Some, Kind::All]) {
+            let subqueries = Subqueries {
+                alloc: self.alloc,
+                room: self.room,
+                query: self.query,
+            };
+            return subqueries.compared(parser);
+        }
+        let sums = Sums {
+            alloc: self.alloc,
+            room: self.room,
+            unary: self.unary,
+        };
+        let value = sums.sum(parser)?;
+        Ok(Compared::Sum(value))
+    }
+
+    /// A comparison and its right side.
+    #[tactic(auto, unfolding(sql_parser_steps::specs::ExpressionReadings::read_compare))]
+    fn compare(&self, parser: &mut Parser<'_>) -> Result<Test, SyntaxError>
+        requires unary { At (unary_at 1023) self.now.room (U.pre self.now.unary)
+            (U.post self.now.unary) }
+        requires query { Below (query_at 1023) self.now.room (Q.pre self.now.query)
+            (Q.post self.now.query) }
+        ensures { Reads (readings.read_compare 1023 self.now.room (unary_at 1023 self.now.room)
+            (inner_query 1023 self.now.room) parser.old) result parser.new }
+    {
+        let comparison = parser.comparison()?;
+        let compared = self.compared(parser)?;
+        Ok(Test::Compare(comparison, compared))
+    }
+
     /// What is asked of a sum.
     #[tactic(auto, unfolding(sql_parser_steps::specs::ExpressionReadings::read_test))]
     fn test(&self, parser: &mut Parser<'_>) -> Result<Test, SyntaxError>
@@ -84,12 +126,7 @@ impl<
             Kind::Greater,
             Kind::GreaterOrEqual,
         ]) {
-            let sums = Sums {
-                alloc: self.alloc,
-                room: self.room,
-                unary: self.unary,
-            };
-            return sums.compare(parser);
+            return self.compare(parser);
         }
         if parser.starts(Kind::Is) {
             return parser.null();

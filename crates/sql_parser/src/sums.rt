@@ -102,18 +102,6 @@ impl<U: Fn(Global, &mut Parser<'_>, usize) -> Result<Boxed<Expr>, SyntaxError>> 
         Ok(sum(self.alloc, first, others)?)
     }
 
-    /// A comparison and its right side.
-    #[tactic(auto, unfolding(sql_parser_steps::specs::ExpressionReadings::read_compare))]
-    pub(crate) fn compare(&self, parser: &mut Parser<'_>) -> Result<Test, SyntaxError>
-        requires { At (unary_at 1023) self.now.room (U.pre self.now.unary) (U.post self.now.unary) }
-        ensures { Reads (readings.read_compare 1023 (unary_at 1023 self.now.room) parser.old) result
-            parser.new }
-    {
-        let comparison = parser.comparison()?;
-        let value = self.sum(parser)?;
-        Ok(Test::Compare(comparison, value))
-    }
-
     /// `between sum and sum`.
     #[tactic(auto, unfolding(sql_parser_steps::specs::ExpressionReadings::read_between))]
     pub(crate) fn between(&self, parser: &mut Parser<'_>) -> Result<Test, SyntaxError>

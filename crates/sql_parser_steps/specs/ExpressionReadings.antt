@@ -8,6 +8,8 @@ use Rattle.sql_ast.specs.declared.tree.Arm.{Arm}
 use Rattle.sql_ast.specs.declared.words.Column.{Column}
 use Rattle.sql_ast.specs.declared.words.Comparison.{Comparison}
 use Rattle.sql_ast.specs.declared.words.Comparison.TheVariants as comparison
+use Rattle.sql_ast.specs.declared.words.Quantifier.{Quantifier}
+use Rattle.sql_ast.specs.declared.words.Quantifier.TheVariants as quantifier
 use Rattle.sql_ast.specs.declared.words.Span.{Span}
 use Rattle.sql_ast.specs.declared.words.Span.TheVariants as span
 use Rattle.sql_ast.specs.declared.words.Aggregate.{Aggregate}
@@ -17,6 +19,8 @@ use Rattle.sql_ast.specs.declared.words.Adding.TheVariants as adding
 use Rattle.sql_ast.specs.declared.words.Multiplying.{Multiplying}
 use Rattle.sql_ast.specs.declared.words.Multiplying.TheVariants as multiplying
 use Rattle.sql_ast.specs.declared.tree.Block.{Block}
+use Rattle.sql_parser_steps.specs.declared.test.Compared.{Compared}
+use Rattle.sql_parser_steps.specs.declared.test.Compared.TheVariants as compared
 use Rattle.sql_parser_steps.specs.declared.test.Test.{Test}
 use Rattle.sql_parser_steps.specs.declared.test.Test.TheVariants as t
 use Rattle.sql_lexer.specs.Kinds.{is}
@@ -267,9 +271,27 @@ read_comparison = either (is k.Equal) (mapped (constant comparison.Equal) (one (
     (either (is k.Greater) (mapped (constant comparison.Greater) (one (is k.Greater)))
     (mapped (constant comparison.GreaterOrEqual) (one (is k.GreaterOrEqual)))))))
 
--- a comparison and a sum
-unfoldable pub read_compare : ℕ → Reading Token Expr → Reading Token Test
-read_compare wide unary = both t.Compare read_comparison (read_sum wide unary)
+-- ANY, SOME or ALL, told by the next token
+unfoldable pub read_quantifier : Reading Token Quantifier
+read_quantifier = either (is k.Any) (mapped (constant quantifier.Any) (one (is k.Any)))
+    (either (is k.Some) (mapped (constant quantifier.Any) (one (is k.Some)))
+    (mapped (constant quantifier.All) (one (is k.All))))
+
+-- such a word and, between parentheses, a query
+unfoldable pub read_compared_query : ℕ → Reading Token Block → Reading Token Compared
+read_compared_query room query = both compared.Query read_quantifier (read_subquery room query)
+
+-- such a query where ANY, SOME or ALL comes next, else a sum
+unfoldable pub read_compared : ℕ → ℕ → Reading Token Expr → Reading Token Block
+    → Reading Token Compared
+read_compared wide room unary query =
+    either (among kinds (k.Any ∷ k.Some ∷ k.All ∷ [])) (read_compared_query room query)
+    (mapped compared.Sum (read_sum wide unary))
+
+-- a comparison, and what the sum before it is compared with
+unfoldable pub read_compare : ℕ → ℕ → Reading Token Expr → Reading Token Block → Reading Token Test
+read_compare wide room unary query =
+    both t.Compare read_comparison (read_compared wide room unary query)
 
 -- IS NULL or IS NOT NULL
 unfoldable pub read_null : Reading Token Test
@@ -311,7 +333,7 @@ unfoldable pub read_test : ℕ → ℕ → Reading Token Expr → Reading Token 
     → Reading Token Test
 read_test wide room unary part query =
     either (among kinds (k.Equal ∷ k.NotEqual ∷ k.Less ∷ k.LessOrEqual ∷ k.Greater
-    ∷ k.GreaterOrEqual ∷ [])) (read_compare wide unary)
+    ∷ k.GreaterOrEqual ∷ [])) (read_compare wide room unary query)
     (either (is k.Is) read_null
     (either (is k.Not) (both denied (one (is k.Not)) (read_deny_test wide room unary part query))
     (either (among kinds (k.Between ∷ k.Like ∷ k.In ∷ []))

@@ -18,6 +18,8 @@ use Rattle.sql_ast.specs.declared.words.JoinKind.{JoinKind}
 use Rattle.sql_ast.specs.declared.words.JoinKind.TheVariants as join_kind
 use Rattle.sql_ast.specs.declared.tree.Joined.{Joined}
 use Rattle.sql_ast.specs.declared.tree.Block.{Block}
+use Rattle.sql_ast.specs.declared.words.SetOperator.{SetOperator}
+use Rattle.sql_ast.specs.declared.words.SetOperator.TheVariants as set_operator
 use Rattle.sql_ast.specs.declared.statement.RefreshKind.{RefreshKind}
 use Rattle.sql_ast.specs.declared.statement.RefreshKind.TheVariants as refresh_kind
 use Rattle.sql_ast.specs.declared.statement.TemplateValue.{TemplateValue}
@@ -32,7 +34,7 @@ use Rattle.sql_parser_steps.specs.Kinds.{kinds}
 use Rattle.sql_parser_steps.specs.Values.{Name, first, second, pair, cons, constant, after_word, item}
 use Rattle.sql_parser_steps.specs.Values.{distinct, plain_selection, derived, lateral, join, joined}
 use Rattle.sql_parser_steps.specs.Values.{condition, filters, block, named_key, ordered, create_view, text_value}
-use Rattle.sql_parser_steps.specs.Values.{number_value, with_query, under_with}
+use Rattle.sql_parser_steps.specs.Values.{number_value, with_query, under_with, set_part, combined}
 use Rattle.sql_parser_steps.specs.ExpressionReadings.{read_name, read_number, read_column, read_whole}
 use Rattle.sql_parser_steps.specs.ExpressionReadings.{read_subquery, read_unary_line, read_part_line}
 
@@ -163,11 +165,42 @@ read_filters wide part =
     both filters (read_where wide part) (both pair (read_group wide) (read_having wide part))
 
 -- SELECT, FROM and the clauses after it
+unfoldable pub read_block : ℕ → ℕ → Reading Token Expr → Reading Token Block → Reading Token Block
+read_block wide room part query =
+    both block (read_select wide part)
+    (both pair (read_from wide room part query) (read_filters wide part))
+
+-- ALL, where it comes next
+unfoldable pub read_all : Reading Token Bool
+read_all = either (is k.All) (mapped (constant true) (one (is k.All))) (nothing false)
+
+-- INTERSECT and perhaps ALL
+unfoldable pub read_intersect_words : Reading Token (SetOperator × Bool)
+read_intersect_words =
+    both pair (mapped (constant set_operator.Intersect) (one (is k.Intersect))) read_all
+
+-- UNION or EXCEPT, told by the next token
+unfoldable pub read_set_word : Reading Token SetOperator
+read_set_word = either (is k.Union) (mapped (constant set_operator.Union) (one (is k.Union)))
+    (mapped (constant set_operator.Except) (one (is k.Except)))
+
+-- such a word and perhaps ALL
+unfoldable pub read_set_words : Reading Token (SetOperator × Bool)
+read_set_words = both pair read_set_word read_all
+
+-- a SELECT with its clauses, then one more after each INTERSECT
+unfoldable pub read_term : ℕ → ℕ → Reading Token Expr → Reading Token Block → Reading Token Block
+read_term wide room part query =
+    both combined (read_block wide room part query)
+    (links (is k.Intersect) read_intersect_words set_part (read_block wide room part query) wide)
+
+-- such a term, then one more after each UNION or EXCEPT
 unfoldable pub read_query_line : ℕ → ℕ → Reading Token Expr → Reading Token Block
     → Reading Token Block
 read_query_line wide room part query =
-    both block (read_select wide part)
-    (both pair (read_from wide room part query) (read_filters wide part))
+    both combined (read_term wide room part query)
+    (links (among kinds (k.Union ∷ k.Except ∷ [])) read_set_words set_part
+    (read_term wide room part query) wide)
 
 -- ASC or DESC or nothing, which is ascending
 unfoldable pub read_direction : Reading Token Bool

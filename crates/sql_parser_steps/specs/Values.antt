@@ -23,7 +23,11 @@ use Rattle.sql_ast.specs.declared.tree.FromItem.{FromItem}
 use Rattle.sql_ast.specs.declared.tree.FromItem.TheVariants as from_item
 use Rattle.sql_ast.specs.declared.tree.Join.{Join, roll-Join}
 use Rattle.sql_ast.specs.declared.tree.Joined.{Joined, roll-Joined}
-use Rattle.sql_ast.specs.declared.tree.Block.{Block, roll-Block}
+use Rattle.sql_ast.specs.declared.tree.Select.{roll-Select}
+use Rattle.sql_ast.specs.declared.tree.Block.{Block}
+use Rattle.sql_ast.specs.declared.tree.Block.TheVariants as blocks
+use Rattle.sql_ast.specs.declared.tree.SetPart.{SetPart, roll-SetPart}
+use Rattle.sql_ast.specs.declared.words.SetOperator.{SetOperator}
 use Rattle.sql_ast.specs.declared.tree.Clause.{Clause}
 use Rattle.sql_ast.specs.declared.tree.Clause.TheVariants as clause
 use Rattle.sql_ast.specs.declared.statement.NamedKey.{NamedKey}
@@ -33,6 +37,7 @@ use Rattle.sql_ast.specs.declared.statement.TemplateValue.TheVariants as templat
 use Rattle.sql_ast.specs.declared.statement.Statement.{Statement}
 use Rattle.sql_ast.specs.declared.statement.Statement.TheVariants as statements
 use Rattle.sql_ast.specs.declared.statement.WithQuery.{WithQuery}
+use Rattle.sql_parser_steps.specs.declared.test.Compared.TheVariants as compared
 use Rattle.sql_parser_steps.specs.declared.test.Test.{Test}
 use Rattle.sql_parser_steps.specs.declared.test.Test.TheVariants as t
 use Rattle.sql_parser_steps.specs.declared.filters.Filters.{Filters}
@@ -258,7 +263,8 @@ deny false x = x
 -- what is asked of a value, as one condition; a denied test is NOT of the test itself
 abbrev pub tested : Expr → Test → Expr
 tested x t.Absent = x
-tested x (t.Compare c y) = e.Compare c x y
+tested x (t.Compare c (compared.Sum y)) = e.Compare c x y
+tested x (t.Compare c (compared.Query q b)) = e.CompareQuery c q x b
 tested x (t.IsNull b) = deny b (e.IsNull x)
 tested x (t.Between b low high) = deny b (e.Between x low high)
 tested x (t.Like b pattern) = deny b (e.Like x pattern)
@@ -305,7 +311,7 @@ filters c g = record { condition = c; group = g.0; having = g.1 }
 
 -- a query of its clauses
 abbrev pub block : Bool × Selected → List Joined × Filters → Block
-block s f = roll-Block
+block s f = blocks.Select (roll-Select
     (record {
       is_distinct = s.0;
       selected = s.1;
@@ -314,7 +320,17 @@ block s f = roll-Block
       group =
           f.1.group;
       having = f.1.having;
-    })
+    }))
+
+-- a query, and the set operation that joins it to those before it
+abbrev pub set_part : SetOperator × Bool → Block → SetPart
+set_part words query =
+    roll-SetPart (record { operator = words.0; keeps_all = words.1; query = query })
+
+-- a chain of one query is that query
+abbrev pub combined : Block → List SetPart → Block
+combined x [] = x
+combined x (y ∷ ys) = blocks.Combined x (y ∷ ys)
 
 -- ---- statements
 

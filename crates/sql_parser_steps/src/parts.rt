@@ -6,9 +6,10 @@ ghost use Rattle.std.specs.Prelude.{◌≡◌, IfOk};
 ghost use Rattle.sql_parser_steps.specs.Values as values;
 
 use crate::filters::Filters;
-use crate::test::Test;
+use crate::test::{Compared, Test};
 use sql_ast::{
-    Adding, Arm, Block, Expr, Factor, FromItem, Join, JoinKind, Joined, Multiplying, Selected, Term,
+    Adding, Arm, Block, Expr, Factor, FromItem, Join, JoinKind, Joined, Multiplying, Select,
+    Selected, SetOperator, SetPart, Term,
 };
 use sqlite_items::{Boxed, Items};
 use std::alloc::{AllocError, Global};
@@ -66,13 +67,40 @@ pub fn joined_of(first: FromItem, joins: Items<Join>) -> Joined
 pub fn block_of(selected: (bool, Selected), from: Items<Joined>, filters: Filters) -> Block
     ensures { result ≡ values.block selected (from, filters) }
 {
-    Block {
+    Block::Select(Select {
         is_distinct: selected.0,
         selected: selected.1,
         from,
         condition: filters.condition,
         group: filters.group,
         having: filters.having,
+    })
+}
+
+/// A query with what joins it to those before it: the set operation, and whether ALL stands after
+/// it.
+pub fn set_part(words: (SetOperator, bool), query: Boxed<Block>) -> SetPart
+    ensures { result ≡ values.set_part words query }
+{
+    SetPart {
+        operator: words.0,
+        keeps_all: words.1,
+        query: query.into_inner(),
+    }
+}
+
+/// The queries joined by set operations; the first alone where there is no other.
+pub fn combined(
+    alloc: Global,
+    first: Boxed<Block>,
+    others: Items<SetPart>,
+) -> Result<Boxed<Block>, AllocError>
+    ensures { IfOk result (λ x. x ≡ values.combined first others) }
+{
+    if others.is_empty() {
+        Ok(first)
+    } else {
+        Boxed::new(alloc, Block::Combined(first, others))
     }
 }
 
@@ -156,7 +184,7 @@ pub fn opposite(test: Test) -> Test
 {
     match test {
         Test::Absent => Test::Absent,
-        Test::Compare(comparison, value) => Test::Compare(comparison, value),
+        Test::Compare(comparison, compared) => Test::Compare(comparison, compared),
         Test::IsNull(is_denied) => Test::IsNull(!is_denied),
         Test::Between(is_denied, low, high) => Test::Between(!is_denied, low, high),
         Test::Like(is_denied, pattern) => Test::Like(!is_denied, pattern),
@@ -183,8 +211,14 @@ pub fn tested(alloc: Global, value: Boxed<Expr>, test: Test) -> Result<Boxed<Exp
 {
     match test {
         Test::Absent => Ok(value),
-        Test::Compare(comparison, other) => {
+        Test::Compare(comparison, Compared::Sum(other)) => {
             Boxed::new(alloc, Expr::Compare(comparison, value, other))
+        }
+        Test::Compare(comparison, Compared::Query(quantifier, query)) => {
+            Boxed::new(
+                alloc,
+                Expr::CompareQuery(comparison, quantifier, value, query),
+            )
         }
         Test::IsNull(is_denied) => deny(alloc, is_denied, Expr::IsNull(value)),
         Test::Between(is_denied, low, high) => {

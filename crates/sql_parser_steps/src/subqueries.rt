@@ -5,6 +5,7 @@ ghost use Rattle.sql_parser_steps.specs.ExpressionReadings as readings;
 ghost use Rattle.sql_parser_steps.specs.Readings.{inner_query, query_at};
 
 use crate::parser::Parser;
+use crate::test::Compared;
 use sql_ast::{Block, Expr};
 use sql_grammar_laws::SyntaxError;
 use sql_lexer::Kind;
@@ -49,5 +50,18 @@ impl<Q: Fn(Global, &mut Parser<'_>, usize) -> Result<Boxed<Block>, SyntaxError>>
         parser.one(Kind::Exists)?;
         let query = self.subquery(parser)?;
         Ok(Boxed::new(self.alloc, Expr::Exists(query))?)
+    }
+
+    /// `(any | some | all) "(" query ")"`.
+    #[tactic(auto, unfolding(crate::specs::ExpressionReadings::read_compared_query))]
+    pub fn compared(&self, parser: &mut Parser<'_>) -> Result<Compared, SyntaxError>
+        requires query { Below (query_at 1023) self.now.room (Q.pre self.now.query)
+            (Q.post self.now.query) }
+        ensures { Reads (readings.read_compared_query self.now.room
+            (inner_query 1023 self.now.room) parser.old) result parser.new }
+    {
+        let quantifier = parser.quantifier()?;
+        let query = self.subquery(parser)?;
+        Ok(Compared::Query(quantifier, query))
     }
 }

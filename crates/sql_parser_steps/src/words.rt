@@ -11,7 +11,7 @@ use crate::test::Test;
 use base_decimal::Scale;
 use base_text::Text;
 use sql_ast::{
-    Adding, Aggregate, Column, Comparison, Expr, Multiplying, Name, Span, TemplateValue,
+    Adding, Aggregate, Column, Comparison, Expr, Multiplying, Name, Quantifier, Span, TemplateValue,
 };
 use sql_grammar_laws::{SyntaxError, SyntaxFault};
 use sql_lexer::{Content, Kind, Token};
@@ -238,6 +238,20 @@ impl<'a> Parser<'a> {
             return self.word(Kind::Greater, Comparison::Greater);
         }
         self.word(Kind::GreaterOrEqual, Comparison::GreaterOrEqual)
+    }
+
+    /// `any`, `some` or `all`.
+    #[tactic(auto, unfolding(crate::specs::ExpressionReadings::read_quantifier))]
+    pub(crate) fn quantifier(&mut self) -> Result<Quantifier, SyntaxError>
+        ensures { Reads (expressions.read_quantifier self.old) result self.new }
+    {
+        if self.starts(Kind::Any) {
+            return self.word(Kind::Any, Quantifier::Any);
+        }
+        if self.starts(Kind::Some) {
+            return self.word(Kind::Some, Quantifier::Any);
+        }
+        self.word(Kind::All, Quantifier::All)
     }
 
     /// `sum`, `avg`, `min` or `max`.

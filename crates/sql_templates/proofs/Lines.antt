@@ -5,6 +5,8 @@ use Rattle.sql_lexer.specs.declared.token.Token.{Token}
 use Rattle.sql_ast.specs.declared.tree.Expr.{Expr}
 use Rattle.sql_ast.specs.declared.tree.Expr.TheVariants as e
 use Rattle.sql_ast.specs.declared.words.Comparison.TheVariants as comparison
+use Rattle.sql_ast.specs.declared.words.Quantifier.TheVariants as quantifier
+use Rattle.sql_ast.specs.declared.words.SetOperator.TheVariants as set_operator
 use Rattle.sql_ast.specs.declared.words.Span.TheVariants as span
 use Rattle.sql_ast.specs.declared.words.Aggregate.TheVariants as aggregate
 use Rattle.sql_ast.specs.declared.words.Adding.TheVariants as adding
@@ -16,11 +18,12 @@ use Rattle.sql_ast.specs.declared.tree.Block.{Block}
 use Rattle.sql_ast.specs.declared.words.JoinKind.TheVariants as join_kind
 use Rattle.sql_ast.specs.declared.statement.RefreshKind.TheVariants as refresh_kind
 use Rattle.sql_ast.specs.declared.statement.Statement.TheVariants as statements
+use Rattle.sql_parser_steps.specs.declared.test.Compared.TheVariants as compared
 use Rattle.sql_parser_steps.specs.declared.test.Test.TheVariants as t
 use Rattle.sql_grammar_laws.specs.Readings.{Reading}
-use Rattle.sql_parser_steps.specs.Values.{text_of, count_of, number, text, first, second, pair, cons, constant, after_word, after_point, column, negative, negation, factor, term, product, sum, all_of, any_of, arm, case_of, date, interval, extract, substring, distinct_count, between, like, in_list, in_query, is_null, is_not_null, denied, tested, item, distinct, plain_selection, derived, lateral, join, joined, condition, filters, block, named_key, ordered, create_view, text_value, number_value, with_query, under_with}
-use Rattle.sql_parser_steps.specs.ExpressionReadings.{read_name, read_literal, read_number, read_digits, read_span, read_column_tail, read_column, read_multiply, read_add, read_product, read_sum, read_conjunction, read_whole, read_expr_list, read_arm, read_arms, read_else, read_case_body, read_case, read_date_text, read_date, read_precision, read_interval, read_extract_inside, read_extract, read_places, read_substring_inside, read_substring, read_count_inside, read_count, read_aggregate_word, read_aggregate, read_call, read_leaf, read_parens_inside, read_parens, read_subquery, read_exists, read_operand, read_unary_line, read_comparison, read_compare, read_null, read_between, read_like, read_in_inside, read_in, read_deny_test, read_test, read_predicate, read_part_line}
-use Rattle.sql_parser_steps.specs.Readings.{read_alias, read_item, read_selection, read_select, read_names, read_column_names, read_table, read_derived_alias, read_from_query, read_derived, read_lateral, read_from_item, read_inner_words, read_left_words, read_join_words, read_joined_item, read_joined, read_from, read_where, read_group, read_having, read_filters, read_query_line, read_direction, read_named_key, read_order, read_rows_only, read_limit, read_version, read_ordered, read_with_query, read_with, read_with_ordered, read_view_name, read_create, read_drop, read_refresh_word, read_refresh, read_value, read_values, read_run_inside, read_run, read_statement, read_ended, unary_at, part_at, query_at, inner_query, ended_at}
+use Rattle.sql_parser_steps.specs.Values.{text_of, count_of, number, text, first, second, pair, cons, constant, after_word, after_point, column, negative, negation, factor, term, product, sum, all_of, any_of, arm, case_of, date, interval, extract, substring, distinct_count, between, like, in_list, in_query, is_null, is_not_null, denied, tested, item, distinct, plain_selection, derived, lateral, join, joined, condition, filters, block, named_key, ordered, create_view, text_value, number_value, with_query, under_with, set_part, combined}
+use Rattle.sql_parser_steps.specs.ExpressionReadings.{read_name, read_literal, read_number, read_digits, read_span, read_column_tail, read_column, read_multiply, read_add, read_product, read_sum, read_conjunction, read_whole, read_expr_list, read_arm, read_arms, read_else, read_case_body, read_case, read_date_text, read_date, read_precision, read_interval, read_extract_inside, read_extract, read_places, read_substring_inside, read_substring, read_count_inside, read_count, read_aggregate_word, read_aggregate, read_call, read_leaf, read_parens_inside, read_parens, read_subquery, read_exists, read_operand, read_unary_line, read_comparison, read_quantifier, read_compared_query, read_compared, read_compare, read_null, read_between, read_like, read_in_inside, read_in, read_deny_test, read_test, read_predicate, read_part_line}
+use Rattle.sql_parser_steps.specs.Readings.{read_alias, read_item, read_selection, read_select, read_names, read_column_names, read_table, read_derived_alias, read_from_query, read_derived, read_lateral, read_from_item, read_inner_words, read_left_words, read_join_words, read_joined_item, read_joined, read_from, read_where, read_group, read_having, read_filters, read_block, read_all, read_intersect_words, read_set_word, read_set_words, read_term, read_query_line, read_direction, read_named_key, read_order, read_rows_only, read_limit, read_version, read_ordered, read_with_query, read_with, read_with_ordered, read_view_name, read_create, read_drop, read_refresh_word, read_refresh, read_value, read_values, read_run_inside, read_run, read_statement, read_ended, unary_at, part_at, query_at, inner_query, ended_at}
 use Rattle.sql_templates.proofs.Readings.{Follows, same_is, same_among, tests_is, tests_count, tests_digits, follow_one, follow_opens, follow_nothing, follow_never, follow_mapped, follow_both, follow_either, follow_links}
 
 pub follow_name : Follows read_name
@@ -187,9 +190,21 @@ pub follow_comparison : Follows read_comparison
 unfolding read_comparison
 follow_comparison = follow_either (same_is k.Equal) (follow_mapped (constant comparison.Equal) (follow_one (tests_is k.Equal))) (follow_either (same_is k.NotEqual) (follow_mapped (constant comparison.NotEqual) (follow_one (tests_is k.NotEqual))) (follow_either (same_is k.Less) (follow_mapped (constant comparison.Less) (follow_one (tests_is k.Less))) (follow_either (same_is k.LessOrEqual) (follow_mapped (constant comparison.LessOrEqual) (follow_one (tests_is k.LessOrEqual))) (follow_either (same_is k.Greater) (follow_mapped (constant comparison.Greater) (follow_one (tests_is k.Greater))) (follow_mapped (constant comparison.GreaterOrEqual) (follow_one (tests_is k.GreaterOrEqual)))))))
 
-pub follow_compare : (wide : ℕ) {unary : Reading Token Expr} → Follows unary → Follows (read_compare wide unary)
+pub follow_quantifier : Follows read_quantifier
+unfolding read_quantifier
+follow_quantifier = follow_either (same_is k.Any) (follow_mapped (constant quantifier.Any) (follow_one (tests_is k.Any))) (follow_either (same_is k.Some) (follow_mapped (constant quantifier.Any) (follow_one (tests_is k.Some))) (follow_mapped (constant quantifier.All) (follow_one (tests_is k.All))))
+
+pub follow_compared_query : (room : ℕ) {query : Reading Token Block} → Follows query → Follows (read_compared_query room query)
+unfolding read_compared_query
+follow_compared_query room by_query = follow_both compared.Query follow_quantifier (follow_subquery room by_query)
+
+pub follow_compared : (wide : ℕ) (room : ℕ) {unary : Reading Token Expr} {query : Reading Token Block} → Follows unary → Follows query → Follows (read_compared wide room unary query)
+unfolding read_compared
+follow_compared wide room by_unary by_query = follow_either (same_among (k.Any ∷ k.Some ∷ k.All ∷ [])) (follow_compared_query room by_query) (follow_mapped compared.Sum (follow_sum wide by_unary))
+
+pub follow_compare : (wide : ℕ) (room : ℕ) {unary : Reading Token Expr} {query : Reading Token Block} → Follows unary → Follows query → Follows (read_compare wide room unary query)
 unfolding read_compare
-follow_compare wide by_unary = follow_both t.Compare follow_comparison (follow_sum wide by_unary)
+follow_compare wide room by_unary by_query = follow_both t.Compare follow_comparison (follow_compared wide room by_unary by_query)
 
 pub follow_null : Follows read_null
 unfolding read_null
@@ -217,7 +232,7 @@ follow_deny_test wide room by_unary by_part by_query = follow_either (same_is k.
 
 pub follow_test : (wide : ℕ) (room : ℕ) {unary : Reading Token Expr} {part : Reading Token Expr} {query : Reading Token Block} → Follows unary → Follows part → Follows query → Follows (read_test wide room unary part query)
 unfolding read_test
-follow_test wide room by_unary by_part by_query = follow_either (same_among (k.Equal ∷ k.NotEqual ∷ k.Less ∷ k.LessOrEqual ∷ k.Greater ∷ k.GreaterOrEqual ∷ [])) (follow_compare wide by_unary) (follow_either (same_is k.Is) follow_null (follow_either (same_is k.Not) (follow_both denied (follow_one (tests_is k.Not)) (follow_deny_test wide room by_unary by_part by_query)) (follow_either (same_among (k.Between ∷ k.Like ∷ k.In ∷ [])) (follow_deny_test wide room by_unary by_part by_query) (follow_nothing t.Absent))))
+follow_test wide room by_unary by_part by_query = follow_either (same_among (k.Equal ∷ k.NotEqual ∷ k.Less ∷ k.LessOrEqual ∷ k.Greater ∷ k.GreaterOrEqual ∷ [])) (follow_compare wide room by_unary by_query) (follow_either (same_is k.Is) follow_null (follow_either (same_is k.Not) (follow_both denied (follow_one (tests_is k.Not)) (follow_deny_test wide room by_unary by_part by_query)) (follow_either (same_among (k.Between ∷ k.Like ∷ k.In ∷ [])) (follow_deny_test wide room by_unary by_part by_query) (follow_nothing t.Absent))))
 
 pub follow_predicate : (wide : ℕ) (room : ℕ) {unary : Reading Token Expr} {part : Reading Token Expr} {query : Reading Token Block} → Follows unary → Follows part → Follows query → Follows (read_predicate wide room unary part query)
 unfolding read_predicate
@@ -315,9 +330,33 @@ pub follow_filters : (wide : ℕ) {part : Reading Token Expr} → Follows part �
 unfolding read_filters
 follow_filters wide by_part = follow_both filters (follow_where wide by_part) (follow_both pair (follow_group wide) (follow_having wide by_part))
 
+pub follow_block : (wide : ℕ) (room : ℕ) {part : Reading Token Expr} {query : Reading Token Block} → Follows part → Follows query → Follows (read_block wide room part query)
+unfolding read_block
+follow_block wide room by_part by_query = follow_both block (follow_select wide by_part) (follow_both pair (follow_from wide room by_part by_query) (follow_filters wide by_part))
+
+pub follow_all : Follows read_all
+unfolding read_all
+follow_all = follow_either (same_is k.All) (follow_mapped (constant true) (follow_one (tests_is k.All))) (follow_nothing false)
+
+pub follow_intersect_words : Follows read_intersect_words
+unfolding read_intersect_words
+follow_intersect_words = follow_both pair (follow_mapped (constant set_operator.Intersect) (follow_one (tests_is k.Intersect))) follow_all
+
+pub follow_set_word : Follows read_set_word
+unfolding read_set_word
+follow_set_word = follow_either (same_is k.Union) (follow_mapped (constant set_operator.Union) (follow_one (tests_is k.Union))) (follow_mapped (constant set_operator.Except) (follow_one (tests_is k.Except)))
+
+pub follow_set_words : Follows read_set_words
+unfolding read_set_words
+follow_set_words = follow_both pair follow_set_word follow_all
+
+pub follow_term_line : (wide : ℕ) (room : ℕ) {part : Reading Token Expr} {query : Reading Token Block} → Follows part → Follows query → Follows (read_term wide room part query)
+unfolding read_term
+follow_term_line wide room by_part by_query = follow_both combined (follow_block wide room by_part by_query) (follow_links set_part (same_is k.Intersect) follow_intersect_words (follow_block wide room by_part by_query) wide)
+
 pub follow_query_line : (wide : ℕ) (room : ℕ) {part : Reading Token Expr} {query : Reading Token Block} → Follows part → Follows query → Follows (read_query_line wide room part query)
 unfolding read_query_line
-follow_query_line wide room by_part by_query = follow_both block (follow_select wide by_part) (follow_both pair (follow_from wide room by_part by_query) (follow_filters wide by_part))
+follow_query_line wide room by_part by_query = follow_both combined (follow_term_line wide room by_part by_query) (follow_links set_part (same_among (k.Union ∷ k.Except ∷ [])) follow_set_words (follow_term_line wide room by_part by_query) wide)
 
 pub follow_direction : Follows read_direction
 unfolding read_direction

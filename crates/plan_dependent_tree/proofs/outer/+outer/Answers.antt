@@ -1,10 +1,10 @@
 use Rattle.std.proofs.Common.{◌≡◌, ◌+◌, rules}
 use Rattle.plan_dependent_tree.specs.Seeks.{seeks_of_aggregate, seeks_of_expr, seeks_of_input}
 use Rattle.plan_dependent_tree.proofs.Found.{any_none, any_more, column_input_found, exists_found}
-use Rattle.plan_dependent_tree.proofs.Found.{scalar_found, among_found, expr_found, count_rows_found}
+use Rattle.plan_dependent_tree.proofs.Found.{scalar_found, any_found, expr_found, count_rows_found}
 use Rattle.plan_dependent_tree.proofs.Found.{argument_found, table_found, derived_found, lateral_found}
 use Rattle.plan_dependent_tree.proofs.Found.{cross_found, inner_found, outer_found, plain_found}
-use Rattle.plan_dependent_tree.proofs.Found.{grouped_found, distinct_found}
+use Rattle.plan_dependent_tree.proofs.Found.{grouped_found, distinct_found, set_found}
 use Rattle.plan_dependent_tree.proofs.outer.+outer.Goals as goal
 
 pub inputs-loop-i-init : goal.inputs-loop-i-init
@@ -40,11 +40,11 @@ input-returns-in_ok-block-in-Exists t c =
     let same : c.in_ok-deeper-in-Exists.deeper ≡ c.args.within + 1 = search rules in
     exists_found c.in-Exists.is c.get.ensures same c.in_ok-block-in-Exists.ensures
 
-pub input-returns-in_ok-block-in-In : goal.input-returns-in_ok-block-in-In
-input-returns-in_ok-block-in-In t c =
-    let same : c.in_ok-deeper-in-In.deeper ≡ c.args.within + 1 = search rules in
-    among_found c.in-In.is c.get-in-In.ensures c.in_ok-expr-in-In.ensures c.get-in-In-2.ensures same
-    c.in_ok-block-in-In.ensures
+pub input-returns-in_ok-block-in-Any : goal.input-returns-in_ok-block-in-Any
+input-returns-in_ok-block-in-Any t c =
+    let same : c.in_ok-deeper-in-Any.deeper ≡ c.args.within + 1 = search rules in
+    any_found c.in-Any.is c.get-in-Any.ensures c.in_ok-expr-in-Any.ensures c.get-in-Any-2.ensures
+    same c.in_ok-block-in-Any.ensures
 
 pub input-returns-in_ok-block-in-Scalar : goal.input-returns-in_ok-block-in-Scalar
 input-returns-in_ok-block-in-Scalar t c =
@@ -103,3 +103,8 @@ block-returns-in_ok-exprs-in-Grouped t c =
 pub block-returns-in_ok-block-in-Distinct : goal.block-returns-in_ok-block-in-Distinct
 block-returns-in_ok-block-in-Distinct t c =
     distinct_found c.in-Distinct.is c.get-in-Distinct.ensures c.in_ok-block-in-Distinct.ensures
+
+pub block-returns-in_ok-block-in-Set-2 : goal.block-returns-in_ok-block-in-Set-2
+block-returns-in_ok-block-in-Set-2 t c =
+    set_found c.in-Set.is c.get-in-Set.ensures c.in_ok-block-in-Set.ensures c.get-in-Set-2.ensures
+    c.in_ok-block-in-Set-2.ensures

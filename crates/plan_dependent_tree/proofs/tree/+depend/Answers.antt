@@ -10,9 +10,9 @@ use Rattle.plan_dependent_tree.specs.Growth.{IsPlain}
 use Rattle.plan_dependent_tree.proofs.InputTrees.{inputs_none, inputs_more, list_none, list_more}
 use Rattle.plan_dependent_tree.proofs.InputTrees.{aggregates_none, aggregates_more, functions_none}
 use Rattle.plan_dependent_tree.proofs.InputTrees.{functions_more, count_arm, of_arm, same_count, same_of}
-use Rattle.plan_dependent_tree.proofs.SeenArms.{column_seen, exists_seen, scalar_seen, in_seen}
+use Rattle.plan_dependent_tree.proofs.SeenArms.{column_seen, exists_seen, scalar_seen, any_seen}
 use Rattle.plan_dependent_tree.proofs.SeenArms.{expr_seen, subquery_seen, plain_seen, grouped_seen}
-use Rattle.plan_dependent_tree.proofs.SeenArms.{distinct_seen}
+use Rattle.plan_dependent_tree.proofs.SeenArms.{distinct_seen, set_seen}
 use Rattle.plan_dependent_tree.proofs.SeenSources.{table_seen, derived_seen, lateral_seen, cross_seen}
 use Rattle.plan_dependent_tree.proofs.SeenSources.{inner_seen, kept_seen, outer_read, source_as}
 use Rattle.plan_dependent_tree.proofs.SeenSources.{plain_outer_seen, kept_outer_seen, dependent_seen}
@@ -24,7 +24,8 @@ use Rattle.plan_dependent_tree.proofs.SuppliedClauses.{plain_list_supplied, grou
 use Rattle.plan_dependent_tree.proofs.SuppliedClauses.{grouped_where_supplied, grouped_keys_within}
 use Rattle.plan_dependent_tree.proofs.SuppliedClauses.{grouped_aggregates_supplied}
 use Rattle.plan_dependent_tree.proofs.SuppliedClauses.{grouped_having_supplied, grouped_list_supplied}
-use Rattle.plan_dependent_tree.proofs.SuppliedClauses.{distinct_supplied}
+use Rattle.plan_dependent_tree.proofs.SuppliedClauses.{distinct_supplied, set_left_supplied}
+use Rattle.plan_dependent_tree.proofs.SuppliedClauses.{set_right_supplied, set_width}
 use Rattle.plan_dependent_tree.proofs.SuppliedSources.{from_supplied, from_width, derived_supplied}
 use Rattle.plan_dependent_tree.proofs.SuppliedSources.{lateral_supplied, cross_left_supplied}
 use Rattle.plan_dependent_tree.proofs.SuppliedSources.{cross_right_supplied, table_width}
@@ -41,7 +42,7 @@ use Rattle.plan_dependent_tree.proofs.SuppliedRights.{kept_on_supplied, kept_the
 use Rattle.plan_dependent_tree.proofs.SuppliedRights.{kept_nulls, no_items, read_width}
 use Rattle.plan_dependent_tree.proofs.SuppliedRights.{read_supplied, resupplied}
 use Rattle.plan_dependent_tree.proofs.Supplies.{column_is_seen, exists_supplied, scalar_supplied}
-use Rattle.plan_dependent_tree.proofs.Supplies.{among_supplied, left_supplied, argument_supplied}
+use Rattle.plan_dependent_tree.proofs.Supplies.{any_supplied, left_supplied, argument_supplied}
 use Rattle.plan_dependent_tree.proofs.Supplies.{found_seen, found_supplied, item_supplied}
 use Rattle.plan_dependent_tree.specs.Supplied.{AggregateIsSupplied, ExprIsSupplied, InputIsSupplied}
 use Rattle.plan_dependent_tree.specs.Supplied.{InputsAreSupplied}
@@ -105,17 +106,18 @@ attach_input-returns-in_ok-attached-in-Exists t c =
     (exists_supplied s.outer.now s.width c.in-Exists.q p c.in-Exists.is))
     c.in_ok-attached-in-Exists.ensures
 
-pub attach_input-returns-in_ok-attached-in-In : goal.attach_input-returns-in_ok-attached-in-In
-attach_input-returns-in_ok-attached-in-In t c =
+pub attach_input-returns-in_ok-attached-in-Any : goal.attach_input-returns-in_ok-attached-in-Any
+attach_input-returns-in_ok-attached-in-Any t c =
     let s = c.args.sight.now in
+    let any = c.in-Any in
     λ p.
-    in_seen s.outer.now s.start s.width c.args.grown.tree c.args.grown.end
-    c.in_ok-left-in-In.left.expr c.in-In.is c.get.ensures
-    (c.in_ok-left-in-In.ensures
-    (left_supplied s.outer.now s.width c.in-In.q p c.in-In.is c.get.ensures))
-    (c.in_ok-right-in-In.ensures
-    (among_supplied s.outer.now s.width c.in-In.left c.in-In.q p c.in-In.is))
-    c.in_ok-attached-in-In.ensures
+    any_seen s.outer.now s.start s.width c.args.grown.tree c.args.grown.end any.comparison
+    c.in_ok-left-in-Any.left.expr any.is c.get.ensures
+    (c.in_ok-left-in-Any.ensures
+    (left_supplied s.outer.now s.width any.q p any.is c.get.ensures))
+    (c.in_ok-right-in-Any.ensures
+    (any_supplied s.outer.now s.width any.comparison any.left any.q p any.is))
+    c.in_ok-attached-in-Any.ensures
 
 pub attach_input-returns-in_ok-attached-in-Scalar :
     goal.attach_input-returns-in_ok-attached-in-Scalar
@@ -256,6 +258,27 @@ block-returns-in_ok-rows-in-Distinct-2-clause-tree t c =
     (c.in_ok-rows-in-Distinct.ensures.tree
     (distinct_supplied c.args.outer.now p c.in-Distinct.is c.get-in-Distinct.ensures))
     c.in_ok-rows-in-Distinct-2.ensures
+
+pub block-returns-in_ok-rows-in-Set-clause-tree : goal.block-returns-in_ok-rows-in-Set-clause-tree
+block-returns-in_ok-rows-in-Set-clause-tree t c =
+    let set = c.in-Set in
+    λ p.
+    set_seen c.args.outer.now c.args.start set.is c.get-in-Set.ensures
+    (c.in_ok-left-in-Set.ensures.tree
+    (set_left_supplied c.args.outer.now set.a set.b set.columns set.operation p set.is
+    c.get-in-Set.ensures))
+    c.get-in-Set-2.ensures
+    (c.in_ok-right-in-Set.ensures.tree
+    (set_right_supplied c.args.outer.now set.a set.b set.columns set.operation p set.is
+    c.get-in-Set-2.ensures))
+    c.as_slice-in-Set.ensures c.in_ok-rows-in-Set.ensures
+
+pub block-returns-in_ok-rows-in-Set-clause-width :
+    goal.block-returns-in_ok-rows-in-Set-clause-width
+block-returns-in_ok-rows-in-Set-clause-width t c =
+    let set = c.in-Set in
+    set_width set.a set.b set.operation set.is c.as_slice-in-Set.ensures
+    c.in_ok-rows-in-Set.ensures.count
 
 pub from_rows-returns-clause-tree : goal.from_rows-returns-clause-tree
 from_rows-returns-clause-tree t c =

@@ -1,5 +1,5 @@
 use Rattle.plan_tree_moves.proofs.SameNodes.{select_made, project_made, distinct_made, group_made}
-use Rattle.plan_tree_moves.proofs.SameNodes.{join_made, outer_made, mark_made, single_made}
+use Rattle.plan_tree_moves.proofs.SameNodes.{join_made, outer_made, mark_made, single_made, set_made}
 use Rattle.plan_tree_moves.proofs.Pruning.{read_slimmed, select_slimmed, mark_slimmed, single_slimmed}
 use Rattle.plan_tree_moves.proofs.Pruning.{list_slimmed, groups_slimmed, same_as_seen}
 use Rattle.plan_tree_moves.proofs.SlimJoins.{join_slimmed}
@@ -116,6 +116,12 @@ pruned-returns-in_ok-new-in-Distinct t c =
     distinct_made c.args.n c.args.tree.now c.in-Distinct.t c.in_ok-child-in-Distinct.child
     c.in_ok-new-in-Distinct.new c.in-Distinct.is c.in_ok-child-in-Distinct.ensures
     c.in_ok-new-in-Distinct.ensures
+
+pub pruned-returns-in_ok-new-in-Set : goal.pruned-returns-in_ok-new-in-Set
+pruned-returns-in_ok-new-in-Set t c =
+    set_made c.args.n c.args.tree.now c.in-Set.l c.in_ok-left-in-Set.left c.in-Set.r
+    c.in_ok-right-in-Set.right c.in_ok-new-in-Set.new c.in-Set.operation c.in-Set.is
+    c.in_ok-left-in-Set.ensures c.in_ok-right-in-Set.ensures c.in_ok-new-in-Set.ensures
 
 pub pruned_input-returns : goal.pruned_input-returns
 pruned_input-returns t c =

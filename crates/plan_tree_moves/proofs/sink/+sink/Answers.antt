@@ -3,7 +3,7 @@ use Rattle.plan_algebra.specs.declared.tree.DepTree.TheVariants as t
 use Rattle.expr_scalar.specs.declared.expr.Expr.{Expr}
 use Rattle.plan_tree_moves.proofs.Sinking.{sunk_none, sunk_select, sunk_mark, sunk_single}
 use Rattle.plan_tree_moves.proofs.OnParts.{sunk_outer}
-use Rattle.plan_tree_moves.proofs.BelowLists.{sunk_list, sunk_distinct}
+use Rattle.plan_tree_moves.proofs.BelowLists.{sunk_list, sunk_distinct, sunk_set}
 use Rattle.plan_tree_moves.proofs.BelowGroups.{sunk_groups}
 use Rattle.plan_tree_moves.proofs.BelowJoins.{sunk_join}
 use Rattle.plan_tree_moves.proofs.sink.+sink.Goals as goal
@@ -46,6 +46,14 @@ sunk-returns-in_ok-new-in-Distinct u c =
     c.in_ok-new-in-Distinct.new c.args.conditions
     c.in-Distinct.is c.get-in-Distinct.ensures c.in_ok-child-in-Distinct.ensures
     c.in_ok-new-in-Distinct.ensures
+
+pub sunk-returns-in_ok-new-in-Set : goal.sunk-returns-in_ok-new-in-Set
+sunk-returns-in_ok-new-in-Set u c =
+    sunk_set c.args.n c.args.tree.now c.in-Set.l _ c.in-Set.r _ c.in_ok-left-in-Set.left
+    c.in_ok-right-in-Set.right c.in_ok-new-in-Set.new c.in-Set.operation c.args.conditions _
+    c.in-Set.is c.get-in-Set.ensures c.in_ok-left-in-Set.ensures c.get-in-Set-2.ensures
+    (c.in_ok-same-in-Set.ensures ∙ c.as_slice-in-Set.ensures) c.in_ok-right-in-Set.ensures
+    c.in_ok-new-in-Set.ensures
 
 pub sunk_sides-returns-in_ok-new-in-Outer-2 : goal.sunk_sides-returns-in_ok-new-in-Outer-2
 sunk_sides-returns-in_ok-new-in-Outer-2 u c =

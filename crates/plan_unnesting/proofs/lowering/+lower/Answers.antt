@@ -4,7 +4,7 @@ use Rattle.plan_unnesting.proofs.Kept.{settled_in_plan}
 use Rattle.plan_unnesting.proofs.Groups.{total_in_plan}
 use Rattle.plan_unnesting.proofs.Sides.{none_of, some_of}
 use Rattle.plan_unnesting.proofs.ApartArms.{read_whole, scan_part, list_part, select_part, join_part, whole_part, part_footing, part_last, part_within, part_wide, later_within, later_wide, right_long, outer_part, closed_long, found_own, found_closed}
-use Rattle.plan_unnesting.proofs.Steps.{scan_arm, selection_arm, select_arm, project_arm, distinct_arm, group_arm, total_arm, join_arm, outer_arm, mark_arm, single_arm, outer_wide, right_wide, shared_arm, closed_arm, own_arm}
+use Rattle.plan_unnesting.proofs.Steps.{scan_arm, selection_arm, select_arm, project_arm, distinct_arm, group_arm, total_arm, join_arm, outer_arm, mark_arm, single_arm, outer_wide, right_wide, shared_arm, closed_arm, own_arm, set_arm, set_put, set_even, set_left}
 use Rattle.plan_unnesting.proofs.lowering.+lower.Goals as goal
 
 pub lowered_node-put_total-requires-clause-domain : goal.lowered_node-put_total-requires-clause-domain
@@ -167,3 +167,18 @@ pub lowered_outer-returns-in_ok-part-in-Apart : goal.lowered_outer-returns-in_ok
 lowered_outer-returns-in_ok-part-in-Apart t c =
     outer_part c.in-Outer.is c.in_ok-n.ensures c.get-5.ensures c.in_ok-outer.ensures c.in-Apart.is c.one-none.ensures.rows c.one-none.ensures.unchanged c.get-6.ensures c.in_ok-rows.ensures c.get-4.ensures
     c.in_ok-more.ensures c.get.ensures c.get-2.ensures c.get-3.ensures (found_own c.in_ok-found.ensures c.in-Some.is) c.in_ok-part-in-Apart.ensures
+
+pub lowered_node-returns-in_ok-id-in-Set : goal.lowered_node-returns-in_ok-id-in-Set
+lowered_node-returns-in_ok-id-in-Set t c = set_arm c.in-Set.is c.in_ok-id-in-Set.ensures
+
+pub lowered_set-put_set-requires-clause-width : goal.lowered_set-put_set-requires-clause-width
+lowered_set-put_set-requires-clause-width t c =
+    set_even c.get.ensures c.in_ok-own.ensures c.get-2.ensures c.in_ok-other.ensures c.if-own-ne.false c.get-3.ensures c.in_ok-outer.ensures c.get-4.ensures c.in_ok-rows.ensures
+
+pub lowered_set-returns-in_ok-id : goal.lowered_set-returns-in_ok-id
+lowered_set-returns-in_ok-id t c =
+    set_put c.get.ensures c.in_ok-own.ensures c.get-2.ensures c.in_ok-other.ensures c.if-own-ne.false c.get-3.ensures c.in_ok-outer.ensures c.get-4.ensures c.in_ok-rows.ensures c.in_ok-id.ensures
+
+pub lowered_set-returns-then-own : goal.lowered_set-returns-then-own
+lowered_set-returns-then-own t c =
+    set_left c.get.ensures c.in_ok-own.ensures c.get-2.ensures c.in_ok-other.ensures c.if-own-ne.true c.get-3.ensures c.in_ok-id.ensures

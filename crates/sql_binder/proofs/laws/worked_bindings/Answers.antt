@@ -1,6 +1,7 @@
 use Rattle.sql_binder.proofs.EdgeProofs as edge
 use Rattle.sql_binder.proofs.WithProofs.{names_of_with}
 use Rattle.sql_binder.proofs.LateralProofs.{bound_laterals}
+use Rattle.sql_binder.proofs.SetProofs.{bound_sets}
 use Rattle.sql_binder.proofs.laws.worked_bindings.Goals as goal
 
 pub returns : goal.returns
@@ -15,4 +16,5 @@ returns c = record {
   view_order = edge.order_in_views;
   with_queries = names_of_with;
   laterals = bound_laterals;
+  sets = bound_sets;
 }

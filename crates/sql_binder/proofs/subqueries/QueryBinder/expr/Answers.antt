@@ -7,7 +7,7 @@ use Rattle.sql_binder.proofs.Opened.{meaning_Between, meaning_Like, meaning_InLi
 use Rattle.sql_binder.proofs.Opened.{meaning_Exists, meaning_Scalar, meaning_Not, meaning_And}
 use Rattle.sql_binder.proofs.Opened.{meaning_Or, meaning_Case, meaning_CaseElse, meaning_Extract}
 use Rattle.sql_binder.proofs.Opened.{meaning_Substring, meaning_Count, meaning_CountDistinct}
-use Rattle.sql_binder.proofs.Opened.{meaning_Aggregate}
+use Rattle.sql_binder.proofs.Opened.{meaning_Aggregate, meaning_CompareQuery}
 use Rattle.sql_binder.proofs.Sized.{a_of_Aggregate, a_of_And, a_of_Between, a_of_Compare}
 use Rattle.sql_binder.proofs.Sized.{a_of_Count, a_of_CountDistinct, a_of_Extract, a_of_InList}
 use Rattle.sql_binder.proofs.Sized.{a_of_InQuery, a_of_IsNull, a_of_Like, a_of_Negative, a_of_Not}
@@ -15,7 +15,7 @@ use Rattle.sql_binder.proofs.Sized.{a_of_Or, a_of_Product, a_of_Substring, a_of_
 use Rattle.sql_binder.proofs.Sized.{arms_of_CaseElse, b_of_Compare, factors_of_Product}
 use Rattle.sql_binder.proofs.Sized.{high_of_Between, list_of_InList, low_of_Between}
 use Rattle.sql_binder.proofs.Sized.{other_of_CaseElse, q_of_Exists, q_of_InQuery, q_of_Scalar}
-use Rattle.sql_binder.proofs.Sized.{rest_of_And, rest_of_Or, terms_of_Sum}
+use Rattle.sql_binder.proofs.Sized.{rest_of_And, rest_of_Or, terms_of_Sum, a_of_CompareQuery, q_of_CompareQuery}
 use Rattle.sql_binder.proofs.Smaller.{expr_below, block_below, each_expr, each_term, each_factor}
 use Rattle.sql_binder.proofs.Smaller.{each_arm}
 use Rattle.sql_binder.proofs.subqueries.QueryBinder.expr.Goals as goal
@@ -100,6 +100,17 @@ in_query-requires g c = record {
 
 pub returns-in-InQuery : goal.returns-in-InQuery
 returns-in-InQuery g c = rw (c.in-InQuery.is, meaning_InQuery) c.in_query.ensures
+
+pub compare_query-requires : goal.compare_query-requires
+compare_query-requires g c = record {
+  left =
+      expr_below c.requires _ (a_of_CompareQuery _ _ _ _ _ c.in-CompareQuery.is);
+  query = block_below c.requires _ (q_of_CompareQuery _ _ _ _ _ c.in-CompareQuery.is);
+}
+
+pub returns-in-CompareQuery : goal.returns-in-CompareQuery
+returns-in-CompareQuery g c = rw (c.in-CompareQuery.is, meaning_CompareQuery)
+    c.compare_query.ensures
 
 pub exists-requires : goal.exists-requires
 exists-requires g c = block_below c.requires _ (q_of_Exists _ _ c.in-Exists.is)

@@ -1,0 +1,5 @@
+use Rattle.base_set_rows.proofs.Counted.{by_classes_stand}
+use Rattle.base_set_rows.proofs.laws.by_classes_stand.Goals as goal
+
+pub returns : goal.returns
+returns g c = λ same is. by_classes_stand same is
