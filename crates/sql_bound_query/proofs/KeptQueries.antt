@@ -15,9 +15,7 @@ use Rattle.expr_scalar.specs.declared.expr.Expr.{Expr}
 use Rattle.expr_scalar.specs.declared.kind.Kind.{Kind}
 use Rattle.expr_scalar.specs.declared.kind.Kind.TheVariants as kind
 use Rattle.expr_scalar.specs.Typing.{Sort, comparable, is_of_kind, row_is_of}
-use Rattle.expr_scalar.specs.Typing.{gives}
 use Rattle.expr_scalar.specs.Typing.Sort.{Of}
-use Rattle.expr_scalar.specs.Meaning.{value}
 use Rattle.base_value.specs.declared.value.Value.{Value}
 use Rattle.base_value.specs.declared.value.Value.TheVariants.{Null}
 use Rattle.base_value.specs.Value.{same_value}
