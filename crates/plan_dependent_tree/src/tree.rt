@@ -36,9 +36,10 @@ use std::alloc::{AllocError, Global};
 
 /// The dependent tree of a query.
 ///
-/// EXISTS, IN and ANY become marks and scalar subqueries single values, attached to the rows of FROM one
-/// after the other; an expression is then read from the flat row of the domain's columns, the row's
-/// own and these. A subquery's domain row has just the columns of the rows around that it reads.
+/// EXISTS, IN and ANY become marks and scalar subqueries single values, attached to the rows of
+/// FROM one after the other; an expression is then read from the flat row of the domain's columns,
+/// the row's own and these. A subquery's domain row has just the columns of the rows around that it
+/// reads.
 pub fn depend(alloc: Global, query: &BoundQuery) -> Result<Boxed<DepTree>, AllocError>
     requires { (kinds : List Kind) × IsWellTyped query.now.block kinds }
     ensures { IfOk result (IsTreeOf query.now.block []) }
