@@ -8,6 +8,7 @@ use Rattle.base_set_rows.specs.declared.kind.SetOperation.{SetOperation}
 use Rattle.plan_algebra.specs.declared.aggregate.Aggregate.{Aggregate}
 use Rattle.expr_scalar.specs.declared.expr.Expr.{Expr}
 use Rattle.expr_scalar.specs.declared.kind.Kind.{Kind}
+use Rattle.expr_scalar.specs.Typing.{sort_of}
 use Rattle.sql_bound_query.specs.declared.query.BoundAggregate.{BoundAggregate}
 use Rattle.sql_bound_query.specs.declared.query.BoundBlock.{BoundBlock}
 use Rattle.sql_bound_query.specs.declared.query.BoundBlock.TheVariants as block
@@ -17,7 +18,7 @@ use Rattle.sql_bound_query.specs.declared.query.SetColumn.{SetColumn}
 use Rattle.sql_bound_query.specs.Typing.{EnvKinds, KindMeaning, KindsMeaning, ExprTyping, where_some}
 use Rattle.sql_bound_query.specs.Typing.{all_some, kind_of_sort}
 use Rattle.sql_bound_query.specs.Typing.{listed_kinds, kind_of_aggregate, block_kinds, from_kinds}
-use Rattle.sql_bound_query.specs.Typing.{typing_of, common_kind, set_kinds, sort_of}
+use Rattle.sql_bound_query.specs.Typing.{typing_of, common_kind, set_kinds}
 use Rattle.sql_bound_query.proofs.TypingOpened.{kinds_Distinct}
 use Rattle.sql_bound_query.proofs.Keeps.{Found, some_of, some_is}
 use Rattle.plan_dependent_tree.specs.declared.sight.OuterColumn.{OuterColumn}

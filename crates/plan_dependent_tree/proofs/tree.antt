@@ -1,0 +1,3 @@
+-- Answers of the cycle of `depend`.
+mod BlockAnswers
+mod SourceAnswers
