@@ -13,8 +13,9 @@ ghost use Rattle.plan_dependent_tree.specs.Growth.{AggregateAt, AggregatesAt, Sa
 ghost use Rattle.plan_dependent_tree.specs.Growth.{SameFunctions};
 ghost use Rattle.plan_dependent_tree.specs.Supplied.{AggregateIsSupplied, AggregatesAreSupplied};
 ghost use Rattle.plan_dependent_tree.specs.Supplied.{ExprIsSupplied, InputIsSupplied, IsWidthOf};
-ghost use Rattle.plan_dependent_tree.specs.Supplied.{InputsAreSupplied, ListIsSupplied, QueryIsSupplied};
-ghost use Rattle.plan_dependent_tree.specs.Supplied.{FromIsSupplied, SourceIsSupplied, IsSourceWidth};
+ghost use Rattle.plan_dependent_tree.specs.Supplied.{InputsAreSupplied, ListIsSupplied};
+ghost use Rattle.plan_dependent_tree.specs.Supplied.{QueryIsSupplied, FromIsSupplied};
+ghost use Rattle.plan_dependent_tree.specs.Supplied.{SourceIsSupplied, IsSourceWidth};
 ghost use Rattle.plan_dependent_tree.specs.Supplied.{SubqueryIsSupplied};
 
 use crate::kept_domain::{KeptDomain, kept_domain};

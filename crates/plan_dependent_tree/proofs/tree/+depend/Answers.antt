@@ -8,7 +8,8 @@ use Rattle.plan_dependent_tree.proofs.PlaceLists.{length_put}
 use Rattle.plan_dependent_tree.specs.FromGrowth.{IsSourceTree}
 use Rattle.plan_dependent_tree.proofs.InputTrees.{inputs_none, inputs_more, list_none, list_more}
 use Rattle.plan_dependent_tree.proofs.InputTrees.{aggregates_none, aggregates_more, functions_none}
-use Rattle.plan_dependent_tree.proofs.InputTrees.{functions_more, count_arm, of_arm, same_count, same_of}
+use Rattle.plan_dependent_tree.proofs.InputTrees.{functions_more, count_arm, of_arm, same_count}
+use Rattle.plan_dependent_tree.proofs.InputTrees.{same_of}
 use Rattle.plan_dependent_tree.proofs.SeenArms.{column_seen, exists_seen, scalar_seen, any_seen}
 use Rattle.plan_dependent_tree.proofs.SeenArms.{expr_seen, subquery_seen}
 use Rattle.plan_dependent_tree.proofs.SeenSources.{kept_seen}
@@ -32,9 +33,12 @@ use Rattle.plan_dependent_tree.proofs.Supplies.{any_supplied, left_supplied, arg
 use Rattle.plan_dependent_tree.proofs.Supplies.{found_seen, found_supplied, item_supplied}
 use Rattle.plan_dependent_tree.specs.Supplied.{AggregateIsSupplied, ExprIsSupplied, InputIsSupplied}
 use Rattle.plan_dependent_tree.specs.Supplied.{InputsAreSupplied}
-use Rattle.plan_dependent_tree.proofs.tree.BlockAnswers as blocks
-use Rattle.plan_dependent_tree.proofs.tree.SourceAnswers as sources
+use Rattle.plan_dependent_tree.proofs.tree.+depend.Answers.Blocks as blocks
+use Rattle.plan_dependent_tree.proofs.tree.+depend.Answers.Sources as sources
 use Rattle.plan_dependent_tree.proofs.tree.+depend.Goals as goal
+
+mod Blocks
+mod Sources
 
 pub attach_aggregate-returns-in-CountRows-clause-attaches :
     goal.attach_aggregate-returns-in-CountRows-clause-attaches
@@ -249,7 +253,8 @@ kept-returns-clause-tree t c =
     kept_seen s.outer.now s.so_far.now s.before s.start c.args.on.now c.in_ok-on.on.expr
     c.in_ok-grown.ensures (c.in_ok-on.ensures p) c.in_ok-grown-2.ensures c.in_ok-rows.ensures.0
 
-pub right_source-returns-then-not-is_empty-clause-tree : goal.right_source-returns-then-not-is_empty-clause-tree
+pub right_source-returns-then-not-is_empty-clause-tree :
+    goal.right_source-returns-then-not-is_empty-clause-tree
 right_source-returns-then-not-is_empty-clause-tree t c =
     let s = c.args.sight.now in
     let source = c.args.s.now in
@@ -279,7 +284,8 @@ pub right_source-returns-then-not-is_empty-2-clause-tree :
 right_source-returns-then-not-is_empty-2-clause-tree t c =
     let s = c.args.sight.now in
     let more : c.in_ok-before.before ≡ s.before + c.args.width = search rules in
-    let none = sym c.as_slice-so_far.ensures ∙ no_items _ _ c.is_empty.ensures c.if-not-is_empty.false in
+    let none = sym c.as_slice-so_far.ensures ∙ no_items _ _ c.is_empty.ensures
+    c.if-not-is_empty.false in
     λ p.
     right_shared c.args.s.now s.outer.now s.so_far.now s.before s.start c.args.width
     c.in_ok-rows-2.rows.width c.in_ok-rows-2.rows.tree
@@ -295,8 +301,10 @@ pub right_source-returns-clause-tree :
 right_source-returns-clause-tree t c =
     let s = c.args.sight.now in
     let more : c.in_ok-before.before ≡ s.before + c.args.width = search rules in
-    let none = sym c.as_slice-so_far.ensures ∙ no_items _ _ c.is_empty.ensures c.if-not-is_empty.false in
-    let empty = sym c.as_slice-outer.ensures ∙ no_items _ _ c.is_empty-else-not-is_empty.ensures c.if-not-is_empty-2.false in
+    let none = sym c.as_slice-so_far.ensures ∙ no_items _ _ c.is_empty.ensures
+    c.if-not-is_empty.false in
+    let empty = sym c.as_slice-outer.ensures ∙ no_items _ _ c.is_empty-else-not-is_empty.ensures
+    c.if-not-is_empty-2.false in
     λ p.
     right_closed c.args.s.now s.outer.now s.so_far.now s.before s.start c.args.width
     c.in_ok-rows-3.rows.width c.in_ok-rows-3.rows.tree

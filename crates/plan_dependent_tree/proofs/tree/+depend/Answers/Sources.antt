@@ -1,7 +1,8 @@
 -- The trees of the items of FROM, as the code makes them.
 use Rattle.std.proofs.Common.{refl, sym, ◌∙◌, ◌+◌, subst}
 use Rattle.plan_dependent_tree.specs.Growth.{IsPlain}
-use Rattle.plan_dependent_tree.proofs.SeenSources.{table_seen, derived_seen, lateral_seen, cross_seen}
+use Rattle.plan_dependent_tree.proofs.SeenSources.{table_seen, derived_seen, lateral_seen}
+use Rattle.plan_dependent_tree.proofs.SeenSources.{cross_seen}
 use Rattle.plan_dependent_tree.proofs.SeenSources.{inner_seen, outer_read, source_as}
 use Rattle.plan_dependent_tree.proofs.SeenSources.{plain_outer_seen, kept_outer_seen}
 use Rattle.plan_dependent_tree.proofs.SuppliedSources.{derived_supplied}
@@ -116,7 +117,8 @@ kept_outer t c =
     let again = c.get-in-None-2.ensures ∙ sym c.get-in-None.ensures in
     λ p.
     let join = outer_join_supplied s.outer.now s.so_far.now s.before _ _ nulls on p is left.width in
-    let supplied = kept_supplied _ on nulls s.outer.now s.so_far.now s.before a join it.outer it.so_far
+    let supplied = kept_supplied _ on nulls s.outer.now s.so_far.now s.before a join it.outer
+    it.so_far
     d.reads d.near seen.outer seen.so_far (seen.before ∙ d.behind) in
     let same = kept_nulls _ on nulls s.outer.now s.so_far.now s.before a join
     (read_width again rows.ensures.width) in
@@ -127,7 +129,8 @@ kept_outer t c =
     d.near refl refl)
     same _ s.outer.now s.so_far.now s.before s.start d.first
     (d.at
-    (kept_there _ on nulls s.outer.now s.so_far.now s.before a join it.outer it.so_far d.reads d.near
+    (kept_there _ on nulls s.outer.now s.so_far.now s.before a join it.outer it.so_far d.reads
+    d.near
     refl)
     (kept_stands _ on nulls s.outer.now s.so_far.now s.before a join it.outer it.so_far d.reads
     d.near refl))

@@ -1,3 +1,0 @@
--- Answers of the cycle of `depend`.
-mod BlockAnswers
-mod SourceAnswers
