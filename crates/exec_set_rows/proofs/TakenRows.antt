@@ -5,7 +5,7 @@ use Rattle.std.specs.List.{All, filter, range_with_len}
 use Rattle.std.proofs.lemmas.Bool.{cases_Bool}
 use Rattle.std.proofs.lemmas.List.{append-nil}
 use Rattle.base_row_laws.specs.Ranked.{Ranked, ranked, true_rank}
-use Rattle.base_row_laws.specs.Bags.{each_once, classes, Each}
+use Rattle.base_row_laws.specs.Bags.{each_once, Each}
 use Rattle.base_row_laws.specs.Rows.{same_row, columns}
 use Rattle.base_row_laws.specs.Operators.{least}
 use Rattle.base_row_laws.specs.Domains.{values_of}
