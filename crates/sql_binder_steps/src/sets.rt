@@ -45,12 +45,12 @@ fn set_column(
     at: u32,
     left: Kind,
     right: Kind,
-    whole: Kind,
+    whole: &Kind,
 ) -> Result<SetColumn, AllocError>
-    ensures { IfOk result (λ c. c ≡ spec.set_column at left right whole) }
+    ensures { IfOk result (λ c. c ≡ spec.set_column at left right whole.now) }
 {
-    let left = rescaled(alloc, at, left, whole)?;
-    let right = rescaled(alloc, at, right, whole)?;
+    let left = rescaled(alloc, at, left, *whole)?;
+    let right = rescaled(alloc, at, right, *whole)?;
     Ok(SetColumn { left, right })
 }
 
@@ -60,9 +60,9 @@ fn with_column(
     at: u32,
     left: &Header,
     right: &Header,
-    whole: Kind,
+    whole: &Kind,
 ) -> Result<SetColumns, AllocError>
-    ensures { IfOk result (λ s. s ≡ spec.with_column done at left.now right.now whole) }
+    ensures { IfOk result (λ s. s ≡ spec.with_column done at left.now right.now whole.now) }
 {
     let SetColumns {
         mut columns,
@@ -71,7 +71,7 @@ fn with_column(
     let column = set_column(alloc, at, left.kind, right.kind, whole)?;
     columns.push(column)?;
     let name = share(&left.name)?;
-    headers.push(Header { name, kind: whole })?;
+    headers.push(Header { name, kind: *whole })?;
     Ok(SetColumns { columns, headers })
 }
 
@@ -91,7 +91,8 @@ fn set_columns(alloc: Global, left: &[Header], right: &[Header]) -> Result<SetCo
             [r, others @ ..] => {
                 let both = [BoundKind::Value(l.kind), BoundKind::Value(r.kind)];
                 let whole = common_kind(&both)?;
-                done = with_column(alloc, done, narrow(at)?, l, r, whole)?;
+                let place = narrow(at)?;
+                done = with_column(alloc, done, place, l, r, &whole)?;
                 rs = others;
             }
             [] => return Ok(done),
@@ -151,8 +152,11 @@ pub fn set_table(
     if left.headers.len() != right.headers.len() {
         return Err(BindFault::Refused(BindRefusal::SetColumns));
     }
-    let SetColumns { columns, headers } =
-        set_columns(alloc, left.headers.as_slice(), right.headers.as_slice())?;
+    let SetColumns { columns, headers } = set_columns(
+        alloc,
+        left.headers.as_slice(),
+        right.headers.as_slice(),
+    )?;
     let block = set_block(alloc, operator, keeps_all, left.block, right.block, columns)?;
     Ok(BoundTable { block, headers })
 }
