@@ -225,7 +225,7 @@ module _ (nodes : List Node) (i : ℕ) (formed : IsTrue (is_formed nodes)) (with
         let w = long_before nodes i n formed within at j ks h a in
         gives nodes i n formed within at (replicate (length ks) None ++ replicate 0 None)
         (length-append (replicate (length ks) None) (replicate 0 None)
-        ∙ (let x = length-unknown (length ks) in omega (arith, w, x)))
+        ∙ (let x = length-unknown (length ks) in let y = length-unknown 0 in omega (arith, w, x, y)))
         (λ db k. unknown_rows (length ks) 0 _)
 
     module _ (right : ℕ) (ms : ColumnKinds) (b : AreKindsOf nodes right ms) where

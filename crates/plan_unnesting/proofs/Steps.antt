@@ -192,13 +192,13 @@ pub set_even : {before a c : List Node} {left right seen seen' other other' : De
 set_even e v x w s e' l x' r = set_wide (even_sides e v x w s) (set_sides e' l x' r)
 
 -- of trees of different widths
-pub set_left : {before new : List Node} {left right seen seen' other : DepTree} {operation : SetOperation} {f g : Footing} {v w id : ℕ}
+pub set_left : {before new : List Node} {left right seen seen' other : DepTree} {f g : Footing} {v w id : ℕ} (operation : SetOperation)
     → seen ≡ left → v ≡ width_of seen → other ≡ right → w ≡ width_of other → (v ≡ w → ⊥) → seen' ≡ left → Lowers before new (tree_meaning seen') f g id
     → Lowers before new (combined operation (tree_meaning left) (tree_meaning right)) f g id
 unfolding width_of
-set_left {left = left} {right = right} {operation = operation} e v x w ne e' l =
+set_left {left = left} {right = right} operation e v x w ne e' l =
     means (left_is operation (tree_meaning left) (tree_meaning right) (ne_eqb (width_of left) (width_of right) (λ s. ne (v ∙ ap width_of e ∙ s ∙ sym (w ∙ ap width_of x))))) (read_as e' l)
 
-pub set_arm : {before new : List Node} {tree left right : DepTree} {operation : SetOperation} {f g : Footing} {id : ℕ} → tree ≡ t.Set left right operation
+pub set_arm : {before new : List Node} {tree : DepTree} {f g : Footing} {id : ℕ} (left right : DepTree) (operation : SetOperation) → tree ≡ t.Set left right operation
     → Lowers before new (combined operation (tree_meaning left) (tree_meaning right)) f g id → Lowers before new (tree_meaning tree) f g id
-set_arm {left = left} {right = right} {operation = operation} is l = means (ap tree_meaning is ∙ meaning_Set left right operation) l
+set_arm left right operation is l = means (ap tree_meaning is ∙ meaning_Set left right operation) l

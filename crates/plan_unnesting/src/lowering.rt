@@ -1,6 +1,6 @@
 //! From dependent trees to flat nodes.
 ghost use Rattle.std.specs.Prelude.{◌≡◌, ◌+◌, ◌<◌, ◌≤◌, ◌++◌, length, IfOk, OnOk};
-ghost use Rattle.plan_algebra.specs.Trees.{tree_meaning, scans_of, domains_of, combined};
+ghost use Rattle.plan_algebra.specs.Trees.{tree_meaning, scans_of, domains_of};
 ghost use Rattle.plan_algebra.specs.Plans.{plan_scans, plan_domains};
 ghost use Rattle.plan_unnesting.specs.Domains.{IsInPlan};
 ghost use Rattle.plan_unnesting.specs.Footings.{IsFooting};
@@ -19,7 +19,6 @@ use crate::put::{
     own_footing, put_distinct, put_join, put_mark, put_outer, put_project, put_scan, put_select,
     put_selection, put_set, put_single, put_total,
 };
-use base_set_rows::SetOperation;
 use plan_algebra::{Builder, DepTree, NodeId, Side, width};
 use sqlite_items::Boxed;
 use std::alloc::{AllocError, Global};
@@ -305,40 +304,19 @@ fn lowered_node(
             let id = put_distinct(builder, rows)?;
             Ok(id)
         }
+        // Both sides are over the same rows: the domain is pushed into both.
         DepTree::Set(left, right, operation) => {
-            let id = lowered_set(alloc, builder, left, right, *operation, footing)?;
+            let outer = lowered(alloc, builder, left.get(), footing)?;
+            let own = width(left.get())?;
+            let other = width(right.get())?;
+            if own != other {
+                return Ok(outer);
+            }
+            let rows = lowered(alloc, builder, right.get(), footing)?;
+            let id = put_set(builder, outer, rows, *operation)?;
             Ok(id)
         }
     }
-}
-
-// A set operation of two trees, both over the same rows: the domain is pushed into both sides.
-// Trees of different widths mean the left one.
-#[cycle(lower)]
-fn lowered_set(
-    alloc: Global,
-    builder: &mut Builder,
-    left: &Boxed<DepTree>,
-    right: &Boxed<DepTree>,
-    operation: SetOperation,
-    footing: &mut Footing,
-) -> Result<NodeId, AllocError>
-    requires { IsFooting builder.old.nodes footing.old.rows }
-    ensures { IfOk result
-        (Lowers builder.old.nodes builder.new.nodes
-        (combined operation (tree_meaning left.now) (tree_meaning right.now))
-        footing.old footing.new) }
-{
-    let own = width(left.get())?;
-    let other = width(right.get())?;
-    if own != other {
-        let id = lowered(alloc, builder, left.get(), footing)?;
-        return Ok(id);
-    }
-    let outer = lowered(alloc, builder, left.get(), footing)?;
-    let rows = lowered(alloc, builder, right.get(), footing)?;
-    let id = put_set(builder, outer, rows, operation)?;
-    Ok(id)
 }
 
 // A right side, over what it reads of its left side, which is the node `outer` over the footing.

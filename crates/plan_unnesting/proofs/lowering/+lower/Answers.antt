@@ -168,17 +168,19 @@ lowered_outer-returns-in_ok-part-in-Apart t c =
     outer_part c.in-Outer.is c.in_ok-n.ensures c.get-5.ensures c.in_ok-outer.ensures c.in-Apart.is c.one-none.ensures.rows c.one-none.ensures.unchanged c.get-6.ensures c.in_ok-rows.ensures c.get-4.ensures
     c.in_ok-more.ensures c.get.ensures c.get-2.ensures c.get-3.ensures (found_own c.in_ok-found.ensures c.in-Some.is) c.in_ok-part-in-Apart.ensures
 
+pub lowered_node-put_set-requires-clause-width : goal.lowered_node-put_set-requires-clause-width
+lowered_node-put_set-requires-clause-width t c =
+    set_even c.get-in-Set-2.ensures c.in_ok-own-in-Set.ensures c.get-in-Set-3.ensures c.in_ok-other-in-Set.ensures c.if-own-other.false c.get-in-Set.ensures c.in_ok-outer-in-Set.ensures
+    c.get-in-Set-4.ensures c.in_ok-rows-in-Set.ensures
+
 pub lowered_node-returns-in_ok-id-in-Set : goal.lowered_node-returns-in_ok-id-in-Set
-lowered_node-returns-in_ok-id-in-Set t c = set_arm c.in-Set.is c.in_ok-id-in-Set.ensures
+lowered_node-returns-in_ok-id-in-Set t c =
+    set_arm c.in-Set.left c.in-Set.right c.in-Set.operation c.in-Set.is
+    (set_put c.get-in-Set-2.ensures c.in_ok-own-in-Set.ensures c.get-in-Set-3.ensures c.in_ok-other-in-Set.ensures c.if-own-other.false c.get-in-Set.ensures c.in_ok-outer-in-Set.ensures
+    c.get-in-Set-4.ensures c.in_ok-rows-in-Set.ensures c.in_ok-id-in-Set.ensures)
 
-pub lowered_set-put_set-requires-clause-width : goal.lowered_set-put_set-requires-clause-width
-lowered_set-put_set-requires-clause-width t c =
-    set_even c.get.ensures c.in_ok-own.ensures c.get-2.ensures c.in_ok-other.ensures c.if-own-ne.false c.get-3.ensures c.in_ok-outer.ensures c.get-4.ensures c.in_ok-rows.ensures
-
-pub lowered_set-returns-in_ok-id : goal.lowered_set-returns-in_ok-id
-lowered_set-returns-in_ok-id t c =
-    set_put c.get.ensures c.in_ok-own.ensures c.get-2.ensures c.in_ok-other.ensures c.if-own-ne.false c.get-3.ensures c.in_ok-outer.ensures c.get-4.ensures c.in_ok-rows.ensures c.in_ok-id.ensures
-
-pub lowered_set-returns-then-own : goal.lowered_set-returns-then-own
-lowered_set-returns-then-own t c =
-    set_left c.get.ensures c.in_ok-own.ensures c.get-2.ensures c.in_ok-other.ensures c.if-own-ne.true c.get-3.ensures c.in_ok-id.ensures
+pub lowered_node-returns-then-own-other : goal.lowered_node-returns-then-own-other
+lowered_node-returns-then-own-other t c =
+    set_arm c.in-Set.left c.in-Set.right c.in-Set.operation c.in-Set.is
+    (set_left c.in-Set.operation c.get-in-Set-2.ensures c.in_ok-own-in-Set.ensures c.get-in-Set-3.ensures c.in_ok-other-in-Set.ensures c.if-own-other.true c.get-in-Set.ensures
+    c.in_ok-outer-in-Set.ensures)
