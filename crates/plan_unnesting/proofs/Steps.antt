@@ -16,7 +16,6 @@ use Rattle.plan_algebra.specs.declared.tree.DepTree.TheOpen as o
 use Rattle.plan_algebra.specs.declared.tree.Side.{Side}
 use Rattle.plan_algebra.specs.declared.tree.Side.TheVariants.{Closed, Shared, Dependent}
 use Rattle.plan_algebra.specs.Trees.{TreeMeaning, tree_step, tree_meaning, width_of, side_of, combined}
-use Rattle.std.specs.Prelude.{false, ◌==◌, nat_eq}
 use Rattle.std.proofs.lemmas.Bool.{ne_eqb}
 use Rattle.plan_algebra.specs.Plans.{plan_width}
 use Rattle.plan_algebra.proofs.Opened.{meaning_Scan, meaning_Select, meaning_Project, meaning_Join, meaning_Outer, meaning_Mark, meaning_Single, meaning_Group, meaning_Distinct, meaning_Set, left_is}
