@@ -147,7 +147,7 @@ fn run_open<R: Threads + Wait + Sync, G: Gate + Sync>(
     }
 }
 
-/// The same with a publisher that is opened for it, and closed.
+/// `run_open` with a publisher that is opened for it, and closed.
 fn run_receiver<R: Threads + Wait + Sync, G: Gate + Sync>(
     rt: &R,
     alloc: Global,

@@ -63,8 +63,8 @@ pub(crate) struct Asked {
     pub(crate) output: Items<Expr>,
 }
 
-// The same rows of inputs without the columns that neither the conditions nor the select list read,
-// unless a column is not there.
+// Inputs without the columns that neither the conditions nor the select list read, unless a column
+// is not there.
 fn tried(
     alloc: Global,
     n: u32,
