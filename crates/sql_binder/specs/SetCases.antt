@@ -41,7 +41,7 @@ joined op all a b = block.Combined a (behind op all b ∷ [])
 abbrev pub column_of : Name → Name → Block
 column_of column from = select_from (item (named column) ∷ []) (from_table from ∷ [])
 
--- select o_orderkey from orders, select o_totalprice from orders, select r_name from region
+-- `select o_orderkey from orders`
 abbrev pub keys : Block
 keys = column_of (codes "o_orderkey") (codes "orders")
 
