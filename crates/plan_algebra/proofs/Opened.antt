@@ -20,7 +20,7 @@ use Rattle.plan_algebra.specs.declared.tree.DepTree.TheVariants as t
 use Rattle.plan_algebra.specs.declared.tree.DepTree.TheOpen as f
 use Rattle.plan_algebra.specs.declared.tree.DepTree.TheFolds.{fold_out-DepTree, map-DepTree}
 use Rattle.plan_algebra.specs.declared.tree.Side.{Side}
-use Rattle.plan_algebra.specs.Trees.{Database, TreeMeaning, SetOperation, together, combined, tree_step, tree_meaning, width_of, tree_rows, scans_of, right_row, listed, mark_under, scalar_at, groups_under}
+use Rattle.plan_algebra.specs.Trees.{Database, TreeMeaning, together, combined, tree_step, tree_meaning, width_of, tree_rows, scans_of, right_row, listed, mark_under, scalar_at, groups_under}
 
 abbrev meaning_at : DepTree-F DepTree → TreeMeaning
 meaning_at x = tree_step (map-DepTree DepTree TreeMeaning tree_meaning x)

@@ -4,8 +4,8 @@ use Rattle.expr_conditions.specs.Ranks.{columns_from}
 use Rattle.plan_dependent_tree.specs.SetGrowth.{ReadsOf}
 use Rattle.plan_dependent_tree.proofs.sets.combined.Goals as goal
 
-pub returns-in_ok-tree : goal.returns-in_ok-tree
-returns-in_ok-tree c =
+pub returns : goal.returns
+returns c =
     let columns = c.args.columns.now in
     let start = c.args.start in
     let count : c.in_ok-width.width ≡ length columns = search rules in

@@ -9,5 +9,5 @@ pub loop-column-preserved : goal.loop-column-preserved
 loop-column-preserved c =
     reads_more c.args.places.now (λ (k : SetColumn). k.right) c.args.columns.now
     c.loop-column.column-index _ c.loop-column.exprs c.push.new.self c.in_ok-expr.expr
-    c.loop-column-test.true c.column-item.is c.loop-column.invariant c.in_ok-expr.ensures
+    c.loop-column-test.true c.column-item.is c.loop-column.invariant c.in_ok-expr.ensures.meaning
     c.in_ok-push.ensures.ok
