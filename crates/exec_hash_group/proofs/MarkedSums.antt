@@ -1,7 +1,7 @@
 -- Lemmas on what sums see of values some of which are null.
-use Rattle.std.proofs.Common.{◌≡◌, ℕ, ◌+◌, ◌<◌, ◌≤◌, suc, zero, List, [], ◌∷◌, ◌++◌, refl, sym, ap, ◌∙◌, subst, arith, length, get_or, take, map, Bool, true, false, cond, min}
+use Rattle.std.proofs.Common.{◌≡◌, ℕ, ◌+◌, ◌<◌, ◌≤◌, suc, zero, List, [], ◌∷◌, ◌++◌, refl, sym, ap, ◌∙◌, arith, length, get_or, take, map, Bool, true, false, cond, min}
 use Rattle.std.specs.Prelude.{nat_eq, not}
-use Rattle.std.proofs.lemmas.List.{append-nil, length-map}
+use Rattle.std.proofs.lemmas.List.{append-nil}
 use Rattle.base_null_marks.specs.Marks.{marked, has}
 use Rattle.base_columns.specs.Lists.{AreBelow}
 use Rattle.base_row_laws.specs.Bags.{weigh}
@@ -10,7 +10,7 @@ use Rattle.base_row_laws.specs.TableLaws.{with_number}
 use Rattle.base_value.specs.declared.value.Value.{Value}
 use Rattle.base_value.specs.declared.value.Value.TheVariants.{Null}
 use Rattle.expr_aggregates.specs.Values.{above, below, is_null, value_rank}
-use Rattle.exec_accumulators.specs.Accumulators.{present, least_fault_rank, capped, Summed}
+use Rattle.exec_accumulators.specs.Accumulators.{present, least_fault_rank, capped}
 use Rattle.exec_hash_group.specs.NumberSums.{NumbersSummed, AreSums}
 use Rattle.exec_hash_group.specs.Unmarked.{unmarked}
 

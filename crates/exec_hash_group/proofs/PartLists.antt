@@ -9,7 +9,7 @@ use Rattle.base_row_laws.specs.Bags.{bottom, each_once}
 use Rattle.base_row_laws.specs.Rows.{same_row, columns}
 use Rattle.base_row_laws.specs.Operators.{least}
 use Rattle.base_row_laws.specs.Numbers.{numbers_of}
-use Rattle.base_row_laws.specs.TableLaws.{with_number, groups_from}
+use Rattle.base_row_laws.specs.TableLaws.{with_number}
 use Rattle.base_row_laws.proofs.Groups.{bottom-map}
 use Rattle.base_row_laws.proofs.Lists.{map-map, map-ext}
 use Rattle.base_row_laws.proofs.LoopLists.{classes_by_numbers}
@@ -31,8 +31,8 @@ use Rattle.plan_algebra.specs.Plans.{groups}
 use Rattle.exec_hash_group.specs.declared.part.GroupedPart.{GroupedPart}
 use Rattle.exec_hash_group.specs.Grouping.{group_keys, group_numbers, AreGroups, arguments_of, aggregate_column}
 use Rattle.exec_hash_group.specs.Keys.{key_rows}
-use Rattle.exec_hash_group.specs.PartGroups.{IsGrouped, part_rows, part_keys, group_arguments, part_arguments, merged_column, AreMerged}
-use Rattle.exec_hash_group.specs.Regrouping.{lists_by_number, groups_by, members, AreOfParts}
+use Rattle.exec_hash_group.specs.PartGroups.{IsGrouped, part_keys, group_arguments, part_arguments, AreMerged}
+use Rattle.exec_hash_group.specs.Regrouping.{lists_by_number, groups_by, members}
 use Rattle.exec_hash_group.specs.Standings.{ranks, row_ranks, least_of, AreOfNumbers}
 use Rattle.exec_hash_group.proofs.Grouped.{with_images}
 use Rattle.exec_hash_group.proofs.GroupRows.{with_zeros, groups_below, groups_long, group_relation, nulls_of}

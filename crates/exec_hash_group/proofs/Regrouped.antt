@@ -1,11 +1,11 @@
 -- Groups of the parts of a list, put together.
 use Rattle.std.proofs.Common.{◌≡◌, ℕ, zero, suc, ◌+◌, ◌<◌, List, [], ◌∷◌, ◌++◌, Bool, true, false, cond, map, length, get_or, refl, sym, ◌∙◌, ap, arith, inl, inr, append_assoc, append-nil}
-use Rattle.std.specs.Prelude.{not, nat_eq, ◌&&◌, ◌||◌}
+use Rattle.std.specs.Prelude.{not, ◌&&◌, ◌||◌}
 use Rattle.std.specs.List.{filter}
 use Rattle.std.proofs.lemmas.Bool.{cases_Bool, true≢false}
-use Rattle.std.proofs.lemmas.List.{map-append, map-id, length-map}
+use Rattle.std.proofs.lemmas.List.{map-append, map-id}
 use Rattle.std.proofs.lemmas.List.Elements.{filter-append}
-use Rattle.base_row_laws.specs.Bags.{IsIdentity, has, each_once, classes}
+use Rattle.base_row_laws.specs.Bags.{IsIdentity, has, each_once}
 use Rattle.base_row_laws.specs.Numbers.{numbers_of}
 use Rattle.base_row_laws.specs.TableLaws.{with_number, groups_from}
 use Rattle.base_row_laws.proofs.Classes.{apart}

@@ -1,6 +1,5 @@
 -- Parts of rows, each with its own groups, and the groups of all parts.
 use Rattle.std.specs.Prelude.{◌≡◌, ℕ, ◌<◌, ◌^◌, List, [], map, length}
-use Rattle.std.specs.List.{All}
 use Rattle.base_row_laws.specs.Ranked.{Ranked}
 use Rattle.base_value.specs.declared.value.Value.{Value}
 use Rattle.base_value.specs.declared.truth.Standing.{Standing}

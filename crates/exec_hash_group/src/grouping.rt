@@ -58,7 +58,7 @@ pub fn places_below(alloc: Global, n: u32) -> Result<Places, AllocError>
 }
 
 /// The places of all columns of a bag.
-pub(crate) fn all_places(alloc: Global, bag: &Bag) -> Result<Places, AllocError>
+pub fn all_places(alloc: Global, bag: &Bag) -> Result<Places, AllocError>
     ensures places { IfOk result (λ v. v.items ≡ range_with_len 0 bag.now.width) }
     ensures wide { All (λ r. length r.values ≡ bag.now.width) bag.now.rows }
 {
@@ -132,7 +132,7 @@ pub(crate) fn at_places(
 }
 
 /// A bag of one batch.
-pub(crate) fn one_batch(alloc: Global, batch: Batch) -> Result<Bag, AllocError>
+pub fn one_batch(alloc: Global, batch: Batch) -> Result<Bag, AllocError>
     ensures width { IfOk result (λ b. b.width ≡ batch.width) }
     ensures rows { IfOk result (λ b. b.rows ≡ batch.rows) }
 {

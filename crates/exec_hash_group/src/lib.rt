@@ -23,7 +23,7 @@ pub use aggregate::{accumulated_by_number, aggregated_by_number, column_of};
 pub use by_threads::group_by_threads;
 pub use filling::fill;
 pub use group_by::group;
-pub use grouping::{Places, places_below};
+pub use grouping::{Places, all_places, one_batch, places_below};
 pub use groups::merged_by_number;
 pub use identical::{distinct, domain};
 pub use part::GroupedPart;

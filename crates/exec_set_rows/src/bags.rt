@@ -1,7 +1,7 @@
 //! The rows of two bags together.
 ghost use Rattle.std.specs.Prelude.{◌≡◌, ◌++◌, IfOk, OnOk};
 
-use base_columns::{Bag, Batch};
+use base_columns::Bag;
 use std::alloc::{AllocError, Global};
 
 // The rows of another bag of that width after a bag's own, in batches that share their columns.
@@ -29,14 +29,4 @@ pub(crate) fn union_all(alloc: Global, left: &Bag, right: &Bag) -> Result<Bag, A
     put_rows(alloc, &mut both, left)?;
     put_rows(alloc, &mut both, right)?;
     Ok(both)
-}
-
-/// A bag of one batch.
-pub(crate) fn one_batch(alloc: Global, batch: Batch) -> Result<Bag, AllocError>
-    ensures width { IfOk result (λ b. b.width ≡ batch.width) }
-    ensures rows { IfOk result (λ b. b.rows ≡ batch.rows) }
-{
-    let mut bag = Bag::new(alloc, batch.width());
-    bag.push(batch)?;
-    Ok(bag)
 }

@@ -1,50 +1,39 @@
 //! INTERSECT and EXCEPT.
 ghost use Rattle.std.specs.Prelude.{◌≡◌, ◌≤◌, [], length, IfOk};
-ghost use Rattle.std.specs.List.{range_with_len};
+ghost use Rattle.std.specs.List.{All, range_with_len};
 ghost use Rattle.base_row_laws.specs.Ranked.{ranked, true_rank};
 ghost use Rattle.base_value.specs.Value.{same_value};
 ghost use Rattle.base_set_rows.specs.SetOperations.{by_classes};
 ghost use Rattle.base_set_rows.specs.Numbered.{numbers_taken};
 ghost use Rattle.base_columns.specs.Lists.{gathered};
-ghost use Rattle.base_columns.specs.Bags.{bag_rows, AreWide};
 ghost use Rattle.exec_hash_group.specs.PartGroups.{IsGrouped};
 
-use crate::bags::{one_batch, union_all};
+use crate::bags::union_all;
 use base_columns::{Bag, Batch};
 use base_set_rows::{ClassKind, numbers_taken};
-use exec_hash_group::{GroupedPart, Places, grouped_part, part_by_threads, places_below};
-use exec_threads::part_len;
+use exec_hash_group::{GroupedPart, all_places, grouped_part, one_batch, part_by_threads};
+use exec_threads::thread_share;
 use std::alloc::{AllocError, Global};
 use std::thread::Threads;
 
-// The places of all columns of rows of that width.
-fn all_places(alloc: Global, width: usize) -> Result<Places, AllocError>
-    ensures { IfOk result (λ v. v.items ≡ range_with_len 0 width) }
-{
-    match u32::try_from(width) {
-        Ok(width) => places_below(alloc, width),
-        Err(_) => Err(AllocError),
-    }
-}
-
 // Rows with their classes: the groups by all columns, made by several threads where there are more
-// than a few batches.
+// than a few rows.
 fn row_classes<R: Threads + Sync>(
     rt: &R,
     alloc: Global,
-    width: usize,
-    batches: &[Batch],
+    rows: &Bag,
 ) -> Result<GroupedPart, AllocError>
-    requires { AreWide width batches.now }
-    ensures { IfOk result
-        (λ p. (p.rows.rows ≡ bag_rows batches.now) × IsGrouped (range_with_len 0 width) p) }
+    ensures rows { IfOk result (λ p. p.rows.rows ≡ rows.now.rows) }
+    ensures classes { IfOk result (λ p. IsGrouped (range_with_len 0 rows.now.width) p) }
+    ensures wide { All (λ r. length r.values ≡ rows.now.width) rows.now.rows }
 {
-    let places = all_places(alloc, width)?;
-    if part_len(rt, batches.len()) >= batches.len() {
-        let part = grouped_part(alloc, width, batches, places.as_slice())?;
+    let places = all_places(alloc, rows)?;
+    let batches = rows.batches();
+    if thread_share(rt, batches.len(), rows.len()) >= batches.len() {
+        let part = grouped_part(alloc, rows.width(), batches, places.as_slice())?;
         return Ok(part);
     }
-    let part = part_by_threads(rt, alloc, width, batches, places.as_slice())?;
+    let part = part_by_threads(rt, alloc, rows.width(), batches, places.as_slice())?;
     Ok(part)
 }
 
@@ -90,7 +79,7 @@ pub(crate) fn by_classes<R: Threads + Sync>(
         ≡ by_classes same_value kind all left.now.rows right.now.rows) }
 {
     let both = union_all(alloc, left, right)?;
-    let part = row_classes(rt, alloc, both.width(), both.batches())?;
+    let part = row_classes(rt, alloc, &both)?;
     let taken = rows_taken(alloc, kind, all, &part, left.len())?;
     let bag = one_batch(alloc, taken)?;
     Ok(bag)

@@ -1,10 +1,10 @@
 -- Rows taken by place: at True, and of their width.
-use Rattle.std.proofs.Common.{◌≡◌, ℕ, ◌<◌, List, [], ◌∷◌, zero, suc, map, refl, sym, ap, ◌∙◌, subst, arith, length}
+use Rattle.std.proofs.Common.{◌≡◌, ℕ, ◌<◌, List, [], ◌∷◌, zero, suc, refl, ap, ◌∙◌, length}
 use Rattle.std.specs.Prelude.{slice_index_or}
 use Rattle.std.specs.List.{All}
 use Rattle.std.proofs.lemmas.List.{length-map}
 use Rattle.std.proofs.lemmas.List.Elements.{All-map, All-weaker, All-get_or}
-use Rattle.base_row_laws.specs.Ranked.{Ranked, ranked, true_rank}
+use Rattle.base_row_laws.specs.Ranked.{ranked, true_rank}
 use Rattle.base_value.specs.declared.value.Value.{Value}
 use Rattle.base_columns.specs.Lists.{AreBelow, gathered}
 use Rattle.base_columns.specs.Tables.{standing_rows}

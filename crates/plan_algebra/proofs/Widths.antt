@@ -1,17 +1,17 @@
 -- Each row of a node has as many values as the node has columns.
-use Rattle.std.proofs.Common.{◌≡◌, ℕ, zero, suc, ◌+◌, ◌-◌, ◌<◌, ◌≤◌, List, [], ◌∷◌, ◌++◌, Bool, true, false, cond, refl, sym, ap, ◌∙◌, subst, arith, inl, inr, length, ⊎_elim}
+use Rattle.std.proofs.Common.{◌≡◌, ℕ, zero, suc, ◌+◌, ◌-◌, ◌≤◌, List, [], ◌∷◌, ◌++◌, Bool, true, false, cond, refl, sym, ap, ◌∙◌, subst, arith, inl, inr, length}
 use Rattle.std.proofs.Math.Dec.{ltb}
-use Rattle.std.specs.Prelude.{map, min, nat_lt, nat_le, replicate, IsTrue, ◌==◌, ◌&&◌, ◌||◌, Option, Some, None, slice_get, slice_index, slice_index_or}
+use Rattle.std.specs.Prelude.{map, min, nat_lt, nat_le, replicate, IsTrue, ◌==◌, Option, Some, None, slice_get, slice_index_or}
 use Rattle.std.specs.List.{All, filter, flat_map, range_with_len, list_all}
 use Rattle.std.specs.Cmp.Lexicographic.{pointwise, bytes_decides}
-use Rattle.std.proofs.lemmas.Bool.{cases_Bool, cases_lt, lt-ltb, le-ltb, ltb-true, eqb-true, eqb-false}
+use Rattle.std.proofs.lemmas.Bool.{cases_Bool, cases_lt, lt-ltb, le-ltb, eqb-true, eqb-false}
 use Rattle.std.proofs.lemmas.List.{length-map, length-append, length-replicate, append_assoc, append-nil, get_or_past}
 use Rattle.std.proofs.lemmas.List.FromFn.{length-range_with_len}
 use Rattle.base_row_laws.specs.Ranked.{Ranked, ranked, unknown_rank, true_rank}
 use Rattle.base_row_laws.specs.Bags.{Each, has, each_once}
 use Rattle.base_row_laws.specs.Rows.{columns, keep, scanned, starts}
 use Rattle.base_row_laws.specs.Rows.{same_row as identical}
-use Rattle.base_row_laws.specs.Operators.{select, project, pair, or_else, least, greatest, partners, group_by, total, distinct, domain_node, fill, mark_of, scalar_of}
+use Rattle.base_row_laws.specs.Operators.{select, project, pair, or_else, least, greatest, partners, group_by, distinct, domain_node, fill, mark_of, scalar_of}
 use Rattle.base_row_laws.specs.Matched.{right_places, without_from, without, glue_matched, matches_of, inner_matched, outer_matched, attach_matched}
 use Rattle.base_row_laws.proofs.Lists.{Each-map, Each-filter, Each-weaker, Each-flat_map, Each-all, Each-each_once}
 use Rattle.base_row_laws.proofs.Nodes.{Each-or_else}
@@ -34,7 +34,7 @@ use Rattle.plan_algebra.specs.declared.node.Node.TheVariants.{Scan, Domain, Sele
 use Rattle.plan_algebra.specs.Aggregates.{aggregates_of}
 use Rattle.plan_algebra.specs.Trees.{Database, HasKinds}
 use Rattle.plan_algebra.specs.NodeLaws.{RowsAreWide}
-use Rattle.plan_algebra.specs.Plans.{groups, rows_at, node_rows, node_width, made_from, plan_rows, plan_width, matches_first, groups_by_domain, suits, fits, all_fit, is_formed}
+use Rattle.plan_algebra.specs.Plans.{groups, node_rows, node_width, made_from, plan_rows, plan_width, matches_first, groups_by_domain, suits, fits, all_fit, is_formed}
 use Rattle.plan_algebra.proofs.Fits.{first_of_both, second_of_both}
 use Rattle.plan_algebra.proofs.Made.{kept_at, put_at, made_at, made-length}
 use Rattle.plan_algebra.proofs.NoRows.{length-aggregates_of}

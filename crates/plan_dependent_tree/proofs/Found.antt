@@ -24,11 +24,14 @@ use Rattle.plan_dependent_tree.specs.Seeks.{Seeks, any_seeks, has, input_seeks, 
 use Rattle.plan_dependent_tree.specs.Seeks.{seeks_of_source, seeks_of_input, seeks_of_expr}
 use Rattle.plan_dependent_tree.specs.Seeks.{seeks_of_aggregate}
 use Rattle.plan_dependent_tree.specs.Supplied.{Finds}
-use Rattle.plan_dependent_tree.proofs.SeeksOpened.{seeks_Column, seeks_Exists, seeks_Any, seeks_Scalar}
-use Rattle.plan_dependent_tree.proofs.SeeksOpened.{seeks_CountRows, seeks_Of, seeks_Table, seeks_Derived}
+use Rattle.plan_dependent_tree.proofs.SeeksOpened.{seeks_Column, seeks_Exists, seeks_Any}
+use Rattle.plan_dependent_tree.proofs.SeeksOpened.{seeks_Scalar}
+use Rattle.plan_dependent_tree.proofs.SeeksOpened.{seeks_CountRows, seeks_Of, seeks_Table}
+use Rattle.plan_dependent_tree.proofs.SeeksOpened.{seeks_Derived}
 use Rattle.plan_dependent_tree.proofs.SeeksOpened.{seeks_Lateral, seeks_Cross, seeks_Inner}
 use Rattle.plan_dependent_tree.proofs.SeeksOpened.{seeks_Outer, seeks_Plain}
-use Rattle.plan_dependent_tree.proofs.SeeksOpened.{seeks_Grouped, seeks_Distinct, seeks_Set, seeks_expr}
+use Rattle.plan_dependent_tree.proofs.SeeksOpened.{seeks_Grouped, seeks_Distinct, seeks_Set}
+use Rattle.plan_dependent_tree.proofs.SeeksOpened.{seeks_expr}
 
 -- ---- one part after the other
 

@@ -33,7 +33,8 @@ use Rattle.sql_bound_query.proofs.KeptRows as kept
 use Rattle.sql_bound_query.proofs.Opened.{source_Table_at, source_Derived_at, source_Lateral_at}
 use Rattle.sql_bound_query.proofs.Opened.{source_Cross_at, source_Inner_at}
 use Rattle.sql_bound_query.proofs.StandingQueries.{cross_stands, source_stands}
-use Rattle.sql_bound_query.proofs.TablesOpened.{of_Table, of_Derived, of_Lateral, of_Cross, of_Inner}
+use Rattle.sql_bound_query.proofs.TablesOpened.{of_Table, of_Derived, of_Lateral, of_Cross}
+use Rattle.sql_bound_query.proofs.TablesOpened.{of_Inner}
 use Rattle.plan_algebra.specs.declared.tree.DepTree.{DepTree}
 use Rattle.plan_algebra.specs.declared.tree.DepTree.TheVariants as t
 use Rattle.plan_algebra.specs.declared.tree.Side.{Side}
@@ -46,9 +47,11 @@ use Rattle.plan_dependent_tree.specs.declared.sight.OuterColumn.{OuterColumn}
 use Rattle.plan_dependent_tree.specs.Dependence.{domain_row}
 use Rattle.plan_dependent_tree.specs.FromGrowth.{FromDomains, AreRightPlaces, IsSourceTree}
 use Rattle.plan_dependent_tree.specs.FromGrowth.{IsRightSource, lateral_columns}
-use Rattle.plan_dependent_tree.specs.Growth.{IsDomain, DomainRows, RowsOf, IsTree, IsTreeIn, IsRightIn}
+use Rattle.plan_dependent_tree.specs.Growth.{IsDomain, DomainRows, RowsOf, IsTree, IsTreeIn}
+use Rattle.plan_dependent_tree.specs.Growth.{IsRightIn}
 use Rattle.plan_dependent_tree.specs.Growth.{IsSubquery, AreAt, from_of, block_of}
-use Rattle.plan_dependent_tree.proofs.FromPlaces.{from_begins, from_shared, from_closed, from_wanted}
+use Rattle.plan_dependent_tree.proofs.FromPlaces.{from_begins, from_shared, from_closed}
+use Rattle.plan_dependent_tree.proofs.FromPlaces.{from_wanted}
 use Rattle.plan_dependent_tree.proofs.FromPlaces.{lateral_sees, dependent_row}
 use Rattle.plan_dependent_tree.proofs.Places.{domain_none}
 use Rattle.plan_dependent_tree.proofs.Places.{domain_whole}

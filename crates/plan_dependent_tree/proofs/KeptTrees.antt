@@ -26,7 +26,8 @@ use Rattle.plan_algebra.specs.Trees.{listed}
 use Rattle.plan_algebra.proofs.Opened.{rows_Project, scans_Project, width_Project}
 use Rattle.plan_dependent_tree.specs.declared.sight.OuterColumn.{OuterColumn}
 use Rattle.plan_dependent_tree.specs.FromGrowth.{FromDomains, IsKept}
-use Rattle.plan_dependent_tree.specs.Growth.{IsDomain, DomainRows, Attaches, RowsOf, ExprAt, IsTrimmed}
+use Rattle.plan_dependent_tree.specs.Growth.{IsDomain, DomainRows, Attaches, RowsOf, ExprAt}
+use Rattle.plan_dependent_tree.specs.Growth.{IsTrimmed}
 use Rattle.plan_dependent_tree.proofs.FromPlaces.{from_sees}
 use Rattle.plan_dependent_tree.proofs.Widenings.{widened_none, project_widened}
 use Rattle.plan_dependent_tree.proofs.QueryTrees.{Anything, stage_begin, stage_more, stage_select}

@@ -1,5 +1,6 @@
 -- The columns that a lateral item's query sees, and those that FROM's items read of the row so far.
-use Rattle.std.proofs.Common.{◌≡◌, ℕ, suc, ◌+◌, ◌<◌, ◌≤◌, List, [], ◌∷◌, Bool, true, false, ◌&&◌, ◌||◌}
+use Rattle.std.proofs.Common.{◌≡◌, ℕ, suc, ◌+◌, ◌<◌, ◌≤◌, List, [], ◌∷◌, Bool, true, false, ◌&&◌}
+use Rattle.std.proofs.Common.{◌||◌}
 use Rattle.std.proofs.Common.{◌==◌, map, take, get_or, length, refl, sym, ap, ◌∙◌, subst}
 use Rattle.std.specs.Cmp.{first_so, second_so}
 use Rattle.std.proofs.Math.Bool.{or_assoc, or-false}

@@ -34,7 +34,8 @@ use Rattle.plan_algebra.specs.declared.aggregate.Aggregate.{Aggregate}
 use Rattle.plan_algebra.specs.declared.tree.DepTree.{DepTree}
 use Rattle.plan_algebra.specs.declared.tree.DepTree.TheVariants as t
 use Rattle.plan_algebra.specs.Aggregates.{argument_and_function, aggregates_of}
-use Rattle.plan_algebra.specs.Trees.{tree_rows, scans_of, width_of, listed, keys_under, aggregates_under}
+use Rattle.plan_algebra.specs.Trees.{tree_rows, scans_of, width_of, listed, keys_under}
+use Rattle.plan_algebra.specs.Trees.{aggregates_under}
 use Rattle.plan_algebra.specs.Trees.{groups_under}
 use Rattle.plan_algebra.proofs.Opened.{rows_Select, rows_Project, rows_Group, rows_Distinct}
 use Rattle.plan_algebra.proofs.Opened.{scans_Select, scans_Project, scans_Group, scans_Distinct}
@@ -45,7 +46,8 @@ use Rattle.plan_dependent_tree.specs.Growth.{DomainRows, IsTreeIn}
 use Rattle.plan_dependent_tree.specs.Growth.{AreKeys, ExprAt, ListAt, AggregatesAt, SameFunctions}
 use Rattle.plan_dependent_tree.specs.Growth.{IsTrimmed, widened}
 use Rattle.plan_dependent_tree.proofs.Places.{sees_grown}
-use Rattle.plan_dependent_tree.proofs.Widenings.{Summing, select_widened, widened_twice, widened_none}
+use Rattle.plan_dependent_tree.proofs.Widenings.{Summing, select_widened, widened_twice}
+use Rattle.plan_dependent_tree.proofs.Widenings.{widened_none}
 use Rattle.plan_dependent_tree.proofs.Widenings.{project_widened, total_widened, group_widened}
 use Rattle.plan_dependent_tree.proofs.Widenings.{aggregates_alike}
 

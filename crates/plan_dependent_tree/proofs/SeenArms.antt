@@ -27,7 +27,8 @@ use Rattle.plan_dependent_tree.specs.Growth.{AreKeys, IsAt, DependsOn, InputAt}
 use Rattle.plan_dependent_tree.specs.Growth.{InputsAt, ExprAt, ListAt, AggregatesAt, SameFunctions}
 use Rattle.plan_dependent_tree.specs.Growth.{from_of, block_of}
 use Rattle.plan_dependent_tree.specs.SetGrowth.{IsSetTree}
-use Rattle.plan_dependent_tree.proofs.InputTrees.{column_arm, exists_arm, scalar_arm, any_arm, expr_arm}
+use Rattle.plan_dependent_tree.proofs.InputTrees.{column_arm, exists_arm, scalar_arm, any_arm}
+use Rattle.plan_dependent_tree.proofs.InputTrees.{expr_arm}
 use Rattle.plan_dependent_tree.proofs.BlockTrees.{plain_arm}
 use Rattle.plan_dependent_tree.proofs.BlockTrees.{grouped_arm, distinct_arm}
 use Rattle.plan_dependent_tree.proofs.FromTrees.{subquery_dependent, subquery_closed}

@@ -18,7 +18,8 @@ use Rattle.plan_algebra.specs.declared.tree.Side.{Side}
 use Rattle.plan_algebra.specs.declared.tree.Side.TheVariants.{Dependent}
 use Rattle.plan_dependent_tree.specs.declared.sight.OuterColumn.{OuterColumn}
 use Rattle.plan_dependent_tree.specs.FromGrowth.{FromDomains, AreRightPlaces, IsSourceTree}
-use Rattle.plan_dependent_tree.specs.FromGrowth.{IsRightSource, IsKeptRight, IsKept, lateral_columns}
+use Rattle.plan_dependent_tree.specs.FromGrowth.{IsRightSource, IsKeptRight, IsKept}
+use Rattle.plan_dependent_tree.specs.FromGrowth.{lateral_columns}
 use Rattle.plan_dependent_tree.specs.FromGrowth.{IsKeptDomain, KeepsRight}
 use Rattle.plan_dependent_tree.specs.Growth.{IsTree, IsTreeIn, IsTrimmed, Attaches, IsPlain}
 use Rattle.plan_dependent_tree.specs.Growth.{ExprAt, block_of}

@@ -35,7 +35,8 @@ use Rattle.plan_algebra.specs.Trees.{tree_rows, scans_of, width_of, listed}
 use Rattle.plan_algebra.proofs.Opened.{rows_Project, scans_Project, width_Project, rows_Set}
 use Rattle.plan_algebra.proofs.Opened.{scans_Set, width_Set}
 use Rattle.plan_dependent_tree.specs.declared.sight.OuterColumn.{OuterColumn}
-use Rattle.plan_dependent_tree.specs.Growth.{IsDomain, DomainRows, RowsOf, IsTreeIn, IsTree, block_of}
+use Rattle.plan_dependent_tree.specs.Growth.{IsDomain, DomainRows, RowsOf, IsTreeIn, IsTree}
+use Rattle.plan_dependent_tree.specs.Growth.{block_of}
 use Rattle.plan_dependent_tree.specs.SetGrowth.{ReadsOf, IsSetTree}
 use Rattle.plan_dependent_tree.proofs.FromTrees.{tree_as}
 use Rattle.plan_dependent_tree.proofs.InputTrees.{both_more}
@@ -89,13 +90,15 @@ count_of places side columns exprs is =
     sym (length-map exprs (λ (x : Expr). value x [])) ∙ ap length (is.reads [])
     ∙ length-map columns (λ (c : SetColumn). value (side c) (gathered places []))
 
-module _ (D : DomainRows) (start : ℕ) (size : (env : Env) (d : List Value) → D env d → length d ≡ start)
-  where
+module _ (D : DomainRows) (start : ℕ)
+  (size : (env : Env) (d : List Value) → D env d → length d ≡ start) where
     pub side_tree : (side : SetColumn → Expr) (columns : List SetColumn) (occurs : List TableName)
         (K : RowsOf) (w : ℕ) (tree : DepTree) (exprs : List Expr) → IsTreeIn D occurs K tree w
-        → ReadsOf (columns_from start w) (λ r. map (λ (c : SetColumn). value (side c) r) columns) exprs
+        → ReadsOf (columns_from start w) (λ r. map (λ (c : SetColumn). value (side c) r) columns)
+        exprs
         → IsTreeIn D occurs
-        (λ state env. project (λ r. map (λ (c : SetColumn). value (side c) r) columns) (K state env))
+        (λ state env.
+        project (λ r. map (λ (c : SetColumn). value (side c) r) columns) (K state env))
         (t.Project tree exprs) (length columns)
     side_tree side columns occurs K w tree exprs is read =
         let h : List Value → List Value = λ r. map (λ (c : SetColumn). value (side c) r) columns in
@@ -104,8 +107,8 @@ module _ (D : DomainRows) (start : ℕ) (size : (env : Env) (d : List Value) →
             stand = λ state env.
                 stands.project_stands h (K state env) (is.are_rows.stand state env);
             wide = λ state ok env.
-                kept.project_each (λ r. length r ≡ w) (λ r. length r ≡ length columns) h (K state env)
-                (λ r m. length-map columns (λ (c : SetColumn). value (side c) r))
+                kept.project_each (λ r. length r ≡ w) (λ r. length r ≡ length columns) h
+                (K state env) (λ r m. length-map columns (λ (c : SetColumn). value (side c) r))
                 (is.are_rows.wide state ok env);
           };
           scans = scans_Project tree exprs ∙ is.scans;

@@ -8,16 +8,18 @@ use Rattle.base_set_rows.specs.declared.kind.SetOperation.{SetOperation}
 use Rattle.plan_algebra.specs.declared.aggregate.Aggregate.{Aggregate}
 use Rattle.expr_scalar.specs.declared.expr.Expr.{Expr}
 use Rattle.expr_scalar.specs.declared.kind.Kind.{Kind}
+use Rattle.expr_scalar.specs.Typing.{sort_of}
 use Rattle.sql_bound_query.specs.declared.query.BoundAggregate.{BoundAggregate}
 use Rattle.sql_bound_query.specs.declared.query.BoundBlock.{BoundBlock}
 use Rattle.sql_bound_query.specs.declared.query.BoundBlock.TheVariants as block
 use Rattle.sql_bound_query.specs.declared.query.BoundExpr.{BoundExpr}
 use Rattle.sql_bound_query.specs.declared.query.BoundSource.{BoundSource}
 use Rattle.sql_bound_query.specs.declared.query.SetColumn.{SetColumn}
-use Rattle.sql_bound_query.specs.Typing.{EnvKinds, KindMeaning, KindsMeaning, ExprTyping, where_some}
+use Rattle.sql_bound_query.specs.Typing.{EnvKinds, KindMeaning, KindsMeaning, ExprTyping}
+use Rattle.sql_bound_query.specs.Typing.{where_some}
 use Rattle.sql_bound_query.specs.Typing.{all_some, kind_of_sort}
 use Rattle.sql_bound_query.specs.Typing.{listed_kinds, kind_of_aggregate, block_kinds, from_kinds}
-use Rattle.sql_bound_query.specs.Typing.{typing_of, common_kind, set_kinds, sort_of}
+use Rattle.sql_bound_query.specs.Typing.{typing_of, common_kind, set_kinds}
 use Rattle.sql_bound_query.proofs.TypingOpened.{kinds_Distinct}
 use Rattle.sql_bound_query.proofs.Keeps.{Found, some_of, some_is}
 use Rattle.plan_dependent_tree.specs.declared.sight.OuterColumn.{OuterColumn}
@@ -28,7 +30,8 @@ use Rattle.plan_dependent_tree.specs.Supplied.{FromIsSupplied}
 use Rattle.plan_dependent_tree.specs.Supplied.{ExprIsSupplied, ListIsSupplied}
 use Rattle.plan_dependent_tree.specs.Supplied.{AggregatesAreSupplied}
 use Rattle.plan_dependent_tree.specs.Supplied.{IsWidthOf}
-use Rattle.plan_dependent_tree.proofs.SeeksOpened.{seeks_Plain, seeks_Grouped, seeks_Distinct, seeks_Set}
+use Rattle.plan_dependent_tree.proofs.SeeksOpened.{seeks_Plain, seeks_Grouped, seeks_Distinct}
+use Rattle.plan_dependent_tree.proofs.SeeksOpened.{seeks_Set}
 use Rattle.plan_dependent_tree.proofs.TypedParts.{PlainTyped, plain_typed, GroupedTyped}
 use Rattle.plan_dependent_tree.proofs.TypedParts.{grouped_typed, SetTyped, set_typed}
 use Rattle.plan_dependent_tree.proofs.Within.{query_within}
@@ -252,7 +255,8 @@ module _ (outer : List OuterColumn) (c : BoundExpr) (keys : List ℕ) (as' : Lis
         (any_seeks (map seeks_of_expr es) (suc level) place) e)))
 
 pub grouped_width : (f : BoundSource) (c : BoundExpr) (keys : List ℕ) (as' : List BoundAggregate)
-    (h : BoundExpr) (exprs : List Expr) {q : BoundBlock} {es list : List BoundExpr} {w : ℕ} → q ≡ block.Grouped f c keys as' h es → list ≡ es → length exprs ≡ length list
+    (h : BoundExpr) (exprs : List Expr) {q : BoundBlock} {es list : List BoundExpr} {w : ℕ}
+    → q ≡ block.Grouped f c keys as' h es → list ≡ es → length exprs ≡ length list
     → w ≡ length exprs → IsWidthOf (block_kinds q) w
 grouped_width f c keys as' h exprs {q} {es} {list} {w} is same count wide = record {
   is = λ around kinds e.

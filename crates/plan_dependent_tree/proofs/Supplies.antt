@@ -1,6 +1,7 @@
 -- The parts of a well-typed part of a query are supplied where it is.
 use Rattle.std.proofs.Common.{◌≡◌, ℕ, zero, suc, ◌-◌, ◌<◌, List, [], ◌∷◌, Bool, true, false}
-use Rattle.std.proofs.Common.{◌&&◌, ◌||◌, ◌==◌, map, length, refl, sym, ap, ◌∙◌, subst, arith, get_or}
+use Rattle.std.proofs.Common.{◌&&◌, ◌||◌, ◌==◌, map, length, refl, sym, ap, ◌∙◌, subst, arith}
+use Rattle.std.proofs.Common.{get_or}
 use Rattle.std.specs.Prelude.{Option, Some, slice_get, slice_index_or}
 use Rattle.std.specs.List.{All}
 use Rattle.std.proofs.lemmas.Bool.Decides.{Decides-eqb}
@@ -29,7 +30,8 @@ use Rattle.plan_dependent_tree.specs.Supplied.{SubqueryIsSupplied, InputIsSuppli
 use Rattle.plan_dependent_tree.specs.Supplied.{InputsAreSupplied, ExprIsSupplied, ListIsSupplied}
 use Rattle.plan_dependent_tree.specs.Supplied.{AggregateIsSupplied, AggregatesAreSupplied, IsSeen}
 use Rattle.plan_dependent_tree.specs.Supplied.{AreSeen}
-use Rattle.plan_dependent_tree.proofs.SeeksOpened.{seeks_Column, seeks_Exists, seeks_Any, seeks_Scalar}
+use Rattle.plan_dependent_tree.proofs.SeeksOpened.{seeks_Column, seeks_Exists, seeks_Any}
+use Rattle.plan_dependent_tree.proofs.SeeksOpened.{seeks_Scalar}
 use Rattle.plan_dependent_tree.proofs.SeeksOpened.{seeks_Of}
 use Rattle.plan_dependent_tree.proofs.SeeksOpened.{seeks_expr}
 use Rattle.plan_dependent_tree.proofs.TypedParts.{There, input_kinds, sort_inputs, exists_typed}

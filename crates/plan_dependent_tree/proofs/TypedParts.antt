@@ -1,11 +1,14 @@
 -- The well-typed parts of a well-typed part of a query.
-use Rattle.std.proofs.Common.{◌≡◌, ℕ, List, [], ◌∷◌, ◌++◌, true, ◌==◌, map, length, refl, sym, ap, ◌∙◌}
+use Rattle.std.proofs.Common.{◌≡◌, ℕ, List, [], ◌∷◌, ◌++◌, true, ◌==◌, map, length, refl, sym, ap}
+use Rattle.std.proofs.Common.{◌∙◌}
 use Rattle.std.specs.Prelude.{Option, Some, None, slice_get, if◌then◌else◌}
 use Rattle.std.proofs.lemmas.Bool.Decides.{Decides-eqb}
 use Rattle.base_set_rows.specs.declared.kind.SetOperation.{SetOperation}
 use Rattle.expr_aggregates.specs.declared.function.AggregateFunction.{AggregateFunction}
-use Rattle.expr_aggregates.specs.declared.function.AggregateFunction.TheVariants.{Count, CountDistinct}
-use Rattle.expr_aggregates.specs.declared.function.AggregateFunction.TheVariants.{Sum, Avg, Min, Max}
+use Rattle.expr_aggregates.specs.declared.function.AggregateFunction.TheVariants.{Count}
+use Rattle.expr_aggregates.specs.declared.function.AggregateFunction.TheVariants.{CountDistinct}
+use Rattle.expr_aggregates.specs.declared.function.AggregateFunction.TheVariants.{Sum, Avg, Min}
+use Rattle.expr_aggregates.specs.declared.function.AggregateFunction.TheVariants.{Max}
 use Rattle.expr_operators.specs.declared.operator.Comparison.{Comparison}
 use Rattle.expr_scalar.specs.declared.expr.Expr.{Expr}
 use Rattle.expr_scalar.specs.declared.kind.Kind.{Kind}
@@ -25,7 +28,8 @@ use Rattle.sql_bound_query.specs.declared.query.SetColumn.{SetColumn}
 use Rattle.sql_bound_query.specs.Typing.{EnvKinds, KindMeaning, KindsMeaning, FromKinds, ExprTyping}
 use Rattle.sql_bound_query.specs.Typing.{where_some}
 use Rattle.sql_bound_query.specs.Typing.{where_true, all_some, kind_of_sort, sort_over, only_kind}
-use Rattle.sql_bound_query.specs.Typing.{is_condition_over, aggregate_sort, joined_kinds, listed_kinds}
+use Rattle.sql_bound_query.specs.Typing.{is_condition_over, aggregate_sort, joined_kinds}
+use Rattle.sql_bound_query.specs.Typing.{listed_kinds}
 use Rattle.sql_bound_query.specs.Typing.{group_kinds, kind_of_aggregate, block_kinds, from_kinds}
 use Rattle.sql_bound_query.specs.Typing.{kind_of_input, typing_of, set_kinds}
 use Rattle.sql_bound_query.proofs.TypingOpened.{kind_Exists, kind_Any, kind_Scalar, kind_Of}

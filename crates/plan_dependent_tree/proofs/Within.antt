@@ -28,17 +28,23 @@ use Rattle.sql_bound_query.specs.Typing.{block_kinds, from_kinds, kind_of_input,
 use Rattle.sql_bound_query.proofs.TypingOpened.{kind_Column, kinds_Lateral, kinds_Distinct}
 use Rattle.sql_bound_query.proofs.Induction.{Withs, parts, induction}
 use Rattle.sql_bound_query.proofs.Keeps.{Found, some_of}
-use Rattle.plan_dependent_tree.specs.Seeks.{Seeks, any_seeks, seeks_of, seeks_of_source, seeks_of_input}
+use Rattle.plan_dependent_tree.specs.Seeks.{Seeks, any_seeks, seeks_of, seeks_of_source}
+use Rattle.plan_dependent_tree.specs.Seeks.{seeks_of_input}
 use Rattle.plan_dependent_tree.specs.Seeks.{seeks_of_expr, seeks_of_aggregate}
-use Rattle.plan_dependent_tree.proofs.SeeksOpened.{seeks_Column, seeks_Exists, seeks_Any, seeks_Scalar}
-use Rattle.plan_dependent_tree.proofs.SeeksOpened.{seeks_CountRows, seeks_Of, seeks_Table, seeks_Derived}
+use Rattle.plan_dependent_tree.proofs.SeeksOpened.{seeks_Column, seeks_Exists, seeks_Any}
+use Rattle.plan_dependent_tree.proofs.SeeksOpened.{seeks_Scalar}
+use Rattle.plan_dependent_tree.proofs.SeeksOpened.{seeks_CountRows, seeks_Of, seeks_Table}
+use Rattle.plan_dependent_tree.proofs.SeeksOpened.{seeks_Derived}
 use Rattle.plan_dependent_tree.proofs.SeeksOpened.{seeks_Lateral, seeks_Cross, seeks_Inner}
 use Rattle.plan_dependent_tree.proofs.SeeksOpened.{seeks_Outer, seeks_Plain}
-use Rattle.plan_dependent_tree.proofs.SeeksOpened.{seeks_Grouped, seeks_Distinct, seeks_Set, seeks_expr}
+use Rattle.plan_dependent_tree.proofs.SeeksOpened.{seeks_Grouped, seeks_Distinct, seeks_Set}
+use Rattle.plan_dependent_tree.proofs.SeeksOpened.{seeks_expr}
 use Rattle.plan_dependent_tree.proofs.TypedParts.{There, input_kinds, sort_inputs, exists_typed}
-use Rattle.plan_dependent_tree.proofs.TypedParts.{scalar_typed, AnyTyped, any_typed, of_typed, CrossTyped}
+use Rattle.plan_dependent_tree.proofs.TypedParts.{scalar_typed, AnyTyped, any_typed, of_typed}
+use Rattle.plan_dependent_tree.proofs.TypedParts.{CrossTyped}
 use Rattle.plan_dependent_tree.proofs.TypedParts.{cross_typed, JoinTyped, inner_typed, OuterTyped}
-use Rattle.plan_dependent_tree.proofs.TypedParts.{outer_typed, PlainTyped, plain_typed, GroupedTyped}
+use Rattle.plan_dependent_tree.proofs.TypedParts.{outer_typed, PlainTyped, plain_typed}
+use Rattle.plan_dependent_tree.proofs.TypedParts.{GroupedTyped}
 use Rattle.plan_dependent_tree.proofs.TypedParts.{grouped_typed, SetTyped, set_typed}
 
 -- what is read is there in rows of these kinds

@@ -4,7 +4,8 @@ use Rattle.std.specs.List.{list_any}
 use Rattle.sql_bound_query.specs.declared.query.BoundAggregate.{BoundAggregate}
 use Rattle.sql_bound_query.specs.declared.query.BoundAggregate.TheFolds.{fold-BoundAggregate}
 use Rattle.sql_bound_query.specs.declared.query.BoundAggregate.TheFolds.{fold-BoundBlock}
-use Rattle.sql_bound_query.specs.declared.query.BoundAggregate.TheFolds.{fold-BoundSource, fold-Input}
+use Rattle.sql_bound_query.specs.declared.query.BoundAggregate.TheFolds.{fold-BoundSource}
+use Rattle.sql_bound_query.specs.declared.query.BoundAggregate.TheFolds.{fold-Input}
 use Rattle.sql_bound_query.specs.declared.query.BoundAggregate.TheFolds.{fold-BoundExpr}
 use Rattle.sql_bound_query.specs.declared.query.BoundAggregate.TheOpen as node
 use Rattle.sql_bound_query.specs.declared.query.BoundBlock.{BoundBlock}

@@ -13,8 +13,9 @@ ghost use Rattle.plan_dependent_tree.specs.Growth.{AggregateAt, AggregatesAt, Sa
 ghost use Rattle.plan_dependent_tree.specs.Growth.{SameFunctions};
 ghost use Rattle.plan_dependent_tree.specs.Supplied.{AggregateIsSupplied, AggregatesAreSupplied};
 ghost use Rattle.plan_dependent_tree.specs.Supplied.{ExprIsSupplied, InputIsSupplied, IsWidthOf};
-ghost use Rattle.plan_dependent_tree.specs.Supplied.{InputsAreSupplied, ListIsSupplied, QueryIsSupplied};
-ghost use Rattle.plan_dependent_tree.specs.Supplied.{FromIsSupplied, SourceIsSupplied, IsSourceWidth};
+ghost use Rattle.plan_dependent_tree.specs.Supplied.{InputsAreSupplied, ListIsSupplied};
+ghost use Rattle.plan_dependent_tree.specs.Supplied.{QueryIsSupplied, FromIsSupplied};
+ghost use Rattle.plan_dependent_tree.specs.Supplied.{SourceIsSupplied, IsSourceWidth};
 ghost use Rattle.plan_dependent_tree.specs.Supplied.{SubqueryIsSupplied};
 
 use crate::kept_domain::{KeptDomain, kept_domain};
@@ -36,9 +37,10 @@ use std::alloc::{AllocError, Global};
 
 /// The dependent tree of a query.
 ///
-/// EXISTS, IN and ANY become marks and scalar subqueries single values, attached to the rows of FROM one
-/// after the other; an expression is then read from the flat row of the domain's columns, the row's
-/// own and these. A subquery's domain row has just the columns of the rows around that it reads.
+/// EXISTS, IN and ANY become marks and scalar subqueries single values, attached to the rows of
+/// FROM one after the other; an expression is then read from the flat row of the domain's columns,
+/// the row's own and these. A subquery's domain row has just the columns of the rows around that it
+/// reads.
 pub fn depend(alloc: Global, query: &BoundQuery) -> Result<Boxed<DepTree>, AllocError>
     requires { (kinds : List Kind) × IsWellTyped query.now.block kinds }
     ensures { IfOk result (IsTreeOf query.now.block []) }

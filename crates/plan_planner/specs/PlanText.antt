@@ -4,8 +4,10 @@ use Rattle.std.specs.Prelude.{decimal}
 use Rattle.std.specs.List.{flat_map}
 use Rattle.base_schema.specs.Tables.{table_name}
 use Rattle.plan_algebra.specs.declared.node.Node.{Node}
-use Rattle.plan_algebra.specs.declared.node.Node.TheVariants.{Scan, Domain, Select, Project, Join, Outer}
-use Rattle.plan_algebra.specs.declared.node.Node.TheVariants.{Mark, Single, Group, Fill, Distinct, Set}
+use Rattle.plan_algebra.specs.declared.node.Node.TheVariants.{Scan, Domain, Select, Project, Join}
+use Rattle.plan_algebra.specs.declared.node.Node.TheVariants.{Outer}
+use Rattle.plan_algebra.specs.declared.node.Node.TheVariants.{Mark, Single, Group, Fill, Distinct}
+use Rattle.plan_algebra.specs.declared.node.Node.TheVariants.{Set}
 use Rattle.base_set_rows.specs.declared.kind.ClassKind.TheVariants.{Intersect, Except}
 use Rattle.base_set_rows.specs.declared.kind.SetOperation.{SetOperation}
 use Rattle.base_set_rows.specs.declared.kind.SetOperation.TheVariants.{Union, Classes}

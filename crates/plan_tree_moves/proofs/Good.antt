@@ -1,8 +1,9 @@
 -- The rows of a tree have its width, and stand at True or at a fault.
 use Rattle.std.proofs.Common.{◌≡◌, ℕ, ◌+◌, Bool, List, [], ◌∷◌, ◌++◌, map, refl, sym, ◌∙◌, ap}
-use Rattle.std.proofs.Common.{subst, arith, zero, suc, length}
+use Rattle.std.proofs.Common.{subst, arith, zero, suc, length, ◌==◌, inl, inr}
 use Rattle.std.specs.Prelude.{replicate, min}
 use Rattle.std.specs.List.{flat_map, filter}
+use Rattle.std.proofs.lemmas.Bool.{cases_Bool, eqb-true}
 use Rattle.std.proofs.lemmas.List.{length-append, length-map, length-replicate}
 use Rattle.base_row_laws.specs.Ranked.{Ranked, ranked}
 use Rattle.base_row_laws.specs.Bags.{Each, each_once}

@@ -12,3 +12,5 @@ pub mod BelowLists
 pub mod BelowGroups
 pub mod BelowJoins
 pub mod Conditions
+pub mod RightColumns
+pub mod OuterColumns

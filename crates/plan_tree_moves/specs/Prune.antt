@@ -30,3 +30,14 @@ pub record ConditionMoves (n : ℕ) (kept : List ℕ) (w k : ℕ) (c new : Expr)
   pub says : All (λ c. c < w) kept → (d x y : List Value) → length d ≡ n → length x ≡ w
       → length y ≡ k
       → rank_of new ((d ++ gathered kept x) ++ y) ≡ rank_of c ((d ++ x) ++ y)
+
+-- over a row of `before` columns and these columns alone of a right row the condition c is new
+pub record RightMoves (before : ℕ) (own : List ℕ) (c new : Expr) : Type 0 where
+  pub says : (x y : List Value) → length x ≡ before
+      → rank_of new (x ++ gathered own y) ≡ rank_of c (x ++ y)
+
+-- over a left row of w columns and a right row the condition c is new over these columns of the
+-- left one and those of the right one
+pub record BothMove (n : ℕ) (kept : List ℕ) (w : ℕ) (own : List ℕ) (c new : Expr) : Type 0 where
+  pub says : All (λ c. c < w) kept → (d x y : List Value) → length d ≡ n → length x ≡ w
+      → rank_of new ((d ++ gathered kept x) ++ gathered own y) ≡ rank_of c ((d ++ x) ++ y)

@@ -11,7 +11,9 @@ mod narrow;
 mod nodes;
 mod prune;
 mod regroup;
+mod right_columns;
 mod sink;
+mod slim_joins;
 
 pub use domain::{put_at, side_columns};
 pub use joined::{join_first, reads_own, selected};

@@ -1,4 +1,6 @@
+pub mod Meant
 pub mod Opened
+pub mod SizesAt
 pub mod Sized
 pub mod Smaller
 pub mod LawProofs

@@ -22,15 +22,15 @@ use Rattle.sql_binder.specs.Binding.{clause_meaning, meaning, from_item_meaning}
 use Rattle.sql_binder.specs.Binding.{selected_meaning, arm_meaning, block_meaning, factor_meaning}
 use Rattle.sql_binder.specs.Binding.{item_meaning, join_meaning, joined_meaning, term_meaning}
 use Rattle.sql_binder.specs.Binding.{select_meaning, set_part_meaning}
-use Rattle.sql_binder.proofs.Opened.{clause_meaning_at, clause_meaning_is, meaning_at, meaning_is}
-use Rattle.sql_binder.proofs.Opened.{from_item_meaning_at, from_item_meaning_is}
-use Rattle.sql_binder.proofs.Opened.{selected_meaning_at, selected_meaning_is, arm_meaning_at}
-use Rattle.sql_binder.proofs.Opened.{arm_meaning_is, block_meaning_at, block_meaning_is}
-use Rattle.sql_binder.proofs.Opened.{factor_meaning_at, factor_meaning_is, item_meaning_at}
-use Rattle.sql_binder.proofs.Opened.{item_meaning_is, join_meaning_at, join_meaning_is}
-use Rattle.sql_binder.proofs.Opened.{joined_meaning_at, joined_meaning_is, term_meaning_at}
-use Rattle.sql_binder.proofs.Opened.{term_meaning_is, select_meaning_at, select_meaning_is}
-use Rattle.sql_binder.proofs.Opened.{set_part_meaning_at, set_part_meaning_is}
+use Rattle.sql_binder.proofs.Meant.{clause_meaning_at, clause_meaning_is, meaning_at, meaning_is}
+use Rattle.sql_binder.proofs.Meant.{from_item_meaning_at, from_item_meaning_is}
+use Rattle.sql_binder.proofs.Meant.{selected_meaning_at, selected_meaning_is, arm_meaning_at}
+use Rattle.sql_binder.proofs.Meant.{arm_meaning_is, block_meaning_at, block_meaning_is}
+use Rattle.sql_binder.proofs.Meant.{factor_meaning_at, factor_meaning_is, item_meaning_at}
+use Rattle.sql_binder.proofs.Meant.{item_meaning_is, join_meaning_at, join_meaning_is}
+use Rattle.sql_binder.proofs.Meant.{joined_meaning_at, joined_meaning_is, term_meaning_at}
+use Rattle.sql_binder.proofs.Meant.{term_meaning_is, select_meaning_at, select_meaning_is}
+use Rattle.sql_binder.proofs.Meant.{set_part_meaning_at, set_part_meaning_is}
 use Rattle.sql_binder_laws.proofs.TypedNodes.{MeaningIs, ChainMeaningIs, ArmMeaningIs}
 use Rattle.sql_binder_laws.proofs.TypedQueries.{BlockMeaningIs}
 use Rattle.sql_binder_laws.proofs.TypedItems.{FromItemMeaningIs}

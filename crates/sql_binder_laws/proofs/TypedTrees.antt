@@ -55,15 +55,15 @@ use Rattle.sql_binder_steps.specs.Steps.{Name, lift}
 use Rattle.sql_binder_steps.specs.Values.{adding_of, multiplying_of, date_literal, dated_by}
 use Rattle.sql_binder_steps.specs.Values.{shifted}
 use Rattle.sql_binder_steps.specs.Values.{operated}
-use Rattle.sql_binder.proofs.Opened.{clause_meaning_at, meaning_at}
-use Rattle.sql_binder.proofs.Opened.{from_item_meaning_at}
-use Rattle.sql_binder.proofs.Opened.{selected_meaning_at, arm_meaning_at}
-use Rattle.sql_binder.proofs.Opened.{block_meaning_at}
-use Rattle.sql_binder.proofs.Opened.{factor_meaning_at, item_meaning_at}
-use Rattle.sql_binder.proofs.Opened.{join_meaning_at}
-use Rattle.sql_binder.proofs.Opened.{joined_meaning_at, term_meaning_at}
-use Rattle.sql_binder.proofs.Opened.{select_meaning_at}
-use Rattle.sql_binder.proofs.Opened.{set_part_meaning_at}
+use Rattle.sql_binder.proofs.Meant.{clause_meaning_at, meaning_at}
+use Rattle.sql_binder.proofs.Meant.{from_item_meaning_at}
+use Rattle.sql_binder.proofs.Meant.{selected_meaning_at, arm_meaning_at}
+use Rattle.sql_binder.proofs.Meant.{block_meaning_at}
+use Rattle.sql_binder.proofs.Meant.{factor_meaning_at, item_meaning_at}
+use Rattle.sql_binder.proofs.Meant.{join_meaning_at}
+use Rattle.sql_binder.proofs.Meant.{joined_meaning_at, term_meaning_at}
+use Rattle.sql_binder.proofs.Meant.{select_meaning_at}
+use Rattle.sql_binder.proofs.Meant.{set_part_meaning_at}
 use Rattle.sql_binder_laws.specs.WellTyped.{TableIsWellTyped, ViewIsWellTyped, BoundIsWellTyped}
 use Rattle.sql_binder_laws.specs.WellTyped.{header_kinds, ViewsAreTyped}
 use Rattle.sql_binder_laws.proofs.TypedOperands.{went, ok_is, number_typed, text_typed, date_typed}

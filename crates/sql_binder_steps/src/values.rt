@@ -63,7 +63,7 @@ pub fn negative(alloc: Global, a: Typed) -> Result<Typed, BindFault>
     Ok(typed(alloc, Expr::Negative(a.value), a.kind)?)
 }
 
-/// The comparison that the operator of a script means.
+/// The comparison that a word of the syntax names.
 pub fn comparison_of(c: sql_ast::Comparison) -> Comparison
     ensures { result ≡ spec.comparison_of c }
 {

@@ -4,6 +4,7 @@ pub mod Induction
 pub mod KeptRows
 pub mod Keeps
 pub mod StandingQueries
+pub mod KeptParts
 pub mod KeptQueries
 pub mod ExampleProofs
 pub mod KeepsLaw

@@ -29,7 +29,8 @@ use Rattle.sql_parser.specs.Grammar.{BlockLine, QueryLine, SelectLine, JoinedLin
 use Rattle.sql_parser_steps.specs.ExpressionReadings.{read_unary_line, read_part_line}
 use Rattle.sql_parser_steps.specs.Readings.{read_query_line, unary_at, part_at, query_at, inner_unary, inner_part, inner_query, ended_at}
 use Rattle.sql_parser.proofs.KindLists.{leaf_first, unary_first, part_first, on_unary, on_part, on_query, alias_words, statement_words}
-use Rattle.sql_parser.proofs.LineLaws.{law-TableLine, law-Leaf, law-UnaryLine, law-PartLine, law-QueryLine, law-EndedLine}
+use Rattle.sql_parser.proofs.WordLaws.{law-TableLine, law-Leaf}
+use Rattle.sql_parser.proofs.LineLaws.{law-UnaryLine, law-PartLine, law-QueryLine, law-EndedLine}
 use Rattle.sql_parser.proofs.LiftLaws.{lift-UnaryLine, lift-PartLine, lift-QueryLine, lift-EndedLine}
 
 -- a text may nest deeper than there is room for

@@ -1,5 +1,6 @@
 pub mod Samples
 pub mod KindLists
+pub mod WordLaws
 pub mod LineLaws
 pub mod LiftLaws
 pub mod Levels

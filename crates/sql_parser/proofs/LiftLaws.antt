@@ -30,7 +30,8 @@ use Rattle.sql_parser_steps.specs.Kinds.{kinds}
 use Rattle.sql_parser_steps.specs.Values.{text_of, count_of, number, text, is_count, is_digits, first, second, pair, cons, constant, after_word, after_point, column, negative, negation, factor, term, product, sum, all_of, any_of, arm, case_of, date, interval, extract, substring, distinct_count, between, like, in_list, in_query, is_null, is_not_null, denied, tested, item, distinct, plain_selection, derived, lateral, join, joined, condition, filters, block, named_key, ordered, create_view, text_value, number_value, with_query, under_with, set_part, combined}
 use Rattle.sql_parser.specs.Expressions.{NameLine, Literal, Number, Digits, SpanWord, ColumnTail, ColumnLine, MultiplyWord, AddWord, Product, Sum, Conjunction, Whole, ExprList, ArmLine, Arms, ElseTail, CaseBody, CaseLine, DateText, DateLine, Precision, IntervalLine, ExtractInside, ExtractLine, Places, SubstringInside, SubstringLine, CountInside, CountLine, AggregateWord, AggregateLine, Call, Leaf, Parens, Subquery, ExistsLine, Operand, UnaryLine, ComparisonWord, QuantifierWord, ComparedQuery, CompareLine, NullLine, BetweenLine, LikeLine, InLine, DenyTest, TestTail, Predicate, PartLine}
 use Rattle.sql_parser.specs.Grammar.{Alias, ItemLine, Selection, SelectLine, Names, ColumnNames, TableLine, DerivedAlias, FromQueryLine, FromItemLine, JoinWords, JoinedItem, JoinedLine, FromLine, WhereTail, GroupTail, HavingTail, FiltersTail, BlockLine, AllWord, IntersectWords, SetWords, TermLine, QueryLine, Direction, KeyLine, OrderTail, RowsOnly, LimitTail, VersionTail, OrderedLine, WithQueryLine, WithLine, WithOrderedLine, CreateLine, DropLine, RefreshLine, ValueLine, RunInside, RunLine, StatementLine, EndedLine}
-use Rattle.sql_parser.proofs.LineLaws.{law-NameLine, law-ColumnLine, law-ValueLine, law-Product, law-Conjunction, law-Whole, law-ArmLine, law-ItemLine, law-JoinedItem, law-JoinedLine, law-BlockLine, law-TermLine, law-KeyLine, law-WithQueryLine}
+use Rattle.sql_parser.proofs.WordLaws.{law-NameLine, law-ColumnLine, law-ValueLine, law-KeyLine}
+use Rattle.sql_parser.proofs.LineLaws.{law-Product, law-Conjunction, law-Whole, law-ArmLine, law-ItemLine, law-JoinedItem, law-JoinedLine, law-BlockLine, law-TermLine, law-WithQueryLine}
 use Rattle.sql_parser.proofs.KindLists.{unary_first, part_first, on_unary, on_part, on_query}
 
 -- of two things that stand inside a level
@@ -301,6 +302,13 @@ module _ {B C : Part Token Block} (n many : ℕ) (le : n ≤ many) (wide room : 
   lift-FromItemLine = Lifts-or n (Lifts-map n derived lift-FromQueryLine)
       (Lifts-or n (Lifts-then n lateral (Lifts-one n (is k.Lateral)) lift-FromQueryLine) (lift-TableLine n))
 
+-- ---- what holds sums, and queries one level further in
+module _ {P S : Type 0} {U V : Part Token Expr} {u : Reading Token Expr} {B C : Part Token Block} (n many : ℕ) (le : n ≤ many) (wide room : ℕ)
+    (law_unary : Line kinds P S unary_first on_unary U u) (lift_unary : Lifts n U V) (lift_query : Below n B C) where
+  pub lift-CompareLine : Lifts n (CompareLine wide room U B) (CompareLine many n V C)
+  lift-CompareLine = Lifts-then n t.Compare (lift-ComparisonWord n)
+      (Lifts-or n (lift-ComparedQuery n many le wide room lift_query) (Lifts-map n compared.Sum (lift-Sum n many le wide law_unary lift_unary)))
+
 -- ---- what holds both one level further in
 module _ {S : Type 0} {N M : Part Token Expr} {w : Reading Token Expr} {B C : Part Token Block}
     (n many : ℕ) (le : n ≤ many) (wide room : ℕ) (law_part : Line kinds (Deeper room) S part_first on_part N w) (lift_part : Below n N M) (lift_query : Below n B C) where
@@ -327,16 +335,12 @@ module _ {S : Type 0} {U V : Part Token Expr} {N M : Part Token Expr} {w : Readi
 module _ {P S : Type 0} {U V : Part Token Expr} {u : Reading Token Expr} {N M : Part Token Expr} {w : Reading Token Expr} {B C : Part Token Block}
     (n many : ℕ) (le : n ≤ many) (wide room : ℕ) (law_unary : Line kinds P S unary_first on_unary U u) (law_part : Line kinds (Deeper room) S part_first on_part N w)
     (lift_unary : Lifts n U V) (lift_part : Below n N M) (lift_query : Below n B C) where
-  pub lift-CompareLine : Lifts n (CompareLine wide room U B) (CompareLine many n V C)
-  lift-CompareLine = Lifts-then n t.Compare (lift-ComparisonWord n)
-      (Lifts-or n (lift-ComparedQuery n many le wide room lift_query) (Lifts-map n compared.Sum (lift-Sum n many le wide law_unary lift_unary)))
-
   pub lift-DenyTest : Lifts n (DenyTest wide room U N B) (DenyTest many n V M C)
   lift-DenyTest = Lifts-or n (lift-BetweenLine n many le wide law_unary lift_unary)
       (Lifts-or n (lift-LikeLine n) (lift-InLine n many le wide room law_part lift_part lift_query))
 
   pub lift-TestTail : Lifts n (TestTail wide room U N B) (TestTail many n V M C)
-  lift-TestTail = Lifts-or n lift-CompareLine
+  lift-TestTail = Lifts-or n (lift-CompareLine n many le wide room law_unary lift_unary lift_query)
       (Lifts-or n (lift-NullLine n)
       (Lifts-or n (Lifts-then n denied (Lifts-one n (is k.Not)) lift-DenyTest)
       (Lifts-or n lift-DenyTest (Lifts-empty n t.Absent))))

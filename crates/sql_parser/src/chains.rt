@@ -69,8 +69,8 @@ impl<
             (P.post self.now.part) }
         requires query { Below (query_at 1023) self.now.room (Q.pre self.now.query)
             (Q.post self.now.query) }
-        ensures { Reads (links (among kinds (k.Union ∷ k.Except ∷ [])) readings.read_set_words values.set_part
-            (readings.read_term 1023 self.now.room (part_at 1023 self.now.room)
+        ensures { Reads (links (among kinds (k.Union ∷ k.Except ∷ [])) readings.read_set_words
+            values.set_part (readings.read_term 1023 self.now.room (part_at 1023 self.now.room)
             (inner_query 1023 self.now.room)) 1023 parser.old) result parser.new }
     {
         let mut found = Items::new(self.alloc);

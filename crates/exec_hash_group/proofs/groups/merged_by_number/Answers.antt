@@ -1,4 +1,4 @@
-use Rattle.std.proofs.Common.{◌≡◌, ◌<◌, ◌^◌, [], ◌∷◌, ◌++◌, ℕ, List, refl, sym, ap, subst, ◌∙◌, append_assoc, append-nil, arith, length, get_or, Some, map}
+use Rattle.std.proofs.Common.{◌≡◌, ◌<◌, [], ◌∷◌, ◌++◌, refl, sym, ap, subst, ◌∙◌, append_assoc, append-nil, arith, length, get_or, Some, map}
 use Rattle.std.specs.Prelude.{slice_get}
 use Rattle.std.specs.Vec.Iter.{into_iter_items}
 use Rattle.std.proofs.lemmas.List.{nil_from_length, length-append}
@@ -6,7 +6,6 @@ use Rattle.std.proofs.lemmas.Option.{slice_get_within, slice_get-get_or}
 use Rattle.base_columns.specs.Lists.{one_list}
 use Rattle.exec_hash_group.specs.ByNumber.{AreValues}
 use Rattle.exec_hash_group.specs.Regrouping.{lists_by_number}
-use Rattle.exec_hash_group.specs.States.{HaveTaken}
 use Rattle.exec_hash_group.proofs.Merging.{Merged, get_mid, merged_none, merged_more, merged_room, merged_all}
 use Rattle.exec_hash_group.proofs.groups.merged_by_number.Goals as goal
 

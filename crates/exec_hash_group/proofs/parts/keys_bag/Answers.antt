@@ -1,4 +1,4 @@
-use Rattle.std.proofs.Common.{◌≡◌, ◌++◌, ap, sym, ◌∙◌, arith, take}
+use Rattle.std.proofs.Common.{◌++◌, ap, sym, ◌∙◌, arith, take}
 use Rattle.std.proofs.lemmas.List.{take_all}
 use Rattle.exec_hash_group.specs.PartGroups.{part_keys}
 use Rattle.exec_hash_group.proofs.PartLists.{keys_more}

@@ -1,4 +1,4 @@
-use Rattle.std.proofs.Common.{◌≡◌, ◌<◌, ◌^◌, ℕ, List, ap, sym, subst, ◌∙◌, arith, length}
+use Rattle.std.proofs.Common.{◌<◌, ◌^◌, ℕ, List, ap, sym, subst, ◌∙◌, arith, length}
 use Rattle.base_columns.specs.Lists.{AreBelow}
 use Rattle.exec_hash_group.specs.Standings.{ranks, row_ranks, least_of, AreOfNumbers}
 use Rattle.exec_hash_group.proofs.GroupRows.{groups_below}

@@ -1,4 +1,4 @@
-use Rattle.std.proofs.Common.{◌≡◌, ◌++◌, ap, sym, ◌∙◌, arith, take}
+use Rattle.std.proofs.Common.{◌++◌, ap, sym, ◌∙◌, arith, take}
 use Rattle.std.proofs.lemmas.List.{take_all}
 use Rattle.base_columns.specs.Bags.{bag_rows}
 use Rattle.base_columns.proofs.BagLists.{bag_rows-more}

@@ -1,5 +1,6 @@
 use Rattle.std.proofs.Common.{◌+◌, map, take}
-use Rattle.plan_dependent_tree.specs.Seeks.{any_seeks, seeks_of_aggregate, seeks_of_expr, seeks_of_input}
+use Rattle.plan_dependent_tree.specs.Seeks.{any_seeks, seeks_of_aggregate, seeks_of_expr}
+use Rattle.plan_dependent_tree.specs.Seeks.{seeks_of_input}
 use Rattle.plan_dependent_tree.specs.Supplied.{Finds}
 use Rattle.plan_dependent_tree.proofs.outer.+outer.Given as goal
 

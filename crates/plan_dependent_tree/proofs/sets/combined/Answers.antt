@@ -14,10 +14,11 @@ returns c =
       rights = c.in_ok-exprs-2.exprs;
       left_reads = subst (λ ps. ReadsOf ps (left_columns columns) c.in_ok-exprs.exprs)
           (c.as_slice.ensures ∙ c.in_ok-places.ensures
-          ∙ ap (λ ps. ps ++ columns_from start c.args.left.width) c.new.ensures) c.in_ok-exprs.ensures;
+          ∙ ap (λ ps. ps ++ columns_from start c.args.left.width) c.new.ensures)
+          c.in_ok-exprs.ensures;
       right_reads = subst (λ ps. ReadsOf ps (right_columns columns) c.in_ok-exprs-2.exprs)
           (c.as_slice-2.ensures ∙ c.in_ok-places-2.ensures
-          ∙ ap (λ ps. ps ++ columns_from start c.args.right.width) c.new-2.ensures)
+          ∙ ap (λ ps. ps ++ columns_from start c.args.right.width) c.new-3.ensures)
           c.in_ok-exprs-2.ensures;
       is = rw (c.in_ok-tree.ensures, c.in_ok-left.ensures, c.in_ok-right.ensures) refl;
       count = count;

@@ -3,7 +3,8 @@ use Rattle.plan_dependent_tree.proofs.SetTrees.{reads_none, reads_more}
 use Rattle.plan_dependent_tree.proofs.sets.left_list.Goals as goal
 
 pub loop-column-init : goal.loop-column-init
-loop-column-init c = rw c.new-exprs.ensures (reads_none c.args.places.now (λ (k : SetColumn). k.left))
+loop-column-init c =
+    rw c.new-exprs.ensures (reads_none c.args.places.now (λ (k : SetColumn). k.left))
 
 pub loop-column-preserved : goal.loop-column-preserved
 loop-column-preserved c =

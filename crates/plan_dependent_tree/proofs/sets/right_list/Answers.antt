@@ -3,7 +3,8 @@ use Rattle.plan_dependent_tree.proofs.SetTrees.{reads_none, reads_more}
 use Rattle.plan_dependent_tree.proofs.sets.right_list.Goals as goal
 
 pub loop-column-init : goal.loop-column-init
-loop-column-init c = rw c.new-exprs.ensures (reads_none c.args.places.now (λ (k : SetColumn). k.right))
+loop-column-init c =
+    rw c.new-exprs.ensures (reads_none c.args.places.now (λ (k : SetColumn). k.right))
 
 pub loop-column-preserved : goal.loop-column-preserved
 loop-column-preserved c =

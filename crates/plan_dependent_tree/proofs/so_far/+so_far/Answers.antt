@@ -1,4 +1,5 @@
-use Rattle.plan_dependent_tree.proofs.LateralColumns.{table_gathers, derived_gathers, lateral_gathers}
+use Rattle.plan_dependent_tree.proofs.LateralColumns.{table_gathers, derived_gathers}
+use Rattle.plan_dependent_tree.proofs.LateralColumns.{lateral_gathers}
 use Rattle.plan_dependent_tree.proofs.LateralColumns.{cross_gathers, inner_gathers, outer_gathers}
 use Rattle.plan_dependent_tree.proofs.so_far.+so_far.Goals as goal
 

@@ -1,7 +1,8 @@
 use Rattle.std.proofs.Common.{arith, subst}
 use Rattle.std.proofs.lemmas.List.{take_all}
 use Rattle.plan_dependent_tree.specs.FromGrowth.{AreRightPlaces}
-use Rattle.plan_dependent_tree.proofs.RightPlaces.{AreOuterPlaces, outer_none, outer_put, right_none}
+use Rattle.plan_dependent_tree.proofs.RightPlaces.{AreOuterPlaces, outer_none, outer_put}
+use Rattle.plan_dependent_tree.proofs.RightPlaces.{right_none}
 use Rattle.plan_dependent_tree.proofs.RightPlaces.{right_put, place_at}
 use Rattle.plan_dependent_tree.proofs.Supplies.{has_at}
 use Rattle.plan_dependent_tree.proofs.source_sight.right_places.Goals as goal

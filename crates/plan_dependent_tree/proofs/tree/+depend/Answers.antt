@@ -6,47 +6,39 @@ use Rattle.sql_bound_query.specs.Reads.{joined_tables}
 use Rattle.plan_dependent_tree.specs.Growth.{Attaches, InputsAt, ListAt, AggregatesAt}
 use Rattle.plan_dependent_tree.proofs.PlaceLists.{length_put}
 use Rattle.plan_dependent_tree.specs.FromGrowth.{IsSourceTree}
-use Rattle.plan_dependent_tree.specs.Growth.{IsPlain}
 use Rattle.plan_dependent_tree.proofs.InputTrees.{inputs_none, inputs_more, list_none, list_more}
 use Rattle.plan_dependent_tree.proofs.InputTrees.{aggregates_none, aggregates_more, functions_none}
-use Rattle.plan_dependent_tree.proofs.InputTrees.{functions_more, count_arm, of_arm, same_count, same_of}
+use Rattle.plan_dependent_tree.proofs.InputTrees.{functions_more, count_arm, of_arm, same_count}
+use Rattle.plan_dependent_tree.proofs.InputTrees.{same_of}
 use Rattle.plan_dependent_tree.proofs.SeenArms.{column_seen, exists_seen, scalar_seen, any_seen}
-use Rattle.plan_dependent_tree.proofs.SeenArms.{expr_seen, subquery_seen, plain_seen, grouped_seen}
-use Rattle.plan_dependent_tree.proofs.SeenArms.{distinct_seen, set_seen}
-use Rattle.plan_dependent_tree.proofs.SeenSources.{table_seen, derived_seen, lateral_seen, cross_seen}
-use Rattle.plan_dependent_tree.proofs.SeenSources.{inner_seen, kept_seen, outer_read, source_as}
-use Rattle.plan_dependent_tree.proofs.SeenSources.{plain_outer_seen, kept_outer_seen, dependent_seen}
+use Rattle.plan_dependent_tree.proofs.SeenArms.{expr_seen, subquery_seen}
+use Rattle.plan_dependent_tree.proofs.SeenSources.{kept_seen}
+use Rattle.plan_dependent_tree.proofs.SeenSources.{dependent_seen}
 use Rattle.plan_dependent_tree.proofs.SeenSources.{keeps_right_seen}
 use Rattle.plan_dependent_tree.proofs.FromTrees.{from_arm, right_shared, right_closed}
 use Rattle.plan_dependent_tree.proofs.SuppliedClauses.{plain_width, grouped_width, distinct_width}
-use Rattle.plan_dependent_tree.proofs.SuppliedClauses.{plain_from_supplied, plain_where_supplied}
-use Rattle.plan_dependent_tree.proofs.SuppliedClauses.{plain_list_supplied, grouped_from_supplied}
-use Rattle.plan_dependent_tree.proofs.SuppliedClauses.{grouped_where_supplied, grouped_keys_within}
-use Rattle.plan_dependent_tree.proofs.SuppliedClauses.{grouped_aggregates_supplied}
-use Rattle.plan_dependent_tree.proofs.SuppliedClauses.{grouped_having_supplied, grouped_list_supplied}
-use Rattle.plan_dependent_tree.proofs.SuppliedClauses.{distinct_supplied, set_left_supplied}
-use Rattle.plan_dependent_tree.proofs.SuppliedClauses.{set_right_supplied, set_width}
-use Rattle.plan_dependent_tree.proofs.SuppliedSources.{from_supplied, from_width, derived_supplied}
-use Rattle.plan_dependent_tree.proofs.SuppliedSources.{lateral_supplied, cross_left_supplied}
-use Rattle.plan_dependent_tree.proofs.SuppliedSources.{cross_right_supplied, table_width}
+use Rattle.plan_dependent_tree.proofs.SuppliedClauses.{set_width}
+use Rattle.plan_dependent_tree.proofs.SuppliedSources.{from_supplied, from_width}
+use Rattle.plan_dependent_tree.proofs.SuppliedSources.{table_width}
 use Rattle.plan_dependent_tree.proofs.SuppliedSources.{derived_width, lateral_width, cross_width}
-use Rattle.plan_dependent_tree.proofs.SuppliedJoins.{inner_left_supplied, inner_right_supplied}
-use Rattle.plan_dependent_tree.proofs.SuppliedJoins.{inner_on_supplied, inner_width}
-use Rattle.plan_dependent_tree.proofs.SuppliedJoins.{outer_left_supplied, outer_right_supplied}
-use Rattle.plan_dependent_tree.proofs.SuppliedJoins.{outer_on_supplied, outer_nulls, outer_width}
-use Rattle.plan_dependent_tree.proofs.SuppliedJoins.{outer_join_supplied}
+use Rattle.plan_dependent_tree.proofs.SuppliedJoins.{inner_width}
+use Rattle.plan_dependent_tree.proofs.SuppliedJoins.{outer_width}
 use Rattle.plan_dependent_tree.proofs.SuppliedRights.{dependent_supplied, dependent_there}
 use Rattle.plan_dependent_tree.proofs.SuppliedRights.{dependent_stands, shared_supplied}
-use Rattle.plan_dependent_tree.proofs.SuppliedRights.{closed_supplied, kept_supplied}
-use Rattle.plan_dependent_tree.proofs.SuppliedRights.{kept_on_supplied, kept_there, kept_stands}
-use Rattle.plan_dependent_tree.proofs.SuppliedRights.{kept_nulls, no_items, read_width}
-use Rattle.plan_dependent_tree.proofs.SuppliedRights.{read_supplied, resupplied}
+use Rattle.plan_dependent_tree.proofs.SuppliedRights.{closed_supplied}
+use Rattle.plan_dependent_tree.proofs.SuppliedRights.{no_items}
+use Rattle.plan_dependent_tree.proofs.SuppliedRights.{resupplied}
 use Rattle.plan_dependent_tree.proofs.Supplies.{column_is_seen, exists_supplied, scalar_supplied}
 use Rattle.plan_dependent_tree.proofs.Supplies.{any_supplied, left_supplied, argument_supplied}
 use Rattle.plan_dependent_tree.proofs.Supplies.{found_seen, found_supplied, item_supplied}
 use Rattle.plan_dependent_tree.specs.Supplied.{AggregateIsSupplied, ExprIsSupplied, InputIsSupplied}
 use Rattle.plan_dependent_tree.specs.Supplied.{InputsAreSupplied}
+use Rattle.plan_dependent_tree.proofs.tree.+depend.Answers.Blocks as blocks
+use Rattle.plan_dependent_tree.proofs.tree.+depend.Answers.Sources as sources
 use Rattle.plan_dependent_tree.proofs.tree.+depend.Goals as goal
+
+mod Blocks
+mod Sources
 
 pub attach_aggregate-returns-in-CountRows-clause-attaches :
     goal.attach_aggregate-returns-in-CountRows-clause-attaches
@@ -193,85 +185,21 @@ attach_aggregates-loop-a-preserved t c =
           c.in_ok-push.ensures.ok,
     )
 
-pub block-returns-in_ok-rows-in-Plain-2-clause-tree : goal.block-returns-in_ok-rows-in-Plain-2-clause-tree
-block-returns-in_ok-rows-in-Plain-2-clause-tree t c =
-    λ p.
-    let from = plain_from_supplied c.args.outer.now c.in-Plain.condition c.in-Plain.list p c.in-Plain.is c.get.ensures in
-    let wide = c.in_ok-rows-in-Plain.ensures.width in
-    let where_clause = plain_where_supplied c.args.outer.now c.in-Plain.condition c.in-Plain.list p c.in-Plain.is c.get.ensures wide in
-    let list = plain_list_supplied c.args.outer.now c.in-Plain.condition c.in-Plain.list p c.in-Plain.is c.get.ensures wide c.as_slice.ensures in
-    plain_seen c.args.outer.now c.args.start c.in-Plain.condition
-    c.in_ok-condition-in-Plain.condition.expr c.in_ok-listed-in-Plain.listed.exprs c.in-Plain.is
-    c.get.ensures (c.in_ok-rows-in-Plain.ensures.tree from) c.in_ok-grown-in-Plain.ensures
-    (c.in_ok-condition-in-Plain.ensures where_clause)
-    c.in_ok-grown-in-Plain-2.ensures c.as_slice.ensures
-    (c.in_ok-listed-in-Plain.ensures.attaches list)
-    c.in_ok-listed-in-Plain.ensures.count c.in_ok-rows-in-Plain-2.ensures
+pub block-returns-in_ok-rows-in-Plain-2-clause-tree :
+    goal.block-returns-in_ok-rows-in-Plain-2-clause-tree
+block-returns-in_ok-rows-in-Plain-2-clause-tree = blocks.plain
 
-pub block-returns-in_ok-rows-in-Grouped-2-clause-tree : goal.block-returns-in_ok-rows-in-Grouped-2-clause-tree
-block-returns-in_ok-rows-in-Grouped-2-clause-tree t c =
-    λ p.
-    let summed = c.in_ok-summed-in-Grouped.ensures in
-    let summed_aggregates = c.in_ok-summed-in-Grouped.summed.aggregates in
-    let wide = c.in_ok-rows-in-Grouped.ensures.width in
-    let from = grouped_from_supplied c.args.outer.now c.in-Grouped.condition c.in-Grouped.keys
-    c.in-Grouped.aggregates c.in-Grouped.having c.in-Grouped.list p c.in-Grouped.is
-    c.get-in-Grouped.ensures in
-    let where_clause = grouped_where_supplied c.args.outer.now c.in-Grouped.condition c.in-Grouped.keys
-    c.in-Grouped.aggregates c.in-Grouped.having c.in-Grouped.list p c.in-Grouped.is
-    c.get-in-Grouped.ensures wide in
-    let within = grouped_keys_within c.args.outer.now c.in-Grouped.condition c.in-Grouped.keys
-    c.in-Grouped.aggregates c.in-Grouped.having c.in-Grouped.list p c.in-Grouped.is
-    c.get-in-Grouped.ensures wide c.as_slice-in-Grouped.ensures in
-    let keys_at = c.in_ok-by-in-Grouped.ensures within in
-    let aggregates = grouped_aggregates_supplied c.args.outer.now c.in-Grouped.condition c.in-Grouped.keys
-    c.in-Grouped.aggregates c.in-Grouped.having c.in-Grouped.list p c.in-Grouped.is
-    c.get-in-Grouped.ensures wide c.as_slice-in-Grouped-2.ensures in
-    let having = grouped_having_supplied c.args.outer.now c.in-Grouped.condition c.in-Grouped.keys
-    c.in-Grouped.aggregates c.in-Grouped.having c.in-Grouped.list p c.in-Grouped.is
-    c.get-in-Grouped.ensures
-    c.in_ok-by-in-Grouped.by summed_aggregates c.as_slice-in-Grouped.ensures keys_at.count
-    c.as_slice-in-Grouped-2.ensures summed.count c.in_ok-groups-in-Grouped.ensures.1 in
-    let list = grouped_list_supplied c.args.outer.now c.in-Grouped.condition c.in-Grouped.keys
-    c.in-Grouped.aggregates c.in-Grouped.having c.in-Grouped.list p c.in-Grouped.is
-    c.get-in-Grouped.ensures
-    c.in_ok-by-in-Grouped.by summed_aggregates c.as_slice-in-Grouped.ensures keys_at.count
-    c.as_slice-in-Grouped-2.ensures summed.count c.in_ok-groups-in-Grouped.ensures.1 c.as_slice-in-Grouped-3.ensures in
-    grouped_seen c.args.outer.now c.args.start c.in-Grouped.condition c.in-Grouped.having
-    c.in_ok-condition-in-Grouped.condition.expr c.in_ok-having-in-Grouped.having.expr
-    c.in_ok-summed-in-Grouped.summed.aggregates c.in_ok-listed-in-Grouped.listed.exprs
-    c.in-Grouped.is c.get-in-Grouped.ensures (c.in_ok-rows-in-Grouped.ensures.tree from)
-    c.in_ok-grown-in-Grouped.ensures
-    (c.in_ok-condition-in-Grouped.ensures where_clause) c.in_ok-grown-in-Grouped-2.ensures
-    c.as_slice-in-Grouped.ensures keys_at c.as_slice-in-Grouped-2.ensures
-    (summed.attaches aggregates) summed.functions
-    summed.count c.in_ok-groups-in-Grouped.ensures
-    c.in_ok-grown-in-Grouped-3.ensures (c.in_ok-having-in-Grouped.ensures having)
-    c.in_ok-grown-in-Grouped-4.ensures c.as_slice-in-Grouped-3.ensures
-    (c.in_ok-listed-in-Grouped.ensures.attaches list) c.in_ok-listed-in-Grouped.ensures.count
-    c.in_ok-rows-in-Grouped-2.ensures
+pub block-returns-in_ok-rows-in-Grouped-2-clause-tree :
+    goal.block-returns-in_ok-rows-in-Grouped-2-clause-tree
+block-returns-in_ok-rows-in-Grouped-2-clause-tree = blocks.grouped
 
-pub block-returns-in_ok-rows-in-Distinct-2-clause-tree : goal.block-returns-in_ok-rows-in-Distinct-2-clause-tree
-block-returns-in_ok-rows-in-Distinct-2-clause-tree t c =
-    λ p.
-    distinct_seen c.args.outer.now c.args.start c.in-Distinct.is c.get-in-Distinct.ensures
-    (c.in_ok-rows-in-Distinct.ensures.tree
-    (distinct_supplied c.args.outer.now p c.in-Distinct.is c.get-in-Distinct.ensures))
-    c.in_ok-rows-in-Distinct-2.ensures
+pub block-returns-in_ok-rows-in-Distinct-2-clause-tree :
+    goal.block-returns-in_ok-rows-in-Distinct-2-clause-tree
+block-returns-in_ok-rows-in-Distinct-2-clause-tree = blocks.distinct
 
-pub block-returns-in_ok-rows-in-Set-clause-tree : goal.block-returns-in_ok-rows-in-Set-clause-tree
-block-returns-in_ok-rows-in-Set-clause-tree t c =
-    let set = c.in-Set in
-    λ p.
-    set_seen c.args.outer.now c.args.start set.is c.get-in-Set.ensures
-    (c.in_ok-left-in-Set.ensures.tree
-    (set_left_supplied c.args.outer.now set.a set.b set.columns set.operation p set.is
-    c.get-in-Set.ensures))
-    c.get-in-Set-2.ensures
-    (c.in_ok-right-in-Set.ensures.tree
-    (set_right_supplied c.args.outer.now set.a set.b set.columns set.operation p set.is
-    c.get-in-Set-2.ensures))
-    c.as_slice-in-Set.ensures c.in_ok-rows-in-Set.ensures
+pub block-returns-in_ok-rows-in-Set-clause-tree :
+    goal.block-returns-in_ok-rows-in-Set-clause-tree
+block-returns-in_ok-rows-in-Set-clause-tree = blocks.set
 
 pub block-returns-in_ok-rows-in-Set-clause-width :
     goal.block-returns-in_ok-rows-in-Set-clause-width
@@ -292,127 +220,31 @@ from_rows-returns-clause-width t c = from_width c.args.s.now c.in_ok-rows.ensure
 
 pub source-returns-in_ok-rows-in-Table-clause-tree :
     goal.source-returns-in_ok-rows-in-Table-clause-tree
-source-returns-in_ok-rows-in-Table-clause-tree t c =
-    let s = c.args.sight.now in
-    λ p.
-    table_seen s.outer.now s.so_far.now s.before s.start c.in-Table.is
-    c.in_ok-rows-in-Table.ensures
+source-returns-in_ok-rows-in-Table-clause-tree = sources.table
 
 pub source-returns-in_ok-rows-in-Derived-clause-tree :
     goal.source-returns-in_ok-rows-in-Derived-clause-tree
-source-returns-in_ok-rows-in-Derived-clause-tree t c =
-    let s = c.args.sight.now in
-    λ p.
-    derived_seen s.outer.now s.so_far.now s.before s.start c.in-Derived.is c.get.ensures
-    (c.in_ok-rows-in-Derived.ensures.tree
-    (derived_supplied s.outer.now s.so_far.now s.before p c.in-Derived.is c.get.ensures))
+source-returns-in_ok-rows-in-Derived-clause-tree = sources.derived
 
 pub source-returns-in_ok-rows-in-Lateral-clause-tree :
     goal.source-returns-in_ok-rows-in-Lateral-clause-tree
-source-returns-in_ok-rows-in-Lateral-clause-tree t c =
-    let s = c.args.sight.now in
-    let all = c.as_slice.ensures ∙ c.in_ok-outer-in-Lateral.ensures in
-    λ p.
-    lateral_seen s.outer.now s.so_far.now s.before s.start c.in-Lateral.is
-    c.get-in-Lateral.ensures all
-    (c.in_ok-rows-in-Lateral.ensures.tree
-    (lateral_supplied s.outer.now s.so_far.now s.before p c.in-Lateral.is c.get-in-Lateral.ensures
-    all))
+source-returns-in_ok-rows-in-Lateral-clause-tree = sources.lateral
 
 pub source-returns-in_ok-rows-in-Cross-clause-tree :
     goal.source-returns-in_ok-rows-in-Cross-clause-tree
-source-returns-in_ok-rows-in-Cross-clause-tree t c =
-    let s = c.args.sight.now in
-    let left = c.in_ok-left-in-Cross.ensures in
-    λ p.
-    cross_seen s.outer.now s.so_far.now s.before s.start c.in-Cross.is c.get-in-Cross.ensures
-    (left.tree
-    (cross_left_supplied s.outer.now s.so_far.now s.before c.in-Cross.a c.in-Cross.b p c.in-Cross.is
-    c.get-in-Cross.ensures))
-    c.get-in-Cross-2.ensures
-    (c.in_ok-right-in-Cross.ensures.tree
-    (cross_right_supplied s.outer.now s.so_far.now s.before c.in-Cross.a c.in-Cross.b p
-    c.in-Cross.is c.get-in-Cross.ensures left.width c.get-in-Cross-2.ensures))
-    c.in_ok-rows-in-Cross.ensures
+source-returns-in_ok-rows-in-Cross-clause-tree = sources.cross
 
 pub source-returns-in_ok-rows-in-Inner-2-clause-tree :
     goal.source-returns-in_ok-rows-in-Inner-2-clause-tree
-source-returns-in_ok-rows-in-Inner-2-clause-tree t c =
-    let s = c.args.sight.now in
-    let left = c.in_ok-left-in-Inner.ensures in
-    let right = c.in_ok-right-in-Inner.ensures in
-    let made = c.in_ok-rows-in-Inner.ensures in
-    let kept = c.in_ok-rows-in-Inner-2.ensures in
-    λ p.
-    inner_seen s.outer.now s.so_far.now s.before s.start c.in-Inner.on c.in-Inner.is
-    c.get-in-Inner.ensures
-    (left.tree
-    (inner_left_supplied s.outer.now s.so_far.now s.before c.in-Inner.a c.in-Inner.b c.in-Inner.on p
-    c.in-Inner.is c.get-in-Inner.ensures))
-    c.get-in-Inner-2.ensures
-    (right.tree
-    (inner_right_supplied s.outer.now s.so_far.now s.before c.in-Inner.a c.in-Inner.b c.in-Inner.on
-    p c.in-Inner.is c.get-in-Inner.ensures left.width c.get-in-Inner-2.ensures))
-    made
-    (kept.tree
-    (inner_on_supplied s.outer.now s.so_far.now s.before c.in-Inner.a c.in-Inner.b c.in-Inner.on p
-    c.in-Inner.is c.get-in-Inner.ensures left.width c.get-in-Inner-2.ensures right.width made.1))
-    kept.width
+source-returns-in_ok-rows-in-Inner-2-clause-tree = sources.inner
 
-pub source-returns-in_ok-rows-in-Some-clause-tree : goal.source-returns-in_ok-rows-in-Some-clause-tree
-source-returns-in_ok-rows-in-Some-clause-tree t c =
-    let s = c.args.sight.now in
-    let on = c.in-Outer.on in
-    let nulls = c.in-Outer.nulls in
-    let left = c.in_ok-left-in-Outer.ensures in
-    let right = c.in_ok-right-in-Some.ensures in
-    let is = outer_read nulls on c.in-Outer.is c.get-in-Outer.ensures c.get-in-Some.ensures in
-    λ p.
-    plain_outer_seen s.outer.now s.so_far.now s.before s.start _ _ on c.in-Some.condition is
-    (left.tree (outer_left_supplied s.outer.now s.so_far.now s.before _ _ nulls on p is refl))
-    (right.tree
-    (outer_right_supplied s.outer.now s.so_far.now s.before _ _ nulls on p is left.width))
-    (outer_nulls s.outer.now s.so_far.now s.before _ _ nulls on p is right.width)
-    (subst (IsPlain s.outer.now s.start (c.in_ok-left-in-Outer.left.width + nulls) on) c.in-Some.is
-    (c.in_ok-condition-in-Outer.ensures
-    (outer_on_supplied s.outer.now s.so_far.now s.before _ _ nulls on p is left.width refl)))
-    c.in_ok-rows-in-Some.ensures
+pub source-returns-in_ok-rows-in-Some-clause-tree :
+    goal.source-returns-in_ok-rows-in-Some-clause-tree
+source-returns-in_ok-rows-in-Some-clause-tree = sources.plain_outer
 
 pub source-returns-in_ok-rows-in-None-2-clause-tree :
     goal.source-returns-in_ok-rows-in-None-2-clause-tree
-source-returns-in_ok-rows-in-None-2-clause-tree t c =
-    let s = c.args.sight.now in
-    let on = c.in-Outer.on in
-    let nulls = c.in-Outer.nulls in
-    let left = c.in_ok-left-in-Outer.ensures in
-    let a = c.in_ok-left-in-Outer.left.width in
-    let it = c.in_ok-domain-in-None.domain in
-    let d = c.in_ok-domain-in-None.ensures in
-    let seen = c.sight.ensures in
-    let rows = c.in_ok-rows-in-None in
-    let is = outer_read nulls on c.in-Outer.is c.get-in-Outer.ensures c.get-in-None.ensures in
-    let again = c.get-in-None-2.ensures ∙ sym c.get-in-None.ensures in
-    λ p.
-    let join = outer_join_supplied s.outer.now s.so_far.now s.before _ _ nulls on p is left.width in
-    let supplied = kept_supplied _ on nulls s.outer.now s.so_far.now s.before a join it.outer it.so_far
-    d.reads d.near seen.outer seen.so_far (seen.before ∙ d.behind) in
-    let same = kept_nulls _ on nulls s.outer.now s.so_far.now s.before a join
-    (read_width again rows.ensures.width) in
-    kept_outer_seen s.outer.now s.so_far.now s.before s.start _ _ on is
-    (left.tree (outer_left_supplied s.outer.now s.so_far.now s.before _ _ nulls on p is refl))
-    (c.in_ok-right-in-None.ensures
-    (kept_on_supplied _ on nulls s.outer.now s.so_far.now s.before a join it.outer it.so_far d.reads
-    d.near refl refl)
-    same _ s.outer.now s.so_far.now s.before s.start d.first
-    (d.at
-    (kept_there _ on nulls s.outer.now s.so_far.now s.before a join it.outer it.so_far d.reads d.near
-    refl)
-    (kept_stands _ on nulls s.outer.now s.so_far.now s.before a join it.outer it.so_far d.reads
-    d.near refl))
-    d.begins d.sum d.all
-    (source_as rows.rows.tree again seen.outer seen.so_far (seen.before ∙ d.behind) seen.start same
-    (rows.ensures.tree (read_supplied (sym again) supplied))))
-    c.in_ok-condition-in-None.ensures c.in_ok-rows-in-None-2.ensures
+source-returns-in_ok-rows-in-None-2-clause-tree = sources.kept_outer
 
 pub kept-returns-clause-tree : goal.kept-returns-clause-tree
 kept-returns-clause-tree t c =
@@ -421,7 +253,8 @@ kept-returns-clause-tree t c =
     kept_seen s.outer.now s.so_far.now s.before s.start c.args.on.now c.in_ok-on.on.expr
     c.in_ok-grown.ensures (c.in_ok-on.ensures p) c.in_ok-grown-2.ensures c.in_ok-rows.ensures.0
 
-pub right_source-returns-then-not-is_empty-clause-tree : goal.right_source-returns-then-not-is_empty-clause-tree
+pub right_source-returns-then-not-is_empty-clause-tree :
+    goal.right_source-returns-then-not-is_empty-clause-tree
 right_source-returns-then-not-is_empty-clause-tree t c =
     let s = c.args.sight.now in
     let source = c.args.s.now in
@@ -451,7 +284,8 @@ pub right_source-returns-then-not-is_empty-2-clause-tree :
 right_source-returns-then-not-is_empty-2-clause-tree t c =
     let s = c.args.sight.now in
     let more : c.in_ok-before.before ≡ s.before + c.args.width = search rules in
-    let none = sym c.as_slice-so_far.ensures ∙ no_items _ _ c.is_empty.ensures c.if-not-is_empty.false in
+    let none = sym c.as_slice-so_far.ensures ∙ no_items _ _ c.is_empty.ensures
+    c.if-not-is_empty.false in
     λ p.
     right_shared c.args.s.now s.outer.now s.so_far.now s.before s.start c.args.width
     c.in_ok-rows-2.rows.width c.in_ok-rows-2.rows.tree
@@ -467,8 +301,10 @@ pub right_source-returns-clause-tree :
 right_source-returns-clause-tree t c =
     let s = c.args.sight.now in
     let more : c.in_ok-before.before ≡ s.before + c.args.width = search rules in
-    let none = sym c.as_slice-so_far.ensures ∙ no_items _ _ c.is_empty.ensures c.if-not-is_empty.false in
-    let empty = sym c.as_slice-outer.ensures ∙ no_items _ _ c.is_empty-else-not-is_empty.ensures c.if-not-is_empty-2.false in
+    let none = sym c.as_slice-so_far.ensures ∙ no_items _ _ c.is_empty.ensures
+    c.if-not-is_empty.false in
+    let empty = sym c.as_slice-outer.ensures ∙ no_items _ _ c.is_empty-else-not-is_empty.ensures
+    c.if-not-is_empty-2.false in
     λ p.
     right_closed c.args.s.now s.outer.now s.so_far.now s.before s.start c.args.width
     c.in_ok-rows-3.rows.width c.in_ok-rows-3.rows.tree

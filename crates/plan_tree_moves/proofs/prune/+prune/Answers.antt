@@ -1,5 +1,10 @@
+use Rattle.std.proofs.Common.{◌<◌, ◌∙◌, sym, ap, subst}
+use Rattle.std.specs.List.{All}
+use Rattle.plan_algebra.specs.Trees.{width_of}
 use Rattle.plan_tree_moves.proofs.SameNodes.{select_made, project_made, distinct_made, group_made}
-use Rattle.plan_tree_moves.proofs.SameNodes.{join_made, outer_made, mark_made, single_made, set_made}
+use Rattle.plan_tree_moves.proofs.SameNodes.{join_made, outer_made, single_made, set_made}
+use Rattle.plan_tree_moves.proofs.OuterColumns.{outer_slimmed}
+use Rattle.plan_tree_moves.proofs.RightColumns.{mark_shrunk}
 use Rattle.plan_tree_moves.proofs.Pruning.{read_slimmed, select_slimmed, mark_slimmed, single_slimmed}
 use Rattle.plan_tree_moves.proofs.Pruning.{list_slimmed, groups_slimmed, same_as_seen}
 use Rattle.plan_tree_moves.proofs.SlimJoins.{join_slimmed}
@@ -48,6 +53,20 @@ slimmed_join-returns-in-Some t c =
     c.in_ok-w.ensures c.in_ok-left.ensures c.in_ok-m.ensures c.in_ok-right.ensures
     c.in-Join.c _ c.in-Join.is c.get-4.ensures (rw c.in-Some.is at c.in_ok-slim.ensures)
 
+pub slimmed_outer-slim_outer-requires : goal.slimmed_outer-slim_outer-requires
+slimmed_outer-slim_outer-requires t c =
+    subst (λ l. All (λ e. e < width_of c.in_ok-right.right) l) (sym c.deref-4.ensures.value)
+    (subst (λ m. All (λ e. e < m) c.in_ok-own.own.items)
+    (c.in_ok-k.ensures ∙ ap width_of c.get-4.ensures) c.in_ok-own.ensures)
+
+pub slimmed_outer-returns-in-Some : goal.slimmed_outer-returns-in-Some
+slimmed_outer-returns-in-Some t c =
+    outer_slimmed c.args.n c.in_ok-m.m c.args.tree.now c.in-Outer.l _ _ c.in-Outer.r
+    c.in_ok-left.left.tree c.in_ok-right.right c.in-Some.slim.tree c.in_ok-left.left.kept.items
+    c.in-Some.slim.kept.items c.in_ok-w.w c.in-Outer.side c.get.ensures c.get-3.ensures
+    c.in_ok-w.ensures c.in_ok-left.ensures c.in_ok-m.ensures c.in_ok-right.ensures
+    c.in-Outer.c _ c.in-Outer.is c.get-5.ensures (rw c.in-Some.is at c.in_ok-slim.ensures)
+
 pub pruned-returns-in_ok-new-in-Select : goal.pruned-returns-in_ok-new-in-Select
 pruned-returns-in_ok-new-in-Select t c =
     select_made c.args.n c.args.tree.now c.in-Select.t c.in_ok-child-in-Select.child
@@ -84,7 +103,7 @@ pruned-returns-in_ok-new-in-Outer t c =
 
 pub pruned-returns-in_ok-new-in-Mark : goal.pruned-returns-in_ok-new-in-Mark
 pruned-returns-in_ok-new-in-Mark t c =
-    mark_made c.args.n c.in_ok-m-in-Mark.m c.args.tree.now c.in-Mark.l c.in-Mark.r
+    mark_shrunk c.args.n c.in_ok-m-in-Mark.m c.args.tree.now c.in-Mark.l c.in-Mark.r
     c.in_ok-left-in-Mark.left c.in_ok-right-in-Mark.right c.in_ok-new-in-Mark.new c.in-Mark.side
     c.in-Mark.c _ c.in-Mark.is c.in_ok-left-in-Mark.ensures c.in_ok-m-in-Mark.ensures
     c.in_ok-right-in-Mark.ensures c.get-in-Mark.ensures c.in_ok-new-in-Mark.ensures

@@ -10,7 +10,7 @@ use Rattle.sql_parser_steps.specs.Kinds.{kinds}
 use Rattle.sql_parser_steps.specs.Readings as readings
 use Rattle.sql_parser_steps.specs.Readings.{part_at, inner_query}
 use Rattle.sql_parser_steps.specs.Values as values
-use Rattle.sql_parser.proofs.chains.Blocks.more_terms.Goals as goal
+use Rattle.sql_parser.proofs.blocks.Blocks.more_terms.Goals as goal
 
 pub returns-then-width-eq0 : goal.returns-then-width-eq0
 returns-then-width-eq0 g c =

@@ -6,7 +6,7 @@ use Rattle.sql_lexer.specs.declared.kind.Kind.TheVariants as k
 use Rattle.sql_parser_steps.specs.Readings as readings
 use Rattle.sql_parser_steps.specs.Readings.{part_at, inner_query}
 use Rattle.sql_parser_steps.specs.Values as values
-use Rattle.sql_parser.proofs.chains.Blocks.intersections.Given as goal
+use Rattle.sql_parser.proofs.blocks.Blocks.intersections.Given as goal
 
 abbrev pub invariant-more : goal.invariant-more
 invariant-more g l = with_front l.found (links (is k.Intersect) readings.read_intersect_words values.set_part (readings.read_block 1023 l.self.room (part_at 1023 l.self.room) (inner_query 1023 l.self.room)) l.width l.parser) ≡ links (is k.Intersect) readings.read_intersect_words values.set_part (readings.read_block 1023 l.self.room (part_at 1023 l.self.room) (inner_query 1023 l.self.room)) 1023 l.fn.parser

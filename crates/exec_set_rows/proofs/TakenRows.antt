@@ -1,11 +1,11 @@
 -- INTERSECT and EXCEPT by the groups of both sides' rows by all their columns.
-use Rattle.std.proofs.Common.{◌≡◌, ℕ, zero, suc, List, [], ◌∷◌, ◌++◌, Bool, not, refl, sym, ◌∙◌, ap, subst, arith, length, map, inl, inr}
+use Rattle.std.proofs.Common.{◌≡◌, ℕ, zero, suc, ◌+◌, List, [], ◌∷◌, ◌++◌, Bool, true, not, refl, sym, ◌∙◌, ap, subst, arith, length, map, inl, inr}
 use Rattle.std.specs.Prelude.{replicate}
 use Rattle.std.specs.List.{All, filter, range_with_len}
 use Rattle.std.proofs.lemmas.Bool.{cases_Bool}
 use Rattle.std.proofs.lemmas.List.{append-nil}
 use Rattle.base_row_laws.specs.Ranked.{Ranked, ranked, true_rank}
-use Rattle.base_row_laws.specs.Bags.{each_once, classes, Each}
+use Rattle.base_row_laws.specs.Bags.{each_once, Each}
 use Rattle.base_row_laws.specs.Rows.{same_row, columns}
 use Rattle.base_row_laws.specs.Operators.{least}
 use Rattle.base_row_laws.specs.Domains.{values_of}
@@ -21,6 +21,7 @@ use Rattle.base_set_rows.specs.Numbered.{numbers_taken, each_class}
 use Rattle.base_set_rows.proofs.Counted.{no_copies}
 use Rattle.base_set_rows.proofs.Taken.{by_numbers}
 use Rattle.base_columns.specs.Lists.{gathered}
+use Rattle.plan_algebra.specs.Aggregates.{aggregates_of}
 use Rattle.plan_algebra.specs.Plans.{groups}
 use Rattle.exec_hash_group.specs.Keys.{key_rows}
 use Rattle.exec_hash_group.specs.Grouping.{group_numbers}
@@ -51,6 +52,7 @@ keyed by k (r ∷ rows) e =
 
 -- with columns: the groups are the classes, and rows are numbered as they are
 groups_are : (c : ℕ) (cs : List ℕ) (rows : List (Ranked Value)) → key_rows (c ∷ cs) rows ≡ values_of rows → groups (c ∷ cs) [] rows ≡ each_class same_value rows
+unfolding aggregates_of
 groups_are c cs rows e =
     let K : List Value → List Value = columns Null (c ∷ cs) in
     let F : List Value → Ranked Value = λ k. ranked (k ++ []) (least (filter (λ x. same_row same_value (K x.values) k) rows)) in
@@ -67,18 +69,21 @@ no_values (v ∷ vs) l = absurd (omega (arith, l))
 no_other : (zs : List (Ranked Value)) → Each (W 0) zs → filter (λ y. not (same_row same_value [] y)) (each_once (same_row same_value) (values_of zs)) ≡ []
 no_other [] h = refl
 no_other (z ∷ zs) h =
-    let e : z.values ≡ [] = no_values z.values h.0 in
-    let ih = no_other zs h.1 in
-    rw (e, ih) refl
+    let E : List (List Value) = each_once (same_row same_value) (values_of zs) in
+    let other : List Value → List Value → Bool = λ v y. not (same_row same_value v y) in
+    subst (λ v. filter (other []) (v ∷ filter (other v) E) ≡ []) (sym (no_values z.values h.0)) (ap (filter (other [])) (no_other zs h.1))
 
 one_key : (z : Ranked Value) (zs : List (Ranked Value)) → Each (W 0) (z ∷ zs) → each_once (same_row same_value) (values_of (z ∷ zs)) ≡ [] ∷ []
 one_key z zs h = let e : z.values ≡ [] = no_values z.values h.0 in rw e (ap (λ l. [] ∷ l) (no_other zs h.1))
 
 all_alike : (zs : List (Ranked Value)) → Each (W 0) zs → filter (λ x. same_row same_value x.values []) zs ≡ zs
 all_alike [] h = refl
-all_alike (z ∷ zs) h = let e : z.values ≡ [] = no_values z.values h.0 in rw e (ap (λ l. z ∷ l) (all_alike zs h.1))
+all_alike (z ∷ zs) h =
+    let t : same_row same_value z.values [] ≡ true = ap (λ v. same_row same_value v []) (no_values z.values h.0) in
+    rw t (ap (λ l. z ∷ l) (all_alike zs h.1))
 
 one_class : (z : Ranked Value) (zs : List (Ranked Value)) → Each (W 0) (z ∷ zs) → each_class same_value (z ∷ zs) ≡ groups [] [] (z ∷ zs)
+unfolding aggregates_of
 one_class z zs h =
     let G : List Value → Ranked Value = λ k. ranked k (least (filter (λ x. same_row same_value x.values k) (z ∷ zs))) in
     ap (map G) (one_key z zs h) ∙ ap (λ l. ranked [] (least l) ∷ []) (all_alike (z ∷ zs) h)
@@ -91,7 +96,7 @@ numbered_zero : (z : Ranked Value) (zs : List (Ranked Value)) → Each (W 0) (z 
 numbered_zero z zs h = ap (λ ds. map (place_in (same_row same_value) ds) (values_of (z ∷ zs))) (one_key z zs h) ∙ all_zero (z ∷ zs) h
 
 module _ (kind : ClassKind) (all : Bool) where
-  none : Ranked Value
+  abbrev none : Ranked Value
   none = ranked [] true_rank
 
   -- the rows that are taken of the groups, where these are the classes

@@ -2,7 +2,7 @@ use Rattle.std.proofs.Common.{◌∙◌, ap, subst}
 use Rattle.plan_algebra.specs.Trees.{width_of}
 use Rattle.plan_tree_moves.specs.Prune.{ConditionMoves}
 use Rattle.plan_tree_moves.proofs.SlimJoins.{keeps_join}
-use Rattle.plan_tree_moves.proofs.prune.slim_join.Goals as goal
+use Rattle.plan_tree_moves.proofs.slim_joins.slim_join.Goals as goal
 
 pub returns-in_ok-kept-in-Some-2 : goal.returns-in_ok-kept-in-Some-2
 returns-in_ok-kept-in-Some-2 c = λ l wide k.
