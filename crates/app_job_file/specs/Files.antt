@@ -171,8 +171,8 @@ Puts number made new (Err (Refused refused)) =
     (made ≡ Err refused.refusal) × (refused.line ≡ number)
 Puts number made new (Err OutOfMemory) = ⊤
 
--- A job within its limits, with no more refreshes before the sessions than it has. Where some beside
--- them are sent, all beside them are.
+-- A job within its limits, with no more refreshes before the sessions than it has. Where some
+-- beside them are sent, all beside them are.
 pub record IsWithin (job : Job) : Type 0 where
   pub few : length job.scripts.items ≤ most_sessions
   pub refreshes : length job.refreshes.items ≤ most_refreshes

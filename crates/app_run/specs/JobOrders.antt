@@ -23,8 +23,8 @@ abbrev pub sent_of : JobWork → List (SenderId × Change)
 sent_of work = zip work.senders (drop (unsent_count work) work.list)
 
 -- Refreshes in an order in which a job may try its own: first those that nobody sends, in the order
--- of the job's lines, and then each that is sent, once. Of those that one sender sends each comes in
--- its turn, as the job's lines have them.
+-- of the job's lines, and then each that is sent, once. Of those that one sender sends each comes
+-- in its turn, as the job's lines have them.
 pub record IsJobOrder (work : JobWork) (order : RefreshOrder) : Type 0 where
   pub sent : List (SenderId × Change)
   pub whole : order ≡ from_nobody (unsent_of work) ++ numbered sent

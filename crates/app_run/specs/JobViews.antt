@@ -83,8 +83,8 @@ work_view sources = record {
 }
 
 -- A job that can be run: it has sessions, not too many, which are at their beginning, not too many
--- refreshes, and no more before the sessions than it has. Where some beside them are sent, all beside
--- them are.
+-- refreshes, and no more before the sessions than it has. Where some beside them are sent, all
+-- beside them are.
 pub record IsRunnable (sources : JobSources) : Type 0 where
   pub some : 0 < length sources.sessions.items
   pub few : length sources.sessions.items ≤ most_sessions

@@ -23,8 +23,8 @@ pub record EndsAfter (sender : Sending) (refreshes : List Change) (ended : Sendi
   pub id : ended.id ≡ sender.id
   pub sent : ended.sent ≡ refreshes
 
--- A taker that took nothing yet, of senders that may send so many refreshes that these and those of a
--- list are `most`.
+-- A taker that took nothing yet, of senders that may send so many refreshes that these and those of
+-- a list are `most`.
 pub record MayTake (taker : Taking) (list : List Change) (most : ℕ) : Type 0 where
   pub fresh : taker.taken ≡ []
   pub room : length list + (taker.quotas.0 + taker.quotas.1) ≡ most
@@ -46,8 +46,8 @@ IsTakenText base list most sessions taker None = length (order_sent list taker.t
 IsTakenText base list most sessions taker (Some job) =
     IsOrderText base (order_sent list taker.taken) 0 (length list) sessions job
 
--- the text of a job beside two senders that sent these refreshes after a list, in some order that keeps
--- each sender's own
+-- the text of a job beside two senders that sent these refreshes after a list, in some order that
+-- keeps each sender's own
 pub record IsSentText (base : State) (list firsts seconds : List Change) (sessions : List JobSession)
     (job : JobAnswer) : Type 0 where
   pub sent : List (SenderId × Change)

@@ -36,7 +36,7 @@ fn refresh_start(end: usize, tokens: &[Token]) -> usize
     end
 }
 
-/// The same of the bytes of a script.
+/// The byte of the first refresh statement in the bytes of a script.
 fn refresh_byte(alloc: Global, bytes: &[u8]) -> Result<usize, AllocError>
     requires { (statements : List Statement) × IsReadScript bytes.now statements }
     ensures { IfOk result (IsRefreshByte bytes.now) }

@@ -1,6 +1,7 @@
 //! Laws of the definitions that the top call's promise stands on, each the contract of a function
 //! that does nothing: inputs are accepted exactly where all of them are good, the first bad table
-//! is the one that is refused, a text is the only one, and refreshes that nobody sends have one order.
+//! is the one that is refused, a text is the only one, and refreshes that nobody sends have one
+//! order.
 ghost use Rattle.app_run.specs.Examples.{Examples};
 ghost use Rattle.app_run.specs.Laws.{SessionAcceptedLaw, TablesAcceptedLaw, TablesOrderLaw};
 ghost use Rattle.app_run.specs.Laws.{TextLaw, UnsentLaw};

@@ -23,8 +23,8 @@ use store_gateway::{Ended, GatewayFeed, Sender, SenderId, open_gateway, send_all
 use store_snapshots::{Publisher, open};
 use store_state::{Refresh, State};
 
-/// How many messages the queue of the senders holds at most: as many as a job has refreshes, and the
-/// ends of both senders. So it is never full.
+/// How many messages the queue of the senders holds at most: as many as a job has refreshes, and
+/// the ends of both senders. So it is never full.
 const MOST_MESSAGES: usize = 1026;
 
 /// Gives a refresh to its sender.
@@ -147,7 +147,7 @@ fn run_open<R: Threads + Wait + Sync, G: Gate + Sync>(
     }
 }
 
-/// The same with a publisher that is opened for it, and closed.
+/// `run_open` with a publisher that is opened for it, and closed.
 fn run_receiver<R: Threads + Wait + Sync, G: Gate + Sync>(
     rt: &R,
     alloc: Global,
@@ -210,8 +210,8 @@ fn run_joined<R: Threads + Wait + Sync, G: Gate + Sync>(
     }
 }
 
-/// Runs the sessions beside a publisher of the refreshes, of which two senders send those that are not
-/// tried before the sessions.
+/// Runs the sessions beside a publisher of the refreshes, of which two senders send those that are
+/// not tried before the sessions.
 pub fn run_with_senders<R: Threads + Wait + Sync, G: Gate + Sync>(
     rt: &R,
     alloc: Global,

@@ -80,7 +80,7 @@ fn put_steps(
     }
 }
 
-/// The same statements from the last to the first.
+/// Statements from the last to the first.
 fn reverse_statements(
     alloc: Global,
     statements: Items<Statement>,

@@ -134,8 +134,8 @@ fn run_beside<F: Feed + Send, G: Gate + Sync, R: Threads + Wait + Sync>(
     Ok(text)
 }
 
-/// The same for the refreshes of the publisher's list alone, of which none is done. The publisher
-/// is closed, whatever happens. The only error is that memory ran out.
+/// Runs sessions beside the publisher of its list alone, of which none is done, and gives their
+/// text. The publisher is closed, whatever happens. The only error is that memory ran out.
 pub fn run_list_job<G: Gate + Sync, R: Threads + Wait + Sync>(
     rt: &R,
     alloc: Global,
@@ -161,7 +161,7 @@ pub fn run_list_job<G: Gate + Sync, R: Threads + Wait + Sync>(
     text
 }
 
-/// The same with a publisher that stays open.
+/// `run_list_job` with a publisher that stays open.
 fn run_list<G: Gate + Sync, R: Threads + Wait + Sync>(
     rt: &R,
     alloc: Global,

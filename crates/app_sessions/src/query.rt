@@ -117,7 +117,7 @@ fn bound_outcome<R: Threads + Sync, L: Ledger>(
     }
 }
 
-/// The same where the steps have a ledger of their own.
+/// `bound_outcome` with steps that have a ledger of their own.
 fn counted_outcome<R: Threads + Sync, L: Ledger>(
     rt: &R,
     alloc: Global,

@@ -91,7 +91,7 @@ fn states_row_by_row<A: Accumulator, L: ValueList>(
     Ok(states)
 }
 
-// The same for numbers: by their sums, where accumulators keep no more of them.
+// The accumulators of numbers: by their sums, where accumulators keep no more of them.
 fn number_states<A: Accumulator>(
     alloc: Global,
     scale: Scale,

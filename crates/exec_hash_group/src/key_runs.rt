@@ -61,8 +61,8 @@ fn run_numbers(alloc: Global, keys: &[i64]) -> Result<Numbered, AllocError>
     Ok(Numbered { numbers, firsts })
 }
 
-/// The number of each key, and where each number first stands. 2^32 keys or more are an error, as
-/// memory that isn't there.
+/// The number of each key, and where each number first stands. `AllocError` at 2^32 keys: numbers
+/// are `u32`.
 pub(crate) fn key_numbers<W: Workers>(
     workers: &W,
     alloc: Global,

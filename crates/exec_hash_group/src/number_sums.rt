@@ -81,7 +81,7 @@ fn summed(
     Ok(NumberSums { terms, ups, downs })
 }
 
-// The same of coefficients of which those that are marked don't count.
+// `summed` of coefficients of which those that are marked don't count.
 fn marked_sums(
     alloc: Global,
     _scale: Scale,

@@ -29,7 +29,7 @@ pub(crate) trait Workers {
         ensures numbers { IfOk result (λ n. n.numbers.items ≡ numbers_of int_eq keys.now) }
         ensures firsts { IfOk result (λ n. n.firsts.items ≡ first_places int_eq keys.now) };
 
-    /// The same of keys that are pairs of numbers.
+    /// `table_numbers` of keys that are pairs of numbers.
     fn pair_numbers(&self, alloc: Global, keys: &[(i64, i64)]) -> Result<Numbered, AllocError>
         requires ready { ready self.now }
         requires small { length keys.now < 2 ^ 32 }

@@ -26,9 +26,9 @@ abbrev pub world_at : Trials → List SessionState → World
 world_at trials sessions = record
     { base = trials.base; list = trials.list; done = trials.done; sessions = sessions }
 
--- A reader begins, while the machine's published version is the one that its entry would give. Where
--- its entries rose, that is the step Begin, and where its refusals rose, the step Again: the session
--- then pins the version that the reader gives.
+-- A reader begins, while the machine's published version is the one that its entry would give.
+-- Where its entries rose, that is the step Begin, and where its refusals rose, the step Again: the
+-- session then pins the version that the reader gives.
 abbrev pub BeginLaw : Type 0
 BeginLaw = (world : World) (session : ℕ) (cuts : List (List ℕ))
     (entries more refusals others seen version : ℕ)
@@ -40,8 +40,8 @@ BeginLaw = (world : World) (session : ℕ) (cuts : List (List ℕ))
     ⊎ (HasRisen refusals others
     × (session_of (happens world (Again session cuts)) session ≡ pinned version cuts))
 
--- what a session's machine comes to by the step Back, by the answer of a snapshot that was asked for
--- the version: where it is given, the session pins it; where it is refused, nothing changes
+-- what a session's machine comes to by the step Back, by the answer of a snapshot that was asked
+-- for the version: where it is given, the session pins it; where it is refused, nothing changes
 abbrev pub GoesBack : World → ℕ → ℕ → List (List ℕ) → Result Trials VersionError → Type 0
 GoesBack world session number cuts (Ok older) =
     session_of (happens world (Back session number cuts)) session
@@ -50,8 +50,8 @@ GoesBack world session number cuts (Err Unknown) = happens world (Back session n
 GoesBack world session number cuts (Err Gone) = happens world (Back session number cuts) ≡ world
 GoesBack world session number cuts (Err OutOfMemory) = Unit {0}
 
--- A session pins a version, that of a snapshot is the last that it has seen, and the snapshot is asked
--- for the version of a number, whose tables are cut so: that is the step Back.
+-- A session pins a version, that of a snapshot is the last that it has seen, and the snapshot is
+-- asked for the version of a number, whose tables are cut so: that is the step Back.
 abbrev pub BackLaw : Type 0
 BackLaw = (world : World) (session number : ℕ) (cuts : List (List ℕ)) (last : Trials)
     (answer : Result Trials VersionError)
@@ -80,8 +80,8 @@ PublishLaw = (old new : Trials) (answer : Answer) (sessions : List SessionState)
     → Tries old new answer → (answer ≡ NoMemory → ⊥)
     → happens (world_at old sessions) Publish ≡ world_at new sessions
 
--- A publisher whose whole list was tried is given a refresh, and tries it: these are the steps Offer
--- and Publish.
+-- A publisher whose whole list was tried is given a refresh, and tries it: these are the steps
+-- Offer and Publish.
 abbrev pub GiveLaw : Type 0
 GiveLaw = (old new : Edition) (change : Change) (answer : Given) (sessions : List SessionState)
     → old.version.done ≡ length old.version.list

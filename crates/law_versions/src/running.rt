@@ -3,11 +3,11 @@
 ghost use Rattle.law_versions.specs.RunningSteps.{BackLaw, BeginLaw, CompactLaw, LearnLaw};
 ghost use Rattle.law_versions.specs.RunningSteps.{GiveLaw, OfferLaw, PublishLaw};
 
-/// What `store_snapshots` promises of `Reader::begin` is the machine's Begin or, where the entry was
-/// refused, its Again; of `Snapshot::at` its Back; of `Reader::learn` its Learn; of
+/// What `store_snapshots` promises of `Reader::begin` is the machine's Begin or, where the entry
+/// was refused, its Again; of `Snapshot::at` its Back; of `Reader::learn` its Learn; of
 /// `Publisher::publish_next` its Publish; of `Publisher::publish_given` its Offer and then its
-/// Publish; and of `Publisher::compact` its Compact. So what is proved of every list of the machine's
-/// steps speaks of running sessions.
+/// Publish; and of `Publisher::compact` its Compact. So what is proved of every list of the
+/// machine's steps speaks of running sessions.
 pub fn running_steps_are_the_machines()
     ensures begin { BeginLaw }
     ensures back { BackLaw }

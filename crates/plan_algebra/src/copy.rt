@@ -7,7 +7,7 @@ use expr_scalar::Expr;
 use sqlite_items::{Boxed, Items};
 use std::alloc::{AllocError, Global};
 
-/// The same expression once more.
+/// An expression once more.
 pub fn copy_expr(alloc: Global, e: &Expr) -> Result<Boxed<Expr>, AllocError>
     ensures { IfOk result (λ new. new ≡ e.now) }
 {
@@ -16,7 +16,7 @@ pub fn copy_expr(alloc: Global, e: &Expr) -> Result<Boxed<Expr>, AllocError>
     Ok(new)
 }
 
-/// The same expressions once more.
+/// Expressions once more.
 pub fn copy_exprs(alloc: Global, es: &[Expr]) -> Result<Items<Expr>, AllocError>
     ensures { IfOk result (λ new. new ≡ es.now) }
 {
@@ -40,7 +40,7 @@ fn copied_aggregate(alloc: Global, aggregate: &Aggregate) -> Result<Aggregate, A
     }
 }
 
-/// The same aggregates once more.
+/// Aggregates once more.
 pub fn copy_aggregates(
     alloc: Global,
     aggregates: &[Aggregate],

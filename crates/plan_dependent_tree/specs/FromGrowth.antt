@@ -1,5 +1,5 @@
--- How the trees of FROM's items grow: their domain rows, which begin with columns of the rows around
--- the query and of the row so far, and what stands where in them.
+-- How the trees of FROM's items grow: their domain rows, which begin with columns of the rows
+-- around the query and of the row so far, and what stands where in them.
 use Rattle.std.specs.Prelude.{◌≡◌, ℕ, suc, ◌+◌, ◌<◌, ◌||◌, List, ◌++◌, map, length, slice_index_or}
 use Rattle.std.specs.Prelude.{IsTrue}
 use Rattle.base_row_laws.specs.Operators.{select}

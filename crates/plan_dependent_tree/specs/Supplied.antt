@@ -59,8 +59,8 @@ pub record SourceIsSupplied (s : BoundSource) (outer : List OuterColumn) (so_far
   pub stands : (place : ℕ) → place < n → IsTrue (seeks_so_far s place)
       → IsTrue (has_place so_far place)
 
--- The right side of a left outer join, behind a row so far of n columns and a left row of a columns,
--- and its ON condition.
+-- The right side of a left outer join, behind a row so far of n columns and a left row of a
+-- columns, and its ON condition.
 pub record JoinIsSupplied (s : BoundSource) (on : BoundExpr) (nulls : ℕ) (outer : List OuterColumn)
     (so_far : List ℕ) (n a : ℕ) : Type 0 where
   pub before : List Kind

@@ -47,7 +47,7 @@ pub fn join_columns(
     Ok(found)
 }
 
-// Puts a column to the others, unless it is there.
+// Adds a column if the list lacks it.
 fn put(column: OuterColumn, found: &mut Items<OuterColumn>) -> Result<(), AllocError>
     ensures { OnOk result ((level place : ℕ) → has found.new level place
         ≡ (has found.old level place || ((column.level == level) && (column.place == place)))) }

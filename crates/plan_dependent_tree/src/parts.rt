@@ -100,7 +100,7 @@ pub struct Summed {
     pub aggregates: Items<Aggregate>,
 }
 
-// The condition that always holds.
+/// The condition that always holds.
 pub fn always(alloc: Global) -> Result<Boxed<Expr>, AllocError>
     ensures { IfOk result (λ c. c ≡ all_of []) }
 {
@@ -108,7 +108,7 @@ pub fn always(alloc: Global) -> Result<Boxed<Expr>, AllocError>
     Ok(all)
 }
 
-// The tree of rows with nothing after them, at a place of the flat row.
+/// The tree of rows with nothing after them, at a place of the flat row.
 pub fn grown_from(rows: Rows, start: u32) -> Result<Grown, AllocError>
     ensures { IfOk result (λ g. (g.tree ≡ rows.tree) × (g.end ≡ start + rows.width)) }
 {
@@ -117,7 +117,7 @@ pub fn grown_from(rows: Rows, start: u32) -> Result<Grown, AllocError>
     Ok(Grown { tree, end })
 }
 
-// One more column: the mark of a right side under a condition.
+/// One more column: the mark of a right side under a condition.
 pub fn marked(
     alloc: Global,
     grown: Grown,
@@ -136,7 +136,7 @@ pub fn marked(
     Ok(Attached { grown, column })
 }
 
-// EXISTS.
+/// EXISTS.
 pub fn existing(alloc: Global, grown: Grown, right: Right) -> Result<Attached, AllocError>
     ensures { IfOk result (λ a.
         (a.grown.tree ≡ node.Mark grown.tree right.tree right.side (all_of []))
@@ -147,7 +147,7 @@ pub fn existing(alloc: Global, grown: Grown, right: Right) -> Result<Attached, A
     Ok(attached)
 }
 
-// ANY: the left side compared with the right side's only column, the first one after the flat row.
+/// ANY: the left side compared with the right side's only column, the first one after the flat row.
 pub fn contained(
     alloc: Global,
     comparison: Comparison,
@@ -166,7 +166,7 @@ pub fn contained(
     Ok(attached)
 }
 
-// A scalar subquery: the value of its only column.
+/// A scalar subquery: the value of its only column.
 pub fn valued(alloc: Global, grown: Grown, right: Right) -> Result<Attached, AllocError>
     ensures { IfOk result (λ a. (a.grown.tree ≡ node.Single grown.tree right.tree right.side 0)
         × (a.grown.end ≡ grown.end + 1) × (a.column ≡ grown.end)) }
@@ -179,7 +179,7 @@ pub fn valued(alloc: Global, grown: Grown, right: Right) -> Result<Attached, All
     Ok(Attached { grown, column })
 }
 
-// An expression over its inputs, read from the flat row.
+/// An expression over its inputs, read from the flat row.
 pub fn over_places(alloc: Global, placed: Placed, expr: &Expr) -> Result<Read, AllocError>
     ensures { IfOk result (λ r. (r.grown.tree ≡ placed.grown.tree)
         × (r.grown.end ≡ placed.grown.end) × IsRenamed placed.columns expr.now r.expr) }
@@ -190,7 +190,7 @@ pub fn over_places(alloc: Global, placed: Placed, expr: &Expr) -> Result<Read, A
     Ok(Read { grown, expr })
 }
 
-// An aggregate over its argument.
+/// An aggregate over its argument.
 pub fn applied(function: AggregateFunction, scale: Scale, argument: Read) -> Counted
     ensures tree { result.grown.tree ≡ argument.grown.tree }
     ensures end { result.grown.end ≡ argument.grown.end }
@@ -201,7 +201,7 @@ pub fn applied(function: AggregateFunction, scale: Scale, argument: Read) -> Cou
     Counted { grown, aggregate }
 }
 
-// The rows that a condition keeps.
+/// The rows that a condition keeps.
 pub fn selected(alloc: Global, condition: Read) -> Result<Grown, AllocError>
     ensures { IfOk result (λ g. (g.tree ≡ node.Select condition.grown.tree condition.expr)
         × (g.end ≡ condition.grown.end)) }
@@ -212,7 +212,7 @@ pub fn selected(alloc: Global, condition: Read) -> Result<Grown, AllocError>
     Ok(Grown { tree, end })
 }
 
-// The select list.
+/// The select list.
 pub fn projected(alloc: Global, listed: Listed) -> Result<Rows, AllocError>
     ensures { IfOk result (λ r. (r.tree ≡ node.Project listed.grown.tree listed.exprs)
         × (r.width ≡ length listed.exprs)) }
@@ -235,7 +235,7 @@ fn columns_of(alloc: Global, start: u32, width: u32) -> Result<Items<Expr>, Allo
     Ok(exprs)
 }
 
-// The first columns of a query's row, without what stands after them.
+/// The first columns of a query's row, without what stands after them.
 pub fn trimmed(alloc: Global, grown: Grown, start: u32, width: u32) -> Result<Rows, AllocError>
     ensures { IfOk result (λ r. IsTrimmed grown.tree start width grown.end r.tree
         × (r.width ≡ width)) }
@@ -251,7 +251,7 @@ pub fn trimmed(alloc: Global, grown: Grown, start: u32, width: u32) -> Result<Ro
     }
 }
 
-// The places of the GROUP BY columns.
+/// The places of the GROUP BY columns.
 pub fn key_places(alloc: Global, sight: &Sight, keys: &[u32]) -> Result<Items<u32>, AllocError>
     ensures { IfOk result (λ ps. All (λ key. key < sight.now.width) keys.now
         → AreKeys sight.now.outer.now sight.now.start sight.now.width keys.now ps) }
@@ -264,7 +264,7 @@ pub fn key_places(alloc: Global, sight: &Sight, keys: &[u32]) -> Result<Items<u3
     Ok(places)
 }
 
-// The groups by these columns, with aggregates.
+/// The groups by these columns, with aggregates.
 pub fn grouped(alloc: Global, by: Items<u32>, summed: Summed) -> Result<Rows, AllocError>
     ensures { IfOk result (λ r. (r.tree ≡ node.Group summed.grown.tree by summed.aggregates)
         × (r.width ≡ length by + length summed.aggregates)) }
@@ -277,7 +277,7 @@ pub fn grouped(alloc: Global, by: Items<u32>, summed: Summed) -> Result<Rows, Al
     Ok(Rows { tree, width })
 }
 
-// Identical rows once.
+/// Identical rows once.
 pub fn distinct(alloc: Global, rows: Rows) -> Result<Rows, AllocError>
     ensures { IfOk result (λ r. (r.tree ≡ node.Distinct rows.tree) × (r.width ≡ rows.width)) }
 {
@@ -286,7 +286,8 @@ pub fn distinct(alloc: Global, rows: Rows) -> Result<Rows, AllocError>
     Ok(Rows { tree, width })
 }
 
-// The places of columns of the rows around a subquery, of which the nearest is the query's own row.
+/// The places of columns of the rows around a subquery, of which the nearest is the query's own
+/// row.
 pub fn outer_places(
     alloc: Global,
     sight: &Sight,

@@ -44,8 +44,8 @@ fn right_list(
     Ok(exprs)
 }
 
-// A set operation of the rows that its columns are of those of two trees, behind a domain row of
-// `start` columns.
+/// A set operation of the rows that its columns are of those of two trees, behind a domain row of
+/// `start` columns.
 pub fn combined(
     alloc: Global,
     left: Rows,

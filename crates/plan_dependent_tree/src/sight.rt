@@ -27,7 +27,7 @@ pub struct Sight<'a> {
     pub width: u32,
 }
 
-// The place of a column of the rows around, or 0 where the list has no such column.
+/// The place of a column of the rows around, or 0 where the list has no such column.
 pub fn place_in(outer: &[OuterColumn], column: OuterColumn) -> Result<u32, AllocError>
     ensures { IfOk result (λ at. IsTrue (has outer.now column.level column.place)
         → slice_get outer.now at ≡ Some column) }
@@ -40,7 +40,7 @@ pub fn place_in(outer: &[OuterColumn], column: OuterColumn) -> Result<u32, Alloc
     Ok(0)
 }
 
-// The place of a column that an expression reads. A well-typed one reads only what it sees.
+/// The place of a column that an expression reads. A well-typed one reads only what it sees.
 pub fn place_of(sight: &Sight, level: u32, place: u32) -> Result<u32, AllocError>
     ensures { IfOk result (λ at. IsSeen sight.now.outer.now sight.now.width level place
         → IsAt sight.now.outer.now sight.now.start sight.now.width level place at) }

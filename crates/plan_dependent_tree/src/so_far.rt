@@ -17,7 +17,7 @@ pub fn so_far_places(alloc: Global, s: &BoundSource) -> Result<Items<u32>, Alloc
     Ok(found)
 }
 
-// Puts a place to the others, unless it is there.
+// Adds a place if the list lacks it.
 fn put(place: u32, found: &mut Items<u32>) -> Result<(), AllocError>
     ensures { OnOk result ((other : ℕ) → has_place found.new other
         ≡ (has_place found.old other || (place == other))) }

@@ -26,7 +26,7 @@ pub struct RightRows {
     pub side: Side,
 }
 
-// A table.
+/// A table.
 pub fn table_rows(alloc: Global, table: TableName) -> Result<Rows, AllocError>
     ensures { IfOk result (λ r. (r.tree ≡ node.Scan table) × (r.width ≡ length (kinds_of table))) }
 {
@@ -35,7 +35,7 @@ pub fn table_rows(alloc: Global, table: TableName) -> Result<Rows, AllocError>
     Ok(Rows { tree, width })
 }
 
-// A right side over the domain of these columns.
+/// A right side over the domain of these columns.
 pub fn depending(rows: Rows, columns: Items<u32>) -> Right
     ensures tree { result.tree ≡ rows.tree }
     ensures side { DependsOn columns result.side }
@@ -50,7 +50,7 @@ pub fn depending(rows: Rows, columns: Items<u32>) -> Right
     }
 }
 
-// All combinations of the rows of two sides.
+/// All combinations of the rows of two sides.
 pub fn crossed(alloc: Global, left: Rows, right: RightRows) -> Result<Rows, AllocError>
     ensures { IfOk result (λ r.
         (r.tree ≡ node.Join left.tree right.rows.tree right.side (all_of []))
@@ -104,8 +104,8 @@ fn plain_condition(
     }
 }
 
-// ON of a left outer join whose right side has `nulls` columns, over the domain row and the joined
-// row; nothing where it has a subquery.
+/// ON of a left outer join whose right side has `nulls` columns, over the domain row and the joined
+/// row; nothing where it has a subquery.
 pub fn outer_condition(
     alloc: Global,
     on: &BoundExpr,
@@ -126,7 +126,7 @@ pub fn outer_condition(
     Ok(condition)
 }
 
-// LEFT OUTER JOIN under a condition, whose right side has `nulls` columns.
+/// LEFT OUTER JOIN under a condition, whose right side has `nulls` columns.
 pub fn outer_joined(
     alloc: Global,
     left: Rows,

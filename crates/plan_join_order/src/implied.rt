@@ -157,7 +157,7 @@ fn implied_of(
     Ok(all)
 }
 
-/// The same conditions, and those that they imply of single inputs.
+/// These conditions, and those that they imply of single inputs.
 pub(crate) fn with_implied(alloc: Global, n: u32, parts: Collected) -> Result<Collected, AllocError>
     ensures inputs { IfOk result (λ new. new.inputs ≡ parts.inputs) }
     ensures conditions { IfOk result (λ new. SaysSame parts.conditions new.conditions) }

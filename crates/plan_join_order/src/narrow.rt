@@ -63,8 +63,8 @@ pub(crate) struct Asked {
     pub(crate) output: Items<Expr>,
 }
 
-// The same rows of inputs without the columns that neither the conditions nor the select list read,
-// unless a column is not there.
+// Inputs without the columns that neither the conditions nor the select list read, unless a column
+// is not there.
 fn tried(
     alloc: Global,
     n: u32,
@@ -101,8 +101,8 @@ fn stay(n: u32, parts: &Collected) -> bool {
     n > 0 && !(inputs.len() == 1 && matches!(&inputs[0], DepTree::Scan(_)))
 }
 
-/// The same rows of inputs without the columns that neither the conditions nor the select list
-/// read. Under a domain only one table alone is narrowed, so that no other is read together with
+/// Inputs without the columns that neither the conditions nor the select list read; their rows are
+/// kept. Under a domain only one table alone is narrowed, so that no other is read together with
 /// the domain.
 pub(crate) fn narrowed(
     alloc: Global,

@@ -46,7 +46,7 @@ pub fn plan_bound(alloc: Global, query: BoundQuery) -> Result<FlatPlan, AllocErr
     Ok(plan)
 }
 
-// The same limit, as plans have it.
+// A row limit as plans have it.
 fn wide(limit: Option<u32>) -> Option<u64>
     ensures { result ≡ limit }
 {

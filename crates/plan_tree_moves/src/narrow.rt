@@ -124,8 +124,7 @@ pub fn after_domain(alloc: Global, n: u32, kept: &[u32]) -> Result<Vec<u32>, All
     Ok(all)
 }
 
-/// Where each column is among those that are left. Columns that are gone are nowhere, and their
-/// place is any.
+/// Where each column is among those that are left. A dropped column gets an arbitrary place.
 pub fn places_in(alloc: Global, whole: &[u32]) -> Result<Vec<u32>, AllocError> {
     let mut places = Vec::new(alloc);
     let mut end: u32 = 0;

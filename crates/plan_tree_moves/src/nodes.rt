@@ -8,7 +8,7 @@ use plan_algebra::{Aggregate, DepTree, Side, copy_aggregates, copy_expr, copy_ex
 use sqlite_items::{Boxed, Items};
 use std::alloc::{AllocError, Global};
 
-// The same side once more.
+// A side once more.
 pub(crate) fn copied_side(alloc: Global, side: &Side) -> Result<Side, AllocError>
     ensures { IfOk result (λ new. new ≡ side.now) }
 {

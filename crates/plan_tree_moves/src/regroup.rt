@@ -38,7 +38,7 @@ pub fn moved_keys(
     Ok(Some(keys))
 }
 
-// The same aggregate over the columns that are left, if all that it reads are.
+// An aggregate over the columns that are left, if all that it reads are.
 fn moved_aggregate(
     alloc: Global,
     aggregate: &Aggregate,
@@ -61,7 +61,7 @@ fn moved_aggregate(
     }
 }
 
-/// The same aggregates over the columns that are left, if all that they read are.
+/// Aggregates over the columns that are left, if all that they read are.
 pub fn moved_aggregates(
     alloc: Global,
     aggregates: &[Aggregate],

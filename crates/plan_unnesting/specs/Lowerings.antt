@@ -132,8 +132,8 @@ IsSelection old new table c One id = IsPut (old ++ Scan table ∷ []) new (Selec
 IsSelection old new table c (AtNode d width) id =
     IsPut (old ++ Scan table ∷ []) new (Join d (length old) [] c) id
 
--- the columns of groups by a domain's columns, and before their aggregates some of the domain's once
--- more
+-- the columns of groups by a domain's columns, and before their aggregates some of the domain's
+-- once more
 abbrev pub with_again : (width : ℕ) → List ℕ → (aggregates : ℕ) → List ℕ
 with_again width by aggregates =
     (columns_from 0 width ++ by) ++ columns_from width aggregates

@@ -37,8 +37,9 @@ pub(crate) fn is_carried(
     Ok(is_later && has_all && connected)
 }
 
-// Whether a tree is the selected rows of one table, or its select list. The conditions that read the
-// table alone are then asked before the others, and the rows that they drop are no longer there.
+// Whether a tree is the selected rows of one table, or its select list. The conditions that read
+// the table alone are then asked before the others, and the rows that they drop are no longer
+// there.
 fn is_of_table(tree: &DepTree) -> bool {
     match tree {
         DepTree::Select(t, _) => is_table(t.get()) || is_of_table(t.get()),

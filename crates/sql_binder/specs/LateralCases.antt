@@ -85,8 +85,8 @@ first_of_subquery = statement
 -- `select 1 from region, lateral (select r_name from nation) as t`,
 -- `select 1 from region left join lateral (select n_name from nation) as t on n_name = r_name`,
 -- `select 1 from region, supplier join lateral (select r_name from nation) as t on ..`, whose row
--- so far has region's columns too. A first item sees a row so far without columns, so that the row of
--- the query around stands one level further out.
+-- so far has region's columns too. A first item sees a row so far without columns, so that the row
+-- of the query around stands one level further out.
 abbrev pub BoundLaterals : Type 0
 BoundLaterals = (bound_query
     (statement (select_one (from_table (codes "region") ∷ lateral_item name_of_region ∷ []))) []

@@ -41,13 +41,15 @@ joined op all a b = block.Combined a (behind op all b ∷ [])
 abbrev pub column_of : Name → Name → Block
 column_of column from = select_from (item (named column) ∷ []) (from_table from ∷ [])
 
--- select o_orderkey from orders, select o_totalprice from orders, select r_name from region
+-- `select o_orderkey from orders`
 abbrev pub keys : Block
 keys = column_of (codes "o_orderkey") (codes "orders")
 
+-- `select o_totalprice from orders`
 abbrev pub prices : Block
 prices = column_of (codes "o_totalprice") (codes "orders")
 
+-- `select r_name from region`
 abbrev pub names : Block
 names = column_of (codes "r_name") (codes "region")
 
@@ -55,9 +57,11 @@ names = column_of (codes "r_name") (codes "region")
 abbrev pub bound_column : BoundExpr → BoundBlock
 bound_column x = bound.Plain (source.Table table.Orders) (closed (scalar.All [])) (x ∷ [])
 
+-- the query of keys, bound
 abbrev pub bound_keys : BoundBlock
 bound_keys = bound_column (record { inputs = input.Column 0 0 ∷ []; expr = scalar.Column 0 })
 
+-- the query of prices, bound
 abbrev pub bound_prices : BoundBlock
 bound_prices = bound_column (record { inputs = input.Column 0 3 ∷ []; expr = scalar.Column 0 })
 

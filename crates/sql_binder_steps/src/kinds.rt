@@ -12,6 +12,7 @@ use expr_aggregates::AggregateFunction;
 use expr_operators::Arithmetic;
 use expr_scalar::Kind;
 
+/// Whether it is a condition, and no value.
 pub fn is_condition(k: BoundKind) -> bool
     ensures { result ≡ spec.is_condition k }
 {
@@ -21,6 +22,7 @@ pub fn is_condition(k: BoundKind) -> bool
     }
 }
 
+/// Whether it is a value, and no condition.
 pub fn is_value(k: BoundKind) -> bool
     ensures { result ≡ spec.is_value k }
 {
@@ -30,6 +32,7 @@ pub fn is_value(k: BoundKind) -> bool
     }
 }
 
+/// Whether it is a text.
 pub fn is_text(k: BoundKind) -> bool
     ensures { result ≡ spec.is_text k }
 {
@@ -39,6 +42,7 @@ pub fn is_text(k: BoundKind) -> bool
     }
 }
 
+/// Whether it is a date.
 pub fn is_date(k: BoundKind) -> bool
     ensures { result ≡ spec.is_date k }
 {
@@ -48,6 +52,7 @@ pub fn is_date(k: BoundKind) -> bool
     }
 }
 
+/// Whether it is a number of any scale.
 pub fn is_number(k: BoundKind) -> bool
     ensures { result ≡ spec.is_number k }
 {

@@ -62,6 +62,7 @@ pub fn narrow(n: usize) -> Result<u32, AllocError>
     u32::try_from(n).map_err(|_| AllocError)
 }
 
+/// Whether two names have the same bytes.
 pub fn same_name(a: &Name, b: &Name) -> bool
     ensures { result ≡ bytes_eq a.now b.now }
 {

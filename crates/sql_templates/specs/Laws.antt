@@ -20,7 +20,7 @@ pub record HasTokens (number : ℕ) (text : List ℕ) : Type 0 where
   pub lexes : Lexes 0 text tokens
   pub kinds : Beside IsOfKind sample tokens
 
--- such is each text that a query is filled to
+-- each filled text has tokens
 abbrev pub FilledIsTokens : Type 0
 FilledIsTokens = (number : ℕ) (values : List TemplateValue) (text : List ℕ) → AreWritable values
     → filled_query number values ≡ Ok text → HasTokens number text
@@ -29,7 +29,7 @@ FilledIsTokens = (number : ℕ) (values : List TemplateValue) (text : List ℕ) 
 abbrev pub IsSomeScript : List ℕ → Type 0
 IsSomeScript text = (statements : List Statement) × IsReadScript text statements
 
--- such is each text that a query is filled to
+-- each filled text is a script
 abbrev pub FilledIsScript : Type 0
 FilledIsScript = (number : ℕ) (values : List TemplateValue) (text : List ℕ) → AreWritable values
     → filled_query number values ≡ Ok text → IsSomeScript text

@@ -15,7 +15,7 @@ use Rattle.store_file_reader.specs.declared.key.Keys.TheVariants.{Ascending, Has
 abbrev pub key_number : Value → ℤ
 key_number v = unwrap_or (small_number v) (pos 0)
 
--- the numbers of a row's key, 0 in place of a second one that there is not
+-- the numbers of a row's key; the second is 0 if the key has one column
 abbrev pub row_key : LineForm → List Value → Key
 row_key form row = record {
   first = key_number (slice_index_or (key_of form row) 0 value.Null);

@@ -14,7 +14,7 @@ use base_key_tables::KeySet;
 use base_schema::DataFile;
 use std::alloc::{AllocError, Global};
 
-/// The numbers of a row's key, 0 in place of a second one that there is not.
+/// The numbers of a row's key; the second is 0 if the key has one column.
 #[derive(Clone, Copy, PartialEq, Eq, Hash)]
 pub struct Key {
     first: i64,

@@ -127,7 +127,7 @@ fn next_field(column: LineColumn, text: &[u8]) -> Option<(Field<'_>, &[u8], bool
     }
 }
 
-// The same of a field in whatever spelling.
+// `next_field` of a field in any spelling.
 fn other_field(column: LineColumn, text: &[u8]) -> Option<(Field<'_>, &[u8], bool)>
     ensures value { IfSome result
         (λ f. column_value column (before_first is_bar text.now) ≡ Ok (field_value f.0)) }

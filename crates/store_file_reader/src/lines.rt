@@ -106,7 +106,7 @@ impl Lines {
         Ok(())
     }
 
-    /// The same by a vector for the line's fields, which keeps its room from line to line.
+    /// `add` with a vector for the line's fields, which keeps its room from line to line.
     pub fn add_by<'a>(
         &mut self,
         fields: &mut Vec<Field<'a>>,

@@ -58,8 +58,8 @@ abbrev pub taker_view : ℕ × ℕ → List Message → QueueView
 taker_view quotas ms =
     record { opening = false; quotas = Some quotas; sent = (None, None); taken = Some ms }
 
--- A sender: the gateway that it is of, which of the two it is, what it sent, how many refreshes each
--- sender may send, and how many messages the queue holds at most.
+-- A sender: the gateway that it is of, which of the two it is, what it sent, how many refreshes
+-- each sender may send, and how many messages the queue holds at most.
 pub record Sending : Type 0 where
   pub gateway : TableId
   pub id : SenderId

@@ -10,7 +10,8 @@ use crossbeam_queue::protocol::{Join, Lesson, Outcome, Protocol, Split};
 use crossbeam_queue::{Pass, RuledArrayQueue};
 use std::collections::LinkedList;
 
-/// What a pass knows: the quotas, and of its own role what was sent or taken. No value of it is made.
+/// What a pass knows: the quotas, and of its own role what was sent or taken. No value of it is
+/// made.
 pub struct QueueView {
     pub opening: bool,
     pub quotas: Option<(u64, u64)>,
@@ -93,6 +94,8 @@ impl Lesson<Message, QueueView> for Gathering {
     ghost fact = { IsAllSent };
 }
 
+/// The queue of the senders' messages, whose rule is `InOrder`.
 pub type MessageQueue = RuledArrayQueue<Message, QueueView, InOrder>;
 
+/// A pass to that queue, which keeps what its role knows.
 pub type QueuePass = Pass<Message, QueueView>;

@@ -67,7 +67,8 @@ AgainPinsLaw = (world : World) (session : ℕ) (cuts : List (List ℕ))
     → (pin_of (happens world (Again session cuts)) session ≡ Some (seen_of world session))
     × (seen_of (happens world (Again session cuts)) session ≡ seen_of world session)
 
--- a session that pins a version and goes back pins the one that it names, and what it has seen stays
+-- a session that pins a version and goes back pins the one that it names, and what it has seen
+-- stays
 abbrev pub BackPinsLaw : Type 0
 BackPinsLaw = (world : World) (session pin version : ℕ) (cuts : List (List ℕ))
     → IsSession world session → pin_of world session ≡ Some pin

@@ -50,8 +50,8 @@ pub enum Step {
     Begin(u32, Cuts),
     /// The session pins the version again that it has seen, whose tables are cut so.
     Again(u32, Cuts),
-    /// The session pins a version of this number in place of the one that it pins. It is at most the
-    /// version that the session has seen, and fewer than 64 before it; its tables are cut so.
+    /// The session pins a version of this number in place of the one that it pins. It is at most
+    /// the version that the session has seen, and fewer than 64 before it; its tables are cut so.
     Back(u32, u64, Cuts),
     /// The session scans a piece of a table of the version that it pins.
     Scan(u32, TableName, usize),

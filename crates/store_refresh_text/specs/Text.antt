@@ -10,8 +10,8 @@ abbrev pub date_written : ℕ → List ℕ
 date_written date =
     last_digits 4 (date / 10000) ++ 45 ∷ (last_digits 2 (date / 100 % 100) ++ 45 ∷ last_digits 2 (date % 100))
 
--- a value as a field has it: a number with all the places of its scale, a text as it is, null as the
--- two bytes \N; a fault is in no field
+-- a value as a field has it: a number with all the places of its scale, a text as it is, null as
+-- the two bytes \N; a fault is in no field
 abbrev pub field_written : Value → List ℕ
 field_written (Fault f) = []
 field_written (Number scale c) = decimal_written c scale

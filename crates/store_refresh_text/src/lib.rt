@@ -1,5 +1,5 @@
-//! The rows and keys that refreshes bring as texts: written as the lines of files, and read back from
-//! them.
+//! The rows and keys that refreshes bring as texts: written as the lines of files, and read back
+//! from them.
 #![tactic(auto)]
 
 mod laws;

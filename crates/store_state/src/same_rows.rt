@@ -111,7 +111,8 @@ fn is_same_segment(first: &Segment, second: &Segment) -> bool
     have_same_columns(batch, other)
 }
 
-/// Whether two lists of segments are as long, and each two segments are found to have the same rows.
+/// Whether two lists of segments are as long, and each two segments are found to have the same
+/// rows.
 fn are_same_segments(first: &[Segment], second: &[Segment]) -> bool
     ensures { IsTrue result → first.now ≡ second.now }
 {

@@ -29,7 +29,8 @@ pub record IsOlder (last : Trials) (number : ℕ) (older : Trials) : Type 0 wher
   pub version : version_of older ≡ number
   pub tables : tables_of older ≡ version_state last.base last.list number
 
--- what comes of asking a version for the one of a number: that one, where it is recent; else why not
+-- what comes of asking a version for the one of a number: that one, where it is recent; else why
+-- not
 abbrev pub GivesOlder : Trials → ℕ → Result Trials VersionError → Type 0
 GivesOlder last number (Ok older) = IsRecent (version_of last) number × IsOlder last number older
 GivesOlder last number (Err Unknown) = IsUnknown (version_of last) number

@@ -84,7 +84,7 @@ impl Compacted {
         self.done == self.list.len()
     }
 
-    /// The same version as a directory, whose tables' parts are these segments.
+    /// This version as a directory, whose tables' parts are these segments.
     pub fn directory(&self) -> Result<Directory, AllocError>
         ensures { IfOk result (λ d. d ≡ self.now.version) }
     {
@@ -97,7 +97,7 @@ impl Compacted {
         Ok(Directory::at(self.alloc, base, list, self.most, last, earlier))
     }
 
-    /// The same version, whose tables' parts are these segments.
+    /// Becomes a directory, whose tables' parts are these segments.
     pub fn into_directory(self) -> Result<Directory, AllocError>
         ensures { IfOk result (λ d. d ≡ self.version) }
     {

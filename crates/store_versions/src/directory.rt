@@ -84,7 +84,7 @@ impl Directory {
         })
     }
 
-    /// The same version once more.
+    /// This version once more; no row is copied.
     pub fn another(&self) -> Result<Directory, AllocError>
         ensures { IfOk result (λ d. d ≡ self.now) }
     {
@@ -176,7 +176,7 @@ impl Directory {
         }
     }
 
-    /// The same version, whose tables lie in segments of which no row is deleted and no two
+    /// This version, whose tables lie in segments of which no row is deleted and no two
     /// neighbours fit in one.
     pub fn compacted(&self) -> Result<Compacted, AllocError>
         ensures { IfOk result (IsCompacted self.now) }
@@ -282,7 +282,7 @@ impl Directory {
         Ok(Directory::at(self.alloc, base, list, self.most, last, earlier))
     }
 
-    /// The same version of the list that is longer by this refresh.
+    /// This version of the list that is longer by this refresh.
     pub fn offered(&self, refresh: Refresh) -> Result<Directory, AllocError>
         requires { length self.now.list < self.now.most }
         ensures offered { IfOk result (λ d. d ≡ offered refresh self.now) }

@@ -41,7 +41,7 @@ impl KeptVersion {
         }
     }
 
-    /// The same version, of which nothing is copied.
+    /// This version once more, of which nothing is copied.
     pub(crate) fn another(&self) -> Result<KeptVersion, AllocError>
         ensures { IfOk result (λ kept. kept ≡ self.now) }
     {

@@ -52,7 +52,8 @@ fn an_insert_is_read(rt: HostRuntime) -> Result<(), Fail> {
     assert!(rt; is_spelled(alloc, &insert(alloc, ORDER, LINE)?)?);
     assert!(rt; is_spelled(alloc, &insert(alloc, "", "")?)?);
     assert!(rt; is_spelled(alloc, &insert(alloc, "", LINE)?)?);
-    // Texts that a file may have and a journal has not: one place after the point, no bar at the end.
+    // Texts that a file may have and a journal has not: one place after the point, no bar at the
+    // end.
     let short = "9|1|O|10.0|1996-01-02|5-LOW|Clerk#1|0|c|\n";
     let open = "9|1|O|10.00|1996-01-02|5-LOW|Clerk#1|0|c\n";
     assert!(rt; !is_spelled(alloc, &insert(alloc, short, LINE)?)?);

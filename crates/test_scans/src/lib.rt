@@ -2,4 +2,4 @@
 #![tactic(auto)]
 
 #[cfg(test)]
-mod scans_called;
+mod scans;

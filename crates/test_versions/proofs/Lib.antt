@@ -1,1 +1,1 @@
-mod Given
+mod GivenTwice

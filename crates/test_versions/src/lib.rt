@@ -1,14 +1,19 @@
-//! Tests of the machine, of lists that get longer, and of snapshots that are held while others are
-//! published, through public calls. No other crate uses this one.
+//! Tests of the machine, of lists that get longer, of snapshots that are held while others are
+//! published, and of two senders through one gateway, through public calls. No other crate uses
+//! this one.
 #![tactic(auto)]
 
 #[cfg(test)]
+mod feeding;
+#[cfg(test)]
 mod files;
 #[cfg(test)]
-mod given_called;
+mod given;
 #[cfg(test)]
-mod lists_called;
+mod lists;
 #[cfg(test)]
-mod machine_called;
+mod machine;
 #[cfg(test)]
-mod snapshots_called;
+mod one_place;
+#[cfg(test)]
+mod snapshots;

@@ -4,7 +4,7 @@ ghost use denote.Param.Send.{IsSync};
 ghost use Rattle.store_gateway.specs.Queue.{pick};
 ghost use Rattle.store_gateway.specs.Roles.{new_sender, sent_by};
 ghost use Rattle.store_gateway.specs.declared.message.SenderId.TheVariants.{First, Second};
-ghost use Rattle.test_gateway.specs.Sendings.{Fits, HasSent};
+ghost use Rattle.test_versions.specs.Sendings.{Fits, HasSent};
 
 use base_refusals::{LineFault, LineRefusal, RefreshFile};
 use std::sync::Wait;

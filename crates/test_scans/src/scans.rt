@@ -81,8 +81,8 @@ const FUNCTIONS: [AggregateFunction; 4] = [
     AggregateFunction::Max,
 ];
 
-// How many rows there are, the sum, the average, the least and the greatest of their quantities, and
-// how many lines they have.
+// How many rows there are, the sum, the average, the least and the greatest of their quantities,
+// and how many lines they have.
 fn all_aggregates(alloc: Global) -> Result<Vec<Aggregate>, AllocError> {
     let mut all = Vec::new(alloc);
     all.push(Aggregate::CountRows)?;

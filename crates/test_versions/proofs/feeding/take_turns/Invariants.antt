@@ -1,6 +1,6 @@
 use Rattle.std.proofs.Common.{◌≡◌}
 use Rattle.store_gateway.specs.Feeds.{GatewayFits, gateway_name}
-use Rattle.test_gateway.proofs.feeding.take_turns.Given as goal
+use Rattle.test_versions.proofs.feeding.take_turns.Given as goal
 
 abbrev pub invariant-turns : goal.invariant-turns
 invariant-turns g l = GatewayFits l.feed.taker l.publisher.version

@@ -1,7 +1,7 @@
 use Rattle.std.proofs.Common.{◌∙◌}
 use Rattle.store_snapshots.specs.Ruled.{note_version, opening_of}
-use Rattle.test_versions.proofs.Given.{given_twice}
-use Rattle.test_versions.proofs.given_called.give_twice.Goals as goal
+use Rattle.test_versions.proofs.GivenTwice.{given_twice}
+use Rattle.test_versions.proofs.given.give_twice.Goals as goal
 
 pub learn-requires : goal.learn-requires
 learn-requires g c =
