@@ -91,62 +91,62 @@ count_of places side columns exprs is =
     ∙ length-map columns (λ (c : SetColumn). value (side c) (gathered places []))
 
 module _ (D : DomainRows) (start : ℕ)
-  (size : (env : Env) (d : List Value) → D env d → length d ≡ start) where
-    pub side_tree : (side : SetColumn → Expr) (columns : List SetColumn) (occurs : List TableName)
-        (K : RowsOf) (w : ℕ) (tree : DepTree) (exprs : List Expr) → IsTreeIn D occurs K tree w
-        → ReadsOf (columns_from start w) (λ r. map (λ (c : SetColumn). value (side c) r) columns)
-        exprs
-        → IsTreeIn D occurs
-        (λ state env.
-        project (λ r. map (λ (c : SetColumn). value (side c) r) columns) (K state env))
-        (t.Project tree exprs) (length columns)
-    side_tree side columns occurs K w tree exprs is read =
-        let h : List Value → List Value = λ r. map (λ (c : SetColumn). value (side c) r) columns in
-        record {
-          are_rows = record {
-            stand = λ state env.
-                stands.project_stands h (K state env) (is.are_rows.stand state env);
-            wide = λ state ok env.
-                kept.project_each (λ r. length r ≡ w) (λ r. length r ≡ length columns) h
-                (K state env) (λ r m. length-map columns (λ (c : SetColumn). value (side c) r))
-                (is.are_rows.wide state ok env);
-          };
-          scans = scans_Project tree exprs ∙ is.scans;
-          width = width_Project tree exprs
-              ∙ count_of (columns_from start w) side columns exprs read;
-          rows = λ state ok env d i.
-              rows_Project tree exprs (table_rows state) d
-              ∙ ap (project (listed exprs d)) (is.rows state ok env d i)
-              ∙ projected_as (listed exprs d) h (λ (x : Ranked Value). length x.values ≡ w)
-              (K state env) (is.are_rows.wide state ok env)
-              (λ x m. reads_own start w h exprs d x.values read (size env d i) m);
-        }
+    (size : (env : Env) (d : List Value) → D env d → length d ≡ start) where
+  pub side_tree : (side : SetColumn → Expr) (columns : List SetColumn) (occurs : List TableName)
+      (K : RowsOf) (w : ℕ) (tree : DepTree) (exprs : List Expr) → IsTreeIn D occurs K tree w
+      → ReadsOf (columns_from start w) (λ r. map (λ (c : SetColumn). value (side c) r) columns)
+      exprs
+      → IsTreeIn D occurs
+      (λ state env.
+      project (λ r. map (λ (c : SetColumn). value (side c) r) columns) (K state env))
+      (t.Project tree exprs) (length columns)
+  side_tree side columns occurs K w tree exprs is read =
+      let h : List Value → List Value = λ r. map (λ (c : SetColumn). value (side c) r) columns in
+      record {
+        are_rows = record {
+          stand = λ state env.
+              stands.project_stands h (K state env) (is.are_rows.stand state env);
+          wide = λ state ok env.
+              kept.project_each (λ r. length r ≡ w) (λ r. length r ≡ length columns) h
+              (K state env) (λ r m. length-map columns (λ (c : SetColumn). value (side c) r))
+              (is.are_rows.wide state ok env);
+        };
+        scans = scans_Project tree exprs ∙ is.scans;
+        width = width_Project tree exprs
+            ∙ count_of (columns_from start w) side columns exprs read;
+        rows = λ state ok env d i.
+            rows_Project tree exprs (table_rows state) d
+            ∙ ap (project (listed exprs d)) (is.rows state ok env d i)
+            ∙ projected_as (listed exprs d) h (λ (x : Ranked Value). length x.values ≡ w)
+            (K state env) (is.are_rows.wide state ok env)
+            (λ x m. reads_own start w h exprs d x.values read (size env d i) m);
+      }
 
-    pub set_tree : (l r : DepTree) (n : ℕ) (operation : SetOperation) (S R : List TableName)
-        (K L : RowsOf) → IsTreeIn D S K l n → IsTreeIn D R L r n
-        → IsTreeIn D (S ++ R)
-        (λ state env. set_rows same_value operation (K state env) (L state env))
-        (t.Set l r operation) n
-    set_tree l r n operation S R K L a b =
-        let even : width_of l ≡ width_of r = a.width ∙ sym b.width in
-        record {
-          are_rows = record {
-            stand = λ state env.
-                set_rows_stand same_value value_identity operation (K state env) (L state env)
-                (a.are_rows.stand state env) (b.are_rows.stand state env);
-            wide = λ state ok env.
-                set_rows_each same_value value_identity (λ v. length v ≡ n) operation (K state env)
-                (L state env) (a.are_rows.wide state ok env) (b.are_rows.wide state ok env);
-          };
-          scans = scans_Set l r operation even ∙ ap (λ z. z ++ scans_of r) a.scans
-              ∙ ap (λ z. S ++ z) b.scans;
-          width = width_Set l r operation ∙ a.width;
-          rows = λ state ok env d i.
-              rows_Set l r operation (table_rows state) d even
-              ∙ ap (λ z. set_rows same_value operation z (tree_rows r (table_rows state) d))
-              (a.rows state ok env d i)
-              ∙ ap (λ z. set_rows same_value operation (K state env) z) (b.rows state ok env d i);
-        }
+  pub set_tree : (l r : DepTree) (n : ℕ) (operation : SetOperation) (S R : List TableName)
+      (K L : RowsOf) → IsTreeIn D S K l n → IsTreeIn D R L r n
+      → IsTreeIn D (S ++ R)
+      (λ state env. set_rows same_value operation (K state env) (L state env))
+      (t.Set l r operation) n
+  set_tree l r n operation S R K L a b =
+      let even : width_of l ≡ width_of r = a.width ∙ sym b.width in
+      record {
+        are_rows = record {
+          stand = λ state env.
+              set_rows_stand same_value value_identity operation (K state env) (L state env)
+              (a.are_rows.stand state env) (b.are_rows.stand state env);
+          wide = λ state ok env.
+              set_rows_each same_value value_identity (λ v. length v ≡ n) operation (K state env)
+              (L state env) (a.are_rows.wide state ok env) (b.are_rows.wide state ok env);
+        };
+        scans = scans_Set l r operation even ∙ ap (λ z. z ++ scans_of r) a.scans
+            ∙ ap (λ z. S ++ z) b.scans;
+        width = width_Set l r operation ∙ a.width;
+        rows = λ state ok env d i.
+            rows_Set l r operation (table_rows state) d even
+            ∙ ap (λ z. set_rows same_value operation z (tree_rows r (table_rows state) d))
+            (a.rows state ok env d i)
+            ∙ ap (λ z. set_rows same_value operation (K state env) z) (b.rows state ok env d i);
+      }
 
 pub set_arm : (outer : List OuterColumn) (start : ℕ) (a b : BoundBlock) (columns : List SetColumn)
     (operation : SetOperation) (left : DepTree) (w : ℕ) (right : DepTree) (v : ℕ)

@@ -36,7 +36,6 @@ use Rattle.plan_dependent_tree.specs.Supplied.{InputsAreSupplied}
 use Rattle.plan_dependent_tree.proofs.tree.+depend.Answers.Blocks as blocks
 use Rattle.plan_dependent_tree.proofs.tree.+depend.Answers.Sources as sources
 use Rattle.plan_dependent_tree.proofs.tree.+depend.Goals as goal
-
 mod Blocks
 mod Sources
 
