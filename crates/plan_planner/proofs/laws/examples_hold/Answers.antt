@@ -4,4 +4,4 @@ use Rattle.plan_planner.proofs.laws.examples_hold.Goals as goal
 
 pub returns : goal.returns
 unfolding digits
-returns c = record { scan = refl; inputs = refl }
+returns c = record { scan = refl; inputs = refl; sets = refl }
