@@ -10,6 +10,7 @@ use Rattle.std.proofs.lemmas.Option.{none-some, same_Some}
 use Rattle.base_row_laws.specs.Operators.{project}
 use Rattle.base_row_laws.proofs.Lists.{Each-all, Each-weaker}
 use Rattle.base_row_laws.proofs.AtHand.{project_at_hand}
+use Rattle.base_row_laws.proofs.Projections.{project_twice}
 use Rattle.base_value.specs.Truth.{truth_rank}
 use Rattle.base_value.specs.declared.value.Value.{Value}
 use Rattle.base_value.specs.declared.value.Value.TheVariants.{Null}
@@ -94,6 +95,51 @@ narrowed_some n a copy new own es i list is = record {
       (Each-all (λ x. listed (map (λ c. e.Column (n + c)) own) d x.values ≡ gathered own x.values) A
       (λ x. listed_after n own d x.values ld));
 }
+
+none_listed : (es : List Expr) (d r : List Value) → listed [] d r ≡ gathered [] (listed es d r)
+unfolding listed values gathered
+none_listed es d r = refl
+
+none_gathered : (d r : List Value) → listed [] d r ≡ gathered [] r
+unfolding listed values gathered
+none_gathered d r = refl
+
+-- no column of a select list
+pub no_columns_list : (n : ℕ) (a tree copy seen new : DepTree) (es none : List Expr)
+    → tree ≡ t.Project a es → seen ≡ a → copy ≡ seen → none ≡ [] → new ≡ t.Project copy none
+    → IsNarrowed n tree [] new
+no_columns_list n a tree copy seen new es none is is_seen is_copy empty made =
+    let all : new ≡ t.Project a [] =
+    made ∙ ap (λ (y : DepTree). t.Project y none) (is_copy ∙ is_seen) ∙ ap (λ l. t.Project a l) empty in
+    record {
+      scans = ap scans_of is ∙ scans_Project a es ∙ sym (scans_Project a []) ∙ sym (ap scans_of all);
+      width = ap width_of all ∙ width_Project a [];
+      rows = λ db d k ld.
+          let A = tree_rows a db d in
+          ap (λ y. tree_rows y db d) all ∙ rows_Project a [] db d
+          ∙ project_at_hand (listed [] d) (λ r. gathered [] (listed es d r)) A
+          (Each-all (λ x. listed [] d x.values ≡ gathered [] (listed es d x.values)) A
+          (λ x. none_listed es d x.values))
+          ∙ sym (project_twice (listed es d) (gathered []) A)
+          ∙ ap (project (gathered [])) (sym (ap (λ y. tree_rows y db d) is ∙ rows_Project a es db d));
+    }
+
+-- no column of another tree
+pub no_columns_other : (n : ℕ) (a copy new : DepTree) (none : List Expr) → copy ≡ a → none ≡ []
+    → new ≡ t.Project copy none → IsNarrowed n a [] new
+no_columns_other n a copy new none is empty made =
+    let all : new ≡ t.Project a [] =
+    made ∙ ap (λ (y : DepTree). t.Project y none) is ∙ ap (λ l. t.Project a l) empty in
+    record {
+      scans = sym (scans_Project a []) ∙ sym (ap scans_of all);
+      width = ap width_of all ∙ width_Project a [];
+      rows = λ db d k ld.
+          let A = tree_rows a db d in
+          ap (λ y. tree_rows y db d) all ∙ rows_Project a [] db d
+          ∙ project_at_hand (listed [] d) (gathered []) A
+          (Each-all (λ x. listed [] d x.values ≡ gathered [] x.values) A
+          (λ x. none_gathered d x.values));
+    }
 
 pub at_place : (ps : List ℕ) (r : List Value) (i p : ℕ) → slice_get ps i ≡ Some p
     → slice_index_or (gathered ps r) i Null ≡ slice_index_or r p Null

@@ -1,5 +1,5 @@
 //! A tree without columns that nobody reads, and expressions over the columns that are left.
-ghost use Rattle.std.specs.Prelude.{◌≡◌, ◌++◌, ◌+◌, ◌<◌, IfOk, OnOk, IsTrue, map};
+ghost use Rattle.std.specs.Prelude.{◌≡◌, ℕ, ◌++◌, ◌+◌, ◌<◌, [], IfOk, OnOk, IsTrue, map};
 ghost use Rattle.std.specs.List.{All as Every};
 ghost use Rattle.expr_scalar.specs.declared.expr.Expr.TheVariants.{Column};
 ghost use Rattle.expr_conditions.specs.Ranks.{columns_from};
@@ -84,6 +84,19 @@ pub fn select_list(alloc: Global, n: u32, own: &[u32]) -> Result<Items<Expr>, Al
     Ok(es)
 }
 
+// No column of a tree: its rows alone. A select list at its top is left out.
+fn no_columns(alloc: Global, input: &DepTree) -> Result<Boxed<DepTree>, AllocError>
+    ensures { IfOk result (λ new. (n : ℕ) → IsNarrowed n input.now [] new) }
+{
+    let copy = match input {
+        DepTree::Project(t, _) => copy_tree(alloc, t.get())?,
+        _ => copy_tree(alloc, input)?,
+    };
+    let none = Items::new(alloc);
+    let new = Boxed::new(alloc, DepTree::Project(copy, none))?;
+    Ok(new)
+}
+
 /// These columns of a tree over a domain row of n columns.
 pub fn narrowed_input(
     alloc: Global,
@@ -93,6 +106,10 @@ pub fn narrowed_input(
 ) -> Result<Boxed<DepTree>, AllocError>
     ensures { IfOk result (IsNarrowed n input.now own.now) }
 {
+    if own.is_empty() {
+        let new = no_columns(alloc, input)?;
+        return Ok(new);
+    }
     let new = copy_tree(alloc, input)?;
     let count = width(input)?;
     if are_all(own, count) {
