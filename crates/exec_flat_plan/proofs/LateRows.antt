@@ -1,6 +1,6 @@
 -- The rows of a scan that are computed later.
-use Rattle.std.proofs.Common.{◌≡◌, ℕ, List, [], ◌∷◌, ◌++◌, refl, sym, ◌∙◌}
-use Rattle.base_row_laws.specs.Ranked.{Ranked, Relation, relation}
+use Rattle.std.proofs.Common.{◌≡◌, ℕ, List, [], ◌∷◌, ◌++◌, refl}
+use Rattle.base_row_laws.specs.Ranked.{Relation, relation}
 use Rattle.base_row_laws.specs.Rows.{scanned}
 use Rattle.base_value.specs.declared.value.Value.{Value}
 use Rattle.base_columns.specs.Lists.{one_list}
