@@ -28,7 +28,7 @@ fn left_list(
     Ok(exprs)
 }
 
-// The same over the flat row of the right side.
+// The columns of a set operation over the flat row of the right side.
 fn right_list(
     alloc: Global,
     columns: &[SetColumn],
