@@ -41,8 +41,8 @@ fn shared_bag(alloc: Global, width: usize, batches: &[Batch]) -> Result<Bag, All
     Ok(bag)
 }
 
-// Rows as a part, with their groups by these columns, which these workers make. `AllocError` at 2^32
-// rows: row numbers are `u32`.
+// Rows as a part, with their groups by these columns, which these workers make. `AllocError` at
+// 2^32 rows: row numbers are `u32`.
 fn part_of<W: Workers>(
     workers: &W,
     alloc: Global,
