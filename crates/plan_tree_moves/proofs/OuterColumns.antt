@@ -26,7 +26,7 @@ use Rattle.expr_conditions.proofs.Gather.{gather_append}
 use Rattle.plan_algebra.specs.declared.tree.DepTree.{DepTree}
 use Rattle.plan_algebra.specs.declared.tree.DepTree.TheVariants as t
 use Rattle.plan_algebra.specs.declared.tree.Side.{Side}
-use Rattle.plan_algebra.specs.Trees.{Database, HasKinds, scans_of, width_of, tree_rows, right_row}
+use Rattle.plan_algebra.specs.Trees.{Database, HasKinds, width_of, tree_rows, right_row}
 use Rattle.plan_algebra.specs.Trees.{side_of}
 use Rattle.plan_algebra.proofs.Opened.{width_Outer, rows_Outer, scans_Outer}
 use Rattle.plan_tree_moves.specs.Arranged.{SameRows}

@@ -17,7 +17,6 @@ use Rattle.base_value.specs.declared.value.Value.TheVariants.{Null}
 use Rattle.base_value.specs.Value.{same_value}
 use Rattle.expr_scalar.specs.declared.expr.Expr.{Expr}
 use Rattle.expr_scalar.specs.declared.expr.Expr.TheVariants as e
-use Rattle.expr_scalar.specs.Meaning.{value}
 use Rattle.expr_scalar.specs.Rename.{gathered, IsRenamed}
 use Rattle.expr_scalar.specs.Used.{used}
 use Rattle.expr_scalar.proofs.Uses.{used_columns_decide_lem}

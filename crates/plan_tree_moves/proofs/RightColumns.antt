@@ -17,7 +17,7 @@ use Rattle.expr_conditions.proofs.Ranks.{rank_renamed}
 use Rattle.plan_algebra.specs.declared.tree.DepTree.{DepTree}
 use Rattle.plan_algebra.specs.declared.tree.DepTree.TheVariants as t
 use Rattle.plan_algebra.specs.declared.tree.Side.{Side}
-use Rattle.plan_algebra.specs.Trees.{Database, HasKinds, scans_of, width_of, tree_rows, right_row}
+use Rattle.plan_algebra.specs.Trees.{scans_of, width_of, tree_rows, right_row}
 use Rattle.plan_algebra.specs.Trees.{side_of, mark_under}
 use Rattle.plan_algebra.proofs.Opened.{width_Mark, rows_Mark, scans_Mark}
 use Rattle.plan_tree_moves.specs.Arranged.{SameRows}
