@@ -118,7 +118,7 @@ pub(crate) fn kept_batch(alloc: Global, e: &Expr, batch: &Batch) -> Result<Batch
     ensures rows { IfOk result (λ b. b.rows ≡ select (rank_of e.now) batch.now.rows) }
 {
     if let Expr::All(es) = e {
-        if es.len() > 1 {
+        if !es.is_empty() {
             let kept = kept_by_all(alloc, es.as_slice(), batch)?;
             return Ok(kept);
         }

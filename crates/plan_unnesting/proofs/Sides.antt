@@ -3,6 +3,7 @@ use Rattle.std.proofs.Common.{◌≡◌, ℕ, ◌+◌, ◌<◌, List, [], ◌∷
 use Rattle.std.specs.Prelude.{true, false, ◌==◌}
 use Rattle.std.proofs.lemmas.Bool.{true≢false, eqb-true}
 use Rattle.base_row_laws.specs.Ranked.{Ranked}
+use Rattle.base_row_laws.specs.Operators.{domain_node}
 use Rattle.base_row_laws.specs.Domains.{IsDomain, Answers}
 use Rattle.base_row_laws.specs.Trees.{side_width, side_domain}
 use Rattle.base_row_laws.proofs.Lists.{Each-all}
@@ -99,6 +100,14 @@ none_of (c ∷ cs) h = let l = eqb-true (length (c ∷ cs)) 0 h in absurd (omega
 pub some_of : (cs : List ℕ) → (length cs == 0) ≡ false → cs ≡ [] → ⊥
 some_of [] h e = true≢false h
 some_of (c ∷ cs) h e = let l = ap length e in omega (arith, l)
+
+-- no notes of a domain
+pub none_noted : (nodes : List Node) (outer : ℕ) (cs : List ℕ) (notes : List Origin) → notes ≡ []
+    → AreOrigins nodes outer cs notes
+none_noted nodes outer cs notes e = record {
+  noted = λ db k.
+      no_notes notes (domain_node same_value (columns Null cs) (plan_rows db nodes outer)) e;
+}
 
 -- the rows of a side that depends on no columns
 pub own_none : (nodes : List Node) (outer : ℕ) (cs : List ℕ) (o : Footing) → cs ≡ [] → o.rows ≡ One → o.unchanged ≡ [] → IsOwnFooting nodes outer cs o

@@ -6,6 +6,7 @@ mod domain;
 mod footing;
 mod from_rows;
 mod grouped;
+mod kept_domain;
 mod lists;
 mod lowering;
 mod origins;

@@ -15,6 +15,7 @@ use crate::from_rows::{
     put_apart_table, put_whole,
 };
 use crate::grouped::put_groups;
+use crate::kept_domain::keeps_domain;
 use crate::put::{
     own_footing, put_distinct, put_join, put_mark, put_outer, put_project, put_scan, put_select,
     put_selection, put_set, put_single, put_total,
@@ -260,14 +261,14 @@ fn lowered_node(
         DepTree::Join(left, right, side, on) => {
             let width = footing.width()?;
             let outer = lowered(alloc, builder, left.get(), footing)?;
-            let rows = lowered_right(alloc, builder, outer, right, side, footing)?;
+            let rows = lowered_right(alloc, builder, outer, left, right, side, footing)?;
             let id = put_join(alloc, builder, outer, rows, side, width, on.get())?;
             Ok(id)
         }
         DepTree::Outer(left, right, side, on) => {
             let own = footing.width()?;
             let outer = lowered(alloc, builder, left.get(), footing)?;
-            let rows = lowered_right(alloc, builder, outer, right, side, footing)?;
+            let rows = lowered_right(alloc, builder, outer, left, right, side, footing)?;
             let nulls = width(right.get())?;
             let id = put_outer(alloc, builder, outer, rows, side, own, nulls, on.get())?;
             Ok(id)
@@ -275,14 +276,14 @@ fn lowered_node(
         DepTree::Mark(left, right, side, condition) => {
             let width = footing.width()?;
             let outer = lowered(alloc, builder, left.get(), footing)?;
-            let rows = lowered_right(alloc, builder, outer, right, side, footing)?;
+            let rows = lowered_right(alloc, builder, outer, left, right, side, footing)?;
             let id = put_mark(alloc, builder, outer, rows, side, width, condition.get())?;
             Ok(id)
         }
         DepTree::Single(left, right, side, column) => {
             let width = footing.width()?;
             let outer = lowered(alloc, builder, left.get(), footing)?;
-            let rows = lowered_right(alloc, builder, outer, right, side, footing)?;
+            let rows = lowered_right(alloc, builder, outer, left, right, side, footing)?;
             let id = put_single(alloc, builder, outer, rows, side, width, *column)?;
             Ok(id)
         }
@@ -325,6 +326,7 @@ fn lowered_right(
     alloc: Global,
     builder: &mut Builder,
     outer: NodeId,
+    left: &Boxed<DepTree>,
     right: &Boxed<DepTree>,
     side: &Side,
     footing: &mut Footing,
@@ -346,7 +348,8 @@ fn lowered_right(
             Ok(id)
         }
         Side::Dependent(columns) => {
-            let mut own = own_footing(alloc, builder, outer, columns.as_slice())?;
+            let is_kept = keeps_domain(left.get(), right.get());
+            let mut own = own_footing(alloc, builder, outer, columns.as_slice(), is_kept)?;
             let id = lowered(alloc, builder, right.get(), &mut own)?;
             Ok(id)
         }

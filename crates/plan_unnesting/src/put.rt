@@ -11,6 +11,7 @@ ghost use Rattle.plan_algebra.specs.Plans.{plan_width};
 ghost use Rattle.plan_unnesting.specs.Domains.{IsInPlan};
 ghost use Rattle.plan_unnesting.specs.Footings.{IsFooting};
 ghost use Rattle.plan_unnesting.specs.Growth.{IsPut};
+ghost use Rattle.plan_unnesting.specs.PlanKinds.{AreOrigins};
 ghost use Rattle.plan_unnesting.specs.Lowerings.{
   IsScanned,
   IsSelection,
@@ -22,7 +23,7 @@ ghost use Rattle.plan_unnesting.specs.Lowerings.{
   Lowers,
 };
 
-use crate::domain::DomainRows;
+use crate::domain::{DomainRows, Origin};
 use crate::footing::{Footing, FootingRows};
 use crate::lists::{
     column_list, first_columns, matched_columns, own_and_all, select_list, with_first_columns,
@@ -441,13 +442,34 @@ pub(crate) fn put_total(
     }
 }
 
+// Notes of those of a node's columns that come unchanged from a table; none of a domain that is to
+// be kept, since without notes no other column stands for one of its own.
+fn notes_of_domain(
+    alloc: Global,
+    builder: &Builder,
+    outer: NodeId,
+    columns: &[u32],
+    is_kept: bool,
+) -> Result<Items<Origin>, AllocError>
+    requires { outer < length builder.now.nodes }
+    ensures { IfOk result (AreOrigins builder.now.nodes outer columns.now) }
+{
+    if is_kept {
+        return Ok(Items::new(alloc));
+    }
+    let notes = origins(alloc, builder.nodes.as_slice(), outer, columns)?;
+    Ok(notes)
+}
+
 // The rows of a right side that depends on these columns of its left side, with notes of those that
-// come unchanged from a table. One that depends on no columns is closed.
+// come unchanged from a table, unless the domain is to be kept. One that depends on no columns is
+// closed.
 pub(crate) fn own_footing(
     alloc: Global,
     builder: &Builder,
     outer: NodeId,
     columns: &[u32],
+    is_kept: bool,
 ) -> Result<Footing, AllocError>
     requires { outer < length builder.now.nodes }
     ensures { IfOk result (IsOwnFooting builder.now.nodes outer columns.now) }
@@ -455,7 +477,7 @@ pub(crate) fn own_footing(
     if columns.is_empty() {
         return Ok(Footing::one(alloc));
     }
-    let unchanged = origins(alloc, builder.nodes.as_slice(), outer, columns)?;
+    let unchanged = notes_of_domain(alloc, builder, outer, columns, is_kept)?;
     let columns = Items::from_slice(alloc, columns)?;
     let rows = FootingRows::Due(outer, columns);
     Ok(Footing { rows, unchanged })

@@ -5,8 +5,8 @@ use Rattle.expr_conditions.proofs.Ranks.{rank_All}
 use Rattle.exec_parallel_scan.proofs.Narrowing.{select_same}
 use Rattle.exec_parallel_scan.proofs.kept.kept_batch.Goals as goal
 
-pub returns-then-len-gt1-clause-rows : goal.returns-then-len-gt1-clause-rows
-returns-then-len-gt1-clause-rows c =
+pub returns-then-not-is_empty-clause-rows : goal.returns-then-not-is_empty-clause-rows
+returns-then-not-is_empty-clause-rows c =
     let rows = c.args.batch.now.rows in
     let es = c.in-All.es in
     c.in_ok-kept.ensures.rows ∙ ap (λ l. select (all_rank l) rows) c.as_slice.ensures

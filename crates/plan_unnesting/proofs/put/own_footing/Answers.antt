@@ -1,6 +1,5 @@
-use Rattle.std.proofs.Common.{◌∙◌, sym, ap, subst}
+use Rattle.std.proofs.Common.{◌∙◌, sym, ap}
 use Rattle.plan_unnesting.specs.declared.footing.FootingRows.TheVariants.{Due}
-use Rattle.plan_unnesting.specs.PlanKinds.{AreOrigins}
 use Rattle.plan_unnesting.proofs.Sides.{none_of, some_of, own_none, own_due}
 use Rattle.plan_unnesting.proofs.put.own_footing.Goals as goal
 
@@ -13,4 +12,4 @@ pub returns : goal.returns
 returns c =
     own_due c.args.builder.now.nodes c.args.outer c.args.columns.now _ (some_of c.args.columns.now (sym c.is_empty.ensures ∙ c.if-is_empty.false)) c.requires
     (ap (Due c.args.outer) c.in_ok-columns.ensures)
-    (subst (λ ns. AreOrigins ns c.args.outer c.args.columns.now c.in_ok-unchanged.unchanged) c.as_slice.ensures c.in_ok-unchanged.ensures)
+    c.in_ok-unchanged.ensures
