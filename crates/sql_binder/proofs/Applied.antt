@@ -1,5 +1,5 @@
 -- The meanings of the parts of a query at what is collected before them, by which a query computes.
-use Rattle.std.proofs.Common.{◌≡◌, ℕ, List, map, ap, length}
+use Rattle.std.proofs.Common.{◌≡◌, ℕ, List, map, ap, ◌∙◌, length}
 use Rattle.std.specs.Prelude.{Option}
 use Rattle.sql_ast.specs.declared.tree.Block.{Block}
 use Rattle.sql_ast.specs.declared.tree.Block.TheVariants as block

@@ -38,8 +38,8 @@ use Rattle.sql_binder.specs.FromLists.{from_item_step, on_joining, chained}
 use Rattle.sql_binder.specs.Blocks.{combined}
 use Rattle.sql_binder.specs.Binding.{clause_meaning, meaning, from_item_meaning, selected_meaning}
 use Rattle.sql_binder.specs.Binding.{arm_meaning, block_meaning, factor_meaning, item_meaning}
-use Rattle.sql_binder.specs.Binding.{join_meaning, joined_meaning, term_meaning, select_meaning, set_part_meaning}
-use Rattle.sql_binder.specs.Binding.{clauses_of}
+use Rattle.sql_binder.specs.Binding.{join_meaning, joined_meaning, term_meaning, select_meaning}
+use Rattle.sql_binder.specs.Binding.{set_part_meaning, clauses_of}
 use Rattle.sql_binder.proofs.Meant.{clause_meaning_at, clause_meaning_is, meaning_at, meaning_is}
 use Rattle.sql_binder.proofs.Meant.{from_item_meaning_at, from_item_meaning_is, selected_meaning_at}
 use Rattle.sql_binder.proofs.Meant.{selected_meaning_is, arm_meaning_at, arm_meaning_is}
