@@ -4,6 +4,7 @@ use Rattle.std.specs.Prelude.{true, false, ◌==◌}
 use Rattle.std.proofs.lemmas.Bool.{true≢false, eqb-true}
 use Rattle.base_row_laws.specs.Ranked.{Ranked}
 use Rattle.base_row_laws.specs.Operators.{domain_node}
+use Rattle.base_row_laws.specs.Rows.{columns}
 use Rattle.base_row_laws.specs.Domains.{IsDomain, Answers}
 use Rattle.base_row_laws.specs.Trees.{side_width, side_domain}
 use Rattle.base_row_laws.proofs.Lists.{Each-all}

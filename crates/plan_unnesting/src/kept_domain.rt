@@ -2,12 +2,13 @@
 //! either way, so no clause speaks of it.
 use expr_scalar::Expr;
 use plan_algebra::DepTree;
+use sqlite_items::Boxed;
 
 /// Whether a right side's domain is kept: the right side has the groups of one table, and a
 /// condition selects the left side's rows. The table's join with the domain then leaves few rows
 /// to group.
-pub(crate) fn keeps_domain(left: &DepTree, right: &DepTree) -> bool {
-    is_selected(left) && has_groups_of_table(right)
+pub(crate) fn keeps_domain(left: &Boxed<DepTree>, right: &Boxed<DepTree>) -> bool {
+    is_selected(left.get()) && has_groups_of_table(right.get())
 }
 
 // Whether a tree is the groups of one table's rows, under select lists and selections at most.

@@ -261,14 +261,16 @@ fn lowered_node(
         DepTree::Join(left, right, side, on) => {
             let width = footing.width()?;
             let outer = lowered(alloc, builder, left.get(), footing)?;
-            let rows = lowered_right(alloc, builder, outer, left, right, side, footing)?;
+            let is_kept = keeps_domain(left, right);
+            let rows = lowered_right(alloc, builder, outer, is_kept, right, side, footing)?;
             let id = put_join(alloc, builder, outer, rows, side, width, on.get())?;
             Ok(id)
         }
         DepTree::Outer(left, right, side, on) => {
             let own = footing.width()?;
             let outer = lowered(alloc, builder, left.get(), footing)?;
-            let rows = lowered_right(alloc, builder, outer, left, right, side, footing)?;
+            let is_kept = keeps_domain(left, right);
+            let rows = lowered_right(alloc, builder, outer, is_kept, right, side, footing)?;
             let nulls = width(right.get())?;
             let id = put_outer(alloc, builder, outer, rows, side, own, nulls, on.get())?;
             Ok(id)
@@ -276,14 +278,16 @@ fn lowered_node(
         DepTree::Mark(left, right, side, condition) => {
             let width = footing.width()?;
             let outer = lowered(alloc, builder, left.get(), footing)?;
-            let rows = lowered_right(alloc, builder, outer, left, right, side, footing)?;
+            let is_kept = keeps_domain(left, right);
+            let rows = lowered_right(alloc, builder, outer, is_kept, right, side, footing)?;
             let id = put_mark(alloc, builder, outer, rows, side, width, condition.get())?;
             Ok(id)
         }
         DepTree::Single(left, right, side, column) => {
             let width = footing.width()?;
             let outer = lowered(alloc, builder, left.get(), footing)?;
-            let rows = lowered_right(alloc, builder, outer, left, right, side, footing)?;
+            let is_kept = keeps_domain(left, right);
+            let rows = lowered_right(alloc, builder, outer, is_kept, right, side, footing)?;
             let id = put_single(alloc, builder, outer, rows, side, width, *column)?;
             Ok(id)
         }
@@ -321,12 +325,13 @@ fn lowered_node(
 }
 
 // A right side, over what it reads of its left side, which is the node `outer` over the footing.
+// `is_kept` says whether its domain is kept where other columns could stand for its own.
 #[cycle(lower)]
 fn lowered_right(
     alloc: Global,
     builder: &mut Builder,
     outer: NodeId,
-    left: &Boxed<DepTree>,
+    is_kept: bool,
     right: &Boxed<DepTree>,
     side: &Side,
     footing: &mut Footing,
@@ -348,7 +353,6 @@ fn lowered_right(
             Ok(id)
         }
         Side::Dependent(columns) => {
-            let is_kept = keeps_domain(left.get(), right.get());
             let mut own = own_footing(alloc, builder, outer, columns.as_slice(), is_kept)?;
             let id = lowered(alloc, builder, right.get(), &mut own)?;
             Ok(id)

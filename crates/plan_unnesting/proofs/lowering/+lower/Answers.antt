@@ -80,7 +80,7 @@ lowered_right-returns-in_ok-id-in-Closed t c =
 
 pub lowered_right-returns-in_ok-id-in-Dependent : goal.lowered_right-returns-in_ok-id-in-Dependent
 lowered_right-returns-in_ok-id-in-Dependent t c =
-    own_arm c.args.footing.now c.args.outer c.requires.footing c.in-Dependent.is c.as_slice.ensures c.get-in-Dependent-3.ensures c.in_ok-own-in-Dependent.ensures c.in_ok-id-in-Dependent.ensures
+    own_arm c.args.footing.now c.args.outer c.requires.footing c.in-Dependent.is c.as_slice.ensures c.get-in-Dependent.ensures c.in_ok-own-in-Dependent.ensures c.in_ok-id-in-Dependent.ensures
 
 pub lowered-put_whole-requires-clause-footing : goal.lowered-put_whole-requires-clause-footing
 lowered-put_whole-requires-clause-footing t c = part_footing c.args.builder.now.nodes c.lowered_part.new.builder.nodes _ c.args.footing.now c.lowered_part.new.footing c.in_ok-part.part c.in-Apart.part c.in_ok-part.ensures c.in-Apart.is c.requires
