@@ -430,8 +430,8 @@ module _ (sight : Sight) (ready : Ready sight) where
       (λ b u g' k. containing_goes left b u
       (known_on sight (λ w. BoundIs left.expr left.kind w.env) t u g' bound) k))
 
-  pub compare_query_goes : (c : Compared) (k : Quantifier) (a : Meaning) (q : BlockMeaning) (s : Collected) → MeaningIs a
-      → BlockMeaningIs q
+  pub compare_query_goes : (c : Compared) (k : Quantifier) (a : Meaning) (q : BlockMeaning)
+      (s : Collected) → MeaningIs a → BlockMeaningIs q
       → Goes sight (TypedIn sight)
       (alone (a.binds sight) >>= (λ left. q sight >>= (λ t. comparing sight c k left t))) s
   compare_query_goes c k a q s is also =
@@ -440,5 +440,5 @@ module _ (sight : Sight) (ready : Ready sight) where
       (goes_alone sight (a.binds sight) s (is sight (record s { inputs = [] }) ready))
       (λ left t g bound. goes_on sight (KindsIn sight) (TypedIn sight) (q sight)
       (λ b. comparing sight c k left b) t (block_goes q t also)
-      (λ b u g' k. comparing_goes c k left b u
-      (known_on sight (λ w. BoundIs left.expr left.kind w.env) t u g' bound) k))
+      (λ b u g' there. comparing_goes c k left b u
+      (known_on sight (λ w. BoundIs left.expr left.kind w.env) t u g' bound) there))

@@ -1,6 +1,6 @@
 -- What set operations bind is typed.
 use Rattle.std.proofs.Common.{◌≡◌, ℕ, ◌+◌, ◌==◌, List, [], ◌∷◌, ◌++◌, length, map}
-use Rattle.std.proofs.Common.{Bool, true, false, if◌then◌else◌, refl, sym, ap, ◌∙◌, subst, ◌⊎◌, inl, inr}
+use Rattle.std.proofs.Common.{Bool, true, false, if◌then◌else◌, refl, sym, ap, ◌∙◌, subst, inl, inr}
 use Rattle.std.specs.Prelude.{Option, Some, None, Ok, slice_get}
 use Rattle.std.proofs.lemmas.Bool.{cases_Bool, eqb-true, eq-eqb}
 use Rattle.std.proofs.lemmas.List.{append_assoc, length-append, map-append}
@@ -78,19 +78,21 @@ get_seam : {A : Type 0} (xs : List A) (x : A) (ys : List A)
 get_seam [] x ys = refl
 get_seam (z ∷ xs) x ys = get_seam xs x ys
 
-cases_Option : {A : Type 0} (o : Option A) → (o ≡ None) ⊎ ((a : A) × o ≡ Some a)
-cases_Option None = inl refl
-cases_Option (Some a) = inr (a, refl)
+-- one more before and one more behind
+all_behind : {A : Type 0} (x o : A) (rest longer : Option (List A)) (all : List A)
+    → ((ys : List A) → rest ≡ Some ys → longer ≡ Some (ys ++ o ∷ []))
+    → where_some rest (λ ys. Some (x ∷ ys)) ≡ Some all
+    → where_some longer (λ ys. Some (x ∷ ys)) ≡ Some (all ++ o ∷ [])
+all_behind x o None longer all f h = cc
+all_behind x o (Some ys) longer all f h =
+    let same : x ∷ ys ≡ all = cc in
+    ap (λ z. where_some z (λ zs. Some (x ∷ zs))) (f ys refl) ∙ ap (λ xs. Some (xs ++ o ∷ [])) same
 
 all_more : {A : Type 0} (os : List (Option A)) (o : A) (all : List A) → all_some os ≡ Some all
     → all_some (os ++ Some o ∷ []) ≡ Some (all ++ o ∷ [])
 all_more [] o all h = let none : [] ≡ all = cc in ap (λ xs. Some (xs ++ o ∷ [])) none
 all_more (Some x ∷ os) o all h =
-    elim (cases_Option (all_some os)) [
-      | inl none ↦ absurd (rw none at h)
-      | inr some ↦ rw (some.1, all_more os o some.0 some.1)
-          (let same : x ∷ some.0 ≡ all = cc in ap (λ xs. Some (xs ++ o ∷ [])) same)
-    ]
+    all_behind x o (all_some os) (all_some (os ++ Some o ∷ [])) all (λ ys e. all_more os o ys e) h
 all_more (None ∷ os) o all h = cc
 
 -- the columns from a place on
@@ -115,17 +117,20 @@ columns_typed left right before behind (l ∷ ls) (r ∷ rs) at done c p q m n h
     let y : slice_get right at ≡ Some r.kind =
     ap (λ z. slice_get z at) q ∙ ap (λ k. slice_get (behind ++ header_kinds (r ∷ rs)) k) n
     ∙ get_seam behind r.kind (header_kinds rs) in
+    let both : SetColumn → Option Kind =
+    λ k. common_kind (sort_of k.left left) (sort_of k.right right) in
     columns_typed left right (before ++ l.kind ∷ []) (behind ++ r.kind ∷ []) ls rs (at + 1)
     (with_column done at l r w.it) c
     (p ∙ sym (append_assoc before (l.kind ∷ []) (header_kinds ls)))
     (q ∙ sym (append_assoc behind (r.kind ∷ []) (header_kinds rs)))
     (ap (λ k. k + 1) m ∙ sym (length-append before (l.kind ∷ [])))
     (ap (λ k. k + 1) n ∙ sym (length-append behind (r.kind ∷ []))) w.gives
-    (ap all_some (map-append _ done.columns (set_column at l.kind r.kind w.it ∷ []))
-    ∙ ap (λ o. all_some (map _ done.columns ++ o ∷ []))
+    (ap all_some (map-append both done.columns (set_column at l.kind r.kind w.it ∷ []))
+    ∙ ap (λ o. all_some (map both done.columns ++ o ∷ []))
     (column_kind at l.kind r.kind w.it left right raise.0 raise.1.0 x y)
-    ∙ all_more (map _ done.columns) w.it (header_kinds done.headers) is
-    ∙ ap Some (sym (map-append _ done.headers (record { name = l.name; kind = w.it } ∷ []))))
+    ∙ all_more (map both done.columns) w.it (header_kinds done.headers) is
+    ∙ ap Some (sym (map-append (λ (x : Header). x.kind) done.headers
+    (record { name = l.name; kind = w.it } ∷ []))))
 
 -- ---- one operation
 
@@ -171,7 +176,7 @@ table_kinds op all a b t env h p q =
           (ok_is _ t w.gives)
           (set_block_kinds op all a.block b.block w.it.columns (header_kinds a.headers)
           (header_kinds b.headers) (header_kinds w.it.headers) env p q is)
-      | inr other ↦ absurd (rw other at h)
+      | inr other ↦ let no = rw other at h in cc
     ]
 
 -- ---- chains
