@@ -1,8 +1,8 @@
 -- What FROM binds is typed: its joins and commas.
-use Rattle.std.proofs.Common.{◌≡◌, ℕ, ◌-◌, ◌<◌, ◌≤◌, ◌==◌, List, [], ◌∷◌, ◌++◌, length}
-use Rattle.std.proofs.Common.{drop, zero, suc, true, refl, sym, ap, ◌∙◌}
+use Rattle.std.proofs.Common.{◌≡◌, ◌≤◌, ◌==◌, List, [], ◌∷◌, ◌++◌, length}
+use Rattle.std.proofs.Common.{drop, suc, true, refl, sym, ap, ◌∙◌}
 use Rattle.std.proofs.Common.{subst, arith}
-use Rattle.std.specs.Prelude.{Option, Some, None, Ok, slice_get, slice_index_or}
+use Rattle.std.specs.Prelude.{Option, Some, None, Ok}
 use Rattle.std.proofs.lemmas.Bool.Decides.{Decides-eqb}
 use Rattle.std.proofs.lemmas.List.{map-append}
 use Rattle.std.proofs.Math.Seq.{drop-append_seam}
@@ -28,13 +28,13 @@ use Rattle.sql_binder.specs.FromLists.{on_condition, on_joining, joins_from, joi
 use Rattle.sql_binder.specs.FromLists.{from_list_after, from_list}
 use Rattle.sql_binder_steps.specs.Kinds.{is_condition}
 use Rattle.sql_binder.specs.Meanings.{Meaning, FromItemMeaning, JoinMeaning, JoinedMeaning}
-use Rattle.sql_binder_steps.specs.Names.{Around, Sight}
+use Rattle.sql_binder_steps.specs.Names.{Sight}
 use Rattle.sql_binder_steps.specs.Parts.{keys_by, within_on}
 use Rattle.sql_binder_steps.specs.Parts.{columns_so_far, first_rows, crossed, joining, joined_rows}
 use Rattle.sql_binder_steps.specs.Parts.{present, holding}
 use Rattle.sql_binder_steps.specs.Steps.{◌>>=◌, alone}
 use Rattle.sql_binder_laws.proofs.TypedOperands.{went, ok_is, fit}
-use Rattle.sql_binder_laws.proofs.TypedSteps.{Ready, row_kinds, RowFits, Fits, BoundIs, same_pair}
+use Rattle.sql_binder_laws.proofs.TypedSteps.{Ready, row_kinds, Fits, BoundIs, same_pair}
 use Rattle.sql_binder_laws.proofs.TypedSteps.{closed_part}
 use Rattle.sql_binder_laws.proofs.TypedNodes.{MeaningIs}
 use Rattle.sql_binder_laws.proofs.TypedItems.{lifted, fits_inner, FromItemMeaningIs}
