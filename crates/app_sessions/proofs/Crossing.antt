@@ -6,9 +6,11 @@ use Rattle.std.proofs.Crossing.{crosses}
 use Rattle.base_text.specs.contracts.text.Text as Text
 use Rattle.sql_bound_query.proofs.query.BoundAggregate.TheLaws.TheKnot.{crosses as query_crosses}
 use Rattle.sql_bound_query.specs.contracts.query.BoundBlock as Block
+use Rattle.sql_bound_query.specs.contracts.query.SetColumn as SetColumn
+use Rattle.base_set_rows.specs.contracts.kind.SetOperation as SetOperation
 use Rattle.expr_scalar.proofs.expr.Expr.TheLaws.TheKnot.{crosses as expr_crosses}
 use Rattle.expr_scalar.specs.contracts.expr.Expr as Expr
-use Rattle.sql_ast.proofs.tree.Clause.TheLaws.TheKnot.{crosses as tree_crosses}
+use Rattle.sql_ast.proofs.tree.Block.TheLaws.TheKnot.{crosses as tree_crosses}
 use Rattle.sql_ast.specs.contracts.statement.Query as Query
 use Rattle.sql_ast.specs.contracts.statement.Statement as Statement
 use Rattle.sql_ast.specs.contracts.tree.Block as Tree
@@ -24,8 +26,16 @@ text_send = search (sendable, crosses) depth 60 fits 20000
 pub expr_send : IsSend Expr.the_row
 expr_send = search (expr_crosses, text_send, sendable, crosses) depth 60 fits 20000
 
+pub set_column_send : IsSend SetColumn.the_row
+set_column_send = declared_send SetColumn.the_type (expr_send, (expr_send, tt))
+
+pub set_operation_send : IsSend SetOperation.the_row
+set_operation_send = search (sendable, crosses) depth 60 fits 20000
+
 pub block_send : IsSend Block.the_row
-block_send = search (query_crosses, expr_send, sendable, crosses) depth 60 fits 20000
+block_send =
+    search (query_crosses, set_column_send, set_operation_send, expr_send, sendable, crosses)
+    depth 60 fits 20000
 
 pub tree_field : IsSend (Tree.the_field).row
 tree_field = search (tree_crosses, text_send, sendable, crosses) depth 60 fits 20000
