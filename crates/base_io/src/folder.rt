@@ -84,8 +84,10 @@ impl MemFolder {
     pub fn open_named(&mut self, name: &str) -> bool
         ensures files { self.new.files ≡ self.old.files }
         ensures found { MatchBool result
-            ((file_of (folder_of self.old.files.items) name.now ≡ left_of self.old.files.items self.new.place) × IsSome self.new.place)
-            ((file_of (folder_of self.old.files.items) name.now ≡ None) × (self.new.place ≡ self.old.place)) }
+            ((file_of (folder_of self.old.files.items) name.now
+            ≡ left_of self.old.files.items self.new.place) × IsSome self.new.place)
+            ((file_of (folder_of self.old.files.items) name.now ≡ None)
+            × (self.new.place ≡ self.old.place)) }
     {
         match find(&self.files, name) {
             Some(index) => {
