@@ -5,6 +5,7 @@ A child ends where this process ends, however that happens. Its processor second
 all its threads, user and system."""
 import atexit
 import ctypes
+import hashlib
 import os
 import resource
 import select
@@ -50,6 +51,19 @@ def program():
     if is_script:
         sys.exit(f"{path} is a script: PROGRAM must name the program that it starts")
     return os.path.realpath(path)
+
+
+def shipped_commit(path):
+    """The commit that release/SUMS names, where the program at a path is the shipped one."""
+    try:
+        with open(f"{TOP}/release/SUMS", encoding="ascii") as file:
+            said = dict(it.split(None, 1) for it in file if it.strip())
+        with open(path, "rb") as file:
+            sum_of_it = hashlib.sha256(file.read()).hexdigest()
+    except OSError:
+        return None
+    is_shipped = said.get("program", "").strip() == sum_of_it
+    return said.get("commit", "").strip() if is_shipped else None
 
 
 def end_with_parent(how=signal.SIGKILL):

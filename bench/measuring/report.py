@@ -66,44 +66,54 @@ def write_csv(path, names, rows):
         writer.writerows(rows)
 
 
-def write_picture(path, title, names, groups):
-    """Bars, one group a text: its name and for each program its milliseconds, or None. The axis
-    goes by powers of ten."""
-    values = [it for _, all_values in groups for it in all_values if it]
+def write_picture(path, title, names, groups, notes=()):
+    """Bars, one group a text: its name and for each program, where it was asked, its milliseconds
+    and whether it answered. A bar without an answer, hollow, has what it took until it gave up.
+    The axis goes by powers of ten; notes stand below."""
+    values = [it[0] for _, bars in groups for it in bars if it and it[0]]
     if not values:
         return
     low, high = math.floor(math.log10(min(values))), math.ceil(math.log10(max(values)))
     high = max(high, low + 1)
     bar, gap, left, top, height = 9, 10, 70, 60, 300
     group_width = bar * len(names) + gap
-    width = left + group_width * len(groups) + 20
+    width = max(left + group_width * len(groups) + 20, left + 130 * len(names) + 120)
+    whole = top + height + 40 + 18 * len(notes)
 
     def y(value):
         return top + height - (math.log10(value) - low) / (high - low) * height
 
     parts = [
-        f'<svg xmlns="http://www.w3.org/2000/svg" viewBox="0 0 {width} {top + height + 60}" font-family="sans-serif" font-size="12">',
-        f'<rect width="{width}" height="{top + height + 60}" fill="white"/>',
+        f'<svg xmlns="http://www.w3.org/2000/svg" viewBox="0 0 {width} {whole}" font-family="sans-serif" font-size="12">',
+        f'<rect width="{width}" height="{whole}" fill="white"/>',
         f'<text x="{left}" y="20" font-size="14">{escape(title)}</text>',
     ]
-    for at, name in enumerate(names):
-        x = left + at * 130
-        parts.append(f'<rect x="{x}" y="32" width="12" height="12" fill="{COLOURS[at % len(COLOURS)]}"/>')
+    legend = [(it, COLOURS[at % len(COLOURS)]) for at, it in enumerate(names)]
+    if any(it and not it[1] for _, bars in groups for it in bars):
+        legend.append(("gave up", "white"))
+    for at, (name, colour) in enumerate(legend):
+        x, line = left + at * 130, "#888888" if colour == "white" else colour
+        shape = f'x="{x}" y="32" width="12" height="12"'
+        parts.append(f'<rect {shape} fill="{colour}" stroke="{line}"/>')
         parts.append(f'<text x="{x + 18}" y="43">{escape(name)}</text>')
     for power in range(low, high + 1):
         at = y(10.0**power)
         label = f"{10.0**power:g} ms" if power < 3 else f"{10.0 ** (power - 3):g} s"
         parts.append(f'<line x1="{left}" y1="{at:.1f}" x2="{width - 10}" y2="{at:.1f}" stroke="#cccccc"/>')
         parts.append(f'<text x="{left - 8}" y="{at + 4:.1f}" text-anchor="end">{label}</text>')
-    for place, (name, all_values) in enumerate(groups):
+    for place, (name, bars) in enumerate(groups):
         start = left + gap / 2 + place * group_width
-        for at, value in enumerate(all_values):
+        for at, (value, has_rows) in enumerate(it or (None, False) for it in bars):
             if value:
-                shape = f'x="{start + at * bar:.1f}" y="{y(value):.1f}" width="{bar - 1}" height="{top + height - y(value):.1f}"'
-                said = f"{escape(name)}, {escape(names[at])}: {value:.3g} ms"
-                parts.append(f'<rect {shape} fill="{COLOURS[at % len(COLOURS)]}"><title>{said}</title></rect>')
+                colour, end = COLOURS[at % len(COLOURS)], "" if has_rows else ", gave up"
+                shape = f'x="{start + at * bar:.1f}" y="{y(value):.1f}" width="{bar - 2}" height="{top + height - y(value):.1f}"'
+                said = f"{escape(name)}, {escape(names[at])}: {value:.3g} ms{end}"
+                fill = f'fill="{colour if has_rows else "white"}" stroke="{colour}"'
+                parts.append(f"<rect {shape} {fill}><title>{said}</title></rect>")
         middle = start + bar * len(names) / 2
         parts.append(f'<text x="{middle:.1f}" y="{top + height + 18}" text-anchor="middle">{escape(name)}</text>')
+    for at, note in enumerate(notes):
+        parts.append(f'<text x="{left}" y="{top + height + 42 + 18 * at}" font-size="10">{escape(note)}</text>')
     parts.append("</svg>\n")
     with open(path, "w", encoding="utf-8") as file:
         file.write("\n".join(parts))

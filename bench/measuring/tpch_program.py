@@ -39,9 +39,13 @@ class Program:
         self.rest_clock = min(it.clock_after for it in begun)
 
     def version(self):
+        """The commit of the program's sources; its path, where another program is measured."""
+        shipped = child.shipped_commit(self.path)
+        if shipped:
+            return f"tpch as shipped, of commit {shipped[:8]}"
         if os.environ.get("PROGRAM"):
             return f"tpch ({self.path})"
-        words = ["git", "-C", child.TOP, "rev-parse", "--short", "HEAD"]
+        words = ["git", "-C", child.TOP, "rev-parse", "--short=8", "HEAD"]
         commit = subprocess.run(words, capture_output=True, text=True, check=False).stdout.strip()
         return f"tpch at commit {commit or 'unknown'}"
 
