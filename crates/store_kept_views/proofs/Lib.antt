@@ -1,0 +1,13 @@
+pub mod GroupLists
+pub mod EntryLists
+pub mod Made
+pub mod Stages
+pub mod Passing
+pub mod Shows
+pub mod PageLists
+pub mod ReadingLists
+pub mod ViewLists
+pub mod FormsOpened
+pub mod FormLists
+pub mod FormLoops
+pub mod PartLists
