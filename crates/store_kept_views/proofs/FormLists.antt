@@ -1,6 +1,6 @@
 -- The parts of a plan mean what those of its query do.
 use Rattle.std.proofs.Common.{◌≡◌, ℕ, arith, zero, suc, List, [], ◌∷◌, map, Bool, true, false, Option, Some, None, refl, sym, ◌∙◌, ap, subst, inl, inr}
-use Rattle.std.specs.Prelude.{slice_index_or, slice_get, option_and_then, ◌==◌, length}
+use Rattle.std.specs.Prelude.{slice_index_or, slice_get, option_and_then, ◌==◌, length, Result}
 use Rattle.std.proofs.Math.Path.{fun_ext}
 use Rattle.std.proofs.lemmas.Bool.{cases_Bool, eqb-true}
 use Rattle.base_row_laws.specs.Aggregates.{aggregated}
@@ -15,6 +15,7 @@ use Rattle.base_value.specs.declared.value.Value.{Value}
 use Rattle.base_value.specs.declared.value.Value.TheVariants.{Null}
 use Rattle.base_value.specs.Truth.{truth_rank}
 use Rattle.base_value.specs.Value.{same_value}
+use Rattle.expr_aggregates.specs.declared.function.AggregateFunction.{AggregateFunction}
 use Rattle.expr_aggregates.specs.declared.function.AggregateFunction.TheVariants.{Count, Sum}
 use Rattle.expr_aggregates.specs.Values.{aggregate_of}
 use Rattle.expr_scalar.specs.declared.expr.Expr.{Expr, out-Expr}
@@ -44,7 +45,9 @@ use Rattle.store_kept_views.specs.declared.plan.KeptAggregate.TheVariants as kep
 use Rattle.store_kept_views.specs.declared.plan.KeptPlan.{KeptPlan}
 use Rattle.store_kept_views.specs.Plans.{item_of, holds_for, selected, query_rows}
 use Rattle.store_kept_views.specs.Forms.{place_at, own_place, IsOver, IsItem, AreItems, AreShown, IsShown, IsPlanOf, IsTrueAlways, column_at, shown_place}
-use Rattle.store_kept_views.specs.Forms.{is_nothing, holds_always}
+use Rattle.store_kept_views.specs.Forms.{IsFound, is_kept_aggregate, is_kept_at, is_nothing, holds_always, is_over_row}
+use Rattle.store_kept_views.specs.declared.form.KeptPlanError.{KeptPlanError}
+use Rattle.store_kept_views.proofs.FormsOpened.{kept_CountRows, kept_Of}
 use Rattle.store_kept_views.proofs.Stages.{some_is, none_some}
 
 -- a column of the row itself
@@ -57,7 +60,7 @@ at_value state row (node.Column level p) place is = elim (cases_Bool (level == 0
   | inr f ↦ let h : None ≡ Some place = rw f at is in absurd (none_some place h)
 ]
 at_value state row (node.Exists q) place is = absurd (none_some place is)
-at_value state row (node.In x q) place is = absurd (none_some place is)
+at_value state row (node.Any c e q) place is = absurd (none_some place is)
 at_value state row (node.Scalar q) place is = absurd (none_some place is)
 
 own_value : (state : State) (row : List Value) (i : Input) (place : ℕ) → own_place i ≡ Some place → input_meaning state i (row ∷ []) ≡ slice_index_or row place Null
@@ -90,6 +93,12 @@ over_is x places new same renamed state row =
       renamed.truth row ∙ ap (truth (out-BoundExpr x).expr) (sym inputs) ∙ sym (ap (λ (m : ExprMeaning). m.truth (row ∷ [])) (expr_is state x)),
     )
 
+pub over_made : (x : BoundExpr) (inputs : List Input) (places slice : List ℕ) (expr new boxed : Expr) → inputs ≡ (out-BoundExpr x).inputs → map own_place inputs ≡ map Some places → slice ≡ places
+    → expr ≡ (out-BoundExpr x).expr → IsRenamed slice expr new → boxed ≡ new → IsOver x boxed
+over_made x inputs places slice expr new boxed are own same is renamed put =
+    subst (λ e. IsOver x e) (sym put)
+    (over_is x places new (sym (ap (map own_place) are) ∙ own) (subst (λ e. IsRenamed places e new) is (subst (λ s. IsRenamed s expr new) same renamed)))
+
 -- aggregates
 argument_is : (state : State) (x : BoundExpr) (new : Expr) → IsOver x new → value new ≡ (λ row. (expr_meaning state x).value (row ∷ []))
 argument_is state x new over = fun_ext (λ row. (over state row).0)
@@ -104,6 +113,29 @@ count_is scale x new over state =
 pub sum_is : (scale : ℕ) (x : BoundExpr) (new : Expr) → IsOver x new → IsItem (aggregate.Of Sum scale x) (kept.Sum scale new)
 sum_is scale x new over state =
     ap (λ (f : List Value → Value). (f, aggregate_of Sum scale)) (argument_is state x new over) ∙ sym (aggregate_Of_at state Sum scale x [])
+
+pub count_found : (function : AggregateFunction) (scale : ℕ) (x : BoundExpr) (new : Expr) → function ≡ Count → is_over_row x ≡ true → IsOver x new
+    → (is_kept_at (node.Of function scale x) ≡ true) × IsItem (aggregate.Of function scale x) (kept.Count new)
+count_found function scale x new is over same = (
+  ap (λ f. is_kept_at (node.Of f scale x)) is ∙ over,
+  λ state. count_is scale x new same state ∙ ap (λ f. aggregate_meaning state (aggregate.Of f scale x) []) (sym is),
+)
+
+pub sum_found : (function : AggregateFunction) (scale : ℕ) (x : BoundExpr) (new : Expr) → function ≡ Sum → is_over_row x ≡ true → IsOver x new
+    → (is_kept_at (node.Of function scale x) ≡ true) × IsItem (aggregate.Of function scale x) (kept.Sum scale new)
+sum_found function scale x new is over same = (
+  ap (λ f. is_kept_at (node.Of f scale x)) is ∙ over,
+  λ state. sum_is scale x new same state ∙ ap (λ f. aggregate_meaning state (aggregate.Of f scale x) []) (sym is),
+)
+
+pub rows_found : (a : BoundAggregate) → a ≡ aggregate.CountRows → (is_kept_aggregate a ≡ true) × IsItem a kept.CountRows
+rows_found a is = (ap is_kept_aggregate is ∙ kept_CountRows, λ state. count_rows_is state ∙ ap (λ x. aggregate_meaning state x []) (sym is))
+
+pub item_found : (a : BoundAggregate) (function : AggregateFunction) (scale : ℕ) (x : BoundExpr) (r : Result KeptAggregate KeptPlanError) → a ≡ aggregate.Of function scale x
+    → IsFound (is_kept_at (node.Of function scale x)) (IsItem (aggregate.Of function scale x)) r → IsFound (is_kept_aggregate a) (IsItem a) r
+item_found a function scale x r is there =
+    subst (λ y. IsFound (is_kept_aggregate y) (IsItem y) r) (sym is)
+    (subst (λ b. IsFound b (IsItem (aggregate.Of function scale x)) r) (sym (kept_Of function scale x)) there)
 
 -- a column that is shown
 pub shown_is : (x : BoundExpr) (k : ℕ) (i : Input) (place : ℕ) → (out-BoundExpr x).expr ≡ e.Column k → slice_get (out-BoundExpr x).inputs k ≡ Some i → own_place i ≡ Some place → IsShown x place
@@ -125,16 +157,16 @@ shown_is x k i place is there own state row =
 pub place_is : (x : BoundExpr) (k : ℕ) (i : Input) → (out-BoundExpr x).expr ≡ e.Column k → slice_get (out-BoundExpr x).inputs k ≡ Some i → shown_place x ≡ own_place i
 unfolding shown_place
 place_is x k i is there =
-    ap (λ y. option_and_then (column_at (out-Expr y)) (λ k. option_and_then (slice_get (out-BoundExpr x).inputs k) own_place)) is
-    ∙ ap (λ y. option_and_then (column_at y) (λ k. option_and_then (slice_get (out-BoundExpr x).inputs k) own_place)) (e.outs-Column k)
-    ∙ ap (λ o. option_and_then o own_place) there
+    ap (λ y. option_and_then (λ k. option_and_then own_place (slice_get (out-BoundExpr x).inputs k)) (column_at (out-Expr y))) is
+    ∙ ap (λ y. option_and_then (λ k. option_and_then own_place (slice_get (out-BoundExpr x).inputs k)) (column_at y)) (e.outs-Column k)
+    ∙ ap (λ o. option_and_then own_place o) there
 
 pub no_place : (x : BoundExpr) (k : ℕ) → (out-BoundExpr x).expr ≡ e.Column k → slice_get (out-BoundExpr x).inputs k ≡ None → shown_place x ≡ None
 unfolding shown_place
 no_place x k is there =
-    ap (λ y. option_and_then (column_at (out-Expr y)) (λ k. option_and_then (slice_get (out-BoundExpr x).inputs k) own_place)) is
-    ∙ ap (λ y. option_and_then (column_at y) (λ k. option_and_then (slice_get (out-BoundExpr x).inputs k) own_place)) (e.outs-Column k)
-    ∙ ap (λ o. option_and_then o own_place) there
+    ap (λ y. option_and_then (λ k. option_and_then own_place (slice_get (out-BoundExpr x).inputs k)) (column_at (out-Expr y))) is
+    ∙ ap (λ y. option_and_then (λ k. option_and_then own_place (slice_get (out-BoundExpr x).inputs k)) (column_at y)) (e.outs-Column k)
+    ∙ ap (λ o. option_and_then own_place o) there
 
 -- the condition of no conditions
 pub holds_of : (x : BoundExpr) (es : List Expr) → (out-BoundExpr x).expr ≡ e.All es → holds_always x ≡ (length es == 0)
@@ -170,7 +202,7 @@ plan_is t from condition having by old list p is table over same items always sh
     let holds : holds_for p ≡ query.holds_for (expr_meaning state condition) [] = fun_ext (λ row. ap truth_rank (over state row).1) in
     let kept_rows : selected p (table_rows state p.table) ≡ there =
     ap (λ h. select h (scanned (table_rows state p.table))) holds ∙ ap (λ xs. select (query.holds_for (expr_meaning state condition) []) xs) scans in
-    let as' : map item_of p.aggregates ≡ map (λ (a : AggregateMeaning). a []) (map (aggregate_meaning state) old) =
+    let its : map item_of p.aggregates ≡ map (λ (a : AggregateMeaning). a []) (map (aggregate_meaning state) old) =
     items state ∙ sym (map-map (λ (a : AggregateMeaning). a []) (aggregate_meaning state) old) in
     let stand : Each Stands (groups by f there) =
     groups_stand by f there (stands.select_stands (query.holds_for (expr_meaning state condition) []) (source_meaning state from [] [])
@@ -181,7 +213,7 @@ plan_is t from condition having by old list p is table over same items always sh
     let lists : columns Null p.list ≡ query.listed (map (expr_meaning state) list) [] =
     fun_ext (λ row. shown state row ∙ sym (map-map (λ (m : ExprMeaning). m.value (row ∷ [])) (expr_meaning state) list)) in
     ap (λ xs. project (columns Null p.list) (groups p.by (aggregated (map item_of p.aggregates)) xs)) kept_rows
-    ∙ ap (λ is. project (columns Null p.list) (groups p.by (aggregated is) there)) as'
+    ∙ ap (λ is. project (columns Null p.list) (groups p.by (aggregated is) there)) its
     ∙ ap (λ b. project (columns Null p.list) (groups b f there)) same
     ∙ ap (λ l. project l (groups by f there)) lists
     ∙ ap (λ xs. project (query.listed (map (expr_meaning state) list) []) xs) (sym all)

@@ -1,6 +1,8 @@
 -- The parts of a query, one by one.
-use Rattle.std.proofs.Common.{◌≡◌, ℕ, ◌+◌, ◌<◌, List, [], ◌∷◌, ◌++◌, map, Bool, true, false, ◌&&◌, sym, ◌∙◌, ap}
-use Rattle.std.specs.Prelude.{slice_index_or, take, Err}
+use Rattle.std.proofs.Common.{◌≡◌, ℕ, ◌+◌, ◌<◌, List, [], ◌∷◌, ◌++◌, map, Bool, true, false, ◌&&◌, sym, ◌∙◌, ap, subst}
+use Rattle.std.specs.Prelude.{slice_index_or, take, Result, Ok, Err}
+use Rattle.std.specs.Result.{IsErrAnd}
+use Rattle.std.proofs.lemmas.Result.{err_from_is_err_and}
 use Rattle.std.specs.List.{list_all}
 use lib.ListN.{get_or, length}
 use Rattle.std.proofs.lemmas.List.{map-append, take_more}
@@ -43,3 +45,15 @@ shown_more list places i x place less is before here state row =
 pub not_found : {X Y : Type 0} (a b : Bool) (P : X → Type 0) (Q : Y → Type 0) (error : KeptPlanError) → (a ≡ false → b ≡ false) → IsFound a P (Err error) → IsFound b Q (Err error)
 not_found a b P Q NotKept f there = f there
 not_found a b P Q OutOfMemory f there = tt
+
+-- the same of what `?` returns, and of what another call returns
+pub residual : {X Y : Type 0} (a b : Bool) (P : X → Type 0) (Q : Y → Type 0) (error : KeptPlanError) (r : Result Y KeptPlanError) → IsErrAnd r (λ e. e ≡ error)
+    → (a ≡ false → b ≡ false) → IsFound a P (Err error) → IsFound b Q r
+residual a b P Q error r returned f there =
+    let p = err_from_is_err_and r returned in
+    subst (λ x. IsFound b Q x) (sym (p.1 ∙ ap (λ e. Err e) p.2)) (not_found a b P Q error f there)
+
+pub found_as : {X : Type 0} (a b : Bool) (P Q : X → Type 0) (r : Result X KeptPlanError) → b ≡ a → ((x : X) → P x → Q x) → IsFound a P r → IsFound b Q r
+found_as a b P Q (Ok x) same f there = (same ∙ there.0, f x there.1)
+found_as a b P Q (Err NotKept) same f there = same ∙ there
+found_as a b P Q (Err OutOfMemory) same f there = tt

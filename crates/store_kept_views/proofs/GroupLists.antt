@@ -19,8 +19,10 @@ use Rattle.expr_aggregates.specs.Values.{written, value_rank, is_null, above, be
 use Rattle.store_kept_views.specs.declared.plan.KeptAggregate.{KeptAggregate}
 use Rattle.store_kept_views.specs.declared.plan.KeptAggregate.TheVariants as kept
 use Rattle.store_kept_views.specs.Plans.{item_of}
-use Rattle.store_kept_views.specs.Groups.{Cell, cell, Group, group, no_rows, cell_of, arguments, cells_of, group_of, term_of, with_value, without_value, with_values, without_values, with_row, without_row}
-use Rattle.store_kept_views.specs.Groups.{is_plain, are_plain, is_faultless, HasValue, HaveValues, HasRow, unless_rank, shown, all_shown, row_of}
+use Rattle.store_groups.specs.Groups.{Cell, cell, Group, group, no_rows, cell_of, term_of, with_value, without_value, with_values, without_values, with_row, without_row}
+use Rattle.store_kept_views.specs.RowGroups.{arguments, cells_of, group_of}
+use Rattle.store_groups.specs.Groups.{is_plain, are_plain, is_faultless, HasValue, HaveValues, HasRow}
+use Rattle.store_kept_views.specs.RowGroups.{unless_rank, shown, all_shown, row_of}
 use Rattle.store_kept_views.specs.Standing.{arguments_in}
 
 alike : (l m a b c x y z : ℕ) → l ≡ m → a ≡ x → b ≡ y → c ≡ z → cell l (sums a b c) ≡ cell m (sums x y z)

@@ -1,10 +1,8 @@
 pub mod GroupLists
-pub mod EntryLists
 pub mod Made
 pub mod Stages
 pub mod Passing
 pub mod Shows
-pub mod PageLists
 pub mod ReadingLists
 pub mod ViewLists
 pub mod FormsOpened

@@ -14,10 +14,12 @@ use Rattle.base_row_laws.proofs.Classes.{apart, same-sym, has-SameBag}
 use Rattle.base_value.specs.declared.value.Value.{Value}
 use Rattle.store_kept_views.specs.declared.plan.KeptPlan.{KeptPlan}
 use Rattle.store_kept_views.specs.Plans.{holds_for, selected, key_of}
-use Rattle.store_kept_views.specs.Groups.{Group, group_of, with_row, without_row, is_faultless, HasRow, no_rows}
-use Rattle.store_kept_views.specs.Standing.{Entries, same_key, group_at, rows_at, made_at, StandsFor, StandsBy, is_stale, arguments_in}
+use Rattle.store_groups.specs.Groups.{Group, with_row, without_row, is_faultless, HasRow, no_rows}
+use Rattle.store_kept_views.specs.RowGroups.{group_of}
+use Rattle.store_groups.specs.Entries.{Entries, same_key, group_at}
+use Rattle.store_kept_views.specs.Standing.{rows_at, made_at, StandsFor, StandsBy, is_stale, arguments_in}
 use Rattle.store_kept_views.proofs.GroupLists.{group_more, group_less, group_none, group_alike, has_row}
-use Rattle.store_kept_views.proofs.EntryLists.{key_identity}
+use Rattle.store_groups.proofs.EntryLists.{key_identity}
 
 abbrev pub key : KeptPlan → Ranked Value → List Value
 key p y = key_of p y.values

@@ -8,7 +8,8 @@ use Rattle.base_row_laws.specs.Ranked.{Ranked}
 use Rattle.base_value.specs.declared.value.Value.{Value}
 use Rattle.store_kept_views.specs.declared.plan.KeptPlan.{KeptPlan}
 use Rattle.store_kept_views.specs.Plans.{selected}
-use Rattle.store_kept_views.specs.Standing.{Entries, StandsBy}
+use Rattle.store_groups.specs.Entries.{Entries}
+use Rattle.store_kept_views.specs.Standing.{StandsBy}
 use Rattle.store_kept_views.proofs.Made.{selected_append}
 
 list_suc : {X : Type 0} (parts : List (List X)) (i : ℕ) (part : List X) → i < length parts → part ≡ get_or parts i part → one_list (take (suc i) parts) ≡ one_list (take i parts) ++ part

@@ -13,12 +13,14 @@ use Rattle.base_value.specs.declared.value.Value.{Value}
 use Rattle.store_kept_views.specs.declared.plan.KeptPlan.{KeptPlan}
 use Rattle.store_kept_views.specs.declared.plan.KeptAggregate.{KeptAggregate}
 use Rattle.store_kept_views.specs.Plans.{key_of, selected}
-use Rattle.store_kept_views.specs.Groups.{Group, group_of, cells_of, with_row, without_row, is_faultless, HasRow, no_rows}
-use Rattle.store_kept_views.specs.Standing.{Entries, same_key, group_at, rows_at, made_at, StandsBy, is_stale, arguments_in}
-use Rattle.store_kept_views.specs.Entries.{CanTake, HasLong, or_empty}
-use Rattle.store_kept_views.specs.Taken.{IsSet}
+use Rattle.store_groups.specs.Groups.{Group, with_row, without_row, is_faultless, HasRow, no_rows}
+use Rattle.store_kept_views.specs.RowGroups.{group_of, cells_of}
+use Rattle.store_groups.specs.Entries.{Entries, same_key, group_at}
+use Rattle.store_kept_views.specs.Standing.{rows_at, made_at, StandsBy, is_stale, arguments_in}
+use Rattle.store_groups.specs.Entries.{CanTake, HasLong, or_empty}
+use Rattle.store_groups.specs.Taken.{IsSet}
 use Rattle.store_kept_views.specs.Moving.{IsDropped, IsGone, IsLeft, IsPut, IsTakenOut}
-use Rattle.store_kept_views.proofs.EntryLists.{key_identity}
+use Rattle.store_groups.proofs.EntryLists.{key_identity}
 use Rattle.store_kept_views.proofs.Made.{key, selected_append}
 use Rattle.store_kept_views.proofs.PartLists.{list_more}
 use Rattle.store_kept_views.proofs.Stages.{args_of, its_group, can_be_taken, left_stands, gone_stands, faulty_stands, absent_stands, put_stands, passed_stands, some_is, none_some}
@@ -117,7 +119,7 @@ asked_long p es st xs ys k arguments row are old = long_at p es st xs ys k (leng
 -- a row put in, or passed over
 put_here : (wanted : Bool) (p : KeptPlan) (es es' st : Entries) (y : Ranked Value) (xs ys : List (Ranked Value)) → StandsBy p es st xs ys → IsPut (key p y) (args_of p y) y.standing wanted st es es'
     → StandsBy p es' st (cond wanted (xs ++ y ∷ []) xs) (cond wanted ys (ys ++ y ∷ []))
-put_here wanted p es es' st y xs ys old put = by (is_stale st (key p y)) wanted refl
+put_here wanted p es es' st y xs ys old put = by (is_stale st (key p y)) wanted refl refl
   where
     h : Group
     h = with_row (or_empty (length (args_of p y)) (group_at es (key p y))) (args_of p y) y.standing

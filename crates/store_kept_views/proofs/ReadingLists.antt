@@ -1,8 +1,8 @@
 -- The columns that a plan reads of rows, place by place.
-use Rattle.std.proofs.Common.{◌≡◌, ℕ, ◌<◌, List, [], ◌∷◌, map, refl, sym, ◌∙◌, ap, subst, arith, length, zero, suc}
+use Rattle.std.proofs.Common.{◌≡◌, ℕ, ◌+◌, ◌<◌, List, [], ◌∷◌, ◌++◌, map, get_or, take, refl, sym, ◌∙◌, ap, subst, arith, length, zero, suc}
 use Rattle.std.specs.Prelude.{replicate, slice_index_or}
 use Rattle.std.specs.List.{All}
-use Rattle.std.proofs.lemmas.List.{length-map}
+use Rattle.std.proofs.lemmas.List.{length-map, map-append, take_more}
 use Rattle.base_columns.specs.Batches.{cells, column_at, row_at}
 use Rattle.base_row_laws.specs.Ranked.{Ranked}
 use Rattle.base_row_laws.specs.Rows.{columns}
@@ -55,3 +55,13 @@ pub arguments_long : (ags : List KeptAggregate) (rows : List (Ranked Value)) (i 
 arguments_long [] rows i less k d within = absurd (omega arith)
 arguments_long (a ∷ ags) rows i less zero d within = subst (λ n. i < n) (sym (length-map rows _)) less
 arguments_long (a ∷ ags) rows i less (suc k) d within = arguments_long ags rows i less k d (omega arith)
+
+-- one element more
+pub map_more : {X Y : Type 0} (f : X → Y) (xs : List X) (i : ℕ) (d : X) (ys new : List Y) (y : Y) → i < length xs → ys ≡ map f (take i xs) → y ≡ f (get_or xs i d) → new ≡ ys ++ y ∷ []
+    → new ≡ map f (take (i + 1) xs)
+map_more f xs i d ys new y less old here push =
+    push
+    ∙ ap (λ l. l ++ y ∷ []) old
+    ∙ ap (λ v. map f (take i xs) ++ v ∷ []) here
+    ∙ sym (map-append f (take i xs) (get_or xs i d ∷ []))
+    ∙ ap (map f) (sym (take_more xs i d less))

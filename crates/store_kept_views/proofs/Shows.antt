@@ -19,17 +19,19 @@ use Rattle.base_row_laws.proofs.Tables.{entries_made}
 use Rattle.base_value.specs.declared.value.Value.{Value}
 use Rattle.base_value.specs.declared.value.Value.TheVariants.{Null}
 use Rattle.base_value.specs.Value.{same_value}
-use Rattle.store_kept_views.specs.declared.cell.Cell.{Cell as Stored}
+use Rattle.store_groups.specs.declared.cell.Cell.{Cell as Stored}
 use Rattle.store_kept_views.specs.declared.plan.KeptPlan.{KeptPlan}
 use Rattle.store_kept_views.specs.declared.plan.KeptAggregate.{KeptAggregate}
-use Rattle.store_kept_views.specs.Stored.{cell_in}
+use Rattle.store_groups.specs.Stored.{cell_in}
 use Rattle.sql_bound_query.specs.Meaning.{groups}
 use Rattle.store_kept_views.specs.Plans.{item_of, selected, key_of, query_rows}
-use Rattle.store_kept_views.specs.Groups.{Group, Cell, group_of, no_rows, shown, all_shown, row_of}
-use Rattle.store_kept_views.specs.Standing.{Entries, same_key, group_at, rows_at, made_at, StandsFor}
+use Rattle.store_groups.specs.Groups.{Group, Cell, no_rows}
+use Rattle.store_kept_views.specs.RowGroups.{group_of, shown, all_shown, row_of}
+use Rattle.store_groups.specs.Entries.{Entries, same_key, group_at}
+use Rattle.store_kept_views.specs.Standing.{rows_at, made_at, StandsFor}
 use Rattle.store_kept_views.specs.Output.{output_row, output_by, output_rows}
 use Rattle.store_kept_views.proofs.GroupLists.{row_is, group_none}
-use Rattle.store_kept_views.proofs.EntryLists.{key_identity}
+use Rattle.store_groups.proofs.EntryLists.{key_identity}
 use Rattle.store_kept_views.proofs.Made.{key, made_here, made_none}
 
 -- place by place

@@ -10,11 +10,13 @@ use Rattle.base_row_laws.proofs.Bags.{SameBag-append_comm, SameBag-trans, SameBa
 use Rattle.base_value.specs.declared.value.Value.{Value}
 use Rattle.store_kept_views.specs.declared.plan.KeptPlan.{KeptPlan}
 use Rattle.store_kept_views.specs.Plans.{holds_for, selected, key_of}
-use Rattle.store_kept_views.specs.Groups.{Group, group_of, with_row, without_row, is_faultless, HasRow, no_rows}
-use Rattle.store_kept_views.specs.Standing.{Entries, same_key, group_at, rows_at, made_at, StandsFor, StandsBy, is_stale, arguments_in, IsMoved}
-use Rattle.store_kept_views.specs.Entries.{or_empty}
+use Rattle.store_groups.specs.Groups.{Group, with_row, without_row, is_faultless, HasRow, no_rows}
+use Rattle.store_kept_views.specs.RowGroups.{group_of}
+use Rattle.store_groups.specs.Entries.{Entries, same_key, group_at}
+use Rattle.store_kept_views.specs.Standing.{rows_at, made_at, StandsFor, StandsBy, is_stale, arguments_in, IsMoved}
+use Rattle.store_groups.specs.Entries.{or_empty}
 use Rattle.store_kept_views.proofs.GroupLists.{group_more, group_less, group_none, has_row}
-use Rattle.store_kept_views.proofs.EntryLists.{key_identity}
+use Rattle.store_groups.proofs.EntryLists.{key_identity}
 use Rattle.store_kept_views.proofs.Made.{key, made_alike, made_none, made_other, made_here, made_some, made_gone, has_rows, filled, selected_append, selected_alike}
 
 abbrev pub args_of : KeptPlan → Ranked Value → List Value

@@ -6,7 +6,8 @@ use Rattle.std.proofs.lemmas.List.{map-append}
 use Rattle.store_kept_views.specs.declared.plan.KeptPlan.{KeptPlan}
 use Rattle.base_schema.specs.State.{State, table_rows}
 use Rattle.base_value.specs.declared.value.Value.{Value}
-use Rattle.store_kept_views.specs.Standing.{Entries, CanMove, IsMoved}
+use Rattle.store_groups.specs.Entries.{Entries}
+use Rattle.store_kept_views.specs.Standing.{CanMove, IsMoved}
 use Rattle.store_kept_views.specs.Kept.{plans_of, AreKept, IsKept, CanMoveView}
 
 plans_suc : (views : List (KeptPlan × Entries)) (i : ℕ) (v : KeptPlan × Entries) → i < length views → v ≡ get_or views i v → plans_of (take (suc i) views) ≡ plans_of (take i views) ++ v.0 ∷ []
@@ -41,3 +42,6 @@ can_move v added removed rows more less all can is_more is_less is_all = record 
       (subst (λ x. IsMoved (table_rows can.old v.0.table) (table_rows added v.0.table) (table_rows removed v.0.table) x) (sym is_all) (can.moved v.0.table)));
   stands = can.stands;
 }
+
+pub plans_push : (views new : List (KeptPlan × Entries)) (w : KeptPlan × Entries) → new ≡ views ++ w ∷ [] → plans_of new ≡ plans_of views ++ w.0 ∷ []
+plans_push views new w is = ap plans_of is ∙ map-append (λ (v : KeptPlan × Entries). v.0) views (w ∷ [])

@@ -48,8 +48,9 @@ column_at other = None
 
 -- the place of the column of the row itself that an expression is
 unfoldable pub shown_place : BoundExpr → Option ℕ
-shown_place e = option_and_then (column_at (out-Expr (out-BoundExpr e).expr))
-    (λ k. option_and_then (slice_get (out-BoundExpr e).inputs k) own_place)
+shown_place e =
+    option_and_then (λ k. option_and_then own_place (slice_get (out-BoundExpr e).inputs k))
+    (column_at (out-Expr (out-BoundExpr e).expr))
 
 -- the condition of no conditions
 abbrev pub is_nothing : Expr-F Expr Branch Operation → Bool

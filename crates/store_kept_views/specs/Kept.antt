@@ -4,7 +4,8 @@ use Rattle.std.specs.List.{All}
 use Rattle.base_schema.specs.declared.table.TableName.{TableName}
 use Rattle.base_schema.specs.State.{State, table_rows}
 use Rattle.store_kept_views.specs.declared.plan.KeptPlan.{KeptPlan}
-use Rattle.store_kept_views.specs.Standing.{Entries, IsMoved, StandsFor}
+use Rattle.store_groups.specs.Entries.{Entries}
+use Rattle.store_kept_views.specs.Standing.{IsMoved, StandsFor}
 
 -- plans, and the state of whose rows their groups are made
 pub record KeptRows : Type 0 where

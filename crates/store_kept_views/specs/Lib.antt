@@ -1,12 +1,8 @@
 pub mod Plans
 pub mod Forms
-pub mod Groups
-pub mod Stored
+pub mod RowGroups
 pub mod Standing
 pub mod Readings
-pub mod Entries
-pub mod Pages
-pub mod Taken
 pub mod Moving
 pub mod Output
 pub mod Kept

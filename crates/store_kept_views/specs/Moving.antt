@@ -1,11 +1,11 @@
 -- A row taken out of a table of groups, and one put in.
 use Rattle.std.specs.Prelude.{◌≡◌, ℕ, List, Bool, false, true, not, length, Option, Some, None}
-use Rattle.base_value.specs.declared.value.Value.{Value}
-use Rattle.store_kept_views.specs.Entries.{or_empty}
-use Rattle.store_kept_views.specs.Groups.{Group, is_faultless, no_rows, with_row, without_row}
-use Rattle.store_kept_views.specs.Standing.{Entries, group_at, is_stale}
-use Rattle.store_kept_views.specs.Taken.{IsSet}
 use Rattle.std.specs.Prelude.{◌<◌, ◌⊎◌}
+use Rattle.base_value.specs.declared.value.Value.{Value}
+use Rattle.store_groups.specs.Groups.{Group, is_faultless, no_rows, with_row, without_row}
+use Rattle.store_groups.specs.Entries.{Entries, group_at, or_empty}
+use Rattle.store_kept_views.specs.Standing.{is_stale}
+use Rattle.store_groups.specs.Taken.{IsSet}
 
 -- a row of these arguments is out of the group of a key: there is none; or the group of the others
 -- is left; or no row is left; or the group held a fault, and its key is noted

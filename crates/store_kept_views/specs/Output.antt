@@ -5,8 +5,9 @@ use Rattle.base_row_laws.specs.Rows.{columns}
 use Rattle.base_value.specs.declared.value.Value.{Value}
 use Rattle.base_value.specs.declared.value.Value.TheVariants.{Null}
 use Rattle.store_kept_views.specs.declared.plan.KeptPlan.{KeptPlan}
-use Rattle.store_kept_views.specs.Groups.{Group, no_rows, row_of}
-use Rattle.store_kept_views.specs.Standing.{Entries}
+use Rattle.store_groups.specs.Groups.{Group, no_rows}
+use Rattle.store_kept_views.specs.RowGroups.{row_of}
+use Rattle.store_groups.specs.Entries.{Entries}
 
 -- the columns of a group's row that are shown
 abbrev pub output_row : KeptPlan → List Value → Group → Ranked Value

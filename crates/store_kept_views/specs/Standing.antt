@@ -1,30 +1,17 @@
 -- What a table of groups stands for.
-use Rattle.std.specs.Prelude.{◌≡◌, ◌+◌, ◌-◌, List, [], ◌++◌, map}
+use Rattle.std.specs.Prelude.{◌≡◌, List, [], ◌++◌, map}
 use Rattle.std.specs.Prelude.{Bool, cond, Option, Some, None}
 use Rattle.std.specs.List.{filter}
-use Rattle.std.specs.Map.{lookup}
 use Rattle.std.specs.Option.{is_some}
 use Rattle.base_row_laws.specs.Ranked.{Ranked}
 use Rattle.base_row_laws.specs.Bags.{SameBag, has}
-use Rattle.base_row_laws.specs.Rows.{same_row}
 use Rattle.base_value.specs.declared.value.Value.{Value}
-use Rattle.base_value.specs.Value.{same_value}
 use Rattle.store_kept_views.specs.declared.plan.KeptAggregate.{KeptAggregate}
 use Rattle.store_kept_views.specs.declared.plan.KeptPlan.{KeptPlan}
 use Rattle.store_kept_views.specs.Plans.{item_of, selected, key_of}
-use Rattle.store_kept_views.specs.Groups.{Group, group, group_of}
-
--- whether two keys are identical
-abbrev pub same_key : List Value → List Value → Bool
-same_key = same_row same_value
-
--- keys with their groups
-abbrev pub Entries : Type 0
-Entries = List (List Value × Group)
-
--- the group of a key, if it has one
-abbrev pub group_at : Entries → List Value → Option Group
-group_at es q = lookup (same_key q) es
+use Rattle.store_groups.specs.Entries.{Entries, group_at, same_key}
+use Rattle.store_groups.specs.Groups.{Group}
+use Rattle.store_kept_views.specs.RowGroups.{group_of}
 
 -- the rows of a key
 abbrev pub rows_at : KeptPlan → List Value → List (Ranked Value) → List (Ranked Value)

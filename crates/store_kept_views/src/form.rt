@@ -65,12 +65,13 @@ fn own_places(alloc: Global, inputs: &[Input]) -> Result<Items<u32>, KeptPlanErr
 }
 
 // An expression over the row itself.
-fn over_row(alloc: Global, e: &BoundExpr) -> Result<Expr, KeptPlanError>
+fn over_row(alloc: Global, e: &BoundExpr) -> Result<Boxed<Expr>, KeptPlanError>
     ensures { IsFound (is_over_row e.now) (IsOver e.now) result }
 {
     let places = own_places(alloc, e.inputs.as_slice())?;
     let new = rename(alloc, e.expr.get(), places.as_slice())?;
-    Ok(new)
+    let boxed = Boxed::new(alloc, new)?;
+    Ok(boxed)
 }
 
 // A function of an expression over the row itself, where it is kept.
@@ -86,12 +87,10 @@ fn kept_function(
     match function {
         AggregateFunction::Count => {
             let e = over_row(alloc, e)?;
-            let e = Boxed::new(alloc, e)?;
             Ok(KeptAggregate::Count(e))
         }
         AggregateFunction::Sum => {
             let e = over_row(alloc, e)?;
-            let e = Boxed::new(alloc, e)?;
             Ok(KeptAggregate::Sum(scale, e))
         }
         AggregateFunction::CountDistinct
@@ -107,10 +106,7 @@ fn kept_aggregate(alloc: Global, a: &BoundAggregate) -> Result<KeptAggregate, Ke
 {
     match a {
         BoundAggregate::CountRows => Ok(KeptAggregate::CountRows),
-        BoundAggregate::Of(function, scale, e) => {
-            let kept = kept_function(alloc, *function, *scale, e)?;
-            Ok(kept)
-        }
+        BoundAggregate::Of(function, scale, e) => kept_function(alloc, *function, *scale, e),
     }
 }
 
@@ -182,7 +178,6 @@ fn plan_of_block(alloc: Global, q: &BoundBlock) -> Result<KeptPlan, KeptPlanErro
     let condition = over_row(alloc, condition)?;
     let aggregates = kept_aggregates(alloc, aggregates.as_slice())?;
     let list = shown_places(alloc, list.as_slice())?;
-    let condition = Boxed::new(alloc, condition)?;
     let by = Items::from_slice(alloc, by.as_slice())?;
     Ok(KeptPlan {
         table: *table,
@@ -200,7 +195,10 @@ impl KeptPlan {
     pub fn new(alloc: Global, q: &BoundQuery) -> Result<KeptPlan, KeptPlanError>
         ensures { IsFound (is_kept q.now) (IsPlanOf q.now.block) result }
     {
-        if q.order.len() > 0 || q.limit.is_some() {
+        if q.order.len() > 0 {
+            return Err(KeptPlanError::NotKept);
+        }
+        if q.limit.is_some() {
             return Err(KeptPlanError::NotKept);
         }
         plan_of_block(alloc, q.block.get())

@@ -3,17 +3,11 @@
 #![tactic(auto)]
 
 mod bag;
-mod cell;
-mod cells;
-mod entry;
 mod form;
-mod group;
-mod groups;
 mod kept;
 pub mod laws;
 mod moving;
 mod output;
-mod page;
 mod plan;
 mod reading;
 #[cfg(test)]

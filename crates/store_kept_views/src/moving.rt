@@ -5,14 +5,13 @@ ghost use Rattle.base_columns.specs.Tables.{standing_rows};
 ghost use Rattle.base_row_laws.specs.Ranked.{Ranked};
 ghost use Rattle.base_value.specs.Truth.{standing_rank};
 ghost use Rattle.base_value.specs.declared.value.Value.{Value as Datum};
-ghost use Rattle.store_kept_views.specs.Entries.{CanTake, HasLong};
+ghost use Rattle.store_groups.specs.Entries.{CanTake, HasLong};
 ghost use Rattle.store_kept_views.specs.Moving.{IsPut, IsTakenOut};
 ghost use Rattle.store_kept_views.specs.Plans.{selected};
 ghost use Rattle.store_kept_views.specs.Standing.{CanAdd, CanMove, CanTakeAll, StandsBy};
-ghost use Rattle.store_kept_views.specs.Standing.{StandsFor, group_at};
+ghost use Rattle.store_groups.specs.Entries.{group_at};
+ghost use Rattle.store_kept_views.specs.Standing.{StandsFor};
 
-use crate::entry::Taken;
-use crate::groups::Groups;
 use crate::plan::KeptPlan;
 use crate::reading::Reading;
 use base_columns::Batch;
@@ -20,6 +19,7 @@ use base_value::{Standing, Value};
 use plan_algebra::Piece;
 use sqlite_items::Items;
 use std::alloc::{AllocError, Global};
+use store_groups::{Groups, Taken};
 use store_state::Part;
 
 // A part's rows as a piece, of which nothing is copied.

@@ -1,6 +1,6 @@
 //! The rows of groups.
 ghost use Rattle.std.specs.List.{All};
-ghost use Rattle.base_columns.specs.Lists.{one_list};
+ghost use Rattle.store_groups.specs.Pages.{entries_of};
 ghost use Rattle.base_row_laws.specs.Rows.{columns};
 ghost use Rattle.base_value.specs.declared.value.Value.TheVariants.{Null};
 ghost use Rattle.base_row_laws.specs.Bags.{SameBag};
@@ -12,20 +12,17 @@ ghost use Rattle.std.specs.Prelude.{slice_index_or};
 ghost use Rattle.base_row_laws.specs.Ranked.{ranked};
 ghost use Rattle.base_value.specs.Truth.{standing_rank};
 ghost use Rattle.expr_aggregates.specs.Values.{number_or_fault};
-ghost use Rattle.store_kept_views.specs.Groups.{all_shown, no_rows, shown, unless_rank};
-ghost use Rattle.store_kept_views.specs.Stored.{cell_in};
+ghost use Rattle.store_groups.specs.Groups.{no_rows};
+ghost use Rattle.store_kept_views.specs.RowGroups.{all_shown, shown, unless_rank};
+ghost use Rattle.store_groups.specs.Stored.{cell_in};
 ghost use Rattle.store_kept_views.specs.Output.{output_row, output_rows};
 
-use crate::cell::Cell;
-use crate::entry::Entry;
-use crate::group::Group;
-use crate::groups::Groups;
-use crate::page::Page;
 use crate::plan::{KeptAggregate, KeptPlan};
 use base_decimal::{NumberFault, Scale};
 use base_value::{Fault, Row, Standing, Value};
 use std::alloc::{AllocError, Global};
 use std::marker::Model;
+use store_groups::{Cell, Entry, Group, Groups, Page};
 
 /// A row with its standing.
 #[derive(Drop)]
@@ -181,7 +178,7 @@ fn page_rows(
     pages: &[Page],
 ) -> Result<Vec<OutputRow>, AllocError>
     ensures { IfOk result (λ rows. rows.items
-        ≡ map (λ e. output_row plan.now e.0 e.1) (one_list pages.now)) }
+        ≡ map (λ e. output_row plan.now e.0 e.1) (entries_of pages.now)) }
 {
     let mut rows = Vec::new(alloc);
     for page in pages {

@@ -7,7 +7,6 @@ ghost use Rattle.store_kept_views.specs.Plans.{query_rows};
 ghost use Rattle.store_kept_views.specs.Kept.{CanMoveView, IsKept};
 
 use crate::bag::bag_of;
-use crate::groups::Groups;
 use crate::moving::{groups_after, groups_of};
 use crate::output::shown_rows;
 use crate::plan::KeptPlan;
@@ -15,6 +14,7 @@ use base_columns::Bag;
 use std::alloc::{AllocError, Global};
 use std::marker::Model;
 use std::sync::Arc;
+use store_groups::Groups;
 use store_state::State;
 
 /// A plan with groups, seen as the two.
@@ -27,7 +27,7 @@ pub(crate) struct View {
 impl Model for View {
     ghost use Rattle.std.specs.Arc.{arc_value};
     ghost use Rattle.store_kept_views.specs.declared.plan.KeptPlan.{KeptPlan as Plan};
-    ghost use Rattle.store_kept_views.specs.Standing.{Entries};
+    ghost use Rattle.store_groups.specs.Entries.{Entries};
     ghost use Rattle.std.specs.Coded.{codes};
     ghost use Rattle.expr_scalar.specs.contracts.expr.Expr as expr;
 

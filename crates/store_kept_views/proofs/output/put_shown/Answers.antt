@@ -1,8 +1,8 @@
 use Rattle.std.proofs.Common.{◌≡◌, ◌∙◌, ap, ◌++◌, ◌∷◌, [], sym}
 use Rattle.std.specs.Prelude.{take, map}
 use Rattle.std.proofs.lemmas.List.{append_assoc}
-use Rattle.store_kept_views.specs.Groups.{all_shown}
-use Rattle.store_kept_views.specs.Stored.{cell_in}
+use Rattle.store_kept_views.specs.RowGroups.{all_shown}
+use Rattle.store_groups.specs.Stored.{cell_in}
 use Rattle.store_kept_views.proofs.Shows.{more_shown, cells_end, ags_end}
 use Rattle.store_kept_views.proofs.output.put_shown.Goals as goal
 

@@ -1,7 +1,7 @@
 use Rattle.std.proofs.Common.{◌≡◌, ◌++◌}
 use Rattle.std.specs.Prelude.{take, map}
-use Rattle.store_kept_views.specs.Groups.{all_shown}
-use Rattle.store_kept_views.specs.Stored.{cell_in}
+use Rattle.store_kept_views.specs.RowGroups.{all_shown}
+use Rattle.store_groups.specs.Stored.{cell_in}
 use Rattle.store_kept_views.proofs.output.put_shown.Given as goal
 
 abbrev pub invariant-loop-i : goal.invariant-loop-i

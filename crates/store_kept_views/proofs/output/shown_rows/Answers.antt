@@ -1,4 +1,4 @@
-use Rattle.std.proofs.Common.{subst, sym, length}
+use Rattle.std.proofs.Common.{◌≡◌, subst, sym, length}
 use Rattle.std.specs.List.{All}
 use Rattle.base_row_laws.specs.Bags.{SameBag}
 use Rattle.store_kept_views.specs.Plans.{query_rows}
@@ -11,4 +11,4 @@ returns-clause-wide c = subst (λ l. All (λ r. length r.values ≡ length c.arg
 
 pub returns-clause-rows : goal.returns-clause-rows
 returns-clause-rows c = λ table stands. subst (λ l. SameBag l (query_rows c.args.plan.now table)) (sym c.in_ok-rows.ensures)
-    (rows_shown c.args.plan.now c.args.groups.now table c.pages-_pages.ensures.distinct stands)
+    (rows_shown c.args.plan.now c.args.groups.now table c.pages-pages.ensures.distinct stands)
