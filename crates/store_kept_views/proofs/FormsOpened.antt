@@ -175,19 +175,19 @@ module _ (q : BoundBlock) (from : BoundSource) (condition : BoundExpr) (by : Lis
   block_test = ap is_kept_block is ∙ block_Grouped from condition by aggregates having list
 
   pub without_table : is_table from ≡ false → is_kept_block q ≡ false
-  without_table f = block_test ∙ and_first _ _ f
+  without_table f = block_test ∙ and_first (is_table from) ((is_over_row condition) && ((list_all is_kept_aggregate aggregates) && ((holds_always having) && (list_all (λ x. is_some (shown_place x)) list)))) f
 
   pub without_condition : is_over_row condition ≡ false → is_kept_block q ≡ false
-  without_condition f = block_test ∙ and_second _ _ (and_first _ _ f)
+  without_condition f = block_test ∙ and_second (is_table from) ((is_over_row condition) && ((list_all is_kept_aggregate aggregates) && ((holds_always having) && (list_all (λ x. is_some (shown_place x)) list)))) (and_first (is_over_row condition) ((list_all is_kept_aggregate aggregates) && ((holds_always having) && (list_all (λ x. is_some (shown_place x)) list))) f)
 
   pub without_aggregates : list_all is_kept_aggregate aggregates ≡ false → is_kept_block q ≡ false
-  without_aggregates f = block_test ∙ and_second _ _ (and_second _ _ (and_first _ _ f))
+  without_aggregates f = block_test ∙ and_second (is_table from) ((is_over_row condition) && ((list_all is_kept_aggregate aggregates) && ((holds_always having) && (list_all (λ x. is_some (shown_place x)) list)))) (and_second (is_over_row condition) ((list_all is_kept_aggregate aggregates) && ((holds_always having) && (list_all (λ x. is_some (shown_place x)) list))) (and_first (list_all is_kept_aggregate aggregates) ((holds_always having) && (list_all (λ x. is_some (shown_place x)) list)) f))
 
   pub without_having : holds_always having ≡ false → is_kept_block q ≡ false
-  without_having f = block_test ∙ and_second _ _ (and_second _ _ (and_second _ _ (and_first _ _ f)))
+  without_having f = block_test ∙ and_second (is_table from) ((is_over_row condition) && ((list_all is_kept_aggregate aggregates) && ((holds_always having) && (list_all (λ x. is_some (shown_place x)) list)))) (and_second (is_over_row condition) ((list_all is_kept_aggregate aggregates) && ((holds_always having) && (list_all (λ x. is_some (shown_place x)) list))) (and_second (list_all is_kept_aggregate aggregates) ((holds_always having) && (list_all (λ x. is_some (shown_place x)) list)) (and_first (holds_always having) (list_all (λ x. is_some (shown_place x)) list) f)))
 
   pub without_list : list_all (λ x. is_some (shown_place x)) list ≡ false → is_kept_block q ≡ false
-  without_list f = block_test ∙ and_second _ _ (and_second _ _ (and_second _ _ (and_second _ _ f)))
+  without_list f = block_test ∙ and_second (is_table from) ((is_over_row condition) && ((list_all is_kept_aggregate aggregates) && ((holds_always having) && (list_all (λ x. is_some (shown_place x)) list)))) (and_second (is_over_row condition) ((list_all is_kept_aggregate aggregates) && ((holds_always having) && (list_all (λ x. is_some (shown_place x)) list))) (and_second (list_all is_kept_aggregate aggregates) ((holds_always having) && (list_all (λ x. is_some (shown_place x)) list)) (and_second (holds_always having) (list_all (λ x. is_some (shown_place x)) list) f)))
 
   pub with_all : is_table from ≡ true → is_over_row condition ≡ true → list_all is_kept_aggregate aggregates ≡ true → holds_always having ≡ true
       → list_all (λ x. is_some (shown_place x)) list ≡ true → is_kept_block q ≡ true

@@ -167,3 +167,14 @@ begun false p es st xs ys rows none old = subst (λ l. StandsBy p es st xs l) (s
 pub selected_none : (p : KeptPlan) → selected p [] ≡ []
 unfolding selected
 selected_none p = refl
+
+-- after the last row
+taken_all : (rows : List (Ranked Value)) (i : ℕ) → length rows ≤ i → take i rows ≡ rows
+taken_all [] zero le = refl
+taken_all [] (suc i) le = refl
+taken_all (x ∷ rows) zero le = absurd (omega arith)
+taken_all (x ∷ rows) (suc i) le = ap (λ l. x ∷ l) (taken_all rows i (omega arith))
+
+pub all_put : (wanted : Bool) (p : KeptPlan) (es st : Entries) (xs ys rows : List (Ranked Value)) (i : ℕ) → length rows ≤ i
+    → StandsBy p es st (cond wanted (xs ++ take i rows) xs) (cond wanted ys (ys ++ take i rows)) → StandsBy p es st (cond wanted (xs ++ rows) xs) (cond wanted ys (ys ++ rows))
+all_put wanted p es st xs ys rows i le old = subst (λ l. StandsBy p es st (cond wanted (xs ++ l) xs) (cond wanted ys (ys ++ l))) (taken_all rows i le) old

@@ -8,7 +8,7 @@ use Rattle.store_kept_views.specs.Plans.{selected}
 use Rattle.store_kept_views.specs.Standing.{StandsBy, StandsFor}
 use Rattle.std.proofs.Common.{refl}
 use Rattle.base_columns.specs.Batches.{row_at}
-use Rattle.store_kept_views.proofs.Passing.{asked_long, begun, put_row_more}
+use Rattle.store_kept_views.proofs.Passing.{all_put, asked_long, begun, put_row_more}
 use Rattle.store_kept_views.proofs.moving.put_rows.Goals as goal
 
 pub loop-i-init : goal.loop-i-init
@@ -26,3 +26,8 @@ loop-i-preserved c = λ xs ys old.
     (subst (λ n. c.loop-i.i < n) c.len-i-end.ensures c.loop-i-test.true)
     (c.as_slice.ensures.value ∙ c.in_ok-put_key.ensures) (c.as_slice-in-loop-i.ensures.value ∙ c.in_ok-put_arguments.ensures) c.standing-standing.ensures c.in_ok-put_in.ensures
     (c.loop-i.invariant xs ys old)
+
+pub returns : goal.returns
+returns c = λ xs ys old.
+    all_put c.args.wanted c.args.reading.now.plan c.loop-i.groups c.args.stale.now xs ys c.args.reading.now.rows c.loop-i.i
+    (subst (λ n. n ≤ c.loop-i.i) c.len-i-end.ensures c.loop-i-test.false) (c.loop-i.invariant xs ys old)
