@@ -1,14 +1,13 @@
 -- Entries of other keys, and one more.
-use Rattle.std.proofs.Common.{◌≡◌, ℕ, ◌+◌, List, [], ◌∷◌, ◌++◌, Bool, true, false, cond, refl, sym, ◌∙◌, ap, subst, arith, inl, inr, Some, None, Option, ◌<◌, zero, suc}
-use Rattle.std.specs.Prelude.{map, not, MatchOption}
-use Rattle.std.specs.List.{filter, remove, IsDistinct, AllByRecursion}
-use Rattle.std.specs.Map.{lookup}
+use Rattle.std.proofs.Common.{◌≡◌, ℕ, ◌+◌, List, [], ◌∷◌, ◌++◌, true, false, cond, refl, sym, ◌∙◌, ap, subst, arith, inl, inr, Some, None, Option, ◌<◌, zero, suc}
+use Rattle.std.specs.Prelude.{map, MatchOption}
+use Rattle.std.specs.List.{remove, IsDistinct, AllByRecursion}
 use Rattle.std.specs.Option.{is_some}
 use lib.ListN.{get_or, drop, length}
 use Rattle.std.proofs.lemmas.Bool.{cases_Bool, true≢false}
 use Rattle.std.proofs.lemmas.Map.Keys.{IsDistinct-head, IsDistinct-tail, IsDistinct-cons}
 use Rattle.base_row_laws.specs.Bags.{IsIdentity}
-use Rattle.base_row_laws.proofs.Classes.{apart, same-sym}
+use Rattle.base_row_laws.proofs.Classes.{apart}
 use Rattle.base_row_laws.proofs.Rows.{same_row_is}
 use Rattle.base_value.specs.declared.value.Value.{Value}
 use Rattle.base_value.specs.Value.{same_value, same_row as told_row}
