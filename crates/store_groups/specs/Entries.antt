@@ -1,0 +1,51 @@
+-- Keys with their groups, and how one key's group changes.
+use Rattle.std.specs.Prelude.{◌≡◌, ℕ, ◌<◌, List, [], ◌∷◌, ◌++◌, Bool, not, true, length, get_or}
+use Rattle.std.specs.Prelude.{Option, Some, None}
+use Rattle.std.specs.List.{filter}
+use Rattle.std.specs.Map.{lookup}
+use Rattle.base_row_laws.specs.Rows.{same_row}
+use Rattle.base_value.specs.declared.value.Value.{Value}
+use Rattle.base_value.specs.Value.{same_value}
+use Rattle.store_groups.specs.Groups.{Group, HasRow, is_faultless, no_rows}
+
+-- whether two keys are identical
+abbrev pub same_key : List Value → List Value → Bool
+same_key = same_row same_value
+
+-- keys with their groups
+abbrev pub Entries : Type 0
+Entries = List (List Value × Group)
+
+-- the group of a key, if it has one
+abbrev pub group_at : Entries → List Value → Option Group
+group_at es q = lookup (same_key q) es
+
+-- the entries of other keys
+abbrev pub without_key : List Value → Entries → Entries
+without_key k es = filter (λ e. not (same_key k e.0)) es
+
+-- the entries of other keys, and then this group of the key, if it has one
+abbrev pub with_group : List Value → Option Group → Entries → Entries
+with_group k None es = without_key k es
+with_group k (Some g) es = without_key k es ++ (k, g) ∷ []
+
+-- the entry at a place is the key's
+abbrev pub IsPlace : Entries → List Value → ℕ → Type 0
+IsPlace es k i = (i < length es) × ((d : List Value × Group)
+    → ((get_or es i d).0 ≡ k) × (group_at es k ≡ Some (get_or es i d).1))
+
+-- the group, or that of no rows, with so many cells
+abbrev pub or_empty : ℕ → Option Group → Group
+or_empty count None = no_rows count
+or_empty count (Some g) = g
+
+-- a group that is there has so many cells
+abbrev pub HasLong : ℕ → Option Group → Type 0
+HasLong count None = Unit {0}
+HasLong count (Some g) = count ≡ length g.cells
+
+-- a row of these arguments may be taken out of a group that is there, unless it holds a fault
+abbrev pub CanTake : List Value → Option Group → Type 0
+CanTake arguments None = Unit {0}
+CanTake arguments (Some g) = (length arguments ≡ length g.cells)
+    × (is_faultless g ≡ true → HasRow g arguments)

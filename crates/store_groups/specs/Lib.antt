@@ -1,0 +1,6 @@
+pub mod Groups
+pub mod Stored
+pub mod Entries
+pub mod Pages
+pub mod Taken
+pub mod Cases

@@ -1,0 +1,231 @@
+//! Keys with their groups.
+ghost use Rattle.std.specs.Prelude.{◌≡◌, IfOk, MatchOption, OnErr, OnOk};
+ghost use Rattle.std.specs.Prelude.{None, Some, is_some, length, map};
+ghost use Rattle.std.specs.List.{IsDistinct};
+ghost use Rattle.base_value.specs.Truth.{standing_rank};
+ghost use Rattle.store_groups.specs.Entries.{CanTake, HasLong, IsPlace, or_empty};
+ghost use Rattle.store_groups.specs.Entries.{with_group, without_key};
+ghost use Rattle.store_groups.specs.Groups.{HasRow, no_rows, with_row, without_row};
+ghost use Rattle.store_groups.specs.Entries.{group_at, same_key};
+ghost use Rattle.store_groups.specs.Taken.{IsTaken, left_of};
+
+use crate::group::Group;
+use base_value::{Row, RowKey, Standing, Value};
+use std::alloc::{AllocError, Global};
+use std::marker::Model;
+
+/// A key and its group, seen as the two.
+#[derive(Drop)]
+pub struct Entry {
+    key: Row,
+    group: Group,
+}
+
+impl Model for Entry {
+    ghost use Rattle.std.specs.Prelude.{List};
+    ghost use Rattle.base_value.specs.declared.value.Value.{Value as Datum};
+    ghost use Rattle.store_groups.specs.Groups.{Group as Kept};
+
+    ghost Value = { List Datum × Kept };
+
+    ghost view = { λ e. (e.key, e.group) };
+}
+
+/// What comes of the group of a key when one of its rows is taken out.
+#[derive(Clone, Copy)]
+pub enum Taken {
+    /// There is no group.
+    Absent,
+    /// The group of the other rows is left.
+    Left,
+    /// No row is left, nor the group.
+    Gone,
+    /// It held a fault, and is dropped.
+    Faulty,
+}
+
+impl Entry {
+    /// A key and the group of no rows, with so many cells.
+    pub(crate) fn none(alloc: Global, key: &[Value], count: usize) -> Result<Entry, AllocError>
+        ensures { IfOk result (λ e. e ≡ (key.now, no_rows count)) }
+    {
+        let group = Group::none(alloc, count)?;
+        let key = Row::from_slice(alloc, key)?;
+        Ok(Entry { key, group })
+    }
+
+    /// A copy of it, which shares the key.
+    pub(crate) fn copy(&self, alloc: Global) -> Result<Entry, AllocError>
+        ensures { IfOk result (λ e. e ≡ self.now) }
+    {
+        let group = self.group.copy(alloc)?;
+        let key = self.key.clone()?;
+        Ok(Entry { key, group })
+    }
+
+    /// Whether it is this key's.
+    fn is_of(&self, key: &[Value]) -> bool
+        ensures { result ≡ same_key key.now self.now.0 }
+    {
+        RowKey::new(key) == RowKey::new(self.key.values())
+    }
+
+    /// The key.
+    pub fn key(&self) -> &[Value]
+        ensures { result.now ≡ self.now.0 }
+    {
+        self.key.values()
+    }
+
+    /// The group.
+    pub fn group(&self) -> &Group
+        ensures { result.now ≡ self.now.1 }
+    {
+        &self.group
+    }
+
+    /// Puts a row into the group.
+    fn put(&mut self, arguments: &[Value], standing: Standing) -> Result<(), AllocError>
+        requires { length arguments.now ≡ length self.old.1.cells }
+        ensures key { self.new.0 ≡ self.old.0 }
+        ensures group { OnOk result
+            (self.new.1 ≡ with_row self.old.1 arguments.now (standing_rank standing)) }
+    {
+        self.group.put(arguments, standing)
+    }
+
+    /// Takes one of its rows out of the group.
+    fn remove(&mut self, arguments: &[Value])
+        requires long { length arguments.now ≡ length self.old.1.cells }
+        requires has { HasRow self.old.1 arguments.now }
+        ensures key { self.new.0 ≡ self.old.0 }
+        ensures group { self.new.1 ≡ without_row self.old.1 arguments.now }
+    {
+        self.group.remove(arguments);
+    }
+}
+
+/// The place of a key's entry, if it has one.
+fn place_of(entries: &[Entry], key: &[Value]) -> Option<usize>
+    ensures { MatchOption result (group_at entries.now key.now ≡ None)
+        (IsPlace entries.now key.now) }
+{
+    for i in 0..entries.len() {
+        if entries[i].is_of(key) {
+            return Some(i);
+        }
+    }
+    None
+}
+
+/// Whether a key has an entry.
+pub(crate) fn has_key(entries: &[Entry], key: &[Value]) -> bool
+    ensures { result ≡ is_some (group_at entries.now key.now) }
+{
+    place_of(entries, key).is_some()
+}
+
+/// Copies of entries, which share the keys.
+pub(crate) fn copies(alloc: Global, entries: &[Entry]) -> Result<Vec<Entry>, AllocError>
+    ensures { IfOk result (λ all. all.items ≡ entries.now) }
+{
+    let mut all = Vec::with_capacity(alloc, entries.len())?;
+    for entry in entries {
+        all.push(entry.copy(alloc)?)?;
+    }
+    Ok(all)
+}
+
+/// Takes the entry of a key from the others. Where it has none, it is that of no rows.
+fn take_entry(
+    alloc: Global,
+    entries: &mut Vec<Entry>,
+    key: &[Value],
+    count: usize,
+) -> Result<Entry, AllocError>
+    requires { IsDistinct same_key (map (λ e. e.0) entries.old.items) }
+    ensures entry { IfOk result
+        (λ e. e ≡ (key.now, or_empty count (group_at entries.old.items key.now))) }
+    ensures others { entries.new.items ≡ without_key key.now entries.old.items }
+{
+    match place_of(entries.as_slice(), key) {
+        Some(i) => Ok(entries.remove(i)),
+        None => {
+            let entry = Entry::none(alloc, key, count)?;
+            Ok(entry)
+        }
+    }
+}
+
+/// Puts a row into the group of a key, or into one of no rows. Want of memory may lose the group.
+pub(crate) fn put_row(
+    alloc: Global,
+    entries: &mut Vec<Entry>,
+    key: &[Value],
+    arguments: &[Value],
+    standing: Standing,
+) -> Result<(), AllocError>
+    requires distinct { IsDistinct same_key (map (λ e. e.0) entries.old.items) }
+    requires long { HasLong (length arguments.now) (group_at entries.old.items key.now) }
+    ensures ok { OnOk result (entries.new.items ≡ with_group key.now (Some (with_row
+        (or_empty (length arguments.now) (group_at entries.old.items key.now))
+        arguments.now (standing_rank standing))) entries.old.items) }
+    ensures err { OnErr result (entries.new.items ≡ without_key key.now entries.old.items) }
+{
+    let mut entry = take_entry(alloc, entries, key, arguments.len())?;
+    entry.put(arguments, standing)?;
+    entries.push(entry)?;
+    Ok(())
+}
+
+/// Takes a row out of the group of a key. A group that holds a fault is dropped, and so is one of
+/// which no row is left. Want of memory may lose the group.
+pub(crate) fn take_row(
+    entries: &mut Vec<Entry>,
+    key: &[Value],
+    arguments: &[Value],
+) -> Result<Taken, AllocError>
+    requires distinct { IsDistinct same_key (map (λ e. e.0) entries.old.items) }
+    requires can { CanTake arguments.now (group_at entries.old.items key.now) }
+    ensures taken { IfOk result
+        (IsTaken arguments.now (group_at entries.old.items key.now)) }
+    ensures ok { IfOk result (λ t. entries.new.items ≡ with_group key.now
+        (left_of arguments.now (group_at entries.old.items key.now) t) entries.old.items) }
+    ensures err { OnErr result (entries.new.items ≡ without_key key.now entries.old.items) }
+{
+    let Some(i) = place_of(entries.as_slice(), key) else {
+        return Ok(Taken::Absent);
+    };
+    let mut entry = entries.remove(i);
+    if !entry.group().is_faultless() {
+        return Ok(Taken::Faulty);
+    }
+    entry.remove(arguments);
+    if entry.group().len() == 0 {
+        return Ok(Taken::Gone);
+    }
+    entries.push(entry)?;
+    Ok(Taken::Left)
+}
+
+/// Puts an entry in the place of its key's. Want of memory may lose the group.
+pub(crate) fn put_entry(entries: &mut Vec<Entry>, entry: Entry) -> Result<(), AllocError>
+    requires { IsDistinct same_key (map (λ e. e.0) entries.old.items) }
+    ensures ok { OnOk result
+        (entries.new.items ≡ with_group entry.0 (Some entry.1) entries.old.items) }
+    ensures err { OnErr result (entries.new.items ≡ without_key entry.0 entries.old.items) }
+{
+    remove_key(entries, entry.key());
+    entries.push(entry)?;
+    Ok(())
+}
+
+/// Removes the entry of a key.
+fn remove_key(entries: &mut Vec<Entry>, key: &[Value])
+    requires { IsDistinct same_key (map (λ e. e.0) entries.old.items) }
+    ensures { entries.new.items ≡ without_key key.now entries.old.items }
+{
+    if let Some(i) = place_of(entries.as_slice(), key) {
+        drop(entries.remove(i));
+    }
+}

@@ -1,0 +1,108 @@
+//! What is kept of a group of rows.
+ghost use Rattle.std.specs.Prelude.{◌≡◌, IfOk, OnOk, length, map};
+ghost use Rattle.base_value.specs.Truth.{standing_rank};
+ghost use Rattle.store_groups.specs.Groups.{HasRow, is_faultless, no_rows, with_row};
+ghost use Rattle.store_groups.specs.Groups.{without_row};
+ghost use Rattle.store_groups.specs.Stored.{cell_in};
+
+use crate::cell::Cell;
+use crate::cells::{are_plain, no_cells, put_values, remove_values};
+use base_value::{Standing, Value};
+use std::alloc::{AllocError, Global};
+use std::marker::Model;
+
+/// How many rows, the least of their standings, and a cell for each aggregate.
+#[derive(Drop)]
+pub struct Group {
+    rows: u64,
+    least: Standing,
+    cells: Vec<Cell>,
+}
+
+impl Model for Group {
+    ghost use Rattle.std.specs.Prelude.{map};
+    ghost use Rattle.base_value.specs.Truth.{standing_rank};
+    ghost use Rattle.store_groups.specs.Groups.{Group as Kept, group};
+    ghost use Rattle.store_groups.specs.Stored.{cell_in};
+
+    ghost Value = { Kept };
+
+    ghost view = { λ g. group g.rows (standing_rank g.least) (map cell_in g.cells.items) };
+}
+
+impl Group {
+    /// Of no rows, with so many cells.
+    pub fn none(alloc: Global, count: usize) -> Result<Group, AllocError>
+        ensures { IfOk result (λ g. g ≡ no_rows count) }
+    {
+        let cells = no_cells(alloc, count)?;
+        Ok(Group {
+            rows: 0,
+            least: Standing::AtTrue,
+            cells,
+        })
+    }
+
+    /// A copy of it.
+    pub(crate) fn copy(&self, alloc: Global) -> Result<Group, AllocError>
+        ensures { IfOk result (λ g. g ≡ self.now) }
+    {
+        let cells = Vec::from_slice(alloc, self.cells.as_slice())?;
+        Ok(Group {
+            rows: self.rows,
+            least: self.least,
+            cells,
+        })
+    }
+
+    /// How many rows there are.
+    pub fn len(&self) -> u64
+        ensures { result ≡ self.now.rows }
+    {
+        self.rows
+    }
+
+    /// The least standing.
+    pub fn standing(&self) -> Standing
+        ensures { standing_rank result ≡ self.now.least }
+    {
+        self.least
+    }
+
+    /// The cells.
+    pub fn cells(&self) -> &[Cell]
+        ensures { map cell_in result.now ≡ self.now.cells }
+    {
+        self.cells.as_slice()
+    }
+
+    /// Puts a row in, of these arguments. More rows than are counted are an error, as memory that
+    /// isn't there.
+    pub(crate) fn put(&mut self, arguments: &[Value], standing: Standing) -> Result<(), AllocError>
+        requires { length arguments.now ≡ length self.old.cells }
+        ensures { OnOk result
+            (self.new ≡ with_row self.old arguments.now (standing_rank standing)) }
+    {
+        self.rows = self.rows.checked_add(1).ok_or(AllocError)?;
+        self.least = self.least.lesser(standing);
+        put_values(self.cells.as_mut_slice(), arguments)?;
+        Ok(())
+    }
+
+    /// Takes one of its rows out, of these arguments.
+    pub(crate) fn remove(&mut self, arguments: &[Value])
+        requires long { length arguments.now ≡ length self.old.cells }
+        requires has { HasRow self.old arguments.now }
+        ensures { self.new ≡ without_row self.old arguments.now }
+    {
+        remove_values(self.cells.as_mut_slice(), arguments);
+        self.rows -= 1;
+    }
+
+    /// Whether no fault is in a standing, a value or a sum.
+    pub(crate) fn is_faultless(&self) -> bool
+        ensures { result ≡ is_faultless self.now }
+    {
+        matches!(self.least, Standing::AtTrue) && are_plain(self.cells.as_slice())
+    }
+}

@@ -1,0 +1,17 @@
+//! Groups of rows by their keys: of each how many rows there are, and of the values of each
+//! aggregate's argument their sums and their least fault. Rows are put in and taken out.
+#![tactic(auto)]
+
+mod cell;
+mod cells;
+mod entry;
+mod group;
+mod groups;
+pub mod laws;
+mod page;
+
+pub use cell::Cell;
+pub use entry::{Entry, Taken};
+pub use group::Group;
+pub use groups::Groups;
+pub use page::Page;

@@ -1,0 +1,11 @@
+pub mod GroupLists
+pub mod Made
+pub mod Stages
+pub mod Passing
+pub mod Shows
+pub mod ReadingLists
+pub mod ViewLists
+pub mod FormsOpened
+pub mod FormLists
+pub mod FormLoops
+pub mod PartLists

@@ -1,0 +1,151 @@
+-- What groups show.
+use Rattle.std.proofs.Common.{◌≡◌, ℕ, ◌+◌, ◌<◌, ◌≤◌, List, [], ◌∷◌, ◌++◌, Bool, true, false, cond, refl, sym, ◌∙◌, ap, subst, arith, inl, inr, Some, None, Option, length, zero, suc}
+use Rattle.std.specs.Prelude.{map, take}
+use Rattle.std.specs.List.{All, filter, IsDistinct}
+use Rattle.std.specs.Map.{lookup}
+use Rattle.std.specs.Option.{is_some}
+use Rattle.std.specs.Prelude.{not}
+use Rattle.std.proofs.lemmas.Bool.{true≢false}
+use lib.ListN.{get_or}
+use Rattle.std.proofs.lemmas.List.{append_assoc, append-nil, map-append, length-map}
+use Rattle.base_row_laws.specs.Ranked.{Ranked, ranked}
+use Rattle.base_row_laws.specs.Bags.{SameBag, has, IsIdentity, classes, each_once}
+use Rattle.base_row_laws.specs.Rows.{columns, same_row}
+use Rattle.base_row_laws.specs.Operators.{project, group_by, total, least}
+use Rattle.base_row_laws.specs.Aggregates.{aggregated}
+use Rattle.base_row_laws.proofs.Bags.{SameBag-map, SameBag-trans, SameBag-refl}
+use Rattle.base_row_laws.proofs.Lists.{map-ext, map-map}
+use Rattle.base_row_laws.proofs.Tables.{entries_made}
+use Rattle.base_value.specs.declared.value.Value.{Value}
+use Rattle.base_value.specs.declared.value.Value.TheVariants.{Null}
+use Rattle.base_value.specs.Value.{same_value}
+use Rattle.store_groups.specs.declared.cell.Cell.{Cell as Stored}
+use Rattle.store_kept_views.specs.declared.plan.KeptPlan.{KeptPlan}
+use Rattle.store_kept_views.specs.declared.plan.KeptAggregate.{KeptAggregate}
+use Rattle.store_groups.specs.Stored.{cell_in}
+use Rattle.sql_bound_query.specs.Meaning.{groups}
+use Rattle.store_kept_views.specs.Plans.{item_of, selected, key_of, query_rows}
+use Rattle.store_groups.specs.Groups.{Group, Cell, no_rows}
+use Rattle.store_kept_views.specs.RowGroups.{group_of, shown, all_shown, row_of}
+use Rattle.store_groups.specs.Entries.{Entries, same_key, group_at}
+use Rattle.store_kept_views.specs.Standing.{rows_at, made_at, StandsFor}
+use Rattle.store_kept_views.specs.Output.{output_row, output_by, output_rows}
+use Rattle.store_kept_views.proofs.GroupLists.{row_is, group_none}
+use Rattle.store_groups.proofs.EntryLists.{key_identity}
+use Rattle.store_kept_views.proofs.Made.{key, made_here, made_none}
+
+-- place by place
+more_suc : (ags : List KeptAggregate) (n : ℕ) (cs : List Stored) (i : ℕ) (a : KeptAggregate) (c : Stored) → i < length ags → i < length cs → a ≡ get_or ags i a → c ≡ get_or cs i c
+    → all_shown (take (suc i) ags) n (map cell_in (take (suc i) cs)) ≡ all_shown (take i ags) n (map cell_in (take i cs)) ++ shown a n (cell_in c) ∷ []
+more_suc [] n cs i a c la lc ia ic = absurd (omega arith)
+more_suc (x ∷ ags) n [] i a c la lc ia ic = absurd (omega arith)
+more_suc (x ∷ ags) n (y ∷ cs) zero a c la lc ia ic = rw (ia, ic)
+more_suc (x ∷ ags) n (y ∷ cs) (suc i) a c la lc ia ic = ap (λ l. shown x n (cell_in y) ∷ l) (more_suc ags n cs i a c (omega arith) (omega arith) ia ic)
+
+pub more_shown : (ags : List KeptAggregate) (n : ℕ) (cs : List Stored) (i : ℕ) (a : KeptAggregate) (c : Stored) → i < length ags → i < length cs → a ≡ get_or ags i a → c ≡ get_or cs i c
+    → all_shown (take (i + 1) ags) n (map cell_in (take (i + 1) cs)) ≡ all_shown (take i ags) n (map cell_in (take i cs)) ++ shown a n (cell_in c) ∷ []
+more_shown ags n cs i a c la lc ia ic = let s : i + 1 ≡ suc i = omega arith in rw s (more_suc ags n cs i a c la lc ia ic)
+
+pub cells_end : (ags : List KeptAggregate) (n : ℕ) (cs : List Stored) (i : ℕ) → length cs ≤ i → all_shown (take i ags) n (map cell_in (take i cs)) ≡ all_shown ags n (map cell_in cs)
+cells_end [] n cs zero le = refl
+cells_end [] n cs (suc i) le = refl
+cells_end (x ∷ ags) n [] zero le = refl
+cells_end (x ∷ ags) n [] (suc i) le = refl
+cells_end (x ∷ ags) n (y ∷ cs) zero le = absurd (omega arith)
+cells_end (x ∷ ags) n (y ∷ cs) (suc i) le = ap (λ l. shown x n (cell_in y) ∷ l) (cells_end ags n cs i (omega arith))
+
+pub ags_end : (ags : List KeptAggregate) (n : ℕ) (cs : List Stored) (i : ℕ) → length ags ≤ i → all_shown (take i ags) n (map cell_in (take i cs)) ≡ all_shown ags n (map cell_in cs)
+ags_end [] n cs zero le = refl
+ags_end [] n cs (suc i) le = refl
+ags_end (x ∷ ags) n cs zero le = absurd (omega arith)
+ags_end (x ∷ ags) n [] (suc i) le = refl
+ags_end (x ∷ ags) n (y ∷ cs) (suc i) le = ap (λ l. shown x n (cell_in y) ∷ l) (ags_end ags n cs i (omega arith))
+
+-- the select list over a group's row
+abbrev listed : KeptPlan → Ranked Value → Ranked Value
+listed p r = ranked (columns Null p.list r.values) r.standing
+
+abbrev aggregates_of : KeptPlan → List (Ranked Value) → List Value
+aggregates_of p = aggregated (map item_of p.aggregates)
+
+-- the groups' rows, however the entries are ordered
+entries_are : (p : KeptPlan) (es : Entries) (ys : List (Ranked Value)) → IsDistinct same_key (map (λ e. e.0) es) → ((q : List Value) → group_at es q ≡ made_at p q ys)
+    → SameBag (map (λ e. row_of p.aggregates e.0 e.1) es) (group_by same_value (columns Null p.by) (aggregates_of p) ys)
+unfolding made_at
+entries_are p es ys distinct stands =
+    let made = entries_made same_key key_identity (key p) (group_of p.aggregates) (row_of p.aggregates) ys es distinct stands in
+    SameBag-trans made
+    (subst (λ l. SameBag (classes same_key (key p) (λ k zs. row_of p.aggregates k (group_of p.aggregates zs)) ys) l)
+    (map-ext (λ k. row_of p.aggregates k (group_of p.aggregates (filter (λ x. same_key (key p x) k) ys)))
+    (λ k. let zs = filter (λ x. same_key (key p x) k) ys in ranked (k ++ aggregates_of p zs) (least zs)) (each_once same_key (map (key p) ys))
+    (λ k. row_is p.aggregates k (filter (λ x. same_key (key p x) k) ys)))
+    (SameBag-refl (classes same_key (key p) (λ k zs. row_of p.aggregates k (group_of p.aggregates zs)) ys)))
+
+none_some : {X : Type 0} (x : X) → Some x ≡ None → ⊥
+none_some x e = true≢false (ap (λ o. is_some o) e)
+
+-- where no key has a group there is no row
+no_groups : (p : KeptPlan) (ys : List (Ranked Value)) → ((q : List Value) → None ≡ made_at p q ys) → ys ≡ []
+no_groups p [] none = refl
+no_groups p (y ∷ ys) none = absurd (none_some (group_of p.aggregates (y ∷ rows_at p (key p y) ys)) (sym (made_here p y ys) ∙ sym (none (key p y))))
+
+-- one key for all rows
+same_nil : List Value → Bool
+same_nil k = same_row same_value [] k
+
+once_const : (ys : List (Ranked Value)) → filter (λ k. not (same_row same_value [] k)) (each_once (same_row same_value) (map (λ (y : Ranked Value). []) ys)) ≡ []
+once_const [] = refl
+once_const (y ∷ ys) = once_const_more (filter (λ k. not (same_row same_value [] k)) (each_once (same_row same_value) (map (λ (y : Ranked Value). []) ys))) (once_const ys)
+  where
+    once_const_more : (l : List (List Value)) → l ≡ [] → filter (λ k. not (same_row same_value [] k)) ([] ∷ l) ≡ []
+    once_const_more l e = rw e
+
+filter_all : (ys : List (Ranked Value)) → filter (λ (y : Ranked Value). true) ys ≡ ys
+filter_all [] = refl
+filter_all (y ∷ ys) = ap (λ l. y ∷ l) (filter_all ys)
+
+one_group : (aggregates : List (Ranked Value) → List Value) (y : Ranked Value) (ys : List (Ranked Value)) → group_by same_value (columns Null []) aggregates (y ∷ ys) ≡ total aggregates (y ∷ ys)
+one_group aggregates y ys =
+    ap (λ l. map (λ k. ranked (k ++ aggregates (filter (λ (x : Ranked Value). same_row same_value [] k) (y ∷ ys))) (least (filter (λ (x : Ranked Value). same_row same_value [] k) (y ∷ ys)))) ([] ∷ l)) (once_const ys)
+    ∙ ap (λ l. ranked (aggregates l) (least l) ∷ []) (filter_all (y ∷ ys))
+
+-- the rows that are shown are those of the query
+shown_by : (p : KeptPlan) (by : List ℕ) (es : Entries) (ys : List (Ranked Value)) → p.by ≡ by → IsDistinct same_key (map (λ e. e.0) es) → ((q : List Value) → group_at es q ≡ made_at p q ys)
+    → SameBag (output_by p by es) (project (columns Null p.list) (groups by (aggregates_of p) ys))
+shown_by p [] [] ys is distinct stands =
+    let none = no_groups p ys stands in
+    subst (λ ys. SameBag (output_by p [] []) (project (columns Null p.list) (total (aggregates_of p) ys))) (sym none)
+    (subst (λ r. SameBag (listed p r ∷ []) (project (columns Null p.list) (total (aggregates_of p) [])))
+    (sym (ap (row_of p.aggregates []) (sym (group_none p.aggregates)) ∙ row_is p.aggregates [] []))
+    (SameBag-refl _))
+shown_by p [] (e ∷ es) ys is distinct stands = one_by ys (λ q. stands q)
+  where
+    one_by : (ys : List (Ranked Value)) → ((q : List Value) → group_at (e ∷ es) q ≡ made_at p q ys) → SameBag (output_by p [] (e ∷ es)) (project (columns Null p.list) (total (aggregates_of p) ys))
+    one_by [] stands = let m = key_identity.meets e.0 in absurd (none_some e.1 ((rw m at (stands e.0)) ∙ made_none p e.0))
+    one_by (z ∷ zs) stands =
+        subst (λ l. SameBag (output_by p [] (e ∷ es)) (map (listed p) l)) (ap (λ by. group_by same_value (columns Null by) (aggregates_of p) (z ∷ zs)) is ∙ one_group (aggregates_of p) z zs)
+        (subst (λ l. SameBag l (map (listed p) (group_by same_value (columns Null p.by) (aggregates_of p) (z ∷ zs)))) (map-map (listed p) (λ e. row_of p.aggregates e.0 e.1) (e ∷ es))
+        (SameBag-map (listed p) (entries_are p (e ∷ es) (z ∷ zs) distinct stands)))
+shown_by p (k ∷ ks) es ys is distinct stands =
+    subst (λ by. SameBag (output_by p (k ∷ ks) es) (map (listed p) (group_by same_value (columns Null by) (aggregates_of p) ys))) is
+    (subst (λ l. SameBag l (map (listed p) (group_by same_value (columns Null p.by) (aggregates_of p) ys))) (map-map (listed p) (λ e. row_of p.aggregates e.0 e.1) es)
+    (SameBag-map (listed p) (entries_are p es ys distinct stands)))
+
+pub rows_shown : (p : KeptPlan) (es : Entries) (rows : List (List Value)) → IsDistinct same_key (map (λ e. e.0) es) → StandsFor p es rows → SameBag (output_rows p es) (query_rows p rows)
+unfolding query_rows
+rows_shown p es rows distinct stands = shown_by p p.by es (selected p rows) refl distinct stands
+
+-- each row has as many values as are shown
+wide_map : (p : KeptPlan) (es : Entries) → All (λ (r : Ranked Value). length r.values ≡ length p.list) (map (λ e. output_row p e.0 e.1) es)
+wide_map p [] i d less = absurd (omega arith)
+wide_map p (e ∷ es) zero d less = length-map p.list _
+wide_map p (e ∷ es) (suc i) d less = wide_map p es i d (omega arith)
+
+wide_by : (p : KeptPlan) (by : List ℕ) (es : Entries) → All (λ (r : Ranked Value). length r.values ≡ length p.list) (output_by p by es)
+wide_by p [] [] zero d less = length-map p.list _
+wide_by p [] [] (suc i) d less = absurd (omega arith)
+wide_by p [] (e ∷ es) i d less = wide_map p (e ∷ es) i d less
+wide_by p (k ∷ ks) es i d less = wide_map p es i d less
+
+pub rows_wide : (p : KeptPlan) (es : Entries) → All (λ (r : Ranked Value). length r.values ≡ length p.list) (output_rows p es)
+rows_wide p es = wide_by p p.by es

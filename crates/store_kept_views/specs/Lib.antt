@@ -1,0 +1,9 @@
+pub mod Plans
+pub mod Forms
+pub mod RowGroups
+pub mod Standing
+pub mod Readings
+pub mod Moving
+pub mod Output
+pub mod Kept
+pub mod Cases

@@ -1,0 +1,19 @@
+//! Kept aggregates: the rows of grouped queries, kept while rows are added to and removed from
+//! their tables.
+#![tactic(auto)]
+
+mod bag;
+mod form;
+mod kept;
+pub mod laws;
+mod moving;
+mod output;
+mod plan;
+mod reading;
+#[cfg(test)]
+mod tests;
+mod view;
+
+pub use form::KeptPlanError;
+pub use kept::Kept;
+pub use plan::{KeptAggregate, KeptPlan};
