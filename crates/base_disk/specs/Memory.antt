@@ -1,9 +1,14 @@
 -- What a disk in memory remembers, and what a crash at each moment may have left of it.
-use Rattle.std.specs.Prelude.{◌≡◌, ◌⊎◌, ℕ, ◌≤◌, List, [], ◌∷◌, ◌++◌, length, take, Some, if◌then◌else◌}
+use Rattle.std.specs.Prelude.{◌≡◌, ◌⊎◌, ℕ, ◌≤◌, List, [], ◌∷◌, ◌++◌, length, take, Some}
+use Rattle.std.specs.Prelude.{Bool, true, false, not, ◌||◌, if◌then◌else◌}
 use Rattle.std.specs.Str.{bytes_eq}
 use Rattle.std.proofs.Common.{inl, sym, subst, arith}
 use Rattle.std.proofs.lemmas.List.{take_all}
 use Rattle.base_disk.specs.Disk.{Torn, written}
+use Rattle.base_disk.specs.declared.disk.Synced.{Synced as SyncAnswer}
+use Rattle.base_disk.specs.declared.disk.Synced.TheVariants as sync
+use Rattle.base_disk.specs.declared.disk.Wrote.{Wrote as WriteAnswer}
+use Rattle.base_disk.specs.declared.disk.Wrote.TheVariants as write
 use Rattle.base_disk.specs.declared.memory.Call.{Call}
 use Rattle.base_disk.specs.declared.memory.Call.TheVariants.{Wrote, Synced}
 
@@ -52,6 +57,20 @@ LeftSince first calls t c =
 -- the one file under its name, and no byte under another
 abbrev pub file_only : List ℕ → List ℕ → List ℕ → List ℕ
 file_only name bytes asked = if bytes_eq name asked then bytes else []
+
+-- a call that is to fail, or of another name, reaches no file
+abbrev pub is_unreached : Bool → List ℕ → List ℕ → Bool
+is_unreached failing name asked = failing || not (bytes_eq name asked)
+
+-- the write failed
+abbrev pub is_write_failed : WriteAnswer → Bool
+is_write_failed write.Wrote = false
+is_write_failed write.Failed = true
+
+-- the sync failed
+abbrev pub is_sync_failed : SyncAnswer → Bool
+is_sync_failed sync.Synced = false
+is_sync_failed sync.Failed = true
 
 -- what a read gives is an image
 pub mem_reads_image :

@@ -1,15 +1,20 @@
 //! A disk in memory with one file. It remembers what its file held at first and each call since, so
 //! that what a crash may leave at each moment can be told.
-ghost use Rattle.std.specs.Prelude.{min, drop, ◌-◌, ℕ, ◌≡◌, ◌==◌, ◌<◌, ◌≤◌, ◌++◌, [], ◌∷◌, Some, true};
-ghost use Rattle.std.specs.Prelude.{false, length, take, OnOk, OnErr, IfOk, IfSome, Vec};
+ghost use Rattle.std.specs.Prelude.{min, drop, ◌+◌, ◌-◌, ℕ, ◌≡◌, ◌==◌, ◌<◌, ◌≤◌, ◌++◌, [], ◌∷◌, Some};
+ghost use Rattle.std.specs.Prelude.{true, false, length, take, OnOk, OnErr, IfOk, IfSome, Vec, is_some};
+ghost use Rattle.std.specs.Prelude.{List, if◌then◌else◌};
 ghost use Rattle.std.specs.declared.alloc.Global.{Global};
-ghost use Rattle.base_disk.specs.Disk.{written};
+ghost use Rattle.base_io.specs.Memory.{is_failing, count_after};
+ghost use Rattle.base_io.specs.Outside.{Counts, next_count};
+ghost use Rattle.base_disk.specs.Disk.{Elapses, Follows, Gives, Measures, Torn, file_named, written};
+ghost use Rattle.base_disk.specs.Disk.{written_in};
 ghost use Rattle.base_disk.specs.declared.memory.Call.TheVariants as called;
 ghost use Rattle.std.specs.List.{list_any};
 ghost use Rattle.std.specs.String.{string_bytes};
 ghost use Rattle.base_disk.specs.Memory.{IsImage, LeftSince, State, TornBy, done, after, start};
 ghost use Rattle.base_disk.specs.Memory.{state_now, file_only, mem_reads_image, mem_counts_now};
-ghost use Rattle.base_disk.specs.Memory.{mem_only_now};
+ghost use Rattle.base_disk.specs.Memory.{mem_only_now, is_unreached, is_write_failed};
+ghost use Rattle.base_disk.specs.Memory.{is_sync_failed};
 
 use crate::{Disk, Got, Reach, Size, Synced, Wrote};
 use std::alloc::{AllocError, Global};
@@ -87,7 +92,10 @@ impl MemDisk {
 }
 
 /// Counts a call, and answers whether it is to fail.
-fn is_failing(failing: &[u64], count: &mut u64) -> bool {
+fn is_failing(failing: &[u64], count: &mut u64) -> bool
+    ensures answer { result ≡ is_failing failing.now count.old }
+    ensures count { count.new ≡ next_count count.old }
+{
     *count = count.saturating_add(1);
     is_named(failing, *count)
 }
@@ -171,7 +179,24 @@ impl Disk for MemDisk {
 
     ghost only_now = { λ m c left. mem_only_now m.first.items m.calls.items c left };
 
-    fn reach(&mut self, name: &str) -> Reach {
+    fn reach(&mut self, name: &str) -> Reach
+        ensures reached { result ≡ Reach.Reached → self.new.is_reached ≡ true }
+        ensures reads { result ≡ Reach.Reached
+            → Some (state_now self.new.first.items self.new.calls.items).bytes
+            ≡ file_named (Some (file_only (string_bytes self.old.name)
+            (state_now self.old.first.items self.old.calls.items).bytes)) name.now }
+        ensures faults { Counts (result ≡ Reach.Failed) self.old.faults self.new.faults }
+
+        // It fails exactly where the list has the call's number or the name isn't the file's.
+        ensures answer { result ≡ (if is_unreached (is_failing self.old.failing.items self.old.count)
+            (string_bytes self.old.name) name.now then Reach.Failed else Reach.Reached) }
+        ensures count { self.new.count ≡ next_count self.old.count }
+        ensures fault_count { self.new.faults
+            ≡ count_after (is_unreached (is_failing self.old.failing.items self.old.count)
+            (string_bytes self.old.name) name.now) self.old.faults }
+        ensures rest { (self.new.calls ≡ self.old.calls) × (self.new.bytes ≡ self.old.bytes)
+            × (self.new.first ≡ self.old.first) × (self.new.failing ≡ self.old.failing) }
+    {
         let failing = is_failing(&self.failing, &mut self.count);
         if failing || self.name.as_bytes() != name.as_bytes() {
             self.faults = self.faults.saturating_add(1);
@@ -181,7 +206,31 @@ impl Disk for MemDisk {
         Reach::Reached
     }
 
-    fn size(&mut self) -> Size {
+    fn size(&mut self) -> Size
+        requires { self.old.is_reached ≡ true }
+        ensures size { Measures (Some (state_now self.old.first.items self.old.calls.items).bytes)
+            result }
+        ensures reads { Some (state_now self.new.first.items self.new.calls.items).bytes
+            ≡ Some (state_now self.old.first.items self.old.calls.items).bytes }
+        ensures crash { (c : List ℕ)
+            → IsImage (state_now self.new.first.items self.new.calls.items) c
+            → IsImage (state_now self.old.first.items self.old.calls.items) c }
+        ensures time { Elapses (length self.old.calls.items) (length self.new.calls.items)
+            (LeftSince self.old.first.items self.old.calls.items)
+            (LeftSince self.new.first.items self.new.calls.items)
+            (IsImage (state_now self.new.first.items self.new.calls.items)) }
+        ensures reached { self.new.is_reached ≡ true }
+        ensures faults { Counts (result ≡ Size.Failed) self.old.faults self.new.faults }
+
+        // It fails exactly where the list has the call's number.
+        ensures answer { result ≡ (if is_failing self.old.failing.items self.old.count
+            then Size.Failed else Size.Size (length self.old.bytes.items)) }
+        ensures count { self.new.count ≡ next_count self.old.count }
+        ensures fault_count { self.new.faults
+            ≡ count_after (is_failing self.old.failing.items self.old.count) self.old.faults }
+        ensures rest { (self.new.calls ≡ self.old.calls) × (self.new.bytes ≡ self.old.bytes)
+            × (self.new.first ≡ self.old.first) × (self.new.failing ≡ self.old.failing) }
+    {
         if is_failing(&self.failing, &mut self.count) {
             self.faults = self.faults.saturating_add(1);
             return Size::Failed;
@@ -189,7 +238,33 @@ impl Disk for MemDisk {
         Size::Size(self.bytes.len() as u64)
     }
 
-    fn read(&mut self, at: u64, into: &mut [u8]) -> Got {
+    fn read(&mut self, at: u64, into: &mut [u8]) -> Got
+        requires room { 0 < length into.old }
+        requires reached { self.old.is_reached ≡ true }
+        ensures bytes { Gives (Some (state_now self.old.first.items self.old.calls.items).bytes) at
+            result into.new }
+        ensures reads { Some (state_now self.new.first.items self.new.calls.items).bytes
+            ≡ Some (state_now self.old.first.items self.old.calls.items).bytes }
+        ensures crash { (c : List ℕ)
+            → IsImage (state_now self.new.first.items self.new.calls.items) c
+            → IsImage (state_now self.old.first.items self.old.calls.items) c }
+        ensures time { Elapses (length self.old.calls.items) (length self.new.calls.items)
+            (LeftSince self.old.first.items self.old.calls.items)
+            (LeftSince self.new.first.items self.new.calls.items)
+            (IsImage (state_now self.new.first.items self.new.calls.items)) }
+        ensures reached { self.new.is_reached ≡ true }
+        ensures faults { Counts (result ≡ Got.Failed) self.old.faults self.new.faults }
+
+        // It fails exactly where the list has the call's number; else it gives as much as it may.
+        ensures answer { result ≡ (if is_failing self.old.failing.items self.old.count
+            then Got.Failed
+            else Got.Got (min (length into.old) (length self.old.bytes.items - at))) }
+        ensures count { self.new.count ≡ next_count self.old.count }
+        ensures fault_count { self.new.faults
+            ≡ count_after (is_failing self.old.failing.items self.old.count) self.old.faults }
+        ensures rest { (self.new.calls ≡ self.old.calls) × (self.new.bytes ≡ self.old.bytes)
+            × (self.new.first ≡ self.old.first) × (self.new.failing ≡ self.old.failing) }
+    {
         if is_failing(&self.failing, &mut self.count) {
             self.faults = self.faults.saturating_add(1);
             return Got::Failed;
@@ -197,7 +272,41 @@ impl Disk for MemDisk {
         Got::Got(fill(into, &self.bytes, at as usize))
     }
 
-    fn write_at(&mut self, at: u64, piece: &[u8]) -> Wrote {
+    fn write_at(&mut self, at: u64, piece: &[u8]) -> Wrote
+        requires { self.old.is_reached ≡ true }
+        ensures written { result ≡ Wrote.Wrote
+            → Some (state_now self.new.first.items self.new.calls.items).bytes
+            ≡ written_in (Some (state_now self.old.first.items self.old.calls.items).bytes) at
+            piece.now }
+        ensures told { is_some (Some (state_now self.new.first.items self.new.calls.items).bytes)
+            ≡ is_some (Some (state_now self.old.first.items self.old.calls.items).bytes) }
+        ensures crash { Follows (Torn at (length piece.now))
+            (IsImage (state_now self.old.first.items self.old.calls.items))
+            (IsImage (state_now self.new.first.items self.new.calls.items)) }
+        ensures time { Elapses (length self.old.calls.items) (length self.new.calls.items)
+            (LeftSince self.old.first.items self.old.calls.items)
+            (LeftSince self.new.first.items self.new.calls.items)
+            (IsImage (state_now self.new.first.items self.new.calls.items)) }
+        ensures reached { self.new.is_reached ≡ true }
+        ensures faults { Counts (result ≡ Wrote.Failed) self.old.faults self.new.faults }
+
+        // It fails where the list has the call's number, and where it would leave a gap or go past
+        // the room that there is; beside that only for want of memory. Where it fails it does
+        // nothing.
+        ensures refused { is_failing self.old.failing.items self.old.count ≡ true
+            → result ≡ Wrote.Failed }
+        ensures gap { length self.old.bytes.items < at → result ≡ Wrote.Failed }
+        ensures room { self.old.most < at + length piece.now → result ≡ Wrote.Failed }
+        ensures wrote { result ≡ Wrote.Wrote → (v : Vec ℕ Global) × (v.items ≡ piece.now)
+            × (self.new.calls.items ≡ self.old.calls.items ++ called.Wrote at v ∷ []) }
+        ensures failed { result ≡ Wrote.Failed → (self.new.calls.items ≡ self.old.calls.items)
+            × (self.new.bytes.items ≡ self.old.bytes.items) }
+        ensures count { self.new.count ≡ next_count self.old.count }
+        ensures fault_count { self.new.faults ≡ count_after (is_write_failed result)
+            self.old.faults }
+        ensures rest { (self.new.first ≡ self.old.first) × (self.new.failing ≡ self.old.failing)
+            × (self.new.most ≡ self.old.most) }
+    {
         let failing = is_failing(&self.failing, &mut self.count);
         let len = self.bytes.len() as u64;
         if failing || at > len || self.most < piece.len() || self.most - piece.len() < at as usize {
@@ -213,7 +322,39 @@ impl Disk for MemDisk {
         }
     }
 
-    fn sync(&mut self) -> Synced {
+    fn sync(&mut self) -> Synced
+        requires { self.old.is_reached ≡ true }
+        ensures durable { result ≡ Synced.Synced
+            → (c : List ℕ) → IsImage (state_now self.new.first.items self.new.calls.items) c
+            → Some (state_now self.new.first.items self.new.calls.items).bytes ≡ Some c }
+        ensures reads { result ≡ Synced.Synced
+            → Some (state_now self.new.first.items self.new.calls.items).bytes
+            ≡ Some (state_now self.old.first.items self.old.calls.items).bytes }
+        ensures told { is_some (Some (state_now self.new.first.items self.new.calls.items).bytes)
+            ≡ is_some (Some (state_now self.old.first.items self.old.calls.items).bytes) }
+        ensures crash { (c : List ℕ)
+            → IsImage (state_now self.new.first.items self.new.calls.items) c
+            → IsImage (state_now self.old.first.items self.old.calls.items) c }
+        ensures time { Elapses (length self.old.calls.items) (length self.new.calls.items)
+            (LeftSince self.old.first.items self.old.calls.items)
+            (LeftSince self.new.first.items self.new.calls.items)
+            (IsImage (state_now self.new.first.items self.new.calls.items)) }
+        ensures reached { self.new.is_reached ≡ true }
+        ensures faults { Counts (result ≡ Synced.Failed) self.old.faults self.new.faults }
+
+        // It fails where the list has the call's number; beside that only for want of memory. Where
+        // it fails it does nothing.
+        ensures refused { is_failing self.old.failing.items self.old.count ≡ true
+            → result ≡ Synced.Failed }
+        ensures synced { result ≡ Synced.Synced
+            → self.new.calls.items ≡ self.old.calls.items ++ called.Synced ∷ [] }
+        ensures failed { result ≡ Synced.Failed → self.new.calls.items ≡ self.old.calls.items }
+        ensures count { self.new.count ≡ next_count self.old.count }
+        ensures fault_count { self.new.faults ≡ count_after (is_sync_failed result)
+            self.old.faults }
+        ensures rest { (self.new.first ≡ self.old.first) × (self.new.bytes ≡ self.old.bytes)
+            × (self.new.failing ≡ self.old.failing) × (self.new.most ≡ self.old.most) }
+    {
         if is_failing(&self.failing, &mut self.count) {
             self.faults = self.faults.saturating_add(1);
             return Synced::Failed;

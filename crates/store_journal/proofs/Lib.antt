@@ -1,6 +1,6 @@
-mod Frames
+pub mod Frames
 mod Entries
-mod Moments
+pub mod Moments
 mod Crash
 mod Steps
 mod Readings

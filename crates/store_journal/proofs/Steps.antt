@@ -1,7 +1,7 @@
 -- The two steps of an append, seen from its first moment on.
-use Rattle.std.proofs.Common.{ℕ, ◌+◌, List, [], ◌∷◌}
+use Rattle.std.proofs.Common.{ℕ, ◌+◌, List}
 use Rattle.base_disk.specs.Disk.{LeavesOnly}
-use Rattle.store_journal.specs.Format.{IsEntry, entries, StandsFor}
+use Rattle.store_journal.specs.Format.{IsEntry}
 use Rattle.store_journal.specs.Journal.{SameOrTorn, WithOrWithout, Stands}
 use Rattle.store_journal.proofs.Moments.{goes_on, weaker}
 use Rattle.store_journal.proofs.Crash.{IsStaged, first_step, second_step}

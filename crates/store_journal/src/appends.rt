@@ -16,7 +16,7 @@ pub fn append_all<D: Disk, P: Payload>(
     alloc: Global,
     journal: &mut Journal,
     disk: &mut D,
-    values: &[P],
+    values: &[P::Value],
 ) -> Result<(usize, Appended), AllocError>
     requires reached { D.is_reached disk.old ≡ true }
     requires spelled { AllByRecursion (IsEntry P.is_payload) (map P.spelling values.now) }
@@ -44,7 +44,7 @@ pub fn append_all<D: Disk, P: Payload>(
 {
     let mut count = 0;
     for value in values {
-        match journal.append(alloc, disk, value)? {
+        match journal.append::<D, P>(alloc, disk, value)? {
             Appended::Stored => count += 1,
             other => return Ok((count, other)),
         }

@@ -64,7 +64,7 @@ pub fn make<D: Disk, P: Payload>(disk: &mut D) -> Result<Journal, JournalFault>
 pub fn reopen<D: Disk, P: Payload>(
     alloc: Global,
     disk: &mut D,
-) -> Result<(Journal, Vec<P>), JournalFault>
+) -> Result<(Journal, Vec<P::Value>), JournalFault>
     requires { D.is_reached disk.old ≡ true }
     ensures stands { IfOk result (λ r. (r.0.is_shut ≡ false)
         × Stands P.is_payload (D.may_leave disk.new) (map P.spelling r.1.items) r.0.end) }
@@ -88,7 +88,7 @@ pub fn reopen<D: Disk, P: Payload>(
                     return Err(JournalFault::TooLong);
                 }
                 let bytes = read_all(alloc, disk, size as usize)?;
-                let found = read_entries(alloc, &bytes)?;
+                let found = read_entries::<P>(alloc, &bytes)?;
                 let journal = Journal {
                     end: found.end as u64,
                     is_shut: false,
@@ -100,20 +100,20 @@ pub fn reopen<D: Disk, P: Payload>(
 }
 
 /// The bytes that spell a value.
-fn spelled<P: Payload>(alloc: Global, value: &P) -> Result<Vec<u8>, AllocError>
+fn spelled<P: Payload>(alloc: Global, value: &P::Value) -> Result<Vec<u8>, AllocError>
     ensures { IfOk result (λ v. v.items ≡ P.spelling value.now) }
 {
     let mut payload = Vec::new(alloc);
-    value.spell(&mut payload)?;
+    P::spell(value, &mut payload)?;
     Ok(payload)
 }
 
 /// What one write puts behind a closed gate: the entry, and the closed gate of the next.
-fn staged<P: Payload>(alloc: Global, value: &P) -> Result<Vec<u8>, AllocError>
+fn staged<P: Payload>(alloc: Global, value: &P::Value) -> Result<Vec<u8>, AllocError>
     requires { length (P.spelling value.now) < 2 ^ 62 }
     ensures { IfOk result (λ v. v.items ≡ framed (P.spelling value.now) ++ 0 ∷ []) }
 {
-    let payload = spelled(alloc, value)?;
+    let payload = spelled::<P>(alloc, value)?;
     let mut piece = Vec::with_capacity(alloc, payload.len() + 9)?;
     push_framed(&mut piece, &payload)?;
     piece.push(0)?;
@@ -127,7 +127,7 @@ impl Journal {
         &mut self,
         alloc: Global,
         disk: &mut D,
-        value: &P,
+        value: &P::Value,
     ) -> Result<Appended, AllocError>
         requires reached { D.is_reached disk.old ≡ true }
         requires spelled { self.old.is_shut ≡ false → P.is_payload (P.spelling value.now) }
@@ -161,7 +161,7 @@ impl Journal {
         if self.is_shut {
             return Ok(Appended::Shut);
         }
-        let piece = staged(alloc, value)?;
+        let piece = staged::<P>(alloc, value)?;
         if !write_and_sync(disk, self.end + 1, &piece) {
             self.is_shut = true;
             return Ok(Appended::Failed);

@@ -11,8 +11,8 @@ use std::alloc::{AllocError, Global};
 
 /// The values of a journal, and the place of its closed gate.
 #[derive(Drop)]
-pub(crate) struct Found<P> {
-    pub values: Vec<P>,
+pub(crate) struct Found<V> {
+    pub values: Vec<V>,
     pub end: usize,
 }
 
@@ -26,7 +26,10 @@ fn is_open(bytes: &[u8]) -> bool
 }
 
 /// The value of the entry behind an open gate, and what stands behind the entry.
-fn next_entry<P: Payload>(alloc: Global, bytes: &[u8]) -> Result<Option<(P, &[u8])>, AllocError>
+fn next_entry<P: Payload>(
+    alloc: Global,
+    bytes: &[u8],
+) -> Result<Option<(P::Value, &[u8])>, AllocError>
     ensures some { IfOk result (λ found. IfSome found (λ r. IsEntry P.is_payload (P.spelling r.0)
         × (bytes.now ≡ framed (P.spelling r.0) ++ r.1.now))) }
     ensures none { IfOk result (λ found. IfNone found (NoEntry P.is_payload bytes.now)) }
@@ -41,7 +44,10 @@ fn next_entry<P: Payload>(alloc: Global, bytes: &[u8]) -> Result<Option<(P, &[u8
 }
 
 /// The values of the payloads that the bytes stand for.
-pub(crate) fn read_entries<P: Payload>(alloc: Global, bytes: &[u8]) -> Result<Found<P>, ReadError>
+pub(crate) fn read_entries<P: Payload>(
+    alloc: Global,
+    bytes: &[u8],
+) -> Result<Found<P::Value>, ReadError>
     ensures found { IfOk result (λ f. StandsFor P.is_payload bytes.now
         (map P.spelling f.values.items)) }
     ensures end { IfOk result (λ f. f.end ≡ length (entries (map P.spelling f.values.items))) }
@@ -51,7 +57,7 @@ pub(crate) fn read_entries<P: Payload>(alloc: Global, bytes: &[u8]) -> Result<Fo
     let mut left = bytes;
     while is_open(left) {
         let (_, behind) = left.split_at(1);
-        let Some((value, rest)) = next_entry(alloc, behind)? else {
+        let Some((value, rest)) = next_entry::<P>(alloc, behind)? else {
             return Err(ReadError::Bad(bytes.len() - left.len()));
         };
         values.push(value)?;

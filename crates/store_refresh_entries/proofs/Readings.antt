@@ -5,7 +5,10 @@ use Rattle.base_refusals.specs.declared.line.LineRefusal.{LineRefusal}
 use Rattle.base_refusals.specs.declared.refresh.RefreshFile.{RefreshFile}
 use Rattle.base_refusals.specs.declared.refresh.RefreshFile.TheVariants as file
 use Rattle.base_value.specs.declared.value.Value.{Value}
-use Rattle.base_schema.specs.LineForm.{refresh_form}
+use Rattle.base_schema.specs.declared.table.TableName.TheVariants as name
+use Rattle.base_schema.specs.Kinds.{RowsAreOf}
+use Rattle.base_schema.specs.LineForm.{RowsFit, refresh_form}
+use Rattle.base_schema.proofs.Fits.{rows_fit_are_of}
 use Rattle.store_state.specs.Keys.{order_keys}
 use Rattle.store_state.specs.Refresh.{Change, DeleteKeys, InsertRows, MalformedFile}
 use Rattle.store_file_reader.specs.File.{file_rows}
@@ -13,7 +16,7 @@ use Rattle.store_journal.specs.Format.{framed}
 use Rattle.store_refresh_text.specs.Laws.{IsTextOf}
 use Rattle.store_refresh_text.specs.Text.{keys_text, rows_text}
 use Rattle.store_refresh_entries.specs.Change.{IsNone, IsReadable, MayBe, spelling_of}
-use Rattle.store_refresh_entries.proofs.Frames.{one_entry}
+use Rattle.store_journal.proofs.Frames.{one_entry}
 
 tails : (x y : ℕ) (xs ys : List ℕ) → x ∷ xs ≡ y ∷ ys → xs ≡ ys
 tails x y xs ys e = cc
@@ -137,4 +140,15 @@ nothing (MalformedFile f set refusal) readable e = readable
 pub no_bytes : (bytes : List ℕ) → bytes ≡ [] → IsNone bytes
 no_bytes bytes is = record { none = λ other readable e. nothing other readable (e ∙ is) }
 
-pub ruleset readings = (no_frame, no_orders, no_lineitems, an_insert, no_keys, a_delete, no_tag, no_bytes)
+-- rows that fit a refresh file are of its table
+pub orders_are_of : (rows : List (List Value)) → RowsFit (refresh_form file.Orders) rows → RowsAreOf name.Orders rows
+orders_are_of rows fit = rows_fit_are_of (refresh_form file.Orders) name.Orders rows refl fit
+
+pub lineitems_are_of : (rows : List (List Value)) → RowsFit (refresh_form file.Lineitem) rows → RowsAreOf name.Lineitem rows
+lineitems_are_of rows fit = rows_fit_are_of (refresh_form file.Lineitem) name.Lineitem rows refl fit
+
+pub ruleset readings = (no_frame, no_orders, no_lineitems, an_insert, no_keys, a_delete, no_tag, no_bytes, orders_are_of, lineitems_are_of)
+
+-- what is written for one change is written for the same one
+pub spells : (change other : Change) (before after : List ℕ) → change ≡ other → after ≡ before ++ spelling_of change → after ≡ before ++ spelling_of other
+spells change other before after same is = is ∙ ap (λ (c : Change). before ++ spelling_of c) same

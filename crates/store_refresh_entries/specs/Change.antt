@@ -1,12 +1,10 @@
 -- A refresh as one list of bytes.
-use Rattle.std.specs.Prelude.{◌≡◌, ℕ, List, [], ◌∷◌, ◌++◌}
+use Rattle.std.specs.Prelude.{◌≡◌, ◌<◌, ◌^◌, ℕ, List, [], ◌∷◌, ◌++◌, length}
 use Rattle.base_refusals.specs.declared.refresh.RefreshFile.TheVariants as file
 use Rattle.base_value.specs.declared.value.Value.{Value}
 use Rattle.store_state.specs.Keys.{order_keys}
 use Rattle.store_state.specs.Refresh.{Change, DeleteKeys, InsertRows, MalformedFile}
 use Rattle.store_journal.specs.Format.{framed}
-use Rattle.store_refresh_entries.specs.declared.refresh.StoredRefresh.{StoredRefresh}
-use Rattle.store_refresh_entries.specs.declared.refresh.StoredRefresh.TheVariants.{Insert, Delete}
 use Rattle.store_refresh_text.specs.Laws.{IsTextOf}
 use Rattle.store_refresh_text.specs.Text.{keys_text, rows_text}
 
@@ -30,11 +28,6 @@ IsReadable (MalformedFile file set refusal) = ⊥
 abbrev pub IsSpelled : List ℕ → Type 0
 IsSpelled bytes = (change : Change) × IsReadable change × (spelling_of change ≡ bytes)
 
--- what the stored refresh is to do
-abbrev pub change_of : StoredRefresh → Change
-change_of (Insert orders lineitems) = InsertRows orders lineitems
-change_of (Delete keys) = DeleteKeys keys.items
-
 -- of all refreshes that are read back only this one may be spelled by these bytes, and where it is,
 -- it is read back
 pub record MayBe (bytes : List ℕ) (change : Change) : Type 0 where
@@ -44,3 +37,14 @@ pub record MayBe (bytes : List ℕ) (change : Change) : Type 0 where
 -- no refresh that is read back is spelled by the bytes
 pub record IsNone (bytes : List ℕ) : Type 0 where
   pub none : (other : Change) → IsReadable other → spelling_of other ≡ bytes → ⊥
+
+-- a refresh that may come to be stored: one that is read back, or a malformed one, which no state
+-- accepts
+abbrev pub IsStorable : Change → Type 0
+IsStorable (InsertRows orders lineitems) = IsReadable (InsertRows orders lineitems)
+IsStorable (DeleteKeys keys) = IsReadable (DeleteKeys keys)
+IsStorable (MalformedFile file set refusal) = Unit {0}
+
+-- a refresh of few bytes: those of files of at most 2^32 bytes are
+abbrev pub HasFewBytes : Change → Type 0
+HasFewBytes change = length (spelling_of change) < 2 ^ 43

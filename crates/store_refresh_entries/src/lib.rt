@@ -2,7 +2,9 @@
 //! what is read back from them.
 #![tactic(auto)]
 
+mod laws;
+mod payload;
 mod reading;
-mod refresh;
 
-pub use refresh::StoredRefresh;
+pub use laws::{refreshes_of_files_are_readable, refreshes_of_files_are_short};
+pub use payload::RefreshPayload;

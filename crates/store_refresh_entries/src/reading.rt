@@ -1,17 +1,17 @@
 //! Reading a refresh back from its bytes.
 ghost use Rattle.std.specs.Prelude.{◌≡◌, [], ◌∷◌, IfOk, IfSome, IfNone};
-ghost use Rattle.store_refresh_entries.specs.Change.{IsNone, MayBe, change_of};
+ghost use Rattle.store_refresh_entries.specs.Change.{IsNone, MayBe};
 
-use crate::refresh::StoredRefresh;
 use base_refusals::RefreshFile;
 use std::alloc::{AllocError, Global};
 use store_journal::next_frame;
-use store_refresh_text::{keys_of, rows_of};
+use store_refresh_text::rows_of;
+use store_state::Refresh;
 
 /// The insert whose texts the bytes are.
 #[tactic(auto, using(crate::proofs::Readings::readings))]
-fn parsed_insert(alloc: Global, bytes: &[u8]) -> Result<Option<StoredRefresh>, AllocError>
-    ensures some { IfOk result (λ found. IfSome found (λ r. MayBe (1 ∷ bytes.now) (change_of r))) }
+fn parsed_insert(alloc: Global, bytes: &[u8]) -> Result<Option<Refresh>, AllocError>
+    ensures some { IfOk result (λ found. IfSome found (MayBe (1 ∷ bytes.now))) }
     ensures none { IfOk result (λ found. IfNone found (IsNone (1 ∷ bytes.now))) }
 {
     let Some((orders, lineitems)) = next_frame(bytes) else {
@@ -23,20 +23,21 @@ fn parsed_insert(alloc: Global, bytes: &[u8]) -> Result<Option<StoredRefresh>, A
     let Some(lineitems) = rows_of(alloc, RefreshFile::Lineitem, lineitems)? else {
         return Ok(None);
     };
-    Ok(Some(StoredRefresh::Insert(orders, lineitems)))
+    let refresh = Refresh::insert(alloc, orders, lineitems)?;
+    Ok(Some(refresh))
 }
 
 /// The delete whose text the bytes are.
 #[tactic(auto, using(crate::proofs::Readings::readings))]
-fn parsed_delete(alloc: Global, bytes: &[u8]) -> Result<Option<StoredRefresh>, AllocError>
-    ensures some { IfOk result (λ found. IfSome found (λ r. MayBe (2 ∷ bytes.now) (change_of r))) }
+fn parsed_delete(alloc: Global, bytes: &[u8]) -> Result<Option<Refresh>, AllocError>
+    ensures some { IfOk result (λ found. IfSome found (MayBe (2 ∷ bytes.now))) }
     ensures none { IfOk result (λ found. IfNone found (IsNone (2 ∷ bytes.now))) }
 {
     let Some(rows) = rows_of(alloc, RefreshFile::Delete, bytes)? else {
         return Ok(None);
     };
-    let keys = keys_of(alloc, &rows)?;
-    Ok(Some(StoredRefresh::Delete(keys)))
+    let refresh = Refresh::delete_rows(alloc, &rows)?;
+    Ok(Some(refresh))
 }
 
 /// The byte at the front, and what stands behind it.
@@ -52,8 +53,8 @@ fn cut_tag(bytes: &[u8]) -> Option<(u8, &[u8])>
 
 /// The refresh that the bytes may spell: where they spell one, it is this.
 #[tactic(auto, using(crate::proofs::Readings::readings))]
-pub(crate) fn parsed(alloc: Global, bytes: &[u8]) -> Result<Option<StoredRefresh>, AllocError>
-    ensures some { IfOk result (λ found. IfSome found (λ r. MayBe bytes.now (change_of r))) }
+pub(crate) fn parsed(alloc: Global, bytes: &[u8]) -> Result<Option<Refresh>, AllocError>
+    ensures some { IfOk result (λ found. IfSome found (MayBe bytes.now)) }
     ensures none { IfOk result (λ found. IfNone found (IsNone bytes.now)) }
 {
     let Some((tag, rest)) = cut_tag(bytes) else {

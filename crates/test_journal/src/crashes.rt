@@ -1,22 +1,57 @@
 //! The journal on a disk in memory that fails or crashes.
+ghost use Rattle.std.specs.Prelude.{◌≡◌, ◌<◌, ◌^◌, true};
+
 use crate::plain::{ONE, Plain, SEVEN, disk_of, seven};
 use base_disk::{Disk, Reach};
 use std::alloc::{AllocError, Global};
 use std::test::Fail;
-use store_journal::{Appended, JournalFault, make, reopen};
+use store_journal::{Appended, Journal, JournalFault, make, reopen};
 
-/// How many entries a journal has, where each of them is the one.
-fn sevens(alloc: Global, bytes: &[u8]) -> Result<Option<usize>, AllocError> {
-    let mut disk = disk_of(alloc, bytes, &[])?;
+/// How many entries a disk's journal has, where each of them is the one.
+fn count_sevens<D: Disk>(alloc: Global, disk: &mut D) -> Result<Option<usize>, AllocError> {
     if disk.reach("j") == Reach::Failed {
         return Ok(None);
     }
-    match reopen::<_, Plain>(alloc, &mut disk) {
+    match reopen::<D, Plain>(alloc, disk) {
         Ok((_, values)) => {
             let alike = values
                 .iter()
-                .all(|value| value.bytes.as_slice() == SEVEN.as_slice());
+                .all(|value| value.as_slice() == SEVEN.as_slice());
             Ok(if alike { Some(values.len()) } else { None })
+        }
+        Err(_) => Ok(None),
+    }
+}
+
+/// How many entries the journal of these bytes has, where each of them is the one.
+fn sevens(alloc: Global, bytes: &[u8]) -> Result<Option<usize>, AllocError> {
+    let mut disk = disk_of(alloc, bytes, &[])?;
+    count_sevens(alloc, &mut disk)
+}
+
+/// Adds the one entry.
+fn add<D: Disk>(alloc: Global, journal: &mut Journal, disk: &mut D) -> Result<Appended, AllocError>
+    requires reached { D.is_reached disk.old ≡ true }
+    requires room { journal.old.end < 2 ^ 61 }
+{
+    let value = seven(alloc)?;
+    journal.append::<D, Plain>(alloc, disk, &value)
+}
+
+/// What comes of two entries that are added to a new journal; none where it isn't made.
+fn add_two<D: Disk>(
+    alloc: Global,
+    disk: &mut D,
+) -> Result<Option<(Appended, Appended)>, AllocError> {
+    if disk.reach("j") == Reach::Failed {
+        return Ok(None);
+    }
+    let value = seven(alloc)?;
+    match make::<D, Plain>(disk) {
+        Ok(mut journal) => {
+            let first = journal.append::<D, Plain>(alloc, disk, &value)?;
+            let second = journal.append::<D, Plain>(alloc, disk, &value)?;
+            Ok(Some((first, second)))
         }
         Err(_) => Ok(None),
     }
@@ -46,24 +81,23 @@ fn a_missing_gate_is_bad(rt: HostRuntime) -> Result<(), Fail> {
     Ok(())
 }
 
-/// Each image of a journal that one entry is added to, from `make` on, stands for no entry or for
-/// that one, and for that one once it was stored.
+/// Each image of a journal that two entries are added to, from `make` on, has as many as were stored
+/// or one more.
 #[test]
 fn each_image_is_read(rt: HostRuntime) -> Result<(), Fail> {
     let alloc = rt.alloc();
     let mut disk = disk_of(alloc, &[], &[])?;
-    assert_eq!(rt; disk.reach("j"), Reach::Reached);
-    let mut journal = make::<_, Plain>(&mut disk).ok().ok_or("a journal")?;
-    let made = disk.calls.len();
-    let value = seven(alloc)?;
-    assert_eq!(rt; journal.append(alloc, &mut disk, &value)?, Appended::Stored);
-    assert_eq!(rt; disk.bytes.as_slice(), ONE.as_slice());
-    let last = disk.calls.len();
-    for count in made..=last {
+    assert_eq!(rt;
+        add_two(alloc, &mut disk)?,
+        Some((Appended::Stored, Appended::Stored))
+    );
+    // `make` writes and syncs once, and each append twice.
+    for count in 2..=10usize {
+        let stored = (count - 2) / 4;
         for fill in 0..=255u8 {
             let image = disk.image(alloc, count, fill)?.ok_or("an image")?;
-            let found = sevens(alloc, &image)?;
-            assert!(rt; found == Some(1) || (count < last && found == Some(0)));
+            let found = sevens(alloc, &image)?.ok_or("a journal")?;
+            assert!(rt; found == stored || (found == stored + 1 && count < 10));
         }
     }
     Ok(())
@@ -73,14 +107,13 @@ fn each_image_is_read(rt: HostRuntime) -> Result<(), Fail> {
 #[test]
 fn each_failing_call_is_told(rt: HostRuntime) -> Result<(), Fail> {
     let alloc = rt.alloc();
-    let value = seven(alloc)?;
     // The calls are: reach, two of `make`, and four of the append.
     for failing in 4..=7u64 {
         let mut disk = disk_of(alloc, &[], &[failing])?;
-        assert_eq!(rt; disk.reach("j"), Reach::Reached);
-        let mut journal = make::<_, Plain>(&mut disk).ok().ok_or("a journal")?;
-        assert_eq!(rt; journal.append(alloc, &mut disk, &value)?, Appended::Failed);
-        assert_eq!(rt; journal.append(alloc, &mut disk, &value)?, Appended::Shut);
+        assert_eq!(rt;
+            add_two(alloc, &mut disk)?,
+            Some((Appended::Failed, Appended::Shut))
+        );
         assert_eq!(rt; disk.faults, 1);
         assert!(rt; sevens(alloc, &disk.bytes)?.is_some());
     }
@@ -91,11 +124,71 @@ fn each_failing_call_is_told(rt: HostRuntime) -> Result<(), Fail> {
 fn two_are_added(rt: HostRuntime) -> Result<(), Fail> {
     let alloc = rt.alloc();
     let mut disk = disk_of(alloc, &[], &[])?;
-    assert_eq!(rt; disk.reach("j"), Reach::Reached);
-    let mut journal = make::<_, Plain>(&mut disk).ok().ok_or("a journal")?;
-    let value = seven(alloc)?;
-    assert_eq!(rt; journal.append(alloc, &mut disk, &value)?, Appended::Stored);
-    assert_eq!(rt; journal.append(alloc, &mut disk, &value)?, Appended::Stored);
+    assert_eq!(rt;
+        add_two(alloc, &mut disk)?,
+        Some((Appended::Stored, Appended::Stored))
+    );
     assert_eq!(rt; sevens(alloc, &disk.bytes)?, Some(2));
+    Ok(())
+}
+
+/// A journal of one entry that is cut at one of its bytes is bad: at the entry's gate or, where only
+/// the closed gate is missing, behind the entry.
+#[test]
+fn a_cut_journal_is_bad(rt: HostRuntime) -> Result<(), Fail> {
+    let alloc = rt.alloc();
+    for len in 0..ONE.len() {
+        let mut disk = disk_of(alloc, &ONE[..len], &[])?;
+        assert_eq!(rt; disk.reach("j"), Reach::Reached);
+        let place = if len == 12 { 12 } else { 0 };
+        let answer = reopen::<_, Plain>(alloc, &mut disk);
+        assert!(rt; matches!(answer, Err(JournalFault::BadEntry(found)) if found == place));
+    }
+    Ok(())
+}
+
+/// Each byte of a journal of one entry, changed to each other one: a closed gate in front hides the
+/// entry, the closed gate behind it may be any byte but 1, and no other change leaves the entry.
+#[test]
+fn a_changed_byte_counts(rt: HostRuntime) -> Result<(), Fail> {
+    let alloc = rt.alloc();
+    for place in 0..ONE.len() {
+        for value in 0..=255u8 {
+            let mut bytes = ONE;
+            bytes[place] = value;
+            let expected = if value == ONE[place] || (place == 12 && value != 1) {
+                Some(1)
+            } else if place == 0 {
+                Some(0)
+            } else {
+                None
+            };
+            assert_eq!(rt; sevens(alloc, &bytes)?, expected);
+        }
+    }
+    Ok(())
+}
+
+/// Forty entries over a disk that fails at one call: those that were stored are read, and at most the
+/// one that was being added.
+#[test]
+fn forty_are_added(rt: HostRuntime) -> Result<(), Fail> {
+    let alloc = rt.alloc();
+    // The calls are: reach, two of `make`, and four of each append; the last one never comes.
+    for failing in 4..=164u64 {
+        let mut disk = disk_of(alloc, &[], &[failing])?;
+        assert_eq!(rt; disk.reach("j"), Reach::Reached);
+        let mut journal = make::<_, Plain>(&mut disk).ok().ok_or("a journal")?;
+        let mut stored = 0u64;
+        for _ in 0..40 {
+            assert!(rt; disk.is_reached && journal.end < 1000);
+            if add(alloc, &mut journal, &mut disk)? == Appended::Stored {
+                stored = stored.saturating_add(1);
+            }
+        }
+        assert_eq!(rt; stored, (failing - 4) / 4);
+        let found = sevens(alloc, &disk.bytes)?.ok_or("a journal")? as u64;
+        assert!(rt; stored <= found && found <= stored.saturating_add(1));
+    }
     Ok(())
 }

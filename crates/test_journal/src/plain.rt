@@ -12,32 +12,31 @@ pub const ONE: [u8; 13] = [1, 0, 0, 0, 0, 0, 0, 0, 3, 2, 55, 10, 0];
 pub const SEVEN: [u8; 3] = [2, 55, 10];
 
 /// Bytes as they are.
-#[derive(Drop)]
-pub struct Plain {
-    pub bytes: Vec<u8>,
-}
+pub struct Plain;
 
 impl Payload for Plain {
-    ghost spelling = { λ plain. plain.bytes.items };
+    type Value = Vec<u8>;
+
+    ghost spelling = { λ bytes. bytes.items };
 
     ghost is_payload = { λ _. ⊤ };
 
-    fn read(alloc: Global, bytes: &[u8]) -> Result<Option<Plain>, AllocError> {
+    fn read(alloc: Global, bytes: &[u8]) -> Result<Option<Vec<u8>>, AllocError> {
         let bytes = bytes.to_vec(alloc)?;
-        Ok(Some(Plain { bytes }))
+        Ok(Some(bytes))
     }
 
-    fn spell(&self, bytes: &mut Vec<u8>) -> Result<(), AllocError> {
-        bytes.extend_from_slice(&self.bytes)
+    fn spell(value: &Vec<u8>, bytes: &mut Vec<u8>) -> Result<(), AllocError> {
+        bytes.extend_from_slice(value)
     }
 }
 
 /// The payload of the one entry.
-pub fn seven(alloc: Global) -> Result<Plain, AllocError>
-    ensures { IfOk result (λ plain. length plain.bytes.items ≡ 3) }
+pub fn seven(alloc: Global) -> Result<Vec<u8>, AllocError>
+    ensures { IfOk result (λ bytes. length bytes.items ≡ 3) }
 {
     let bytes = Vec::from_slice(alloc, &SEVEN)?;
-    Ok(Plain { bytes })
+    Ok(bytes)
 }
 
 /// A disk whose file `j` has these bytes, all of them synced; the listed calls fail.

@@ -15,7 +15,10 @@ fn a_real_file(rt: HostRuntime) -> Result<(), Fail> {
     assert_eq!(rt; other.reach("journal_of_a_test"), Reach::Failed);
     let mut journal = make::<_, Plain>(&mut disk).ok().ok_or("a journal")?;
     let value = seven(alloc)?;
-    assert_eq!(rt; journal.append(alloc, &mut disk, &value)?, Appended::Stored);
+    assert_eq!(rt;
+        journal.append::<_, Plain>(alloc, &mut disk, &value)?,
+        Appended::Stored
+    );
     let (again, values) = reopen::<_, Plain>(alloc, &mut disk)
         .ok()
         .ok_or("a journal")?;

@@ -4,7 +4,8 @@ use base_disk::{Disk, Reach};
 use std::alloc::{AllocError, Global};
 use std::test::Fail;
 use store_journal::{JournalFault, Payload, reopen};
-use store_refresh_entries::StoredRefresh;
+use store_refresh_entries::RefreshPayload;
+use store_state::Action;
 
 /// One order, and one lineitem of it, as a journal has them.
 const ORDER: &str = "9|1|O|10.00|1996-01-02|5-LOW|Clerk#1|0|c|\n";
@@ -24,11 +25,11 @@ fn insert(alloc: Global, orders: &str, lineitems: &str) -> Result<Vec<u8>, Alloc
 
 /// Whether the bytes spell a refresh, which is then spelled by them again.
 fn is_spelled(alloc: Global, bytes: &[u8]) -> Result<bool, AllocError> {
-    let Some(refresh) = StoredRefresh::read(alloc, bytes)? else {
+    let Some(refresh) = RefreshPayload::read(alloc, bytes)? else {
         return Ok(false);
     };
     let mut again = Vec::new(alloc);
-    refresh.spell(&mut again)?;
+    RefreshPayload::spell(&refresh, &mut again)?;
     Ok(again.as_slice() == bytes)
 }
 
@@ -68,18 +69,19 @@ fn a_delete_is_an_entry(rt: HostRuntime) -> Result<(), Fail> {
     let alloc = rt.alloc();
     let mut disk = disk_of(alloc, &ONE, &[])?;
     assert_eq!(rt; disk.reach("j"), Reach::Reached);
-    let (_, values) = reopen::<_, StoredRefresh>(alloc, &mut disk)
+    let (_, values) = reopen::<_, RefreshPayload>(alloc, &mut disk)
         .ok()
         .ok_or("a journal")?;
     assert_eq!(rt; values.len(), 1);
-    let is_seven = match values.first() {
-        Some(StoredRefresh::Delete(keys)) => keys.as_slice() == [7].as_slice(),
+    let refresh = values.first().ok_or("a refresh")?;
+    let is_seven = match refresh.action() {
+        Action::Delete(keys) => keys == [7].as_slice(),
         _ => false,
     };
     assert!(rt; is_seven);
     let mut short = disk_of(alloc, &ONE[..12], &[])?;
     assert_eq!(rt; short.reach("j"), Reach::Reached);
-    let answer = reopen::<_, StoredRefresh>(alloc, &mut short);
+    let answer = reopen::<_, RefreshPayload>(alloc, &mut short);
     assert!(rt; matches!(answer, Err(JournalFault::BadEntry(12))));
     Ok(())
 }

@@ -1,7 +1,7 @@
-//! A refresh whose rows or keys are kept as bytes.
+//! Refreshes as the payloads of a journal.
 ghost use Rattle.std.specs.Prelude.{◌≡◌, ◌++◌, OnOk, IfOk, IfSome, IfNone};
 ghost use Rattle.store_state.specs.Refresh.{InsertRows};
-ghost use Rattle.store_refresh_entries.specs.Change.{IsSpelled, change_of, spelling_of};
+ghost use Rattle.store_refresh_entries.specs.Change.{IsSpelled, spelling_of};
 ghost use Rattle.store_refresh_text.specs.Text.{rows_text};
 
 use crate::reading::parsed;
@@ -9,15 +9,11 @@ use base_columns::Rows;
 use std::alloc::{AllocError, Global};
 use store_journal::{Payload, push_framed};
 use store_refresh_text::{push_keys, push_rows};
+use store_state::{Action, Refresh};
 
-/// The rows or keys that an accepted refresh brings.
-#[derive(Drop)]
-pub enum StoredRefresh {
-    /// Orders, and their lineitems.
-    Insert(Rows, Rows),
-    /// The keys of the orders to be deleted.
-    Delete(Vec<i64>),
-}
+/// How a journal keeps refreshes: the rows of an insert or the keys of a delete, as the texts of
+/// files. A malformed refresh is no payload.
+pub struct RefreshPayload;
 
 /// The lines of rows, as a text of their own.
 fn text_of(alloc: Global, rows: &Rows) -> Result<Vec<u8>, AllocError>
@@ -43,30 +39,41 @@ fn push_insert(bytes: &mut Vec<u8>, orders: &Rows, lineitems: &Rows) -> Result<(
     Ok(())
 }
 
-impl Payload for StoredRefresh {
-    ghost spelling = { λ refresh. spelling_of (change_of refresh) };
+/// Appends the bytes that spell a refresh; a malformed one has none.
+#[tactic(auto, using(crate::proofs::Readings::spells))]
+fn push_refresh(bytes: &mut Vec<u8>, refresh: &Refresh) -> Result<(), AllocError>
+    ensures { OnOk result (bytes.new.items ≡ bytes.old.items ++ spelling_of refresh.now) }
+{
+    match refresh.action() {
+        Action::Insert(orders, lineitems) => push_insert(bytes, orders, lineitems),
+        Action::Delete(keys) => {
+            bytes.push(2)?;
+            push_keys(bytes, keys)
+        }
+        Action::Malformed(_, _, _) => Ok(()),
+    }
+}
+
+impl Payload for RefreshPayload {
+    type Value = Refresh;
+
+    ghost spelling = { spelling_of };
 
     ghost is_payload = { IsSpelled };
 
-    fn read(alloc: Global, bytes: &[u8]) -> Result<Option<StoredRefresh>, AllocError> {
+    fn read(alloc: Global, bytes: &[u8]) -> Result<Option<Refresh>, AllocError> {
         let Some(refresh) = parsed(alloc, bytes)? else {
             return Ok(None);
         };
         let mut again = Vec::new(alloc);
-        refresh.spell(&mut again)?;
+        push_refresh(&mut again, &refresh)?;
         if again.as_slice() != bytes {
             return Ok(None);
         }
         Ok(Some(refresh))
     }
 
-    fn spell(&self, bytes: &mut Vec<u8>) -> Result<(), AllocError> {
-        match self {
-            StoredRefresh::Insert(orders, lineitems) => push_insert(bytes, orders, lineitems),
-            StoredRefresh::Delete(keys) => {
-                bytes.push(2)?;
-                push_keys(bytes, keys)
-            }
-        }
+    fn spell(value: &Refresh, bytes: &mut Vec<u8>) -> Result<(), AllocError> {
+        push_refresh(bytes, value)
     }
 }
