@@ -56,7 +56,7 @@ at_value : (state : State) (row : List Value) (x : node.Input-F BoundAggregate B
 unfolding input_meaning_at
 at_value state row (node.Column level p) place is = elim (cases_Bool (level == 0)) [
   | inl t ↦ let z : level ≡ 0 = eqb-true level 0 t in let h : Some p ≡ Some place = rw t at is in
-    ap (λ n. slice_index_or (slice_index_or (row ∷ []) n []) p Null) z ∙ ap (λ n. slice_index_or row n Null) (some_is p place h)
+      ap (λ n. slice_index_or (slice_index_or (row ∷ []) n []) p Null) z ∙ ap (λ n. slice_index_or row n Null) (some_is p place h)
   | inr f ↦ let h : None ≡ Some place = rw f at is in absurd (none_some place h)
 ]
 at_value state row (node.Exists q) place is = absurd (none_some place is)
@@ -87,8 +87,7 @@ own_values state row (i ∷ is) (p ∷ ps) same =
 
 pub over_is : (x : BoundExpr) (places : List ℕ) (new : Expr) → map own_place (out-BoundExpr x).inputs ≡ map Some places → IsRenamed places (out-BoundExpr x).expr new → IsOver x new
 over_is x places new same renamed state row =
-    let inputs = own_values state row (out-BoundExpr x).inputs places same in
-    (
+    let inputs = own_values state row (out-BoundExpr x).inputs places same in (
       renamed.value row ∙ ap (value (out-BoundExpr x).expr) (sym inputs) ∙ sym (ap (λ (m : ExprMeaning). m.value (row ∷ [])) (expr_is state x)),
       renamed.truth row ∙ ap (truth (out-BoundExpr x).expr) (sym inputs) ∙ sym (ap (λ (m : ExprMeaning). m.truth (row ∷ [])) (expr_is state x)),
     )

@@ -143,8 +143,7 @@ have_values : (ags : List KeptAggregate) (y : Ranked Value) (ys : List (Ranked V
 unfolding cells_of
 have_values [] y ys e = tt
 have_values (a ∷ ags) y ys e =
-    let c = cell_of (arguments a (y ∷ ys)) in
-    (
+    let c = cell_of (arguments a (y ∷ ys)) in (
       has_value ((item_of a).0 y.values) (arguments a ys) (and_left (is_plain c) (are_plain (cells_of ags (y ∷ ys))) e),
       have_values ags y ys (and_right (is_plain c) (are_plain (cells_of ags (y ∷ ys))) e),
     )

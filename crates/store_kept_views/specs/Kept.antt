@@ -40,7 +40,7 @@ pub record CanMoveView (view : KeptPlan × Entries) (added removed rows : State)
 
 -- so may each
 pub record CanMoveViews (views : List (KeptPlan × Entries)) (added removed rows : State) : Type 0
-    where
-  pub old : State
-  pub moved : AreMoved old added removed rows
-  pub stand : AreKept old views
+  where
+    pub old : State
+    pub moved : AreMoved old added removed rows
+    pub stand : AreKept old views

@@ -10,18 +10,18 @@ use Rattle.store_groups.specs.Taken.{IsSet}
 -- a row of these arguments is out of the group of a key: there is none; or the group of the others
 -- is left; or no row is left; or the group held a fault, and its key is noted
 pub record IsLeft (k arguments : List Value) (g : Group) (old new stale more : Entries) : Type 0
-    where
-  pub faultless : is_faultless g ≡ true
-  pub some : 0 < (without_row g arguments).rows
-  pub set : IsSet k (Some (without_row g arguments)) old new
-  pub same : more ≡ stale
+  where
+    pub faultless : is_faultless g ≡ true
+    pub some : 0 < (without_row g arguments).rows
+    pub set : IsSet k (Some (without_row g arguments)) old new
+    pub same : more ≡ stale
 
 pub record IsGone (k arguments : List Value) (g : Group) (old new stale more : Entries) : Type 0
-    where
-  pub faultless : is_faultless g ≡ true
-  pub none : (without_row g arguments).rows ≡ 0
-  pub set : IsSet k None old new
-  pub same : more ≡ stale
+  where
+    pub faultless : is_faultless g ≡ true
+    pub none : (without_row g arguments).rows ≡ 0
+    pub set : IsSet k None old new
+    pub same : more ≡ stale
 
 pub record IsDropped (k : List Value) (g : Group) (old new stale more : Entries) : Type 0 where
   pub faulty : is_faultless g ≡ false

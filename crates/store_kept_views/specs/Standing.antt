@@ -59,7 +59,7 @@ pub record IsMoved (old added removed rows : List (List Value)) : Type 0 where
 
 -- a table stands for rows, which are moved to others
 pub record CanMove (p : KeptPlan) (es : Entries) (added removed rows : List (List Value)) : Type 0
-    where
-  pub old : List (List Value)
-  pub moved : IsMoved old added removed rows
-  pub stands : StandsFor p es old
+  where
+    pub old : List (List Value)
+    pub moved : IsMoved old added removed rows
+    pub stands : StandsFor p es old

@@ -45,11 +45,7 @@ fn batch_of(alloc: Global, part: &Part) -> Result<Batch, AllocError>
 }
 
 // What a plan reads of a part.
-fn reading_of<'a>(
-    alloc: Global,
-    plan: &'a KeptPlan,
-    part: &Part,
-) -> Result<Reading<'a>, AllocError>
+fn reading_of<'a>(alloc: Global, plan: &'a KeptPlan, part: &Part) -> Result<Reading<'a>, AllocError>
     ensures plan { IfOk result (λ r. r.plan ≡ plan.now) }
     ensures rows { IfOk result (λ r. r.rows ≡ selected plan.now part.now) }
 {
@@ -161,7 +157,14 @@ fn put_rows(
         reading.put_key(alloc, i, &mut key)?;
         reading.put_arguments(alloc, i, &mut arguments)?;
         let standing = reading.standing(i);
-        put_in(key.as_slice(), arguments.as_slice(), standing, wanted, stale, groups)?;
+        put_in(
+            key.as_slice(),
+            arguments.as_slice(),
+            standing,
+            wanted,
+            stale,
+            groups,
+        )?;
     }
     Ok(())
 }

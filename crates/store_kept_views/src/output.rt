@@ -172,11 +172,7 @@ fn put_rows(
 }
 
 // The rows of the entries of pages.
-fn page_rows(
-    alloc: Global,
-    plan: &KeptPlan,
-    pages: &[Page],
-) -> Result<Vec<OutputRow>, AllocError>
+fn page_rows(alloc: Global, plan: &KeptPlan, pages: &[Page]) -> Result<Vec<OutputRow>, AllocError>
     ensures { IfOk result (λ rows. rows.items
         ≡ map (λ e. output_row plan.now e.0 e.1) (entries_of pages.now)) }
 {

@@ -59,11 +59,7 @@ fn keys_of(alloc: Global, places: &[u32], rows: &Batch) -> Result<Vec<Column>, A
 
 // The arguments of an aggregate in the rows of a batch.
 #[tactic(auto, using(crate::proofs::ReadingLists::nulls))]
-fn argument_of(
-    alloc: Global,
-    aggregate: &KeptAggregate,
-    rows: &Batch,
-) -> Result<Column, AllocError>
+fn argument_of(alloc: Global, aggregate: &KeptAggregate, rows: &Batch) -> Result<Column, AllocError>
     ensures { IfOk result (λ c. c
         ≡ map (λ y. (item_of aggregate.now).0 y.values) rows.now.rows) }
 {

@@ -47,8 +47,7 @@ returns-in_err-list c =
 pub returns : goal.returns
 returns c =
     let from = sym c.get.ensures ∙ c.in-Table.is in
-    let always = sym c.holds_always.ensures.test ∙ c.if-not-holds_always.false in
-    (
+    let always = sym c.holds_always.ensures.test ∙ c.if-not-holds_always.false in (
       with_all c.args.q.now c.in-Grouped.from c.in-Grouped.condition c.in-Grouped.by c.in-Grouped.aggregates c.in-Grouped.having c.in-Grouped.list c.in-Grouped.is
           (ap is_table from ∙ table_Table c.in-Table.table) c.in_ok-condition.ensures.0
           (sym (ap (list_all is_kept_aggregate) c.as_slice.ensures) ∙ c.in_ok-aggregates.ensures.0) always
