@@ -1,5 +1,5 @@
 //! The type `State`.
-ghost use Rattle.std.specs.Prelude.{◌≡◌, length, IfOk};
+ghost use Rattle.std.specs.Prelude.{◌≡◌, [], length, replicate, IfOk};
 ghost use Rattle.base_columns.specs.Lists.{one_list};
 ghost use Rattle.base_schema.specs.Kinds.{RowsAreOf};
 ghost use Rattle.base_schema.specs.State.{table_rows};
@@ -71,6 +71,17 @@ impl State {
             all.push(Parts::of(alloc, rows)?)?;
         }
         Ok(State { tables: all })
+    }
+
+    /// Eight tables without rows.
+    pub(crate) fn empty(alloc: Global) -> Result<State, AllocError>
+        ensures { IfOk result (λ state. state ≡ state_of (replicate 8 [])) }
+    {
+        let mut tables = Vec::with_capacity(alloc, 8)?;
+        for _i in 0..8 {
+            tables.push(Parts::new(alloc))?;
+        }
+        Ok(State { tables })
     }
 
     /// The rows of a table.
