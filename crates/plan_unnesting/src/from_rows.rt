@@ -385,7 +385,15 @@ pub(crate) fn put_whole(
     let notes = footing.unchanged.as_slice();
     let known = kinds.as_slice();
     if let Some(own) = own_columns(alloc, condition.get(), known, n, notes)? {
-        let id = put_own(alloc, builder, rows, width, condition.get(), known, own.as_slice())?;
+        let id = put_own(
+            alloc,
+            builder,
+            rows,
+            width,
+            condition.get(),
+            known,
+            own.as_slice(),
+        )?;
         return Ok(id);
     }
     let domain = footing.settled(alloc, builder)?;

@@ -213,10 +213,7 @@ pub(crate) fn known_kinds(
 }
 
 // What is known of stored columns.
-fn stored_kinds(
-    alloc: Global,
-    columns: &[LineColumn],
-) -> Result<Items<Option<Known>>, AllocError>
+fn stored_kinds(alloc: Global, columns: &[LineColumn]) -> Result<Items<Option<Known>>, AllocError>
     ensures { IfOk result (λ own. own ≡ map known_as columns.now) }
 {
     let mut own = Items::new(alloc);
@@ -282,10 +279,7 @@ fn listed_kinds(
 }
 
 /// As many columns of unknown kinds.
-pub(crate) fn unknown_kinds(
-    alloc: Global,
-    count: usize,
-) -> Result<Items<Option<Known>>, AllocError>
+pub(crate) fn unknown_kinds(alloc: Global, count: usize) -> Result<Items<Option<Known>>, AllocError>
     ensures { IfOk result (λ own. own ≡ replicate count None) }
 {
     let own = padded_kinds(alloc, &[], count)?;
