@@ -126,7 +126,6 @@ fn figures_of_nodes<R: Threads + Sync + Clock, T: Tables>(
 }
 
 /// A query's forms over these views.
-#[tactic(auto, using(plan_planner::proofs::TypedViews::typed_bound))]
 fn bound_forms(
     alloc: Global,
     query: &Query,

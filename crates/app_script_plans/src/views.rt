@@ -1,7 +1,6 @@
 //! The views of a script, from which its queries are planned and bound.
-ghost use Rattle.std.specs.Prelude.{◌≡◌, ◌<◌, [], IfSome, length, remove};
+ghost use Rattle.std.specs.Prelude.{◌<◌, IfSome, length};
 ghost use Rattle.sql_binder.specs.Binding.{bound_view};
-ghost use Rattle.sql_binder_laws.specs.WellTyped.{ViewsAreTyped};
 ghost use Rattle.plan_planner.specs.Made.{Makes};
 
 use plan_planner::SessionViews;
@@ -10,15 +9,30 @@ use sql_binder::bind_view;
 use sql_binder_steps::{BindFault, View, Views};
 use sqlite_items::Items;
 use std::alloc::Global;
+use std::marker::Model;
 
 /// Views in the order in which they were made. Each was bound over those that stood then, so its
 /// query is well typed.
 #[derive(Drop)]
 pub struct TypedViews {
     /// The views.
-    pub views: Views,
+    pub(crate) views: Views,
+}
 
-    ghost typed: { ViewsAreTyped views.all },
+impl Model for TypedViews {
+    ghost use Rattle.std.specs.Prelude.{List};
+    ghost use Rattle.sql_binder_steps.specs.declared.view.View.{View};
+    ghost use Rattle.sql_binder_laws.specs.WellTyped.{ViewsAreTyped};
+    ghost use Rattle.sql_bound_query.specs.contracts.query.BoundBlock as block;
+    ghost use Rattle.std.specs.Coded.{codes};
+
+    ghost Value = { List View };
+
+    ghost coded = { Prim.hlevel (codes, block.the_row.coded) };
+
+    ghost view = { λ v. v.views.all };
+
+    ghost invariant = { λ v. ViewsAreTyped v.views.all };
 }
 
 /// The place of the first view of that name.
@@ -31,15 +45,23 @@ pub fn place_of_view(views: &[View], name: &Name) -> Option<usize>
 }
 
 impl TypedViews {
+    ghost use Rattle.std.specs.Prelude.{◌≡◌, ◌<◌, [], length, remove};
+
     /// No view.
     pub fn new(alloc: Global) -> TypedViews
-        ensures { result.views.all ≡ [] }
+        ensures { result ≡ [] }
     {
-        TypedViews {
-            views: Views {
-                all: Items::new(alloc),
-            },
-        }
+        let views = Views {
+            all: Items::new(alloc),
+        };
+        TypedViews { views }
+    }
+
+    /// The views.
+    pub fn as_slice(&self) -> &[View]
+        ensures { result.now ≡ self.now }
+    {
+        self.views.all.as_slice()
     }
 
     /// Makes a view of a bound query.
@@ -47,7 +69,6 @@ impl TypedViews {
     /// # Errors
     ///
     /// `Refused` exactly as `bind_view` is; `OutOfMemory`. The views then stay as they are.
-    #[tactic(auto, using(plan_planner::proofs::TypedViews::typed_with))]
     pub fn make(
         &mut self,
         alloc: Global,
@@ -55,8 +76,8 @@ impl TypedViews {
         names: &[Name],
         query: &Block,
     ) -> Result<(), BindFault>
-        ensures { Makes (bound_view name.now names.now query.now self.old.views.all)
-            self.old.views.all self.new.views.all result }
+        ensures { Makes (bound_view name.now names.now query.now self.old) self.old self.new
+            result }
     {
         let view = bind_view(alloc, name, names, query, &self.views)?;
         self.views.all.push(view)?;
@@ -64,10 +85,9 @@ impl TypedViews {
     }
 
     /// Drops the view at a place.
-    #[tactic(auto, using(plan_planner::proofs::TypedViews::typed_without))]
     pub fn remove(&mut self, place: usize)
-        requires { place < length self.old.views.all }
-        ensures { self.new.views.all ≡ remove self.old.views.all place }
+        requires { place < length self.old }
+        ensures { self.new ≡ remove self.old place }
     {
         self.views.all.remove(place);
     }
@@ -112,7 +132,7 @@ impl ScriptViews {
 
     /// Drops the view of that name, and answers whether there was one.
     pub fn remove(&mut self, name: &Name) -> bool {
-        if let Some(place) = place_of_view(self.typed.views.all.as_slice(), name) {
+        if let Some(place) = place_of_view(self.typed.as_slice(), name) {
             self.typed.remove(place);
         }
         match place_of_view(self.session.as_slice(), name) {

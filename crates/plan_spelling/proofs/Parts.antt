@@ -183,30 +183,30 @@ abbrev pub rebuilt : List ℕ → List Part → Option Part
 rebuilt [] ps = None
 rebuilt (tag ∷ ns) ps = or_else (few tag ns ps) (or_else (more tag ns ps) (or_else (nodes tag ns ps) (joins tag ns ps)))
 
-all_back : {A : Type 0} (g : Part → Option A) (f : A → Part) → ((a : A) → g (f a) ≡ Some a) → (us : List A) → all_of g (map f us) ≡ Some us
+pub all_back : {A : Type 0} (g : Part → Option A) (f : A → Part) → ((a : A) → g (f a) ≡ Some a) → (us : List A) → all_of g (map f us) ≡ Some us
 all_back g f back [] = refl
 all_back g f back (a ∷ us) = ap (λ o. put_before o (all_of g (map f us))) (back a) ∙ ap (put_before (Some a)) (all_back g f back us)
 
-exprs_back : (us : List Expr) → exprs_of (map expr us) ≡ Some us
+pub exprs_back : (us : List Expr) → exprs_of (map expr us) ≡ Some us
 exprs_back = all_back expr_of expr (λ a. refl)
 
-branches_back : (bs : List Branch) → branches_of (map branch bs) ≡ Some bs
+pub branches_back : (bs : List Branch) → branches_of (map branch bs) ≡ Some bs
 branches_back = all_back branch_of branch (λ b. refl)
 
-operations_back : (os : List Operation) → operations_of (map operation os) ≡ Some os
+pub operations_back : (os : List Operation) → operations_of (map operation os) ≡ Some os
 operations_back = all_back operation_of operation (λ o. refl)
 
-all_spelled : {A : Type 0} (g : A → List ℕ) (f : A → Part) → ((a : A) → part_spelling (f a) ≡ g a) → (us : List A) → map part_spelling (map f us) ≡ map g us
+pub all_spelled : {A : Type 0} (g : A → List ℕ) (f : A → Part) → ((a : A) → part_spelling (f a) ≡ g a) → (us : List A) → map part_spelling (map f us) ≡ map g us
 all_spelled g f is [] = refl
 all_spelled g f is (a ∷ us) = ap (λ x. x ∷ map part_spelling (map f us)) (is a) ∙ ap (λ l. g a ∷ l) (all_spelled g f is us)
 
-exprs_spelled : (us : List Expr) → map part_spelling (map expr us) ≡ map expr_spelling us
+pub exprs_spelled : (us : List Expr) → map part_spelling (map expr us) ≡ map expr_spelling us
 exprs_spelled = all_spelled expr_spelling expr (λ a. refl)
 
-branches_spelled : (bs : List Branch) → map part_spelling (map branch bs) ≡ map branch_spelling bs
+pub branches_spelled : (bs : List Branch) → map part_spelling (map branch bs) ≡ map branch_spelling bs
 branches_spelled = all_spelled branch_spelling branch (λ b. refl)
 
-operations_spelled : (os : List Operation) → map part_spelling (map operation os) ≡ map operation_spelling os
+pub operations_spelled : (os : List Operation) → map part_spelling (map operation os) ≡ map operation_spelling os
 operations_spelled = all_spelled operation_spelling operation (λ o. refl)
 
 -- what a part is, and the parts below it, from which it is rebuilt
@@ -332,7 +332,7 @@ a_value x = record {
   back = ap (λ o. or_else (constant o []) None) (value_back x);
 }
 
-table_back : (t : TableName) → table_of (table_name t) ≡ Some t
+pub table_back : (t : TableName) → table_of (table_name t) ≡ Some t
 table_back t.Region = refl
 table_back t.Nation = refl
 table_back t.Part = refl

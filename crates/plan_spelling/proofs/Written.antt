@@ -57,46 +57,46 @@ length_pairs : (pairs : List (ℕ × ℕ)) → length (pair_numbers pairs) ≡ l
 length_pairs [] = refl
 length_pairs (pair ∷ pairs) = omega (arith, length_pairs pairs)
 
-written_Scan : (t : TableName) → node_spelling (n.Scan t) ≡ (length (table_name t) + 1) ∷ 21 ∷ (table_name t ++ 0 ∷ [])
+pub written_Scan : (t : TableName) → node_spelling (n.Scan t) ≡ (length (table_name t) + 1) ∷ 21 ∷ (table_name t ++ 0 ∷ [])
 written_Scan t =
     let count : suc (length (table_name t)) ≡ length (table_name t) + 1 = omega arith in
     spelled_Scan t ∙ ap (λ m. m ∷ 21 ∷ (table_name t ++ 0 ∷ [])) count
 
-written_Domain : (i : ℕ) (cs : List ℕ) → node_spelling (n.Domain i cs) ≡ (length cs + 2) ∷ 22 ∷ i ∷ (cs ++ 0 ∷ [])
+pub written_Domain : (i : ℕ) (cs : List ℕ) → node_spelling (n.Domain i cs) ≡ (length cs + 2) ∷ 22 ∷ i ∷ (cs ++ 0 ∷ [])
 written_Domain i cs =
     let count : suc (suc (length cs)) ≡ length cs + 2 = omega arith in
     spelled_Domain i cs ∙ ap (λ m. m ∷ 22 ∷ i ∷ (cs ++ 0 ∷ [])) count
 
-written_Project : (i : ℕ) (us : List Expr) → node_spelling (n.Project i us) ≡ 2 ∷ 24 ∷ i ∷ length us ∷ flat_map expr_spelling us
+pub written_Project : (i : ℕ) (us : List Expr) → node_spelling (n.Project i us) ≡ 2 ∷ 24 ∷ i ∷ length us ∷ flat_map expr_spelling us
 written_Project i us = spelled_Project i us ∙ ap (λ l. 2 ∷ 24 ∷ i ∷ l) (parts_of expr_spelling us)
 
-written_Join : (i j : ℕ) (pairs : List (ℕ × ℕ)) (a : Expr) → node_spelling (n.Join i j pairs a) ≡ (length pairs * 2 + 3) ∷ 25 ∷ i ∷ j ∷ (pair_numbers pairs ++ 1 ∷ (expr_spelling a ++ []))
+pub written_Join : (i j : ℕ) (pairs : List (ℕ × ℕ)) (a : Expr) → node_spelling (n.Join i j pairs a) ≡ (length pairs * 2 + 3) ∷ 25 ∷ i ∷ j ∷ (pair_numbers pairs ++ 1 ∷ (expr_spelling a ++ []))
 written_Join i j pairs a =
     let count : suc (suc (suc (length (pair_numbers pairs)))) ≡ length pairs * 2 + 3 = omega (arith, length_pairs pairs) in
     spelled_Join i j pairs a ∙ ap (λ m. m ∷ 25 ∷ i ∷ j ∷ (pair_numbers pairs ++ 1 ∷ (expr_spelling a ++ []))) count
 
-written_Outer : (i j : ℕ) (pairs : List (ℕ × ℕ)) (k : ℕ) (a : Expr) → node_spelling (n.Outer i j pairs k a) ≡ (length pairs * 2 + 4) ∷ 26 ∷ i ∷ j ∷ k ∷ (pair_numbers pairs ++ 1 ∷ (expr_spelling a ++ []))
+pub written_Outer : (i j : ℕ) (pairs : List (ℕ × ℕ)) (k : ℕ) (a : Expr) → node_spelling (n.Outer i j pairs k a) ≡ (length pairs * 2 + 4) ∷ 26 ∷ i ∷ j ∷ k ∷ (pair_numbers pairs ++ 1 ∷ (expr_spelling a ++ []))
 written_Outer i j pairs k a =
     let count : suc (suc (suc (suc (length (pair_numbers pairs))))) ≡ length pairs * 2 + 4 = omega (arith, length_pairs pairs) in
     spelled_Outer i j pairs k a ∙ ap (λ m. m ∷ 26 ∷ i ∷ j ∷ k ∷ (pair_numbers pairs ++ 1 ∷ (expr_spelling a ++ []))) count
 
-written_Mark : (i j : ℕ) (pairs : List (ℕ × ℕ)) (a : Expr) → node_spelling (n.Mark i j pairs a) ≡ (length pairs * 2 + 3) ∷ 27 ∷ i ∷ j ∷ (pair_numbers pairs ++ 1 ∷ (expr_spelling a ++ []))
+pub written_Mark : (i j : ℕ) (pairs : List (ℕ × ℕ)) (a : Expr) → node_spelling (n.Mark i j pairs a) ≡ (length pairs * 2 + 3) ∷ 27 ∷ i ∷ j ∷ (pair_numbers pairs ++ 1 ∷ (expr_spelling a ++ []))
 written_Mark i j pairs a =
     let count : suc (suc (suc (length (pair_numbers pairs)))) ≡ length pairs * 2 + 3 = omega (arith, length_pairs pairs) in
     spelled_Mark i j pairs a ∙ ap (λ m. m ∷ 27 ∷ i ∷ j ∷ (pair_numbers pairs ++ 1 ∷ (expr_spelling a ++ []))) count
 
-written_Single : (i j : ℕ) (pairs : List (ℕ × ℕ)) (k : ℕ) → node_spelling (n.Single i j pairs k) ≡ (length pairs * 2 + 4) ∷ 28 ∷ i ∷ j ∷ k ∷ (pair_numbers pairs ++ 0 ∷ [])
+pub written_Single : (i j : ℕ) (pairs : List (ℕ × ℕ)) (k : ℕ) → node_spelling (n.Single i j pairs k) ≡ (length pairs * 2 + 4) ∷ 28 ∷ i ∷ j ∷ k ∷ (pair_numbers pairs ++ 0 ∷ [])
 written_Single i j pairs k =
     let count : suc (suc (suc (suc (length (pair_numbers pairs))))) ≡ length pairs * 2 + 4 = omega (arith, length_pairs pairs) in
     spelled_Single i j pairs k ∙ ap (λ m. m ∷ 28 ∷ i ∷ j ∷ k ∷ (pair_numbers pairs ++ 0 ∷ [])) count
 
-written_Group : (i : ℕ) (by : List ℕ) (us : List Aggregate) → node_spelling (n.Group i by us) ≡ (length by + 2) ∷ 29 ∷ i ∷ (by ++ length us ∷ flat_map aggregate_spelling us)
+pub written_Group : (i : ℕ) (by : List ℕ) (us : List Aggregate) → node_spelling (n.Group i by us) ≡ (length by + 2) ∷ 29 ∷ i ∷ (by ++ length us ∷ flat_map aggregate_spelling us)
 written_Group i by us =
     let count : suc (suc (length by)) ≡ length by + 2 = omega arith in
     spelled_Group i by us ∙ ap (λ l. suc (suc (length by)) ∷ 29 ∷ i ∷ (by ++ l)) (parts_of aggregate_spelling us)
     ∙ ap (λ m. m ∷ 29 ∷ i ∷ (by ++ length us ∷ flat_map aggregate_spelling us)) count
 
-written_Fill : (i j : ℕ) (xs : List Value) → node_spelling (n.Fill i j xs) ≡ 3 ∷ 30 ∷ i ∷ j ∷ length xs ∷ flat_map value_spelling xs
+pub written_Fill : (i j : ℕ) (xs : List Value) → node_spelling (n.Fill i j xs) ≡ 3 ∷ 30 ∷ i ∷ j ∷ length xs ∷ flat_map value_spelling xs
 written_Fill i j xs = spelled_Fill i j xs ∙ ap (λ l. 3 ∷ 30 ∷ i ∷ j ∷ l) (parts_of value_spelling xs)
 
 pub ruleset node_written = (append_assoc, append-nil, written_Scan, written_Domain, spelled_Select, written_Project, written_Join, written_Outer, written_Mark, written_Single, written_Group, written_Fill, spelled_Distinct, spelled_Set)

@@ -97,27 +97,42 @@ pub fn put_exprs(numbers: &mut Vec<u128>, es: &[Expr]) -> Result<(), AllocError>
 
 #[cycle(spelling)]
 #[tactic(auto, using(crate::proofs::Written::branch_written))]
+fn put_branch(numbers: &mut Vec<u128>, branch: &Branch) -> Result<(), AllocError>
+    ensures { OnOk result (numbers.new.items ≡ numbers.old.items ++ branch_spelling branch.now) }
+{
+    numbers.extend_from_slice(&[1, 16, 2])?;
+    put_expr(numbers, &branch.when)?;
+    put_expr(numbers, &branch.gives)
+}
+
+#[cycle(spelling)]
 fn put_branches(numbers: &mut Vec<u128>, branches: &[Branch]) -> Result<(), AllocError>
     ensures { OnOk result
         (numbers.new.items ≡ numbers.old.items ++ flat_map branch_spelling branches.now) }
 {
     for branch in branches {
-        numbers.extend_from_slice(&[1, 16, 2])?;
-        put_expr(numbers, &branch.when)?;
-        put_expr(numbers, &branch.gives)?;
+        put_branch(numbers, branch)?;
     }
     Ok(())
 }
 
 #[cycle(spelling)]
 #[tactic(auto, using(crate::proofs::Written::operation_written))]
+fn put_operation(numbers: &mut Vec<u128>, operation: &Operation) -> Result<(), AllocError>
+    ensures { OnOk result
+        (numbers.new.items ≡ numbers.old.items ++ operation_spelling operation.now) }
+{
+    numbers.extend_from_slice(&[2, 17, arithmetic_number(operation.operator), 1])?;
+    put_expr(numbers, &operation.operand)
+}
+
+#[cycle(spelling)]
 fn put_operations(numbers: &mut Vec<u128>, operations: &[Operation]) -> Result<(), AllocError>
     ensures { OnOk result
         (numbers.new.items ≡ numbers.old.items ++ flat_map operation_spelling operations.now) }
 {
     for operation in operations {
-        numbers.extend_from_slice(&[2, 17, arithmetic_number(operation.operator), 1])?;
-        put_expr(numbers, &operation.operand)?;
+        put_operation(numbers, operation)?;
     }
     Ok(())
 }

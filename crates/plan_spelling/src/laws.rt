@@ -8,7 +8,6 @@ pub fn spelling_is_unique()
 {}
 
 /// A text that ends with the line of a plan ends with that of no other plan.
-#[tactic(auto, using(crate::proofs::Texts::text_determines_plan))]
 pub fn text_determines_plan()
     ensures { TextDeterminesPlan }
 {}
