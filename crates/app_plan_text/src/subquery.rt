@@ -88,7 +88,7 @@ pub fn distinct_lines(
 /// What a set operation takes of the rows of both sides, as it is written, and the names of its
 /// columns.
 #[derive(Drop)]
-struct Taken {
+struct TakenColumns {
     left: Vec<u8>,
     right: Vec<u8>,
     columns: Names,
@@ -123,7 +123,7 @@ fn taken(
     left: &[Vec<u8>],
     right: &[Vec<u8>],
     all: &[SetColumn],
-) -> Result<Taken, AllocError> {
+) -> Result<TakenColumns, AllocError> {
     let mut lefts = Vec::new(alloc);
     let mut rights = Vec::new(alloc);
     let mut columns = Vec::new(alloc);
@@ -132,7 +132,7 @@ fn taken(
         push_item(&mut rights, right, &column.right)?;
         columns.push(set_name(alloc, number, place, left, &column.left)?)?;
     }
-    Ok(Taken {
+    Ok(TakenColumns {
         left: lefts,
         right: rights,
         columns,
@@ -182,7 +182,7 @@ pub fn set_lines(
     let (mut below, mut after) = (below, after);
     lines.append(&mut below)?;
     lines.append(&mut after)?;
-    let Taken { columns, .. } = taken;
+    let TakenColumns { columns, .. } = taken;
     Ok(ShownQuery {
         number,
         columns,
