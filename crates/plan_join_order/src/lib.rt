@@ -2,7 +2,6 @@
 #![tactic(auto)]
 
 mod collect;
-mod estimate;
 mod group;
 mod implied;
 mod lateral;

@@ -261,7 +261,7 @@ fn lowered_node(
         DepTree::Join(left, right, side, on) => {
             let width = footing.width()?;
             let outer = lowered(alloc, builder, left.get(), footing)?;
-            let is_kept = keeps_domain(left, right);
+            let is_kept = keeps_domain(width, left, right, side);
             let rows = lowered_right(alloc, builder, outer, is_kept, right, side, footing)?;
             let id = put_join(alloc, builder, outer, rows, side, width, on.get())?;
             Ok(id)
@@ -269,7 +269,7 @@ fn lowered_node(
         DepTree::Outer(left, right, side, on) => {
             let own = footing.width()?;
             let outer = lowered(alloc, builder, left.get(), footing)?;
-            let is_kept = keeps_domain(left, right);
+            let is_kept = keeps_domain(own, left, right, side);
             let rows = lowered_right(alloc, builder, outer, is_kept, right, side, footing)?;
             let nulls = width(right.get())?;
             let id = put_outer(alloc, builder, outer, rows, side, own, nulls, on.get())?;
@@ -278,7 +278,7 @@ fn lowered_node(
         DepTree::Mark(left, right, side, condition) => {
             let width = footing.width()?;
             let outer = lowered(alloc, builder, left.get(), footing)?;
-            let is_kept = keeps_domain(left, right);
+            let is_kept = keeps_domain(width, left, right, side);
             let rows = lowered_right(alloc, builder, outer, is_kept, right, side, footing)?;
             let id = put_mark(alloc, builder, outer, rows, side, width, condition.get())?;
             Ok(id)
@@ -286,7 +286,7 @@ fn lowered_node(
         DepTree::Single(left, right, side, column) => {
             let width = footing.width()?;
             let outer = lowered(alloc, builder, left.get(), footing)?;
-            let is_kept = keeps_domain(left, right);
+            let is_kept = keeps_domain(width, left, right, side);
             let rows = lowered_right(alloc, builder, outer, is_kept, right, side, footing)?;
             let id = put_single(alloc, builder, outer, rows, side, width, *column)?;
             Ok(id)

@@ -1,20 +1,23 @@
 //! About how many rows trees have, and how many of them conditions keep. The plan serves every
 //! version of the tables, so a table counts as at scale factor 1: only the proportions matter.
-//! Any order of joins is right, so no clause speaks of an estimate.
+//! Any order of joins is right, and a domain may be kept or left out, so no clause speaks of an
+//! estimate.
 use base_schema::{ColumnKind, TableName};
 use base_set_rows::SetOperation;
 use expr_scalar::{Comparison, Expr};
 use plan_algebra::{DepTree, Side, width};
-use plan_tree_moves::side_columns;
 use sqlite_items::{Boxed, at};
 
 // How many values a column is taken to have of which nothing is known.
 const UNKNOWN_VALUES: u64 = 10;
 
+// Rows are few where a column has so many values for each of them.
+const FEW: u64 = 10;
+
 /// What an expression reads: after the columns of a domain row, as many as are named here, those of
 /// a tree, or of several ones after the other.
 #[derive(Clone, Copy)]
-pub(crate) enum Sight<'a> {
+pub enum Sight<'a> {
     Tree(u32, &'a DepTree),
     Inputs(u32, &'a [DepTree]),
 }
@@ -165,16 +168,29 @@ fn is_key(source: Source) -> bool {
 }
 
 /// Whether a column of what is read is known to be a whole number out of a table.
-pub(crate) fn is_key_at(sight: &Sight, place: u32) -> bool {
+pub fn is_key_at(sight: &Sight, place: u32) -> bool {
     match source_at(sight, place) {
         Some(source) => is_key(source),
         None => false,
     }
 }
 
+/// Whether the rows of a tree, over a domain row of n columns, are few beside the values of one of
+/// these columns of theirs.
+pub fn have_few(n: u32, tree: &DepTree, columns: &[u32]) -> bool {
+    let rows = rows_of(tree, n);
+    let sight = Sight::Tree(n, tree);
+    for column in columns {
+        if rows <= values_at(*column, &sight) / FEW {
+            return true;
+        }
+    }
+    false
+}
+
 /// Whether each column of a right side's domain row is known to be a whole number out of a table,
 /// by the left side and by what is known of the left side's domain row of n columns.
-pub(crate) fn are_keys(n: u32, keyed: bool, left: &Boxed<DepTree>, side: &Side) -> bool {
+pub fn are_keys(n: u32, keyed: bool, left: &Boxed<DepTree>, side: &Side) -> bool {
     let Side::Dependent(columns) = side else {
         return keyed;
     };
@@ -202,9 +218,13 @@ fn wide_of(tree: &DepTree) -> u32 {
 
 // How many columns the domain row of a right side has.
 fn right_domain(n: u32, side: &Side) -> u32 {
-    match side_columns(n, side) {
-        Ok(columns) => columns,
-        Err(_) => 0,
+    match side {
+        Side::Closed => 0,
+        Side::Shared => n,
+        Side::Dependent(columns) => match u32::try_from(columns.len()) {
+            Ok(count) => count,
+            Err(_) => 0,
+        },
     }
 }
 
@@ -265,12 +285,12 @@ fn values_at(place: u32, sight: &Sight) -> u64 {
 }
 
 /// The quotient; by 0 the number itself.
-pub(crate) fn divided(rows: u64, by: u64) -> u64 {
+pub fn divided(rows: u64, by: u64) -> u64 {
     if by == 0 { rows } else { rows / by }
 }
 
 /// The columns that a condition says to be equal.
-pub(crate) fn equated(e: &Expr) -> Option<(u32, u32)> {
+pub fn equated(e: &Expr) -> Option<(u32, u32)> {
     match e {
         Expr::Compare(Comparison::Equal, a, b) => match (a.get(), b.get()) {
             (Expr::Column(i), Expr::Column(j)) => Some((*i, *j)),
@@ -281,7 +301,7 @@ pub(crate) fn equated(e: &Expr) -> Option<(u32, u32)> {
 }
 
 /// Of how many rows a condition over several inputs keeps one.
-pub(crate) fn rows_for_one(e: &Expr, sight: &Sight) -> u64 {
+pub fn rows_for_one(e: &Expr, sight: &Sight) -> u64 {
     match equated(e) {
         Some((i, j)) => values_at(i, sight).max(values_at(j, sight)),
         None => 3,
@@ -305,7 +325,7 @@ fn kept_by_comparison(rows: u64, comparison: Comparison, a: &Expr, b: &Expr, sig
 
 /// How many of some rows a condition keeps.
 #[cycle(kept)]
-pub(crate) fn kept_of(rows: u64, e: &Expr, sight: &Sight) -> u64 {
+pub fn kept_of(rows: u64, e: &Expr, sight: &Sight) -> u64 {
     match e {
         Expr::Compare(comparison, a, b) => {
             kept_by_comparison(rows, *comparison, a.get(), b.get(), sight)
@@ -353,7 +373,7 @@ fn groups_of(rows: u64, by: &[u32], sight: &Sight) -> u64 {
 }
 
 /// How many rows a tree has, over a domain row of n columns: one at least.
-pub(crate) fn rows_of(tree: &DepTree, n: u32) -> u64 {
+pub fn rows_of(tree: &DepTree, n: u32) -> u64 {
     match tree {
         DepTree::Scan(table) => rows_of_table(*table),
         DepTree::Select(t, c) => {
@@ -397,7 +417,7 @@ fn weight_at(tree: &DepTree, n: u32, place: u32) -> u64 {
 }
 
 /// What it costs to copy a row of a tree.
-pub(crate) fn weight_of(tree: &DepTree, n: u32) -> u64 {
+pub fn weight_of(tree: &DepTree, n: u32) -> u64 {
     let mut weight: u64 = 0;
     for place in 0..wide_of(tree) {
         weight = weight.saturating_add(weight_at(tree, n, place));
