@@ -75,6 +75,32 @@ impl MarkedForm {
         ensures ok { OnOk result (self.new ≡ self.old ++ field_value field.now ∷ []) }
         ensures err { OnErr result (self.new ≡ self.old) }
     {
+        if self.put_unmarked(alloc, field)? {
+            return Ok(());
+        }
+        self.push_beside_marks(alloc, field)
+    }
+
+    // One field more, if there is no mark and the form holds it: so it is of most fields of a file.
+    fn put_unmarked(&mut self, alloc: Global, field: &Field<'_>) -> Result<bool, AllocError>
+        requires { IsPrintableField field.now }
+        ensures ok { IfOk result
+            (λ done. self.new
+            ≡ (if done then self.old ++ field_value field.now ∷ [] else self.old)) }
+        ensures err { OnErr result (self.new ≡ self.old) }
+    {
+        if !self.marks.are_none() {
+            return Ok(false);
+        }
+        put(&mut self.form, alloc, field)
+    }
+
+    // One field more, maybe beside marks.
+    fn push_beside_marks(&mut self, alloc: Global, field: &Field<'_>) -> Result<(), AllocError>
+        requires { IsPrintableField field.now }
+        ensures ok { OnOk result (self.new ≡ self.old ++ field_value field.now ∷ []) }
+        ensures err { OnErr result (self.new ≡ self.old) }
+    {
         if let Field::Null = field {
             return self.push_null(alloc);
         }
