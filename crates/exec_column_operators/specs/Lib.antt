@@ -1,4 +1,5 @@
 pub mod Choices
 pub mod Constants
 pub mod Exact
+pub mod Parts
 pub mod Zips

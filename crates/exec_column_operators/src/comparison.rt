@@ -1,8 +1,8 @@
 //! Comparison of two columns, row by row.
-ghost use Rattle.std.specs.Prelude.{◌≡◌, IfOk, IfSome, length, map};
+ghost use Rattle.std.specs.Prelude.{◌≡◌, ◌<◌, IfOk, IfSome, length, map, slice_index_or};
 ghost use Rattle.base_null_marks.specs.Marks.{marked};
 ghost use Rattle.base_value.specs.declared.truth.Truth.TheVariants.{Unknown};
-ghost use Rattle.base_value.specs.declared.value.Value.TheVariants.{Number, Date as DateOf};
+ghost use Rattle.base_value.specs.declared.value.Value.TheVariants.{Number, Date as DateOf, Null};
 ghost use Rattle.expr_operators.specs.Operators.{compared};
 ghost use Rattle.exec_column_operators.specs.Exact.{number_compared, dates_compared};
 ghost use Rattle.exec_column_operators.specs.Zips.{zip_with};
@@ -50,11 +50,33 @@ fn compared_values(
 {
     let mut truths = Vec::with_capacity(alloc, a.len())?;
     for i in 0..a.len() {
-        let x = a.at(alloc, i)?;
-        let y = b.at(alloc, i)?;
-        truths.push(compared(comparison, &x, &y))?;
+        let truth = compared_at(alloc, comparison, a, b, i)?;
+        truths.push(truth)?;
     }
     Ok(truths)
+}
+
+// A comparison of the values at a place: of two texts their bytes are compared where they lie.
+fn compared_at(
+    alloc: Global,
+    comparison: Comparison,
+    a: &Column,
+    b: &Column,
+    i: usize,
+) -> Result<Truth, AllocError>
+    requires left { i < length a.now }
+    requires right { i < length b.now }
+    ensures { IfOk result (λ t.
+        t ≡ compared comparison (slice_index_or a.now i Null) (slice_index_or b.now i Null)) }
+{
+    if let Some(x) = a.text(i) {
+        if let Some(y) = b.text(i) {
+            return Ok(holds(comparison, x.cmp(&y)));
+        }
+    }
+    let x = a.at(alloc, i)?;
+    let y = b.at(alloc, i)?;
+    Ok(compared(comparison, &x, &y))
 }
 
 // The truths, but Unknown where either of two operands is null.

@@ -4,6 +4,7 @@
 mod arithmetic;
 mod comparison;
 mod constants;
+mod likes;
 mod texts;
 mod truths;
 mod values;

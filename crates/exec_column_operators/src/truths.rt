@@ -7,12 +7,13 @@ ghost use Rattle.base_value.specs.Truth.{lesser, greater, negated};
 ghost use Rattle.expr_operators.specs.Operators.{liked, null_test, truth_of_mark};
 ghost use Rattle.exec_column_operators.specs.Zips.{zip_with};
 
+use crate::likes::liked_values;
 use crate::texts::liked_codes;
 use base_columns::Column;
 use base_null_marks::{Marks, masked};
 use base_text::Text;
 use base_value::{Standing, Truth};
-use expr_operators::{liked, null_test, truth_of_mark};
+use expr_operators::{null_test, truth_of_mark};
 use std::alloc::{AllocError, Global};
 
 /// AND, row by row.
@@ -58,18 +59,6 @@ pub fn liked_column(alloc: Global, a: &Column, pattern: &Text) -> Result<Vec<Tru
         Some(truths) => Ok(truths),
         None => liked_values(alloc, a, pattern),
     }
-}
-
-// The same, value by value.
-fn liked_values(alloc: Global, a: &Column, pattern: &Text) -> Result<Vec<Truth>, AllocError>
-    ensures { IfOk result (λ v. v.items ≡ map (liked pattern.now) a.now) }
-{
-    let mut truths = Vec::with_capacity(alloc, a.len())?;
-    for i in 0..a.len() {
-        let x = a.at(alloc, i)?;
-        truths.push(liked(&x, pattern))?;
-    }
-    Ok(truths)
 }
 
 /// IS NULL, row by row.
