@@ -21,7 +21,6 @@ use Rattle.base_value.proofs.Identity.{value_identity}
 use Rattle.base_schema.specs.declared.table.TableName.{TableName}
 use Rattle.expr_scalar.specs.declared.expr.Expr.{Expr}
 use Rattle.expr_scalar.specs.declared.expr.Expr.TheVariants as e
-use Rattle.expr_scalar.specs.declared.kind.Kind.{Kind}
 use Rattle.expr_conditions.specs.Ranks.{rank_of, all_rank, says}
 use Rattle.expr_conditions.proofs.Ranks.{rank_All}
 use Rattle.plan_algebra.specs.declared.node.Node.{Node}
@@ -38,6 +37,7 @@ use Rattle.plan_unnesting.specs.declared.domain.DomainRows.{DomainRows}
 use Rattle.plan_unnesting.specs.declared.domain.DomainRows.TheVariants as domain
 use Rattle.plan_unnesting.specs.declared.domain.Origin.{Origin}
 use Rattle.plan_unnesting.specs.declared.footing.Footing.{Footing}
+use Rattle.plan_unnesting.specs.declared.origins.Known.{Known}
 use Rattle.plan_unnesting.specs.declared.footing.FootingRows.TheVariants.{One, Node as AtNode}
 use Rattle.plan_unnesting.specs.declared.from_rows.Apart.{Apart}
 use Rattle.plan_unnesting.specs.declared.from_rows.Part.{Part}
@@ -77,26 +77,27 @@ kept_same c es xs ys is same d =
     ∙ ap (select (λ t. all_rank es (d ++ t))) same
 
 -- rows with columns of their own for all of the domain's
-pub own_apart : {old new : List Node} {f : Footing} {c read : Expr} {kinds seen_kinds : List (Option Kind)} {notes : List Origin} {own seen : List ℕ} {n id : ℕ} (p : Apart)
+pub own_apart : {old new : List Node} {f : Footing} {c read : Expr} {kinds seen_kinds : List (Option Known)} {notes : List Origin} {own seen : List ℕ} {n id : ℕ} (p : Apart)
     → IsFooting old f.rows → IsTrue (is_formed old) → plan_width old p.rows ≡ p.width → c ≡ e.All p.conditions → AreKindsOf old p.rows kinds → seen_kinds ≡ kinds
-    → n ≡ footing_width f.rows → notes ≡ f.unchanged → StandForAll seen_kinds notes n c own → read ≡ c → seen ≡ own → IsOwn old new p.rows p.width read seen id → LowersApart old new f f p id
+    → n ≡ footing_width f.rows → notes ≡ f.unchanged → StandForAll seen_kinds notes n c own → read ≡ c → seen ≡ own → IsOwn old new p.rows p.width seen_kinds read seen id → LowersApart old new f f p id
 own_apart {old = old} {new = new} {f = f} {c = c} {read = read} {kinds = kinds} {seen_kinds = seen_kinds} {notes = notes} {own = own} {n = n} {id = id} p within formed wide is known ks w noted stand again same put =
-    let here : IsOwn old new p.rows p.width c own id = subst (λ e. IsOwn old new p.rows p.width e own id) again (subst (λ l. IsOwn old new p.rows p.width read l id) same put) in
+    let here : IsOwn old new p.rows p.width kinds c own id =
+    subst (λ l. IsOwn old new p.rows p.width l c own id) ks (subst (λ e. IsOwn old new p.rows p.width seen_kinds e own id) again (subst (λ l. IsOwn old new p.rows p.width seen_kinds read l id) same put)) in
     let stands : StandForAll kinds f.unchanged (footing_width f.rows) c own =
     subst (λ m. StandForAll kinds f.unchanged m c own) w (subst (λ ns. StandForAll kinds ns n c own) noted (subst (λ k. StandForAll k notes n c own) ks stand)) in
     record {
       most = 0;
-      plan = own_grows old new p.rows p.width id c own here;
+      plan = own_grows old new p.rows p.width id kinds c own here;
       few = omega arith;
-      same = same_footing f (own_grows old new p.rows p.width id c own here) within;
-      last = own_last old new p.rows p.width id c own here;
-      width = own_width old new p.rows p.width id c own here ∙ ap (λ k. k + p.width) stands.long;
+      same = same_footing f (own_grows old new p.rows p.width id kinds c own here) within;
+      last = own_last old new p.rows p.width id kinds c own here;
+      width = own_width old new p.rows p.width id kinds c own here ∙ ap (λ k. k + p.width) stands.long;
       answers = λ db h.
           let ds = footing_rows db old f.rows in
           let X = plan_rows db old p.rows in
           let xs = select (rank_of c) (beside_own own X) in
           let all : Answers same_value ds xs (λ d. select (λ t. rank_of c (d ++ t)) X) = own_answers kinds f.unchanged (footing_width f.rows) c own stands ds X h.is_domain h.noted (known.kept db h.kinds) in
-          let kept : plan_rows db new id ≡ xs = own_kept old new p.rows p.width id c own here db (rows_wide db old p.rows p.width formed h.kinds wide) in
+          let kept : plan_rows db new id ≡ xs = own_kept old new p.rows p.width id kinds c own here db (known.kept db h.kinds) (rows_wide db old p.rows p.width formed h.kinds wide) in
           subst (λ l. Answers same_value ds l (apart_rows db old p)) (sym kept)
           (answers_same ds xs (λ d. select (λ t. rank_of c (d ++ t)) X) (apart_rows db old p) (kept_same c p.conditions X X is refl) all);
     }

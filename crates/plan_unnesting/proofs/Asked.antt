@@ -1,7 +1,6 @@
 -- Columns of rows that a condition asks to be equal to a domain's.
-use Rattle.std.proofs.Common.{◌≡◌, ℕ, zero, suc, ◌+◌, ◌<◌, ◌≤◌, ◌⊎◌, List, [], ◌∷◌, true, false, refl, sym, ◌∙◌, ap, subst, arith, inl, inr, length, get_or}
-use Rattle.std.specs.Prelude.{map, max, not, int_lt, pos, IsTrue, Option, Some, None, slice_index_or, ◌==◌, ◌&&◌}
-use Rattle.std.specs.Cmp.Lexicographic.{pointwise}
+use Rattle.std.proofs.Common.{◌≡◌, ℕ, zero, suc, ◌+◌, ◌<◌, ◌≤◌, ◌⊎◌, List, [], ◌∷◌, Bool, true, false, refl, sym, ◌∙◌, ap, subst, arith, inl, inr, length, get_or}
+use Rattle.std.specs.Prelude.{map, max, not, int_lt, pos, IsTrue, Option, Some, None, slice_index_or, ◌==◌, ◌&&◌, ◌||◌}
 use Rattle.std.proofs.lemmas.Bool.{true≢false, eqb-true}
 use Rattle.base_row_laws.specs.Ranked.{Ranked}
 use Rattle.base_row_laws.specs.Bags.{Each}
@@ -22,15 +21,17 @@ use Rattle.expr_conditions.specs.Ranks.{rank_of, all_rank}
 use Rattle.expr_conditions.proofs.Ranks.{rank_All}
 use Rattle.base_schema.specs.declared.column.ColumnKind.{ColumnKind}
 use Rattle.base_schema.specs.declared.column.ColumnKind.TheVariants as column
-use Rattle.base_schema.specs.Kinds.{is_narrow}
+use Rattle.base_schema.specs.declared.column.LineColumn.{LineColumn}
+use Rattle.base_schema.specs.Kinds.{is_narrow, is_of_kind, can_hold, can_hold_row}
 use Rattle.base_schema.proofs.Columns.{may_hold}
 use Rattle.plan_algebra.proofs.Fits.{first_of_both, second_of_both}
 use Rattle.plan_unnesting.specs.declared.domain.Origin.{Origin}
 use Rattle.plan_unnesting.specs.Domains.{is_unchanged, KeepsNotes}
-use Rattle.plan_unnesting.specs.OwnColumns.{stored_as, KeepsKind, AreNoted, columns_equal, IsAskedOf, IsAskedOfAll, StandsFor}
-use Rattle.plan_unnesting.specs.PlanKinds.{known_as, FitsKinds}
+use Rattle.plan_unnesting.specs.OwnColumns.{stored_as, kind_known, KeepsKind, AreNoted, columns_equal, IsAskedOf, IsAskedOfAll, StandsFor}
+use Rattle.plan_unnesting.specs.declared.origins.Known.{Known}
+use Rattle.plan_unnesting.specs.PlanKinds.{known_as, can_stand, FitsKinds}
 
-rank_equal : (a b : ℕ) (row : List Value) → rank_of (e.Compare Equal (e.Column a) (e.Column b)) row ≡ truth_rank (compared Equal (get_or row a Null) (get_or row b Null))
+pub rank_equal : (a b : ℕ) (row : List Value) → rank_of (e.Compare Equal (e.Column a) (e.Column b)) row ≡ truth_rank (compared Equal (get_or row a Null) (get_or row b Null))
 unfolding rank_of
 rank_equal a b row =
     ap truth_rank (truth_Compare Equal (e.Column a) (e.Column b) row)
@@ -57,13 +58,13 @@ equality_says c i j n k x is (inr (p, q)) row =
     omega (arith, r, m)
 
 -- the equality, as the code reads it
-compared_columns : (c first second u v : Expr) (o : Comparison) (i j : ℕ) → c ≡ e.Compare o first second → o ≡ Equal → u ≡ first → u ≡ e.Column i → v ≡ second → v ≡ e.Column j
+pub compared_columns : (c first second u v : Expr) (o : Comparison) (i j : ℕ) → c ≡ e.Compare o first second → o ≡ Equal → u ≡ first → u ≡ e.Column i → v ≡ second → v ≡ e.Column j
     → c ≡ e.Compare Equal (e.Column i) (e.Column j)
 compared_columns c first second u v o i j is same f p g q =
     is ∙ ap (λ d. e.Compare d first second) same ∙ ap (λ z. e.Compare Equal z second) (sym f ∙ p) ∙ ap (e.Compare Equal (e.Column i)) (sym g ∙ q)
 
-pub equality_asks : {ks : List (Option Kind)} {n k : ℕ} {q : Kind} {c first second u v : Expr} {o : Comparison} {i j x : ℕ} → c ≡ e.Compare o first second → o ≡ Equal
-    → u ≡ first → u ≡ e.Column i → v ≡ second → v ≡ e.Column j → ((i ≡ k) × (j ≡ n + x)) ⊎ ((j ≡ k) × (i ≡ n + x)) → slice_index_or ks x None ≡ Some q → IsAskedOf ks n k q c x
+pub equality_asks : {ks : List (Option Known)} {n k : ℕ} {q : Kind} {c first second u v : Expr} {o : Comparison} {i j x : ℕ} → c ≡ e.Compare o first second → o ≡ Equal
+    → u ≡ first → u ≡ e.Column i → v ≡ second → v ≡ e.Column j → ((i ≡ k) × (j ≡ n + x)) ⊎ ((j ≡ k) × (i ≡ n + x)) → kind_known (slice_index_or ks x None) ≡ Some q → IsAskedOf ks n k q c x
 equality_asks {n = n} {k = k} {c = c} {first = first} {second = second} {u = u} {v = v} {o = o} {i = i} {j = j} {x = x} is same f p g q either stored = record {
   stored = stored;
   asks = equality_says c i j n k x (compared_columns c first second u v o i j is same f p g q) either;
@@ -75,7 +76,7 @@ all_rank-at [] i d row h = absurd (omega arith)
 all_rank-at (x ∷ es) zero d row h = omega arith
 all_rank-at (x ∷ es) (suc i) d row h = let ih = all_rank-at es i d row (omega arith) in omega (arith, ih)
 
-pub all_ask : {ks : List (Option Kind)} {n k : ℕ} {q : Kind} (es : List Expr) (i : ℕ) (x : Expr) {b : ℕ} → i < length es → x ≡ get_or es i x → IsAskedOf ks n k q x b
+pub all_ask : {ks : List (Option Known)} {n k : ℕ} {q : Kind} (es : List Expr) (i : ℕ) (x : Expr) {b : ℕ} → i < length es → x ≡ get_or es i x → IsAskedOf ks n k q x b
     → IsAskedOfAll ks n k q es b
 all_ask {n = n} {k = k} es i x {b = b} h is a = record {
   stored = a.stored;
@@ -86,7 +87,7 @@ all_ask {n = n} {k = k} es i x {b = b} h is a = record {
       omega (arith, r, l, m);
 }
 
-pub and_asks : {ks : List (Option Kind)} {n k : ℕ} {q : Kind} {c : Expr} {es seen : List Expr} {b : ℕ} → c ≡ e.All es → seen ≡ es → IsAskedOfAll ks n k q seen b → IsAskedOf ks n k q c b
+pub and_asks : {ks : List (Option Known)} {n k : ℕ} {q : Kind} {c : Expr} {es seen : List Expr} {b : ℕ} → c ≡ e.All es → seen ≡ es → IsAskedOfAll ks n k q seen b → IsAskedOf ks n k q c b
 and_asks {n = n} {k = k} {c = c} {seen = seen} {b = b} is same a = record {
   stored = a.stored;
   asks = λ row.
@@ -96,7 +97,7 @@ and_asks {n = n} {k = k} {c = c} {seen = seen} {b = b} is same a = record {
 }
 
 -- a kind that is noted, and a column that is asked for
-pub stands_for : {ks : List (Option Kind)} {notes : List Origin} {n : ℕ} {c : Expr} {k b : ℕ} {q : Kind} → AreNoted notes k q → IsAskedOf ks n k q c b → StandsFor ks notes n c k b
+pub stands_for : {ks : List (Option Known)} {notes : List Origin} {n : ℕ} {c : Expr} {k b : ℕ} {q : Kind} → AreNoted notes k q → IsAskedOf ks n k q c b → StandsFor ks notes n c k b
 stands_for {q = q} a s = record { kind = q; noted = a; asked = s }
 
 no : {A : Type 0} → false ≡ true → A
@@ -139,15 +140,37 @@ one_kind kind.Date (kind.Number t) h = no h
 one_kind kind.Date kind.Text h = no h
 
 -- a column that is known to be of this kind
-pub is_stored : (ks : List (Option Kind)) (b : ℕ) (j q : Kind) {o : Option Kind} → o ≡ slice_index_or ks b None → o ≡ Some j → same_kind j q ≡ true → slice_index_or ks b None ≡ Some q
-is_stored ks b j q g e h = sym g ∙ e ∙ ap (λ k. Some k) (one_kind j q h)
+pub is_stored : (ks : List (Option Known)) (b : ℕ) (j : Known) (q : Kind) {o : Option Known} → o ≡ slice_index_or ks b None → o ≡ Some j → same_kind j.kind q ≡ true
+    → kind_known (slice_index_or ks b None) ≡ Some q
+is_stored ks b j q g e h = ap kind_known (sym g ∙ e) ∙ ap (λ k. Some k) (one_kind j.kind q h)
 
--- a table's row keeps the kinds of its columns
-pub kinds_fit : (kinds : List ColumnKind) (row : List Value) → IsTrue (pointwise may_hold kinds row) → FitsKinds (map known_as kinds) row
+-- a null stands only in a column that may be null
+null_held : (k : ColumnKind) (nullable : Bool) → IsTrue ((nullable && true) || is_of_kind k Null) → IsTrue nullable
+null_held k true h = refl
+null_held column.Key false h = no h
+null_held column.Whole false h = no h
+null_held column.Decimal false h = no h
+null_held column.Date false h = no h
+null_held (column.Text most) false h = no h
+
+held : (nullable of_kind : Bool) → IsTrue ((nullable && false) || of_kind) → IsTrue of_kind
+held true of_kind h = h
+held false of_kind h = h
+
+-- what a column can hold can stand in it
+stored_stands : (column : LineColumn) (v : Value) → IsTrue (can_hold column v) → IsTrue (can_stand (known_as column) v)
+stored_stands column Null h = null_held column.kind column.nullable h
+stored_stands column (Number s c) h = stored_unchanged column.kind (Number s c) (held column.nullable (is_of_kind column.kind (Number s c)) h)
+stored_stands column (Text t) h = stored_unchanged column.kind (Text t) (held column.nullable (is_of_kind column.kind (Text t)) h)
+stored_stands column (Date d) h = stored_unchanged column.kind (Date d) (held column.nullable (is_of_kind column.kind (Date d)) h)
+stored_stands column (Fault f) h = stored_unchanged column.kind (Fault f) (held column.nullable (is_of_kind column.kind (Fault f)) h)
+
+-- a table's row keeps what is known of its columns
+pub kinds_fit : (cols : List LineColumn) (row : List Value) → IsTrue (can_hold_row cols row) → FitsKinds (map known_as cols) row
 kinds_fit [] row h c = refl
-kinds_fit (k ∷ kinds) [] h c = no h
-kinds_fit (k ∷ kinds) (v ∷ row) h zero = stored_unchanged k v (first_of_both (may_hold k v) (pointwise may_hold kinds row) h)
-kinds_fit (k ∷ kinds) (v ∷ row) h (suc c) = kinds_fit kinds row (second_of_both (may_hold k v) (pointwise may_hold kinds row) h) c
+kinds_fit (k ∷ cols) [] h c = no h
+kinds_fit (k ∷ cols) (v ∷ row) h zero = stored_stands k v (first_of_both (can_hold k v) (can_hold_row cols row) h)
+kinds_fit (k ∷ cols) (v ∷ row) h (suc c) = kinds_fit cols row (second_of_both (can_hold k v) (can_hold_row cols row) h) c
 
 each_at : {X : Type 0} (P : X → Type 0) (xs : List X) (i : ℕ) (d : X) → i < length xs → Each P xs → P (get_or xs i d)
 each_at P [] i d h all = absurd (omega arith)

@@ -13,25 +13,56 @@ use Rattle.base_row_laws.proofs.Lists.{Each-map, Each-filter, Each-weaker, Each-
 use Rattle.base_row_laws.proofs.Nodes.{Each-or_else}
 use Rattle.base_value.specs.declared.value.Value.{Value}
 use Rattle.base_value.specs.declared.value.Value.TheVariants.{Null}
+use Rattle.base_value.specs.declared.value.Value.TheVariants as value
 use Rattle.base_value.specs.Value.{same_value}
 use Rattle.expr_scalar.specs.declared.expr.Expr.{Expr}
 use Rattle.expr_scalar.specs.declared.kind.Kind.{Kind}
 use Rattle.expr_scalar.specs.declared.kind.Kind.TheVariants.{Number, Text, Date}
-use Rattle.expr_scalar.specs.Meaning.{value, values}
+use Rattle.expr_scalar.specs.Meaning.{value as value_of, values}
 use Rattle.expr_scalar.proofs.Opened.{value_Column}
 use Rattle.plan_unnesting.specs.declared.domain.Origin.{Origin}
+use Rattle.plan_unnesting.specs.declared.origins.Known.{Known}
 use Rattle.plan_unnesting.specs.Domains.{is_unchanged, KeepsNotes}
-use Rattle.plan_unnesting.specs.PlanKinds.{ColumnKinds, picked, can_stand, FitsKinds, IsListed, AreListed, AreNotesOf}
+use Rattle.plan_unnesting.specs.PlanKinds.{ColumnKinds, nullable, picked, can_stand, FitsKinds, IsListed, AreListed, AreNotesOf}
 
 -- a row of these kinds
 abbrev pub Fit : ColumnKinds → Ranked Value → Type 0
 Fit ks r = FitsKinds ks r.values
 
-null_stands : (o : Option Kind) → IsTrue (can_stand o Null)
+null_unchanged : (k : Kind) → IsTrue (is_unchanged k Null)
+null_unchanged (Number s) = refl
+null_unchanged Text = refl
+null_unchanged Date = refl
+
+-- what can stand in a column comes unchanged from it
+pub stands_unchanged : (known : Known) (v : Value) → IsTrue (can_stand (Some known) v) → IsTrue (is_unchanged known.kind v)
+stands_unchanged known Null h = null_unchanged known.kind
+stands_unchanged known (value.Number s c) h = h
+stands_unchanged known (value.Text t) h = h
+stands_unchanged known (value.Date d) h = h
+stands_unchanged known (value.Fault f) h = h
+
+-- a null can stand in a column that may be null, and all else as before
+null_stands : (o : Option Known) → IsTrue (can_stand (nullable o) Null)
 null_stands None = refl
-null_stands (Some (Number s)) = refl
-null_stands (Some Text) = refl
-null_stands (Some Date) = refl
+null_stands (Some known) = refl
+
+as_before : (o : Option Known) (v : Value) → IsTrue (can_stand o v) → IsTrue (can_stand (nullable o) v)
+as_before None v h = refl
+as_before (Some known) Null h = refl
+as_before (Some known) (value.Number s c) h = h
+as_before (Some known) (value.Text t) h = h
+as_before (Some known) (value.Date d) h = h
+as_before (Some known) (value.Fault f) h = h
+
+nullable_at : (ks : ColumnKinds) (c : ℕ) → slice_index_or (map nullable ks) c None ≡ nullable (slice_index_or ks c None)
+nullable_at [] c = refl
+nullable_at (k ∷ ks) zero = refl
+nullable_at (k ∷ ks) (suc c) = nullable_at ks c
+
+nullable_fit : (ks : ColumnKinds) (v : List Value) → FitsKinds ks v → FitsKinds (map nullable ks) v
+nullable_fit ks v f c =
+    subst (λ o. IsTrue (can_stand o (slice_index_or v c Null))) (sym (nullable_at ks c)) (as_before (slice_index_or ks c None) (slice_index_or v c Null) (f c))
 
 -- where a column isn't there, no kind of it is known
 pub none_fit : (values : List Value) → FitsKinds [] values
@@ -42,8 +73,10 @@ null_at zero c = refl
 null_at (suc n) zero = refl
 null_at (suc n) (suc c) = null_at n c
 
-nulls_fit : (ks : ColumnKinds) (n : ℕ) → FitsKinds ks (replicate n Null)
-nulls_fit ks n c = subst (λ v. IsTrue (can_stand (slice_index_or ks c None) v)) (sym (null_at n c)) (null_stands (slice_index_or ks c None))
+nulls_fit : (ks : ColumnKinds) (n : ℕ) → FitsKinds (map nullable ks) (replicate n Null)
+nulls_fit ks n c =
+    subst (λ o. IsTrue (can_stand o (slice_index_or (replicate n Null) c Null))) (sym (nullable_at ks c))
+    (subst (λ v. IsTrue (can_stand (nullable (slice_index_or ks c None)) v)) (sym (null_at n c)) (null_stands (slice_index_or ks c None)))
 
 unknown_fit : (n : ℕ) (values : List Value) → FitsKinds (replicate n None) values
 unknown_fit zero values c = refl
@@ -69,11 +102,11 @@ picked_fit ks v [] f c = refl
 picked_fit ks v (j ∷ cs) f zero = f j
 picked_fit ks v (j ∷ cs) f (suc c) = picked_fit ks v cs f c
 
-listed_stands : (ks : ColumnKinds) (v : List Value) (e : Expr) (k : Option Kind) → FitsKinds ks v → IsListed ks e k → IsTrue (can_stand k (value e v))
-listed_stands ks v e k f (inl none) = subst (λ o. IsTrue (can_stand o (value e v))) (sym none) refl
+listed_stands : (ks : ColumnKinds) (v : List Value) (e : Expr) (k : Option Known) → FitsKinds ks v → IsListed ks e k → IsTrue (can_stand k (value_of e v))
+listed_stands ks v e k f (inl none) = subst (λ o. IsTrue (can_stand o (value_of e v))) (sym none) refl
 listed_stands ks v e k f (inr (c, is, same)) =
-    subst (λ o. IsTrue (can_stand o (value e v))) (sym same)
-    (subst (λ x. IsTrue (can_stand (slice_index_or ks c None) x)) (sym (ap (λ y. value y v) is ∙ value_Column c v)) (f c))
+    subst (λ o. IsTrue (can_stand o (value_of e v))) (sym same)
+    (subst (λ x. IsTrue (can_stand (slice_index_or ks c None) x)) (sym (ap (λ y. value_of y v) is ∙ value_Column c v)) (f c))
 
 listed_fit : (ks : ColumnKinds) (v : List Value) (es : List Expr) (new : ColumnKinds) → FitsKinds ks v → AreListed ks es new → FitsKinds new (values es v)
 unfolding values
@@ -128,6 +161,9 @@ unknowns_fit (suc a) b v zero = refl
 unknowns_fit (suc a) b [] (suc c) = unknowns_fit a b [] c
 unknowns_fit (suc a) b (x ∷ v) (suc c) = unknowns_fit a b v c
 
+pub all_unknown : (n : ℕ) (xs : List (Ranked Value)) → Each (Fit (replicate n None)) xs
+all_unknown n xs = Each-all (Fit (replicate n None)) xs (λ x. unknown_fit n x.values)
+
 pub unknown_rows : (a b : ℕ) (xs : List (Ranked Value)) → Each (Fit (replicate a None ++ replicate b None)) xs
 unknown_rows a b xs = Each-all (Fit (replicate a None ++ replicate b None)) xs (λ x. unknowns_fit a b x.values)
 
@@ -148,7 +184,7 @@ group_fits ks n cs A xs all =
     same_length [] v = refl
     same_length (c ∷ cs) v = ap suc (same_length cs v)
 
-module _ (matched : List (ℕ × ℕ)) (ks ms : ColumnKinds) (rest : (y : List Value) → without (right_places matched) y ≡ drop (length matched) y) where
+module _ (matched : List (ℕ × ℕ)) (ks ms : ColumnKinds) (rest_is : (y : List Value) → without (right_places matched) y ≡ drop (length matched) y) where
   abbrev Left : Ranked Value → Type 0
   Left x = FitsKinds ks x.values × (length x.values ≡ length ks)
 
@@ -161,7 +197,20 @@ module _ (matched : List (ℕ × ℕ)) (ks ms : ColumnKinds) (rest : (y : List V
       let z = glue_matched matched x.values y.values in
       keep_fits new z (min (min x.standing y.standing) (c z))
       (beside ks (drop (length matched) ms) x.values (without (right_places matched) y.values) (sym l.1) l.0
-      (subst (FitsKinds (drop (length matched) ms)) (sym (rest y.values)) (rest_fits (length matched) ms y.values f))))
+      (subst (FitsKinds (drop (length matched) ms)) (sym (rest_is y.values)) (rest_fits (length matched) ms y.values f))))
+
+  -- the same where the right row's columns may be null
+  partners_fit : (c : List Value → ℕ) (x : Ranked Value) (ys : List (Ranked Value)) → Left x → Each (Fit ms) ys
+      → Each (Fit (ks ++ map nullable (drop (length matched) ms))) (flat_map (λ y. pair c (glue_matched matched) x y) ys)
+  partners_fit c x ys l all =
+      let rest : ColumnKinds = drop (length matched) ms in
+      let new = ks ++ map nullable rest in
+      Each-flat_map (Fit ms) (Fit new) (λ y. pair c (glue_matched matched) x y) ys all
+      (λ y f.
+      let z = glue_matched matched x.values y.values in
+      keep_fits new z (min (min x.standing y.standing) (c z))
+      (beside ks (map nullable rest) x.values (without (right_places matched) y.values) (sym l.1) l.0
+      (nullable_fit rest (without (right_places matched) y.values) (subst (FitsKinds rest) (sym (rest_is y.values)) (rest_fits (length matched) ms y.values f)))))
 
   matches_fit : (x : List Value) (ys : List (Ranked Value)) → Each (Fit ms) ys → Each (Fit ms) (matches_of same_value Null matched x ys)
   matches_fit x ys all =
@@ -175,15 +224,16 @@ module _ (matched : List (ℕ × ℕ)) (ks ms : ColumnKinds) (rest : (y : List V
 
   -- a left row without a partner has nulls in the place of one
   pub outer_fits : (nulls : ℕ) (c : List Value → ℕ) (xs ys : List (Ranked Value)) → Each Left xs → Each (Fit ms) ys
-      → Each (Fit (ks ++ drop (length matched) ms)) (outer_matched same_value Null matched (replicate nulls Null) c xs ys)
+      → Each (Fit (ks ++ map nullable (drop (length matched) ms))) (outer_matched same_value Null matched (replicate nulls Null) c xs ys)
   outer_fits nulls c xs ys left right =
-      let new = ks ++ drop (length matched) ms in
+      let rest : ColumnKinds = drop (length matched) ms in
+      let new = ks ++ map nullable rest in
       let M : Ranked Value → List (Ranked Value) = λ x. flat_map (λ y. pair c (glue_matched matched) x y) (matches_of same_value Null matched x.values ys) in
       Each-flat_map Left (Fit new) (λ x. or_else (M x) (ranked (x.values ++ replicate nulls Null) x.standing)) xs left
       (λ x l.
       Each-or_else (Fit new) (M x) (ranked (x.values ++ replicate nulls Null) x.standing)
-      (pairs_fit c x (matches_of same_value Null matched x.values ys) l (matches_fit x.values ys right))
-      (beside ks (drop (length matched) ms) x.values (replicate nulls Null) (sym l.1) l.0 (nulls_fit (drop (length matched) ms) nulls)))
+      (partners_fit c x (matches_of same_value Null matched x.values ys) l (matches_fit x.values ys right))
+      (beside ks (map nullable rest) x.values (replicate nulls Null) (sym l.1) l.0 (nulls_fit rest nulls)))
 
 module _ (ks : ColumnKinds) (n : ℕ) where
   abbrev Whole : Ranked Value → Type 0

@@ -13,13 +13,12 @@ use Rattle.base_row_laws.proofs.Lists.{Each-map, Each-weaker, Each-both}
 use Rattle.base_row_laws.proofs.Pairs.{rest_is}
 use Rattle.base_value.specs.declared.value.Value.{Value}
 use Rattle.expr_scalar.specs.declared.expr.Expr.{Expr}
-use Rattle.expr_scalar.specs.declared.kind.Kind.{Kind}
 use Rattle.expr_conditions.specs.Ranks.{rank_of}
 use Rattle.expr_aggregates.specs.Values.{written, value_rank}
 use Rattle.base_schema.specs.declared.table.TableName.{TableName}
 use Rattle.base_schema.specs.Kinds.{RowIsOf}
-use Rattle.base_schema.proofs.Columns.{row_held}
-use Rattle.base_schema.specs.Tables.{kinds_of}
+use Rattle.base_schema.proofs.Columns.{columns_count}
+use Rattle.base_schema.specs.Tables.{columns_of}
 use Rattle.plan_algebra.specs.declared.aggregate.Aggregate.{Aggregate}
 use Rattle.base_set_rows.specs.declared.kind.SetOperation.{SetOperation}
 use Rattle.plan_algebra.specs.declared.node.Node.{Node}
@@ -31,10 +30,11 @@ use Rattle.plan_algebra.proofs.Fits.{first_of_both, second_of_both}
 use Rattle.plan_algebra.proofs.Made.{kept_at, made_at}
 use Rattle.plan_algebra.proofs.Widths.{rows_are_wide}
 use Rattle.plan_unnesting.specs.declared.domain.Origin.{Origin}
-use Rattle.plan_unnesting.specs.PlanKinds.{ColumnKinds, known_as, kinds_at, picked, FitsKinds, AreListed, has_matched, AreMade, AreKindsOf, AreKindsOfFirst, AreNotesOf, AreOrigins}
+use Rattle.plan_unnesting.specs.declared.origins.Known.{Known}
+use Rattle.plan_unnesting.specs.PlanKinds.{ColumnKinds, known_as, nullable, kinds_at, picked, FitsKinds, AreListed, has_matched, AreMade, AreKindsOf, AreKindsOfFirst, AreNotesOf, AreOrigins}
 use Rattle.plan_unnesting.proofs.Asked.{kinds_fit}
 use Rattle.plan_unnesting.proofs.Columns.{right-numbered_from}
-use Rattle.plan_unnesting.proofs.FitKinds.{Fit, select_fits, project_fits, domain_fits, noted_domain, distinct_fits, group_fits, unknown_rows, inner_fits, outer_fits, attach_fits}
+use Rattle.plan_unnesting.proofs.FitKinds.{Fit, select_fits, project_fits, domain_fits, noted_domain, distinct_fits, group_fits, all_unknown, unknown_rows, inner_fits, outer_fits, attach_fits}
 use Rattle.plan_unnesting.proofs.OwnNodes.{each_of_all}
 
 all_fit_at : (before ns : List Node) (i : ℕ) (d : Node) → IsTrue (all_fit before ns) → i < length ns → IsTrue (fits (before ++ take i ns) (get_or ns i d))
@@ -120,8 +120,8 @@ module _ (nodes : List Node) (i : ℕ) (n : Node) (formed : IsTrue (is_formed no
 length-picked : (ks : ColumnKinds) (cs : List ℕ) → length (picked ks cs) ≡ length cs
 length-picked ks cs = length-map cs (λ c. slice_index_or ks c None)
 
-length-unknown : (n : ℕ) → length (replicate {A = Option Kind} n None) ≡ n
-length-unknown n = length-replicate {A = Option Kind} n None
+length-unknown : (n : ℕ) → length (replicate {A = Option Known} n None) ≡ n
+length-unknown n = length-replicate {A = Option Known} n None
 
 listed_long : (ks : ColumnKinds) (es : List Expr) (new : ColumnKinds) → AreListed ks es new → length new ≡ length es
 listed_long ks [] [] a = refl
@@ -139,12 +139,12 @@ rest_drops matched w h y =
     ap (λ places. without places y) (e ∙ sym f) ∙ rest_is (left_places matched) y ∙ ap (λ k. drop k y) l
 
 module _ (nodes : List Node) (i : ℕ) (formed : IsTrue (is_formed nodes)) (within : i < length nodes) where
-  pub scan_kinds : (table : TableName) → node.Scan table ≡ get_or nodes i (node.Scan table) → AreKindsOf nodes i (map known_as (kinds_of table))
+  pub scan_kinds : (table : TableName) → node.Scan table ≡ get_or nodes i (node.Scan table) → AreKindsOf nodes i (map known_as (columns_of table))
   scan_kinds table at =
-      gives nodes i (node.Scan table) formed within at (map known_as (kinds_of table)) (length-map (kinds_of table) known_as)
+      gives nodes i (node.Scan table) formed within at (map known_as (columns_of table)) (length-map (columns_of table) known_as ∙ columns_count table)
       (λ db k.
-      Each-map (Fit (map known_as (kinds_of table))) (λ r. ranked r 5) (db table)
-      (Each-weaker (RowIsOf table) (λ r. FitsKinds (map known_as (kinds_of table)) r) (db table) (λ r h. kinds_fit (kinds_of table) r (row_held table r h)) (each_of_all (RowIsOf table) (db table) (k table))))
+      Each-map (Fit (map known_as (columns_of table))) (λ r. ranked r 5) (db table)
+      (Each-weaker (RowIsOf table) (λ r. FitsKinds (map known_as (columns_of table)) r) (db table) (λ r h. kinds_fit (columns_of table) r h) (each_of_all (RowIsOf table) (db table) (k table))))
 
   module _ (j : ℕ) (ks : ColumnKinds) (a : AreKindsOf nodes j ks) where
     pub select_kinds : (e : Expr) → node.Select j e ≡ get_or nodes i (node.Select j e) → AreKindsOf nodes i ks
@@ -218,15 +218,13 @@ module _ (nodes : List Node) (i : ℕ) (formed : IsTrue (is_formed nodes)) (with
 
     -- unknown ones, as many as the left side has
     pub set_kinds : (right : ℕ) (operation : SetOperation) → node.Set j right operation ≡ get_or nodes i (node.Set j right operation)
-        → AreKindsOf nodes i (replicate (length ks) None ++ replicate 0 None)
+        → AreKindsOf nodes i (replicate (length ks) None)
     unfolding plan_rows plan_width
     set_kinds right operation at =
         let n = node.Set j right operation in let h = (inputs_before nodes i n formed within at).0 in
         let w = long_before nodes i n formed within at j ks h a in
-        gives nodes i n formed within at (replicate (length ks) None ++ replicate 0 None)
-        (length-append (replicate (length ks) None) (replicate 0 None)
-        ∙ (let x = length-unknown (length ks) in let y = length-unknown 0 in omega (arith, w, x, y)))
-        (λ db k. unknown_rows (length ks) 0 _)
+        gives nodes i n formed within at (replicate (length ks) None) (length-unknown (length ks) ∙ w)
+        (λ db k. all_unknown (length ks) _)
 
     module _ (right : ℕ) (ms : ColumnKinds) (b : AreKindsOf nodes right ms) where
       pub join_kinds : (matched : List (ℕ × ℕ)) (e : Expr) → node.Join j right matched e ≡ get_or nodes i (node.Join j right matched e)
@@ -255,7 +253,7 @@ module _ (nodes : List Node) (i : ℕ) (formed : IsTrue (is_formed nodes)) (with
           omega (arith, l, v)
 
       pub outer_kinds : (nulls : ℕ) (matched : List (ℕ × ℕ)) (e : Expr) → node.Outer j right matched nulls e ≡ get_or nodes i (node.Outer j right matched nulls e)
-          → AreKindsOf nodes i (ks ++ drop (length matched) ms)
+          → AreKindsOf nodes i (ks ++ map nullable (drop (length matched) ms))
       unfolding plan_rows plan_width
       outer_kinds nulls matched e at =
           let n = node.Outer j right matched nulls e in let hs = inputs_before nodes i n formed within at in
@@ -266,8 +264,9 @@ module _ (nodes : List Node) (i : ℕ) (formed : IsTrue (is_formed nodes)) (with
           let wide = plan_width (take i nodes) right in
           let first = first_of_both (matches_first wide matched) (wide == length matched + nulls) s in
           let second = eqb-true wide (length matched + nulls) (second_of_both (matches_first wide matched) (wide == length matched + nulls) s) in
-          gives nodes i n formed within at (ks ++ drop (length matched) ms)
-          (length-append ks (drop (length matched) ms) ∙ (let d = length-drop (length matched) ms in omega (arith, w, v, d, second)))
+          let rest : ColumnKinds = drop (length matched) ms in
+          gives nodes i n formed within at (ks ++ map nullable rest)
+          (length-append ks (map nullable rest) ∙ (let d = length-drop (length matched) ms in let m = length-map rest nullable in omega (arith, w, v, d, m, second)))
           (λ db k.
           outer_fits matched ks ms (rest_drops matched wide first) nulls (rank_of e) (plan_rows db (take i nodes) j) (plan_rows db (take i nodes) right)
           (whole_before nodes i n formed within at db j ks h k a) (kept_before nodes i n formed within at db right ms g k b))

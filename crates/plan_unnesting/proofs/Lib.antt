@@ -13,9 +13,11 @@ pub mod Kept
 pub mod KindNodes
 pub mod Turns
 pub mod OwnNodes
+pub mod OwnRows
 pub mod Regrouped
 pub mod Owned
 pub mod Sides
+pub mod StandingRows
 pub mod Steps
 pub mod Whole
 pub mod Wide

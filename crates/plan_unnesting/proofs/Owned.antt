@@ -1,7 +1,7 @@
 -- A right side whose own columns stand for a domain's needs no domain.
 use Rattle.std.proofs.Common.{◌≡◌, ℕ, zero, suc, ◌+◌, ◌≤◌, ◌<◌, ◌⊎◌, List, [], ◌∷◌, ◌++◌, Bool, true, false, cond, refl, sym, ◌∙◌, ap, subst, arith, inl, inr, length, ℤ, ◌&&◌}
 use Rattle.std.proofs.Math.Dec.{ltb}
-use Rattle.std.specs.Prelude.{min, IsTrue, Option, slice_index_or}
+use Rattle.std.specs.Prelude.{min, IsTrue, Option, Some, None, slice_index_or}
 use Rattle.std.specs.Ordering.{int_eq, int_cmp, nat_cmp, is_eq}
 use Rattle.std.specs.Cmp.{unsigned_ties}
 use Rattle.std.specs.Cmp.Lexicographic.{texts_ties}
@@ -35,8 +35,11 @@ use Rattle.expr_scalar.specs.Meaning.{truth}
 use Rattle.expr_conditions.specs.Ranks.{rank_of}
 use Rattle.plan_unnesting.specs.declared.domain.Origin.{Origin}
 use Rattle.plan_unnesting.specs.Domains.{is_unchanged, KeepsNotes}
-use Rattle.plan_unnesting.specs.OwnColumns.{either_equal, StandForAll}
+use Rattle.plan_unnesting.specs.declared.origins.Known.{Known}
+use Rattle.plan_unnesting.specs.OwnColumns.{kind_known, either_equal, StandForAll}
+use Rattle.plan_unnesting.specs.OwnRows.{own_row}
 use Rattle.plan_unnesting.specs.PlanKinds.{can_stand, FitsKinds}
+use Rattle.plan_unnesting.proofs.FitKinds.{stands_unchanged}
 
 no : {A : Type 0} → false ≡ true → A
 no h = absurd (true≢false (sym h))
@@ -129,13 +132,18 @@ Noted n notes e = (length e.values ≡ n) × KeepsNotes notes (e ∷ [])
 
 -- rows, each after its values at these columns
 abbrev pub beside_own : List ℕ → List (Ranked Value) → List (Ranked Value)
-beside_own own ts = project (λ t. columns Null own t ++ t) ts
+beside_own own ts = project (own_row own) ts
+
+-- a value of a column of a kind that is known
+of_known_kind : (o : Option Known) (k : Kind) (v : Value) → kind_known o ≡ Some k → IsTrue (can_stand o v) → IsTrue (is_unchanged k v)
+of_known_kind None k v e h = cc
+of_known_kind (Some known) k v e h = let same : known.kind ≡ k = cc in subst (λ j. IsTrue (is_unchanged j v)) same (stands_unchanged known v h)
 
 -- rows whose columns are of these kinds
-abbrev pub OfKinds : List (Option Kind) → Ranked Value → Type 0
+abbrev pub OfKinds : List (Option Known) → Ranked Value → Type 0
 OfKinds ks t = FitsKinds ks t.values
 
-module _ (ks : List (Option Kind)) (notes : List Origin) (n : ℕ) (c : Expr) (own : List ℕ) (stand : StandForAll ks notes n c own) where
+module _ (ks : List (Option Known)) (notes : List Origin) (n : ℕ) (c : Expr) (own : List ℕ) (stand : StandForAll ks notes n c own) where
   -- a row is dropped under a domain row whose values its own are not
   dropped : (e : Ranked Value) (t : List Value) → Noted n notes e → FitsKinds ks t → identical same_value e.values (columns Null own t) ≡ false → rank_of c (e.values ++ t) ≤ 1
   dropped e t here fit f =
@@ -146,7 +154,7 @@ module _ (ks : List (Option Kind)) (notes : List Origin) (n : ℕ) (c : Expr) (o
       let left : slice_index_or (e.values ++ t) d.0 Null ≡ slice_index_or e.values d.0 Null = get_or_append_left e.values t Null d.0 (let l = d.1 in omega (arith, l, w)) in
       let right : slice_index_or (e.values ++ t) (n + b) Null ≡ slice_index_or t b Null =
       get_or-append_right e.values t n (n + b) Null here.0 (omega arith) ∙ ap (λ j. slice_index_or t j Null) (omega arith) in
-      let stored : IsTrue (is_unchanged s.kind (slice_index_or t b Null)) = subst (λ o. IsTrue (can_stand o (slice_index_or t b Null))) s.asked.stored (fit b) in
+      let stored : IsTrue (is_unchanged s.kind (slice_index_or t b Null)) = of_known_kind (slice_index_or ks b None) s.kind (slice_index_or t b Null) s.asked.stored (fit b) in
       let a : either_equal (slice_index_or e.values d.0 Null) (slice_index_or t b Null) ≤ 1 =
       apart s.kind (slice_index_or e.values d.0 Null) (slice_index_or t b Null) (s.noted.keeps (e ∷ []) here.1).0 stored d.2 in
       let r : rank_of c (e.values ++ t) ≤ either_equal (slice_index_or (e.values ++ t) d.0 Null) (slice_index_or (e.values ++ t) (n + b) Null) = s.asked.asks (e.values ++ t) in

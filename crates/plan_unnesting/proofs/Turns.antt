@@ -13,13 +13,14 @@ use Rattle.expr_scalar.specs.declared.expr.Expr.{Expr}
 use Rattle.expr_scalar.specs.declared.expr.Expr.TheVariants.{Column}
 use Rattle.expr_scalar.specs.Meaning.{value, values}
 use Rattle.expr_scalar.proofs.Opened.{value_Column}
-use Rattle.expr_scalar.specs.declared.kind.Kind.{Kind}
 use Rattle.plan_algebra.specs.declared.node.Node.{Node}
 use Rattle.plan_unnesting.specs.declared.domain.Origin.{Origin}
+use Rattle.plan_unnesting.specs.declared.origins.Known.{Known}
 use Rattle.plan_unnesting.specs.Domains.{is_unchanged}
 use Rattle.plan_unnesting.specs.OwnColumns.{StandsFor, StandForAll}
 use Rattle.plan_unnesting.specs.FromRows.{AreOwn}
 use Rattle.plan_unnesting.specs.PlanKinds.{ColumnKinds, can_stand, IsListed, AreListed, AreKindsOf, AreKindsOfFirst, AreNotesOf}
+use Rattle.plan_unnesting.proofs.FitKinds.{stands_unchanged}
 use Rattle.plan_unnesting.proofs.Wide.{values-append}
 
 -- f of one element more
@@ -38,13 +39,13 @@ pub replicate_put : {X : Type 0} (start : List X) (n : ℕ) (x : X) (all now : L
 replicate_put start n x all now e g =
     g ∙ ap (λ l. l ++ x ∷ []) e ∙ append_assoc start (replicate n x) (x ∷ []) ∙ ap (λ l. start ++ l) (sym (replicate_next n x))
 
-listed_more : (ks : ColumnKinds) (es : List Expr) (new : ColumnKinds) (e : Expr) (k : Option Kind) → AreListed ks es new → IsListed ks e k → AreListed ks (es ++ e ∷ []) (new ++ k ∷ [])
+listed_more : (ks : ColumnKinds) (es : List Expr) (new : ColumnKinds) (e : Expr) (k : Option Known) → AreListed ks es new → IsListed ks e k → AreListed ks (es ++ e ∷ []) (new ++ k ∷ [])
 listed_more ks [] [] e k a l = (l, tt)
 listed_more ks [] (m ∷ new) e k a l = elim a [ ]
 listed_more ks (x ∷ es) [] e k a l = elim a [ ]
 listed_more ks (x ∷ es) (m ∷ new) e k a l = (a.0, listed_more ks es new e k a.1 l)
 
-pub listed_put : (ks : ColumnKinds) (es : List Expr) (i : ℕ) (e : Expr) (k : Option Kind) (all now : ColumnKinds) → i < length es → e ≡ get_or es i e → AreListed ks (take i es) all → IsListed ks e k
+pub listed_put : (ks : ColumnKinds) (es : List Expr) (i : ℕ) (e : Expr) (k : Option Known) (all now : ColumnKinds) → i < length es → e ≡ get_or es i e → AreListed ks (take i es) all → IsListed ks e k
     → now ≡ all ++ k ∷ [] → AreListed ks (take (i + 1) es) now
 listed_put ks es i e k all now h is a l g =
     subst (λ x. AreListed ks x now) (ap (λ y. take i es ++ y ∷ []) is ∙ sym (take_more es i e h)) (subst (AreListed ks (take i es ++ e ∷ [])) (sym g) (listed_more ks (take i es) all e k a l))
@@ -79,14 +80,14 @@ own_put n es i e place all now h is c a g =
     (own_more n place (take i es) all a))
 
 -- columns that stand for the first ones, and one more
-pub record StandSoFar (ks : List (Option Kind)) (notes : List Origin) (n : ℕ) (c : Expr) (count : ℕ) (own : List ℕ) : Type 0 where
+pub record StandSoFar (ks : List (Option Known)) (notes : List Origin) (n : ℕ) (c : Expr) (count : ℕ) (own : List ℕ) : Type 0 where
   pub long : length own ≡ count
   pub each : (k : ℕ) → k < length own → StandsFor ks notes n c k (slice_index_or own k 0)
 
-pub none_stand : (ks : List (Option Kind)) (notes : List Origin) (n : ℕ) (c : Expr) → StandSoFar ks notes n c 0 []
+pub none_stand : (ks : List (Option Known)) (notes : List Origin) (n : ℕ) (c : Expr) → StandSoFar ks notes n c 0 []
 none_stand ks notes n c = record { long = refl; each = λ k h. absurd (omega (arith, h)) }
 
-pub stand_put : (ks : List (Option Kind)) (notes : List Origin) (n : ℕ) (c : Expr) (count : ℕ) (own now : List ℕ) (b : ℕ) → StandSoFar ks notes n c count own → StandsFor ks notes n c count b
+pub stand_put : (ks : List (Option Known)) (notes : List Origin) (n : ℕ) (c : Expr) (count : ℕ) (own now : List ℕ) (b : ℕ) → StandSoFar ks notes n c count own → StandsFor ks notes n c count b
     → now ≡ own ++ b ∷ [] → StandSoFar ks notes n c (count + 1) now
 stand_put ks notes n c count own now b s f e = subst (StandSoFar ks notes n c (count + 1)) (sym e) (record {
   long = length-append own (b ∷ []) ∙ ap (λ k. k + 1) s.long;
@@ -103,7 +104,7 @@ stand_put ks notes n c count own now b s f e = subst (StandSoFar ks notes n c (c
     split : (k m : ℕ) → k < m + 1 → (k < m) ⊎ (k ≡ m)
     split k m h = elim (cases_lt k m) [ inl l ↦ inl l | inr l ↦ inr (omega (arith, h, l)) ]
 
-pub all_stand : (ks : List (Option Kind)) (notes : List Origin) (n : ℕ) (c : Expr) (count : ℕ) (own : List ℕ) → count ≡ n → StandSoFar ks notes n c count own → StandForAll ks notes n c own
+pub all_stand : (ks : List (Option Known)) (notes : List Origin) (n : ℕ) (c : Expr) (count : ℕ) (own : List ℕ) → count ≡ n → StandSoFar ks notes n c count own → StandForAll ks notes n c own
 all_stand ks notes n c count own e s = record { long = s.long ∙ e; each = s.each }
 
 -- the kinds of one node more
@@ -124,7 +125,7 @@ kinds_put nodes n kinds now ks a k e = subst (AreKindsOfFirst nodes (n + 1)) (sy
 })
 
 -- notes of one column more
-columns_at : (cs : List ℕ) (i c : ℕ) (v : List Value) → i < length cs → c ≡ slice_index_or cs i 0 → slice_index_or (columns Null cs v) i Null ≡ slice_index_or v c Null
+pub columns_at : (cs : List ℕ) (i c : ℕ) (v : List Value) → i < length cs → c ≡ slice_index_or cs i 0 → slice_index_or (columns Null cs v) i Null ≡ slice_index_or v c Null
 columns_at [] i c v h is = absurd (omega (arith, h))
 columns_at (x ∷ cs) zero c v h is = ap (λ k. slice_index_or v k Null) (sym is)
 columns_at (x ∷ cs) (suc i) c v h is = columns_at cs i c v (omega (arith, h)) is
@@ -136,16 +137,16 @@ each_push P (y ∷ xs) x all p = (all.0, each_push P xs x all.1 p)
 pub no_notes_of : (ks : ColumnKinds) (cs : List ℕ) → AreNotesOf ks cs []
 no_notes_of ks cs = record { holds = λ v f. tt }
 
-pub note_put : {ks : ColumnKinds} {cs : List ℕ} {i c j : ℕ} {k : Kind} {notes now : List Origin} (note : Origin) → i < length cs → c ≡ slice_index_or cs i 0 → AreNotesOf ks cs notes
-    → Some k ≡ slice_index_or ks c None → j ≡ i → note.column ≡ j → note.kind ≡ k → now ≡ notes ++ note ∷ [] → AreNotesOf ks cs now
+pub note_put : {ks : ColumnKinds} {cs : List ℕ} {i c j : ℕ} {k : Known} {notes now : List Origin} (note : Origin) → i < length cs → c ≡ slice_index_or cs i 0 → AreNotesOf ks cs notes
+    → Some k ≡ slice_index_or ks c None → j ≡ i → note.column ≡ j → note.kind ≡ k.kind → now ≡ notes ++ note ∷ [] → AreNotesOf ks cs now
 note_put {ks = ks} {cs = cs} {i = i} {c = c} {k = k} {notes = notes} note h is a known same at kind e = subst (AreNotesOf ks cs) (sym e) (record {
   holds = λ v f.
       let P : Origin → Type 0 = λ n. IsTrue (is_unchanged n.kind (slice_index_or (columns Null cs v) n.column Null)) in
-      let fit : IsTrue (is_unchanged k (slice_index_or v c Null)) = subst (λ o. IsTrue (can_stand o (slice_index_or v c Null))) (sym known) (f c) in
+      let fit : IsTrue (is_unchanged k.kind (slice_index_or v c Null)) = stands_unchanged k (slice_index_or v c Null) (subst (λ o. IsTrue (can_stand o (slice_index_or v c Null))) (sym known) (f c)) in
       each_push P notes note (a.holds v f)
       (subst (λ q. IsTrue (is_unchanged q (slice_index_or (columns Null cs v) note.column Null))) (sym kind)
-      (subst (λ m. IsTrue (is_unchanged k (slice_index_or (columns Null cs v) m Null))) (sym (at ∙ same))
-      (subst (λ u. IsTrue (is_unchanged k u)) (sym (columns_at cs i c v h is)) fit)));
+      (subst (λ m. IsTrue (is_unchanged k.kind (slice_index_or (columns Null cs v) m Null))) (sym (at ∙ same))
+      (subst (λ u. IsTrue (is_unchanged k.kind u)) (sym (columns_at cs i c v h is)) fit)));
 })
 
 -- a column that isn't there has no known kind

@@ -4,5 +4,6 @@ pub mod FromRows
 pub mod Growth
 pub mod Lowerings
 pub mod OwnColumns
+pub mod OwnRows
 pub mod PlanKinds
 pub mod WorkedRows

@@ -33,6 +33,8 @@ use Rattle.plan_unnesting.specs.Footings.{footing_width, footing_rows, is_due, I
 use Rattle.plan_unnesting.specs.Footings.{FootingHolds, SameFooting}
 use Rattle.plan_unnesting.specs.Growth.{Grows, IsPut}
 use Rattle.plan_unnesting.specs.OwnColumns.{with_own}
+use Rattle.plan_unnesting.specs.OwnRows.{AreAsked}
+use Rattle.plan_unnesting.specs.PlanKinds.{ColumnKinds}
 
 -- Unnesting. Let T be any dependent tree, of any depth, and D the rows of a domain whose columns
 -- hold what T uses freely.
@@ -164,14 +166,25 @@ IsTotal old new rows aggregates One id = IsPut old new (Group rows [] aggregates
 IsTotal old new rows aggregates (AtNode d width) id =
     IsFilled old new rows aggregates d width id
 
--- The plan grew by rows of the node `rows`, of w columns: its columns `own` before all of its
--- columns, and those of these rows that a condition keeps. It reads the rows' own columns in the
--- place of a domain's.
-abbrev pub IsOwn : (old new : List Node) → (rows w : ℕ) → Expr → List ℕ → ℕ → Type 0
-IsOwn old new rows w c own id =
-    IsPut (old ++ Project rows (map Column (with_own own w)) ∷ []) new (Select (length old) c) id
+-- the plan grew by the rows of the node `rows` that conditions keep; by nothing where there are no
+-- conditions
+abbrev pub IsKept : (old new : List Node) → (rows : ℕ) → List Expr → ℕ → Type 0
+IsKept old new rows conditions id =
+    ((conditions ≡ []) × (new ≡ old) × (id ≡ rows))
+    ⊎ IsPut old new (Select rows (All conditions)) id
+
+-- The plan grew by rows of the node `rows`, of w columns of these kinds: its columns `own` before
+-- all of its columns, and those of these rows that a condition keeps. It reads the rows' own columns
+-- in the place of a domain's.
+pub record IsOwn (old new : List Node) (rows w : ℕ) (ks : ColumnKinds) (c : Expr) (own : List ℕ)
+    (id : ℕ) : Type 0 where
+  pub conditions : List Expr
+  pub asked : AreAsked ks own c conditions
+  pub put : IsKept (old ++ Project rows (map Column (with_own own w)) ∷ []) new (length old)
+      conditions id
 
 -- the same of the rows of a table, by a scan of it
-abbrev pub IsOwnSelection : (old new : List Node) → TableName → Expr → List ℕ → ℕ → Type 0
-IsOwnSelection old new table c own id =
-    IsOwn (old ++ Scan table ∷ []) new (length old) (length (kinds_of table)) c own id
+abbrev pub IsOwnSelection : (old new : List Node) → TableName → ColumnKinds → Expr → List ℕ → ℕ
+    → Type 0
+IsOwnSelection old new table ks c own id =
+    IsOwn (old ++ Scan table ∷ []) new (length old) (length (kinds_of table)) ks c own id

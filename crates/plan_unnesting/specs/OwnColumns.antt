@@ -17,6 +17,7 @@ use Rattle.base_schema.specs.declared.column.ColumnKind.{ColumnKind}
 use Rattle.base_schema.specs.declared.column.ColumnKind.TheVariants.{Key, Whole, Decimal, Date}
 use Rattle.base_schema.specs.declared.column.ColumnKind.TheVariants.{Text}
 use Rattle.plan_unnesting.specs.declared.domain.Origin.{Origin}
+use Rattle.plan_unnesting.specs.declared.origins.Known.{Known}
 use Rattle.plan_unnesting.specs.Domains.{is_unchanged, KeepsNotes}
 
 -- the kind of a stored column's values
@@ -26,6 +27,11 @@ stored_as Whole = kind.Number 0
 stored_as Decimal = kind.Number 2
 stored_as Date = kind.Date
 stored_as (Text most) = kind.Text
+
+-- the kind of a column's values, where the column is known
+abbrev pub kind_known : Option Known → Option Kind
+kind_known None = None
+kind_known (Some known) = Some known.kind
 
 -- in the rows the column k holds only nulls and values of that kind and scale
 abbrev pub KeepsKind : Kind → ℕ → List (Ranked Value) → Type 0
@@ -47,27 +53,27 @@ columns_equal i j row = either_equal (slice_index_or row i Null) (slice_index_or
 -- The column b of rows whose columns have these kinds, which is of that kind, is asked to be equal
 -- to the column k of a domain of n columns: a condition over a row of both is at most what their
 -- equality says.
-pub record IsAskedOf (ks : List (Option Kind)) (n k : ℕ) (kind : Kind) (c : Expr) (b : ℕ)
+pub record IsAskedOf (ks : List (Option Known)) (n k : ℕ) (kind : Kind) (c : Expr) (b : ℕ)
     : Type 0 where
-  pub stored : slice_index_or ks b None ≡ Some kind
+  pub stored : kind_known (slice_index_or ks b None) ≡ Some kind
   pub asks : (row : List Value) → rank_of c row ≤ columns_equal k (n + b) row
 
 -- the same of an AND of conditions
-pub record IsAskedOfAll (ks : List (Option Kind)) (n k : ℕ) (kind : Kind) (es : List Expr) (b : ℕ)
+pub record IsAskedOfAll (ks : List (Option Known)) (n k : ℕ) (kind : Kind) (es : List Expr) (b : ℕ)
     : Type 0 where
-  pub stored : slice_index_or ks b None ≡ Some kind
+  pub stored : kind_known (slice_index_or ks b None) ≡ Some kind
   pub asks : (row : List Value) → all_rank es row ≤ columns_equal k (n + b) row
 
 -- The column b of rows stands for the column k of a domain of n columns: a condition over a row of
 -- both asks that they are equal, and both hold only nulls and values of one kind and scale.
-pub record StandsFor (ks : List (Option Kind)) (notes : List Origin) (n : ℕ) (c : Expr)
+pub record StandsFor (ks : List (Option Known)) (notes : List Origin) (n : ℕ) (c : Expr)
     (k b : ℕ) : Type 0 where
   pub kind : Kind
   pub noted : AreNoted notes k kind
   pub asked : IsAskedOf ks n k kind c b
 
 -- such columns for each of the domain's columns
-pub record StandForAll (ks : List (Option Kind)) (notes : List Origin) (n : ℕ) (c : Expr)
+pub record StandForAll (ks : List (Option Known)) (notes : List Origin) (n : ℕ) (c : Expr)
     (own : List ℕ) : Type 0 where
   pub long : length own ≡ n
   pub each : (k : ℕ) → k < length own → StandsFor ks notes n c k (slice_index_or own k 0)

@@ -4,7 +4,7 @@
 //! it.
 use crate::domain::Origin;
 use crate::footing::Footing;
-use crate::origins::{joined_kinds, known_kinds, put_unknown};
+use crate::origins::{Known, joined_kinds, known_kinds, unknown_kinds};
 use crate::own_columns::{Sought, equal_column, noted_kind};
 use expr_operators::Comparison;
 use expr_scalar::{Expr, Kind};
@@ -142,10 +142,10 @@ fn is_asked(tree: &DepTree, sought: &Sought, k: u32, kind: &Kind) -> bool {
 }
 
 // The kinds of a tree's columns, as far as these come unchanged from a table.
-fn tree_kinds(alloc: Global, tree: &DepTree) -> Result<Items<Option<Kind>>, AllocError> {
+fn tree_kinds(alloc: Global, tree: &DepTree) -> Result<Items<Option<Known>>, AllocError> {
     match tree {
         DepTree::Scan(table) => {
-            let own = known_kinds(alloc, table.kinds())?;
+            let own = known_kinds(alloc, *table)?;
             Ok(own)
         }
         DepTree::Select(t, _) => {
@@ -160,8 +160,7 @@ fn tree_kinds(alloc: Global, tree: &DepTree) -> Result<Items<Option<Kind>>, Allo
         }
         _ => {
             let count = width(tree)?;
-            let mut own = Items::new(alloc);
-            put_unknown(&mut own, count as usize)?;
+            let own = unknown_kinds(alloc, count as usize)?;
             Ok(own)
         }
     }

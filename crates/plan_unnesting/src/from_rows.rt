@@ -28,7 +28,8 @@ use crate::domain::DomainRows;
 use crate::footing::Footing;
 use crate::origins::column_kinds;
 use crate::own_columns::own_columns;
-use crate::put::{put_combinations, put_outer, put_own, put_select};
+use crate::own_rows::put_own;
+use crate::put::{put_combinations, put_outer, put_select};
 use base_schema::TableName;
 use expr_conditions::{Parted, in_parts, put_condition, put_run};
 use expr_scalar::Expr;
@@ -382,8 +383,17 @@ pub(crate) fn put_whole(
     let kinds = column_kinds(alloc, builder.nodes.as_slice(), rows)?;
     let n = footing.width()?;
     let notes = footing.unchanged.as_slice();
-    if let Some(own) = own_columns(alloc, condition.get(), kinds.as_slice(), n, notes)? {
-        let id = put_own(alloc, builder, rows, width, condition.get(), own.as_slice())?;
+    let known = kinds.as_slice();
+    if let Some(own) = own_columns(alloc, condition.get(), known, n, notes)? {
+        let id = put_own(
+            alloc,
+            builder,
+            rows,
+            width,
+            condition.get(),
+            known,
+            own.as_slice(),
+        )?;
         return Ok(id);
     }
     let domain = footing.settled(alloc, builder)?;

@@ -11,6 +11,7 @@ mod lists;
 mod lowering;
 mod origins;
 mod own_columns;
+mod own_rows;
 mod put;
 mod worked;
 

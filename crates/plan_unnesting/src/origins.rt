@@ -1,19 +1,29 @@
-//! Which columns of a plan's nodes come unchanged from a table.
+//! Which columns of a plan's nodes come unchanged from a table, and whether they may be null.
 ghost use Rattle.std.specs.Prelude.{◌≡◌, ◌+◌, ◌<◌, ◌++◌, length, map, replicate, None, slice_index_or};
 ghost use Rattle.std.specs.Prelude.{nat_lt, IfOk, OnOk, IsTrue};
 ghost use Rattle.std.specs.List.{list_all};
+ghost use Rattle.base_schema.specs.Tables.{columns_of};
 ghost use Rattle.plan_algebra.specs.Plans.{inputs_of, is_formed};
-ghost use Rattle.plan_unnesting.specs.PlanKinds.{known_as, kinds_at, picked, has_matched};
+ghost use Rattle.plan_unnesting.specs.PlanKinds.{known_as, nullable, kinds_at, picked, has_matched};
 ghost use Rattle.plan_unnesting.specs.PlanKinds.{IsListed, AreListed, AreMade, AreKindsOfFirst};
 ghost use Rattle.plan_unnesting.specs.PlanKinds.{AreOrigins, AreNotesOf, AreKindsOf};
 
 use crate::domain::Origin;
 use crate::own_columns::stored_kind;
-use base_schema::ColumnKind;
+use base_schema::{LineColumn, TableName};
 use expr_scalar::{Expr, Kind};
 use plan_algebra::{Node, NodeId};
 use sqlite_items::{Items, at};
 use std::alloc::{AllocError, Global};
+
+/// What is known of a column that comes unchanged from a table.
+#[derive(Clone, Copy)]
+pub(crate) struct Known {
+    /// The kind of its values.
+    pub(crate) kind: Kind,
+    /// Whether it may be null.
+    pub(crate) may_be_null: bool,
+}
 
 // Notes of those of a node's columns that come unchanged from a table. The i-th note is of the i-th
 // of these columns.
@@ -39,7 +49,7 @@ pub(crate) fn column_kinds(
     alloc: Global,
     nodes: &[Node],
     id: NodeId,
-) -> Result<Items<Option<Kind>>, AllocError>
+) -> Result<Items<Option<Known>>, AllocError>
     requires formed { IsTrue (is_formed nodes.now) }
     requires id { id < length nodes.now }
     ensures { IfOk result (AreKindsOf nodes.now id) }
@@ -52,7 +62,7 @@ pub(crate) fn column_kinds(
 // Notes of these columns, as far as their kinds are known.
 fn notes_of(
     alloc: Global,
-    kinds: &[Option<Kind>],
+    kinds: &[Option<Known>],
     columns: &[u32],
 ) -> Result<Items<Origin>, AllocError>
     ensures { IfOk result (AreNotesOf kinds.now columns.now) }
@@ -67,7 +77,7 @@ fn notes_of(
 // Puts a note of the i-th of these columns after the others, where its kind is known.
 fn put_note(
     notes: &mut Items<Origin>,
-    kinds: &[Option<Kind>],
+    kinds: &[Option<Known>],
     columns: &[u32],
     i: usize,
 ) -> Result<(), AllocError>
@@ -75,26 +85,27 @@ fn put_note(
     requires notes { AreNotesOf kinds.now columns.now notes.old }
     ensures { OnOk result (AreNotesOf kinds.now columns.now notes.new) }
 {
-    let Some(kind) = kind_at(kinds, columns[i]) else {
+    let Some(known) = known_at(kinds, columns[i]) else {
         return Ok(());
     };
     let column = u32::try_from(i).map_err(|_| AllocError)?;
+    let kind = known.kind;
     notes.push(Origin { column, kind })?;
     Ok(())
 }
 
 /// The kind of a column, where it is there and known.
-pub(crate) fn kind_at(kinds: &[Option<Kind>], column: u32) -> Option<Kind>
+pub(crate) fn known_at(kinds: &[Option<Known>], column: u32) -> Option<Known>
     ensures { result ≡ slice_index_or kinds.now column None }
 {
     match at(kinds, column as usize) {
-        Some(kind) => *kind,
+        Some(known) => *known,
         None => None,
     }
 }
 
 // The kinds of the columns of each node.
-fn plan_kinds(alloc: Global, nodes: &[Node]) -> Result<Vec<Items<Option<Kind>>>, AllocError>
+fn plan_kinds(alloc: Global, nodes: &[Node]) -> Result<Vec<Items<Option<Known>>>, AllocError>
     requires { IsTrue (is_formed nodes.now) }
     ensures { IfOk result (λ kinds. AreKindsOfFirst nodes.now (length nodes.now) kinds.items) }
 {
@@ -110,7 +121,7 @@ fn put_kinds(
     alloc: Global,
     nodes: &[Node],
     i: usize,
-    kinds: &mut Vec<Items<Option<Kind>>>,
+    kinds: &mut Vec<Items<Option<Known>>>,
 ) -> Result<(), AllocError>
     requires formed { IsTrue (is_formed nodes.now) }
     requires within { i < length nodes.now }
@@ -126,15 +137,15 @@ fn put_kinds(
 fn node_kinds(
     alloc: Global,
     node: &Node,
-    kinds: &[Items<Option<Kind>>],
-) -> Result<Items<Option<Kind>>, AllocError>
+    kinds: &[Items<Option<Known>>],
+) -> Result<Items<Option<Known>>, AllocError>
     requires inputs { IsTrue (list_all (λ i. nat_lt i (length kinds.now)) (inputs_of node.now)) }
     requires matched { IsTrue (has_matched kinds.now node.now) }
     ensures { IfOk result (AreMade kinds.now node.now) }
 {
     match node {
         Node::Scan(table) => {
-            let own = known_kinds(alloc, table.kinds())?;
+            let own = known_kinds(alloc, *table)?;
             Ok(own)
         }
         Node::Select(rows, _) | Node::Distinct(rows) => {
@@ -154,9 +165,15 @@ fn node_kinds(
             let own = padded_kinds(alloc, keys.as_slice(), aggregates.len())?;
             Ok(own)
         }
-        Node::Join(left, right, matched, _) | Node::Outer(left, right, matched, _, _) => {
+        Node::Join(left, right, matched, _) => {
             let rest = &kinds_at(kinds, *right)[matched.len()..];
             let own = joined_kinds(alloc, kinds_at(kinds, *left), rest)?;
+            Ok(own)
+        }
+        Node::Outer(left, right, matched, _, _) => {
+            let rest = &kinds_at(kinds, *right)[matched.len()..];
+            let filled = nullable_kinds(alloc, rest)?;
+            let own = joined_kinds(alloc, kinds_at(kinds, *left), filled.as_slice())?;
             Ok(own)
         }
         Node::Mark(left, _, _, _) | Node::Single(left, _, _, _) => {
@@ -164,44 +181,84 @@ fn node_kinds(
             Ok(own)
         }
         Node::Set(left, _, _) => {
-            let own = unknown_kinds(alloc, kinds_at(kinds, *left).len(), 0)?;
+            let own = unknown_kinds(alloc, kinds_at(kinds, *left).len())?;
             Ok(own)
         }
         Node::Fill(_, rows, empty) => {
-            let own = unknown_kinds(alloc, kinds_at(kinds, *rows).len(), empty.len())?;
+            let filled = unknown_kinds(alloc, kinds_at(kinds, *rows).len())?;
+            let own = padded_kinds(alloc, filled.as_slice(), empty.len())?;
             Ok(own)
         }
     }
 }
 
 // The kinds of the columns of the node of this number.
-fn kinds_at(kinds: &[Items<Option<Kind>>], id: NodeId) -> &[Option<Kind>]
+fn kinds_at(kinds: &[Items<Option<Known>>], id: NodeId) -> &[Option<Known>]
     requires { id < length kinds.now }
     ensures { result.now ≡ kinds_at kinds.now id }
 {
     kinds[id].as_slice()
 }
 
-/// The kinds of a table's columns.
+/// What is known of a table's columns.
 pub(crate) fn known_kinds(
     alloc: Global,
-    kinds: &[ColumnKind],
-) -> Result<Items<Option<Kind>>, AllocError>
-    ensures { IfOk result (λ own. own ≡ map known_as kinds.now) }
+    table: TableName,
+) -> Result<Items<Option<Known>>, AllocError>
+    ensures { IfOk result (λ own. own ≡ map known_as (columns_of table)) }
+{
+    let columns = table.columns(alloc)?;
+    let own = stored_kinds(alloc, columns.as_slice())?;
+    Ok(own)
+}
+
+// What is known of stored columns.
+fn stored_kinds(alloc: Global, columns: &[LineColumn]) -> Result<Items<Option<Known>>, AllocError>
+    ensures { IfOk result (λ own. own ≡ map known_as columns.now) }
 {
     let mut own = Items::new(alloc);
-    for kind in kinds {
-        own.push(Some(stored_kind(*kind)))?;
+    for column in columns {
+        let kind = stored_kind(column.kind);
+        let may_be_null = column.nullable;
+        own.push(Some(Known { kind, may_be_null }))?;
+    }
+    Ok(own)
+}
+
+// The same of a column that may be null, whatever it was before.
+fn as_nullable(known: Option<Known>) -> Option<Known>
+    ensures { result ≡ nullable known }
+{
+    match known {
+        Some(known) => {
+            let kind = known.kind;
+            let may_be_null = true;
+            Some(Known { kind, may_be_null })
+        }
+        None => None,
+    }
+}
+
+// The kinds of columns that may be null.
+fn nullable_kinds(
+    alloc: Global,
+    kinds: &[Option<Known>],
+) -> Result<Items<Option<Known>>, AllocError>
+    ensures { IfOk result (λ own. own ≡ map nullable kinds.now) }
+{
+    let mut own = Items::new(alloc);
+    for known in kinds {
+        own.push(as_nullable(*known))?;
     }
     Ok(own)
 }
 
 // The kind of an expression's values, where it is a column.
-fn listed_kind(kinds: &[Option<Kind>], e: &Expr) -> Option<Kind>
+fn listed_kind(kinds: &[Option<Known>], e: &Expr) -> Option<Known>
     ensures { IsListed kinds.now e.now result }
 {
     match e {
-        Expr::Column(column) => kind_at(kinds, *column),
+        Expr::Column(column) => known_at(kinds, *column),
         _ => None,
     }
 }
@@ -209,9 +266,9 @@ fn listed_kind(kinds: &[Option<Kind>], e: &Expr) -> Option<Kind>
 // The kinds of a select list.
 fn listed_kinds(
     alloc: Global,
-    kinds: &[Option<Kind>],
+    kinds: &[Option<Known>],
     es: &[Expr],
-) -> Result<Items<Option<Kind>>, AllocError>
+) -> Result<Items<Option<Known>>, AllocError>
     ensures { IfOk result (AreListed kinds.now es.now) }
 {
     let mut own = Items::new(alloc);
@@ -221,27 +278,25 @@ fn listed_kinds(
     Ok(own)
 }
 
-/// Puts `count` columns of unknown kinds after the others.
-pub(crate) fn put_unknown(to: &mut Items<Option<Kind>>, count: usize) -> Result<(), AllocError>
-    ensures { OnOk result (to.new ≡ to.old ++ replicate count None) }
+/// As many columns of unknown kinds.
+pub(crate) fn unknown_kinds(alloc: Global, count: usize) -> Result<Items<Option<Known>>, AllocError>
+    ensures { IfOk result (λ own. own ≡ replicate count None) }
 {
-    for _i in 0..count {
-        to.push(None)?;
-    }
-    Ok(())
+    let own = padded_kinds(alloc, &[], count)?;
+    Ok(own)
 }
 
 // The kinds of these columns.
 fn picked_kinds(
     alloc: Global,
-    kinds: &[Option<Kind>],
+    kinds: &[Option<Known>],
     columns: &[u32],
-) -> Result<Items<Option<Kind>>, AllocError>
+) -> Result<Items<Option<Known>>, AllocError>
     ensures { IfOk result (λ own. own ≡ picked kinds.now columns.now) }
 {
     let mut own = Items::new(alloc);
     for column in columns {
-        own.push(kind_at(kinds, *column))?;
+        own.push(known_at(kinds, *column))?;
     }
     Ok(own)
 }
@@ -249,9 +304,9 @@ fn picked_kinds(
 /// The kinds of two rows beside one another.
 pub(crate) fn joined_kinds(
     alloc: Global,
-    left: &[Option<Kind>],
-    right: &[Option<Kind>],
-) -> Result<Items<Option<Kind>>, AllocError>
+    left: &[Option<Known>],
+    right: &[Option<Known>],
+) -> Result<Items<Option<Known>>, AllocError>
     ensures { IfOk result (λ own. own ≡ left.now ++ right.now) }
 {
     let mut own = Items::from_slice(alloc, left)?;
@@ -263,22 +318,14 @@ pub(crate) fn joined_kinds(
 // These kinds, and `more` unknown ones after them.
 fn padded_kinds(
     alloc: Global,
-    kinds: &[Option<Kind>],
+    kinds: &[Option<Known>],
     more: usize,
-) -> Result<Items<Option<Kind>>, AllocError>
+) -> Result<Items<Option<Known>>, AllocError>
     ensures { IfOk result (λ own. own ≡ kinds.now ++ replicate more None) }
 {
     let mut own = Items::from_slice(alloc, kinds)?;
-    put_unknown(&mut own, more)?;
-    Ok(own)
-}
-
-// Unknown kinds alone.
-fn unknown_kinds(alloc: Global, some: usize, more: usize) -> Result<Items<Option<Kind>>, AllocError>
-    ensures { IfOk result (λ own. own ≡ replicate some None ++ replicate more None) }
-{
-    let mut own = Items::new(alloc);
-    put_unknown(&mut own, some)?;
-    put_unknown(&mut own, more)?;
+    for _i in 0..more {
+        own.push(None)?;
+    }
     Ok(own)
 }

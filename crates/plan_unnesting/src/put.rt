@@ -15,8 +15,6 @@ ghost use Rattle.plan_unnesting.specs.PlanKinds.{AreOrigins};
 ghost use Rattle.plan_unnesting.specs.Lowerings.{
   IsScanned,
   IsSelection,
-  IsOwnSelection,
-  IsOwn,
   IsFilled,
   IsTotal,
   IsOwnFooting,
@@ -25,11 +23,10 @@ ghost use Rattle.plan_unnesting.specs.Lowerings.{
 
 use crate::domain::{DomainRows, Origin};
 use crate::footing::{Footing, FootingRows};
-use crate::lists::{
-    column_list, first_columns, matched_columns, own_and_all, select_list, with_first_columns,
-};
+use crate::lists::{first_columns, matched_columns, select_list, with_first_columns};
 use crate::origins::{known_kinds, origins};
 use crate::own_columns::own_columns;
+use crate::own_rows::put_own_selection;
 use base_schema::TableName;
 use base_set_rows::SetOperation;
 use expr_scalar::Expr;
@@ -133,55 +130,15 @@ pub(crate) fn put_selection(
     let width = footing.width()?;
     if width > 0 {
         let notes = footing.unchanged.as_slice();
-        let kinds = known_kinds(alloc, table.kinds())?;
-        if let Some(own) = own_columns(alloc, condition, kinds.as_slice(), width, notes)? {
-            let id = put_own_selection(alloc, builder, table, condition, own.as_slice())?;
+        let kinds = known_kinds(alloc, table)?;
+        let known = kinds.as_slice();
+        if let Some(own) = own_columns(alloc, condition, known, width, notes)? {
+            let id = put_own_selection(alloc, builder, table, condition, known, own.as_slice())?;
             return Ok(id);
         }
     }
     let domain = footing.settled(alloc, builder)?;
     let id = put_table_selection(alloc, builder, table, condition, domain)?;
-    Ok(id)
-}
-
-// The rows of a table, these of its columns before all of them, that a condition keeps.
-#[tactic(auto, using(plan_algebra::proofs::Fits::scan_fits))]
-fn put_own_selection(
-    alloc: Global,
-    builder: &mut Builder,
-    table: TableName,
-    condition: &Expr,
-    own: &[u32],
-) -> Result<NodeId, AllocError>
-    ensures { IfOk result
-        (IsOwnSelection builder.old.nodes builder.new.nodes table condition.now own.now) }
-{
-    let width = u32::try_from(table.kinds().len()).map_err(|_| AllocError)?;
-    let rows = builder.put(Node::Scan(table))?;
-    let id = put_own(alloc, builder, rows, width, condition, own)?;
-    Ok(id)
-}
-
-/// The rows of a node of this width, these of its columns before all of them, that a condition
-/// keeps: it reads them in the place of a domain's. The columns are only shared before the condition
-/// is asked.
-pub(crate) fn put_own(
-    alloc: Global,
-    builder: &mut Builder,
-    rows: NodeId,
-    width: u32,
-    condition: &Expr,
-    own: &[u32],
-) -> Result<NodeId, AllocError>
-    requires { rows < length builder.old.nodes }
-    ensures { IfOk result
-        (IsOwn builder.old.nodes builder.new.nodes rows width condition.now own.now) }
-{
-    let columns = own_and_all(alloc, own, width)?;
-    let listed = column_list(alloc, columns.as_slice())?;
-    let condition = copy_expr(alloc, condition)?;
-    let rows = builder.put(Node::Project(rows, listed))?;
-    let id = builder.put(Node::Select(rows, condition))?;
     Ok(id)
 }
 

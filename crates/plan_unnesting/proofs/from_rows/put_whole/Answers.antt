@@ -13,7 +13,7 @@ put_over-requires-clause-rows c = let l = grown_length c.in_ok-domain.ensures.pl
 
 pub returns-in-Some : goal.returns-in-Some
 returns-in-Some c =
-    own_apart c.args.part c.requires.footing c.args.builder.now.formed c.requires.width (c.get.ensures ∙ c.in_ok-condition.ensures) (subst (λ ns. AreKindsOf ns c.args.part.rows c.in_ok-kinds.kinds) c.as_slice.ensures c.in_ok-kinds.ensures) c.as_slice-2.ensures
+    own_apart c.args.part c.requires.footing c.args.builder.now.formed c.requires.width (c.get.ensures ∙ c.in_ok-condition.ensures) (subst (λ ns. AreKindsOf ns c.args.part.rows c.in_ok-kinds.kinds) c.as_slice.ensures c.in_ok-kinds.ensures) c.as_slice-known.ensures
     c.in_ok-n.ensures c.as_slice-notes.ensures (rw c.in-Some.is at c.in_ok-own.ensures) (c.get-in-Some.ensures ∙ sym c.get.ensures) c.as_slice-in-Some.ensures c.in_ok-id.ensures
 
 pub returns : goal.returns

@@ -1,6 +1,6 @@
 use Rattle.std.proofs.Common.{sym}
 use Rattle.plan_unnesting.proofs.Turns.{none_at}
-use Rattle.plan_unnesting.proofs.origins.kind_at.Goals as goal
+use Rattle.plan_unnesting.proofs.origins.known_at.Goals as goal
 
 pub returns-in-None : goal.returns-in-None
 returns-in-None c =
