@@ -174,8 +174,8 @@ IsKept old new rows conditions id =
     ⊎ IsPut old new (Select rows (All conditions)) id
 
 -- The plan grew by rows of the node `rows`, of w columns of these kinds: its columns `own` before
--- all of its columns, and those of these rows that a condition keeps. It reads the rows' own columns
--- in the place of a domain's.
+-- all of its columns, and those of these rows that a condition keeps. It reads the rows' own
+-- columns in the place of a domain's.
 pub record IsOwn (old new : List Node) (rows w : ℕ) (ks : ColumnKinds) (c : Expr) (own : List ℕ)
     (id : ℕ) : Type 0 where
   pub conditions : List Expr

@@ -34,7 +34,8 @@ IsAlwaysTrue ks own e = (t : List Value) → FitsKinds ks t → rank_of e (own_r
 pub record IsPutAsked (ks : ColumnKinds) (own : List ℕ) (e : Expr) (old new : List Expr)
     : Type 0 where
   pub says : (t : List Value) → FitsKinds ks t
-      → all_rank new (own_row own t) ≡ min (all_rank old (own_row own t)) (rank_of e (own_row own t))
+      → all_rank new (own_row own t)
+      ≡ min (all_rank old (own_row own t)) (rank_of e (own_row own t))
 
 -- conditions say of such rows of these kinds what a condition says
 pub record AreAsked (ks : ColumnKinds) (own : List ℕ) (c : Expr) (conditions : List Expr)

@@ -1,5 +1,5 @@
--- Which columns of a plan's nodes come unchanged from a table, of which kind they are, and which may
--- be null.
+-- Which columns of a plan's nodes come unchanged from a table, of which kind they are, and whether
+-- they may be null.
 use Rattle.std.specs.Prelude.{◌≡◌, ◌⊎◌, ℕ, ◌<◌, Bool, true, List, [], ◌∷◌, ◌++◌, length, map, drop}
 use Rattle.std.specs.Prelude.{replicate, nat_le, Option, Some, None, IsTrue, slice_index_or}
 use Rattle.base_row_laws.specs.Bags.{Each}

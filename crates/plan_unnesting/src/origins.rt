@@ -230,11 +230,10 @@ fn as_nullable(known: Option<Known>) -> Option<Known>
     ensures { result ≡ nullable known }
 {
     match known {
-        Some(known) => {
-            let kind = known.kind;
-            let may_be_null = true;
-            Some(Known { kind, may_be_null })
-        }
+        Some(known) => Some(Known {
+            kind: known.kind,
+            may_be_null: true,
+        }),
         None => None,
     }
 }
