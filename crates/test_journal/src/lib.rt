@@ -4,6 +4,8 @@
 #[cfg(test)]
 mod crashes;
 #[cfg(test)]
+mod durable;
+#[cfg(test)]
 mod plain;
 #[cfg(test)]
 mod real_file;
