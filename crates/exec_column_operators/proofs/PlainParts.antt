@@ -1,5 +1,5 @@
 -- A text without a part of a pattern that stands for itself is not like the pattern.
-use Rattle.std.proofs.Common.{◌≡◌, ℕ, zero, suc, ◌+◌, ◌-◌, ◌<◌, ◌≤◌, arith, refl, sym, ◌∙◌, ap, subst, List, [], ◌∷◌, ◌++◌, length, take, drop, Bool, true, false, not, ◌&&◌, ◌||◌, ◌==◌, None, Some, Option, if◌then◌else◌, get_or}
+use Rattle.std.proofs.Common.{◌≡◌, ℕ, zero, suc, ◌+◌, ◌<◌, ◌≤◌, arith, refl, sym, ◌∙◌, ap, subst, List, [], ◌∷◌, ◌++◌, length, take, drop, Bool, true, false, not, ◌&&◌, ◌||◌, ◌==◌, None, Some, Option, if◌then◌else◌, get_or}
 use Rattle.std.proofs.lemmas.List.{take-append-drop, length-drop, drop-drop, get_or-drop}
 use Rattle.std.specs.List.{list_any}
 use Rattle.std.specs.Option.{is_some}
