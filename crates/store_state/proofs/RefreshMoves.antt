@@ -1,11 +1,13 @@
 -- The rows that refreshes add and remove.
-use Rattle.std.proofs.Common.{◌≡◌, ℤ, List, [], ◌++◌, refl, sym, ap, subst}
+use Rattle.std.proofs.Common.{◌≡◌, ℤ, List, [], ◌++◌, sym, subst}
 use Rattle.std.proofs.lemmas.List.{append-nil}
 use Rattle.base_row_laws.specs.Bags.{SameBag}
 use Rattle.base_row_laws.proofs.Bags.{SameBag-refl, parts_by_test}
 use Rattle.base_schema.specs.State.{State}
 use Rattle.base_schema.specs.declared.table.TableName.TheVariants as table
 use Rattle.base_value.specs.declared.value.Value.{Value}
+use Rattle.std.specs.List.{filter}
+use Rattle.store_state.specs.Found.{HasSameKeys}
 use Rattle.store_state.specs.Keys.{has_key, order_key}
 use Rattle.store_state.specs.Moves.{AreMoved, IsMoved, no_rows, with_keys}
 use Rattle.store_state.specs.Refresh.{DeleteKeys, InsertRows, changed, with_sales, without_keys}
@@ -63,3 +65,7 @@ delete_moves before keys table.Partsupp = stays before.partsupp
 delete_moves before keys table.Customer = stays before.customer
 delete_moves before keys table.Orders = shrinks keys before.orders
 delete_moves before keys table.Lineitem = shrinks keys before.lineitem
+
+-- sets of the same keys have the same rows
+pub same_keys : (wanted keys : List ℤ) (rows : List (List Value)) → HasSameKeys wanted keys → with_keys wanted rows ≡ with_keys keys rows
+same_keys wanted keys rows same = λ i. filter (λ row. same (order_key row) i) rows

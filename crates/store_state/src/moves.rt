@@ -34,11 +34,7 @@ fn sales_alone(alloc: Global, orders: Parts, lineitems: Parts) -> Result<State, 
 }
 
 /// The rows that an insert adds. It removes none.
-fn moves_of_insert(
-    alloc: Global,
-    orders: &Rows,
-    lineitems: &Rows,
-) -> Result<Moves, AllocError>
+fn moves_of_insert(alloc: Global, orders: &Rows, lineitems: &Rows) -> Result<Moves, AllocError>
     requires orders { RowsAreOf TableName.Orders orders.now }
     requires lineitems { RowsAreOf TableName.Lineitem lineitems.now }
     ensures { IfOk result (λ moves. (before : Tables) → AreMoved before moves.added moves.removed

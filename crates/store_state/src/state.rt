@@ -79,7 +79,7 @@ impl State {
         ensures { IfOk result (λ state. state ≡ no_rows) }
     {
         let mut tables = Vec::with_capacity(alloc, 8)?;
-        for _i in 0..8 {
+        for _i in 0..8usize {
             tables.push(Parts::new(alloc))?;
         }
         Ok(State { tables })
