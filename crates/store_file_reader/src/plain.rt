@@ -19,8 +19,8 @@ use base_decimal::Scale;
 use base_schema::ColumnKind;
 
 /// What the bytes before the first bar say in a column of that kind, and where they end, where they
-/// are spelled as usual: digits that 63 bits hold, for a decimal with a point before the last two;
-/// a date; a text that doesn't spell null. Other spellings, and bad fields, are for
+/// are spelled as usual: digits that 63 bits hold, for a decimal maybe with a point before the
+/// last two; a date; a text that doesn't spell null. Other spellings, and bad fields, are for
 /// [`crate::field::read_field`].
 #[tactic(auto, using(crate::proofs::PlainNumbers::held, crate::proofs::FieldEnds::holds, crate::proofs::Nulls::others))]
 pub fn plain_field(kind: ColumnKind, text: &[u8]) -> Option<(Field<'_>, usize)>
@@ -37,7 +37,7 @@ pub fn plain_field(kind: ColumnKind, text: &[u8]) -> Option<(Field<'_>, usize)>
             Some((Field::Number(Scale::new(0), number), end))
         }
         ColumnKind::Decimal => {
-            let (number, end) = plain_cents(text)?;
+            let (number, end) = plain_decimal(text)?;
             Some((Field::Number(Scale::new(2), number), end))
         }
         ColumnKind::Date => {
@@ -68,6 +68,38 @@ fn plain_whole(text: &[u8]) -> Option<(i64, usize)>
         return None;
     }
     Some((value as i64, end))
+}
+
+// The coefficient at scale 2 of digits before the first bar, maybe with a point before the last two,
+// and where they end.
+fn plain_decimal(text: &[u8]) -> Option<(i64, usize)>
+    ensures value { IfSome result (λ n. decimal_read (take n.1 text.now) 2 ≡ Ok n.0) }
+    ensures natural { IfSome result (λ n. IsNatural n.0) }
+    ensures end { IfSome result (λ n. position_or_len is_bar text.now ≡ n.1) }
+    ensures inside { IfSome result (λ n. n.1 ≤ length text.now) }
+{
+    if let Some(cents) = plain_cents(text) {
+        return Some(cents);
+    }
+    whole_cents(text)
+}
+
+// The most that is below 2^63 at scale 2.
+const MOST_WHOLE: u64 = 92_233_720_368_547_758;
+
+// The same of digits alone.
+#[tactic(auto, using(crate::proofs::PlainNumbers::hundreds, crate::proofs::FieldEnds::digits_end))]
+fn whole_cents(text: &[u8]) -> Option<(i64, usize)>
+    ensures value { IfSome result (λ n. decimal_read (take n.1 text.now) 2 ≡ Ok n.0) }
+    ensures natural { IfSome result (λ n. IsNatural n.0) }
+    ensures end { IfSome result (λ n. position_or_len is_bar text.now ≡ n.1) }
+    ensures inside { IfSome result (λ n. n.1 ≤ length text.now) }
+{
+    let (whole, end) = digits_from(0, text)?;
+    if end == 0 || !ends_at(text, end) || whole > MOST_WHOLE {
+        return None;
+    }
+    Some(((whole * 100) as i64, end))
 }
 
 // The coefficient at scale 2 of digits, a point and two digits before the first bar, and where they
