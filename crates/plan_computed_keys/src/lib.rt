@@ -3,9 +3,9 @@
 #![tactic(auto)]
 
 mod condition;
-mod keyed;
 mod moved;
 mod side_key;
+mod tree;
 mod wider;
 
-pub use keyed::keyed;
+pub use tree::keyed;

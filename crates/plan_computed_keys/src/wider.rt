@@ -18,7 +18,7 @@ pub(crate) fn reads_nothing(side: &Side) -> bool
 {
     match side {
         Side::Closed | Side::Shared => true,
-        Side::Dependent(columns) => columns.as_slice().is_empty(),
+        Side::Dependent(columns) => columns.is_empty(),
     }
 }
 
