@@ -1,6 +1,6 @@
 -- Inputs with a computed column more.
 use Rattle.std.proofs.Common.{◌≡◌, ℕ, ◌+◌, List, [], ◌∷◌, ◌++◌, map, refl, sym, ◌∙◌, ap, subst}
-use Rattle.std.proofs.Common.{arith, length}
+use Rattle.std.proofs.Common.{arith, length, inl, inr, ◌⊎◌}
 use Rattle.std.specs.Prelude.{Option, Some, None}
 use Rattle.std.proofs.lemmas.List.{append-nil, length-append, length-map, map-append}
 use Rattle.base_row_laws.specs.Ranked.{Ranked}
@@ -80,13 +80,11 @@ wider_some a new more w computed last columns seen es all wide some same run is_
     }))
 
 -- sides that read nothing
-pub reads_closed : (side : Side) → side ≡ Closed → (l : List Value) → right_row side [] l ≡ []
+pub reads_own : (side : Side) → (side ≡ Closed) ⊎ (side ≡ Shared) → (l : List Value)
+    → right_row side [] l ≡ []
 unfolding right_row
-reads_closed side is l = ap (λ s. right_row s [] l) is
-
-pub reads_shared : (side : Side) → side ≡ Shared → (l : List Value) → right_row side [] l ≡ []
-unfolding right_row
-reads_shared side is l = ap (λ s. right_row s [] l) is
+reads_own side (inl is) l = ap (λ s. right_row s [] l) is
+reads_own side (inr is) l = ap (λ s. right_row s [] l) is
 
 pub reads_none : (side : Side) (columns : List ℕ) → side ≡ Dependent columns → columns ≡ []
     → (l : List Value) → right_row side [] l ≡ []

@@ -1,11 +1,11 @@
-use Rattle.plan_computed_keys.proofs.Wide.{reads_closed, reads_shared, reads_none}
+use Rattle.plan_computed_keys.proofs.Wide.{reads_own, reads_none}
 use Rattle.plan_computed_keys.proofs.wider.reads_nothing.Goals as goal
 
 pub returns-in-Closed : goal.returns-in-Closed
-returns-in-Closed c = λ t. reads_closed c.args.side.now c.in-Closed.is
+returns-in-Closed c = λ t. reads_own c.args.side.now c.in-Closed.is
 
 pub returns-in-Closed-2 : goal.returns-in-Closed-2
-returns-in-Closed-2 c = λ t. reads_shared c.args.side.now c.in-Closed.is
+returns-in-Closed-2 c = λ t. reads_own c.args.side.now c.in-Closed.is
 
 pub returns-in-Dependent : goal.returns-in-Dependent
 returns-in-Dependent c = λ t.
