@@ -3,8 +3,6 @@ use Rattle.std.proofs.Common.{◌≡◌, ℕ, ◌+◌, List, [], ◌∷◌, ◌+
 use Rattle.std.proofs.Common.{arith, length, inl, inr, ◌⊎◌}
 use Rattle.std.specs.Prelude.{Option, Some, None}
 use Rattle.std.proofs.lemmas.List.{append-nil, length-append, length-map, map-append}
-use Rattle.base_row_laws.specs.Ranked.{Ranked}
-use Rattle.base_row_laws.specs.Operators.{project}
 use Rattle.base_row_laws.proofs.Lists.{Each-all, Each-weaker}
 use Rattle.base_row_laws.proofs.AtHand.{project_at_hand}
 use Rattle.base_value.specs.declared.value.Value.{Value}
@@ -17,12 +15,12 @@ use Rattle.plan_algebra.specs.declared.tree.DepTree.{DepTree}
 use Rattle.plan_algebra.specs.declared.tree.DepTree.TheVariants as t
 use Rattle.plan_algebra.specs.declared.tree.Side.{Side}
 use Rattle.plan_algebra.specs.declared.tree.Side.TheVariants.{Closed, Shared, Dependent}
-use Rattle.plan_algebra.specs.Trees.{width_of, tree_rows, scans_of, listed, right_row}
+use Rattle.plan_algebra.specs.Trees.{width_of, tree_rows, listed, right_row}
 use Rattle.plan_algebra.proofs.Opened.{width_Project, rows_Project, scans_Project}
 use Rattle.plan_tree_moves.proofs.Conditions.{project_id}
 use Rattle.plan_tree_moves.proofs.Good.{tree_is_good, length-columns_from}
 use Rattle.plan_tree_moves.proofs.Narrowing.{listed_after}
-use Rattle.plan_computed_keys.specs.Keys.{with_computed, extra, IsWider}
+use Rattle.plan_computed_keys.specs.Keys.{with_computed, IsWider}
 
 plus_none : (m : ℕ) → m ≡ m + 0
 plus_none m = omega arith

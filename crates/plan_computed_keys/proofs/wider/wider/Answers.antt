@@ -1,5 +1,5 @@
 use Rattle.plan_computed_keys.proofs.Wide.{wider_none, wider_some}
-use Rattle.std.proofs.Common.{◌∙◌, ap, refl}
+use Rattle.std.proofs.Common.{◌∙◌, refl}
 use Rattle.plan_computed_keys.proofs.wider.wider.Goals as goal
 
 pub returns-in-None : goal.returns-in-None
