@@ -2,6 +2,7 @@
 //! their tables.
 #![tactic(auto)]
 
+mod attached;
 mod bag;
 mod form;
 mod kept;
@@ -14,6 +15,7 @@ mod reading;
 mod tests;
 mod view;
 
+pub use attached::{KeptOf, Plans};
 pub use form::KeptPlanError;
 pub use kept::Kept;
 pub use plan::{KeptAggregate, KeptPlan};
