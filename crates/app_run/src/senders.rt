@@ -143,6 +143,7 @@ fn run_open<R: Threads + Wait + Sync, G: Gate + Sync>(
     match run_job(rt, alloc, gate, setup, publisher, &mut feed) {
         Ok(text) => Ok((Some(text), feed)),
         Err(JobError::TooFewRefreshes) => Ok((None, feed)),
+        Err(JobError::Failed) => unreachable!(),
         Err(JobError::OutOfMemory) => Err(AllocError),
     }
 }
