@@ -61,18 +61,18 @@ fn turns_of<R: Wait, D: Disk>(
     requires { StoredFits D.is_reached D.may_leave feed.old.journal feed.old.disk
         publisher.old.version }
 {
-    match feed.turn(rt, publisher)? {
+    match feed.try_next(rt, publisher)? {
         StoredTurn::Published(_) => {}
         StoredTurn::Failed => return Ok("failed"),
         StoredTurn::Refused(_) | StoredTurn::Ended => return Ok("another"),
     }
-    match feed.turn(rt, publisher)? {
+    match feed.try_next(rt, publisher)? {
         StoredTurn::Refused(_) => {}
         StoredTurn::Published(_) | StoredTurn::Failed | StoredTurn::Ended => {
             return Ok("another");
         }
     }
-    match feed.turn(rt, publisher)? {
+    match feed.try_next(rt, publisher)? {
         StoredTurn::Ended => Ok("ended"),
         StoredTurn::Published(_) | StoredTurn::Refused(_) | StoredTurn::Failed => Ok("another"),
     }
@@ -93,12 +93,11 @@ fn run_two<R: Wait>(
     let journal = make::<MemDisk, RefreshPayload>(&mut disk)
         .ok()
         .ok_or("a journal")?;
-    let mut feed = StoredFeed {
-        alloc,
-        journal,
-        disk,
-    };
     let (mut publisher, _readers) = open(rt, alloc, no_rows(alloc)?, two(alloc, BAD)?, 1, 2)?;
+    let Ok(mut feed) = StoredFeed::new(alloc, journal, disk, &publisher) else {
+        publisher.close(rt);
+        return Err("no feed".into());
+    };
     let told = turns_of(rt, &mut feed, &mut publisher);
     let version = publisher.version();
     publisher.close(rt);
