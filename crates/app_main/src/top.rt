@@ -9,6 +9,7 @@ ghost use Rattle.app_inputs.specs.Words.{command_of};
 
 use app_inputs::Status;
 use app_run::run;
+use base_disk::Disk;
 use base_io::{Files, Gate, Sink};
 use std::alloc::Global;
 use std::sync::Wait;
@@ -23,12 +24,13 @@ use std::thread::Threads;
 ///
 /// A fault of reading or writing is answered only where `files` or `out` counted one. No clause
 /// says when memory runs out.
-pub fn tpch<R: Threads + Wait + Sync, F: Files, S: Sink, G: Gate + Sync>(
+pub fn tpch<R: Threads + Wait + Sync, F: Files, S: Sink, D: Disk + Send, G: Gate + Sync>(
     rt: &R,
     alloc: Global,
     words: &[String],
     files: &mut F,
     out: &mut S,
+    disk: &mut D,
     gate: &G,
 ) -> Status
     // On an answer the whole text was taken, with its status.
@@ -63,5 +65,5 @@ pub fn tpch<R: Threads + Wait + Sync, F: Files, S: Sink, G: Gate + Sync>(
         × (F.misses files.old ≤ F.misses files.new)
         × (S.faults out.old ≤ S.faults out.new) }
 {
-    run(rt, alloc, words, files, out, gate)
+    run(rt, alloc, words, files, out, disk, gate)
 }

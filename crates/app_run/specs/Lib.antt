@@ -1,6 +1,7 @@
 pub mod SessionInputs
 pub mod Turns
 pub mod NextVersions
+pub mod Journals
 pub mod JobInputs
 pub mod JobOrders
 pub mod JobMeaning

@@ -14,10 +14,12 @@ ghost use Rattle.app_inputs.specs.Words.Command.{check};
 
 use crate::check::check_text;
 use crate::explain::explain_text;
+use crate::output::Output;
 use crate::session::session_text;
-use crate::throughput::throughput_text;
+use crate::throughput::throughput_output;
 use crate::trial::trial_output;
 use app_inputs::{Command, InputError, ReadError, Status, line_of_refusal, read_words, write_text};
+use base_disk::Disk;
 use base_io::{Files, Gate, Sink};
 use std::alloc::Global;
 use std::sync::Wait;
@@ -25,6 +27,12 @@ use std::thread::Threads;
 
 static USAGE: &[u8] =
     b"usage: tpch session DIR SCRIPT, throughput DIR JOB, explain SCRIPT, check DIR, trial N\n";
+
+/// A text and its status, or why there is none.
+fn output_of(printed: Result<(Vec<u8>, Status), InputError>) -> Result<Output, InputError> {
+    let (text, status) = printed?;
+    Ok(Output::Text(text, status))
+}
 
 /// The text of the counts of the folder's tables, and its status.
 fn check_output<F: Files>(
@@ -41,38 +49,42 @@ fn check_output<F: Files>(
     }
 }
 
-/// The text of a command over its files.
-fn command_text<R: Threads + Wait + Sync, F: Files, G: Gate + Sync>(
+/// What a command gives over its files.
+fn command_text<R: Threads + Wait + Sync, F: Files, D: Disk + Send, G: Gate + Sync>(
     rt: &R,
     alloc: Global,
     files: &mut F,
+    disk: &mut D,
     gate: &G,
     command: &Command<'_>,
-) -> Result<(Vec<u8>, Status), InputError>
+) -> Result<Output, InputError>
     requires { IsOverFiles (command_view command.now) }
     ensures text { IsTextOf (command_view command.now) (F.held files.old) result }
     ensures files { FilesAfterInput F.held F.faults F.misses result files.old files.new }
 {
     match command {
-        Command::Session { folder, script } => session_text(rt, alloc, files, folder, script),
-        Command::Throughput { folder, job } => {
-            throughput_text(rt, alloc, files, folder, job, gate)
+        Command::Session { folder, script } => {
+            output_of(session_text(rt, alloc, files, folder, script))
         }
-        Command::Explain { script } => explain_text(alloc, files, script),
-        Command::Check { folder } => check_output(alloc, files, folder),
+        Command::Throughput { folder, job } => {
+            throughput_output(rt, alloc, files, disk, folder, job, gate)
+        }
+        Command::Explain { script } => output_of(explain_text(alloc, files, script)),
+        Command::Check { folder } => output_of(check_output(alloc, files, folder)),
         Command::Trial { .. } => unreachable!(),
     }
 }
 
 /// What a command over files prints, and its status: its text, or the line of its first refused
 /// input.
-fn output_over_files<R: Threads + Wait + Sync, F: Files, G: Gate + Sync>(
+fn output_over_files<R: Threads + Wait + Sync, F: Files, D: Disk + Send, G: Gate + Sync>(
     rt: &R,
     alloc: Global,
     files: &mut F,
+    disk: &mut D,
     gate: &G,
     command: &Command<'_>,
-) -> Result<(Vec<u8>, Status), ReadError>
+) -> Result<Output, ReadError>
     requires { IsOverFiles (command_view command.now) }
     ensures prints { IfOk result (λ printed. IsAnswer printed.1
         × Prints (Some (command_view command.now)) (F.held files.old) printed.0.items printed.1) }
@@ -81,24 +93,25 @@ fn output_over_files<R: Threads + Wait + Sync, F: Files, G: Gate + Sync>(
         → Rose (F.misses files.old) (F.misses files.new)) }
     ensures files { FilesAfterRead F.held F.faults F.misses result files.old files.new }
 {
-    match command_text(rt, alloc, files, gate, command) {
-        Ok(printed) => Ok(printed),
+    match command_text(rt, alloc, files, disk, gate, command) {
+        Ok(output) => Ok(output),
         Err(InputError::Refused(refused)) => {
             let text = line_of_refusal(alloc, &refused)?;
-            Ok((text, Status::InputRefused))
+            Ok(Output::Text(text, Status::InputRefused))
         }
         Err(InputError::Unread(error)) => Err(error),
     }
 }
 
 /// What a command prints, and its status.
-fn command_output<R: Threads + Wait + Sync, F: Files, G: Gate + Sync>(
+fn command_output<R: Threads + Wait + Sync, F: Files, D: Disk + Send, G: Gate + Sync>(
     rt: &R,
     alloc: Global,
     files: &mut F,
+    disk: &mut D,
     gate: &G,
     command: &Command<'_>,
-) -> Result<(Vec<u8>, Status), ReadError>
+) -> Result<Output, ReadError>
     requires { IsInRange (command_view command.now) }
     ensures prints { IfOk result (λ printed. IsAnswer printed.1
         × Prints (Some (command_view command.now)) (F.held files.old) printed.0.items printed.1) }
@@ -108,22 +121,26 @@ fn command_output<R: Threads + Wait + Sync, F: Files, G: Gate + Sync>(
     ensures files { FilesAfterRead F.held F.faults F.misses result files.old files.new }
 {
     match command {
-        Command::Trial { number } => trial_output(rt, alloc, *number, gate),
+        Command::Trial { number } => {
+            let (text, status) = trial_output(rt, alloc, *number, gate)?;
+            Ok(Output::Text(text, status))
+        }
         Command::Session { .. }
         | Command::Throughput { .. }
         | Command::Explain { .. }
-        | Command::Check { .. } => output_over_files(rt, alloc, files, gate, command),
+        | Command::Check { .. } => output_over_files(rt, alloc, files, disk, gate, command),
     }
 }
 
 /// Reads the words and the files that they name, and writes one text. The clauses are those of
 /// `tpch`.
-pub fn run<R: Threads + Wait + Sync, F: Files, S: Sink, G: Gate + Sync>(
+pub fn run<R: Threads + Wait + Sync, F: Files, S: Sink, D: Disk + Send, G: Gate + Sync>(
     rt: &R,
     alloc: Global,
     words: &[String],
     files: &mut F,
     out: &mut S,
+    disk: &mut D,
     gate: &G,
 ) -> Status
     ensures answer { TakesWhole (command_of (map string_bytes words.now)) (F.held files.old)
@@ -154,8 +171,9 @@ pub fn run<R: Threads + Wait + Sync, F: Files, S: Sink, G: Gate + Sync>(
     let Some(command) = read else {
         return write_text(out, USAGE, Status::Usage);
     };
-    match command_output(rt, alloc, files, gate, &command) {
-        Ok((text, status)) => write_text(out, text.as_slice(), status),
+    match command_output(rt, alloc, files, disk, gate, &command) {
+        Ok(Output::Text(text, status)) => write_text(out, text.as_slice(), status),
+        Ok(Output::DiskFault) => Status::DiskFault,
         Err(ReadError::Fault) => Status::ReadFault,
         Err(ReadError::OutOfMemory) => Status::OutOfMemory,
     }

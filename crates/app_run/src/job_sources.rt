@@ -27,6 +27,8 @@ pub struct JobSources {
     pub before: usize,
     /// Who sends each of the others, or nobody where they are tried in their order.
     pub senders: Vec<SenderId>,
+    /// The name of the file that keeps its accepted refreshes, if it asks for one.
+    pub journal: Option<String>,
 }
 
 /// The tables of the folder, and these refreshes.
@@ -66,5 +68,6 @@ pub fn read_inputs<F: Files>(
         list,
         before: job.before,
         senders: job.senders,
+        journal: job.journal,
     })
 }

@@ -230,6 +230,7 @@ pub fn run_with_senders<R: Threads + Wait + Sync, G: Gate + Sync>(
         mut list,
         before,
         senders,
+        journal: _journal,
     } = sources;
     let most = list.len();
     let sent = list.split_off(before)?;

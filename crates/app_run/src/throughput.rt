@@ -8,9 +8,12 @@ ghost use Rattle.app_run.specs.Views.{IsTextOf};
 ghost use Rattle.app_inputs.specs.Words.Command.{throughput};
 
 use crate::job_sources::{JobSources, read_inputs};
+use crate::kept::{Played, play_kept};
+use crate::output::Output;
 use crate::senders::run_with_senders;
-use app_inputs::{InputError, Status};
+use app_inputs::{InputError, Status, refusal_of};
 use app_sessions::{JobText, run_list_job};
+use base_disk::Disk;
 use base_io::{Files, Gate};
 use std::alloc::{AllocError, Global};
 use std::sync::Wait;
@@ -47,6 +50,7 @@ fn run_without_senders<R: Threads + Wait + Sync, G: Gate + Sync>(
         list,
         before,
         senders: _senders,
+        journal: _journal,
     } = sources;
     let most = list.len();
     let (publisher, readers) = open(rt, alloc, base, list, sessions.len() as u32, most)?;
@@ -86,35 +90,61 @@ fn run_sessions<R: Threads + Wait + Sync, G: Gate + Sync>(
     Ok(text_and_status(job))
 }
 
+/// What comes of a job with a journal of that name.
+fn kept_output<R: Threads + Wait + Sync, D: Disk + Send, G: Gate + Sync>(
+    rt: &R,
+    alloc: Global,
+    gate: &G,
+    disk: &mut D,
+    name: &str,
+    sources: JobSources,
+) -> Result<Output, InputError> {
+    match play_kept(rt, alloc, gate, disk, name, sources)? {
+        Played::Text(job) => {
+            let (text, status) = text_and_status(job);
+            Ok(Output::Text(text, status))
+        }
+        Played::Refused(fault) => Err(refusal_of(alloc, name, fault)),
+        Played::DiskFault => Ok(Output::DiskFault),
+    }
+}
+
 /// The text of a job over the tables of a folder, and its status.
-pub fn job_text<R: Threads + Wait + Sync, F: Files, G: Gate + Sync>(
+pub fn job_output<R: Threads + Wait + Sync, F: Files, D: Disk + Send, G: Gate + Sync>(
     rt: &R,
     alloc: Global,
     files: &mut F,
+    disk: &mut D,
     folder: &str,
     job: &str,
     shows_rows: bool,
     gate: &G,
-) -> Result<(Vec<u8>, Status), InputError>
+) -> Result<Output, InputError>
     ensures text { IsTextOfJob shows_rows folder.now job.now (F.held files.old) result }
     ensures files { FilesAfterInput F.held F.faults F.misses result files.old files.new }
 {
-    let sources = read_inputs(alloc, files, folder, job, shows_rows)?;
-    let printed = run_sessions(rt, alloc, gate, shows_rows, sources)?;
-    Ok(printed)
+    let mut sources = read_inputs(alloc, files, folder, job, shows_rows)?;
+    match sources.journal.take() {
+        Some(name) => kept_output(rt, alloc, gate, disk, &name, sources),
+        None => {
+            let (text, status) = run_sessions(rt, alloc, gate, shows_rows, sources)?;
+            Ok(Output::Text(text, status))
+        }
+    }
 }
 
 /// The text of the job of that file over the tables of a folder, and its status.
-pub fn throughput_text<R: Threads + Wait + Sync, F: Files, G: Gate + Sync>(
+pub fn throughput_output<R: Threads + Wait + Sync, F: Files, D: Disk + Send, G: Gate + Sync>(
     rt: &R,
     alloc: Global,
     files: &mut F,
+    disk: &mut D,
     folder: &str,
     job: &str,
     gate: &G,
-) -> Result<(Vec<u8>, Status), InputError>
+) -> Result<Output, InputError>
     ensures text { IsTextOf (throughput folder.now job.now) (F.held files.old) result }
     ensures files { FilesAfterInput F.held F.faults F.misses result files.old files.new }
 {
-    job_text(rt, alloc, files, folder, job, true, gate)
+    job_output(rt, alloc, files, disk, folder, job, true, gate)
 }

@@ -40,25 +40,25 @@ pub struct StoredFeed<D: Disk> {
 }
 
 impl<D: Disk> StoredFeed<D> {
-    /// Those that this publisher has left.
-    pub fn new(
-        alloc: Global,
-        journal: Journal,
-        disk: D,
-        publisher: &Publisher,
-    ) -> Result<StoredFeed<D>, AllocError>
-        ensures start { IfOk result (λ feed. (feed.start ≡ publisher.now.version)
-            × (feed.count ≡ 0)) }
-        ensures parts { IfOk result (λ feed. (feed.journal ≡ journal) × (feed.disk ≡ disk)) }
+    /// Those that a publisher of this version has left.
+    pub fn new(alloc: Global, journal: Journal, disk: D, start: Snapshot) -> StoredFeed<D>
+        ensures start { (result.start ≡ start) × (result.count ≡ 0) }
+        ensures parts { (result.journal ≡ journal) × (result.disk ≡ disk) }
     {
-        let start = publisher.snapshot()?;
-        Ok(StoredFeed {
+        StoredFeed {
             alloc,
             journal,
             disk,
             start,
             count: 0,
-        })
+        }
+    }
+
+    /// The disk, given back.
+    pub fn into_disk(self) -> D
+        ensures { result ≡ self.disk }
+    {
+        self.disk
     }
 
     /// Has the publisher try its list's next refresh. After an error, or after Failed, no turn is to

@@ -94,10 +94,11 @@ fn run_two<R: Wait>(
         .ok()
         .ok_or("a journal")?;
     let (mut publisher, _readers) = open(rt, alloc, no_rows(alloc)?, two(alloc, BAD)?, 1, 2)?;
-    let Ok(mut feed) = StoredFeed::new(alloc, journal, disk, &publisher) else {
+    let Ok(start) = publisher.snapshot() else {
         publisher.close(rt);
-        return Err("no feed".into());
+        return Err("no snapshot".into());
     };
+    let mut feed = StoredFeed::new(alloc, journal, disk, start);
     let told = turns_of(rt, &mut feed, &mut publisher);
     let version = publisher.version();
     publisher.close(rt);

@@ -1,0 +1,185 @@
+//! A job that keeps its accepted refreshes in a journal.
+use crate::job_sources::JobSources;
+use crate::journal::{Reached, reach_journal};
+use app_inputs::InputFault;
+use app_sessions::{JobError, JobText, Session, run_feed_job};
+use base_disk::Disk;
+use base_io::Gate;
+use base_refusals::Cause;
+use core::mem::replace_with;
+use std::alloc::{AllocError, Global};
+use std::sync::Wait;
+use std::thread::Threads;
+use store_durability::StoredFeed;
+use store_journal::Journal;
+use store_snapshots::{Published, Publisher, Reader, RuledEntry, Snapshot, open};
+use store_state::Refresh;
+
+/// What comes of a job with a journal.
+#[derive(Drop)]
+pub enum Played {
+    /// Its text.
+    Text(JobText),
+    /// The journal's file is refused.
+    Refused(InputFault),
+    /// A call of the disk failed.
+    DiskFault,
+}
+
+/// A job whose journal is open, with a publisher that has published what the journal keeps.
+struct OpenJob {
+    alloc: Global,
+    sessions: Vec<Session>,
+    readers: Vec<Reader<RuledEntry>>,
+    publisher: Publisher,
+    journal: Journal,
+    /// What the publisher has left begins behind this version.
+    start: Snapshot,
+    before: usize,
+}
+
+/// Publishes the first refreshes of the list, which a journal keeps. Answers the first that is
+/// refused, counted from 1, and why.
+fn publish_kept<R: Wait>(
+    rt: &R,
+    kept: usize,
+    publisher: &mut Publisher,
+) -> Result<Option<(usize, Cause)>, AllocError> {
+    for number in 0..kept {
+        match publisher.publish_next(rt) {
+            Published::Published(_) => {}
+            Published::Refused(cause) => return Ok(Some((number + 1, cause))),
+            Published::NoMore => unreachable!(),
+            Published::OutOfMemory => return Err(AllocError),
+        }
+    }
+    Ok(None)
+}
+
+/// Runs the sessions beside the publisher, which stays open.
+fn play_beside<R: Threads + Wait + Sync, D: Disk + Send, G: Gate + Sync>(
+    rt: &R,
+    alloc: Global,
+    gate: &G,
+    before: usize,
+    sessions: Vec<Session>,
+    readers: Vec<Reader<RuledEntry>>,
+    publisher: &mut Publisher,
+    feed: &mut StoredFeed<D>,
+) -> Result<Played, AllocError> {
+    match run_feed_job(rt, alloc, before, gate, sessions, readers, publisher, feed) {
+        Ok(text) => Ok(Played::Text(text)),
+        Err(JobError::Failed) => Ok(Played::DiskFault),
+        Err(JobError::OutOfMemory) => Err(AllocError),
+        Err(JobError::TooFewRefreshes) => unreachable!(),
+    }
+}
+
+/// Runs an open job over its disk, and gives the disk back.
+fn play<R: Threads + Wait + Sync, D: Disk + Send, G: Gate + Sync>(
+    disk: D,
+    job: (&R, &G, OpenJob),
+) -> (D, Result<Played, AllocError>) {
+    let (rt, gate, job) = job;
+    let OpenJob {
+        alloc,
+        sessions,
+        readers,
+        mut publisher,
+        journal,
+        start,
+        before,
+    } = job;
+    let mut feed = StoredFeed::new(alloc, journal, disk, start);
+    let played = play_beside(
+        rt,
+        alloc,
+        gate,
+        before,
+        sessions,
+        readers,
+        &mut publisher,
+        &mut feed,
+    );
+    publisher.close(rt);
+    (feed.into_disk(), played)
+}
+
+/// The version behind which the publisher has refreshes left, or the first refresh that is kept and
+/// refused.
+fn start_of<R: Wait>(
+    rt: &R,
+    kept: usize,
+    publisher: &mut Publisher,
+) -> Result<Result<Snapshot, InputFault>, AllocError> {
+    if let Some((number, cause)) = publish_kept(rt, kept, publisher)? {
+        return Ok(Err(InputFault::RefusedEntry(number, cause)));
+    }
+    let start = publisher.snapshot()?;
+    Ok(Ok(start))
+}
+
+/// Runs the sessions beside a publisher of what the journal keeps and of the job's refreshes.
+fn run_kept<R: Threads + Wait + Sync, D: Disk + Send, G: Gate + Sync>(
+    rt: &R,
+    alloc: Global,
+    gate: &G,
+    disk: &mut D,
+    journal: Journal,
+    kept: Vec<Refresh>,
+    sources: JobSources,
+) -> Result<Played, AllocError> {
+    let JobSources {
+        sessions,
+        base,
+        mut list,
+        before,
+        senders: _senders,
+        journal: _journal,
+    } = sources;
+    let count = kept.len();
+    let mut all = kept;
+    all.append(&mut list)?;
+    let most = all.len();
+    let (mut publisher, readers) = open(rt, alloc, base, all, sessions.len() as u32, most)?;
+    match start_of(rt, count, &mut publisher) {
+        Ok(Ok(start)) => {
+            let job = OpenJob {
+                alloc,
+                sessions,
+                readers,
+                publisher,
+                journal,
+                start,
+                before,
+            };
+            replace_with(disk, (rt, gate, job), play::<R, D, G>)
+        }
+        Ok(Err(fault)) => {
+            publisher.close(rt);
+            Ok(Played::Refused(fault))
+        }
+        Err(error) => {
+            publisher.close(rt);
+            Err(error)
+        }
+    }
+}
+
+/// Runs the sessions of a job that keeps its accepted refreshes in the journal of that name.
+pub fn play_kept<R: Threads + Wait + Sync, D: Disk + Send, G: Gate + Sync>(
+    rt: &R,
+    alloc: Global,
+    gate: &G,
+    disk: &mut D,
+    name: &str,
+    sources: JobSources,
+) -> Result<Played, AllocError> {
+    match reach_journal(alloc, disk, name)? {
+        Reached::Journal(journal, kept) => {
+            run_kept(rt, alloc, gate, disk, journal, kept, sources)
+        }
+        Reached::Refused(fault) => Ok(Played::Refused(fault)),
+        Reached::DiskFault => Ok(Played::DiskFault),
+    }
+}
