@@ -46,6 +46,10 @@ pub record DiskTold : Type 0 where
   pub named : Named
   pub reads : Option (List ℕ)
 
+-- the two together
+abbrev pub disk_told : Named → Option (List ℕ) → DiskTold
+disk_told named reads = record { named = named; reads = reads }
+
 -- the text of a job, and whether a line of it is a refusal
 abbrev pub MeansJob : Bool → Option (List ℕ) → JobWork → List ℕ → Status → Type 0
 MeansJob shows_rows journal_then work text s = (job : JobAnswer)

@@ -3,7 +3,8 @@ use Rattle.std.specs.Prelude.{◌≡◌, ◌≢◌, ⊤, ℕ, ◌+◌, ◌<◌, 
 use Rattle.std.specs.Prelude.{slice_index_or}
 use Rattle.std.specs.Prelude.{[], Option, Some, option_map}
 use Rattle.std.specs.Global.{Vec}
-use Rattle.std.specs.List.{list_any}
+use Rattle.std.specs.List.{AllByRecursion, list_any}
+use Rattle.store_refresh_entries.specs.Change.{HasFewBytes, IsStorable}
 use Rattle.std.specs.String.{string_bytes}
 use Rattle.std.specs.declared.result.Result.{Result}
 use Rattle.std.specs.declared.result.Result.TheVariants.{Ok, Err}
@@ -16,8 +17,9 @@ use Rattle.base_io.specs.Outside.{Folder}
 use Rattle.base_schema.specs.State.{State}
 use Rattle.app_inputs.specs.Inputs.{BadInput, IsRead}
 use Rattle.app_run.specs.SessionInputs.{ExpandsTo}
-use Rattle.app_run.specs.JobInputs.{HasNoRefresh, IsPlain, JobWork, is_refresh}
-use Rattle.app_run.specs.JobMeaning.{DiskTold, IsFirstOfJob, PrintsJob}
+use Rattle.app_run.specs.JobInputs.{HasNoRefresh, IsPlain, JobWork, is_refresh, with_kept}
+use Rattle.app_run.specs.Journals.{IsKept, Named}
+use Rattle.app_run.specs.JobMeaning.{DiskTold, IsFirstOfJob, MeansJob, PrintsJob}
 use Rattle.app_run.specs.declared.output.Output.{Output}
 use Rattle.app_run.specs.declared.output.Output.TheVariants as output
 use Rattle.app_inputs.specs.Printing.{IsDone}
@@ -100,9 +102,15 @@ pub record IsRunnable (sources : JobSources) : Type 0 where
       0 < length sources.senders.items
       → sources.before + length sources.senders.items ≡ length sources.list.items
 
+-- its refreshes may come to be stored in a journal
+pub record IsKeepable (sources : JobSources) : Type 0 where
+  pub storable : AllByRecursion IsStorable sources.list.items
+  pub short : AllByRecursion HasFewBytes sources.list.items
+
 -- the same, and each session prints rows, or none does
 pub record IsPlayable (shows_rows : Bool) (sources : JobSources) : Type 0 where
   pub runnable : IsRunnable sources
+  pub keepable : IsKeepable sources
   pub rows : ShowRows shows_rows sources.sessions.items
 
 -- the text and its status are the job's, or the error explains why it has none; a fault of the disk
@@ -115,3 +123,15 @@ IsOutputOfJob shows_rows dir job held disk (Ok output.DiskFault) = ⊤
 IsOutputOfJob shows_rows dir job held disk (Err (error.Unread unread)) = ⊤
 IsOutputOfJob shows_rows dir job held disk (Err (error.Refused refusal)) =
     IfKnown held (λ folder. IsFirstOfJob dir job folder disk.named (Some (refused_view refusal)))
+
+-- what a job gives of which its files are read, over a disk: its text, over what its journal keeps,
+-- or why that is refused
+abbrev pub IsOutputOver : Bool → List ℕ → Named → Option (List ℕ) → JobWork
+    → Result Output InputError → Type 0
+IsOutputOver shows_rows name named journal_then work (Ok (output.Text text s)) =
+    (kept : List Change) × IsKept work.journal work.base named (Ok kept)
+    × MeansJob shows_rows journal_then (with_kept work kept) text.items s
+IsOutputOver shows_rows name named journal_then work (Ok output.DiskFault) = ⊤
+IsOutputOver shows_rows name named journal_then work (Err (error.Unread unread)) = ⊤
+IsOutputOver shows_rows name named journal_then work (Err (error.Refused refusal)) =
+    IsKept work.journal work.base named (Err (refused_view refusal))

@@ -5,6 +5,8 @@ pub mod Journals
 pub mod JobInputs
 pub mod JobOrders
 pub mod JobMeaning
+pub mod Reaching
+pub mod Opened
 pub mod Senders
 pub mod Receivers
 pub mod ScriptPlans

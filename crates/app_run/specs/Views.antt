@@ -1,5 +1,5 @@
 -- What the text of a command stands for.
-use Rattle.std.specs.Prelude.{ℕ, ⊤, Option, Some}
+use Rattle.std.specs.Prelude.{◌≡◌, ℕ, ⊤, Option, Some}
 use Rattle.std.specs.Global.{Vec}
 use Rattle.std.specs.declared.result.Result.{Result}
 use Rattle.std.specs.declared.result.Result.TheVariants.{Ok, Err}
@@ -34,6 +34,11 @@ IsOutputOf command held disk (Err (error.Unread unread)) = ⊤
 IsOutputOf command held disk (Err (error.Refused refusal)) =
     IfKnown held (λ folder.
     IsFirstRefused command folder disk.named (Some (refused_view refusal)))
+
+-- an output is the text and the status, or the error
+abbrev pub IsSameOutput : Result (Vec ℕ × Status) InputError → Result Output InputError → Type 0
+IsSameOutput (Ok printed) result = result ≡ Ok (output.Text printed.0 printed.1)
+IsSameOutput (Err error) result = result ≡ Err error
 
 -- what a command gives to be printed is an answer that it may print
 abbrev pub MayGive : Command → Option Folder → DiskTold → Output → Type 0

@@ -4,10 +4,10 @@ ghost use Rattle.std.specs.Io.KnownBytes.{Keeps};
 ghost use Rattle.std.specs.String.{string_bytes};
 ghost use Rattle.base_io.specs.Outside.{Rose};
 ghost use Rattle.app_inputs.specs.FilesAfter.{FilesAfterInput, FilesAfterRead};
-ghost use Rattle.app_run.specs.Meaning.{IsAbsentInput, IsAccepted, Prints, TakesPart};
-ghost use Rattle.app_inputs.specs.Printing.{IsAnswer};
+ghost use Rattle.app_run.specs.JobMeaning.{DiskTold, disk_told};
+ghost use Rattle.app_run.specs.Meaning.{HasNoJournal, IsAbsentInput, IsAccepted, TakesPart};
 ghost use Rattle.app_run.specs.Meaning.{TakesWhole};
-ghost use Rattle.app_run.specs.Views.{IsTextOf};
+ghost use Rattle.app_run.specs.Views.{IsDiskFault, IsOutputOf, IsSameOutput, IsTextOf, MayGive};
 ghost use Rattle.app_inputs.specs.Views.{command_view};
 ghost use Rattle.app_inputs.specs.Words.{IsInRange, IsOverFiles, command_of};
 ghost use Rattle.app_inputs.specs.Words.Command.{check};
@@ -29,7 +29,9 @@ static USAGE: &[u8] =
     b"usage: tpch session DIR SCRIPT, throughput DIR JOB, explain SCRIPT, check DIR, trial N\n";
 
 /// A text and its status, or why there is none.
-fn output_of(printed: Result<(Vec<u8>, Status), InputError>) -> Result<Output, InputError> {
+fn output_of(printed: Result<(Vec<u8>, Status), InputError>) -> Result<Output, InputError>
+    ensures { IsSameOutput printed result }
+{
     let (text, status) = printed?;
     Ok(Output::Text(text, status))
 }
@@ -40,7 +42,7 @@ fn check_output<F: Files>(
     files: &mut F,
     folder: &str,
 ) -> Result<(Vec<u8>, Status), InputError>
-    ensures text { IsTextOf (check folder.now) (F.held files.old) result }
+    ensures text { (disk : DiskTold) → IsTextOf (check folder.now) (F.held files.old) disk result }
     ensures files { FilesAfterInput F.held F.faults F.misses result files.old files.new }
 {
     match check_text(alloc, files, folder) {
@@ -59,7 +61,13 @@ fn command_text<R: Threads + Wait + Sync, F: Files, D: Disk + Send, G: Gate + Sy
     command: &Command<'_>,
 ) -> Result<Output, InputError>
     requires { IsOverFiles (command_view command.now) }
-    ensures text { IsTextOf (command_view command.now) (F.held files.old) result }
+    ensures output { IsOutputOf (command_view command.now) (F.held files.old)
+        (disk_told (D.named disk.old) (D.reads disk.new)) result }
+    ensures failed { IfOk result (λ output. IsDiskFault output
+        → Rose (D.faults disk.old) (D.faults disk.new)) }
+    ensures later { D.faults disk.old ≤ D.faults disk.new }
+    ensures untouched { HasNoJournal (Some (command_view command.now)) (F.held files.old)
+        → disk.new ≡ disk.old }
     ensures files { FilesAfterInput F.held F.faults F.misses result files.old files.new }
 {
     match command {
@@ -86,10 +94,15 @@ fn output_over_files<R: Threads + Wait + Sync, F: Files, D: Disk + Send, G: Gate
     command: &Command<'_>,
 ) -> Result<Output, ReadError>
     requires { IsOverFiles (command_view command.now) }
-    ensures prints { IfOk result (λ printed. IsAnswer printed.1
-        × Prints (Some (command_view command.now)) (F.held files.old) printed.0.items printed.1) }
-    ensures absent { IfOk result (λ printed. IsAbsentInput (Some (command_view command.now))
-        (F.held files.old)
+    ensures gives { IfOk result (MayGive (command_view command.now) (F.held files.old)
+        (disk_told (D.named disk.old) (D.reads disk.new))) }
+    ensures failed { IfOk result (λ output. IsDiskFault output
+        → Rose (D.faults disk.old) (D.faults disk.new)) }
+    ensures later { D.faults disk.old ≤ D.faults disk.new }
+    ensures untouched { HasNoJournal (Some (command_view command.now)) (F.held files.old)
+        → disk.new ≡ disk.old }
+    ensures absent { IfOk result (λ output. (IsDiskFault output → ⊥)
+        → IsAbsentInput (Some (command_view command.now)) (F.held files.old) (D.named disk.old)
         → Rose (F.misses files.old) (F.misses files.new)) }
     ensures files { FilesAfterRead F.held F.faults F.misses result files.old files.new }
 {
@@ -113,10 +126,15 @@ fn command_output<R: Threads + Wait + Sync, F: Files, D: Disk + Send, G: Gate + 
     command: &Command<'_>,
 ) -> Result<Output, ReadError>
     requires { IsInRange (command_view command.now) }
-    ensures prints { IfOk result (λ printed. IsAnswer printed.1
-        × Prints (Some (command_view command.now)) (F.held files.old) printed.0.items printed.1) }
-    ensures absent { IfOk result (λ printed. IsAbsentInput (Some (command_view command.now))
-        (F.held files.old)
+    ensures gives { IfOk result (MayGive (command_view command.now) (F.held files.old)
+        (disk_told (D.named disk.old) (D.reads disk.new))) }
+    ensures failed { IfOk result (λ output. IsDiskFault output
+        → Rose (D.faults disk.old) (D.faults disk.new)) }
+    ensures later { D.faults disk.old ≤ D.faults disk.new }
+    ensures untouched { HasNoJournal (Some (command_view command.now)) (F.held files.old)
+        → disk.new ≡ disk.old }
+    ensures absent { IfOk result (λ output. (IsDiskFault output → ⊥)
+        → IsAbsentInput (Some (command_view command.now)) (F.held files.old) (D.named disk.old)
         → Rose (F.misses files.old) (F.misses files.new)) }
     ensures files { FilesAfterRead F.held F.faults F.misses result files.old files.new }
 {
@@ -144,26 +162,35 @@ pub fn run<R: Threads + Wait + Sync, F: Files, S: Sink, D: Disk + Send, G: Gate 
     gate: &G,
 ) -> Status
     ensures answer { TakesWhole (command_of (map string_bytes words.now)) (F.held files.old)
-        (S.taken out.old) (S.taken out.new) result }
+        (disk_told (D.named disk.old) (D.reads disk.new)) (S.taken out.old) (S.taken out.new)
+        result }
     ensures read { result ≡ Status.ReadFault → Rose (F.faults files.old) (F.faults files.new)
         × Keeps (S.taken out.old) (S.taken out.new) }
     ensures write { result ≡ Status.WriteFault → Rose (S.faults out.old) (S.faults out.new)
-        × TakesPart (command_of (map string_bytes words.now)) (F.held files.old) (S.taken out.old)
-        (S.taken out.new) }
+        × TakesPart (command_of (map string_bytes words.now)) (F.held files.old)
+        (disk_told (D.named disk.old) (D.reads disk.new)) (S.taken out.old) (S.taken out.new) }
+    ensures disk { result ≡ Status.DiskFault → Rose (D.faults disk.old) (D.faults disk.new)
+        × Keeps (S.taken out.old) (S.taken out.new) }
     ensures memory { result ≡ Status.OutOfMemory → Keeps (S.taken out.old) (S.taken out.new)
-        ⊎ TakesPart (command_of (map string_bytes words.now)) (F.held files.old) (S.taken out.old)
-        (S.taken out.new) }
+        ⊎ TakesPart (command_of (map string_bytes words.now)) (F.held files.old)
+        (disk_told (D.named disk.old) (D.reads disk.new)) (S.taken out.old) (S.taken out.new) }
     ensures absent { result ≡ Status.InputRefused
         → IsAbsentInput (command_of (map string_bytes words.now)) (F.held files.old)
+        (D.named disk.old)
         → Rose (F.misses files.old) (F.misses files.new) }
     ensures complete { IsAccepted (command_of (map string_bytes words.now)) (F.held files.old)
+        (D.named disk.old)
         → ¬ Rose (F.faults files.old) (F.faults files.new)
         → ¬ Rose (S.faults out.old) (S.faults out.new)
+        → ¬ Rose (D.faults disk.old) (D.faults disk.new)
         → result ≢ Status.OutOfMemory → (result ≡ Status.Done) ⊎ (result ≡ Status.SomeRefused) }
     ensures held { F.held files.new ≡ F.held files.old }
     ensures counts { (F.faults files.old ≤ F.faults files.new)
         × (F.misses files.old ≤ F.misses files.new)
-        × (S.faults out.old ≤ S.faults out.new) }
+        × (S.faults out.old ≤ S.faults out.new)
+        × (D.faults disk.old ≤ D.faults disk.new) }
+    ensures untouched { HasNoJournal (command_of (map string_bytes words.now)) (F.held files.old)
+        → disk.new ≡ disk.old }
 {
     let Ok(read) = read_words(alloc, words) else {
         return Status::OutOfMemory;

@@ -1,4 +1,17 @@
 //! A job that keeps its accepted refreshes in a journal.
+ghost use Rattle.std.specs.Prelude.{◌≡◌, ◌+◌, ◌<◌, ◌≤◌, ◌^◌, [], IfOk, false, length, map, true, vec_len};
+ghost use Rattle.base_io.specs.Outside.{Rose};
+ghost use Rattle.store_durability.specs.Feed.{StoredFits};
+ghost use Rattle.store_journal.specs.Journal.{Stands};
+ghost use Rattle.store_refresh_entries.specs.Change.{IsSpelled, spelling_of};
+ghost use Rattle.store_snapshots.specs.Ruled.{opening_of};
+ghost use Rattle.app_sessions.specs.Asked.{AllUnasked, job_sessions};
+ghost use Rattle.app_sessions.specs.Workers.{AreOfOpening};
+ghost use Rattle.app_run.specs.JobViews.{IsKeepable, IsRunnable, work_view};
+ghost use Rattle.app_run.specs.Opened.{CanPlay, IsFedText, PlaysKept, PlaysOpen};
+ghost use Rattle.app_run.specs.Opened.{StartsBehind};
+ghost use Rattle.app_run.specs.Reaching.{IsPlayFault, IsPlayed, PublishesKept};
+
 use crate::job_sources::JobSources;
 use crate::journal::{Reached, reach_journal};
 use app_inputs::InputFault;
@@ -44,7 +57,13 @@ fn publish_kept<R: Wait>(
     rt: &R,
     kept: usize,
     publisher: &mut Publisher,
-) -> Result<Option<(usize, Cause)>, AllocError> {
+) -> Result<Option<(usize, Cause)>, AllocError>
+    requires fresh { publisher.old.version.done ≡ 0 }
+    requires shown { publisher.old.shown ≡ publisher.old.version }
+    requires within { kept ≤ length publisher.old.version.list }
+    ensures { IfOk result (PublishesKept kept publisher.old.version publisher.new.version
+        publisher.new.shown) }
+{
     for number in 0..kept {
         match publisher.publish_next(rt) {
             Published::Published(_) => {}
@@ -66,7 +85,23 @@ fn play_beside<R: Threads + Wait + Sync, D: Disk + Send, G: Gate + Sync>(
     readers: Vec<Reader<RuledEntry>>,
     publisher: &mut Publisher,
     feed: &mut StoredFeed<D>,
-) -> Result<Played, AllocError> {
+) -> Result<Played, AllocError>
+    requires sessions { (0 < vec_len sessions) × (vec_len sessions < 2 ^ 32) }
+    requires unasked { AllUnasked sessions.items }
+    requires readers { 0 < vec_len readers }
+    requires opened { AreOfOpening opening_of publisher.old.version readers.items }
+    requires shown { publisher.old.shown ≡ publisher.old.version }
+    requires whole { publisher.old.version.most ≡ length publisher.old.version.list }
+    requires before { publisher.old.version.done + before ≤ length publisher.old.version.list }
+    requires fits { StoredFits D.is_reached D.may_leave feed.old.journal feed.old.disk
+        publisher.old.version }
+    requires start { (feed.old.start ≡ publisher.old.version) × (feed.old.count ≡ 0) }
+    ensures played { IfOk result (IsFedText D.may_leave publisher.old.version before
+        (job_sessions sessions.items) feed.new.disk) }
+    ensures failed { IfOk result (λ played. IsPlayFault played
+        → Rose (D.faults feed.old.disk) (D.faults feed.new.disk)) }
+    ensures later { D.faults feed.old.disk ≤ D.faults feed.new.disk }
+{
     match run_feed_job(rt, alloc, before, gate, sessions, readers, publisher, feed) {
         Ok(text) => Ok(Played::Text(text)),
         Err(JobError::Failed) => Ok(Played::DiskFault),
@@ -79,7 +114,13 @@ fn play_beside<R: Threads + Wait + Sync, D: Disk + Send, G: Gate + Sync>(
 fn play<R: Threads + Wait + Sync, D: Disk + Send, G: Gate + Sync>(
     disk: D,
     job: (&R, &G, OpenJob),
-) -> (D, Result<Played, AllocError>) {
+) -> (D, Result<Played, AllocError>)
+    requires { CanPlay D.is_reached D.may_leave job.2 disk }
+    ensures played { IfOk result.1 (PlaysOpen D.may_leave job.2 result.0) }
+    ensures failed { IfOk result.1 (λ played. IsPlayFault played
+        → Rose (D.faults disk) (D.faults result.0)) }
+    ensures later { D.faults disk ≤ D.faults result.0 }
+{
     let (rt, gate, job) = job;
     let OpenJob {
         alloc,
@@ -111,7 +152,13 @@ fn start_of<R: Wait>(
     rt: &R,
     kept: usize,
     publisher: &mut Publisher,
-) -> Result<Result<Snapshot, InputFault>, AllocError> {
+) -> Result<Result<Snapshot, InputFault>, AllocError>
+    requires fresh { publisher.old.version.done ≡ 0 }
+    requires shown { publisher.old.shown ≡ publisher.old.version }
+    requires within { kept ≤ length publisher.old.version.list }
+    ensures { IfOk result (StartsBehind kept publisher.old.version publisher.new.version
+        publisher.new.shown) }
+{
     if let Some((number, cause)) = publish_kept(rt, kept, publisher)? {
         return Ok(Err(InputFault::RefusedEntry(number, cause)));
     }
@@ -128,7 +175,21 @@ fn run_kept<R: Threads + Wait + Sync, D: Disk + Send, G: Gate + Sync>(
     journal: Journal,
     kept: Vec<Refresh>,
     sources: JobSources,
-) -> Result<Played, AllocError> {
+) -> Result<Played, AllocError>
+    requires runnable { IsRunnable sources }
+    requires unsent { sources.senders.items ≡ [] }
+    requires keepable { IsKeepable sources }
+    requires reached { D.is_reached disk.old ≡ true }
+    requires working { journal.is_shut ≡ false }
+    requires short { journal.end ≤ 2 ^ 61 }
+    requires stands { Stands IsSpelled (D.may_leave disk.old) (map spelling_of kept.items)
+        journal.end }
+    ensures played { IfOk result (PlaysKept kept.items (D.reads disk.new) (work_view sources)
+        (job_sessions sources.sessions.items)) }
+    ensures failed { IfOk result (λ played. IsPlayFault played
+        → Rose (D.faults disk.old) (D.faults disk.new)) }
+    ensures later { D.faults disk.old ≤ D.faults disk.new }
+{
     let JobSources {
         sessions,
         base,
@@ -174,7 +235,16 @@ pub fn play_kept<R: Threads + Wait + Sync, D: Disk + Send, G: Gate + Sync>(
     disk: &mut D,
     name: &str,
     sources: JobSources,
-) -> Result<Played, AllocError> {
+) -> Result<Played, AllocError>
+    requires runnable { IsRunnable sources }
+    requires unsent { sources.senders.items ≡ [] }
+    requires keepable { IsKeepable sources }
+    ensures played { IfOk result (IsPlayed name.now (D.named disk.old) (D.reads disk.new)
+        (work_view sources) (job_sessions sources.sessions.items)) }
+    ensures failed { IfOk result (λ played. IsPlayFault played
+        → Rose (D.faults disk.old) (D.faults disk.new)) }
+    ensures later { D.faults disk.old ≤ D.faults disk.new }
+{
     match reach_journal(alloc, disk, name)? {
         Reached::Journal(journal, kept) => {
             run_kept(rt, alloc, gate, disk, journal, kept, sources)
