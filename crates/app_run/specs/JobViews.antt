@@ -4,7 +4,6 @@ use Rattle.std.specs.Prelude.{slice_index_or}
 use Rattle.std.specs.Prelude.{[], Option, Some, option_map}
 use Rattle.std.specs.Global.{Vec}
 use Rattle.std.specs.List.{AllByRecursion, list_any}
-use Rattle.store_refresh_entries.specs.Change.{HasFewBytes, IsStorable}
 use Rattle.std.specs.String.{string_bytes}
 use Rattle.std.specs.declared.result.Result.{Result}
 use Rattle.std.specs.declared.result.Result.TheVariants.{Ok, Err}
@@ -23,6 +22,7 @@ use Rattle.app_run.specs.JobMeaning.{DiskTold, IsFirstOfJob, MeansJob, PrintsJob
 use Rattle.app_run.specs.declared.output.Output.{Output}
 use Rattle.app_run.specs.declared.output.Output.TheVariants as output
 use Rattle.app_inputs.specs.Printing.{IsDone}
+use Rattle.app_inputs.specs.SetFile.{MayBeStored}
 use Rattle.app_inputs.specs.Views.{IfKnown, refused_view}
 use Rattle.app_inputs.specs.declared.input_error.InputError.{InputError}
 use Rattle.app_inputs.specs.declared.input_error.InputError.TheVariants as error
@@ -103,9 +103,8 @@ pub record IsRunnable (sources : JobSources) : Type 0 where
       → sources.before + length sources.senders.items ≡ length sources.list.items
 
 -- its refreshes may come to be stored in a journal
-pub record IsKeepable (sources : JobSources) : Type 0 where
-  pub storable : AllByRecursion IsStorable sources.list.items
-  pub short : AllByRecursion HasFewBytes sources.list.items
+abbrev pub IsKeepable : JobSources → Type 0
+IsKeepable sources = AllByRecursion MayBeStored sources.list.items
 
 -- the same, and each session prints rows, or none does
 pub record IsPlayable (shows_rows : Bool) (sources : JobSources) : Type 0 where
