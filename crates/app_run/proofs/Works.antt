@@ -50,7 +50,7 @@ explained_refused script (Some folder) (error.Refused refusal) found = (Err (ref
 
 -- a script that was read and explained
 pub explained_printed : (script : List ℕ) (held : Option Folder) (statements steps : List Statement) (text : List ℕ) (s : Status) → IfKnown held (λ folder. IsScriptOf script (file_bytes script_limit folder script) (Ok statements))
-    → ExpandAll statements steps → MeansExplained steps text s → Prints (Some (explain script)) held text s
+    → ExpandAll statements steps → MeansExplained steps text s → (disk : DiskTold) → Prints (Some (explain script)) held disk text s
 explained_printed script None statements steps text s found expanded means = explained_may_end script None text s (explained_done steps text s means) tt
 explained_printed script (Some folder) statements steps text s found expanded means = (Ok steps, (Ok statements, found, expanded), means)
 
@@ -71,7 +71,7 @@ same_work_refused dir script held later steps other made same is has explains =
 
 -- all inputs were read
 pub session_printed : (dir script : List ℕ) (held later : Option Folder) (steps : List Statement) (work : Work) (text : List ℕ) (s : Status) → later ≡ held
-    → IfKnown held (HasSteps script steps) → IfKnown later (λ folder. work_of dir folder steps ≡ Ok work) → MeansSession work text s → Prints (Some (session dir script)) held text s
+    → IfKnown held (HasSteps script steps) → IfKnown later (λ folder. work_of dir folder steps ≡ Ok work) → MeansSession work text s → (disk : DiskTold) → Prints (Some (session dir script)) held disk text s
 session_printed dir script None later steps work text s same has read means = session_may_end dir script None text s (session_done work text s means) tt
 session_printed dir script (Some folder) later steps work text s same has read means =
     let is : work_of dir folder steps ≡ Ok work = subst (λ (k : Option Folder). IfKnown k (λ f. work_of dir f steps ≡ Ok work)) same read in

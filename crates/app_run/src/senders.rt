@@ -1,5 +1,6 @@
 //! A job of which two senders send the refreshes beside the sessions, each in a thread of its own.
 ghost use Rattle.std.specs.Prelude.{◌≡◌, ◌+◌, ◌<◌, ◌^◌, [], ◌∷◌, ◌++◌, IfOk, OnOk, length, vec_len};
+ghost use Rattle.std.specs.Prelude.{ℕ, List, None, Option};
 ghost use Rattle.std.specs.List.{zip};
 ghost use denote.Param.Send.{IsSync};
 ghost use Rattle.store_gateway.specs.Roles.{sent_by};
@@ -221,7 +222,8 @@ pub fn run_with_senders<R: Threads + Wait + Sync, G: Gate + Sync>(
 ) -> Result<JobText, AllocError>
     requires runnable { IsRunnable sources }
     requires sent { 0 < length sources.senders.items }
-    ensures { IfOk result (IsTextInOrder (work_view sources)
+    requires plain { sources.journal ≡ None }
+    ensures { (reads : Option (List ℕ)) → IfOk result (IsTextInOrder (work_view sources) reads
         (job_sessions sources.sessions.items)) }
 {
     let JobSources {
