@@ -7,7 +7,8 @@ use Rattle.store_file_reader.specs.File.{most_bytes}
 use Rattle.store_refresh_entries.specs.Laws.{DeletesAreReadable, DeletesAreShort, InsertsAreReadable, InsertsAreShort}
 use Rattle.store_state.specs.Keys.{order_keys}
 use Rattle.store_state.specs.Refresh.{DeleteKeys, InsertRows, MalformedFile}
-use Rattle.app_inputs.specs.SetFile.{IsOfFile, MayBeStored}
+use Rattle.store_refresh_entries.specs.Change.{MayBeStored}
+use Rattle.app_inputs.specs.SetFile.{IsOfFile}
 use Rattle.base_refusals.specs.declared.refresh.RefreshFile.{RefreshFile}
 
 pub insert_stored : (readable : InsertsAreReadable) (short : InsertsAreShort) (orders lineitems : List (List Value))

@@ -7,7 +7,8 @@ ghost use Rattle.app_inputs.specs.FilesAfter.{FilesAfterInput};
 ghost use Rattle.app_inputs.specs.KnownFiles.{AreKnown};
 ghost use Rattle.app_inputs.specs.Inputs.{changes_in, delete_of, insert_of, mention_of, mentions_of};
 ghost use Rattle.app_inputs.specs.Inputs.{refresh_in};
-ghost use Rattle.app_inputs.specs.SetFile.{FitsFile, IsOfFile, MayBeStored};
+ghost use Rattle.store_refresh_entries.specs.Change.{MayBeStored};
+ghost use Rattle.app_inputs.specs.SetFile.{FitsFile, IsOfFile};
 ghost use Rattle.app_inputs.specs.Views.{Reads};
 
 use crate::input_error::InputError;

@@ -22,7 +22,7 @@ use Rattle.app_run.specs.JobMeaning.{DiskTold, IsFirstOfJob, MeansJob, PrintsJob
 use Rattle.app_run.specs.declared.output.Output.{Output}
 use Rattle.app_run.specs.declared.output.Output.TheVariants as output
 use Rattle.app_inputs.specs.Printing.{IsDone}
-use Rattle.app_inputs.specs.SetFile.{MayBeStored}
+use Rattle.store_refresh_entries.specs.Change.{MayBeStored}
 use Rattle.app_inputs.specs.Views.{IfKnown, refused_view}
 use Rattle.app_inputs.specs.declared.input_error.InputError.{InputError}
 use Rattle.app_inputs.specs.declared.input_error.InputError.TheVariants as error

@@ -5,7 +5,10 @@ use Rattle.std.specs.declared.result.Result.TheVariants.{Ok, Err}
 use Rattle.std.specs.Prelude.{None, Option, vec_len}
 use Rattle.base_refusals.specs.declared.refresh.Cause.{Cause}
 use Rattle.store_durability.specs.Feed.{StoredFits}
+use Rattle.base_schema.specs.State.{State}
+use Rattle.app_sessions.specs.declared.session.Session.{Session}
 use Rattle.store_journal.specs.Format.{StandsFor}
+use Rattle.store_journal.specs.declared.journal.Journal.{Journal}
 use Rattle.store_refresh_entries.specs.Change.{IsSpelled, spelling_of}
 use Rattle.store_snapshots.specs.Ruled.{opening_of}
 use Rattle.store_snapshots.specs.Turns.{from_nobody}
@@ -75,3 +78,18 @@ PlaysKept kept journal_then work sessions (played.Text job) = (taken work.base k
 PlaysKept kept journal_then work sessions (played.Refused why) = (number : ℕ) × (cause : Cause)
     × (why ≡ fault.RefusedEntry number cause) × IsFirstRefusedEntry work.base kept number cause
 PlaysKept kept journal_then work sessions played.DiskFault = ⊤
+
+-- A job is opened over a list whose first refreshes a journal keeps: a publisher of the list has
+-- published these, and is to have so many in the end; or one of these is refused.
+abbrev pub OpensJob : ℕ → ℕ → Journal → List Change → List Session → State → ℕ
+    → Result OpenJob InputFault → Type 0
+OpensJob kept most journal list sessions base before (Ok job) = (job.sessions.items ≡ sessions)
+    × (job.journal ≡ journal) × (job.before ≡ before) × (job.start ≡ job.publisher.version)
+    × (job.publisher.version
+    ≡ record { base = base; list = list; done = kept; most = most })
+    × (job.publisher.shown ≡ job.publisher.version) × (0 < vec_len job.readers)
+    × AreOfOpening opening_of job.publisher.version job.readers.items
+    × (taken base (take kept list) ≡ take kept list)
+OpensJob kept most journal list sessions base before (Err why) = (number : ℕ) × (cause : Cause)
+    × (why ≡ fault.RefusedEntry number cause)
+    × IsFirstRefusedEntry base (take kept list) number cause

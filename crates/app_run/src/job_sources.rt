@@ -1,7 +1,7 @@
 //! What a job works on, and reading it.
 ghost use Rattle.std.specs.Prelude.{◌≡◌, IfOk, length};
 ghost use Rattle.std.specs.List.{AllByRecursion};
-ghost use Rattle.app_inputs.specs.SetFile.{MayBeStored};
+ghost use Rattle.store_refresh_entries.specs.Change.{MayBeStored};
 ghost use Rattle.app_inputs.specs.FilesAfter.{FilesAfterInput};
 ghost use Rattle.app_inputs.specs.Views.{Finds, Reads};
 ghost use Rattle.app_run.specs.JobInputs.{AreJobFiles, job_base};

@@ -8,14 +8,15 @@ ghost use Rattle.store_snapshots.specs.Ruled.{opening_of};
 ghost use Rattle.app_sessions.specs.Asked.{AllUnasked, job_sessions};
 ghost use Rattle.app_sessions.specs.Workers.{AreOfOpening};
 ghost use Rattle.app_run.specs.JobViews.{IsKeepable, IsRunnable, work_view};
-ghost use Rattle.app_run.specs.Opened.{CanPlay, IsFedText, PlaysKept, PlaysOpen};
-ghost use Rattle.app_run.specs.Opened.{StartsBehind};
+ghost use Rattle.app_run.specs.Opened.{CanPlay, IsFedText, OpensJob, PlaysKept};
+ghost use Rattle.app_run.specs.Opened.{PlaysOpen, StartsBehind};
 ghost use Rattle.app_run.specs.Reaching.{IsPlayFault, IsPlayed, PublishesKept};
 
 use crate::job_sources::JobSources;
 use crate::journal::{Reached, reach_journal};
+use crate::kept_senders::run_kept_sent;
 use app_inputs::InputFault;
-use app_sessions::{JobError, JobText, Session, run_feed_job};
+use app_sessions::{JobError, JobSetup, JobText, Session, run_feed_job};
 use base_disk::Disk;
 use base_io::Gate;
 use base_refusals::Cause;
@@ -26,7 +27,7 @@ use std::thread::Threads;
 use store_durability::StoredFeed;
 use store_journal::Journal;
 use store_snapshots::{Published, Publisher, Reader, RuledEntry, Snapshot, open};
-use store_state::Refresh;
+use store_state::{Refresh, State};
 
 /// What comes of a job with a journal.
 #[derive(Drop)]
@@ -40,15 +41,15 @@ pub enum Played {
 }
 
 /// A job whose journal is open, with a publisher that has published what the journal keeps.
-struct OpenJob {
-    alloc: Global,
-    sessions: Vec<Session>,
-    readers: Vec<Reader<RuledEntry>>,
-    publisher: Publisher,
-    journal: Journal,
+pub struct OpenJob {
+    pub alloc: Global,
+    pub sessions: Vec<Session>,
+    pub readers: Vec<Reader<RuledEntry>>,
+    pub publisher: Publisher,
+    pub journal: Journal,
     /// What the publisher has left begins behind this version.
-    start: Snapshot,
-    before: usize,
+    pub start: Snapshot,
+    pub before: usize,
 }
 
 /// Publishes the first refreshes of the list, which a journal keeps. Answers the first that is
@@ -102,7 +103,13 @@ fn play_beside<R: Threads + Wait + Sync, D: Disk + Send, G: Gate + Sync>(
         → Rose (D.faults feed.old.disk) (D.faults feed.new.disk)) }
     ensures later { D.faults feed.old.disk ≤ D.faults feed.new.disk }
 {
-    match run_feed_job(rt, alloc, before, gate, sessions, readers, publisher, feed) {
+    let setup = JobSetup {
+        sessions,
+        readers,
+        before,
+        most: publisher.listed(),
+    };
+    match run_feed_job(rt, alloc, gate, setup, publisher, feed) {
         Ok(text) => Ok(Played::Text(text)),
         Err(JobError::Failed) => Ok(Played::DiskFault),
         Err(JobError::OutOfMemory) => Err(AllocError),
@@ -166,7 +173,48 @@ fn start_of<R: Wait>(
     Ok(Ok(start))
 }
 
-/// Runs the sessions beside a publisher of what the journal keeps and of the job's refreshes.
+/// Opens a job over a list whose first refreshes the journal keeps, and publishes these; or answers
+/// which of them is refused.
+pub fn open_job<R: Wait>(
+    rt: &R,
+    alloc: Global,
+    kept: usize,
+    most: usize,
+    journal: Journal,
+    list: Vec<Refresh>,
+    sources: (Vec<Session>, State, usize),
+) -> Result<Result<OpenJob, InputFault>, AllocError>
+    requires sessions { (0 < vec_len sources.0) × (vec_len sources.0 < 2 ^ 32) }
+    requires kept { kept ≤ length list.items }
+    requires most { length list.items ≤ most }
+    ensures { IfOk result (OpensJob kept most journal list.items sources.0.items sources.1
+        sources.2) }
+{
+    let (sessions, base, before) = sources;
+    let (mut publisher, readers) = open(rt, alloc, base, list, sessions.len() as u32, most)?;
+    match start_of(rt, kept, &mut publisher) {
+        Ok(Ok(start)) => Ok(Ok(OpenJob {
+            alloc,
+            sessions,
+            readers,
+            publisher,
+            journal,
+            start,
+            before,
+        })),
+        Ok(Err(fault)) => {
+            publisher.close(rt);
+            Ok(Err(fault))
+        }
+        Err(error) => {
+            publisher.close(rt);
+            Err(error)
+        }
+    }
+}
+
+/// Runs the sessions beside a publisher of what the journal keeps and of the job's refreshes, which
+/// nobody sends.
 fn run_kept<R: Threads + Wait + Sync, D: Disk + Send, G: Gate + Sync>(
     rt: &R,
     alloc: Global,
@@ -202,28 +250,17 @@ fn run_kept<R: Threads + Wait + Sync, D: Disk + Send, G: Gate + Sync>(
     let mut all = kept;
     all.append(&mut list)?;
     let most = all.len();
-    let (mut publisher, readers) = open(rt, alloc, base, all, sessions.len() as u32, most)?;
-    match start_of(rt, count, &mut publisher) {
-        Ok(Ok(start)) => {
-            let job = OpenJob {
-                alloc,
-                sessions,
-                readers,
-                publisher,
-                journal,
-                start,
-                before,
-            };
-            replace_with(disk, (rt, gate, job), play::<R, D, G>)
-        }
-        Ok(Err(fault)) => {
-            publisher.close(rt);
-            Ok(Played::Refused(fault))
-        }
-        Err(error) => {
-            publisher.close(rt);
-            Err(error)
-        }
+    match open_job(
+        rt,
+        alloc,
+        count,
+        most,
+        journal,
+        all,
+        (sessions, base, before),
+    )? {
+        Ok(job) => replace_with(disk, (rt, gate, job), play::<R, D, G>),
+        Err(fault) => Ok(Played::Refused(fault)),
     }
 }
 
@@ -237,7 +274,6 @@ pub fn play_kept<R: Threads + Wait + Sync, D: Disk + Send, G: Gate + Sync>(
     sources: JobSources,
 ) -> Result<Played, AllocError>
     requires runnable { IsRunnable sources }
-    requires unsent { sources.senders.items ≡ [] }
     requires keepable { IsKeepable sources }
     ensures played { IfOk result (IsPlayed name.now (D.named disk.old) (D.reads disk.new)
         (work_view sources) (job_sessions sources.sessions.items)) }
@@ -247,7 +283,11 @@ pub fn play_kept<R: Threads + Wait + Sync, D: Disk + Send, G: Gate + Sync>(
 {
     match reach_journal(alloc, disk, name)? {
         Reached::Journal(journal, kept) => {
-            run_kept(rt, alloc, gate, disk, journal, kept, sources)
+            if sources.senders.is_empty() {
+                run_kept(rt, alloc, gate, disk, journal, kept, sources)
+            } else {
+                run_kept_sent(rt, alloc, gate, disk, journal, kept, sources)
+            }
         }
         Reached::Refused(fault) => Ok(Played::Refused(fault)),
         Reached::DiskFault => Ok(Played::DiskFault),

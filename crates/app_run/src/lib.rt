@@ -11,6 +11,7 @@ mod job_input;
 mod job_sources;
 mod journal;
 mod kept;
+mod kept_senders;
 pub mod laws;
 mod output;
 mod senders;

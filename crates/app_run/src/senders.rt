@@ -26,7 +26,7 @@ use store_state::{Refresh, State};
 
 /// How many messages the queue of the senders holds at most: as many as a job has refreshes, and
 /// the ends of both senders. So it is never full.
-const MOST_MESSAGES: usize = 1026;
+pub(crate) const MOST_MESSAGES: usize = 1026;
 
 /// Gives a refresh to its sender.
 fn give(
@@ -48,7 +48,7 @@ fn give(
 }
 
 /// Gives refreshes to their senders. Each sender's keep their order.
-fn divide(
+pub(crate) fn divide(
     alloc: Global,
     senders: &[SenderId],
     sent: Vec<Refresh>,
@@ -72,14 +72,14 @@ fn divide(
 /// The senders of a job, and what each of them sends.
 #[derive(Drop)]
 pub struct Senders {
-    first: Sender,
-    second: Sender,
-    firsts: Vec<Refresh>,
-    seconds: Vec<Refresh>,
+    pub(crate) first: Sender,
+    pub(crate) second: Sender,
+    pub(crate) firsts: Vec<Refresh>,
+    pub(crate) seconds: Vec<Refresh>,
 }
 
 /// Sends the refreshes of two senders, each sender's in a thread of its own.
-fn send_both<R: Threads + Wait + Sync>(rt: &R, senders: Senders) -> (Ended, Ended)
+pub(crate) fn send_both<R: Threads + Wait + Sync>(rt: &R, senders: Senders) -> (Ended, Ended)
     requires { MaySendBoth senders }
     ensures { BothEnd senders result }
 {

@@ -108,8 +108,7 @@ fn kept_output<R: Threads + Wait + Sync, D: Disk + Send, G: Gate + Sync>(
     name: &str,
     sources: JobSources,
 ) -> Result<Output, InputError>
-    requires playable { IsPlayable shows_rows sources }
-    requires unsent { sources.senders.items ≡ [] }
+    requires { IsPlayable shows_rows sources }
     ensures output { IsOutputOver shows_rows name.now (D.named disk.old) (D.reads disk.new)
         (work_view sources) result }
     ensures read { IfErr result IsOfBytes }

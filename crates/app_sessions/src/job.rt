@@ -84,9 +84,7 @@ pub fn run_job<F: Feed + Send, G: Gate + Sync, R: Threads + Wait + Sync>(
         most,
     } = setup;
     let mut first = ListFeed::new(publisher)?;
-    let run = prepare(
-        rt, alloc, before, sessions, readers, publisher, &mut first,
-    )?;
+    let run = prepare(rt, alloc, before, sessions, readers, publisher, &mut first)?;
     run_beside(rt, alloc, gate, most, run, publisher, feed)
 }
 

@@ -1,4 +1,4 @@
-//! A job whose publisher's list has all its refreshes.
+//! A job whose feed has each of its refreshes tried.
 ghost use Rattle.std.specs.Prelude.{◌≡◌, ◌≢◌, ◌+◌, ◌<◌, ◌≤◌, ◌^◌, [], IfOk, IsErrOf, Err, length};
 ghost use Rattle.std.specs.Prelude.{vec_len};
 ghost use Rattle.base_io.specs.Outside.{Counts};
@@ -11,7 +11,7 @@ ghost use Rattle.app_sessions.specs.declared.job_error.JobError.TheVariants.{Fai
 ghost use Rattle.app_sessions.specs.declared.job_error.JobError.TheVariants.{TooFewRefreshes};
 
 use crate::forking::prepare;
-use crate::job::run_beside;
+use crate::job::{JobSetup, run_beside};
 use crate::job_error::JobError;
 use crate::job_text::JobText;
 use crate::session::Session;
@@ -26,37 +26,41 @@ use store_snapshots::{Feed, ListFeed, Publisher, Reader, RuledEntry};
 pub fn run_feed_job<F: Feed + Send, G: Gate + Sync, R: Threads + Wait + Sync>(
     rt: &R,
     alloc: Global,
-    before: usize,
     gate: &G,
-    sessions: Vec<Session>,
-    readers: Vec<Reader<RuledEntry>>,
+    setup: JobSetup,
     publisher: &mut Publisher,
     feed: &mut F,
 ) -> Result<JobText, JobError>
-    requires sessions { (0 < vec_len sessions) × (vec_len sessions < 2 ^ 32) }
-    requires unasked { AllUnasked sessions.items }
-    requires readers { 0 < vec_len readers }
-    requires opened { AreOfOpening opening_of publisher.old.version readers.items }
+    requires sessions { (0 < vec_len setup.sessions) × (vec_len setup.sessions < 2 ^ 32) }
+    requires unasked { AllUnasked setup.sessions.items }
+    requires readers { 0 < vec_len setup.readers }
+    requires opened { AreOfOpening opening_of publisher.old.version setup.readers.items }
     requires shown { publisher.old.shown ≡ publisher.old.version }
-    requires whole { publisher.old.version.most ≡ length publisher.old.version.list }
-    requires before { publisher.old.version.done + before ≤ length publisher.old.version.list }
+    requires most { setup.most ≡ publisher.old.version.most }
+    requires before { publisher.old.version.done + setup.before
+        ≤ length publisher.old.version.list }
     requires fits { F.fits feed.old publisher.old.version }
     requires fresh { F.tried feed.old ≡ [] }
     ensures text { IfOk result (IsOrderText publisher.old.version.base
         (whole_order publisher.old.version (F.tried feed.new))
-        publisher.old.version.done before (job_sessions sessions.items)) }
+        publisher.old.version.done setup.before (job_sessions setup.sessions.items)) }
     ensures many { IfOk result (λ _. length (whole_order publisher.old.version (F.tried feed.new))
-        ≡ length publisher.old.version.list) }
+        ≡ publisher.old.version.most) }
     ensures few { result ≡ Err TooFewRefreshes
         → length (whole_order publisher.old.version (F.tried feed.new))
-        < length publisher.old.version.list }
+        < publisher.old.version.most }
     ensures ended { result ≢ Err OutOfMemory → result ≢ Err Failed
         → EndsFeed (F.fits feed.new) (F.is_over feed.new) publisher.old.version
         (F.tried feed.new) }
     ensures source { F.source feed.new ≡ F.source feed.old }
     ensures failed { Counts (IsErrOf result Failed) (F.faults feed.old) (F.faults feed.new) }
 {
-    let most = publisher.listed();
+    let JobSetup {
+        sessions,
+        readers,
+        before,
+        most,
+    } = setup;
     let run = prepare(rt, alloc, before, sessions, readers, publisher, feed)?;
     run_beside(rt, alloc, gate, most, run, publisher, feed)
 }
@@ -110,9 +114,13 @@ fn run_list<G: Gate + Sync, R: Threads + Wait + Sync>(
         (job_sessions sessions.items)) }
 {
     let mut feed = ListFeed::new(publisher)?;
-    match run_feed_job(
-        rt, alloc, before, gate, sessions, readers, publisher, &mut feed,
-    ) {
+    let setup = JobSetup {
+        sessions,
+        readers,
+        before,
+        most: publisher.listed(),
+    };
+    match run_feed_job(rt, alloc, gate, setup, publisher, &mut feed) {
         Ok(text) => Ok(text),
         Err(JobError::OutOfMemory) => Err(AllocError),
         Err(JobError::Failed) => unreachable!(),

@@ -4,7 +4,7 @@ use Rattle.app_inputs.proofs.Changes.{all_push, changes_behind, changes_counted,
 use Rattle.base_io.specs.Outside.{Folder}
 use Rattle.std.specs.List.{AllByRecursion}
 use Rattle.app_inputs.specs.Inputs.{changes_in}
-use Rattle.app_inputs.specs.SetFile.{MayBeStored}
+use Rattle.store_refresh_entries.specs.Change.{MayBeStored}
 use Rattle.app_inputs.specs.KnownFiles.{AreKnown}
 use Rattle.app_inputs.specs.Views.{IfKnown}
 use Rattle.app_inputs.proofs.refreshes.read_refreshes.Goals as goal

@@ -1,7 +1,7 @@
 use Rattle.std.proofs.Common.{◌≡◌, ◌≤◌, drop, length}
 use Rattle.std.specs.List.{AllByRecursion}
 use Rattle.app_inputs.specs.Inputs.{changes_in}
-use Rattle.app_inputs.specs.SetFile.{MayBeStored}
+use Rattle.store_refresh_entries.specs.Change.{MayBeStored}
 use Rattle.app_inputs.specs.KnownFiles.{AreKnown}
 use Rattle.app_inputs.specs.Views.{IfKnown}
 use Rattle.app_inputs.proofs.Changes.{changes_behind}

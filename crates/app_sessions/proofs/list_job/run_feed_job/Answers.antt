@@ -9,8 +9,8 @@ run_beside-requires-clause-started g c κs within =
     let v = c.args.publisher.now.version in
     let begun : HasStarted c.in_ok-run.run c.prepare.new.publisher (g.F.Feed.tried c.prepare.new.feed) = record {
       start = v;
-      before = c.args.before;
-      sessions = c.args.sessions.items;
+      before = c.args.setup.before;
+      sessions = c.args.setup.sessions.items;
       first = [];
       places = c.requires.before;
       prepared = p.workers;
@@ -27,8 +27,8 @@ returns-clause-text g c =
     let v = c.args.publisher.now.version in
     let begun : HasStarted c.in_ok-run.run c.prepare.new.publisher (g.F.Feed.tried c.prepare.new.feed) = record {
       start = v;
-      before = c.args.before;
-      sessions = c.args.sessions.items;
+      before = c.args.setup.before;
+      sessions = c.args.setup.sessions.items;
       first = [];
       places = c.requires.before;
       prepared = p.workers;
@@ -45,8 +45,8 @@ returns-clause-many g c =
     let v = c.args.publisher.now.version in
     let begun : HasStarted c.in_ok-run.run c.prepare.new.publisher (g.F.Feed.tried c.prepare.new.feed) = record {
       start = v;
-      before = c.args.before;
-      sessions = c.args.sessions.items;
+      before = c.args.setup.before;
+      sessions = c.args.setup.sessions.items;
       first = [];
       places = c.requires.before;
       prepared = p.workers;
@@ -56,7 +56,7 @@ returns-clause-many g c =
       count = p.sizes.0;
     } in
     let many = c.run_beside.ensures.many begun in
-    subst (λ (n : ℕ). IfOk c.run_beside.result (λ _. length (whole_order v (g.F.Feed.tried c.run_beside.new.feed)) ≡ n)) c.listed-most.ensures.listed many
+    subst (λ (n : ℕ). IfOk c.run_beside.result (λ _. length (whole_order v (g.F.Feed.tried c.run_beside.new.feed)) ≡ n)) c.requires.most many
 
 pub returns-clause-few : goal.returns-clause-few
 returns-clause-few g c = λ is.
@@ -64,8 +64,8 @@ returns-clause-few g c = λ is.
     let v = c.args.publisher.now.version in
     let begun : HasStarted c.in_ok-run.run c.prepare.new.publisher (g.F.Feed.tried c.prepare.new.feed) = record {
       start = v;
-      before = c.args.before;
-      sessions = c.args.sessions.items;
+      before = c.args.setup.before;
+      sessions = c.args.setup.sessions.items;
       first = [];
       places = c.requires.before;
       prepared = p.workers;
@@ -74,7 +74,7 @@ returns-clause-few g c = λ is.
       listed = p.sizes.1;
       count = p.sizes.0;
     } in
-    subst (λ (n : ℕ). length (whole_order v (g.F.Feed.tried c.run_beside.new.feed)) < n) c.listed-most.ensures.listed (c.run_beside.ensures.few begun is)
+    subst (λ (n : ℕ). length (whole_order v (g.F.Feed.tried c.run_beside.new.feed)) < n) c.requires.most (c.run_beside.ensures.few begun is)
 
 pub returns-clause-ended : goal.returns-clause-ended
 returns-clause-ended g c = λ memory failed.
@@ -82,8 +82,8 @@ returns-clause-ended g c = λ memory failed.
     let v = c.args.publisher.now.version in
     let begun : HasStarted c.in_ok-run.run c.prepare.new.publisher (g.F.Feed.tried c.prepare.new.feed) = record {
       start = v;
-      before = c.args.before;
-      sessions = c.args.sessions.items;
+      before = c.args.setup.before;
+      sessions = c.args.setup.sessions.items;
       first = [];
       places = c.requires.before;
       prepared = p.workers;
