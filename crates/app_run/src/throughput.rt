@@ -5,8 +5,8 @@ ghost use Rattle.app_sessions.specs.Asked.{job_sessions};
 ghost use Rattle.app_inputs.specs.FilesAfter.{FilesAfterInput};
 ghost use Rattle.base_io.specs.Outside.{Rose};
 ghost use Rattle.app_run.specs.JobMeaning.{IsTextInOrder, MeansJob, NamesNoJournal, disk_told};
-ghost use Rattle.app_run.specs.JobViews.{IsOfBytes, IsOutputOfJob, IsOutputOver, IsPlayable};
-ghost use Rattle.app_run.specs.JobViews.{IsRunnable, work_view};
+ghost use Rattle.app_run.specs.JobViews.{IsOfBytes, IsOutputOfJob, IsOutputOver};
+ghost use Rattle.app_run.specs.JobViews.{IsKeepable, IsPlayable, IsRunnable, work_view};
 ghost use Rattle.app_run.specs.Views.{IsDiskFault, IsOutputOf};
 ghost use Rattle.app_inputs.specs.Words.Command.{throughput};
 
@@ -70,6 +70,7 @@ fn run_sources<R: Threads + Wait + Sync, G: Gate + Sync>(
     sources: JobSources,
 ) -> Result<JobText, AllocError>
     requires runnable { IsRunnable sources }
+    requires keepable { IsKeepable sources }
     requires plain { sources.journal ≡ None }
     ensures { (reads : Option (List ℕ)) → IfOk result (IsTextInOrder (work_view sources) reads
         (job_sessions sources.sessions.items)) }
