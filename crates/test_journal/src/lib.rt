@@ -4,8 +4,6 @@
 #[cfg(test)]
 mod crashes;
 #[cfg(test)]
-mod durable;
-#[cfg(test)]
 mod plain;
 #[cfg(test)]
 mod real_file;

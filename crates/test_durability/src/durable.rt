@@ -3,7 +3,6 @@ ghost use Rattle.std.specs.Prelude.{◌≡◌, [], ◌∷◌, IfOk};
 ghost use Rattle.store_state.specs.Refresh.{DeleteKeys, MalformedFile};
 ghost use Rattle.store_durability.specs.Feed.{StoredFits};
 
-use crate::plain::disk_of;
 use base_columns::Rows;
 use base_disk::{Disk, MemDisk, Reach};
 use base_refusals::{LineFault, LineRefusal, RefreshFile};
@@ -18,6 +17,13 @@ use store_state::{Refresh, State};
 
 /// The journal of one entry that deletes no order.
 const NOTHING: [u8; 11] = [1, 0, 0, 0, 0, 0, 0, 0, 1, 2, 0];
+
+/// A disk whose file `j` is empty; the listed calls fail.
+fn disk_of(alloc: Global, failing: &[u64]) -> Result<MemDisk, AllocError> {
+    let name = String::from_str(alloc, "j")?;
+    let failing = Vec::from_slice(alloc, failing)?;
+    MemDisk::new(alloc, name, Vec::new(alloc), failing, 4096)
+}
 
 /// Eight tables without rows.
 fn no_rows(alloc: Global) -> Result<State, AllocError> {
@@ -86,7 +92,7 @@ fn run_two<R: Wait>(
     alloc: Global,
     failing: &[u64],
 ) -> Result<(&'static str, u64, Vec<u8>), Fail> {
-    let mut disk = disk_of(alloc, &[], failing)?;
+    let mut disk = disk_of(alloc, failing)?;
     if disk.reach("j") == Reach::Failed {
         return Err("no file is reached".into());
     }
