@@ -44,7 +44,8 @@ impl DataReader {
             → MatchResult result (λ rows. rows_for (reading_of self) text ≡ Ok rows)
             (IsErrorOf (rows_for (reading_of self) text)) }
         ensures fit { IfOk result (RowsFit (reading_of self).lines.form) }
-        ensures kinds { (table : TableName) → (reading_of self).lines.form.columns ≡ columns_of table
+        ensures kinds { (table : TableName) → (reading_of self).lines.form.columns
+            ≡ columns_of table
             → IfOk result (RowsAreOf table) }
     {
         match self {

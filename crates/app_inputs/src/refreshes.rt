@@ -1,10 +1,12 @@
 //! Reading the refresh files that a session's statements name.
 ghost use Rattle.std.specs.Prelude.{◌≡◌, ◌++◌, IfOk, OnOk, length};
 ghost use Rattle.std.specs.Vec.{vec_items};
-ghost use Rattle.base_refusals.specs.declared.refresh.RefreshFile.TheVariants.{Orders, Lineitem, Delete};
+ghost use Rattle.base_refusals.specs.declared.refresh.RefreshFile.TheVariants.{Orders, Lineitem};
+ghost use Rattle.base_refusals.specs.declared.refresh.RefreshFile.TheVariants.{Delete};
 ghost use Rattle.app_inputs.specs.FilesAfter.{FilesAfterInput};
 ghost use Rattle.app_inputs.specs.KnownFiles.{AreKnown};
-ghost use Rattle.app_inputs.specs.Inputs.{changes_in, delete_of, insert_of, mention_of, mentions_of};
+ghost use Rattle.app_inputs.specs.Inputs.{changes_in, delete_of, insert_of, mention_of};
+ghost use Rattle.app_inputs.specs.Inputs.{mentions_of};
 ghost use Rattle.app_inputs.specs.Inputs.{refresh_in};
 ghost use Rattle.app_inputs.specs.SetFile.{FitsFile};
 ghost use Rattle.app_inputs.specs.Views.{Reads};

@@ -165,7 +165,8 @@ Says made (Err (Refused line)) = made ≡ Err line
 Says made (Err OutOfMemory) = ⊤
 
 -- the same for one line more, of that number
-abbrev pub Puts : ℕ → Result JobParts JobRefusal → JobParts → Result (Unit {0}) JobFileError → Type 0
+abbrev pub Puts : ℕ → Result JobParts JobRefusal → JobParts → Result (Unit {0}) JobFileError
+    → Type 0
 Puts number made new (Ok done) = made ≡ Ok new
 Puts number made new (Err (Refused refused)) =
     (made ≡ Err refused.refusal) × (refused.line ≡ number)

@@ -3,7 +3,8 @@ ghost use Rattle.std.specs.Prelude.{◌≡◌, codes, option_map};
 ghost use Rattle.std.specs.Char.{is_ascii_digit};
 ghost use Rattle.std.specs.List.{list_all};
 ghost use Rattle.std.specs.Option.{option_and_then};
-ghost use Rattle.app_job_file.specs.Lines.{is_visible, line_of, line_view, mention_after, mention_in};
+ghost use Rattle.app_job_file.specs.Lines.{is_visible, line_of, line_view, mention_after};
+ghost use Rattle.app_job_file.specs.Lines.{mention_in};
 ghost use Rattle.app_job_file.specs.Lines.{refresh_after, rest_after, set_number, word_of};
 
 use crate::job::Mention;

@@ -6,7 +6,8 @@ ghost use Rattle.store_file_reader.specs.File.{cut_lines};
 ghost use Rattle.store_file_reader.specs.Line.{line_text, without_end};
 ghost use Rattle.app_job_file.specs.Files.{IsReadable, IsWithin, Puts, Says, has_sent, has_unsent};
 ghost use Rattle.app_job_file.specs.Files.{is_full, job_of, no_parts, parts_of, with_before};
-ghost use Rattle.app_job_file.specs.Files.{with_beside, with_lines, with_script, with_sent, with_text};
+ghost use Rattle.app_job_file.specs.Files.{with_beside, with_lines, with_script, with_sent};
+ghost use Rattle.app_job_file.specs.Files.{with_text};
 
 use crate::job::{Job, Mention};
 use crate::line::{Line, line_of};

@@ -4,12 +4,15 @@ use Rattle.base_value.specs.declared.value.Value.TheVariants.{Date, Number, Null
 use Rattle.base_refusals.specs.declared.bind.BindRefusal.TheVariants.{DateRange}
 use Rattle.base_refusals.specs.declared.line.LineFault.TheVariants.{BadNumber}
 use Rattle.base_refusals.specs.declared.refresh.Cause.TheVariants.{KeyTwice, LineExists, LineTwice}
-use Rattle.base_refusals.specs.declared.refresh.Cause.TheVariants.{Malformed, OrderExists, StrayLine}
+use Rattle.base_refusals.specs.declared.refresh.Cause.TheVariants.{Malformed, OrderExists}
+use Rattle.base_refusals.specs.declared.refresh.Cause.TheVariants.{StrayLine}
 use Rattle.base_refusals.specs.declared.refresh.RefreshFile.TheVariants.{Delete, Lineitem, Orders}
 use Rattle.base_refusals.specs.declared.statement.FaultKind.TheVariants.{DivideByZero}
-use Rattle.base_refusals.specs.declared.statement.Refusal.TheVariants.{Bind, Fault, Refresh, Template}
+use Rattle.base_refusals.specs.declared.statement.Refusal.TheVariants.{Bind, Fault, Refresh}
+use Rattle.base_refusals.specs.declared.statement.Refusal.TheVariants.{Template}
 use Rattle.base_refusals.specs.declared.statement.Refusal.TheVariants.{ViewExists}
-use Rattle.base_refusals.specs.declared.statement.TemplateRefusal.TheVariants.{NoSuchQuery, WrongKind}
+use Rattle.base_refusals.specs.declared.statement.TemplateRefusal.TheVariants.{NoSuchQuery}
+use Rattle.base_refusals.specs.declared.statement.TemplateRefusal.TheVariants.{WrongKind}
 use Rattle.app_result_text.specs.Answer.{answer_text, header, value_written}
 use Rattle.app_result_text.specs.Lines.{accepted_text, done_text, refusal_text}
 use Rattle.app_result_text.specs.Refusal.{file_name, refusal_written}

@@ -7,15 +7,19 @@ use Rattle.base_refusals.specs.Statement.{fault_kind_name, fault_kind_number, re
 use Rattle.base_refusals.specs.Statement.{refusal_number}
 use Rattle.base_refusals.specs.declared.line.LineRefusal.{LineRefusal}
 use Rattle.base_refusals.specs.declared.refresh.Cause.{Cause}
-use Rattle.base_refusals.specs.declared.refresh.Cause.TheVariants.{OrderExists, OrderTwice, LineTwice}
-use Rattle.base_refusals.specs.declared.refresh.Cause.TheVariants.{StrayLine, UnknownOrder, KeyTwice}
+use Rattle.base_refusals.specs.declared.refresh.Cause.TheVariants.{OrderExists, OrderTwice}
+use Rattle.base_refusals.specs.declared.refresh.Cause.TheVariants.{LineTwice}
+use Rattle.base_refusals.specs.declared.refresh.Cause.TheVariants.{StrayLine, UnknownOrder}
+use Rattle.base_refusals.specs.declared.refresh.Cause.TheVariants.{KeyTwice}
 use Rattle.base_refusals.specs.declared.refresh.Cause.TheVariants.{Malformed, LineExists}
 use Rattle.base_refusals.specs.declared.refresh.RefreshFile.{RefreshFile}
 use Rattle.base_refusals.specs.declared.statement.Refusal.{Refusal}
-use Rattle.base_refusals.specs.declared.statement.Refusal.TheVariants.{Bind, ViewExists, UnknownView}
+use Rattle.base_refusals.specs.declared.statement.Refusal.TheVariants.{Bind, ViewExists}
+use Rattle.base_refusals.specs.declared.statement.Refusal.TheVariants.{UnknownView}
 use Rattle.base_refusals.specs.declared.statement.Refusal.TheVariants.{Fault, Template, Refresh}
 use Rattle.base_refusals.specs.declared.statement.TemplateRefusal.{TemplateRefusal}
-use Rattle.base_refusals.specs.declared.statement.TemplateRefusal.TheVariants.{NoSuchQuery, WrongCount}
+use Rattle.base_refusals.specs.declared.statement.TemplateRefusal.TheVariants.{NoSuchQuery}
+use Rattle.base_refusals.specs.declared.statement.TemplateRefusal.TheVariants.{WrongCount}
 use Rattle.base_refusals.specs.declared.statement.TemplateRefusal.TheVariants.{WrongKind}
 
 -- a whole number after a space

@@ -1,5 +1,6 @@
 -- Some values of the definitions, worked out by hand.
-use Rattle.std.specs.Prelude.{◌≡◌, ℕ, ℤ, pos, List, [], ◌∷◌, ◌++◌, Result, Err, Ok, codes, map, Some}
+use Rattle.std.specs.Prelude.{◌≡◌, ℕ, ℤ, pos, List, [], ◌∷◌, ◌++◌, Result, Err, Ok, codes, map}
+use Rattle.std.specs.Prelude.{Some}
 use Rattle.base_refusals.specs.declared.line.LineFault.TheVariants.{DuplicateKey}
 use Rattle.base_value.specs.declared.value.Value.{Value}
 use Rattle.base_value.specs.declared.value.Value.TheVariants as value

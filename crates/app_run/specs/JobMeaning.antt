@@ -19,7 +19,8 @@ session_with shows_rows steps = record { steps = steps; shows_rows = shows_rows 
 
 -- the text of these sessions beside the refreshes of a job, for the order of the refreshes and the
 -- versions that the run chose
-pub record IsTextInOrder (work : JobWork) (sessions : List JobSession) (job : JobAnswer) : Type 0 where
+pub record IsTextInOrder (work : JobWork) (sessions : List JobSession) (job : JobAnswer)
+    : Type 0 where
   pub order : RefreshOrder
   pub allowed : IsJobOrder work order
   pub text : IsOrderText work.base order 0 work.before sessions job

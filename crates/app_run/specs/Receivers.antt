@@ -28,7 +28,8 @@ pub record CanReceive (receiver : Receiver) : Type 0 where
   pub taker : MayTake receiver.feed.taker receiver.list.items receiver.most
 
 -- they have run, and all was taken
-pub record HasReceived (receiver : Receiver) (text : Option JobAnswer) (feed : GatewayFeed) : Type 0 where
+pub record HasReceived (receiver : Receiver) (text : Option JobAnswer) (feed : GatewayFeed)
+    : Type 0 where
   pub text_is : IsTakenText receiver.base receiver.list.items receiver.most
       (job_sessions receiver.sessions.items) feed.taker text
   pub taken : TakesAll receiver.feed.taker feed.taker

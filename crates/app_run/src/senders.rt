@@ -11,7 +11,8 @@ ghost use Rattle.app_run.specs.JobMeaning.{IsTextInOrder};
 ghost use Rattle.app_run.specs.JobViews.{IsRunnable, work_view};
 ghost use Rattle.app_run.specs.Receivers.{AreOfOneGateway, BothEnd, CanReceive, HasReceived};
 ghost use Rattle.app_run.specs.Receivers.{MaySendBoth};
-ghost use Rattle.app_run.specs.Senders.{EndsAfter, IsSentText, IsTakenText, MaySend, MayTake, TakesAll};
+ghost use Rattle.app_run.specs.Senders.{EndsAfter, IsSentText, IsTakenText, MaySend, MayTake};
+ghost use Rattle.app_run.specs.Senders.{TakesAll};
 
 use crate::job_sources::JobSources;
 use app_sessions::{JobError, JobSetup, JobText, Session, run_job};

@@ -39,7 +39,8 @@ fn run_without_senders<R: Threads + Wait + Sync, G: Gate + Sync>(
 ) -> Result<JobText, AllocError>
     requires runnable { IsRunnable sources }
     requires unsent { sources.senders.items ≡ [] }
-    ensures { IfOk result (IsTextInOrder (work_view sources) (job_sessions sources.sessions.items)) }
+    ensures { IfOk result
+        (IsTextInOrder (work_view sources) (job_sessions sources.sessions.items)) }
 {
     let JobSources {
         sessions,
@@ -61,7 +62,8 @@ fn run_sources<R: Threads + Wait + Sync, G: Gate + Sync>(
     sources: JobSources,
 ) -> Result<JobText, AllocError>
     requires { IsRunnable sources }
-    ensures { IfOk result (IsTextInOrder (work_view sources) (job_sessions sources.sessions.items)) }
+    ensures { IfOk result
+        (IsTextInOrder (work_view sources) (job_sessions sources.sessions.items)) }
 {
     if sources.senders.is_empty() {
         run_without_senders(rt, alloc, gate, sources)

@@ -3,9 +3,11 @@ use Rattle.std.specs.Prelude.{ℕ, ◌+◌, ◌-◌, ◌*◌, ◌%◌, ◌==◌,
 use Rattle.std.specs.Prelude.{◌++◌, codes, decimal, pos, ◌-ℤ◌}
 use Rattle.std.specs.List.{flat_map, range_with_len}
 use Rattle.app_sample_data.specs.Choices.{word, regions, nations, region_of, colours, type_sizes}
-use Rattle.app_sample_data.specs.Choices.{type_finishes, type_metals, container_sizes, container_kinds}
+use Rattle.app_sample_data.specs.Choices.{type_finishes, type_metals, container_sizes}
+use Rattle.app_sample_data.specs.Choices.{container_kinds}
 use Rattle.app_sample_data.specs.Choices.{market_segments, order_statuses, order_priorities}
-use Rattle.app_sample_data.specs.Choices.{return_flags, line_statuses, ship_instructions, ship_modes}
+use Rattle.app_sample_data.specs.Choices.{return_flags, line_statuses, ship_instructions}
+use Rattle.app_sample_data.specs.Choices.{ship_modes}
 use Rattle.app_sample_data.specs.Fields.{draw, field, labelled, money, address, phone, date_text}
 use Rattle.app_sample_data.specs.Fields.{supplier_of, not_third}
 

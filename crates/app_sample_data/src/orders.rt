@@ -2,7 +2,8 @@
 ghost use Rattle.std.specs.Prelude.{◌≡◌, ◌<◌, ◌≤◌, ◌+◌, ◌*◌, ◌^◌, ◌++◌, OnOk, IfOk};
 ghost use Rattle.app_sample_data.specs.Choices.{order_priorities, order_statuses, word};
 ghost use Rattle.app_sample_data.specs.Fields.{draw, field};
-ghost use Rattle.app_sample_data.specs.Lines.{delete_line, lines, order_comment, order_day, order_head};
+ghost use Rattle.app_sample_data.specs.Lines.{delete_line, lines, order_comment, order_day};
+ghost use Rattle.app_sample_data.specs.Lines.{order_head};
 ghost use Rattle.app_sample_data.specs.Lines.{order_line, order_tail};
 ghost use Rattle.app_sample_data.specs.Numbers.{IsDataNumber};
 

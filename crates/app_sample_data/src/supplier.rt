@@ -1,7 +1,8 @@
 //! Suppliers.
 ghost use Rattle.std.specs.Prelude.{◌≡◌, ◌<◌, ◌≤◌, ◌+◌, ◌*◌, ◌^◌, ◌++◌, OnOk, IfOk};
 ghost use Rattle.app_sample_data.specs.Fields.{field};
-ghost use Rattle.app_sample_data.specs.Lines.{lines, supplier_comment, supplier_line, supplier_tail};
+ghost use Rattle.app_sample_data.specs.Lines.{lines, supplier_comment, supplier_line};
+ghost use Rattle.app_sample_data.specs.Lines.{supplier_tail};
 ghost use Rattle.app_sample_data.specs.Numbers.{IsDataNumber};
 
 use crate::fields::{

@@ -40,7 +40,8 @@ pub record ArePrepared {E N : Type 0} (opening : E → Opening) (fits : E → Li
       → AllUnasked (sessions_of (slice_index_or workers i d))
   pub placed :
       (k : ℕ) → k < length sessions
-      → IsPlaced sessions_of workers (place_of (length workers) k) (IsNumber (job_sessions sessions) k)
+      → IsPlaced sessions_of workers (place_of (length workers) k)
+      (IsNumber (job_sessions sessions) k)
 
 -- each session has a place
 abbrev pub HavePlaces : {E N : Type 0} → List (Worker E N) → ℕ → Type 0

@@ -4,7 +4,8 @@ ghost use Rattle.store_versions.specs.Trials.{version_of};
 ghost use Rattle.store_snapshots.specs.Openings.{IsOf, opening_at};
 ghost use Rattle.store_snapshots.specs.Ruled.{list_fits, opening_of};
 ghost use Rattle.app_sessions.specs.Asked.{AllUnasked, IsUnasked};
-ghost use Rattle.app_sessions.specs.Workers.{AllInformed, AllIdle, AreAssigned, AreOfOpening, IsInformed};
+ghost use Rattle.app_sessions.specs.Workers.{AllInformed, AllIdle, AreAssigned, AreOfOpening};
+ghost use Rattle.app_sessions.specs.Workers.{IsInformed};
 ghost use Rattle.app_sessions.specs.Workers.{next_place};
 
 use crate::session::Session;

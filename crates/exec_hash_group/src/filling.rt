@@ -9,7 +9,8 @@ ghost use Rattle.base_value.specs.Value.{same_value};
 ghost use Rattle.base_key_tables.specs.Keys.{same_two};
 ghost use Rattle.base_columns.specs.Lists.{gathered, AreBelow};
 ghost use Rattle.base_columns.specs.Batches.{AreLong};
-ghost use Rattle.exec_hash_group.specs.Filled.{or_place, places_from, filled_row, AreFilled, AreColumns};
+ghost use Rattle.exec_hash_group.specs.Filled.{or_place, places_from, filled_row, AreFilled};
+ghost use Rattle.exec_hash_group.specs.Filled.{AreColumns};
 ghost use Rattle.exec_hash_group.specs.Standings.{ranks, row_ranks};
 
 use crate::grouping::{all_places, key_columns, one_batch};

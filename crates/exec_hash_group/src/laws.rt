@@ -1,6 +1,7 @@
 //! What groups by numbers have to compute. Each function has an empty body: its contract is the
 //! law.
-ghost use Rattle.exec_hash_group.specs.GroupLaws.{GroupByNumbers, DistinctByNumbers, KeysAtFirstPlaces};
+ghost use Rattle.exec_hash_group.specs.GroupLaws.{GroupByNumbers, DistinctByNumbers};
+ghost use Rattle.exec_hash_group.specs.GroupLaws.{KeysAtFirstPlaces};
 
 /// GROUP BY: each key with the aggregates of the rows that have its number, at the least of their
 /// standings.

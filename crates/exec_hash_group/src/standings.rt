@@ -1,7 +1,8 @@
 //! The standings of groups.
 ghost use Rattle.std.specs.Prelude.{◌≡◌, ◌++◌, map, length, slice_index, IfOk, OnOk};
 ghost use Rattle.base_columns.specs.Lists.{AreBelow};
-ghost use Rattle.exec_hash_group.specs.Standings.{ranks, row_ranks, least_of, greatest_of, AreOfNumbers};
+ghost use Rattle.exec_hash_group.specs.Standings.{ranks, row_ranks, least_of, greatest_of};
+ghost use Rattle.exec_hash_group.specs.Standings.{AreOfNumbers};
 ghost use Rattle.exec_hash_group.specs.Standings.{AreFirsts};
 
 use base_columns::{Bag, Batch};

@@ -4,7 +4,8 @@ ghost use Rattle.base_row_laws.specs.Rows.{scanned};
 ghost use Rattle.base_row_laws.specs.Operators.{select};
 ghost use Rattle.base_columns.specs.Lists.{one_list};
 ghost use Rattle.expr_conditions.specs.Ranks.{rank_of};
-ghost use Rattle.exec_parallel_scan.specs.ExpressionGroups.{expression_groups, argument_of, at_place};
+ghost use Rattle.exec_parallel_scan.specs.ExpressionGroups.{expression_groups, argument_of};
+ghost use Rattle.exec_parallel_scan.specs.ExpressionGroups.{at_place};
 ghost use Rattle.exec_parallel_scan.specs.ExpressionGroups.{place_aggregates};
 
 use crate::groups::bag_groups;

@@ -5,7 +5,8 @@ use Rattle.base_row_laws.specs.Bags.{SameBag, Each}
 use Rattle.base_value.specs.declared.value.Value.{Value}
 use Rattle.plan_algebra.specs.declared.node.Node.{Node}
 use Rattle.plan_algebra.specs.Trees.{Database, HasKinds}
-use Rattle.plan_algebra.specs.Plans.{rows_at, node_rows, inputs_of, plan_rows, plan_width, is_formed}
+use Rattle.plan_algebra.specs.Plans.{rows_at, node_rows, inputs_of, plan_rows, plan_width}
+use Rattle.plan_algebra.specs.Plans.{is_formed}
 
 -- A node gives one bag for one bag: where the nodes that it reads have the same rows, as bags, in
 -- two lists, so has it.

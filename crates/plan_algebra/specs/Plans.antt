@@ -7,7 +7,8 @@ use Rattle.std.specs.List.{flat_map, list_all, range_with_len, sum_by}
 use Rattle.std.specs.Cmp.Lexicographic.{pointwise}
 use Rattle.base_row_laws.specs.Ranked.{Ranked}
 use Rattle.base_row_laws.specs.Rows.{columns, scanned}
-use Rattle.base_row_laws.specs.Operators.{select, project, group_by, total, distinct, domain_node, fill}
+use Rattle.base_row_laws.specs.Operators.{select, project, group_by, total, distinct, domain_node}
+use Rattle.base_row_laws.specs.Operators.{fill}
 use Rattle.base_row_laws.specs.Matched.{right_places, inner_matched, outer_matched, mark_matched}
 use Rattle.base_row_laws.specs.Matched.{single_matched}
 use Rattle.base_set_rows.specs.SetOperations.{set_rows}
@@ -19,7 +20,8 @@ use Rattle.base_schema.specs.declared.table.TableName.{TableName}
 use Rattle.base_schema.specs.Tables.{kinds_of}
 use Rattle.plan_algebra.specs.declared.aggregate.Aggregate.{Aggregate}
 use Rattle.plan_algebra.specs.declared.node.Node.{Node}
-use Rattle.plan_algebra.specs.declared.node.Node.TheVariants.{Scan, Domain, Select, Project, Join, Outer}
+use Rattle.plan_algebra.specs.declared.node.Node.TheVariants.{Scan, Domain, Select, Project, Join}
+use Rattle.plan_algebra.specs.declared.node.Node.TheVariants.{Outer}
 use Rattle.plan_algebra.specs.declared.node.Node.TheVariants.{Mark, Single, Group, Fill, Distinct}
 use Rattle.plan_algebra.specs.declared.node.Node.TheVariants.{Set}
 use Rattle.expr_aggregates.specs.Values.{written, value_rank}

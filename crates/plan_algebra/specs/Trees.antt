@@ -4,7 +4,8 @@ use Rattle.std.specs.Prelude.{ℕ, ◌+◌, ◌==◌, if◌then◌else◌, List,
 use Rattle.std.specs.Prelude.{length, replicate}
 use Rattle.base_row_laws.specs.Ranked.{Ranked}
 use Rattle.base_row_laws.specs.Rows.{after, columns, scanned}
-use Rattle.base_row_laws.specs.Operators.{select, project, mark_of, scalar_of, join_loop, outer_loop}
+use Rattle.base_row_laws.specs.Operators.{select, project, mark_of, scalar_of, join_loop}
+use Rattle.base_row_laws.specs.Operators.{outer_loop}
 use Rattle.base_row_laws.specs.Operators.{attach_loop, group_by, total, distinct}
 use Rattle.base_set_rows.specs.declared.kind.SetOperation.{SetOperation}
 use Rattle.base_set_rows.specs.SetOperations.{set_rows}
@@ -23,7 +24,8 @@ use Rattle.base_schema.specs.Tables.{kinds_of}
 use Rattle.plan_algebra.specs.declared.aggregate.Aggregate.{Aggregate}
 use Rattle.plan_algebra.specs.declared.tree.DepTree.{DepTree, DepTree-F}
 use Rattle.plan_algebra.specs.declared.tree.DepTree.TheFolds.{fold-DepTree}
-use Rattle.plan_algebra.specs.declared.tree.DepTree.TheOpen.{Scan, Select, Project, Join, Outer, Mark}
+use Rattle.plan_algebra.specs.declared.tree.DepTree.TheOpen.{Scan, Select, Project, Join, Outer}
+use Rattle.plan_algebra.specs.declared.tree.DepTree.TheOpen.{Mark}
 use Rattle.plan_algebra.specs.declared.tree.DepTree.TheOpen.{Single, Group, Distinct, Set}
 use Rattle.plan_algebra.specs.declared.tree.Side.{Side}
 use Rattle.plan_algebra.specs.declared.tree.Side.TheVariants.{Closed, Shared, Dependent}

@@ -55,7 +55,8 @@ pub fn kept_domain(
     width: u32,
 ) -> Result<KeptDomain, AllocError>
     ensures { IfOk result (λ d. IsKeptDomain s.now on.now sight.now.outer.now sight.now.so_far.now
-        sight.now.before sight.now.start width d.outer d.so_far d.columns d.before d.begin d.start) }
+        sight.now.before sight.now.start width d.outer d.so_far d.columns d.before d.begin
+        d.start) }
 {
     let outer = join_columns(alloc, s, on)?;
     let so_far = so_far_places(alloc, s)?;

@@ -2,7 +2,8 @@
 ghost use Rattle.std.specs.Prelude.{◌≡◌, ◌+◌, ◌==◌, ◌&&◌, ◌||◌, ℕ, suc, map, IfOk, OnOk, IsTrue};
 ghost use Rattle.sql_bound_query.specs.declared.query.BoundAggregate.TheOpen.{Column};
 ghost use Rattle.plan_dependent_tree.specs.Seeks.{any_seeks, has, input_seeks, seeks_of};
-ghost use Rattle.plan_dependent_tree.specs.Seeks.{seeks_of_aggregate, seeks_of_expr, seeks_of_input};
+ghost use Rattle.plan_dependent_tree.specs.Seeks.{seeks_of_aggregate, seeks_of_expr};
+ghost use Rattle.plan_dependent_tree.specs.Seeks.{seeks_of_input};
 ghost use Rattle.plan_dependent_tree.specs.Seeks.{seeks_of_source};
 ghost use Rattle.plan_dependent_tree.specs.Supplied.{Finds};
 

@@ -288,7 +288,8 @@ fn right_source(
     }
 }
 
-// Rows of `nulls` columns to the right of a left row of `width` columns, of which ON keeps some: over
+// Rows of `nulls` columns to the right of a left row of `width` columns, of which ON keeps some:
+// over
 // the domain of what both read, and then the left row.
 #[cycle(depend)]
 fn kept_right(
@@ -301,7 +302,8 @@ fn kept_right(
 ) -> Result<RightRows, AllocError>
     ensures { IfOk result (λ r. ExprIsSupplied on.now domain.outer (width + nulls)
         → rows.width ≡ nulls
-        → KeepsRight on.now domain.outer domain.so_far domain.columns domain.begin domain.start width
+        → KeepsRight on.now domain.outer domain.so_far domain.columns domain.begin domain.start
+        width
         rows.tree nulls r.rows.tree r.side) }
 {
     let KeptDomain {

@@ -1,6 +1,7 @@
 //! Nodes over new inputs.
 ghost use Rattle.std.specs.Prelude.{◌≡◌, IfOk};
-ghost use Rattle.plan_algebra.specs.declared.tree.DepTree.TheVariants.{Select, Project, Join, Outer};
+ghost use Rattle.plan_algebra.specs.declared.tree.DepTree.TheVariants.{Select, Project, Join};
+ghost use Rattle.plan_algebra.specs.declared.tree.DepTree.TheVariants.{Outer};
 ghost use Rattle.plan_algebra.specs.declared.tree.DepTree.TheVariants.{Mark, Single, Group};
 
 use expr_scalar::Expr;

@@ -17,12 +17,14 @@ use Rattle.expr_scalar.specs.declared.expr.Expr.TheVariants.{All, Column}
 use Rattle.expr_conditions.specs.Ranks.{columns_from}
 use Rattle.plan_algebra.specs.declared.aggregate.Aggregate.{Aggregate}
 use Rattle.plan_algebra.specs.declared.node.Node.{Node}
-use Rattle.plan_algebra.specs.declared.node.Node.TheVariants.{Scan, Select, Project, Join, Group, Fill}
+use Rattle.plan_algebra.specs.declared.node.Node.TheVariants.{Scan, Select, Project, Join, Group}
+use Rattle.plan_algebra.specs.declared.node.Node.TheVariants.{Fill}
 use Rattle.plan_algebra.specs.Aggregates.{aggregates_of}
 use Rattle.plan_algebra.specs.declared.tree.DepTree.{DepTree}
 use Rattle.plan_algebra.specs.declared.tree.Side.{Side}
 use Rattle.plan_algebra.specs.declared.tree.Side.TheVariants.{Dependent}
-use Rattle.plan_algebra.specs.Trees.{Database, HasKinds, TreeMeaning, tree_rows, side_of, own_domains}
+use Rattle.plan_algebra.specs.Trees.{Database, HasKinds, TreeMeaning, tree_rows, side_of}
+use Rattle.plan_algebra.specs.Trees.{own_domains}
 use Rattle.plan_algebra.specs.Plans.{plan_rows, plan_width}
 use Rattle.plan_unnesting.specs.declared.domain.Domain.{Domain as DomainData}
 use Rattle.plan_unnesting.specs.declared.domain.DomainRows.{DomainRows}

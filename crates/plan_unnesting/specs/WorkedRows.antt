@@ -10,7 +10,8 @@ use Rattle.expr_operators.specs.declared.operator.Arithmetic.TheVariants.{Add}
 use Rattle.expr_operators.specs.declared.operator.Comparison.TheVariants.{Equal}
 use Rattle.expr_scalar.specs.Cases.{whole}
 use Rattle.expr_scalar.specs.declared.expr.Expr.{Expr}
-use Rattle.expr_scalar.specs.declared.expr.Expr.TheVariants.{Column, Literal, Arithmetic, Compare, All, IsMarked}
+use Rattle.expr_scalar.specs.declared.expr.Expr.TheVariants.{Column, Literal, Arithmetic, Compare}
+use Rattle.expr_scalar.specs.declared.expr.Expr.TheVariants.{All, IsMarked}
 use Rattle.base_schema.specs.declared.table.TableName.TheVariants as table
 use Rattle.plan_algebra.specs.declared.aggregate.Aggregate.TheVariants.{CountRows}
 use Rattle.plan_algebra.specs.declared.tree.DepTree.{DepTree}

@@ -5,7 +5,8 @@ ghost use Rattle.plan_algebra.specs.Plans.{plan_scans, plan_domains};
 ghost use Rattle.plan_unnesting.specs.Domains.{IsInPlan};
 ghost use Rattle.plan_unnesting.specs.Footings.{IsFooting};
 ghost use Rattle.plan_unnesting.specs.FromRows.{IsPart};
-ghost use Rattle.plan_unnesting.specs.Lowerings.{Unnests, Answered, KeepsNodes, Lowers, LowersRight};
+ghost use Rattle.plan_unnesting.specs.Lowerings.{Unnests, Answered, KeepsNodes, Lowers};
+ghost use Rattle.plan_unnesting.specs.Lowerings.{LowersRight};
 
 use crate::carried::is_carried;
 use crate::domain::Domain;

@@ -3,7 +3,8 @@ ghost use Rattle.std.specs.Prelude.{◌≡◌, ◌+◌, ◌<◌, ◌≤◌, [], 
 ghost use Rattle.std.specs.List.{range_with_len};
 ghost use Rattle.base_row_laws.specs.Matched.{side_matched};
 ghost use Rattle.base_row_laws.specs.Trees.{side_width};
-ghost use Rattle.expr_scalar.specs.declared.expr.Expr.TheVariants.{Column as column_of, All as all_of};
+ghost use Rattle.expr_scalar.specs.declared.expr.Expr.TheVariants.{Column as column_of};
+ghost use Rattle.expr_scalar.specs.declared.expr.Expr.TheVariants.{All as all_of};
 ghost use Rattle.plan_algebra.specs.declared.node.Node.TheVariants as node;
 ghost use Rattle.plan_algebra.specs.declared.tree.DepTree.TheOpen as tree;
 ghost use Rattle.plan_algebra.specs.Trees.{side_of, tree_step};

@@ -25,7 +25,8 @@ use Rattle.sql_binder_steps.specs.declared.collected.BoundTable.{BoundTable}
 use Rattle.sql_binder_steps.specs.declared.collected.Collected.{Collected}
 use Rattle.sql_binder_steps.specs.declared.view.View.{View}
 use Rattle.sql_binder_steps.specs.Steps.{Name, Checked, and_then}
-use Rattle.sql_binder_steps.specs.Parts.{outermost, distinct_names, renamed_headers, order_of, new_name}
+use Rattle.sql_binder_steps.specs.Parts.{outermost, distinct_names, renamed_headers, order_of}
+use Rattle.sql_binder_steps.specs.Parts.{new_name}
 use Rattle.sql_binder.specs.Meanings.{Meaning, ChainMeaning, ArmMeaning, ItemMeaning}
 use Rattle.sql_binder.specs.Meanings.{SelectedMeaning, ClauseMeaning, FromItemMeaning, JoinMeaning}
 use Rattle.sql_binder.specs.Meanings.{JoinedMeaning, BlockMeaning, SelectNode, SetPartMeaning}

@@ -1,5 +1,6 @@
 -- What a query means, from SELECT to HAVING.
-use Rattle.std.specs.Prelude.{ℕ, Bool, true, false, not, ◌||◌, ◌==◌, List, [], ◌∷◌, length, Option, Some}
+use Rattle.std.specs.Prelude.{ℕ, Bool, true, false, not, ◌||◌, ◌==◌, List, [], ◌∷◌, length, Option}
+use Rattle.std.specs.Prelude.{Some}
 use Rattle.std.specs.Prelude.{None, if◌then◌else◌}
 use Rattle.std.specs.List.{list_any}
 use Rattle.sql_bound_query.specs.declared.query.BoundExpr.{BoundExpr}
@@ -14,7 +15,8 @@ use Rattle.sql_binder_steps.specs.Names.{Sight}
 use Rattle.sql_binder_steps.specs.Parts.{keys_of, plain, closing, once_each}
 use Rattle.sql_binder_steps.specs.Sets.{set_table}
 use Rattle.sql_binder.specs.Meanings.{ItemMeaning, SelectedMeaning, ClauseMeaning, JoinedMeaning}
-use Rattle.sql_binder.specs.Meanings.{BlockMeaning, BlockNode, SelectNode, SetPartMeaning, SetPartNode}
+use Rattle.sql_binder.specs.Meanings.{BlockMeaning, BlockNode, SelectNode, SetPartMeaning}
+use Rattle.sql_binder.specs.Meanings.{SetPartNode}
 use Rattle.sql_binder.specs.FromLists.{from_list}
 use Rattle.sql_binder.specs.Clauses.{condition, select}
 

@@ -6,7 +6,8 @@ use Rattle.sql_binder_steps.specs.declared.collected.Shown.{Shown}
 use Rattle.sql_binder_steps.specs.declared.scope.ScopeColumn.{ScopeColumn}
 use Rattle.sql_binder_steps.specs.Steps.{Binding, ◌>>=◌, pure, lift, alone}
 use Rattle.sql_binder_steps.specs.Names.{Sight}
-use Rattle.sql_binder_steps.specs.Parts.{inside, no_condition, holding, shown_part, nothing_shown, star}
+use Rattle.sql_binder_steps.specs.Parts.{inside, no_condition, holding, shown_part, nothing_shown}
+use Rattle.sql_binder_steps.specs.Parts.{star}
 use Rattle.sql_binder.specs.Meanings.{ItemMeaning, SelectedMeaning, ClauseMeaning, ItemNode}
 use Rattle.sql_binder.specs.Meanings.{SelectedNode, ClauseNode}
 

@@ -5,10 +5,12 @@ use Rattle.sql_bound_query.specs.declared.query.BoundExpr.{BoundExpr}
 use Rattle.sql_bound_query.specs.declared.query.BoundSource.TheVariants as source
 use Rattle.sql_bound_query.specs.declared.query.Input.TheVariants as input
 use Rattle.expr_operators.specs.declared.operator.Comparison.TheVariants as operator
-use Rattle.base_refusals.specs.declared.bind.BindRefusal.TheVariants.{UnknownColumn, AmbiguousColumn}
+use Rattle.base_refusals.specs.declared.bind.BindRefusal.TheVariants.{UnknownColumn}
+use Rattle.base_refusals.specs.declared.bind.BindRefusal.TheVariants.{AmbiguousColumn}
 use Rattle.base_refusals.specs.declared.bind.BindRefusal.TheVariants.{DuplicateAlias, TypeMismatch}
 use Rattle.base_refusals.specs.declared.bind.BindRefusal.TheVariants.{NotGrouped, NestedAggregate}
-use Rattle.base_refusals.specs.declared.bind.BindRefusal.TheVariants.{SubqueryColumns, IntervalOnColumn}
+use Rattle.base_refusals.specs.declared.bind.BindRefusal.TheVariants.{SubqueryColumns}
+use Rattle.base_refusals.specs.declared.bind.BindRefusal.TheVariants.{IntervalOnColumn}
 use Rattle.base_refusals.specs.declared.bind.BindRefusal.TheVariants.{TooManyTables}
 use Rattle.expr_scalar.specs.declared.expr.Expr.{Expr as Scalar}
 use Rattle.expr_scalar.specs.declared.expr.Expr.TheVariants as scalar

@@ -5,12 +5,17 @@ use Rattle.sql_bound_query.specs.declared.query.BoundBlock.TheVariants as bound
 use Rattle.sql_bound_query.specs.declared.query.BoundSource.TheVariants as source
 use Rattle.base_refusals.specs.declared.bind.BindRefusal.{BindRefusal}
 use Rattle.base_refusals.specs.declared.bind.BindRefusal.TheVariants.{UnknownTable, UnknownColumn}
-use Rattle.base_refusals.specs.declared.bind.BindRefusal.TheVariants.{AmbiguousColumn, DuplicateAlias}
+use Rattle.base_refusals.specs.declared.bind.BindRefusal.TheVariants.{AmbiguousColumn}
+use Rattle.base_refusals.specs.declared.bind.BindRefusal.TheVariants.{DuplicateAlias}
 use Rattle.base_refusals.specs.declared.bind.BindRefusal.TheVariants.{TypeMismatch, NotGrouped}
-use Rattle.base_refusals.specs.declared.bind.BindRefusal.TheVariants.{NestedAggregate, OuterAggregate}
-use Rattle.base_refusals.specs.declared.bind.BindRefusal.TheVariants.{LateralReference, SubqueryColumns}
-use Rattle.base_refusals.specs.declared.bind.BindRefusal.TheVariants.{ScaleTooWide, IntervalOnColumn}
-use Rattle.base_refusals.specs.declared.bind.BindRefusal.TheVariants.{BadDate, DateRange, SubqueryPlace}
+use Rattle.base_refusals.specs.declared.bind.BindRefusal.TheVariants.{NestedAggregate}
+use Rattle.base_refusals.specs.declared.bind.BindRefusal.TheVariants.{OuterAggregate}
+use Rattle.base_refusals.specs.declared.bind.BindRefusal.TheVariants.{LateralReference}
+use Rattle.base_refusals.specs.declared.bind.BindRefusal.TheVariants.{SubqueryColumns}
+use Rattle.base_refusals.specs.declared.bind.BindRefusal.TheVariants.{ScaleTooWide}
+use Rattle.base_refusals.specs.declared.bind.BindRefusal.TheVariants.{IntervalOnColumn}
+use Rattle.base_refusals.specs.declared.bind.BindRefusal.TheVariants.{BadDate, DateRange}
+use Rattle.base_refusals.specs.declared.bind.BindRefusal.TheVariants.{SubqueryPlace}
 use Rattle.base_refusals.specs.declared.bind.BindRefusal.TheVariants.{TooManyTables}
 use Rattle.expr_scalar.specs.declared.expr.Expr.TheVariants as scalar
 use Rattle.expr_scalar.specs.declared.kind.Kind.TheVariants as kind

@@ -2,7 +2,8 @@
 -- Within a case the steps stand in their order, and the first refusal counts.
 use Rattle.std.specs.Prelude.{Bool, true, false, ◌||◌, List, [], Option, Some, None}
 use Rattle.std.specs.List.{list_any}
-use Rattle.expr_aggregates.specs.declared.function.AggregateFunction.TheVariants.{Count, CountDistinct}
+use Rattle.expr_aggregates.specs.declared.function.AggregateFunction.TheVariants.{Count}
+use Rattle.expr_aggregates.specs.declared.function.AggregateFunction.TheVariants.{CountDistinct}
 use Rattle.sql_bound_query.specs.declared.query.BoundAggregate.TheVariants.{CountRows}
 use Rattle.base_refusals.specs.declared.bind.BindRefusal.TheVariants.{IntervalOnColumn}
 use Rattle.expr_scalar.specs.declared.expr.Expr.TheVariants as e
@@ -14,10 +15,12 @@ use Rattle.sql_binder_steps.specs.declared.collected.BoundKind.TheVariants.{Valu
 use Rattle.sql_binder_steps.specs.declared.collected.Typed.{Typed}
 use Rattle.sql_binder_steps.specs.Steps.{Name, Binding, ◌>>=◌, pure, refuse, lift, alone}
 use Rattle.sql_binder_steps.specs.Names.{Sight}
-use Rattle.sql_binder_steps.specs.Values.{typed, date_literal, negative, compared, null_test, between}
+use Rattle.sql_binder_steps.specs.Values.{typed, date_literal, negative, compared, null_test}
+use Rattle.sql_binder_steps.specs.Values.{between}
 use Rattle.sql_binder_steps.specs.Values.{liked, in_list, denied, extracted, substring, operated}
 use Rattle.sql_binder_steps.specs.Values.{multiplying_of, all_of, any_of, case_of, case_else_of}
-use Rattle.sql_binder_steps.specs.Parts.{column, among_rows, grouped, aggregated, function_of, existing}
+use Rattle.sql_binder_steps.specs.Parts.{column, among_rows, grouped, aggregated, function_of}
+use Rattle.sql_binder_steps.specs.Parts.{existing}
 use Rattle.sql_binder_steps.specs.Parts.{containing, only_value}
 use Rattle.sql_binder_steps.specs.Sets.{comparing}
 use Rattle.sql_binder.specs.Meanings.{Meaning, ChainMeaning, ArmMeaning, ExprNode, TermNode}

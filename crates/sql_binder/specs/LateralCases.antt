@@ -1,9 +1,12 @@
 -- Lateral items, which see the items to their left: what they are bound to and refused for.
 use Rattle.std.specs.Prelude.{◌≡◌, List, [], ◌∷◌, None, Ok, Err, pos, codes}
-use Rattle.base_refusals.specs.declared.bind.BindRefusal.TheVariants.{UnknownColumn, AmbiguousColumn}
-use Rattle.base_refusals.specs.declared.bind.BindRefusal.TheVariants.{DuplicateAlias, OuterAggregate}
+use Rattle.base_refusals.specs.declared.bind.BindRefusal.TheVariants.{UnknownColumn}
+use Rattle.base_refusals.specs.declared.bind.BindRefusal.TheVariants.{AmbiguousColumn}
+use Rattle.base_refusals.specs.declared.bind.BindRefusal.TheVariants.{DuplicateAlias}
+use Rattle.base_refusals.specs.declared.bind.BindRefusal.TheVariants.{OuterAggregate}
 use Rattle.base_refusals.specs.declared.bind.BindRefusal.TheVariants.{LateralReference}
-use Rattle.base_refusals.specs.declared.bind.BindRefusal.TheVariants.{SubqueryColumns, TooManyTables}
+use Rattle.base_refusals.specs.declared.bind.BindRefusal.TheVariants.{SubqueryColumns}
+use Rattle.base_refusals.specs.declared.bind.BindRefusal.TheVariants.{TooManyTables}
 use Rattle.base_schema.specs.declared.table.TableName.TheVariants as table
 use Rattle.base_value.specs.declared.value.Value.TheVariants as value
 use Rattle.expr_operators.specs.declared.operator.Comparison.TheVariants as operator

@@ -128,5 +128,6 @@ SelectNode = Select-F BlockMeaning ClauseMeaning Meaning FromItemMeaning Selecte
 
 -- a query after the first one with the meaning of its query in its place
 abbrev pub SetPartNode : Type 0
-SetPartNode = SetPart-F BlockMeaning ClauseMeaning Meaning FromItemMeaning SelectedMeaning ArmMeaning
+SetPartNode =
+    SetPart-F BlockMeaning ClauseMeaning Meaning FromItemMeaning SelectedMeaning ArmMeaning
     ChainMeaning ItemMeaning JoinMeaning JoinedMeaning BlockMeaning SetPartMeaning ChainMeaning

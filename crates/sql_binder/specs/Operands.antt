@@ -8,7 +8,8 @@ use Rattle.sql_binder_steps.specs.declared.collected.Operands.{Operands}
 use Rattle.sql_binder_steps.specs.declared.collected.Typed.{Typed}
 use Rattle.sql_binder_steps.specs.Steps.{Name, Binding, ◌>>=◌, pure, lift}
 use Rattle.sql_binder_steps.specs.Names.{Sight}
-use Rattle.sql_binder_steps.specs.Values.{begun, operated, adding_of, shifted, ended, first_condition}
+use Rattle.sql_binder_steps.specs.Values.{begun, operated, adding_of, shifted, ended}
+use Rattle.sql_binder_steps.specs.Values.{first_condition}
 use Rattle.sql_binder_steps.specs.Values.{next_condition, no_operands, with_operand}
 use Rattle.sql_binder.specs.Meanings.{Meaning, ChainMeaning, ArmMeaning}
 

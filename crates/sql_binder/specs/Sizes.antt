@@ -7,7 +7,8 @@ use Rattle.sql_ast.specs.declared.tree.Block.TheOpen.{Clause-F, Block-F, Select-
 use Rattle.sql_ast.specs.declared.tree.Block.TheFolds.{fold-Clause, fold-Expr, fold-FromItem}
 use Rattle.sql_ast.specs.declared.tree.Block.TheFolds.{fold-Selected, fold-Arm, fold-Block}
 use Rattle.sql_ast.specs.declared.tree.Block.TheFolds.{fold-Factor, fold-Item, fold-Join}
-use Rattle.sql_ast.specs.declared.tree.Block.TheFolds.{fold-Joined, fold-Term, fold-Select, fold-SetPart}
+use Rattle.sql_ast.specs.declared.tree.Block.TheFolds.{fold-Joined, fold-Term, fold-Select}
+use Rattle.sql_ast.specs.declared.tree.Block.TheFolds.{fold-SetPart}
 use Rattle.sql_ast.specs.declared.tree.Clause.{Clause}
 use Rattle.sql_ast.specs.declared.tree.Expr.{Expr}
 use Rattle.sql_ast.specs.declared.tree.FromItem.{FromItem}

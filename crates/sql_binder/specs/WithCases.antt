@@ -7,7 +7,8 @@ use Rattle.sql_bound_query.specs.declared.query.BoundSource.{BoundSource}
 use Rattle.sql_bound_query.specs.declared.query.BoundSource.TheVariants as source
 use Rattle.sql_bound_query.specs.declared.query.Input.TheVariants as input
 use Rattle.base_refusals.specs.declared.bind.BindRefusal.TheVariants.{UnknownTable, UnknownColumn}
-use Rattle.base_refusals.specs.declared.bind.BindRefusal.TheVariants.{DuplicateAlias, SubqueryColumns}
+use Rattle.base_refusals.specs.declared.bind.BindRefusal.TheVariants.{DuplicateAlias}
+use Rattle.base_refusals.specs.declared.bind.BindRefusal.TheVariants.{SubqueryColumns}
 use Rattle.base_refusals.specs.declared.bind.BindRefusal.TheVariants.{TooManyTables}
 use Rattle.expr_scalar.specs.declared.expr.Expr.TheVariants as scalar
 use Rattle.sql_ast.specs.declared.statement.Query.{Query}
@@ -16,7 +17,8 @@ use Rattle.sql_ast.specs.declared.tree.Block.{Block}
 use Rattle.base_schema.specs.declared.table.TableName.TheVariants as table
 use Rattle.sql_binder_steps.specs.Steps.{Name}
 use Rattle.sql_binder.specs.Binding.{bound_query}
-use Rattle.sql_binder.specs.Examples.{named, item, from_table, select_from, Refuses, r_name, view_of}
+use Rattle.sql_binder.specs.Examples.{named, item, from_table, select_from, Refuses, r_name}
+use Rattle.sql_binder.specs.Examples.{view_of}
 use Rattle.sql_binder.specs.EdgeCases.{closed, from_region}
 
 -- name (columns) as (query)

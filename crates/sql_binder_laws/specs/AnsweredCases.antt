@@ -20,7 +20,8 @@ use Rattle.sql_ast.specs.declared.words.JoinKind.TheVariants.{LeftOuter}
 use Rattle.sql_ast.specs.declared.words.Multiplying.TheVariants.{Times, Divide}
 use Rattle.sql_ast.specs.declared.words.Span.TheVariants.{Year}
 use Rattle.base_value.specs.declared.truth.Fault.{Fault}
-use Rattle.base_value.specs.declared.truth.Fault.TheVariants.{DivideByZero, NumberRange, TooManyRows}
+use Rattle.base_value.specs.declared.truth.Fault.TheVariants.{DivideByZero, NumberRange}
+use Rattle.base_value.specs.declared.truth.Fault.TheVariants.{TooManyRows}
 use Rattle.base_value.specs.declared.value.Value.{Value}
 use Rattle.base_value.specs.declared.value.Value.TheVariants.{Null, Fault as Failed, Number, Text}
 use Rattle.base_value.specs.declared.value.Value.TheVariants.{Date}

@@ -6,10 +6,13 @@ use Rattle.sql_bound_query.specs.declared.query.BoundExpr.{BoundExpr}
 use Rattle.sql_bound_query.specs.declared.query.BoundSource.TheVariants as source
 use Rattle.sql_bound_query.specs.declared.query.Input.TheVariants as input
 use Rattle.base_refusals.specs.declared.bind.BindRefusal.TheVariants.{UnknownTable, UnknownColumn}
-use Rattle.base_refusals.specs.declared.bind.BindRefusal.TheVariants.{AmbiguousColumn, DuplicateAlias}
+use Rattle.base_refusals.specs.declared.bind.BindRefusal.TheVariants.{AmbiguousColumn}
+use Rattle.base_refusals.specs.declared.bind.BindRefusal.TheVariants.{DuplicateAlias}
 use Rattle.base_refusals.specs.declared.bind.BindRefusal.TheVariants.{TypeMismatch, NotGrouped}
-use Rattle.base_refusals.specs.declared.bind.BindRefusal.TheVariants.{NestedAggregate, LateralReference}
-use Rattle.base_refusals.specs.declared.bind.BindRefusal.TheVariants.{SubqueryColumns, SubqueryPlace}
+use Rattle.base_refusals.specs.declared.bind.BindRefusal.TheVariants.{NestedAggregate}
+use Rattle.base_refusals.specs.declared.bind.BindRefusal.TheVariants.{LateralReference}
+use Rattle.base_refusals.specs.declared.bind.BindRefusal.TheVariants.{SubqueryColumns}
+use Rattle.base_refusals.specs.declared.bind.BindRefusal.TheVariants.{SubqueryPlace}
 use Rattle.base_refusals.specs.declared.bind.BindRefusal.TheVariants.{TooManyTables}
 use Rattle.expr_operators.specs.declared.operator.Comparison.TheVariants as operator
 use Rattle.expr_scalar.specs.declared.expr.Expr.TheVariants as scalar

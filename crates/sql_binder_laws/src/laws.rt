@@ -1,5 +1,6 @@
 //! Laws of what is bound. Each function does nothing: its contract is the law.
-ghost use Rattle.sql_binder_laws.specs.WellTyped.{TableIsWellTyped, ViewIsWellTyped, BoundIsWellTyped};
+ghost use Rattle.sql_binder_laws.specs.WellTyped.{TableIsWellTyped, ViewIsWellTyped};
+ghost use Rattle.sql_binder_laws.specs.WellTyped.{BoundIsWellTyped};
 ghost use Rattle.sql_binder_laws.specs.WellTyped.{BoundKeepsKinds};
 ghost use Rattle.sql_binder_laws.specs.Names.{NamesStand};
 ghost use Rattle.sql_binder_laws.specs.Settled.{ItemsOfFrom, OrderOfIn, OperandsFirst};
@@ -9,7 +10,8 @@ ghost use Rattle.sql_binder_laws.specs.Settled.{TurnsOfColumns};
 ghost use Rattle.sql_binder_laws.specs.AnsweredCases.{PlainStatements, Balances, DividedConditions};
 ghost use Rattle.sql_binder_laws.specs.AnsweredCases.{SumsOfLargest, CountsOfOrders, KeysNotIn};
 ghost use Rattle.sql_binder_laws.specs.AnsweredCases.{OneOrder, RegionsOfOrders, GroupOfNoRows};
-ghost use Rattle.sql_binder_laws.specs.AnsweredCases.{SubqueriesOfOn, AnsweredLaterals, Distribution};
+ghost use Rattle.sql_binder_laws.specs.AnsweredCases.{SubqueriesOfOn, AnsweredLaterals};
+ghost use Rattle.sql_binder_laws.specs.AnsweredCases.{Distribution};
 
 /// Over views that are well typed, what is bound is well typed: a query's columns are of the kinds
 /// that are said of them, a view may stand beside the others, and a statement keeps the kinds and

@@ -4,8 +4,10 @@ use Rattle.std.specs.Prelude.{if◌then◌else◌}
 use Rattle.base_decimal.specs.Decimal.{quotient_scale}
 use Rattle.base_decimal.specs.Tally.{average_scale}
 use Rattle.expr_aggregates.specs.declared.function.AggregateFunction.{AggregateFunction}
-use Rattle.expr_aggregates.specs.declared.function.AggregateFunction.TheVariants.{Count, CountDistinct}
-use Rattle.expr_aggregates.specs.declared.function.AggregateFunction.TheVariants.{Sum, Avg, Min, Max}
+use Rattle.expr_aggregates.specs.declared.function.AggregateFunction.TheVariants.{Count}
+use Rattle.expr_aggregates.specs.declared.function.AggregateFunction.TheVariants.{CountDistinct}
+use Rattle.expr_aggregates.specs.declared.function.AggregateFunction.TheVariants.{Sum, Avg, Min}
+use Rattle.expr_aggregates.specs.declared.function.AggregateFunction.TheVariants.{Max}
 use Rattle.base_refusals.specs.declared.bind.BindRefusal.TheVariants.{TypeMismatch, ScaleTooWide}
 use Rattle.expr_operators.specs.declared.operator.Arithmetic.{Arithmetic}
 use Rattle.expr_operators.specs.declared.operator.Arithmetic.TheVariants.{Add, Subtract, Multiply}

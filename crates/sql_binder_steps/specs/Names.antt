@@ -3,7 +3,8 @@ use Rattle.std.specs.Prelude.{ℕ, ◌+◌, ◌-◌, ◌==◌, Bool, ◌&&◌, L
 use Rattle.std.specs.Prelude.{map, Option, Some, None, Ok, Err, if◌then◌else◌, nat_lt, position}
 use Rattle.std.specs.List.{list_any}
 use Rattle.std.specs.Str.{bytes_eq}
-use Rattle.base_refusals.specs.declared.bind.BindRefusal.TheVariants.{UnknownColumn, AmbiguousColumn}
+use Rattle.base_refusals.specs.declared.bind.BindRefusal.TheVariants.{UnknownColumn}
+use Rattle.base_refusals.specs.declared.bind.BindRefusal.TheVariants.{AmbiguousColumn}
 use Rattle.base_refusals.specs.declared.bind.BindRefusal.TheVariants.{NotGrouped, LateralReference}
 use Rattle.sql_ast.specs.declared.words.Column.{Column}
 use Rattle.sql_binder_steps.specs.declared.scope.ColumnAt.{ColumnAt}

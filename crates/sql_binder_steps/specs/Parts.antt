@@ -18,9 +18,11 @@ use Rattle.sql_bound_query.specs.declared.query.Input.TheVariants as input
 use Rattle.sql_bound_query.specs.Typing.{kind_of_column}
 use Rattle.base_order_limit.specs.declared.key.OrderKey.{OrderKey}
 use Rattle.base_refusals.specs.declared.bind.BindRefusal.TheVariants.{UnknownTable, UnknownColumn}
-use Rattle.base_refusals.specs.declared.bind.BindRefusal.TheVariants.{AmbiguousColumn, DuplicateAlias}
+use Rattle.base_refusals.specs.declared.bind.BindRefusal.TheVariants.{AmbiguousColumn}
+use Rattle.base_refusals.specs.declared.bind.BindRefusal.TheVariants.{DuplicateAlias}
 use Rattle.base_refusals.specs.declared.bind.BindRefusal.TheVariants.{TypeMismatch, NestedAggregate}
-use Rattle.base_refusals.specs.declared.bind.BindRefusal.TheVariants.{OuterAggregate, SubqueryColumns}
+use Rattle.base_refusals.specs.declared.bind.BindRefusal.TheVariants.{OuterAggregate}
+use Rattle.base_refusals.specs.declared.bind.BindRefusal.TheVariants.{SubqueryColumns}
 use Rattle.base_refusals.specs.declared.bind.BindRefusal.TheVariants.{SubqueryPlace}
 use Rattle.expr_operators.specs.declared.operator.Comparison.TheVariants.{Equal}
 use Rattle.expr_scalar.specs.declared.expr.Expr.TheVariants as e
@@ -46,7 +48,8 @@ use Rattle.sql_binder_steps.specs.declared.from.NamedItem.{NamedItem}
 use Rattle.sql_binder_steps.specs.declared.scope.ScopeColumn.{ScopeColumn}
 use Rattle.sql_binder_steps.specs.declared.view.Header.{Header}
 use Rattle.sql_binder_steps.specs.declared.view.View.{View}
-use Rattle.sql_binder_steps.specs.Steps.{Name, Checked, and_then, Binding, ◌>>=◌, pure, refuse, lift}
+use Rattle.sql_binder_steps.specs.Steps.{Name, Checked, and_then, Binding, ◌>>=◌, pure, refuse}
+use Rattle.sql_binder_steps.specs.Steps.{lift}
 use Rattle.sql_binder_steps.specs.Steps.{input, aggregate, counted, take_aggregates}
 use Rattle.sql_binder_steps.specs.Names.{Around, Sight, resolved, the_one, placed}
 use Rattle.sql_binder_steps.specs.Kinds.{where_fit, is_condition, fits, aggregate_kind}

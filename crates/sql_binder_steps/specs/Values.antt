@@ -9,7 +9,8 @@ use Rattle.base_date.specs.declared.DateFault.{DateFault}
 use Rattle.base_date.specs.declared.DateFault.TheVariants as fault
 use Rattle.base_date.specs.declared.moved.IntervalUnit.{IntervalUnit}
 use Rattle.base_date.specs.declared.moved.IntervalUnit.TheVariants as unit
-use Rattle.base_refusals.specs.declared.bind.BindRefusal.TheVariants.{TypeMismatch, IntervalOnColumn}
+use Rattle.base_refusals.specs.declared.bind.BindRefusal.TheVariants.{TypeMismatch}
+use Rattle.base_refusals.specs.declared.bind.BindRefusal.TheVariants.{IntervalOnColumn}
 use Rattle.base_refusals.specs.declared.bind.BindRefusal.TheVariants.{BadDate, DateRange}
 use Rattle.expr_operators.specs.declared.operator.Arithmetic.{Arithmetic}
 use Rattle.expr_operators.specs.declared.operator.Arithmetic.TheVariants.{Add, Subtract, Multiply}
@@ -41,7 +42,8 @@ use Rattle.sql_binder_steps.specs.declared.collected.Conditions.{Conditions}
 use Rattle.sql_binder_steps.specs.declared.collected.Operands.{Operands}
 use Rattle.sql_binder_steps.specs.declared.collected.Typed.{Typed}
 use Rattle.sql_binder_steps.specs.Steps.{Checked, and_then}
-use Rattle.sql_binder_steps.specs.Kinds.{where_fit, is_condition, is_value, is_text, is_date, is_number}
+use Rattle.sql_binder_steps.specs.Kinds.{where_fit, is_condition, is_value, is_text, is_date}
+use Rattle.sql_binder_steps.specs.Kinds.{is_number}
 use Rattle.sql_binder_steps.specs.Kinds.{fits, scale_of, operated_kind, common_kind}
 
 -- an expression of that kind, which is no date literal

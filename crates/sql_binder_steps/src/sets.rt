@@ -137,7 +137,8 @@ fn set_block(
     }
 }
 
-/// A set operation of two bound queries: their numbers of columns are compared first, then the kinds
+/// A set operation of two bound queries: their numbers of columns are compared first, then the
+/// kinds
 /// of the columns from the left.
 #[tactic(auto, unfolding(crate::specs::Sets::set_table))]
 pub fn set_table(

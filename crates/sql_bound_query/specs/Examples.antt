@@ -7,7 +7,8 @@ use Rattle.expr_operators.specs.declared.operator.Arithmetic.TheVariants.{Add, D
 use Rattle.expr_operators.specs.declared.operator.Comparison.TheVariants.{Equal, Greater, Less}
 use Rattle.expr_scalar.specs.declared.expr.Expr.{Expr}
 use Rattle.expr_scalar.specs.declared.expr.Expr.TheVariants as e
-use Rattle.base_value.specs.declared.truth.Fault.TheVariants.{DivideByZero, NumberRange, TooManyRows}
+use Rattle.base_value.specs.declared.truth.Fault.TheVariants.{DivideByZero, NumberRange}
+use Rattle.base_value.specs.declared.truth.Fault.TheVariants.{TooManyRows}
 use Rattle.base_value.specs.declared.value.Value.{Value}
 use Rattle.base_value.specs.declared.value.Value.TheVariants.{Null, Fault as Failed, Number, Text}
 use Rattle.base_value.specs.declared.value.Value.TheVariants.{Date}

@@ -85,7 +85,8 @@ single_value rows = scalar_of written value_rank 0 rows
 abbrev pub cross_loop : {V : Type 0} → List (Ranked V) → (List V → List (Ranked V))
     → List (Ranked V)
 cross_loop ls R =
-    flat_map (λ l. map (λ r. ranked (l.values ++ r.values) (min l.standing r.standing)) (R l.values))
+    flat_map
+    (λ l. map (λ r. ranked (l.values ++ r.values) (min l.standing r.standing)) (R l.values))
     ls
 
 -- the groups by these columns, or where there are none the one group of all rows: their columns,

@@ -8,7 +8,8 @@ use Rattle.sql_bound_query.specs.declared.query.BoundBlock.{BoundBlock}
 use Rattle.sql_bound_query.specs.declared.query.BoundAggregate.TheOpen as node
 use Rattle.sql_bound_query.specs.declared.query.BoundAggregate.TheFolds.{fold-BoundAggregate}
 use Rattle.sql_bound_query.specs.declared.query.BoundAggregate.TheFolds.{fold-BoundBlock}
-use Rattle.sql_bound_query.specs.declared.query.BoundAggregate.TheFolds.{fold-BoundSource, fold-Input}
+use Rattle.sql_bound_query.specs.declared.query.BoundAggregate.TheFolds.{fold-BoundSource}
+use Rattle.sql_bound_query.specs.declared.query.BoundAggregate.TheFolds.{fold-Input}
 use Rattle.sql_bound_query.specs.declared.query.BoundAggregate.TheFolds.{fold-BoundExpr}
 use Rattle.sql_bound_query.specs.declared.query.BoundAggregate.{BoundAggregate}
 use Rattle.sql_bound_query.specs.declared.query.BoundExpr.{BoundExpr}
@@ -56,7 +57,8 @@ block_tables (node.Grouped from condition keys aggregates having list) =
 block_tables (node.Distinct q) = q
 block_tables (node.Set a b columns operation) = a ++ b
 
--- the tables that stand in a query, its subqueries, derived tables, lateral items and each use of a view, each as
+-- the tables that stand in a query, its subqueries, derived tables, lateral items and each use of a
+-- view, each as
 -- often as it does
 unfoldable pub tables : BoundBlock → List TableName
 tables = fold-BoundBlock Tables Tables Tables Tables Tables aggregate_tables block_tables

@@ -42,7 +42,8 @@ keys_and_prices operation =
     Set (Plain (Table Orders) always (at 0 ∷ [])) (Plain (Table Orders) always (at 3 ∷ []))
     (at_two ∷ []) operation
 
--- UNION ALL has the rows of both sides, UNION each once; EXCEPT ALL leaves as many as the right side
+-- UNION ALL has the rows of both sides, UNION each once; EXCEPT ALL leaves as many as the right
+-- side
 -- has not; INTERSECT has what both have. Numbers of different scales meet at the larger one.
 abbrev pub SetOperations : Type 0
 SetOperations = (answer (statement (low_and_one Union)) small ≡ Ok (wholes (0 ∷ 1 ∷ 1 ∷ [])))

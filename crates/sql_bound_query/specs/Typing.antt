@@ -3,8 +3,10 @@ use Rattle.std.specs.Prelude.{◌≡◌, ℕ, ◌==◌, Bool, true, false, ◌&&
 use Rattle.std.specs.Prelude.{map, Option, Some, None, slice_get, slice_index_or, if◌then◌else◌}
 use Rattle.std.specs.Prelude.{IsTrue}
 use Rattle.expr_aggregates.specs.declared.function.AggregateFunction.{AggregateFunction}
-use Rattle.expr_aggregates.specs.declared.function.AggregateFunction.TheVariants.{Count, CountDistinct}
-use Rattle.expr_aggregates.specs.declared.function.AggregateFunction.TheVariants.{Sum, Avg, Min, Max}
+use Rattle.expr_aggregates.specs.declared.function.AggregateFunction.TheVariants.{Count}
+use Rattle.expr_aggregates.specs.declared.function.AggregateFunction.TheVariants.{CountDistinct}
+use Rattle.expr_aggregates.specs.declared.function.AggregateFunction.TheVariants.{Sum, Avg, Min}
+use Rattle.expr_aggregates.specs.declared.function.AggregateFunction.TheVariants.{Max}
 use Rattle.base_decimal.specs.Tally.{average_scale}
 use Rattle.base_row_laws.specs.Bags.{Each}
 use Rattle.base_row_laws.specs.Ranked.{Ranked}

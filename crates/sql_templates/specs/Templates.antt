@@ -7,7 +7,8 @@ use Rattle.std.specs.List.{flat_map}
 use Rattle.base_date.specs.Date.{date_of}
 use Rattle.base_decimal.specs.Written.{decimal_written}
 use Rattle.base_refusals.specs.declared.statement.TemplateRefusal.{TemplateRefusal}
-use Rattle.base_refusals.specs.declared.statement.TemplateRefusal.TheVariants.{NoSuchQuery, WrongCount}
+use Rattle.base_refusals.specs.declared.statement.TemplateRefusal.TheVariants.{NoSuchQuery}
+use Rattle.base_refusals.specs.declared.statement.TemplateRefusal.TheVariants.{WrongCount}
 use Rattle.base_refusals.specs.declared.statement.TemplateRefusal.TheVariants.{WrongKind}
 use Rattle.sql_ast.specs.declared.statement.TemplateValue.{TemplateValue}
 use Rattle.sql_ast.specs.declared.statement.TemplateValue.TheVariants as value

@@ -2,13 +2,15 @@
 use Rattle.std.specs.Prelude.{◌≡◌, ℕ, true, false, List, [], ◌∷◌, ◌++◌, length, pos, Ok, Err}
 use Rattle.std.specs.Prelude.{Result, codes}
 use Rattle.base_refusals.specs.declared.line.LineFault.{LineFault}
-use Rattle.base_refusals.specs.declared.line.LineFault.TheVariants.{FieldCount, BadNumber, NumberTooWide}
+use Rattle.base_refusals.specs.declared.line.LineFault.TheVariants.{FieldCount, BadNumber}
+use Rattle.base_refusals.specs.declared.line.LineFault.TheVariants.{NumberTooWide}
 use Rattle.base_refusals.specs.declared.line.LineFault.TheVariants.{BadDate, BadText, TextTooLong}
 use Rattle.base_refusals.specs.declared.line.LineFault.TheVariants.{DuplicateKey, FileTooLong}
 use Rattle.base_refusals.specs.declared.line.LineRefusal.{LineRefusal}
 use Rattle.base_value.specs.declared.value.Value.{Value}
 use Rattle.base_value.specs.declared.value.Value.TheVariants.{Null, Number, Text}
-use Rattle.base_refusals.specs.declared.refresh.RefreshFile.TheVariants.{Orders as RefreshOrders, Delete}
+use Rattle.base_refusals.specs.declared.refresh.RefreshFile.TheVariants.{Orders as RefreshOrders}
+use Rattle.base_refusals.specs.declared.refresh.RefreshFile.TheVariants.{Delete}
 use Rattle.base_schema.specs.declared.table.TableName.TheVariants.{Region, Orders}
 use Rattle.base_schema.specs.LineForm.{table_form, refresh_form}
 use Rattle.store_file_reader.specs.File.{cut_lines, file_rows, most_bytes}

@@ -8,7 +8,8 @@ use Rattle.base_decimal.specs.Written.{decimal_read}
 use Rattle.base_decimal.specs.declared.read.Spelling.{Spelling}
 use Rattle.base_decimal.specs.declared.read.Spelling.TheVariants.{NotANumber, TooWide}
 use Rattle.base_refusals.specs.declared.line.LineFault.{LineFault}
-use Rattle.base_refusals.specs.declared.line.LineFault.TheVariants.{BadNumber, NumberTooWide, BadDate}
+use Rattle.base_refusals.specs.declared.line.LineFault.TheVariants.{BadNumber, NumberTooWide}
+use Rattle.base_refusals.specs.declared.line.LineFault.TheVariants.{BadDate}
 use Rattle.base_refusals.specs.declared.line.LineFault.TheVariants.{BadText, TextTooLong}
 use Rattle.base_value.specs.declared.value.Value.{Value}
 use Rattle.base_value.specs.declared.value.Value.TheVariants as value

@@ -1,7 +1,9 @@
 //! Laws of the definition of a file's rows. Each function has an empty body: its contract is the
 //! law.
-ghost use Rattle.store_file_reader.specs.Cases.{Lines, Rows, Refusals, Limits, Deletes, Refreshes, Nulls};
-ghost use Rattle.store_file_reader.specs.Laws.{LinesGiveText, RowsAreThoseOfTheLines, FirstBadLineCounts};
+ghost use Rattle.store_file_reader.specs.Cases.{Lines, Rows, Refusals, Limits, Deletes, Refreshes};
+ghost use Rattle.store_file_reader.specs.Cases.{Nulls};
+ghost use Rattle.store_file_reader.specs.Laws.{LinesGiveText, RowsAreThoseOfTheLines};
+ghost use Rattle.store_file_reader.specs.Laws.{FirstBadLineCounts};
 ghost use Rattle.store_file_reader.specs.LineLaws.{RowsSayTheirFields, FirstBadFieldCounts};
 
 /// The lines of a text, one after the other, are the text, and a line has no LF but at its end.

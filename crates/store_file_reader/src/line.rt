@@ -7,7 +7,8 @@ ghost use Rattle.store_file_reader.specs.declared.error.FieldsError.{FieldsError
 ghost use Rattle.store_file_reader.specs.Error.{Blames};
 ghost use Rattle.base_schema.specs.Kinds.{can_hold_row};
 ghost use Rattle.store_file_reader.specs.Field.{column_value};
-ghost use Rattle.store_file_reader.specs.Line.{is_bar, has_fields, IsWholeCut, without_end, line_text};
+ghost use Rattle.store_file_reader.specs.Line.{is_bar, has_fields, IsWholeCut, without_end};
+ghost use Rattle.store_file_reader.specs.Line.{line_text};
 ghost use Rattle.store_file_reader.specs.Line.{values_of, row_of};
 
 use crate::error::FieldsError;

@@ -19,7 +19,8 @@ spelling_of (MalformedFile file set refusal) = []
 -- of any length
 abbrev pub IsReadable : Change → Type 0
 IsReadable (InsertRows orders lineitems) =
-    IsTextOf file.Orders (rows_text orders) orders × IsTextOf file.Lineitem (rows_text lineitems) lineitems
+    IsTextOf file.Orders (rows_text orders) orders
+    × IsTextOf file.Lineitem (rows_text lineitems) lineitems
 IsReadable (DeleteKeys keys) = (rows : List (List Value))
     × IsTextOf file.Delete (keys_text keys) rows × (order_keys rows ≡ keys)
 IsReadable (MalformedFile file set refusal) = ⊥

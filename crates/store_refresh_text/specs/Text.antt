@@ -8,7 +8,8 @@ use Rattle.base_value.specs.declared.value.Value.TheVariants.{Fault, Number, Tex
 -- a date as YYYY-MM-DD
 abbrev pub date_written : ℕ → List ℕ
 date_written date =
-    last_digits 4 (date / 10000) ++ 45 ∷ (last_digits 2 (date / 100 % 100) ++ 45 ∷ last_digits 2 (date % 100))
+    last_digits 4 (date / 10000)
+    ++ 45 ∷ (last_digits 2 (date / 100 % 100) ++ 45 ∷ last_digits 2 (date % 100))
 
 -- a value as a field has it: a number with all the places of its scale, a text as it is, null as
 -- the two bytes \N; a fault is in no field

@@ -1,8 +1,10 @@
 -- Refreshes and versions worked out by hand.
 use Rattle.std.specs.Prelude.{◌≡◌, ℕ, List, [], ◌∷◌, pos, codes, Ok, Err}
 use Rattle.base_refusals.specs.declared.line.LineFault.TheVariants.{BadNumber}
-use Rattle.base_refusals.specs.declared.refresh.Cause.TheVariants.{OrderExists, OrderTwice, LineTwice}
-use Rattle.base_refusals.specs.declared.refresh.Cause.TheVariants.{StrayLine, UnknownOrder, KeyTwice}
+use Rattle.base_refusals.specs.declared.refresh.Cause.TheVariants.{OrderExists, OrderTwice}
+use Rattle.base_refusals.specs.declared.refresh.Cause.TheVariants.{LineTwice}
+use Rattle.base_refusals.specs.declared.refresh.Cause.TheVariants.{StrayLine, UnknownOrder}
+use Rattle.base_refusals.specs.declared.refresh.Cause.TheVariants.{KeyTwice}
 use Rattle.base_refusals.specs.declared.refresh.Cause.TheVariants.{Malformed, LineExists}
 use Rattle.base_refusals.specs.declared.refresh.RefreshFile.TheVariants as file
 use Rattle.base_value.specs.declared.value.Value.{Value}

@@ -3,8 +3,10 @@ use Rattle.std.specs.Prelude.{ℕ, Bool, true, false, not, List, [], ◌∷◌, 
 use Rattle.std.specs.Prelude.{◌<ℤ◌, ◌^◌, Option, Some, None, Result, Ok, Err, if◌then◌else◌}
 use Rattle.base_refusals.specs.declared.line.LineRefusal.{LineRefusal}
 use Rattle.base_refusals.specs.declared.refresh.Cause.{Cause}
-use Rattle.base_refusals.specs.declared.refresh.Cause.TheVariants.{OrderExists, OrderTwice, LineTwice}
-use Rattle.base_refusals.specs.declared.refresh.Cause.TheVariants.{StrayLine, UnknownOrder, KeyTwice}
+use Rattle.base_refusals.specs.declared.refresh.Cause.TheVariants.{OrderExists, OrderTwice}
+use Rattle.base_refusals.specs.declared.refresh.Cause.TheVariants.{LineTwice}
+use Rattle.base_refusals.specs.declared.refresh.Cause.TheVariants.{StrayLine, UnknownOrder}
+use Rattle.base_refusals.specs.declared.refresh.Cause.TheVariants.{KeyTwice}
 use Rattle.base_refusals.specs.declared.refresh.Cause.TheVariants.{Malformed, LineExists}
 use Rattle.base_refusals.specs.declared.refresh.RefreshFile.{RefreshFile}
 use Rattle.base_value.specs.declared.value.Value.{Value}

@@ -81,7 +81,8 @@ fn a_missing_gate_is_bad(rt: HostRuntime) -> Result<(), Fail> {
     Ok(())
 }
 
-/// Each image of a journal that two entries are added to, from `make` on, has as many as were stored
+/// Each image of a journal that two entries are added to, from `make` on, has as many as were
+/// stored
 /// or one more.
 #[test]
 fn each_image_is_read(rt: HostRuntime) -> Result<(), Fail> {
@@ -132,7 +133,8 @@ fn two_are_added(rt: HostRuntime) -> Result<(), Fail> {
     Ok(())
 }
 
-/// A journal of one entry that is cut at one of its bytes is bad: at the entry's gate or, where only
+/// A journal of one entry that is cut at one of its bytes is bad: at the entry's gate or, where
+/// only
 /// the closed gate is missing, behind the entry.
 #[test]
 fn a_cut_journal_is_bad(rt: HostRuntime) -> Result<(), Fail> {
@@ -169,7 +171,8 @@ fn a_changed_byte_counts(rt: HostRuntime) -> Result<(), Fail> {
     Ok(())
 }
 
-/// Forty entries over a disk that fails at one call: those that were stored are read, and at most the
+/// Forty entries over a disk that fails at one call: those that were stored are read, and at most
+/// the
 /// one that was being added.
 #[test]
 fn forty_are_added(rt: HostRuntime) -> Result<(), Fail> {
