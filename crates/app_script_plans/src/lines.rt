@@ -3,6 +3,7 @@ ghost use Rattle.std.specs.Prelude.{◌≡◌, ◌++◌, List, OnOk, codes};
 ghost use Rattle.app_plan_text.specs.Lines.{AreLinesFrom, lines_text};
 ghost use Rattle.app_plan_text.specs.declared.line.PlanLine.{PlanLine};
 ghost use Rattle.plan_spelling.specs.Plans.{EndsWithPlan};
+ghost use Rattle.app_script_plans.specs.Shown.{EndsWithItsPlan};
 
 use crate::figures::{NodeFigures, rows_of};
 use crate::query_plan::{FormLines, QueryPlan};
@@ -51,7 +52,8 @@ fn push_flat_plan(
 {
     let lines = plan_lines(alloc, nodes, counts)?;
     text.extend_from_slice(b"flat plan\n")?;
-    push_lines(text, lines.as_slice())
+    push_lines(text, lines.as_slice())?;
+    Ok(())
 }
 
 /// Appends a word, a number before it.
@@ -130,14 +132,17 @@ fn push_refused(
     push_head(text, number, refusal.as_slice(), written)
 }
 
-/// Appends what is shown of a statement of this number, as lines.
+/// Appends what is shown of a statement of this number, as lines; of a query the spelling of its
+/// plan at the end.
 pub fn push_statement_lines(
     alloc: Global,
     text: &mut Vec<u8>,
     number: usize,
     written: &[u8],
     plan: &StatementPlan,
-) -> Result<(), AllocError> {
+) -> Result<(), AllocError>
+    ensures { OnOk result (EndsWithItsPlan plan.now text.new.items) }
+{
     match plan {
         StatementPlan::Query(plan) => {
             push_head(text, number, b"query", written)?;

@@ -85,6 +85,7 @@ impl TypedViews {
     }
 
     /// Drops the view at a place.
+    #[tactic(auto, using(plan_planner::proofs::TypedViews::typed_without))]
     pub fn remove(&mut self, place: usize)
         requires { place < length self.old }
         ensures { self.new ≡ remove self.old place }

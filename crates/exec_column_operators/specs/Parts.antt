@@ -1,6 +1,6 @@
 -- Parts of a pattern that stand for themselves.
 use Rattle.std.specs.Prelude.{◌≡◌, ℕ, Bool, true, not, ◌&&◌, ◌==◌, List, ◌++◌}
-use Rattle.core.specs.List.{list_any}
+use Rattle.std.specs.List.{list_any}
 
 -- no byte is `%` (37) or `_` (95)
 abbrev pub is_plain : List ℕ → Bool

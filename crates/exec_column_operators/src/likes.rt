@@ -31,7 +31,6 @@ pub(crate) fn liked_values(
 
 // LIKE of the value at a place. A text that has not the part which is looked for is not like the
 // pattern.
-#[tactic(auto, using(crate::proofs::PlainParts::unlike_value))]
 fn liked_at(
     alloc: Global,
     a: &Column,

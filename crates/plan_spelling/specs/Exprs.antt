@@ -34,6 +34,7 @@ parts spellings = length spellings ∷ flat_map (λ s. s) spellings
 abbrev pub spelled : List ℕ → List (List ℕ) → List ℕ
 spelled what spellings = counted what ++ parts spellings
 
+-- the number of a fault
 abbrev pub fault_number : Fault → ℕ
 fault_number TooManyRows = 0
 fault_number DivideByZero = 1
@@ -44,6 +45,7 @@ abbrev pub sign_number : ℤ → ℕ
 sign_number (pos m) = 0
 sign_number (negsuc m) = 1
 
+-- a value: the number of its kind, and what tells it from others of the kind
 abbrev pub value_numbers : Value → List ℕ
 value_numbers (v.Fault f) = 0 ∷ fault_number f ∷ []
 value_numbers (v.Number scale coefficient) =
@@ -52,12 +54,14 @@ value_numbers (v.Text bytes) = 2 ∷ bytes
 value_numbers (v.Date date) = 3 ∷ date ∷ []
 value_numbers v.Null = 4 ∷ []
 
+-- the number of an operator
 abbrev pub arithmetic_number : Arithmetic → ℕ
 arithmetic_number Add = 0
 arithmetic_number Subtract = 1
 arithmetic_number Multiply = 2
 arithmetic_number Divide = 3
 
+-- the number of a comparison
 abbrev pub comparison_number : Comparison → ℕ
 comparison_number Equal = 0
 comparison_number NotEqual = 1
@@ -66,6 +70,7 @@ comparison_number LessOrEqual = 3
 comparison_number Greater = 4
 comparison_number GreaterOrEqual = 5
 
+-- the number of a date's part
 abbrev pub part_number : DatePart → ℕ
 part_number Year = 0
 part_number Month = 1
@@ -98,12 +103,15 @@ branch_step b = spelled (16 ∷ []) (b.when ∷ b.gives ∷ [])
 abbrev pub operation_step : f.Operation-F (List ℕ) (List ℕ) (List ℕ) → List ℕ
 operation_step o = spelled (17 ∷ arithmetic_number o.operator ∷ []) (o.operand ∷ [])
 
+-- an expression
 unfoldable pub expr_spelling : Expr → List ℕ
 expr_spelling = fold-Expr (List ℕ) (List ℕ) (List ℕ) expr_step branch_step operation_step
 
+-- a branch of a CASE
 unfoldable pub branch_spelling : Branch → List ℕ
 branch_spelling = fold-Branch (List ℕ) (List ℕ) (List ℕ) expr_step branch_step operation_step
 
+-- an operation of a chain
 unfoldable pub operation_spelling : Operation → List ℕ
 operation_spelling =
     fold-Operation (List ℕ) (List ℕ) (List ℕ) expr_step branch_step operation_step

@@ -18,6 +18,7 @@ use Rattle.plan_algebra.specs.declared.node.Node.{Node}
 use Rattle.plan_algebra.specs.declared.node.Node.TheVariants as n
 use Rattle.plan_spelling.specs.Exprs.{expr_spelling, spelled, value_numbers}
 
+-- the number of an aggregate function
 abbrev pub function_number : AggregateFunction → ℕ
 function_number Count = 0
 function_number CountDistinct = 1
@@ -34,11 +35,13 @@ operation_number (Classes Intersect true) = 2
 operation_number (Classes Except false) = 3
 operation_number (Classes Except true) = 4
 
+-- an aggregate: its function, its scale and its argument
 abbrev pub aggregate_spelling : Aggregate → List ℕ
 aggregate_spelling CountRows = spelled (18 ∷ []) []
 aggregate_spelling (Of function scale argument) =
     spelled (19 ∷ function_number function ∷ scale ∷ []) (expr_spelling argument ∷ [])
 
+-- a value by itself, as a node of no parts
 abbrev pub value_spelling : Value → List ℕ
 value_spelling value = spelled (20 ∷ value_numbers value) []
 
