@@ -13,7 +13,7 @@ use Rattle.store_kept_views.specs.Plans.{holds_for, selected, key_of}
 use Rattle.store_groups.specs.Groups.{Group, with_row, without_row, is_faultless, HasRow, no_rows}
 use Rattle.store_kept_views.specs.RowGroups.{group_of}
 use Rattle.store_groups.specs.Entries.{Entries, same_key, group_at}
-use Rattle.store_kept_views.specs.Standing.{rows_at, made_at, StandsFor, StandsBy, is_stale, arguments_in, IsMoved}
+use Rattle.store_kept_views.specs.Standing.{rows_at, made_at, StandsFor, StandsBy, is_stale, arguments_in}
 use Rattle.store_groups.specs.Entries.{or_empty}
 use Rattle.store_kept_views.proofs.GroupLists.{group_more, group_less, group_none, has_row}
 use Rattle.store_groups.proofs.EntryLists.{key_identity}

@@ -7,7 +7,8 @@ use Rattle.store_kept_views.specs.declared.plan.KeptPlan.{KeptPlan}
 use Rattle.base_schema.specs.State.{State, table_rows}
 use Rattle.base_value.specs.declared.value.Value.{Value}
 use Rattle.store_groups.specs.Entries.{Entries}
-use Rattle.store_kept_views.specs.Standing.{CanMove, IsMoved}
+use Rattle.store_state.specs.Moves.{IsMoved}
+use Rattle.store_kept_views.specs.Standing.{CanMove}
 use Rattle.store_kept_views.specs.Kept.{plans_of, AreKept, IsKept, CanMoveView}
 
 plans_suc : (views : List (KeptPlan × Entries)) (i : ℕ) (v : KeptPlan × Entries) → i < length views → v ≡ get_or views i v → plans_of (take (suc i) views) ≡ plans_of (take i views) ++ v.0 ∷ []

@@ -1,11 +1,11 @@
 -- What kept views stand for.
 use Rattle.std.specs.Prelude.{List, map}
 use Rattle.std.specs.List.{All}
-use Rattle.base_schema.specs.declared.table.TableName.{TableName}
 use Rattle.base_schema.specs.State.{State, table_rows}
+use Rattle.store_state.specs.Moves.{AreMoved}
 use Rattle.store_kept_views.specs.declared.plan.KeptPlan.{KeptPlan}
 use Rattle.store_groups.specs.Entries.{Entries}
-use Rattle.store_kept_views.specs.Standing.{IsMoved, StandsFor}
+use Rattle.store_kept_views.specs.Standing.{StandsFor}
 
 -- plans, and the state of whose rows their groups are made
 pub record KeptRows : Type 0 where
@@ -14,12 +14,6 @@ pub record KeptRows : Type 0 where
 
 abbrev pub kept : List KeptPlan → State → KeptRows
 kept plans tables = record { plans = plans; tables = tables }
-
--- table by table: the removed rows are, as a bag, among the old ones, and the rows are, as a bag,
--- the old ones without the removed and with the added ones
-abbrev pub AreMoved : State → State → State → State → Type 0
-AreMoved old added removed rows = (t : TableName)
-    → IsMoved (table_rows old t) (table_rows added t) (table_rows removed t) (table_rows rows t)
 
 -- a plan's groups are those of its table's rows
 abbrev pub IsKept : State → KeptPlan × Entries → Type 0

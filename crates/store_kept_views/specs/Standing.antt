@@ -4,13 +4,14 @@ use Rattle.std.specs.Prelude.{Bool, cond, Option, Some, None}
 use Rattle.std.specs.List.{filter}
 use Rattle.std.specs.Option.{is_some}
 use Rattle.base_row_laws.specs.Ranked.{Ranked}
-use Rattle.base_row_laws.specs.Bags.{SameBag, has}
+use Rattle.base_row_laws.specs.Bags.{has}
 use Rattle.base_value.specs.declared.value.Value.{Value}
 use Rattle.store_kept_views.specs.declared.plan.KeptAggregate.{KeptAggregate}
 use Rattle.store_kept_views.specs.declared.plan.KeptPlan.{KeptPlan}
 use Rattle.store_kept_views.specs.Plans.{item_of, selected, key_of}
 use Rattle.store_groups.specs.Entries.{Entries, group_at, same_key}
 use Rattle.store_groups.specs.Groups.{Group}
+use Rattle.store_state.specs.Moves.{IsMoved}
 use Rattle.store_kept_views.specs.RowGroups.{group_of}
 
 -- the rows of a key
@@ -50,12 +51,6 @@ pub record CanAdd (p : KeptPlan) (es stale : Entries) : Type 0 where
 -- the arguments of the aggregates in a row
 abbrev pub arguments_in : List KeptAggregate → List Value → List Value
 arguments_in ags row = map (λ a. (item_of a).0 row) ags
-
--- what is left without some rows of those that a table stands for, and with others
-pub record IsMoved (old added removed rows : List (List Value)) : Type 0 where
-  pub rest : List (List Value)
-  pub before : SameBag old (removed ++ rest)
-  pub after : SameBag rows (rest ++ added)
 
 -- a table stands for rows, which are moved to others
 pub record CanMove (p : KeptPlan) (es : Entries) (added removed rows : List (List Value)) : Type 0

@@ -3,9 +3,10 @@ ghost use Rattle.std.specs.Prelude.{◌≡◌, ◌<◌, Some, IfOk, length, map,
 ghost use Rattle.std.specs.Arc.{arc_value};
 ghost use Rattle.base_row_laws.specs.Bags.{SameBag};
 ghost use Rattle.base_schema.specs.State.{table_rows};
+ghost use Rattle.store_state.specs.Moves.{AreMoved};
 ghost use Rattle.store_kept_views.specs.declared.plan.KeptPlan.{KeptPlan as Plan};
 ghost use Rattle.store_kept_views.specs.Plans.{query_rows};
-ghost use Rattle.store_kept_views.specs.Kept.{AreKept, AreMoved, CanMoveViews, kept, plans_of};
+ghost use Rattle.store_kept_views.specs.Kept.{AreKept, CanMoveViews, kept, plans_of};
 
 use crate::plan::KeptPlan;
 use crate::view::View;

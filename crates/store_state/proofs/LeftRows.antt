@@ -148,7 +148,7 @@ up_more places place up below =
     (λ d some. let less : get_or places (length places - 1) d < place = All-get_or (λ p. p < place) places (length places - 1) d (omega (arith, some)) below in omega (arith, less))
 
 -- a row that goes
-row_goes : (more : List ℕ) (rows : List (List Value)) (i : ℕ) → i < length rows → AreDeleted more (take i rows)
+pub row_goes : (more : List ℕ) (rows : List (List Value)) (i : ℕ) → i < length rows → AreDeleted more (take i rows)
     → AreDeleted (more ++ i ∷ []) (take (i + 1) rows) × (left_rows (more ++ i ∷ []) (take (i + 1) rows) ≡ left_rows more (take i rows))
 row_goes more rows i less are =
     let long : length (take i rows) ≡ i = taken_rows rows i less in
@@ -166,7 +166,7 @@ row_goes more rows i less are =
     )
 
 -- a row that stays
-row_stays : (more : List ℕ) (rows : List (List Value)) (i : ℕ) → i < length rows → AreDeleted more (take i rows)
+pub row_stays : (more : List ℕ) (rows : List (List Value)) (i : ℕ) → i < length rows → AreDeleted more (take i rows)
     → AreDeleted more (take (i + 1) rows) × (left_rows more (take (i + 1) rows) ≡ left_rows more (take i rows) ++ get_or rows i [] ∷ [])
 row_stays more rows i less are =
     let long : length (take i rows) ≡ i = taken_rows rows i less in

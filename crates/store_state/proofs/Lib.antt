@@ -5,7 +5,9 @@ pub mod Order
 pub mod PartLists
 pub mod Prefixes
 pub mod LeftRows
+pub mod RefreshMoves
 pub mod Sales
 pub mod SameRows
 pub mod Searches
 pub mod VersionSteps
+pub mod WantedRows

@@ -6,6 +6,7 @@ pub mod Found
 pub mod Keys
 pub mod Laws
 pub mod Lists
+pub mod Moves
 pub mod Parts
 pub mod Prefixes
 pub mod Refresh

@@ -7,6 +7,7 @@ use Rattle.std.specs.List.Sorted.{IsNonDecreasing}
 use Rattle.base_columns.specs.Lists.{AreBelow, gathered}
 use Rattle.base_value.specs.declared.value.Value.{Value}
 use Rattle.store_state.specs.Keys.{has_key, order_key}
+use Rattle.store_state.specs.Moves.{with_keys}
 use Rattle.store_state.specs.Refresh.{without_keys}
 
 -- the place is one of these
@@ -40,6 +41,12 @@ pub record IsWithout (keys : List ℤ) (deleted : List ℕ) (rows : List (List V
     Type 0 where
   pub are : AreDeleted more rows
   pub left : left_rows more rows ≡ without_keys keys (left_rows deleted rows)
+
+-- deleted places of all rows but those of orders of these keys that were left
+pub record IsWith (keys : List ℤ) (deleted : List ℕ) (rows : List (List Value)) (more : List ℕ) :
+    Type 0 where
+  pub are : AreDeleted more rows
+  pub left : left_rows more rows ≡ with_keys keys (left_rows deleted rows)
 
 -- the key lies between these
 abbrev pub is_between : ℤ → ℤ → ℤ → Bool

@@ -10,6 +10,7 @@ mod found;
 mod key_range;
 mod keys;
 pub mod laws;
+mod moves;
 mod part;
 mod parts;
 mod refresh;
@@ -19,6 +20,7 @@ mod state;
 
 pub use action::Action;
 pub use applied::{RefreshError, apply, cause_of};
+pub use moves::{Moves, moves_of};
 pub use part::Part;
 pub use refresh::Refresh;
 pub use state::{State, place};

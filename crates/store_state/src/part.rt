@@ -1,11 +1,12 @@
 //! A part of a table.
-ghost use Rattle.std.specs.Prelude.{◌≡◌, false, ◌<◌, ◌≤◌, ◌++◌, ◌∷◌, ◌||◌, [], if◌then◌else◌};
+ghost use Rattle.std.specs.Prelude.{◌≡◌, false, ◌<◌, ◌≤◌, ◌++◌, ◌∷◌, ◌||◌, [], if◌then◌else◌, not};
 ghost use Rattle.std.specs.Prelude.{IfNone, IfOk, IfSome, OnOk, length, slice_index_or};
 ghost use Rattle.std.specs.List.Sorted.{IsNonDecreasing};
 ghost use Rattle.base_columns.specs.Lists.{AreBelow, gathered};
 ghost use Rattle.store_state.specs.Found.{TellsKeys, TellsLines};
 ghost use Rattle.store_state.specs.Keys.{has_key, line_key, line_keys, order_key, order_keys};
-ghost use Rattle.store_state.specs.Parts.{AreNear, HasNone, IsLeft, IsWithout, has_place};
+ghost use Rattle.store_state.specs.Moves.{with_keys};
+ghost use Rattle.store_state.specs.Parts.{AreNear, HasNone, IsLeft, IsWith, IsWithout, has_place};
 ghost use Rattle.store_state.specs.Parts.{left_rows};
 ghost use Rattle.store_state.specs.Refresh.{without_keys};
 
@@ -102,6 +103,49 @@ fn places_without(
         put_place(segment, deleted, keys, near, i, &mut places)?;
     }
     Ok(places)
+}
+
+/// The places of all rows but those of orders of these keys that are not deleted yet.
+fn places_of_others(
+    alloc: Global,
+    segment: &Segment,
+    deleted: &[u32],
+    keys: &KeySet<i64>,
+    near: &[i64],
+) -> Result<Vec<u32>, AllocError>
+    requires up { IsNonDecreasing deleted.now }
+    requires near { AreNear keys.now near.now segment.now }
+    ensures { IfOk result (λ places. IsWith keys.now deleted.now segment.now places.items) }
+{
+    let mut places = Vec::with_capacity(alloc, segment.len())?;
+    for i in 0..segment.len() {
+        put_other(segment, deleted, keys, near, i, &mut places)?;
+    }
+    Ok(places)
+}
+
+/// One place more, unless its row is not deleted and of an order of these keys.
+fn put_other(
+    segment: &Segment,
+    deleted: &[u32],
+    keys: &KeySet<i64>,
+    near: &[i64],
+    i: usize,
+    places: &mut Vec<u32>,
+) -> Result<(), AllocError>
+    requires up { IsNonDecreasing deleted.now }
+    requires near { AreNear keys.now near.now segment.now }
+    requires within { i < length segment.now }
+    requires short { i < 4096 }
+    ensures { OnOk result (places.new.items
+        ≡ (if has_place deleted.now i || not (has_key keys.now
+        (order_key (slice_index_or segment.now i []))) then places.old.items
+        ++ i ∷ [] else places.old.items)) }
+{
+    if has_place(deleted, i as u32) || !has_near(keys, near, number_at(segment, i, 0)) {
+        places.push(i as u32)?;
+    }
+    Ok(())
 }
 
 /// Puts the key of the order in a row after others, unless it is deleted.
@@ -353,6 +397,24 @@ impl Part {
         if places.len() == self.deleted.len() {
             return self.clone();
         }
+        let segment = self.segment.clone()?;
+        let deleted = Arc::new(alloc, places)?;
+        Ok(Part {
+            segment,
+            range: self.range,
+            deleted,
+        })
+    }
+}
+
+impl Part {
+    /// The rows of the orders of these keys, as another share of the segment.
+    pub(crate) fn of_orders(&self, alloc: Global, keys: &KeySet<i64>) -> Result<Part, AllocError>
+        ensures { IfOk result (λ part. part ≡ with_keys keys.now self.now) }
+    {
+        let near = self.range.near(alloc, keys.as_slice())?;
+        let deleted = self.deleted.as_slice();
+        let places = places_of_others(alloc, &self.segment, deleted, keys, &near)?;
         let segment = self.segment.clone()?;
         let deleted = Arc::new(alloc, places)?;
         Ok(Part {

@@ -2,6 +2,7 @@
 ghost use Rattle.std.specs.Prelude.{◌≡◌, ◌++◌, [], IfOk, OnErr, OnOk, length};
 ghost use Rattle.base_columns.specs.Lists.{one_list};
 ghost use Rattle.store_state.specs.Keys.{line_keys, order_keys};
+ghost use Rattle.store_state.specs.Moves.{with_keys};
 ghost use Rattle.store_state.specs.Refresh.{without_keys};
 
 use crate::keys::LineKey;
@@ -140,6 +141,34 @@ impl Parts {
             kept.push(part.without(alloc, keys)?)?;
         }
         Ok(kept)
+    }
+
+    /// The rows of the orders of these keys, in order.
+    pub(crate) fn of_orders(&self, alloc: Global, keys: &KeySet<i64>) -> Result<Parts, AllocError>
+        ensures { IfOk result (λ found. found ≡ with_keys keys.now self.now) }
+    {
+        let mut found = Parts::new(alloc);
+        let parts = self.as_slice();
+        for part in parts {
+            found.push_orders(alloc, part, keys)?;
+        }
+        Ok(found)
+    }
+
+    /// The rows of a part's orders of these keys at the end. A part that can have none of them is
+    /// not read.
+    fn push_orders(
+        &mut self,
+        alloc: Global,
+        part: &Part,
+        keys: &KeySet<i64>,
+    ) -> Result<(), AllocError>
+        ensures { OnOk result (self.new ≡ self.old ++ with_keys keys.now part.now) }
+    {
+        if part.may_have(keys) {
+            self.push(part.of_orders(alloc, keys)?)?;
+        }
+        Ok(())
     }
 }
 

@@ -4,6 +4,7 @@ ghost use Rattle.base_columns.specs.Lists.{one_list};
 ghost use Rattle.base_schema.specs.Kinds.{RowsAreOf};
 ghost use Rattle.base_schema.specs.State.{table_rows};
 ghost use Rattle.store_state.specs.Lists.{IsOfKinds, place_of, state_of};
+ghost use Rattle.store_state.specs.Moves.{no_rows};
 ghost use Rattle.store_state.specs.Refresh.{with_sales};
 
 use crate::part::Part;
@@ -71,6 +72,17 @@ impl State {
             all.push(Parts::of(alloc, rows)?)?;
         }
         Ok(State { tables: all })
+    }
+
+    /// Eight tables without rows.
+    pub(crate) fn empty(alloc: Global) -> Result<State, AllocError>
+        ensures { IfOk result (λ state. state ≡ no_rows) }
+    {
+        let mut tables = Vec::with_capacity(alloc, 8)?;
+        for _i in 0..8usize {
+            tables.push(Parts::new(alloc))?;
+        }
+        Ok(State { tables })
     }
 
     /// The rows of a table.

@@ -1,0 +1,6 @@
+use Rattle.std.proofs.Common.{take}
+use Rattle.store_state.specs.Parts.{IsWith}
+use Rattle.store_state.proofs.part.places_of_others.Given as goal
+
+abbrev pub invariant-loop-i : goal.invariant-loop-i
+invariant-loop-i l = IsWith l.keys l.deleted (take l.i l.segment) l.places.items
