@@ -7,8 +7,9 @@ use Rattle.std.specs.List.{position_or_len, before_first, after_first, list_all,
 use Rattle.std.specs.Str.{all_ascii_digits}
 use Rattle.std.proofs.Math.Seq.{drop-cons}
 use Rattle.std.proofs.Math.ListN.{drop_of_length-le}
-use Rattle.std.proofs.lemmas.Bool.{and_parts, lt-ltb, le-ltb, le-leb}
+use Rattle.std.proofs.lemmas.Bool.{and_parts, and_from, lt-ltb, le-ltb, le-leb}
 use Rattle.std.proofs.lemmas.Bool.Decides.{nat_tests}
+use Rattle.std.proofs.lemmas.Option.{cond_some}
 use Rattle.std.proofs.lemmas.List.{length-drop, length-take-le, take_more, take_all, drop-drop, take-append-drop}
 use Rattle.std.proofs.lemmas.List.Folds.{list_any-append, list_all-append}
 use Rattle.base_text.specs.Printable.{is_printable, AllPrintable}
@@ -163,6 +164,24 @@ pub printable_more : (text : List ℕ) (i : ℕ) → i < length text → list_al
 printable_more text i h e f =
     rw (take_more text i 0 h) (list_all-append is_printable (take i text) (get_or text i 0 ∷ []) ∙ rw (e, f) refl)
 
+pub below_printable : (b : ℕ) → (nat_le 0x20 b && nat_le b 0x7B) ≡ true → is_printable b ≡ true
+below_printable b e =
+    let parts = and_parts (nat_le 0x20 b) (nat_le b 0x7B) e in
+    let high : b ≤ 0x7B = grind (arith, nat_tests) in
+    and_from (nat_le 0x20 b) (nat_le b 0x7E) parts.0 (le-leb b 0x7E (omega (arith, high)))
+
+pub below_other : (b : ℕ) → (nat_le 0x20 b && nat_le b 0x7B) ≡ true → is_bar b ≡ false
+below_other b e = grind (arith, nat_tests)
+
+pub ruleset below = (below_printable, below_other)
+
+-- the same of a flag that stays false once a byte is not printable
+pub flag_more : (text : List ℕ) (i : ℕ) (so_far : Bool) → i < length text → (so_far ≡ true → list_all is_printable (take i text) ≡ true)
+    → (so_far && is_printable (get_or text i 0)) ≡ true → list_all is_printable (take (i + 1) text) ≡ true
+flag_more text i so_far h before e =
+    let parts = and_parts so_far (is_printable (get_or text i 0)) e in
+    printable_more text i h (before parts.0) parts.1
+
 none_unprintable : (bytes : List ℕ) → list_all is_printable bytes ≡ true → position_or_len (λ byte. not (is_printable byte)) bytes ≡ length bytes
 none_unprintable [] e = refl
 none_unprintable (b ∷ bytes) e =
@@ -175,6 +194,17 @@ none_at n = rw (le-ltb n n (le_refl n)) refl
 
 pub all_printable : (bytes : List ℕ) → list_all is_printable bytes ≡ true → AllPrintable bytes
 all_printable bytes e = rw (none_unprintable bytes e) (none_at (length bytes))
+
+pub found_end : (text : List ℕ) (end : ℕ) → position (λ byte. byte == 124) text ≡ Some end → position_or_len is_bar text ≡ end
+found_end text end e = (cond_some _ _ _ e).1
+
+pub ruleset long = (found_end)
+
+pub flag_all : (text : List ℕ) (i : ℕ) (so_far : Bool) → length text ≤ i → (so_far ≡ true → list_all is_printable (take i text) ≡ true)
+    → so_far ≡ true → AllPrintable text
+flag_all text i so_far h before e =
+    let all : list_all is_printable text ≡ true = rw (← take_all i text h) (before e) in
+    all_printable text all
 
 -- what columns hold
 
@@ -192,4 +222,4 @@ text_holds most text end inside short e =
 
 pub ruleset holds = (date_holds, text_holds)
 
-pub ruleset texts = (all_printable, end_is, printable_more, none_more)
+pub ruleset texts = (all_printable, end_is, printable_more, none_more, flag_more)

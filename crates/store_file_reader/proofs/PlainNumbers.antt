@@ -111,6 +111,13 @@ whole_number text n some digits e h =
     let read : read_size text 0 ≡ Some n = rw (no_point_of text digits, are_digits text some digits, size) refl in
     unsigned text 0 n some (first_digit text some digits) read h
 
+hundreds_number : (text : List ℕ) (n : ℕ) → 0 < length text → all_ascii_digits text ≡ true → n ≡ digits_value_after 10 0 text → n * 100 < 2 ^ 63
+    → decimal_read text 2 ≡ Ok (pos (n * 100))
+hundreds_number text n some digits e h =
+    let size : coefficient_of 2 text [] ≡ n * 100 = ap (λ t. digits_value_after 10 0 t * 100) (append-nil text) ∙ ap (λ v. v * 100) (sym e) in
+    let read : read_size text 2 ≡ Some (n * 100) = rw (no_point_of text digits, are_digits text some digits, size) refl in
+    unsigned text 2 (n * 100) some (first_digit text some digits) read h
+
 take_front : (front more : List ℕ) → take (length front) (front ++ more) ≡ front
 take_front [] more = refl
 take_front (b ∷ front) more = ap (λ l. b ∷ l) (take_front front more)
@@ -166,6 +173,12 @@ whole_is text end n some inside digits e h =
     let size : length (take end text) ≡ end = length-take-le end text inside in
     rw (to_z_pos w64 n h) (whole_number (take end text) n (omega (arith, size, some)) digits e h)
 
+pub hundreds_is : (text : List ℕ) (end n : ℕ) → 0 < end → end ≤ length text → all_ascii_digits (take end text) ≡ true
+    → n ≡ digits_value_after 10 0 (take end text) → n * 100 < 2 ^ 63 → decimal_read (take end text) 2 ≡ Ok (to_z w64 (n * 100))
+hundreds_is text end n some inside digits e h =
+    let size : length (take end text) ≡ end = length-take-le end text inside in
+    rw (to_z_pos w64 (n * 100) h) (hundreds_number (take end text) n (omega (arith, size, some)) digits e h)
+
 pub cents_is : (text : List ℕ) (point n whole : ℕ) → 0 < point → point + 3 ≤ length text → get_or text point 0 ≡ 46
     → all_ascii_digits (take point text) ≡ true → all_ascii_digits (take 2 (drop (point + 1) text)) ≡ true
     → whole ≡ digits_value_after 10 0 (take point text) → n ≡ digits_value_after 10 whole (take 2 (drop (point + 1) text)) → n < 2 ^ 63
@@ -178,6 +191,8 @@ pub natural_is : (n : ℕ) → n < 2 ^ 63 → IsNatural (to_z w64 n)
 natural_is n h = rw (to_z_pos w64 n h) (natural n h)
 
 pub ruleset read = (whole_is, natural_is)
+
+pub ruleset hundreds = (hundreds_is, natural_is)
 
 -- columns hold natural numbers
 
