@@ -7,6 +7,7 @@ ghost use Rattle.plan_planner.specs.Planned.{IsPlanOf, Plans};
 
 use crate::views::SessionViews;
 use plan_algebra::{Builder, FlatPlan};
+use plan_computed_keys::keyed;
 use plan_dependent_tree::depend;
 use plan_join_order::arrange;
 use plan_unnesting::{Domain, lower};
@@ -30,16 +31,18 @@ pub fn plan(alloc: Global, query: &Query, views: &SessionViews) -> Result<FlatPl
 }
 
 /// The flat plan of a well-typed query: its dependent tree, with joins and conditions moved to
-/// where they cost least, lowered to nodes none of which depends on the rows of another.
+/// where they cost least and columns for computed keys, lowered to nodes none of which depends on
+/// the rows of another.
 pub fn plan_bound(alloc: Global, query: BoundQuery) -> Result<FlatPlan, AllocError>
     requires { (kinds : List Kind) × IsWellTyped query.block kinds }
     ensures { IfOk result (IsPlanOf query) }
 {
     let tree = depend(alloc, &query)?;
     let arranged = arrange(alloc, 0, tree.get())?;
+    let indexed = keyed(alloc, 0, arranged.get())?;
     let mut builder = Builder::new(alloc);
     let domain = Domain::one(alloc);
-    lower(alloc, &mut builder, arranged.get(), domain)?;
+    lower(alloc, &mut builder, indexed.get(), domain)?;
     let BoundQuery { order, limit, .. } = query;
     let most = wide(limit);
     let plan = builder.finish(order, most);
