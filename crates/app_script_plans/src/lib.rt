@@ -2,7 +2,6 @@
 //! and its flat plan, with what each node takes where there are tables.
 #![tactic(auto)]
 
-mod figures;
 mod lines;
 mod objects;
 mod place;
@@ -10,7 +9,6 @@ mod query_plan;
 mod script;
 mod statement_plan;
 mod views;
-mod ways;
 mod written;
 
 pub use place::push_place;

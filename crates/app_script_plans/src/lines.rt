@@ -5,9 +5,9 @@ ghost use Rattle.app_plan_text.specs.declared.line.PlanLine.{PlanLine};
 ghost use Rattle.plan_spelling.specs.Plans.{EndsWithPlan};
 ghost use Rattle.app_script_plans.specs.Shown.{EndsWithItsPlan};
 
-use crate::figures::{NodeFigures, rows_of};
 use crate::query_plan::{FormLines, QueryPlan};
 use crate::statement_plan::StatementPlan;
+use app_plan_figures::{NodeFigures, rows_of};
 use app_plan_text::{plan_lines, push_lines, push_number};
 use app_result_text::push_refusal;
 use base_refusals::Refusal;

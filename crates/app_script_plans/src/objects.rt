@@ -1,7 +1,7 @@
 //! What is shown of a statement, as an object of JSON.
-use crate::figures::{NodeFigures, rows_of};
 use crate::query_plan::{FormLines, QueryPlan};
 use crate::statement_plan::StatementPlan;
+use app_plan_figures::{NodeFigures, rows_of};
 use app_plan_text::{plan_lines, push_json_lines, push_json_text, push_number};
 use base_refusals::Refusal;
 use itoa::Buffer;

@@ -5,8 +5,8 @@ ghost use Rattle.sql_bound_query.specs.Typing.{IsWellTyped};
 ghost use Rattle.sql_binder.specs.Binding.{bound_query};
 ghost use Rattle.app_script_plans.specs.Shown.{PlansQuery};
 
-use crate::figures::{NodeFigures, node_figures};
 use crate::views::{ScriptViews, TypedViews};
+use app_plan_figures::{NodeFigures, node_figures};
 use app_plan_text::{PlanLine, query_lines, tree_lines};
 use plan_algebra::{FlatPlan, Node, Tables};
 use plan_dependent_tree::depend;
