@@ -8,7 +8,7 @@ ghost use Rattle.app_script_plans.specs.Shown.{EndsWithItsPlan};
 use crate::query_plan::{FormLines, QueryPlan};
 use crate::statement_plan::StatementPlan;
 use app_plan_figures::{NodeFigures, rows_of};
-use app_plan_text::{plan_lines, push_lines, push_number};
+use app_plan_text::{PlanLine, plan_lines, push_lines, push_number};
 use app_result_text::push_refusal;
 use base_refusals::Refusal;
 use plan_algebra::Node;
@@ -39,6 +39,15 @@ fn push_form(text: &mut Vec<u8>, form: &FormLines) -> Result<(), AllocError> {
     push_lines(text, form.lines.as_slice())
 }
 
+/// Appends the title of a flat plan and its lines.
+fn push_plan_lines(text: &mut Vec<u8>, lines: &[PlanLine]) -> Result<(), AllocError>
+    ensures { OnOk result
+        (text.new.items ≡ text.old.items ++ codes "flat plan\n" ++ lines_text lines.now) }
+{
+    text.extend_from_slice(b"flat plan\n")?;
+    push_lines(text, lines)
+}
+
 /// Appends a flat plan: a line for each node, with its number, its kind and the nodes that it
 /// reads.
 fn push_flat_plan(
@@ -51,8 +60,7 @@ fn push_flat_plan(
         × (text.new.items ≡ text.old.items ++ codes "flat plan\n" ++ lines_text lines)) }
 {
     let lines = plan_lines(alloc, nodes, counts)?;
-    text.extend_from_slice(b"flat plan\n")?;
-    push_lines(text, lines.as_slice())?;
+    push_plan_lines(text, lines.as_slice())?;
     Ok(())
 }
 

@@ -9,6 +9,7 @@ use crate::views::{ScriptViews, TypedViews};
 use app_plan_figures::{NodeFigures, node_figures};
 use app_plan_text::{PlanLine, query_lines, tree_lines};
 use plan_algebra::{FlatPlan, Node, Tables};
+use plan_computed_keys::keyed;
 use plan_dependent_tree::depend;
 use plan_join_order::arrange;
 use plan_planner::{SessionViews, plan};
@@ -33,8 +34,10 @@ pub enum QueryForm {
     Sunk,
     /// The tree after that, without the columns that nobody reads.
     Pruned,
-    /// The tree after that, with its joins in another order: the one that is lowered.
+    /// The tree after that, with its joins in another order.
     Arranged,
+    /// The tree after that, with columns for computed keys: the one that is lowered.
+    Keyed,
 }
 
 impl QueryForm {
@@ -46,6 +49,7 @@ impl QueryForm {
             QueryForm::Sunk => "tree with conditions moved down",
             QueryForm::Pruned => "tree without columns that nobody reads",
             QueryForm::Arranged => "tree with joins arranged",
+            QueryForm::Keyed => "tree with columns for computed keys",
         }
     }
 }
@@ -91,6 +95,12 @@ fn query_forms(alloc: Global, query: &BoundQuery) -> Result<Vec<FormLines>, Allo
         &mut forms,
         QueryForm::Arranged,
         tree_lines(alloc, arranged.get())?,
+    )?;
+    let indexed = keyed(alloc, 0, arranged.get())?;
+    put_form(
+        &mut forms,
+        QueryForm::Keyed,
+        tree_lines(alloc, indexed.get())?,
     )?;
     Ok(forms)
 }
