@@ -1,4 +1,8 @@
 //! What is shown of a statement.
+ghost use Rattle.std.specs.Prelude.{◌≡◌, IfOk};
+ghost use Rattle.sql_binder.specs.Binding.{bound_query};
+ghost use Rattle.app_script_plans.specs.Shown.{ShowsQuery, ShowsStatement, is_accepted};
+
 use crate::query_plan::{QueryPlan, query_plan};
 use crate::views::{ScriptViews, place_of_view};
 use base_refusals::Refusal;
@@ -24,14 +28,28 @@ pub enum StatementPlan {
     Refused(Refusal),
 }
 
-/// What is shown of a query.
+impl StatementPlan {
+    /// Whether the statement isn't refused.
+    pub fn is_accepted(&self) -> bool
+        ensures { result ≡ is_accepted self.now }
+    {
+        match self {
+            StatementPlan::Query(_) | StatementPlan::Done | StatementPlan::Refresh => true,
+            StatementPlan::Refused(_) => false,
+        }
+    }
+}
+
+/// What is shown of a query: its plan, or the refusal of binding.
 fn shown_query<R: Threads + Sync + Clock, T: Tables>(
     rt: &R,
     alloc: Global,
     query: &Query,
     views: &ScriptViews,
     tables: Option<&T>,
-) -> Result<StatementPlan, AllocError> {
+) -> Result<StatementPlan, AllocError>
+    ensures { IfOk result (ShowsQuery (bound_query query.now views.now.session)) }
+{
     match query_plan(rt, alloc, query, views, tables) {
         Ok(plan) => Ok(StatementPlan::Query(plan)),
         Err(BindFault::Refused(why)) => Ok(StatementPlan::Refused(Refusal::Bind(why))),
@@ -80,14 +98,17 @@ fn shown_run(
     }
 }
 
-/// What is shown of a statement over these views, to which it does what it says.
+/// What is shown of a statement over these views, to which it does what it says: of a query a plan
+/// of it, or the refusal of binding.
 pub fn statement_plan<R: Threads + Sync + Clock, T: Tables>(
     rt: &R,
     alloc: Global,
     statement: &Statement,
     views: &mut ScriptViews,
     tables: Option<&T>,
-) -> Result<StatementPlan, AllocError> {
+) -> Result<StatementPlan, AllocError>
+    ensures { IfOk result (ShowsStatement statement.now views.old.session) }
+{
     match statement {
         Statement::Query(query) => shown_query(rt, alloc, query, views, tables),
         Statement::CreateView(name, names, query) => {
