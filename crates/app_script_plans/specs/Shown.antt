@@ -1,5 +1,5 @@
 -- What is shown of a statement, and the plan that is shown of a query.
-use Rattle.std.specs.Prelude.{◌≡◌, ℕ, List, Bool, true, false, Result, Ok, Err, ⊥}
+use Rattle.std.specs.Prelude.{◌≡◌, ℕ, List, Bool, true, false, Result, Ok, Err}
 use Rattle.base_refusals.specs.declared.bind.BindRefusal.{BindRefusal}
 use Rattle.base_refusals.specs.declared.statement.Refusal.TheVariants.{Bind}
 use Rattle.sql_ast.specs.declared.statement.Statement.{Statement}
