@@ -12,9 +12,16 @@ pub struct Request<'w> {
     pub folder: Option<&'w str>,
 }
 
-/// What the words after `--json` ask for, or all words where that isn't there.
+/// Whether a word is written as an option.
+fn is_option(word: &str) -> bool {
+    matches!(word.as_bytes(), [b'-', b'-', ..])
+}
+
+/// What the words after `--json` ask for, or all words where that isn't there. A script's name that
+/// begins as an option does is none.
 fn request_of(form: PlanForm, words: &[String]) -> Option<Request<'_>> {
     match words {
+        [script, ..] if is_option(script.as_str()) => None,
         [script] => Some(Request {
             form,
             script: script.as_str(),
