@@ -149,7 +149,6 @@ fn own_run<R: Threads + Sync + Clock, T: Tables>(
 }
 
 /// The plan without its last node.
-#[tactic(auto, using(crate::proofs::Fronts::front_formed))]
 fn without_last(plan: FlatPlan) -> FlatPlan {
     let FlatPlan {
         nodes,
