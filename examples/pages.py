@@ -25,7 +25,7 @@ they are given. Lines of a case before its first `--`:
 - `twice` runs it twice, and the second run must print the same,
 - `into FILE` gives the program that file for its standard output: nothing of it is compared,
 - `run WORD..` gives the program's words, quoted as a shell does where they have blanks, and
-  `make WORD..` runs the program `make_data` with these words instead.
+  `make WORD..` runs the program `make_data` with these words instead, and `show WORD..` `show_plan`.
 
 `-- FILE` gives a file's lines. `-- out STATUS` gives the exit status and all that is printed;
 `-- head STATUS` the first line, where * is any text, and `-- end STATUS` what is printed from the line
@@ -50,6 +50,7 @@ import shlex
 from dataclasses import dataclass, field
 from pathlib import Path
 
+PROGRAMS = {"run": "tpch", "make": "make_data", "show": "show_plan"}
 ESCAPES = {b"r": b"\r", b"n": b"\n", b"t": b"\t", b"\\": b"\\"}
 
 
@@ -85,7 +86,7 @@ class Case:
     into: str | None = None
     expected: list[Expected] = field(default_factory=list)
     after: list[Expected] = field(default_factory=list)
-    is_make: bool = False
+    program: str = "tpch"
     is_twice: bool = False
     room: Path | None = None  # the folder that it is run in, where it is not its own
 
@@ -207,8 +208,8 @@ def case_of(page: str, block: Block, sets: dict[str, dict[str, bytes]]) -> Case:
                 case.is_twice = True
             case "into", [name]:
                 case.into = name
-            case ("run" | "make"), _:
-                case.words, case.is_make = shlex.split(rest), word == "make"
+            case ("run" | "make" | "show"), _:
+                case.words, case.program = shlex.split(rest), PROGRAMS[word]
             case _:
                 raise PageError(f"{page}:{number}: {line!r} is no line of a case")
     for number, header, lines in block.texts:

@@ -1,0 +1,229 @@
+//! What the nodes of a plan took: rows, bytes and time, and how joins found their pairs.
+ghost use Rattle.std.specs.Prelude.{◌≡◌, ◌<◌};
+
+use crate::ways::{JoinWay, way_of_join, way_of_single};
+use base_columns::{Bag, Batch, Column, ColumnForm};
+use exec_flat_plan::run;
+use plan_algebra::{FlatPlan, Node, Steps, Tables};
+use std::alloc::{AllocError, Global};
+use std::marker::Brand;
+use std::sync::ledger::{Blank, Ledger};
+use std::thread::Threads;
+use std::time::{Clock, Instant};
+
+/// What the run of a plan up to one of its nodes gave.
+#[derive(Clone, Copy)]
+pub struct NodeFigures {
+    /// How many rows the node has.
+    pub rows: usize,
+    /// How many bytes the values of its rows take.
+    pub bytes: usize,
+    /// How many microseconds the run took; 0 where the clock can't be read.
+    pub micros: u64,
+    /// How it finds its pairs, where it is a join.
+    pub way: Option<JoinWay>,
+}
+
+/// The rows of a node, and how many microseconds the run up to it took.
+#[derive(Drop)]
+struct NodeRun {
+    bag: Bag,
+    micros: u64,
+}
+
+/// The numbers of rows alone.
+pub fn rows_of(alloc: Global, figures: &[NodeFigures]) -> Result<Vec<usize>, AllocError> {
+    let mut rows = Vec::new(alloc);
+    for node in figures {
+        rows.push(node.rows)?;
+    }
+    Ok(rows)
+}
+
+/// How many bytes a value takes that is kept by itself.
+const VALUE_BYTES: usize = 32;
+
+/// How many bytes the value at a place takes.
+fn value_bytes(column: &Column, place: usize) -> usize {
+    if place >= column.len() {
+        return 0;
+    }
+    match column.text(place) {
+        Some(bytes) => bytes.len(),
+        None => VALUE_BYTES,
+    }
+}
+
+/// How many bytes the texts and other values of a column take.
+fn values_bytes(column: &Column) -> usize {
+    let mut sum: usize = 0;
+    for place in 0..column.len() {
+        sum = sum.saturating_add(value_bytes(column, place));
+    }
+    sum
+}
+
+/// How many bytes the values of a column take.
+fn column_bytes(column: &Column) -> usize {
+    if column.as_codes().is_some() || column.marked_codes().is_some() {
+        return column.len();
+    }
+    match column.kept_form() {
+        ColumnForm::Numbers(_) => column.len().saturating_mul(8),
+        ColumnForm::Dates => column.len().saturating_mul(4),
+        ColumnForm::Texts | ColumnForm::Values => values_bytes(column),
+    }
+}
+
+/// How many bytes the values of a batch take.
+fn batch_bytes(batch: &Batch) -> usize {
+    let mut sum: usize = 0;
+    for place in 0..batch.width() {
+        sum = sum.saturating_add(column_bytes(batch.column(place)));
+    }
+    sum
+}
+
+/// How many bytes the values of a bag take.
+fn bag_bytes(bag: &Bag) -> usize {
+    let mut sum: usize = 0;
+    for batch in bag.batches() {
+        sum = sum.saturating_add(batch_bytes(batch));
+    }
+    sum
+}
+
+/// The time, where the clock can be read.
+fn time_now<R: Clock>(clock: &R) -> Option<Instant> {
+    match Instant::now(clock) {
+        Ok(time) => Some(time),
+        Err(_) => None,
+    }
+}
+
+/// How many microseconds went by since then.
+fn micros_since<R: Clock>(clock: &R, start: Option<Instant>) -> u64 {
+    let Some(start) = start else {
+        return 0;
+    };
+    match start.elapsed(clock) {
+        Ok(time) => {
+            let micros = u64::from(time.subsec_micros());
+            time.as_secs()
+                .saturating_mul(1_000_000)
+                .saturating_add(micros)
+        }
+        Err(_) => 0,
+    }
+}
+
+/// The rows of a plan, and how long its run took.
+fn last_run<R: Threads + Sync + Clock, T: Tables, L: Ledger>(
+    rt: &R,
+    alloc: Global,
+    plan: &FlatPlan,
+    tables: &T,
+    blank: Blank,
+) -> Result<NodeRun, AllocError>
+    requires name { blank.name ≡ L.name }
+    requires parts { blank.parts ≡ L.parts }
+    requires some { 0 < blank.parts }
+{
+    let mut steps: Steps<L> = Steps::new(blank);
+    let start = time_now(rt);
+    let bag = run(rt, alloc, plan, tables, &mut steps)?;
+    let micros = micros_since(rt, start);
+    Ok(NodeRun { bag, micros })
+}
+
+/// The same where the steps have a ledger of their own.
+fn own_run<R: Threads + Sync + Clock, T: Tables>(
+    rt: &R,
+    alloc: Global,
+    plan: &FlatPlan,
+    tables: &T,
+) -> Result<NodeRun, AllocError> {
+    let blank = Blank::new(1);
+    let run = last_run::<R, T, Brand>(rt, alloc, plan, tables, blank)?;
+    Ok(run)
+}
+
+/// The plan without its last node.
+fn without_last(plan: FlatPlan) -> FlatPlan {
+    let FlatPlan {
+        nodes,
+        order,
+        limit,
+    } = plan;
+    let mut nodes = nodes;
+    let _last = nodes.pop();
+    FlatPlan {
+        nodes,
+        order,
+        limit,
+    }
+}
+
+/// The rows of each node of a plan. The plan is run for each of its nodes, as if that were the last
+/// one.
+fn node_runs<R: Threads + Sync + Clock, T: Tables>(
+    rt: &R,
+    alloc: Global,
+    plan: FlatPlan,
+    tables: &T,
+) -> Result<Vec<NodeRun>, AllocError> {
+    let mut left = plan;
+    let mut runs = Vec::new(alloc);
+    for _ in 0..left.nodes.len() {
+        runs.push(own_run(rt, alloc, &left, tables)?)?;
+        left = without_last(left);
+    }
+    runs.reverse();
+    Ok(runs)
+}
+
+/// How a node finds its pairs, where it is a join of nodes of these runs.
+fn way_of(alloc: Global, node: &Node, runs: &[NodeRun]) -> Result<Option<JoinWay>, AllocError> {
+    match node {
+        Node::Join(i, j, matched, on)
+        | Node::Outer(i, j, matched, _, on)
+        | Node::Mark(i, j, matched, on) => {
+            let (Some(left), Some(right)) = (runs.get(*i), runs.get(*j)) else {
+                return Ok(None);
+            };
+            let matched = matched.as_slice();
+            let way = way_of_join(alloc, &left.bag, &right.bag, matched, on.get())?;
+            Ok(Some(way))
+        }
+        Node::Single(i, j, matched, _) => {
+            let (Some(left), Some(right)) = (runs.get(*i), runs.get(*j)) else {
+                return Ok(None);
+            };
+            let way = way_of_single(alloc, &left.bag, &right.bag, matched.as_slice())?;
+            Ok(Some(way))
+        }
+        _ => Ok(None),
+    }
+}
+
+/// What each node of these gives over tables. They are those of the plan, which is taken apart. All
+/// rows of all nodes are kept meanwhile.
+pub fn node_figures<R: Threads + Sync + Clock, T: Tables>(
+    rt: &R,
+    alloc: Global,
+    nodes: &[Node],
+    plan: FlatPlan,
+    tables: &T,
+) -> Result<Vec<NodeFigures>, AllocError> {
+    let runs = node_runs(rt, alloc, plan, tables)?;
+    let mut figures = Vec::new(alloc);
+    for (node, run) in nodes.iter().zip(runs.iter()) {
+        figures.push(NodeFigures {
+            rows: run.bag.len(),
+            bytes: bag_bytes(&run.bag),
+            micros: run.micros,
+            way: way_of(alloc, node, runs.as_slice())?,
+        })?;
+    }
+    Ok(figures)
+}

@@ -1,0 +1,7 @@
+use Rattle.std.proofs.Common.{◌≡◌, ◌++◌, drop}
+use Rattle.app_plan_text.specs.Lines.{lines_text}
+use Rattle.app_plan_text.proofs.line.push_lines.Given as goal
+
+abbrev pub invariant-loop-line : goal.invariant-loop-line
+invariant-loop-line l =
+    l.text.items ++ lines_text (drop l.line-index l.lines) ≡ l.fn.text.items ++ lines_text l.lines

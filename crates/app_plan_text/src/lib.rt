@@ -1,0 +1,24 @@
+//! Queries, trees and plans as lines for readers. Columns have names, and conditions and aggregates
+//! stand as SQL writes them.
+#![tactic(auto)]
+
+mod expr;
+mod json;
+mod line;
+mod literal;
+mod names;
+mod node;
+mod numbering;
+mod plan;
+mod query;
+mod source;
+mod subquery;
+mod tables;
+mod tree;
+
+pub use json::{push_json_lines, push_json_text};
+pub use line::{PlanLine, push_lines};
+pub use names::push_number;
+pub use plan::plan_lines;
+pub use query::query_lines;
+pub use tree::tree_lines;

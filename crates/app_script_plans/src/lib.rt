@@ -1,0 +1,15 @@
+//! What becomes of each query of a script, as lines and as JSON. It has its bound form, its trees
+//! and its flat plan, with what each node takes where there are tables.
+#![tactic(auto)]
+
+mod lines;
+mod objects;
+mod place;
+mod query_plan;
+mod script;
+mod statement_plan;
+mod views;
+mod written;
+
+pub use place::push_place;
+pub use script::{PlanForm, ScriptPlans, script_plans};

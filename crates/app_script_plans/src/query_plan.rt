@@ -1,0 +1,175 @@
+//! A query from its bound form to its flat plan.
+ghost use Rattle.std.specs.Prelude.{List};
+ghost use Rattle.expr_scalar.specs.declared.kind.Kind.{Kind};
+ghost use Rattle.sql_bound_query.specs.Typing.{IsWellTyped};
+ghost use Rattle.sql_binder.specs.Binding.{bound_query};
+ghost use Rattle.app_script_plans.specs.Shown.{PlansQuery};
+
+use crate::views::{ScriptViews, TypedViews};
+use app_plan_figures::{NodeFigures, node_figures};
+use app_plan_text::{PlanLine, query_lines, tree_lines};
+use plan_algebra::{FlatPlan, Node, Tables};
+use plan_computed_keys::keyed;
+use plan_dependent_tree::depend;
+use plan_join_order::arrange;
+use plan_planner::{SessionViews, plan};
+use plan_tree_moves::{pruned, sunk};
+use sql_ast::Query;
+use sql_binder::bind;
+use sql_binder_steps::BindFault;
+use sql_bound_query::BoundQuery;
+use sqlite_items::Items;
+use std::alloc::{AllocError, Global};
+use std::thread::Threads;
+use std::time::Clock;
+
+/// A form of a query before its flat plan.
+#[derive(Clone, Copy, Debug, PartialEq, Eq)]
+pub enum QueryForm {
+    /// The query with its names bound.
+    Bound,
+    /// Its dependent tree.
+    Tree,
+    /// The tree after its conditions were moved down.
+    Sunk,
+    /// The tree after that, without the columns that nobody reads.
+    Pruned,
+    /// The tree after that, with its joins in another order.
+    Arranged,
+    /// The tree after that, with columns for computed keys: the one that is lowered.
+    Keyed,
+}
+
+impl QueryForm {
+    /// Its title.
+    pub fn title(self) -> &'static str {
+        match self {
+            QueryForm::Bound => "bound query",
+            QueryForm::Tree => "dependent tree",
+            QueryForm::Sunk => "tree with conditions moved down",
+            QueryForm::Pruned => "tree without columns that nobody reads",
+            QueryForm::Arranged => "tree with joins arranged",
+            QueryForm::Keyed => "tree with columns for computed keys",
+        }
+    }
+}
+
+/// A form of a query, as lines.
+#[derive(Drop)]
+pub struct FormLines {
+    /// Which form it is.
+    pub form: QueryForm,
+    /// Its lines.
+    pub lines: Vec<PlanLine>,
+}
+
+/// A query's forms and its flat plan.
+#[derive(Drop)]
+pub struct QueryPlan {
+    /// The forms before the flat plan, in their order.
+    pub forms: Vec<FormLines>,
+    /// The flat plan.
+    pub plan: FlatPlan,
+    /// What each node gives; nothing where there are no tables.
+    pub figures: Vec<NodeFigures>,
+}
+
+/// The forms of a bound query, by the calls with which its flat plan is made.
+fn query_forms(alloc: Global, query: &BoundQuery) -> Result<Vec<FormLines>, AllocError>
+    requires { (kinds : List Kind) × IsWellTyped query.now.block kinds }
+{
+    let mut forms = Vec::new(alloc);
+    put_form(&mut forms, QueryForm::Bound, query_lines(alloc, query)?)?;
+    let tree = depend(alloc, query)?;
+    put_form(&mut forms, QueryForm::Tree, tree_lines(alloc, tree.get())?)?;
+    let lower = sunk(alloc, 0, tree.get(), Items::new(alloc))?;
+    put_form(&mut forms, QueryForm::Sunk, tree_lines(alloc, lower.get())?)?;
+    let narrow = pruned(alloc, 0, lower.get())?;
+    put_form(
+        &mut forms,
+        QueryForm::Pruned,
+        tree_lines(alloc, narrow.get())?,
+    )?;
+    let arranged = arrange(alloc, 0, tree.get())?;
+    put_form(
+        &mut forms,
+        QueryForm::Arranged,
+        tree_lines(alloc, arranged.get())?,
+    )?;
+    let indexed = keyed(alloc, 0, arranged.get())?;
+    put_form(
+        &mut forms,
+        QueryForm::Keyed,
+        tree_lines(alloc, indexed.get())?,
+    )?;
+    Ok(forms)
+}
+
+/// Appends a form.
+fn put_form(
+    forms: &mut Vec<FormLines>,
+    form: QueryForm,
+    lines: Vec<PlanLine>,
+) -> Result<(), AllocError> {
+    forms.push(FormLines { form, lines })?;
+    Ok(())
+}
+
+/// What each node of a query's plan gives over tables. The plan is made for that once more, since
+/// it is taken apart node by node.
+fn figures_of_nodes<R: Threads + Sync + Clock, T: Tables>(
+    rt: &R,
+    alloc: Global,
+    query: &Query,
+    views: &SessionViews,
+    nodes: &[Node],
+    tables: Option<&T>,
+) -> Result<Vec<NodeFigures>, BindFault> {
+    match tables {
+        Some(tables) => {
+            let plan = plan(alloc, query, views)?;
+            let figures = node_figures(rt, alloc, nodes, plan, tables)?;
+            Ok(figures)
+        }
+        None => Ok(Vec::new(alloc)),
+    }
+}
+
+/// A query's forms over these views.
+fn bound_forms(
+    alloc: Global,
+    query: &Query,
+    views: &TypedViews,
+) -> Result<Vec<FormLines>, BindFault> {
+    let bound = bind(alloc, query, &views.views)?;
+    let forms = query_forms(alloc, &bound)?;
+    Ok(forms)
+}
+
+/// A query's forms and its flat plan over these views, by the call with which a session plans it:
+/// refused exactly as binding is.
+pub fn query_plan<R: Threads + Sync + Clock, T: Tables>(
+    rt: &R,
+    alloc: Global,
+    query: &Query,
+    views: &ScriptViews,
+    tables: Option<&T>,
+) -> Result<QueryPlan, BindFault>
+    ensures { PlansQuery (bound_query query.now views.now.session) result }
+{
+    let plan = plan(alloc, query, &views.session)?;
+    let forms = match bound_forms(alloc, query, &views.typed) {
+        Ok(forms) => forms,
+        Err(_) => return Err(BindFault::OutOfMemory),
+    };
+    let nodes = plan.nodes.as_slice();
+    let figures = match figures_of_nodes(rt, alloc, query, &views.session, nodes, tables) {
+        Ok(figures) => figures,
+        Err(_) => return Err(BindFault::OutOfMemory),
+    };
+    Ok(QueryPlan {
+        forms,
+        plan,
+        figures,
+    })
+}

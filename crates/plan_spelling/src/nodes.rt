@@ -1,0 +1,140 @@
+//! The numbers that spell a flat plan.
+ghost use Rattle.std.specs.Prelude.{◌≡◌, ◌++◌, IfOk, OnOk};
+ghost use Rattle.std.specs.List.{flat_map};
+ghost use Rattle.plan_spelling.specs.Plans as spec;
+ghost use Rattle.plan_spelling.specs.Plans.{aggregate_spelling, node_spelling, value_spelling};
+
+use crate::exprs::{put_expr, put_exprs};
+use crate::values::{
+    aggregate_number, operation_number, put_bytes, put_pairs, put_places, put_value,
+};
+use base_value::Value;
+use plan_algebra::{Aggregate, Node};
+use std::alloc::{AllocError, Global};
+
+#[tactic(auto, using(crate::proofs::Written::aggregate_written))]
+fn put_aggregate(numbers: &mut Vec<u128>, aggregate: &Aggregate) -> Result<(), AllocError>
+    ensures { OnOk result
+        (numbers.new.items ≡ numbers.old.items ++ aggregate_spelling aggregate.now) }
+{
+    match aggregate {
+        Aggregate::CountRows => numbers.extend_from_slice(&[1, 18, 0]),
+        Aggregate::Of(function, scale, argument) => {
+            let scale = scale.places() as u128;
+            numbers.extend_from_slice(&[3, 19, aggregate_number(*function), scale, 1])?;
+            put_expr(numbers, argument.get())
+        }
+    }
+}
+
+fn put_aggregates(numbers: &mut Vec<u128>, aggregates: &[Aggregate]) -> Result<(), AllocError>
+    ensures { OnOk result
+        (numbers.new.items ≡ numbers.old.items ++ flat_map aggregate_spelling aggregates.now) }
+{
+    for aggregate in aggregates {
+        put_aggregate(numbers, aggregate)?;
+    }
+    Ok(())
+}
+
+fn put_values(numbers: &mut Vec<u128>, values: &[Value]) -> Result<(), AllocError>
+    ensures { OnOk result
+        (numbers.new.items ≡ numbers.old.items ++ flat_map value_spelling values.now) }
+{
+    for value in values {
+        put_value(numbers, 20, value)?;
+    }
+    Ok(())
+}
+
+#[tactic(auto, using(crate::proofs::Written::node_written))]
+fn put_node(numbers: &mut Vec<u128>, node: &Node) -> Result<(), AllocError>
+    ensures { OnOk result (numbers.new.items ≡ numbers.old.items ++ node_spelling node.now) }
+{
+    match node {
+        Node::Scan(table) => {
+            let name = table.name().as_bytes();
+            numbers.extend_from_slice(&[name.len() as u128 + 1, 21])?;
+            put_bytes(numbers, name)?;
+            numbers.extend_from_slice(&[0])
+        }
+        Node::Domain(i, cs) => {
+            numbers.extend_from_slice(&[cs.len() as u128 + 2, 22, *i as u128])?;
+            put_places(numbers, cs.as_slice())?;
+            numbers.extend_from_slice(&[0])
+        }
+        Node::Select(i, e) => {
+            numbers.extend_from_slice(&[2, 23, *i as u128, 1])?;
+            put_expr(numbers, e.get())
+        }
+        Node::Project(i, es) => {
+            numbers.extend_from_slice(&[2, 24, *i as u128, es.len() as u128])?;
+            put_exprs(numbers, es.as_slice())
+        }
+        Node::Join(i, j, matched, e) => {
+            let count = matched.len() as u128 * 2 + 3;
+            numbers.extend_from_slice(&[count, 25, *i as u128, *j as u128])?;
+            put_pairs(numbers, matched.as_slice())?;
+            numbers.push(1)?;
+            put_expr(numbers, e.get())
+        }
+        Node::Outer(i, j, matched, nulls, e) => {
+            let count = matched.len() as u128 * 2 + 4;
+            numbers.extend_from_slice(&[count, 26, *i as u128, *j as u128, *nulls as u128])?;
+            put_pairs(numbers, matched.as_slice())?;
+            numbers.push(1)?;
+            put_expr(numbers, e.get())
+        }
+        Node::Mark(i, j, matched, e) => {
+            let count = matched.len() as u128 * 2 + 3;
+            numbers.extend_from_slice(&[count, 27, *i as u128, *j as u128])?;
+            put_pairs(numbers, matched.as_slice())?;
+            numbers.push(1)?;
+            put_expr(numbers, e.get())
+        }
+        Node::Single(i, j, matched, column) => {
+            let count = matched.len() as u128 * 2 + 4;
+            numbers.extend_from_slice(&[count, 28, *i as u128, *j as u128, *column as u128])?;
+            put_pairs(numbers, matched.as_slice())?;
+            numbers.extend_from_slice(&[0])
+        }
+        Node::Group(i, by, aggregates) => {
+            numbers.extend_from_slice(&[by.len() as u128 + 2, 29, *i as u128])?;
+            put_places(numbers, by.as_slice())?;
+            numbers.push(aggregates.len() as u128)?;
+            put_aggregates(numbers, aggregates.as_slice())
+        }
+        Node::Fill(i, j, empty) => {
+            let count = empty.len() as u128;
+            numbers.extend_from_slice(&[3, 30, *i as u128, *j as u128, count])?;
+            put_values(numbers, empty.as_slice())
+        }
+        Node::Distinct(i) => numbers.extend_from_slice(&[2, 31, *i as u128, 0]),
+        Node::Set(i, j, operation) => {
+            let operation = operation_number(*operation);
+            numbers.extend_from_slice(&[4, 32, *i as u128, *j as u128, operation, 0])
+        }
+    }
+}
+
+/// Appends the numbers that spell nodes, one after the other.
+fn put_nodes(numbers: &mut Vec<u128>, nodes: &[Node]) -> Result<(), AllocError>
+    ensures { OnOk result
+        (numbers.new.items ≡ numbers.old.items ++ flat_map node_spelling nodes.now) }
+{
+    for node in nodes {
+        put_node(numbers, node)?;
+    }
+    Ok(())
+}
+
+/// The numbers that spell a plan of these nodes.
+#[tactic(auto, using(crate::proofs::Written::plan_written))]
+pub fn plan_spelling(alloc: Global, nodes: &[Node]) -> Result<Vec<u128>, AllocError>
+    ensures { IfOk result (λ numbers. numbers.items ≡ spec.plan_spelling nodes.now) }
+{
+    let mut numbers = Vec::new(alloc);
+    numbers.extend_from_slice(&[0, nodes.len() as u128])?;
+    put_nodes(&mut numbers, nodes)?;
+    Ok(numbers)
+}

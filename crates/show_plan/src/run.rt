@@ -1,0 +1,150 @@
+//! A run: its words, its files, and its text.
+ghost use Rattle.std.specs.Prelude.{IfOk};
+ghost use Rattle.app_inputs.specs.Printing.{IsAnswer};
+
+use crate::words::{Request, read_words};
+use app_inputs::{
+    InputError, InputFault, ReadError, RefusedInput, Status, line_of_refusal, read_file,
+    read_state, write_text,
+};
+use app_script_plans::{ScriptPlans, push_place, script_plans};
+use base_io::{Files, Sink};
+use sql_parser::{MAX_SCRIPT, ScriptFault, ScriptRefusal, read_script};
+use std::alloc::{AllocError, Global};
+use std::thread::Threads;
+use std::time::Clock;
+use store_snapshots::Snapshot;
+use store_versions::Directory;
+
+/// The line for words of another form.
+static USAGE: &[u8] = b"usage: show_plan [--json] SCRIPT [DIR]\n";
+
+/// The tables of a folder.
+fn read_tables<F: Files>(
+    alloc: Global,
+    files: &mut F,
+    folder: &str,
+) -> Result<Snapshot, InputError> {
+    let state = read_state(alloc, files, folder)?;
+    let directory = Directory::new(alloc, state, Vec::new(alloc), 0)?;
+    let snapshot = Snapshot::of(alloc, &directory)?;
+    Ok(snapshot)
+}
+
+/// The tables of a folder where one is named.
+fn tables_of<F: Files>(
+    alloc: Global,
+    files: &mut F,
+    folder: Option<&str>,
+) -> Result<Option<Snapshot>, InputError> {
+    match folder {
+        Some(folder) => {
+            let snapshot = read_tables(alloc, files, folder)?;
+            Ok(Some(snapshot))
+        }
+        None => Ok(None),
+    }
+}
+
+/// What is shown of a script, and its status.
+fn plans_text<R: Threads + Sync + Clock>(
+    rt: &R,
+    alloc: Global,
+    script: &[u8],
+    request: &Request<'_>,
+    tables: &Option<Snapshot>,
+) -> Result<(Vec<u8>, Status), AllocError>
+    ensures { IfOk result (λ printed. IsAnswer printed.1) }
+{
+    let ScriptPlans { text, is_clean } = script_plans(
+        rt,
+        alloc,
+        script,
+        request.form,
+        tables.as_ref(),
+    )?;
+    if is_clean {
+        Ok((text, Status::Done))
+    } else {
+        Ok((text, Status::SomeRefused))
+    }
+}
+
+/// The lines of a script that is none: its refusal with its byte, and the line and the column of
+/// that.
+fn refused_script(
+    alloc: Global,
+    name: &str,
+    script: &[u8],
+    refusal: ScriptRefusal,
+    place: usize,
+) -> Result<Vec<u8>, AllocError> {
+    let name = String::from_str(alloc, name)?;
+    let fault = InputFault::Byte(refusal, place);
+    let mut text = line_of_refusal(alloc, &RefusedInput { name, fault })?;
+    push_place(&mut text, script, place)?;
+    text.push(b'\n')?;
+    Ok(text)
+}
+
+/// The text for a request, and its status.
+fn request_text<R: Threads + Sync + Clock, F: Files>(
+    rt: &R,
+    alloc: Global,
+    files: &mut F,
+    request: &Request<'_>,
+) -> Result<(Vec<u8>, Status), InputError>
+    ensures { IfOk result (λ printed. IsAnswer printed.1) }
+{
+    let script = read_file(alloc, files, request.script, MAX_SCRIPT)?;
+    match read_script(alloc, &script) {
+        Ok(_) => {
+            let tables = tables_of(alloc, files, request.folder)?;
+            let printed = plans_text(rt, alloc, &script, request, &tables)?;
+            Ok(printed)
+        }
+        Err(ScriptFault::Refused(refusal, place)) => {
+            let text = refused_script(alloc, request.script, &script, refusal, place)?;
+            Ok((text, Status::InputRefused))
+        }
+        Err(ScriptFault::OutOfMemory) => Err(InputError::Unread(ReadError::OutOfMemory)),
+    }
+}
+
+/// The text for a request, or the line of its first refused input, and its status.
+fn output<R: Threads + Sync + Clock, F: Files>(
+    rt: &R,
+    alloc: Global,
+    files: &mut F,
+    request: &Request<'_>,
+) -> Result<(Vec<u8>, Status), ReadError>
+    ensures { IfOk result (λ printed. IsAnswer printed.1) }
+{
+    match request_text(rt, alloc, files, request) {
+        Ok(printed) => Ok(printed),
+        Err(InputError::Refused(refused)) => {
+            let text = line_of_refusal(alloc, &refused)?;
+            Ok((text, Status::InputRefused))
+        }
+        Err(InputError::Unread(error)) => Err(error),
+    }
+}
+
+/// Reads the script and the tables that the words name, and writes what becomes of each query of
+/// the script; or the usage line where the words are of another form.
+pub fn show_plan<R: Threads + Sync + Clock, F: Files, S: Sink>(
+    rt: &R,
+    alloc: Global,
+    words: &[String],
+    files: &mut F,
+    out: &mut S,
+) -> Status {
+    let Some(request) = read_words(words) else {
+        return write_text(out, USAGE, Status::Usage);
+    };
+    match output(rt, alloc, files, &request) {
+        Ok((text, status)) => write_text(out, text.as_slice(), status),
+        Err(ReadError::Fault) => Status::ReadFault,
+        Err(ReadError::OutOfMemory) => Status::OutOfMemory,
+    }
+}
