@@ -10,6 +10,7 @@ mod OneText
 mod Orders
 mod Taken
 mod JobScripts
+mod KeptAlike
 mod JobAlike
 mod JobPlayed
 mod JobReading

@@ -1,8 +1,10 @@
 //! What a job works on, and reading it.
 ghost use Rattle.std.specs.Prelude.{◌≡◌, IfOk, length};
+ghost use Rattle.std.specs.List.{AllByRecursion};
+ghost use Rattle.store_refresh_entries.specs.Change.{MayBeStored};
 ghost use Rattle.app_inputs.specs.FilesAfter.{FilesAfterInput};
 ghost use Rattle.app_inputs.specs.Views.{Finds, Reads};
-ghost use Rattle.app_run.specs.JobInputs.{AreJobInputs, job_base};
+ghost use Rattle.app_run.specs.JobInputs.{AreJobFiles, job_base};
 ghost use Rattle.app_run.specs.JobViews.{IsPlayable, base_view, work_view};
 
 use crate::job_input::read_sessions;
@@ -27,6 +29,8 @@ pub struct JobSources {
     pub before: usize,
     /// Who sends each of the others, or nobody where they are tried in their order.
     pub senders: Vec<SenderId>,
+    /// The name of the file that keeps its accepted refreshes, if it asks for one.
+    pub journal: Option<String>,
 }
 
 /// The tables of the folder, and these refreshes.
@@ -38,6 +42,7 @@ fn read_base<F: Files>(
 ) -> Result<(State, Vec<Refresh>), InputError>
     ensures input { Reads base_view (F.held files.old) (job_base folder.now refreshes.now) result }
     ensures length { IfOk result (λ r. length r.1.items ≡ length refreshes.now) }
+    ensures storable { IfOk result (λ r. AllByRecursion MayBeStored r.1.items) }
     ensures files { FilesAfterInput F.held F.faults F.misses result files.old files.new }
 {
     let base = read_state(alloc, files, folder)?;
@@ -53,7 +58,7 @@ pub fn read_inputs<F: Files>(
     job: &str,
     shows_rows: bool,
 ) -> Result<JobSources, InputError>
-    ensures input { Finds work_view (F.held files.old) (AreJobInputs folder.now job.now) result }
+    ensures input { Finds work_view (F.held files.old) (AreJobFiles folder.now job.now) result }
     ensures playable { IfOk result (IsPlayable shows_rows) }
     ensures files { FilesAfterInput F.held F.faults F.misses result files.old files.new }
 {
@@ -66,5 +71,6 @@ pub fn read_inputs<F: Files>(
         list,
         before: job.before,
         senders: job.senders,
+        journal: job.journal,
     })
 }

@@ -1,3 +1,4 @@
 mod Accepted
 mod Feeding
+mod ListTurns
 mod Outcomes

@@ -10,7 +10,7 @@ use std::test::Fail;
 use std::thread;
 use std::thread::Threads;
 use store_gateway::{GatewayFeed, open_gateway};
-use store_snapshots::{Feed, FeedTurn, Publisher, open};
+use store_snapshots::{Feed, FeedError, FeedTurn, Publisher, open};
 use store_state::{Refresh, State};
 
 /// Eight tables without rows.
@@ -33,7 +33,7 @@ fn take_turns<R: Wait>(
     rt: &R,
     feed: &mut GatewayFeed,
     publisher: &mut Publisher,
-) -> Result<(u32, u32), AllocError>
+) -> Result<(u32, u32), FeedError>
     requires { GatewayFits feed.old.taker publisher.old.version }
     ensures ended { OnOk result (feed.new.taker.ended ≡ (true, true)) }
     ensures source { gateway_name feed.new.taker.gateway ≡ gateway_name feed.old.taker.gateway }
@@ -65,7 +65,9 @@ fn feed_three<R: Threads + Wait + Sync>(
     let (first, second, taker) = open_gateway(alloc, 5, 2, 1)?;
     let (first, second) = send_both(rt, first, second, ones, twos);
     let mut feed = GatewayFeed { taker };
-    let (accepted, refused) = take_turns(rt, &mut feed, publisher)?;
+    let Ok((accepted, refused)) = take_turns(rt, &mut feed, publisher) else {
+        return Err("a turn had nothing tried".into());
+    };
     let order = feed.close(first, second);
     Ok(accepted == 2 && refused == 1 && order.senders().len() == 3)
 }
