@@ -1,11 +1,12 @@
 //! A publisher's list and then what two senders send, each of which is stored before it is published.
-ghost use Rattle.std.specs.Prelude.{◌≡◌, ◌++◌, IfOk, IsErrOf, OnErr};
+ghost use Rattle.std.specs.Prelude.{◌≡◌, ◌<◌, ◌++◌, length, IfOk, IsErrOf, OnErr, OnOk};
 ghost use Rattle.base_io.specs.Outside.{Counts};
 ghost use Rattle.store_gateway.specs.Feeds.{GatewayIsOver, gateway_name, gateway_tried};
 ghost use Rattle.store_refresh_entries.specs.Change.{MayBeStored};
-ghost use Rattle.store_snapshots.specs.Turns.{list_tried};
-ghost use Rattle.store_versions.specs.Trials.{Trials};
-ghost use Rattle.store_durability.specs.Gateway.{BothFit, IsNextOfBoth, TakesThis};
+ghost use Rattle.store_snapshots.specs.Turns.{TakesTurn, list_tried};
+ghost use Rattle.store_versions.specs.Trials.{Trials, one_more};
+ghost use Rattle.store_durability.specs.Gateway.{BothFit, KeepsUp, TakesThis};
+ghost use Rattle.store_durability.specs.Stored.{HasRoomForOne, IsNext, trials_with};
 
 use crate::stored::{StoredAnswer, publish_stored};
 use base_disk::Disk;
@@ -68,6 +69,7 @@ impl<D: Disk> StoredGateway<D> {
 
     /// Has the publisher try this refresh, which is the list's next one or, where none is left, comes
     /// to its end.
+    #[tactic(auto, using(crate::proofs::GatewayTurns::trying))]
     fn try_this<R: Wait>(
         &mut self,
         rt: &R,
@@ -75,15 +77,21 @@ impl<D: Disk> StoredGateway<D> {
         publisher: &mut Publisher,
         refresh: Refresh,
     ) -> Result<FeedTurn, FeedError>
-        requires fits { BothFit D.is_reached D.may_leave self.old.journal self.old.disk
-            self.old.start self.old.count self.old.taker publisher.old.version }
+        requires keeps { KeepsUp D.is_reached D.may_leave self.old.journal self.old.disk
+            publisher.old.version }
+        requires more { publisher.old.version.done < publisher.old.version.most }
         requires storable { MayBeStored refresh }
-        requires next { IsNextOfBoth refresh publisher.old.version }
+        requires next { IsNext refresh publisher.old.version }
+        requires list_room { HasRoomForOne publisher.old.version }
         ensures turn { IfOk result (TakesThis from refresh publisher.old publisher.new) }
+        ensures version { OnOk result (publisher.new.version
+            ≡ one_more (trials_with refresh publisher.old.version)) }
+        ensures keeps { OnOk result (KeepsUp D.is_reached D.may_leave self.new.journal
+            self.new.disk publisher.new.version) }
         ensures failed { Counts (IsErrOf result FeedError.Failed)
             (D.faults self.old.disk) (D.faults self.new.disk) }
-        ensures taker { (self.new.taker ≡ self.old.taker) × (self.new.start ≡ self.old.start)
-            × (self.new.count ≡ self.old.count) }
+        ensures taker { self.new.taker ≡ self.old.taker }
+        ensures count { (self.new.count ≡ self.old.count) × (self.new.start ≡ self.old.start) }
         ensures refused { publisher.new.refused ≡ publisher.old.refused }
         ensures err { OnErr result (publisher.new ≡ publisher.old) }
     {
@@ -96,12 +104,28 @@ impl<D: Disk> StoredGateway<D> {
         }
     }
 
-    /// Has the publisher try what was sent next, if it is there.
+    /// Has the publisher, whose list has none left, try what was sent next, if it is there.
+    #[tactic(auto, using(crate::proofs::GatewayTurns::sending))]
     fn try_sent<R: Wait>(
         &mut self,
         rt: &R,
         publisher: &mut Publisher,
-    ) -> Result<FeedTurn, FeedError> {
+    ) -> Result<FeedTurn, FeedError>
+        requires fits { BothFit D.is_reached D.may_leave self.old.journal self.old.disk
+            self.old.start self.old.count self.old.taker publisher.old.version }
+        requires none { publisher.old.version.done ≡ length publisher.old.version.list }
+        ensures turn { IfOk result (TakesTurn
+            (list_tried self.old.start self.old.count ++ gateway_tried self.old.taker)
+            (list_tried self.new.start self.new.count ++ gateway_tried self.new.taker)
+            (GatewayIsOver self.new.taker) publisher.old publisher.new) }
+        ensures fits { OnOk result (BothFit D.is_reached D.may_leave self.new.journal
+            self.new.disk self.new.start self.new.count self.new.taker publisher.new.version) }
+        ensures failed { Counts (IsErrOf result FeedError.Failed)
+            (D.faults self.old.disk) (D.faults self.new.disk) }
+        ensures gateway { self.new.taker.gateway ≡ self.old.taker.gateway }
+        ensures refused { publisher.new.refused ≡ publisher.old.refused }
+        ensures err { OnErr result (publisher.new ≡ publisher.old) }
+    {
         // An end is no turn of its own. There are two at most.
         'taking: for _ in rt.forever() {
             if self.taker.is_ended() {
@@ -131,6 +155,7 @@ impl<D: Disk> Feed for StoredGateway<D> {
 
     ghost faults = { λ f. D.faults f.disk };
 
+    #[tactic(auto, using(crate::proofs::GatewayTurns::listing))]
     fn turn<R: Wait>(&mut self, rt: &R, publisher: &mut Publisher) -> Result<FeedTurn, FeedError> {
         let _listed = publisher.listed();
         match publisher.next()? {

@@ -1,8 +1,9 @@
 -- A list of two refreshes that may be stored.
-use Rattle.std.proofs.Common.{◌≡◌, ℕ, ◌<◌, ◌≤◌, ◌^◌, Bool, true, false, List, [], ◌∷◌, length, map, take, drop, refl, sym, ap, subst, ◌∙◌, arith}
+use Rattle.std.proofs.Common.{◌≡◌, ℕ, ◌<◌, ◌≤◌, ◌^◌, Bool, true, false, List, [], ◌∷◌, length, map, take, drop, refl, sym, ap, subst, ◌∙◌, arith, Ok}
 use Rattle.std.specs.List.{AllByRecursion}
 use Rattle.base_refusals.specs.declared.line.LineRefusal.{LineRefusal}
 use Rattle.base_refusals.specs.declared.refresh.RefreshFile.TheVariants as file
+use Rattle.base_schema.specs.LineForm.{LineForm, refresh_form}
 use Rattle.store_file_reader.specs.File.{file_rows}
 use Rattle.store_journal.specs.Journal.{Stands}
 use Rattle.store_journal.specs.declared.journal.Journal.{Journal}
@@ -13,10 +14,14 @@ use Rattle.store_versions.specs.Trials.{Trials}
 use Rattle.store_durability.specs.Feed.{StoredFits}
 use Rattle.store_durability.specs.Stored.{payloads_of}
 
+-- a file of no bytes has no rows
+no_rows : (form : LineForm) (limit : ℕ) → file_rows form limit [] ≡ Ok []
+unfolding file_rows
+no_rows form limit = refl
+
 -- a delete of no order is read back from its bytes
 none_readable : IsStorable (DeleteKeys [])
-unfolding file_rows
-none_readable = ([], refl, refl)
+none_readable = ([], no_rows (refresh_form file.Delete) 0, refl)
 
 nothing_accepted : (version : Trials) → version.done ≡ 0 → payloads_of version ≡ []
 nothing_accepted version done = ap (λ (n : ℕ). map spelling_of (taken version.base (take n version.list))) done

@@ -1,5 +1,6 @@
 //! What two threads sent, tried by a publisher.
-ghost use Rattle.std.specs.Prelude.{◌≡◌, ◌+◌, ◌≤◌, true, length, OnOk};
+ghost use Rattle.std.specs.Prelude.{◌≡◌, ◌+◌, ◌≤◌, true, length, IfOk, OnOk};
+ghost use Rattle.store_refresh_entries.specs.Change.{MayBeStored};
 ghost use Rattle.store_gateway.specs.Feeds.{GatewayFits, gateway_name};
 
 use crate::one_place::{numbered, send_both};
@@ -51,6 +52,14 @@ fn take_turns<R: Wait>(
     unreachable!()
 }
 
+/// A delete of no order.
+#[tactic(auto, using(crate::proofs::Storable::none_stored))]
+fn nothing(alloc: Global) -> Result<Refresh, AllocError>
+    ensures { IfOk result MayBeStored }
+{
+    Refresh::delete(alloc, Vec::new(alloc))
+}
+
 /// Two refreshes of one sender, of which the second is refused, and one of the other.
 fn feed_three<R: Threads + Wait + Sync>(
     rt: &R,
@@ -60,8 +69,8 @@ fn feed_three<R: Threads + Wait + Sync>(
     requires done { publisher.old.version.done ≡ length publisher.old.version.list }
     requires room { length publisher.old.version.list + 3 ≤ publisher.old.version.most }
 {
-    let ones = vec![in alloc; Refresh::delete(alloc, Vec::new(alloc))?, numbered(1)]?;
-    let twos = vec![in alloc; Refresh::delete(alloc, Vec::new(alloc))?]?;
+    let ones = vec![in alloc; nothing(alloc)?, numbered(1)]?;
+    let twos = vec![in alloc; nothing(alloc)?]?;
     let (first, second, taker) = open_gateway(alloc, 5, 2, 1)?;
     let (first, second) = send_both(rt, first, second, ones, twos);
     let mut feed = GatewayFeed { taker };
