@@ -158,6 +158,9 @@ pub job_absence : (dir job : List ℕ) (folder : Folder) (named : Named) (a b : 
     → AreJobInputs dir job folder named a → AreJobInputs dir job folder named b → b ≡ Err absent → a ≡ Err absent
 job_absence dir job folder named a b absent gone (read, files, over) (read', files', over') is = at read read' over over' (job_files_alike dir job folder read read' files files')
   where
+    of_err : (x y : BadInput) → ◌≡◌ {A = Result JobWork BadInput} (Err x) (Err y) → x ≡ y
+    of_err x y e = cc
+
     not_of_journal : (work : JobWork) → IsWorkOver named work b → ⊥
     not_of_journal work (kept, keeps, made) = given kept keeps (sym is ∙ made)
       where
@@ -171,6 +174,3 @@ job_absence dir job folder named a b absent gone (read, files, over) (read', fil
     at one (Err refused) x y (inr (first, second, same, same', p, q)) =
         let other : second ≡ absent = of_err second absent (sym (subst (λ o. Follows o (IsWorkOver named) b) same' y) ∙ is) in
         absurd (q (ap (λ (r : BadInput). r.fault) other ∙ gone))
-
-    of_err : (x y : BadInput) → ◌≡◌ {A = Result JobWork BadInput} (Err x) (Err y) → x ≡ y
-    of_err x y e = cc

@@ -113,5 +113,5 @@ kept_alike (Some name) base (Some files) (Err r) (Err q) told x y = inr (r, q, r
 
 pub kept_not_absent : (journal : Option (List ℕ)) (base : State) (named : Named) (r : BadInput) → IsKept journal base named (Err r) → r.fault ≢ fault.Absent
 kept_not_absent None base named r x = absurd (cc)
-kept_not_absent (Some name) base None r (is, (other, (file, why))) = of_journal other file r.fault why
+kept_not_absent (Some name) base None r (is, (other, file, why)) = of_journal other file r.fault why
 kept_not_absent (Some name) base (Some files) r x = of_journal base (files name) r.fault x.1

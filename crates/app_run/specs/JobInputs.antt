@@ -1,6 +1,6 @@
 -- What the files of a job and its journal hold, and which of them is refused first.
 use Rattle.std.specs.Prelude.{◌≡◌, ℕ, Bool, true, false, List, [], ◌∷◌, length}
-use Rattle.std.specs.Prelude.{if◌then◌else◌, Option}
+use Rattle.std.specs.Prelude.{if◌then◌else◌, Option, Some}
 use Rattle.std.specs.List.{list_any}
 use Rattle.std.specs.declared.result.Result.{Result}
 use Rattle.std.specs.declared.result.Result.TheVariants.{Ok, Err}
@@ -111,7 +111,11 @@ job_work dir folder parts scripts = and_then (job_base dir parts.refreshes folde
 abbrev pub with_kept : JobWork → List Change → JobWork
 with_kept work kept = record work { kept = kept }
 
--- the same over a disk, or why there is no work
+-- the same of a journal of that name
+abbrev pub kept_under : JobWork → List ℕ → List Change → JobWork
+kept_under work name kept = record work { journal = Some name; kept = kept }
+
+-- a job's work over a disk, or why there is none
 abbrev pub IsWorkOver : Named → JobWork → Result JobWork BadInput → Type 0
 IsWorkOver named work inputs = (kept : Result (List Change) BadInput)
     × IsKept work.journal work.base named kept

@@ -16,7 +16,7 @@ use Rattle.base_io.specs.Outside.{Folder}
 use Rattle.base_schema.specs.State.{State}
 use Rattle.app_inputs.specs.Inputs.{BadInput, IsRead}
 use Rattle.app_run.specs.SessionInputs.{ExpandsTo}
-use Rattle.app_run.specs.JobInputs.{HasNoRefresh, IsPlain, JobWork, is_refresh, with_kept}
+use Rattle.app_run.specs.JobInputs.{HasNoRefresh, IsPlain, JobWork, is_refresh, kept_under}
 use Rattle.app_run.specs.Journals.{IsKept, Named}
 use Rattle.app_run.specs.JobMeaning.{DiskTold, IsFirstOfJob, MeansJob, PrintsJob}
 use Rattle.app_run.specs.declared.output.Output.{Output}
@@ -123,14 +123,14 @@ IsOutputOfJob shows_rows dir job held disk (Err (error.Unread unread)) = ⊤
 IsOutputOfJob shows_rows dir job held disk (Err (error.Refused refusal)) =
     IfKnown held (λ folder. IsFirstOfJob dir job folder disk.named (Some (refused_view refusal)))
 
--- what a job gives of which its files are read, over a disk: its text, over what its journal keeps,
--- or why that is refused
+-- what a job gives of which its files are read, over a disk: its text, over what its journal of that
+-- name keeps, or why that is refused
 abbrev pub IsOutputOver : Bool → List ℕ → Named → Option (List ℕ) → JobWork
     → Result Output InputError → Type 0
 IsOutputOver shows_rows name named journal_then work (Ok (output.Text text s)) =
-    (kept : List Change) × IsKept work.journal work.base named (Ok kept)
-    × MeansJob shows_rows journal_then (with_kept work kept) text.items s
+    (kept : List Change) × IsKept (Some name) work.base named (Ok kept)
+    × MeansJob shows_rows journal_then (kept_under work name kept) text.items s
 IsOutputOver shows_rows name named journal_then work (Ok output.DiskFault) = ⊤
 IsOutputOver shows_rows name named journal_then work (Err (error.Unread unread)) = ⊤
 IsOutputOver shows_rows name named journal_then work (Err (error.Refused refusal)) =
-    IsKept work.journal work.base named (Err (refused_view refusal))
+    IsKept (Some name) work.base named (Err (refused_view refusal))

@@ -7,6 +7,7 @@ pub mod JobOrders
 pub mod JobMeaning
 pub mod Reaching
 pub mod Opened
+pub mod OpenedSent
 pub mod Senders
 pub mod Receivers
 pub mod ScriptPlans

@@ -20,7 +20,7 @@ use Rattle.app_inputs.specs.declared.input_error.InputFault.TheVariants as fault
 use Rattle.app_sessions.specs.Asked.{AllUnasked, job_sessions}
 use Rattle.app_sessions.specs.Jobs.{IsOrderText, JobSession}
 use Rattle.app_sessions.specs.Workers.{AreOfOpening}
-use Rattle.app_run.specs.JobInputs.{JobWork, with_kept}
+use Rattle.app_run.specs.JobInputs.{JobWork, kept_under}
 use Rattle.app_run.specs.JobMeaning.{IsTextInOrder}
 use Rattle.app_run.specs.Journals.{IsFirstRefusedEntry}
 use Rattle.app_run.specs.Reaching.{PublishesKept}
@@ -70,11 +70,11 @@ abbrev pub PlaysOpen : {D : Type 0} → (D → List ℕ → Type 0) → OpenJob 
 PlaysOpen may_leave job disk result =
     IsFedText may_leave job.publisher.version job.before (job_sessions job.sessions.items) disk result
 
--- what a job gives over the refreshes that its journal keeps: its text, where each of them is
--- accepted; or which of them is refused first
+-- what a job gives over the refreshes that its journal keeps, whatever its name: its text, where each
+-- of them is accepted; or which of them is refused first
 abbrev pub PlaysKept : List Change → Option (List ℕ) → JobWork → List JobSession → Played → Type 0
 PlaysKept kept journal_then work sessions (played.Text job) = (taken work.base kept ≡ kept)
-    × IsTextInOrder (with_kept work kept) journal_then sessions job
+    × ((name : List ℕ) → IsTextInOrder (kept_under work name kept) journal_then sessions job)
 PlaysKept kept journal_then work sessions (played.Refused why) = (number : ℕ) × (cause : Cause)
     × (why ≡ fault.RefusedEntry number cause) × IsFirstRefusedEntry work.base kept number cause
 PlaysKept kept journal_then work sessions played.DiskFault = ⊤

@@ -18,7 +18,7 @@ use Rattle.app_inputs.specs.declared.input_error.InputFault.{InputFault}
 use Rattle.app_inputs.specs.declared.input_error.InputFault.TheVariants as fault
 use Rattle.app_sessions.specs.Jobs.{JobSession}
 use Rattle.app_sessions.specs.Orders.{later_by}
-use Rattle.app_run.specs.JobInputs.{JobWork, with_kept}
+use Rattle.app_run.specs.JobInputs.{JobWork, kept_under}
 use Rattle.app_run.specs.JobMeaning.{IsTextInOrder}
 use Rattle.app_run.specs.Journals.{FileKeeps, IsFirstRefusedEntry, IsJournalFault, IsKept, Named}
 use Rattle.app_run.specs.declared.journal.Reached.{Reached}
@@ -71,14 +71,14 @@ PublishesKept kept old new shown None = (new ≡ later_by kept old) × (shown �
 PublishesKept kept old new shown (Some (number, cause)) =
     IsFirstRefusedEntry old.base (take kept old.list) number cause
 
--- What comes of a job with a journal: its text, over what the journal keeps; or why its file is
--- refused.
+-- What comes of a job with a journal of that name: its text, over what the journal keeps; or why its
+-- file is refused.
 abbrev pub IsPlayed : List ℕ → Named → Option (List ℕ) → JobWork → List JobSession → Played → Type 0
 IsPlayed name named journal_then work sessions (played.Text job) = (kept : List Change)
-    × IsKept work.journal work.base named (Ok kept)
-    × IsTextInOrder (with_kept work kept) journal_then sessions job
+    × IsKept (Some name) work.base named (Ok kept)
+    × IsTextInOrder (kept_under work name kept) journal_then sessions job
 IsPlayed name named journal_then work sessions (played.Refused why) =
-    IsKept work.journal work.base named (Err (record { name = name; fault = why }))
+    IsKept (Some name) work.base named (Err (record { name = name; fault = why }))
 IsPlayed name named journal_then work sessions played.DiskFault = ⊤
 
 -- it is that the disk failed

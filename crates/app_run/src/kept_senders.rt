@@ -1,4 +1,21 @@
 //! A job of which two senders send refreshes, and which keeps the accepted ones in a journal.
+ghost use Rattle.std.specs.Prelude.{◌≡◌, ◌+◌, ◌<◌, ◌≤◌, ◌^◌, [], IfOk, false, length, map, true, vec_len};
+ghost use denote.Param.Send.{IsSync};
+ghost use Rattle.base_io.specs.Outside.{Rose};
+ghost use Rattle.store_durability.specs.Gateway.{BothFit};
+ghost use Rattle.store_gateway.specs.Feeds.{gateway_name};
+ghost use Rattle.store_journal.specs.Journal.{Stands};
+ghost use Rattle.store_refresh_entries.specs.Change.{IsSpelled, spelling_of};
+ghost use Rattle.store_snapshots.specs.Ruled.{opening_of};
+ghost use Rattle.app_sessions.specs.Asked.{AllUnasked, job_sessions};
+ghost use Rattle.app_sessions.specs.Workers.{AreOfOpening};
+ghost use Rattle.app_run.specs.JobViews.{IsKeepable, IsRunnable, work_view};
+ghost use Rattle.app_run.specs.Opened.{PlaysKept};
+ghost use Rattle.app_run.specs.OpenedSent.{CanPlaySent, CanReceiveOver, IsReceiveFault};
+ghost use Rattle.app_run.specs.OpenedSent.{IsReceivedOver, PlaysSent};
+ghost use Rattle.app_run.specs.Reaching.{IsPlayFault};
+ghost use Rattle.app_run.specs.Receivers.{BothEnd, MaySendBoth};
+
 use crate::job_sources::JobSources;
 use crate::kept::{OpenJob, Played, open_job};
 use crate::senders::{MOST_MESSAGES, Senders, divide, send_both};
@@ -18,7 +35,7 @@ use store_state::Refresh;
 /// An open job, its senders, and the one that takes what they send.
 pub struct SentJob {
     /// The job, with a publisher of what nobody sends.
-    pub open: OpenJob,
+    pub opened: OpenJob,
     /// Its senders.
     pub senders: Senders,
     /// What takes the refreshes that they send.
@@ -36,7 +53,27 @@ fn play_received<R: Threads + Wait + Sync, D: Disk + Send, G: Gate + Sync>(
     setup: JobSetup,
     publisher: &mut Publisher,
     feed: &mut StoredGateway<D>,
-) -> Result<Option<Played>, AllocError> {
+) -> Result<Option<Played>, AllocError>
+    requires sessions { (0 < vec_len setup.sessions) × (vec_len setup.sessions < 2 ^ 32) }
+    requires unasked { AllUnasked setup.sessions.items }
+    requires readers { 0 < vec_len setup.readers }
+    requires opened { AreOfOpening opening_of publisher.old.version setup.readers.items }
+    requires shown { publisher.old.shown ≡ publisher.old.version }
+    requires most { setup.most ≡ publisher.old.version.most }
+    requires all { publisher.old.version.done + setup.before
+        ≡ length publisher.old.version.list }
+    requires fits { BothFit D.is_reached D.may_leave feed.old.journal feed.old.disk
+        feed.old.start feed.old.count feed.old.taker publisher.old.version }
+    requires start { (feed.old.start ≡ publisher.old.version) × (feed.old.count ≡ 0) }
+    requires fresh { feed.old.taker.taken ≡ [] }
+    ensures received { IfOk result (IsReceivedOver D.may_leave publisher.old.version setup.before
+        (job_sessions setup.sessions.items) feed.new.disk feed.new.taker) }
+    ensures gateway { gateway_name feed.new.taker.gateway
+        ≡ gateway_name feed.old.taker.gateway }
+    ensures failed { IfOk result (λ played. IsReceiveFault played
+        → Rose (D.faults feed.old.disk) (D.faults feed.new.disk)) }
+    ensures later { D.faults feed.old.disk ≤ D.faults feed.new.disk }
+{
     match run_feed_job(rt, alloc, gate, setup, publisher, feed) {
         Ok(text) => Ok(Some(Played::Text(text))),
         Err(JobError::Failed) => Ok(Some(Played::DiskFault)),
@@ -51,10 +88,18 @@ fn play_receiver<R: Threads + Wait + Sync, D: Disk + Send, G: Gate + Sync>(
     rt: &R,
     gate: &G,
     disk: D,
-    open: OpenJob,
+    opened: OpenJob,
     taker: Taker,
     most: usize,
-) -> (D, Taker, Result<Option<Played>, AllocError>) {
+) -> (D, Taker, Result<Option<Played>, AllocError>)
+    requires { CanReceiveOver D.is_reached D.may_leave opened taker most disk }
+    ensures received { IfOk result.2 (IsReceivedOver D.may_leave opened.publisher.version opened.before
+        (job_sessions opened.sessions.items) result.0 result.1) }
+    ensures gateway { gateway_name result.1.gateway ≡ gateway_name taker.gateway }
+    ensures failed { IfOk result.2 (λ played. IsReceiveFault played
+        → Rose (D.faults disk) (D.faults result.0)) }
+    ensures later { D.faults disk ≤ D.faults result.0 }
+{
     let OpenJob {
         alloc,
         sessions,
@@ -63,7 +108,7 @@ fn play_receiver<R: Threads + Wait + Sync, D: Disk + Send, G: Gate + Sync>(
         journal,
         start,
         before,
-    } = open;
+    } = opened;
     let mut feed = StoredGateway::new(alloc, journal, disk, start, taker);
     let setup = JobSetup {
         sessions,
@@ -82,25 +127,47 @@ fn play_receiver<R: Threads + Wait + Sync, D: Disk + Send, G: Gate + Sync>(
 pub fn play_sent<R: Threads + Wait + Sync, D: Disk + Send, G: Gate + Sync>(
     disk: D,
     job: (&R, &G, SentJob),
-) -> (D, Result<Played, AllocError>) {
+) -> (D, Result<Played, AllocError>)
+    requires { CanPlaySent D.is_reached D.may_leave job.2 disk }
+    ensures played { IfOk result.1 (PlaysSent D.may_leave job.2 result.0) }
+    ensures failed { IfOk result.1 (λ played. IsPlayFault played
+        → Rose (D.faults disk) (D.faults result.0)) }
+    ensures later { D.faults disk ≤ D.faults result.0 }
+{
     let (rt, gate, job) = job;
     let SentJob {
-        open,
+        opened,
         senders,
         taker,
         most,
     } = job;
     let ((first, second), (disk, taker, played)) = join(
         rt,
-        move || { send_both(rt, senders) },
-        move || { play_receiver(rt, gate, disk, open, taker, most) },
+        move ||
+            requires { IsSync R.row × MaySendBoth senders }
+            ensures { BothEnd senders result }
+        { send_both(rt, senders) },
+        move ||
+            requires { IsSync R.row × IsSync G.row
+                × CanReceiveOver D.is_reached D.may_leave opened taker most disk }
+            ensures received { IfOk result.2 (IsReceivedOver D.may_leave opened.publisher.version
+                opened.before (job_sessions opened.sessions.items) result.0 result.1) }
+            ensures gateway { gateway_name result.1.gateway ≡ gateway_name taker.gateway }
+            ensures failed { IfOk result.2 (λ played. IsReceiveFault played
+                → Rose (D.faults disk) (D.faults result.0)) }
+            ensures later { D.faults disk ≤ D.faults result.0 }
+        { play_receiver(rt, gate, disk, opened, taker, most) },
     );
     match played {
-        Ok(Some(played)) => {
+        Ok(Some(Played::Text(text))) => {
             let _order = taker.close(first, second);
-            (disk, Ok(played))
+            (disk, Ok(Played::Text(text)))
         }
-        Ok(None) => unreachable!(),
+        Ok(Some(played)) => (disk, Ok(played)),
+        Ok(None) => {
+            let _order = taker.close(first, second);
+            unreachable!()
+        }
         Err(error) => (disk, Err(error)),
     }
 }
@@ -115,7 +182,21 @@ pub fn run_kept_sent<R: Threads + Wait + Sync, D: Disk + Send, G: Gate + Sync>(
     journal: Journal,
     kept: Vec<Refresh>,
     sources: JobSources,
-) -> Result<Played, AllocError> {
+) -> Result<Played, AllocError>
+    requires runnable { IsRunnable sources }
+    requires sent { 0 < length sources.senders.items }
+    requires keepable { IsKeepable sources }
+    requires reached { D.is_reached disk.old ≡ true }
+    requires working { journal.is_shut ≡ false }
+    requires short { journal.end ≤ 2 ^ 61 }
+    requires stands { Stands IsSpelled (D.may_leave disk.old) (map spelling_of kept.items)
+        journal.end }
+    ensures played { IfOk result (PlaysKept kept.items (D.reads disk.new) (work_view sources)
+        (job_sessions sources.sessions.items)) }
+    ensures failed { IfOk result (λ played. IsPlayFault played
+        → Rose (D.faults disk.old) (D.faults disk.new)) }
+    ensures later { D.faults disk.old ≤ D.faults disk.new }
+{
     let JobSources {
         sessions,
         base,
@@ -147,9 +228,9 @@ pub fn run_kept_sent<R: Threads + Wait + Sync, D: Disk + Send, G: Gate + Sync>(
         all,
         (sessions, base, before),
     )? {
-        Ok(open) => {
+        Ok(opened) => {
             let job = SentJob {
-                open,
+                opened,
                 senders,
                 taker,
                 most,
