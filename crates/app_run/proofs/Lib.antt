@@ -11,6 +11,8 @@ mod Orders
 mod Taken
 mod JobScripts
 mod KeptAlike
+mod KeptRun
+mod Reached
 mod JobAlike
 mod JobPlayed
 mod JobReading

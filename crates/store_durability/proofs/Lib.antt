@@ -1,4 +1,4 @@
-mod Accepted
+pub mod Accepted
 mod Feeding
 mod GatewayTurns
 mod ListTurns
