@@ -13,7 +13,7 @@ use Rattle.store_state.specs.Refresh.{Change, after}
 use Rattle.store_state.specs.Versions.{is_accepted, replayed, taken}
 use Rattle.store_state.proofs.VersionSteps.{state-accepted}
 use Rattle.store_versions.specs.Trials.{IsAfter, Trials, one_more, tables_of}
-use Rattle.store_snapshots.specs.Publishers.{Tries}
+use Rattle.store_state.specs.declared.applied.RefreshError.TheVariants.{Refused as RefusedBy}
 use Rattle.app_run.specs.Journals.{IsFirstRefusedEntry}
 use Rattle.app_sessions.specs.Orders.{later_by}
 
@@ -83,3 +83,49 @@ first_refused version change kept cause less at refused so_far =
     split kept list place change less at =
         let up : suc place ≡ place + 1 = omega arith in
         split_at kept list place change less at ∙ ap (λ (k : ℕ). take place list ++ change ∷ drop k (take kept list)) up
+
+-- one refresh more is published
+
+later_more : (start : Trials) (count : ℕ) → one_more (later_by count start) ≡ later_by (count + 1) start
+later_more start count = let e : start.done + count + 1 ≡ start.done + (count + 1) = omega arith in ap (λ (n : ℕ). record start { done = n }) e
+
+next_there : (list : List Change) (place : ℕ) → place < length list → (change : Change) × (slice_get list place ≡ Some change)
+next_there [] place less = absurd (omega (arith, less))
+next_there (x ∷ list) zero less = (x, refl)
+next_there (x ∷ list) (suc place) less = next_there list place (omega (arith, less))
+
+module _ (start version : Trials) (count : ℕ) (is : version ≡ later_by count start) (fresh : start.done ≡ 0) where
+  at_count : version.done ≡ count
+  at_count = ap (λ (t : Trials). t.done) is ∙ ap (λ (n : ℕ). n + count) fresh
+
+  same_list : version.list ≡ start.list
+  same_list = ap (λ (t : Trials). t.list) is
+
+  same_base : version.base ≡ start.base
+  same_base = ap (λ (t : Trials). t.base) is
+
+  own_front : (P : State → List Change → Type 0) → P start.base (take count start.list) → P version.base (take version.done version.list)
+  own_front P = subst (λ (y : State × List Change). P y.0 y.1) (λ i. (sym same_base i, take (sym at_count i) (sym same_list i)))
+
+  pub one_later : (new : Trials) → new ≡ one_more version → new ≡ later_by (count + 1) start
+  one_later new made = made ∙ ap (λ (t : Trials). one_more t) is ∙ later_more start count
+
+  pub accepted_later : (new : Trials) → version.done < length version.list → IsAfter version version (Ok new) → taken start.base (take count start.list) ≡ take count start.list
+      → taken start.base (take (count + 1) start.list) ≡ take (count + 1) start.list
+  accepted_later new less after_it so_far =
+      let next = next_there version.list version.done less in
+      let mine = own_front (λ b l. taken b l ≡ l) so_far in
+      let more = more_accepted version next.0 (tables_of new) (omega (arith, less)) next.1 (after_it.3 next.0 next.1) mine in
+      let place : version.done + 1 ≡ count + 1 = ap (λ (n : ℕ). n + 1) at_count in
+      subst (λ (y : State × List Change). taken y.0 y.1 ≡ y.1) (λ i. (same_base i, take (place i) (same_list i))) more
+
+  pub refused_later : (new : Trials) (cause : Cause) (kept : ℕ) → count < kept → version.done < length version.list → IsAfter version new (Err (RefusedBy cause))
+      → taken start.base (take count start.list) ≡ take count start.list → IsFirstRefusedEntry start.base (take kept start.list) (count + 1) cause
+  refused_later new cause kept few less after_it so_far =
+      let next = next_there version.list version.done less in
+      let mine = own_front (λ b l. taken b l ≡ l) so_far in
+      let first = first_refused version next.0 kept cause (let e = at_count in omega (arith, e, few)) next.1 (after_it.3 next.0 next.1) mine in
+      let place : version.done + 1 ≡ count + 1 = ap (λ (n : ℕ). n + 1) at_count in
+      subst (λ (y : State × List Change × ℕ). IsFirstRefusedEntry y.0 y.1 y.2 cause) (λ i. (same_base i, take kept (same_list i), place i)) first
+
+pub ruleset publishing = (one_later, accepted_later, refused_later)

@@ -54,6 +54,7 @@ pub struct OpenJob {
 
 /// Publishes the first refreshes of the list, which a journal keeps. Answers the first that is
 /// refused, counted from 1, and why.
+#[tactic(auto, using(crate::proofs::KeptRun::publishing))]
 fn publish_kept<R: Wait>(
     rt: &R,
     kept: usize,
