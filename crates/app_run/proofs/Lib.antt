@@ -11,6 +11,7 @@ mod Orders
 mod Taken
 mod JobScripts
 mod KeptAlike
+mod KeptFed
 mod KeptRun
 mod Reached
 mod JobAlike
