@@ -13,6 +13,7 @@ mod JobScripts
 mod KeptAlike
 mod KeptFed
 mod KeptRun
+mod KeptWhole
 mod Reached
 mod JobAlike
 mod JobPlayed
