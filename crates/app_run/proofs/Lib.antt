@@ -14,6 +14,7 @@ mod KeptAlike
 mod KeptFed
 mod KeptRun
 mod KeptWhole
+mod KeptSent
 mod Reached
 mod JobAlike
 mod JobPlayed

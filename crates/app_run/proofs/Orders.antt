@@ -80,7 +80,7 @@ unsent_law work reads sessions job none no_journal nothing = (text_unsent work r
 
 -- where some are sent, the others come first
 
-before_sent : (work : JobWork) → work.before + length work.senders ≡ length work.list → unsent_count work ≡ work.before
+pub before_sent : (work : JobWork) → work.before + length work.senders ≡ length work.list → unsent_count work ≡ work.before
 before_sent work all = omega (arith, all)
 
 pub sent_text : (work : JobWork) (reads : Option (List ℕ)) (firsts seconds : List Change) (sessions : List JobSession) (job : JobAnswer) → work.journal ≡ None → work.kept ≡ [] → work.before + length work.senders ≡ length work.list

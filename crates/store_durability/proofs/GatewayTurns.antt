@@ -157,7 +157,7 @@ list_left : (start : Trials) (count : ℕ) (taker : Taking) (version : Trials) (
     → ListFits start count version × (taker.taken ≡ []) × AllByRecursion MayBeStored (drop version.done version.list)
 list_left start count taker version change at turn = ⊎_elim (λ here. here) (λ there. absurd (not_left version change at there.0)) turn
 
-list_over : (start : Trials) (count : ℕ) (taker : Taking) (version : Trials) → version.done ≡ length version.list → IsAtTurn start count taker version
+pub list_over : (start : Trials) (count : ℕ) (taker : Taking) (version : Trials) → version.done ≡ length version.list → IsAtTurn start count taker version
     → (start.done + count ≡ length start.list) × IsPrefix start.list version.list
 list_over start count taker version all turn = ⊎_elim
     (λ here. (sym here.0.done ∙ all ∙ ap length here.0.list, subst (IsPrefix start.list) (sym here.0.list) (prefix-refl start.list)))
