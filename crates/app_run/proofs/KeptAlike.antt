@@ -1,11 +1,11 @@
 -- What a told journal keeps is one, or it is refused for another fault than absence.
-use Rattle.std.proofs.Common.{◌≡◌, ◌≢◌, ◌∙◌, ◌⊎◌, ℕ, ◌+◌, ◌<◌, ◌≤◌, ◌^◌, Bool, true, false, List, [], ◌∷◌, ◌++◌, Option, None, Some, ap, arith, cond, inl, inr, length, length-append, map, refl, subst, sym}
+use Rattle.std.proofs.Common.{◌≡◌, ◌≢◌, ◌∙◌, ℕ, ◌+◌, ◌≤◌, Bool, true, false, List, [], ◌∷◌, ◌++◌, Option, None, Some, ap, arith, inl, inr, length, length-append, map, refl, subst, sym}
 use Rattle.std.specs.List.{AllByRecursion}
 use Rattle.std.specs.declared.result.Result.{Result}
 use Rattle.std.specs.declared.result.Result.TheVariants.{Ok, Err}
 use Rattle.base_refusals.specs.declared.refresh.Cause.{Cause}
 use Rattle.base_schema.specs.State.{State}
-use Rattle.store_journal.specs.Format.{IsBad, IsEntry, StandsFor, entries}
+use Rattle.store_journal.specs.Format.{IsEntry, StandsFor, entries}
 use Rattle.store_journal.proofs.Readings.{not_bad, same_reading}
 use Rattle.store_refresh_entries.specs.Change.{IsReadable, IsSpelled, spelling_of}
 use Rattle.store_refresh_entries.proofs.Readings.{one_spelling}
@@ -16,7 +16,7 @@ use Rattle.store_state.proofs.VersionSteps.{taken-append}
 use Rattle.app_inputs.specs.Inputs.{BadInput}
 use Rattle.app_inputs.specs.declared.input_error.InputFault.{InputFault}
 use Rattle.app_inputs.specs.declared.input_error.InputFault.TheVariants as fault
-use Rattle.app_run.specs.Journals.{FileKeeps, IsFirstRefusedEntry, IsJournalFault, IsJournalOf, IsKept, IsToldFor, Named, most_journal_bytes}
+use Rattle.app_run.specs.Journals.{FileKeeps, IsFirstRefusedEntry, IsJournalFault, IsKept, IsToldFor, Named}
 use Rattle.app_run.proofs.OneWork.{AreAlike}
 
 -- readable refreshes with the same spellings are the same

@@ -1,5 +1,5 @@
 -- What is played beside a publisher of a list, each refresh of which is stored, once all is tried.
-use Rattle.std.proofs.Common.{◌≡◌, ◌∙◌, ℕ, ◌≤◌, Bool, false, List, ap, arith, length, map, subst, take}
+use Rattle.std.proofs.Common.{◌≡◌, ◌∙◌, ℕ, false, List, ap, arith, length, map, subst, take}
 use Rattle.std.proofs.lemmas.List.{take_all}
 use Rattle.store_journal.specs.Format.{StandsFor}
 use Rattle.store_journal.specs.declared.journal.Journal.{Journal}

@@ -1,13 +1,11 @@
 -- What is published again of what a journal keeps, and what is played behind it.
-use Rattle.std.proofs.Common.{◌≡◌, ◌∙◌, ◌+◌, ◌*◌, ◌-◌, ◌<◌, ◌≤◌, ◌^◌, ℕ, zero, suc, Bool, true, false, cond, List, [], ◌∷◌, ◌++◌, Option, None, Some, ap, append_assoc, arith, drop, inl, inr, length, length-append, map, refl, subst, sym, take}
+use Rattle.std.proofs.Common.{◌≡◌, ◌∙◌, ◌+◌, ◌-◌, ◌<◌, ◌≤◌, ℕ, zero, suc, Bool, true, cond, List, [], ◌∷◌, ◌++◌, Some, ap, arith, drop, length, refl, subst, sym, take}
 use Rattle.std.specs.Prelude.{is_ok, slice_get}
-use Rattle.std.specs.List.{AllByRecursion}
 use Rattle.std.specs.declared.result.Result.TheVariants.{Ok, Err}
-use Rattle.std.proofs.lemmas.List.{append-nil, take-append-drop, take_all}
 use Rattle.std.proofs.lemmas.Option.{slice_get_within}
 use Rattle.base_refusals.specs.declared.refresh.Cause.{Cause}
 use Rattle.base_schema.specs.State.{State}
-use Rattle.store_durability.specs.Stored.{accepted_list, trials_with}
+use Rattle.store_durability.specs.Stored.{accepted_list}
 use Rattle.store_durability.proofs.Accepted.{accepted_more, accepted_ok, listed}
 use Rattle.store_state.specs.Refresh.{Change, after}
 use Rattle.store_state.specs.Versions.{is_accepted, replayed, taken}

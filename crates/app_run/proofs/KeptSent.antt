@@ -1,11 +1,11 @@
 -- What is played beside two senders over a journal, once all is tried.
-use Rattle.std.proofs.Common.{◌≡◌, ◌∙◌, ◌+◌, ◌<◌, ◌≤◌, ℕ, Bool, List, [], ◌∷◌, ◌++◌, Option, None, Some, ap, append_assoc, arith, drop, length, map, refl, subst, sym, take}
+use Rattle.std.proofs.Common.{◌≡◌, ◌∙◌, ◌+◌, ℕ, List, ◌++◌, Option, None, Some, ap, append_assoc, arith, drop, length, map, refl, subst, sym, take}
 use Rattle.std.specs.List.{zip}
 use Rattle.std.proofs.Math.Seq.{take-length}
 use Rattle.std.proofs.lemmas.List.{length-drop, map-append, take-append-drop, take_all}
 use Rattle.store_durability.specs.Gateway.{IsAtTurn, both_named}
 use Rattle.store_durability.proofs.GatewayTurns.{list_over}
-use Rattle.store_gateway.specs.Feeds.{gateway_name, gateway_tried, numbered, sender_number}
+use Rattle.store_gateway.specs.Feeds.{gateway_name, gateway_tried, numbered}
 use Rattle.store_gateway.specs.Roles.{Taking, sent_by}
 use Rattle.store_gateway.specs.declared.message.SenderId.{SenderId}
 use Rattle.store_gateway.specs.declared.message.SenderId.TheVariants.{First, Second}

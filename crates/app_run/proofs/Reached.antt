@@ -1,5 +1,5 @@
 -- A journal that is reached, from what is known of its file.
-use Rattle.std.proofs.Common.{◌≡◌, ◌∙◌, ◌<◌, ◌≤◌, ◌^◌, ℕ, Bool, true, false, List, [], Option, None, Some, arith, inl, inr, length, map, refl, subst, sym}
+use Rattle.std.proofs.Common.{◌≡◌, ◌<◌, ◌≤◌, ◌^◌, ℕ, Bool, true, false, List, [], Option, None, Some, arith, inl, inr, length, map, refl, subst, sym}
 use Rattle.std.specs.List.{AllByRecursion}
 use Rattle.base_disk.specs.Disk.{Tells}
 use Rattle.store_journal.specs.Format.{StandsFor}
@@ -11,7 +11,7 @@ use Rattle.store_refresh_entries.specs.Change.{IsReadable, IsSpelled, spelling_o
 use Rattle.store_state.specs.Refresh.{Change}
 use Rattle.app_inputs.specs.declared.input_error.InputFault.{InputFault}
 use Rattle.app_inputs.specs.declared.input_error.InputFault.TheVariants as fault
-use Rattle.app_run.specs.Journals.{FileKeeps, IsJournalFault}
+use Rattle.app_run.specs.Journals.{FileKeeps}
 use Rattle.app_run.specs.Reaching.{HasJournal, IsReachFault, IsReached, IsRefusedFile, MeansFault}
 use Rattle.app_run.specs.declared.journal.Reached.{Reached}
 use Rattle.app_run.specs.declared.journal.Reached.TheVariants as reached

@@ -1,9 +1,9 @@
 -- A job whose journal is open and of which two senders send refreshes, and what is played over it.
-use Rattle.std.specs.Prelude.{◌≡◌, ◌+◌, ◌<◌, ◌≤◌, ◌^◌, ⊤, ℕ, Bool, true, List, [], ◌++◌, length, map, vec_len}
+use Rattle.std.specs.Prelude.{◌≡◌, ◌+◌, ◌<◌, ◌^◌, ⊤, ℕ, Bool, true, List, [], length, map, vec_len}
 use Rattle.std.specs.Prelude.{Option, None, Some}
 use Rattle.base_schema.specs.State.{State}
 use Rattle.store_durability.specs.Gateway.{BothFit}
-use Rattle.store_gateway.specs.Roles.{Sending, Taking, sent_by}
+use Rattle.store_gateway.specs.Roles.{Taking, sent_by}
 use Rattle.store_gateway.specs.declared.message.SenderId.{SenderId}
 use Rattle.store_gateway.specs.declared.message.SenderId.TheVariants.{First, Second}
 use Rattle.store_journal.specs.Format.{StandsFor}
@@ -16,7 +16,6 @@ use Rattle.app_sessions.specs.Asked.{AllUnasked, job_sessions}
 use Rattle.app_sessions.specs.Jobs.{IsOrderText, JobAnswer, JobSession}
 use Rattle.app_sessions.specs.Orders.{changes_of}
 use Rattle.app_sessions.specs.Workers.{AreOfOpening}
-use Rattle.app_sessions.specs.declared.job.JobSetup.{JobSetup}
 use Rattle.app_run.specs.Receivers.{MaySendBoth}
 use Rattle.app_run.specs.Senders.{order_sent}
 use Rattle.app_run.specs.declared.kept.OpenJob.{OpenJob}
