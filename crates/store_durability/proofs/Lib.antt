@@ -1,3 +1,5 @@
 mod Accepted
 mod Feeding
+mod GatewayTurns
+mod ListTurns
 mod Outcomes
