@@ -15,7 +15,9 @@ use Rattle.store_snapshots.specs.Turns.{ListFits, TakesTurn, list_tried}
 use Rattle.store_snapshots.specs.declared.feed.FeedTurn.{FeedTurn}
 use Rattle.store_snapshots.specs.declared.feed.FeedTurn.TheVariants.{Published, Refused, Idle, Ended}
 use Rattle.store_snapshots.proofs.FeedLaws.{next_tried}
+use Rattle.store_state.specs.Prefixes.{IsPrefix}
 use Rattle.store_state.specs.Refresh.{Change}
+use Rattle.store_state.proofs.Prefixes.{prefix-append, prefix-refl, prefix-trans}
 use Rattle.store_versions.specs.Trials.{Trials, offered, one_more}
 use Rattle.store_durability.specs.Gateway.{BothFit, IsAtTurn, KeepsUp, TakesThis}
 use Rattle.store_durability.specs.Stored.{HasRoomForOne, Holds, IsNext, trials_with}
@@ -155,10 +157,11 @@ list_left : (start : Trials) (count : ℕ) (taker : Taking) (version : Trials) (
     → ListFits start count version × (taker.taken ≡ []) × AllByRecursion MayBeStored (drop version.done version.list)
 list_left start count taker version change at turn = ⊎_elim (λ here. here) (λ there. absurd (not_left version change at there.0)) turn
 
-list_over : (start : Trials) (count : ℕ) (taker : Taking) (version : Trials) → version.done ≡ length version.list → IsAtTurn start count taker version → start.done + count ≡ length start.list
+pub list_over : (start : Trials) (count : ℕ) (taker : Taking) (version : Trials) → version.done ≡ length version.list → IsAtTurn start count taker version
+    → (start.done + count ≡ length start.list) × IsPrefix start.list version.list
 list_over start count taker version all turn = ⊎_elim
-    (λ here. sym here.0.done ∙ all ∙ ap length here.0.list)
-    (λ there. there.1)
+    (λ here. (sym here.0.done ∙ all ∙ ap length here.0.list, subst (IsPrefix start.list) (sym here.0.list) (prefix-refl start.list)))
+    (λ there. (there.1, there.2))
     turn
 
 module _ {D : Type 0} (is_reached : D → Bool) (may_leave : D → List ℕ → Type 0) (journal : Journal) (disk : D) (start : Trials) (count : ℕ) (taker : Taking) (version : Trials)
@@ -205,7 +208,7 @@ module _ {D : Type 0} (is_reached : D → Bool) (may_leave : D → List ℕ → 
   pub same_fits : (later : Taking) → later.taken ≡ taker.taken → later.quotas ≡ taker.quotas → BothFit is_reached may_leave journal disk start count later version
   same_fits later taken quotas = record {
     keeps = fits.keeps;
-    turn = subst (λ ts. (ListFits start count version × (ts ≡ []) × AllByRecursion MayBeStored (drop version.done version.list)) ⊎ ((version.done ≡ length version.list) × (start.done + count ≡ length start.list))) (sym taken) fits.turn;
+    turn = subst (λ ts. (ListFits start count version × (ts ≡ []) × AllByRecursion MayBeStored (drop version.done version.list)) ⊎ ((version.done ≡ length version.list) × (start.done + count ≡ length start.list) × IsPrefix start.list version.list)) (sym taken) fits.turn;
     list_room = subst (λ (q : ℕ × ℕ). length version.list + (q.0 + q.1) ≤ version.most + length later.taken) (sym quotas)
         (subst (λ ts. length version.list + (taker.quotas.0 + taker.quotas.1) ≤ version.most + length ts) (sym taken) fits.list_room);
   }
@@ -225,7 +228,9 @@ module _ {D : Type 0} (is_reached : D → Bool) (may_leave : D → List ℕ → 
         → BothFit is_reached may_leave now next start count later new
     sent_fits now next new is keeps =
         let same : new ≡ one_more (offered change version) = is ∙ ap (λ (t : Trials). one_more t) (given change version (omega (arith, all))) in
-        let size : length new.list ≡ length version.list + 1 = ap (λ (t : Trials). length t.list) same ∙ length-append version.list (change ∷ []) in
+        let list : new.list ≡ version.list ++ change ∷ [] = ap (λ (t : Trials). t.list) same in
+        let over = list_over start count taker version all fits.turn in
+        let size : length new.list ≡ length version.list + 1 = ap length list ∙ length-append version.list (change ∷ []) in
         let done : new.done ≡ version.done + 1 = ap (λ (t : Trials). t.done) same in
         let most : new.most ≡ version.most = ap (λ (t : Trials). t.most) same in
         let one = one_taken in
@@ -233,7 +238,7 @@ module _ {D : Type 0} (is_reached : D → Bool) (may_leave : D → List ℕ → 
         let room = fits.list_room in
         record {
           keeps = keeps;
-          turn = inr (omega (arith, size, done, all), list_over start count taker version all fits.turn);
+          turn = inr (omega (arith, size, done, all), over.0, subst (IsPrefix start.list) (sym list) (prefix-trans start.list version.list (version.list ++ change ∷ []) over.1 (prefix-append version.list (change ∷ []))));
           list_room = omega (arith, size, most, one, sum, room);
         }
 

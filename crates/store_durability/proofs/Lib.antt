@@ -1,5 +1,5 @@
-mod Accepted
+pub mod Accepted
 mod Feeding
-mod GatewayTurns
+pub mod GatewayTurns
 mod ListTurns
 mod Outcomes

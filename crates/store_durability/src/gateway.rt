@@ -1,11 +1,11 @@
 //! A publisher's list and then what two senders send, each of which is stored before it is published.
 ghost use Rattle.std.specs.Prelude.{◌≡◌, ◌<◌, ◌++◌, length, IfOk, IsErrOf, OnErr, OnOk};
 ghost use Rattle.base_io.specs.Outside.{Counts};
-ghost use Rattle.store_gateway.specs.Feeds.{GatewayIsOver, gateway_name, gateway_tried};
+ghost use Rattle.store_gateway.specs.Feeds.{GatewayIsOver, gateway_tried};
 ghost use Rattle.store_refresh_entries.specs.Change.{MayBeStored};
 ghost use Rattle.store_snapshots.specs.Turns.{TakesTurn, list_tried};
 ghost use Rattle.store_versions.specs.Trials.{Trials, one_more};
-ghost use Rattle.store_durability.specs.Gateway.{BothFit, KeepsUp, TakesThis};
+ghost use Rattle.store_durability.specs.Gateway.{BothFit, KeepsUp, TakesThis, both_named};
 ghost use Rattle.store_durability.specs.Stored.{HasRoomForOne, IsNext, trials_with};
 
 use crate::stored::{StoredAnswer, publish_stored};
@@ -122,6 +122,7 @@ impl<D: Disk> StoredGateway<D> {
             self.new.disk self.new.start self.new.count self.new.taker publisher.new.version) }
         ensures failed { Counts (IsErrOf result FeedError.Failed)
             (D.faults self.old.disk) (D.faults self.new.disk) }
+        ensures start { self.new.start ≡ self.old.start }
         ensures gateway { self.new.taker.gateway ≡ self.old.taker.gateway }
         ensures refused { publisher.new.refused ≡ publisher.old.refused }
         ensures err { OnErr result (publisher.new ≡ publisher.old) }
@@ -146,7 +147,7 @@ impl<D: Disk> StoredGateway<D> {
 impl<D: Disk> Feed for StoredGateway<D> {
     ghost tried = { λ f. list_tried f.start f.count ++ gateway_tried f.taker };
 
-    ghost source = { λ f. gateway_name f.taker.gateway };
+    ghost source = { λ f. both_named f.start f.taker };
 
     ghost fits = { λ f (version : Trials). BothFit D.is_reached D.may_leave f.journal f.disk
         f.start f.count f.taker version };

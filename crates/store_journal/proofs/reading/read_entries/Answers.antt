@@ -13,10 +13,10 @@ loop-alloc-preserved g c =
     let value = c.in-Some.value in
     let rest = c.in-Some.rest.now in
     let payloads = map spelling c.loop-alloc.values.items in
-    let left : c.loop-alloc.left.now ≡ 1 ∷ (framed (spelling value) ++ rest) = c.loop-alloc-test.ensures.«open» refl ∙ ap (λ (l : List ℕ). 1 ∷ l) (sym c.split_at.ensures.back ∙ found.1.0) in
+    let left : c.loop-alloc.left.now ≡ 1 ∷ (framed (spelling value) ++ rest) = c.loop-alloc-test.ensures.«open» refl ∙ ap (λ (l : List ℕ). 1 ∷ l) (sym c.split_at.ensures.back ∙ found.1) in
     let pushed : map spelling c.push.new.self.items ≡ payloads ++ spelling value ∷ [] = ap (λ vs. map spelling vs) c.in_ok-push.ensures.items ∙ map-push spelling c.loop-alloc.values.items value in
     record {
-      values = subst (λ vs. AllByRecursion g.P.Payload.is_value vs) (sym c.in_ok-push.ensures.items) (all-push g.P.Payload.is_value c.loop-alloc.values.items value c.loop-alloc.invariant.values found.1.1);
+      values = subst (λ vs. AllByRecursion g.P.Payload.is_value vs) (sym c.in_ok-push.ensures.items) (all-push g.P.Payload.is_value c.loop-alloc.values.items value c.loop-alloc.invariant.values found.2);
       whole = c.loop-alloc.invariant.whole ∙ ap (λ (l : List ℕ). entries payloads ++ l) left ∙ sym (entries-push payloads (spelling value) rest) ∙ ap (λ (ps : List (List ℕ)). entries ps ++ rest) (sym pushed);
       fits = subst (λ (ps : List (List ℕ)). AllByRecursion (IsEntry K) ps) (sym pushed) (fits-push K payloads (spelling value) c.loop-alloc.invariant.fits found.0);
     }
