@@ -10,8 +10,6 @@ mod moving;
 mod output;
 mod plan;
 mod reading;
-#[cfg(test)]
-mod tests;
 mod view;
 
 pub use form::KeptPlanError;

@@ -1,7 +1,4 @@
 //! Plans, and groups of tables without rows.
-use crate::form::KeptPlanError;
-use crate::kept::Kept;
-use crate::plan::KeptPlan;
 use base_columns::Rows;
 use base_decimal::Scale;
 use base_schema::TableName;
@@ -12,6 +9,7 @@ use sqlite_items::{Boxed, Items};
 use std::alloc::{AllocError, Global};
 use std::sync::Arc;
 use std::test::Fail;
+use store_kept_views::{Kept, KeptPlan, KeptPlanError};
 use store_state::State;
 
 // Eight tables without rows.

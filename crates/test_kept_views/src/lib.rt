@@ -1,0 +1,5 @@
+//! Tests of kept aggregates through public calls. No other crate uses this one.
+#![tactic(auto)]
+
+#[cfg(test)]
+mod plans;
