@@ -179,6 +179,13 @@ module _ {D : Type 0} (is_reached : D → Bool) (may_leave : D → List ℕ → 
     pub left_more : length version.list ≤ version.most → version.done < version.most
     left_more le = let less = slice_get_within version.list version.done change at in omega (arith, less, le)
 
+    pub left_counted : count + 1 ≤ length version.list
+    left_counted =
+        let parts = list_left start count taker version change at fits.turn in
+        let less = slice_get_within version.list version.done change at in
+        let done = parts.0.done in
+        omega (arith, less, done)
+
     pub left_takes : (over : Trials → Type 0) (old new : Edition) → old.version ≡ version → (turn : FeedTurn) → TakesThis None change old new turn
         → TakesTurn (list_tried start count ++ gateway_tried taker) (list_tried start (count + 1) ++ gateway_tried taker) over old new turn
     left_takes over old new is turn takes =
