@@ -66,6 +66,7 @@ pub fn prepare<F: Feed, R: Wait>(
         (F.tried feed.new)) }
     ensures told { IfOk result (λ run. IsTold publisher.old.version (F.tried feed.new)
         run.report) }
+    ensures source { F.source feed.new ≡ F.source feed.old }
     ensures failed { Counts (IsErrOf result FeedError.Failed)
         (F.faults feed.old) (F.faults feed.new) }
 {

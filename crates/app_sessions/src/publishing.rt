@@ -120,6 +120,7 @@ pub fn publish_first<F: Feed, R: Wait>(
     ensures done { OnOk result (publisher.new.version.done ≡ publisher.old.version.done + count) }
     ensures count { OnOk result (report.new.count ≡ count) }
     ensures list { OnOk result (publisher.new.version.list ≡ publisher.old.version.list) }
+    ensures source { F.source feed.new ≡ F.source feed.old }
     ensures failed { Counts (IsErrOf result FeedError.Failed)
         (F.faults feed.old) (F.faults feed.new) }
 {

@@ -1,12 +1,12 @@
 -- A stored turn as one of a feed of the list and then of two senders.
-use Rattle.std.proofs.Common.{◌≡◌, ◌⊎◌, ℕ, ◌+◌, ◌-◌, ◌*◌, ◌^◌, ◌<◌, ◌≤◌, Bool, true, false, List, [], ◌∷◌, ◌++◌, None, Some, length, drop, refl, sym, ap, subst, ◌∙◌, arith, inl, inr, ⊎_elim, append_assoc, length-append}
+use Rattle.std.proofs.Common.{◌≡◌, ◌⊎◌, ℕ, ◌+◌, ◌-◌, ◌^◌, ◌<◌, ◌≤◌, Bool, true, false, List, [], ◌∷◌, ◌++◌, None, Some, length, drop, refl, sym, ap, subst, ◌∙◌, arith, inl, inr, ⊎_elim, append_assoc, length-append}
 use Rattle.std.specs.Prelude.{slice_get}
 use Rattle.std.specs.List.{AllByRecursion}
 use Rattle.std.proofs.lemmas.Bool.{cases_lt}
 use Rattle.std.proofs.lemmas.List.{append-nil, map-append}
 use Rattle.std.proofs.lemmas.Option.{slice_get_within}
-use Rattle.store_gateway.specs.Feeds.{GatewayIsOver, gateway_tried, numbered, sender_number}
-use Rattle.store_gateway.specs.Roles.{Taking, taken_more}
+use Rattle.store_gateway.specs.Feeds.{gateway_tried, numbered, sender_number}
+use Rattle.store_gateway.specs.Roles.{Taking}
 use Rattle.store_gateway.specs.declared.message.SenderId.{SenderId}
 use Rattle.store_journal.specs.declared.journal.Journal.{Journal}
 use Rattle.store_refresh_entries.specs.Change.{MayBeStored, spelling_of}

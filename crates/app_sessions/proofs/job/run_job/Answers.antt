@@ -11,7 +11,7 @@ pub run_beside-requires-clause-started : goal.run_beside-requires-clause-started
 run_beside-requires-clause-started g c κs within =
     let p = c.in_ok-run.ensures in
     let first = c.prepare.new.feed in
-    started c.in_ok-run.run c.prepare.new.publisher c.args.publisher.now.version c.args.setup.before c.args.setup.sessions.items
+    started c.in_ok-run.run' c.prepare.new.publisher c.args.publisher.now.version c.args.setup.before c.args.setup.sessions.items
     (list_tried first.start first.count) (g.F.Feed.tried c.args.feed.now) c.requires.before p.workers p.tried p.told p.sizes.1 p.sizes.0 c.requires.fresh
 
 pub returns-clause-text : goal.returns-clause-text
@@ -20,7 +20,7 @@ returns-clause-text g c =
     let first = c.prepare.new.feed in
     let v = c.args.publisher.now.version in
     let mine = take first.count (drop first.start.done first.start.list) in
-    let begun = started c.in_ok-run.run c.prepare.new.publisher v c.args.setup.before c.args.setup.sessions.items
+    let begun = started c.in_ok-run.run' c.prepare.new.publisher v c.args.setup.before c.args.setup.sessions.items
     (from_nobody mine) (g.F.Feed.tried c.args.feed.now) c.requires.before p.workers p.tried p.told p.sizes.1 p.sizes.0 c.requires.fresh in
     let same = whole_later v c.prepare.new.publisher c.args.setup.before mine (g.F.Feed.tried c.run_beside.new.feed) p.version p.tried in
     subst (λ o. IfOk c.run_beside.result (IsOrderText v.base o v.done c.args.setup.before (job_sessions c.args.setup.sessions.items))) same (c.run_beside.ensures.text begun)
@@ -31,7 +31,7 @@ returns-clause-many g c =
     let first = c.prepare.new.feed in
     let v = c.args.publisher.now.version in
     let mine = take first.count (drop first.start.done first.start.list) in
-    let begun = started c.in_ok-run.run c.prepare.new.publisher v c.args.setup.before c.args.setup.sessions.items
+    let begun = started c.in_ok-run.run' c.prepare.new.publisher v c.args.setup.before c.args.setup.sessions.items
     (from_nobody mine) (g.F.Feed.tried c.args.feed.now) c.requires.before p.workers p.tried p.told p.sizes.1 p.sizes.0 c.requires.fresh in
     let same = whole_later v c.prepare.new.publisher c.args.setup.before mine (g.F.Feed.tried c.run_beside.new.feed) p.version p.tried in
     subst (λ (y : RefreshOrder × ℕ). IfOk c.run_beside.result (λ _. length y.0 ≡ y.1)) (λ i. (same i, c.requires.most i)) (c.run_beside.ensures.many begun)
@@ -42,7 +42,7 @@ returns-clause-few g c = λ is.
     let first = c.prepare.new.feed in
     let v = c.args.publisher.now.version in
     let mine = take first.count (drop first.start.done first.start.list) in
-    let begun = started c.in_ok-run.run c.prepare.new.publisher v c.args.setup.before c.args.setup.sessions.items
+    let begun = started c.in_ok-run.run' c.prepare.new.publisher v c.args.setup.before c.args.setup.sessions.items
     (from_nobody mine) (g.F.Feed.tried c.args.feed.now) c.requires.before p.workers p.tried p.told p.sizes.1 p.sizes.0 c.requires.fresh in
     let same = whole_later v c.prepare.new.publisher c.args.setup.before mine (g.F.Feed.tried c.run_beside.new.feed) p.version p.tried in
     subst (λ (y : RefreshOrder × ℕ). length y.0 < y.1) (λ i. (same i, c.requires.most i)) (c.run_beside.ensures.few begun is)
@@ -53,7 +53,7 @@ returns-clause-ended g c = λ memory failed.
     let first = c.prepare.new.feed in
     let v = c.args.publisher.now.version in
     let mine = take first.count (drop first.start.done first.start.list) in
-    let begun = started c.in_ok-run.run c.prepare.new.publisher v c.args.setup.before c.args.setup.sessions.items
+    let begun = started c.in_ok-run.run' c.prepare.new.publisher v c.args.setup.before c.args.setup.sessions.items
     (from_nobody mine) (g.F.Feed.tried c.args.feed.now) c.requires.before p.workers p.tried p.told p.sizes.1 p.sizes.0 c.requires.fresh in
     let same = whole_later v c.prepare.new.publisher c.args.setup.before mine (g.F.Feed.tried c.run_beside.new.feed) p.version p.tried in
     ends_later (g.F.Feed.fits c.run_beside.new.feed) (g.F.Feed.is_over c.run_beside.new.feed) v c.args.setup.before (from_nobody mine ++ g.F.Feed.tried c.run_beside.new.feed)

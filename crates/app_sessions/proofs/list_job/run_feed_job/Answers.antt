@@ -7,7 +7,7 @@ pub run_beside-requires-clause-started : goal.run_beside-requires-clause-started
 run_beside-requires-clause-started g c κs within =
     let p = c.in_ok-run.ensures in
     let v = c.args.publisher.now.version in
-    let begun : HasStarted c.in_ok-run.run c.prepare.new.publisher (g.F.Feed.tried c.prepare.new.feed) = record {
+    let begun : HasStarted c.in_ok-run.run' c.prepare.new.publisher (g.F.Feed.tried c.prepare.new.feed) = record {
       start = v;
       before = c.args.setup.before;
       sessions = c.args.setup.sessions.items;
@@ -25,7 +25,7 @@ pub returns-clause-text : goal.returns-clause-text
 returns-clause-text g c =
     let p = c.in_ok-run.ensures in
     let v = c.args.publisher.now.version in
-    let begun : HasStarted c.in_ok-run.run c.prepare.new.publisher (g.F.Feed.tried c.prepare.new.feed) = record {
+    let begun : HasStarted c.in_ok-run.run' c.prepare.new.publisher (g.F.Feed.tried c.prepare.new.feed) = record {
       start = v;
       before = c.args.setup.before;
       sessions = c.args.setup.sessions.items;
@@ -43,7 +43,7 @@ pub returns-clause-many : goal.returns-clause-many
 returns-clause-many g c =
     let p = c.in_ok-run.ensures in
     let v = c.args.publisher.now.version in
-    let begun : HasStarted c.in_ok-run.run c.prepare.new.publisher (g.F.Feed.tried c.prepare.new.feed) = record {
+    let begun : HasStarted c.in_ok-run.run' c.prepare.new.publisher (g.F.Feed.tried c.prepare.new.feed) = record {
       start = v;
       before = c.args.setup.before;
       sessions = c.args.setup.sessions.items;
@@ -62,7 +62,7 @@ pub returns-clause-few : goal.returns-clause-few
 returns-clause-few g c = λ is.
     let p = c.in_ok-run.ensures in
     let v = c.args.publisher.now.version in
-    let begun : HasStarted c.in_ok-run.run c.prepare.new.publisher (g.F.Feed.tried c.prepare.new.feed) = record {
+    let begun : HasStarted c.in_ok-run.run' c.prepare.new.publisher (g.F.Feed.tried c.prepare.new.feed) = record {
       start = v;
       before = c.args.setup.before;
       sessions = c.args.setup.sessions.items;
@@ -80,7 +80,7 @@ pub returns-clause-ended : goal.returns-clause-ended
 returns-clause-ended g c = λ memory failed.
     let p = c.in_ok-run.ensures in
     let v = c.args.publisher.now.version in
-    let begun : HasStarted c.in_ok-run.run c.prepare.new.publisher (g.F.Feed.tried c.prepare.new.feed) = record {
+    let begun : HasStarted c.in_ok-run.run' c.prepare.new.publisher (g.F.Feed.tried c.prepare.new.feed) = record {
       start = v;
       before = c.args.setup.before;
       sessions = c.args.setup.sessions.items;

@@ -13,11 +13,11 @@ returns-in-Ok g c =
     let mine = take last.count (drop last.start.done last.start.list) in
     let e = c.in-Ok.ensures in
     let begins = (e.ended (λ other. cc) (λ other. cc)).list in
-    let whole = whole_of_list v mine begins e.many in
+    let whole = whole_of_list v mine begins (e.many ∙ c.requires.whole) in
     subst (λ (y : RefreshOrder × ℕ). IsOrderText v.base y.0 y.1 c.args.before (job_sessions c.args.sessions.items) c.in-Ok.text) (λ i. (whole i, c.requires.fresh i)) e.text
 
-pub unreachable-requires-2 : goal.unreachable-requires-2
-unreachable-requires-2 g c =
+pub unreachable-requires-in-Err-TooFewRefreshes : goal.unreachable-requires-in-Err-TooFewRefreshes
+unreachable-requires-in-Err-TooFewRefreshes g c =
     let v = c.args.publisher.now.version in
     let last = c.run_feed_job.new.feed in
     let mine = take last.count (drop last.start.done last.start.list) in
@@ -26,4 +26,5 @@ unreachable-requires-2 g c =
     let begins = (e.ended (λ other. cc) (λ other. cc)).list in
     let least = list_within v (from_nobody mine) begins in
     let few = e.few (ap Err why) in
-    omega (arith, least, few)
+    let whole = c.requires.whole in
+    omega (arith, least, few, whole)

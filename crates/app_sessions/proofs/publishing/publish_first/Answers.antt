@@ -33,5 +33,6 @@ publishing-preserved g c =
       done = omega (arith, done, was);
       count = omega (arith, count, told);
       list = list_kept p.change old.version p.trials new.version p.next p.version left ∙ i.list;
+      source = c.publish_one.ensures.source ∙ i.source;
       faults = omega (arith, faults, risen);
     }

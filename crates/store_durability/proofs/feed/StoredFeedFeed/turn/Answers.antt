@@ -1,4 +1,4 @@
-use Rattle.std.proofs.Common.{◌≡◌, ◌+◌, ℕ, None, subst, sym}
+use Rattle.std.proofs.Common.{◌+◌, ℕ, None, subst, sym}
 use Rattle.store_snapshots.specs.Turns.{IsAllTried, TakesTurn, list_tried}
 use Rattle.store_snapshots.specs.declared.feed.FeedTurn.TheVariants as turn
 use Rattle.store_versions.specs.Trials.{Trials}

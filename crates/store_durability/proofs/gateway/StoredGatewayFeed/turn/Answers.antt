@@ -1,5 +1,4 @@
-use Rattle.std.proofs.Common.{◌≡◌, ◌∙◌, ◌+◌, ◌<◌, ◌≤◌, ◌++◌, ℕ, Some, arith, length, refl, subst, sym}
-use Rattle.std.specs.Prelude.{slice_get}
+use Rattle.std.proofs.Common.{◌≡◌, ◌∙◌, ◌+◌, ◌++◌, ℕ, Some, arith, refl, subst, sym}
 use Rattle.store_gateway.specs.Feeds.{GatewayIsOver, gateway_tried}
 use Rattle.store_gateway.specs.Roles.{Taking}
 use Rattle.store_snapshots.specs.Turns.{TakesTurn, list_tried}
