@@ -59,3 +59,8 @@ changes_refused (Some folder) (Some other) dir ms i d before (error.Refused refu
 -- one more is there
 pub changes_counted : (before later : List Change) (change : Change) (i : ℕ) → later ≡ before ++ change ∷ [] → length before ≡ i → length later ≡ i + 1
 changes_counted before later change i is many = ap length is ∙ length-append before (change ∷ []) ∙ ap (λ n. n + 1) many
+
+-- what holds of all holds of these and one more
+pub all_push : (P : Change → Type 0) (list : List Change) (change : Change) → AllByRecursion P list → P change → AllByRecursion P (list ++ change ∷ [])
+all_push P [] change are is = (is, tt)
+all_push P (first ∷ list) change are is = (are.0, all_push P list change are.1 is)

@@ -9,7 +9,7 @@ use Rattle.store_file_reader.specs.File.{file_rows, most_bytes}
 use Rattle.store_file_reader.specs.Reading.{RefusesAll}
 use Rattle.store_file_reader.specs.declared.error.TableError.{TableError}
 use Rattle.store_file_reader.specs.declared.error.TableError.TheVariants as table_error
-use Rattle.app_inputs.specs.DataFile.{FailsAs, FileRows, FitForm, IsFileOf}
+use Rattle.app_inputs.specs.DataFile.{FailsAs, FileRows, FitForm, IsFileOf, IsGiven}
 use Rattle.app_inputs.specs.declared.input_error.ReadError.{ReadError}
 
 -- the bytes that were left, read to their end, and what they give
@@ -45,6 +45,19 @@ refused_file form own limit (Some text) (Some rest) (Some last) so_far piece (ta
 pub failed_fits : (form : LineForm) (why : TableError) (result : Result FileRows ReadError) → FailsAs why result → IfOk result (FitForm form)
 failed_fits form (table_error.Refused first) result is = subst (λ (m : Result FileRows ReadError). IfOk m (FitForm form)) (sym is) tt
 failed_fits form table_error.OutOfMemory result is = subst (λ (m : Result FileRows ReadError). IfOk m (FitForm form)) (sym is) tt
+
+-- some file gave the rows that were read to an end
+pub given_by : (form own : LineForm) (limit : ℕ) (so_far : List ℕ) (result : Result FileRows ReadError) → own ≡ form → limit ≡ most_bytes
+    → IfOk result (λ r. r ≡ file_rows own limit so_far) → IfOk result (IsGiven form)
+given_by form own limit so_far (Err error) same most is = tt
+given_by form own limit so_far (Ok (Err first)) same most is = tt
+given_by form own limit so_far (Ok (Ok rows)) same most is =
+    (so_far, sym (is ∙ ap (λ f. file_rows f limit so_far) same ∙ ap (λ l. file_rows form l so_far) most))
+
+-- a bad line gives none
+pub failed_given : (form : LineForm) (why : TableError) (result : Result FileRows ReadError) → FailsAs why result → IfOk result (IsGiven form)
+failed_given form (table_error.Refused first) result is = subst (λ (m : Result FileRows ReadError). IfOk m (IsGiven form)) (sym is) tt
+failed_given form table_error.OutOfMemory result is = subst (λ (m : Result FileRows ReadError). IfOk m (IsGiven form)) (sym is) tt
 
 -- nothing was read yet
 pub none_read : (left : Option (List ℕ)) → Consumes left left []

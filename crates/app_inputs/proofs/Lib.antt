@@ -13,3 +13,4 @@ mod DataFile
 mod TableFile
 mod Lists
 mod Changes
+mod Storable

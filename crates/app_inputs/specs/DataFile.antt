@@ -24,6 +24,11 @@ abbrev pub FitForm : LineForm → FileRows → Type 0
 FitForm form read = IfOk read (λ rows. RowsFit form rows
     × ((table : TableName) → form.columns ≡ columns_of table → RowsAreOf table rows))
 
+-- rows that some file of these lines gave
+abbrev pub IsGiven : LineForm → FileRows → Type 0
+IsGiven form read = IfOk read
+    (λ rows. (text : List ℕ) × (file_rows form most_bytes text ≡ Ok rows))
+
 -- what a file of these lines holds, where the bytes that were left of it are known
 abbrev pub IsFileOf : LineForm → Option (List ℕ) → FileRows → Type 0
 IsFileOf form None read = ⊤

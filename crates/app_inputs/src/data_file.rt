@@ -7,7 +7,8 @@ ghost use Rattle.base_schema.specs.LineForm.{RowsFit};
 ghost use Rattle.base_schema.specs.Tables.{columns_of};
 ghost use Rattle.store_file_reader.specs.Error.{IsErrorOf};
 ghost use Rattle.store_file_reader.specs.Reading.{Feeds, HasRead, rows_for};
-ghost use Rattle.app_inputs.specs.DataFile.{FailsAs, FitForm, HasBegun, IsFileOf, reading_of};
+ghost use Rattle.app_inputs.specs.DataFile.{FailsAs, FitForm, HasBegun, IsFileOf, IsGiven};
+ghost use Rattle.app_inputs.specs.DataFile.{reading_of};
 ghost use Rattle.app_inputs.specs.FilesAfter.{FilesAfterRead};
 
 use crate::input::PIECE;
@@ -106,6 +107,7 @@ pub(crate) fn read_data_file<F: Files>(
     requires begun { HasBegun (reading_of reader) }
     ensures rows { IfOk result (IsFileOf (reading_of reader).lines.form (F.left files.old)) }
     ensures fits { IfOk result (FitForm (reading_of reader).lines.form) }
+    ensures given { IfOk result (IsGiven (reading_of reader).lines.form) }
     ensures files { FilesAfterRead F.held F.faults F.misses result files.old files.new }
 {
     let mut reader = reader;

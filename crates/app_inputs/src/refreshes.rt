@@ -1,5 +1,6 @@
 //! Reading the refresh files that a session's statements name.
 ghost use Rattle.std.specs.Prelude.{◌≡◌, ◌++◌, IfOk, OnOk, length};
+ghost use Rattle.std.specs.List.{AllByRecursion};
 ghost use Rattle.std.specs.Vec.{vec_items};
 ghost use Rattle.base_refusals.specs.declared.refresh.RefreshFile.TheVariants.{Orders, Lineitem};
 ghost use Rattle.base_refusals.specs.declared.refresh.RefreshFile.TheVariants.{Delete};
@@ -8,7 +9,8 @@ ghost use Rattle.app_inputs.specs.KnownFiles.{AreKnown};
 ghost use Rattle.app_inputs.specs.Inputs.{changes_in, delete_of, insert_of, mention_of};
 ghost use Rattle.app_inputs.specs.Inputs.{mentions_of};
 ghost use Rattle.app_inputs.specs.Inputs.{refresh_in};
-ghost use Rattle.app_inputs.specs.SetFile.{FitsFile};
+ghost use Rattle.store_refresh_entries.specs.Change.{MayBeStored};
+ghost use Rattle.app_inputs.specs.SetFile.{FitsFile, IsOfFile};
 ghost use Rattle.app_inputs.specs.Views.{Reads};
 
 use crate::input_error::InputError;
@@ -19,9 +21,11 @@ use base_io::Files;
 use base_refusals::{LineRefusal, RefreshFile};
 use sql_ast::{RefreshKind, Statement};
 use std::alloc::{AllocError, Global};
+use store_refresh_entries::{refreshes_of_files_are_readable, refreshes_of_files_are_short};
 use store_state::Refresh;
 
 /// An insert of what these files hold: a bad line of the orders comes before one of the lineitems.
+#[tactic(auto, using(crate::proofs::Storable::stored))]
 fn insert_of(
     alloc: Global,
     set: u32,
@@ -30,8 +34,13 @@ fn insert_of(
 ) -> Result<Refresh, AllocError>
     requires orders { FitsFile Orders orders }
     requires lineitems { FitsFile Lineitem lineitems }
-    ensures { IfOk result (λ refresh. refresh ≡ insert_of set orders lineitems) }
+    requires orders_given { IsOfFile Orders orders }
+    requires lineitems_given { IsOfFile Lineitem lineitems }
+    ensures refresh { IfOk result (λ refresh. refresh ≡ insert_of set orders lineitems) }
+    ensures storable { IfOk result MayBeStored }
 {
+    refreshes_of_files_are_readable();
+    refreshes_of_files_are_short();
     let orders = match orders {
         Ok(orders) => orders,
         Err(first) => return Ok(Refresh::malformed(RefreshFile::Orders, set, first)),
@@ -46,14 +55,19 @@ fn insert_of(
 }
 
 /// A delete of what this file holds.
+#[tactic(auto, using(crate::proofs::Storable::stored))]
 fn delete_of(
     alloc: Global,
     set: u32,
     keys: Result<Rows, LineRefusal>,
 ) -> Result<Refresh, AllocError>
-    requires { FitsFile Delete keys }
-    ensures { IfOk result (λ refresh. refresh ≡ delete_of set keys) }
+    requires keys { FitsFile Delete keys }
+    requires given { IsOfFile Delete keys }
+    ensures refresh { IfOk result (λ refresh. refresh ≡ delete_of set keys) }
+    ensures storable { IfOk result MayBeStored }
 {
+    refreshes_of_files_are_readable();
+    refreshes_of_files_are_short();
     match keys {
         Ok(keys) => {
             let refresh = Refresh::delete_rows(alloc, &keys)?;
@@ -75,6 +89,7 @@ fn read_insert<F: Files>(
     ensures known { OnOk result (AreKnown folder.now (F.held files.old) known.new.items) }
     ensures input { Reads (λ refresh. refresh) (F.held files.old)
         (refresh_in folder.now RefreshKind.Insert set) result }
+    ensures storable { IfOk result MayBeStored }
     ensures files { FilesAfterInput F.held F.faults F.misses result files.old files.new }
 {
     let orders = set_rows(alloc, files, folder, known, RefreshFile::Orders, set)?;
@@ -95,6 +110,7 @@ fn read_delete<F: Files>(
     ensures known { OnOk result (AreKnown folder.now (F.held files.old) known.new.items) }
     ensures input { Reads (λ refresh. refresh) (F.held files.old)
         (refresh_in folder.now RefreshKind.Delete set) result }
+    ensures storable { IfOk result MayBeStored }
     ensures files { FilesAfterInput F.held F.faults F.misses result files.old files.new }
 {
     let keys = set_rows(alloc, files, folder, known, RefreshFile::Delete, set)?;
@@ -114,6 +130,7 @@ fn read_refresh<F: Files>(
     ensures known { OnOk result (AreKnown folder.now (F.held files.old) known.new.items) }
     ensures input { Reads (λ refresh. refresh) (F.held files.old)
         (refresh_in folder.now mention.change mention.set) result }
+    ensures storable { IfOk result MayBeStored }
     ensures files { FilesAfterInput F.held F.faults F.misses result files.old files.new }
 {
     match mention.change {
@@ -162,6 +179,7 @@ pub fn read_refreshes<F: Files>(
 ) -> Result<Vec<Refresh>, InputError>
     ensures input { Reads vec_items (F.held files.old) (changes_in folder.now mentions.now) result }
     ensures length { IfOk result (λ list. length list.items ≡ length mentions.now) }
+    ensures storable { IfOk result (λ list. AllByRecursion MayBeStored list.items) }
     ensures files { FilesAfterInput F.held F.faults F.misses result files.old files.new }
 {
     let mut known = Vec::new(alloc);

@@ -5,7 +5,7 @@ ghost use Rattle.base_schema.specs.LineForm.{refresh_form};
 ghost use Rattle.app_inputs.specs.DataFile.{IsFileOf};
 ghost use Rattle.app_inputs.specs.FilesAfter.{FilesAfterInput, FilesAfterRead};
 ghost use Rattle.app_inputs.specs.Inputs.{set_file, set_rows_in};
-ghost use Rattle.app_inputs.specs.SetFile.{FitsFile};
+ghost use Rattle.app_inputs.specs.SetFile.{FitsFile, IsOfFile};
 ghost use Rattle.app_inputs.specs.KnownFiles.{AreKnown, IsAt};
 ghost use Rattle.app_inputs.specs.Views.{Reads};
 
@@ -47,6 +47,7 @@ fn read_refresh_rows<F: Files>(
     requires { F.is_open files.old ≡ true }
     ensures rows { IfOk result (IsFileOf (refresh_form file) (F.left files.old)) }
     ensures fits { IfOk result (FitsFile file) }
+    ensures given { IfOk result (IsOfFile file) }
     ensures files { FilesAfterRead F.held F.faults F.misses result files.old files.new }
 {
     let reader = RefreshReader::new(alloc, file)?;
@@ -65,6 +66,7 @@ fn read_set_file<F: Files>(
     ensures input { Reads (λ rows. rows) (F.held files.old)
         (set_rows_in folder.now file set) result }
     ensures fits { IfOk result (FitsFile file) }
+    ensures given { IfOk result (IsOfFile file) }
     ensures files { FilesAfterInput F.held F.faults F.misses result files.old files.new }
 {
     let name = file_name(alloc, folder, file, set)?;
@@ -114,6 +116,7 @@ pub(crate) fn set_rows<F: Files>(
     ensures input { Reads (λ rows. rows) (F.held files.old)
         (set_rows_in folder.now file set) result }
     ensures fits { IfOk result (FitsFile file) }
+    ensures given { IfOk result (IsOfFile file) }
     ensures files { FilesAfterInput F.held F.faults F.misses result files.old files.new }
 {
     if let Some(place) = place_of(known, file, set) {

@@ -70,7 +70,11 @@ arguments (Fault kind) = tagged (fault_kind_number kind) (fault_kind_name kind)
 arguments (Template refusal) = template_arguments refusal
 arguments (Refresh cause) = cause_arguments cause
 
--- the word, the refusal's number and name, and its arguments
+-- the refusal's number and name, and its arguments
+abbrev pub reason_written : Refusal → List ℕ
+reason_written refusal =
+    tagged (refusal_number refusal) (refusal_name refusal) ++ arguments refusal
+
+-- the word, and these
 abbrev pub refusal_written : Refusal → List ℕ
-refusal_written refusal =
-    codes "refused" ++ tagged (refusal_number refusal) (refusal_name refusal) ++ arguments refusal
+refusal_written refusal = codes "refused" ++ reason_written refusal

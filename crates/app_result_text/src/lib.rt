@@ -8,6 +8,6 @@ mod rows;
 mod version;
 
 pub use head::{accepted_text, done_text, header, refusal_text, version_refusal_text};
-pub use refusal::push_refusal;
+pub use refusal::{push_refusal, put_reason};
 pub use rows::{answer_text, push_row};
 pub use version::VersionRefusal;

@@ -1,7 +1,8 @@
 //! Refusals as lines say them.
 ghost use Rattle.std.specs.Prelude.{◌≡◌, ◌++◌, OnErr, OnOk};
 ghost use Rattle.app_result_text.specs.Refusal.{arguments, cause_arguments, file_name, key_written};
-ghost use Rattle.app_result_text.specs.Refusal.{line_written, malformed_written, refusal_written};
+ghost use Rattle.app_result_text.specs.Refusal.{line_written, malformed_written, reason_written};
+ghost use Rattle.app_result_text.specs.Refusal.{refusal_written};
 ghost use Rattle.app_result_text.specs.Refusal.{tagged, template_arguments};
 
 use base_decimal::{Scale, push_decimal};
@@ -100,14 +101,22 @@ fn push_arguments(text: &mut Vec<u8>, refusal: &Refusal) -> Result<(), AllocErro
     }
 }
 
+/// Appends the refusal's number and name, and its arguments, a space before each, as far as memory
+/// goes.
+pub fn put_reason(text: &mut Vec<u8>, refusal: &Refusal) -> Result<(), AllocError>
+    ensures { OnOk result (text.new.items ≡ text.old.items ++ reason_written refusal.now) }
+{
+    push_tagged(text, refusal.number(), refusal.name())?;
+    push_arguments(text, refusal)
+}
+
 /// Appends the word `refused`, the refusal's number and name, and its arguments, parted by spaces,
 /// as far as memory goes.
 pub(crate) fn put_refusal(text: &mut Vec<u8>, refusal: &Refusal) -> Result<(), AllocError>
     ensures { OnOk result (text.new.items ≡ text.old.items ++ refusal_written refusal.now) }
 {
     text.extend_from_slice(b"refused")?;
-    push_tagged(text, refusal.number(), refusal.name())?;
-    push_arguments(text, refusal)
+    put_reason(text, refusal)
 }
 
 /// Appends the word `refused`, the refusal's number and name, and its arguments, parted by spaces.

@@ -1,15 +1,17 @@
 -- What a taker has taken once both senders have ended.
-use Rattle.std.proofs.Common.{◌≡◌, ◌∙◌, ℕ, ◌+◌, ◌<◌, List, [], ◌∷◌, ◌++◌, length, map, take, ap, arith, refl, subst, sym}
-use Rattle.std.specs.List.{zip}
+use Rattle.std.proofs.Common.{◌≡◌, ◌∙◌, ℕ, zero, suc, ◌+◌, ◌<◌, Bool, true, false, cond, List, [], ◌∷◌, ◌++◌, drop, length, map, take, ap, arith, refl, subst, sym}
+use Rattle.std.specs.List.{AllByRecursion, zip}
 use Rattle.std.proofs.lemmas.List.{length-append, length-map}
 use Rattle.std.proofs.Math.Seq.{take-length}
 use Rattle.base_schema.specs.State.{State}
 use Rattle.store_gateway.specs.Feeds.{numbered, sent_from, sender_number}
+use Rattle.store_gateway.specs.Queue.{is_same_sender}
 use Rattle.store_gateway.specs.Roles.{Sending, Taking, sent_by}
 use Rattle.store_gateway.specs.declared.message.SenderId.{SenderId}
 use Rattle.store_gateway.specs.declared.message.SenderId.TheVariants.{First, Second}
 use Rattle.store_gateway.proofs.Numbers.{sent_from-numbered}
 use Rattle.store_snapshots.specs.Turns.{from_nobody}
+use Rattle.store_refresh_entries.specs.Change.{MayBeStored}
 use Rattle.store_state.specs.Refresh.{Change}
 use Rattle.store_versions.specs.Trials.{Trials}
 use Rattle.app_sessions.specs.Jobs.{IsOrderText, JobAnswer, JobSession}
@@ -37,6 +39,28 @@ given_counted senders sent firsts seconds same first second =
     let c = both_counted (zip senders sent) in
     let d = zip_counted senders sent same in
     omega (arith, a, b, c, d)
+
+-- what holds of all that is left holds of the rest
+rest_of : (P : Change → Type 0) (count : ℕ) (list : List Change) → AllByRecursion P list → AllByRecursion P (drop count list)
+rest_of P zero list all = all
+rest_of P (suc count) [] all = tt
+rest_of P (suc count) (c ∷ cs) all = rest_of P count cs all.1
+
+-- what holds of all that is sent holds of what one sender sends
+one_of : (P : Change → Type 0) (mine : Bool) (change : Change) (others : List Change) → P change → AllByRecursion P others → AllByRecursion P (cond mine (change ∷ others) others)
+one_of P true change others is are = (is, are)
+one_of P false change others is are = are
+
+all_sent : (P : Change → Type 0) (id : SenderId) (senders : List SenderId) (sent : List Change) → AllByRecursion P sent → AllByRecursion P (sent_by id (zip senders sent))
+all_sent P id [] sent all = tt
+all_sent P id (s ∷ ss) [] all = tt
+all_sent P id (s ∷ ss) (c ∷ cs) all = one_of P (is_same_sender id s) c (sent_by id (zip ss cs)) all.0 (all_sent P id ss cs all.1)
+
+pub sender_stored : (id : SenderId) (senders : List SenderId) (list sent mine : List Change) (before : ℕ) → AllByRecursion MayBeStored list → sent ≡ drop before list
+    → mine ≡ sent_by id (zip senders sent) → AllByRecursion MayBeStored mine
+sender_stored id senders list sent mine before all rest is =
+    subst (λ l. AllByRecursion MayBeStored l) (sym is)
+    (all_sent MayBeStored id senders sent (subst (λ l. AllByRecursion MayBeStored l) (sym rest) (rest_of MayBeStored before list all)))
 
 -- of each sender that is what it sent
 of_sender : (id : SenderId) (taken : List (SenderId × Change)) (sent : List Change) → sent_from (sender_number id) (numbered taken) ≡ sent → sent_by id taken ≡ sent

@@ -3,7 +3,7 @@ use Rattle.std.specs.Prelude.{◌≡◌, ◌≢◌, ⊤, ℕ, ◌+◌, ◌<◌, 
 use Rattle.std.specs.Prelude.{slice_index_or}
 use Rattle.std.specs.Prelude.{Option, Some}
 use Rattle.std.specs.Global.{Vec}
-use Rattle.std.specs.List.{list_any}
+use Rattle.std.specs.List.{AllByRecursion, list_any}
 use Rattle.std.specs.declared.result.Result.{Result}
 use Rattle.std.specs.declared.result.Result.TheVariants.{Ok, Err}
 use Rattle.app_job_file.specs.Files.{most_refreshes, most_sessions}
@@ -18,6 +18,7 @@ use Rattle.app_run.specs.SessionInputs.{ExpandsTo}
 use Rattle.app_run.specs.JobInputs.{HasNoRefresh, IsPlain, JobWork, is_refresh}
 use Rattle.app_run.specs.JobMeaning.{IsFirstOfJob, PrintsJob}
 use Rattle.app_inputs.specs.Printing.{IsDone}
+use Rattle.store_refresh_entries.specs.Change.{MayBeStored}
 use Rattle.app_inputs.specs.Views.{IfKnown, refused_view}
 use Rattle.app_inputs.specs.declared.input_error.InputError.{InputError}
 use Rattle.app_inputs.specs.declared.input_error.InputError.TheVariants as error
@@ -95,9 +96,14 @@ pub record IsRunnable (sources : JobSources) : Type 0 where
       0 < length sources.senders.items
       → sources.before + length sources.senders.items ≡ length sources.list.items
 
+-- its refreshes may come to be stored in a journal
+abbrev pub IsKeepable : JobSources → Type 0
+IsKeepable sources = AllByRecursion MayBeStored sources.list.items
+
 -- the same, and each session prints rows, or none does
 pub record IsPlayable (shows_rows : Bool) (sources : JobSources) : Type 0 where
   pub runnable : IsRunnable sources
+  pub keepable : IsKeepable sources
   pub rows : ShowRows shows_rows sources.sessions.items
 
 -- the text and its status are the job's, or the error explains why it has none

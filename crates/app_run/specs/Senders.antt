@@ -1,6 +1,7 @@
 -- What two senders send beside the sessions of a job.
 use Rattle.std.specs.Prelude.{◌≡◌, ◌<◌, ◌≤◌, ◌+◌, ℕ, true, List, [], ◌++◌, length}
 use Rattle.std.specs.Prelude.{Option, None, Some}
+use Rattle.std.specs.List.{AllByRecursion}
 use Rattle.base_schema.specs.State.{State}
 use Rattle.store_gateway.specs.Feeds.{gateway_name, numbered}
 use Rattle.store_gateway.specs.Queue.{pick}
@@ -8,14 +9,17 @@ use Rattle.store_gateway.specs.Roles.{Sending, Taking, sent_by}
 use Rattle.store_gateway.specs.declared.message.SenderId.{SenderId}
 use Rattle.store_gateway.specs.declared.message.SenderId.TheVariants.{First, Second}
 use Rattle.store_snapshots.specs.Turns.{from_nobody}
+use Rattle.store_refresh_entries.specs.Change.{MayBeStored}
 use Rattle.store_state.specs.Refresh.{Change}
 use Rattle.app_sessions.specs.Jobs.{IsOrderText, JobAnswer, JobSession}
 use Rattle.app_sessions.specs.Orders.{RefreshOrder}
 
--- a sender that sent nothing yet, and whose quota lets it send these refreshes
+-- a sender that sent nothing yet, and whose quota lets it send these refreshes, which may come to be
+-- stored
 pub record MaySend (sender : Sending) (refreshes : List Change) : Type 0 where
   pub fresh : sender.sent ≡ []
   pub quota : length refreshes ≤ pick sender.id sender.quotas
+  pub storable : AllByRecursion MayBeStored refreshes
 
 -- it has ended, and sent just these refreshes
 pub record EndsAfter (sender : Sending) (refreshes : List Change) (ended : Sending) : Type 0 where

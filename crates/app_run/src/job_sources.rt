@@ -1,5 +1,7 @@
 //! What a job works on, and reading it.
 ghost use Rattle.std.specs.Prelude.{◌≡◌, IfOk, length};
+ghost use Rattle.std.specs.List.{AllByRecursion};
+ghost use Rattle.store_refresh_entries.specs.Change.{MayBeStored};
 ghost use Rattle.app_inputs.specs.FilesAfter.{FilesAfterInput};
 ghost use Rattle.app_inputs.specs.Views.{Finds, Reads};
 ghost use Rattle.app_run.specs.JobInputs.{AreJobInputs, job_base};
@@ -38,6 +40,7 @@ fn read_base<F: Files>(
 ) -> Result<(State, Vec<Refresh>), InputError>
     ensures input { Reads base_view (F.held files.old) (job_base folder.now refreshes.now) result }
     ensures length { IfOk result (λ r. length r.1.items ≡ length refreshes.now) }
+    ensures storable { IfOk result (λ r. AllByRecursion MayBeStored r.1.items) }
     ensures files { FilesAfterInput F.held F.faults F.misses result files.old files.new }
 {
     let base = read_state(alloc, files, folder)?;

@@ -8,7 +8,7 @@ ghost use Rattle.store_snapshots.specs.Ruled.{opening_of};
 ghost use Rattle.app_sessions.specs.Asked.{AllUnasked, job_sessions};
 ghost use Rattle.app_sessions.specs.Workers.{AreOfOpening};
 ghost use Rattle.app_run.specs.JobMeaning.{IsTextInOrder};
-ghost use Rattle.app_run.specs.JobViews.{IsRunnable, work_view};
+ghost use Rattle.app_run.specs.JobViews.{IsKeepable, IsRunnable, work_view};
 ghost use Rattle.app_run.specs.Receivers.{AreOfOneGateway, BothEnd, CanReceive, HasReceived};
 ghost use Rattle.app_run.specs.Receivers.{MaySendBoth};
 ghost use Rattle.app_run.specs.Senders.{EndsAfter, IsSentText, IsTakenText, MaySend, MayTake};
@@ -144,6 +144,7 @@ fn run_open<R: Threads + Wait + Sync, G: Gate + Sync>(
     match run_job(rt, alloc, gate, setup, publisher, &mut feed) {
         Ok(text) => Ok((Some(text), feed)),
         Err(JobError::TooFewRefreshes) => Ok((None, feed)),
+        Err(JobError::Failed) => unreachable!(),
         Err(JobError::OutOfMemory) => Err(AllocError),
     }
 }
@@ -221,6 +222,7 @@ pub fn run_with_senders<R: Threads + Wait + Sync, G: Gate + Sync>(
 ) -> Result<JobText, AllocError>
     requires runnable { IsRunnable sources }
     requires sent { 0 < length sources.senders.items }
+    requires keepable { IsKeepable sources }
     ensures { IfOk result (IsTextInOrder (work_view sources)
         (job_sessions sources.sessions.items)) }
 {

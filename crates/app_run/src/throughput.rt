@@ -3,7 +3,7 @@ ghost use Rattle.std.specs.Prelude.{◌≡◌, [], IfOk, if◌then◌else◌, le
 ghost use Rattle.app_sessions.specs.Asked.{job_sessions};
 ghost use Rattle.app_inputs.specs.FilesAfter.{FilesAfterInput};
 ghost use Rattle.app_run.specs.JobMeaning.{IsTextInOrder, MeansJob};
-ghost use Rattle.app_run.specs.JobViews.{IsPlayable, IsRunnable, IsTextOfJob, work_view};
+ghost use Rattle.app_run.specs.JobViews.{IsKeepable, IsPlayable, IsRunnable, IsTextOfJob, work_view};
 ghost use Rattle.app_run.specs.Views.{IsTextOf};
 ghost use Rattle.app_inputs.specs.Words.Command.{throughput};
 
@@ -61,7 +61,8 @@ fn run_sources<R: Threads + Wait + Sync, G: Gate + Sync>(
     gate: &G,
     sources: JobSources,
 ) -> Result<JobText, AllocError>
-    requires { IsRunnable sources }
+    requires runnable { IsRunnable sources }
+    requires keepable { IsKeepable sources }
     ensures { IfOk result
         (IsTextInOrder (work_view sources) (job_sessions sources.sessions.items)) }
 {

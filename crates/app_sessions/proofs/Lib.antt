@@ -14,7 +14,7 @@ mod JobReports
 mod JobSteps
 mod JobTexts
 mod JobParts
-mod JobEnds
+pub mod JobEnds
 mod JobStarts
 mod JobMeets
 mod Crossing

@@ -17,3 +17,4 @@ pub mod Gathered
 pub mod Starts
 pub mod JobExamples
 pub mod Compaction
+pub mod Ends

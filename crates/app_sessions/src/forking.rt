@@ -1,9 +1,10 @@
 //! The threads of a job: what is done before they start, and their run.
-ghost use Rattle.std.specs.Prelude.{◌≡◌, ◌+◌, ◌<◌, ◌≤◌, ◌++◌, IfOk, OnOk, length, vec_len};
+ghost use Rattle.std.specs.Prelude.{◌≡◌, ◌+◌, ◌<◌, ◌≤◌, ◌++◌, [], IfOk, IsErrOf, OnOk, length};
+ghost use Rattle.std.specs.Prelude.{vec_len};
+ghost use Rattle.base_io.specs.Outside.{Counts};
 ghost use denote.Param.Send.{IsSync};
 ghost use Rattle.store_state.specs.Versions.{accepted};
 ghost use Rattle.store_snapshots.specs.Ruled.{list_fits, opening_of};
-ghost use Rattle.store_snapshots.specs.Turns.{ListFits, list_tried};
 ghost use Rattle.store_versions.specs.Trials.{Trials};
 ghost use Rattle.app_sessions.specs.Asked.{AllUnasked};
 ghost use Rattle.app_sessions.specs.Gathered.{ArePrepared};
@@ -17,10 +18,10 @@ use crate::session::Session;
 use crate::worker::{Worker, run_workers};
 use crate::workers::{assign_sessions, make_workers};
 use base_io::Gate;
-use std::alloc::{AllocError, Global};
+use std::alloc::Global;
 use std::sync::Wait;
 use std::thread::{Threads, join_mut};
-use store_snapshots::{Entry, Feed, ListFeed, Publisher, Reader, RuledEntry};
+use store_snapshots::{Entry, Feed, FeedError, Publisher, Reader, RuledEntry};
 
 /// A job on its way.
 #[derive(Drop)]
@@ -35,48 +36,52 @@ pub struct JobRun {
     pub listed: usize,
 }
 
-/// What is done before the fork: the first refreshes are tried by turns of the list's feed, the
-/// readers are told of them, and the sessions are assigned to them.
-pub fn prepare<R: Wait>(
+/// What is done before the fork: the first refreshes of the list are tried by turns of a feed that
+/// tried none, the readers are told of them, and the sessions are assigned to them.
+pub fn prepare<F: Feed, R: Wait>(
     rt: &R,
     alloc: Global,
     before: usize,
     sessions: Vec<Session>,
     readers: Vec<Reader<RuledEntry>>,
     publisher: &mut Publisher,
-) -> Result<(JobRun, ListFeed), AllocError>
+    feed: &mut F,
+) -> Result<JobRun, FeedError>
     requires unasked { AllUnasked sessions.items }
     requires readers { 0 < vec_len readers }
     requires opened { AreOfOpening opening_of publisher.old.version readers.items }
     requires shown { publisher.old.shown ≡ publisher.old.version }
     requires before { publisher.old.version.done + before ≤ length publisher.old.version.list }
-    ensures workers { IfOk result (λ r. ArePrepared opening_of list_fits publisher.old.version
+    requires fits { F.fits feed.old publisher.old.version }
+    requires fresh { F.tried feed.old ≡ [] }
+    ensures workers { IfOk result (λ run. ArePrepared opening_of list_fits publisher.old.version
         (accepted publisher.old.version.base publisher.old.version.list
-        (publisher.old.version.done + before)) sessions.items r.0.workers.items) }
-    ensures sizes { IfOk result (λ r. (r.0.count ≡ length sessions.items)
-        × (r.0.listed ≡ length publisher.old.version.list)) }
+        (publisher.old.version.done + before)) sessions.items run.workers.items) }
+    ensures sizes { IfOk result (λ run. (run.count ≡ length sessions.items)
+        × (run.listed ≡ length publisher.old.version.list)) }
     ensures version { OnOk result (publisher.new.version
         ≡ later_by before publisher.old.version) }
-    ensures fits { IfOk result (λ r. ListFits r.1.start r.1.count publisher.new.version) }
-    ensures tried { IfOk result (λ r. HasTried publisher.old.version publisher.new
-        (list_tried r.1.start r.1.count)) }
-    ensures told { IfOk result (λ r. IsTold publisher.old.version
-        (list_tried r.1.start r.1.count) r.0.report) }
+    ensures fits { OnOk result (F.fits feed.new publisher.new.version) }
+    ensures tried { OnOk result (HasTried publisher.old.version publisher.new
+        (F.tried feed.new)) }
+    ensures told { IfOk result (λ run. IsTold publisher.old.version (F.tried feed.new)
+        run.report) }
+    ensures source { F.source feed.new ≡ F.source feed.old }
+    ensures failed { Counts (IsErrOf result FeedError.Failed)
+        (F.faults feed.old) (F.faults feed.new) }
 {
     let count = sessions.len();
     let listed = publisher.listed();
     let mut report = Report::new(alloc);
-    let mut feed = ListFeed::new(publisher)?;
-    publish_first(rt, before, publisher, &mut report, &mut feed)?;
+    publish_first(rt, before, publisher, &mut report, feed)?;
     let mut workers = make_workers(alloc, readers, publisher)?;
     assign_sessions(sessions, workers.as_mut_slice())?;
-    let run = JobRun {
+    Ok(JobRun {
         workers,
         count,
         report,
         listed,
-    };
-    Ok((run, feed))
+    })
 }
 
 /// Runs all workers, each in a thread of its own, and beside them the publisher, and waits for all
@@ -88,7 +93,7 @@ pub fn fork<E: Entry + Drop + Send, F: Feed + Send, G: Gate + Sync, R: Threads +
     report: &mut Report,
     feed: &mut F,
     workers: &mut [Worker<E>],
-) -> Result<(), AllocError>
+) -> Result<(), FeedError>
     requires ready { AllReady E.opening E.fits workers.old }
     requires fits { F.fits feed.old publisher.old.version }
     requires room { report.old.count ≤ publisher.old.version.done }
@@ -104,12 +109,14 @@ pub fn fork<E: Entry + Drop + Send, F: Feed + Send, G: Gate + Sync, R: Threads +
         → IsTold start (first ++ F.tried feed.old) report.old
         → IsTold start (first ++ F.tried feed.new) report.new) }
     ensures source { F.source feed.new ≡ F.source feed.old }
+    ensures failed { Counts (IsErrOf result FeedError.Failed)
+        (F.faults feed.old) (F.faults feed.new) }
 {
     let mut front = ||
         requires { IsSync R.row × IsSync G.row × AllReady E.opening E.fits workers.now }
         ensures { AllHaveRun E.opening E.fits workers.entry.now workers.exit.now }
     { run_workers(rt, gate, workers) };
-    let mut back = || -> Result<(), AllocError>
+    let mut back = || -> Result<(), FeedError>
         requires { F.fits feed.now publisher.now.version
             × (report.now.count ≤ publisher.now.version.done) }
         ensures fits { OnOk result (F.fits feed.exit.now publisher.exit.now.version) }
@@ -124,6 +131,8 @@ pub fn fork<E: Entry + Drop + Send, F: Feed + Send, G: Gate + Sync, R: Threads +
             → IsTold start (first ++ F.tried feed.entry.now) report.entry.now
             → IsTold start (first ++ F.tried feed.exit.now) report.exit.now) }
         ensures source { F.source feed.exit.now ≡ F.source feed.entry.now }
+        ensures failed { Counts (IsErrOf result FeedError.Failed)
+            (F.faults feed.entry.now) (F.faults feed.exit.now) }
     { publish_rest(rt, gate, publisher, report, feed) };
     let (_, outcome) = join_mut(rt, &mut front, &mut back);
     outcome

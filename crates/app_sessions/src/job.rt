@@ -1,13 +1,14 @@
 //! A job: sessions that run beside a publisher.
 ghost use Rattle.std.specs.Prelude.{◌≡◌, ◌≢◌, ◌+◌, ◌<◌, ◌≤◌, ◌^◌, ◌++◌, [], IfOk, Err, length};
-ghost use Rattle.std.specs.Prelude.{vec_len};
+ghost use Rattle.std.specs.Prelude.{IsErrOf, vec_len};
+ghost use Rattle.base_io.specs.Outside.{Counts};
 ghost use Rattle.store_snapshots.specs.Ruled.{opening_of};
 ghost use Rattle.app_sessions.specs.Asked.{AllUnasked, job_sessions};
-ghost use Rattle.app_sessions.specs.Jobs.{IsJobText, IsOrderText};
+ghost use Rattle.app_sessions.specs.Jobs.{IsOrderText};
 ghost use Rattle.app_sessions.specs.Orders.{EndsFeed, later_by, whole_order};
 ghost use Rattle.app_sessions.specs.Starts.{HasStarted};
 ghost use Rattle.app_sessions.specs.Workers.{AreOfOpening};
-ghost use Rattle.app_sessions.specs.declared.job_error.JobError.TheVariants.{OutOfMemory};
+ghost use Rattle.app_sessions.specs.declared.job_error.JobError.TheVariants.{Failed, OutOfMemory};
 ghost use Rattle.app_sessions.specs.declared.job_error.JobError.TheVariants.{TooFewRefreshes};
 
 use crate::closing::{close_report, show_list, whole_text};
@@ -17,10 +18,10 @@ use crate::job_text::JobText;
 use crate::meeting::meet_workers;
 use crate::session::Session;
 use base_io::Gate;
-use std::alloc::{AllocError, Global};
+use std::alloc::Global;
 use std::sync::Wait;
 use std::thread::Threads;
-use store_snapshots::{Feed, Publisher, Reader, RuledEntry};
+use store_snapshots::{Feed, ListFeed, Publisher, Reader, RuledEntry};
 
 /// What a job runs.
 #[derive(Drop)]
@@ -70,9 +71,11 @@ pub fn run_job<F: Feed + Send, G: Gate + Sync, R: Threads + Wait + Sync>(
     ensures few { result ≡ Err TooFewRefreshes → length
         (whole_order (later_by setup.before publisher.old.version) (F.tried feed.new))
         < publisher.old.version.most }
-    ensures ended { result ≢ Err OutOfMemory → EndsFeed (F.fits feed.new) (F.is_over feed.new)
+    ensures ended { result ≢ Err OutOfMemory → result ≢ Err Failed
+        → EndsFeed (F.fits feed.new) (F.is_over feed.new)
         (later_by setup.before publisher.old.version) (F.tried feed.new) }
     ensures source { F.source feed.new ≡ F.source feed.old }
+    ensures failed { Counts (IsErrOf result Failed) (F.faults feed.old) (F.faults feed.new) }
 {
     let JobSetup {
         sessions,
@@ -80,12 +83,13 @@ pub fn run_job<F: Feed + Send, G: Gate + Sync, R: Threads + Wait + Sync>(
         before,
         most,
     } = setup;
-    let (run, _) = prepare(rt, alloc, before, sessions, readers, publisher)?;
+    let mut first = ListFeed::new(publisher)?;
+    let run = prepare(rt, alloc, before, sessions, readers, publisher, &mut first)?;
     run_beside(rt, alloc, gate, most, run, publisher, feed)
 }
 
 /// Runs a job's sessions beside the publisher of a feed's refreshes, and gives the job's text.
-fn run_beside<F: Feed + Send, G: Gate + Sync, R: Threads + Wait + Sync>(
+pub(crate) fn run_beside<F: Feed + Send, G: Gate + Sync, R: Threads + Wait + Sync>(
     rt: &R,
     alloc: Global,
     gate: &G,
@@ -106,9 +110,11 @@ fn run_beside<F: Feed + Send, G: Gate + Sync, R: Threads + Wait + Sync>(
         → result ≡ Err TooFewRefreshes
         → length (whole_order begun.start (begun.first ++ F.tried feed.new)) < most }
     ensures ended { (begun : HasStarted run publisher.old (F.tried feed.old))
-        → result ≢ Err OutOfMemory → EndsFeed (F.fits feed.new) (F.is_over feed.new)
+        → result ≢ Err OutOfMemory → result ≢ Err Failed
+        → EndsFeed (F.fits feed.new) (F.is_over feed.new)
         begun.start (begun.first ++ F.tried feed.new) }
     ensures source { F.source feed.new ≡ F.source feed.old }
+    ensures failed { Counts (IsErrOf result Failed) (F.faults feed.old) (F.faults feed.new) }
 {
     let JobRun {
         mut workers,
@@ -132,61 +138,4 @@ fn run_beside<F: Feed + Send, G: Gate + Sync, R: Threads + Wait + Sync>(
     close_report(publisher, &mut report)?;
     let text = whole_text(alloc, workers.as_slice(), count, &report)?;
     Ok(text)
-}
-
-/// Runs sessions beside the publisher of its list alone, of which none is done, and gives their
-/// text. The publisher is closed, whatever happens. The only error is that memory ran out.
-pub fn run_list_job<G: Gate + Sync, R: Threads + Wait + Sync>(
-    rt: &R,
-    alloc: Global,
-    sessions: Vec<Session>,
-    readers: Vec<Reader<RuledEntry>>,
-    mut publisher: Publisher,
-    before: usize,
-    gate: &G,
-) -> Result<JobText, AllocError>
-    requires sessions { (0 < vec_len sessions) × (vec_len sessions < 2 ^ 32) }
-    requires unasked { AllUnasked sessions.items }
-    requires readers { 0 < vec_len readers }
-    requires opened { AreOfOpening opening_of publisher.version readers.items }
-    requires shown { publisher.shown ≡ publisher.version }
-    requires whole { publisher.version.most ≡ length publisher.version.list }
-    requires fresh { publisher.version.done ≡ 0 }
-    requires before { before ≤ length publisher.version.list }
-    ensures { IfOk result (IsJobText publisher.version.base publisher.version.list before
-        (job_sessions sessions.items)) }
-{
-    let text = run_list(rt, alloc, before, gate, sessions, readers, &mut publisher);
-    publisher.close(rt);
-    text
-}
-
-/// `run_list_job` with a publisher that stays open.
-fn run_list<G: Gate + Sync, R: Threads + Wait + Sync>(
-    rt: &R,
-    alloc: Global,
-    before: usize,
-    gate: &G,
-    sessions: Vec<Session>,
-    readers: Vec<Reader<RuledEntry>>,
-    publisher: &mut Publisher,
-) -> Result<JobText, AllocError>
-    requires sessions { (0 < vec_len sessions) × (vec_len sessions < 2 ^ 32) }
-    requires unasked { AllUnasked sessions.items }
-    requires readers { 0 < vec_len readers }
-    requires opened { AreOfOpening opening_of publisher.old.version readers.items }
-    requires shown { publisher.old.shown ≡ publisher.old.version }
-    requires whole { publisher.old.version.most ≡ length publisher.old.version.list }
-    requires fresh { publisher.old.version.done ≡ 0 }
-    requires before { before ≤ length publisher.old.version.list }
-    ensures { IfOk result (IsJobText publisher.old.version.base publisher.old.version.list before
-        (job_sessions sessions.items)) }
-{
-    let most = publisher.listed();
-    let (run, mut feed) = prepare(rt, alloc, before, sessions, readers, publisher)?;
-    match run_beside(rt, alloc, gate, most, run, publisher, &mut feed) {
-        Ok(text) => Ok(text),
-        Err(JobError::OutOfMemory) => Err(AllocError),
-        Err(JobError::TooFewRefreshes) => unreachable!(),
-    }
 }

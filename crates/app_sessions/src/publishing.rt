@@ -1,6 +1,7 @@
 //! What the publisher of a job does: it takes turns of a feed, and tells of each refresh.
 ghost use Rattle.std.specs.Prelude.{◌≡◌, ◌⊎◌, ◌+◌, ◌<◌, ◌≤◌, ◌++◌, ◌&&◌, [], IfOk, OnOk, is_ok};
-ghost use Rattle.std.specs.Prelude.{length, true};
+ghost use Rattle.std.specs.Prelude.{IsErrOf, length, true};
+ghost use Rattle.base_io.specs.Outside.{Counts};
 ghost use Rattle.store_snapshots.specs.Publishers.{LiesJoined};
 ghost use Rattle.store_versions.specs.Trials.{Trials};
 ghost use Rattle.app_sessions.specs.Compaction.{IsCompactedWhenDue, is_compaction_due};
@@ -14,7 +15,7 @@ use base_refusals::Cause;
 use std::alloc::AllocError;
 use std::sync::Wait;
 use std::thread;
-use store_snapshots::{Feed, FeedTurn, Publisher};
+use store_snapshots::{Feed, FeedError, FeedTurn, Publisher};
 
 /// Puts the segments together where that is due after a refresh.
 fn compact_if_due<R: Wait>(
@@ -63,13 +64,13 @@ fn end_refresh<R: Wait>(
 
 /// Takes turns of the feed until one tries a refresh, puts the segments together where that is due,
 /// and tells of the refresh. While the feed is idle it yields. Whether a refresh was tried: none is
-/// where the feed has ended.
+/// where the feed has ended. After an error no turn is asked for.
 fn publish_one<F: Feed, R: Wait>(
     rt: &R,
     publisher: &mut Publisher,
     report: &mut Report,
     feed: &mut F,
-) -> Result<bool, AllocError>
+) -> Result<bool, FeedError>
     requires fits { F.fits feed.old publisher.old.version }
     requires room { report.old.count ≤ publisher.old.version.done }
     ensures fits { OnOk result (F.fits feed.new publisher.new.version) }
@@ -78,6 +79,8 @@ fn publish_one<F: Feed, R: Wait>(
     ensures compacted { OnOk result (IsCompactedWhenDue publisher.old.version
         publisher.new.version publisher.new.joined) }
     ensures source { F.source feed.new ≡ F.source feed.old }
+    ensures failed { Counts (IsErrOf result FeedError.Failed)
+        (F.faults feed.old) (F.faults feed.new) }
 {
     'waiting: for _ in rt.forever() {
         match feed.turn(rt, publisher)? {
@@ -104,7 +107,7 @@ pub fn publish_first<F: Feed, R: Wait>(
     publisher: &mut Publisher,
     report: &mut Report,
     feed: &mut F,
-) -> Result<(), AllocError>
+) -> Result<(), FeedError>
     requires shown { publisher.old.shown ≡ publisher.old.version }
     requires fits { F.fits feed.old publisher.old.version }
     requires fresh { F.tried feed.old ≡ [] }
@@ -117,6 +120,9 @@ pub fn publish_first<F: Feed, R: Wait>(
     ensures done { OnOk result (publisher.new.version.done ≡ publisher.old.version.done + count) }
     ensures count { OnOk result (report.new.count ≡ count) }
     ensures list { OnOk result (publisher.new.version.list ≡ publisher.old.version.list) }
+    ensures source { F.source feed.new ≡ F.source feed.old }
+    ensures failed { Counts (IsErrOf result FeedError.Failed)
+        (F.faults feed.old) (F.faults feed.new) }
 {
     'publishing: for _k in 0..count {
         if !publish_one(rt, publisher, report, feed)? {
@@ -134,7 +140,7 @@ pub fn publish_rest<F: Feed, G: Gate, R: Wait>(
     publisher: &mut Publisher,
     report: &mut Report,
     feed: &mut F,
-) -> Result<(), AllocError>
+) -> Result<(), FeedError>
     requires fits { F.fits feed.old publisher.old.version }
     requires room { report.old.count ≤ publisher.old.version.done }
     ensures fits { OnOk result (F.fits feed.new publisher.new.version) }
@@ -148,6 +154,8 @@ pub fn publish_rest<F: Feed, G: Gate, R: Wait>(
         → IsTold start (first ++ F.tried feed.old) report.old
         → IsTold start (first ++ F.tried feed.new) report.new) }
     ensures source { F.source feed.new ≡ F.source feed.old }
+    ensures failed { Counts (IsErrOf result FeedError.Failed)
+        (F.faults feed.old) (F.faults feed.new) }
 {
     let mut turn = (report.count as u64).saturating_mul(2).saturating_add(2);
     'publishing: for _ in rt.forever() {

@@ -67,7 +67,7 @@ has_next change trials within next = elim (cases_lt trials.done (length trials.l
 
 -- the accepted ones, once it is tried
 
-accepted_more : (change : Change) (trials : Trials) → trials.done ≤ length trials.list → IsNext change trials
+pub accepted_more : (change : Change) (trials : Trials) → trials.done ≤ length trials.list → IsNext change trials
     → accepted_list (one_more (trials_with change trials)) ≡ accepted_list trials ++ cond (is_accepted (tables_of trials) change) (change ∷ []) []
 accepted_more change trials within next =
     let one = has_next change trials within next in

@@ -24,7 +24,7 @@ all_next P [] place change at all = absurd cc
 all_next P (x ∷ list) zero change at all = let is : x ≡ change = cc in (subst P is all.0, all.1)
 all_next P (x ∷ list) (suc place) change at all = all_next P list place change at all
 
-next_and_rest : (P : Change → Type 0) (list : List Change) (place : ℕ) (change : Change) → slice_get list place ≡ Some change → AllByRecursion P (drop place list)
+pub next_and_rest : (P : Change → Type 0) (list : List Change) (place : ℕ) (change : Change) → slice_get list place ≡ Some change → AllByRecursion P (drop place list)
     → P change × AllByRecursion P (drop (place + 1) list)
 next_and_rest P list place change at all =
     let up : suc place ≡ place + 1 = omega arith in

@@ -1,3 +1,5 @@
-mod Accepted
+pub mod Accepted
 mod Feeding
+pub mod GatewayTurns
+mod ListTurns
 mod Outcomes

@@ -1,7 +1,9 @@
 //! A publisher's list, each refresh of which is stored before it is published.
-ghost use Rattle.std.specs.Prelude.{◌≡◌, ◌≢◌, Ok, Some, IfOk, OnErr, false, slice_get};
+ghost use Rattle.std.specs.Prelude.{◌≡◌, ◌≢◌, [], Ok, Some, IfOk, OnErr, false, slice_get};
 ghost use Rattle.base_io.specs.Outside.{Counts};
 ghost use Rattle.base_disk.specs.Disk.{LeavesOnly};
+ghost use Rattle.store_snapshots.specs.Turns.{IsAllTried, ListFits, list_tried};
+ghost use Rattle.store_versions.specs.Trials.{Trials};
 ghost use Rattle.store_durability.specs.Feed.{StoredFits, TakesStoredTurn, WithNextOrWithout};
 
 use crate::stored::{StoredAnswer, publish_stored};
@@ -10,7 +12,7 @@ use base_refusals::Cause;
 use std::alloc::{AllocError, Global};
 use std::sync::Wait;
 use store_journal::Journal;
-use store_snapshots::{Note, Publisher};
+use store_snapshots::{Feed, FeedError, FeedTurn, Note, Publisher, Snapshot};
 use store_state::Refresh;
 
 /// What comes of a turn.
@@ -33,13 +35,36 @@ pub struct StoredFeed<D: Disk> {
     pub alloc: Global,
     pub journal: Journal,
     pub disk: D,
+    start: Snapshot,
+    count: usize,
 }
 
 impl<D: Disk> StoredFeed<D> {
+    /// Those that a publisher of this version has left.
+    pub fn new(alloc: Global, journal: Journal, disk: D, start: Snapshot) -> StoredFeed<D>
+        ensures start { (result.start ≡ start) × (result.count ≡ 0) }
+        ensures parts { (result.journal ≡ journal) × (result.disk ≡ disk) }
+    {
+        StoredFeed {
+            alloc,
+            journal,
+            disk,
+            start,
+            count: 0,
+        }
+    }
+
+    /// The disk, given back.
+    pub fn into_disk(self) -> D
+        ensures { result ≡ self.disk }
+    {
+        self.disk
+    }
+
     /// Has the publisher try its list's next refresh. After an error, or after Failed, no turn is to
     /// be asked for: the disk may hold one refresh more than the publisher.
     #[tactic(auto, using(crate::proofs::Feeding::feeding))]
-    pub fn turn<R: Wait>(
+    pub fn try_next<R: Wait>(
         &mut self,
         rt: &R,
         publisher: &mut Publisher,
@@ -58,17 +83,18 @@ impl<D: Disk> StoredFeed<D> {
         ensures failed { Counts (result ≡ Ok StoredTurn.Failed)
             (D.faults self.old.disk) (D.faults self.new.disk) }
         ensures refused { publisher.new.refused ≡ publisher.old.refused }
+        ensures count { (self.new.count ≡ self.old.count) × (self.new.start ≡ self.old.start) }
         ensures err { OnErr result (publisher.new ≡ publisher.old) }
     {
         match publisher.next()? {
-            Some(refresh) => self.try_next(rt, publisher, refresh),
+            Some(refresh) => self.try_listed(rt, publisher, refresh),
             None => Ok(StoredTurn::Ended),
         }
     }
 
     /// Has the publisher try its list's next refresh, which is this one.
     #[tactic(auto, using(crate::proofs::Feeding::trying))]
-    fn try_next<R: Wait>(
+    fn try_listed<R: Wait>(
         &mut self,
         rt: &R,
         publisher: &mut Publisher,
@@ -87,6 +113,7 @@ impl<D: Disk> StoredFeed<D> {
         ensures failed { Counts (result ≡ Ok StoredTurn.Failed)
             (D.faults self.old.disk) (D.faults self.new.disk) }
         ensures refused { publisher.new.refused ≡ publisher.old.refused }
+        ensures count { (self.new.count ≡ self.old.count) × (self.new.start ≡ self.old.start) }
         ensures err { OnErr result (publisher.new ≡ publisher.old) }
     {
         let journal = &mut self.journal;
@@ -95,6 +122,37 @@ impl<D: Disk> StoredFeed<D> {
             StoredAnswer::Refused(cause) => Ok(StoredTurn::Refused(cause)),
             StoredAnswer::Failed => Ok(StoredTurn::Failed),
             StoredAnswer::Shut => unreachable!(),
+        }
+    }
+}
+
+impl<D: Disk> Feed for StoredFeed<D> {
+    ghost tried = { λ f. list_tried f.start f.count };
+
+    ghost source = { λ f. [] };
+
+    ghost fits = { λ f (version : Trials).
+        StoredFits D.is_reached D.may_leave f.journal f.disk version
+        × ListFits f.start f.count version };
+
+    ghost is_over = { λ f. IsAllTried };
+
+    ghost faults = { λ f. D.faults f.disk };
+
+    #[tactic(auto, using(crate::proofs::ListTurns::list_turns))]
+    fn turn<R: Wait>(&mut self, rt: &R, publisher: &mut Publisher) -> Result<FeedTurn, FeedError> {
+        let _listed = publisher.listed();
+        match self.try_next(rt, publisher)? {
+            StoredTurn::Published(note) => {
+                self.count += 1;
+                Ok(FeedTurn::Published(None, note))
+            }
+            StoredTurn::Refused(cause) => {
+                self.count += 1;
+                Ok(FeedTurn::Refused(None, cause))
+            }
+            StoredTurn::Failed => Err(FeedError::Failed),
+            StoredTurn::Ended => Ok(FeedTurn::Ended),
         }
     }
 }

@@ -2,8 +2,10 @@
 #![tactic(auto)]
 
 mod feed;
+mod gateway;
 mod stored;
 mod trial;
 
 pub use feed::{StoredFeed, StoredTurn};
+pub use gateway::StoredGateway;
 pub use stored::{StoredAnswer, publish_stored};

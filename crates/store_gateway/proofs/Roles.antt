@@ -3,6 +3,7 @@ use Rattle.std.proofs.Common.{◌≡◌, ℕ, ◌+◌, ◌≤◌, ◌<◌, Bool,
 use Rattle.std.specs.List.{All}
 use Rattle.std.proofs.lemmas.List.Elements.{All-head, All-tail}
 use Rattle.crossbeam_queue.specs.Fifo.{Pushes, Held}
+use Rattle.store_refresh_entries.specs.Change.{MayBeStored}
 use Rattle.store_state.specs.Refresh.{Change}
 use Rattle.store_gateway.specs.declared.message.SenderId.{SenderId}
 use Rattle.store_gateway.specs.declared.message.SenderId.TheVariants.{First, Second}
@@ -84,13 +85,13 @@ count-refreshes : (id : SenderId) (rs : List Change) (ns : List Message) → len
 count-refreshes id [] ns = omega arith
 count-refreshes id (r ∷ rs) ns = let h = count-refreshes id rs ns in omega (arith, h)
 
-pub may-send : (n port : ℕ) (id : SenderId) (r : Change) (v : QueueView) (q : ℕ × ℕ) (rs : List Change) → v ≡ sender_view id q (sent_messages id rs) → length rs < pick id q → Pushes IsInOrder n port v (Refresh id r) (λ w. w ≡ after_push (Refresh id r) v)
-may-send n port id r v q rs is room = pushes n port id (Refresh id r) v q (sent_messages id rs) (side-self id) (λ t f. f) refl (ap (λ (k : QueueView). k.opening) is) (ap (λ (k : QueueView). k.quotas) is)
+pub may-send : (n port : ℕ) (id : SenderId) (r : Change) (v : QueueView) (q : ℕ × ℕ) (rs : List Change) → v ≡ sender_view id q (sent_messages id rs) → length rs < pick id q → MayBeStored r → Pushes IsInOrder n port v (Refresh id r) (λ w. w ≡ after_push (Refresh id r) v)
+may-send n port id r v q rs is room storable = pushes n port id (Refresh id r) v q (sent_messages id rs) (side-self id) (λ t f. f) storable (ap (λ (k : QueueView). k.opening) is) (ap (λ (k : QueueView). k.quotas) is)
     (ap (λ (k : QueueView). pick id k.sent) is ∙ view-sent id q (sent_messages id rs)) (let e = length-messages id rs in omega (arith, e, room))
     (let e = count-refreshes id rs (Refresh id r ∷ []) in omega (arith, e, room))
 
 pub may-end : (n port : ℕ) (id : SenderId) (v : QueueView) (q : ℕ × ℕ) (rs : List Change) → v ≡ sender_view id q (sent_messages id rs) → length rs ≤ pick id q → Pushes IsInOrder n port v (End id) (λ w. w ≡ after_push (End id) v)
-may-end n port id v q rs is room = pushes n port id (End id) v q (sent_messages id rs) (side-self id) (λ t f. f) refl (ap (λ (k : QueueView). k.opening) is) (ap (λ (k : QueueView). k.quotas) is)
+may-end n port id v q rs is room = pushes n port id (End id) v q (sent_messages id rs) (side-self id) (λ t f. f) tt (ap (λ (k : QueueView). k.opening) is) (ap (λ (k : QueueView). k.quotas) is)
     (ap (λ (k : QueueView). pick id k.sent) is ∙ view-sent id q (sent_messages id rs)) (let e = length-messages id rs in omega (arith, e, room))
     (let e = count-refreshes id rs (End id ∷ []) in omega (arith, e, room))
 
@@ -100,8 +101,8 @@ count-one true c m xs ys n f g e = let k = f refl in rw k (omega (arith, e))
 count-one false c m xs ys n f g e = let k = g refl in rw k (omega (arith, e))
 
 two-sides : (id : SenderId) (m : Message) → IsSent m → (is_from id m ≡ true → is_from (other id) m ≡ false) × (is_from id m ≡ false → is_from (other id) m ≡ true)
-two-sides First (Quotas a b) p = absurd (true≢false (sym p))
-two-sides Second (Quotas a b) p = absurd (true≢false (sym p))
+two-sides First (Quotas a b) p = absurd p
+two-sides Second (Quotas a b) p = absurd p
 two-sides First (Refresh First r) p = (λ e. refl, λ e. absurd (true≢false e))
 two-sides First (Refresh Second r) p = (λ e. absurd (true≢false (sym e)), λ e. refl)
 two-sides Second (Refresh First r) p = (λ e. absurd (true≢false (sym e)), λ e. refl)

@@ -1,5 +1,6 @@
 -- What the calls of the gateway answer.
 use Rattle.std.specs.Prelude.{◌≡◌}
+use Rattle.store_refresh_entries.specs.Change.{MayBeStored}
 use Rattle.store_state.specs.Refresh.{Change}
 use Rattle.store_gateway.specs.Roles.{Sending, Taking, WasFull, ended_too, sent_more, taken_more}
 use Rattle.store_gateway.specs.declared.taker.Took.{Took as TookAnswer}
@@ -29,3 +30,9 @@ abbrev pub TakesMessage : Taking → Taking → TookAnswer → Type 0
 TakesMessage old new (Took id refresh) = new ≡ taken_more id refresh old
 TakesMessage old new (EndOf id) = new ≡ ended_too id old
 TakesMessage old new Empty = new ≡ old
+
+-- a refresh that was taken may come to be stored
+abbrev pub TookStorable : TookAnswer → Type 0
+TookStorable (Took id refresh) = MayBeStored refresh
+TookStorable (EndOf id) = Unit {0}
+TookStorable Empty = Unit {0}

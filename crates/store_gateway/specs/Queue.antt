@@ -1,10 +1,11 @@
 -- The rule over the queue of two senders and a taker: what it holds, and what each of them knows.
-use Rattle.std.specs.Prelude.{◌≡◌, ◌⊎◌, ℕ, ◌+◌, ◌≤◌, Bool, true, false, List, [], ◌∷◌, ◌++◌}
+use Rattle.std.specs.Prelude.{◌≡◌, ◌⊎◌, ⊤, ℕ, ◌+◌, ◌≤◌, Bool, true, false, List, [], ◌∷◌, ◌++◌}
 use Rattle.std.specs.Prelude.{length, filter, Option, Some, None}
 use Rattle.std.specs.Option.{ForSome}
 use Rattle.std.specs.List.{All}
 use mathlib.Core.Option.{some}
 use lib.ListN.{get_elem?}
+use Rattle.store_refresh_entries.specs.Change.{MayBeStored}
 use Rattle.store_state.specs.Refresh.{Change}
 use Rattle.store_gateway.specs.declared.message.SenderId.{SenderId}
 use Rattle.store_gateway.specs.declared.message.SenderId.TheVariants.{First, Second}
@@ -35,15 +36,11 @@ is_from id (Quotas a b) = false
 is_from id (Refresh other r) = is_same_sender id other
 is_from id (End other) = is_same_sender id other
 
--- whether a message is from one of the senders
-abbrev pub is_sent : Message → Bool
-is_sent (Quotas a b) = false
-is_sent (Refresh other r) = true
-is_sent (End other) = true
-
--- a message is from one of the senders
+-- a message is from one of the senders, and its refresh may come to be stored
 abbrev pub IsSent : Message → Type 0
-IsSent m = is_sent m ≡ true
+IsSent (Quotas a b) = ⊥
+IsSent (Refresh other r) = MayBeStored r
+IsSent (End other) = ⊤
 
 -- the messages from one sender, in order
 abbrev pub messages_of : SenderId → List Message → List Message

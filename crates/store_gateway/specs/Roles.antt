@@ -4,7 +4,6 @@ use Rattle.std.specs.Prelude.{length, map, if◌then◌else◌, Option, Some, No
 use Rattle.atomic_table.specs.Seated.{TableId}
 use Rattle.store_state.specs.Refresh.{Change}
 use Rattle.store_gateway.specs.declared.message.SenderId.{SenderId}
-use Rattle.store_gateway.specs.declared.message.SenderId.TheVariants.{First, Second}
 use Rattle.store_gateway.specs.declared.message.Message.{Message}
 use Rattle.store_gateway.specs.declared.message.Message.TheVariants.{Quotas, Refresh, End}
 use Rattle.store_gateway.specs.declared.queue.QueueView.{QueueView}

@@ -8,9 +8,8 @@ ghost use Rattle.store_gateway.specs.declared.message.SenderId.TheVariants.{Firs
 use crate::ended::Ended;
 use crate::order::Order;
 use crate::taker::{Taker, Took};
-use std::alloc::AllocError;
 use std::sync::Wait;
-use store_snapshots::{Feed, FeedTurn, Given, Publisher};
+use store_snapshots::{Feed, FeedError, FeedTurn, Given, Publisher};
 
 /// The refreshes of two senders.
 #[derive(Drop)]
@@ -45,7 +44,9 @@ impl Feed for GatewayFeed {
 
     ghost is_over = { λ f. GatewayIsOver f.taker };
 
-    fn turn<R: Wait>(&mut self, rt: &R, publisher: &mut Publisher) -> Result<FeedTurn, AllocError> {
+    ghost faults = { λ f. 0 };
+
+    fn turn<R: Wait>(&mut self, rt: &R, publisher: &mut Publisher) -> Result<FeedTurn, FeedError> {
         // An end is no turn of its own. There are two at most.
         'taking: for _ in rt.forever() {
             if self.taker.is_ended() {
@@ -57,7 +58,7 @@ impl Feed for GatewayFeed {
                     return match publisher.publish_given(rt, refresh) {
                         Given::Published(note) => Ok(FeedTurn::Published(from, note)),
                         Given::Refused(cause) => Ok(FeedTurn::Refused(from, cause)),
-                        Given::OutOfMemory => Err(AllocError),
+                        Given::OutOfMemory => Err(FeedError::OutOfMemory),
                     };
                 }
                 Took::EndOf(_) => {}

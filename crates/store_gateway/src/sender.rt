@@ -1,5 +1,6 @@
 //! One of the two senders.
 ghost use Rattle.std.specs.Prelude.{◌≡◌, ◌<◌, ◌≤◌, ◌+◌, length};
+ghost use Rattle.store_refresh_entries.specs.Change.{MayBeStored};
 ghost use Rattle.store_gateway.specs.Queue.{pick};
 ghost use Rattle.store_gateway.specs.Answers.{HasEnded, SendsEnd, SendsRefresh};
 
@@ -49,6 +50,7 @@ impl Sender {
     /// Sends a refresh. A queue that has room for both quotas and both ends is never full.
     pub fn send<R: Wait>(&mut self, rt: &R, refresh: Refresh) -> Sent
         requires quota { length self.old.sent < pick self.old.id self.old.quotas }
+        requires storable { MayBeStored refresh }
         ensures sends { SendsRefresh self.old self.new refresh result }
         ensures room { self.old.quotas.0 + self.old.quotas.1 + 2 ≤ self.old.cap
             → result ≡ Sent.Sent }

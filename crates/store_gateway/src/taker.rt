@@ -3,7 +3,7 @@ ghost use Rattle.std.specs.Prelude.{◌≡◌, ◌<◌, ◌≤◌, ◌+◌, ◌�
 ghost use Rattle.std.specs.Prelude.{length, vec_len, IfOk, IsTrue, OnErr};
 ghost use Rattle.store_gateway.specs.Queue.{is_same_sender};
 ghost use Rattle.store_gateway.specs.Roles.{sent_by};
-ghost use Rattle.store_gateway.specs.Answers.{TakesMessage};
+ghost use Rattle.store_gateway.specs.Answers.{TakesMessage, TookStorable};
 ghost use Rattle.store_gateway.specs.declared.message.SenderId.{SenderId as SenderName};
 ghost use Rattle.store_gateway.specs.declared.message.SenderId.TheVariants.{First, Second};
 
@@ -79,6 +79,7 @@ impl Taker {
     /// Takes the oldest message. Where memory runs out nothing is taken.
     pub fn take<R: Wait>(&mut self, rt: &R) -> Result<Took, AllocError>
         ensures ok { IfOk result (TakesMessage self.old self.new) }
+        ensures storable { IfOk result TookStorable }
         ensures err { OnErr result (self.new ≡ self.old) }
         ensures few { length self.new.taken ≤ self.new.quotas.0 + self.new.quotas.1 }
     {

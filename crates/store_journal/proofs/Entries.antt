@@ -26,3 +26,8 @@ fits-push K (q ∷ ps) p fs f = (fs.0, fits-push K ps p fs.1 f)
 pub map-push : {T : Type 0} (f : T → List ℕ) (vs : List T) (v : T) → map f (vs ++ v ∷ []) ≡ map f vs ++ f v ∷ []
 map-push f [] v = refl
 map-push f (u ∷ vs) v = ap (λ (l : List (List ℕ)). f u ∷ l) (map-push f vs v)
+
+-- what holds of all values holds of these and one more
+pub all-push : {T : Type 0} (P : T → Type 0) (vs : List T) (v : T) → AllByRecursion P vs → P v → AllByRecursion P (vs ++ v ∷ [])
+all-push P [] v are is = (is, tt)
+all-push P (u ∷ vs) v are is = (are.0, all-push P vs v are.1 is)

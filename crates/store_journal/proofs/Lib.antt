@@ -3,5 +3,5 @@ mod Entries
 pub mod Moments
 mod Crash
 mod Steps
-mod Readings
+pub mod Readings
 mod Runs

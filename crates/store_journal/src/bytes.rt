@@ -18,7 +18,8 @@ fn read_on<D: Disk>(disk: &mut D, bytes: &mut Vec<u8>) -> Result<usize, JournalF
     requires reached { D.is_reached disk.old ≡ true }
     requires front { Tells (D.reads disk.old) (IsFront bytes.old.items) }
     ensures front { Tells (D.reads disk.old) (IsFront bytes.new.items) }
-    ensures more { IfOk result (λ n. vec_len bytes.new ≡ vec_len bytes.old + n) }
+    ensures more { IfOk result (λ n. (vec_len bytes.new ≡ vec_len bytes.old + n)
+        × (n ≤ 65_536)) }
     ensures end { IfOk result (λ n. n ≡ 0
         → Tells (D.reads disk.old) (λ file. length file ≤ length bytes.new.items)) }
     ensures only_reads { OnlyReads D.reads D.may_leave D.moment D.left_since D.faults
@@ -48,6 +49,7 @@ pub(crate) fn read_all<D: Disk>(
     requires size { Tells (D.reads disk.old) (λ file. size ≡ length file) }
     requires short { size ≤ 2 ^ 60 }
     ensures bytes { IfOk result (λ v. Tells (D.reads disk.old) (λ file. v.items ≡ file)) }
+    ensures few { IfOk result (λ v. length v.items ≤ size + 65_536) }
     ensures only_reads { OnlyReads D.reads D.may_leave D.moment D.left_since D.faults
         disk.old disk.new }
     ensures reached { D.is_reached disk.new ≡ true }

@@ -2,6 +2,7 @@
 ghost use Rattle.std.specs.Prelude.{◌≡◌, ◌↔◌, ◌<◌, ◌≤◌, ◌+◌, ◌^◌, ◌++◌, [], ◌∷◌, ℕ, List, true};
 ghost use Rattle.std.specs.Prelude.{false, not, map, if◌then◌else◌, is_some, length, Ok, IfOk};
 ghost use Rattle.std.specs.Prelude.{IfErr, OnErr, IsErrOf};
+ghost use Rattle.std.specs.List.{AllByRecursion};
 ghost use Rattle.base_io.specs.Outside.{Counts};
 ghost use Rattle.base_disk.specs.Disk.{LeavesOnly, Tells};
 ghost use Rattle.store_journal.specs.Format.{StandsFor, framed};
@@ -70,6 +71,8 @@ pub fn reopen<D: Disk, P: Payload>(
         × Stands P.is_payload (D.may_leave disk.new) (map P.spelling r.1.items) r.0.end) }
     ensures found { IfOk result (λ r. Tells (D.reads disk.old) (λ file.
         StandsFor P.is_payload file (map P.spelling r.1.items) × (length file ≤ 2 ^ 60))) }
+    ensures values { IfOk result (λ r. AllByRecursion P.is_value r.1.items) }
+    ensures short { IfOk result (λ r. r.0.end ≤ 2 ^ 61) }
     ensures refused { IfErr result (Refuses P.is_payload (D.reads disk.old)) }
     // A crash at any moment of the call leaves what it might have left before.
     ensures any_moment { LeavesOnly D.moment D.left_since disk.old disk.new (D.may_leave disk.old) }

@@ -14,10 +14,13 @@ pub trait Payload {
     /// These bytes spell some value that is read back.
     ghost is_payload: { List ℕ → Type 0 };
 
+    /// The value is one that is read back.
+    ghost is_value: { Self.Value → Type 0 };
+
     /// The value that the bytes spell, if they spell one.
     fn read(alloc: Global, bytes: &[u8]) -> Result<Option<Self::Value>, AllocError>
         ensures some { IfOk result (λ found. IfSome found (λ value. (spelling value ≡ bytes.now)
-            × is_payload bytes.now)) }
+            × is_payload bytes.now × is_value value)) }
         ensures none { IfOk result (λ found. IfNone found (is_payload bytes.now → ⊥)) };
 
     /// Spells the value behind the bytes so far.

@@ -1,5 +1,6 @@
 //! Reading the bytes of a journal.
-ghost use Rattle.std.specs.Prelude.{◌≡◌, ◌≢◌, ◌⊎◌, [], ◌∷◌, true, false, drop, ℕ, List};
+ghost use Rattle.std.specs.List.{AllByRecursion};
+ghost use Rattle.std.specs.Prelude.{◌≡◌, ◌≢◌, ◌≤◌, ◌⊎◌, [], ◌∷◌, true, false, drop, ℕ, List};
 ghost use Rattle.std.specs.Prelude.{◌++◌, length, map, IfOk, IfErr, IfSome, IfNone};
 ghost use Rattle.store_journal.specs.Format.{StandsFor, IsEntry, NoEntry, entries, framed};
 ghost use Rattle.store_journal.specs.Reading.{FailsAt};
@@ -31,7 +32,7 @@ fn next_entry<P: Payload>(
     bytes: &[u8],
 ) -> Result<Option<(P::Value, &[u8])>, AllocError>
     ensures some { IfOk result (λ found. IfSome found (λ r. IsEntry P.is_payload (P.spelling r.0)
-        × (bytes.now ≡ framed (P.spelling r.0) ++ r.1.now))) }
+        × (bytes.now ≡ framed (P.spelling r.0) ++ r.1.now) × P.is_value r.0)) }
     ensures none { IfOk result (λ found. IfNone found (NoEntry P.is_payload bytes.now)) }
 {
     let Some((payload, rest)) = next_frame(bytes) else {
@@ -50,6 +51,8 @@ pub(crate) fn read_entries<P: Payload>(
 ) -> Result<Found<P::Value>, ReadError>
     ensures found { IfOk result (λ f. StandsFor P.is_payload bytes.now
         (map P.spelling f.values.items)) }
+    ensures values { IfOk result (λ f. AllByRecursion P.is_value f.values.items) }
+    ensures within { IfOk result (λ f. f.end ≤ length bytes.now) }
     ensures end { IfOk result (λ f. f.end ≡ length (entries (map P.spelling f.values.items))) }
     ensures bad { IfErr result (FailsAt P.is_payload bytes.now) }
 {

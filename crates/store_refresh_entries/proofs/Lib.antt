@@ -1,2 +1,2 @@
-mod Readings
+pub mod Readings
 mod Sizes

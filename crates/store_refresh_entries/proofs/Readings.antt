@@ -152,3 +152,21 @@ pub ruleset readings = (no_frame, no_orders, no_lineitems, an_insert, no_keys, a
 -- what is written for one change is written for the same one
 pub spells : (change other : Change) (before after : List ℕ) → change ≡ other → after ≡ before ++ spelling_of change → after ≡ before ++ spelling_of other
 spells change other before after same is = is ∙ ap (λ (c : Change). before ++ spelling_of c) same
+
+-- refreshes that are read back from the same bytes are the same
+pub one_spelling : (a b : Change) → IsReadable a → IsReadable b → length (spelling_of a) < 2 ^ 64 → spelling_of a ≡ spelling_of b → a ≡ b
+one_spelling (InsertRows orders lines) (InsertRows others further) x y less e =
+    let behind = tails 1 1 (framed (rows_text orders) ++ rows_text lines) (framed (rows_text others) ++ rows_text further) e in
+    let one = short (framed (rows_text orders) ++ rows_text lines) (rows_text orders) (rows_text lines) (omega (arith, less)) refl in
+    let two = short (framed (rows_text orders) ++ rows_text lines) (rows_text others) (rows_text further) (omega (arith, less)) (sym behind) in
+    let texts = one_entry (rows_text orders) (rows_text others) (rows_text lines) (rows_text further) one two behind in
+    ap (λ (rows : List (List Value)). InsertRows rows lines) (same_rows file.Orders (rows_text orders) (rows_text others) orders others texts.0 x.0 y.0)
+    ∙ ap (λ (rows : List (List Value)). InsertRows others rows) (same_rows file.Lineitem (rows_text lines) (rows_text further) lines further texts.1 x.1 y.1)
+one_spelling (DeleteKeys keys) (DeleteKeys others) x y less e =
+    let same : x.0 ≡ y.0 = same_rows file.Delete (keys_text keys) (keys_text others) x.0 y.0 (tails 2 2 (keys_text keys) (keys_text others) e) x.1 y.1 in
+    ap DeleteKeys (sym x.2 ∙ ap order_keys same ∙ y.2)
+one_spelling (InsertRows orders lines) (DeleteKeys keys) x y less e = absurd (not_two (keys_text keys) _ (sym e))
+one_spelling (DeleteKeys keys) (InsertRows orders lines) x y less e = absurd (not_two (keys_text keys) _ e)
+one_spelling (MalformedFile f set refusal) b x y less e = absurd x
+one_spelling (InsertRows orders lines) (MalformedFile f set refusal) x y less e = absurd y
+one_spelling (DeleteKeys keys) (MalformedFile f set refusal) x y less e = absurd y

@@ -49,3 +49,7 @@ IsStorable (MalformedFile file set refusal) = Unit {0}
 -- a refresh of few bytes: those of files of at most 2^32 bytes are
 abbrev pub HasFewBytes : Change → Type 0
 HasFewBytes change = length (spelling_of change) < 2 ^ 43
+
+-- a refresh that may come to be stored, and has few bytes then
+abbrev pub MayBeStored : Change → Type 0
+MayBeStored change = IsStorable change × HasFewBytes change

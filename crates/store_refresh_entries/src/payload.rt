@@ -1,7 +1,7 @@
 //! Refreshes as the payloads of a journal.
 ghost use Rattle.std.specs.Prelude.{◌≡◌, ◌++◌, OnOk, IfOk, IfSome, IfNone};
 ghost use Rattle.store_state.specs.Refresh.{InsertRows};
-ghost use Rattle.store_refresh_entries.specs.Change.{IsSpelled, spelling_of};
+ghost use Rattle.store_refresh_entries.specs.Change.{IsReadable, IsSpelled, spelling_of};
 ghost use Rattle.store_refresh_text.specs.Text.{rows_text};
 
 use crate::reading::parsed;
@@ -60,6 +60,8 @@ impl Payload for RefreshPayload {
     ghost spelling = { spelling_of };
 
     ghost is_payload = { IsSpelled };
+
+    ghost is_value = { IsReadable };
 
     fn read(alloc: Global, bytes: &[u8]) -> Result<Option<Refresh>, AllocError> {
         let Some(refresh) = parsed(alloc, bytes)? else {

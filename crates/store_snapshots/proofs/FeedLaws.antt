@@ -31,7 +31,7 @@ list_more start count change less at =
     ∙ map-append (λ c. (None, c)) (take count rest) (change ∷ [])
 
 -- the next refresh of the list, and what was tried once it is
-next_tried : (start : Trials) (count : ℕ) (version : Trials) → ListFits start count version → version.done < length version.list
+pub next_tried : (start : Trials) (count : ℕ) (version : Trials) → ListFits start count version → version.done < length version.list
     → (change : Change) × (slice_get version.list version.done ≡ Some change) × (list_tried start (count + 1) ≡ list_tried start count ++ (None, change) ∷ [])
 next_tried start count version fits less =
     let next = next_change version.list version.done less in

@@ -1,5 +1,6 @@
 //! What hands a publisher its refreshes.
-ghost use Rattle.std.specs.Prelude.{◌≡◌, ℕ, List, Option, IfOk, OnErr, OnOk};
+ghost use Rattle.std.specs.Prelude.{◌≡◌, ℕ, List, Option, IfOk, IsErrOf, OnErr, OnOk};
+ghost use Rattle.base_io.specs.Outside.{Counts};
 ghost use Rattle.store_state.specs.Refresh.{Change};
 ghost use Rattle.store_versions.specs.Trials.{Trials};
 ghost use Rattle.store_snapshots.specs.Turns.{TakesTurn};
@@ -24,6 +25,25 @@ pub enum FeedTurn {
     Ended,
 }
 
+/// Why a turn of a feed had nothing tried.
+#[derive(Clone, Copy, Debug, PartialEq, Eq)]
+pub enum FeedError {
+    /// What keeps the accepted refreshes failed.
+    Failed,
+    /// Memory ran out.
+    OutOfMemory,
+}
+
+impl From<AllocError> for FeedError {
+    ghost use Rattle.store_snapshots.specs.declared.feed.FeedError.TheVariants.{OutOfMemory};
+
+    ghost from_gives = { λ _ e. e ≡ OutOfMemory };
+
+    fn from(_: AllocError) -> FeedError {
+        FeedError::OutOfMemory
+    }
+}
+
 /// A source of refreshes for a publisher.
 pub trait Feed {
     /// The refreshes that it tried, in this order, each with the number of its sender, if it has
@@ -39,15 +59,20 @@ pub trait Feed {
     /// Its source stands at its end, beside a publisher of this version.
     ghost is_over: { Self → Trials → Type 0 };
 
+    /// How often what keeps the accepted refreshes failed; 0 where nothing keeps them.
+    ghost faults: { Self → ℕ };
+
     /// Has the publisher try one refresh, if there is one. It doesn't wait for one to come: whoever
     /// calls it again after `Idle` yields before. After an error no turn is to be asked for: a
     /// refresh of the source may be lost.
-    fn turn<R: Wait>(&mut self, rt: &R, publisher: &mut Publisher) -> Result<FeedTurn, AllocError>
+    fn turn<R: Wait>(&mut self, rt: &R, publisher: &mut Publisher) -> Result<FeedTurn, FeedError>
         requires { fits self.old publisher.old.version }
         ensures turn { IfOk result (TakesTurn (tried self.old) (tried self.new) (is_over self.new)
             publisher.old publisher.new) }
         ensures fits { OnOk result (fits self.new publisher.new.version) }
         ensures source { source self.new ≡ source self.old }
         ensures refused { publisher.new.refused ≡ publisher.old.refused }
-        ensures err { OnErr result (publisher.new ≡ publisher.old) };
+        ensures err { OnErr result (publisher.new ≡ publisher.old) }
+        ensures failed { Counts (IsErrOf result FeedError.Failed)
+            (faults self.old) (faults self.new) };
 }

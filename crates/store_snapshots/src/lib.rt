@@ -18,7 +18,7 @@ mod snapshot;
 mod sure;
 
 pub use entry::{Entered, Entry};
-pub use feed::{Feed, FeedTurn};
+pub use feed::{Feed, FeedError, FeedTurn};
 pub use hall::{Another, Hall, seat};
 pub use list_feed::ListFeed;
 pub use note::Note;

@@ -2,7 +2,7 @@
 ghost use Rattle.std.specs.Prelude.{◌≡◌, [], IfOk};
 ghost use Rattle.store_snapshots.specs.Turns.{IsAllTried, ListFits, list_tried};
 
-use crate::feed::{Feed, FeedTurn};
+use crate::feed::{Feed, FeedError, FeedTurn};
 use crate::publisher::{Published, Publisher};
 use crate::snapshot::Snapshot;
 use std::alloc::AllocError;
@@ -35,7 +35,9 @@ impl Feed for ListFeed {
 
     ghost is_over = { λ f. IsAllTried };
 
-    fn turn<R: Wait>(&mut self, rt: &R, publisher: &mut Publisher) -> Result<FeedTurn, AllocError> {
+    ghost faults = { λ f. 0 };
+
+    fn turn<R: Wait>(&mut self, rt: &R, publisher: &mut Publisher) -> Result<FeedTurn, FeedError> {
         let _listed = publisher.listed();
         match publisher.publish_next(rt) {
             Published::Published(note) => {
@@ -47,7 +49,7 @@ impl Feed for ListFeed {
                 Ok(FeedTurn::Refused(None, cause))
             }
             Published::NoMore => Ok(FeedTurn::Ended),
-            Published::OutOfMemory => Err(AllocError),
+            Published::OutOfMemory => Err(FeedError::OutOfMemory),
         }
     }
 }

@@ -21,6 +21,8 @@ impl Payload for Plain {
 
     ghost is_payload = { λ _. ⊤ };
 
+    ghost is_value = { λ _. ⊤ };
+
     fn read(alloc: Global, bytes: &[u8]) -> Result<Option<Vec<u8>>, AllocError> {
         let bytes = bytes.to_vec(alloc)?;
         Ok(Some(bytes))

@@ -1,1 +1,2 @@
 mod GivenTwice
+mod Storable

@@ -1,5 +1,6 @@
 //! What two threads sent, tried by a publisher.
-ghost use Rattle.std.specs.Prelude.{◌≡◌, ◌+◌, ◌≤◌, true, length, OnOk};
+ghost use Rattle.std.specs.Prelude.{◌≡◌, ◌+◌, ◌≤◌, true, length, IfOk, OnOk};
+ghost use Rattle.store_refresh_entries.specs.Change.{MayBeStored};
 ghost use Rattle.store_gateway.specs.Feeds.{GatewayFits, gateway_name};
 
 use crate::one_place::{numbered, send_both};
@@ -10,7 +11,7 @@ use std::test::Fail;
 use std::thread;
 use std::thread::Threads;
 use store_gateway::{GatewayFeed, open_gateway};
-use store_snapshots::{Feed, FeedTurn, Publisher, open};
+use store_snapshots::{Feed, FeedError, FeedTurn, Publisher, open};
 use store_state::{Refresh, State};
 
 /// Eight tables without rows.
@@ -33,7 +34,7 @@ fn take_turns<R: Wait>(
     rt: &R,
     feed: &mut GatewayFeed,
     publisher: &mut Publisher,
-) -> Result<(u32, u32), AllocError>
+) -> Result<(u32, u32), FeedError>
     requires { GatewayFits feed.old.taker publisher.old.version }
     ensures ended { OnOk result (feed.new.taker.ended ≡ (true, true)) }
     ensures source { gateway_name feed.new.taker.gateway ≡ gateway_name feed.old.taker.gateway }
@@ -51,6 +52,14 @@ fn take_turns<R: Wait>(
     unreachable!()
 }
 
+/// A delete of no order.
+#[tactic(auto, using(crate::proofs::Storable::none_stored))]
+fn nothing(alloc: Global) -> Result<Refresh, AllocError>
+    ensures { IfOk result MayBeStored }
+{
+    Refresh::delete(alloc, Vec::new(alloc))
+}
+
 /// Two refreshes of one sender, of which the second is refused, and one of the other.
 fn feed_three<R: Threads + Wait + Sync>(
     rt: &R,
@@ -60,12 +69,14 @@ fn feed_three<R: Threads + Wait + Sync>(
     requires done { publisher.old.version.done ≡ length publisher.old.version.list }
     requires room { length publisher.old.version.list + 3 ≤ publisher.old.version.most }
 {
-    let ones = vec![in alloc; Refresh::delete(alloc, Vec::new(alloc))?, numbered(1)]?;
-    let twos = vec![in alloc; Refresh::delete(alloc, Vec::new(alloc))?]?;
+    let ones = vec![in alloc; nothing(alloc)?, numbered(1)]?;
+    let twos = vec![in alloc; nothing(alloc)?]?;
     let (first, second, taker) = open_gateway(alloc, 5, 2, 1)?;
     let (first, second) = send_both(rt, first, second, ones, twos);
     let mut feed = GatewayFeed { taker };
-    let (accepted, refused) = take_turns(rt, &mut feed, publisher)?;
+    let Ok((accepted, refused)) = take_turns(rt, &mut feed, publisher) else {
+        return Err("a turn had nothing tried".into());
+    };
     let order = feed.close(first, second);
     Ok(accepted == 2 && refused == 1 && order.senders().len() == 3)
 }

@@ -1,6 +1,8 @@
 //! Two threads that send through a queue of one place, and one that takes.
 ghost use Rattle.std.specs.Prelude.{◌≡◌, ◌≤◌, ◌+◌, ◌++◌, true, [], length};
+ghost use Rattle.std.specs.List.{AllByRecursion};
 ghost use denote.Param.Send.{IsSync};
+ghost use Rattle.store_refresh_entries.specs.Change.{MayBeStored};
 ghost use Rattle.store_gateway.specs.Queue.{pick};
 ghost use Rattle.store_gateway.specs.Roles.{new_sender, sent_by};
 ghost use Rattle.store_gateway.specs.declared.message.SenderId.TheVariants.{First, Second};
@@ -68,6 +70,8 @@ fn order_of<R: Threads + Wait + Sync>(
     requires senders { (first ≡ new_sender First taker) × (second ≡ new_sender Second taker) }
     requires ones { length ones.items ≤ taker.quotas.0 }
     requires twos { length twos.items ≤ taker.quotas.1 }
+    requires storable { AllByRecursion MayBeStored ones.items
+        × AllByRecursion MayBeStored twos.items }
     ensures first { sent_by First result ≡ ones.items }
     ensures second { sent_by Second result ≡ twos.items }
 {
@@ -86,7 +90,10 @@ fn order_of<R: Threads + Wait + Sync>(
 }
 
 /// A refresh with this number, which does nothing.
-pub(crate) fn numbered(set: u32) -> Refresh {
+#[tactic(auto, using(crate::proofs::Storable::malformed_stored))]
+pub(crate) fn numbered(set: u32) -> Refresh
+    ensures { MayBeStored result }
+{
     let refusal = LineRefusal {
         line: 1,
         fault: LineFault::FieldCount,

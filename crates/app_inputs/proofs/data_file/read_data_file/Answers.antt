@@ -4,7 +4,7 @@ use Rattle.std.specs.Io.KnownBytes.{Consumes}
 use Rattle.store_file_reader.specs.File.{most_bytes}
 use Rattle.store_file_reader.specs.Reading.{bytes_fed}
 use Rattle.app_inputs.specs.DataFile.{FitForm, reading_of}
-use Rattle.app_inputs.proofs.DataFile.{ended_file, failed_fits, fewer_left, none_read, read_further, refused_file}
+use Rattle.app_inputs.proofs.DataFile.{ended_file, failed_fits, failed_given, fewer_left, given_by, none_read, read_further, refused_file}
 use Rattle.app_inputs.proofs.data_file.read_data_file.Goals as goal
 
 pub pieces-init : goal.pieces-init
@@ -23,6 +23,14 @@ returns-then-count-eq0-clause-rows g c =
 
 pub returns-then-count-eq0-clause-fits : goal.returns-then-count-eq0-clause-fits
 returns-then-count-eq0-clause-fits g c = subst (λ f. IfOk c.finish.result (FitForm f)) c.pieces.invariant.3 c.finish.ensures.fits
+
+pub returns-then-count-eq0-clause-given : goal.returns-then-count-eq0-clause-given
+returns-then-count-eq0-clause-given g c =
+    let i = c.pieces.invariant in
+    given_by (reading_of c.args.reader).lines.form (reading_of c.pieces.reader).lines.form (reading_of c.pieces.reader).lines.limit i.0 c.finish.result i.3 i.4 (c.finish.ensures.rows i.0 i.2)
+
+pub returns-in-Err-clause-given : goal.returns-in-Err-clause-given
+returns-in-Err-clause-given g c = failed_given (reading_of c.args.reader).lines.form c.in-Err.error c.first_bad_line.result c.first_bad_line.ensures.failed
 
 pub returns-in-Err-clause-rows : goal.returns-in-Err-clause-rows
 returns-in-Err-clause-rows g c =

@@ -1,8 +1,10 @@
 use Rattle.std.proofs.Common.{◌≡◌, ◌∙◌, ◌+◌, List, Option, drop, le_trans, subst, sym}
 use Rattle.store_state.specs.Refresh.{Change}
-use Rattle.app_inputs.proofs.Changes.{changes_behind, changes_counted, changes_more}
+use Rattle.app_inputs.proofs.Changes.{all_push, changes_behind, changes_counted, changes_more}
 use Rattle.base_io.specs.Outside.{Folder}
+use Rattle.std.specs.List.{AllByRecursion}
 use Rattle.app_inputs.specs.Inputs.{changes_in}
+use Rattle.store_refresh_entries.specs.Change.{MayBeStored}
 use Rattle.app_inputs.specs.KnownFiles.{AreKnown}
 use Rattle.app_inputs.specs.Views.{IfKnown}
 use Rattle.app_inputs.proofs.refreshes.read_refreshes.Goals as goal
@@ -21,5 +23,6 @@ loop-mention-preserved g c =
       c.read_refresh.ensures.files.held ∙ invariant.2,
       le_trans invariant.3 c.read_refresh.ensures.files.faults,
       le_trans invariant.4 c.read_refresh.ensures.files.misses,
+      subst (λ (list : List Change). AllByRecursion MayBeStored list) (sym c.in_ok-push.ensures.items) (all_push MayBeStored before change invariant.5 c.in_ok-refresh.ensures.storable),
       subst (λ (h : Option Folder). AreKnown c.args.folder.now h c.read_refresh.new.known.items) (sym c.read_refresh.ensures.files.held) c.in_ok-refresh.ensures.known,
     )

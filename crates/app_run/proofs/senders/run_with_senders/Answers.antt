@@ -11,8 +11,26 @@ use Rattle.app_run.specs.JobMeaning.{IsTextInOrder}
 use Rattle.app_run.specs.JobViews.{work_view}
 use Rattle.app_run.specs.Senders.{IsSentText}
 use Rattle.app_run.proofs.Orders.{sent_text}
-use Rattle.app_run.proofs.Taken.{given_counted}
+use Rattle.app_run.proofs.Taken.{given_counted, sender_stored}
 use Rattle.app_run.proofs.senders.run_with_senders.Goals as goal
+
+pub run_joined-requires-clause-senders : goal.run_joined-requires-clause-senders
+run_joined-requires-clause-senders g c κs within =
+    let s = c.args.sources in
+    let stored = λ (id : SenderId) (mine : List Change) (is : mine ≡ sent_by id (zip c.as_slice.result.now c.in_ok-sent.sent.items)).
+    sender_stored id c.as_slice.result.now s.list.items c.in_ok-sent.sent.items mine s.before c.requires.keepable c.in_ok-sent.ensures.tail is in
+    record {
+      first = record {
+        fresh = ap (λ (x : Sending). x.sent) c.in_ok-first.ensures.first;
+        quota = search rules;
+        storable = stored First c.in_ok-firsts.firsts.items c.in_ok-firsts.ensures.first;
+      };
+      second = record {
+        fresh = ap (λ (x : Sending). x.sent) c.in_ok-first.ensures.second;
+        quota = search rules;
+        storable = stored Second c.in_ok-firsts.seconds.items c.in_ok-firsts.ensures.second;
+      };
+    }
 
 pub run_joined-requires-clause-receiver : goal.run_joined-requires-clause-receiver
 run_joined-requires-clause-receiver g c κs within =

@@ -23,7 +23,7 @@ fork-requires-clause-room g c κs within =
     told_few b.start c.args.publisher.now (b.first ++ g.F.Feed.tried c.args.feed.now) c.args.run.report b.tries b.told
 
 pub returns-then-listed-most-clause-ended : goal.returns-then-listed-most-clause-ended
-returns-then-listed-most-clause-ended g c = λ b other.
+returns-then-listed-most-clause-ended g c = λ b memory failed.
     let f = c.in_ok-fork.ensures in
     ends_feed (g.F.Feed.fits c.fork.new.feed) (g.F.Feed.is_over c.fork.new.feed) b.start c.fork.new.publisher (b.first ++ g.F.Feed.tried c.fork.new.feed)
     (f.tried b.start b.first b.tries) f.done f.fits f.over
@@ -119,7 +119,7 @@ returns-clause-many g c = λ b.
     omega (arith, size, named, before, after, l.listed, l.most, least)
 
 pub returns-clause-ended : goal.returns-clause-ended
-returns-clause-ended g c = λ b other.
+returns-clause-ended g c = λ b memory failed.
     let f = c.in_ok-fork.ensures in
     ends_feed (g.F.Feed.fits c.fork.new.feed) (g.F.Feed.is_over c.fork.new.feed) b.start c.fork.new.publisher (b.first ++ g.F.Feed.tried c.fork.new.feed)
     (f.tried b.start b.first b.tries) f.done f.fits f.over

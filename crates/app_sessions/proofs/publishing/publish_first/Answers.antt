@@ -6,6 +6,8 @@ use Rattle.app_sessions.proofs.publishing.publish_first.Goals as goal
 pub publishing-preserved : goal.publishing-preserved
 publishing-preserved g c =
     let i = c.publishing.invariant in
+    let faults = c.publish_one.ensures.failed.later in
+    let risen = i.faults in
     let start = c.args.publisher.now.version in
     let tried = g.F.Feed.tried c.publishing.feed in
     let more = g.F.Feed.tried c.publish_one.new.feed in
@@ -31,4 +33,6 @@ publishing-preserved g c =
       done = omega (arith, done, was);
       count = omega (arith, count, told);
       list = list_kept p.change old.version p.trials new.version p.next p.version left ∙ i.list;
+      source = c.publish_one.ensures.source ∙ i.source;
+      faults = omega (arith, faults, risen);
     }

@@ -1,4 +1,4 @@
-use Rattle.std.proofs.Common.{◌≡◌, ◌+◌, [], ◌++◌}
+use Rattle.std.proofs.Common.{◌≡◌, ◌≤◌, ◌+◌, [], ◌++◌}
 use Rattle.app_sessions.specs.Reports.{HasTried, IsTold}
 use Rattle.app_sessions.proofs.publishing.publish_first.Given as goal
 
@@ -11,4 +11,6 @@ invariant-publishing g l =
       done : l.publisher.version.done ≡ l.fn.publisher.version.done + l._k;
       count : l.report.count ≡ l._k;
       list : l.publisher.version.list ≡ l.fn.publisher.version.list;
+      source : g.F.Feed.source l.feed ≡ g.F.Feed.source l.fn.feed;
+      faults : g.F.Feed.faults l.fn.feed ≤ g.F.Feed.faults l.feed;
     }

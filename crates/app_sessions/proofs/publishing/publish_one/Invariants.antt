@@ -1,4 +1,4 @@
-use Rattle.std.proofs.Common.{◌≡◌}
+use Rattle.std.proofs.Common.{◌≡◌, ◌≤◌}
 use Rattle.app_sessions.proofs.publishing.publish_one.Given as goal
 
 abbrev pub invariant-waiting : goal.invariant-waiting
@@ -9,4 +9,5 @@ invariant-waiting g l =
       tried : g.F.Feed.tried l.feed ≡ g.F.Feed.tried l.fn.feed;
       fits : g.F.Feed.fits l.feed l.publisher.version;
       source : g.F.Feed.source l.feed ≡ g.F.Feed.source l.fn.feed;
+      faults : g.F.Feed.faults l.fn.feed ≤ g.F.Feed.faults l.feed;
     }

@@ -6,6 +6,8 @@ use Rattle.app_sessions.proofs.publishing.publish_rest.Goals as goal
 pub publishing-preserved : goal.publishing-preserved
 publishing-preserved g c =
     let i = c.publishing.invariant in
+    let faults = c.publish_one.ensures.failed.later in
+    let risen = i.faults in
     let tried = g.F.Feed.tried c.publishing.feed in
     let more = g.F.Feed.tried c.publish_one.new.feed in
     let old = c.publishing.publisher in
@@ -24,4 +26,5 @@ publishing-preserved g c =
       room = omega (arith, done, count, room);
       tried = λ start first h. tried_more start first tried more old new before after (i.tried start first h) p;
       told = λ start first h t. told_more start first tried more old new before after (i.tried start first h) p (i.told start first h t);
+      faults = omega (arith, faults, risen);
     }

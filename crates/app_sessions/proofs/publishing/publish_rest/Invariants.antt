@@ -15,4 +15,5 @@ invariant-publishing g l =
       told : (start : Trials) (first : RefreshOrder) → HasTried start l.fn.publisher (first ++ g.F.Feed.tried l.fn.feed)
           → IsTold start (first ++ g.F.Feed.tried l.fn.feed) l.fn.report
           → IsTold start (first ++ g.F.Feed.tried l.feed) l.report;
+      faults : g.F.Feed.faults l.fn.feed ≤ g.F.Feed.faults l.feed;
     }

@@ -13,7 +13,7 @@ use Rattle.store_gateway.proofs.sender.Sender.send.Goals as goal
 use Rattle.store_gateway.proofs.sender.Sender.send.Goals.{in-Ok, in-Err-Refresh}
 
 pub push_as-requires-clause-rule : goal.push_as-requires-clause-rule
-push_as-requires-clause-rule g c = (may-send _ _ c.self.inside.id c.args.refresh (view c.self.inside.pass) (sending c.self.inside).quotas (sending c.self.inside).sent c.self.invariant.view_is (subst (λ (s : Sending). length s.sent < pick s.id s.quotas) (sym c.self.view_is) c.requires.quota), learns _ _)
+push_as-requires-clause-rule g c = (may-send _ _ c.self.inside.id c.args.refresh (view c.self.inside.pass) (sending c.self.inside).quotas (sending c.self.inside).sent c.self.invariant.view_is (subst (λ (s : Sending). length s.sent < pick s.id s.quotas) (sym c.self.view_is) c.requires.quota) c.requires.storable, learns _ _)
 
 pub invariant_of-self : goal.invariant_of-self
 invariant_of-self g c =

@@ -1,7 +1,7 @@
 use Rattle.std.proofs.Common.{◌≡◌, ◌∙◌, ap, arith, false}
 use Rattle.store_journal.specs.declared.journal.Journal.{Journal}
 use Rattle.store_durability.proofs.Feeding.{next_room, next_storable, one_left, turned_accepts, turned_fits}
-use Rattle.store_durability.proofs.feed.StoredFeed.try_next.Goals as goal
+use Rattle.store_durability.proofs.feed.StoredFeed.try_listed.Goals as goal
 
 pub publish_stored-requires-clause-storable : goal.publish_stored-requires-clause-storable
 publish_stored-requires-clause-storable g c =
