@@ -10,6 +10,12 @@ mod OneText
 mod Orders
 mod Taken
 mod JobScripts
+mod KeptAlike
+mod KeptFed
+mod KeptRun
+mod KeptWhole
+mod KeptSent
+mod Reached
 mod JobAlike
 mod JobPlayed
 mod JobReading
