@@ -34,7 +34,7 @@ told_image (Some file) may_leave P image each = each file (image file refl)
 
 -- the journal of a list whose first refreshes it keeps
 module _ (base : State) (kept list : List Change) (most : ℕ) where
-  version : Trials
+  abbrev version : Trials
   version = trials_at base (kept ++ list) (length kept) most
 
   front : take (length kept) (kept ++ list) ≡ kept

@@ -3,10 +3,11 @@ use Rattle.std.specs.Prelude.{◌≡◌, ◌+◌, ◌<◌, ◌^◌, ⊤, ℕ, Bo
 use Rattle.std.specs.Prelude.{Option, None, Some}
 use Rattle.base_schema.specs.State.{State}
 use Rattle.store_durability.specs.Gateway.{BothFit}
-use Rattle.store_gateway.specs.Roles.{Taking, sent_by}
+use Rattle.store_gateway.specs.Roles.{Sending, Taking, sent_by}
 use Rattle.store_gateway.specs.declared.message.SenderId.{SenderId}
 use Rattle.store_gateway.specs.declared.message.SenderId.TheVariants.{First, Second}
 use Rattle.store_journal.specs.Format.{StandsFor}
+use Rattle.store_journal.specs.declared.journal.Journal.{Journal}
 use Rattle.store_refresh_entries.specs.Change.{IsSpelled, spelling_of}
 use Rattle.store_snapshots.specs.Ruled.{opening_of}
 use Rattle.store_state.specs.Refresh.{Change}
@@ -16,28 +17,36 @@ use Rattle.app_sessions.specs.Asked.{AllUnasked, job_sessions}
 use Rattle.app_sessions.specs.Jobs.{IsOrderText, JobAnswer, JobSession}
 use Rattle.app_sessions.specs.Orders.{changes_of}
 use Rattle.app_sessions.specs.Workers.{AreOfOpening}
-use Rattle.app_run.specs.Receivers.{MaySendBoth}
+use Rattle.app_sessions.specs.declared.job.JobSetup.{JobSetup}
+use Rattle.app_run.specs.Receivers.{BothEnd, MaySendBoth}
 use Rattle.app_run.specs.Senders.{order_sent}
 use Rattle.app_run.specs.declared.kept.OpenJob.{OpenJob}
 use Rattle.app_run.specs.declared.kept.Played.{Played}
 use Rattle.app_run.specs.declared.kept.Played.TheVariants as played
 use Rattle.app_run.specs.declared.kept_senders.SentJob.{SentJob}
+use Rattle.app_run.specs.declared.senders.Senders.{Senders}
 
--- an open job that can be played over its disk beside what a taker takes: it tries its whole list
--- before the sessions, and has so many refreshes in the end
+-- it is there, and has this property
+abbrev pub Waits : {A : Type 0} → Option A → (A → Type 0) → Type 0
+Waits None P = ⊥
+Waits (Some x) P = P x
+
+-- a job that can be played over its disk beside a publisher and what a taker takes: it tries its whole
+-- list before the sessions, and has so many refreshes in the end
 pub record CanReceiveOver {D : Type 0} (is_reached : D → Bool) (may_leave : D → List ℕ → Type 0)
-    (job : OpenJob) (taker : Taking) (most : ℕ) (disk : D) : Type 0 where
-  pub some : 0 < vec_len job.sessions
-  pub few : vec_len job.sessions < 2 ^ 32
-  pub unasked : AllUnasked job.sessions.items
-  pub readers : 0 < vec_len job.readers
-  pub opened : AreOfOpening opening_of job.publisher.version job.readers.items
-  pub shown : job.publisher.shown ≡ job.publisher.version
-  pub most_is : most ≡ job.publisher.version.most
-  pub all : job.publisher.version.done + job.before ≡ length job.publisher.version.list
-  pub start : job.start ≡ job.publisher.version
+    (version shown : Trials) (journal : Journal) (disk : D) (start : Trials) (count : ℕ)
+    (taker : Taking) (setup : JobSetup) : Type 0 where
+  pub some : 0 < vec_len setup.sessions
+  pub few : vec_len setup.sessions < 2 ^ 32
+  pub unasked : AllUnasked setup.sessions.items
+  pub readers : 0 < vec_len setup.readers
+  pub opened : AreOfOpening opening_of version setup.readers.items
+  pub shown_is : shown ≡ version
+  pub most : setup.most ≡ version.most
+  pub all : version.done + setup.before ≡ length version.list
+  pub fits : BothFit is_reached may_leave journal disk start count taker version
+  pub begins : (start ≡ version) × (count ≡ 0)
   pub fresh : taker.taken ≡ []
-  pub fits : BothFit is_reached may_leave job.journal disk job.start 0 taker job.publisher.version
 
 -- each image that a crash may leave of a disk holds the accepted ones of a list, and then of what was
 -- taken
@@ -58,10 +67,33 @@ IsReceivedOver may_leave version before sessions disk taker (Some (played.Text j
 IsReceivedOver may_leave version before sessions disk taker (Some (played.Refused why)) = ⊥
 IsReceivedOver may_leave version before sessions disk taker (Some played.DiskFault) = ⊤
 
+-- the same of sessions that waited
+abbrev pub HasReceivedOver : {D : Type 0} → (D → List ℕ → Type 0) → Trials → Option JobSetup → D
+    → Taking → Option Played → Type 0
+HasReceivedOver may_leave version None disk taker result = ⊥
+HasReceivedOver may_leave version (Some setup) disk taker result = IsReceivedOver may_leave version
+    setup.before (job_sessions setup.sessions.items) disk taker result
+
+-- the senders that waited have ended
+abbrev pub HaveEnded : Option Senders → Option (Sending × Sending) → Type 0
+HaveEnded None ended = ⊥
+HaveEnded (Some senders) None = ⊥
+HaveEnded (Some senders) (Some ended) = BothEnd senders ended
+
+-- the sessions of an open job
+abbrev pub setup_of : SentJob → JobSetup
+setup_of job = record {
+  sessions = job.opened.sessions;
+  readers = job.opened.readers;
+  before = job.opened.before;
+  most = job.most;
+}
+
 -- an open job with its senders, which are the taker's and send all that its list has not
 pub record CanPlaySent {D : Type 0} (is_reached : D → Bool) (may_leave : D → List ℕ → Type 0)
     (job : SentJob) (disk : D) : Type 0 where
-  pub receives : CanReceiveOver is_reached may_leave job.opened job.taker job.most disk
+  pub receives : CanReceiveOver is_reached may_leave job.opened.publisher.version
+      job.opened.publisher.shown job.opened.journal disk job.opened.start 0 job.taker (setup_of job)
   pub senders : MaySendBoth job.senders
   pub gateways : (job.senders.first.gateway ≡ job.taker.gateway)
       × (job.senders.second.gateway ≡ job.taker.gateway)

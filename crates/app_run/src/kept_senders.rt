@@ -1,20 +1,17 @@
 //! A job of which two senders send refreshes, and which keeps the accepted ones in a journal.
-ghost use Rattle.std.specs.Prelude.{◌≡◌, ◌+◌, ◌<◌, ◌≤◌, ◌^◌, [], IfOk, false, length, map, true, vec_len};
+ghost use Rattle.std.specs.Prelude.{◌≡◌, ◌<◌, ◌≤◌, ◌^◌, IfOk, Some, false, length, map, true};
 ghost use denote.Param.Send.{IsSync};
 ghost use Rattle.base_io.specs.Outside.{Rose};
-ghost use Rattle.store_durability.specs.Gateway.{BothFit};
 ghost use Rattle.store_gateway.specs.Feeds.{gateway_name};
 ghost use Rattle.store_journal.specs.Journal.{Stands};
 ghost use Rattle.store_refresh_entries.specs.Change.{IsSpelled, spelling_of};
-ghost use Rattle.store_snapshots.specs.Ruled.{opening_of};
-ghost use Rattle.app_sessions.specs.Asked.{AllUnasked, job_sessions};
-ghost use Rattle.app_sessions.specs.Workers.{AreOfOpening};
+ghost use Rattle.app_sessions.specs.Asked.{job_sessions};
 ghost use Rattle.app_run.specs.JobViews.{IsKeepable, IsRunnable, work_view};
 ghost use Rattle.app_run.specs.Opened.{PlaysKept};
-ghost use Rattle.app_run.specs.OpenedSent.{CanPlaySent, CanReceiveOver, IsReceiveFault};
-ghost use Rattle.app_run.specs.OpenedSent.{IsReceivedOver, PlaysSent};
+ghost use Rattle.app_run.specs.OpenedSent.{CanPlaySent, CanReceiveOver, HasReceivedOver, HaveEnded};
+ghost use Rattle.app_run.specs.OpenedSent.{IsReceiveFault, IsReceivedOver, PlaysSent, Waits};
 ghost use Rattle.app_run.specs.Reaching.{IsPlayFault};
-ghost use Rattle.app_run.specs.Receivers.{BothEnd, MaySendBoth};
+ghost use Rattle.app_run.specs.Receivers.{MaySendBoth};
 
 use crate::job_sources::JobSources;
 use crate::kept::{OpenJob, Played, open_job};
@@ -25,9 +22,9 @@ use base_io::Gate;
 use core::mem::replace_with;
 use std::alloc::{AllocError, Global};
 use std::sync::Wait;
-use std::thread::{Threads, join};
+use std::thread::{Threads, join_mut};
 use store_durability::StoredGateway;
-use store_gateway::{Taker, open_gateway};
+use store_gateway::{Ended, Taker, open_gateway};
 use store_journal::Journal;
 use store_snapshots::Publisher;
 use store_state::Refresh;
@@ -54,18 +51,8 @@ fn play_received<R: Threads + Wait + Sync, D: Disk + Send, G: Gate + Sync>(
     publisher: &mut Publisher,
     feed: &mut StoredGateway<D>,
 ) -> Result<Option<Played>, AllocError>
-    requires sessions { (0 < vec_len setup.sessions) × (vec_len setup.sessions < 2 ^ 32) }
-    requires unasked { AllUnasked setup.sessions.items }
-    requires readers { 0 < vec_len setup.readers }
-    requires opened { AreOfOpening opening_of publisher.old.version setup.readers.items }
-    requires shown { publisher.old.shown ≡ publisher.old.version }
-    requires most { setup.most ≡ publisher.old.version.most }
-    requires all { publisher.old.version.done + setup.before
-        ≡ length publisher.old.version.list }
-    requires fits { BothFit D.is_reached D.may_leave feed.old.journal feed.old.disk
-        feed.old.start feed.old.count feed.old.taker publisher.old.version }
-    requires start { (feed.old.start ≡ publisher.old.version) × (feed.old.count ≡ 0) }
-    requires fresh { feed.old.taker.taken ≡ [] }
+    requires { CanReceiveOver D.is_reached D.may_leave publisher.old.version publisher.old.shown
+        feed.old.journal feed.old.disk feed.old.start feed.old.count feed.old.taker setup }
     ensures received { IfOk result (IsReceivedOver D.may_leave publisher.old.version setup.before
         (job_sessions setup.sessions.items) feed.new.disk feed.new.taker) }
     ensures gateway { gateway_name feed.new.taker.gateway
@@ -82,24 +69,119 @@ fn play_received<R: Threads + Wait + Sync, D: Disk + Send, G: Gate + Sync>(
     }
 }
 
-/// Runs the sessions of an open job beside the publisher of its list and of what is taken, and gives
-/// the disk and the taker back.
-fn play_receiver<R: Threads + Wait + Sync, D: Disk + Send, G: Gate + Sync>(
+/// `play_received` with sessions that wait for it.
+fn play_waiting<R: Threads + Wait + Sync, D: Disk + Send, G: Gate + Sync>(
+    rt: &R,
+    alloc: Global,
+    gate: &G,
+    waiting: &mut Option<JobSetup>,
+    publisher: &mut Publisher,
+    feed: &mut StoredGateway<D>,
+) -> Result<Option<Played>, AllocError>
+    requires { Waits waiting.old (CanReceiveOver D.is_reached D.may_leave publisher.old.version
+        publisher.old.shown feed.old.journal feed.old.disk feed.old.start feed.old.count
+        feed.old.taker) }
+    ensures received { IfOk result (HasReceivedOver D.may_leave publisher.old.version waiting.old
+        feed.new.disk feed.new.taker) }
+    ensures gateway { gateway_name feed.new.taker.gateway
+        ≡ gateway_name feed.old.taker.gateway }
+    ensures failed { IfOk result (λ played. IsReceiveFault played
+        → Rose (D.faults feed.old.disk) (D.faults feed.new.disk)) }
+    ensures later { D.faults feed.old.disk ≤ D.faults feed.new.disk }
+{
+    match waiting.take() {
+        Some(setup) => play_received(rt, alloc, gate, setup, publisher, feed),
+        None => unreachable!(),
+    }
+}
+
+/// `send_both` with senders that wait for it.
+fn send_waiting<R: Threads + Wait + Sync>(
+    rt: &R,
+    waiting: &mut Option<Senders>,
+) -> Option<(Ended, Ended)>
+    requires { Waits waiting.old MaySendBoth }
+    ensures { HaveEnded waiting.old result }
+{
+    match waiting.take() {
+        Some(senders) => Some(send_both(rt, senders)),
+        None => unreachable!(),
+    }
+}
+
+/// Runs senders in threads of their own, and the sessions beside the publisher, which stays open.
+fn play_joined<R: Threads + Wait + Sync, D: Disk + Send, G: Gate + Sync>(
+    rt: &R,
+    alloc: Global,
+    gate: &G,
+    senders: &mut Option<Senders>,
+    setup: &mut Option<JobSetup>,
+    publisher: &mut Publisher,
+    feed: &mut StoredGateway<D>,
+) -> (Option<(Ended, Ended)>, Result<Option<Played>, AllocError>)
+    requires senders { Waits senders.old MaySendBoth }
+    requires setup { Waits setup.old (CanReceiveOver D.is_reached D.may_leave
+        publisher.old.version publisher.old.shown feed.old.journal feed.old.disk feed.old.start
+        feed.old.count feed.old.taker) }
+    ensures ended { HaveEnded senders.old result.0 }
+    ensures received { IfOk result.1 (HasReceivedOver D.may_leave publisher.old.version setup.old
+        feed.new.disk feed.new.taker) }
+    ensures gateway { gateway_name feed.new.taker.gateway
+        ≡ gateway_name feed.old.taker.gateway }
+    ensures failed { IfOk result.1 (λ played. IsReceiveFault played
+        → Rose (D.faults feed.old.disk) (D.faults feed.new.disk)) }
+    ensures later { D.faults feed.old.disk ≤ D.faults feed.new.disk }
+{
+    let mut front = || -> Option<(Ended, Ended)>
+        requires { IsSync R.row × Waits senders.now MaySendBoth }
+        ensures { HaveEnded senders.entry.now result }
+    { send_waiting(rt, senders) };
+    let mut back = || -> Result<Option<Played>, AllocError>
+        requires { IsSync R.row × IsSync G.row × Waits setup.now (CanReceiveOver D.is_reached
+            D.may_leave publisher.now.version publisher.now.shown feed.now.journal feed.now.disk
+            feed.now.start feed.now.count feed.now.taker) }
+        ensures received { IfOk result (HasReceivedOver D.may_leave publisher.entry.now.version
+            setup.entry.now feed.exit.now.disk feed.exit.now.taker) }
+        ensures gateway { gateway_name feed.exit.now.taker.gateway
+            ≡ gateway_name feed.entry.now.taker.gateway }
+        ensures failed { IfOk result (λ played. IsReceiveFault played
+            → Rose (D.faults feed.entry.now.disk) (D.faults feed.exit.now.disk)) }
+        ensures later { D.faults feed.entry.now.disk ≤ D.faults feed.exit.now.disk }
+    { play_waiting(rt, alloc, gate, setup, publisher, feed) };
+    join_mut(rt, &mut front, &mut back)
+}
+
+/// What comes of an open job beside its senders: its disk, what took the refreshes that they sent,
+/// their ends, and what was played.
+type SentOutcome<D> = (
+    D,
+    Taker,
+    Option<(Ended, Ended)>,
+    Result<Option<Played>, AllocError>,
+);
+
+/// Runs an open job beside its senders over its disk.
+fn play_beside_senders<R: Threads + Wait + Sync, D: Disk + Send, G: Gate + Sync>(
     rt: &R,
     gate: &G,
     disk: D,
-    opened: OpenJob,
-    taker: Taker,
-    most: usize,
-) -> (D, Taker, Result<Option<Played>, AllocError>)
-    requires { CanReceiveOver D.is_reached D.may_leave opened taker most disk }
-    ensures received { IfOk result.2 (IsReceivedOver D.may_leave opened.publisher.version opened.before
-        (job_sessions opened.sessions.items) result.0 result.1) }
-    ensures gateway { gateway_name result.1.gateway ≡ gateway_name taker.gateway }
-    ensures failed { IfOk result.2 (λ played. IsReceiveFault played
+    job: SentJob,
+) -> SentOutcome<D>
+    requires { CanPlaySent D.is_reached D.may_leave job disk }
+    ensures ended { HaveEnded (Some job.senders) result.2 }
+    ensures received { IfOk result.3 (IsReceivedOver D.may_leave job.opened.publisher.version
+        job.opened.before (job_sessions job.opened.sessions.items) result.0 result.1) }
+    ensures gateway { gateway_name result.1.gateway ≡ gateway_name job.taker.gateway }
+    ensures failed { IfOk result.3 (λ played. IsReceiveFault played
         → Rose (D.faults disk) (D.faults result.0)) }
     ensures later { D.faults disk ≤ D.faults result.0 }
 {
+    let SentJob {
+        opened,
+        senders,
+        taker,
+        most,
+    } = job;
     let OpenJob {
         alloc,
         sessions,
@@ -110,16 +192,25 @@ fn play_receiver<R: Threads + Wait + Sync, D: Disk + Send, G: Gate + Sync>(
         before,
     } = opened;
     let mut feed = StoredGateway::new(alloc, journal, disk, start, taker);
-    let setup = JobSetup {
+    let mut senders = Some(senders);
+    let mut setup = Some(JobSetup {
         sessions,
         readers,
         before,
         most,
-    };
-    let played = play_received(rt, alloc, gate, setup, &mut publisher, &mut feed);
+    });
+    let (ended, played) = play_joined(
+        rt,
+        alloc,
+        gate,
+        &mut senders,
+        &mut setup,
+        &mut publisher,
+        &mut feed,
+    );
     publisher.close(rt);
     let (disk, taker) = feed.into_parts();
-    (disk, taker, played)
+    (disk, taker, ended, played)
 }
 
 /// Runs the senders of an open job in threads of their own, and the sessions over the disk, which is
@@ -135,29 +226,10 @@ pub fn play_sent<R: Threads + Wait + Sync, D: Disk + Send, G: Gate + Sync>(
     ensures later { D.faults disk ≤ D.faults result.0 }
 {
     let (rt, gate, job) = job;
-    let SentJob {
-        opened,
-        senders,
-        taker,
-        most,
-    } = job;
-    let ((first, second), (disk, taker, played)) = join(
-        rt,
-        move ||
-            requires { IsSync R.row × MaySendBoth senders }
-            ensures { BothEnd senders result }
-        { send_both(rt, senders) },
-        move ||
-            requires { IsSync R.row × IsSync G.row
-                × CanReceiveOver D.is_reached D.may_leave opened taker most disk }
-            ensures received { IfOk result.2 (IsReceivedOver D.may_leave opened.publisher.version
-                opened.before (job_sessions opened.sessions.items) result.0 result.1) }
-            ensures gateway { gateway_name result.1.gateway ≡ gateway_name taker.gateway }
-            ensures failed { IfOk result.2 (λ played. IsReceiveFault played
-                → Rose (D.faults disk) (D.faults result.0)) }
-            ensures later { D.faults disk ≤ D.faults result.0 }
-        { play_receiver(rt, gate, disk, opened, taker, most) },
-    );
+    let (disk, taker, ended, played) = play_beside_senders(rt, gate, disk, job);
+    let Some((first, second)) = ended else {
+        unreachable!()
+    };
     match played {
         Ok(Some(Played::Text(text))) => {
             let _order = taker.close(first, second);

@@ -18,7 +18,7 @@ returns-in-Ok-clause-received g c =
     let last = c.run_feed_job.new.feed in
     let order = list_tried last.start last.count ++ gateway_tried last.taker in
     let e = c.in-Ok.ensures in
-    let names : both_named last.start last.taker ≡ both_named v old.taker = e.source ∙ ap (λ (t : Trials). both_named t old.taker) c.requires.start.0 in
+    let names : both_named last.start last.taker ≡ both_named v old.taker = e.source ∙ ap (λ (t : Trials). both_named t old.taker) c.requires.begins.0 in
     let ends = e.ended (λ other. cc) (λ other. cc) in
     let is = order_both v last.start last.count last.taker old.taker names ends.list ends.fitting.turn in (
       ends.over.ended,
@@ -33,7 +33,7 @@ returns-in-Err-TooFewRefreshes-clause-received g c =
     let last = c.run_feed_job.new.feed in
     let e = c.in-Err-TooFewRefreshes.ensures in
     let why = c.in-Err-TooFewRefreshes.field-0-is in
-    let names : both_named last.start last.taker ≡ both_named v old.taker = e.source ∙ ap (λ (t : Trials). both_named t old.taker) c.requires.start.0 in
+    let names : both_named last.start last.taker ≡ both_named v old.taker = e.source ∙ ap (λ (t : Trials). both_named t old.taker) c.requires.begins.0 in
     let ends = e.ended (λ other. cc) (λ other. cc) in
     let is = order_both v last.start last.count last.taker old.taker names ends.list ends.fitting.turn in
     (ends.over.ended, subst (λ (o : RefreshOrder). length o < v.most) is (e.few (ap Err why)))
