@@ -16,7 +16,7 @@ use Rattle.store_state.proofs.VersionSteps.{taken-append}
 use Rattle.app_inputs.specs.Inputs.{BadInput}
 use Rattle.app_inputs.specs.declared.input_error.InputFault.{InputFault}
 use Rattle.app_inputs.specs.declared.input_error.InputFault.TheVariants as fault
-use Rattle.app_run.specs.Journals.{FileKeeps, IsFirstRefusedEntry, IsJournalFault, IsKept, IsToldFor, Named}
+use Rattle.app_run.specs.Journals.{FileKeeps, IsFirstRefusedEntry, IsJournalFault, IsKept, IsToldFor, MayBeJournalFault, Named}
 use Rattle.app_run.proofs.OneWork.{AreAlike}
 
 -- readable refreshes with the same spellings are the same
@@ -83,6 +83,9 @@ fewer before change behind base parts all accepted {cause} refused =
 of_journal : (base : State) (file : List ℕ) (why : InputFault) → IsJournalFault base file why → why ≢ fault.Absent
 of_journal base file why x = λ e. subst (IsJournalFault base file) e x
 
+of_untold : (base : State) (why : InputFault) → MayBeJournalFault base why → why ≢ fault.Absent
+of_untold base why x = λ e. subst (MayBeJournalFault base) e x
+
 -- refreshes that are all accepted have no first refused one
 none_refused : (base : State) (changes : List Change) (number : ℕ) (cause : Cause) → taken base changes ≡ changes → IsFirstRefusedEntry base changes number cause → ⊥
 none_refused base changes number cause all first =
@@ -113,5 +116,5 @@ kept_alike (Some name) base (Some files) (Err r) (Err q) told x y = inr (r, q, r
 
 pub kept_not_absent : (journal : Option (List ℕ)) (base : State) (named : Named) (r : BadInput) → IsKept journal base named (Err r) → r.fault ≢ fault.Absent
 kept_not_absent None base named r x = absurd (cc)
-kept_not_absent (Some name) base None r (is, (other, file, why)) = of_journal other file r.fault why
+kept_not_absent (Some name) base None r x = of_untold base r.fault x.1
 kept_not_absent (Some name) base (Some files) r x = of_journal base (files name) r.fault x.1

@@ -34,19 +34,19 @@ told_image (Some file) may_leave P image each = each file (image file refl)
 
 -- the journal of a list whose first refreshes it keeps
 module _ (base : State) (kept list : List Change) (most : ℕ) where
-  abbrev version : Trials
+  abbrev pub version : Trials
   version = trials_at base (kept ++ list) (length kept) most
 
-  front : take (length kept) (kept ++ list) ≡ kept
+  pub front : take (length kept) (kept ++ list) ≡ kept
   front = take_at kept list (length kept) refl
 
-  behind : drop (length kept) (kept ++ list) ≡ list
+  pub behind : drop (length kept) (kept ++ list) ≡ list
   behind = drop_at kept list (length kept) refl
 
   pub kept_front : taken base (take (length kept) (kept ++ list)) ≡ take (length kept) (kept ++ list) → taken base kept ≡ kept
   kept_front is = ap (taken base) (sym front) ∙ is ∙ front
 
-  kept_payloads : taken base kept ≡ kept → payloads_of version ≡ map spelling_of kept
+  pub kept_payloads : taken base kept ≡ kept → payloads_of version ≡ map spelling_of kept
   kept_payloads accepted = ap (λ (l : List Change). map spelling_of l) (ap (taken base) front ∙ accepted)
 
   pub kept_fits : {D : Type 0} (is_reached : D → Bool) (may_leave : D → List ℕ → Type 0) (journal : Journal) (disk : D) → is_reached disk ≡ true → journal.is_shut ≡ false → journal.end ≤ 2 ^ 61

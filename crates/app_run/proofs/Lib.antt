@@ -14,6 +14,8 @@ mod KeptAlike
 mod KeptFed
 mod KeptRun
 mod KeptWhole
+mod KeptPlayed
+mod KeptJoined
 mod KeptSent
 mod Reached
 mod JobAlike

@@ -80,6 +80,12 @@ fault_reached file (journal.BadEntry place) answer is_reached may_leave disk ref
 fault_reached file journal.TooLong answer is_reached may_leave disk refuses some means =
     refused_file file fault.JournalTooLong answer is_reached may_leave disk means (tt, tells_to file _ _ (λ bytes long base. long) refuses)
 
+pub failed_reached : (file : Option (List ℕ)) (why : JournalFault) (answer : Reached) {D : Type 0} (is_reached : D → Bool) (may_leave : D → List ℕ → Type 0) (disk : D)
+    → why ≡ journal.Failed → MeansFault why answer → IsReached is_reached may_leave file disk answer
+failed_reached file why answer is_reached may_leave disk is means =
+    let said : answer ≡ reached.DiskFault = subst (λ (w : JournalFault). MeansFault w answer) is means in
+    subst (λ (r : Reached). IsReached is_reached may_leave file disk r) (sym said) tt
+
 -- only a disk that failed is told as such
 pub reach_failed : (why : JournalFault) (answer : Reached) → MeansFault why answer → IsReachFault answer → why ≡ journal.Failed
 reach_failed journal.Memory answer means faulty = absurd means

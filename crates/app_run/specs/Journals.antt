@@ -57,16 +57,26 @@ IsJournalOf name base file (Ok changes) = FileKeeps file changes × (taken base 
 IsJournalOf name base file (Err refused) =
     (refused.name ≡ name) × IsJournalFault base file refused.fault
 
--- what a file may keep of which nothing is told: a refusal is one of a journal
-abbrev pub MayBeJournal : List ℕ → Result (List Change) BadInput → Type 0
-MayBeJournal name (Ok changes) = ⊤
-MayBeJournal name (Err refused) = (refused.name ≡ name)
-    × ((base : State) × (file : List ℕ) × IsJournalFault base file refused.fault)
+-- why a file of which nothing is told may be refused over a base: it is a fault of a journal, and a
+-- refresh that is refused stands in a list of refreshes, each of which is read back
+abbrev pub MayBeJournalFault : State → InputFault → Type 0
+MayBeJournalFault base (fault.BadEntry place) = ⊤
+MayBeJournalFault base (fault.RefusedEntry number cause) = (changes : List Change)
+    × AllByRecursion IsReadable changes × IsFirstRefusedEntry base changes number cause
+MayBeJournalFault base fault.JournalTooLong = ⊤
+MayBeJournalFault base other = ⊥
+
+-- what such a file may keep: refreshes each of which is read back, and accepted after those before it
+abbrev pub MayBeJournal : List ℕ → State → Result (List Change) BadInput → Type 0
+MayBeJournal name base (Ok changes) =
+    AllByRecursion IsReadable changes × (taken base changes ≡ changes)
+MayBeJournal name base (Err refused) =
+    (refused.name ≡ name) × MayBeJournalFault base refused.fault
 
 -- what a job's journal keeps, if the job has one, or why it is refused
 abbrev pub IsKept : Option (List ℕ) → State → Named → Result (List Change) BadInput → Type 0
 IsKept None base named kept = kept ≡ Ok []
-IsKept (Some name) base None kept = MayBeJournal name kept
+IsKept (Some name) base None kept = MayBeJournal name base kept
 IsKept (Some name) base (Some files) kept = IsJournalOf name base (files name) kept
 
 -- a journal, if the job has one, then holds just these refreshes, where its file is told
