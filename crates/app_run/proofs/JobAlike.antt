@@ -94,7 +94,7 @@ job_files_alike dir job folder a b x y = follows_alike _ each (job_in job (file_
         subst (λ x. AreAlike x b) (sym made) (subst (λ y. AreAlike (and_then scripts (job_work dir folder parts)) y) (sym made') alike)
 
 -- the work of a job's files has the journal that the job's file names
-names_journal : (dir job : List ℕ) (folder : Folder) (work : JobWork) → AreJobFiles dir job folder (Ok work)
+pub names_journal : (dir job : List ℕ) (folder : Folder) (work : JobWork) → AreJobFiles dir job folder (Ok work)
     → (parts : JobParts) × (job_in job (file_of folder job) ≡ Ok parts) × (work.journal ≡ parts.journal)
 names_journal dir job folder work x = at (job_in job (file_of folder job)) refl x
   where

@@ -94,7 +94,7 @@ next_there (x ∷ list) (suc place) less = next_there list place (omega (arith, 
 
 module _ (start version : Trials) (count : ℕ) (is : version ≡ later_by count start) (fresh : start.done ≡ 0) where
   at_count : version.done ≡ count
-  at_count = ap (λ (t : Trials). t.done) is ∙ ap (λ (n : ℕ). n + count) fresh
+  at_count = let done : version.done ≡ start.done + count = ap (λ (t : Trials). t.done) is in omega (arith, done, fresh)
 
   same_list : version.list ≡ start.list
   same_list = ap (λ (t : Trials). t.list) is

@@ -20,6 +20,7 @@ mod KeptSent
 mod Reached
 mod JobAlike
 mod JobPlayed
+mod JobOver
 mod JobReading
 mod JobHeld
 mod TrialFiles

@@ -1,7 +1,9 @@
 -- A journal that is reached, from what is known of its file.
-use Rattle.std.proofs.Common.{◌≡◌, ◌<◌, ◌≤◌, ◌^◌, ℕ, Bool, true, false, List, [], Option, None, Some, arith, inl, inr, length, map, refl, subst, sym}
+use Rattle.std.proofs.Common.{◌≡◌, ◌∙◌, ap, ◌<◌, ◌≤◌, ◌^◌, ℕ, Bool, true, false, List, [], ◌∷◌, Option, None, Some, arith, inl, inr, length, map, refl, subst, sym}
 use Rattle.std.specs.List.{AllByRecursion}
-use Rattle.base_disk.specs.Disk.{Tells}
+use Rattle.base_disk.specs.Disk.{Measures, Tells}
+use Rattle.base_disk.specs.declared.disk.Size.{Size}
+use Rattle.base_disk.specs.declared.disk.Size.TheVariants as sized
 use Rattle.store_journal.specs.Format.{StandsFor}
 use Rattle.store_journal.specs.Journal.{Refuses, Stands}
 use Rattle.store_journal.specs.declared.fault.JournalFault.{JournalFault}
@@ -35,6 +37,17 @@ no_bytes reads told = tells_to reads (λ file. 0 ≡ length file) (λ file. file
 
 pub some_bytes : (reads : Option (List ℕ)) (size : ℕ) → 0 < size → Tells reads (λ file. size ≡ length file) → Tells reads (λ file. 0 < length file)
 some_bytes reads size some told = tells_to reads (λ file. size ≡ length file) (λ file. 0 < length file) (λ file e. omega (arith, some, e)) told
+
+-- so it is by its size
+pub measured_none : (answer : Size) (size : ℕ) (old new : Option (List ℕ)) → answer ≡ sized.Size size → size ≡ 0 → Measures old answer → new ≡ old → Tells new (λ file. file ≡ [])
+measured_none answer size old new is none measures same =
+    let told : Measures old (sized.Size 0) = subst (λ (a : Size). Measures old a) (is ∙ ap sized.Size none) measures in
+    subst (λ (r : Option (List ℕ)). Tells r (λ file. file ≡ [])) (sym same) (no_bytes old told)
+
+pub measured_some : (answer : Size) (size : ℕ) (old new : Option (List ℕ)) → answer ≡ sized.Size size → 0 < size → Measures old answer → new ≡ old → Tells new (λ file. 0 < length file)
+measured_some answer size old new is some measures same =
+    let told : Measures old (sized.Size size) = subst (λ (a : Size). Measures old a) is measures in
+    subst (λ (r : Option (List ℕ)). Tells r (λ file. 0 < length file)) (sym same) (some_bytes old size some told)
 
 -- a journal that was made
 pub made_journal : {D : Type 0} (is_reached : D → Bool) (may_leave : D → List ℕ → Type 0) (file : Option (List ℕ)) (disk : D) (journal : Journal) → is_reached disk ≡ true → journal.is_shut ≡ false

@@ -66,8 +66,29 @@ fn reopen_journal<D: Disk>(alloc: Global, disk: &mut D) -> Result<Reached, Alloc
     }
 }
 
-/// The journal of the file of that name, which is made where the file is empty, and the refreshes
-/// that it keeps.
+/// The journal of the file reached, which is made where that is empty, and the refreshes that it
+/// keeps.
+fn journal_of_file<D: Disk>(alloc: Global, disk: &mut D) -> Result<Reached, AllocError>
+    requires { D.is_reached disk.old ≡ true }
+    ensures reached { IfOk result
+        (IsReached D.is_reached D.may_leave (D.reads disk.old) disk.new) }
+    ensures failed { IfOk result (λ reached. IsReachFault reached
+        → Rose (D.faults disk.old) (D.faults disk.new)) }
+    ensures later { D.faults disk.old ≤ D.faults disk.new }
+{
+    match disk.size() {
+        Size::Size(bytes) => {
+            if bytes == 0 {
+                make_journal(alloc, disk)
+            } else {
+                reopen_journal(alloc, disk)
+            }
+        }
+        Size::Failed => Ok(Reached::DiskFault),
+    }
+}
+
+/// The same of the file of that name.
 pub fn reach_journal<D: Disk>(
     alloc: Global,
     disk: &mut D,
@@ -79,12 +100,8 @@ pub fn reach_journal<D: Disk>(
         → Rose (D.faults disk.old) (D.faults disk.new)) }
     ensures later { D.faults disk.old ≤ D.faults disk.new }
 {
-    if disk.reach(name) == Reach::Failed {
-        return Ok(Reached::DiskFault);
-    }
-    match disk.size() {
-        Size::Failed => Ok(Reached::DiskFault),
-        Size::Size(0) => make_journal(alloc, disk),
-        Size::Size(_) => reopen_journal(alloc, disk),
+    match disk.reach(name) {
+        Reach::Reached => journal_of_file(alloc, disk),
+        Reach::Failed => Ok(Reached::DiskFault),
     }
 }

@@ -124,7 +124,7 @@ fn play<R: Threads + Wait + Sync, D: Disk + Send, G: Gate + Sync>(
     job: (&R, &G, OpenJob),
 ) -> (D, Result<Played, AllocError>)
     requires { CanPlay D.is_reached D.may_leave job.2 disk }
-    ensures played { IfOk result.1 (PlaysOpen D.may_leave job.2 result.0) }
+    ensures played { IfOk result.1 (PlaysOpen D.may_leave job.entry.2 result.0) }
     ensures failed { IfOk result.1 (λ played. IsPlayFault played
         → Rose (D.faults disk) (D.faults result.0)) }
     ensures later { D.faults disk ≤ D.faults result.0 }

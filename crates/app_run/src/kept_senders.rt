@@ -220,7 +220,7 @@ pub fn play_sent<R: Threads + Wait + Sync, D: Disk + Send, G: Gate + Sync>(
     job: (&R, &G, SentJob),
 ) -> (D, Result<Played, AllocError>)
     requires { CanPlaySent D.is_reached D.may_leave job.2 disk }
-    ensures played { IfOk result.1 (PlaysSent D.may_leave job.2 result.0) }
+    ensures played { IfOk result.1 (PlaysSent D.may_leave job.entry.2 result.0) }
     ensures failed { IfOk result.1 (λ played. IsPlayFault played
         → Rose (D.faults disk) (D.faults result.0)) }
     ensures later { D.faults disk ≤ D.faults result.0 }
