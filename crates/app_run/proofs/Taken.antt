@@ -46,6 +46,11 @@ rest_of P zero list all = all
 rest_of P (suc count) [] all = tt
 rest_of P (suc count) (c ∷ cs) all = rest_of P count cs all.1
 
+pub front_of : (P : Change → Type 0) (count : ℕ) (list : List Change) → AllByRecursion P list → AllByRecursion P (take count list)
+front_of P zero list all = tt
+front_of P (suc count) [] all = tt
+front_of P (suc count) (c ∷ cs) all = (all.0, front_of P count cs all.1)
+
 -- what holds of all that is sent holds of what one sender sends
 one_of : (P : Change → Type 0) (mine : Bool) (change : Change) (others : List Change) → P change → AllByRecursion P others → AllByRecursion P (cond mine (change ∷ others) others)
 one_of P true change others is are = (is, are)

@@ -1,5 +1,6 @@
 //! A job that keeps its accepted refreshes in a journal.
 ghost use Rattle.std.specs.Prelude.{◌≡◌, ◌+◌, ◌<◌, ◌≤◌, ◌^◌, [], IfOk, false, length, map, true, vec_len};
+ghost use denote.Param.Send.{IsSync};
 ghost use Rattle.base_io.specs.Outside.{Rose};
 ghost use Rattle.store_durability.specs.Feed.{StoredFits};
 ghost use Rattle.store_journal.specs.Journal.{Stands};
@@ -120,16 +121,17 @@ fn play_beside<R: Threads + Wait + Sync, D: Disk + Send, G: Gate + Sync>(
 
 /// Runs an open job over its disk, and gives the disk back.
 fn play<R: Threads + Wait + Sync, D: Disk + Send, G: Gate + Sync>(
+    rt: &R,
+    gate: &G,
     disk: D,
-    job: (&R, &G, OpenJob),
+    job: OpenJob,
 ) -> (D, Result<Played, AllocError>)
-    requires { CanPlay D.is_reached D.may_leave job.2 disk }
-    ensures played { IfOk result.1 (PlaysOpen D.may_leave job.entry.2 result.0) }
+    requires { CanPlay D.is_reached D.may_leave job disk }
+    ensures played { IfOk result.1 (PlaysOpen D.may_leave job result.0) }
     ensures failed { IfOk result.1 (λ played. IsPlayFault played
         → Rose (D.faults disk) (D.faults result.0)) }
     ensures later { D.faults disk ≤ D.faults result.0 }
 {
-    let (rt, gate, job) = job;
     let OpenJob {
         alloc,
         sessions,
@@ -152,6 +154,29 @@ fn play<R: Threads + Wait + Sync, D: Disk + Send, G: Gate + Sync>(
     );
     publisher.close(rt);
     (feed.into_disk(), played)
+}
+
+/// `play` over a disk that stays where it is.
+fn play_over<R: Threads + Wait + Sync, D: Disk + Send, G: Gate + Sync>(
+    rt: &R,
+    gate: &G,
+    disk: &mut D,
+    job: OpenJob,
+) -> Result<Played, AllocError>
+    requires { CanPlay D.is_reached D.may_leave job disk.old }
+    ensures played { IfOk result (PlaysOpen D.may_leave job disk.new) }
+    ensures failed { IfOk result (λ played. IsPlayFault played
+        → Rose (D.faults disk.old) (D.faults disk.new)) }
+    ensures later { D.faults disk.old ≤ D.faults disk.new }
+{
+    let playing = |disk: D, job: OpenJob| -> (D, Result<Played, AllocError>)
+        requires { IsSync R.row × IsSync G.row × CanPlay D.is_reached D.may_leave job disk }
+        ensures played { IfOk result.1 (PlaysOpen D.may_leave job result.0) }
+        ensures failed { IfOk result.1 (λ played. IsPlayFault played
+            → Rose (D.faults disk) (D.faults result.0)) }
+        ensures later { D.faults disk ≤ D.faults result.0 }
+    { play(rt, gate, disk, job) };
+    replace_with(disk, job, playing)
 }
 
 /// The version behind which the publisher has refreshes left, or the first refresh that is kept and
@@ -260,7 +285,7 @@ fn run_kept<R: Threads + Wait + Sync, D: Disk + Send, G: Gate + Sync>(
         all,
         (sessions, base, before),
     )? {
-        Ok(job) => replace_with(disk, (rt, gate, job), play::<R, D, G>),
+        Ok(job) => play_over(rt, gate, disk, job),
         Err(fault) => Ok(Played::Refused(fault)),
     }
 }

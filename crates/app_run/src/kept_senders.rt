@@ -215,17 +215,18 @@ fn play_beside_senders<R: Threads + Wait + Sync, D: Disk + Send, G: Gate + Sync>
 
 /// Runs the senders of an open job in threads of their own, and the sessions over the disk, which is
 /// given back.
-pub fn play_sent<R: Threads + Wait + Sync, D: Disk + Send, G: Gate + Sync>(
+fn play_sent<R: Threads + Wait + Sync, D: Disk + Send, G: Gate + Sync>(
+    rt: &R,
+    gate: &G,
     disk: D,
-    job: (&R, &G, SentJob),
+    job: SentJob,
 ) -> (D, Result<Played, AllocError>)
-    requires { CanPlaySent D.is_reached D.may_leave job.2 disk }
-    ensures played { IfOk result.1 (PlaysSent D.may_leave job.entry.2 result.0) }
+    requires { CanPlaySent D.is_reached D.may_leave job disk }
+    ensures played { IfOk result.1 (PlaysSent D.may_leave job result.0) }
     ensures failed { IfOk result.1 (λ played. IsPlayFault played
         → Rose (D.faults disk) (D.faults result.0)) }
     ensures later { D.faults disk ≤ D.faults result.0 }
 {
-    let (rt, gate, job) = job;
     let (disk, taker, ended, played) = play_beside_senders(rt, gate, disk, job);
     let Some((first, second)) = ended else {
         unreachable!()
@@ -242,6 +243,29 @@ pub fn play_sent<R: Threads + Wait + Sync, D: Disk + Send, G: Gate + Sync>(
         }
         Err(error) => (disk, Err(error)),
     }
+}
+
+/// `play_sent` over a disk that stays where it is.
+fn play_sent_over<R: Threads + Wait + Sync, D: Disk + Send, G: Gate + Sync>(
+    rt: &R,
+    gate: &G,
+    disk: &mut D,
+    job: SentJob,
+) -> Result<Played, AllocError>
+    requires { CanPlaySent D.is_reached D.may_leave job disk.old }
+    ensures played { IfOk result (PlaysSent D.may_leave job disk.new) }
+    ensures failed { IfOk result (λ played. IsPlayFault played
+        → Rose (D.faults disk.old) (D.faults disk.new)) }
+    ensures later { D.faults disk.old ≤ D.faults disk.new }
+{
+    let playing = |disk: D, job: SentJob| -> (D, Result<Played, AllocError>)
+        requires { IsSync R.row × IsSync G.row × CanPlaySent D.is_reached D.may_leave job disk }
+        ensures played { IfOk result.1 (PlaysSent D.may_leave job result.0) }
+        ensures failed { IfOk result.1 (λ played. IsPlayFault played
+            → Rose (D.faults disk) (D.faults result.0)) }
+        ensures later { D.faults disk ≤ D.faults result.0 }
+    { play_sent(rt, gate, disk, job) };
+    replace_with(disk, job, playing)
 }
 
 /// Runs the sessions beside a publisher of what the journal keeps and of the job's refreshes, some of
@@ -307,7 +331,7 @@ pub fn run_kept_sent<R: Threads + Wait + Sync, D: Disk + Send, G: Gate + Sync>(
                 taker,
                 most,
             };
-            replace_with(disk, (rt, gate, job), play_sent::<R, D, G>)
+            play_sent_over(rt, gate, disk, job)
         }
         Err(fault) => Ok(Played::Refused(fault)),
     }
