@@ -96,7 +96,7 @@ plays_sent may_leave reads disk journal kept most work sessions job (played.Text
     let holds = subst (λ (t : Trials). HoldsSent (may_leave disk) t.base t.list plays.sent) opens.4 plays.holds in (
       kept_front work.base kept (take work.before work.list) most opens.8,
       λ name. kept_sent_text work name kept reads (may_leave disk) job.senders.firsts.items job.senders.seconds.items (job_sessions sessions) answer plays.sent all first second plays.first plays.second image text
-      holds,
+          holds,
     )
 plays_sent may_leave reads disk journal kept most work sessions job (played.Refused why) all opens first second image plays = absurd plays
 plays_sent may_leave reads disk journal kept most work sessions job played.DiskFault all opens first second image plays = tt
