@@ -96,10 +96,7 @@ fn reverse_statements(
 }
 
 /// The statements that a script's stand for.
-pub(crate) fn expand(
-    alloc: Global,
-    statements: Items<Statement>,
-) -> Result<Items<Statement>, AllocError>
+pub fn expand(alloc: Global, statements: Items<Statement>) -> Result<Items<Statement>, AllocError>
     ensures { IfOk result (λ steps. ExpandAll statements steps) }
 {
     let mut left = reverse_statements(alloc, statements)?;

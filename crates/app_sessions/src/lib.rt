@@ -28,9 +28,13 @@ mod workers;
 
 pub use compaction::is_compaction_due;
 pub use counts::push_counts;
+pub use expansion::expand;
 pub use explained::{Explained, explain};
 pub use job::{JobSetup, run_job};
 pub use job_error::JobError;
 pub use job_text::JobText;
 pub use list_job::{run_feed_job, run_list_job};
+pub use outcome::Outcome;
+pub use runs::run_outcome;
 pub use session::{Session, Turn};
+pub use views::{drop_view, make_view};

@@ -10,7 +10,7 @@ use sql_templates::{TemplateFault, fill};
 use std::alloc::{AllocError, Global};
 
 /// The refusal of a run whose template is not filled.
-pub(crate) fn run_outcome(
+pub fn run_outcome(
     alloc: Global,
     number: u32,
     values: &[TemplateValue],

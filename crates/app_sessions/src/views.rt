@@ -29,7 +29,7 @@ fn is_taken(views: &[View], name: &Name) -> bool
 }
 
 /// Makes a view, where its name is new and its query is bound.
-pub(crate) fn make_view(
+pub fn make_view(
     alloc: Global,
     views: &mut SessionViews,
     name: &Name,
@@ -53,7 +53,7 @@ pub(crate) fn make_view(
 }
 
 /// Drops the view of that name, where there is one.
-pub(crate) fn drop_view(views: &mut SessionViews, name: &Name) -> Outcome
+pub fn drop_view(views: &mut SessionViews, name: &Name) -> Outcome
     ensures outcome { result ≡ dropped (is_view name.now views.old) }
     ensures printable { IsTrue (is_printable result) }
     ensures views { views.new ≡ without_view name.now views.old }

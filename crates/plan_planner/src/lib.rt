@@ -6,6 +6,6 @@ mod planning;
 mod text;
 mod views;
 
-pub use planning::{plan, plan_bound};
+pub use planning::{bind_query, plan, plan_bound};
 pub use text::plan_text;
 pub use views::SessionViews;

@@ -3,6 +3,7 @@ ghost use Rattle.std.specs.Prelude.{◌≡◌, List, IfOk};
 ghost use Rattle.expr_scalar.specs.declared.kind.Kind.{Kind};
 ghost use Rattle.sql_bound_query.specs.Typing.{IsWellTyped};
 ghost use Rattle.sql_binder.specs.Binding.{bound_query};
+ghost use Rattle.sql_binder_steps.specs.Steps.{Gives};
 ghost use Rattle.plan_planner.specs.Planned.{IsPlanOf, Plans};
 
 use crate::views::SessionViews;
@@ -17,6 +18,23 @@ use sql_binder_steps::BindFault;
 use sql_bound_query::BoundQuery;
 use std::alloc::{AllocError, Global};
 
+/// A query that is a statement, bound over the views of its session.
+///
+/// # Errors
+///
+/// `Refused` exactly as binding is; `OutOfMemory`.
+pub fn bind_query(
+    alloc: Global,
+    query: &Query,
+    views: &SessionViews,
+) -> Result<BoundQuery, BindFault>
+    ensures bound { Gives (bound_query query.now views.now) result }
+    ensures typed { IfOk result (λ bound. (kinds : List Kind) × IsWellTyped bound.block kinds) }
+{
+    let bound = bind(alloc, query, &views.views)?;
+    Ok(bound)
+}
+
 /// The flat plan of a query that is a statement, over the views of its session.
 ///
 /// # Errors
@@ -25,7 +43,7 @@ use std::alloc::{AllocError, Global};
 pub fn plan(alloc: Global, query: &Query, views: &SessionViews) -> Result<FlatPlan, BindFault>
     ensures { Plans (bound_query query.now views.now) result }
 {
-    let bound = bind(alloc, query, &views.views)?;
+    let bound = bind_query(alloc, query, views)?;
     let plan = plan_bound(alloc, bound)?;
     Ok(plan)
 }
