@@ -86,6 +86,7 @@ fn written_at(written: &[Vec<u8>], number: usize) -> &[u8] {
 }
 
 /// What is shown of statements, one after the other, which are numbered from 1, from no view on.
+#[tactic(auto, using(crate::proofs::ShownSteps::none_yet, crate::proofs::ShownSteps::next_shown, crate::proofs::ShownSteps::all_shown))]
 fn shown_steps<R: Threads + Sync + Clock, T: Tables>(
     rt: &R,
     alloc: Global,

@@ -72,6 +72,7 @@ fn shown_outcome(outcome: Outcome) -> StatementPlan
 
 /// What is shown of a statement over these views, to which it does what it says: of a query a plan
 /// of it, or the refusal of binding.
+#[tactic(auto, using(crate::proofs::ViewOutcomes::of_made, crate::proofs::ViewOutcomes::of_dropped, crate::proofs::ViewOutcomes::of_run))]
 pub fn statement_plan<R: Threads + Sync + Clock, T: Tables>(
     rt: &R,
     alloc: Global,
