@@ -6,9 +6,11 @@ use Rattle.std.specs.declared.result.Result.{Result}
 use Rattle.std.specs.declared.result.Result.TheVariants.{Ok, Err}
 use Rattle.base_refusals.specs.Line.{line_fault_name, line_fault_number}
 use Rattle.base_refusals.specs.declared.line.LineRefusal.{LineRefusal}
+use Rattle.base_refusals.specs.declared.refresh.Cause.{Cause}
 use Rattle.base_refusals.specs.declared.refresh.RefreshFile.{RefreshFile}
 use Rattle.base_refusals.specs.declared.refresh.RefreshFile.TheVariants.{Orders, Lineitem, Delete}
-use Rattle.app_result_text.specs.Refusal.{file_name}
+use Rattle.app_result_text.specs.Refusal.{file_name, reason_written}
+use Rattle.base_refusals.specs.declared.statement.Refusal.TheVariants as refusal
 use Rattle.sql_ast.specs.declared.statement.RefreshKind.{RefreshKind}
 use Rattle.sql_ast.specs.declared.statement.RefreshKind.TheVariants as refresh
 use Rattle.sql_ast.specs.declared.statement.Statement.{Statement}
@@ -181,6 +183,15 @@ job_line_text refused =
     ++ decimal (job_refusal_number refused.refusal) ++ codes " "
     ++ job_refusal_name refused.refusal ++ codes "\n"
 
+-- the byte at which a journal is bad
+abbrev pub bad_entry_text : ℕ → List ℕ
+bad_entry_text place = codes " place " ++ decimal place ++ codes " 1 BadEntry\n"
+
+-- the number of a journal's entry that is refused, and why
+abbrev pub refused_entry_text : ℕ → Cause → List ℕ
+refused_entry_text number cause = codes " entry " ++ decimal number ++ codes " 2 Refused"
+    ++ reason_written (refusal.Refresh cause) ++ codes "\n"
+
 -- why an input is refused, as it is printed after the input's name
 abbrev pub fault_text : InputFault → List ℕ
 fault_text fault.Absent = codes " absent\n"
@@ -188,6 +199,9 @@ fault_text (fault.Byte refusal place) = byte_text refusal place
 fault_text (fault.Line first) = line_text first
 fault_text (fault.RefreshHere place) = refresh_text place
 fault_text (fault.JobLine refused) = job_line_text refused
+fault_text (fault.BadEntry place) = bad_entry_text place
+fault_text (fault.RefusedEntry number cause) = refused_entry_text number cause
+fault_text fault.JournalTooLong = codes " place 1152921504606846976 3 TooLong\n"
 
 -- the line for a refused input
 abbrev pub refusal_line : BadInput → List ℕ

@@ -15,6 +15,7 @@ IsAnswer status.InputRefused = ⊤
 IsAnswer status.ReadFault = ⊥
 IsAnswer status.WriteFault = ⊥
 IsAnswer status.OutOfMemory = ⊥
+IsAnswer status.DiskFault = ⊥
 
 -- the statuses with which inputs that are there end
 abbrev pub IsDone : Status → Type 0

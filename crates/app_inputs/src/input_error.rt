@@ -3,7 +3,7 @@ ghost use Rattle.std.specs.Prelude.{◌≡◌};
 ghost use Rattle.app_inputs.specs.Views.{Refuses};
 
 use app_job_file::RefusedLine;
-use base_refusals::LineRefusal;
+use base_refusals::{Cause, LineRefusal};
 use sql_parser::ScriptRefusal;
 use std::alloc::{AllocError, AllocFailed, Global};
 
@@ -20,6 +20,13 @@ pub enum InputFault {
     RefreshHere(usize),
     /// The job is refused so.
     JobLine(RefusedLine),
+    /// A journal's file is bad at this byte, counted from 0: it ends there without a closed gate, or
+    /// no entry stands there.
+    BadEntry(u64),
+    /// The journal's entry of this number, counted from 1, is refused, for this first cause.
+    RefusedEntry(usize, Cause),
+    /// A journal's file is longer than 2^60 bytes.
+    JournalTooLong,
 }
 
 /// An input that is refused.

@@ -60,6 +60,7 @@ pub fn write_text<S: Sink>(out: &mut S, text: &[u8], status: Status) -> Status
     ensures part { AppendsPart (S.taken out.old) (S.taken out.new) text.now }
     ensures fault { result ≡ Status.WriteFault → Rose (S.faults out.old) (S.faults out.new) }
     ensures other { result ≢ Status.ReadFault }
+    ensures no_disk { result ≢ Status.DiskFault }
     ensures later { S.faults out.old ≤ S.faults out.new }
 {
     match write_all(out, text) {

@@ -1,13 +1,14 @@
 //! The line that is printed of a refused input.
 ghost use Rattle.std.specs.Prelude.{◌≡◌, ◌++◌, IfOk, OnOk};
-ghost use Rattle.app_inputs.specs.Inputs.{byte_text, job_line_text, line_text, refresh_text};
-ghost use Rattle.app_inputs.specs.Inputs.{refusal_line};
+ghost use Rattle.app_inputs.specs.Inputs.{bad_entry_text, byte_text, job_line_text, line_text};
+ghost use Rattle.app_inputs.specs.Inputs.{refresh_text, refusal_line, refused_entry_text};
 ghost use Rattle.app_inputs.specs.Views.{refused_view};
 
 use crate::input_error::{InputFault, RefusedInput};
 use crate::script_refusal::{refusal_name, refusal_number};
 use app_job_file::RefusedLine;
-use base_refusals::LineRefusal;
+use app_result_text::put_reason;
+use base_refusals::{Cause, LineRefusal, Refusal};
 use itoa::Buffer;
 use sql_parser::ScriptRefusal;
 use std::alloc::{AllocError, Global};
@@ -24,6 +25,11 @@ pub fn line_of_refusal(alloc: Global, refused: &RefusedInput) -> Result<Vec<u8>,
         InputFault::Line(first) => push_line(&mut line, first)?,
         InputFault::RefreshHere(place) => push_refresh(&mut line, place)?,
         InputFault::JobLine(refused) => push_job_line(&mut line, refused)?,
+        InputFault::BadEntry(place) => push_bad_entry(&mut line, place)?,
+        InputFault::RefusedEntry(number, cause) => push_refused_entry(&mut line, number, cause)?,
+        InputFault::JournalTooLong => {
+            line.extend_from_slice(b" place 1152921504606846976 3 TooLong\n")?
+        }
     }
     Ok(line)
 }
@@ -80,6 +86,30 @@ fn push_job_line(line: &mut Vec<u8>, refused: RefusedLine) -> Result<(), AllocEr
     line.extend_from_slice(buffer.format(refused.refusal.number()).as_bytes())?;
     line.push(b' ')?;
     line.extend_from_slice(refused.refusal.name().as_bytes())?;
+    line.push(b'\n')?;
+    Ok(())
+}
+
+/// Appends the place at which a journal is bad.
+fn push_bad_entry(line: &mut Vec<u8>, place: u64) -> Result<(), AllocError>
+    ensures { OnOk result (line.new.items ≡ line.old.items ++ bad_entry_text place) }
+{
+    let mut buffer = Buffer::new();
+    line.extend_from_slice(b" place ")?;
+    line.extend_from_slice(buffer.format(place).as_bytes())?;
+    line.extend_from_slice(b" 1 BadEntry\n")?;
+    Ok(())
+}
+
+/// Appends the number of a journal's entry that is refused, and why.
+fn push_refused_entry(line: &mut Vec<u8>, number: usize, cause: Cause) -> Result<(), AllocError>
+    ensures { OnOk result (line.new.items ≡ line.old.items ++ refused_entry_text number cause) }
+{
+    let mut buffer = Buffer::new();
+    line.extend_from_slice(b" entry ")?;
+    line.extend_from_slice(buffer.format(number).as_bytes())?;
+    line.extend_from_slice(b" 2 Refused")?;
+    put_reason(line, &Refusal::Refresh(cause))?;
     line.push(b'\n')?;
     Ok(())
 }

@@ -19,6 +19,8 @@ pub enum Status {
     WriteFault,
     /// Memory ran out; nothing, or a part of the text from its front, was written.
     OutOfMemory,
+    /// A call of the disk failed; nothing was written.
+    DiskFault,
 }
 
 impl Status {
@@ -34,6 +36,7 @@ impl Status {
             Status::ReadFault => 4,
             Status::WriteFault => 5,
             Status::OutOfMemory => 6,
+            Status::DiskFault => 7,
         }
     }
 }

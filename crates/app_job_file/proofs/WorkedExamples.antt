@@ -5,6 +5,8 @@ use Rattle.app_job_file.specs.Examples.{Examples}
 pub examples : Examples
 examples = record {
   sent = refl;
+  kept = refl;
+  second_journal = refl;
   sent_late = refl;
   beside_late = refl;
   before_late = refl;

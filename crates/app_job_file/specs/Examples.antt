@@ -1,5 +1,5 @@
 -- Jobs worked out by hand.
-use Rattle.std.specs.Prelude.{◌≡◌, ℕ, List, [], ◌∷◌, ◌++◌, codes, Result, Ok, Err}
+use Rattle.std.specs.Prelude.{◌≡◌, ℕ, List, [], ◌∷◌, ◌++◌, codes, Option, None, Some, Result, Ok, Err}
 use Rattle.sql_ast.specs.declared.statement.RefreshKind.TheVariants.{Insert, Delete}
 use Rattle.store_gateway.specs.declared.message.SenderId.TheVariants.{First, Second}
 use Rattle.app_job_file.specs.Files.{JobParts, job_of, refused_line}
@@ -25,7 +25,17 @@ pub record Examples : Type 0 where
     refreshes = mention Insert 1 ∷ mention Insert 2 ∷ mention Delete 1 ∷ [];
     before = 1;
     senders = Second ∷ First ∷ [];
+    journal = None;
   })
+  -- one journal, and a second one
+  pub kept : job_with (codes "journal j\n") ≡ Ok (record {
+    scripts = codes "a" ∷ [];
+    refreshes = [];
+    before = 0;
+    senders = [];
+    journal = Some (codes "j");
+  })
+  pub second_journal : job_with (codes "journal j\njournal k\n") ≡ at_third BadLine
   -- a refresh that is sent after one beside the sessions that nobody sends, and the other way round
   pub sent_late : job_with (codes "beside insert 1\nsend1 insert 2\n") ≡ at_third MixedSenders
   pub beside_late : job_with (codes "send2 insert 1\nbeside insert 2\n") ≡ at_third MixedSenders

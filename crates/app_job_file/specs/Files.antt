@@ -1,12 +1,13 @@
 -- What a job's file asks for, and its first refusal.
 use Rattle.std.specs.Prelude.{◌≡◌, ⊤, ℕ, ◌<◌, ◌≤◌, ◌+◌, List, [], ◌∷◌, ◌++◌, codes, length, nat_lt}
-use Rattle.std.specs.Prelude.{◌==◌, Bool, nat_le, Option, None, Some}
+use Rattle.std.specs.Prelude.{◌==◌, Bool, is_some, nat_le, Option, None, Some, option_map}
 use Rattle.std.specs.Prelude.{map, Result, Ok, Err, if◌then◌else◌}
 use Rattle.std.specs.String.{string_bytes}
 use Rattle.store_file_reader.specs.File.{cut_lines}
 use Rattle.store_file_reader.specs.Line.{line_text}
 use Rattle.app_job_file.specs.Lines.{JobLine, line_of}
-use Rattle.app_job_file.specs.Lines.JobLine.{BeforeLine, BesideLine, ScriptLine, SendLine}
+use Rattle.app_job_file.specs.Lines.JobLine.{BeforeLine, BesideLine, JournalLine, ScriptLine}
+use Rattle.app_job_file.specs.Lines.JobLine.{SendLine}
 use Rattle.app_job_file.specs.declared.job.Job.{Job}
 use Rattle.app_job_file.specs.declared.job.Mention.{Mention}
 use Rattle.app_job_file.specs.declared.reading.JobFileError.{JobFileError}
@@ -37,13 +38,14 @@ job_refusal_name TooLong = codes "TooLong"
 job_refusal_name MixedSenders = codes "MixedSenders"
 
 -- What a job is made of: the names of the scripts of its sessions; its refreshes, in the order of
--- its lines; how many of these are tried before the sessions; and who sends each of the others, or
--- nobody where they are tried in their order.
+-- its lines; how many of these are tried before the sessions; who sends each of the others, or
+-- nobody where they are tried in their order; and the name of the file of its journal, if it has one.
 pub record JobParts : Type 0 where
   pub scripts : List (List ℕ)
   pub refreshes : List Mention
   pub before : ℕ
   pub senders : List SenderId
+  pub journal : Option (List ℕ)
 
 -- the parts of a job that was read
 abbrev pub parts_of : Job → JobParts
@@ -52,6 +54,7 @@ parts_of job = record {
   refreshes = job.refreshes.items;
   before = job.before;
   senders = job.senders.items;
+  journal = option_map string_bytes job.journal;
 }
 
 -- the most sessions
@@ -68,7 +71,7 @@ job_limit = 1_048_576
 
 -- nothing yet
 abbrev pub no_parts : JobParts
-no_parts = record { scripts = []; refreshes = []; before = 0; senders = [] }
+no_parts = record { scripts = []; refreshes = []; before = 0; senders = []; journal = None }
 
 -- one session more, but for the one that is too many
 abbrev pub with_script : JobParts → List ℕ → Result JobParts JobRefusal
@@ -76,6 +79,11 @@ with_script parts name =
     if nat_lt (length parts.scripts) most_sessions
     then Ok (record parts { scripts = parts.scripts ++ name ∷ [] })
     else Err TooMany
+
+-- a journal, unless there is one
+abbrev pub with_journal : JobParts → List ℕ → Result JobParts JobRefusal
+with_journal parts name =
+    if is_some parts.journal then Err BadLine else Ok (record parts { journal = Some name })
 
 -- another refresh would be one too many
 abbrev pub is_full : JobParts → Bool
@@ -120,6 +128,7 @@ with_sent parts sender mention =
 abbrev pub with_line : JobParts → Option JobLine → Result JobParts JobRefusal
 with_line parts None = Err BadLine
 with_line parts (Some (ScriptLine name)) = with_script parts name
+with_line parts (Some (JournalLine name)) = with_journal parts name
 with_line parts (Some (BeforeLine mention)) = with_before parts mention
 with_line parts (Some (BesideLine mention)) = with_beside parts mention
 with_line parts (Some (SendLine sender mention)) = with_sent parts sender mention

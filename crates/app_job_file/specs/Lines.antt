@@ -10,7 +10,8 @@ use Rattle.sql_ast.specs.declared.statement.RefreshKind.{RefreshKind}
 use Rattle.sql_ast.specs.declared.statement.RefreshKind.TheVariants.{Insert, Delete}
 use Rattle.app_job_file.specs.declared.job.Mention.{Mention}
 use Rattle.app_job_file.specs.declared.line.Line.{Line}
-use Rattle.app_job_file.specs.declared.line.Line.TheVariants.{Session, Before, Beside, Send}
+use Rattle.app_job_file.specs.declared.line.Line.TheVariants.{Session, Journal, Before, Beside}
+use Rattle.app_job_file.specs.declared.line.Line.TheVariants.{Send}
 use Rattle.store_gateway.specs.declared.message.SenderId.{SenderId}
 use Rattle.store_gateway.specs.declared.message.SenderId.TheVariants.{First, Second}
 
@@ -18,6 +19,8 @@ use Rattle.store_gateway.specs.declared.message.SenderId.TheVariants.{First, Sec
 pub data JobLine : Type 0 where
   -- a session of the script of this name
   ScriptLine : (name : List ℕ) → JobLine
+  -- a journal in the file of this name
+  JournalLine : (name : List ℕ) → JobLine
   -- a refresh that is tried before the sessions
   BeforeLine : (mention : Mention) → JobLine
   -- a refresh that is tried beside them
@@ -37,6 +40,10 @@ is_visible byte = nat_lt 32 byte && nat_lt byte 127
 -- the bytes, where they are a word
 abbrev pub word_of : List ℕ → Option (List ℕ)
 word_of bytes = if length bytes == 0 || not (list_all is_visible bytes) then None else Some bytes
+
+-- the word that follows these bytes at a line's front
+abbrev pub word_after : List ℕ → List ℕ → Option (List ℕ)
+word_after front line = option_and_then word_of (rest_after front line)
 
 -- the number that one to nine digits write
 abbrev pub set_number : List ℕ → Option ℕ
@@ -72,15 +79,17 @@ refresh_after front line = option_and_then mention_in (rest_after front line)
 -- what a line asks for, if it is of one of the forms
 abbrev pub line_of : List ℕ → Option JobLine
 line_of line =
-    or_second (option_map ScriptLine (option_and_then word_of (rest_after (codes "session ") line)))
+    or_second (option_map ScriptLine (word_after (codes "session ") line))
+    (or_second (option_map JournalLine (word_after (codes "journal ") line))
     (or_second (option_map BeforeLine (refresh_after (codes "before ") line))
     (or_second (option_map BesideLine (refresh_after (codes "beside ") line))
     (or_second (option_map (SendLine First) (refresh_after (codes "send1 ") line))
-    (option_map (SendLine Second) (refresh_after (codes "send2 ") line)))))
+    (option_map (SendLine Second) (refresh_after (codes "send2 ") line))))))
 
 -- what a line that was read asks for
 abbrev pub line_view : Line → JobLine
 line_view (Session name) = ScriptLine name.now
+line_view (Journal name) = JournalLine name.now
 line_view (Before mention) = BeforeLine mention
 line_view (Beside mention) = BesideLine mention
 line_view (Send sender mention) = SendLine sender mention

@@ -27,6 +27,8 @@ pub struct Job {
     /// Who sends each of the others, where two senders send them beside the sessions. Else nobody
     /// does, and they are tried in their order.
     pub senders: Vec<SenderId>,
+    /// The name of the file that keeps its accepted refreshes, if it asks for one.
+    pub journal: Option<String>,
 }
 
 impl Job {
@@ -41,6 +43,7 @@ impl Job {
             refreshes: Vec::new(alloc),
             before: 0,
             senders: Vec::new(alloc),
+            journal: None,
         }
     }
 }

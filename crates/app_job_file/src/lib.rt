@@ -1,5 +1,5 @@
-//! The file of a job: the scripts of its sessions, and the refreshes that are tried before them and
-//! beside them, of which two senders may send some.
+//! The file of a job: the scripts of its sessions, the refreshes that are tried before them and
+//! beside them, of which two senders may send some, and the journal that keeps the accepted ones.
 #![tactic(auto)]
 
 mod job;

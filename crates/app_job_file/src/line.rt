@@ -1,11 +1,10 @@
 //! The forms of lines.
-ghost use Rattle.std.specs.Prelude.{◌≡◌, codes, option_map};
+ghost use Rattle.std.specs.Prelude.{◌≡◌, option_map};
 ghost use Rattle.std.specs.Char.{is_ascii_digit};
 ghost use Rattle.std.specs.List.{list_all};
-ghost use Rattle.std.specs.Option.{option_and_then};
-ghost use Rattle.app_job_file.specs.Lines.{is_visible, line_of, line_view, mention_after};
-ghost use Rattle.app_job_file.specs.Lines.{mention_in};
-ghost use Rattle.app_job_file.specs.Lines.{refresh_after, rest_after, set_number, word_of};
+ghost use Rattle.app_job_file.specs.Lines.{is_visible, line_of, line_view, mention_after, mention_in};
+ghost use Rattle.app_job_file.specs.Lines.{refresh_after, rest_after, set_number, word_after};
+ghost use Rattle.app_job_file.specs.Lines.{word_of};
 
 use crate::job::Mention;
 use sql_ast::RefreshKind;
@@ -16,6 +15,8 @@ use store_gateway::SenderId;
 pub enum Line<'a> {
     /// A session of the script of this name.
     Session(&'a str),
+    /// A journal in the file of this name.
+    Journal(&'a str),
     /// A refresh that is tried before the sessions.
     Before(Mention),
     /// A refresh that is tried beside them.
@@ -103,20 +104,22 @@ fn refresh_after(front: &[u8], line: &[u8]) -> Option<Mention>
     mention_in(rest_after(front, line)?)
 }
 
-/// The session that a line asks for.
-fn session_of(line: &[u8]) -> Option<&str>
-    ensures { option_map (λ name. name.now) result
-        ≡ option_and_then word_of (rest_after (codes "session ") line.now) }
+/// The word that follows these bytes at a line's front.
+fn word_after<'a>(front: &[u8], line: &'a [u8]) -> Option<&'a str>
+    ensures { option_map (λ name. name.now) result ≡ word_after front.now line.now }
 {
-    word_of(rest_after(b"session ", line)?)
+    word_of(rest_after(front, line)?)
 }
 
 /// What a line asks for, if it is of one of the forms.
 pub fn line_of(line: &[u8]) -> Option<Line<'_>>
     ensures { option_map line_view result ≡ line_of line.now }
 {
-    if let Some(name) = session_of(line) {
+    if let Some(name) = word_after(b"session ", line) {
         return Some(Line::Session(name));
+    }
+    if let Some(name) = word_after(b"journal ", line) {
+        return Some(Line::Journal(name));
     }
     if let Some(mention) = refresh_after(b"before ", line) {
         return Some(Line::Before(mention));

@@ -6,8 +6,8 @@ ghost use Rattle.store_file_reader.specs.File.{cut_lines};
 ghost use Rattle.store_file_reader.specs.Line.{line_text, without_end};
 ghost use Rattle.app_job_file.specs.Files.{IsReadable, IsWithin, Puts, Says, has_sent, has_unsent};
 ghost use Rattle.app_job_file.specs.Files.{is_full, job_of, no_parts, parts_of, with_before};
-ghost use Rattle.app_job_file.specs.Files.{with_beside, with_lines, with_script, with_sent};
-ghost use Rattle.app_job_file.specs.Files.{with_text};
+ghost use Rattle.app_job_file.specs.Files.{with_beside, with_journal, with_lines, with_script};
+ghost use Rattle.app_job_file.specs.Files.{with_sent, with_text};
 
 use crate::job::{Job, Mention};
 use crate::line::{Line, line_of};
@@ -72,6 +72,20 @@ fn put_script(alloc: Global, job: &mut Job, number: usize, name: &str) -> Result
     }
     let name = String::from_str(alloc, name)?;
     job.scripts.push(name)?;
+    Ok(())
+}
+
+/// Adds a journal, unless there is one.
+fn put_journal(alloc: Global, job: &mut Job, number: usize, name: &str) -> Result<(), JobFileError>
+    requires { IsWithin job.old }
+    ensures journal { Puts number (with_journal (parts_of job.old) name.now)
+        (parts_of job.new) result }
+    ensures within { OnOk result (IsWithin job.new) }
+{
+    if job.journal.is_some() {
+        return Err(refusal_at(JobRefusal::BadLine, number));
+    }
+    job.journal = Some(String::from_str(alloc, name)?);
     Ok(())
 }
 
@@ -167,6 +181,7 @@ fn put_text(alloc: Global, job: &mut Job, number: usize, text: &[u8]) -> Result<
     }
     match line_of(text) {
         Some(Line::Session(name)) => put_script(alloc, job, number, name),
+        Some(Line::Journal(name)) => put_journal(alloc, job, number, name),
         Some(Line::Before(mention)) => put_before(job, number, mention),
         Some(Line::Beside(mention)) => put_beside(job, number, mention),
         Some(Line::Send(sender, mention)) => put_sent(job, number, sender, mention),
@@ -230,9 +245,9 @@ fn read_lines(alloc: Global, bytes: &[u8]) -> Result<Job, JobFileError>
     Ok(job)
 }
 
-/// What a job's file asks for: its lines `session NAME`, and `before insert N`, `beside insert N`,
-/// `send1 insert N` and `send2 insert N`, or `delete N` in place of `insert N`, N having one to
-/// nine digits. Empty lines are skipped.
+/// What a job's file asks for: its lines `session NAME`, at most one line `journal NAME`, and
+/// `before insert N`, `beside insert N`, `send1 insert N` and `send2 insert N`, or `delete N` in
+/// place of `insert N`, N having one to nine digits. Empty lines are skipped.
 ///
 /// # Errors
 ///

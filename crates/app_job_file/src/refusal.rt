@@ -5,7 +5,7 @@ ghost use Rattle.app_job_file.specs.Files.{job_refusal_name, job_refusal_number}
 /// Why a job's file is refused. Of one line the refusal of the least number counts.
 #[derive(Clone, Copy, Debug, PartialEq, Eq)]
 pub enum JobRefusal {
-    /// The line is of none of the forms.
+    /// The line is of none of the forms, or asks for a second journal.
     BadLine,
     /// The line asks for a refresh before the sessions after one beside them, tried or sent.
     LateBefore,

@@ -1,5 +1,5 @@
 -- The inputs of a job are one, but for which refusal of a script they name.
-use Rattle.std.proofs.Common.{◌≡◌, ◌≢◌, ◌∙◌, ◌⊎◌, ℕ, Bool, true, false, List, [], ◌∷◌, ap, inl, inr, refl, subst, sym}
+use Rattle.std.proofs.Common.{◌≡◌, ◌≢◌, ◌∙◌, ◌⊎◌, ℕ, Bool, true, false, List, [], ◌∷◌, None, Some, ap, inl, inr, refl, subst, sym}
 use Rattle.std.specs.List.{list_any}
 use Rattle.std.specs.declared.result.Result.{Result}
 use Rattle.std.specs.declared.result.Result.TheVariants.{Ok, Err}
@@ -8,7 +8,12 @@ use Rattle.sql_ast.specs.declared.statement.Statement.{Statement}
 use Rattle.base_io.specs.Outside.{Folder, file_of}
 use Rattle.app_run.specs.SessionInputs.{AreSteps}
 use Rattle.app_inputs.specs.Inputs.{BadInput, and_then, file_bytes, script_limit}
-use Rattle.app_run.specs.JobInputs.{AreJobInputs, AreJobScripts, Follows, HasNoRefresh, IsJobScript, IsPlain, JobWork, is_refresh, job_work}
+use Rattle.app_run.specs.JobInputs.{AreJobFiles, AreJobInputs, AreJobScripts, Follows, HasNoRefresh, IsJobScript, IsPlain, IsWorkOver, JobWork, is_refresh, job_base, job_work, with_kept}
+use Rattle.app_run.specs.JobMeaning.{IsDiskTold, NamesNoJournal}
+use Rattle.app_run.specs.Journals.{IsKept, IsToldFor, Named}
+use Rattle.app_run.proofs.KeptAlike.{kept_alike, kept_not_absent}
+use Rattle.base_schema.specs.State.{State}
+use Rattle.store_state.specs.Refresh.{Change}
 use Rattle.app_inputs.specs.JobFile.{job_in}
 use Rattle.app_inputs.specs.declared.input_error.InputFault.TheVariants as fault
 use Rattle.app_run.proofs.OneWork.{AreAlike, script_steps_alike}
@@ -76,9 +81,9 @@ all_scripts_alike folder (name ∷ names) a b (first, is, then) (first', is', th
         let alike = further_alike (λ others. Ok (steps ∷ others)) more more' (rest more more' are are') in
         subst (λ x. AreAlike x b) (sym made) (subst (λ y. AreAlike (and_then more (λ others. Ok (steps ∷ others))) y) (sym made') alike)
 
--- a job's inputs are alike
-pub job_inputs_alike : (dir job : List ℕ) (folder : Folder) (a b : Result JobWork BadInput) → AreJobInputs dir job folder a → AreJobInputs dir job folder b → AreAlike a b
-job_inputs_alike dir job folder a b x y = follows_alike _ each (job_in job (file_of folder job)) (job_in job (file_of folder job)) a b (inl refl) x y
+-- a job's files are alike
+pub job_files_alike : (dir job : List ℕ) (folder : Folder) (a b : Result JobWork BadInput) → AreJobFiles dir job folder a → AreJobFiles dir job folder b → AreAlike a b
+job_files_alike dir job folder a b x y = follows_alike _ each (job_in job (file_of folder job)) (job_in job (file_of folder job)) a b (inl refl) x y
   where
     each : (parts : JobParts) (a b : Result JobWork BadInput)
         → ((scripts : Result (List (List Statement)) BadInput) × AreJobScripts folder parts.scripts scripts × (a ≡ and_then scripts (job_work dir folder parts)))
@@ -87,3 +92,85 @@ job_inputs_alike dir job folder a b x y = follows_alike _ each (job_in job (file
     each parts a b (scripts, are, made) (scripts', are', made') =
         let alike = further_alike (job_work dir folder parts) scripts scripts' (all_scripts_alike folder parts.scripts scripts scripts' are are') in
         subst (λ x. AreAlike x b) (sym made) (subst (λ y. AreAlike (and_then scripts (job_work dir folder parts)) y) (sym made') alike)
+
+-- the work of a job's files has the journal that the job's file names
+pub names_journal : (dir job : List ℕ) (folder : Folder) (work : JobWork) → AreJobFiles dir job folder (Ok work)
+    → (parts : JobParts) × (job_in job (file_of folder job) ≡ Ok parts) × (work.journal ≡ parts.journal)
+names_journal dir job folder work x = at (job_in job (file_of folder job)) refl x
+  where
+    made : (parts : JobParts) (scripts : Result (List (List Statement)) BadInput) → Ok work ≡ and_then scripts (job_work dir folder parts) → work.journal ≡ parts.journal
+    made parts (Err refused) is = absurd (cc)
+    made parts (Ok scripts) is = based (job_base dir parts.refreshes folder) is
+      where
+        based : (base : Result (State × List Change) BadInput)
+            → Ok work ≡ and_then base (λ r. Ok (record { scripts = scripts; base = r.0; list = r.1; before = parts.before; senders = parts.senders; journal = parts.journal; kept = [] }))
+            → work.journal ≡ parts.journal
+        based (Err refused) e = absurd (cc)
+        based (Ok r) e = let same : work ≡ record { scripts = scripts; base = r.0; list = r.1; before = parts.before; senders = parts.senders; journal = parts.journal; kept = [] } = cc in ap (λ (w : JobWork). w.journal) same
+
+    at : (read : Result JobParts BadInput) → job_in job (file_of folder job) ≡ read
+        → Follows read (λ parts result. (scripts : Result (List (List Statement)) BadInput) × AreJobScripts folder parts.scripts scripts × (result ≡ and_then scripts (job_work dir folder parts))) (Ok work)
+        → (parts : JobParts) × (job_in job (file_of folder job) ≡ Ok parts) × (work.journal ≡ parts.journal)
+    at (Err refused) is follows = absurd (cc)
+    at (Ok parts) is (scripts, are, e) = (parts, is, made parts scripts e)
+
+-- what two readings of a told journal give is alike, and so is what is worked on over it
+over_alike : (named : Named) (work : JobWork) (a b : Result JobWork BadInput) → IsToldFor work.journal named → IsWorkOver named work a → IsWorkOver named work b → AreAlike a b
+over_alike named work a b told (kept, is, made) (kept', is', made') =
+    let alike = further_alike (λ changes. Ok (with_kept work changes)) kept kept' (kept_alike work.journal work.base named kept kept' told is is') in
+    subst (λ x. AreAlike x b) (sym made) (subst (λ y. AreAlike (and_then kept (λ changes. Ok (with_kept work changes))) y) (sym made') alike)
+
+-- a job's inputs are alike, where the disk is told if it has a journal
+pub told_inputs_alike : (dir job : List ℕ) (folder : Folder) (named : Named) (a b : Result JobWork BadInput) → IsDiskTold job folder named
+    → AreJobInputs dir job folder named a → AreJobInputs dir job folder named b → AreAlike a b
+told_inputs_alike dir job folder named a b told (read, files, over) (read', files', over') = at read read' files over over' (job_files_alike dir job folder read read' files files')
+  where
+    at : (one other : Result JobWork BadInput) → AreJobFiles dir job folder one → Follows one (IsWorkOver named) a → Follows other (IsWorkOver named) b → AreAlike one other → AreAlike a b
+    at one other are x y (inr (first, second, is, is', p, q)) =
+        inr (first, second, subst (λ o. Follows o (IsWorkOver named) a) is x, subst (λ o. Follows o (IsWorkOver named) b) is' y, p, q)
+    at (Err refused) other are x y (inl e) = inl (x ∙ sym (subst (λ o. Follows o (IsWorkOver named) b) (sym e) y))
+    at (Ok work) other are x y (inl e) =
+        let names = names_journal dir job folder work are in
+        let is_told : IsToldFor work.journal named = subst (λ j. IsToldFor j named) (sym names.2) (told names.0 names.1) in
+        over_alike named work a b is_told x (subst (λ o. Follows o (IsWorkOver named) b) (sym e) y)
+
+-- where the job's file names no journal, the disk doesn't matter
+pub trial_inputs_alike : (dir job : List ℕ) (folder : Folder) (one other : Named) (a b : Result JobWork BadInput) → NamesNoJournal job (Some folder)
+    → AreJobInputs dir job folder one a → AreJobInputs dir job folder other b → AreAlike a b
+trial_inputs_alike dir job folder one other a b none (read, files, over) (read', files', over') = at read read' files over over' (job_files_alike dir job folder read read' files files')
+  where
+    same : (work : JobWork) → work.journal ≡ None → IsWorkOver one work a → IsWorkOver other work b → AreAlike a b
+    same work no (kept, is, made) (kept', is', made') =
+        let nothing : kept ≡ Ok [] = subst (λ j. IsKept j work.base one kept) no is in
+        let nothing' : kept' ≡ Ok [] = subst (λ j. IsKept j work.base other kept') no is' in
+        inl (made ∙ ap (λ k. and_then k (λ changes. Ok (with_kept work changes))) (nothing ∙ sym nothing') ∙ sym made')
+
+    at : (x y : Result JobWork BadInput) → AreJobFiles dir job folder x → Follows x (IsWorkOver one) a → Follows y (IsWorkOver other) b → AreAlike x y → AreAlike a b
+    at x y are p q (inr (first, second, is, is', n, m)) =
+        inr (first, second, subst (λ o. Follows o (IsWorkOver one) a) is p, subst (λ o. Follows o (IsWorkOver other) b) is' q, n, m)
+    at (Err refused) y are p q (inl e) = inl (p ∙ sym (subst (λ o. Follows o (IsWorkOver other) b) (sym e) q))
+    at (Ok work) y are p q (inl e) =
+        let names = names_journal dir job folder work are in
+        same work (names.2 ∙ none names.0 names.1) p (subst (λ o. Follows o (IsWorkOver other) b) (sym e) q)
+
+-- where one reading of a job's inputs is refused for an absent file, each is
+pub job_absence : (dir job : List ℕ) (folder : Folder) (named : Named) (a b : Result JobWork BadInput) (absent : BadInput) → absent.fault ≡ fault.Absent
+    → AreJobInputs dir job folder named a → AreJobInputs dir job folder named b → b ≡ Err absent → a ≡ Err absent
+job_absence dir job folder named a b absent gone (read, files, over) (read', files', over') is = at read read' over over' (job_files_alike dir job folder read read' files files')
+  where
+    of_err : (x y : BadInput) → ◌≡◌ {A = Result JobWork BadInput} (Err x) (Err y) → x ≡ y
+    of_err x y e = cc
+
+    not_of_journal : (work : JobWork) → IsWorkOver named work b → ⊥
+    not_of_journal work (kept, keeps, made) = given kept keeps (sym is ∙ made)
+      where
+        given : (k : Result (List Change) BadInput) → IsKept work.journal work.base named k → Err absent ≡ and_then k (λ changes. Ok (with_kept work changes)) → ⊥
+        given (Ok changes) x e = cc
+        given (Err refused) x e = let same : absent ≡ refused = cc in kept_not_absent work.journal work.base named refused x (subst (λ (r : BadInput). r.fault ≡ fault.Absent) same gone)
+
+    at : (one other : Result JobWork BadInput) → Follows one (IsWorkOver named) a → Follows other (IsWorkOver named) b → AreAlike one other → a ≡ Err absent
+    at one (Ok work) x y alike = absurd (not_of_journal work y)
+    at one (Err refused) x y (inl e) = subst (λ o. Follows o (IsWorkOver named) a) e x ∙ sym y ∙ is
+    at one (Err refused) x y (inr (first, second, same, same', p, q)) =
+        let other : second ≡ absent = of_err second absent (sym (subst (λ o. Follows o (IsWorkOver named) b) same' y) ∙ is) in
+        absurd (q (ap (λ (r : BadInput). r.fault) other ∙ gone))

@@ -1,5 +1,5 @@
 -- What was read of a job's inputs one after another, where the contents of the files may be known.
-use Rattle.std.proofs.Common.{◌≡◌, ◌∙◌, ℕ, List, Option, None, Some, sym, subst}
+use Rattle.std.proofs.Common.{◌≡◌, ◌∙◌, ℕ, List, [], Option, None, Some, sym, subst}
 use Rattle.std.specs.declared.result.Result.{Result}
 use Rattle.std.specs.declared.result.Result.TheVariants.{Ok, Err}
 use Rattle.app_job_file.specs.Files.{JobParts}
@@ -7,7 +7,7 @@ use Rattle.sql_ast.specs.declared.statement.Statement.{Statement}
 use Rattle.store_state.specs.Refresh.{Change}
 use Rattle.base_io.specs.Outside.{Folder, file_of}
 use Rattle.base_schema.specs.State.{State}
-use Rattle.app_run.specs.JobInputs.{AreJobInputs, AreJobScripts, JobWork, job_base}
+use Rattle.app_run.specs.JobInputs.{AreJobFiles, AreJobScripts, JobWork, job_base}
 use Rattle.app_inputs.specs.JobFile.{job_in}
 use Rattle.app_inputs.specs.Views.{Explains, Finds, IfKnown, refused_view}
 use Rattle.app_inputs.specs.declared.input_error.InputError.{InputError}
@@ -16,7 +16,7 @@ use Rattle.app_run.proofs.JobPlayed.{job_base_refused, job_read, job_refused, jo
 
 -- a refused job
 pub job_unread : {A : Type 0} → (view : A → JobWork) (dir job : List ℕ) (held : Option Folder) (made : InputError) → Explains held (λ folder. job_in job (file_of folder job)) made
-    → Finds view held (AreJobInputs dir job) (Err made)
+    → Finds view held (AreJobFiles dir job) (Err made)
 job_unread view dir job held (error.Unread unread) explains = tt
 job_unread view dir job None (error.Refused refusal) explains = tt
 job_unread view dir job (Some folder) (error.Refused refusal) explains = job_refused dir job folder (refused_view refusal) explains
@@ -24,7 +24,7 @@ job_unread view dir job (Some folder) (error.Refused refusal) explains = job_ref
 -- a refused script of a job
 pub scripts_unread : {A B : Type 0} → (views : B → List (List Statement)) (view : A → JobWork) (dir job : List ℕ) (held later : Option Folder) (parts : JobParts) (made : InputError) → later ≡ held
     → IfKnown held (λ folder. job_in job (file_of folder job) ≡ Ok parts) → Finds views later (λ folder. AreJobScripts folder parts.scripts) (Err made)
-    → Finds view held (AreJobInputs dir job) (Err made)
+    → Finds view held (AreJobFiles dir job) (Err made)
 scripts_unread views view dir job held later parts (error.Unread unread) same is are = tt
 scripts_unread views view dir job None later parts (error.Refused refusal) same is are = tt
 scripts_unread views view dir job (Some folder) None parts (error.Refused refusal) same is are = absurd (cc)
@@ -36,7 +36,7 @@ scripts_unread views view dir job (Some folder) (Some other) parts (error.Refuse
 pub base_unread : {A : Type 0} → (view : A → JobWork) (dir job : List ℕ) (held later last : Option Folder) (parts : JobParts) (scripts : List (List Statement)) (made : InputError) → later ≡ held → last ≡ held
     → IfKnown held (λ folder. job_in job (file_of folder job) ≡ Ok parts) → IfKnown later (λ folder. AreJobScripts folder parts.scripts (Ok scripts))
     → Explains last (job_base dir parts.refreshes) made
-    → Finds view held (AreJobInputs dir job) (Err made)
+    → Finds view held (AreJobFiles dir job) (Err made)
 base_unread view dir job held later last parts scripts (error.Unread unread) same end is are explains = tt
 base_unread view dir job None later last parts scripts (error.Refused refusal) same end is are explains = tt
 base_unread view dir job (Some folder) None last parts scripts (error.Refused refusal) same end is are explains = absurd (cc)
@@ -51,7 +51,7 @@ base_unread view dir job (Some folder) (Some other) (Some third) parts scripts (
 pub inputs_read : (dir job : List ℕ) (held later last : Option Folder) (parts : JobParts) (scripts : List (List Statement)) (base : State) (list : List Change) → later ≡ held → last ≡ held
     → IfKnown held (λ folder. job_in job (file_of folder job) ≡ Ok parts) → IfKnown later (λ folder. AreJobScripts folder parts.scripts (Ok scripts))
     → IfKnown last (λ folder. job_base dir parts.refreshes folder ≡ Ok (base, list))
-    → IfKnown held (λ folder. AreJobInputs dir job folder (Ok (record { scripts = scripts; base = base; list = list; before = parts.before; senders = parts.senders })))
+    → IfKnown held (λ folder. AreJobFiles dir job folder (Ok (record { scripts = scripts; base = base; list = list; before = parts.before; senders = parts.senders; journal = parts.journal; kept = [] })))
 inputs_read dir job None later last parts scripts base list same end is are read = tt
 inputs_read dir job (Some folder) None last parts scripts base list same end is are read = absurd (cc)
 inputs_read dir job (Some folder) (Some other) None parts scripts base list same end is are read = absurd (cc)

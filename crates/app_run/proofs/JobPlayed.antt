@@ -13,7 +13,7 @@ use Rattle.store_state.specs.Refresh.{Change}
 use Rattle.base_io.specs.Outside.{Folder, file_of}
 use Rattle.base_schema.specs.State.{State}
 use Rattle.app_inputs.specs.Inputs.{BadInput, and_then}
-use Rattle.app_run.specs.JobInputs.{AreJobInputs, AreJobScripts, JobWork, job_base, job_work}
+use Rattle.app_run.specs.JobInputs.{AreJobFiles, AreJobScripts, JobWork, job_base, job_work}
 use Rattle.app_inputs.specs.JobFile.{job_in}
 use Rattle.app_run.specs.JobMeaning.{IsTextInOrder, MeansJob, session_with}
 use Rattle.app_run.specs.JobViews.{ShowRows, steps_of, work_view}
@@ -32,28 +32,30 @@ shown shows (s ∷ ss) all =
     ∙ ap (λ l. session_with shows s.steps ∷ l) (shown shows ss (λ i d less. all (suc i) d (omega (arith, less))))
 
 -- the text of a job is what its work means
-pub job_means : (shows : Bool) (sources : JobSources) (job : JobAnswer) (text : List ℕ) (s : Status) → ShowRows shows sources.sessions.items
-    → IsTextInOrder (work_view sources) (job_sessions sources.sessions.items) job → text ≡ job.text → s ≡ (if job.is_clean then Done else SomeRefused)
-    → MeansJob shows (work_view sources) text s
-job_means shows sources job text s all is text_is status_is =
-    (job, subst (λ (l : List JobSession). IsTextInOrder (work_view sources) l job) (shown shows sources.sessions.items all) is, text_is, status_is)
+pub job_means : (shows : Bool) (reads : Option (List ℕ)) (work : JobWork) (sources : JobSources) (job : JobAnswer) (text : List ℕ) (s : Status) → ShowRows shows sources.sessions.items
+    → work.scripts ≡ map steps_of sources.sessions.items → IsTextInOrder work reads (job_sessions sources.sessions.items) job → text ≡ job.text → s ≡ (if job.is_clean then Done else SomeRefused)
+    → MeansJob shows reads work text s
+job_means shows reads work sources job text s all scripts is text_is status_is =
+    let same : job_sessions sources.sessions.items ≡ map (session_with shows) work.scripts =
+    shown shows sources.sessions.items all ∙ ap (λ (l : List (List Statement)). map (session_with shows) l) (sym scripts) in
+    (job, subst (λ (l : List JobSession). IsTextInOrder work reads l job) same is, text_is, status_is)
 
 -- a refused job
-pub job_refused : (dir job : List ℕ) (folder : Folder) (refused : BadInput) → job_in job (file_of folder job) ≡ Err refused → AreJobInputs dir job folder (Err refused)
+pub job_refused : (dir job : List ℕ) (folder : Folder) (refused : BadInput) → job_in job (file_of folder job) ≡ Err refused → AreJobFiles dir job folder (Err refused)
 job_refused dir job folder refused is = rw is refl
 
 -- a refused script of a job
 pub job_script_refused : (dir job : List ℕ) (folder : Folder) (parts : JobParts) (refused : BadInput) → job_in job (file_of folder job) ≡ Ok parts → AreJobScripts folder parts.scripts (Err refused)
-    → AreJobInputs dir job folder (Err refused)
+    → AreJobFiles dir job folder (Err refused)
 job_script_refused dir job folder parts refused is are = rw is (Err refused, are, refl)
 
 -- a refused table, or a refresh file that is absent
 pub job_base_refused : (dir job : List ℕ) (folder : Folder) (parts : JobParts) (scripts : List (List Statement)) (refused : BadInput) → job_in job (file_of folder job) ≡ Ok parts
-    → AreJobScripts folder parts.scripts (Ok scripts) → job_base dir parts.refreshes folder ≡ Err refused → AreJobInputs dir job folder (Err refused)
+    → AreJobScripts folder parts.scripts (Ok scripts) → job_base dir parts.refreshes folder ≡ Err refused → AreJobFiles dir job folder (Err refused)
 job_base_refused dir job folder parts scripts refused is are base = rw is (Ok scripts, are, rw base refl)
 
 -- all inputs of a job were read
 pub job_read : (dir job : List ℕ) (folder : Folder) (parts : JobParts) (scripts : List (List Statement)) (base : State) (list : List Change) → job_in job (file_of folder job) ≡ Ok parts
     → AreJobScripts folder parts.scripts (Ok scripts) → job_base dir parts.refreshes folder ≡ Ok (base, list)
-    → AreJobInputs dir job folder (Ok (record { scripts = scripts; base = base; list = list; before = parts.before; senders = parts.senders }))
+    → AreJobFiles dir job folder (Ok (record { scripts = scripts; base = base; list = list; before = parts.before; senders = parts.senders; journal = parts.journal; kept = [] }))
 job_read dir job folder parts scripts base list is are read = rw is (Ok scripts, are, rw read refl)

@@ -10,8 +10,17 @@ mod OneText
 mod Orders
 mod Taken
 mod JobScripts
+mod KeptAlike
+mod KeptFed
+mod KeptRun
+mod KeptWhole
+mod KeptPlayed
+mod KeptJoined
+mod KeptSent
+mod Reached
 mod JobAlike
 mod JobPlayed
+mod JobOver
 mod JobReading
 mod JobHeld
 mod TrialFiles

@@ -29,12 +29,12 @@ same_inputs a b none (inl e) = e
 same_inputs a b none (inr (first, second, one, two, p, q)) = absurd (cc)
 
 pub text_law : TextLaw
-text_law (explain script) folder text other s r one accepted x y = absurd one
-text_law (throughput dir job) folder text other s r one accepted x y = absurd one
-text_law (trial number) folder text other s r one accepted x y = absurd one
-text_law (check dir) folder text other s r one accepted x y =
+text_law (explain script) folder disk text other s r one accepted x y = absurd one
+text_law (throughput dir job) folder disk text other s r one accepted x y = absurd one
+text_law (trial number) folder disk text other s r one accepted x y = absurd one
+text_law (check dir) folder disk text other s r one (accepted, told) x y =
     one_text MeansCheck (λ state a b p q m n. (m.0 ∙ sym n.0, m.1 ∙ sym n.1)) (state_in dir folder) text other s r accepted x y
-text_law (session dir script) folder text other s r only (inputs, are, none) (one, is, x) (two, is', y) =
+text_law (session dir script) folder disk text other s r only ((inputs, are, none), told) (one, is, x) (two, is', y) =
     let first = same_inputs one inputs none (inputs_alike dir script folder one inputs is are) in
     let second = same_inputs two inputs none (inputs_alike dir script folder two inputs is' are) in
     one_text MeansSession (λ work a b p q m n. (m.0 ∙ sym n.0, m.1 ∙ sym n.1)) inputs text other s r none

@@ -1,5 +1,5 @@
 -- The orders in which the refreshes of a job may be tried.
-use Rattle.std.proofs.Common.{◌≡◌, ◌∙◌, ℕ, ◌+◌, ◌-◌, ◌<◌, ◌≤◌, List, [], ◌∷◌, ◌++◌, length, take, drop, map, ap, arith, refl, subst, sym}
+use Rattle.std.proofs.Common.{◌≡◌, ◌∙◌, ℕ, ◌+◌, ◌-◌, ◌<◌, ◌≤◌, List, [], ◌∷◌, ◌++◌, Option, None, length, take, drop, map, ap, arith, refl, subst, sym}
 use Rattle.std.specs.Prelude.{◌↔◌}
 use Rattle.std.specs.List.{zip}
 use Rattle.std.proofs.Math.Seq.{take-length}
@@ -13,7 +13,9 @@ use Rattle.store_gateway.specs.declared.message.SenderId.TheVariants.{First, Sec
 use Rattle.store_snapshots.specs.Turns.{from_nobody}
 use Rattle.store_state.specs.Refresh.{Change}
 use Rattle.app_run.specs.JobInputs.{JobWork}
-use Rattle.app_run.specs.JobMeaning.{IsTextInOrder}
+use Rattle.app_run.specs.JobMeaning.{IsTextInOrder, whole_list}
+use Rattle.app_run.specs.Journals.{HoldsThen}
+use Rattle.store_state.specs.Versions.{taken}
 use Rattle.app_run.specs.JobOrders.{IsJobOrder, sent_of, unsent_count, unsent_of}
 use Rattle.app_run.specs.Laws.{UnsentLaw}
 use Rattle.app_run.specs.Senders.{IsSentText, order_sent}
@@ -54,25 +56,37 @@ one_order work order none is =
     is.whole ∙ ap (λ (sent : List (SenderId × Change)). from_nobody (unsent_of work) ++ numbered sent) empty
     ∙ append-nil (from_nobody (unsent_of work)) ∙ ap from_nobody (all_unsent work none)
 
-pub unsent_text : (work : JobWork) (sessions : List JobSession) (job : JobAnswer) → work.senders ≡ [] → IsJobText work.base work.list work.before sessions job → IsTextInOrder work sessions job
-unsent_text work sessions job none is = record { order = from_nobody work.list; allowed = unsent_order work none; text = is }
+pub unsent_text : (work : JobWork) (reads : Option (List ℕ)) (sessions : List JobSession) (job : JobAnswer) → work.senders ≡ []
+    → IsOrderText work.base (from_nobody work.kept ++ from_nobody work.list) (length work.kept) work.before sessions job
+    → HoldsThen work.journal (taken work.base (whole_list work (from_nobody work.list))) reads → IsTextInOrder work reads sessions job
+unsent_text work reads sessions job none is holds = record { order = from_nobody work.list; allowed = unsent_order work none; text = is; stored = holds }
 
-text_unsent : (work : JobWork) (sessions : List JobSession) (job : JobAnswer) → work.senders ≡ [] → IsTextInOrder work sessions job → IsJobText work.base work.list work.before sessions job
-text_unsent work sessions job none is =
-    subst (λ (order : RefreshOrder). IsOrderText work.base order 0 work.before sessions job) (one_order work is.order none is.allowed) is.text
+-- a job without a journal
+pub plain_text : (work : JobWork) (reads : Option (List ℕ)) (sessions : List JobSession) (job : JobAnswer) → work.senders ≡ [] → work.journal ≡ None → work.kept ≡ []
+    → IsJobText work.base work.list work.before sessions job → IsTextInOrder work reads sessions job
+plain_text work reads sessions job none no_journal nothing is =
+    unsent_text work reads sessions job none
+    (subst (λ (kept : List Change). IsOrderText work.base (from_nobody kept ++ from_nobody work.list) (length kept) work.before sessions job) (sym nothing) is)
+    (subst (λ (j : Option (List ℕ)). HoldsThen j (taken work.base (whole_list work (from_nobody work.list))) reads) (sym no_journal) tt)
+
+text_unsent : (work : JobWork) (reads : Option (List ℕ)) (sessions : List JobSession) (job : JobAnswer) → work.senders ≡ [] → work.kept ≡ [] → IsTextInOrder work reads sessions job
+    → IsJobText work.base work.list work.before sessions job
+text_unsent work reads sessions job none nothing is =
+    let own = subst (λ (kept : List Change). IsOrderText work.base (from_nobody kept ++ is.order) (length kept) work.before sessions job) nothing is.text in
+    subst (λ (order : RefreshOrder). IsOrderText work.base order 0 work.before sessions job) (one_order work is.order none is.allowed) own
 
 pub unsent_law : UnsentLaw
-unsent_law work sessions job none = (text_unsent work sessions job none, unsent_text work sessions job none)
+unsent_law work reads sessions job none no_journal nothing = (text_unsent work reads sessions job none nothing, plain_text work reads sessions job none no_journal nothing)
 
 -- where some are sent, the others come first
 
-before_sent : (work : JobWork) → work.before + length work.senders ≡ length work.list → unsent_count work ≡ work.before
+pub before_sent : (work : JobWork) → work.before + length work.senders ≡ length work.list → unsent_count work ≡ work.before
 before_sent work all = omega (arith, all)
 
-pub sent_text : (work : JobWork) (firsts seconds : List Change) (sessions : List JobSession) (job : JobAnswer) → work.before + length work.senders ≡ length work.list
+pub sent_text : (work : JobWork) (reads : Option (List ℕ)) (firsts seconds : List Change) (sessions : List JobSession) (job : JobAnswer) → work.journal ≡ None → work.kept ≡ [] → work.before + length work.senders ≡ length work.list
     → firsts ≡ sent_by First (zip work.senders (drop work.before work.list)) → seconds ≡ sent_by Second (zip work.senders (drop work.before work.list))
-    → IsSentText work.base (take work.before work.list) firsts seconds sessions job → IsTextInOrder work sessions job
-sent_text work firsts seconds sessions job all first second is =
+    → IsSentText work.base (take work.before work.list) firsts seconds sessions job → IsTextInOrder work reads sessions job
+sent_text work reads firsts seconds sessions job no_journal nothing all first second is =
     let count = before_sent work all in
     let sent : zip work.senders (drop work.before work.list) ≡ sent_of work = ap (λ n. zip work.senders (drop n work.list)) (sym count) in
     let short : length (take work.before work.list) ≡ work.before = length-take-le work.before work.list (omega (arith, all)) in
@@ -84,5 +98,7 @@ sent_text work firsts seconds sessions job all first second is =
         first = is.first ∙ first ∙ ap (sent_by First) sent;
         second = is.second ∙ second ∙ ap (sent_by Second) sent;
       };
-      text = subst (λ n. IsOrderText work.base (order_sent (take work.before work.list) is.sent) 0 n sessions job) short is.text;
+      text = subst (λ (kept : List Change). IsOrderText work.base (from_nobody kept ++ order_sent (take work.before work.list) is.sent) (length kept) work.before sessions job) (sym nothing)
+          (subst (λ n. IsOrderText work.base (order_sent (take work.before work.list) is.sent) 0 n sessions job) short is.text);
+      stored = subst (λ (j : Option (List ℕ)). HoldsThen j (taken work.base (whole_list work (order_sent (take work.before work.list) is.sent))) reads) (sym no_journal) tt;
     }

@@ -46,6 +46,11 @@ rest_of P zero list all = all
 rest_of P (suc count) [] all = tt
 rest_of P (suc count) (c ∷ cs) all = rest_of P count cs all.1
 
+pub front_of : (P : Change → Type 0) (count : ℕ) (list : List Change) → AllByRecursion P list → AllByRecursion P (take count list)
+front_of P zero list all = tt
+front_of P (suc count) [] all = tt
+front_of P (suc count) (c ∷ cs) all = (all.0, front_of P count cs all.1)
+
 -- what holds of all that is sent holds of what one sender sends
 one_of : (P : Change → Type 0) (mine : Bool) (change : Change) (others : List Change) → P change → AllByRecursion P others → AllByRecursion P (cond mine (change ∷ others) others)
 one_of P true change others is are = (is, are)
@@ -74,14 +79,19 @@ order_counted list sent =
     omega (arith, a, b, c)
 
 -- so it is not too little
-pub never_few : (list firsts seconds : List Change) (taken : List (SenderId × Change)) (most : ℕ) → sent_from 1 (numbered taken) ≡ firsts → sent_from 2 (numbered taken) ≡ seconds
+pub not_few : (list firsts seconds : List Change) (taken : List (SenderId × Change)) (most : ℕ) → sent_by First taken ≡ firsts → sent_by Second taken ≡ seconds
     → length list + (length firsts + length seconds) ≡ most → length (order_sent list taken) < most → ⊥
-never_few list firsts seconds taken most first second all few =
-    let a : length (sent_by First taken) ≡ length firsts = ap length (of_sender First taken firsts first) in
-    let b : length (sent_by Second taken) ≡ length seconds = ap length (of_sender Second taken seconds second) in
+not_few list firsts seconds taken most first second all few =
+    let a : length (sent_by First taken) ≡ length firsts = ap length first in
+    let b : length (sent_by Second taken) ≡ length seconds = ap length second in
     let c = both_counted taken in
     let d = order_counted list taken in
     absurd (omega (arith, a, b, c, d, all, few))
+
+pub never_few : (list firsts seconds : List Change) (taken : List (SenderId × Change)) (most : ℕ) → sent_from 1 (numbered taken) ≡ firsts → sent_from 2 (numbered taken) ≡ seconds
+    → length list + (length firsts + length seconds) ≡ most → length (order_sent list taken) < most → ⊥
+never_few list firsts seconds taken most first second all few =
+    not_few list firsts seconds taken most (of_sender First taken firsts first) (of_sender Second taken seconds second) all few
 
 -- and a text in the order in which it was taken is one in an order that keeps each sender's own
 pub text_sent : (base : State) (list firsts seconds : List Change) (taken : List (SenderId × Change)) (sessions : List JobSession) (job : JobAnswer)

@@ -13,11 +13,13 @@ use Rattle.app_run.specs.Meaning.{IsAbsentInput, IsFirstRefused, MeansCheck, Mea
 use Rattle.app_inputs.specs.Printing.{IsAnswer, IsDone, PrintsOf}
 use Rattle.app_run.specs.ScriptPlans.{MeansExplained}
 use Rattle.app_inputs.specs.Views.{Explains, IfKnown, IsAbsence, refused_view}
-use Rattle.app_run.specs.Views.{IsTextOf}
-use Rattle.app_run.specs.JobMeaning.{MeansJob, PrintsJob}
-use Rattle.app_run.specs.JobViews.{IsTextOfJob}
+use Rattle.app_run.specs.Views.{IsDiskFault, IsOutputOf, IsSameOutput, IsTextOf, MayGive}
+use Rattle.app_run.specs.declared.output.Output.{Output}
+use Rattle.app_run.specs.declared.output.Output.TheVariants as output
+use Rattle.app_run.specs.JobMeaning.{DiskTold, MeansJob, PrintsJob}
+use Rattle.app_run.specs.JobViews.{IsOutputOfJob}
 use Rattle.app_inputs.specs.Words.{Command, IsOverFiles}
-use Rattle.app_run.proofs.JobAlike.{job_inputs_alike}
+use Rattle.app_run.proofs.JobAlike.{job_absence}
 use Rattle.app_inputs.specs.Words.Command.{check, explain, session, throughput, trial}
 use Rattle.app_inputs.specs.declared.input_error.InputFault.TheVariants as fault
 use Rattle.app_inputs.specs.declared.input_error.InputError.{InputError}
@@ -28,33 +30,33 @@ use Rattle.app_inputs.specs.declared.status.Status.TheVariants as status
 use Rattle.app_run.proofs.OneWork.{AreAlike, inputs_alike, script_steps_alike}
 
 -- the counts of a folder whose tables are there
-pub check_printed : (dir : List ℕ) (held : Option Folder) (text : List ℕ) → IfKnown held (λ folder. (state : State) × (state_in dir folder ≡ Ok state) × (text ≡ counts_text state)) → Prints (Some (check dir)) held text status.Done
-check_printed dir None text told = inl refl
-check_printed dir (Some folder) text (state, is, means) = subst (λ (r : Result State BadInput). PrintsOf MeansCheck r text status.Done) (sym is) (means, refl)
+pub check_printed : (dir : List ℕ) (held : Option Folder) (text : List ℕ) → IfKnown held (λ folder. (state : State) × (state_in dir folder ≡ Ok state) × (text ≡ counts_text state)) → (disk : DiskTold) → Prints (Some (check dir)) held disk text status.Done
+check_printed dir None text told disk = inl refl
+check_printed dir (Some folder) text (state, is, means) disk = subst (λ (r : Result State BadInput). PrintsOf MeansCheck r text status.Done) (sym is) (means, refl)
 
 -- a refused table of a check
-pub check_refused : (dir : List ℕ) (held : Option Folder) (made : InputError) → Explains held (state_in dir) made → IsTextOf (check dir) held (Err made)
-check_refused dir held (error.Unread unread) explains = tt
-check_refused dir None (error.Refused refusal) explains = tt
-check_refused dir (Some folder) (error.Refused refusal) explains = sym (ap result_err explains)
+pub check_refused : (dir : List ℕ) (held : Option Folder) (made : InputError) → Explains held (state_in dir) made → (disk : DiskTold) → IsTextOf (check dir) held disk (Err made)
+check_refused dir held (error.Unread unread) explains disk = tt
+check_refused dir None (error.Refused refusal) explains disk = tt
+check_refused dir (Some folder) (error.Refused refusal) explains disk = sym (ap result_err explains)
 
 -- a session's status
-pub session_may_end : (dir script : List ℕ) (held : Option Folder) (text : List ℕ) (s : Status) → IsDone s → IfKnown held (λ folder. PrintsFrom (session dir script) folder text s) → Prints (Some (session dir script)) held text s
-session_may_end dir script None text s (inl e) told = inl e
-session_may_end dir script None text s (inr e) told = inr (inl e)
-session_may_end dir script (Some folder) text s done told = told
+pub session_may_end : (dir script : List ℕ) (held : Option Folder) (disk : DiskTold) (text : List ℕ) (s : Status) → IsDone s → IfKnown held (λ folder. PrintsFrom (session dir script) folder disk text s) → Prints (Some (session dir script)) held disk text s
+session_may_end dir script None disk text s (inl e) told = inl e
+session_may_end dir script None disk text s (inr e) told = inr (inl e)
+session_may_end dir script (Some folder) disk text s done told = told
 
 -- the status of statements that are explained
-pub explained_may_end : (script : List ℕ) (held : Option Folder) (text : List ℕ) (s : Status) → IsDone s → IfKnown held (λ folder. PrintsFrom (explain script) folder text s) → Prints (Some (explain script)) held text s
-explained_may_end script None text s (inl e) told = inl e
-explained_may_end script None text s (inr e) told = inr (inl e)
-explained_may_end script (Some folder) text s done told = told
+pub explained_may_end : (script : List ℕ) (held : Option Folder) (disk : DiskTold) (text : List ℕ) (s : Status) → IsDone s → IfKnown held (λ folder. PrintsFrom (explain script) folder disk text s) → Prints (Some (explain script)) held disk text s
+explained_may_end script None disk text s (inl e) told = inl e
+explained_may_end script None disk text s (inr e) told = inr (inl e)
+explained_may_end script (Some folder) disk text s done told = told
 
 -- a job's status
-pub job_may_end : (dir job : List ℕ) (held : Option Folder) (text : List ℕ) (s : Status) → IsDone s → IfKnown held (λ folder. PrintsJob true dir job folder text s) → Prints (Some (throughput dir job)) held text s
-job_may_end dir job None text s (inl e) told = inl e
-job_may_end dir job None text s (inr e) told = inr (inl e)
-job_may_end dir job (Some folder) text s done told = told
+pub job_may_end : (dir job : List ℕ) (held : Option Folder) (disk : DiskTold) (text : List ℕ) (s : Status) → IsDone s → IfKnown held (λ folder. PrintsJob true dir job folder disk text s) → Prints (Some (throughput dir job)) held disk text s
+job_may_end dir job None disk text s (inl e) told = inl e
+job_may_end dir job None disk text s (inr e) told = inr (inl e)
+job_may_end dir job (Some folder) disk text s done told = told
 
 -- a text was printed whole with such a status
 pub done_answers : (s : Status) → IsDone s → IsAnswer s
@@ -68,21 +70,21 @@ line_printed Means (Err refused) first is =
     let same : first ≡ refused = cc in
     (ap refusal_line same, refl)
 
-first_printed : (command : Command) (folder : Folder) (first : BadInput) → IsFirstRefused command folder (Some first) → PrintsFrom command folder (refusal_line first) status.InputRefused
-first_printed (session dir script) folder first (inputs, are, is) = (inputs, are, line_printed MeansSession inputs first is)
-first_printed (explain script) folder first (steps, are, is) = (steps, are, line_printed MeansExplained steps first is)
-first_printed (throughput dir job) folder first (inputs, are, is) = (inputs, are, line_printed (MeansJob true) inputs first is)
-first_printed (trial number) folder first (none, accepted) = absurd (cc)
-first_printed (check dir) folder first is = line_printed MeansCheck (state_in dir folder) first is
+first_printed : (command : Command) (folder : Folder) (disk : DiskTold) (first : BadInput) → IsFirstRefused command folder disk.named (Some first) → PrintsFrom command folder disk (refusal_line first) status.InputRefused
+first_printed (session dir script) folder disk first (inputs, are, is) = (inputs, are, line_printed MeansSession inputs first is)
+first_printed (explain script) folder disk first (steps, are, is) = (steps, are, line_printed MeansExplained steps first is)
+first_printed (throughput dir job) folder disk first (inputs, are, is) = (inputs, are, line_printed (MeansJob true disk.reads) inputs first is)
+first_printed (trial number) folder disk first (none, accepted) = absurd (cc)
+first_printed (check dir) folder disk first is = line_printed MeansCheck (state_in dir folder) first is
 
 -- the line of a command's first refused input is printed
-pub refusal_printed : (command : Command) (held : Option Folder) (refusal : RefusedInput) → IsOverFiles command → IsTextOf command held (Err (error.Refused refusal)) → Prints (Some command) held (refusal_line (refused_view refusal)) status.InputRefused
-refusal_printed (session dir script) None refusal over is = inr (inr refl)
-refusal_printed (throughput dir job) None refusal over is = inr (inr refl)
-refusal_printed (explain script) None refusal over is = inr (inr refl)
-refusal_printed (check dir) None refusal over is = inr refl
-refusal_printed (trial number) None refusal over is = absurd over
-refusal_printed command (Some folder) refusal over is = first_printed command folder (refused_view refusal) is
+pub refusal_printed : (command : Command) (held : Option Folder) (disk : DiskTold) (refusal : RefusedInput) → IsOverFiles command → IsOutputOf command held disk (Err (error.Refused refusal)) → Prints (Some command) held disk (refusal_line (refused_view refusal)) status.InputRefused
+refusal_printed (session dir script) None disk refusal over is = inr (inr refl)
+refusal_printed (throughput dir job) None disk refusal over is = inr (inr refl)
+refusal_printed (explain script) None disk refusal over is = inr (inr refl)
+refusal_printed (check dir) None disk refusal over is = inr refl
+refusal_printed (trial number) None disk refusal over is = absurd over
+refusal_printed command (Some folder) disk refusal over is = first_printed command folder disk (refused_view refusal) is
 
 -- a status is not two
 not_refused : (s : Status) → IsDone s → s ≡ status.InputRefused → ⊥
@@ -104,19 +106,30 @@ answered_alike Means inputs others text s absent (inl e) prints done gone = answ
 answered_alike Means inputs others text s absent (inr (first, second, one, two, p, q)) prints done gone = answered_there Means inputs text s first prints done one
 
 -- a command that is answered has no absent input
-pub text_without_absence : (command : Command) (held : Option Folder) (text : List ℕ) (s : Status) → Prints (Some command) held text s → IsDone s → IsAbsentInput (Some command) held → ⊥
-text_without_absence command None text s prints done absent = absent
-text_without_absence (check dir) (Some folder) text s prints done (name, is) = answered_there MeansCheck (state_in dir folder) text s _ prints done (refused_is (state_in dir folder) _ is)
-text_without_absence (session dir script) (Some folder) text s (inputs, are, prints) done (name, (others, are', is)) =
+pub text_without_absence : (command : Command) (held : Option Folder) (disk : DiskTold) (text : List ℕ) (s : Status) → Prints (Some command) held disk text s → IsDone s → IsAbsentInput (Some command) held disk.named → ⊥
+text_without_absence command None disk text s prints done absent = absent
+text_without_absence (check dir) (Some folder) disk text s prints done (name, is) = answered_there MeansCheck (state_in dir folder) text s _ prints done (refused_is (state_in dir folder) _ is)
+text_without_absence (session dir script) (Some folder) disk text s (inputs, are, prints) done (name, (others, are', is)) =
     let gone = refused_is others (record { name = name; fault = fault.Absent }) is in
     answered_alike MeansSession inputs others text s _ (inputs_alike dir script folder inputs others are are') prints done gone
-text_without_absence (throughput dir job) (Some folder) text s (inputs, are, prints) done (name, (others, are', is)) =
+text_without_absence (throughput dir job) (Some folder) disk text s (inputs, are, prints) done (name, (others, are', is)) =
     let gone = refused_is others (record { name = name; fault = fault.Absent }) is in
-    answered_alike (MeansJob true) inputs others text s _ (job_inputs_alike dir job folder inputs others are are') prints done gone
-text_without_absence (trial number) (Some folder) text s prints done (name, (none, accepted)) = cc
-text_without_absence (explain script) (Some folder) text s (steps, are, prints) done (name, (others, are', is)) =
+    answered_there (MeansJob true disk.reads) inputs text s _ prints done (job_absence dir job folder disk.named inputs others (record { name = name; fault = fault.Absent }) refl are are' gone)
+text_without_absence (trial number) (Some folder) disk text s prints done (name, (none, accepted)) = cc
+text_without_absence (explain script) (Some folder) disk text s (steps, are, prints) done (name, (others, are', is)) =
     let gone = refused_is others (record { name = name; fault = fault.Absent }) is in
     answered_alike MeansExplained steps others text s _ (script_steps_alike script folder steps others are are') prints done gone
+
+-- what a command gives may be given
+pub gives : (command : Command) (held : Option Folder) (disk : DiskTold) (given : Output) → IsOutputOf command held disk (Ok given) → MayGive command held disk given
+gives command held disk (output.Text text s) (prints, done) = (done_answers s done, prints)
+gives command held disk output.DiskFault is = tt
+
+-- a command that gives a text has no absent input
+pub output_without_absence : (command : Command) (held : Option Folder) (disk : DiskTold) (given : Output) → IsOutputOf command held disk (Ok given) → (IsDiskFault given → ⊥)
+    → IsAbsentInput (Some command) held disk.named → ⊥
+output_without_absence command held disk (output.Text text s) (prints, done) whole absent = text_without_absence command held disk text.items s prints done absent
+output_without_absence command held disk output.DiskFault is whole absent = whole tt
 
 -- where the first refused input is an absent file, the refusal says so
 fault_of_input : (a b : BadInput) → Some a ≡ Some b → a.fault ≡ b.fault
@@ -127,19 +140,28 @@ absence_alike : {A : Type 0} → (inputs others : Result A BadInput) (refused ab
 absence_alike inputs others refused absent (inl e) gone is is' = fault_of_input refused absent (is ∙ ap result_err e ∙ sym is') ∙ gone
 absence_alike inputs others refused absent (inr (first, second, one, two, p, q)) gone is is' = absurd (q (fault_of_input second absent (sym (ap result_err two) ∙ sym is') ∙ gone))
 
-pub refusal_of_absence : (command : Command) (held : Option Folder) (refusal : RefusedInput) → IsTextOf command held (Err (error.Refused refusal)) → IsAbsentInput (Some command) held → IsAbsence (error.Refused refusal)
-refusal_of_absence command None refusal is absent = absurd absent
-refusal_of_absence (check dir) (Some folder) refusal is (name, absent) = fault_of_input (refused_view refusal) (record { name = name; fault = fault.Absent }) (is ∙ sym absent)
-refusal_of_absence (session dir script) (Some folder) refusal (inputs, are, is) (name, (others, are', absent)) =
+pub refusal_of_absence : (command : Command) (held : Option Folder) (disk : DiskTold) (refusal : RefusedInput) → IsOutputOf command held disk (Err (error.Refused refusal)) → IsAbsentInput (Some command) held disk.named → IsAbsence (error.Refused refusal)
+refusal_of_absence command None disk refusal is absent = absurd absent
+refusal_of_absence (check dir) (Some folder) disk refusal is (name, absent) = fault_of_input (refused_view refusal) (record { name = name; fault = fault.Absent }) (is ∙ sym absent)
+refusal_of_absence (session dir script) (Some folder) disk refusal (inputs, are, is) (name, (others, are', absent)) =
     absence_alike inputs others (refused_view refusal) (record { name = name; fault = fault.Absent }) (inputs_alike dir script folder inputs others are are') refl is absent
-refusal_of_absence (throughput dir job) (Some folder) refusal (inputs, are, is) (name, (others, are', absent)) =
-    absence_alike inputs others (refused_view refusal) (record { name = name; fault = fault.Absent }) (job_inputs_alike dir job folder inputs others are are') refl is absent
-refusal_of_absence (trial number) (Some folder) refusal is (name, (none, accepted)) = absurd (cc)
-refusal_of_absence (explain script) (Some folder) refusal (steps, are, is) (name, (others, are', absent)) =
+refusal_of_absence (throughput dir job) (Some folder) disk refusal (inputs, are, is) (name, (others, are', absent)) =
+    let gone = job_absence dir job folder disk.named inputs others (record { name = name; fault = fault.Absent }) refl are are' (refused_is others (record { name = name; fault = fault.Absent }) absent) in
+    fault_of_input (refused_view refusal) (record { name = name; fault = fault.Absent }) (is ∙ ap result_err gone)
+refusal_of_absence (trial number) (Some folder) disk refusal is (name, (none, accepted)) = absurd (cc)
+refusal_of_absence (explain script) (Some folder) disk refusal (steps, are, is) (name, (others, are', absent)) =
     absence_alike steps others (refused_view refusal) (record { name = name; fault = fault.Absent }) (script_steps_alike script folder steps others are are') refl is absent
 
+-- a text and its status, as what the command gives
+pub output_same : (command : Command) (held : Option Folder) (disk : DiskTold) (printed : Result (Vec ℕ × Status) InputError) (result : Result Output InputError) → IsTextOf command held disk printed
+    → IsSameOutput printed result → IsOutputOf command held disk result
+output_same command held disk (Ok printed) result is same = subst (IsOutputOf command held disk) (sym same) is
+output_same command held disk (Err (error.Unread unread)) result is same = subst (IsOutputOf command held disk) (sym same) tt
+output_same command held disk (Err (error.Refused refusal)) result is same = subst (IsOutputOf command held disk) (sym same) is
+
 -- the text of a job's file, as that of the command
-pub job_text_of : (dir job : List ℕ) (held : Option Folder) (result : Result (Vec ℕ × Status) InputError) → IsTextOfJob true dir job held result → IsTextOf (throughput dir job) held result
-job_text_of dir job held (Ok printed) (prints, done) = (job_may_end dir job held printed.0.items printed.1 done prints, done)
-job_text_of dir job held (Err (error.Unread unread)) is = tt
-job_text_of dir job held (Err (error.Refused refusal)) is = is
+pub job_output_of : (dir job : List ℕ) (held : Option Folder) (disk : DiskTold) (result : Result Output InputError) → IsOutputOfJob true dir job held disk result → IsOutputOf (throughput dir job) held disk result
+job_output_of dir job held disk (Ok (output.Text text s)) (prints, done) = (job_may_end dir job held disk text.items s done prints, done)
+job_output_of dir job held disk (Ok output.DiskFault) is = tt
+job_output_of dir job held disk (Err (error.Unread unread)) is = tt
+job_output_of dir job held disk (Err (error.Refused refusal)) is = is

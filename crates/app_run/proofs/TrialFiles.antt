@@ -10,9 +10,11 @@ use Rattle.app_sample_data.specs.declared.text.NamedText.{NamedText}
 use Rattle.base_io.specs.Outside.{Folder}
 use Rattle.app_inputs.specs.Inputs.{BadInput, refusal_line}
 use Rattle.app_run.specs.JobInputs.{JobWork}
-use Rattle.app_run.specs.JobMeaning.{IsFirstOfJob, MeansJob, PrintsJob}
+use Rattle.app_run.specs.JobMeaning.{DiskTold, IsFirstOfJob, MeansJob, NamesNoJournal, PrintsJob}
 use Rattle.app_inputs.specs.Printing.{PrintsOf}
-use Rattle.app_run.specs.Trial.{in_made}
+use Rattle.app_inputs.specs.JobFile.{job_in}
+use Rattle.app_job_file.specs.Files.{JobParts}
+use Rattle.app_run.specs.Trial.{in_made, trial_files, trial_job}
 use Rattle.app_inputs.specs.declared.status.Status.TheVariants.{InputRefused}
 
 next_is : {X : Type 0} (xs : List X) (i : ℕ) (x : X) → i < length xs → slice_index_or xs i x ≡ x → drop i xs ≡ x ∷ drop (i + 1) xs
@@ -36,12 +38,19 @@ unfolding named
 made_all texts i now all past so_far =
     sym (append-nil now) ∙ (ap (λ (l : List NamedText). now ++ map in_made (named l)) (sym (drop_all i texts past)) ∙ so_far)
 
-first_of : (inputs : Result JobWork BadInput) (first : BadInput) → Some first ≡ result_err inputs → PrintsOf (MeansJob false) inputs (refusal_line first) InputRefused
-first_of (Ok read) first is = absurd (cc)
-first_of (Err refused) first is =
+first_of : (reads : Option (List ℕ)) (inputs : Result JobWork BadInput) (first : BadInput) → Some first ≡ result_err inputs → PrintsOf (MeansJob false reads) inputs (refusal_line first) InputRefused
+first_of reads (Ok read) first is = absurd (cc)
+first_of reads (Err refused) first is =
     let same : first ≡ refused = cc in
     (ap refusal_line same, refl)
 
 -- of a job whose first refused input that is, its line is printed
-pub refused_prints : (dir job : List ℕ) (folder : Folder) (first : BadInput) → IsFirstOfJob dir job folder (Some first) → PrintsJob false dir job folder (refusal_line first) InputRefused
-refused_prints dir job folder first (inputs, are, is) = (inputs, are, first_of inputs first is)
+pub refused_prints : (dir job : List ℕ) (folder : Folder) (disk : DiskTold) (first : BadInput) → IsFirstOfJob dir job folder disk.named (Some first) → PrintsJob false dir job folder disk (refusal_line first) InputRefused
+refused_prints dir job folder disk first (inputs, are, is) = (inputs, are, first_of disk.reads inputs first is)
+
+-- the trial's job names no journal
+no_journal : (parts : JobParts) → job_in (codes "job") (Some trial_job) ≡ Ok parts → parts.journal ≡ None
+no_journal parts is = cc
+
+pub trial_names_none : (number : ℕ) → NamesNoJournal (codes "job") (Some (trial_files number))
+trial_names_none number = λ parts is. no_journal parts is

@@ -6,6 +6,7 @@ use Rattle.sql_ast.specs.declared.statement.Statement.{Statement}
 use Rattle.base_io.specs.Outside.{Folder}
 use Rattle.app_run.specs.SessionInputs.{AreSteps, Work, work_of}
 use Rattle.app_inputs.specs.Inputs.{IsScriptOf, file_bytes, script_limit}
+use Rattle.app_run.specs.JobMeaning.{DiskTold}
 use Rattle.app_run.specs.Meaning.{MeansSession, Prints}
 use Rattle.app_run.specs.ScriptPlans.{MeansExplained}
 use Rattle.app_inputs.specs.Views.{Explains, Finds, IfKnown, refused_view}
@@ -36,43 +37,43 @@ steps_refused view script (Some folder) (error.Refused refusal) found = (Err (re
 
 -- a refused script
 pub script_refused : {A : Type 0} → (view : A → List Statement) (dir script : List ℕ) (held : Option Folder) (made : InputError) → Finds view held (λ folder. AreSteps folder script) (Err made)
-    → IsTextOf (session dir script) held (Err made)
-script_refused view dir script held (error.Unread unread) found = tt
-script_refused view dir script None (error.Refused refusal) found = tt
-script_refused view dir script (Some folder) (error.Refused refusal) found = (Err (refused_view refusal), (Err (refused_view refusal), found, refl), refl)
+    → (disk : DiskTold) → IsTextOf (session dir script) held disk (Err made)
+script_refused view dir script held (error.Unread unread) found disk = tt
+script_refused view dir script None (error.Refused refusal) found disk = tt
+script_refused view dir script (Some folder) (error.Refused refusal) found disk = (Err (refused_view refusal), (Err (refused_view refusal), found, refl), refl)
 
 -- a refused script that is explained
 pub explained_refused : (script : List ℕ) (held : Option Folder) (made : InputError) → Finds (λ (s : List Statement). s) held (λ folder. IsScriptOf script (file_bytes script_limit folder script)) (Err made)
-    → IsTextOf (explain script) held (Err made)
-explained_refused script held (error.Unread unread) found = tt
-explained_refused script None (error.Refused refusal) found = tt
-explained_refused script (Some folder) (error.Refused refusal) found = (Err (refused_view refusal), (Err (refused_view refusal), found, refl), refl)
+    → (disk : DiskTold) → IsTextOf (explain script) held disk (Err made)
+explained_refused script held (error.Unread unread) found disk = tt
+explained_refused script None (error.Refused refusal) found disk = tt
+explained_refused script (Some folder) (error.Refused refusal) found disk = (Err (refused_view refusal), (Err (refused_view refusal), found, refl), refl)
 
 -- a script that was read and explained
 pub explained_printed : (script : List ℕ) (held : Option Folder) (statements steps : List Statement) (text : List ℕ) (s : Status) → IfKnown held (λ folder. IsScriptOf script (file_bytes script_limit folder script) (Ok statements))
-    → ExpandAll statements steps → MeansExplained steps text s → Prints (Some (explain script)) held text s
-explained_printed script None statements steps text s found expanded means = explained_may_end script None text s (explained_done steps text s means) tt
-explained_printed script (Some folder) statements steps text s found expanded means = (Ok steps, (Ok statements, found, expanded), means)
+    → ExpandAll statements steps → MeansExplained steps text s → (disk : DiskTold) → Prints (Some (explain script)) held disk text s
+explained_printed script None statements steps text s found expanded means disk = explained_may_end script None disk text s (explained_done steps text s means) tt
+explained_printed script (Some folder) statements steps text s found expanded means disk = (Ok steps, (Ok statements, found, expanded), means)
 
 -- a refused table or refresh file
 pub work_refused : (dir script : List ℕ) (held later : Option Folder) (steps : List Statement) (made : InputError) → later ≡ held
-    → IfKnown held (HasSteps script steps) → Explains later (λ folder. work_of dir folder steps) made → IsTextOf (session dir script) held (Err made)
-work_refused dir script held later steps (error.Unread unread) same has explains = tt
-work_refused dir script None later steps (error.Refused refusal) same has explains = tt
-work_refused dir script (Some folder) later steps (error.Refused refusal) same has explains =
+    → IfKnown held (HasSteps script steps) → Explains later (λ folder. work_of dir folder steps) made → (disk : DiskTold) → IsTextOf (session dir script) held disk (Err made)
+work_refused dir script held later steps (error.Unread unread) same has explains disk = tt
+work_refused dir script None later steps (error.Refused refusal) same has explains disk = tt
+work_refused dir script (Some folder) later steps (error.Refused refusal) same has explains disk =
     let is : work_of dir folder steps ≡ Err (refused_view refusal) = subst (λ (k : Option Folder). IfKnown k (λ f. work_of dir f steps ≡ Err (refused_view refusal))) same explains in
     (Err (refused_view refusal), (Ok steps, has, sym is), refl)
 
 -- the same, where the statements are named twice
 pub same_work_refused : (dir script : List ℕ) (held later : Option Folder) (steps other : List Statement) (made : InputError) → later ≡ held → other ≡ steps
-    → IfKnown held (HasSteps script steps) → Explains later (λ folder. work_of dir folder other) made → IsTextOf (session dir script) held (Err made)
-same_work_refused dir script held later steps other made same is has explains =
-    work_refused dir script held later steps made same has (subst (λ (ss : List Statement). Explains later (λ folder. work_of dir folder ss) made) is explains)
+    → IfKnown held (HasSteps script steps) → Explains later (λ folder. work_of dir folder other) made → (disk : DiskTold) → IsTextOf (session dir script) held disk (Err made)
+same_work_refused dir script held later steps other made same is has explains disk =
+    work_refused dir script held later steps made same has (subst (λ (ss : List Statement). Explains later (λ folder. work_of dir folder ss) made) is explains) disk
 
 -- all inputs were read
 pub session_printed : (dir script : List ℕ) (held later : Option Folder) (steps : List Statement) (work : Work) (text : List ℕ) (s : Status) → later ≡ held
-    → IfKnown held (HasSteps script steps) → IfKnown later (λ folder. work_of dir folder steps ≡ Ok work) → MeansSession work text s → Prints (Some (session dir script)) held text s
-session_printed dir script None later steps work text s same has read means = session_may_end dir script None text s (session_done work text s means) tt
-session_printed dir script (Some folder) later steps work text s same has read means =
+    → IfKnown held (HasSteps script steps) → IfKnown later (λ folder. work_of dir folder steps ≡ Ok work) → MeansSession work text s → (disk : DiskTold) → Prints (Some (session dir script)) held disk text s
+session_printed dir script None later steps work text s same has read means disk = session_may_end dir script None disk text s (session_done work text s means) tt
+session_printed dir script (Some folder) later steps work text s same has read means disk =
     let is : work_of dir folder steps ≡ Ok work = subst (λ (k : Option Folder). IfKnown k (λ f. work_of dir f steps ≡ Ok work)) same read in
     (Ok work, (Ok steps, has, sym is), means)

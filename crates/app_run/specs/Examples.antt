@@ -1,6 +1,5 @@
 -- Some values of the definitions, worked out by hand.
-use Rattle.std.specs.Prelude.{◌≡◌, ℕ, ℤ, pos, List, [], ◌∷◌, ◌++◌, Result, Err, Ok, codes, map}
-use Rattle.std.specs.Prelude.{Some}
+use Rattle.std.specs.Prelude.{◌≡◌, ℕ, ℤ, pos, List, [], ◌∷◌, ◌++◌, Result, Err, Ok, codes, map, None, Some}
 use Rattle.base_refusals.specs.declared.line.LineFault.TheVariants.{DuplicateKey}
 use Rattle.base_value.specs.declared.value.Value.{Value}
 use Rattle.base_value.specs.declared.value.Value.TheVariants as value
@@ -82,6 +81,8 @@ sent_both sender other one two = record {
   list = one ∷ two ∷ [];
   before = 0;
   senders = sender ∷ other ∷ [];
+  journal = None;
+  kept = [];
 }
 
 -- what the definitions say of these

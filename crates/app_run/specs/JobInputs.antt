@@ -1,6 +1,6 @@
--- What the files of a job hold, and which of them is refused first.
+-- What the files of a job and its journal hold, and which of them is refused first.
 use Rattle.std.specs.Prelude.{◌≡◌, ℕ, Bool, true, false, List, [], ◌∷◌, length}
-use Rattle.std.specs.Prelude.{if◌then◌else◌}
+use Rattle.std.specs.Prelude.{if◌then◌else◌, Option, Some}
 use Rattle.std.specs.List.{list_any}
 use Rattle.std.specs.declared.result.Result.{Result}
 use Rattle.std.specs.declared.result.Result.TheVariants.{Ok, Err}
@@ -16,6 +16,7 @@ use Rattle.store_gateway.specs.declared.message.SenderId.{SenderId}
 use Rattle.store_state.specs.Refresh.{Change}
 use Rattle.base_io.specs.Outside.{Folder, file_of}
 use Rattle.base_schema.specs.State.{State}
+use Rattle.app_run.specs.Journals.{IsKept, Named}
 use Rattle.app_run.specs.SessionInputs.{AreSteps}
 use Rattle.app_inputs.specs.Inputs.{BadInput, and_then, changes_in, file_bytes}
 use Rattle.app_inputs.specs.Inputs.{script_limit}
@@ -76,21 +77,24 @@ AreJobScripts folder (name ∷ names) scripts =
     × (result ≡ and_then more (λ others. Ok (steps ∷ others)))) scripts
 
 -- What a job works on: the statements that the scripts of its sessions stand for; the tables; its
--- refreshes, in the order of its lines; how many of these are tried before the sessions; and who
--- sends each of the others, or nobody where they are tried in their order.
+-- refreshes, in the order of its lines; how many of these are tried before the sessions; who sends
+-- each of the others, or nobody where they are tried in their order; the name of its journal's file,
+-- if it has one; and what that keeps, which is done before the job begins.
 pub record JobWork : Type 0 where
   pub scripts : List (List Statement)
   pub base : State
   pub list : List Change
   pub before : ℕ
   pub senders : List SenderId
+  pub journal : Option (List ℕ)
+  pub kept : List Change
 
 -- the tables of a folder and these refreshes
 abbrev pub job_base : List ℕ → List Mention → Folder → Result (State × List Change) BadInput
 job_base dir refreshes folder = and_then (state_in dir folder)
     (λ base. and_then (changes_in dir refreshes folder) (λ list. Ok (base, list)))
 
--- what a job works on, once its scripts are read
+-- what a job works on, once its scripts are read, but for its journal
 abbrev pub job_work : List ℕ → Folder → JobParts → List (List Statement) → Result JobWork BadInput
 job_work dir folder parts scripts = and_then (job_base dir parts.refreshes folder) (λ r.
     Ok (record {
@@ -99,12 +103,34 @@ job_work dir folder parts scripts = and_then (job_base dir parts.refreshes folde
       list = r.1;
       before = parts.before;
       senders = parts.senders;
+      journal = parts.journal;
+      kept = [];
     }))
 
--- the inputs of a job in their reading order: the job, its scripts, the tables, the refresh files
-abbrev pub AreJobInputs : List ℕ → List ℕ → Folder → Result JobWork BadInput → Type 0
-AreJobInputs dir job folder inputs =
+-- a job's work with what its journal keeps
+abbrev pub with_kept : JobWork → List Change → JobWork
+with_kept work kept = record work { kept = kept }
+
+-- the same of a journal of that name
+abbrev pub kept_under : JobWork → List ℕ → List Change → JobWork
+kept_under work name kept = record work { journal = Some name; kept = kept }
+
+-- a job's work over a disk, or why there is none
+abbrev pub IsWorkOver : Named → JobWork → Result JobWork BadInput → Type 0
+IsWorkOver named work inputs = (kept : Result (List Change) BadInput)
+    × IsKept work.journal work.base named kept
+    × (inputs ≡ and_then kept (λ changes. Ok (with_kept work changes)))
+
+-- the inputs of a job in files, in their reading order: the job, its scripts, the tables, the refresh
+-- files
+abbrev pub AreJobFiles : List ℕ → List ℕ → Folder → Result JobWork BadInput → Type 0
+AreJobFiles dir job folder inputs =
     Follows (job_in job (file_of folder job)) (λ parts result.
     (scripts : Result (List (List Statement)) BadInput)
     × AreJobScripts folder parts.scripts scripts
     × (result ≡ and_then scripts (job_work dir folder parts))) inputs
+
+-- the inputs of a job in their reading order: its files, and then its journal
+abbrev pub AreJobInputs : List ℕ → List ℕ → Folder → Named → Result JobWork BadInput → Type 0
+AreJobInputs dir job folder named inputs = (read : Result JobWork BadInput)
+    × AreJobFiles dir job folder read × Follows read (IsWorkOver named) inputs

@@ -1,14 +1,22 @@
 -- What a job prints.
-use Rattle.std.specs.Prelude.{◌≡◌, Bool, ℕ, List, map, Option, if◌then◌else◌}
+use Rattle.std.specs.Prelude.{◌≡◌, ◌++◌, Bool, ℕ, List, length, map, Option, None, Some}
+use Rattle.std.specs.Prelude.{if◌then◌else◌}
 use Rattle.std.specs.Result.{result_err}
 use Rattle.std.specs.declared.result.Result.{Result}
+use Rattle.std.specs.declared.result.Result.TheVariants.{Ok}
 use Rattle.app_sessions.specs.Jobs.{IsOrderText, JobAnswer, JobSession}
-use Rattle.app_sessions.specs.Orders.{RefreshOrder}
+use Rattle.app_sessions.specs.Orders.{RefreshOrder, changes_of}
 use Rattle.sql_ast.specs.declared.statement.Statement.{Statement}
-use Rattle.base_io.specs.Outside.{Folder}
+use Rattle.base_io.specs.Outside.{Folder, file_of}
 use Rattle.app_inputs.specs.Inputs.{BadInput}
+use Rattle.app_inputs.specs.JobFile.{job_in}
+use Rattle.app_job_file.specs.Files.{JobParts}
 use Rattle.app_run.specs.JobInputs.{AreJobInputs, JobWork}
 use Rattle.app_run.specs.JobOrders.{IsJobOrder}
+use Rattle.app_run.specs.Journals.{HoldsThen, IsToldFor, Named}
+use Rattle.store_snapshots.specs.Turns.{from_nobody}
+use Rattle.store_state.specs.Refresh.{Change}
+use Rattle.store_state.specs.Versions.{taken}
 use Rattle.app_inputs.specs.Printing.{PrintsOf}
 use Rattle.app_inputs.specs.declared.status.Status.{Status}
 use Rattle.app_inputs.specs.declared.status.Status.TheVariants.{Done, SomeRefused}
@@ -17,26 +25,55 @@ use Rattle.app_inputs.specs.declared.status.Status.TheVariants.{Done, SomeRefuse
 abbrev pub session_with : Bool → List Statement → JobSession
 session_with shows_rows steps = record { steps = steps; shows_rows = shows_rows }
 
--- the text of these sessions beside the refreshes of a job, for the order of the refreshes and the
--- versions that the run chose
-pub record IsTextInOrder (work : JobWork) (sessions : List JobSession) (job : JobAnswer)
-    : Type 0 where
+-- all refreshes of a job that are tried in this order, behind those that its journal keeps
+abbrev pub whole_list : JobWork → RefreshOrder → List Change
+whole_list work order = work.kept ++ changes_of order
+
+-- The text of these sessions beside the refreshes of a job, for the order of the refreshes and the
+-- versions that the run chose. Those that its journal keeps are done before, and in the end it holds
+-- all accepted ones.
+pub record IsTextInOrder (work : JobWork) (journal_then : Option (List ℕ))
+    (sessions : List JobSession) (job : JobAnswer) : Type 0 where
   pub order : RefreshOrder
   pub allowed : IsJobOrder work order
-  pub text : IsOrderText work.base order 0 work.before sessions job
+  pub text : IsOrderText work.base (from_nobody work.kept ++ order) (length work.kept) work.before
+      sessions job
+  pub stored : HoldsThen work.journal (taken work.base (whole_list work order)) journal_then
+
+-- What is told of a disk: what a read of each name gave before the run, and what a read of the file
+-- reached gives after it.
+pub record DiskTold : Type 0 where
+  pub named : Named
+  pub reads : Option (List ℕ)
+
+-- the two together
+abbrev pub disk_told : Named → Option (List ℕ) → DiskTold
+disk_told named reads = record { named = named; reads = reads }
 
 -- the text of a job, and whether a line of it is a refusal
-abbrev pub MeansJob : Bool → JobWork → List ℕ → Status → Type 0
-MeansJob shows_rows work text s = (job : JobAnswer)
-    × IsTextInOrder work (map (session_with shows_rows) work.scripts) job
+abbrev pub MeansJob : Bool → Option (List ℕ) → JobWork → List ℕ → Status → Type 0
+MeansJob shows_rows journal_then work text s = (job : JobAnswer)
+    × IsTextInOrder work journal_then (map (session_with shows_rows) work.scripts) job
     × (text ≡ job.text) × (s ≡ (if job.is_clean then Done else SomeRefused))
 
 -- what a job of a file prints
-abbrev pub PrintsJob : Bool → List ℕ → List ℕ → Folder → List ℕ → Status → Type 0
-PrintsJob shows_rows dir job folder text s = (inputs : Result JobWork BadInput)
-    × AreJobInputs dir job folder inputs × PrintsOf (MeansJob shows_rows) inputs text s
+abbrev pub PrintsJob : Bool → List ℕ → List ℕ → Folder → DiskTold → List ℕ → Status → Type 0
+PrintsJob shows_rows dir job folder disk text s = (inputs : Result JobWork BadInput)
+    × AreJobInputs dir job folder disk.named inputs
+    × PrintsOf (MeansJob shows_rows disk.reads) inputs text s
 
 -- the first refused input of a job, if there is one
-abbrev pub IsFirstOfJob : List ℕ → List ℕ → Folder → Option BadInput → Type 0
-IsFirstOfJob dir job folder first = (inputs : Result JobWork BadInput)
-    × AreJobInputs dir job folder inputs × (first ≡ result_err inputs)
+abbrev pub IsFirstOfJob : List ℕ → List ℕ → Folder → Named → Option BadInput → Type 0
+IsFirstOfJob dir job folder named first = (inputs : Result JobWork BadInput)
+    × AreJobInputs dir job folder named inputs × (first ≡ result_err inputs)
+
+-- where a job's file names a journal, the disk is told
+abbrev pub IsDiskTold : List ℕ → Folder → Named → Type 0
+IsDiskTold job folder named = (parts : JobParts) → job_in job (file_of folder job) ≡ Ok parts
+    → IsToldFor parts.journal named
+
+-- a job's file names no journal
+abbrev pub NamesNoJournal : List ℕ → Option Folder → Type 0
+NamesNoJournal job None = ⊥
+NamesNoJournal job (Some folder) = (parts : JobParts)
+    → job_in job (file_of folder job) ≡ Ok parts → parts.journal ≡ None

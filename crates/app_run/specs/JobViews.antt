@@ -1,9 +1,10 @@
 -- What the code's values of a job stand for.
 use Rattle.std.specs.Prelude.{◌≡◌, ◌≢◌, ⊤, ℕ, ◌+◌, ◌<◌, ◌≤◌, Bool, false, List, length, map}
 use Rattle.std.specs.Prelude.{slice_index_or}
-use Rattle.std.specs.Prelude.{Option, Some}
+use Rattle.std.specs.Prelude.{[], Option, Some, option_map}
 use Rattle.std.specs.Global.{Vec}
 use Rattle.std.specs.List.{AllByRecursion, list_any}
+use Rattle.std.specs.String.{string_bytes}
 use Rattle.std.specs.declared.result.Result.{Result}
 use Rattle.std.specs.declared.result.Result.TheVariants.{Ok, Err}
 use Rattle.app_job_file.specs.Files.{most_refreshes, most_sessions}
@@ -15,8 +16,11 @@ use Rattle.base_io.specs.Outside.{Folder}
 use Rattle.base_schema.specs.State.{State}
 use Rattle.app_inputs.specs.Inputs.{BadInput, IsRead}
 use Rattle.app_run.specs.SessionInputs.{ExpandsTo}
-use Rattle.app_run.specs.JobInputs.{HasNoRefresh, IsPlain, JobWork, is_refresh}
-use Rattle.app_run.specs.JobMeaning.{IsFirstOfJob, PrintsJob}
+use Rattle.app_run.specs.JobInputs.{HasNoRefresh, IsPlain, JobWork, is_refresh, kept_under}
+use Rattle.app_run.specs.Journals.{IsKept, Named}
+use Rattle.app_run.specs.JobMeaning.{DiskTold, IsFirstOfJob, MeansJob, PrintsJob}
+use Rattle.app_run.specs.declared.output.Output.{Output}
+use Rattle.app_run.specs.declared.output.Output.TheVariants as output
 use Rattle.app_inputs.specs.Printing.{IsDone}
 use Rattle.store_refresh_entries.specs.Change.{MayBeStored}
 use Rattle.app_inputs.specs.Views.{IfKnown, refused_view}
@@ -81,6 +85,8 @@ work_view sources = record {
   list = sources.list.items;
   before = sources.before;
   senders = sources.senders.items;
+  journal = option_map string_bytes sources.journal;
+  kept = [];
 }
 
 -- A job that can be run: it has sessions, not too many, which are at their beginning, not too many
@@ -106,12 +112,25 @@ pub record IsPlayable (shows_rows : Bool) (sources : JobSources) : Type 0 where
   pub keepable : IsKeepable sources
   pub rows : ShowRows shows_rows sources.sessions.items
 
--- the text and its status are the job's, or the error explains why it has none
-abbrev pub IsTextOfJob : Bool → List ℕ → List ℕ → Option Folder
-    → Result (Vec ℕ × Status) InputError → Type 0
-IsTextOfJob shows_rows dir job held (Ok printed) =
-    IfKnown held (λ folder. PrintsJob shows_rows dir job folder printed.0.items printed.1)
-    × IsDone printed.1
-IsTextOfJob shows_rows dir job held (Err (error.Unread unread)) = ⊤
-IsTextOfJob shows_rows dir job held (Err (error.Refused refusal)) =
-    IfKnown held (λ folder. IsFirstOfJob dir job folder (Some (refused_view refusal)))
+-- the text and its status are the job's, or the error explains why it has none; a fault of the disk
+-- says nothing
+abbrev pub IsOutputOfJob : Bool → List ℕ → List ℕ → Option Folder → DiskTold
+    → Result Output InputError → Type 0
+IsOutputOfJob shows_rows dir job held disk (Ok (output.Text text s)) =
+    IfKnown held (λ folder. PrintsJob shows_rows dir job folder disk text.items s) × IsDone s
+IsOutputOfJob shows_rows dir job held disk (Ok output.DiskFault) = ⊤
+IsOutputOfJob shows_rows dir job held disk (Err (error.Unread unread)) = ⊤
+IsOutputOfJob shows_rows dir job held disk (Err (error.Refused refusal)) =
+    IfKnown held (λ folder. IsFirstOfJob dir job folder disk.named (Some (refused_view refusal)))
+
+-- what a job gives of which its files are read, over a disk: its text, over what its journal of that
+-- name keeps, or why that is refused
+abbrev pub IsOutputOver : Bool → List ℕ → Named → Option (List ℕ) → JobWork
+    → Result Output InputError → Type 0
+IsOutputOver shows_rows name named journal_then work (Ok (output.Text text s)) =
+    (kept : List Change) × IsKept (Some name) work.base named (Ok kept)
+    × MeansJob shows_rows journal_then (kept_under work name kept) text.items s
+IsOutputOver shows_rows name named journal_then work (Ok output.DiskFault) = ⊤
+IsOutputOver shows_rows name named journal_then work (Err (error.Unread unread)) = ⊤
+IsOutputOver shows_rows name named journal_then work (Err (error.Refused refusal)) =
+    IsKept (Some name) work.base named (Err (refused_view refusal))

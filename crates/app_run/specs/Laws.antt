@@ -1,6 +1,6 @@
 -- What the definitions say in other words: which inputs are accepted, which is refused first, and
 -- that texts are unique.
-use Rattle.std.specs.Prelude.{◌≡◌, ℕ, List, [], ◌∷◌, ◌++◌, Some, Err, Ok, IsOk, ◌↔◌, ⊤}
+use Rattle.std.specs.Prelude.{◌≡◌, ℕ, List, [], ◌∷◌, ◌++◌, None, Some, Err, Ok, IsOk, ◌↔◌, ⊤, Option}
 use Rattle.std.specs.List.{All}
 use Rattle.base_io.specs.Outside.{Folder}
 use Rattle.base_schema.specs.State.{State, table_rows}
@@ -8,7 +8,7 @@ use Rattle.base_schema.specs.Tables.{all_tables}
 use Rattle.base_schema.specs.declared.table.TableName.{TableName}
 use Rattle.app_sessions.specs.Jobs.{IsJobText, JobAnswer, JobSession}
 use Rattle.app_run.specs.JobInputs.{JobWork}
-use Rattle.app_run.specs.JobMeaning.{IsTextInOrder}
+use Rattle.app_run.specs.JobMeaning.{DiskTold, IsTextInOrder}
 use Rattle.app_run.specs.SessionInputs.{AreInputs, AreSteps, Work}
 use Rattle.app_inputs.specs.Inputs.{BadInput, refreshes_in, state_in}
 use Rattle.app_inputs.specs.Inputs.{table_in}
@@ -46,10 +46,11 @@ SessionAcceptedLaw = (dir script : List ℕ) (folder : Folder) (work : Work)
     ↔ (AreSteps folder script (Ok work.steps) × (state_in dir folder ≡ Ok work.base)
     × (refreshes_in dir work.steps folder ≡ Ok work.list))
 
--- a job none of whose refreshes is sent has one order of them, that of its lines
+-- a job without a journal none of whose refreshes is sent has one order of them, that of its lines
 abbrev pub UnsentLaw : Type 0
-UnsentLaw = (work : JobWork) (sessions : List JobSession) (job : JobAnswer) → work.senders ≡ []
-    → IsTextInOrder work sessions job
+UnsentLaw = (work : JobWork) (journal_then : Option (List ℕ)) (sessions : List JobSession)
+    (job : JobAnswer) → work.senders ≡ [] → work.journal ≡ None → work.kept ≡ []
+    → IsTextInOrder work journal_then sessions job
     ↔ IsJobText work.base work.list work.before sessions job
 
 -- the command has one text: no plan of a query is any other, and the versions of a job are chosen
@@ -63,7 +64,8 @@ HasOneText (trial number) = ⊥
 
 -- two texts that such an accepted command prints are one text, with one status
 abbrev pub TextLaw : Type 0
-TextLaw = (command : Command) (folder : Folder) (text other : List ℕ) (s r : Status)
-    → HasOneText command → IsAccepted (Some command) (Some folder)
-    → Prints (Some command) (Some folder) text s → Prints (Some command) (Some folder) other r
+TextLaw = (command : Command) (folder : Folder) (disk : DiskTold) (text other : List ℕ)
+    (s r : Status) → HasOneText command → IsAccepted (Some command) (Some folder) disk.named
+    → Prints (Some command) (Some folder) disk text s
+    → Prints (Some command) (Some folder) disk other r
     → (text ≡ other) × (s ≡ r)

@@ -1,9 +1,13 @@
 pub mod SessionInputs
 pub mod Turns
 pub mod NextVersions
+pub mod Journals
 pub mod JobInputs
 pub mod JobOrders
 pub mod JobMeaning
+pub mod Reaching
+pub mod Opened
+pub mod OpenedSent
 pub mod Senders
 pub mod Receivers
 pub mod ScriptPlans

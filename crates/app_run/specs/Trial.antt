@@ -2,7 +2,7 @@
 use Rattle.std.specs.Prelude.{◌≡◌, ℕ, List, [], ◌∷◌, ◌++◌, codes, false, map, None}
 use Rattle.app_sample_data.specs.Texts.{made}
 use Rattle.base_io.specs.Outside.{Folder}
-use Rattle.app_run.specs.JobMeaning.{IsFirstOfJob, PrintsJob}
+use Rattle.app_run.specs.JobMeaning.{DiskTold, IsFirstOfJob, PrintsJob}
 use Rattle.app_inputs.specs.declared.status.Status.{Status}
 
 -- the trial's job
@@ -45,10 +45,13 @@ abbrev pub trial_files : ℕ → Folder
 trial_files number =
     (codes "job", trial_job) ∷ (codes "queries", trial_queries) ∷ map in_made (made number)
 
--- what the trial prints: its job's text over these files, without the rows of answers
+-- what the trial prints: its job's text over these files, without the rows of answers, whatever a
+-- disk holds
 abbrev pub PrintsTrial : ℕ → List ℕ → Status → Type 0
-PrintsTrial number text s = PrintsJob false (codes "made") (codes "job") (trial_files number) text s
+PrintsTrial number text s = (disk : DiskTold)
+    × PrintsJob false (codes "made") (codes "job") (trial_files number) disk text s
 
 -- each of these files is there and of its form
 abbrev pub IsTrialAccepted : ℕ → Type 0
-IsTrialAccepted number = IsFirstOfJob (codes "made") (codes "job") (trial_files number) None
+IsTrialAccepted number =
+    IsFirstOfJob (codes "made") (codes "job") (trial_files number) None None

@@ -4,6 +4,7 @@ ghost use Rattle.app_sessions.specs.Expansion.{ExpandAll};
 ghost use Rattle.sql_ast.specs.declared.statement.Statement.{Statement};
 ghost use Rattle.app_inputs.specs.FilesAfter.{FilesAfterInput};
 ghost use Rattle.app_run.specs.ScriptPlans.{MeansExplained};
+ghost use Rattle.app_run.specs.JobMeaning.{DiskTold};
 ghost use Rattle.app_run.specs.Views.{IsTextOf};
 ghost use Rattle.app_inputs.specs.Words.Command.{explain};
 
@@ -37,7 +38,8 @@ pub fn explain_text<F: Files>(
     files: &mut F,
     script: &str,
 ) -> Result<(Vec<u8>, Status), InputError>
-    ensures text { IsTextOf (explain script.now) (F.held files.old) result }
+    ensures text { (disk : DiskTold)
+        → IsTextOf (explain script.now) (F.held files.old) disk result }
     ensures files { FilesAfterInput F.held F.faults F.misses result files.old files.new }
 {
     let statements = read_statements(alloc, files, script)?;

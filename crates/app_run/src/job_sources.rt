@@ -4,7 +4,7 @@ ghost use Rattle.std.specs.List.{AllByRecursion};
 ghost use Rattle.store_refresh_entries.specs.Change.{MayBeStored};
 ghost use Rattle.app_inputs.specs.FilesAfter.{FilesAfterInput};
 ghost use Rattle.app_inputs.specs.Views.{Finds, Reads};
-ghost use Rattle.app_run.specs.JobInputs.{AreJobInputs, job_base};
+ghost use Rattle.app_run.specs.JobInputs.{AreJobFiles, job_base};
 ghost use Rattle.app_run.specs.JobViews.{IsPlayable, base_view, work_view};
 
 use crate::job_input::read_sessions;
@@ -29,6 +29,8 @@ pub struct JobSources {
     pub before: usize,
     /// Who sends each of the others, or nobody where they are tried in their order.
     pub senders: Vec<SenderId>,
+    /// The name of the file that keeps its accepted refreshes, if it asks for one.
+    pub journal: Option<String>,
 }
 
 /// The tables of the folder, and these refreshes.
@@ -56,7 +58,7 @@ pub fn read_inputs<F: Files>(
     job: &str,
     shows_rows: bool,
 ) -> Result<JobSources, InputError>
-    ensures input { Finds work_view (F.held files.old) (AreJobInputs folder.now job.now) result }
+    ensures input { Finds work_view (F.held files.old) (AreJobFiles folder.now job.now) result }
     ensures playable { IfOk result (IsPlayable shows_rows) }
     ensures files { FilesAfterInput F.held F.faults F.misses result files.old files.new }
 {
@@ -69,5 +71,6 @@ pub fn read_inputs<F: Files>(
         list,
         before: job.before,
         senders: job.senders,
+        journal: job.journal,
     })
 }

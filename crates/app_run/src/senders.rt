@@ -1,5 +1,6 @@
 //! A job of which two senders send the refreshes beside the sessions, each in a thread of its own.
 ghost use Rattle.std.specs.Prelude.{◌≡◌, ◌+◌, ◌<◌, ◌^◌, [], ◌∷◌, ◌++◌, IfOk, OnOk, length, vec_len};
+ghost use Rattle.std.specs.Prelude.{ℕ, List, None, Option};
 ghost use Rattle.std.specs.List.{zip};
 ghost use denote.Param.Send.{IsSync};
 ghost use Rattle.store_gateway.specs.Roles.{sent_by};
@@ -26,7 +27,7 @@ use store_state::{Refresh, State};
 
 /// How many messages the queue of the senders holds at most: as many as a job has refreshes, and
 /// the ends of both senders. So it is never full.
-const MOST_MESSAGES: usize = 1026;
+pub(crate) const MOST_MESSAGES: usize = 1026;
 
 /// Gives a refresh to its sender.
 fn give(
@@ -48,7 +49,7 @@ fn give(
 }
 
 /// Gives refreshes to their senders. Each sender's keep their order.
-fn divide(
+pub(crate) fn divide(
     alloc: Global,
     senders: &[SenderId],
     sent: Vec<Refresh>,
@@ -72,14 +73,14 @@ fn divide(
 /// The senders of a job, and what each of them sends.
 #[derive(Drop)]
 pub struct Senders {
-    first: Sender,
-    second: Sender,
-    firsts: Vec<Refresh>,
-    seconds: Vec<Refresh>,
+    pub(crate) first: Sender,
+    pub(crate) second: Sender,
+    pub(crate) firsts: Vec<Refresh>,
+    pub(crate) seconds: Vec<Refresh>,
 }
 
 /// Sends the refreshes of two senders, each sender's in a thread of its own.
-fn send_both<R: Threads + Wait + Sync>(rt: &R, senders: Senders) -> (Ended, Ended)
+pub(crate) fn send_both<R: Threads + Wait + Sync>(rt: &R, senders: Senders) -> (Ended, Ended)
     requires { MaySendBoth senders }
     ensures { BothEnd senders result }
 {
@@ -223,7 +224,8 @@ pub fn run_with_senders<R: Threads + Wait + Sync, G: Gate + Sync>(
     requires runnable { IsRunnable sources }
     requires sent { 0 < length sources.senders.items }
     requires keepable { IsKeepable sources }
-    ensures { IfOk result (IsTextInOrder (work_view sources)
+    requires plain { sources.journal ≡ None }
+    ensures { (reads : Option (List ℕ)) → IfOk result (IsTextInOrder (work_view sources) reads
         (job_sessions sources.sessions.items)) }
 {
     let JobSources {
@@ -232,6 +234,7 @@ pub fn run_with_senders<R: Threads + Wait + Sync, G: Gate + Sync>(
         mut list,
         before,
         senders,
+        journal: _journal,
     } = sources;
     let most = list.len();
     let sent = list.split_off(before)?;

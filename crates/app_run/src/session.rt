@@ -7,6 +7,7 @@ ghost use Rattle.app_run.specs.SessionInputs.{AreSteps, work_of};
 ghost use Rattle.app_run.specs.Meaning.{MeansSession};
 ghost use Rattle.app_run.specs.Turns.{IsBegun, refresh_count, work_from};
 ghost use Rattle.app_inputs.specs.Views.{Finds, Reads};
+ghost use Rattle.app_run.specs.JobMeaning.{DiskTold};
 ghost use Rattle.app_run.specs.Views.{IsTextOf};
 ghost use Rattle.app_inputs.specs.Words.Command.{session};
 
@@ -83,7 +84,8 @@ pub fn session_text<R: Threads + Sync, F: Files>(
     folder: &str,
     script: &str,
 ) -> Result<(Vec<u8>, Status), InputError>
-    ensures text { IsTextOf (session folder.now script.now) (F.held files.old) result }
+    ensures text { (disk : DiskTold)
+        → IsTextOf (session folder.now script.now) (F.held files.old) disk result }
     ensures files { FilesAfterInput F.held F.faults F.misses result files.old files.new }
 {
     let session = begin(alloc, files, script)?;

@@ -7,9 +7,11 @@ ghost use Rattle.app_sample_data.specs.Numbers.{IsDataNumber};
 ghost use Rattle.app_inputs.specs.Printing.{IsAnswer};
 ghost use Rattle.app_run.specs.Trial.{PrintsTrial, in_made, trial_files};
 
-use crate::throughput::job_text;
+use crate::output::Output;
+use crate::throughput::job_output;
 use app_inputs::{InputError, ReadError, Status, line_of_refusal};
 use app_sample_data::{NamedText, make};
+use base_disk::MemDisk;
 use base_io::{Gate, MemFile, SureFiles};
 use std::alloc::{AllocError, Global};
 use std::sync::Wait;
@@ -91,6 +93,12 @@ fn trial_files(alloc: Global, number: u64) -> Result<Vec<MemFile>, AllocError>
     Ok(files)
 }
 
+/// A disk with an empty file. The trial's job names no journal.
+fn no_disk(alloc: Global) -> Result<MemDisk, AllocError> {
+    let name = String::new(alloc);
+    MemDisk::new(alloc, name, Vec::new(alloc), Vec::new(alloc), 0)
+}
+
 /// What the trial prints, and its status.
 pub fn trial_output<R: Threads + Wait + Sync, G: Gate + Sync>(
     rt: &R,
@@ -104,8 +112,10 @@ pub fn trial_output<R: Threads + Wait + Sync, G: Gate + Sync>(
     ensures memory { IfErr result (λ e. e ≡ ReadError.OutOfMemory) }
 {
     let mut files = SureFiles::new(trial_files(alloc, number)?);
-    match job_text(rt, alloc, &mut files, "made", "job", false, gate) {
-        Ok(printed) => Ok(printed),
+    let mut disk = no_disk(alloc)?;
+    match job_output(rt, alloc, &mut files, &mut disk, "made", "job", false, gate) {
+        Ok(Output::Text(text, status)) => Ok((text, status)),
+        Ok(Output::DiskFault) => unreachable!(),
         Err(InputError::Refused(refused)) => {
             let text = line_of_refusal(alloc, &refused)?;
             Ok((text, Status::InputRefused))

@@ -46,6 +46,7 @@ parts = record {
   refreshes = first_insert ∷ first_delete ∷ [];
   before = 2;
   senders = [];
+  journal = None;
 }
 
 job_read : job_of trial_job ≡ Ok parts
@@ -160,7 +161,7 @@ base_read number some few =
     }
 
 abbrev work_of : (scripts : List (List Statement)) → State × List Change → JobWork
-work_of scripts r = record { scripts = scripts; base = r.0; list = r.1; before = 2; senders = [] }
+work_of scripts r = record { scripts = scripts; base = r.0; list = r.1; before = 2; senders = []; journal = None; kept = [] }
 
 work_read : (number : ℕ) (scripts : List (List Statement)) (b : HasBase number) → job_work (codes "made") (trial_files number) parts scripts ≡ Ok (work_of scripts (b.base, b.list))
 work_read number scripts b = ap (λ r. and_then r (λ pair. Ok (work_of scripts pair))) b.is
@@ -175,13 +176,13 @@ trial_accepted number some few =
     λ (p : JobParts) (result : Result JobWork BadInput). (all : Result (List (List Statement)) BadInput) × AreJobScripts (trial_files number) p.scripts all
     × (result ≡ and_then all (job_work (codes "made") (trial_files number) p)) in
     let inputs : Further parts work = (Ok scripts, scripts_read number script, sym (work_read number scripts base)) in
-    (work, subst (λ r. Follows r Further work) (sym (job_held number)) inputs, refl)
+    (work, (work, subst (λ r. Follows r Further work) (sym (job_held number)) inputs, (Ok [], refl, refl)), refl)
 
 pub trials_are_accepted : TrialsAreAccepted
-trials_are_accepted number None some few = trial_accepted number some few
-trials_are_accepted number (Some folder) some few = (refl, trial_accepted number some few)
+trials_are_accepted number None told some few = trial_accepted number some few
+trials_are_accepted number (Some folder) told some few = ((refl, trial_accepted number some few), tt)
 
 pub trial_words_are_accepted : TrialWordsAreAccepted
-trial_words_are_accepted words number known e =
+trial_words_are_accepted words number known told e =
     let in_range = words_in_range words number e in
-    subst (λ c. IsAccepted c known) (sym e) (trials_are_accepted number known in_range.0 in_range.1)
+    subst (λ c. IsAccepted c known told) (sym e) (trials_are_accepted number known told in_range.0 in_range.1)

@@ -1,4 +1,5 @@
 //! Which calls files get, and calls of files and sink that fail.
+use crate::disks::SureDisk;
 use crate::runs::{FIRST_SET, REGIONS, SCRIPT, expect_run, folder_of, sink, words_of};
 use app_main::{Status, tpch};
 use base_io::{MemFiles, MemSink, OpenGate};
@@ -37,7 +38,15 @@ fn expect_calls<R: Threads + Wait + Sync + Abort>(
 ) -> Result<(), AllocError> {
     let words = words_of(alloc, words)?;
     let mut out = sink(alloc);
-    let _status = tpch(rt, alloc, &words, &mut files, &mut out, &OpenGate);
+    let _status = tpch(
+        rt,
+        alloc,
+        &words,
+        &mut files,
+        &mut out,
+        &mut SureDisk,
+        &OpenGate,
+    );
     assert_eq!(rt; files.calls, calls);
     Ok(())
 }
@@ -110,7 +119,15 @@ fn calls_of<R: Threads + Wait + Sync + Abort>(
     let words = words_of(alloc, &["session", "d", "s"])?;
     let mut files = folder_of(alloc, script, &FIRST_SET, &[])?;
     let mut out = sink(alloc);
-    let _status = tpch(rt, alloc, &words, &mut files, &mut out, &OpenGate);
+    let _status = tpch(
+        rt,
+        alloc,
+        &words,
+        &mut files,
+        &mut out,
+        &mut SureDisk,
+        &OpenGate,
+    );
     Ok(files.calls)
 }
 

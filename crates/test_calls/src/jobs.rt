@@ -1,5 +1,6 @@
 //! A job of two sessions beside the publisher, with a gate at which they meet, and with calls of
 //! its files that fail.
+use crate::disks::SureDisk;
 use crate::gates::MeetGate;
 use crate::runs::{FIRST_SET, folder_of, sink, words_of};
 use app_main::{Status, tpch};
@@ -54,7 +55,7 @@ fn run_job<R: Threads + Wait + Sync, G: Gate + Sync>(
     let mut files = folder_of(alloc, "", &files, failing)?;
     let words = words_of(alloc, &["throughput", "d", "j"])?;
     let mut out = sink(alloc);
-    let status = tpch(rt, alloc, &words, &mut files, &mut out, gate);
+    let status = tpch(rt, alloc, &words, &mut files, &mut out, &mut SureDisk, gate);
     Ok((status, out.bytes))
 }
 

@@ -1,14 +1,19 @@
-//! Tests of calls that no run of the program can show: which call of its files or its sink fails,
-//! how many calls there are, a session taken turn by turn, two sessions that meet the publisher.
+//! Tests of calls that no run of the program can show: which call of its files, its sink or its disk
+//! fails, how many calls there are, a session taken turn by turn, two sessions that meet the
+//! publisher.
 //! No other crate uses this one.
 #![tactic(auto)]
 
+#[cfg(test)]
+mod disks;
 #[cfg(test)]
 mod faults;
 #[cfg(test)]
 mod gates;
 #[cfg(test)]
 mod jobs;
+#[cfg(test)]
+mod keeping;
 #[cfg(test)]
 mod machine;
 #[cfg(test)]

@@ -1,4 +1,5 @@
 //! Runs over files and a sink in memory.
+use crate::disks::SureDisk;
 use app_main::{Status, tpch};
 use base_io::{MemFile, MemFiles, MemSink, OpenGate};
 use std::alloc::{AllocError, Global};
@@ -80,7 +81,15 @@ pub(crate) fn expect_run<R: Threads + Wait + Sync + Abort>(
     text: &str,
 ) -> Result<(), AllocError> {
     let words = words_of(alloc, words)?;
-    let answer = tpch(rt, alloc, &words, &mut files, &mut out, &OpenGate);
+    let answer = tpch(
+        rt,
+        alloc,
+        &words,
+        &mut files,
+        &mut out,
+        &mut SureDisk,
+        &OpenGate,
+    );
     assert_eq!(rt; answer, status, "with {text}");
     assert_eq!(rt; out.bytes.as_slice(), text.as_bytes());
     Ok(())

@@ -1,10 +1,11 @@
 //! Runs over files and a sink that never fail, alone and beside those that do.
-ghost use Rattle.std.specs.Prelude.{◌≡◌, ◌≢◌, ◌⊎◌, Some, map};
+ghost use Rattle.std.specs.Prelude.{◌≡◌, ◌≢◌, ◌⊎◌, None, Some, map};
 ghost use Rattle.std.specs.String.{string_bytes};
 ghost use Rattle.app_main.specs.Meaning.{IsAccepted};
 ghost use Rattle.app_main.specs.Words.{command_of};
 ghost use Rattle.base_io.specs.Memory.{folder_of};
 
+use crate::disks::SureDisk;
 use crate::runs::{REGIONS, SCRIPT, folder_of, sink, words_of};
 use app_main::{Status, tpch};
 use base_io::{Files, MemSink, OpenGate, Sink, SureFiles, SureSink};
@@ -25,11 +26,11 @@ fn run_surely<R: Threads + Wait + Sync>(
 ) -> Status
     ensures no_fault { (result ≢ Status.ReadFault) × (result ≢ Status.WriteFault) }
     ensures complete { IsAccepted (command_of (map string_bytes words.now))
-        (Some (folder_of files.old.folder.files.items))
+        (Some (folder_of files.old.folder.files.items)) None
         → result ≢ Status.OutOfMemory
         → (result ≡ Status.Done) ⊎ (result ≡ Status.SomeRefused) }
 {
-    tpch(rt, alloc, words, files, out, &OpenGate)
+    tpch(rt, alloc, words, files, out, &mut SureDisk, &OpenGate)
 }
 
 /// Files that never fail, which hold the tables and this script.
@@ -71,7 +72,8 @@ fn expect_status<R: Threads + Wait + Sync + Abort, F: Files, S: Sink>(
     status: Status,
 ) -> Result<(), AllocError> {
     let words = words_of(alloc, &["session", "d", "s"])?;
-    assert_eq!(rt; tpch(rt, alloc, &words, files, out, &OpenGate), status);
+    let answer = tpch(rt, alloc, &words, files, out, &mut SureDisk, &OpenGate);
+    assert_eq!(rt; answer, status);
     Ok(())
 }
 

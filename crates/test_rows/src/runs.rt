@@ -3,6 +3,7 @@ use crate::choices::is_chosen;
 use crate::pages::{Block, Text};
 use crate::texts::bytes_of;
 use app_main::tpch;
+use base_disk::MemDisk;
 use base_io::{MemFile, MemFiles, MemSink, OpenGate};
 use std::alloc::{AllocError, Global};
 use std::sync::Wait;
@@ -30,7 +31,7 @@ fn split_word(header: &str) -> (&str, &str) {
 
 /// Whether a text with this first word says what is printed.
 fn is_expected(word: &str) -> bool {
-    word == "out" || word == "head" || word == "end" || word == "one"
+    word == "out" || word == "head" || word == "end" || word == "one" || word == "after"
 }
 
 /// Whether the case takes the file of that name away.
@@ -169,7 +170,57 @@ fn agrees(alloc: Global, text: &Text, status: u8, printed: &[u8]) -> Result<bool
     Ok(printed == bytes.as_slice())
 }
 
-/// Runs a case. Whether one of its texts agrees with the run.
+/// The name of the file that the case's job keeps its refreshes in. None where there is no job, or
+/// one without a journal.
+fn journal_of<'a>(case: &'a Block, words: &[String]) -> Option<&'a str> {
+    let job = words.last()?;
+    let text = case
+        .texts
+        .iter()
+        .find(|text| text.header.as_str() == job.as_str())?;
+    text.lines
+        .iter()
+        .find_map(|line| line.strip_prefix("journal "))
+}
+
+/// The bytes that a text of the case gives a file before the run; none where there is no such text.
+fn bytes_before(alloc: Global, case: &Block, name: &str) -> Result<Vec<u8>, AllocError> {
+    for text in &case.texts {
+        let (word, way) = split_word(text.header.as_str());
+        if word == name {
+            return bytes_of(alloc, text, way);
+        }
+    }
+    Ok(Vec::new(alloc))
+}
+
+/// A disk with the file of the case's journal.
+fn disk_of(alloc: Global, case: &Block, words: &[String]) -> Result<MemDisk, AllocError> {
+    let name = journal_of(case, words).unwrap_or("");
+    let bytes = bytes_before(alloc, case, name)?;
+    let owned = String::from_str(alloc, name)?;
+    MemDisk::new(alloc, owned, bytes, Vec::new(alloc), usize::MAX)
+}
+
+/// Whether the journal has the bytes that the case says it has after the run.
+fn is_kept(
+    alloc: Global,
+    case: &Block,
+    name: Option<&str>,
+    kept: &[u8],
+) -> Result<bool, AllocError> {
+    for text in &case.texts {
+        if let Some(rest) = text.header.strip_prefix("after ") {
+            let (word, way) = split_word(rest);
+            if Some(word) == name && bytes_of(alloc, text, way)?.as_slice() != kept {
+                return Ok(false);
+            }
+        }
+    }
+    Ok(true)
+}
+
+/// Runs a case. Whether one of its texts agrees with the run, and its journal has what it says.
 pub fn passes<R: Threads + Wait + Sync>(
     rt: &R,
     alloc: Global,
@@ -179,7 +230,14 @@ pub fn passes<R: Threads + Wait + Sync>(
     let words = words_of(alloc, case)?;
     let mut files = MemFiles::new(files_of(alloc, case, sets)?, Vec::new(alloc));
     let mut out = MemSink::new(Vec::new(alloc), usize::MAX, Vec::new(alloc));
-    let status = tpch(rt, alloc, &words, &mut files, &mut out, &OpenGate).number();
+    let mut disk = disk_of(alloc, case, &words)?;
+    let status = tpch(
+        rt, alloc, &words, &mut files, &mut out, &mut disk, &OpenGate,
+    )
+    .number();
+    if !is_kept(alloc, case, journal_of(case, &words), &disk.bytes)? {
+        return Ok(false);
+    }
     for text in &case.texts {
         if agrees(alloc, text, status, out.bytes.as_slice())? {
             return Ok(true);

@@ -1,7 +1,8 @@
-//! The program: its words, the machine's files and standard output, given to `app_main`.
+//! The program: its words, the machine's files, standard output and disk, given to `app_main`.
 #![tactic(auto)]
 
 use app_main::{Status, tpch};
+use base_disk::RealDisk;
 use base_io::{OpenGate, RealFiles, RealSink};
 use std::alloc::AllocError;
 use std::env;
@@ -27,6 +28,15 @@ fn main(rt: HostRuntime) -> ExitCode {
     };
     let mut files = RealFiles::new(&rt);
     let mut out = RealSink::new(&rt);
-    let status = tpch(&rt, rt.alloc(), &words, &mut files, &mut out, &OpenGate);
+    let mut disk = RealDisk::new(&rt);
+    let status = tpch(
+        &rt,
+        rt.alloc(),
+        &words,
+        &mut files,
+        &mut out,
+        &mut disk,
+        &OpenGate,
+    );
     ExitCode::from(status.number())
 }

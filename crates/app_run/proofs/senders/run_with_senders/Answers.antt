@@ -1,5 +1,7 @@
 use Rattle.std.proofs.Common.{◌≡◌, ◌∙◌, ℕ, ◌+◌, List, drop, take, length, ap, arith, refl, rules, subst, sym}
 use Rattle.std.specs.List.{zip}
+use Rattle.std.specs.Prelude.{option_map}
+use Rattle.std.specs.String.{string_bytes}
 use Rattle.std.proofs.lemmas.List.{length-take-le}
 use Rattle.std.proofs.lemmas.Result.{IfOk-weaker}
 use Rattle.app_sessions.specs.Asked.{job_sessions}
@@ -72,11 +74,11 @@ run_joined-requires-clause-both g c κs within =
     }
 
 pub returns : goal.returns
-returns g c =
+returns g c reads =
     let s = c.args.sources in
     let all : s.before + length s.senders.items ≡ length s.list.items = c.requires.runnable.all c.requires.sent in
     let slice : c.as_slice.result.now ≡ s.senders.items = search rules in
     let given = λ (id : SenderId). ap (λ (ss : List SenderId). sent_by id (zip ss c.in_ok-sent.sent.items)) slice ∙ ap (λ (l : List Change). sent_by id (zip s.senders.items l)) c.in_ok-sent.ensures.tail in
-    IfOk-weaker c.run_joined.result _ _ (λ job is. sent_text (work_view s) c.in_ok-firsts.firsts.items c.in_ok-firsts.seconds.items (job_sessions s.sessions.items) job all
+    IfOk-weaker c.run_joined.result _ _ (λ job is. sent_text (work_view s) reads c.in_ok-firsts.firsts.items c.in_ok-firsts.seconds.items (job_sessions s.sessions.items) job (ap (λ j. option_map string_bytes j) c.requires.plain) refl all
     (c.in_ok-firsts.ensures.first ∙ given First) (c.in_ok-firsts.ensures.second ∙ given Second)
     (subst (λ (l : List Change). IsSentText s.base l c.in_ok-firsts.firsts.items c.in_ok-firsts.seconds.items (job_sessions s.sessions.items) job) c.in_ok-sent.ensures.items is)) c.run_joined.ensures
