@@ -17,9 +17,9 @@ use Rattle.plan_algebra.specs.declared.tree.Side.{Side}
 use Rattle.plan_algebra.specs.declared.tree.Side.TheVariants.{Closed, Shared, Dependent}
 use Rattle.plan_algebra.specs.Trees.{width_of, tree_rows, listed, right_row}
 use Rattle.plan_algebra.proofs.Opened.{width_Project, rows_Project, scans_Project}
-use Rattle.plan_tree_moves.proofs.Conditions.{project_id}
-use Rattle.plan_tree_moves.proofs.Good.{tree_is_good, length-columns_from}
-use Rattle.plan_tree_moves.proofs.Narrowing.{listed_after}
+use Rattle.plan_predicate_sinking.proofs.Conditions.{project_id}
+use Rattle.plan_predicate_sinking.proofs.Good.{tree_is_good, length-columns_from}
+use Rattle.plan_predicate_sinking.proofs.Narrowing.{listed_after}
 use Rattle.plan_computed_keys.specs.Keys.{with_computed, IsWider}
 
 plus_none : (m : ℕ) → m ≡ m + 0

@@ -24,14 +24,14 @@ use Rattle.sql_bound_query.proofs.TablesOpened.{of_Plain, of_Grouped, of_Distinc
 use Rattle.plan_algebra.specs.declared.aggregate.Aggregate.{Aggregate}
 use Rattle.plan_algebra.specs.declared.tree.DepTree.{DepTree}
 use Rattle.plan_algebra.specs.declared.tree.DepTree.TheVariants as t
-use Rattle.plan_dependent_tree.specs.declared.sight.OuterColumn.{OuterColumn}
-use Rattle.plan_dependent_tree.specs.Dependence.{domain_row, IsTreeOf}
-use Rattle.plan_dependent_tree.specs.Growth.{IsDomain, DomainRows, Attaches, RowsOf, IsTree}
-use Rattle.plan_dependent_tree.specs.Growth.{AreKeys, ExprAt, ListAt}
-use Rattle.plan_dependent_tree.specs.Growth.{AggregatesAt, SameFunctions, from_of, block_of}
-use Rattle.plan_dependent_tree.proofs.Places.{domain_whole}
-use Rattle.plan_dependent_tree.proofs.QueryTrees.{Anything, stage_begin, stage_more, stage_select}
-use Rattle.plan_dependent_tree.proofs.QueryTrees.{stage_project, stage_group, distinct_tree}
+use Rattle.plan_dependent_nodes.specs.declared.sight.OuterColumn.{OuterColumn}
+use Rattle.plan_dependent_nodes.specs.Dependence.{domain_row, IsTreeOf}
+use Rattle.plan_dependent_nodes.specs.Growth.{IsDomain, DomainRows, Attaches, RowsOf, IsTree}
+use Rattle.plan_dependent_nodes.specs.Growth.{AreKeys, ExprAt, ListAt}
+use Rattle.plan_dependent_nodes.specs.Growth.{AggregatesAt, SameFunctions, from_of, block_of}
+use Rattle.plan_dependent_nodes.proofs.Places.{domain_whole}
+use Rattle.plan_dependent_nodes.proofs.QueryTrees.{Anything, stage_begin, stage_more, stage_select}
+use Rattle.plan_dependent_nodes.proofs.QueryTrees.{stage_project, stage_group, distinct_tree}
 use Rattle.plan_dependent_tree.proofs.FromTrees.{tree_as}
 
 pub plain_arm : (outer : List OuterColumn) (start : ℕ) (from : BoundSource) (condition : BoundExpr)

@@ -19,19 +19,19 @@ use Rattle.sql_bound_query.specs.declared.query.BoundSource.TheVariants as sourc
 use Rattle.sql_bound_query.specs.declared.query.Input.{Input}
 use Rattle.sql_bound_query.specs.declared.query.Input.TheVariants as input
 use Rattle.sql_bound_query.specs.declared.query.SetColumn.{SetColumn}
-use Rattle.plan_dependent_tree.specs.declared.sight.OuterColumn.{OuterColumn}
-use Rattle.plan_dependent_tree.specs.Seeks.{Seeks, any_seeks, has, input_seeks, seeks_of}
-use Rattle.plan_dependent_tree.specs.Seeks.{seeks_of_source, seeks_of_input, seeks_of_expr}
-use Rattle.plan_dependent_tree.specs.Seeks.{seeks_of_aggregate}
-use Rattle.plan_dependent_tree.specs.Supplied.{Finds}
-use Rattle.plan_dependent_tree.proofs.SeeksOpened.{seeks_Column, seeks_Exists, seeks_Any}
-use Rattle.plan_dependent_tree.proofs.SeeksOpened.{seeks_Scalar}
-use Rattle.plan_dependent_tree.proofs.SeeksOpened.{seeks_CountRows, seeks_Of, seeks_Table}
-use Rattle.plan_dependent_tree.proofs.SeeksOpened.{seeks_Derived}
-use Rattle.plan_dependent_tree.proofs.SeeksOpened.{seeks_Lateral, seeks_Cross, seeks_Inner}
-use Rattle.plan_dependent_tree.proofs.SeeksOpened.{seeks_Outer, seeks_Plain}
-use Rattle.plan_dependent_tree.proofs.SeeksOpened.{seeks_Grouped, seeks_Distinct, seeks_Set}
-use Rattle.plan_dependent_tree.proofs.SeeksOpened.{seeks_expr}
+use Rattle.plan_dependent_nodes.specs.declared.sight.OuterColumn.{OuterColumn}
+use Rattle.plan_dependent_nodes.specs.Seeks.{Seeks, any_seeks, has, input_seeks, seeks_of}
+use Rattle.plan_dependent_nodes.specs.Seeks.{seeks_of_source, seeks_of_input, seeks_of_expr}
+use Rattle.plan_dependent_nodes.specs.Seeks.{seeks_of_aggregate}
+use Rattle.plan_dependent_nodes.specs.Supplied.{Finds}
+use Rattle.plan_dependent_nodes.proofs.SeeksOpened.{seeks_Column, seeks_Exists, seeks_Any}
+use Rattle.plan_dependent_nodes.proofs.SeeksOpened.{seeks_Scalar}
+use Rattle.plan_dependent_nodes.proofs.SeeksOpened.{seeks_CountRows, seeks_Of, seeks_Table}
+use Rattle.plan_dependent_nodes.proofs.SeeksOpened.{seeks_Derived}
+use Rattle.plan_dependent_nodes.proofs.SeeksOpened.{seeks_Lateral, seeks_Cross, seeks_Inner}
+use Rattle.plan_dependent_nodes.proofs.SeeksOpened.{seeks_Outer, seeks_Plain}
+use Rattle.plan_dependent_nodes.proofs.SeeksOpened.{seeks_Grouped, seeks_Distinct, seeks_Set}
+use Rattle.plan_dependent_nodes.proofs.SeeksOpened.{seeks_expr}
 
 -- ---- one part after the other
 

@@ -43,19 +43,19 @@ use Rattle.plan_algebra.specs.Trees.{tree_rows, scans_of, width_of, right_row}
 use Rattle.plan_algebra.proofs.Opened.{rows_Scan, rows_Join}
 use Rattle.plan_algebra.proofs.Opened.{scans_Scan, scans_Join}
 use Rattle.plan_algebra.proofs.Opened.{width_Scan, width_Join}
-use Rattle.plan_dependent_tree.specs.declared.sight.OuterColumn.{OuterColumn}
-use Rattle.plan_dependent_tree.specs.Dependence.{domain_row}
-use Rattle.plan_dependent_tree.specs.FromGrowth.{FromDomains, AreRightPlaces, IsSourceTree}
-use Rattle.plan_dependent_tree.specs.FromGrowth.{IsRightSource, lateral_columns}
-use Rattle.plan_dependent_tree.specs.Growth.{IsDomain, DomainRows, RowsOf, IsTree, IsTreeIn}
-use Rattle.plan_dependent_tree.specs.Growth.{IsRightIn}
-use Rattle.plan_dependent_tree.specs.Growth.{IsSubquery, AreAt, from_of, block_of}
-use Rattle.plan_dependent_tree.proofs.FromPlaces.{from_begins, from_shared, from_closed}
-use Rattle.plan_dependent_tree.proofs.FromPlaces.{from_wanted}
-use Rattle.plan_dependent_tree.proofs.FromPlaces.{lateral_sees, dependent_row}
-use Rattle.plan_dependent_tree.proofs.Places.{domain_none}
-use Rattle.plan_dependent_tree.proofs.Places.{domain_whole}
-use Rattle.plan_dependent_tree.proofs.Widenings.{join_is_select, join_crosses}
+use Rattle.plan_dependent_nodes.specs.declared.sight.OuterColumn.{OuterColumn}
+use Rattle.plan_dependent_nodes.specs.Dependence.{domain_row}
+use Rattle.plan_dependent_nodes.specs.FromGrowth.{FromDomains, AreRightPlaces, IsSourceTree}
+use Rattle.plan_dependent_nodes.specs.FromGrowth.{IsRightSource, lateral_columns}
+use Rattle.plan_dependent_nodes.specs.Growth.{IsDomain, DomainRows, RowsOf, IsTree, IsTreeIn}
+use Rattle.plan_dependent_nodes.specs.Growth.{IsRightIn}
+use Rattle.plan_dependent_nodes.specs.Growth.{IsSubquery, AreAt, from_of, block_of}
+use Rattle.plan_dependent_nodes.proofs.FromPlaces.{from_begins, from_shared, from_closed}
+use Rattle.plan_dependent_nodes.proofs.FromPlaces.{from_wanted}
+use Rattle.plan_dependent_nodes.proofs.FromPlaces.{lateral_sees, dependent_row}
+use Rattle.plan_dependent_nodes.proofs.Places.{domain_none}
+use Rattle.plan_dependent_nodes.proofs.Places.{domain_whole}
+use Rattle.plan_dependent_nodes.proofs.Widenings.{join_is_select, join_crosses}
 
 -- ---- the same rows by another name
 

@@ -38,15 +38,15 @@ use Rattle.plan_algebra.specs.Trees.{tree_rows, scans_of, width_of, right_row}
 use Rattle.plan_algebra.proofs.Opened.{rows_Outer, rows_Select}
 use Rattle.plan_algebra.proofs.Opened.{scans_Outer, scans_Select}
 use Rattle.plan_algebra.proofs.Opened.{width_Outer, width_Select}
-use Rattle.plan_dependent_tree.specs.declared.sight.OuterColumn.{OuterColumn}
-use Rattle.plan_dependent_tree.specs.Dependence.{domain_row}
-use Rattle.plan_dependent_tree.specs.FromGrowth.{FromDomains, AreRightPlaces, IsSourceTree}
-use Rattle.plan_dependent_tree.specs.FromGrowth.{IsKeptRight}
-use Rattle.plan_dependent_tree.specs.Growth.{Sees, DomainRows, Attaches, RowsOf}
-use Rattle.plan_dependent_tree.specs.Growth.{IsTreeIn, IsRightIn, ExprAt, IsTrimmed, widened}
-use Rattle.plan_dependent_tree.proofs.FromPlaces.{from_sees, from_wanted, dependent_row}
-use Rattle.plan_dependent_tree.proofs.Places.{sees_row}
-use Rattle.plan_dependent_tree.proofs.Widenings.{select_widened, outer_agrees, outer_lowered}
+use Rattle.plan_dependent_nodes.specs.declared.sight.OuterColumn.{OuterColumn}
+use Rattle.plan_dependent_nodes.specs.Dependence.{domain_row}
+use Rattle.plan_dependent_nodes.specs.FromGrowth.{FromDomains, AreRightPlaces, IsSourceTree}
+use Rattle.plan_dependent_nodes.specs.FromGrowth.{IsKeptRight}
+use Rattle.plan_dependent_nodes.specs.Growth.{Sees, DomainRows, Attaches, RowsOf}
+use Rattle.plan_dependent_nodes.specs.Growth.{IsTreeIn, IsRightIn, ExprAt, IsTrimmed, widened}
+use Rattle.plan_dependent_nodes.proofs.FromPlaces.{from_sees, from_wanted, dependent_row}
+use Rattle.plan_dependent_nodes.proofs.Places.{sees_row}
+use Rattle.plan_dependent_nodes.proofs.Widenings.{select_widened, outer_agrees, outer_lowered}
 use Rattle.plan_dependent_tree.proofs.FromTrees.{tree_as, always_holds, both_long}
 
 says_on : (on : BoundExpr) (c : Expr) (state : State) (env : Env) (d v : List Value)

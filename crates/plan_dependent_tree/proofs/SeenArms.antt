@@ -21,14 +21,14 @@ use Rattle.plan_algebra.specs.declared.aggregate.Aggregate.{Aggregate}
 use Rattle.plan_algebra.specs.declared.tree.DepTree.{DepTree}
 use Rattle.plan_algebra.specs.declared.tree.DepTree.TheVariants as t
 use Rattle.plan_algebra.specs.declared.tree.Side.{Side}
-use Rattle.plan_dependent_tree.specs.declared.sight.OuterColumn.{OuterColumn}
-use Rattle.plan_dependent_tree.specs.Growth.{RowsOf, Reading, IsTree, IsSubquery, Attaches, AreAt}
-use Rattle.plan_dependent_tree.specs.Growth.{AreKeys, IsAt, DependsOn, InputAt}
-use Rattle.plan_dependent_tree.specs.Growth.{InputsAt, ExprAt, ListAt, AggregatesAt, SameFunctions}
-use Rattle.plan_dependent_tree.specs.Growth.{from_of, block_of}
+use Rattle.plan_dependent_nodes.specs.declared.sight.OuterColumn.{OuterColumn}
+use Rattle.plan_dependent_nodes.specs.Growth.{RowsOf, Reading, IsTree, IsSubquery, Attaches, AreAt}
+use Rattle.plan_dependent_nodes.specs.Growth.{AreKeys, IsAt, DependsOn, InputAt}
+use Rattle.plan_dependent_nodes.specs.Growth.{InputsAt, ExprAt, ListAt, AggregatesAt, SameFunctions}
+use Rattle.plan_dependent_nodes.specs.Growth.{from_of, block_of}
 use Rattle.plan_dependent_tree.specs.SetGrowth.{IsSetTree}
-use Rattle.plan_dependent_tree.proofs.InputTrees.{column_arm, exists_arm, scalar_arm, any_arm}
-use Rattle.plan_dependent_tree.proofs.InputTrees.{expr_arm}
+use Rattle.plan_dependent_nodes.proofs.InputTrees.{column_arm, exists_arm, scalar_arm, any_arm}
+use Rattle.plan_dependent_nodes.proofs.InputTrees.{expr_arm}
 use Rattle.plan_dependent_tree.proofs.BlockTrees.{plain_arm}
 use Rattle.plan_dependent_tree.proofs.BlockTrees.{grouped_arm, distinct_arm}
 use Rattle.plan_dependent_tree.proofs.FromTrees.{subquery_dependent, subquery_closed}

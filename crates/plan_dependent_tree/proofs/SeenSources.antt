@@ -16,18 +16,18 @@ use Rattle.plan_algebra.specs.declared.tree.DepTree.{DepTree}
 use Rattle.plan_algebra.specs.declared.tree.DepTree.TheVariants as t
 use Rattle.plan_algebra.specs.declared.tree.Side.{Side}
 use Rattle.plan_algebra.specs.declared.tree.Side.TheVariants.{Dependent}
-use Rattle.plan_dependent_tree.specs.declared.sight.OuterColumn.{OuterColumn}
-use Rattle.plan_dependent_tree.specs.FromGrowth.{FromDomains, AreRightPlaces, IsSourceTree}
-use Rattle.plan_dependent_tree.specs.FromGrowth.{IsRightSource, IsKeptRight, IsKept}
-use Rattle.plan_dependent_tree.specs.FromGrowth.{lateral_columns}
-use Rattle.plan_dependent_tree.specs.FromGrowth.{IsKeptDomain, KeepsRight}
-use Rattle.plan_dependent_tree.specs.Growth.{IsTree, IsTreeIn, IsTrimmed, Attaches, IsPlain}
-use Rattle.plan_dependent_tree.specs.Growth.{ExprAt, block_of}
-use Rattle.plan_dependent_tree.specs.Seeks.{has, has_place, seeks_of_source, seeks_so_far}
-use Rattle.plan_dependent_tree.specs.Seeks.{seeks_of_expr}
+use Rattle.plan_dependent_nodes.specs.declared.sight.OuterColumn.{OuterColumn}
+use Rattle.plan_dependent_nodes.specs.FromGrowth.{FromDomains, AreRightPlaces, IsSourceTree}
+use Rattle.plan_dependent_nodes.specs.FromGrowth.{IsRightSource, IsKeptRight, IsKept}
+use Rattle.plan_dependent_nodes.specs.FromGrowth.{lateral_columns}
+use Rattle.plan_dependent_nodes.specs.FromGrowth.{IsKeptDomain, KeepsRight}
+use Rattle.plan_dependent_nodes.specs.Growth.{IsTree, IsTreeIn, IsTrimmed, Attaches, IsPlain}
+use Rattle.plan_dependent_nodes.specs.Growth.{ExprAt, block_of}
+use Rattle.plan_dependent_nodes.specs.Seeks.{has, has_place, seeks_of_source, seeks_so_far}
+use Rattle.plan_dependent_nodes.specs.Seeks.{seeks_of_expr}
 use Rattle.plan_dependent_tree.proofs.FromTrees.{table_arm, derived_arm, lateral_arm, cross_arm}
 use Rattle.plan_dependent_tree.proofs.FromTrees.{inner_arm, right_dependent}
-use Rattle.plan_dependent_tree.proofs.KeptTrees.{kept_arm}
+use Rattle.plan_dependent_nodes.proofs.KeptTrees.{kept_arm}
 use Rattle.plan_dependent_tree.proofs.OuterTrees.{plain_outer_arm, kept_outer_arm, kept_right_arm}
 use Rattle.plan_dependent_tree.proofs.SeenArms.{attached_to}
 

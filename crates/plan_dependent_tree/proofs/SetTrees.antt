@@ -34,12 +34,12 @@ use Rattle.plan_algebra.specs.declared.tree.DepTree.TheVariants as t
 use Rattle.plan_algebra.specs.Trees.{tree_rows, scans_of, width_of, listed}
 use Rattle.plan_algebra.proofs.Opened.{rows_Project, scans_Project, width_Project, rows_Set}
 use Rattle.plan_algebra.proofs.Opened.{scans_Set, width_Set}
-use Rattle.plan_dependent_tree.specs.declared.sight.OuterColumn.{OuterColumn}
-use Rattle.plan_dependent_tree.specs.Growth.{IsDomain, DomainRows, RowsOf, IsTreeIn, IsTree}
-use Rattle.plan_dependent_tree.specs.Growth.{block_of}
+use Rattle.plan_dependent_nodes.specs.declared.sight.OuterColumn.{OuterColumn}
+use Rattle.plan_dependent_nodes.specs.Growth.{IsDomain, DomainRows, RowsOf, IsTreeIn, IsTree}
+use Rattle.plan_dependent_nodes.specs.Growth.{block_of}
 use Rattle.plan_dependent_tree.specs.SetGrowth.{ReadsOf, IsSetTree}
 use Rattle.plan_dependent_tree.proofs.FromTrees.{tree_as}
-use Rattle.plan_dependent_tree.proofs.InputTrees.{both_more}
+use Rattle.plan_dependent_nodes.proofs.InputTrees.{both_more}
 
 -- ---- select lists, one expression more
 

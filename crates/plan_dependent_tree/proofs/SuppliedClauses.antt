@@ -22,21 +22,21 @@ use Rattle.sql_bound_query.specs.Typing.{listed_kinds, kind_of_aggregate, block_
 use Rattle.sql_bound_query.specs.Typing.{typing_of, common_kind, set_kinds}
 use Rattle.sql_bound_query.proofs.TypingOpened.{kinds_Distinct}
 use Rattle.sql_bound_query.proofs.Keeps.{Found, some_of, some_is}
-use Rattle.plan_dependent_tree.specs.declared.sight.OuterColumn.{OuterColumn}
-use Rattle.plan_dependent_tree.specs.Seeks.{Seeks, any_seeks, has, seeks_of, seeks_of_source}
-use Rattle.plan_dependent_tree.specs.Seeks.{seeks_of_expr, seeks_of_aggregate}
-use Rattle.plan_dependent_tree.specs.Supplied.{QueryIsSupplied}
-use Rattle.plan_dependent_tree.specs.Supplied.{FromIsSupplied}
-use Rattle.plan_dependent_tree.specs.Supplied.{ExprIsSupplied, ListIsSupplied}
-use Rattle.plan_dependent_tree.specs.Supplied.{AggregatesAreSupplied}
-use Rattle.plan_dependent_tree.specs.Supplied.{IsWidthOf}
-use Rattle.plan_dependent_tree.proofs.SeeksOpened.{seeks_Plain, seeks_Grouped, seeks_Distinct}
-use Rattle.plan_dependent_tree.proofs.SeeksOpened.{seeks_Set}
-use Rattle.plan_dependent_tree.proofs.TypedParts.{PlainTyped, plain_typed, GroupedTyped}
-use Rattle.plan_dependent_tree.proofs.TypedParts.{grouped_typed, SetTyped, set_typed}
-use Rattle.plan_dependent_tree.proofs.Within.{query_within}
-use Rattle.plan_dependent_tree.proofs.Supplies.{or_left, or_right, expr_supplied, list_supplied}
-use Rattle.plan_dependent_tree.proofs.Supplies.{aggregates_supplied, keys_within}
+use Rattle.plan_dependent_nodes.specs.declared.sight.OuterColumn.{OuterColumn}
+use Rattle.plan_dependent_nodes.specs.Seeks.{Seeks, any_seeks, has, seeks_of, seeks_of_source}
+use Rattle.plan_dependent_nodes.specs.Seeks.{seeks_of_expr, seeks_of_aggregate}
+use Rattle.plan_dependent_nodes.specs.Supplied.{QueryIsSupplied}
+use Rattle.plan_dependent_nodes.specs.Supplied.{FromIsSupplied}
+use Rattle.plan_dependent_nodes.specs.Supplied.{ExprIsSupplied, ListIsSupplied}
+use Rattle.plan_dependent_nodes.specs.Supplied.{AggregatesAreSupplied}
+use Rattle.plan_dependent_nodes.specs.Supplied.{IsWidthOf}
+use Rattle.plan_dependent_nodes.proofs.SeeksOpened.{seeks_Plain, seeks_Grouped, seeks_Distinct}
+use Rattle.plan_dependent_nodes.proofs.SeeksOpened.{seeks_Set}
+use Rattle.plan_dependent_nodes.proofs.TypedParts.{PlainTyped, plain_typed, GroupedTyped}
+use Rattle.plan_dependent_nodes.proofs.TypedParts.{grouped_typed, SetTyped, set_typed}
+use Rattle.plan_dependent_nodes.proofs.Within.{query_within}
+use Rattle.plan_dependent_nodes.proofs.Supplies.{or_left, or_right, expr_supplied, list_supplied}
+use Rattle.plan_dependent_nodes.proofs.Supplies.{aggregates_supplied, keys_within}
 
 -- ---- queries
 

@@ -7,16 +7,16 @@ use Rattle.sql_bound_query.specs.declared.query.BoundExpr.{BoundExpr}
 use Rattle.sql_bound_query.specs.declared.query.BoundSource.{BoundSource}
 use Rattle.sql_bound_query.specs.declared.query.BoundSource.TheVariants as source
 use Rattle.sql_bound_query.specs.Typing.{from_kinds}
-use Rattle.plan_dependent_tree.specs.declared.sight.OuterColumn.{OuterColumn}
-use Rattle.plan_dependent_tree.specs.Seeks.{Seeks, has, has_place, seeks_of_source, seeks_so_far}
-use Rattle.plan_dependent_tree.specs.Seeks.{seeks_of_expr}
-use Rattle.plan_dependent_tree.specs.Supplied.{SourceIsSupplied, JoinIsSupplied, ExprIsSupplied}
-use Rattle.plan_dependent_tree.specs.Supplied.{IsSourceWidth}
-use Rattle.plan_dependent_tree.proofs.SeeksOpened.{seeks_Inner, seeks_Outer, so_far_Inner}
-use Rattle.plan_dependent_tree.proofs.SeeksOpened.{so_far_Outer}
-use Rattle.plan_dependent_tree.proofs.TypedParts.{input_kinds, CrossTyped, JoinTyped, inner_typed}
-use Rattle.plan_dependent_tree.proofs.TypedParts.{OuterTyped, outer_typed}
-use Rattle.plan_dependent_tree.proofs.Supplies.{or_left, or_right, expr_supplied}
+use Rattle.plan_dependent_nodes.specs.declared.sight.OuterColumn.{OuterColumn}
+use Rattle.plan_dependent_nodes.specs.Seeks.{Seeks, has, has_place, seeks_of_source, seeks_so_far}
+use Rattle.plan_dependent_nodes.specs.Seeks.{seeks_of_expr}
+use Rattle.plan_dependent_nodes.specs.Supplied.{SourceIsSupplied, JoinIsSupplied, ExprIsSupplied}
+use Rattle.plan_dependent_nodes.specs.Supplied.{IsSourceWidth}
+use Rattle.plan_dependent_nodes.proofs.SeeksOpened.{seeks_Inner, seeks_Outer, so_far_Inner}
+use Rattle.plan_dependent_nodes.proofs.SeeksOpened.{so_far_Outer}
+use Rattle.plan_dependent_nodes.proofs.TypedParts.{input_kinds, CrossTyped, JoinTyped, inner_typed}
+use Rattle.plan_dependent_nodes.proofs.TypedParts.{OuterTyped, outer_typed}
+use Rattle.plan_dependent_nodes.proofs.Supplies.{or_left, or_right, expr_supplied}
 use Rattle.plan_dependent_tree.proofs.SuppliedSources.{both_width, left_side, right_side}
 
 -- ---- joins

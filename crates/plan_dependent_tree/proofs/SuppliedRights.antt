@@ -5,13 +5,13 @@ use Rattle.std.proofs.lemmas.Bool.{eqb-true}
 use Rattle.std.proofs.lemmas.List.{length-append}
 use Rattle.sql_bound_query.specs.declared.query.BoundExpr.{BoundExpr}
 use Rattle.sql_bound_query.specs.declared.query.BoundSource.{BoundSource}
-use Rattle.plan_dependent_tree.specs.declared.sight.OuterColumn.{OuterColumn}
-use Rattle.plan_dependent_tree.specs.Seeks.{has, has_place, seeks_of_source, seeks_so_far}
-use Rattle.plan_dependent_tree.specs.Seeks.{seeks_of_expr}
-use Rattle.plan_dependent_tree.specs.Supplied.{SourceIsSupplied, JoinIsSupplied, ExprIsSupplied}
-use Rattle.plan_dependent_tree.specs.Supplied.{IsSourceWidth}
-use Rattle.plan_dependent_tree.proofs.Supplies.{or_left, or_right, expr_supplied}
-use Rattle.plan_dependent_tree.proofs.Within.{either}
+use Rattle.plan_dependent_nodes.specs.declared.sight.OuterColumn.{OuterColumn}
+use Rattle.plan_dependent_nodes.specs.Seeks.{has, has_place, seeks_of_source, seeks_so_far}
+use Rattle.plan_dependent_nodes.specs.Seeks.{seeks_of_expr}
+use Rattle.plan_dependent_nodes.specs.Supplied.{SourceIsSupplied, JoinIsSupplied, ExprIsSupplied}
+use Rattle.plan_dependent_nodes.specs.Supplied.{IsSourceWidth}
+use Rattle.plan_dependent_nodes.proofs.Supplies.{or_left, or_right, expr_supplied}
+use Rattle.plan_dependent_nodes.proofs.Within.{either}
 
 -- a slice that is found empty
 pub no_items : {X : Type 0} (items : List X) (result : Bool) → result ≡ (length items == 0)

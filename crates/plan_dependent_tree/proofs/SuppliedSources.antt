@@ -13,18 +13,18 @@ use Rattle.sql_bound_query.specs.Typing.{EnvKinds, FromKinds, kind_of_column}
 use Rattle.sql_bound_query.specs.Typing.{column_kinds, block_kinds, from_kinds}
 use Rattle.sql_bound_query.proofs.TypingOpened.{kinds_Table, kinds_Derived, kinds_Lateral}
 use Rattle.sql_bound_query.proofs.Keeps.{some_is}
-use Rattle.plan_dependent_tree.specs.declared.sight.OuterColumn.{OuterColumn}
-use Rattle.plan_dependent_tree.specs.FromGrowth.{lateral_columns}
-use Rattle.plan_dependent_tree.specs.Seeks.{Seeks, has, has_place, seeks_of, seeks_of_source}
-use Rattle.plan_dependent_tree.specs.Seeks.{seeks_so_far}
-use Rattle.plan_dependent_tree.specs.Supplied.{QueryIsSupplied, FromIsSupplied, SourceIsSupplied}
-use Rattle.plan_dependent_tree.specs.Supplied.{IsWidthOf, IsSourceWidth}
-use Rattle.plan_dependent_tree.proofs.SeeksOpened.{seeks_Lateral, seeks_Cross, so_far_Lateral}
-use Rattle.plan_dependent_tree.proofs.SeeksOpened.{so_far_Cross}
-use Rattle.plan_dependent_tree.proofs.TypedParts.{CrossTyped, cross_typed}
-use Rattle.plan_dependent_tree.proofs.Within.{query_within}
-use Rattle.plan_dependent_tree.proofs.Supplies.{or_left, or_right}
-use Rattle.plan_dependent_tree.proofs.LateralColumns.{has_nearest, has_further}
+use Rattle.plan_dependent_nodes.specs.declared.sight.OuterColumn.{OuterColumn}
+use Rattle.plan_dependent_nodes.specs.FromGrowth.{lateral_columns}
+use Rattle.plan_dependent_nodes.specs.Seeks.{Seeks, has, has_place, seeks_of, seeks_of_source}
+use Rattle.plan_dependent_nodes.specs.Seeks.{seeks_so_far}
+use Rattle.plan_dependent_nodes.specs.Supplied.{QueryIsSupplied, FromIsSupplied, SourceIsSupplied}
+use Rattle.plan_dependent_nodes.specs.Supplied.{IsWidthOf, IsSourceWidth}
+use Rattle.plan_dependent_nodes.proofs.SeeksOpened.{seeks_Lateral, seeks_Cross, so_far_Lateral}
+use Rattle.plan_dependent_nodes.proofs.SeeksOpened.{so_far_Cross}
+use Rattle.plan_dependent_nodes.proofs.TypedParts.{CrossTyped, cross_typed}
+use Rattle.plan_dependent_nodes.proofs.Within.{query_within}
+use Rattle.plan_dependent_nodes.proofs.Supplies.{or_left, or_right}
+use Rattle.plan_dependent_nodes.proofs.LateralColumns.{has_nearest, has_further}
 
 -- ---- FROM
 

@@ -1,6 +1,1 @@
-pub mod Dependence
-pub mod Growth
 pub mod SetGrowth
-pub mod FromGrowth
-pub mod Seeks
-pub mod Supplied

@@ -1,11 +1,10 @@
 //! The domain of a right side whose rows an ON condition with subqueries keeps.
 ghost use Rattle.std.specs.Prelude.{◌≡◌, IfOk};
-ghost use Rattle.plan_dependent_tree.specs.FromGrowth.{IsKeptDomain};
+ghost use Rattle.plan_dependent_nodes.specs.FromGrowth.{IsKeptDomain};
 
 use crate::outer::join_columns;
-use crate::sight::OuterColumn;
 use crate::so_far::so_far_places;
-use crate::source_sight::{SourceSight, right_places, with_left_row};
+use plan_dependent_nodes::{OuterColumn, SourceSight, right_places, with_left_row};
 use sql_bound_query::{BoundExpr, BoundSource};
 use sqlite_items::Items;
 use std::alloc::{AllocError, Global};

@@ -4,13 +4,9 @@
 
 mod kept_domain;
 mod outer;
-mod parts;
 mod sets;
-mod sight;
 mod so_far;
-mod source_sight;
-mod sources;
 mod tree;
 
-pub use sight::OuterColumn;
+pub use plan_dependent_nodes::OuterColumn;
 pub use tree::{depend, depend_under};

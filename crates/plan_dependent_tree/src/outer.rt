@@ -1,13 +1,13 @@
 //! The columns of the rows around that a query reads.
 ghost use Rattle.std.specs.Prelude.{◌≡◌, ◌+◌, ◌==◌, ◌&&◌, ◌||◌, ℕ, suc, map, IfOk, OnOk, IsTrue};
 ghost use Rattle.sql_bound_query.specs.declared.query.BoundAggregate.TheOpen.{Column};
-ghost use Rattle.plan_dependent_tree.specs.Seeks.{any_seeks, has, input_seeks, seeks_of};
-ghost use Rattle.plan_dependent_tree.specs.Seeks.{seeks_of_aggregate, seeks_of_expr};
-ghost use Rattle.plan_dependent_tree.specs.Seeks.{seeks_of_input};
-ghost use Rattle.plan_dependent_tree.specs.Seeks.{seeks_of_source};
-ghost use Rattle.plan_dependent_tree.specs.Supplied.{Finds};
+ghost use Rattle.plan_dependent_nodes.specs.Seeks.{any_seeks, has, input_seeks, seeks_of};
+ghost use Rattle.plan_dependent_nodes.specs.Seeks.{seeks_of_aggregate, seeks_of_expr};
+ghost use Rattle.plan_dependent_nodes.specs.Seeks.{seeks_of_input};
+ghost use Rattle.plan_dependent_nodes.specs.Seeks.{seeks_of_source};
+ghost use Rattle.plan_dependent_nodes.specs.Supplied.{Finds};
 
-use crate::sight::OuterColumn;
+use plan_dependent_nodes::OuterColumn;
 use sql_bound_query::{BoundAggregate, BoundBlock, BoundExpr, BoundSource, Input};
 use sqlite_items::Items;
 use std::alloc::{AllocError, Global};

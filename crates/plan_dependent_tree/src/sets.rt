@@ -3,11 +3,10 @@ ghost use Rattle.std.specs.Prelude.{◌≡◌, IfOk};
 ghost use Rattle.sql_bound_query.specs.Meaning.{left_columns, right_columns};
 ghost use Rattle.plan_dependent_tree.specs.SetGrowth.{IsSetTree, ReadsOf};
 
-use crate::parts::Rows;
-use crate::source_sight::with_left_row;
 use base_set_rows::SetOperation;
 use expr_scalar::{Expr, rename};
 use plan_algebra::DepTree;
+use plan_dependent_nodes::{Rows, with_left_row};
 use sql_bound_query::SetColumn;
 use sqlite_items::{Boxed, Items};
 use std::alloc::{AllocError, Global};

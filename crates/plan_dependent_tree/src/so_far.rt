@@ -1,6 +1,6 @@
 //! The columns of the row so far that a source reads.
 ghost use Rattle.std.specs.Prelude.{◌≡◌, ◌==◌, ◌||◌, ℕ, IfOk, OnOk};
-ghost use Rattle.plan_dependent_tree.specs.Seeks.{has_place, seeks_of, seeks_so_far};
+ghost use Rattle.plan_dependent_nodes.specs.Seeks.{has_place, seeks_of, seeks_so_far};
 
 use crate::outer::outer_columns;
 use sql_bound_query::{BoundBlock, BoundSource};

@@ -4,33 +4,31 @@ ghost use Rattle.expr_scalar.specs.declared.kind.Kind.{Kind};
 ghost use Rattle.sql_bound_query.specs.Typing.{IsWellTyped, block_kinds, from_kinds};
 ghost use Rattle.sql_bound_query.specs.Reads.{tables, tables_of_source, tables_of_input};
 ghost use Rattle.sql_bound_query.specs.Reads.{tables_of_expr, tables_of_aggregate, joined_tables};
-ghost use Rattle.plan_dependent_tree.specs.Dependence.{IsTreeOf};
-ghost use Rattle.plan_dependent_tree.specs.FromGrowth.{IsSourceTree, IsRightSource, IsKept};
-ghost use Rattle.plan_dependent_tree.specs.FromGrowth.{KeepsRight};
-ghost use Rattle.plan_dependent_tree.specs.Growth.{from_of, block_of, IsTree, IsSubquery};
-ghost use Rattle.plan_dependent_tree.specs.Growth.{Attaches, InputAt, InputsAt, ExprAt, ListAt};
-ghost use Rattle.plan_dependent_tree.specs.Growth.{AggregateAt, AggregatesAt, SameFunction};
-ghost use Rattle.plan_dependent_tree.specs.Growth.{SameFunctions};
-ghost use Rattle.plan_dependent_tree.specs.Supplied.{AggregateIsSupplied, AggregatesAreSupplied};
-ghost use Rattle.plan_dependent_tree.specs.Supplied.{ExprIsSupplied, InputIsSupplied, IsWidthOf};
-ghost use Rattle.plan_dependent_tree.specs.Supplied.{InputsAreSupplied, ListIsSupplied};
-ghost use Rattle.plan_dependent_tree.specs.Supplied.{QueryIsSupplied, FromIsSupplied};
-ghost use Rattle.plan_dependent_tree.specs.Supplied.{SourceIsSupplied, IsSourceWidth};
-ghost use Rattle.plan_dependent_tree.specs.Supplied.{SubqueryIsSupplied};
+ghost use Rattle.plan_dependent_nodes.specs.Dependence.{IsTreeOf};
+ghost use Rattle.plan_dependent_nodes.specs.FromGrowth.{IsSourceTree, IsRightSource, IsKept};
+ghost use Rattle.plan_dependent_nodes.specs.FromGrowth.{KeepsRight};
+ghost use Rattle.plan_dependent_nodes.specs.Growth.{from_of, block_of, IsTree, IsSubquery};
+ghost use Rattle.plan_dependent_nodes.specs.Growth.{Attaches, InputAt, InputsAt, ExprAt, ListAt};
+ghost use Rattle.plan_dependent_nodes.specs.Growth.{AggregateAt, AggregatesAt, SameFunction};
+ghost use Rattle.plan_dependent_nodes.specs.Growth.{SameFunctions};
+ghost use Rattle.plan_dependent_nodes.specs.Supplied.{AggregateIsSupplied, AggregatesAreSupplied};
+ghost use Rattle.plan_dependent_nodes.specs.Supplied.{ExprIsSupplied, InputIsSupplied, IsWidthOf};
+ghost use Rattle.plan_dependent_nodes.specs.Supplied.{InputsAreSupplied, ListIsSupplied};
+ghost use Rattle.plan_dependent_nodes.specs.Supplied.{QueryIsSupplied, FromIsSupplied};
+ghost use Rattle.plan_dependent_nodes.specs.Supplied.{SourceIsSupplied, IsSourceWidth};
+ghost use Rattle.plan_dependent_nodes.specs.Supplied.{SubqueryIsSupplied};
 
 use crate::kept_domain::{KeptDomain, kept_domain};
 use crate::outer::{outer_columns, source_columns};
-use crate::parts::{
-    Attached, Counted, Grown, Listed, Placed, Read, Right, Rows, Summed, always, applied,
-    contained, distinct, existing, grouped, grown_from, key_places, outer_places, over_places,
-    projected, selected, trimmed, valued,
-};
 use crate::sets::combined;
-use crate::sight::{OuterColumn, Sight, place_of};
 use crate::so_far::so_far_places;
-use crate::source_sight::{SourceSight, lateral_columns, right_places};
-use crate::sources::{RightRows, crossed, depending, outer_condition, outer_joined, table_rows};
 use plan_algebra::{Aggregate, DepTree, Side};
+use plan_dependent_nodes::{
+    Attached, Counted, Grown, Listed, OuterColumn, Placed, Read, Right, RightRows, Rows, Sight,
+    SourceSight, Summed, always, applied, contained, crossed, depending, distinct, existing,
+    grouped, grown_from, key_places, lateral_columns, outer_condition, outer_joined, outer_places,
+    over_places, place_of, projected, right_places, selected, table_rows, trimmed, valued,
+};
 use sql_bound_query::{BoundAggregate, BoundBlock, BoundExpr, BoundQuery, BoundSource, Input};
 use sqlite_items::{Boxed, Items};
 use std::alloc::{AllocError, Global};

@@ -41,11 +41,11 @@ use Rattle.plan_algebra.proofs.NoRows.{length-aggregates_of}
 use Rattle.plan_algebra.proofs.Opened.{width_Select, width_Join}
 use Rattle.plan_algebra.proofs.Opened.{rows_Select, rows_Join}
 use Rattle.plan_algebra.proofs.Opened.{scans_Select, scans_Join}
-use Rattle.plan_tree_moves.specs.Arranged.{SameRows}
-use Rattle.plan_tree_moves.proofs.Conditions.{renamed_length}
-use Rattle.plan_tree_moves.proofs.Good.{tree_is_good, length-columns_from}
-use Rattle.plan_tree_moves.proofs.Narrowing.{listed_after, every_end}
-use Rattle.plan_tree_moves.proofs.Scans.{as_bags}
+use Rattle.plan_predicate_sinking.specs.Arranged.{SameRows}
+use Rattle.plan_predicate_sinking.proofs.Conditions.{renamed_length}
+use Rattle.plan_predicate_sinking.proofs.Good.{tree_is_good, length-columns_from}
+use Rattle.plan_predicate_sinking.proofs.Narrowing.{listed_after, every_end}
+use Rattle.plan_predicate_sinking.proofs.Scans.{as_bags}
 use Rattle.plan_join_order.specs.Laterals.{AreNull, IsListAbove, IsKept}
 use Rattle.plan_join_order.proofs.LateralRows.{join_under}
 use Rattle.plan_join_order.proofs.Laterals.{always, true_says, project_arm, select_arm, groups_arm}

@@ -37,11 +37,11 @@ use Rattle.plan_algebra.proofs.Opened.{width_Select, width_Project, width_Join, 
 use Rattle.plan_algebra.proofs.Opened.{rows_Select, rows_Project, rows_Join, rows_Outer, rows_Group}
 use Rattle.plan_algebra.proofs.Opened.{scans_Select, scans_Project, scans_Join, scans_Outer}
 use Rattle.plan_algebra.proofs.Opened.{scans_Group}
-use Rattle.plan_tree_moves.specs.Arranged.{SameRows}
-use Rattle.plan_tree_moves.proofs.Good.{tree_is_good, length-columns_from}
-use Rattle.plan_tree_moves.proofs.Narrowing.{before, listed_after}
-use Rattle.plan_tree_moves.proofs.SameNodes.{alike}
-use Rattle.plan_tree_moves.proofs.Scans.{as_bags, same_list}
+use Rattle.plan_predicate_sinking.specs.Arranged.{SameRows}
+use Rattle.plan_predicate_sinking.proofs.Good.{tree_is_good, length-columns_from}
+use Rattle.plan_predicate_sinking.proofs.Narrowing.{before, listed_after}
+use Rattle.plan_predicate_sinking.proofs.SameNodes.{alike}
+use Rattle.plan_predicate_sinking.proofs.Scans.{as_bags, same_list}
 use Rattle.plan_join_order.specs.Laterals.{AreNull, IsListAbove}
 use Rattle.plan_join_order.proofs.LateralRows.{join_under, outer_under, project_above, select_above}
 use Rattle.plan_join_order.proofs.LateralRows.{total_above, IsOneGroup}

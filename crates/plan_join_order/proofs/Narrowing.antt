@@ -29,11 +29,11 @@ use Rattle.plan_algebra.specs.declared.tree.DepTree.{DepTree}
 use Rattle.plan_algebra.specs.declared.tree.DepTree.TheVariants as t
 use Rattle.plan_algebra.specs.Trees.{Database, HasKinds, width_of, tree_rows, scans_of, listed}
 use Rattle.plan_algebra.proofs.Opened.{width_Project, rows_Project, scans_Project}
-use Rattle.plan_tree_moves.specs.Arranged.{SameRows}
-use Rattle.plan_tree_moves.specs.Narrow.{IsNarrowed, IsFound, whole_columns}
-use Rattle.plan_tree_moves.proofs.Conditions.{renamed_length}
-use Rattle.plan_tree_moves.proofs.Narrowing.{shifted, before, found_ranks, found_values, kept_row}
-use Rattle.plan_tree_moves.proofs.Scans.{same_list, as_bags}
+use Rattle.plan_predicate_sinking.specs.Arranged.{SameRows}
+use Rattle.plan_predicate_sinking.specs.Narrow.{IsNarrowed, IsFound, whole_columns}
+use Rattle.plan_predicate_sinking.proofs.Conditions.{renamed_length}
+use Rattle.plan_predicate_sinking.proofs.Narrowing.{shifted, before, found_ranks, found_values, kept_row}
+use Rattle.plan_predicate_sinking.proofs.Scans.{same_list, as_bags}
 use Rattle.plan_join_order.specs.Groups.{rows_of, total_of, scans_in, rows_of_inputs, Collects}
 use Rattle.plan_join_order.specs.Groups.{StandsFor}
 use Rattle.plan_join_order.specs.Narrow.{AreNarrowed, AreAsked, Narrows}

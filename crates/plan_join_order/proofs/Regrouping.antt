@@ -5,12 +5,12 @@ use Rattle.expr_scalar.specs.declared.expr.Expr.TheVariants as e
 use Rattle.plan_algebra.specs.declared.aggregate.Aggregate.{Aggregate}
 use Rattle.plan_algebra.specs.declared.tree.DepTree.{DepTree}
 use Rattle.plan_algebra.specs.declared.tree.DepTree.TheVariants as t
-use Rattle.plan_tree_moves.specs.Arranged.{SameRows}
-use Rattle.plan_tree_moves.specs.Narrow.{whole_columns}
+use Rattle.plan_predicate_sinking.specs.Arranged.{SameRows}
+use Rattle.plan_predicate_sinking.specs.Narrow.{whole_columns}
 use Rattle.plan_tree_moves.specs.Regroup.{KeysMove, AggregatesMove}
 use Rattle.plan_tree_moves.proofs.Regrouping.{regrouped}
-use Rattle.plan_tree_moves.proofs.SameNodes.{same_group}
-use Rattle.plan_tree_moves.proofs.Sinking.{trans}
+use Rattle.plan_predicate_sinking.proofs.SameNodes.{same_group}
+use Rattle.plan_predicate_sinking.proofs.Sinking.{trans}
 
 -- the same, each value where the code read it
 pub regrouped_seen : (n : ℕ) (own whole w1 w2 by keys : List ℕ) (xs ys : List Aggregate)

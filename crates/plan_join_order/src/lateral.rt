@@ -11,7 +11,7 @@ ghost use Rattle.expr_conditions.specs.Ranks.{columns_from};
 ghost use Rattle.plan_algebra.specs.declared.tree.DepTree.TheVariants.{Join, Group};
 ghost use Rattle.plan_algebra.specs.declared.tree.Side.TheVariants.{Dependent};
 ghost use Rattle.plan_algebra.specs.Trees.{width_of};
-ghost use Rattle.plan_tree_moves.specs.Arranged.{SameRows};
+ghost use Rattle.plan_predicate_sinking.specs.Arranged.{SameRows};
 ghost use Rattle.plan_join_order.specs.Laterals.{AreNull, IsListAbove, IsKept};
 
 use base_value::Value;

@@ -2,7 +2,7 @@
 ghost use Rattle.std.specs.Prelude.{◌<◌, IfOk, IfSome, length, []};
 ghost use Rattle.plan_algebra.specs.declared.tree.DepTree.{DepTree};
 ghost use Rattle.plan_algebra.specs.declared.tree.DepTree.TheVariants.{Group, Project};
-ghost use Rattle.plan_tree_moves.specs.Arranged.{SameRows};
+ghost use Rattle.plan_predicate_sinking.specs.Arranged.{SameRows};
 ghost use Rattle.plan_join_order.specs.Groups.{Collects};
 
 use crate::group::{Collected, built, closed, total_width};

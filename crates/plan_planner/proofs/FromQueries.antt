@@ -11,11 +11,11 @@ use Rattle.plan_algebra.specs.declared.plan.FlatPlan.{FlatPlan}
 use Rattle.plan_algebra.specs.declared.tree.DepTree.{DepTree}
 use Rattle.plan_algebra.specs.Plans.{plan_rows, plan_scans}
 use Rattle.plan_algebra.specs.Trees.{tree_rows, scans_of}
-use Rattle.plan_dependent_tree.specs.Dependence.{IsTreeOf}
-use Rattle.plan_tree_moves.specs.Arranged.{SameRows}
-use Rattle.plan_unnesting.specs.declared.domain.Domain.{Domain}
-use Rattle.plan_unnesting.specs.declared.domain.DomainRows.TheVariants.{One}
-use Rattle.plan_unnesting.specs.Lowerings.{Answered, KeepsNodes}
+use Rattle.plan_dependent_nodes.specs.Dependence.{IsTreeOf}
+use Rattle.plan_predicate_sinking.specs.Arranged.{SameRows}
+use Rattle.plan_unnested_nodes.specs.declared.domain.Domain.{Domain}
+use Rattle.plan_unnested_nodes.specs.declared.domain.DomainRows.TheVariants.{One}
+use Rattle.plan_unnested_nodes.specs.Lowerings.{Answered, KeepsNodes}
 use Rattle.plan_planner.specs.Planned.{IsPlanOf}
 
 same_from : {X : Type 0} {xs ys : List X} → xs ≡ ys → SameBag xs ys

@@ -1,16 +1,5 @@
-pub mod Good
-pub mod Scans
-pub mod Apart
-pub mod SameNodes
-pub mod Sinking
-pub mod OnParts
-pub mod Narrowing
 pub mod Regrouping
 pub mod Pruning
 pub mod SlimJoins
-pub mod BelowLists
-pub mod BelowGroups
-pub mod BelowJoins
-pub mod Conditions
 pub mod RightColumns
 pub mod OuterColumns

@@ -29,14 +29,14 @@ use Rattle.plan_algebra.specs.declared.tree.Side.{Side}
 use Rattle.plan_algebra.specs.Trees.{Database, HasKinds, width_of, tree_rows, right_row}
 use Rattle.plan_algebra.specs.Trees.{side_of}
 use Rattle.plan_algebra.proofs.Opened.{width_Outer, rows_Outer, scans_Outer}
-use Rattle.plan_tree_moves.specs.Arranged.{SameRows}
-use Rattle.plan_tree_moves.specs.Narrow.{IsNarrowed, IsFound, whole_columns}
+use Rattle.plan_predicate_sinking.specs.Arranged.{SameRows}
+use Rattle.plan_predicate_sinking.specs.Narrow.{IsNarrowed, IsFound, whole_columns}
 use Rattle.plan_tree_moves.specs.Prune.{Keeps, SideMoves, BothMove}
-use Rattle.plan_tree_moves.proofs.Good.{tree_is_good}
-use Rattle.plan_tree_moves.proofs.Narrowing.{before, shifted, kept_row, found_rank}
+use Rattle.plan_predicate_sinking.proofs.Good.{tree_is_good}
+use Rattle.plan_predicate_sinking.proofs.Narrowing.{before, shifted, kept_row, found_rank}
 use Rattle.plan_tree_moves.proofs.Pruning.{keeps_over}
-use Rattle.plan_tree_moves.proofs.SameNodes.{SameRows-refl, alike, same_outer, side_length}
-use Rattle.plan_tree_moves.proofs.Scans.{as_bags, same_list}
+use Rattle.plan_predicate_sinking.proofs.SameNodes.{SameRows-refl, alike, same_outer, side_length}
+use Rattle.plan_predicate_sinking.proofs.Scans.{as_bags, same_list}
 
 -- a condition over the columns that are left of both sides
 pub both_move : (n : ℕ) (kept whole both places : List ℕ) (w from : ℕ) (own : List ℕ)

@@ -38,18 +38,18 @@ use Rattle.plan_algebra.specs.Trees.{side_of, listed, mark_under, scalar_at}
 use Rattle.plan_algebra.proofs.Opened.{width_Select, width_Project, width_Mark, width_Single}
 use Rattle.plan_algebra.proofs.Opened.{rows_Select, rows_Project, rows_Mark, rows_Single, scans_Select}
 use Rattle.plan_algebra.proofs.Opened.{scans_Project, scans_Mark, scans_Single}
-use Rattle.plan_tree_moves.specs.Arranged.{SameRows}
-use Rattle.plan_tree_moves.specs.Narrow.{IsNarrowed, IsFound, whole_columns}
+use Rattle.plan_predicate_sinking.specs.Arranged.{SameRows}
+use Rattle.plan_predicate_sinking.specs.Narrow.{IsNarrowed, IsFound, whole_columns}
 use Rattle.plan_tree_moves.specs.Prune.{Keeps, SideMoves, ConditionMoves}
 use Rattle.plan_tree_moves.specs.Regroup.{KeysMove, AggregatesMove}
-use Rattle.plan_tree_moves.proofs.Conditions.{renamed_length}
-use Rattle.plan_tree_moves.proofs.Good.{tree_is_good}
-use Rattle.plan_tree_moves.proofs.Narrowing.{before, kept_row, found_rank, found_values, listed_after}
+use Rattle.plan_predicate_sinking.proofs.Conditions.{renamed_length}
+use Rattle.plan_predicate_sinking.proofs.Good.{tree_is_good}
+use Rattle.plan_predicate_sinking.proofs.Narrowing.{before, kept_row, found_rank, found_values, listed_after}
 use Rattle.plan_tree_moves.proofs.Regrouping.{regrouped}
-use Rattle.plan_tree_moves.proofs.SameNodes.{SameRows-refl, alike, same_group, same_mark, same_single}
-use Rattle.plan_tree_moves.proofs.SameNodes.{mark_is_bag, scalar_is_bag}
-use Rattle.plan_tree_moves.proofs.Scans.{as_bags, same_list}
-use Rattle.plan_tree_moves.proofs.Sinking.{trans}
+use Rattle.plan_predicate_sinking.proofs.SameNodes.{SameRows-refl, alike, same_group, same_mark, same_single}
+use Rattle.plan_predicate_sinking.proofs.SameNodes.{mark_is_bag, scalar_is_bag}
+use Rattle.plan_predicate_sinking.proofs.Scans.{as_bags, same_list}
+use Rattle.plan_predicate_sinking.proofs.Sinking.{trans}
 
 pub keeps_of : (n : ℕ) (a b new : DepTree) (own : List ℕ) → IsNarrowed n b own new
     → All (λ c. c < width_of b) own → SameRows n a b → Keeps n a own new

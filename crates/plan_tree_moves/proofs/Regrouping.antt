@@ -28,12 +28,12 @@ use Rattle.plan_algebra.specs.declared.tree.DepTree.TheVariants as t
 use Rattle.plan_algebra.specs.Aggregates.{aggregates_of, argument_and_function}
 use Rattle.plan_algebra.specs.Trees.{tree_rows, listed, keys_under, aggregates_under, groups_under}
 use Rattle.plan_algebra.proofs.Opened.{rows_Project, scans_Project, width_Group, rows_Group, scans_Group}
-use Rattle.plan_tree_moves.specs.Arranged.{SameRows}
-use Rattle.plan_tree_moves.specs.Narrow.{IsFound, whole_columns}
+use Rattle.plan_predicate_sinking.specs.Arranged.{SameRows}
+use Rattle.plan_predicate_sinking.specs.Narrow.{IsFound, whole_columns}
 use Rattle.plan_tree_moves.specs.Regroup.{KeysMove, AggregateMoves, AggregatesMove}
-use Rattle.plan_tree_moves.proofs.Narrowing.{at_place, found_row, listed_after, kept_row}
-use Rattle.plan_tree_moves.proofs.SameNodes.{alike}
-use Rattle.plan_tree_moves.proofs.Scans.{same_list}
+use Rattle.plan_predicate_sinking.proofs.Narrowing.{at_place, found_row, listed_after, kept_row}
+use Rattle.plan_predicate_sinking.proofs.SameNodes.{alike}
+use Rattle.plan_predicate_sinking.proofs.Scans.{same_list}
 
 -- what is read
 pub keys_none : (whole keys : List ℕ) → keys ≡ [] → KeysMove whole [] keys

@@ -20,14 +20,14 @@ use Rattle.plan_algebra.specs.declared.tree.Side.{Side}
 use Rattle.plan_algebra.specs.Trees.{scans_of, width_of, tree_rows, right_row}
 use Rattle.plan_algebra.specs.Trees.{side_of, mark_under}
 use Rattle.plan_algebra.proofs.Opened.{width_Mark, rows_Mark, scans_Mark}
-use Rattle.plan_tree_moves.specs.Arranged.{SameRows}
-use Rattle.plan_tree_moves.specs.Narrow.{IsNarrowed, IsFound, whole_columns}
+use Rattle.plan_predicate_sinking.specs.Arranged.{SameRows}
+use Rattle.plan_predicate_sinking.specs.Narrow.{IsNarrowed, IsFound, whole_columns}
 use Rattle.plan_tree_moves.specs.Prune.{Keeps, RightMoves}
-use Rattle.plan_tree_moves.proofs.Good.{tree_is_good}
-use Rattle.plan_tree_moves.proofs.Narrowing.{kept_row, found_rank}
-use Rattle.plan_tree_moves.proofs.SameNodes.{side_length, same_mark}
-use Rattle.plan_tree_moves.proofs.Scans.{as_bags, same_list}
-use Rattle.plan_tree_moves.proofs.Sinking.{trans}
+use Rattle.plan_predicate_sinking.proofs.Good.{tree_is_good}
+use Rattle.plan_predicate_sinking.proofs.Narrowing.{kept_row, found_rank}
+use Rattle.plan_predicate_sinking.proofs.SameNodes.{side_length, same_mark}
+use Rattle.plan_predicate_sinking.proofs.Scans.{as_bags, same_list}
+use Rattle.plan_predicate_sinking.proofs.Sinking.{trans}
 
 pub right_moves : (before : ℕ) (own whole places : List ℕ) (c c2 new : Expr)
     → whole ≡ whole_columns before own → IsFound places whole c → IsRenamed places c c2 → new ≡ c2

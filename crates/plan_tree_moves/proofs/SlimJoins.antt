@@ -25,13 +25,13 @@ use Rattle.plan_algebra.specs.declared.tree.Side.{Side}
 use Rattle.plan_algebra.specs.Trees.{Database, HasKinds, scans_of, width_of, tree_rows, right_row}
 use Rattle.plan_algebra.specs.Trees.{side_of}
 use Rattle.plan_algebra.proofs.Opened.{width_Join, rows_Join, scans_Join}
-use Rattle.plan_tree_moves.specs.Arranged.{SameRows}
+use Rattle.plan_predicate_sinking.specs.Arranged.{SameRows}
 use Rattle.plan_tree_moves.specs.Prune.{Keeps, SideMoves, ConditionMoves}
-use Rattle.plan_tree_moves.proofs.Good.{tree_is_good, length-columns_from}
-use Rattle.plan_tree_moves.proofs.Narrowing.{before}
+use Rattle.plan_predicate_sinking.proofs.Good.{tree_is_good, length-columns_from}
+use Rattle.plan_predicate_sinking.proofs.Narrowing.{before}
 use Rattle.plan_tree_moves.proofs.Pruning.{keeps_over}
-use Rattle.plan_tree_moves.proofs.SameNodes.{SameRows-refl, alike, same_join}
-use Rattle.plan_tree_moves.proofs.Scans.{as_bags}
+use Rattle.plan_predicate_sinking.proofs.SameNodes.{SameRows-refl, alike, same_join}
+use Rattle.plan_predicate_sinking.proofs.Scans.{as_bags}
 
 -- the columns that are left of a left row, and a right row
 run_more : (kept : List ℕ) (w k : ℕ) (x y : List Value) → length x ≡ w → length y ≡ k

@@ -1,8 +1,2 @@
-pub mod Arranged
-pub mod Own
-pub mod Sink
-pub mod Narrow
 pub mod Regroup
 pub mod Prune
-pub mod Below
-pub mod Selected

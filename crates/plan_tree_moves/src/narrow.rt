@@ -3,12 +3,12 @@ ghost use Rattle.std.specs.Prelude.{◌≡◌, ℕ, ◌++◌, ◌+◌, ◌<◌, 
 ghost use Rattle.std.specs.List.{All as Every};
 ghost use Rattle.expr_scalar.specs.declared.expr.Expr.TheVariants.{Column};
 ghost use Rattle.expr_conditions.specs.Ranks.{columns_from};
-ghost use Rattle.plan_tree_moves.specs.Narrow.{IsNarrowed, IsFound, IsFoundAt, whole_columns};
+ghost use Rattle.plan_predicate_sinking.specs.Narrow.{IsNarrowed, IsFound, IsFoundAt, whole_columns};
 
-use crate::copy::copy_tree;
 use expr_conditions::put_run;
 use expr_scalar::{Expr, used_columns};
 use plan_algebra::{DepTree, width};
+use plan_predicate_sinking::copy_tree;
 use sqlite_items::{Boxed, Items};
 use std::alloc::{AllocError, Global};
 

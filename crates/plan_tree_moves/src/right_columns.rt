@@ -2,14 +2,13 @@
 ghost use Rattle.std.specs.Prelude.{◌≡◌, IfOk, IfSome};
 ghost use Rattle.plan_algebra.specs.declared.tree.DepTree.TheVariants.{Mark};
 ghost use Rattle.plan_algebra.specs.Trees.{width_of};
-ghost use Rattle.plan_tree_moves.specs.Arranged.{SameRows};
+ghost use Rattle.plan_predicate_sinking.specs.Arranged.{SameRows};
 ghost use Rattle.plan_tree_moves.specs.Prune.{RightMoves};
 
-use crate::domain::side_columns;
 use crate::narrow::{after_domain, is_found, narrowed_input, own_columns, places_in};
-use crate::nodes::{copied_side, mark_of};
 use expr_scalar::{Expr, rename, used_columns};
 use plan_algebra::{DepTree, Side, width};
+use plan_predicate_sinking::{copied_side, mark_of, side_columns};
 use sqlite_items::Boxed;
 use std::alloc::{AllocError, Global};
 

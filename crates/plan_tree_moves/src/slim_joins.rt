@@ -8,11 +8,11 @@ ghost use Rattle.plan_algebra.specs.Trees.{width_of};
 ghost use Rattle.plan_tree_moves.specs.Prune.{Keeps, BothMove};
 
 use crate::columns::with_run;
-use crate::domain::side_columns;
 use crate::narrow::{after_domain, is_found, narrowed_input, places_in, put_after};
 use crate::prune::{Slim, moved_condition, side_of_slim};
 use expr_scalar::{Expr, rename};
 use plan_algebra::{DepTree, Side, width};
+use plan_predicate_sinking::side_columns;
 use sqlite_items::Boxed;
 use std::alloc::{AllocError, Global};
 

@@ -24,14 +24,14 @@ use Rattle.plan_algebra.proofs.Opened.{together_is}
 use Rattle.expr_conditions.specs.Ranks.{rank_of, says}
 use Rattle.plan_algebra.specs.Trees.{TreeMeaning, tree_step, side_of, right_row, mark_under, scalar_at, together, combined}
 use Rattle.plan_algebra.specs.Plans.{node_rows, plan_rows, plan_width, made_from}
-use Rattle.plan_unnesting.specs.declared.footing.Footing.{Footing}
-use Rattle.plan_unnesting.specs.Footings.{footing_width, footing_rows}
-use Rattle.plan_unnesting.specs.Growth.{IsPut}
-use Rattle.plan_unnesting.specs.Lowerings.{Lowers, LowersRight, LowersSides}
-use Rattle.plan_unnesting.proofs.Columns.{side_length}
-use Rattle.plan_unnesting.proofs.Grown.{grown_length, both_more, kept_rows, kept_width}
-use Rattle.plan_unnesting.proofs.Kept.{both_same, holds_later}
-use Rattle.plan_unnesting.proofs.Arms.{puts}
+use Rattle.plan_unnested_nodes.specs.declared.footing.Footing.{Footing}
+use Rattle.plan_unnested_nodes.specs.Footings.{footing_width, footing_rows}
+use Rattle.plan_unnested_nodes.specs.Growth.{IsPut}
+use Rattle.plan_unnested_nodes.specs.Lowerings.{Lowers, LowersRight, LowersSides}
+use Rattle.plan_unnested_nodes.proofs.Columns.{side_length}
+use Rattle.plan_unnested_nodes.proofs.Grown.{grown_length, both_more, kept_rows, kept_width}
+use Rattle.plan_unnested_nodes.proofs.Kept.{both_same, holds_later}
+use Rattle.plan_unnested_nodes.proofs.Arms.{puts}
 
 -- two sides
 pub sides : (before a c : List Node) (l r : TreeMeaning) (side : Side) (f g h : Footing) (outer rows : ℕ)

@@ -26,19 +26,19 @@ use Rattle.plan_algebra.specs.Aggregates.{aggregates_of}
 use Rattle.plan_algebra.specs.Trees.{TreeMeaning, tree_step, keys_under, aggregates_under, groups_under}
 use Rattle.plan_algebra.specs.Plans.{groups, plan_rows, plan_width}
 use Rattle.plan_algebra.proofs.NoRows.{aggregates_bag, length-aggregates_of}
-use Rattle.plan_unnesting.specs.declared.domain.DomainRows.{DomainRows}
-use Rattle.plan_unnesting.specs.declared.domain.DomainRows.TheVariants as domain
-use Rattle.plan_unnesting.specs.declared.footing.Footing.{Footing}
-use Rattle.plan_unnesting.specs.declared.footing.FootingRows.TheVariants.{One, Node as AtNode}
-use Rattle.plan_unnesting.specs.Domains.{IsInPlan}
-use Rattle.plan_unnesting.specs.Footings.{footing_width, footing_rows, as_footing, IsFooting, Settles}
-use Rattle.plan_unnesting.specs.Growth.{IsPut}
-use Rattle.plan_unnesting.specs.Lowerings.{Lowers, IsFilled, IsGrouped, IsTotal, with_again}
-use Rattle.plan_unnesting.proofs.Grown.{same_plan, grown_length, put_more, kept_rows, kept_width, put_rows}
-use Rattle.plan_unnesting.proofs.Kept.{same_later, settled_first}
-use Rattle.plan_unnesting.proofs.Wide.{over_wide, grouped_wide, keyed_wide, groups_some}
-use Rattle.plan_unnesting.proofs.Arms.{puts}
-use Rattle.plan_unnesting.proofs.Regrouped.{regrouped_wide}
+use Rattle.plan_unnested_nodes.specs.declared.domain.DomainRows.{DomainRows}
+use Rattle.plan_unnested_nodes.specs.declared.domain.DomainRows.TheVariants as domain
+use Rattle.plan_unnested_nodes.specs.declared.footing.Footing.{Footing}
+use Rattle.plan_unnested_nodes.specs.declared.footing.FootingRows.TheVariants.{One, Node as AtNode}
+use Rattle.plan_unnested_nodes.specs.Domains.{IsInPlan}
+use Rattle.plan_unnested_nodes.specs.Footings.{footing_width, footing_rows, as_footing, IsFooting, Settles}
+use Rattle.plan_unnested_nodes.specs.Growth.{IsPut}
+use Rattle.plan_unnested_nodes.specs.Lowerings.{Lowers, IsFilled, IsGrouped, IsTotal, with_again}
+use Rattle.plan_unnested_nodes.proofs.Grown.{same_plan, grown_length, put_more, kept_rows, kept_width, put_rows}
+use Rattle.plan_unnested_nodes.proofs.Kept.{same_later, settled_first}
+use Rattle.plan_unnested_nodes.proofs.Wide.{over_wide, grouped_wide, keyed_wide, groups_some}
+use Rattle.plan_unnested_nodes.proofs.Arms.{puts}
+use Rattle.plan_unnested_nodes.proofs.Regrouped.{regrouped_wide}
 
 -- by columns of their own
 some_groups : (c : ℕ) (cs : List ℕ) (aggregates : List Aggregate) (n : ℕ) (ds xs : List (Ranked Value)) (L : List Value → List (Ranked Value)) → IsDomain same_value n ds → Answers same_value ds xs L

@@ -19,16 +19,16 @@ use Rattle.plan_algebra.specs.Trees.{TreeMeaning, tree_step, tree_meaning, width
 use Rattle.std.proofs.lemmas.Bool.{ne_eqb}
 use Rattle.plan_algebra.specs.Plans.{plan_width}
 use Rattle.plan_algebra.proofs.Opened.{meaning_Scan, meaning_Select, meaning_Project, meaning_Join, meaning_Outer, meaning_Mark, meaning_Single, meaning_Group, meaning_Distinct, meaning_Set, left_is}
-use Rattle.plan_unnesting.specs.declared.footing.Footing.{Footing}
-use Rattle.plan_unnesting.specs.declared.footing.FootingRows.TheVariants.{One}
-use Rattle.plan_unnesting.specs.declared.domain.DomainRows.{DomainRows}
-use Rattle.plan_unnesting.specs.Footings.{footing_width, IsFooting, Settles}
-use Rattle.plan_unnesting.specs.Growth.{IsPut}
-use Rattle.plan_unnesting.specs.Lowerings.{Lowers, LowersRight, LowersSides, IsOwnFooting, IsGrouped, IsTotal}
-use Rattle.plan_unnesting.proofs.Arms.{select_lowers, project_lowers, distinct_lowers}
+use Rattle.plan_unnested_nodes.specs.declared.footing.Footing.{Footing}
+use Rattle.plan_unnested_nodes.specs.declared.footing.FootingRows.TheVariants.{One}
+use Rattle.plan_unnested_nodes.specs.declared.domain.DomainRows.{DomainRows}
+use Rattle.plan_unnested_nodes.specs.Footings.{footing_width, IsFooting, Settles}
+use Rattle.plan_unnested_nodes.specs.Growth.{IsPut}
+use Rattle.plan_unnested_nodes.specs.Lowerings.{Lowers, LowersRight, LowersSides, IsOwnFooting, IsGrouped, IsTotal}
+use Rattle.plan_unnested_nodes.proofs.Arms.{select_lowers, project_lowers, distinct_lowers}
 use Rattle.plan_unnesting.proofs.Both.{sides, join_lowers, outer_lowers, mark_lowers, single_lowers, set_lowers, set_wide}
 use Rattle.plan_unnesting.proofs.Groups.{group_lowers, total_put}
-use Rattle.plan_unnesting.proofs.Sides.{shared_right, closed_right, own_right}
+use Rattle.plan_unnested_nodes.proofs.Sides.{shared_right, closed_right, own_right}
 
 means : {before new : List Node} {m k : TreeMeaning} {f g : Footing} {id : ℕ} → m ≡ k → Lowers before new k f g id → Lowers before new m f g id
 means {before = before} {new = new} {f = f} {g = g} {id = id} e l = subst (λ k. Lowers before new k f g id) (sym e) l

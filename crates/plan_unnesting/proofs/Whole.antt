@@ -14,16 +14,16 @@ use Rattle.plan_algebra.specs.declared.node.Node.{Node}
 use Rattle.plan_algebra.specs.declared.tree.DepTree.{DepTree}
 use Rattle.plan_algebra.specs.Trees.{Database, HasKinds, tree_meaning, tree_rows, scans_of, domains_of}
 use Rattle.plan_algebra.specs.Plans.{plan_rows, plan_scans, scan_of, plan_domains, is_domain}
-use Rattle.plan_unnesting.specs.declared.domain.Domain.{Domain as DomainData}
-use Rattle.plan_unnesting.specs.declared.domain.DomainRows.{DomainRows}
-use Rattle.plan_unnesting.specs.declared.domain.DomainRows.TheVariants as domain
-use Rattle.plan_unnesting.specs.declared.domain.Origin.{Origin}
-use Rattle.plan_unnesting.specs.Domains.{domain_width, domain_rows, IsInPlan, is_unchanged, KeepsNotes, DomainHolds}
+use Rattle.plan_unnested_nodes.specs.declared.domain.Domain.{Domain as DomainData}
+use Rattle.plan_unnested_nodes.specs.declared.domain.DomainRows.{DomainRows}
+use Rattle.plan_unnested_nodes.specs.declared.domain.DomainRows.TheVariants as domain
+use Rattle.plan_unnested_nodes.specs.declared.domain.Origin.{Origin}
+use Rattle.plan_unnested_nodes.specs.Domains.{domain_width, domain_rows, IsInPlan, is_unchanged, KeepsNotes, DomainHolds}
 use Rattle.expr_scalar.specs.declared.kind.Kind.{Kind}
 use Rattle.expr_scalar.specs.declared.kind.Kind.TheVariants as kind
-use Rattle.plan_unnesting.specs.declared.footing.Footing.{Footing}
-use Rattle.plan_unnesting.specs.Footings.{footing_width, footing_rows, footing_of, as_footing, is_due, IsFooting, FootingHolds}
-use Rattle.plan_unnesting.specs.Lowerings.{Unnests, Answered, KeepsNodes, Lowers}
+use Rattle.plan_unnested_nodes.specs.declared.footing.Footing.{Footing}
+use Rattle.plan_unnested_nodes.specs.Footings.{footing_width, footing_rows, footing_of, as_footing, is_due, IsFooting, FootingHolds}
+use Rattle.plan_unnested_nodes.specs.Lowerings.{Unnests, Answered, KeepsNodes, Lowers}
 
 -- the rows of a domain are those of its footing
 footing_is : (db : Database) (nodes : List Node) (r : DomainRows) → footing_rows db nodes (as_footing r) ≡ domain_rows db nodes r

@@ -2,26 +2,19 @@
 ghost use Rattle.std.specs.Prelude.{◌≡◌, ◌+◌, ◌<◌, ◌≤◌, ◌++◌, length, IfOk, OnOk};
 ghost use Rattle.plan_algebra.specs.Trees.{tree_meaning, scans_of, domains_of};
 ghost use Rattle.plan_algebra.specs.Plans.{plan_scans, plan_domains};
-ghost use Rattle.plan_unnesting.specs.Domains.{IsInPlan};
-ghost use Rattle.plan_unnesting.specs.Footings.{IsFooting};
-ghost use Rattle.plan_unnesting.specs.FromRows.{IsPart};
-ghost use Rattle.plan_unnesting.specs.Lowerings.{Unnests, Answered, KeepsNodes, Lowers};
-ghost use Rattle.plan_unnesting.specs.Lowerings.{LowersRight};
+ghost use Rattle.plan_unnested_nodes.specs.Domains.{IsInPlan};
+ghost use Rattle.plan_unnested_nodes.specs.Footings.{IsFooting};
+ghost use Rattle.plan_unnested_nodes.specs.FromRows.{IsPart};
+ghost use Rattle.plan_unnested_nodes.specs.Lowerings.{Unnests, Answered, KeepsNodes, Lowers};
+ghost use Rattle.plan_unnested_nodes.specs.Lowerings.{LowersRight};
 
-use crate::carried::is_carried;
-use crate::domain::Domain;
-use crate::footing::Footing;
-use crate::from_rows::{
-    Part, own_list, own_on, put_apart_join, put_apart_list, put_apart_outer, put_apart_select,
-    put_apart_table, put_whole,
-};
-use crate::grouped::put_groups;
-use crate::kept_domain::keeps_domain;
-use crate::put::{
-    own_footing, put_distinct, put_join, put_mark, put_outer, put_project, put_scan, put_select,
-    put_selection, put_set, put_single, put_total,
-};
 use plan_algebra::{Builder, DepTree, NodeId, Side, width};
+use plan_unnested_nodes::{
+    Domain, Footing, Part, is_carried, keeps_domain, own_footing, own_list, own_on, put_apart_join,
+    put_apart_list, put_apart_outer, put_apart_select, put_apart_table, put_distinct, put_groups,
+    put_join, put_mark, put_outer, put_project, put_scan, put_select, put_selection, put_set,
+    put_single, put_total, put_whole,
+};
 use sqlite_items::Boxed;
 use std::alloc::{AllocError, Global};
 

@@ -1,5 +1,5 @@
 use Rattle.std.proofs.Common.{◌≡◌, ◌+◌, rules}
-use Rattle.plan_dependent_tree.specs.Seeks.{seeks_of_aggregate, seeks_of_expr, seeks_of_input}
+use Rattle.plan_dependent_nodes.specs.Seeks.{seeks_of_aggregate, seeks_of_expr, seeks_of_input}
 use Rattle.plan_dependent_tree.proofs.Found.{any_none, any_more, column_input_found, exists_found}
 use Rattle.plan_dependent_tree.proofs.Found.{scalar_found, any_found, expr_found, count_rows_found}
 use Rattle.plan_dependent_tree.proofs.Found.{argument_found, table_found, derived_found}

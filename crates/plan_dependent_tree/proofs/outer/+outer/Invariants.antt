@@ -1,7 +1,7 @@
 use Rattle.std.proofs.Common.{◌+◌, map, take}
-use Rattle.plan_dependent_tree.specs.Seeks.{any_seeks, seeks_of_aggregate, seeks_of_expr}
-use Rattle.plan_dependent_tree.specs.Seeks.{seeks_of_input}
-use Rattle.plan_dependent_tree.specs.Supplied.{Finds}
+use Rattle.plan_dependent_nodes.specs.Seeks.{any_seeks, seeks_of_aggregate, seeks_of_expr}
+use Rattle.plan_dependent_nodes.specs.Seeks.{seeks_of_input}
+use Rattle.plan_dependent_nodes.specs.Supplied.{Finds}
 use Rattle.plan_dependent_tree.proofs.outer.+outer.Given as goal
 
 abbrev pub invariant-aggregates-loop-a : goal.invariant-aggregates-loop-a

@@ -1,6 +1,6 @@
-use Rattle.plan_dependent_tree.proofs.LateralColumns.{table_gathers, derived_gathers}
-use Rattle.plan_dependent_tree.proofs.LateralColumns.{lateral_gathers}
-use Rattle.plan_dependent_tree.proofs.LateralColumns.{cross_gathers, inner_gathers, outer_gathers}
+use Rattle.plan_dependent_nodes.proofs.LateralColumns.{table_gathers, derived_gathers}
+use Rattle.plan_dependent_nodes.proofs.LateralColumns.{lateral_gathers}
+use Rattle.plan_dependent_nodes.proofs.LateralColumns.{cross_gathers, inner_gathers, outer_gathers}
 use Rattle.plan_dependent_tree.proofs.so_far.+so_far.Goals as goal
 
 pub returns-in-Table : goal.returns-in-Table

@@ -1,6 +1,6 @@
 use Rattle.std.proofs.Common.{take}
-use Rattle.plan_dependent_tree.specs.Seeks.{has}
-use Rattle.plan_dependent_tree.proofs.LateralColumns.{Gathers}
+use Rattle.plan_dependent_nodes.specs.Seeks.{has}
+use Rattle.plan_dependent_nodes.proofs.LateralColumns.{Gathers}
 use Rattle.plan_dependent_tree.proofs.so_far.nearest.Given as goal
 
 abbrev pub invariant-loop-column : goal.invariant-loop-column

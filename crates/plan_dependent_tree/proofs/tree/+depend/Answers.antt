@@ -3,13 +3,13 @@ use Rattle.std.proofs.Common.{[], map, take}
 use Rattle.std.proofs.lemmas.List.{take_all}
 use Rattle.sql_bound_query.specs.Reads.{tables_of_input, tables_of_expr, tables_of_aggregate}
 use Rattle.sql_bound_query.specs.Reads.{joined_tables}
-use Rattle.plan_dependent_tree.specs.Growth.{Attaches, InputsAt, ListAt, AggregatesAt}
-use Rattle.plan_dependent_tree.proofs.PlaceLists.{length_put}
-use Rattle.plan_dependent_tree.specs.FromGrowth.{IsSourceTree}
-use Rattle.plan_dependent_tree.proofs.InputTrees.{inputs_none, inputs_more, list_none, list_more}
-use Rattle.plan_dependent_tree.proofs.InputTrees.{aggregates_none, aggregates_more, functions_none}
-use Rattle.plan_dependent_tree.proofs.InputTrees.{functions_more, count_arm, of_arm, same_count}
-use Rattle.plan_dependent_tree.proofs.InputTrees.{same_of}
+use Rattle.plan_dependent_nodes.specs.Growth.{Attaches, InputsAt, ListAt, AggregatesAt}
+use Rattle.plan_dependent_nodes.proofs.PlaceLists.{length_put}
+use Rattle.plan_dependent_nodes.specs.FromGrowth.{IsSourceTree}
+use Rattle.plan_dependent_nodes.proofs.InputTrees.{inputs_none, inputs_more, list_none, list_more}
+use Rattle.plan_dependent_nodes.proofs.InputTrees.{aggregates_none, aggregates_more, functions_none}
+use Rattle.plan_dependent_nodes.proofs.InputTrees.{functions_more, count_arm, of_arm, same_count}
+use Rattle.plan_dependent_nodes.proofs.InputTrees.{same_of}
 use Rattle.plan_dependent_tree.proofs.SeenArms.{column_seen, exists_seen, scalar_seen, any_seen}
 use Rattle.plan_dependent_tree.proofs.SeenArms.{expr_seen, subquery_seen}
 use Rattle.plan_dependent_tree.proofs.SeenSources.{kept_seen}
@@ -28,11 +28,11 @@ use Rattle.plan_dependent_tree.proofs.SuppliedRights.{dependent_stands, shared_s
 use Rattle.plan_dependent_tree.proofs.SuppliedRights.{closed_supplied}
 use Rattle.plan_dependent_tree.proofs.SuppliedRights.{no_items}
 use Rattle.plan_dependent_tree.proofs.SuppliedRights.{resupplied}
-use Rattle.plan_dependent_tree.proofs.Supplies.{column_is_seen, exists_supplied, scalar_supplied}
-use Rattle.plan_dependent_tree.proofs.Supplies.{any_supplied, left_supplied, argument_supplied}
-use Rattle.plan_dependent_tree.proofs.Supplies.{found_seen, found_supplied, item_supplied}
-use Rattle.plan_dependent_tree.specs.Supplied.{AggregateIsSupplied, ExprIsSupplied, InputIsSupplied}
-use Rattle.plan_dependent_tree.specs.Supplied.{InputsAreSupplied}
+use Rattle.plan_dependent_nodes.proofs.Supplies.{column_is_seen, exists_supplied, scalar_supplied}
+use Rattle.plan_dependent_nodes.proofs.Supplies.{any_supplied, left_supplied, argument_supplied}
+use Rattle.plan_dependent_nodes.proofs.Supplies.{found_seen, found_supplied, item_supplied}
+use Rattle.plan_dependent_nodes.specs.Supplied.{AggregateIsSupplied, ExprIsSupplied, InputIsSupplied}
+use Rattle.plan_dependent_nodes.specs.Supplied.{InputsAreSupplied}
 use Rattle.plan_dependent_tree.proofs.tree.+depend.Answers.Blocks as blocks
 use Rattle.plan_dependent_tree.proofs.tree.+depend.Answers.Sources as sources
 use Rattle.plan_dependent_tree.proofs.tree.+depend.Goals as goal

@@ -1,10 +1,10 @@
 use Rattle.std.proofs.Common.{◌≡◌, length, map, take}
 use Rattle.sql_bound_query.specs.Reads.{tables_of_input, tables_of_expr, tables_of_aggregate}
 use Rattle.sql_bound_query.specs.Reads.{joined_tables}
-use Rattle.plan_dependent_tree.specs.Growth.{Attaches, InputsAt, ListAt, AggregatesAt}
-use Rattle.plan_dependent_tree.specs.Growth.{SameFunctions}
-use Rattle.plan_dependent_tree.specs.Supplied.{AggregatesAreSupplied, InputsAreSupplied}
-use Rattle.plan_dependent_tree.specs.Supplied.{ListIsSupplied}
+use Rattle.plan_dependent_nodes.specs.Growth.{Attaches, InputsAt, ListAt, AggregatesAt}
+use Rattle.plan_dependent_nodes.specs.Growth.{SameFunctions}
+use Rattle.plan_dependent_nodes.specs.Supplied.{AggregatesAreSupplied, InputsAreSupplied}
+use Rattle.plan_dependent_nodes.specs.Supplied.{ListIsSupplied}
 use Rattle.plan_dependent_tree.proofs.tree.+depend.Given as goal
 
 abbrev pub invariant-attach_aggregates-loop-a : goal.invariant-attach_aggregates-loop-a

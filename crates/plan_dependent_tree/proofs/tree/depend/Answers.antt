@@ -1,5 +1,5 @@
 use Rattle.std.proofs.Common.{[], subst, sym}
-use Rattle.plan_dependent_tree.specs.Supplied.{QueryIsSupplied}
+use Rattle.plan_dependent_nodes.specs.Supplied.{QueryIsSupplied}
 use Rattle.plan_dependent_tree.proofs.SuppliedClauses.{whole_supplied}
 use Rattle.plan_dependent_tree.proofs.tree.depend.Goals as goal
 

@@ -1,6 +1,6 @@
 use Rattle.std.proofs.Common.{◌≡◌}
 use Rattle.base_value.specs.declared.value.Value.TheVariants.{Null}
-use Rattle.plan_tree_moves.proofs.Narrowing.{every_more}
+use Rattle.plan_predicate_sinking.proofs.Narrowing.{every_more}
 use Rattle.plan_join_order.proofs.LateralSteps.{null_end}
 use Rattle.plan_join_order.proofs.lateral.are_null.Goals as goal
 

@@ -1,7 +1,7 @@
 use Rattle.std.proofs.Common.{◌∙◌, ◌++◌, ◌+◌, ◌<◌, map, ap, subst, sym, rules}
 use Rattle.std.specs.List.{All}
 use Rattle.plan_algebra.specs.declared.tree.DepTree.{DepTree}
-use Rattle.plan_tree_moves.specs.Narrow.{IsNarrowed}
+use Rattle.plan_predicate_sinking.specs.Narrow.{IsNarrowed}
 use Rattle.plan_join_order.proofs.Totals.{total_none, total_more}
 use Rattle.plan_join_order.proofs.Narrowing.{narrow_none, narrow_more}
 use Rattle.plan_join_order.proofs.narrow.narrowed_inputs.Goals as goal

@@ -1,7 +1,7 @@
 use Rattle.std.proofs.Common.{◌∙◌, subst}
 use Rattle.plan_algebra.specs.declared.tree.DepTree.{DepTree}
-use Rattle.plan_tree_moves.specs.Arranged.{SameRows}
-use Rattle.plan_tree_moves.proofs.Sinking.{trans}
+use Rattle.plan_predicate_sinking.specs.Arranged.{SameRows}
+use Rattle.plan_predicate_sinking.proofs.Sinking.{trans}
 use Rattle.plan_planner.proofs.FromQueries.{planned}
 use Rattle.plan_planner.proofs.planning.plan_bound.Goals as goal
 

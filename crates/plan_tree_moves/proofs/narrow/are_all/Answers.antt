@@ -1,5 +1,5 @@
 use Rattle.std.proofs.Common.{rules}
-use Rattle.plan_tree_moves.proofs.Narrowing.{run_grown}
+use Rattle.plan_predicate_sinking.proofs.Narrowing.{run_grown}
 use Rattle.plan_tree_moves.proofs.narrow.are_all.Goals as goal
 
 pub loop-i-preserved : goal.loop-i-preserved

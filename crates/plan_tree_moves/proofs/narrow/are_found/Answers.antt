@@ -1,6 +1,6 @@
 use Rattle.std.proofs.Common.{rules}
-use Rattle.plan_tree_moves.specs.Narrow.{IsFound}
-use Rattle.plan_tree_moves.proofs.Narrowing.{every_more, every_end}
+use Rattle.plan_predicate_sinking.specs.Narrow.{IsFound}
+use Rattle.plan_predicate_sinking.proofs.Narrowing.{every_more, every_end}
 use Rattle.plan_tree_moves.proofs.narrow.are_found.Goals as goal
 
 pub loop-e-preserved : goal.loop-e-preserved

@@ -1,6 +1,6 @@
 use Rattle.std.proofs.Common.{rules}
-use Rattle.plan_tree_moves.specs.Narrow.{IsFoundAt}
-use Rattle.plan_tree_moves.proofs.Narrowing.{every_at, every_read}
+use Rattle.plan_predicate_sinking.specs.Narrow.{IsFoundAt}
+use Rattle.plan_predicate_sinking.proofs.Narrowing.{every_at, every_read}
 use Rattle.plan_tree_moves.proofs.narrow.is_found.Goals as goal
 
 pub loop-column-preserved : goal.loop-column-preserved

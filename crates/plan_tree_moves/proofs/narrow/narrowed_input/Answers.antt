@@ -1,7 +1,7 @@
 use Rattle.std.proofs.Common.{◌≡◌, [], refl, sym, subst, rules, length}
 use Rattle.std.proofs.lemmas.List.{nil_from_length}
-use Rattle.plan_tree_moves.specs.Narrow.{IsNarrowed}
-use Rattle.plan_tree_moves.proofs.Narrowing.{narrowed_all, narrowed_some}
+use Rattle.plan_predicate_sinking.specs.Narrow.{IsNarrowed}
+use Rattle.plan_predicate_sinking.proofs.Narrowing.{narrowed_all, narrowed_some}
 use Rattle.plan_tree_moves.proofs.narrow.narrowed_input.Goals as goal
 
 pub returns-then-are_all : goal.returns-then-are_all

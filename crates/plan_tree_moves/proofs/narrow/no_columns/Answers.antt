@@ -1,5 +1,5 @@
 use Rattle.std.proofs.Common.{◌∙◌}
-use Rattle.plan_tree_moves.proofs.Narrowing.{no_columns_list, no_columns_other}
+use Rattle.plan_predicate_sinking.proofs.Narrowing.{no_columns_list, no_columns_other}
 use Rattle.plan_tree_moves.proofs.narrow.no_columns.Goals as goal
 use Rattle.plan_tree_moves.proofs.narrow.no_columns.Goals.{in-Project+in_ok-copy-in-Project, in_default+in_ok-copy-in_default}
 

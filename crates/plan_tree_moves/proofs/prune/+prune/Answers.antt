@@ -1,8 +1,8 @@
 use Rattle.std.proofs.Common.{◌<◌, ◌∙◌, sym, ap, subst}
 use Rattle.std.specs.List.{All}
 use Rattle.plan_algebra.specs.Trees.{width_of}
-use Rattle.plan_tree_moves.proofs.SameNodes.{select_made, project_made, distinct_made, group_made}
-use Rattle.plan_tree_moves.proofs.SameNodes.{join_made, outer_made, single_made, set_made}
+use Rattle.plan_predicate_sinking.proofs.SameNodes.{select_made, project_made, distinct_made, group_made}
+use Rattle.plan_predicate_sinking.proofs.SameNodes.{join_made, outer_made, single_made, set_made}
 use Rattle.plan_tree_moves.proofs.OuterColumns.{outer_slimmed}
 use Rattle.plan_tree_moves.proofs.RightColumns.{mark_shrunk}
 use Rattle.plan_tree_moves.proofs.Pruning.{read_slimmed, select_slimmed, mark_slimmed, single_slimmed}

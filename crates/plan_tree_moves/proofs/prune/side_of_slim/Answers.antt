@@ -1,6 +1,6 @@
 use Rattle.std.proofs.Common.{◌∙◌, ap}
 use Rattle.std.proofs.lemmas.Option.{IfSome_then}
-use Rattle.plan_tree_moves.specs.Narrow.{whole_columns}
+use Rattle.plan_predicate_sinking.specs.Narrow.{whole_columns}
 use Rattle.plan_tree_moves.proofs.prune.side_of_slim.Goals as goal
 
 pub returns : goal.returns

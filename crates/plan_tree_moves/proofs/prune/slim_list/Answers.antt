@@ -1,5 +1,5 @@
 use Rattle.std.proofs.Common.{◌∙◌, ap}
-use Rattle.plan_tree_moves.specs.Narrow.{whole_columns}
+use Rattle.plan_predicate_sinking.specs.Narrow.{whole_columns}
 use Rattle.plan_tree_moves.proofs.Pruning.{list_kept, all_found_as, all_renamed_as}
 use Rattle.plan_tree_moves.proofs.prune.slim_list.Goals as goal
 

@@ -2,7 +2,7 @@ use Rattle.std.proofs.Common.{◌∙◌, ap, subst, refl}
 use Rattle.expr_scalar.specs.declared.expr.Expr.{Expr}
 use Rattle.plan_algebra.specs.declared.tree.DepTree.TheVariants as t
 use Rattle.plan_algebra.specs.Trees.{width_of}
-use Rattle.plan_tree_moves.specs.Arranged.{SameRows}
+use Rattle.plan_predicate_sinking.specs.Arranged.{SameRows}
 use Rattle.plan_tree_moves.specs.Prune.{ConditionMoves}
 use Rattle.plan_tree_moves.proofs.Pruning.{keeps_mark}
 use Rattle.plan_tree_moves.proofs.RightColumns.{keeps_then}

@@ -1,7 +1,7 @@
 use Rattle.std.proofs.Common.{◌∙◌, ap}
 use Rattle.plan_algebra.specs.declared.tree.DepTree.TheVariants as t
 use Rattle.expr_scalar.specs.declared.expr.Expr.{Expr}
-use Rattle.plan_tree_moves.specs.Narrow.{whole_columns}
+use Rattle.plan_predicate_sinking.specs.Narrow.{whole_columns}
 use Rattle.plan_tree_moves.proofs.Pruning.{keeps_select, found_as, renamed_as}
 use Rattle.plan_tree_moves.proofs.prune.slim_select.Goals as goal
 

@@ -1,5 +1,5 @@
 use Rattle.std.proofs.Common.{subst}
-use Rattle.plan_tree_moves.specs.Narrow.{IsNarrowed}
+use Rattle.plan_predicate_sinking.specs.Narrow.{IsNarrowed}
 use Rattle.plan_tree_moves.proofs.Pruning.{keeps_of}
 use Rattle.plan_tree_moves.proofs.prune.slim_to.Goals as goal
 

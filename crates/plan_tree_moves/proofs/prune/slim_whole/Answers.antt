@@ -1,5 +1,5 @@
 use Rattle.std.proofs.Common.{refl}
-use Rattle.plan_tree_moves.proofs.SameNodes.{SameRows-refl}
+use Rattle.plan_predicate_sinking.proofs.SameNodes.{SameRows-refl}
 use Rattle.plan_tree_moves.proofs.prune.slim_whole.Goals as goal
 
 pub returns : goal.returns

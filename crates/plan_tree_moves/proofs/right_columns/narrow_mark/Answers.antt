@@ -2,7 +2,7 @@ use Rattle.std.proofs.Common.{◌≡◌, ◌+◌, ◌∙◌, ap, subst, rules}
 use Rattle.plan_algebra.specs.declared.tree.DepTree.{DepTree}
 use Rattle.plan_algebra.specs.declared.tree.DepTree.TheVariants as t
 use Rattle.plan_algebra.specs.Trees.{width_of}
-use Rattle.plan_tree_moves.specs.Narrow.{IsNarrowed}
+use Rattle.plan_predicate_sinking.specs.Narrow.{IsNarrowed}
 use Rattle.plan_tree_moves.specs.Prune.{RightMoves}
 use Rattle.plan_tree_moves.proofs.RightColumns.{mark_narrowed}
 use Rattle.plan_tree_moves.proofs.right_columns.narrow_mark.Goals as goal

@@ -1,6 +1,6 @@
 use Rattle.std.proofs.Common.{subst}
 use Rattle.plan_algebra.specs.declared.tree.DepTree.{DepTree}
-use Rattle.plan_tree_moves.specs.Narrow.{IsNarrowed}
+use Rattle.plan_predicate_sinking.specs.Narrow.{IsNarrowed}
 use Rattle.plan_tree_moves.specs.Prune.{BothMove}
 use Rattle.plan_tree_moves.proofs.OuterColumns.{keeps_outer}
 use Rattle.plan_tree_moves.proofs.slim_joins.slim_outer.Goals as goal

@@ -1,9 +1,9 @@
 use Rattle.std.proofs.Common.{refl, ◌∙◌, sym, ap}
 use Rattle.plan_algebra.specs.declared.tree.DepTree.TheVariants as tree
-use Rattle.plan_unnesting.proofs.Kept.{settled_in_plan}
+use Rattle.plan_unnested_nodes.proofs.Kept.{settled_in_plan}
 use Rattle.plan_unnesting.proofs.Groups.{total_in_plan}
-use Rattle.plan_unnesting.proofs.Sides.{none_of, some_of}
-use Rattle.plan_unnesting.proofs.ApartArms.{read_whole, scan_part, list_part, select_part, join_part, whole_part, part_footing, part_last, part_within, part_wide, later_within, later_wide, right_long, outer_part, closed_long, found_own, found_closed}
+use Rattle.plan_unnested_nodes.proofs.Sides.{none_of, some_of}
+use Rattle.plan_unnested_nodes.proofs.ApartArms.{read_whole, scan_part, list_part, select_part, join_part, whole_part, part_footing, part_last, part_within, part_wide, later_within, later_wide, right_long, outer_part, closed_long, found_own, found_closed}
 use Rattle.plan_unnesting.proofs.Steps.{scan_arm, selection_arm, select_arm, project_arm, distinct_arm, group_arm, total_arm, join_arm, outer_arm, mark_arm, single_arm, outer_wide, right_wide, shared_arm, closed_arm, own_arm, set_arm, set_put, set_even, set_left}
 use Rattle.plan_unnesting.proofs.lowering.+lower.Goals as goal
 

@@ -1,6 +1,6 @@
 -- The trees of the items of FROM, as the code makes them.
 use Rattle.std.proofs.Common.{refl, sym, ◌∙◌, ◌+◌, subst}
-use Rattle.plan_dependent_tree.specs.Growth.{IsPlain}
+use Rattle.plan_dependent_nodes.specs.Growth.{IsPlain}
 use Rattle.plan_dependent_tree.proofs.SeenSources.{table_seen, derived_seen, lateral_seen}
 use Rattle.plan_dependent_tree.proofs.SeenSources.{cross_seen}
 use Rattle.plan_dependent_tree.proofs.SeenSources.{inner_seen, outer_read, source_as}

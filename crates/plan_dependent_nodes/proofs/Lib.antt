@@ -1,0 +1,14 @@
+pub mod Places
+pub mod FromPlaces
+pub mod RightPlaces
+pub mod Widenings
+pub mod Attachments
+pub mod InputTrees
+pub mod PlaceLists
+pub mod QueryTrees
+pub mod KeptTrees
+pub mod SeeksOpened
+pub mod TypedParts
+pub mod Within
+pub mod Supplies
+pub mod LateralColumns

@@ -1,0 +1,11 @@
+pub mod Good
+pub mod Scans
+pub mod Apart
+pub mod SameNodes
+pub mod Sinking
+pub mod OnParts
+pub mod Narrowing
+pub mod BelowLists
+pub mod BelowGroups
+pub mod BelowJoins
+pub mod Conditions

@@ -1,7 +1,0 @@
-use Rattle.std.proofs.Common.{take}
-use Rattle.std.specs.List.{All}
-use Rattle.plan_tree_moves.specs.Below.{IsReadBelow}
-use Rattle.plan_tree_moves.proofs.below.is_movable.Given as goal
-
-abbrev pub invariant-loop-column : goal.invariant-loop-column
-invariant-loop-column l = All (IsReadBelow l.n l.es l.places) (take l.column-index l.column-items)

@@ -1,6 +1,0 @@
-use Rattle.std.proofs.Common.{take}
-use Rattle.plan_tree_moves.specs.Sink.{IsSplit}
-use Rattle.plan_tree_moves.proofs.sink.split.Given as goal
-
-abbrev pub invariant-loop-e : goal.invariant-loop-e
-invariant-loop-e l = IsSplit l.limit (take l.e-index l.es) l.parts.covered l.parts.rest

@@ -1,5 +1,0 @@
-use Rattle.plan_unnesting.proofs.Columns.{range_put}
-use Rattle.plan_unnesting.proofs.lists.first_columns.Goals as goal
-
-pub loop-i-preserved : goal.loop-i-preserved
-loop-i-preserved c = range_put c.loop-i.i c.loop-i.all c.push.new.self c.loop-i.invariant c.in_ok-push.ensures.ok

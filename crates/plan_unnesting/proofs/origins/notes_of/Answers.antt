@@ -1,7 +1,0 @@
-use Rattle.std.proofs.Common.{sym, subst}
-use Rattle.plan_unnesting.specs.PlanKinds.{AreNotesOf}
-use Rattle.plan_unnesting.proofs.Turns.{no_notes_of}
-use Rattle.plan_unnesting.proofs.origins.notes_of.Goals as goal
-
-pub loop-i-init : goal.loop-i-init
-loop-i-init c = subst (AreNotesOf c.args.kinds.now c.args.columns.now) (sym c.new-notes.ensures) (no_notes_of c.args.kinds.now c.args.columns.now)

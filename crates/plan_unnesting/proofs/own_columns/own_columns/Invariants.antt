@@ -1,5 +1,0 @@
-use Rattle.plan_unnesting.proofs.Turns.{StandSoFar}
-use Rattle.plan_unnesting.proofs.own_columns.own_columns.Given as goal
-
-abbrev pub invariant-loop-k : goal.invariant-loop-k
-invariant-loop-k l = StandSoFar l.kinds l.notes l.width l.condition l.k l.own

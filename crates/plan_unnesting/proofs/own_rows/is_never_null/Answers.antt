@@ -1,6 +1,0 @@
-use Rattle.std.proofs.Common.{◌∙◌, sym}
-use Rattle.plan_unnesting.proofs.OwnRows.{equals_itself}
-use Rattle.plan_unnesting.proofs.own_rows.is_never_null.Goals as goal
-
-pub returns-in-Some : goal.returns-in-Some
-returns-in-Some c = λ h. equals_itself c.in-Some.known (sym c.known_at.ensures ∙ c.in-Some.is) h
