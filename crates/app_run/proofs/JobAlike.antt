@@ -140,9 +140,9 @@ pub trial_inputs_alike : (dir job : List ℕ) (folder : Folder) (one other : Nam
 trial_inputs_alike dir job folder one other a b none (read, files, over) (read', files', over') = at read read' files over over' (job_files_alike dir job folder read read' files files')
   where
     same : (work : JobWork) → work.journal ≡ None → IsWorkOver one work a → IsWorkOver other work b → AreAlike a b
-    same work no (kept, is, made) (kept', is', made') =
-        let nothing : kept ≡ Ok [] = subst (λ j. IsKept j work.base one kept) no is in
-        let nothing' : kept' ≡ Ok [] = subst (λ j. IsKept j work.base other kept') no is' in
+    same work without (kept, is, made) (kept', is', made') =
+        let nothing : kept ≡ Ok [] = subst (λ j. IsKept j work.base one kept) without is in
+        let nothing' : kept' ≡ Ok [] = subst (λ j. IsKept j work.base other kept') without is' in
         inl (made ∙ ap (λ k. and_then k (λ changes. Ok (with_kept work changes))) (nothing ∙ sym nothing') ∙ sym made')
 
     at : (x y : Result JobWork BadInput) → AreJobFiles dir job folder x → Follows x (IsWorkOver one) a → Follows y (IsWorkOver other) b → AreAlike x y → AreAlike a b

@@ -163,7 +163,7 @@ fn play_over<R: Threads + Wait + Sync, D: Disk + Send, G: Gate + Sync>(
     disk: &mut D,
     job: OpenJob,
 ) -> Result<Played, AllocError>
-    requires { CanPlay D.is_reached D.may_leave job disk.old }
+    requires playable { CanPlay D.is_reached D.may_leave job disk.old }
     ensures played { IfOk result (PlaysOpen D.may_leave job disk.new) }
     ensures failed { IfOk result (λ played. IsPlayFault played
         → Rose (D.faults disk.old) (D.faults disk.new)) }

@@ -13,7 +13,7 @@ returns-in-Some-clause-output g c =
     let s = c.in_ok-sources.sources in
     let work = work_view s in
     let told = disk_told (g.D.Disk.named c.args.disk.now) (g.D.Disk.reads c.kept_output.new.disk) in
-    let named : option_map string_bytes s.journal ≡ Some c.deref.result.now = ap (option_map string_bytes) (sym c.take.ensures.value ∙ c.in-Some.is) ∙ ap Some (sym c.deref.ensures.value) in
+    let named : option_map string_bytes s.journal ≡ Some c.deref.result.now = ap (option_map string_bytes) (sym c.take.ensures.value ∙ c.in-Some.is) ∙ ap Some (sym c.deref.ensures) in
     job_over c.args.shows_rows c.args.folder.now c.args.job.now (g.F.Files.held c.args.files.now) told work _ c.deref.result.now c.kept_output.result named
     (ap (λ j. record work { journal = option_map string_bytes j }) c.take.ensures.after) c.in_ok-sources.ensures.input c.kept_output.ensures.output
 
