@@ -9,7 +9,7 @@ use Rattle.base_io.specs.Outside.{Folder, file_of}
 use Rattle.app_run.specs.SessionInputs.{AreSteps}
 use Rattle.app_inputs.specs.Inputs.{BadInput, and_then, file_bytes, script_limit}
 use Rattle.app_run.specs.JobInputs.{AreJobFiles, AreJobInputs, AreJobScripts, Follows, HasNoRefresh, IsJobScript, IsPlain, IsWorkOver, JobWork, is_refresh, job_base, job_work, with_kept}
-use Rattle.app_run.specs.JobMeaning.{IsDiskTold, NamesNoJournal}
+use Rattle.app_run.specs.JobMeaning.{IsDiskTold, NamesNoJournal, NeedsNoDisk}
 use Rattle.app_run.specs.Journals.{IsKept, IsToldFor, Named}
 use Rattle.app_run.proofs.KeptAlike.{kept_alike, kept_not_absent}
 use Rattle.base_schema.specs.State.{State}
@@ -113,6 +113,10 @@ names_journal dir job folder work x = at (job_in job (file_of folder job)) refl 
         → (parts : JobParts) × (job_in job (file_of folder job) ≡ Ok parts) × (work.journal ≡ parts.journal)
     at (Err refused) is follows = absurd (cc)
     at (Ok parts) is (scripts, are, e) = (parts, is, made parts scripts e)
+
+-- a job that names no journal needs no disk
+pub needs_no_disk : (dir job : List ℕ) (folder : Folder) → NamesNoJournal job (Some folder) → NeedsNoDisk dir job (Some folder)
+needs_no_disk dir job folder none work files = let names = names_journal dir job folder work files in names.2 ∙ none names.0 names.1
 
 -- what two readings of a told journal give is alike, and so is what is worked on over it
 over_alike : (named : Named) (work : JobWork) (a b : Result JobWork BadInput) → IsToldFor work.journal named → IsWorkOver named work a → IsWorkOver named work b → AreAlike a b
