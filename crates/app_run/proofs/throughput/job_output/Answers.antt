@@ -1,4 +1,4 @@
-use Rattle.std.proofs.Common.{◌≡◌, ◌∙◌, ℕ, List, None, Option, Some, absurd, ap, refl, subst, sym}
+use Rattle.std.proofs.Common.{◌≡◌, ◌∙◌, ℕ, List, None, Option, Some, ap, refl, subst, sym}
 use Rattle.std.specs.Prelude.{option_map}
 use Rattle.std.specs.String.{string_bytes}
 use Rattle.app_run.specs.JobInputs.{JobWork}
