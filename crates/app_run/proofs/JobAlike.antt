@@ -9,7 +9,7 @@ use Rattle.base_io.specs.Outside.{Folder, file_of}
 use Rattle.app_run.specs.SessionInputs.{AreSteps}
 use Rattle.app_inputs.specs.Inputs.{BadInput, and_then, file_bytes, script_limit}
 use Rattle.app_run.specs.JobInputs.{AreJobFiles, AreJobInputs, AreJobScripts, Follows, HasNoRefresh, IsJobScript, IsPlain, IsWorkOver, JobWork, is_refresh, job_base, job_work, with_kept}
-use Rattle.app_run.specs.JobMeaning.{IsDiskTold, NamesNoJournal}
+use Rattle.app_run.specs.JobMeaning.{IsDiskTold, NamesNoJournal, NeedsNoDisk}
 use Rattle.app_run.specs.Journals.{IsKept, IsToldFor, Named}
 use Rattle.app_run.proofs.KeptAlike.{kept_alike, kept_not_absent}
 use Rattle.base_schema.specs.State.{State}
@@ -114,6 +114,10 @@ names_journal dir job folder work x = at (job_in job (file_of folder job)) refl 
     at (Err refused) is follows = absurd (cc)
     at (Ok parts) is (scripts, are, e) = (parts, is, made parts scripts e)
 
+-- a job that names no journal needs no disk
+pub needs_no_disk : (dir job : List ℕ) (folder : Folder) → NamesNoJournal job (Some folder) → NeedsNoDisk dir job (Some folder)
+needs_no_disk dir job folder none work files = let names = names_journal dir job folder work files in names.2 ∙ none names.0 names.1
+
 -- what two readings of a told journal give is alike, and so is what is worked on over it
 over_alike : (named : Named) (work : JobWork) (a b : Result JobWork BadInput) → IsToldFor work.journal named → IsWorkOver named work a → IsWorkOver named work b → AreAlike a b
 over_alike named work a b told (kept, is, made) (kept', is', made') =
@@ -140,9 +144,9 @@ pub trial_inputs_alike : (dir job : List ℕ) (folder : Folder) (one other : Nam
 trial_inputs_alike dir job folder one other a b none (read, files, over) (read', files', over') = at read read' files over over' (job_files_alike dir job folder read read' files files')
   where
     same : (work : JobWork) → work.journal ≡ None → IsWorkOver one work a → IsWorkOver other work b → AreAlike a b
-    same work no (kept, is, made) (kept', is', made') =
-        let nothing : kept ≡ Ok [] = subst (λ j. IsKept j work.base one kept) no is in
-        let nothing' : kept' ≡ Ok [] = subst (λ j. IsKept j work.base other kept') no is' in
+    same work without (kept, is, made) (kept', is', made') =
+        let nothing : kept ≡ Ok [] = subst (λ j. IsKept j work.base one kept) without is in
+        let nothing' : kept' ≡ Ok [] = subst (λ j. IsKept j work.base other kept') without is' in
         inl (made ∙ ap (λ k. and_then k (λ changes. Ok (with_kept work changes))) (nothing ∙ sym nothing') ∙ sym made')
 
     at : (x y : Result JobWork BadInput) → AreJobFiles dir job folder x → Follows x (IsWorkOver one) a → Follows y (IsWorkOver other) b → AreAlike x y → AreAlike a b

@@ -16,13 +16,12 @@ use Rattle.app_inputs.specs.declared.input_error.InputFault.{InputFault}
 use Rattle.app_inputs.specs.declared.input_error.InputFault.TheVariants as fault
 use Rattle.app_inputs.specs.declared.status.Status.{Status}
 use Rattle.app_run.specs.JobInputs.{AreJobFiles, AreJobInputs, JobWork, kept_under, with_kept}
-use Rattle.app_run.specs.JobMeaning.{DiskTold, MeansJob, NamesNoJournal}
+use Rattle.app_run.specs.JobMeaning.{DiskTold, MeansJob, NeedsNoDisk}
 use Rattle.app_run.specs.JobViews.{IsOfBytes, IsOutputOfJob, IsOutputOver}
 use Rattle.app_run.specs.Journals.{IsKept, Named}
 use Rattle.app_run.specs.declared.output.Output.{Output}
 use Rattle.app_run.specs.declared.output.Output.TheVariants as output
 use Rattle.app_run.proofs.Complete.{job_done}
-use Rattle.app_run.proofs.JobAlike.{names_journal}
 use Rattle.app_run.proofs.KeptAlike.{kept_not_absent}
 use Rattle.app_run.proofs.ScriptFaults.{files_after_bytes, refusal_of_bytes}
 
@@ -80,11 +79,10 @@ job_plain shows dir job (Some folder) disk work text s none nothing files means 
 
 -- a job that names no journal has none
 pub names_none : (dir job : List ℕ) (held : Option Folder) (work : JobWork) (name : List ℕ) → work.journal ≡ Some name → IfKnown held (λ folder. AreJobFiles dir job folder (Ok work))
-    → NamesNoJournal job held → ⊥
+    → NeedsNoDisk dir job held → ⊥
 names_none dir job None work name is files none = none
 names_none dir job (Some folder) work name is files none =
-    let names = names_journal dir job folder work files in
-    let nothing : None ≡ Some name = sym (none names.0 names.1) ∙ sym names.2 ∙ is in
+    let nothing : None ≡ Some name = sym (none work files) ∙ is in
     cc
 
 -- what is left of the files by what doesn't touch them

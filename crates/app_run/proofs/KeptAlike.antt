@@ -49,11 +49,12 @@ one_kept file xs ys (inr (stands, readable, short)) (inr (stands', readable', sh
 -- no more are accepted than are tried
 few_taken : (base : State) (list : List Change) → length (taken base list) ≤ length list
 few_taken base [] = omega arith
-few_taken base (change ∷ list) = by (is_accepted base change) refl
+few_taken base (change ∷ list) = by (is_accepted base change) refl (λ state. few_taken state list)
   where
-    by : (b : Bool) → is_accepted base change ≡ b → length (taken base (change ∷ list)) ≤ length (change ∷ list)
-    by true e = let rest = few_taken (changed base change) list in rw e (omega (arith, rest))
-    by false e = let rest = few_taken base list in rw e (omega (arith, rest))
+    by : (b : Bool) → is_accepted base change ≡ b → ((state : State) → length (taken state list) ≤ length list)
+        → length (taken base (change ∷ list)) ≤ length (change ∷ list)
+    by true e less = let rest = less (changed base change) in rw e (omega (arith, rest))
+    by false e less = let rest = less base in rw e (omega (arith, rest))
 
 -- a refresh that is refused isn't accepted
 refused_err : (state : State) (change : Change) (cause : Cause) → after state change ≡ Err cause → is_accepted state change ≡ false

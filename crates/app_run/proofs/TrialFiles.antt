@@ -1,5 +1,5 @@
 -- The files of the trial, put into a folder one after another, and what is printed over them.
-use Rattle.std.proofs.Common.{◌≡◌, ◌∙◌, ℕ, ◌+◌, ◌<◌, ◌≤◌, List, [], ◌∷◌, ◌++◌, Some, add-one, ap, append_assoc, append-nil, codes, drop, drop-cons, false, length, map, refl, slice_index_or, suc, sym}
+use Rattle.std.proofs.Common.{◌≡◌, ◌∙◌, ℕ, ◌+◌, ◌<◌, ◌≤◌, List, [], ◌∷◌, ◌++◌, None, Option, Some, add-one, ap, append_assoc, append-nil, codes, drop, drop-cons, false, length, map, refl, slice_index_or, suc, sym}
 use Rattle.std.proofs.lemmas.List.{drop_all}
 use Rattle.std.specs.Result.{result_err}
 use Rattle.std.specs.String.{string_bytes}

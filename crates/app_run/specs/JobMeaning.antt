@@ -11,7 +11,7 @@ use Rattle.base_io.specs.Outside.{Folder, file_of}
 use Rattle.app_inputs.specs.Inputs.{BadInput}
 use Rattle.app_inputs.specs.JobFile.{job_in}
 use Rattle.app_job_file.specs.Files.{JobParts}
-use Rattle.app_run.specs.JobInputs.{AreJobInputs, JobWork}
+use Rattle.app_run.specs.JobInputs.{AreJobFiles, AreJobInputs, JobWork}
 use Rattle.app_run.specs.JobOrders.{IsJobOrder}
 use Rattle.app_run.specs.Journals.{HoldsThen, IsToldFor, Named}
 use Rattle.store_snapshots.specs.Turns.{from_nobody}
@@ -77,3 +77,9 @@ abbrev pub NamesNoJournal : List ℕ → Option Folder → Type 0
 NamesNoJournal job None = ⊥
 NamesNoJournal job (Some folder) = (parts : JobParts)
     → job_in job (file_of folder job) ≡ Ok parts → parts.journal ≡ None
+
+-- what a job's files give has no journal; nothing is given where one of them is refused
+abbrev pub NeedsNoDisk : List ℕ → List ℕ → Option Folder → Type 0
+NeedsNoDisk dir job None = ⊥
+NeedsNoDisk dir job (Some folder) = (work : JobWork)
+    → AreJobFiles dir job folder (Ok work) → work.journal ≡ None

@@ -9,7 +9,7 @@ use Rattle.base_schema.specs.State.{State}
 use Rattle.app_sessions.specs.Counts.{counts_text}
 use Rattle.app_run.specs.SessionInputs.{AreInputs, Work}
 use Rattle.app_inputs.specs.Inputs.{BadInput, state_in}
-use Rattle.app_run.specs.JobMeaning.{DiskTold, IsDiskTold, IsFirstOfJob, NamesNoJournal, PrintsJob}
+use Rattle.app_run.specs.JobMeaning.{DiskTold, IsDiskTold, IsFirstOfJob, NeedsNoDisk, PrintsJob}
 use Rattle.app_run.specs.Journals.{Named}
 use Rattle.app_inputs.specs.Printing.{IsAnswer, PrintsOf}
 use Rattle.app_run.specs.ScriptPlans.{IsFirstOfExplained, PrintsExplained}
@@ -119,11 +119,11 @@ IsAccepted (Some command) None named = IsAcceptedUntold command
 IsAccepted (Some command) (Some folder) named =
     IsFirstRefused command folder named None × TellsJournal command folder named
 
--- the command has no job, or one whose file names no journal
+-- the command has no job, or one that names no journal or of which an input before it is refused
 abbrev pub HasNoJournal : Option Command → Option Folder → Type 0
 HasNoJournal None known = ⊤
 HasNoJournal (Some (session dir script)) known = ⊤
-HasNoJournal (Some (throughput dir job)) known = NamesNoJournal job known
+HasNoJournal (Some (throughput dir job)) known = NeedsNoDisk dir job known
 HasNoJournal (Some (explain script)) known = ⊤
 HasNoJournal (Some (check dir)) known = ⊤
 HasNoJournal (Some (trial number)) known = ⊤

@@ -1,5 +1,6 @@
 //! A job that keeps its accepted refreshes in a journal.
-ghost use Rattle.std.specs.Prelude.{◌≡◌, ◌+◌, ◌<◌, ◌≤◌, ◌^◌, [], IfOk, false, length, map, true, vec_len};
+ghost use Rattle.std.specs.Prelude.{◌≡◌, ◌+◌, ◌<◌, ◌≤◌, ◌^◌, [], IfOk, OnOk, false, length, map};
+ghost use Rattle.std.specs.Prelude.{true, vec_len};
 ghost use denote.Param.Send.{IsSync};
 ghost use Rattle.base_io.specs.Outside.{Rose};
 ghost use Rattle.store_durability.specs.Feed.{StoredFits};
@@ -17,7 +18,7 @@ use crate::job_sources::JobSources;
 use crate::journal::{Reached, reach_journal};
 use crate::kept_senders::run_kept_sent;
 use app_inputs::InputFault;
-use app_sessions::{JobError, JobSetup, JobText, Session, run_feed_job};
+use app_sessions::{JobError, JobSetup, JobText, Session, is_compaction_due, run_feed_job};
 use base_disk::Disk;
 use base_io::Gate;
 use base_refusals::Cause;
@@ -53,6 +54,23 @@ pub struct OpenJob {
     pub before: usize,
 }
 
+/// Puts the segments together where that is due at a version.
+fn compact_when_due<R: Wait>(
+    rt: &R,
+    version: u64,
+    publisher: &mut Publisher,
+) -> Result<(), AllocError>
+    requires { publisher.old.shown ≡ publisher.old.version }
+    ensures version { publisher.new.version ≡ publisher.old.version }
+    ensures shown { OnOk result (publisher.new.shown ≡ publisher.new.version) }
+{
+    if is_compaction_due(version) {
+        publisher.compact(rt)
+    } else {
+        Ok(())
+    }
+}
+
 /// Publishes the first refreshes of the list, which a journal keeps. Answers the first that is
 /// refused, counted from 1, and why.
 #[tactic(auto, using(crate::proofs::KeptRun::publishing))]
@@ -69,7 +87,7 @@ fn publish_kept<R: Wait>(
 {
     for number in 0..kept {
         match publisher.publish_next(rt) {
-            Published::Published(_) => {}
+            Published::Published(note) => compact_when_due(rt, note.version(), publisher)?,
             Published::Refused(cause) => return Ok(Some((number + 1, cause))),
             Published::NoMore => unreachable!(),
             Published::OutOfMemory => return Err(AllocError),
@@ -163,7 +181,7 @@ fn play_over<R: Threads + Wait + Sync, D: Disk + Send, G: Gate + Sync>(
     disk: &mut D,
     job: OpenJob,
 ) -> Result<Played, AllocError>
-    requires { CanPlay D.is_reached D.may_leave job disk.old }
+    requires playable { CanPlay D.is_reached D.may_leave job disk.old }
     ensures played { IfOk result (PlaysOpen D.may_leave job disk.new) }
     ensures failed { IfOk result (λ played. IsPlayFault played
         → Rose (D.faults disk.old) (D.faults disk.new)) }

@@ -252,7 +252,7 @@ fn play_sent_over<R: Threads + Wait + Sync, D: Disk + Send, G: Gate + Sync>(
     disk: &mut D,
     job: SentJob,
 ) -> Result<Played, AllocError>
-    requires { CanPlaySent D.is_reached D.may_leave job disk.old }
+    requires playable { CanPlaySent D.is_reached D.may_leave job disk.old }
     ensures played { IfOk result (PlaysSent D.may_leave job disk.new) }
     ensures failed { IfOk result (λ played. IsPlayFault played
         → Rose (D.faults disk.old) (D.faults disk.new)) }

@@ -4,7 +4,7 @@ ghost use Rattle.std.specs.Prelude.{if◌then◌else◌};
 ghost use Rattle.app_sessions.specs.Asked.{job_sessions};
 ghost use Rattle.app_inputs.specs.FilesAfter.{FilesAfterInput};
 ghost use Rattle.base_io.specs.Outside.{Rose};
-ghost use Rattle.app_run.specs.JobMeaning.{IsTextInOrder, MeansJob, NamesNoJournal, disk_told};
+ghost use Rattle.app_run.specs.JobMeaning.{IsTextInOrder, MeansJob, NeedsNoDisk, disk_told};
 ghost use Rattle.app_run.specs.JobViews.{IsOfBytes, IsOutputOfJob, IsOutputOver};
 ghost use Rattle.app_run.specs.JobViews.{IsKeepable, IsPlayable, IsRunnable, work_view};
 ghost use Rattle.app_run.specs.Views.{IsDiskFault, IsOutputOf};
@@ -143,7 +143,7 @@ pub fn job_output<R: Threads + Wait + Sync, F: Files, D: Disk + Send, G: Gate + 
     ensures failed { IfOk result (λ output. IsDiskFault output
         → Rose (D.faults disk.old) (D.faults disk.new)) }
     ensures later { D.faults disk.old ≤ D.faults disk.new }
-    ensures untouched { NamesNoJournal job.now (F.held files.old) → (disk.new ≡ disk.old)
+    ensures untouched { NeedsNoDisk folder.now job.now (F.held files.old) → (disk.new ≡ disk.old)
         × IfOk result (λ output. IsDiskFault output → ⊥) }
     ensures files { FilesAfterInput F.held F.faults F.misses result files.old files.new }
 {
@@ -172,7 +172,7 @@ pub fn throughput_output<R: Threads + Wait + Sync, F: Files, D: Disk + Send, G: 
     ensures failed { IfOk result (λ output. IsDiskFault output
         → Rose (D.faults disk.old) (D.faults disk.new)) }
     ensures later { D.faults disk.old ≤ D.faults disk.new }
-    ensures untouched { NamesNoJournal job.now (F.held files.old) → disk.new ≡ disk.old }
+    ensures untouched { NeedsNoDisk folder.now job.now (F.held files.old) → disk.new ≡ disk.old }
     ensures files { FilesAfterInput F.held F.faults F.misses result files.old files.new }
 {
     job_output(rt, alloc, files, disk, folder, job, true, gate)

@@ -19,15 +19,15 @@ pub returns-in-Explain-clause-output : goal.returns-in-Explain-clause-output
 returns-in-Explain-clause-output g c =
     let held = g.F.Files.held c.args.files.now in
     let told = disk_told (g.D.Disk.named c.args.disk.now) (g.D.Disk.reads c.args.disk.now) in
-    subst (λ (command : Command). IsOutputOf (command_view command) held told c.output_of.result) (sym c.in-Explain.is)
-    (output_same (explain c.in-Explain.script.now) held told c.explain_text.result c.output_of.result (c.explain_text.ensures.text told) c.output_of.ensures)
+    subst (λ (command : Command). IsOutputOf (command_view command) held told c.output_of-in-Explain.result) (sym c.in-Explain.is)
+    (output_same (explain c.in-Explain.script.now) held told c.explain_text.result c.output_of-in-Explain.result (c.explain_text.ensures.text told) c.output_of-in-Explain.ensures)
 
 pub returns-in-Check-clause-output : goal.returns-in-Check-clause-output
 returns-in-Check-clause-output g c =
     let held = g.F.Files.held c.args.files.now in
     let told = disk_told (g.D.Disk.named c.args.disk.now) (g.D.Disk.reads c.args.disk.now) in
-    subst (λ (command : Command). IsOutputOf (command_view command) held told c.output_of.result) (sym c.in-Check.is)
-    (output_same (check c.in-Check.folder.now) held told c.check_output.result c.output_of.result (c.check_output.ensures.text told) c.output_of.ensures)
+    subst (λ (command : Command). IsOutputOf (command_view command) held told c.output_of-in-Check.result) (sym c.in-Check.is)
+    (output_same (check c.in-Check.folder.now) held told c.check_output.result c.output_of-in-Check.result (c.check_output.ensures.text told) c.output_of-in-Check.ensures)
 
 pub returns-in-Throughput-clause-output : goal.returns-in-Throughput-clause-output
 returns-in-Throughput-clause-output g c =

@@ -15,8 +15,8 @@ use Rattle.app_run.proofs.KeptJoined.{can_receive, plays_sent}
 use Rattle.app_run.proofs.Taken.{front_of, given_counted, sender_stored}
 use Rattle.app_run.proofs.kept_senders.run_kept_sent.Goals as goal
 
-pub play_sent_over-requires : goal.play_sent_over-requires
-play_sent_over-requires g c =
+pub play_sent_over-requires-clause-playable : goal.play_sent_over-requires-clause-playable
+play_sent_over-requires-clause-playable g c =
     let s = c.args.sources in
     let kept = c.args.kept.items in
     let front = take s.before s.list.items in
@@ -96,5 +96,5 @@ returns-in-Ok-clause-played g c =
     let disk = c.play_sent_over.new.disk in
     IfOk-weaker c.play_sent_over.result _ _
     (λ result plays. plays_sent g.D.Disk.may_leave (g.D.Disk.reads disk) disk c.args.journal kept (c.len-count.result + c.len.result) (work_view s) s.sessions.items job result all opens
-    (c.in_ok-firsts.ensures.first ∙ given First) (c.in_ok-firsts.ensures.second ∙ given Second) (g.D.Disk.reads_image disk) plays)
+    (c.in_ok-firsts.ensures.first ∙ given First) (c.in_ok-firsts.ensures.second ∙ given Second) (g.met.D.Disk.reads_image disk) plays)
     c.play_sent_over.ensures.played
