@@ -1,21 +1,20 @@
 //! A query from its bound form to its flat plan.
-ghost use Rattle.std.specs.Prelude.{List};
+ghost use Rattle.std.specs.Prelude.{Err, IfErr, List};
 ghost use Rattle.expr_scalar.specs.declared.kind.Kind.{Kind};
 ghost use Rattle.sql_bound_query.specs.Typing.{IsWellTyped};
 ghost use Rattle.sql_binder.specs.Binding.{bound_query};
+ghost use Rattle.sql_binder_steps.specs.Steps.{Gives};
 ghost use Rattle.app_script_plans.specs.Shown.{PlansQuery};
 
-use crate::views::{ScriptViews, TypedViews};
 use app_plan_figures::{NodeFigures, node_figures};
 use app_plan_text::{PlanLine, query_lines, tree_lines};
 use plan_algebra::{FlatPlan, Node, Tables};
 use plan_computed_keys::keyed;
 use plan_dependent_tree::depend;
 use plan_join_order::arrange;
-use plan_planner::{SessionViews, plan};
+use plan_planner::{SessionViews, bind_query, plan};
 use plan_tree_moves::{pruned, sunk};
 use sql_ast::Query;
-use sql_binder::bind;
 use sql_binder_steps::BindFault;
 use sql_bound_query::BoundQuery;
 use sqlite_items::Items;
@@ -124,7 +123,9 @@ fn figures_of_nodes<R: Threads + Sync + Clock, T: Tables>(
     views: &SessionViews,
     nodes: &[Node],
     tables: Option<&T>,
-) -> Result<Vec<NodeFigures>, BindFault> {
+) -> Result<Vec<NodeFigures>, BindFault>
+    ensures { IfErr result (λ why. Gives (bound_query query.now views.now) (Err why)) }
+{
     match tables {
         Some(tables) => {
             let plan = plan(alloc, query, views)?;
@@ -135,38 +136,21 @@ fn figures_of_nodes<R: Threads + Sync + Clock, T: Tables>(
     }
 }
 
-/// A query's forms over these views.
-fn bound_forms(
-    alloc: Global,
-    query: &Query,
-    views: &TypedViews,
-) -> Result<Vec<FormLines>, BindFault> {
-    let bound = bind(alloc, query, &views.views)?;
-    let forms = query_forms(alloc, &bound)?;
-    Ok(forms)
-}
-
 /// A query's forms and its flat plan over these views, by the call with which a session plans it:
 /// refused exactly as binding is.
 pub fn query_plan<R: Threads + Sync + Clock, T: Tables>(
     rt: &R,
     alloc: Global,
     query: &Query,
-    views: &ScriptViews,
+    views: &SessionViews,
     tables: Option<&T>,
 ) -> Result<QueryPlan, BindFault>
-    ensures { PlansQuery (bound_query query.now views.now.session) result }
+    ensures { PlansQuery (bound_query query.now views.now) result }
 {
-    let plan = plan(alloc, query, &views.session)?;
-    let forms = match bound_forms(alloc, query, &views.typed) {
-        Ok(forms) => forms,
-        Err(_) => return Err(BindFault::OutOfMemory),
-    };
-    let nodes = plan.nodes.as_slice();
-    let figures = match figures_of_nodes(rt, alloc, query, &views.session, nodes, tables) {
-        Ok(figures) => figures,
-        Err(_) => return Err(BindFault::OutOfMemory),
-    };
+    let bound = bind_query(alloc, query, views)?;
+    let forms = query_forms(alloc, &bound)?;
+    let plan = plan(alloc, query, views)?;
+    let figures = figures_of_nodes(rt, alloc, query, views, plan.nodes.as_slice(), tables)?;
     Ok(QueryPlan {
         forms,
         plan,
