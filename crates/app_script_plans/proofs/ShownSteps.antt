@@ -1,75 +1,57 @@
 -- What is shown of statements, one statement more.
-use Rattle.std.proofs.Common.{◌≡◌, ℕ, List, [], ◌∷◌, ◌++◌, Bool, true, ◌&&◌, refl, sym, ◌∙◌, ap, subst}
-use Rattle.std.proofs.lemmas.List.{append-nil, append_assoc}
+use Rattle.std.proofs.Common.{◌≡◌, ◌∙◌, ℕ, ◌+◌, ◌<◌, ◌≤◌, List, [], ◌∷◌, ◌++◌, Bool, true, ◌&&◌, add-one, ap, append_assoc, drop, drop-cons, length, refl, slice_index_or, subst, sym}
 use Rattle.std.proofs.Math.Bool.{and-true, and_assoc}
+use Rattle.std.proofs.Math.ListN.{drop_of_length-le}
+use Rattle.std.proofs.lemmas.List.{append-nil}
 use Rattle.sql_ast.specs.declared.statement.Statement.{Statement}
 use Rattle.sql_binder_steps.specs.declared.view.View.{View}
 use Rattle.app_sessions.specs.Views.{views_after}
 use Rattle.app_script_plans.specs.declared.script.PlanForm.{PlanForm}
 use Rattle.app_script_plans.specs.Shown.{AreShown, EndsAsShown}
 
--- the views after statements
-abbrev pub views_left : List View → List Statement → List View
-views_left views [] = views
-views_left views (statement ∷ statements) = views_left (views_after views statement) statements
-
-left_more : (views : List View) (done : List Statement) (step : Statement)
-    → views_left views (done ++ step ∷ []) ≡ views_after (views_left views done) step
-left_more views [] step = refl
-left_more views (statement ∷ done) step = left_more (views_after views statement) done step
-
-shown_more : (form : PlanForm) (views : List View) (done : List Statement) (text : List ℕ) (clean : Bool)
-    (step : Statement) (more : List ℕ) (here : Bool) → AreShown form views done text clean
-    → EndsAsShown form step (views_left views done) more here
-    → AreShown form views (done ++ step ∷ []) (text ++ more) (clean && here)
-shown_more form views [] text clean step more here are one = (
-  more,
-  [],
-  here,
-  true,
-  one,
-  (refl, refl),
-  ap (λ l. l ++ more) are.0 ∙ sym (append-nil more),
-  ap (λ b. b && here) are.1 ∙ sym (and-true here),
-)
-shown_more form views (statement ∷ done) text clean step more here (first, rest, b, c, head, tail, e, f) one =
-    let ih = shown_more form (views_after views statement) done rest c step more here tail one in (
-      first,
-      rest ++ more,
-      b,
-      c && here,
-      head,
-      ih,
-      ap (λ l. l ++ more) e ∙ append_assoc first rest more,
-      ap (λ x. x && here) f ∙ and_assoc b c here,
-    )
-
--- How far statements are shown: those that are done, the text of them, and the views they leave.
-abbrev pub IsSoFar : PlanForm → List Statement → List Statement → List View → List ℕ → Bool → Type 0
-IsSoFar form steps left views text clean = (done : List Statement) × (steps ≡ done ++ left)
-    × (views ≡ views_left [] done) × AreShown form [] done text clean
+-- The first statements are shown: whatever is shown of those that are left comes after their text.
+pub record AreShownUpTo (form : PlanForm) (steps : List Statement) (k : ℕ) (views : List View) (text : List ℕ) (clean : Bool) : Type 0 where
+  pub whole : (rest : List ℕ) (there : Bool) → AreShown form views (drop k steps) rest there → AreShown form [] steps (text ++ rest) (clean && there)
 
 -- before the first one
-pub none_yet : (form : PlanForm) (steps : List Statement) (views : List View) (text : List ℕ) → views ≡ [] → text ≡ []
-    → IsSoFar form steps steps views text true
-none_yet form steps views text e f = ([], refl, e, (f, refl))
+pub none_shown : (form : PlanForm) (steps : List Statement) (views : List View) (text : List ℕ) → views ≡ [] → text ≡ []
+    → AreShownUpTo form steps 0 views text true
+none_shown form steps views text none empty =
+    subst (λ (t : List ℕ). AreShownUpTo form steps 0 views t true) (sym empty)
+    (subst (λ (vs : List View). AreShownUpTo form steps 0 vs [] true) (sym none) (record { whole = λ rest there are. are }))
 
--- one more
-pub next_shown : (form : PlanForm) (steps left rest : List Statement) (step : Statement) (views next : List View)
-    (text all more : List ℕ) (clean here : Bool) → IsSoFar form steps left views text clean → left ≡ step ∷ rest
-    → EndsAsShown form step views more here → next ≡ views_after views step → all ≡ text ++ more
-    → IsSoFar form steps rest next all (clean && here)
-next_shown form steps left rest step views next text all more clean here (done, is, v, are) l one n a = (
-  done ++ step ∷ [],
-  is ∙ ap (λ x. done ++ x) l ∙ sym (append_assoc done (step ∷ []) rest),
-  n ∙ ap (λ x. views_after x step) v ∙ sym (left_more [] done step),
-  subst (λ t. AreShown form [] (done ++ step ∷ []) t (clean && here)) (sym a)
-      (shown_more form [] done text clean step more here are
-      (subst (λ x. EndsAsShown form step x more here) v one)),
-)
+split : (steps : List Statement) (k : ℕ) (d : Statement) → k < length steps → drop k steps ≡ slice_index_or steps k d ∷ drop (k + 1) steps
+split steps k d inside = rw (add-one) (drop-cons steps k d inside)
 
--- after the last one
-pub all_shown : (form : PlanForm) (steps left : List Statement) (views : List View) (text : List ℕ) (clean : Bool)
-    → IsSoFar form steps left views text clean → left ≡ [] → AreShown form [] steps text clean
-all_shown form steps left views text clean (done, is, v, are) l =
-    subst (λ x. AreShown form [] x text clean) (sym (is ∙ ap (λ x. done ++ x) l ∙ append-nil done)) are
+-- one more, which was read at its place
+pub next_shown : (form : PlanForm) (steps : List Statement) (k : ℕ) (step : Statement) (views later : List View) (text all more : List ℕ)
+    (clean here : Bool) → k < length steps → step ≡ slice_index_or steps k step → AreShownUpTo form steps k views text clean
+    → EndsAsShown form step views more here → later ≡ views_after views step → all ≡ text ++ more
+    → AreShownUpTo form steps (k + 1) later all (clean && here)
+next_shown form steps k step views later text all more clean here inside at before one views_are text_is = record {
+  whole = λ rest there are.
+      let left : AreShown form views (drop k steps) (more ++ rest) (here && there) =
+      subst (λ (ss : List Statement). AreShown form views ss (more ++ rest) (here && there)) (sym (split steps k step inside)) (
+        more,
+        rest,
+        here,
+        there,
+        subst (λ (s : Statement). EndsAsShown form s views more here) at one,
+        subst (λ (vs : List View). AreShown form vs (drop (k + 1) steps) rest there) (views_are ∙ ap (views_after views) at) are,
+        refl,
+        refl,
+      ) in
+      subst (λ (t : List ℕ). AreShown form [] steps t ((clean && here) && there))
+      (sym (append_assoc text more rest) ∙ ap (λ t. t ++ rest) (sym text_is))
+      (subst (λ (b : Bool). AreShown form [] steps (text ++ (more ++ rest)) b) (sym (and_assoc clean here there))
+      (before.whole (more ++ rest) (here && there) left));
+}
+
+-- past the last one
+pub all_shown : (form : PlanForm) (steps : List Statement) (k : ℕ) (views : List View) (text : List ℕ) (clean : Bool) → length steps ≤ k
+    → AreShownUpTo form steps k views text clean → AreShown form [] steps text clean
+all_shown form steps k views text clean past before =
+    let none = drop_of_length-le steps past in
+    subst (λ (b : Bool). AreShown form [] steps text b) (and-true clean)
+    (subst (λ (t : List ℕ). AreShown form [] steps t (clean && true)) (append-nil text)
+    (before.whole [] true (subst (λ (ss : List Statement). AreShown form views ss [] true) (sym none) (refl, refl))))

@@ -76,17 +76,15 @@ fn shown_statement<R: Threads + Sync + Clock, T: Tables>(
     })
 }
 
-/// The text that is written of the statement of this number, counted from 1; none where there is
-/// no such text.
-fn written_at(written: &[Vec<u8>], number: usize) -> &[u8] {
-    match written.get(number.saturating_sub(1)) {
+/// The text that is written of the statement at this place; none where there is no such text.
+fn written_at(written: &[Vec<u8>], place: usize) -> &[u8] {
+    match written.get(place) {
         Some(text) => text.as_slice(),
         None => &[],
     }
 }
 
 /// What is shown of statements, one after the other, which are numbered from 1, from no view on.
-#[tactic(auto, using(crate::proofs::ShownSteps::none_yet, crate::proofs::ShownSteps::next_shown, crate::proofs::ShownSteps::all_shown))]
 fn shown_steps<R: Threads + Sync + Clock, T: Tables>(
     rt: &R,
     alloc: Global,
@@ -100,15 +98,12 @@ fn shown_steps<R: Threads + Sync + Clock, T: Tables>(
     let mut views = SessionViews::new(alloc);
     let mut text = Vec::new(alloc);
     let mut is_clean = true;
-    let mut number: usize = 0;
-    let mut left = steps;
-    'steps: while let [step, rest @ ..] = left {
-        number = number.saturating_add(1);
-        let own = written_at(written, number);
+    for (place, step) in steps.iter().enumerate() {
+        let number = place.saturating_add(1);
+        let own = written_at(written, place);
         let one = shown_statement(rt, alloc, form, number, own, step, &mut views, tables)?;
         text.extend_from_slice(one.text.as_slice())?;
-        is_clean = is_clean && one.is_clean;
-        left = rest;
+        is_clean &= one.is_clean;
     }
     Ok(ScriptPlans { text, is_clean })
 }

@@ -1,5 +1,6 @@
 -- What a request prints, read by read.
 use Rattle.std.proofs.Common.{◌≡◌, ℕ, List, ◌++◌, Bool, true, false, Option, None, Some, refl, sym, ap, subst, inl, inr}
+use Rattle.std.specs.Io.KnownBytes.{Appends}
 use Rattle.std.specs.Prelude.{⊤}
 use Rattle.std.specs.declared.result.Result.{Result}
 use Rattle.std.specs.declared.result.Result.TheVariants.{Ok, Err}
@@ -115,3 +116,15 @@ answers a None text s (inl e) = subst IsAnswer (sym e) tt
 answers a None text s (inr (inl e)) = subst IsAnswer (sym e) tt
 answers a None text s (inr (inr e)) = subst IsAnswer (sym e) tt
 answers a (Some folder) text s prints = bytes_answers a folder (file_bytes script_limit folder a.script) text s prints
+
+-- what is written of the text of a request
+pub answered : (asks : Option Asked) (a : Asked) (held : Option Folder) (text written : List ℕ) (s result : Status)
+    (before after : Option (List ℕ)) → asks ≡ Some a → Prints (Some a) held text s → written ≡ text
+    → (IsAnswer result → (result ≡ s) × Appends before after written) → IsAnswer result
+    → (t : List ℕ) × Prints asks held t result × Appends before after t
+answered asks a held text written s result before after is prints same whole answer = (
+  text,
+  subst (λ (k : Option Asked). Prints k held text result) (sym is)
+      (subst (λ (x : Status). Prints (Some a) held text x) (sym (whole answer).0) prints),
+  subst (λ (t : List ℕ). Appends before after t) same (whole answer).1,
+)

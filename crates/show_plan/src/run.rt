@@ -47,7 +47,7 @@ fn tables_of<F: Files>(
     folder: Option<&str>,
 ) -> Result<Option<Snapshot>, InputError>
     ensures input { Reads (λ tables. tt) (F.held files.old)
-        (tables_in (option_map (λ f. f.now) folder)) result }
+        (tables_in (option_map (λ f. f.now) folder.entry)) result }
     ensures files { FilesAfterInput F.held F.faults F.misses result files.old files.new }
 {
     match folder {

@@ -17,7 +17,11 @@ pub struct Request<'w> {
 }
 
 /// What a script and a folder ask for. A script's name that begins as an option does is none.
-fn request<'w>(form: PlanForm, script: &'w str, folder: Option<&'w str>) -> Option<Request<'w>>
+fn checked_request<'w>(
+    form: PlanForm,
+    script: &'w str,
+    folder: Option<&'w str>,
+) -> Option<Request<'w>>
     ensures { option_map asked_view result
         ≡ asked_for form script.entry.now (option_map (λ f. f.now) folder.entry) }
 {
@@ -36,8 +40,8 @@ fn request_of(form: PlanForm, words: &[String]) -> Option<Request<'_>>
     ensures { option_map asked_view result ≡ asked_in form (map string_bytes words.entry.now) }
 {
     match words {
-        [script] => request(form, script.as_str(), None),
-        [script, folder] => request(form, script.as_str(), Some(folder.as_str())),
+        [script] => checked_request(form, script.as_str(), None),
+        [script, folder] => checked_request(form, script.as_str(), Some(folder.as_str())),
         _ => None,
     }
 }

@@ -1,9 +1,5 @@
-use Rattle.std.proofs.Common.{length}
-use Rattle.app_script_plans.proofs.ShownSteps.{IsSoFar}
+use Rattle.app_script_plans.proofs.ShownSteps.{AreShownUpTo}
 use Rattle.app_script_plans.proofs.script.shown_steps.Given as goal
 
-abbrev pub invariant-steps : goal.invariant-steps
-invariant-steps g l = IsSoFar l.form l.steps l.left l.views l.text.items l.is_clean
-
-abbrev pub decreases-steps : goal.decreases-steps
-decreases-steps g l = length l.left
+abbrev pub invariant-loop-place : goal.invariant-loop-place
+invariant-loop-place g l = AreShownUpTo l.form l.steps l.place l.views l.text.items l.is_clean
