@@ -8,7 +8,7 @@ ghost use Rattle.app_script_plans.specs.Shown.{PlansQuery};
 
 use app_plan_figures::{NodeFigures, node_figures};
 use app_plan_text::{PlanLine, query_lines, tree_lines};
-use plan_algebra::{FlatPlan, Node, Tables};
+use plan_algebra::{DepTree, FlatPlan, Node, Tables};
 use plan_computed_keys::keyed;
 use plan_dependent_tree::depend;
 use plan_join_order::arrange;
@@ -73,37 +73,6 @@ pub struct QueryPlan {
     pub figures: Vec<NodeFigures>,
 }
 
-/// The forms of a bound query, by the calls with which its flat plan is made.
-fn query_forms(alloc: Global, query: &BoundQuery) -> Result<Vec<FormLines>, AllocError>
-    requires { (kinds : List Kind) × IsWellTyped query.now.block kinds }
-{
-    let mut forms = Vec::new(alloc);
-    put_form(&mut forms, QueryForm::Bound, query_lines(alloc, query)?)?;
-    let tree = depend(alloc, query)?;
-    put_form(&mut forms, QueryForm::Tree, tree_lines(alloc, tree.get())?)?;
-    let lower = sunk(alloc, 0, tree.get(), Items::new(alloc))?;
-    put_form(&mut forms, QueryForm::Sunk, tree_lines(alloc, lower.get())?)?;
-    let narrow = pruned(alloc, 0, lower.get())?;
-    put_form(
-        &mut forms,
-        QueryForm::Pruned,
-        tree_lines(alloc, narrow.get())?,
-    )?;
-    let arranged = arrange(alloc, 0, tree.get())?;
-    put_form(
-        &mut forms,
-        QueryForm::Arranged,
-        tree_lines(alloc, arranged.get())?,
-    )?;
-    let indexed = keyed(alloc, 0, arranged.get())?;
-    put_form(
-        &mut forms,
-        QueryForm::Keyed,
-        tree_lines(alloc, indexed.get())?,
-    )?;
-    Ok(forms)
-}
-
 /// Appends a form.
 fn put_form(
     forms: &mut Vec<FormLines>,
@@ -112,6 +81,85 @@ fn put_form(
 ) -> Result<(), AllocError> {
     forms.push(FormLines { form, lines })?;
     Ok(())
+}
+
+/// Appends a form that is a tree.
+fn put_tree(
+    alloc: Global,
+    forms: &mut Vec<FormLines>,
+    form: QueryForm,
+    tree: &DepTree,
+) -> Result<(), AllocError> {
+    let lines = tree_lines(alloc, tree)?;
+    put_form(forms, form, lines)
+}
+
+/// Appends a tree without the columns that nobody reads.
+fn put_pruned(alloc: Global, forms: &mut Vec<FormLines>, tree: &DepTree) -> Result<(), AllocError> {
+    let narrow = pruned(alloc, 0, tree)?;
+    put_tree(alloc, forms, QueryForm::Pruned, narrow.get())
+}
+
+/// Appends a tree after its conditions were moved down, and that one without the columns that
+/// nobody reads.
+fn put_sunk(alloc: Global, forms: &mut Vec<FormLines>, tree: &DepTree) -> Result<(), AllocError> {
+    let lower = sunk(alloc, 0, tree, Items::new(alloc))?;
+    put_tree(alloc, forms, QueryForm::Sunk, lower.get())?;
+    put_pruned(alloc, forms, lower.get())
+}
+
+/// Appends a tree with columns for the values that its equalities compute.
+fn put_keyed(alloc: Global, forms: &mut Vec<FormLines>, tree: &DepTree) -> Result<(), AllocError> {
+    let indexed = keyed(alloc, 0, tree)?;
+    put_tree(alloc, forms, QueryForm::Keyed, indexed.get())
+}
+
+/// Appends a tree after its joins were arranged, and that one with columns for computed values.
+fn put_arranged(
+    alloc: Global,
+    forms: &mut Vec<FormLines>,
+    tree: &DepTree,
+) -> Result<(), AllocError> {
+    let arranged = arrange(alloc, 0, tree)?;
+    put_tree(alloc, forms, QueryForm::Arranged, arranged.get())?;
+    put_keyed(alloc, forms, arranged.get())
+}
+
+/// Appends the dependent tree of a bound query, and what becomes of it.
+fn put_trees(
+    alloc: Global,
+    forms: &mut Vec<FormLines>,
+    query: &BoundQuery,
+) -> Result<(), AllocError>
+    requires { (kinds : List Kind) × IsWellTyped query.now.block kinds }
+{
+    let tree = depend(alloc, query)?;
+    put_tree(alloc, forms, QueryForm::Tree, tree.get())?;
+    put_sunk(alloc, forms, tree.get())?;
+    put_arranged(alloc, forms, tree.get())
+}
+
+/// The forms of a bound query, by the calls with which its flat plan is made.
+fn bound_forms(alloc: Global, query: &BoundQuery) -> Result<Vec<FormLines>, AllocError>
+    requires { (kinds : List Kind) × IsWellTyped query.now.block kinds }
+{
+    let mut forms = Vec::new(alloc);
+    put_form(&mut forms, QueryForm::Bound, query_lines(alloc, query)?)?;
+    put_trees(alloc, &mut forms, query)?;
+    Ok(forms)
+}
+
+/// The forms of a query over these views.
+fn query_forms(
+    alloc: Global,
+    query: &Query,
+    views: &SessionViews,
+) -> Result<Vec<FormLines>, BindFault>
+    ensures { IfErr result (λ why. Gives (bound_query query.now views.now) (Err why)) }
+{
+    let bound = bind_query(alloc, query, views)?;
+    let forms = bound_forms(alloc, &bound)?;
+    Ok(forms)
 }
 
 /// What each node of a query's plan gives over tables. The plan is made for that once more, since
@@ -147,8 +195,7 @@ pub fn query_plan<R: Threads + Sync + Clock, T: Tables>(
 ) -> Result<QueryPlan, BindFault>
     ensures { PlansQuery (bound_query query.now views.now) result }
 {
-    let bound = bind_query(alloc, query, views)?;
-    let forms = query_forms(alloc, &bound)?;
+    let forms = query_forms(alloc, query, views)?;
     let plan = plan(alloc, query, views)?;
     let figures = figures_of_nodes(rt, alloc, query, views, plan.nodes.as_slice(), tables)?;
     Ok(QueryPlan {
