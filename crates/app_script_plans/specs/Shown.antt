@@ -1,9 +1,11 @@
--- What is shown of a statement, and the plan that is shown of a query.
-use Rattle.std.specs.Prelude.{◌≡◌, ℕ, List, Bool, true, false, Result, Ok, Err}
+-- What is shown of a script: of each statement a text, and of a query at its end the plan.
+use Rattle.std.specs.Prelude.{◌≡◌, ℕ, List, [], ◌∷◌, ◌++◌, Bool, true, false, ◌&&◌}
+use Rattle.std.specs.Prelude.{Result, Ok, Err, ⊤}
 use Rattle.base_refusals.specs.declared.bind.BindRefusal.{BindRefusal}
 use Rattle.base_refusals.specs.declared.statement.Refusal.TheVariants.{Bind}
 use Rattle.sql_ast.specs.declared.statement.Statement.{Statement}
 use Rattle.sql_ast.specs.declared.statement.Statement.TheVariants as t
+use Rattle.sql_templates.specs.Templates.{filled_query}
 use Rattle.sql_bound_query.specs.declared.query.BoundQuery.{BoundQuery}
 use Rattle.sql_binder_steps.specs.declared.fault.BindFault.{BindFault}
 use Rattle.sql_binder_steps.specs.declared.view.View.{View}
@@ -11,6 +13,11 @@ use Rattle.sql_binder_steps.specs.Steps.{Checked, Gives}
 use Rattle.sql_binder.specs.Binding.{bound_query}
 use Rattle.plan_planner.specs.Planned.{IsPlanOf}
 use Rattle.plan_spelling.specs.Plans.{EndsWithPlan}
+use Rattle.app_sessions.specs.Expansion.{ExpandAll}
+use Rattle.app_sessions.specs.Outcomes.{dropped, made, run_outcome}
+use Rattle.app_sessions.specs.Views.{is_view, made_view, views_after}
+use Rattle.app_sessions.specs.declared.outcome.Outcome.{Outcome}
+use Rattle.app_sessions.specs.declared.outcome.Outcome.TheVariants as o
 use Rattle.app_script_plans.specs.declared.query_plan.QueryPlan.{QueryPlan}
 use Rattle.app_script_plans.specs.declared.script.PlanForm.{PlanForm}
 use Rattle.app_script_plans.specs.declared.script.PlanForm.TheVariants.{Lines, Objects}
@@ -30,13 +37,27 @@ ShowsQuery said s.Done = ⊥
 ShowsQuery said s.Refresh = ⊥
 ShowsQuery said (s.Refused why) = (no : BindRefusal) × (why ≡ Bind no) × (said ≡ Err no)
 
--- What is shown of a statement over views. Of those that are no queries anything may be.
+-- What is shown of a statement of which a session says that it is done or refused.
+abbrev pub ShowsOutcome : Outcome → StatementPlan → Type 0
+ShowsOutcome o.Done shown = shown ≡ s.Done
+ShowsOutcome (o.Refused why) shown = shown ≡ s.Refused why
+ShowsOutcome other shown = ⊥
+
+-- what a session says of a view that is made or dropped, and of a run
+abbrev pub IsOfView : Outcome → Type 0
+IsOfView o.Done = ⊤
+IsOfView (o.Refused why) = ⊤
+IsOfView other = ⊥
+
+-- What is shown of a statement over views. A refresh isn't tried.
 abbrev pub ShowsStatement : Statement → List View → StatementPlan → Type 0
 ShowsStatement (t.Query query) views shown = ShowsQuery (bound_query query views) shown
-ShowsStatement (t.CreateView name names query) views shown = Unit
-ShowsStatement (t.DropView name) views shown = Unit
-ShowsStatement (t.Refresh kind number) views shown = Unit
-ShowsStatement (t.Run number values) views shown = Unit
+ShowsStatement (t.CreateView name names query) views shown =
+    ShowsOutcome (made (made_view name names query views)) shown
+ShowsStatement (t.DropView name) views shown = ShowsOutcome (dropped (is_view name views)) shown
+ShowsStatement (t.Refresh kind number) views shown = shown ≡ s.Refresh
+ShowsStatement (t.Run number values) views shown =
+    ShowsOutcome (run_outcome (filled_query number values)) shown
 
 -- A text ends with the line of a query's plan; of another statement anything may stand there.
 abbrev pub EndsWithItsPlan : StatementPlan → List ℕ → Type 0
@@ -57,8 +78,23 @@ is_accepted s.Done = true
 is_accepted s.Refresh = true
 is_accepted (s.Refused why) = false
 
--- A text after what is shown of a statement over views, and whether the statement is accepted.
+-- The text of a statement over views, and whether the statement is accepted.
 abbrev pub EndsAsShown : PlanForm → Statement → List View → List ℕ → Bool → Type 0
 EndsAsShown form statement views text accepted = (shown : StatementPlan)
     × ShowsStatement statement views shown × EndsInForm form shown text
     × (accepted ≡ is_accepted shown)
+
+-- The texts of statements, one after the other, and whether each is accepted. Each is shown over
+-- the views that the ones before it leave.
+abbrev pub AreShown : PlanForm → List View → List Statement → List ℕ → Bool → Type 0
+AreShown form views [] text clean = (text ≡ []) × (clean ≡ true)
+AreShown form views (statement ∷ statements) text clean =
+    (first : List ℕ) × (rest : List ℕ) × (here : Bool) × (there : Bool)
+    × EndsAsShown form statement views first here
+    × AreShown form (views_after views statement) statements rest there
+    × (text ≡ first ++ rest) × (clean ≡ (here && there))
+
+-- What is shown of a script's statements: the text of those that they stand for, from no view on.
+abbrev pub ShowsScript : PlanForm → List Statement → List ℕ → Bool → Type 0
+ShowsScript form statements text clean =
+    (steps : List Statement) × ExpandAll statements steps × AreShown form [] steps text clean

@@ -8,7 +8,6 @@ mod place;
 mod query_plan;
 mod script;
 mod statement_plan;
-mod views;
 mod written;
 
 pub use place::push_place;

@@ -7,7 +7,7 @@ ghost use Rattle.app_script_plans.specs.Shown.{EndsWithItsPlan};
 
 use crate::query_plan::{FormLines, QueryPlan};
 use crate::statement_plan::StatementPlan;
-use app_plan_figures::{NodeFigures, rows_of};
+use app_plan_figures::{JoinWay, NodeFigures, rows_of};
 use app_plan_text::{PlanLine, plan_lines, push_lines, push_number};
 use app_result_text::push_refusal;
 use base_refusals::Refusal;
@@ -70,6 +70,12 @@ fn push_counted(text: &mut Vec<u8>, number: usize, word: &[u8]) -> Result<(), Al
     text.extend_from_slice(word)
 }
 
+/// Appends how a join finds its pairs.
+fn push_way(text: &mut Vec<u8>, way: JoinWay) -> Result<(), AllocError> {
+    text.extend_from_slice(b", by ")?;
+    text.extend_from_slice(way.words().as_bytes())
+}
+
 /// Appends what the node of this number gives, and how it finds its pairs where it is a join.
 fn push_node_figures(
     text: &mut Vec<u8>,
@@ -82,8 +88,7 @@ fn push_node_figures(
     push_counted(text, figures.bytes, b" bytes, ")?;
     push_counted(text, figures.micros as usize, b" microseconds")?;
     if let Some(way) = figures.way {
-        text.extend_from_slice(b", by ")?;
-        text.extend_from_slice(way.words().as_bytes())?;
+        push_way(text, way)?;
     }
     text.push(b'\n')?;
     Ok(())
@@ -101,19 +106,29 @@ fn push_figures(text: &mut Vec<u8>, figures: &[NodeFigures]) -> Result<(), Alloc
     Ok(())
 }
 
+/// Appends forms, one after the other.
+fn push_forms(text: &mut Vec<u8>, forms: &[FormLines]) -> Result<(), AllocError> {
+    for form in forms {
+        push_form(text, form)?;
+    }
+    Ok(())
+}
+
+/// Appends the flat plan of a query, with the rows of its nodes where there are tables.
+fn push_counted_plan(
+    alloc: Global,
+    text: &mut Vec<u8>,
+    plan: &QueryPlan,
+) -> Result<(), AllocError> {
+    let rows = rows_of(alloc, plan.figures.as_slice())?;
+    push_flat_plan(alloc, text, plan.plan.nodes.as_slice(), rows.as_slice())
+}
+
 /// What is shown of a query before the spelling of its plan.
 fn query_text(alloc: Global, plan: &QueryPlan) -> Result<Vec<u8>, AllocError> {
     let mut text = Vec::new(alloc);
-    for form in plan.forms.as_slice() {
-        push_form(&mut text, form)?;
-    }
-    let rows = rows_of(alloc, plan.figures.as_slice())?;
-    push_flat_plan(
-        alloc,
-        &mut text,
-        plan.plan.nodes.as_slice(),
-        rows.as_slice(),
-    )?;
+    push_forms(&mut text, plan.forms.as_slice())?;
+    push_counted_plan(alloc, &mut text, plan)?;
     push_figures(&mut text, plan.figures.as_slice())?;
     Ok(text)
 }

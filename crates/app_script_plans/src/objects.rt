@@ -5,6 +5,7 @@ use app_plan_figures::{NodeFigures, rows_of};
 use app_plan_text::{plan_lines, push_json_lines, push_json_text, push_number};
 use base_refusals::Refusal;
 use itoa::Buffer;
+use plan_algebra::Node;
 use plan_spelling::plan_spelling;
 use std::alloc::{AllocError, Global};
 
@@ -38,32 +39,52 @@ fn push_form(text: &mut Vec<u8>, form: &FormLines) -> Result<(), AllocError> {
     Ok(())
 }
 
-/// Appends the fields of a query.
-fn push_query(alloc: Global, text: &mut Vec<u8>, plan: &QueryPlan) -> Result<(), AllocError> {
-    push_text_field(text, b"answer", b"query")?;
-    push_key(text, b"forms")?;
+/// Appends the list of forms.
+fn push_forms(text: &mut Vec<u8>, forms: &[FormLines]) -> Result<(), AllocError> {
     text.push(b'[')?;
-    for (place, form) in plan.forms.iter().enumerate() {
+    for (place, form) in forms.iter().enumerate() {
         if place > 0 {
             text.push(b',')?;
         }
         push_form(text, form)?;
     }
     text.push(b']')?;
+    Ok(())
+}
+
+/// Appends the fields of a query.
+fn push_query(alloc: Global, text: &mut Vec<u8>, plan: &QueryPlan) -> Result<(), AllocError> {
+    push_text_field(text, b"answer", b"query")?;
+    push_key(text, b"forms")?;
+    push_forms(text, plan.forms.as_slice())?;
     push_plan(alloc, text, plan)
+}
+
+/// Appends the list of a flat plan's lines, with the rows of its nodes where there are tables.
+fn push_counted_plan(
+    alloc: Global,
+    text: &mut Vec<u8>,
+    plan: &QueryPlan,
+) -> Result<(), AllocError> {
+    let rows = rows_of(alloc, plan.figures.as_slice())?;
+    let lines = plan_lines(alloc, plan.plan.nodes.as_slice(), rows.as_slice())?;
+    push_json_lines(text, lines.as_slice())
+}
+
+/// Appends the spelling of a flat plan.
+fn push_spelling(alloc: Global, text: &mut Vec<u8>, nodes: &[Node]) -> Result<(), AllocError> {
+    let numbers = plan_spelling(alloc, nodes)?;
+    push_list(text, numbers.as_slice())
 }
 
 /// Appends the fields of a flat plan: its lines, what its nodes give, and its spelling.
 fn push_plan(alloc: Global, text: &mut Vec<u8>, plan: &QueryPlan) -> Result<(), AllocError> {
-    let nodes = plan.plan.nodes.as_slice();
-    let rows = rows_of(alloc, plan.figures.as_slice())?;
-    let lines = plan_lines(alloc, nodes, rows.as_slice())?;
     push_key(text, b"plan")?;
-    push_json_lines(text, lines.as_slice())?;
+    push_counted_plan(alloc, text, plan)?;
     push_key(text, b"figures")?;
     push_figures(text, plan.figures.as_slice())?;
     push_key(text, b"spelling")?;
-    push_list(text, plan_spelling(alloc, nodes)?.as_slice())
+    push_spelling(alloc, text, plan.plan.nodes.as_slice())
 }
 
 /// Appends the object of what the node of this number gives.

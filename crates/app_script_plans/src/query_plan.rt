@@ -1,21 +1,20 @@
 //! A query from its bound form to its flat plan.
-ghost use Rattle.std.specs.Prelude.{List};
+ghost use Rattle.std.specs.Prelude.{Err, IfErr, List};
 ghost use Rattle.expr_scalar.specs.declared.kind.Kind.{Kind};
 ghost use Rattle.sql_bound_query.specs.Typing.{IsWellTyped};
 ghost use Rattle.sql_binder.specs.Binding.{bound_query};
+ghost use Rattle.sql_binder_steps.specs.Steps.{Gives};
 ghost use Rattle.app_script_plans.specs.Shown.{PlansQuery};
 
-use crate::views::{ScriptViews, TypedViews};
 use app_plan_figures::{NodeFigures, node_figures};
 use app_plan_text::{PlanLine, query_lines, tree_lines};
-use plan_algebra::{FlatPlan, Node, Tables};
+use plan_algebra::{DepTree, FlatPlan, Node, Tables};
 use plan_computed_keys::keyed;
 use plan_dependent_tree::depend;
 use plan_join_order::arrange;
-use plan_planner::{SessionViews, plan};
+use plan_planner::{SessionViews, bind_query, plan};
 use plan_tree_moves::{pruned, sunk};
 use sql_ast::Query;
-use sql_binder::bind;
 use sql_binder_steps::BindFault;
 use sql_bound_query::BoundQuery;
 use sqlite_items::Items;
@@ -74,37 +73,6 @@ pub struct QueryPlan {
     pub figures: Vec<NodeFigures>,
 }
 
-/// The forms of a bound query, by the calls with which its flat plan is made.
-fn query_forms(alloc: Global, query: &BoundQuery) -> Result<Vec<FormLines>, AllocError>
-    requires { (kinds : List Kind) × IsWellTyped query.now.block kinds }
-{
-    let mut forms = Vec::new(alloc);
-    put_form(&mut forms, QueryForm::Bound, query_lines(alloc, query)?)?;
-    let tree = depend(alloc, query)?;
-    put_form(&mut forms, QueryForm::Tree, tree_lines(alloc, tree.get())?)?;
-    let lower = sunk(alloc, 0, tree.get(), Items::new(alloc))?;
-    put_form(&mut forms, QueryForm::Sunk, tree_lines(alloc, lower.get())?)?;
-    let narrow = pruned(alloc, 0, lower.get())?;
-    put_form(
-        &mut forms,
-        QueryForm::Pruned,
-        tree_lines(alloc, narrow.get())?,
-    )?;
-    let arranged = arrange(alloc, 0, tree.get())?;
-    put_form(
-        &mut forms,
-        QueryForm::Arranged,
-        tree_lines(alloc, arranged.get())?,
-    )?;
-    let indexed = keyed(alloc, 0, arranged.get())?;
-    put_form(
-        &mut forms,
-        QueryForm::Keyed,
-        tree_lines(alloc, indexed.get())?,
-    )?;
-    Ok(forms)
-}
-
 /// Appends a form.
 fn put_form(
     forms: &mut Vec<FormLines>,
@@ -113,6 +81,85 @@ fn put_form(
 ) -> Result<(), AllocError> {
     forms.push(FormLines { form, lines })?;
     Ok(())
+}
+
+/// Appends a form that is a tree.
+fn put_tree(
+    alloc: Global,
+    forms: &mut Vec<FormLines>,
+    form: QueryForm,
+    tree: &DepTree,
+) -> Result<(), AllocError> {
+    let lines = tree_lines(alloc, tree)?;
+    put_form(forms, form, lines)
+}
+
+/// Appends a tree without the columns that nobody reads.
+fn put_pruned(alloc: Global, forms: &mut Vec<FormLines>, tree: &DepTree) -> Result<(), AllocError> {
+    let narrow = pruned(alloc, 0, tree)?;
+    put_tree(alloc, forms, QueryForm::Pruned, narrow.get())
+}
+
+/// Appends a tree after its conditions were moved down, and that one without the columns that
+/// nobody reads.
+fn put_sunk(alloc: Global, forms: &mut Vec<FormLines>, tree: &DepTree) -> Result<(), AllocError> {
+    let lower = sunk(alloc, 0, tree, Items::new(alloc))?;
+    put_tree(alloc, forms, QueryForm::Sunk, lower.get())?;
+    put_pruned(alloc, forms, lower.get())
+}
+
+/// Appends a tree with columns for the values that its equalities compute.
+fn put_keyed(alloc: Global, forms: &mut Vec<FormLines>, tree: &DepTree) -> Result<(), AllocError> {
+    let indexed = keyed(alloc, 0, tree)?;
+    put_tree(alloc, forms, QueryForm::Keyed, indexed.get())
+}
+
+/// Appends a tree after its joins were arranged, and that one with columns for computed values.
+fn put_arranged(
+    alloc: Global,
+    forms: &mut Vec<FormLines>,
+    tree: &DepTree,
+) -> Result<(), AllocError> {
+    let arranged = arrange(alloc, 0, tree)?;
+    put_tree(alloc, forms, QueryForm::Arranged, arranged.get())?;
+    put_keyed(alloc, forms, arranged.get())
+}
+
+/// Appends the dependent tree of a bound query, and what becomes of it.
+fn put_trees(
+    alloc: Global,
+    forms: &mut Vec<FormLines>,
+    query: &BoundQuery,
+) -> Result<(), AllocError>
+    requires { (kinds : List Kind) × IsWellTyped query.now.block kinds }
+{
+    let tree = depend(alloc, query)?;
+    put_tree(alloc, forms, QueryForm::Tree, tree.get())?;
+    put_sunk(alloc, forms, tree.get())?;
+    put_arranged(alloc, forms, tree.get())
+}
+
+/// The forms of a bound query, by the calls with which its flat plan is made.
+fn bound_forms(alloc: Global, query: &BoundQuery) -> Result<Vec<FormLines>, AllocError>
+    requires { (kinds : List Kind) × IsWellTyped query.now.block kinds }
+{
+    let mut forms = Vec::new(alloc);
+    put_form(&mut forms, QueryForm::Bound, query_lines(alloc, query)?)?;
+    put_trees(alloc, &mut forms, query)?;
+    Ok(forms)
+}
+
+/// The forms of a query over these views.
+fn query_forms(
+    alloc: Global,
+    query: &Query,
+    views: &SessionViews,
+) -> Result<Vec<FormLines>, BindFault>
+    ensures { IfErr result (λ why. Gives (bound_query query.now views.now) (Err why)) }
+{
+    let bound = bind_query(alloc, query, views)?;
+    let forms = bound_forms(alloc, &bound)?;
+    Ok(forms)
 }
 
 /// What each node of a query's plan gives over tables. The plan is made for that once more, since
@@ -124,7 +171,9 @@ fn figures_of_nodes<R: Threads + Sync + Clock, T: Tables>(
     views: &SessionViews,
     nodes: &[Node],
     tables: Option<&T>,
-) -> Result<Vec<NodeFigures>, BindFault> {
+) -> Result<Vec<NodeFigures>, BindFault>
+    ensures { IfErr result (λ why. Gives (bound_query query.now views.now) (Err why)) }
+{
     match tables {
         Some(tables) => {
             let plan = plan(alloc, query, views)?;
@@ -135,38 +184,20 @@ fn figures_of_nodes<R: Threads + Sync + Clock, T: Tables>(
     }
 }
 
-/// A query's forms over these views.
-fn bound_forms(
-    alloc: Global,
-    query: &Query,
-    views: &TypedViews,
-) -> Result<Vec<FormLines>, BindFault> {
-    let bound = bind(alloc, query, &views.views)?;
-    let forms = query_forms(alloc, &bound)?;
-    Ok(forms)
-}
-
 /// A query's forms and its flat plan over these views, by the call with which a session plans it:
 /// refused exactly as binding is.
 pub fn query_plan<R: Threads + Sync + Clock, T: Tables>(
     rt: &R,
     alloc: Global,
     query: &Query,
-    views: &ScriptViews,
+    views: &SessionViews,
     tables: Option<&T>,
 ) -> Result<QueryPlan, BindFault>
-    ensures { PlansQuery (bound_query query.now views.now.session) result }
+    ensures { PlansQuery (bound_query query.now views.now) result }
 {
-    let plan = plan(alloc, query, &views.session)?;
-    let forms = match bound_forms(alloc, query, &views.typed) {
-        Ok(forms) => forms,
-        Err(_) => return Err(BindFault::OutOfMemory),
-    };
-    let nodes = plan.nodes.as_slice();
-    let figures = match figures_of_nodes(rt, alloc, query, &views.session, nodes, tables) {
-        Ok(figures) => figures,
-        Err(_) => return Err(BindFault::OutOfMemory),
-    };
+    let forms = query_forms(alloc, query, views)?;
+    let plan = plan(alloc, query, views)?;
+    let figures = figures_of_nodes(rt, alloc, query, views, plan.nodes.as_slice(), tables)?;
     Ok(QueryPlan {
         forms,
         plan,

@@ -1,16 +1,17 @@
 //! What is shown of a statement.
-ghost use Rattle.std.specs.Prelude.{◌≡◌, IfOk};
+ghost use Rattle.std.specs.Prelude.{◌≡◌, IfOk, OnOk};
 ghost use Rattle.sql_binder.specs.Binding.{bound_query};
-ghost use Rattle.app_script_plans.specs.Shown.{ShowsQuery, ShowsStatement, is_accepted};
+ghost use Rattle.app_sessions.specs.Views.{views_after};
+ghost use Rattle.app_script_plans.specs.Shown.{IsOfView, ShowsOutcome, ShowsQuery, ShowsStatement};
+ghost use Rattle.app_script_plans.specs.Shown.{is_accepted};
 
 use crate::query_plan::{QueryPlan, query_plan};
-use crate::views::{ScriptViews, place_of_view};
+use app_sessions::{Outcome, drop_view, make_view, run_outcome};
 use base_refusals::Refusal;
-use base_schema::TableName;
 use plan_algebra::Tables;
-use sql_ast::{Block, Name, Query, Statement, TemplateValue};
+use plan_planner::SessionViews;
+use sql_ast::{Query, Statement};
 use sql_binder_steps::BindFault;
-use sql_templates::{TemplateFault, fill};
 use std::alloc::{AllocError, Global};
 use std::thread::Threads;
 use std::time::Clock;
@@ -45,10 +46,10 @@ fn shown_query<R: Threads + Sync + Clock, T: Tables>(
     rt: &R,
     alloc: Global,
     query: &Query,
-    views: &ScriptViews,
+    views: &SessionViews,
     tables: Option<&T>,
 ) -> Result<StatementPlan, AllocError>
-    ensures { IfOk result (ShowsQuery (bound_query query.now views.now.session)) }
+    ensures { IfOk result (ShowsQuery (bound_query query.now views.now)) }
 {
     match query_plan(rt, alloc, query, views, tables) {
         Ok(plan) => Ok(StatementPlan::Query(plan)),
@@ -57,65 +58,42 @@ fn shown_query<R: Threads + Sync + Clock, T: Tables>(
     }
 }
 
-/// Makes a view, where its name is new and its query is bound.
-fn make_view(
-    alloc: Global,
-    views: &mut ScriptViews,
-    name: &Name,
-    names: &[Name],
-    query: &Block,
-) -> Result<StatementPlan, AllocError> {
-    let is_view = place_of_view(views.session.as_slice(), name).is_some();
-    if is_view || TableName::from_name(name.bytes()).is_some() {
-        return Ok(StatementPlan::Refused(Refusal::ViewExists));
-    }
-    match views.make(alloc, name, names, query) {
-        Ok(()) => Ok(StatementPlan::Done),
-        Err(BindFault::Refused(why)) => Ok(StatementPlan::Refused(Refusal::Bind(why))),
-        Err(BindFault::OutOfMemory) => Err(AllocError),
-    }
-}
-
-/// Drops the view of that name, where there is one.
-fn drop_view(views: &mut ScriptViews, name: &Name) -> StatementPlan {
-    if views.remove(name) {
-        StatementPlan::Done
-    } else {
-        StatementPlan::Refused(Refusal::UnknownView)
-    }
-}
-
-/// A run whose template is not filled.
-fn shown_run(
-    alloc: Global,
-    number: u32,
-    values: &[TemplateValue],
-) -> Result<StatementPlan, AllocError> {
-    match fill(alloc, number as u64, values) {
-        Ok(_) => Ok(StatementPlan::Done),
-        Err(TemplateFault::Refused(why)) => Ok(StatementPlan::Refused(Refusal::Template(why))),
-        Err(TemplateFault::OutOfMemory) => Err(AllocError),
+/// What is shown of a statement that is done or refused.
+fn shown_outcome(outcome: Outcome) -> StatementPlan
+    requires { IsOfView outcome }
+    ensures { ShowsOutcome outcome result }
+{
+    match outcome {
+        Outcome::Done => StatementPlan::Done,
+        Outcome::Refused(why) => StatementPlan::Refused(why),
+        Outcome::Rows(_) | Outcome::Accepted(_) | Outcome::VersionRefused(_) => unreachable!(),
     }
 }
 
 /// What is shown of a statement over these views, to which it does what it says: of a query a plan
 /// of it, or the refusal of binding.
+#[tactic(auto, using(crate::proofs::ViewOutcomes::of_made, crate::proofs::ViewOutcomes::of_dropped, crate::proofs::ViewOutcomes::of_run))]
 pub fn statement_plan<R: Threads + Sync + Clock, T: Tables>(
     rt: &R,
     alloc: Global,
     statement: &Statement,
-    views: &mut ScriptViews,
+    views: &mut SessionViews,
     tables: Option<&T>,
 ) -> Result<StatementPlan, AllocError>
-    ensures { IfOk result (ShowsStatement statement.now views.old.session) }
+    ensures shown { IfOk result (ShowsStatement statement.now views.old) }
+    ensures views { OnOk result (views.new ≡ views_after views.old statement.now) }
 {
     match statement {
         Statement::Query(query) => shown_query(rt, alloc, query, views, tables),
         Statement::CreateView(name, names, query) => {
-            make_view(alloc, views, name, names.as_slice(), query)
+            let outcome = make_view(alloc, views, name, names.as_slice(), query)?;
+            Ok(shown_outcome(outcome))
         }
-        Statement::DropView(name) => Ok(drop_view(views, name)),
+        Statement::DropView(name) => Ok(shown_outcome(drop_view(views, name))),
         Statement::Refresh(_, _) => Ok(StatementPlan::Refresh),
-        Statement::Run(number, values) => shown_run(alloc, *number, values.as_slice()),
+        Statement::Run(number, values) => {
+            let outcome = run_outcome(alloc, *number, values.as_slice())?;
+            Ok(shown_outcome(outcome))
+        }
     }
 }

@@ -58,7 +58,7 @@ fn spans_of(alloc: Global, script: &[u8]) -> Result<Vec<Span>, AllocError> {
 }
 
 /// The statements of a text that is a script; none where it is none.
-pub fn statements_of(alloc: Global, text: &[u8]) -> Result<Items<Statement>, AllocError> {
+fn statements_of(alloc: Global, text: &[u8]) -> Result<Items<Statement>, AllocError> {
     match read_script(alloc, text) {
         Ok(statements) => Ok(statements),
         Err(ScriptFault::Refused(_, _)) => Ok(Items::new(alloc)),

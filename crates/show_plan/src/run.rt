@@ -1,15 +1,25 @@
 //! A run: its words, its files, and its text.
-ghost use Rattle.std.specs.Prelude.{IfOk};
+ghost use Rattle.std.specs.Prelude.{◌≡◌, ℕ, List, Some, IfOk, map, option_map};
+ghost use Rattle.std.specs.Io.KnownBytes.{Appends, Keeps};
+ghost use Rattle.std.specs.String.{string_bytes};
+ghost use Rattle.base_io.specs.Outside.{Rose};
+ghost use Rattle.sql_parser.specs.Script.{IsRefusedScript};
+ghost use Rattle.app_inputs.specs.FilesAfter.{FilesAfterInput, FilesAfterRead};
 ghost use Rattle.app_inputs.specs.Printing.{IsAnswer};
+ghost use Rattle.app_inputs.specs.Views.{Reads};
+ghost use Rattle.show_plan.specs.Asked.{asked, asked_view};
+ghost use Rattle.show_plan.specs.Printed.{IsTextOf, MeansShown, Prints, PrintsRefusal, tables_in};
 
 use crate::words::{Request, read_words};
 use app_inputs::{
     InputError, InputFault, ReadError, RefusedInput, Status, line_of_refusal, read_file,
     read_state, write_text,
 };
-use app_script_plans::{ScriptPlans, push_place, script_plans};
+use app_script_plans::{PlanForm, ScriptPlans, push_place, script_plans};
 use base_io::{Files, Sink};
+use sql_ast::Statement;
 use sql_parser::{MAX_SCRIPT, ScriptFault, ScriptRefusal, read_script};
+use sqlite_items::Items;
 use std::alloc::{AllocError, Global};
 use std::thread::Threads;
 use std::time::Clock;
@@ -20,11 +30,10 @@ use store_versions::Directory;
 static USAGE: &[u8] = b"usage: show_plan [--json] SCRIPT [DIR]\n";
 
 /// The tables of a folder.
-fn read_tables<F: Files>(
-    alloc: Global,
-    files: &mut F,
-    folder: &str,
-) -> Result<Snapshot, InputError> {
+fn read_tables<F: Files>(alloc: Global, files: &mut F, folder: &str) -> Result<Snapshot, InputError>
+    ensures input { Reads (λ tables. tt) (F.held files.old) (tables_in (Some folder.now)) result }
+    ensures files { FilesAfterInput F.held F.faults F.misses result files.old files.new }
+{
     let state = read_state(alloc, files, folder)?;
     let directory = Directory::new(alloc, state, Vec::new(alloc), 0)?;
     let snapshot = Snapshot::of(alloc, &directory)?;
@@ -36,7 +45,11 @@ fn tables_of<F: Files>(
     alloc: Global,
     files: &mut F,
     folder: Option<&str>,
-) -> Result<Option<Snapshot>, InputError> {
+) -> Result<Option<Snapshot>, InputError>
+    ensures input { Reads (λ tables. tt) (F.held files.old)
+        (tables_in (option_map (λ f. f.now) folder.entry)) result }
+    ensures files { FilesAfterInput F.held F.faults F.misses result files.old files.new }
+{
     match folder {
         Some(folder) => {
             let snapshot = read_tables(alloc, files, folder)?;
@@ -46,21 +59,23 @@ fn tables_of<F: Files>(
     }
 }
 
-/// What is shown of a script, and its status.
+/// What is shown of a script's statements, and its status.
 fn plans_text<R: Threads + Sync + Clock>(
     rt: &R,
     alloc: Global,
     script: &[u8],
-    request: &Request<'_>,
+    statements: Items<Statement>,
+    form: PlanForm,
     tables: &Option<Snapshot>,
 ) -> Result<(Vec<u8>, Status), AllocError>
-    ensures { IfOk result (λ printed. IsAnswer printed.1) }
+    ensures { IfOk result (λ printed. MeansShown form statements tt printed.0.items printed.1) }
 {
     let ScriptPlans { text, is_clean } = script_plans(
         rt,
         alloc,
         script,
-        request.form,
+        statements,
+        form,
         tables.as_ref(),
     )?;
     if is_clean {
@@ -78,12 +93,18 @@ fn refused_script(
     script: &[u8],
     refusal: ScriptRefusal,
     place: usize,
-) -> Result<Vec<u8>, AllocError> {
+) -> Result<Vec<u8>, AllocError>
+    requires { IsRefusedScript refusal script.now place }
+    ensures { IfOk result
+        (λ text. PrintsRefusal name.now script.now text.items Status.InputRefused) }
+{
     let name = String::from_str(alloc, name)?;
     let fault = InputFault::Byte(refusal, place);
     let mut text = line_of_refusal(alloc, &RefusedInput { name, fault })?;
-    push_place(&mut text, script, place)?;
-    text.push(b'\n')?;
+    let mut more = Vec::new(alloc);
+    push_place(&mut more, script, place)?;
+    more.push(b'\n')?;
+    text.extend_from_slice(more.as_slice())?;
     Ok(text)
 }
 
@@ -94,13 +115,14 @@ fn request_text<R: Threads + Sync + Clock, F: Files>(
     files: &mut F,
     request: &Request<'_>,
 ) -> Result<(Vec<u8>, Status), InputError>
-    ensures { IfOk result (λ printed. IsAnswer printed.1) }
+    ensures text { IsTextOf (asked_view request.now) (F.held files.old) result }
+    ensures files { FilesAfterInput F.held F.faults F.misses result files.old files.new }
 {
     let script = read_file(alloc, files, request.script, MAX_SCRIPT)?;
     match read_script(alloc, &script) {
-        Ok(_) => {
+        Ok(statements) => {
             let tables = tables_of(alloc, files, request.folder)?;
-            let printed = plans_text(rt, alloc, &script, request, &tables)?;
+            let printed = plans_text(rt, alloc, &script, statements, request.form, &tables)?;
             Ok(printed)
         }
         Err(ScriptFault::Refused(refusal, place)) => {
@@ -118,7 +140,9 @@ fn output<R: Threads + Sync + Clock, F: Files>(
     files: &mut F,
     request: &Request<'_>,
 ) -> Result<(Vec<u8>, Status), ReadError>
-    ensures { IfOk result (λ printed. IsAnswer printed.1) }
+    ensures prints { IfOk result (λ printed. IsAnswer printed.1
+        × Prints (Some (asked_view request.now)) (F.held files.old) printed.0.items printed.1) }
+    ensures files { FilesAfterRead F.held F.faults F.misses result files.old files.new }
 {
     match request_text(rt, alloc, files, request) {
         Ok(printed) => Ok(printed),
@@ -131,14 +155,28 @@ fn output<R: Threads + Sync + Clock, F: Files>(
 }
 
 /// Reads the script and the tables that the words name, and writes what becomes of each query of
-/// the script; or the usage line where the words are of another form.
+/// the script; or the usage line where the words are of another form. What an answer prints is what
+/// `Prints` says of the words and of the files' bytes.
+///
+/// # Errors
+///
+/// A fault of reading or writing is answered only where `files` or `out` counted one. No clause
+/// says when memory runs out.
 pub fn show_plan<R: Threads + Sync + Clock, F: Files, S: Sink>(
     rt: &R,
     alloc: Global,
     words: &[String],
     files: &mut F,
     out: &mut S,
-) -> Status {
+) -> Status
+    ensures answer { IsAnswer result → ((text : List ℕ)
+        × Prints (asked (map string_bytes words.now)) (F.held files.old) text result
+        × Appends (S.taken out.old) (S.taken out.new) text) }
+    ensures read { result ≡ Status.ReadFault → Rose (F.faults files.old) (F.faults files.new)
+        × Keeps (S.taken out.old) (S.taken out.new) }
+    ensures write { result ≡ Status.WriteFault → Rose (S.faults out.old) (S.faults out.new) }
+    ensures held { F.held files.new ≡ F.held files.old }
+{
     let Some(request) = read_words(words) else {
         return write_text(out, USAGE, Status::Usage);
     };

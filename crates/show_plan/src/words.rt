@@ -1,4 +1,8 @@
 //! The words of the command line.
+ghost use Rattle.std.specs.Prelude.{◌≡◌, map, option_map};
+ghost use Rattle.std.specs.String.{string_bytes};
+ghost use Rattle.show_plan.specs.Asked.{asked, asked_for, asked_in, asked_view};
+
 use app_script_plans::PlanForm;
 
 /// What the words ask for.
@@ -12,36 +16,46 @@ pub struct Request<'w> {
     pub folder: Option<&'w str>,
 }
 
-/// Whether a word is written as an option.
-fn is_option(word: &str) -> bool {
-    matches!(word.as_bytes(), [b'-', b'-', ..])
+/// What a script and a folder ask for. A script's name that begins as an option does is none.
+fn checked_request<'w>(
+    form: PlanForm,
+    script: &'w str,
+    folder: Option<&'w str>,
+) -> Option<Request<'w>>
+    ensures { option_map asked_view result
+        ≡ asked_for form script.entry.now (option_map (λ f. f.now) folder.entry) }
+{
+    if script.as_bytes().starts_with(b"--") {
+        return None;
+    }
+    Some(Request {
+        form,
+        script,
+        folder,
+    })
 }
 
-/// What the words after `--json` ask for, or all words where that isn't there. A script's name that
-/// begins as an option does is none.
-fn request_of(form: PlanForm, words: &[String]) -> Option<Request<'_>> {
+/// What one word or two ask for.
+fn request_of(form: PlanForm, words: &[String]) -> Option<Request<'_>>
+    ensures { option_map asked_view result ≡ asked_in form (map string_bytes words.entry.now) }
+{
     match words {
-        [script, ..] if is_option(script.as_str()) => None,
-        [script] => Some(Request {
-            form,
-            script: script.as_str(),
-            folder: None,
-        }),
-        [script, folder] => Some(Request {
-            form,
-            script: script.as_str(),
-            folder: Some(folder.as_str()),
-        }),
+        [script] => checked_request(form, script.as_str(), None),
+        [script, folder] => checked_request(form, script.as_str(), Some(folder.as_str())),
         _ => None,
     }
 }
 
-/// What the words ask for, if they are of the form.
-pub fn read_words(words: &[String]) -> Option<Request<'_>> {
-    match words {
-        [option, rest @ ..] if option.as_bytes() == b"--json".as_slice() => {
-            request_of(PlanForm::Objects, rest)
-        }
-        _ => request_of(PlanForm::Lines, words),
+/// What the words ask for, if they are of the form: where the first one is `--json`, the others.
+pub fn read_words(words: &[String]) -> Option<Request<'_>>
+    ensures { option_map asked_view result ≡ asked (map string_bytes words.entry.now) }
+{
+    let [first, rest @ ..] = words else {
+        return None;
+    };
+    if first.as_str() == "--json" {
+        request_of(PlanForm::Objects, rest)
+    } else {
+        request_of(PlanForm::Lines, words)
     }
 }

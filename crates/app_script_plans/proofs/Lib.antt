@@ -1,0 +1,2 @@
+pub mod ShownSteps
+pub mod ViewOutcomes
