@@ -77,7 +77,7 @@ pub fn tpch<R: Threads + Wait + Sync, F: Files, S: Sink, D: Disk + Send, G: Gate
         × (S.faults out.old ≤ S.faults out.new)
         × (D.faults disk.old ≤ D.faults disk.new) }
 
-    // A command whose job names no journal leaves the disk.
+    // The disk is reached last, and only for a journal.
     ensures untouched { HasNoJournal (command_of (map string_bytes words.now)) (F.held files.old)
         → disk.new ≡ disk.old }
 {
