@@ -7,7 +7,7 @@ use Rattle.app_run.proofs.KeptPlayed.{can_play, plays_kept}
 use Rattle.app_run.proofs.kept.run_kept.Goals as goal
 
 pub play_over-requires-clause-playable : goal.play_over-requires-clause-playable
-play_over-requires-clause-playable g c =
+play_over-requires-clause-playable g c κs within =
     let s = c.args.sources in
     let kept = c.args.kept.items in
     let count : c.len-count.result ≡ length kept = search rules in
@@ -38,6 +38,8 @@ returns-in-Ok-clause-played g c =
     let told = rw c.in-Ok.is at c.in_ok-job.ensures in
     let opens = subst (λ (y : ℕ × ℕ × List Change). OpensJob y.0 y.1 c.args.journal y.2 s.sessions.items s.base s.before (Ok c.in-Ok.job)) (λ i. (count i, most i, list i)) told in
     let disk = c.play_over.new.disk in
+    -- a law of the disk, as it holds in this thread
+    let image = (g.met.D.Disk g.world.𝓛 g.world.𝓜 g.world.𝓡 ((λ s x. x), (λ x. x), (λ x. x), λ x. x)).reads_image disk in
     IfOk-weaker c.play_over.result _ _
-    (λ result plays. plays_kept g.D.Disk.may_leave (g.D.Disk.reads disk) disk c.args.journal kept (work_view s) s.sessions.items c.in-Ok.job result c.requires.unsent opens (g.met.D.Disk.reads_image disk) plays)
+    (λ result plays. plays_kept g.D.Disk.may_leave (g.D.Disk.reads disk) disk c.args.journal kept (work_view s) s.sessions.items c.in-Ok.job result c.requires.unsent opens image plays)
     c.play_over.ensures.played

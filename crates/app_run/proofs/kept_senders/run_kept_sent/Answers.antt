@@ -16,7 +16,7 @@ use Rattle.app_run.proofs.Taken.{front_of, given_counted, sender_stored}
 use Rattle.app_run.proofs.kept_senders.run_kept_sent.Goals as goal
 
 pub play_sent_over-requires-clause-playable : goal.play_sent_over-requires-clause-playable
-play_sent_over-requires-clause-playable g c =
+play_sent_over-requires-clause-playable g c κs within =
     let s = c.args.sources in
     let kept = c.args.kept.items in
     let front = take s.before s.list.items in
@@ -94,7 +94,9 @@ returns-in-Ok-clause-played g c =
     let opens = subst (λ (y : ℕ × List Change). OpensJob y.0 (c.len-count.result + c.len.result) c.args.journal y.1 s.sessions.items s.base s.before (Ok c.in-Ok.opened)) (λ i. (count i, list i)) told in
     let given = λ (id : SenderId). ap (λ (ss : List SenderId). sent_by id (zip ss c.in_ok-sent.sent.items)) slice ∙ ap (λ (l : List Change). sent_by id (zip s.senders.items l)) c.in_ok-sent.ensures.tail in
     let disk = c.play_sent_over.new.disk in
+    -- a law of the disk, as it holds in this thread
+    let image = (g.met.D.Disk g.world.𝓛 g.world.𝓜 g.world.𝓡 ((λ s x. x), (λ x. x), (λ x. x), λ x. x)).reads_image disk in
     IfOk-weaker c.play_sent_over.result _ _
     (λ result plays. plays_sent g.D.Disk.may_leave (g.D.Disk.reads disk) disk c.args.journal kept (c.len-count.result + c.len.result) (work_view s) s.sessions.items job result all opens
-    (c.in_ok-firsts.ensures.first ∙ given First) (c.in_ok-firsts.ensures.second ∙ given Second) (g.met.D.Disk.reads_image disk) plays)
+    (c.in_ok-firsts.ensures.first ∙ given First) (c.in_ok-firsts.ensures.second ∙ given Second) image plays)
     c.play_sent_over.ensures.played

@@ -1,4 +1,4 @@
-use Rattle.std.proofs.Common.{◌≡◌, ◌∙◌, ℕ, List, Option, Some, ap, codes, false, subst, sym, tt}
+use Rattle.std.proofs.Common.{◌≡◌, ◌∙◌, ℕ, List, Option, Some, ap, codes, false, subst, sym}
 use Rattle.base_io.specs.Memory.{folder_of}
 use Rattle.base_io.specs.declared.sure.SureFiles.{SureFiles}
 use Rattle.base_io.specs.Outside.{Folder}
@@ -14,10 +14,10 @@ use Rattle.app_run.proofs.JobAlike.{needs_no_disk}
 use Rattle.app_run.proofs.TrialFiles.{refused_prints, trial_names_none}
 use Rattle.app_run.proofs.trial.trial_output.Goals as goal
 
-named : MemDisk → Option (List ℕ → List ℕ)
+abbrev named : MemDisk → Option (List ℕ → List ℕ)
 named m = Some (file_only (string_bytes m.name) (state_now m.first.items m.calls.items).bytes)
 
-reads : MemDisk → Option (List ℕ)
+abbrev reads : MemDisk → Option (List ℕ)
 reads m = Some (state_now m.first.items m.calls.items).bytes
 
 pub returns-in-Ok-Text-clause-prints : goal.returns-in-Ok-Text-clause-prints
@@ -38,8 +38,8 @@ returns-in-Err-Refused-clause-prints g c =
           (subst (λ (f : Folder). PrintsJob false (codes "made") (codes "job") f told (refusal_line (refused_view c.in-Err-Refused.refused)) InputRefused) is prints),
     )
 
-pub unreachable-requires-in-Ok-DiskFault : goal.unreachable-requires-in-Ok-DiskFault
-unreachable-requires-in-Ok-DiskFault g c =
+pub unreachable-requires : goal.unreachable-requires
+unreachable-requires g c =
     let is : folder_of c.new-files.result.folder.files.items ≡ trial_files c.args.number = ap (λ (m : SureFiles). folder_of m.folder.files.items) c.new-files.ensures ∙ c.in_ok-trial_files.ensures in
     let none = needs_no_disk (codes "made") (codes "job") (trial_files c.args.number) (trial_names_none c.args.number) in
     let mine = subst (λ (f : Folder). NeedsNoDisk (codes "made") (codes "job") (Some f)) (sym is) none in
