@@ -25,7 +25,7 @@ returns-in-Ok-Text-clause-prints g c =
     let is : folder_of c.new-files.result.folder.files.items ≡ trial_files c.args.number = ap (λ (m : SureFiles). folder_of m.folder.files.items) c.new-files.ensures ∙ c.in_ok-trial_files.ensures in
     let told = disk_told (named c.in_ok-disk.disk) (reads c.job_output.new.disk) in
     let prints = rw c.in-Ok-Text.field-0-is at c.in-Ok-Text.ensures.output in
-    (told, subst (λ (f : Folder). PrintsJob false (codes "made") (codes "job") f told c.in-Ok-Text.text.items c.in-Ok-Text.status) is prints.0)
+    rw c.in-Ok-Text.field-0-is (told, subst (λ (f : Folder). PrintsJob false (codes "made") (codes "job") f told c.in-Ok-Text.text.items c.in-Ok-Text.status) is prints.0)
 
 pub returns-in-Err-Refused-clause-prints : goal.returns-in-Err-Refused-clause-prints
 returns-in-Err-Refused-clause-prints g c =
