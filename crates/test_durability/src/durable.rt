@@ -99,7 +99,7 @@ fn run_two<R: Wait>(
     let journal = make::<MemDisk, RefreshPayload>(&mut disk)
         .ok()
         .ok_or("a journal")?;
-    let (mut publisher, _readers) = open(rt, alloc, no_rows(alloc)?, two(alloc, BAD)?, 1, 2)?;
+    let (mut publisher, _readers) = open(rt, alloc, no_rows(alloc)?, (), two(alloc, BAD)?, 1, 2)?;
     let Ok(start) = publisher.snapshot() else {
         publisher.close(rt);
         return Err("no snapshot".into());
