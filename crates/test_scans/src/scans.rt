@@ -28,9 +28,8 @@ fn put_pieces(alloc: Global, lines: &[u8], pieces: &mut Vec<Piece>) -> Result<()
     Ok(())
 }
 
-// The rows of these lines in pieces of at most `most` rows.
-fn pieces_of(alloc: Global, text: &[u8], most: usize) -> Result<Vec<Piece>, Fail> {
-    let mut pieces = Vec::new(alloc);
+// The rows of these lines as pieces of at most `most` rows after others.
+fn put_text(alloc: Global, text: &[u8], most: usize, pieces: &mut Vec<Piece>) -> Result<(), Fail> {
     let mut lines = Vec::new(alloc);
     let mut count = 0usize;
     for byte in text {
@@ -39,12 +38,18 @@ fn pieces_of(alloc: Global, text: &[u8], most: usize) -> Result<Vec<Piece>, Fail
             count = count.saturating_add(1);
         }
         if count == most {
-            put_pieces(alloc, lines.as_slice(), &mut pieces)?;
+            put_pieces(alloc, lines.as_slice(), pieces)?;
             lines.clear();
             count = 0;
         }
     }
-    put_pieces(alloc, lines.as_slice(), &mut pieces)?;
+    put_pieces(alloc, lines.as_slice(), pieces)
+}
+
+// The rows of these lines in pieces of at most `most` rows.
+fn pieces_of(alloc: Global, text: &[u8], most: usize) -> Result<Vec<Piece>, Fail> {
+    let mut pieces = Vec::new(alloc);
+    put_text(alloc, text, most, &mut pieces)?;
     Ok(pieces)
 }
 
@@ -59,19 +64,20 @@ fn more_than(alloc: Global, pieces: i128) -> Result<Expr, AllocError> {
 fn scanned<R: Threads + Sync>(rt: &R, alloc: Global, pieces: &[Piece]) -> Result<Bag, AllocError> {
     let condition = more_than(alloc, 20)?;
     let columns = [Expr::Column(0), Expr::Column(4), Expr::Column(3)];
-    let bag = scan_rows(rt, alloc, pieces, &condition, &columns)?;
-    Ok(bag)
+    scan_rows(rt, alloc, pieces, &condition, &columns)
 }
 
-// An aggregate of a column.
-fn aggregate_of(
+// An aggregate of a column, after others.
+fn put_aggregate(
     alloc: Global,
+    all: &mut Vec<Aggregate>,
     function: AggregateFunction,
     scale: Scale,
     column: u32,
-) -> Result<Aggregate, AllocError> {
+) -> Result<(), AllocError> {
     let argument = Boxed::new(alloc, Expr::Column(column))?;
-    Ok(Aggregate::Of(function, scale, argument))
+    all.push(Aggregate::Of(function, scale, argument))?;
+    Ok(())
 }
 
 const FUNCTIONS: [AggregateFunction; 4] = [
@@ -87,15 +93,27 @@ fn all_aggregates(alloc: Global) -> Result<Vec<Aggregate>, AllocError> {
     let mut all = Vec::new(alloc);
     all.push(Aggregate::CountRows)?;
     for function in &FUNCTIONS {
-        let aggregate = aggregate_of(alloc, *function, Scale::new(2), 4)?;
-        all.push(aggregate)?;
+        put_aggregate(alloc, &mut all, *function, Scale::new(2), 4)?;
     }
-    let lines = aggregate_of(alloc, AggregateFunction::CountDistinct, Scale::WHOLE, 3)?;
-    all.push(lines)?;
+    let distinct = AggregateFunction::CountDistinct;
+    put_aggregate(alloc, &mut all, distinct, Scale::WHOLE, 3)?;
     Ok(all)
 }
 
-// The rows of more pieces than some by these columns, or all as one group, with their aggregates.
+// The rows of more pieces than some by these columns, or all as one group, with these aggregates.
+fn grouped_with<R: Threads + Sync>(
+    rt: &R,
+    alloc: Global,
+    pieces: &[Piece],
+    above: i128,
+    by: &[Expr],
+    aggregates: &[Aggregate],
+) -> Result<Bag, AllocError> {
+    let condition = more_than(alloc, above)?;
+    scan_groups(rt, alloc, pieces, &condition, by, aggregates)
+}
+
+// The rows of more pieces than some by these columns, or all as one group, with all aggregates.
 fn grouped<R: Threads + Sync>(
     rt: &R,
     alloc: Global,
@@ -103,10 +121,8 @@ fn grouped<R: Threads + Sync>(
     above: i128,
     by: &[Expr],
 ) -> Result<Bag, AllocError> {
-    let condition = more_than(alloc, above)?;
     let aggregates = all_aggregates(alloc)?;
-    let bag = scan_groups(rt, alloc, pieces, &condition, by, aggregates.as_slice())?;
-    Ok(bag)
+    grouped_with(rt, alloc, pieces, above, by, aggregates.as_slice())
 }
 
 // The rows of a bag, in its order.
@@ -134,22 +150,39 @@ fn made_lineitems(alloc: Global, number: u64) -> Result<Vec<u8>, AllocError>
     Ok(Vec::new(alloc))
 }
 
+// The rows that a scan of pieces of at most `most` rows gives.
+fn kept<R: Threads + Sync>(
+    rt: &R,
+    alloc: Global,
+    text: &[u8],
+    most: usize,
+) -> Result<Vec<Row>, Fail> {
+    let pieces = pieces_of(alloc, text, most)?;
+    let bag = scanned(rt, alloc, pieces.as_slice())?;
+    rows_of(alloc, &bag)
+}
+
+// Whether they are these.
+fn keeps<R: Threads + Sync>(
+    rt: &R,
+    alloc: Global,
+    text: &[u8],
+    most: usize,
+    wanted: &[Row],
+) -> Result<bool, Fail> {
+    let found = kept(rt, alloc, text, most)?;
+    Ok(are_same(wanted, found.as_slice()))
+}
+
 #[test]
 fn cut_into_pieces(rt: HostRuntime) -> Result<(), Fail> {
     let text = made_lineitems(rt.alloc(), 1)?;
-    let whole = pieces_of(rt.alloc(), text.as_slice(), 4096)?;
-    let whole = scanned(&rt, rt.alloc(), whole.as_slice())?;
-    let whole = rows_of(rt.alloc(), &whole)?;
+    let text = text.as_slice();
+    let whole = kept(&rt, rt.alloc(), text, 4096)?;
+    let whole = whole.as_slice();
     assert!(rt; whole.len() > 10, "rows are kept");
-    for most in [1, 7] {
-        let pieces = pieces_of(rt.alloc(), text.as_slice(), most)?;
-        let found = scanned(&rt, rt.alloc(), pieces.as_slice())?;
-        let found = rows_of(rt.alloc(), &found)?;
-        assert!(rt;
-            are_same(whole.as_slice(), found.as_slice()),
-            "pieces of {most}"
-        );
-    }
+    assert!(rt; keeps(&rt, rt.alloc(), text, 1, whole)?, "pieces of 1");
+    assert!(rt; keeps(&rt, rt.alloc(), text, 7, whole)?, "pieces of 7");
     Ok(())
 }
 
@@ -160,6 +193,37 @@ fn no_pieces(rt: HostRuntime) -> Result<(), Fail> {
     Ok(())
 }
 
+// The groups by these columns from pieces of at most `most` rows.
+fn groups<R: Threads + Sync>(
+    rt: &R,
+    alloc: Global,
+    text: &[u8],
+    most: usize,
+    above: i128,
+    by: &[Expr],
+) -> Result<Vec<Row>, Fail> {
+    let pieces = pieces_of(alloc, text, most)?;
+    let bag = grouped(rt, alloc, pieces.as_slice(), above, by)?;
+    rows_of(alloc, &bag)
+}
+
+// Whether there are these groups, and the same from pieces of 7 rows and of one.
+fn give_groups<R: Threads + Sync>(
+    rt: &R,
+    alloc: Global,
+    text: &[u8],
+    above: i128,
+    by: &[Expr],
+    wanted: &[Row],
+) -> Result<bool, Fail> {
+    let mut good = !wanted.is_empty();
+    for most in [7, 1] {
+        let found = groups(rt, alloc, text, most, above, by)?;
+        good &= are_same(wanted, found.as_slice());
+    }
+    Ok(good)
+}
+
 // Whether there are groups by these columns, the same from pieces of 4096 rows, of 7 and of one.
 fn are_alike<R: Threads + Sync>(
     rt: &R,
@@ -168,20 +232,8 @@ fn are_alike<R: Threads + Sync>(
     above: i128,
     by: &[Expr],
 ) -> Result<bool, Fail> {
-    let whole = pieces_of(alloc, text, 4096)?;
-    let whole = grouped(rt, alloc, whole.as_slice(), above, by)?;
-    let whole = rows_of(alloc, &whole)?;
-    let sevens = pieces_of(alloc, text, 7)?;
-    let sevens = grouped(rt, alloc, sevens.as_slice(), above, by)?;
-    let sevens = rows_of(alloc, &sevens)?;
-    let ones = pieces_of(alloc, text, 1)?;
-    let ones = grouped(rt, alloc, ones.as_slice(), above, by)?;
-    let ones = rows_of(alloc, &ones)?;
-    Ok(
-        whole.len() > 0
-            && are_same(whole.as_slice(), sevens.as_slice())
-            && are_same(whole.as_slice(), ones.as_slice()),
-    )
+    let whole = groups(rt, alloc, text, 4096, above, by)?;
+    give_groups(rt, alloc, text, above, by, whole.as_slice())
 }
 
 // By the flag of the return few groups of all rows, which threads merge; by flag and status more
