@@ -25,7 +25,12 @@ fn key() -> Expr {
 }
 
 // One operator between two operands.
-fn operated(alloc: Global, first: Expr, operator: Arithmetic, operand: Expr) -> Result<Expr, Fail> {
+fn operated(
+    alloc: Global,
+    first: Expr,
+    operator: Arithmetic,
+    operand: Expr,
+) -> Result<Expr, AllocError> {
     let mut operations = Items::new(alloc);
     operations.push(Operation { operator, operand })?;
     let first = Boxed::new(alloc, first)?;
@@ -33,46 +38,51 @@ fn operated(alloc: Global, first: Expr, operator: Arithmetic, operand: Expr) -> 
 }
 
 // 1 / x
-fn inverse(alloc: Global, x: Expr) -> Result<Expr, Fail> {
+fn inverse(alloc: Global, x: Expr) -> Result<Expr, AllocError> {
     operated(alloc, number(1), Arithmetic::Divide, x)
 }
 
-fn compared(alloc: Global, comparison: Comparison, left: Expr, right: Expr) -> Result<Expr, Fail> {
+fn compared(
+    alloc: Global,
+    comparison: Comparison,
+    left: Expr,
+    right: Expr,
+) -> Result<Expr, AllocError> {
     let left = Boxed::new(alloc, left)?;
     let right = Boxed::new(alloc, right)?;
     Ok(Expr::Compare(comparison, left, right))
 }
 
-fn equal(alloc: Global, left: Expr, right: Expr) -> Result<Expr, Fail> {
+fn equal(alloc: Global, left: Expr, right: Expr) -> Result<Expr, AllocError> {
     compared(alloc, Comparison::Equal, left, right)
 }
 
-fn negated(alloc: Global, e: Expr) -> Result<Expr, Fail> {
+fn negated(alloc: Global, e: Expr) -> Result<Expr, AllocError> {
     let e = Boxed::new(alloc, e)?;
     Ok(Expr::Not(e))
 }
 
 // Both of two conditions.
-fn all_of(alloc: Global, first: Expr, second: Expr) -> Result<Expr, Fail> {
+fn all_of(alloc: Global, first: Expr, second: Expr) -> Result<Expr, AllocError> {
     let es = vec![in alloc; first, second]?;
     Ok(Expr::All(Items::from_vec(es)))
 }
 
 // 1 / x = 1
-fn inverse_is_one(alloc: Global, x: Expr) -> Result<Expr, Fail> {
+fn inverse_is_one(alloc: Global, x: Expr) -> Result<Expr, AllocError> {
     let inverse = inverse(alloc, x)?;
     equal(alloc, inverse, number(1))
 }
 
 // a = 3 and 1 / x = 1
-fn both(alloc: Global, a: Expr, x: Expr) -> Result<Expr, Fail> {
+fn both(alloc: Global, a: Expr, x: Expr) -> Result<Expr, AllocError> {
     let first = equal(alloc, a, number(3))?;
     let second = inverse_is_one(alloc, x)?;
     all_of(alloc, first, second)
 }
 
 // when .. then 1
-fn branches(alloc: Global, when: Expr) -> Result<Items<Branch>, Fail> {
+fn branches(alloc: Global, when: Expr) -> Result<Items<Branch>, AllocError> {
     let branches = vec![in alloc;
         Branch {
             when,
@@ -83,7 +93,7 @@ fn branches(alloc: Global, when: Expr) -> Result<Items<Branch>, Fail> {
 }
 
 // case when a = 3 then 1 else 2.50 end
-fn chosen(alloc: Global, a: Expr) -> Result<Expr, Fail> {
+fn chosen(alloc: Global, a: Expr) -> Result<Expr, AllocError> {
     let when = equal(alloc, a, number(3))?;
     let branches = branches(alloc, when)?;
     let cents = Scale::new(2);
@@ -92,14 +102,16 @@ fn chosen(alloc: Global, a: Expr) -> Result<Expr, Fail> {
 }
 
 // $1 like 'M%'
-fn begins_with_m(alloc: Global) -> Result<Expr, Fail> {
-    let pattern = Text::new(alloc, b"M%")?;
+fn begins_with_m(alloc: Global) -> Result<Expr, AllocError> {
+    let Ok(pattern) = Text::new(alloc, b"M%") else {
+        return Err(AllocError);
+    };
     let column = Boxed::new(alloc, Expr::Column(1))?;
     Ok(Expr::Like(column, pattern))
 }
 
 // not (3 = 3 and 1 / $0 = 1)
-fn negated_fault(alloc: Global) -> Result<Expr, Fail> {
+fn negated_fault(alloc: Global) -> Result<Expr, AllocError> {
     let e = both(alloc, number(3), key())?;
     negated(alloc, e)
 }
@@ -109,7 +121,7 @@ const KINDS: u32 = 8;
 
 // An expression of each kind: a column, one past the row, a quotient, a comparison, a pattern, a
 // choice, and a condition with a fault, also negated.
-fn of_kind(alloc: Global, kind: u32) -> Result<Expr, Fail> {
+fn of_kind(alloc: Global, kind: u32) -> Result<Expr, AllocError> {
     match kind {
         0 => Ok(key()),
         1 => Ok(Expr::Column(9)),
@@ -211,10 +223,9 @@ fn agrees(alloc: Global, e: &Expr, rows: &Batch) -> Result<bool, AllocError> {
 }
 
 // Whether they are for an expression of this kind.
-fn kind_agrees(alloc: Global, kind: u32, rows: &Batch) -> Result<bool, Fail> {
+fn kind_agrees(alloc: Global, kind: u32, rows: &Batch) -> Result<bool, AllocError> {
     let e = of_kind(alloc, kind)?;
-    let good = agrees(alloc, &e, rows)?;
-    Ok(good)
+    agrees(alloc, &e, rows)
 }
 
 #[test]
@@ -240,37 +251,41 @@ fn truth_over_three(alloc: Global, e: &Expr) -> Result<Truth, AllocError> {
     truth(alloc, e, &row)
 }
 
+// The value over it of this number, the operator and the column.
+fn computed(alloc: Global, n: i128, operator: Arithmetic) -> Result<Value, AllocError> {
+    let e = operated(alloc, number(n), operator, key())?;
+    value_over_three(alloc, &e)
+}
+
+// The truth over it of `a = 3 and 1 / 0 = 1`.
+fn decided(alloc: Global, a: Expr) -> Result<Truth, AllocError> {
+    let e = both(alloc, a, number(0))?;
+    truth_over_three(alloc, &e)
+}
+
 #[test]
 fn computes_over_a_row(rt: HostRuntime) -> Result<(), Fail> {
-    let alloc = rt.alloc();
-    let quotient = operated(alloc, number(2), Arithmetic::Divide, key())?;
-    let wanted = Value::Number(Scale::new(6), 666_667);
-    assert!(rt; value_over_three(alloc, &quotient)? == wanted);
+    let quotient = computed(rt.alloc(), 2, Arithmetic::Divide)?;
+    assert!(rt; quotient == Value::Number(Scale::new(6), 666_667));
     Ok(())
 }
 
 #[test]
 fn computes_past_the_range(rt: HostRuntime) -> Result<(), Fail> {
-    let alloc = rt.alloc();
-    let sum = operated(alloc, number(MOST), Arithmetic::Add, key())?;
-    let wanted = Value::Fault(Fault::NumberRange);
-    assert!(rt; value_over_three(alloc, &sum)? == wanted);
+    let sum = computed(rt.alloc(), MOST, Arithmetic::Add)?;
+    assert!(rt; sum == Value::Fault(Fault::NumberRange));
     Ok(())
 }
 
 #[test]
 fn decides_over_a_row(rt: HostRuntime) -> Result<(), Fail> {
-    let alloc = rt.alloc();
-    let faulty = both(alloc, key(), number(0))?;
     let wanted = Truth::Stands(Standing::AtFault(Fault::DivideByZero));
-    assert!(rt; truth_over_three(alloc, &faulty)? == wanted);
+    assert!(rt; decided(rt.alloc(), key())? == wanted);
     Ok(())
 }
 
 #[test]
 fn hides_a_fault(rt: HostRuntime) -> Result<(), Fail> {
-    let alloc = rt.alloc();
-    let hidden = both(alloc, number(4), number(0))?;
-    assert!(rt; truth_over_three(alloc, &hidden)? == Truth::False);
+    assert!(rt; decided(rt.alloc(), number(4))? == Truth::False);
     Ok(())
 }
