@@ -16,7 +16,7 @@ use Rattle.store_state.proofs.VersionSteps.{taken-append}
 use Rattle.app_inputs.specs.Inputs.{BadInput}
 use Rattle.app_inputs.specs.declared.input_error.InputFault.{InputFault}
 use Rattle.app_inputs.specs.declared.input_error.InputFault.TheVariants as fault
-use Rattle.app_run.specs.Journals.{FileKeeps, IsFirstRefusedEntry, IsJournalFault, IsKept, IsToldFor, MayBeJournalFault, Named}
+use Rattle.app_jobs.specs.Journals.{FileKeeps, IsFirstRefusedEntry, IsJournalFault, IsKept, IsToldFor, MayBeJournalFault, Named}
 use Rattle.app_run.proofs.OneWork.{AreAlike}
 
 -- readable refreshes with the same spellings are the same

@@ -1,0 +1,11 @@
+mod OnTheWay
+pub mod Orders
+mod Taken
+mod KeptFed
+mod KeptRun
+mod KeptWhole
+mod KeptPlayed
+mod KeptJoined
+mod KeptSent
+mod Reached
+mod NextVersions
