@@ -9,3 +9,5 @@ mod KeptJoined
 mod KeptSent
 mod Reached
 mod NextVersions
+pub mod KeptOnce
+mod NextRun

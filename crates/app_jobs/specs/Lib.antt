@@ -10,3 +10,4 @@ pub mod Opened
 pub mod OpenedSent
 pub mod Senders
 pub mod Receivers
+pub mod Laws

@@ -5,6 +5,7 @@
 mod journal;
 mod kept;
 mod kept_senders;
+pub mod laws;
 mod plain;
 mod senders;
 mod sources;

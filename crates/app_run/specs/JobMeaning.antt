@@ -12,6 +12,7 @@ use Rattle.app_inputs.specs.JobFile.{job_in}
 use Rattle.app_job_file.specs.Files.{JobParts}
 use Rattle.app_run.specs.JobInputs.{AreJobFiles, AreJobInputs}
 use Rattle.app_jobs.specs.Works.{JobWork}
+use Rattle.app_jobs.specs.JobTexts.{IsTextInOrder}
 use Rattle.app_jobs.specs.Journals.{IsToldFor, Named}
 use Rattle.app_inputs.specs.Printing.{PrintsOf}
 use Rattle.app_inputs.specs.declared.status.Status.{Status}

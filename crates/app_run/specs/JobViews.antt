@@ -27,6 +27,7 @@ use Rattle.app_inputs.specs.declared.input_error.InputError.TheVariants as error
 use Rattle.app_inputs.specs.declared.input_error.InputFault.TheVariants as fault
 use Rattle.app_inputs.specs.declared.input_error.ReadError.TheVariants as read
 use Rattle.app_inputs.specs.declared.status.Status.{Status}
+use Rattle.app_jobs.specs.Sources.{IsKeepable, IsRunnable}
 use Rattle.app_jobs.specs.declared.sources.JobSources.{JobSources}
 
 -- each session prints rows, or none does
