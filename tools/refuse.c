@@ -1,5 +1,6 @@
 // A library for LD_PRELOAD that makes one call of a program fail, for tools/hostile. The environment says which:
-// REFUSE_GROWTH=N the Nth call that asks for memory, REFUSE_CALL=N the Nth open, read or write, counted from 1.
+// REFUSE_GROWTH=N the Nth call that asks for memory, REFUSE_CALL=N the Nth open, read or write, REFUSE_SYNC=N the Nth sync of a
+// file or a folder, each counted from 1.
 // REFUSE_SHORT=1 has each read and write move one byte. REFUSE_COUNTS=FILE gets both counts when the program ends.
 // A call that is to fail is asked of no other library, so the program sees what a full machine or a broken disk gives.
 #define _GNU_SOURCE
@@ -12,7 +13,7 @@
 #include <sys/syscall.h>
 #include <unistd.h>
 
-static unsigned long growths, calls, refused_growth, refused_call;
+static unsigned long growths, calls, syncs, refused_growth, refused_call, refused_sync;
 static int is_short, is_ready;
 static const char *counts;
 
@@ -25,6 +26,7 @@ static unsigned long number_of(const char *name) {
 __attribute__((constructor)) static void begin(void) {
     refused_growth = number_of("REFUSE_GROWTH");
     refused_call = number_of("REFUSE_CALL");
+    refused_sync = number_of("REFUSE_SYNC");
     is_short = number_of("REFUSE_SHORT") != 0;
     counts = getenv("REFUSE_COUNTS");
     is_ready = 1;
@@ -61,6 +63,11 @@ static int is_refused(unsigned long *count, unsigned long refused) {
     }
 #define NO_CALL                                \
     if (is_refused(&calls, refused_call)) {    \
+        errno = EIO;                           \
+        return -1;                             \
+    }
+#define NO_SYNC                                \
+    if (is_refused(&syncs, refused_sync)) {    \
         errno = EIO;                           \
         return -1;                             \
     }
@@ -110,6 +117,16 @@ ssize_t __read(int file, void *into, size_t size) {
 
 ssize_t __write(int file, const void *from, size_t size) {
     return write(file, from, size);
+}
+
+int fsync(int file) {
+    NO_SYNC
+    return REAL(int, fsync, int)(file);
+}
+
+int fdatasync(int file) {
+    NO_SYNC
+    return REAL(int, fdatasync, int)(file);
 }
 
 static mode_t mode_of(int flags, va_list rest) {

@@ -11,7 +11,8 @@ use Rattle.base_schema.specs.State.{State, table_rows}
 use Rattle.base_schema.specs.Tables.{all_tables}
 use Rattle.base_schema.specs.declared.table.TableName.{TableName}
 use Rattle.base_schema.specs.declared.table.TableName.TheVariants as table
-use Rattle.app_run.specs.SessionInputs.{AreInputs, AreSteps, Work, work_of}
+use Rattle.app_run.specs.SessionInputs.{AreInputs, AreSteps, work_of}
+use Rattle.app_jobs.specs.Works.{Work}
 use Rattle.app_inputs.specs.Inputs.{BadInput, and_then, lists_in, refreshes_in, state_in, table_in}
 use Rattle.app_run.specs.Laws.{SessionAcceptedLaw, TablesAcceptedLaw}
 

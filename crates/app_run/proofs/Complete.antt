@@ -10,12 +10,12 @@ use Rattle.app_sessions.specs.Sessions.{are_clean}
 use Rattle.sql_ast.specs.declared.statement.Statement.{Statement}
 use Rattle.base_io.specs.Outside.{Folder}
 use Rattle.app_inputs.specs.Inputs.{BadInput, state_in}
-use Rattle.app_run.specs.SessionInputs.{Work}
+use Rattle.app_jobs.specs.Works.{Work}
 use Rattle.app_run.specs.Meaning.{IsAccepted, MeansCheck, MeansSession, Prints}
 use Rattle.app_inputs.specs.Printing.{IsAnswer, IsDone, PrintsOf}
 use Rattle.app_run.specs.ScriptPlans.{MeansExplained}
-use Rattle.app_run.specs.Turns.{first_trials, moments, session_status}
-use Rattle.app_run.specs.JobInputs.{JobWork}
+use Rattle.app_jobs.specs.Turns.{first_trials, moments, session_status}
+use Rattle.app_jobs.specs.Works.{JobWork}
 use Rattle.app_run.specs.JobMeaning.{DiskTold, MeansJob}
 use Rattle.app_run.specs.Trial.{IsTrialAccepted, PrintsTrial, trial_files}
 use Rattle.app_inputs.specs.Words.{Command}

@@ -8,9 +8,10 @@ use Rattle.sql_ast.specs.declared.statement.Statement.{Statement}
 use Rattle.base_io.specs.Outside.{Folder, file_of}
 use Rattle.app_run.specs.SessionInputs.{AreSteps}
 use Rattle.app_inputs.specs.Inputs.{BadInput, and_then, file_bytes, script_limit}
-use Rattle.app_run.specs.JobInputs.{AreJobFiles, AreJobInputs, AreJobScripts, Follows, HasNoRefresh, IsJobScript, IsPlain, IsWorkOver, JobWork, is_refresh, job_base, job_work, with_kept}
+use Rattle.app_run.specs.JobInputs.{AreJobFiles, AreJobInputs, AreJobScripts, Follows, HasNoRefresh, IsJobScript, IsPlain, IsWorkOver, is_refresh, job_base, job_work}
+use Rattle.app_jobs.specs.Works.{JobWork, with_kept}
 use Rattle.app_run.specs.JobMeaning.{IsDiskTold, NamesNoJournal, NeedsNoDisk}
-use Rattle.app_run.specs.Journals.{IsKept, IsToldFor, Named}
+use Rattle.app_jobs.specs.Journals.{IsKept, IsToldFor, Named}
 use Rattle.app_run.proofs.KeptAlike.{kept_alike, kept_not_absent}
 use Rattle.base_schema.specs.State.{State}
 use Rattle.store_state.specs.Refresh.{Change}

@@ -7,7 +7,8 @@ use Rattle.sql_ast.specs.declared.statement.Statement.{Statement}
 use Rattle.store_state.specs.Refresh.{Change}
 use Rattle.base_io.specs.Outside.{Folder, file_of}
 use Rattle.base_schema.specs.State.{State}
-use Rattle.app_run.specs.JobInputs.{AreJobFiles, AreJobScripts, JobWork, job_base}
+use Rattle.app_run.specs.JobInputs.{AreJobFiles, AreJobScripts, job_base}
+use Rattle.app_jobs.specs.Works.{JobWork}
 use Rattle.app_inputs.specs.JobFile.{job_in}
 use Rattle.app_inputs.specs.Views.{Explains, Finds, IfKnown, refused_view}
 use Rattle.app_inputs.specs.declared.input_error.InputError.{InputError}

@@ -15,10 +15,11 @@ use Rattle.app_inputs.specs.declared.input_error.InputError.TheVariants as error
 use Rattle.app_inputs.specs.declared.input_error.InputFault.{InputFault}
 use Rattle.app_inputs.specs.declared.input_error.InputFault.TheVariants as fault
 use Rattle.app_inputs.specs.declared.status.Status.{Status}
-use Rattle.app_run.specs.JobInputs.{AreJobFiles, AreJobInputs, JobWork, kept_under, with_kept}
+use Rattle.app_run.specs.JobInputs.{AreJobFiles, AreJobInputs}
+use Rattle.app_jobs.specs.Works.{JobWork, kept_under, with_kept}
 use Rattle.app_run.specs.JobMeaning.{DiskTold, MeansJob, NeedsNoDisk}
 use Rattle.app_run.specs.JobViews.{IsOfBytes, IsOutputOfJob, IsOutputOver}
-use Rattle.app_run.specs.Journals.{IsKept, Named}
+use Rattle.app_jobs.specs.Journals.{IsKept, Named}
 use Rattle.app_run.specs.declared.output.Output.{Output}
 use Rattle.app_run.specs.declared.output.Output.TheVariants as output
 use Rattle.app_run.proofs.Complete.{job_done}

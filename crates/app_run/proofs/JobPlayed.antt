@@ -13,11 +13,14 @@ use Rattle.store_state.specs.Refresh.{Change}
 use Rattle.base_io.specs.Outside.{Folder, file_of}
 use Rattle.base_schema.specs.State.{State}
 use Rattle.app_inputs.specs.Inputs.{BadInput, and_then}
-use Rattle.app_run.specs.JobInputs.{AreJobFiles, AreJobScripts, JobWork, job_base, job_work}
+use Rattle.app_run.specs.JobInputs.{AreJobFiles, AreJobScripts, job_base, job_work}
+use Rattle.app_jobs.specs.Works.{JobWork}
 use Rattle.app_inputs.specs.JobFile.{job_in}
-use Rattle.app_run.specs.JobMeaning.{IsTextInOrder, MeansJob, session_with}
-use Rattle.app_run.specs.JobViews.{ShowRows, steps_of, work_view}
-use Rattle.app_run.specs.declared.job_sources.JobSources.{JobSources}
+use Rattle.app_run.specs.JobMeaning.{MeansJob, session_with}
+use Rattle.app_jobs.specs.JobTexts.{IsTextInOrder}
+use Rattle.app_run.specs.JobViews.{ShowRows}
+use Rattle.app_jobs.specs.Sources.{steps_of, work_view}
+use Rattle.app_jobs.specs.declared.sources.JobSources.{JobSources}
 use Rattle.app_inputs.specs.declared.status.Status.{Status}
 use Rattle.app_inputs.specs.declared.status.Status.TheVariants.{Done, SomeRefused}
 

@@ -12,7 +12,8 @@ use Rattle.base_io.specs.Outside.{Folder}
 use Rattle.app_run.specs.SessionInputs.{AreSteps}
 use Rattle.app_inputs.specs.Inputs.{BadInput, file_bytes, script_limit}
 use Rattle.app_run.specs.JobInputs.{HasNoRefresh, IsJobScript, IsPlain, is_refresh}
-use Rattle.app_run.specs.JobViews.{IsSessionOf, IsSessionOfBytes, IsStepsOf, steps_of}
+use Rattle.app_run.specs.JobViews.{IsSessionOf, IsSessionOfBytes, IsStepsOf}
+use Rattle.app_jobs.specs.Sources.{steps_of}
 use Rattle.app_inputs.specs.Views.{Explains, Finds, IfKnown, Refuses, refused_view}
 use Rattle.app_inputs.specs.declared.input_error.InputError.{InputError}
 use Rattle.app_inputs.specs.declared.input_error.InputError.TheVariants as error

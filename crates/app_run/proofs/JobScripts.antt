@@ -3,7 +3,8 @@ use Rattle.std.proofs.Common.{◌≡◌, ◌∙◌, ℕ, ◌+◌, ◌<◌, ◌�
 use Rattle.std.proofs.lemmas.List.{drop_all, map-append}
 use Rattle.app_sessions.specs.Asked.{AllUnasked, IsUnasked}
 use Rattle.app_sessions.specs.declared.session.Session.{Session}
-use Rattle.app_run.specs.JobViews.{ShowRows, steps_of}
+use Rattle.app_run.specs.JobViews.{ShowRows}
+use Rattle.app_jobs.specs.Sources.{steps_of}
 use Rattle.std.specs.declared.result.Result.{Result}
 use Rattle.std.specs.declared.result.Result.TheVariants.{Ok, Err}
 use Rattle.sql_ast.specs.declared.statement.Statement.{Statement}

@@ -5,19 +5,9 @@ mod Accepted
 mod WorkedExamples
 mod OneWork
 mod Works
-mod OnTheWay
 mod OneText
-mod Orders
-mod Taken
 mod JobScripts
 mod KeptAlike
-mod KeptFed
-mod KeptRun
-mod KeptWhole
-mod KeptPlayed
-mod KeptJoined
-mod KeptSent
-mod Reached
 mod JobAlike
 mod JobPlayed
 mod JobOver
@@ -25,4 +15,4 @@ mod JobReading
 mod JobHeld
 mod TrialFiles
 mod ScriptFaults
-mod NextVersions
+mod UnsentOrders

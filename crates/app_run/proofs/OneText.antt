@@ -5,12 +5,13 @@ use Rattle.std.specs.declared.result.Result.{Result}
 use Rattle.std.specs.declared.result.Result.TheVariants.{Ok, Err}
 use Rattle.base_io.specs.Outside.{Folder}
 use Rattle.base_schema.specs.State.{State}
-use Rattle.app_run.specs.SessionInputs.{AreInputs, Work}
+use Rattle.app_run.specs.SessionInputs.{AreInputs}
+use Rattle.app_jobs.specs.Works.{Work}
 use Rattle.app_inputs.specs.Inputs.{BadInput, state_in}
 use Rattle.app_run.specs.Laws.{TextLaw}
 use Rattle.app_run.specs.Meaning.{MeansCheck, MeansSession}
 use Rattle.app_inputs.specs.Printing.{PrintsOf}
-use Rattle.app_run.specs.Turns.{session_status, session_text}
+use Rattle.app_jobs.specs.Turns.{session_status, session_text}
 use Rattle.app_inputs.specs.Words.Command.{check, explain, session, throughput, trial}
 use Rattle.app_inputs.specs.declared.input_error.InputFault.TheVariants as fault
 use Rattle.app_inputs.specs.declared.status.Status.{Status}

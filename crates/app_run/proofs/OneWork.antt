@@ -7,7 +7,8 @@ use Rattle.app_sessions.specs.Expansion.{ExpandAll, ExpandsText, run_text}
 use Rattle.sql_ast.specs.declared.statement.Statement.{Statement}
 use Rattle.sql_parser.proofs.Whole.{bytes_once, read_or_refused}
 use Rattle.base_io.specs.Outside.{Folder}
-use Rattle.app_run.specs.SessionInputs.{AreInputs, AreSteps, ExpandsTo, Work, work_of}
+use Rattle.app_run.specs.SessionInputs.{AreInputs, AreSteps, ExpandsTo, work_of}
+use Rattle.app_jobs.specs.Works.{Work}
 use Rattle.app_inputs.specs.Inputs.{BadInput, IsScriptOf, and_then, file_bytes, script_limit}
 use Rattle.app_inputs.specs.declared.input_error.InputFault.TheVariants as fault
 

@@ -7,7 +7,8 @@ use Rattle.std.specs.declared.result.Result.TheVariants.{Ok, Err}
 use Rattle.base_io.specs.Outside.{Folder}
 use Rattle.base_schema.specs.State.{State}
 use Rattle.app_sessions.specs.Counts.{counts_text}
-use Rattle.app_run.specs.SessionInputs.{AreInputs, Work}
+use Rattle.app_run.specs.SessionInputs.{AreInputs}
+use Rattle.app_jobs.specs.Works.{Work}
 use Rattle.app_inputs.specs.Inputs.{BadInput, refusal_line, state_in}
 use Rattle.app_run.specs.Meaning.{IsAbsentInput, IsFirstRefused, MeansCheck, MeansSession, Prints, PrintsFrom}
 use Rattle.app_inputs.specs.Printing.{IsAnswer, IsDone, PrintsOf}

@@ -9,7 +9,7 @@ use Rattle.app_sample_data.specs.Texts.{named}
 use Rattle.app_sample_data.specs.declared.text.NamedText.{NamedText}
 use Rattle.base_io.specs.Outside.{Folder}
 use Rattle.app_inputs.specs.Inputs.{BadInput, refusal_line}
-use Rattle.app_run.specs.JobInputs.{JobWork}
+use Rattle.app_jobs.specs.Works.{JobWork}
 use Rattle.app_run.specs.JobMeaning.{DiskTold, IsFirstOfJob, MeansJob, NamesNoJournal, PrintsJob}
 use Rattle.app_inputs.specs.Printing.{PrintsOf}
 use Rattle.app_inputs.specs.JobFile.{job_in}

@@ -4,7 +4,8 @@ use Rattle.std.specs.declared.result.Result.TheVariants.{Ok, Err}
 use Rattle.app_sessions.specs.Expansion.{ExpandAll}
 use Rattle.sql_ast.specs.declared.statement.Statement.{Statement}
 use Rattle.base_io.specs.Outside.{Folder}
-use Rattle.app_run.specs.SessionInputs.{AreSteps, Work, work_of}
+use Rattle.app_run.specs.SessionInputs.{AreSteps, work_of}
+use Rattle.app_jobs.specs.Works.{Work}
 use Rattle.app_inputs.specs.Inputs.{IsScriptOf, file_bytes, script_limit}
 use Rattle.app_run.specs.JobMeaning.{DiskTold}
 use Rattle.app_run.specs.Meaning.{MeansSession, Prints}

@@ -9,8 +9,8 @@ use Rattle.app_sessions.specs.Counts.{counts_text}
 use Rattle.store_gateway.specs.declared.message.SenderId.{SenderId}
 use Rattle.store_gateway.specs.declared.message.SenderId.TheVariants.{First, Second}
 use Rattle.store_state.specs.Refresh.{Change}
-use Rattle.app_run.specs.JobInputs.{JobWork}
-use Rattle.app_run.specs.JobOrders.{IsJobOrder}
+use Rattle.app_jobs.specs.Works.{JobWork}
+use Rattle.app_jobs.specs.JobOrders.{IsJobOrder}
 use Rattle.app_run.specs.SessionInputs.{AreInputs}
 use Rattle.app_inputs.specs.Inputs.{BadInput, refusal_line, state_in}
 use Rattle.app_inputs.specs.declared.input_error.InputFault.{InputFault}

@@ -1,6 +1,6 @@
 -- What the files of a job and its journal hold, and which of them is refused first.
 use Rattle.std.specs.Prelude.{◌≡◌, ℕ, Bool, true, false, List, [], ◌∷◌, length}
-use Rattle.std.specs.Prelude.{if◌then◌else◌, Option, Some}
+use Rattle.std.specs.Prelude.{if◌then◌else◌}
 use Rattle.std.specs.List.{list_any}
 use Rattle.std.specs.declared.result.Result.{Result}
 use Rattle.std.specs.declared.result.Result.TheVariants.{Ok, Err}
@@ -12,12 +12,13 @@ use Rattle.sql_lexer.specs.Kinds.{is}
 use Rattle.sql_lexer.specs.Lexing.{Lexes}
 use Rattle.sql_lexer.specs.declared.kind.Kind.TheVariants as kind
 use Rattle.sql_lexer.specs.declared.token.Token.{Token}
-use Rattle.store_gateway.specs.declared.message.SenderId.{SenderId}
 use Rattle.store_state.specs.Refresh.{Change}
 use Rattle.base_io.specs.Outside.{Folder, file_of}
 use Rattle.base_schema.specs.State.{State}
-use Rattle.app_run.specs.Journals.{IsKept, Named}
+use Rattle.app_jobs.specs.Journals.{IsKept, Named}
 use Rattle.app_run.specs.SessionInputs.{AreSteps}
+pub use Rattle.app_jobs.specs.Works.{JobWork}
+use Rattle.app_jobs.specs.Works.{with_kept}
 use Rattle.app_inputs.specs.Inputs.{BadInput, and_then, changes_in, file_bytes}
 use Rattle.app_inputs.specs.Inputs.{script_limit}
 use Rattle.app_inputs.specs.Inputs.{state_in}
@@ -76,19 +77,6 @@ AreJobScripts folder (name ∷ names) scripts =
     × AreJobScripts folder names more
     × (result ≡ and_then more (λ others. Ok (steps ∷ others)))) scripts
 
--- What a job works on: the statements that the scripts of its sessions stand for; the tables; its
--- refreshes, in the order of its lines; how many of these are tried before the sessions; who sends
--- each of the others, or nobody where they are tried in their order; the name of its journal's file,
--- if it has one; and what that keeps, which is done before the job begins.
-pub record JobWork : Type 0 where
-  pub scripts : List (List Statement)
-  pub base : State
-  pub list : List Change
-  pub before : ℕ
-  pub senders : List SenderId
-  pub journal : Option (List ℕ)
-  pub kept : List Change
-
 -- the tables of a folder and these refreshes
 abbrev pub job_base : List ℕ → List Mention → Folder → Result (State × List Change) BadInput
 job_base dir refreshes folder = and_then (state_in dir folder)
@@ -106,14 +94,6 @@ job_work dir folder parts scripts = and_then (job_base dir parts.refreshes folde
       journal = parts.journal;
       kept = [];
     }))
-
--- a job's work with what its journal keeps
-abbrev pub with_kept : JobWork → List Change → JobWork
-with_kept work kept = record work { kept = kept }
-
--- the same of a journal of that name
-abbrev pub kept_under : JobWork → List ℕ → List Change → JobWork
-kept_under work name kept = record work { journal = Some name; kept = kept }
 
 -- a job's work over a disk, or why there is none
 abbrev pub IsWorkOver : Named → JobWork → Result JobWork BadInput → Type 0

@@ -1,22 +1,19 @@
 -- What a job prints.
-use Rattle.std.specs.Prelude.{◌≡◌, ◌++◌, Bool, ℕ, List, length, map, Option, None, Some}
+use Rattle.std.specs.Prelude.{◌≡◌, Bool, ℕ, List, map, Option, None, Some}
 use Rattle.std.specs.Prelude.{if◌then◌else◌}
 use Rattle.std.specs.Result.{result_err}
 use Rattle.std.specs.declared.result.Result.{Result}
 use Rattle.std.specs.declared.result.Result.TheVariants.{Ok}
-use Rattle.app_sessions.specs.Jobs.{IsOrderText, JobAnswer, JobSession}
-use Rattle.app_sessions.specs.Orders.{RefreshOrder, changes_of}
+use Rattle.app_sessions.specs.Jobs.{JobAnswer, JobSession}
 use Rattle.sql_ast.specs.declared.statement.Statement.{Statement}
 use Rattle.base_io.specs.Outside.{Folder, file_of}
 use Rattle.app_inputs.specs.Inputs.{BadInput}
 use Rattle.app_inputs.specs.JobFile.{job_in}
 use Rattle.app_job_file.specs.Files.{JobParts}
-use Rattle.app_run.specs.JobInputs.{AreJobFiles, AreJobInputs, JobWork}
-use Rattle.app_run.specs.JobOrders.{IsJobOrder}
-use Rattle.app_run.specs.Journals.{HoldsThen, IsToldFor, Named}
-use Rattle.store_snapshots.specs.Turns.{from_nobody}
-use Rattle.store_state.specs.Refresh.{Change}
-use Rattle.store_state.specs.Versions.{taken}
+use Rattle.app_run.specs.JobInputs.{AreJobFiles, AreJobInputs}
+use Rattle.app_jobs.specs.Works.{JobWork}
+use Rattle.app_jobs.specs.JobTexts.{IsTextInOrder}
+use Rattle.app_jobs.specs.Journals.{IsToldFor, Named}
 use Rattle.app_inputs.specs.Printing.{PrintsOf}
 use Rattle.app_inputs.specs.declared.status.Status.{Status}
 use Rattle.app_inputs.specs.declared.status.Status.TheVariants.{Done, SomeRefused}
@@ -24,21 +21,6 @@ use Rattle.app_inputs.specs.declared.status.Status.TheVariants.{Done, SomeRefuse
 -- a session of a job with rows or without
 abbrev pub session_with : Bool → List Statement → JobSession
 session_with shows_rows steps = record { steps = steps; shows_rows = shows_rows }
-
--- all refreshes of a job that are tried in this order, behind those that its journal keeps
-abbrev pub whole_list : JobWork → RefreshOrder → List Change
-whole_list work order = work.kept ++ changes_of order
-
--- The text of these sessions beside the refreshes of a job, for the order of the refreshes and the
--- versions that the run chose. Those that its journal keeps are done before, and in the end it holds
--- all accepted ones.
-pub record IsTextInOrder (work : JobWork) (journal_then : Option (List ℕ))
-    (sessions : List JobSession) (job : JobAnswer) : Type 0 where
-  pub order : RefreshOrder
-  pub allowed : IsJobOrder work order
-  pub text : IsOrderText work.base (from_nobody work.kept ++ order) (length work.kept) work.before
-      sessions job
-  pub stored : HoldsThen work.journal (taken work.base (whole_list work order)) journal_then
 
 -- What is told of a disk: what a read of each name gave before the run, and what a read of the file
 -- reached gives after it.

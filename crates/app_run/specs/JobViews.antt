@@ -1,13 +1,11 @@
 -- What the code's values of a job stand for.
-use Rattle.std.specs.Prelude.{◌≡◌, ◌≢◌, ⊤, ℕ, ◌+◌, ◌<◌, ◌≤◌, Bool, false, List, length, map}
+use Rattle.std.specs.Prelude.{◌≡◌, ◌≢◌, ⊤, ℕ, ◌<◌, Bool, false, List, length}
 use Rattle.std.specs.Prelude.{slice_index_or}
-use Rattle.std.specs.Prelude.{[], Option, Some, option_map}
+use Rattle.std.specs.Prelude.{Option, Some}
 use Rattle.std.specs.Global.{Vec}
-use Rattle.std.specs.List.{AllByRecursion, list_any}
-use Rattle.std.specs.String.{string_bytes}
+use Rattle.std.specs.List.{list_any}
 use Rattle.std.specs.declared.result.Result.{Result}
 use Rattle.std.specs.declared.result.Result.TheVariants.{Ok, Err}
-use Rattle.app_job_file.specs.Files.{most_refreshes, most_sessions}
 use Rattle.app_sessions.specs.Expansion.{ExpandAll}
 use Rattle.app_sessions.specs.declared.session.Session.{Session}
 use Rattle.sql_ast.specs.declared.statement.Statement.{Statement}
@@ -16,25 +14,21 @@ use Rattle.base_io.specs.Outside.{Folder}
 use Rattle.base_schema.specs.State.{State}
 use Rattle.app_inputs.specs.Inputs.{BadInput, IsRead}
 use Rattle.app_run.specs.SessionInputs.{ExpandsTo}
-use Rattle.app_run.specs.JobInputs.{HasNoRefresh, IsPlain, JobWork, is_refresh, kept_under}
-use Rattle.app_run.specs.Journals.{IsKept, Named}
+use Rattle.app_run.specs.JobInputs.{HasNoRefresh, IsPlain, is_refresh}
+use Rattle.app_jobs.specs.Works.{JobWork, kept_under}
+use Rattle.app_jobs.specs.Journals.{IsKept, Named}
 use Rattle.app_run.specs.JobMeaning.{DiskTold, IsFirstOfJob, MeansJob, PrintsJob}
 use Rattle.app_run.specs.declared.output.Output.{Output}
 use Rattle.app_run.specs.declared.output.Output.TheVariants as output
 use Rattle.app_inputs.specs.Printing.{IsDone}
-use Rattle.store_refresh_entries.specs.Change.{MayBeStored}
 use Rattle.app_inputs.specs.Views.{IfKnown, refused_view}
 use Rattle.app_inputs.specs.declared.input_error.InputError.{InputError}
 use Rattle.app_inputs.specs.declared.input_error.InputError.TheVariants as error
 use Rattle.app_inputs.specs.declared.input_error.InputFault.TheVariants as fault
 use Rattle.app_inputs.specs.declared.input_error.ReadError.TheVariants as read
 use Rattle.app_inputs.specs.declared.status.Status.{Status}
-use Rattle.app_run.specs.declared.job_sources.JobSources.{JobSources}
-use Rattle.app_sessions.specs.Asked.{AllUnasked}
-
--- the statements of a session
-abbrev pub steps_of : Session → List Statement
-steps_of session = session.steps
+use Rattle.app_jobs.specs.Sources.{IsKeepable, IsRunnable}
+use Rattle.app_jobs.specs.declared.sources.JobSources.{JobSources}
 
 -- each session prints rows, or none does
 abbrev pub ShowRows : Bool → List Session → Type 0
@@ -76,35 +70,6 @@ IsSessionOfBytes name bytes (Err (error.Refused refusal)) =
 -- tables and refreshes
 abbrev pub base_view : State × Vec Change → State × List Change
 base_view read = (read.0, read.1.items)
-
--- what a job works on
-abbrev pub work_view : JobSources → JobWork
-work_view sources = record {
-  scripts = map steps_of sources.sessions.items;
-  base = sources.base;
-  list = sources.list.items;
-  before = sources.before;
-  senders = sources.senders.items;
-  journal = option_map string_bytes sources.journal;
-  kept = [];
-}
-
--- A job that can be run: it has sessions, not too many, which are at their beginning, not too many
--- refreshes, and no more before the sessions than it has. Where some beside them are sent, all
--- beside them are.
-pub record IsRunnable (sources : JobSources) : Type 0 where
-  pub some : 0 < length sources.sessions.items
-  pub few : length sources.sessions.items ≤ most_sessions
-  pub unasked : AllUnasked sources.sessions.items
-  pub refreshes : length sources.list.items ≤ most_refreshes
-  pub places : sources.before + length sources.senders.items ≤ length sources.list.items
-  pub all :
-      0 < length sources.senders.items
-      → sources.before + length sources.senders.items ≡ length sources.list.items
-
--- its refreshes may come to be stored in a journal
-abbrev pub IsKeepable : JobSources → Type 0
-IsKeepable sources = AllByRecursion MayBeStored sources.list.items
 
 -- the same, and each session prints rows, or none does
 pub record IsPlayable (shows_rows : Bool) (sources : JobSources) : Type 0 where

@@ -7,9 +7,11 @@ use Rattle.base_schema.specs.State.{State, table_rows}
 use Rattle.base_schema.specs.Tables.{all_tables}
 use Rattle.base_schema.specs.declared.table.TableName.{TableName}
 use Rattle.app_sessions.specs.Jobs.{IsJobText, JobAnswer, JobSession}
-use Rattle.app_run.specs.JobInputs.{JobWork}
-use Rattle.app_run.specs.JobMeaning.{DiskTold, IsTextInOrder}
-use Rattle.app_run.specs.SessionInputs.{AreInputs, AreSteps, Work}
+use Rattle.app_jobs.specs.Works.{JobWork}
+use Rattle.app_run.specs.JobMeaning.{DiskTold}
+use Rattle.app_jobs.specs.JobTexts.{IsTextInOrder}
+use Rattle.app_run.specs.SessionInputs.{AreInputs, AreSteps}
+use Rattle.app_jobs.specs.Works.{Work}
 use Rattle.app_inputs.specs.Inputs.{BadInput, refreshes_in, state_in}
 use Rattle.app_inputs.specs.Inputs.{table_in}
 use Rattle.app_run.specs.Meaning.{IsAccepted, Prints}

@@ -1,15 +1,7 @@
+pub use Rattle.app_jobs.specs.Journals
 pub mod SessionInputs
-pub mod Turns
-pub mod NextVersions
-pub mod Journals
 pub mod JobInputs
-pub mod JobOrders
 pub mod JobMeaning
-pub mod Reaching
-pub mod Opened
-pub mod OpenedSent
-pub mod Senders
-pub mod Receivers
 pub mod ScriptPlans
 pub mod Trial
 pub mod Meaning

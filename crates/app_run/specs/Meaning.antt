@@ -7,13 +7,14 @@ use Rattle.std.specs.declared.result.Result.TheVariants.{Ok, Err}
 use Rattle.base_io.specs.Outside.{AppendsPart, Folder}
 use Rattle.base_schema.specs.State.{State}
 use Rattle.app_sessions.specs.Counts.{counts_text}
-use Rattle.app_run.specs.SessionInputs.{AreInputs, Work}
+use Rattle.app_run.specs.SessionInputs.{AreInputs}
+use Rattle.app_jobs.specs.Works.{Work}
 use Rattle.app_inputs.specs.Inputs.{BadInput, state_in}
 use Rattle.app_run.specs.JobMeaning.{DiskTold, IsDiskTold, IsFirstOfJob, NeedsNoDisk, PrintsJob}
-use Rattle.app_run.specs.Journals.{Named}
+use Rattle.app_jobs.specs.Journals.{Named}
 use Rattle.app_inputs.specs.Printing.{IsAnswer, PrintsOf}
 use Rattle.app_run.specs.ScriptPlans.{IsFirstOfExplained, PrintsExplained}
-use Rattle.app_run.specs.Turns.{session_status, session_text}
+use Rattle.app_jobs.specs.Turns.{session_status, session_text}
 use Rattle.app_run.specs.Trial.{IsTrialAccepted, PrintsTrial}
 use Rattle.app_inputs.specs.Words.{Command, usage_line}
 use Rattle.app_inputs.specs.Words.Command.{check, explain, session, throughput, trial}

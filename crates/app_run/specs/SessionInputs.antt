@@ -3,12 +3,11 @@ use Rattle.std.specs.Prelude.{◌≡◌, ℕ, List}
 use Rattle.std.specs.declared.result.Result.{Result}
 use Rattle.std.specs.declared.result.Result.TheVariants.{Ok, Err}
 use Rattle.sql_ast.specs.declared.statement.Statement.{Statement}
-use Rattle.store_state.specs.Refresh.{Change}
 use Rattle.base_io.specs.Outside.{Folder}
-use Rattle.base_schema.specs.State.{State}
 use Rattle.app_sessions.specs.Expansion.{ExpandAll}
 use Rattle.app_inputs.specs.Inputs.{BadInput, IsScriptOf, and_then, file_bytes, refreshes_in}
 use Rattle.app_inputs.specs.Inputs.{script_limit, state_in}
+use Rattle.app_jobs.specs.Works.{Work}
 
 -- the statements that a script stands for, where it is read
 abbrev pub ExpandsTo : Result (List Statement) BadInput → Result (List Statement) BadInput → Type 0
@@ -20,12 +19,6 @@ ExpandsTo (Err refused) steps = steps ≡ Err refused
 abbrev pub AreSteps : Folder → List ℕ → Result (List Statement) BadInput → Type 0
 AreSteps folder name steps = (read : Result (List Statement) BadInput)
     × IsScriptOf name (file_bytes script_limit folder name) read × ExpandsTo read steps
-
--- what a session works on: the statements that its script stands for, the tables, and its refreshes
-pub record Work : Type 0 where
-  pub steps : List Statement
-  pub base : State
-  pub list : List Change
 
 -- a session's tables and refreshes, once its script is read
 abbrev pub work_of : List ℕ → Folder → List Statement → Result Work BadInput

@@ -12,7 +12,7 @@ ghost use Rattle.app_run.specs.JobInputs.{AreJobScripts, IsJobScript, IsRefreshB
 ghost use Rattle.app_run.specs.JobInputs.{refresh_start};
 ghost use Rattle.app_run.specs.JobViews.{IsOfBytes, IsSessionOf, IsSessionOfBytes};
 ghost use Rattle.app_run.specs.JobViews.{ShowRows};
-ghost use Rattle.app_run.specs.JobViews.{steps_of};
+ghost use Rattle.app_jobs.specs.Sources.{steps_of};
 ghost use Rattle.app_inputs.specs.Views.{Finds};
 
 use app_inputs::{InputError, InputFault, ReadError, read_file, refusal_of};

@@ -1,37 +1,20 @@
-//! What a job works on, and reading it.
+//! Reading what a job works on.
 ghost use Rattle.std.specs.Prelude.{◌≡◌, IfOk, length};
 ghost use Rattle.std.specs.List.{AllByRecursion};
 ghost use Rattle.store_refresh_entries.specs.Change.{MayBeStored};
 ghost use Rattle.app_inputs.specs.FilesAfter.{FilesAfterInput};
 ghost use Rattle.app_inputs.specs.Views.{Finds, Reads};
 ghost use Rattle.app_run.specs.JobInputs.{AreJobFiles, job_base};
-ghost use Rattle.app_run.specs.JobViews.{IsPlayable, base_view, work_view};
+ghost use Rattle.app_run.specs.JobViews.{IsPlayable, base_view};
+ghost use Rattle.app_jobs.specs.Sources.{work_view};
 
 use crate::job_input::read_sessions;
 use app_inputs::{InputError, read_job_file, read_refreshes, read_state};
 use app_job_file::Mention;
-use app_sessions::Session;
+use app_jobs::JobSources;
 use base_io::Files;
 use std::alloc::{AllocError, Global};
-use store_gateway::SenderId;
 use store_state::{Refresh, State};
-
-/// What a job works on.
-#[derive(Drop)]
-pub struct JobSources {
-    /// Its sessions, at their beginning.
-    pub sessions: Vec<Session>,
-    /// The tables.
-    pub base: State,
-    /// Its refreshes, in the order of its lines.
-    pub list: Vec<Refresh>,
-    /// How many of them are tried before the sessions.
-    pub before: usize,
-    /// Who sends each of the others, or nobody where they are tried in their order.
-    pub senders: Vec<SenderId>,
-    /// The name of the file that keeps its accepted refreshes, if it asks for one.
-    pub journal: Option<String>,
-}
 
 /// The tables of the folder, and these refreshes.
 fn read_base<F: Files>(

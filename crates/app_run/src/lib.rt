@@ -9,15 +9,10 @@ mod commands;
 mod explain;
 mod job_input;
 mod job_sources;
-mod journal;
-mod kept;
-mod kept_senders;
 pub mod laws;
 mod output;
-mod senders;
 mod session;
 mod throughput;
 mod trial;
-mod turns;
 
 pub use commands::run;

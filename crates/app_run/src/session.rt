@@ -5,14 +5,14 @@ ghost use Rattle.app_sessions.specs.Sessions.{course_of};
 ghost use Rattle.app_inputs.specs.FilesAfter.{FilesAfterInput};
 ghost use Rattle.app_run.specs.SessionInputs.{AreSteps, work_of};
 ghost use Rattle.app_run.specs.Meaning.{MeansSession};
-ghost use Rattle.app_run.specs.Turns.{IsBegun, refresh_count, work_from};
+ghost use Rattle.app_jobs.specs.Turns.{IsBegun, refresh_count, work_from};
 ghost use Rattle.app_inputs.specs.Views.{Finds, Reads};
 ghost use Rattle.app_run.specs.JobMeaning.{DiskTold};
 ghost use Rattle.app_run.specs.Views.{IsTextOf};
 ghost use Rattle.app_inputs.specs.Words.Command.{session};
 
-use crate::turns::take_turns;
 use app_inputs::{InputError, Status, mentions_of, read_refreshes, read_state, read_statements};
+use app_jobs::take_turns;
 use app_sessions::Session;
 use base_io::Files;
 use sql_ast::Statement;

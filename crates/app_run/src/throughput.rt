@@ -1,27 +1,24 @@
 //! A job: its sessions beside the publisher of its refreshes.
-ghost use Rattle.std.specs.Prelude.{◌≡◌, ◌≤◌, ℕ, [], List, None, Option, IfErr, IfOk, length, true};
+ghost use Rattle.std.specs.Prelude.{◌≡◌, ◌≤◌, ℕ, List, None, Option, IfErr, IfOk, length, true};
 ghost use Rattle.std.specs.Prelude.{if◌then◌else◌};
-ghost use Rattle.app_sessions.specs.Asked.{job_sessions};
 ghost use Rattle.app_inputs.specs.FilesAfter.{FilesAfterInput};
 ghost use Rattle.base_io.specs.Outside.{Rose};
-ghost use Rattle.app_run.specs.JobMeaning.{IsTextInOrder, MeansJob, NeedsNoDisk, disk_told};
-ghost use Rattle.app_run.specs.JobViews.{IsOfBytes, IsOutputOfJob, IsOutputOver};
-ghost use Rattle.app_run.specs.JobViews.{IsKeepable, IsPlayable, IsRunnable, work_view};
+ghost use Rattle.app_run.specs.JobMeaning.{MeansJob, NeedsNoDisk, disk_told};
+ghost use Rattle.app_run.specs.JobViews.{IsOfBytes, IsOutputOfJob, IsOutputOver, IsPlayable};
+ghost use Rattle.app_jobs.specs.Sources.{work_view};
 ghost use Rattle.app_run.specs.Views.{IsDiskFault, IsOutputOf};
 ghost use Rattle.app_inputs.specs.Words.Command.{throughput};
 
-use crate::job_sources::{JobSources, read_inputs};
-use crate::kept::{Played, play_kept};
+use crate::job_sources::read_inputs;
 use crate::output::Output;
-use crate::senders::run_with_senders;
 use app_inputs::{InputError, Status, refusal_of};
-use app_sessions::{JobText, run_list_job};
+use app_jobs::{JobSources, Played, play_kept, run_sources};
+use app_sessions::JobText;
 use base_disk::Disk;
 use base_io::{Files, Gate};
 use std::alloc::{AllocError, Global};
 use std::sync::Wait;
 use std::thread::Threads;
-use store_snapshots::open;
 
 /// The bytes of a job's text, and its status.
 fn text_and_status(job: JobText) -> (Vec<u8>, Status)
@@ -34,52 +31,6 @@ fn text_and_status(job: JobText) -> (Vec<u8>, Status)
         Status::SomeRefused
     };
     (job.into_text(), status)
-}
-
-/// Runs the sessions beside a publisher of the refreshes, which nobody sends.
-fn run_without_senders<R: Threads + Wait + Sync, G: Gate + Sync>(
-    rt: &R,
-    alloc: Global,
-    gate: &G,
-    sources: JobSources,
-) -> Result<JobText, AllocError>
-    requires runnable { IsRunnable sources }
-    requires unsent { sources.senders.items ≡ [] }
-    requires plain { sources.journal ≡ None }
-    ensures { (reads : Option (List ℕ)) → IfOk result (IsTextInOrder (work_view sources) reads
-        (job_sessions sources.sessions.items)) }
-{
-    let JobSources {
-        sessions,
-        base,
-        list,
-        before,
-        senders: _senders,
-        journal: _journal,
-    } = sources;
-    let most = list.len();
-    let (publisher, readers) = open(rt, alloc, base, list, sessions.len() as u32, most)?;
-    run_list_job(rt, alloc, sessions, readers, publisher, before, gate)
-}
-
-/// Runs the sessions beside a publisher of the refreshes, some of which may be sent.
-fn run_sources<R: Threads + Wait + Sync, G: Gate + Sync>(
-    rt: &R,
-    alloc: Global,
-    gate: &G,
-    sources: JobSources,
-) -> Result<JobText, AllocError>
-    requires runnable { IsRunnable sources }
-    requires keepable { IsKeepable sources }
-    requires plain { sources.journal ≡ None }
-    ensures { (reads : Option (List ℕ)) → IfOk result (IsTextInOrder (work_view sources) reads
-        (job_sessions sources.sessions.items)) }
-{
-    if sources.senders.is_empty() {
-        run_without_senders(rt, alloc, gate, sources)
-    } else {
-        run_with_senders(rt, alloc, gate, sources)
-    }
 }
 
 /// The text of what a job works on, and its status.

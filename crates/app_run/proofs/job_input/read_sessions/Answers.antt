@@ -5,7 +5,7 @@ use Rattle.std.specs.Global.{Vec}
 use Rattle.std.specs.String.{string_bytes}
 use Rattle.app_sessions.specs.declared.session.Session.{Session}
 use Rattle.sql_ast.specs.declared.statement.Statement.{Statement}
-use Rattle.app_run.specs.JobViews.{steps_of}
+use Rattle.app_jobs.specs.Sources.{steps_of}
 use Rattle.app_inputs.specs.Views.{IfKnown}
 use Rattle.app_run.proofs.JobScripts.{Continues, counted_more, named_at, rows_more, sessions_more, sessions_read, sessions_refused, steps_more, unasked_more}
 use Rattle.app_run.proofs.job_input.read_sessions.Goals as goal

@@ -1,7 +1,8 @@
 use Rattle.std.proofs.Common.{◌≡◌, ◌≤◌, drop, length, map}
 use Rattle.std.specs.String.{string_bytes}
 use Rattle.app_sessions.specs.Asked.{AllUnasked}
-use Rattle.app_run.specs.JobViews.{ShowRows, steps_of}
+use Rattle.app_run.specs.JobViews.{ShowRows}
+use Rattle.app_jobs.specs.Sources.{steps_of}
 use Rattle.app_inputs.specs.Views.{IfKnown}
 use Rattle.app_run.proofs.JobScripts.{Continues}
 use Rattle.app_run.proofs.job_input.read_sessions.Given as goal

@@ -1,4 +1,4 @@
-use Rattle.app_run.proofs.Orders.{unsent_law}
+use Rattle.app_run.proofs.UnsentOrders.{unsent_law}
 use Rattle.app_run.proofs.laws.unsent_refreshes_keep_their_order.Goals as goal
 
 pub returns : goal.returns

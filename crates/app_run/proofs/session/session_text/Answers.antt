@@ -4,7 +4,7 @@ use Rattle.app_sessions.specs.Sessions.{course_of}
 use Rattle.app_sessions.specs.declared.session.Session.{Session}
 use Rattle.sql_ast.specs.declared.statement.Statement.{Statement}
 use Rattle.app_run.specs.SessionInputs.{work_of}
-use Rattle.app_run.specs.Turns.{work_from}
+use Rattle.app_jobs.specs.Turns.{work_from}
 use Rattle.app_inputs.specs.Views.{IfKnown}
 use Rattle.app_run.proofs.Complete.{session_done}
 use Rattle.app_run.proofs.Works.{same_work_refused, script_refused, session_printed}

@@ -1,9 +1,9 @@
 use Rattle.std.proofs.Common.{◌≡◌, ◌∙◌, ℕ, List, None, Option, Some, ap, refl, subst, sym}
 use Rattle.std.specs.Prelude.{option_map}
 use Rattle.std.specs.String.{string_bytes}
-use Rattle.app_run.specs.JobInputs.{JobWork}
+use Rattle.app_jobs.specs.Works.{JobWork}
 use Rattle.app_run.specs.JobMeaning.{MeansJob, disk_told}
-use Rattle.app_run.specs.JobViews.{work_view}
+use Rattle.app_jobs.specs.Sources.{work_view}
 use Rattle.app_run.proofs.Complete.{job_done}
 use Rattle.app_run.proofs.JobOver.{job_over, job_plain, names_none}
 use Rattle.app_run.proofs.throughput.job_output.Goals as goal

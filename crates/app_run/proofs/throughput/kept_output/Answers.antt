@@ -1,6 +1,6 @@
 use Rattle.std.proofs.Common.{refl}
-use Rattle.app_run.specs.JobInputs.{kept_under}
-use Rattle.app_run.specs.JobViews.{work_view}
+use Rattle.app_jobs.specs.Works.{kept_under}
+use Rattle.app_jobs.specs.Sources.{work_view}
 use Rattle.app_run.proofs.JobPlayed.{job_means}
 use Rattle.app_run.proofs.throughput.kept_output.Goals as goal
 

@@ -1,5 +1,5 @@
 use Rattle.std.proofs.Common.{refl}
-use Rattle.app_run.specs.JobViews.{work_view}
+use Rattle.app_jobs.specs.Sources.{work_view}
 use Rattle.app_run.proofs.JobPlayed.{job_means}
 use Rattle.app_run.proofs.throughput.run_sessions.Goals as goal
 

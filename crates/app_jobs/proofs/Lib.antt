@@ -1,0 +1,13 @@
+mod OnTheWay
+pub mod Orders
+mod Taken
+mod KeptFed
+mod KeptRun
+mod KeptWhole
+mod KeptPlayed
+mod KeptJoined
+mod KeptSent
+mod Reached
+mod NextVersions
+pub mod KeptOnce
+mod NextRun

@@ -1,0 +1,13 @@
+pub mod Works
+pub mod Turns
+pub mod NextVersions
+pub mod Journals
+pub mod JobOrders
+pub mod JobTexts
+pub mod Sources
+pub mod Reaching
+pub mod Opened
+pub mod OpenedSent
+pub mod Senders
+pub mod Receivers
+pub mod Laws
