@@ -120,7 +120,7 @@ fn base(alloc: Global, list: Vec<Refresh>) -> Result<Directory, Fail>
     ensures { IfOk result (λ d. d.most ≡ length d.list) }
 {
     let most = list.len();
-    let directory = Directory::new(alloc, state(alloc, &[ORDERS], &[])?, list, most)?;
+    let directory = Directory::new(alloc, state(alloc, &[ORDERS], &[])?, (), list, most)?;
     Ok(directory)
 }
 

@@ -4,10 +4,10 @@ use Rattle.store_versions.specs.Trials.{HasKept, trials_at}
 use Rattle.store_versions.proofs.compacted.Compacted.directory.Goals as goal
 
 pub state_over-requires-clause-kinds : goal.state_over-requires-clause-kinds
-state_over-requires-clause-kinds c = rw c.as_slice.ensures.value c.self.invariant.2
+state_over-requires-clause-kinds g c = rw c.as_slice.ensures.value c.self.invariant.2
 
 pub at-requires-clause-last : goal.at-requires-clause-last
-at-requires-clause-last c =
+at-requires-clause-last g c =
     let base : arc_value c.in_ok-base.base ≡ arc_value c.self.inside.base = c.in_ok-base.ensures in
     let list : (arc_value c.in_ok-list.list).items ≡ (arc_value c.self.inside.list).items =
     ap (λ v. v.items) c.in_ok-list.ensures in
@@ -18,7 +18,7 @@ at-requires-clause-last c =
     rw (c.new-last.ensures, c.in_ok-state.ensures.ok) kept
 
 pub at-requires-clause-earlier : goal.at-requires-clause-earlier
-at-requires-clause-earlier c =
+at-requires-clause-earlier g c =
     let base : arc_value c.in_ok-base.base ≡ arc_value c.self.inside.base = c.in_ok-base.ensures in
     let list : (arc_value c.in_ok-list.list).items ≡ (arc_value c.self.inside.list).items =
     ap (λ v. v.items) c.in_ok-list.ensures in
