@@ -8,7 +8,7 @@ use Rattle.store_snapshots.specs.declared.publisher.Given.TheVariants.{OutOfMemo
 
 -- the next refresh of these trials is tried: it is accepted or refused; or out of memory, and all
 -- stays
-abbrev pub TriesNext : Trials → Edition → Edition → Given → Type 0
+abbrev pub TriesNext : {A : Type 0} → Trials → Edition → Edition → Given A → Type 0
 TriesNext trials old new (Published note) = AcceptsNext trials new note
 TriesNext trials old new (Refused cause) = RefusesNext trials cause old.shown new
 TriesNext trials old new OutOfMemory = new ≡ old

@@ -10,7 +10,7 @@ use Rattle.store_snapshots.specs.declared.ruled_hall.RuledHall.{RuledHall}
 use Rattle.store_snapshots.specs.declared.hall.Another.TheVariants.{Made, Refused}
 
 -- the version that a hall shows
-abbrev pub shown_in : RuledHall → Trials
+abbrev pub shown_in : {A : Type 0} → RuledHall A → Trials
 shown_in hall = on_shelf hall.writer.desk.shown.value
 
 -- by the openings, the lists that fit and the numbers of entries, of the version that is shown,

@@ -33,12 +33,12 @@ pub record Edition : Type 0 where
   pub joined : Option Cut
 
 -- a publisher's version, however it is kept
-abbrev pub version_in : Latest → Trials
+abbrev pub version_in : {A : Type 0} → Latest A → Trials
 version_in (Tried version) = version
 version_in (Joined compaction) = compaction.version
 
 -- the segments that it is known to lie in
-abbrev pub joined_in : Latest → Option Cut
+abbrev pub joined_in : {A : Type 0} → Latest A → Option Cut
 joined_in (Tried version) = None
 joined_in (Joined compaction) = Some compaction.tables
 
@@ -50,19 +50,19 @@ LiesJoined version (Some tables) =
 
 -- The version that is shown has the number of the publisher's last one, whose list begins with its
 -- list. The last one has tried more where that was refused.
-pub record IsInStep (publisher : Inside) : Type 0 where
+pub record IsInStep {A : Type 0} (publisher : Inside A) : Type 0 where
   pub follows : MayFollow (on_shelf publisher.writer.desk.shown.value) (version_in publisher.latest)
   pub number : version_of (on_shelf publisher.writer.desk.shown.value)
       ≡ version_of (version_in publisher.latest)
 
 -- a note tells of the version
-abbrev pub TellsVersion : Trials → Note → Type 0
+abbrev pub TellsVersion : {A : Type 0} → Trials → Note A → Type 0
 TellsVersion version note = note_version note ≡ version
 
 -- a trial of the next refresh: an accepted one leaves the version after it, of which the note
 -- tells; of a refused one only the number of tried refreshes rises; with no more refreshes, or out
 -- of memory, all stays
-abbrev pub Tries : Trials → Trials → Answer → Type 0
+abbrev pub Tries : {A : Type 0} → Trials → Trials → Answer A → Type 0
 Tries old new (Published note) = (old.done < length old.list) × IsAfter old old (Ok new)
     × TellsVersion new note
 Tries old new (Refused cause) = (old.done < length old.list)
@@ -71,7 +71,7 @@ Tries old new NoMore = (old.done ≡ length old.list) × (new ≡ old)
 Tries old new OutOfMemory = new ≡ old
 
 -- what is shown after it: the version after an accepted refresh, and else what was shown
-abbrev pub Shows : Edition → Edition → Answer → Type 0
+abbrev pub Shows : {A : Type 0} → Edition → Edition → Answer A → Type 0
 Shows old new (Published note) = new.shown ≡ new.version
 Shows old new (Refused cause) = new.shown ≡ old.shown
 Shows old new NoMore = new.shown ≡ old.shown
@@ -79,7 +79,7 @@ Shows old new OutOfMemory = new.shown ≡ old.shown
 
 -- with no more refreshes, or out of memory, all stays: the segments that the version is known to
 -- lie in too
-abbrev pub StaysUntried : Edition → Edition → Answer → Type 0
+abbrev pub StaysUntried : {A : Type 0} → Edition → Edition → Answer A → Type 0
 StaysUntried old new (Published note) = Unit {0}
 StaysUntried old new (Refused cause) = Unit {0}
 StaysUntried old new NoMore = new ≡ old
@@ -87,7 +87,7 @@ StaysUntried old new OutOfMemory = new ≡ old
 
 -- the next refresh of these trials is accepted: the version after it is shown, and the note tells
 -- of it
-pub record AcceptsNext (trials : Trials) (new : Edition) (note : Note) : Type 0 where
+pub record AcceptsNext {A : Type 0} (trials : Trials) (new : Edition) (note : Note A) : Type 0 where
   pub after : IsAfter trials trials (Ok new.version)
   pub shown : new.shown ≡ new.version
   pub tells : TellsVersion new.version note

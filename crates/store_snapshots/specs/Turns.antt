@@ -20,8 +20,8 @@ IsNextIn change version trials =
 -- whether its source then stands at its end, and by the publisher before and after: one refresh is
 -- tried, which is accepted or refused; or none, and the source doesn't stand at its end; or none,
 -- since it does, and all of the list is done.
-abbrev pub TakesTurn : List (Option ℕ × Change) → List (Option ℕ × Change) → (Trials → Type 0)
-    → Edition → Edition → FeedTurn → Type 0
+abbrev pub TakesTurn : {A : Type 0} → List (Option ℕ × Change) → List (Option ℕ × Change)
+    → (Trials → Type 0) → Edition → Edition → FeedTurn A → Type 0
 TakesTurn tried more over old new (Published from note) = (change : Change) × (trials : Trials)
     × (more ≡ tried ++ (from, change) ∷ []) × IsNextIn change old.version trials
     × AcceptsNext trials new note
