@@ -58,10 +58,7 @@ impl<A: Attachment> RuledEntry<A> {
 }
 
 /// One entry of a reader.
-fn enter_once<A: Attachment>(
-    reader: ShelfReader<A>,
-    _nothing: (),
-) -> (ShelfReader<A>, Entered<A>)
+fn enter_once<A: Attachment>(reader: ShelfReader<A>, _nothing: ()) -> (ShelfReader<A>, Entered<A>)
     ensures opening { (view result.0.place).opening ≡ (view reader.place).opening }
     ensures entered { PassesUncounted (view reader.place).opening (view reader.place).list
         (view result.0.place).list result.1 }
