@@ -76,14 +76,14 @@ OfferLaw = (old : Trials) (change : Change) (sessions : List SessionState)
 -- A publisher tries the next refresh of its list, or finds that each was tried: that is the step
 -- Publish.
 abbrev pub PublishLaw : Type 0
-PublishLaw = (old new : Trials) (answer : Answer) (sessions : List SessionState)
+PublishLaw = (old new : Trials) (answer : Answer (Unit {0})) (sessions : List SessionState)
     → Tries old new answer → (answer ≡ NoMemory → ⊥)
     → happens (world_at old sessions) Publish ≡ world_at new sessions
 
 -- A publisher whose whole list was tried is given a refresh, and tries it: these are the steps
 -- Offer and Publish.
 abbrev pub GiveLaw : Type 0
-GiveLaw = (old new : Edition) (change : Change) (answer : Given) (sessions : List SessionState)
+GiveLaw = (old new : Edition) (change : Change) (answer : Given (Unit {0})) (sessions : List SessionState)
     → old.version.done ≡ length old.version.list
     → TriesNext (offered change old.version) old new answer → (answer ≡ GivenNoMemory → ⊥)
     → run (Offer change ∷ Publish ∷ []) (world_at old.version sessions)
