@@ -83,7 +83,8 @@ PublishLaw = (old new : Trials) (answer : Answer (Unit {0})) (sessions : List Se
 -- A publisher whose whole list was tried is given a refresh, and tries it: these are the steps
 -- Offer and Publish.
 abbrev pub GiveLaw : Type 0
-GiveLaw = (old new : Edition) (change : Change) (answer : Given (Unit {0})) (sessions : List SessionState)
+GiveLaw = (old new : Edition) (change : Change) (answer : Given (Unit {0}))
+    (sessions : List SessionState)
     → old.version.done ≡ length old.version.list
     → TriesNext (offered change old.version) old new answer → (answer ≡ GivenNoMemory → ⊥)
     → run (Offer change ∷ Publish ∷ []) (world_at old.version sessions)
