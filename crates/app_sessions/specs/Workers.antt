@@ -155,7 +155,8 @@ pub record AreAssigned {E N A : Type 0} (sessions : List Session) (olds news : L
       (i : ℕ) (d : Worker E N A) → i < length olds
       → (slice_index_or news i d).is_lost ≡ (slice_index_or olds i d).is_lost
   pub unasked :
-      (i : ℕ) (d : Worker E N A) → i < length olds → AllUnasked (sessions_of (slice_index_or news i d))
+      (i : ℕ) (d : Worker E N A) → i < length olds
+      → AllUnasked (sessions_of (slice_index_or news i d))
   pub placed :
       (k : ℕ) → k < count
       → IsPlaced sessions_of news (place_of (length olds) k) (IsNumber (job_sessions sessions) k)
