@@ -235,7 +235,7 @@ pub fn open_job<R: Wait>(
         sources.2) }
 {
     let (sessions, base, before) = sources;
-    let (mut publisher, readers) = open(rt, alloc, base, list, sessions.len() as u32, most)?;
+    let (mut publisher, readers) = open(rt, alloc, base, (), list, sessions.len() as u32, most)?;
     match start_of(rt, kept, &mut publisher) {
         Ok(Ok(start)) => Ok(Ok(OpenJob {
             alloc,

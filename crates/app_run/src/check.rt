@@ -17,7 +17,7 @@ use store_versions::Directory;
 fn counts_text(alloc: Global, state: State) -> Result<Vec<u8>, AllocError>
     ensures { IfOk result (λ text. text.items ≡ counts_text state) }
 {
-    let directory = Directory::new(alloc, state, Vec::new(alloc), 0)?;
+    let directory = Directory::new(alloc, state, (), Vec::new(alloc), 0)?;
     let snapshot = Snapshot::of(alloc, &directory)?;
     let mut text = Vec::new(alloc);
     push_counts(&mut text, &snapshot)?;

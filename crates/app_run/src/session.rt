@@ -49,7 +49,7 @@ fn open_directory<F: Files>(
     let state = read_state(alloc, files, folder)?;
     let list = read_refreshes(alloc, files, folder, &mentions)?;
     let most = list.len();
-    let directory = Directory::new(alloc, state, list, most)?;
+    let directory = Directory::new(alloc, state, (), list, most)?;
     Ok(directory)
 }
 

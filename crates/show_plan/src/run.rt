@@ -35,7 +35,7 @@ fn read_tables<F: Files>(alloc: Global, files: &mut F, folder: &str) -> Result<S
     ensures files { FilesAfterInput F.held F.faults F.misses result files.old files.new }
 {
     let state = read_state(alloc, files, folder)?;
-    let directory = Directory::new(alloc, state, Vec::new(alloc), 0)?;
+    let directory = Directory::new(alloc, state, (), Vec::new(alloc), 0)?;
     let snapshot = Snapshot::of(alloc, &directory)?;
     Ok(snapshot)
 }

@@ -49,7 +49,7 @@ pub record BothFit {D : Type 0} (is_reached : D → Bool) (may_leave : D → Lis
       ≤ version.most + length taker.taken
 
 -- this refresh, which came from that sender, was tried: the list's next one, or at the list's end
-abbrev pub TakesThis : Option ℕ → Change → Edition → Edition → FeedTurn → Type 0
+abbrev pub TakesThis : {A : Type 0} → Option ℕ → Change → Edition → Edition → FeedTurn A → Type 0
 TakesThis from change old new (Published sender note) = (sender ≡ from)
     × AcceptsNext (trials_with change old.version) new note
 TakesThis from change old new (Refused sender cause) = (sender ≡ from)

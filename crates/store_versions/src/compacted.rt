@@ -8,6 +8,7 @@ ghost use Rattle.store_state.specs.Lists.{IsOfKinds, state_of};
 ghost use Rattle.store_versions.specs.Segments.{AreJoined};
 ghost use Rattle.store_versions.specs.Trials.{version_of};
 
+use crate::attachment::Attachment;
 use crate::directory::Directory;
 use crate::joining::joined;
 use crate::kept::KeptVersion;
@@ -21,7 +22,7 @@ use store_state::{Refresh, State};
 /// A version whose tables lie in segments of which no row is deleted and no two neighbours fit in
 /// one. It is seen as that version with the segments of each table.
 #[derive(Drop)]
-pub struct Compacted {
+pub struct Compacted<A: Attachment = ()> {
     pub(crate) alloc: Global,
     pub(crate) base: Arc<State>,
     pub(crate) list: Arc<Vec<Refresh>>,
@@ -32,10 +33,12 @@ pub struct Compacted {
     /// The segments of each table, in the schema's order of tables.
     pub(crate) tables: Vec<Vec<Segment>>,
     /// The earlier versions that are kept.
-    pub(crate) earlier: Arc<Vec<KeptVersion>>,
+    pub(crate) earlier: Arc<Vec<KeptVersion<A>>>,
+    /// What is attached to the tables.
+    pub(crate) attachment: A,
 }
 
-impl Model for Compacted {
+impl<A: Attachment> Model for Compacted<A> {
     ghost use Rattle.std.specs.Prelude.{◌≡◌, length, map};
     ghost use Rattle.std.specs.Arc.{arc_value};
     ghost use Rattle.std.specs.Vec.{vec_items};
@@ -57,10 +60,12 @@ impl Model for Compacted {
         c.accepted (state_of (map (λ segments. one_list segments.items) c.tables.items))
         (arc_value c.earlier).items
         × (length c.tables.items ≡ 8)
-        × IsOfKinds (state_of (map (λ segments. one_list segments.items) c.tables.items)) };
+        × IsOfKinds (state_of (map (λ segments. one_list segments.items) c.tables.items))
+        × A.is_right c.attachment
+        (state_of (map (λ segments. one_list segments.items) c.tables.items)) };
 }
 
-impl Compacted {
+impl<A: Attachment> Compacted<A> {
     /// How many refreshes were accepted.
     pub fn version(&self) -> u64
         ensures { result ≡ version_of self.now.version }
@@ -85,20 +90,21 @@ impl Compacted {
     }
 
     /// This version as a directory, whose tables' parts are these segments.
-    pub fn directory(&self) -> Result<Directory, AllocError>
+    pub fn directory(&self) -> Result<Directory<A>, AllocError>
         ensures { IfOk result (λ d. d ≡ self.now.version) }
     {
         let tables = state_over(self.alloc, self.tables.as_slice())?;
         let state = Arc::new(self.alloc, tables)?;
         let base = Arc::try_clone(&self.base)?;
         let list = Arc::try_clone(&self.list)?;
-        let last = KeptVersion::new(self.accepted, self.done, state);
+        let attachment = self.attachment.share()?;
+        let last = KeptVersion::new(self.accepted, self.done, state, attachment);
         let earlier = Arc::try_clone(&self.earlier)?;
         Ok(Directory::at(self.alloc, base, list, self.most, last, earlier))
     }
 
     /// Becomes a directory, whose tables' parts are these segments.
-    pub fn into_directory(self) -> Result<Directory, AllocError>
+    pub fn into_directory(self) -> Result<Directory<A>, AllocError>
         ensures { IfOk result (λ d. d ≡ self.version) }
     {
         let directory = self.directory()?;

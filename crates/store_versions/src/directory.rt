@@ -9,6 +9,7 @@ ghost use Rattle.store_state.specs.Prefixes.{IsPrefix};
 ghost use Rattle.store_state.specs.Refresh.{cause_of};
 ghost use Rattle.store_state.specs.Versions.{accepted};
 
+use crate::attachment::Attachment;
 use crate::compacted::{Compacted, joined_tables};
 use crate::kept::{KeptVersion, kept_at};
 use crate::lists::{is_beginning, with_refresh};
@@ -20,9 +21,10 @@ use std::marker::Model;
 use std::sync::Arc;
 use store_state::{Part, Refresh, RefreshError, State, apply, cause_of};
 
-/// The first refreshes of a list that were tried on a base, with the tables that they leave.
+/// The first refreshes of a list that were tried on a base, with the tables that they leave and
+/// what is attached to these.
 #[derive(Drop)]
-pub struct Directory {
+pub struct Directory<A: Attachment = ()> {
     pub(crate) alloc: Global,
     base: Arc<State>,
     list: Arc<Vec<Refresh>>,
@@ -32,10 +34,11 @@ pub struct Directory {
     accepted: u64,
     state: Arc<State>,
     /// Of the 63 versions before it those that are kept, in shared segments.
-    earlier: Arc<Vec<KeptVersion>>,
+    earlier: Arc<Vec<KeptVersion<A>>>,
+    attachment: A,
 }
 
-impl Model for Directory {
+impl<A: Attachment> Model for Directory<A> {
     ghost use Rattle.std.specs.Arc.{arc_value};
     ghost use Rattle.store_versions.specs.Older.{HasHistory};
     ghost use Rattle.store_versions.specs.Trials.{Trials, trials_at};
@@ -46,10 +49,11 @@ impl Model for Directory {
 
     ghost invariant = { λ d.
         HasHistory (trials_at (arc_value d.base) (arc_value d.list).items d.done d.most)
-        d.accepted (arc_value d.state) (arc_value d.earlier).items };
+        d.accepted (arc_value d.state) (arc_value d.earlier).items
+        × A.is_right d.attachment (arc_value d.state) };
 }
 
-impl Directory {
+impl<A: Attachment> Directory<A> {
     ghost use Rattle.std.specs.Arc.{arc_value};
     ghost use Rattle.std.specs.List.{All};
     ghost use Rattle.store_versions.specs.Older.{IsVersionOf};
@@ -57,14 +61,17 @@ impl Directory {
     ghost use Rattle.store_versions.specs.Trials.{IsAfter, Leaves, offered, one_more, tables_of};
     ghost use Rattle.store_versions.specs.Trials.{trials_at, version_of};
 
-    /// The base, with nothing tried. The list may get longer, up to this length.
+    /// The base, with nothing tried, and what is attached to it. The list may get longer, up to
+    /// this length.
     pub fn new(
         alloc: Global,
         base: State,
+        attachment: A,
         list: Vec<Refresh>,
         most: usize,
-    ) -> Result<Directory, AllocError>
-        requires { length list.items ≤ most }
+    ) -> Result<Directory<A>, AllocError>
+        requires right { A.is_right attachment base }
+        requires most { length list.items ≤ most }
         ensures { IfOk result (λ d. d
             ≡ record { base = base; list = list.items; done = 0; most = most }) }
     {
@@ -81,17 +88,26 @@ impl Directory {
             accepted: 0,
             state,
             earlier,
+            attachment,
         })
     }
 
+    /// What is attached to this version.
+    pub fn attachment(&self) -> &A
+        ensures { A.is_right result.now (tables_of self.now) }
+    {
+        &self.attachment
+    }
+
     /// This version once more; no row is copied.
-    pub fn another(&self) -> Result<Directory, AllocError>
+    pub fn another(&self) -> Result<Directory<A>, AllocError>
         ensures { IfOk result (λ d. d ≡ self.now) }
     {
         let base = Arc::try_clone(&self.base)?;
         let list = Arc::try_clone(&self.list)?;
         let state = Arc::try_clone(&self.state)?;
         let earlier = Arc::try_clone(&self.earlier)?;
+        let attachment = self.attachment.share()?;
         Ok(Directory {
             alloc: self.alloc,
             base,
@@ -101,6 +117,7 @@ impl Directory {
             accepted: self.accepted,
             state,
             earlier,
+            attachment,
         })
     }
 
@@ -149,9 +166,9 @@ impl Directory {
         base: Arc<State>,
         list: Arc<Vec<Refresh>>,
         most: usize,
-        last: KeptVersion,
-        earlier: Arc<Vec<KeptVersion>>,
-    ) -> Directory
+        last: KeptVersion<A>,
+        earlier: Arc<Vec<KeptVersion<A>>>,
+    ) -> Directory<A>
         requires last { IsVersionOf
             (trials_at (arc_value base) (arc_value list).items last.done most) last }
         requires earlier { All (IsVersionOf
@@ -163,6 +180,7 @@ impl Directory {
             number,
             done,
             state,
+            attachment,
         } = last;
         Directory {
             alloc,
@@ -173,18 +191,20 @@ impl Directory {
             accepted: number,
             state,
             earlier,
+            attachment,
         }
     }
 
     /// This version, whose tables lie in segments of which no row is deleted and no two
     /// neighbours fit in one.
-    pub fn compacted(&self) -> Result<Compacted, AllocError>
+    pub fn compacted(&self) -> Result<Compacted<A>, AllocError>
         ensures { IfOk result (IsCompacted self.now) }
     {
         let tables = joined_tables(self.alloc, &self.state, &TABLES)?;
         let base = Arc::try_clone(&self.base)?;
         let list = Arc::try_clone(&self.list)?;
         let earlier = Arc::try_clone(&self.earlier)?;
+        let attachment = self.attachment.share()?;
         Ok(Compacted {
             alloc: self.alloc,
             base,
@@ -194,6 +214,7 @@ impl Directory {
             accepted: self.accepted,
             tables,
             earlier,
+            attachment,
         })
     }
 
@@ -249,29 +270,30 @@ impl Directory {
     }
 
     /// The versions before it that are kept.
-    pub(crate) fn earlier(&self) -> &[KeptVersion]
+    pub(crate) fn earlier(&self) -> &[KeptVersion<A>]
         ensures { All (IsVersionOf self.now) result.now }
     {
         self.earlier.as_slice()
     }
 
     /// What the next version keeps: this version and those of the 62 before it that are kept here.
-    fn earlier_of_next(&self) -> Result<Vec<KeptVersion>, AllocError>
+    fn earlier_of_next(&self) -> Result<Vec<KeptVersion<A>>, AllocError>
         requires { self.now.done < length self.now.list }
         ensures { IfOk result (λ kept. All (IsVersionOf self.now) kept.items) }
     {
         let mut kept = kept_at(self.alloc, self.earlier(), self.accepted + 1)?;
         let state = Arc::try_clone(&self.state)?;
-        kept.push(KeptVersion::new(self.accepted, self.done, state))?;
+        let attachment = self.attachment.share()?;
+        kept.push(KeptVersion::new(self.accepted, self.done, state, attachment))?;
         Ok(kept)
     }
 
     /// Another version of this base and this list, with versions before it that are kept.
     pub(crate) fn sharing(
         &self,
-        last: KeptVersion,
-        earlier: Vec<KeptVersion>,
-    ) -> Result<Directory, AllocError>
+        last: KeptVersion<A>,
+        earlier: Vec<KeptVersion<A>>,
+    ) -> Result<Directory<A>, AllocError>
         requires last { IsVersionOf self.now last }
         requires earlier { All (IsVersionOf self.now) earlier.items }
         ensures { IfOk result (λ d. d ≡ record self.now { done = last.done }) }
@@ -283,7 +305,7 @@ impl Directory {
     }
 
     /// This version of the list that is longer by this refresh.
-    pub fn offered(&self, refresh: Refresh) -> Result<Directory, AllocError>
+    pub fn offered(&self, refresh: Refresh) -> Result<Directory<A>, AllocError>
         requires { length self.now.list < self.now.most }
         ensures offered { IfOk result (λ d. d ≡ offered refresh self.now) }
         ensures version { IfOk result (λ d. version_of d ≡ version_of self.now) }
@@ -293,13 +315,14 @@ impl Directory {
         let list = with_refresh(self.alloc, self.list.as_slice(), refresh)?;
         let list = Arc::new(self.alloc, list)?;
         let state = Arc::try_clone(&self.state)?;
-        let last = KeptVersion::new(self.accepted, self.done, state);
+        let attachment = self.attachment.share()?;
+        let last = KeptVersion::new(self.accepted, self.done, state, attachment);
         let earlier = Arc::try_clone(&self.earlier)?;
         Ok(Directory::at(self.alloc, base, list, self.most, last, earlier))
     }
 
     /// Whether its list from a place on is found to begin with that of another from there on.
-    pub fn begins_with(&self, other: &Directory, from: usize) -> bool
+    pub fn begins_with(&self, other: &Directory<A>, from: usize) -> bool
         ensures begins { IsTrue result
             → IsPrefix (drop from other.now.list) (drop from self.now.list) }
         ensures nothing { length other.now.list ≤ from → IsTrue result }
@@ -315,16 +338,29 @@ impl Directory {
     }
 
     /// The base, with nothing tried.
-    pub(crate) fn first(&self) -> Result<Directory, AllocError>
+    pub(crate) fn first(&self) -> Result<Directory<A>, AllocError>
         ensures { IfOk result (λ d. d ≡ record self.now { done = 0 }) }
     {
         let state = Arc::try_clone(&self.base)?;
-        let first = self.sharing(KeptVersion::new(0, 0, state), Vec::new(self.alloc))?;
+        let attachment = self.attachment.anew(self.alloc, &self.base)?;
+        let last = KeptVersion::new(0, 0, state, attachment);
+        let first = self.sharing(last, Vec::new(self.alloc))?;
         Ok(first)
     }
 
+    /// What is right for the state that the next refresh, which is accepted, leaves here.
+    fn attachment_after(&self, state: &Arc<State>) -> Result<A, AllocError>
+        requires less { self.now.done < length self.now.list }
+        requires leaves { Leaves self.now (Ok (arc_value state.now)) }
+        ensures { IfOk result (λ a. A.is_right a (arc_value state.now)) }
+    {
+        let refresh = &self.list[self.done];
+        self.attachment
+            .after_refresh(self.alloc, &self.state, refresh, state)
+    }
+
     /// The version of the state that the next refresh, which is accepted, leaves here.
-    fn next(&self, state: State) -> Result<Directory, AllocError>
+    fn next(&self, state: State) -> Result<Directory<A>, AllocError>
         requires less { self.now.done < length self.now.list }
         requires leaves { Leaves self.now (Ok state) }
         ensures next { IfOk result (λ d. d ≡ one_more self.now) }
@@ -332,15 +368,16 @@ impl Directory {
         ensures tables { IfOk result (λ d. tables_of d ≡ state) }
     {
         let state = Arc::new(self.alloc, state)?;
+        let attachment = self.attachment_after(&state)?;
         let earlier = self.earlier_of_next()?;
-        let last = KeptVersion::new(self.accepted + 1, self.done + 1, state);
+        let last = KeptVersion::new(self.accepted + 1, self.done + 1, state, attachment);
         let next = self.sharing(last, earlier)?;
         Ok(next)
     }
 
     /// Tries the next refresh. An accepted one gives the next version and leaves this one as it is;
     /// of a refused one this version notes only that it was tried.
-    pub fn after_next(&mut self) -> Result<Directory, RefreshError>
+    pub fn after_next(&mut self) -> Result<Directory<A>, RefreshError>
         requires { self.old.done < length self.old.list }
         ensures { IsAfter self.old self.new result }
     {

@@ -4,6 +4,7 @@ ghost use Rattle.std.specs.Arc.{arc_value};
 ghost use Rattle.std.specs.List.{Contains, filter};
 ghost use Rattle.store_versions.specs.Older.{is_kept_at};
 
+use crate::attachment::Attachment;
 use std::alloc::{AllocError, Global};
 use std::marker::Model;
 use std::sync::Arc;
@@ -12,44 +13,53 @@ use store_state::State;
 /// How many versions may be asked for: the last one and those before it.
 pub(crate) const KEPT_VERSIONS: u64 = 64;
 
-/// A version by its number, with how many refreshes were tried by then and its tables.
+/// A version by its number, with how many refreshes were tried by then, its tables and what is
+/// attached to them.
 #[derive(Drop)]
-pub(crate) struct KeptVersion {
+pub(crate) struct KeptVersion<A: Attachment> {
     pub(crate) number: u64,
     pub(crate) done: usize,
     pub(crate) state: Arc<State>,
+    pub(crate) attachment: A,
 }
 
-impl Model for KeptVersion {
+impl<A: Attachment> Model for KeptVersion<A> {
     ghost use Rattle.std.specs.Arc.{arc_value};
     ghost use Rattle.store_versions.specs.Older.{KeptState};
 
     ghost Value = { KeptState };
 
     ghost view = { λ k. record { number = k.number; done = k.done; state = arc_value k.state } };
+
+    ghost invariant = { λ k. A.is_right k.attachment (arc_value k.state) };
 }
 
-impl KeptVersion {
-    /// The version of a number, with how many refreshes were tried by then and its tables.
-    pub(crate) fn new(number: u64, done: usize, state: Arc<State>) -> KeptVersion
+impl<A: Attachment> KeptVersion<A> {
+    /// The version of a number, with how many refreshes were tried by then, its tables and what is
+    /// attached to them.
+    pub(crate) fn new(number: u64, done: usize, state: Arc<State>, attachment: A) -> KeptVersion<A>
+        requires { A.is_right attachment (arc_value state) }
         ensures { result ≡ record { number = number; done = done; state = arc_value state } }
     {
         KeptVersion {
             number,
             done,
             state,
+            attachment,
         }
     }
 
     /// This version once more, of which nothing is copied.
-    pub(crate) fn another(&self) -> Result<KeptVersion, AllocError>
+    pub(crate) fn another(&self) -> Result<KeptVersion<A>, AllocError>
         ensures { IfOk result (λ kept. kept ≡ self.now) }
     {
         let state = Arc::try_clone(&self.state)?;
+        let attachment = self.attachment.share()?;
         Ok(KeptVersion {
             number: self.number,
             done: self.done,
             state,
+            attachment,
         })
     }
 
@@ -62,11 +72,11 @@ impl KeptVersion {
 }
 
 /// Those of some versions that are among the 63 before that of a number.
-pub(crate) fn kept_at(
+pub(crate) fn kept_at<A: Attachment>(
     alloc: Global,
-    earlier: &[KeptVersion],
+    earlier: &[KeptVersion<A>],
     number: u64,
-) -> Result<Vec<KeptVersion>, AllocError>
+) -> Result<Vec<KeptVersion<A>>, AllocError>
     ensures { IfOk result (λ kept. kept.items ≡ filter (is_kept_at number) earlier.now) }
 {
     let mut kept = Vec::new(alloc);
@@ -79,7 +89,10 @@ pub(crate) fn kept_at(
 }
 
 /// The version of a number, if it is one of these.
-pub(crate) fn kept_version(versions: &[KeptVersion], number: u64) -> Option<&KeptVersion>
+pub(crate) fn kept_version<A: Attachment>(
+    versions: &[KeptVersion<A>],
+    number: u64,
+) -> Option<&KeptVersion<A>>
     ensures number { IfSome result (λ kept. kept.now.number ≡ number) }
     ensures among { IfSome result (λ kept. Contains versions.now kept.now) }
 {

@@ -1,6 +1,7 @@
 //! Versions of a base under a list of refreshes that are tried in order.
 #![tactic(auto)]
 
+mod attachment;
 mod compacted;
 mod directory;
 mod joining;
@@ -10,6 +11,7 @@ mod older;
 mod scan;
 mod version_error;
 
+pub use attachment::Attachment;
 pub use compacted::Compacted;
 pub use directory::Directory;
 pub use version_error::VersionError;

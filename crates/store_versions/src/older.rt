@@ -3,6 +3,7 @@ ghost use Rattle.std.specs.Prelude.{◌≡◌, ◌+◌, ◌<◌, ◌≤◌, leng
 ghost use Rattle.store_versions.specs.Older.{GivesOlder, IsOlder, IsVersionOf};
 ghost use Rattle.store_versions.specs.Trials.{one_more, version_of};
 
+use crate::attachment::Attachment;
 use crate::directory::Directory;
 use crate::kept::{KEPT_VERSIONS, KeptVersion, kept_at, kept_version};
 use crate::version_error::VersionError;
@@ -10,7 +11,7 @@ use std::alloc::AllocError;
 use store_state::RefreshError;
 
 /// The trials with the next refresh tried too.
-fn after_trial(mut directory: Directory) -> Result<Directory, AllocError>
+fn after_trial<A: Attachment>(mut directory: Directory<A>) -> Result<Directory<A>, AllocError>
     requires { directory.done < length directory.list }
     ensures same { IfOk result (λ d. d ≡ one_more directory) }
     ensures version { IfOk result (λ d. version_of d ≤ version_of directory + 1) }
@@ -22,11 +23,11 @@ fn after_trial(mut directory: Directory) -> Result<Directory, AllocError>
     }
 }
 
-impl Directory {
+impl<A: Attachment> Directory<A> {
     /// The version of a number, which is the last one or one of the 63 before it. It keeps those
     /// versions before it that are kept here. No row is copied of a version that is kept; one that
     /// is not is made anew from the base and the list.
-    pub fn older(&self, version: u64) -> Result<Directory, VersionError>
+    pub fn older(&self, version: u64) -> Result<Directory<A>, VersionError>
         ensures { GivesOlder self.now version result }
     {
         let last = self.version();
@@ -41,7 +42,7 @@ impl Directory {
     }
 
     /// The version of a number, which is not past the last one.
-    fn recent(&self, version: u64) -> Result<Directory, AllocError>
+    fn recent(&self, version: u64) -> Result<Directory<A>, AllocError>
         requires { version ≤ version_of self.now }
         ensures { IfOk result (IsOlder self.now version) }
     {
@@ -55,7 +56,7 @@ impl Directory {
     }
 
     /// A version of this base and this list that is kept.
-    fn kept(&self, kept: &KeptVersion) -> Result<Directory, AllocError>
+    fn kept(&self, kept: &KeptVersion<A>) -> Result<Directory<A>, AllocError>
         requires { IsVersionOf self.now kept.now }
         ensures { IfOk result (IsOlder self.now kept.now.number) }
     {
@@ -65,7 +66,7 @@ impl Directory {
     }
 
     /// The version of a number, made anew from the base.
-    fn remade(&self, version: u64) -> Result<Directory, AllocError>
+    fn remade(&self, version: u64) -> Result<Directory<A>, AllocError>
         requires { version ≤ version_of self.now }
         ensures { IfOk result (IsOlder self.now version) }
     {

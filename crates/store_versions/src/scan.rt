@@ -5,6 +5,7 @@ ghost use Rattle.plan_algebra.specs.Trees.{HasKinds};
 ghost use Rattle.base_schema.specs.State.{table_rows};
 ghost use Rattle.store_versions.specs.Trials.{tables_of};
 
+use crate::attachment::Attachment;
 use crate::directory::Directory;
 use base_schema::TableName;
 use plan_algebra::{Piece, Steps, Tables};
@@ -35,7 +36,7 @@ fn pieces_of(alloc: Global, parts: &[Part]) -> Result<Vec<Piece>, AllocError>
     Ok(pieces)
 }
 
-impl Tables for Directory {
+impl<A: Attachment> Tables for Directory<A> {
     ghost rows = { λ directory table. table_rows (tables_of directory) table };
 
     fn count(&self, table: TableName) -> u64 {

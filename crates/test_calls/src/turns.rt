@@ -36,7 +36,7 @@ fn turns_are_taken(rt: HostRuntime) -> Result<(), Fail> {
         return Ok(());
     };
     let mut session = Session::new(alloc, statements, true)?;
-    let directory = Directory::new(alloc, no_rows(alloc)?, Vec::new(alloc), 0)?;
+    let directory = Directory::new(alloc, no_rows(alloc)?, (), Vec::new(alloc), 0)?;
     let snapshot = Snapshot::of(alloc, &directory)?;
     assert!(rt; matches!(session.run_next(&rt, &snapshot)?, Turn::Answered));
     assert!(rt; session.is_clean());

@@ -49,7 +49,7 @@ fn gets_longer(alloc: Global, short: &Directory, mut long: Directory) -> Result<
 #[test]
 fn lists_get_longer(rt: HostRuntime) -> Result<(), Fail> {
     let alloc = rt.alloc();
-    let short = Directory::new(alloc, state(alloc, &[ORDERS], &[])?, Vec::new(alloc), 2)?;
+    let short = Directory::new(alloc, state(alloc, &[ORDERS], &[])?, (), Vec::new(alloc), 2)?;
     let long = short.offered(nine(alloc)?)?;
     assert!(rt; gets_longer(alloc, &short, long)?);
     Ok(())

@@ -4,7 +4,7 @@ use Rattle.store_versions.specs.Trials.{Trials}
 use Rattle.store_versions.proofs.directory.Directory.begins_with.Goals as goal
 
 pub returns-then-short-from-clause-begins : goal.returns-then-short-from-clause-begins
-returns-then-short-from-clause-begins c _ =
+returns-then-short-from-clause-begins g c _ =
     let short = c.args.other.now.list in
     let long = c.args.self.now.list in
     let same : c.as_slice-short.result.now ≡ short =
