@@ -15,9 +15,11 @@ use crate::reader::Reader;
 use crate::rule::{ShelfWriter, publish, start};
 use crate::ruled::RuledEntry;
 use crate::ruled_hall::RuledHall;
+use crate::shelf::Shelf;
 use crate::snapshot::Snapshot;
 use base_refusals::Cause;
 use core::mem::replace_with;
+use left_right::Absorb;
 use std::alloc::{AllocError, Global};
 use std::marker::Model;
 use std::sync::{Arc, Wait};
@@ -29,14 +31,20 @@ use store_versions::{Attachment, Directory};
 /// that readers are shown, with how often its hall refused an entry, and with the last version's
 /// segments from a compaction up to the next refresh that is tried. It is not dropped: `close` ends
 /// it.
-pub struct Publisher<A: Attachment = ()> {
+pub struct Publisher<A: Attachment = ()>
+where
+    Shelf<A>: Absorb<Shelf<A>, State = Directory<A>>,
+{
     alloc: Global,
     writer: ShelfWriter<A>,
     refused: u64,
     latest: Latest<A>,
 }
 
-impl<A: Attachment> Model for Publisher<A> {
+impl<A: Attachment> Model for Publisher<A>
+where
+    Shelf<A>: Absorb<Shelf<A>, State = Directory<A>>,
+{
     ghost use Rattle.store_snapshots.specs.Publishers.{Edition, IsInStep, joined_in, version_in};
     ghost use Rattle.store_snapshots.specs.Rule.{on_shelf};
 

@@ -7,12 +7,17 @@ ghost use Rattle.store_snapshots.specs.Rule.{on_shelf, own_view};
 use crate::hall::{Another, Hall};
 use crate::rule::{ShelfWriter, joined};
 use crate::ruled::RuledEntry;
+use crate::shelf::Shelf;
+use left_right::Absorb;
 use std::alloc::AllocError;
 use std::sync::Wait;
-use store_versions::Attachment;
+use store_versions::{Attachment, Directory};
 
 /// Makes entries to the shelf of a writer whose list is still the opening's.
-pub struct RuledHall<A: Attachment = ()> {
+pub struct RuledHall<A: Attachment = ()>
+where
+    Shelf<A>: Absorb<Shelf<A>, State = Directory<A>>,
+{
     pub(crate) writer: ShelfWriter<A>,
     pub(crate) refusals: u64,
     ghost knows: { view writer.desk.place ≡ own_view (on_shelf writer.desk.shown.value) },
