@@ -1,4 +1,4 @@
-use Rattle.std.proofs.Common.{◌+◌, ap, subst}
+use Rattle.std.proofs.Common.{◌+◌, ap, subst, sym}
 use Rattle.std.specs.Arc.{arc_value}
 use Rattle.std.proofs.lemmas.List.Elements.{All-filter, All-push}
 use Rattle.store_versions.specs.Older.{IsVersionOf, is_kept_at}
@@ -21,3 +21,8 @@ returns g c =
     (IsVersionOf c.args.self.now) c.earlier.result.now
     c.earlier.ensures))
     mine)
+
+pub new-requires : goal.new-requires
+new-requires g c =
+    subst (g.A.Attachment.is_right c.in_ok-attachment.attachment) (sym c.in_ok-state.ensures)
+    (c.in_ok-attachment.ensures (arc_value c.self.inside.state) c.self.invariant.1)

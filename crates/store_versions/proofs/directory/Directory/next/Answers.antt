@@ -1,7 +1,8 @@
-use Rattle.std.proofs.Common.{◌≡◌, ℕ, ◌+◌, ap, subst, sym, ◌∙◌}
+use Rattle.std.proofs.Common.{◌≡◌, ℕ, ◌+◌, Ok, ap, subst, sym, ◌∙◌}
 use Rattle.std.specs.Arc.{arc_value}
+use Rattle.base_schema.specs.State.{State}
 use Rattle.store_versions.specs.Older.{KeptState}
-use Rattle.store_versions.specs.Trials.{HasKept, Trials, one_more, tables_of, version_of}
+use Rattle.store_versions.specs.Trials.{HasKept, Leaves, Trials, one_more, tables_of, version_of}
 use Rattle.store_versions.proofs.Next.{kept_next, next_tables, next_version}
 use Rattle.store_versions.proofs.directory.Directory.next.Goals as goal
 
@@ -37,3 +38,7 @@ returns-clause-tables g c =
     c.in_ok-next.ensures ∙ ap (λ (d : ℕ). record c.args.self.now { done = d }) done in
     ap tables_of same
     ∙ next_tables c.args.self.now c.args.state c.requires.less c.requires.leaves
+
+pub attachment_after-requires-clause-leaves : goal.attachment_after-requires-clause-leaves
+attachment_after-requires-clause-leaves g c =
+    subst (λ (s : State). Leaves c.args.self.now (Ok s)) (sym c.in_ok-state.ensures.ok) c.requires.leaves

@@ -48,3 +48,8 @@ returns-clause-tables g c =
     let within : c.args.self.now.done ≤ length c.args.self.now.list =
     subst (λ (t : Trials). t.done ≤ length t.list) c.self.view_is c.self.invariant.0.last.within in
     ap tables_of same ∙ tables_longer c.args.self.now c.args.refresh within
+
+pub new-last-requires : goal.new-last-requires
+new-last-requires g c =
+    subst (g.A.Attachment.is_right c.in_ok-attachment.attachment) (sym c.in_ok-state.ensures)
+    (c.in_ok-attachment.ensures (arc_value c.self.inside.state) c.self.invariant.1)
