@@ -20,8 +20,7 @@ fn text_of(alloc: Global, rows: &Rows) -> Result<Vec<u8>, AllocError>
     ensures { IfOk result (λ text. text.items ≡ rows_text rows.now) }
 {
     let mut text = Vec::new(alloc);
-    let rows = rows.to_rows(alloc)?;
-    push_rows(&mut text, &rows)?;
+    push_rows(&mut text, rows)?;
     Ok(text)
 }
 
@@ -32,11 +31,9 @@ fn push_insert(bytes: &mut Vec<u8>, orders: &Rows, lineitems: &Rows) -> Result<(
 {
     let alloc = *bytes.allocator();
     let orders = text_of(alloc, orders)?;
-    let lineitems = text_of(alloc, lineitems)?;
     bytes.push(1)?;
     push_framed(bytes, &orders)?;
-    bytes.extend_from_slice(&lineitems)?;
-    Ok(())
+    push_rows(bytes, lineitems)
 }
 
 /// Appends the bytes that spell a refresh; a malformed one has none.
@@ -67,7 +64,7 @@ impl Payload for RefreshPayload {
         let Some(refresh) = parsed(alloc, bytes)? else {
             return Ok(None);
         };
-        let mut again = Vec::new(alloc);
+        let mut again = Vec::with_capacity(alloc, bytes.len())?;
         push_refresh(&mut again, &refresh)?;
         if again.as_slice() != bytes {
             return Ok(None);

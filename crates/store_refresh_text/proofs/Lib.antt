@@ -1,3 +1,4 @@
+mod Cells
 mod Clean
 mod Fields
 mod Lines

@@ -2,6 +2,7 @@
 //! from them.
 #![tactic(auto)]
 
+mod fields;
 mod laws;
 mod reading;
 mod text;
