@@ -4,7 +4,7 @@ ghost use Rattle.std.specs.Io.KnownBytes.{Appends, Keeps};
 ghost use Rattle.std.specs.String.{string_bytes};
 ghost use Rattle.base_io.specs.Outside.{AppendsPart, Rose};
 ghost use Rattle.app_run.specs.JobMeaning.{disk_told};
-ghost use Rattle.app_run.specs.Meaning.{HasNoJournal, IsAbsentInput, IsAccepted, MayPrint, Prints};
+ghost use Rattle.app_run.specs.Meaning.{IsAbsentInput, IsAccepted, LeavesDisk, MayPrint, Prints};
 ghost use Rattle.app_inputs.specs.Printing.{IsAnswer};
 ghost use Rattle.app_inputs.specs.Words.{command_of};
 
@@ -78,7 +78,7 @@ pub fn tpch<R: Threads + Wait + Sync, F: Files, S: Sink, D: Disk + Send, G: Gate
         × (D.faults disk.old ≤ D.faults disk.new) }
 
     // The disk is reached last, and only for a journal.
-    ensures untouched { HasNoJournal (command_of (map string_bytes words.now)) (F.held files.old)
+    ensures untouched { LeavesDisk (command_of (map string_bytes words.now)) (F.held files.old)
         → disk.new ≡ disk.old }
 {
     run(rt, alloc, words, files, out, disk, gate)

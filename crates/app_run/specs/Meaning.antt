@@ -121,10 +121,10 @@ IsAccepted (Some command) (Some folder) named =
     IsFirstRefused command folder named None × TellsJournal command folder named
 
 -- the command has no job, or one that names no journal or of which an input before it is refused
-abbrev pub HasNoJournal : Option Command → Option Folder → Type 0
-HasNoJournal None known = ⊤
-HasNoJournal (Some (session dir script)) known = ⊤
-HasNoJournal (Some (throughput dir job)) known = NeedsNoDisk dir job known
-HasNoJournal (Some (explain script)) known = ⊤
-HasNoJournal (Some (check dir)) known = ⊤
-HasNoJournal (Some (trial number)) known = ⊤
+abbrev pub LeavesDisk : Option Command → Option Folder → Type 0
+LeavesDisk None known = ⊤
+LeavesDisk (Some (session dir script)) known = ⊤
+LeavesDisk (Some (throughput dir job)) known = NeedsNoDisk dir job known
+LeavesDisk (Some (explain script)) known = ⊤
+LeavesDisk (Some (check dir)) known = ⊤
+LeavesDisk (Some (trial number)) known = ⊤

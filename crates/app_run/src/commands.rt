@@ -5,7 +5,7 @@ ghost use Rattle.std.specs.String.{string_bytes};
 ghost use Rattle.base_io.specs.Outside.{Rose};
 ghost use Rattle.app_inputs.specs.FilesAfter.{FilesAfterInput, FilesAfterRead};
 ghost use Rattle.app_run.specs.JobMeaning.{DiskTold, disk_told};
-ghost use Rattle.app_run.specs.Meaning.{HasNoJournal, IsAbsentInput, IsAccepted, TakesPart};
+ghost use Rattle.app_run.specs.Meaning.{IsAbsentInput, IsAccepted, LeavesDisk, TakesPart};
 ghost use Rattle.app_run.specs.Meaning.{TakesWhole};
 ghost use Rattle.app_run.specs.Views.{IsDiskFault, IsOutputOf, IsSameOutput, IsTextOf, MayGive};
 ghost use Rattle.app_inputs.specs.Views.{command_view};
@@ -66,7 +66,7 @@ fn command_text<R: Threads + Wait + Sync, F: Files, D: Disk + Send, G: Gate + Sy
     ensures failed { IfOk result (λ output. IsDiskFault output
         → Rose (D.faults disk.old) (D.faults disk.new)) }
     ensures later { D.faults disk.old ≤ D.faults disk.new }
-    ensures untouched { HasNoJournal (Some (command_view command.now)) (F.held files.old)
+    ensures untouched { LeavesDisk (Some (command_view command.now)) (F.held files.old)
         → disk.new ≡ disk.old }
     ensures files { FilesAfterInput F.held F.faults F.misses result files.old files.new }
 {
@@ -99,7 +99,7 @@ fn output_over_files<R: Threads + Wait + Sync, F: Files, D: Disk + Send, G: Gate
     ensures failed { IfOk result (λ output. IsDiskFault output
         → Rose (D.faults disk.old) (D.faults disk.new)) }
     ensures later { D.faults disk.old ≤ D.faults disk.new }
-    ensures untouched { HasNoJournal (Some (command_view command.now)) (F.held files.old)
+    ensures untouched { LeavesDisk (Some (command_view command.now)) (F.held files.old)
         → disk.new ≡ disk.old }
     ensures absent { IfOk result (λ output. (IsDiskFault output → ⊥)
         → IsAbsentInput (Some (command_view command.now)) (F.held files.old) (D.named disk.old)
@@ -131,7 +131,7 @@ fn command_output<R: Threads + Wait + Sync, F: Files, D: Disk + Send, G: Gate + 
     ensures failed { IfOk result (λ output. IsDiskFault output
         → Rose (D.faults disk.old) (D.faults disk.new)) }
     ensures later { D.faults disk.old ≤ D.faults disk.new }
-    ensures untouched { HasNoJournal (Some (command_view command.now)) (F.held files.old)
+    ensures untouched { LeavesDisk (Some (command_view command.now)) (F.held files.old)
         → disk.new ≡ disk.old }
     ensures absent { IfOk result (λ output. (IsDiskFault output → ⊥)
         → IsAbsentInput (Some (command_view command.now)) (F.held files.old) (D.named disk.old)
@@ -189,7 +189,7 @@ pub fn run<R: Threads + Wait + Sync, F: Files, S: Sink, D: Disk + Send, G: Gate 
         × (F.misses files.old ≤ F.misses files.new)
         × (S.faults out.old ≤ S.faults out.new)
         × (D.faults disk.old ≤ D.faults disk.new) }
-    ensures untouched { HasNoJournal (command_of (map string_bytes words.now)) (F.held files.old)
+    ensures untouched { LeavesDisk (command_of (map string_bytes words.now)) (F.held files.old)
         → disk.new ≡ disk.old }
 {
     let Ok(read) = read_words(alloc, words) else {
