@@ -7,13 +7,13 @@ ghost use Rattle.store_snapshots.specs.Openings.{AllBegin, IsOf, Narrower, Openi
 ghost use Rattle.store_snapshots.specs.Entries.{Enters};
 
 use std::sync::Arc;
-use store_versions::{Attachment, Directory};
+use store_versions::Directory;
 
 /// What comes of an entry.
 #[derive(Drop)]
-pub enum Entered<A: Attachment = ()> {
+pub enum Entered {
     /// A share of the published version.
-    Share(Arc<Directory<A>>),
+    Share(Arc<Directory>),
     /// Nothing: the entry is refused.
     Refused,
     /// Nothing: memory ran out.
@@ -25,9 +25,6 @@ pub enum Entered<A: Attachment = ()> {
 pub trait Entry {
     /// What tells it of a version.
     type Note;
-
-    /// What is attached to its versions.
-    type Attached: Attachment;
 
     /// The base of each version that it gives, the list with which that version's list begins, and
     /// how many refreshes the list will have in the end.
@@ -47,7 +44,7 @@ pub trait Entry {
     ghost note_version: { Self.Note → Trials };
 
     /// A share of the published version. Out of memory may have raised the number alone.
-    fn enter(&mut self) -> Entered<Self::Attached>
+    fn enter(&mut self) -> Entered
         ensures opening { opening self.new ≡ opening self.old }
         ensures more { Narrower (fits self.old) (fits self.new) }
         ensures entered { Enters (opening self.old) (fits self.old) (fits self.new)
@@ -55,7 +52,7 @@ pub trait Entry {
             (refusals self.old) (refusals self.new) result };
 
     /// The note's version, which its number is from now on at least. Nothing is counted.
-    fn learn(&mut self, note: Self::Note) -> Arc<Directory<Self::Attached>>
+    fn learn(&mut self, note: Self::Note) -> Arc<Directory>
         requires { IsOf (opening self.old) (note_version note) }
         ensures opening { opening self.new ≡ opening self.old }
         ensures more { Narrower (fits self.old) (fits self.new) }

@@ -7,19 +7,18 @@ use crate::publisher::{Published, Publisher};
 use crate::snapshot::Snapshot;
 use std::alloc::AllocError;
 use std::sync::Wait;
-use store_versions::Attachment;
 
 /// The refreshes that a publisher's list has left, none of which has a sender. It keeps the version
 /// at which it began, so begin it at the opening's version, which each later one keeps too.
 #[derive(Drop)]
-pub struct ListFeed<A: Attachment = ()> {
-    start: Snapshot<A>,
+pub struct ListFeed {
+    start: Snapshot,
     count: usize,
 }
 
-impl<A: Attachment> ListFeed<A> {
+impl ListFeed {
     /// Those that this publisher has left.
-    pub fn new(publisher: &Publisher<A>) -> Result<ListFeed<A>, AllocError>
+    pub fn new(publisher: &Publisher) -> Result<ListFeed, AllocError>
         ensures { IfOk result (λ feed. (feed.start ≡ publisher.now.version) × (feed.count ≡ 0)) }
     {
         let start = publisher.snapshot()?;
@@ -27,9 +26,7 @@ impl<A: Attachment> ListFeed<A> {
     }
 }
 
-impl<A: Attachment> Feed for ListFeed<A> {
-    type Attached = A;
-
+impl Feed for ListFeed {
     ghost tried = { λ f. list_tried f.start f.count };
 
     ghost source = { λ f. [] };
@@ -40,11 +37,7 @@ impl<A: Attachment> Feed for ListFeed<A> {
 
     ghost faults = { λ f. 0 };
 
-    fn turn<R: Wait>(
-        &mut self,
-        rt: &R,
-        publisher: &mut Publisher<A>,
-    ) -> Result<FeedTurn<A>, FeedError> {
+    fn turn<R: Wait>(&mut self, rt: &R, publisher: &mut Publisher) -> Result<FeedTurn, FeedError> {
         let _listed = publisher.listed();
         match publisher.publish_next(rt) {
             Published::Published(note) => {

@@ -15,36 +15,28 @@ use crate::reader::Reader;
 use crate::rule::{ShelfWriter, publish, start};
 use crate::ruled::RuledEntry;
 use crate::ruled_hall::RuledHall;
-use crate::shelf::Shelf;
 use crate::snapshot::Snapshot;
 use base_refusals::Cause;
 use core::mem::replace_with;
-use left_right::Absorb;
 use std::alloc::{AllocError, Global};
 use std::marker::Model;
 use std::sync::{Arc, Wait};
 use store_state::{Refresh, RefreshError, State};
-use store_versions::{Attachment, Directory};
+use store_versions::Directory;
 
 /// Tries refreshes one after the other, those of its list and then those that are given, which come
 /// to the list's end, and shows readers the versions. It is seen as its last version and the one
 /// that readers are shown, with how often its hall refused an entry, and with the last version's
 /// segments from a compaction up to the next refresh that is tried. It is not dropped: `close` ends
 /// it.
-pub struct Publisher<A: Attachment = ()>
-where
-    Shelf<A>: Absorb<Shelf<A>, State = Directory<A>>,
-{
+pub struct Publisher {
     alloc: Global,
-    writer: ShelfWriter<A>,
+    writer: ShelfWriter,
     refused: u64,
-    latest: Latest<A>,
+    latest: Latest,
 }
 
-impl<A: Attachment> Model for Publisher<A>
-where
-    Shelf<A>: Absorb<Shelf<A>, State = Directory<A>>,
-{
+impl Model for Publisher {
     ghost use Rattle.store_snapshots.specs.Publishers.{Edition, IsInStep, joined_in, version_in};
     ghost use Rattle.store_snapshots.specs.Rule.{on_shelf};
 
@@ -62,9 +54,9 @@ where
 
 /// What comes of a trial.
 #[derive(Drop)]
-pub enum Published<A: Attachment = ()> {
+pub enum Published {
     /// The refresh was accepted, and readers are shown the version after it. The note tells of it.
-    Published(Note<A>),
+    Published(Note),
     /// The refresh was refused.
     Refused(Cause),
     /// Each refresh was tried.
@@ -75,23 +67,23 @@ pub enum Published<A: Attachment = ()> {
 
 /// What comes of a trial of a refresh that is given.
 #[derive(Drop)]
-pub enum Given<A: Attachment = ()> {
+pub enum Given {
     /// The refresh was accepted, and readers are shown the version after it. The note tells of it.
-    Published(Note<A>),
+    Published(Note),
     /// The refresh was refused.
     Refused(Cause),
     /// Memory ran out.
     OutOfMemory,
 }
 
-impl<A: Attachment> Publisher<A> {
+impl Publisher {
     ghost use Rattle.store_snapshots.specs.Given.{TriesNext};
     ghost use Rattle.store_snapshots.specs.Publishers.{Foretells, LiesJoined, Shows, StaysUntried};
     ghost use Rattle.store_snapshots.specs.Publishers.{TellsVersion, Tries};
 
     /// Tries the next refresh of the list. Where memory runs out all stays as it was. Where each
     /// refresh was tried, no memory is taken.
-    pub fn publish_next<R: Wait>(&mut self, rt: &R) -> Published<A>
+    pub fn publish_next<R: Wait>(&mut self, rt: &R) -> Published
         ensures tries { Tries self.old.version self.new.version result }
         ensures none { self.old.version.done ≡ length self.old.version.list
             → result ≡ Published.NoMore }
@@ -114,7 +106,7 @@ impl<A: Attachment> Publisher<A> {
 
     /// Puts a refresh at the end of a list of which each one was tried, and tries it there. Where
     /// memory runs out all stays as it was, and the list too.
-    pub fn publish_given<R: Wait>(&mut self, rt: &R, refresh: Refresh) -> Given<A>
+    pub fn publish_given<R: Wait>(&mut self, rt: &R, refresh: Refresh) -> Given
         requires done { self.old.version.done ≡ length self.old.version.list }
         requires room { length self.old.version.list < self.old.version.most }
         ensures tries { TriesNext (offered refresh self.old.version) self.old self.new result }
@@ -130,7 +122,7 @@ impl<A: Attachment> Publisher<A> {
     }
 
     /// Tries the next refresh of a version that is this one, but for a list that may be longer.
-    fn try_next<R: Wait>(&mut self, rt: &R, mut trials: Directory<A>) -> Given<A>
+    fn try_next<R: Wait>(&mut self, rt: &R, mut trials: Directory) -> Given
         requires left { trials.done < length trials.list }
         requires follows { MayFollow self.old.version trials }
         requires number { version_of trials ≡ version_of self.old.version }
@@ -154,8 +146,8 @@ impl<A: Attachment> Publisher<A> {
     fn show<R: Wait>(
         &mut self,
         rt: &R,
-        share: Arc<Directory<A>>,
-        latest: Latest<A>,
+        share: Arc<Directory>,
+        latest: Latest,
     ) -> Result<(), AllocError>
         requires share { arc_value share ≡ version_in latest }
         requires follows { MayFollow self.old.version (version_in latest) }
@@ -167,13 +159,13 @@ impl<A: Attachment> Publisher<A> {
         }) }
         ensures err { OnErr result (self.new ≡ self.old) }
     {
-        replace_with(&mut self.writer, (rt, share), publish::<A, R>)?;
+        replace_with(&mut self.writer, (rt, share), publish::<R>)?;
         self.latest = latest;
         Ok(())
     }
 
     /// Shows readers the next version, and tells of it.
-    fn show_next<R: Wait>(&mut self, rt: &R, next: Directory<A>) -> Result<Note<A>, AllocError>
+    fn show_next<R: Wait>(&mut self, rt: &R, next: Directory) -> Result<Note, AllocError>
         requires { MayFollow self.old.version next }
         ensures version { OnOk result ((self.new.version ≡ next) × (self.new.shown ≡ next)) }
         ensures refused { self.new.refused ≡ self.old.refused }
@@ -225,7 +217,7 @@ impl<A: Attachment> Publisher<A> {
     }
 
     /// A snapshot of the last version. It shares the rows and copies none.
-    pub fn snapshot(&self) -> Result<Snapshot<A>, AllocError>
+    pub fn snapshot(&self) -> Result<Snapshot, AllocError>
         ensures { IfOk result (λ snapshot. snapshot ≡ self.now.version) }
     {
         let share = Arc::new(self.alloc, self.latest.directory()?)?;
@@ -249,7 +241,7 @@ impl<A: Attachment> Publisher<A> {
     }
 
     /// A note of the version that is shown. Its number is the last version's.
-    pub fn tell(&self) -> Result<Note<A>, AllocError>
+    pub fn tell(&self) -> Result<Note, AllocError>
         ensures note { IfOk result (TellsVersion self.now.shown) }
         ensures number { version_of self.now.shown ≡ version_of self.now.version }
     {
@@ -287,17 +279,15 @@ impl<A: Attachment> Publisher<A> {
 
 /// A publisher of a base with nothing tried, and as many readers of its versions as are wanted;
 /// fewer, but one, only where its hall refused an entry. Its list will have at most so many
-/// refreshes in the end. The attachment is right for the base.
-pub fn open<A: Attachment, R: Wait>(
+/// refreshes in the end.
+pub fn open<R: Wait>(
     rt: &R,
     alloc: Global,
     base: State,
-    attachment: A,
     list: Vec<Refresh>,
     want: u32,
     most: usize,
-) -> Result<(Publisher<A>, Vec<Reader<RuledEntry<A>>>), AllocError>
-    requires right { A.is_right attachment base }
+) -> Result<(Publisher, Vec<Reader<RuledEntry>>), AllocError>
     requires want { 1 ≤ want }
     requires most { length list.items ≤ most }
     ensures publisher { IfOk result (λ r. r.0.version
@@ -307,7 +297,7 @@ pub fn open<A: Attachment, R: Wait>(
     ensures lists { IfOk result (λ r. HaveSeenLists list_fits r.1.items) }
     ensures enough { IfOk result (λ r. SeatsEnough want (length r.1.items) 0 r.0.refused) }
 {
-    let directory = Directory::new(alloc, base, attachment, list, most)?;
+    let directory = Directory::new(alloc, base, (), list, most)?;
     let share = Arc::new(alloc, directory.another()?)?;
     let shown = Arc::try_clone(&share)?;
     let Some(writer) = start(rt, alloc, shown, want as usize) else {
@@ -324,11 +314,7 @@ pub fn open<A: Attachment, R: Wait>(
 }
 
 /// A publisher of the version that a hall shows.
-fn publisher_of<A: Attachment>(
-    alloc: Global,
-    hall: RuledHall<A>,
-    directory: Directory<A>,
-) -> Publisher<A>
+fn publisher_of(alloc: Global, hall: RuledHall, directory: Directory) -> Publisher
     requires { directory ≡ shown_in hall }
     ensures version { (result.version ≡ directory) × (result.shown ≡ directory) }
     ensures refused { result.refused ≡ hall.refusals }
@@ -346,12 +332,12 @@ fn publisher_of<A: Attachment>(
 }
 
 /// Seats readers in a hall that shows its opening's directory.
-fn seat_all<A: Attachment>(
+fn seat_all(
     alloc: Global,
-    start: &Arc<Directory<A>>,
+    start: &Arc<Directory>,
     want: usize,
-    hall: &mut RuledHall<A>,
-) -> Result<Vec<Reader<RuledEntry<A>>>, AllocError>
+    hall: &mut RuledHall,
+) -> Result<Vec<Reader<RuledEntry>>, AllocError>
     requires want { 1 ≤ want }
     requires start { arc_value start.now ≡ shown_in hall.old }
     requires fresh { version_of (arc_value start.now) ≡ 0 }
