@@ -1,18 +1,17 @@
 -- Cells of batches as the fields of lines.
-use Rattle.std.proofs.Common.{◌≡◌, ℕ, suc, zero, ◌+◌, ◌/◌, ◌%◌, ◌<◌, Bool, false, List, [], ◌∷◌, ◌++◌, ℤ, pos, map, refl, sym, ap, ◌∙◌, arith, append_assoc, append-nil, drop, length, get_or}
+use Rattle.std.proofs.Common.{◌≡◌, ℕ, suc, zero, ◌+◌, ◌/◌, ◌%◌, ◌<◌, Bool, false, List, [], ◌∷◌, ◌++◌, ℤ, pos, map, refl, sym, ap, ◌∙◌, arith, append_assoc, drop, length, get_or}
 use Rattle.std.specs.Fmt.{decimal}
 use Rattle.std.specs.List.{All}
 use Rattle.std.proofs.Math.Nat.{div-one}
-use Rattle.std.proofs.lemmas.List.{drop_all, get_or-map, length-map}
+use Rattle.std.proofs.lemmas.List.{get_or-map, length-map}
 use Rattle.base_row_laws.specs.Ranked.{Ranked, ranked, true_rank}
 use Rattle.base_value.specs.declared.value.Value.{Value}
 use Rattle.base_value.specs.declared.value.Value.TheVariants.{Null, Number, Date}
 use Rattle.base_null_marks.specs.Marks.{marked, has}
 use Rattle.base_columns.specs.Batches.{column_at, row_at}
-use Rattle.base_columns.specs.Lists.{one_list}
 use Rattle.base_columns.specs.Tables.{standing_rows}
 use Rattle.base_columns.proofs.MarkedColumns.{long-marked, null_there, value_there}
-use Rattle.base_columns.proofs.SegmentLists.{length-standing, stored-row}
+use Rattle.base_columns.proofs.SegmentLists.{stored-row}
 use Rattle.base_decimal.specs.Written.{size_written}
 use Rattle.store_refresh_text.specs.Text.{date_written, field_written, fields_written, row_written, rows_text}
 
@@ -77,13 +76,6 @@ one_field rows i j w text new last whole h l wide e n b =
     ∙ ap (λ more. text ++ more) (sym (append_assoc field (124 ∷ []) (fields_written (drop (suc j) values))) ∙ sym (fields_from values j long))
     ∙ e)
 
--- all fields of a row
-pub all_fields : (rows : List (Ranked Value)) (i w : ℕ) (text whole : List ℕ) → i < length rows → All (λ r. length r.values ≡ w) rows
-    → text ++ fields_written (drop w (row_at rows i).values) ≡ whole → text ≡ whole
-all_fields rows i w text whole h wide e =
-    let end : drop w (row_at rows i).values ≡ [] = drop_all w (row_at rows i).values (omega (arith, wide i (ranked [] true_rank) h)) in
-    sym (append-nil text) ∙ sym (ap (λ values. text ++ fields_written values) end) ∙ e
-
 -- the lines from a place on
 lines_from : (rows : List (List Value)) (i : ℕ) → i < length rows
     → rows_text (drop i rows) ≡ row_written (get_or rows i []) ++ rows_text (drop (suc i) rows)
@@ -102,9 +94,3 @@ one_line rows plain i text new whole s h e n =
     let written : new ≡ text ++ line = n ∙ ap (λ values. text ++ row_written values) (stored-row rows plain i s h) in
     rw (written, next)
     (append_assoc text line (rows_text (drop (suc i) plain)) ∙ ap (λ more. text ++ more) (sym (lines_from plain i h)) ∙ e)
-
--- the lines of lists of rows
-pub lines_of_lists : (rows more : List (List Value)) → rows_text (rows ++ more) ≡ rows_text rows ++ rows_text more
-lines_of_lists [] more = refl
-lines_of_lists (row ∷ rows) more =
-    ap (λ text. row_written row ++ text) (lines_of_lists rows more) ∙ sym (append_assoc (row_written row) (rows_text rows) (rows_text more))
