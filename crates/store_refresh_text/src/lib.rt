@@ -2,10 +2,10 @@
 //! from them.
 #![tactic(auto)]
 
-mod fields;
 mod laws;
 mod reading;
 mod text;
+mod values;
 
 pub use laws::texts_are_read_back;
 pub use reading::{keys_of, rows_of};

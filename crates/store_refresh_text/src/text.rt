@@ -3,7 +3,7 @@ ghost use Rattle.std.specs.Prelude.{◌≡◌, ◌<◌, ◌++◌, [], ◌∷◌,
 ghost use Rattle.base_columns.specs.Batches.{row_at};
 ghost use Rattle.store_refresh_text.specs.Text.{fields_written, keys_text, row_written, rows_text};
 
-use crate::fields::{push_field, push_number};
+use crate::values::{push_field, push_number};
 use base_columns::{Batch, Rows, Segment};
 use base_decimal::Scale;
 use std::alloc::AllocError;

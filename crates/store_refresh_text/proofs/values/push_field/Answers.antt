@@ -1,6 +1,6 @@
 use Rattle.base_value.specs.declared.value.Value.TheVariants.{Number, Date}
 use Rattle.store_refresh_text.proofs.Cells.{is_inside}
-use Rattle.store_refresh_text.proofs.fields.push_field.Goals as goal
+use Rattle.store_refresh_text.proofs.values.push_field.Goals as goal
 
 pub push_number_at-requires : goal.push_number_at-requires
 push_number_at-requires c = is_inside c.args.column.now _ (Number _) _ c.args.i c.in-Some.ensures c.requires

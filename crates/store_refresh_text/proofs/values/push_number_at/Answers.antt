@@ -3,7 +3,7 @@ use Rattle.std.specs.Prelude.{FitsSigned}
 use Rattle.std.specs.Int.{w64}
 use Rattle.std.proofs.lemmas.Int.{to_z-of_z}
 use Rattle.store_refresh_text.proofs.Cells.{number_there}
-use Rattle.store_refresh_text.proofs.fields.push_number_at.Goals as goal
+use Rattle.store_refresh_text.proofs.values.push_number_at.Goals as goal
 
 pub returns : goal.returns
 returns c =
