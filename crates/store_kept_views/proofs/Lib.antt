@@ -9,4 +9,3 @@ pub mod FormsOpened
 pub mod FormLists
 pub mod FormLoops
 pub mod PartLists
-pub mod Followed

@@ -2,7 +2,6 @@
 //! their tables.
 #![tactic(auto)]
 
-mod attached;
 mod bag;
 mod form;
 mod kept;
@@ -13,7 +12,6 @@ mod plan;
 mod reading;
 mod view;
 
-pub use attached::{KeptOf, Plans};
 pub use form::KeptPlanError;
 pub use kept::Kept;
 pub use plan::{KeptAggregate, KeptPlan};

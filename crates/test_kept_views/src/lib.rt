@@ -2,6 +2,4 @@
 #![tactic(auto)]
 
 #[cfg(test)]
-mod follows;
-#[cfg(test)]
 mod plans;
