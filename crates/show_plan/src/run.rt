@@ -1,5 +1,5 @@
 //! A run: its words, its files, and its text.
-ghost use Rattle.std.specs.Prelude.{◌≡◌, ℕ, List, Some, IfOk, map, option_map};
+ghost use Rattle.std.specs.Prelude.{◌≡◌, ◌≢◌, ℕ, List, Some, IfOk, map, option_map};
 ghost use Rattle.std.specs.Io.KnownBytes.{Appends, Keeps};
 ghost use Rattle.std.specs.String.{string_bytes};
 ghost use Rattle.base_io.specs.Outside.{Rose};
@@ -175,6 +175,7 @@ pub fn show_plan<R: Threads + Sync + Clock, F: Files, S: Sink>(
     ensures read { result ≡ Status.ReadFault → Rose (F.faults files.old) (F.faults files.new)
         × Keeps (S.taken out.old) (S.taken out.new) }
     ensures write { result ≡ Status.WriteFault → Rose (S.faults out.old) (S.faults out.new) }
+    ensures no_disk { result ≢ Status.DiskFault }
     ensures held { F.held files.new ≡ F.held files.old }
 {
     let Some(request) = read_words(words) else {

@@ -10,6 +10,7 @@ use Rattle.store_journal.proofs.Moments.{started, weaker}
 use Rattle.store_refresh_entries.specs.Change.{HasFewBytes, IsSpelled, IsStorable, spelling_of}
 use Rattle.store_state.specs.Refresh.{Change}
 use Rattle.store_versions.specs.Trials.{Trials, one_more}
+use Rattle.store_versions.specs.declared.attachment.Attachment.{Ghosts}
 use Rattle.store_durability.specs.Feed.{StoredFits, WithNextOrWithout}
 use Rattle.store_snapshots.specs.Publishers.{AcceptsNext, Edition, RefusesNext}
 use Rattle.store_snapshots.specs.declared.note.Note.{Note}
@@ -52,7 +53,7 @@ module _ (version : Trials) (change : Change) (at : slice_get version.list versi
   same_trials : trials_with change version ≡ version
   same_trials = listed change version one_left
 
-  pub turned_accepts : {A : Type 0} (new : Edition) (note : Note A) → AcceptsNext (trials_with change version) new note → AcceptsNext version new note
+  pub turned_accepts : {A : Type 0} {g : Ghosts A} (new : Edition) (note : Note A g) → AcceptsNext (trials_with change version) new note → AcceptsNext version new note
   turned_accepts new note accepts = subst (λ (t : Trials). AcceptsNext t new note) same_trials accepts
 
   pub turned_refuses : (cause : Cause) (before : Trials) (new : Edition) → RefusesNext (trials_with change version) cause before new → RefusesNext version cause before new
