@@ -1,8 +1,8 @@
-use Rattle.std.proofs.Common.{◌≡◌, ◌<◌, Ok, Some, ap, length, refl, slice_get, slice_index_or, subst, sym, ◌∙◌}
+use Rattle.std.proofs.Common.{◌≡◌, Ok, Some, ap, length, refl, slice_get, slice_index_or, subst, sym, ◌∙◌}
 use Rattle.std.specs.Arc.{arc_value}
 use Rattle.std.proofs.lemmas.Option.{slice_get_read}
 use Rattle.base_schema.specs.State.{State}
-use Rattle.store_state.specs.Refresh.{Change, after}
+use Rattle.store_state.specs.Refresh.{after}
 use Rattle.store_versions.specs.Trials.{Trials, tables_of}
 use Rattle.store_versions.proofs.directory.Directory.attachment_after.Goals as goal
 
