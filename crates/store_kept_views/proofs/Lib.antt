@@ -9,4 +9,4 @@ pub mod FormsOpened
 pub mod FormLists
 pub mod FormLoops
 pub mod PartLists
-pub mod Attached
+pub mod Followed

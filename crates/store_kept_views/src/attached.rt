@@ -1,9 +1,13 @@
 //! Kept groups that a version carries along.
-ghost use Rattle.std.specs.Prelude.{◌≡◌, List, IfOk};
+ghost use Rattle.std.specs.Prelude.{◌≡◌, ◌<◌, List, Some, IfOk, length, slice_get};
+ghost use Rattle.base_row_laws.specs.Bags.{SameBag};
+ghost use Rattle.base_schema.specs.State.{State as Tables, table_rows};
 ghost use Rattle.store_kept_views.specs.declared.plan.KeptPlan.{KeptPlan as Plan};
 ghost use Rattle.store_kept_views.specs.Kept.{kept};
+ghost use Rattle.store_kept_views.specs.Plans.{query_rows};
 
 use crate::kept::Kept;
+use base_columns::Bag;
 use std::alloc::{AllocError, Global};
 use std::marker::{Brand, PhantomData};
 use std::sync::Arc;
@@ -39,6 +43,18 @@ impl<P: Plans> KeptOf<P> {
             kept,
             of: PhantomData,
         }
+    }
+
+    /// The rows of a plan: over each state that this is right for, those of its query, with their
+    /// standings, in any order.
+    pub fn rows(&self, i: usize) -> Result<Bag, AllocError>
+        requires { i < length self.now.kept.plans }
+        ensures { IfOk result (λ bag. (state : Tables) (plan : Plan)
+            → self.now.kept ≡ kept P.plans state → slice_get P.plans i ≡ Some plan
+            → SameBag bag.rows (query_rows plan (table_rows state plan.table))) }
+    {
+        let rows = self.kept.rows(i)?;
+        Ok(rows)
     }
 }
 
