@@ -28,6 +28,8 @@ pub struct View {
     pub block: Boxed<BoundBlock>,
     /// How many FROM items its query has, all those in it counted.
     pub items: u32,
+    /// The number of the kept view that it is, where its rows are kept.
+    pub kept: Option<u32>,
 }
 
 /// The views of a session.

@@ -1,6 +1,7 @@
 -- Queries worked out by hand over small tables.
-use Rattle.std.specs.Prelude.{◌≡◌, ℕ, ◌-◌, ◌^◌, List, [], ◌∷◌, Some, None, Ok, Err}
-use Rattle.std.specs.Prelude.{pos, codes, true}
+use Rattle.std.specs.Prelude.{◌≡◌, ℕ, ◌-◌, ◌^◌, ◌==◌, List, [], ◌∷◌, Option, Some, None, Ok, Err}
+use Rattle.std.specs.Prelude.{pos, codes, true, if◌then◌else◌}
+use Rattle.base_row_laws.specs.Ranked.{ranked, true_rank}
 use Rattle.expr_aggregates.specs.declared.function.AggregateFunction.TheVariants.{Sum}
 use Rattle.base_order_limit.specs.declared.key.OrderKey.{OrderKey}
 use Rattle.expr_operators.specs.declared.operator.Arithmetic.TheVariants.{Add, Divide}
@@ -23,7 +24,7 @@ use Rattle.sql_bound_query.specs.declared.query.BoundSource.TheVariants.{Table, 
 use Rattle.sql_bound_query.specs.declared.query.Input.{Input}
 use Rattle.sql_bound_query.specs.declared.query.Input.TheVariants as input
 use Rattle.sql_bound_query.specs.Answer.{answer}
-use Rattle.sql_bound_query.specs.Reads.{reads}
+use Rattle.sql_bound_query.specs.Reads.{ViewRows, reads}
 
 -- a whole number
 abbrev pub whole : ℕ → Value
@@ -181,16 +182,23 @@ customers_and_orders =
     Plain (Outer (Table Customer) (Table Orders) 9
     (over_two (input.Column 0 9) (input.Column 0 0) equal_inputs)) always (at 0 ∷ at 8 ∷ [])
 
--- select k, (select count(*) from orders where o_orderkey = k) from (..) as t
-abbrev pub count_for_null : BoundBlock
-count_for_null = Plain (Derived customers_and_orders) always
+-- select k, (select count(*) from orders where o_orderkey = k) from (..) as t, where (..) is the
+-- kept view of a number or none
+abbrev pub count_for_null_of : Option ℕ → BoundBlock
+count_for_null_of kept = Plain (Derived kept customers_and_orders) always
     (at 1 ∷ over (input.Scalar (orders_counted 0 1)) (e.Column 0) ∷ [])
 
--- A count over no rows is 0, and a null outer value meets no row.
+abbrev pub count_for_null : BoundBlock
+count_for_null = count_for_null_of None
+
+-- A count over no rows is 0, and a null outer value meets no row. A kept view means what its query
+-- does.
 abbrev pub Counts : Type 0
 Counts = (answer (statement orders_of_each) small
     ≡ Ok ((whole 1 ∷ whole 2 ∷ []) ∷ (whole 2 ∷ whole 0 ∷ []) ∷ []))
     × (answer (statement count_for_null) small
+    ≡ Ok ((whole 7 ∷ whole 1 ∷ []) ∷ (whole 8 ∷ whole 1 ∷ []) ∷ (Null ∷ whole 0 ∷ []) ∷ []))
+    × (answer (statement (count_for_null_of (Some 1))) small
     ≡ Ok ((whole 7 ∷ whole 1 ∷ []) ∷ (whole 8 ∷ whole 1 ∷ []) ∷ (Null ∷ whole 0 ∷ []) ∷ []))
 
 -- select case when o_orderkey = 7 then 9 end from orders where ..
@@ -284,7 +292,22 @@ Finished = (answer (record { block = keys_where always; order = downwards ∷ []
     × (answer (record { block = keys_where (closed zero_divides); order = []; limit = Some 0 })
     small ≡ Err (Failed DivideByZero))
 
--- Each table that stands in a query is read once, in subqueries too.
+-- no kept view has a row
+abbrev pub no_views : ViewRows
+no_views number = []
+
+-- the kept view of the number 1 has three rows
+abbrev pub three_for_one : ViewRows
+three_for_one number =
+    if number == 1
+    then ranked (whole 7 ∷ []) true_rank ∷ ranked (whole 8 ∷ []) true_rank
+    ∷ ranked (Null ∷ []) true_rank ∷ []
+    else []
+
+-- Each table and each kept view that stands in a query is read once, in subqueries too. For a kept
+-- view no table of its query is read.
 abbrev pub Reading : Type 0
-Reading = (reads two_levels small ≡ 9) × (reads orders_of_each small ≡ 4)
-    × (reads count_for_null small ≡ 6)
+Reading = (reads two_levels small no_views ≡ 9) × (reads orders_of_each small no_views ≡ 4)
+    × (reads count_for_null small no_views ≡ 6)
+    × (reads (count_for_null_of (Some 1)) small three_for_one ≡ 5)
+    × (reads (count_for_null_of (Some 0)) small three_for_one ≡ 2)
