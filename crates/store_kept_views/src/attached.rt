@@ -1,6 +1,6 @@
 //! Kept groups that a version carries along.
 ghost use Rattle.std.specs.Prelude.{◌≡◌, List, IfOk};
-ghost use Rattle.store_kept_views.specs.declared.plan.KeptPlan.{KeptPlan as Plan};
+ghost use Rattle.plan_algebra.specs.declared.kept_plan.KeptPlan.{KeptPlan as Plan};
 ghost use Rattle.store_kept_views.specs.Kept.{kept};
 
 use crate::kept::Kept;

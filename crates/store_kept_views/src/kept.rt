@@ -4,13 +4,13 @@ ghost use Rattle.std.specs.Arc.{arc_value};
 ghost use Rattle.base_row_laws.specs.Bags.{SameBag};
 ghost use Rattle.base_schema.specs.State.{table_rows};
 ghost use Rattle.store_state.specs.Moves.{AreMoved};
-ghost use Rattle.store_kept_views.specs.declared.plan.KeptPlan.{KeptPlan as Plan};
-ghost use Rattle.store_kept_views.specs.Plans.{query_rows};
+ghost use Rattle.plan_algebra.specs.declared.kept_plan.KeptPlan.{KeptPlan as Plan};
+ghost use Rattle.plan_algebra.specs.KeptPlans.{query_rows};
 ghost use Rattle.store_kept_views.specs.Kept.{AreKept, CanMoveViews, kept, plans_of};
 
-use crate::plan::KeptPlan;
 use crate::view::View;
 use base_columns::Bag;
+use plan_algebra::KeptPlan;
 use std::alloc::{AllocError, Global};
 use std::marker::Model;
 use std::sync::Arc;

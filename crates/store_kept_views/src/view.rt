@@ -3,14 +3,14 @@ ghost use Rattle.std.specs.Prelude.{◌≡◌, IfOk};
 ghost use Rattle.std.specs.Arc.{arc_value};
 ghost use Rattle.base_row_laws.specs.Bags.{SameBag};
 ghost use Rattle.base_schema.specs.State.{State as Tables, table_rows};
-ghost use Rattle.store_kept_views.specs.Plans.{query_rows};
+ghost use Rattle.plan_algebra.specs.KeptPlans.{query_rows};
 ghost use Rattle.store_kept_views.specs.Kept.{CanMoveView, IsKept};
 
 use crate::bag::bag_of;
 use crate::moving::{groups_after, groups_of};
 use crate::output::shown_rows;
-use crate::plan::KeptPlan;
 use base_columns::Bag;
+use plan_algebra::KeptPlan;
 use std::alloc::{AllocError, Global};
 use std::marker::Model;
 use std::sync::Arc;
@@ -26,7 +26,7 @@ pub(crate) struct View {
 
 impl Model for View {
     ghost use Rattle.std.specs.Arc.{arc_value};
-    ghost use Rattle.store_kept_views.specs.declared.plan.KeptPlan.{KeptPlan as Plan};
+    ghost use Rattle.plan_algebra.specs.declared.kept_plan.KeptPlan.{KeptPlan as Plan};
     ghost use Rattle.store_groups.specs.Entries.{Entries};
     ghost use Rattle.std.specs.Coded.{codes};
     ghost use Rattle.expr_scalar.specs.contracts.expr.Expr as expr;

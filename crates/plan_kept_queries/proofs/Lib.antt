@@ -1,0 +1,3 @@
+pub mod FormsOpened
+pub mod FormLists
+pub mod FormLoops

@@ -1,0 +1,6 @@
+//! Queries whose rows are kept: the plan of each, and which other queries have none.
+#![tactic(auto)]
+
+mod form;
+
+pub use form::{KeptPlanError, plan_of, plan_of_block};
