@@ -174,7 +174,7 @@ scan_wide table rows h =
     (Each-weaker (RowIsOf table) (λ r. length r ≡ length (kinds_of table)) rows (λ r k. row_long table r k) (each_of_all (RowIsOf table) rows h))
 
 -- rows of a kept plan
-query_wide : (plan : KeptPlan) (rows : List (List Value)) → Each (Has (length plan.list)) (query_rows plan rows)
+pub query_wide : (plan : KeptPlan) (rows : List (List Value)) → Each (Has (length plan.list)) (query_rows plan rows)
 unfolding query_rows
 query_wide plan rows =
     project_wide (length plan.list) (columns Null plan.list)

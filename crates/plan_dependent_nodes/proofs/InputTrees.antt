@@ -21,7 +21,7 @@ use Rattle.expr_scalar.specs.Rename.{IsRenamed, gathered}
 use Rattle.expr_scalar.proofs.Opened.{value_Column, truth_Compare}
 use Rattle.expr_conditions.specs.Ranks.{rank_of}
 use Rattle.expr_conditions.proofs.Ranks.{rank_All}
-use Rattle.base_schema.specs.declared.table.TableName.{TableName}
+use Rattle.plan_algebra.specs.Trees.{Occurrence}
 use Rattle.base_schema.specs.State.{State, table_rows}
 use Rattle.sql_bound_query.specs.declared.query.BoundAggregate.{BoundAggregate}
 use Rattle.sql_bound_query.specs.declared.query.BoundAggregate.TheVariants as aggregate
@@ -59,7 +59,7 @@ use Rattle.plan_dependent_nodes.proofs.Attachments.{attaches_column, attached_ro
 
 -- ---- lists, one element more
 
-pub joined_more : {X : Type 0} (f : X → List TableName) (xs : List X) (i : ℕ) (x : X)
+pub joined_more : {X : Type 0} (f : X → List Occurrence) (xs : List X) (i : ℕ) (x : X)
     → i < length xs → x ≡ get_or xs i x
     → joined_tables (map f (take i xs)) ++ f x ≡ joined_tables (map f (take (i + 1) xs))
 joined_more f xs i x h e =

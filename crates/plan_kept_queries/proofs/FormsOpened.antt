@@ -215,3 +215,33 @@ unfolding is_kept
 plain q n is none free =
     let e : length q.order ≡ 0 = omega (arith, is, none) in
     ap (λ m. (m == 0) && (not (is_some q.limit) && is_kept_block q.block)) e ∙ ap (λ b. not b && is_kept_block q.block) free
+
+-- a query that is kept is grouped
+pub record IsGrouped (q : BoundBlock) : Type 0 where
+  pub from : BoundSource
+  pub condition : BoundExpr
+  pub by : List ℕ
+  pub aggregates : List BoundAggregate
+  pub having : BoundExpr
+  pub list : List BoundExpr
+  pub is : q ≡ block.Grouped from condition by aggregates having list
+  pub columns : columns_of q ≡ length list
+
+grouped_at : (q : BoundBlock) (x : BlockNode) → q ≡ roll-BoundBlock x → is_block_at x ≡ true → IsGrouped q
+grouped_at q (node.Grouped from condition by aggregates having list) is kept =
+    let named : q ≡ block.Grouped from condition by aggregates having list = is ∙ block.rolls-Grouped from condition by aggregates having list in
+    record {
+      from = from;
+      condition = condition;
+      by = by;
+      aggregates = aggregates;
+      having = having;
+      list = list;
+      is = named;
+      columns = ap columns_of named ∙ columns_Grouped from condition by aggregates having list;
+    }
+grouped_at q x is kept = absurd (true≢false (sym kept))
+
+pub grouped_of : (q : BoundBlock) → is_kept_block q ≡ true → IsGrouped q
+unfolding is_kept_block
+grouped_of q kept = grouped_at q (out-BoundBlock q) (block_rolled q) kept

@@ -16,7 +16,9 @@ use Rattle.plan_dependent_tree.proofs.SeenSources.{kept_seen}
 use Rattle.plan_dependent_tree.proofs.SeenSources.{dependent_seen}
 use Rattle.plan_dependent_tree.proofs.SeenSources.{keeps_right_seen}
 use Rattle.plan_dependent_tree.proofs.FromTrees.{from_arm, right_shared, right_closed}
+use Rattle.plan_dependent_tree.proofs.FromTrees.{derived_alone, derived_kept}
 use Rattle.plan_dependent_tree.proofs.SuppliedClauses.{plain_width, grouped_width, distinct_width}
+use Rattle.plan_dependent_tree.proofs.SuppliedClauses.{kept_width}
 use Rattle.plan_dependent_tree.proofs.SuppliedClauses.{set_width}
 use Rattle.plan_dependent_tree.proofs.SuppliedSources.{from_supplied, from_width}
 use Rattle.plan_dependent_tree.proofs.SuppliedSources.{table_width}
@@ -216,6 +218,20 @@ from_rows-returns-clause-tree t c =
 
 pub from_rows-returns-clause-width : goal.from_rows-returns-clause-width
 from_rows-returns-clause-width t c = from_width c.args.s.now c.in_ok-rows.ensures.width
+
+pub derived-returns-in_ok-rows-in-None-clause-tree :
+    goal.derived-returns-in_ok-rows-in-None-clause-tree
+derived-returns-in_ok-rows-in-None-clause-tree t c =
+    λ p. derived_alone c.args.q.now c.in-None.is (c.in_ok-rows-in-None.ensures.tree p)
+
+pub derived-returns-in_ok-rows-in-Some-clause-tree :
+    goal.derived-returns-in_ok-rows-in-Some-clause-tree
+derived-returns-in_ok-rows-in-Some-clause-tree t c =
+    λ p. derived_kept c.args.q.now c.in-Some.is c.in_ok-rows-in-Some.ensures
+
+pub derived-returns-in_ok-rows-in-Some-clause-width :
+    goal.derived-returns-in_ok-rows-in-Some-clause-width
+derived-returns-in_ok-rows-in-Some-clause-width t c = kept_width c.in_ok-rows-in-Some.ensures
 
 pub source-returns-in_ok-rows-in-Table-clause-tree :
     goal.source-returns-in_ok-rows-in-Table-clause-tree
