@@ -1,7 +1,15 @@
--- Groups that follow an accepted refresh.
-use Rattle.std.proofs.Common.{◌≡◌, Option, Some, None, Ok, subst, sym, ap}
+-- Groups that follow an accepted refresh, and the rows that they show.
+use Rattle.std.proofs.Common.{◌≡◌, ◌∙◌, ℕ, ◌+◌, List, [], ◌∷◌, Option, Some, None, Ok, subst, sym, ap}
+use Rattle.std.proofs.Common.{refl, arith, length}
+use Rattle.std.specs.Prelude.{slice_get}
 use Rattle.base_refusals.specs.declared.refresh.Cause.{Cause}
-use Rattle.base_schema.specs.State.{State}
+use Rattle.base_row_laws.specs.Bags.{SameBag, weigh}
+use Rattle.base_row_laws.specs.Ranked.{Ranked}
+use Rattle.base_schema.specs.State.{State, table_rows}
+use Rattle.base_value.specs.declared.value.Value.{Value}
+use Rattle.plan_algebra.specs.declared.kept_plan.KeptPlan.{KeptPlan}
+use Rattle.plan_algebra.specs.KeptPlans.{query_rows}
+use Rattle.store_kept_views.specs.Kept.{KeptRows, kept, rows_of_view, view_rows}
 use Rattle.store_state.specs.Moves.{AreMoved}
 use Rattle.store_state.specs.Refresh.{Change, after, cause_of, changed, unless_cause}
 
@@ -15,3 +23,57 @@ pub moved_to : (tables before added removed state : State) (change : Change) →
 moved_to tables before added removed state change are leaves moved =
     subst (λ t. AreMoved t added removed state) (sym are)
     (subst (AreMoved before added removed) (left_by (cause_of before change) (changed before change) state leaves) moved)
+
+-- a bag keeps the number of its elements
+weighs_ones : {X : Type 0} (xs : List X) → weigh (λ x. 1) xs ≡ length xs
+weighs_ones [] = refl
+weighs_ones (x ∷ xs) = let h = weighs_ones xs in omega (arith, h)
+
+same_length : {X : Type 0} (xs ys : List X) → SameBag xs ys → length xs ≡ length ys
+same_length xs ys same = sym (weighs_ones xs) ∙ same.weighs (λ x. 1) ∙ weighs_ones ys
+
+-- the rows of a view whose plan is the one that is asked for
+module _ (held : KeptRows) (plans : List KeptPlan) (state : State) (number : ℕ) (own : KeptPlan)
+    (right : held ≡ kept plans state) (at : slice_get held.plans number ≡ Some own)
+    (bag : List (Ranked Value)) where
+  abbrev Shows : Type 0
+  Shows = (plan : KeptPlan) → slice_get held.plans number ≡ Some plan
+      → SameBag bag (query_rows plan (table_rows held.tables plan.table))
+
+  own_shown : Shows → SameBag bag (query_rows own (table_rows state own.table))
+  own_shown shows =
+      subst (λ s. SameBag bag (query_rows own (table_rows s own.table)))
+      (ap (λ (k : KeptRows). k.tables) right) (shows own at)
+
+  pub view_shown_by : (asked : KeptPlan) → own ≡ asked → Shows
+      → SameBag bag (query_rows asked (table_rows state asked.table))
+  view_shown_by asked same shows =
+      subst (λ p. SameBag bag (query_rows p (table_rows state p.table))) same (own_shown shows)
+
+  pub view_counted_by : Shows → length bag ≡ length (view_rows plans state number)
+  view_counted_by shows =
+      same_length bag (query_rows own (table_rows state own.table)) (own_shown shows)
+      ∙ ap length (sym (ap (λ o. rows_of_view o state)
+      (sym (ap (λ (k : KeptRows). slice_get k.plans number) right) ∙ at)))
+
+pub view_shown : (held : KeptRows) (plans : List KeptPlan) (state : State) (number : ℕ)
+    (own asked : KeptPlan) → held ≡ kept plans state → slice_get held.plans number ≡ Some own
+    → own ≡ asked → (bag : List (Ranked Value))
+    → ((plan : KeptPlan) → slice_get held.plans number ≡ Some plan
+    → SameBag bag (query_rows plan (table_rows held.tables plan.table)))
+    → SameBag bag (query_rows asked (table_rows state asked.table))
+view_shown held plans state number own asked right at same bag shows =
+    view_shown_by held plans state number own right at bag asked same shows
+
+pub view_counted : (held : KeptRows) (plans : List KeptPlan) (state : State) (number : ℕ)
+    (own : KeptPlan) → held ≡ kept plans state → slice_get held.plans number ≡ Some own
+    → (bag : List (Ranked Value))
+    → ((plan : KeptPlan) → slice_get held.plans number ≡ Some plan
+    → SameBag bag (query_rows plan (table_rows held.tables plan.table)))
+    → length bag ≡ length (view_rows plans state number)
+view_counted held plans state number own right at bag shows =
+    view_counted_by held plans state number own right at bag shows
+
+pub view_wide : (own asked : KeptPlan) → own ≡ asked → (width : ℕ) → width ≡ length own.list
+    → width ≡ length asked.list
+view_wide own asked same width is = is ∙ ap (λ (p : KeptPlan). length p.list) same

@@ -1,9 +1,14 @@
 //! Kept groups that a version carries along.
-ghost use Rattle.std.specs.Prelude.{◌≡◌, List, IfOk};
+ghost use Rattle.std.specs.Prelude.{◌≡◌, List, IfOk, length};
+ghost use Rattle.base_row_laws.specs.Bags.{SameBag};
+ghost use Rattle.base_schema.specs.State.{table_rows};
+ghost use Rattle.plan_algebra.specs.KeptPlans.{query_rows};
 ghost use Rattle.plan_algebra.specs.declared.kept_plan.KeptPlan.{KeptPlan as Plan};
-ghost use Rattle.store_kept_views.specs.Kept.{kept};
+ghost use Rattle.store_kept_views.specs.Kept.{kept, view_rows};
 
 use crate::kept::Kept;
+use base_columns::Bag;
+use plan_algebra::{KeptPlan, is_same_plan};
 use std::alloc::{AllocError, Global};
 use std::marker::{Brand, PhantomData};
 use std::sync::Arc;
@@ -45,6 +50,8 @@ impl<P: Plans> KeptOf<P> {
 impl<P: Plans> Attachment for KeptOf<P> {
     ghost is_right = { λ a state. a.kept ≡ kept P.plans state };
 
+    ghost views = { λ state number. view_rows P.plans state number };
+
     fn share(&self) -> Result<KeptOf<P>, AllocError> {
         Ok(KeptOf::new(self.kept.share()?))
     }
@@ -65,5 +72,17 @@ impl<P: Plans> Attachment for KeptOf<P> {
     fn anew(&self, _alloc: Global, state: &Arc<State>) -> Result<KeptOf<P>, AllocError> {
         let kept = self.kept.anew(Arc::try_clone(state)?)?;
         Ok(KeptOf::new(kept))
+    }
+
+    fn view_rows(&self, _alloc: Global, number: u32, plan: &KeptPlan) -> Result<Bag, AllocError> {
+        let i = number as usize;
+        if i >= self.kept.len() {
+            return Err(AllocError);
+        }
+        if !is_same_plan(self.kept.plan(i), plan) {
+            return Err(AllocError);
+        }
+        let bag = self.kept.rows(i)?;
+        Ok(bag)
     }
 }

@@ -161,11 +161,21 @@ impl Kept {
         self.views.len()
     }
 
+    /// A plan.
+    pub fn plan(&self, i: usize) -> &KeptPlan
+        requires { i < length self.now.plans }
+        ensures { slice_get self.now.plans i ≡ Some result.now }
+    {
+        self.views[i].plan()
+    }
+
     /// The rows of a plan: those of its query over the state, with their standings, in any order.
     pub fn rows(&self, i: usize) -> Result<Bag, AllocError>
         requires { i < length self.now.plans }
-        ensures { IfOk result (λ bag. (plan : Plan) → slice_get self.now.plans i ≡ Some plan
+        ensures rows { IfOk result (λ bag. (plan : Plan) → slice_get self.now.plans i ≡ Some plan
             → SameBag bag.rows (query_rows plan (table_rows self.now.tables plan.table))) }
+        ensures width { IfOk result (λ bag. (plan : Plan) → slice_get self.now.plans i ≡ Some plan
+            → bag.width ≡ length plan.list) }
     {
         self.views[i].rows(self.alloc)
     }

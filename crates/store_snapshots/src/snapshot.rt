@@ -2,14 +2,17 @@
 ghost use Rattle.std.specs.Prelude.{◌≡◌, ◌+◌, ◌≤◌, length, IfOk, OnOk};
 ghost use Rattle.std.specs.Arc.{arc_value};
 ghost use Rattle.base_columns.specs.Lists.{one_list};
+ghost use Rattle.base_row_laws.specs.Bags.{SameBag};
+ghost use Rattle.plan_algebra.specs.KeptPlans.{query_rows};
 ghost use Rattle.plan_algebra.specs.Trees.{HasKinds};
 ghost use Rattle.base_schema.specs.State.{table_rows};
 ghost use Rattle.store_state.specs.Versions.{accepted};
 ghost use Rattle.store_versions.specs.Older.{GivesOlder};
 ghost use Rattle.store_versions.specs.Trials.{tables_of, version_of};
 
+use base_columns::Bag;
 use base_schema::TableName;
-use plan_algebra::{Piece, Steps, Tables};
+use plan_algebra::{KeptPlan, Piece, Steps, Tables};
 use std::alloc::{AllocError, Global};
 use std::marker::Model;
 use std::sync::Arc;
@@ -76,6 +79,8 @@ impl<A: Attachment> Snapshot<A> {
 impl<A: Attachment> Tables for Snapshot<A> {
     ghost rows = { λ snapshot table. table_rows (tables_of snapshot) table };
 
+    ghost views = { λ snapshot number. A.views (tables_of snapshot) number };
+
     fn count(&self, table: TableName) -> u64 {
         Tables::count(&*self.share, table)
     }
@@ -87,5 +92,15 @@ impl<A: Attachment> Tables for Snapshot<A> {
         steps: &mut Steps<L>,
     ) -> Result<Vec<Piece>, AllocError> {
         self.share.scan(alloc, table, steps)
+    }
+
+    fn kept<L: Ledger>(
+        &self,
+        alloc: Global,
+        number: u32,
+        plan: &KeptPlan,
+        steps: &mut Steps<L>,
+    ) -> Result<Bag, AllocError> {
+        self.share.kept(alloc, number, plan, steps)
     }
 }

@@ -355,7 +355,8 @@ impl<A: Attachment> Directory<A> {
         ensures { IfOk result (λ a. A.is_right a (arc_value state.now)) }
     {
         let refresh = &self.list[self.done];
-        self.attachment.after_refresh(self.alloc, &self.state, refresh, state)
+        self.attachment
+            .after_refresh(self.alloc, &self.state, refresh, state)
     }
 
     /// The version of the state that the next refresh, which is accepted, leaves here.

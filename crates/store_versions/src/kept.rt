@@ -37,12 +37,7 @@ impl<A: Attachment> Model for KeptVersion<A> {
 impl<A: Attachment> KeptVersion<A> {
     /// The version of a number, with how many refreshes were tried by then, its tables and what is
     /// attached to them.
-    pub(crate) fn new(
-        number: u64,
-        done: usize,
-        state: Arc<State>,
-        attachment: A,
-    ) -> KeptVersion<A>
+    pub(crate) fn new(number: u64, done: usize, state: Arc<State>, attachment: A) -> KeptVersion<A>
         requires { A.is_right attachment (arc_value state) }
         ensures { result ≡ record { number = number; done = done; state = arc_value state } }
     {

@@ -1,14 +1,17 @@
 //! A version's tables as a run reads them.
 ghost use Rattle.std.specs.Prelude.{◌≡◌, ◌+◌, ◌≤◌, List, IfOk, OnOk, length};
 ghost use Rattle.base_columns.specs.Lists.{one_list};
+ghost use Rattle.base_row_laws.specs.Bags.{SameBag};
+ghost use Rattle.plan_algebra.specs.KeptPlans.{query_rows};
 ghost use Rattle.plan_algebra.specs.Trees.{HasKinds};
 ghost use Rattle.base_schema.specs.State.{table_rows};
 ghost use Rattle.store_versions.specs.Trials.{tables_of};
 
 use crate::attachment::Attachment;
 use crate::directory::Directory;
+use base_columns::Bag;
 use base_schema::TableName;
-use plan_algebra::{Piece, Steps, Tables};
+use plan_algebra::{KeptPlan, Piece, Steps, Tables};
 use sqlite_items::Items;
 use std::alloc::{AllocError, Global};
 use std::sync::ledger::Ledger;
@@ -39,6 +42,8 @@ fn pieces_of(alloc: Global, parts: &[Part]) -> Result<Vec<Piece>, AllocError>
 impl<A: Attachment> Tables for Directory<A> {
     ghost rows = { λ directory table. table_rows (tables_of directory) table };
 
+    ghost views = { λ directory number. A.views (tables_of directory) number };
+
     fn count(&self, table: TableName) -> u64 {
         Directory::count(self, table)
     }
@@ -53,5 +58,17 @@ impl<A: Attachment> Tables for Directory<A> {
         let pieces = pieces_of(alloc, self.parts(table))?;
         steps.add(count);
         Ok(pieces)
+    }
+
+    fn kept<L: Ledger>(
+        &self,
+        alloc: Global,
+        number: u32,
+        plan: &KeptPlan,
+        steps: &mut Steps<L>,
+    ) -> Result<Bag, AllocError> {
+        let bag = self.attachment().view_rows(alloc, number, plan)?;
+        steps.add(bag.len() as u64);
+        Ok(bag)
     }
 }

@@ -16,8 +16,7 @@ invariant_of-self g c =
     let trials : Trials = trials_at (arc_value c.self.inside.base) (arc_value c.self.inside.list).items c.self.inside.done c.self.inside.most in
     let less : c.self.inside.done < length (arc_value c.self.inside.list).items = subst (λ (t : Trials). t.done < length t.list) (sym c.self.view_is) c.requires in
     let here : Leaves c.args.self.now (Err (Refused c.in-Err-Refused.cause)) = rw c.in-Err-Refused.field-0-is at c.in-Err-Refused.ensures in
-    let leaves : Leaves trials (Err (Refused c.in-Err-Refused.cause)) = subst (λ (t : Trials). Leaves t (Err (Refused c.in-Err-Refused.cause))) (sym c.self.view_is) here in
-    (
+    let leaves : Leaves trials (Err (Refused c.in-Err-Refused.cause)) = subst (λ (t : Trials). Leaves t (Err (Refused c.in-Err-Refused.cause))) (sym c.self.view_is) here in (
       record {
         last = kept_refused trials c.self.inside.accepted (arc_value c.self.inside.state) c.in-Err-Refused.cause c.self.invariant.0.last less leaves;
         earlier = c.self.invariant.0.earlier;
