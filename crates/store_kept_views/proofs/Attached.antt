@@ -1,10 +1,11 @@
 -- Groups that follow an accepted refresh, and the rows that they show.
-use Rattle.std.proofs.Common.{◌≡◌, ◌∙◌, ℕ, ◌+◌, List, [], ◌∷◌, Option, Some, None, Ok, subst, sym, ap}
-use Rattle.std.proofs.Common.{refl, arith, length}
+use Rattle.std.proofs.Common.{◌≡◌, ◌∙◌, ℕ, List, Option, Some, None, Ok, subst, sym, ap}
+use Rattle.std.proofs.Common.{length}
 use Rattle.std.specs.Prelude.{slice_get}
 use Rattle.base_refusals.specs.declared.refresh.Cause.{Cause}
-use Rattle.base_row_laws.specs.Bags.{SameBag, weigh}
+use Rattle.base_row_laws.specs.Bags.{SameBag}
 use Rattle.base_row_laws.specs.Ranked.{Ranked}
+use Rattle.base_row_laws.proofs.OfBags.{OfBag-length}
 use Rattle.base_schema.specs.State.{State, table_rows}
 use Rattle.base_value.specs.declared.value.Value.{Value}
 use Rattle.plan_algebra.specs.declared.kept_plan.KeptPlan.{KeptPlan}
@@ -23,14 +24,6 @@ pub moved_to : (tables before added removed state : State) (change : Change) →
 moved_to tables before added removed state change are leaves moved =
     subst (λ t. AreMoved t added removed state) (sym are)
     (subst (AreMoved before added removed) (left_by (cause_of before change) (changed before change) state leaves) moved)
-
--- a bag keeps the number of its elements
-weighs_ones : {X : Type 0} (xs : List X) → weigh (λ x. 1) xs ≡ length xs
-weighs_ones [] = refl
-weighs_ones (x ∷ xs) = let h = weighs_ones xs in omega (arith, h)
-
-same_length : {X : Type 0} (xs ys : List X) → SameBag xs ys → length xs ≡ length ys
-same_length xs ys same = sym (weighs_ones xs) ∙ same.weighs (λ x. 1) ∙ weighs_ones ys
 
 -- the rows of a view whose plan is the one that is asked for
 module _ (held : KeptRows) (plans : List KeptPlan) (state : State) (number : ℕ) (own : KeptPlan)
@@ -52,7 +45,7 @@ module _ (held : KeptRows) (plans : List KeptPlan) (state : State) (number : ℕ
 
   pub view_counted_by : Shows → length bag ≡ length (view_rows plans state number)
   view_counted_by shows =
-      same_length bag (query_rows own (table_rows state own.table)) (own_shown shows)
+      OfBag-length.alike bag (query_rows own (table_rows state own.table)) (own_shown shows)
       ∙ ap length (sym (ap (λ o. rows_of_view o state)
       (sym (ap (λ (k : KeptRows). slice_get k.plans number) right) ∙ at)))
 
