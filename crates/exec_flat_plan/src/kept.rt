@@ -55,7 +55,6 @@ fn reads_node(node: &Node, id: NodeId) -> bool
         | Node::Single(left, right, _, _)
         | Node::Fill(left, right, _)
         | Node::Set(left, right, _) => id == *left || id == *right,
-        Node::Kept(_, _) => false,
     }
 }
 
@@ -126,6 +125,5 @@ pub(crate) fn release_read(
             release(bags, *left, nodes, k);
             release(bags, *right, nodes, k);
         }
-        Node::Kept(_, _) => {}
     }
 }

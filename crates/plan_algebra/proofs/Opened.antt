@@ -22,7 +22,7 @@ use Rattle.plan_algebra.specs.declared.tree.DepTree.TheVariants as t
 use Rattle.plan_algebra.specs.declared.tree.DepTree.TheOpen as f
 use Rattle.plan_algebra.specs.declared.tree.DepTree.TheFolds.{fold_out-DepTree, map-DepTree}
 use Rattle.plan_algebra.specs.declared.tree.Side.{Side}
-use Rattle.plan_algebra.specs.Trees.{Database, Occurrence, TreeMeaning, together, combined, tree_step, tree_meaning, width_of, tree_rows, scans_of, right_row, listed, mark_under, scalar_at, groups_under}
+use Rattle.plan_algebra.specs.Trees.{Database, Occurrence, kept_count, TreeMeaning, together, combined, tree_step, tree_meaning, width_of, tree_rows, scans_of, right_row, listed, mark_under, scalar_at, groups_under}
 
 abbrev meaning_at : DepTree-F DepTree → TreeMeaning
 meaning_at x = tree_step (map-DepTree DepTree TreeMeaning tree_meaning x)
@@ -132,7 +132,7 @@ pub rows_Kept : (number : ℕ) (plan : KeptPlan) (db : Database) (d : List Value
 unfolding tree_rows width_of
 rows_Kept number plan db d = ap (rows_in db d) (meaning_Kept number plan)
 
-pub scans_Kept : (number : ℕ) (plan : KeptPlan) → scans_of (t.Kept number plan) ≡ inr number ∷ []
+pub scans_Kept : (number : ℕ) (plan : KeptPlan) → scans_of (t.Kept number plan) ≡ inr (kept_count plan) ∷ []
 unfolding scans_of
 scans_Kept number plan = ap tables_in (meaning_Kept number plan)
 

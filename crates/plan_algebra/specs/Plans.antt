@@ -29,7 +29,8 @@ use Rattle.expr_aggregates.specs.Values.{written, value_rank}
 use Rattle.expr_conditions.specs.Ranks.{rank_of}
 use Rattle.plan_algebra.specs.Aggregates.{aggregates_of}
 use Rattle.plan_algebra.specs.KeptPlans.{query_rows}
-use Rattle.plan_algebra.specs.Trees.{Database, Occurrence}
+use Rattle.plan_algebra.specs.States.{state_of}
+use Rattle.plan_algebra.specs.Trees.{Database, Occurrence, kept_count}
 
 -- GROUP BY these columns, with aggregates; without columns one group of all rows, also where there
 -- are none
@@ -106,7 +107,7 @@ result_width nodes = plan_width nodes (length nodes - 1)
 -- the table or kept view that a node scans
 abbrev pub scan_of : Node → List Occurrence
 scan_of (Scan table) = inl table ∷ []
-scan_of (Kept number plan) = inr number ∷ []
+scan_of (Kept number plan) = inr (kept_count plan) ∷ []
 scan_of other = []
 
 -- the tables and kept views that nodes scan, once for each scan
@@ -122,23 +123,19 @@ is_domain other = 0
 abbrev pub plan_domains : List Node → ℕ
 plan_domains nodes = sum_by is_domain nodes
 
--- the rows of the kept view of each number
-abbrev pub ViewRows : Type 0
-ViewRows = ℕ → List (Ranked Value)
-
 -- how many rows a table or a kept view has
-abbrev pub rows_read : Database → ViewRows → Occurrence → ℕ
-rows_read db views (inl table) = length (db table)
-rows_read db views (inr number) = length (views number)
+abbrev pub rows_read : Database → Occurrence → ℕ
+rows_read db (inl table) = length (db table)
+rows_read db (inr count) = count (state_of db)
 
 -- how many rows are read to scan these tables and kept views, each as often as it stands there
-unfoldable pub reads_of : Database → ViewRows → List Occurrence → ℕ
-reads_of db views scans = sum_by (rows_read db views) scans
+unfoldable pub reads_of : Database → List Occurrence → ℕ
+reads_of db scans = sum_by (rows_read db) scans
 
 -- how many rows a plan reads: those of each table and each kept view that it scans, once for each
 -- scan
-abbrev pub plan_reads : Database → ViewRows → List Node → ℕ
-plan_reads db views nodes = reads_of db views (plan_scans nodes)
+abbrev pub plan_reads : Database → List Node → ℕ
+plan_reads db nodes = reads_of db (plan_scans nodes)
 
 -- the numbers of the nodes that a node reads, in its order
 abbrev pub inputs_of : Node → List ℕ

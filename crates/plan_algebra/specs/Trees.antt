@@ -21,8 +21,10 @@ use Rattle.expr_scalar.specs.declared.expr.Expr.{Expr}
 use Rattle.expr_scalar.specs.Meaning.{values}
 use Rattle.base_schema.specs.declared.table.TableName.{TableName}
 use Rattle.base_schema.specs.Kinds.{RowsAreOf}
+use Rattle.base_schema.specs.State.{State, table_rows}
 use Rattle.base_schema.specs.Tables.{kinds_of}
 use Rattle.plan_algebra.specs.declared.aggregate.Aggregate.{Aggregate}
+use Rattle.plan_algebra.specs.declared.kept_plan.KeptPlan.{KeptPlan}
 use Rattle.plan_algebra.specs.declared.tree.DepTree.{DepTree, DepTree-F}
 use Rattle.plan_algebra.specs.declared.tree.DepTree.TheFolds.{fold-DepTree}
 use Rattle.plan_algebra.specs.declared.tree.DepTree.TheOpen.{Scan, Kept, Select, Project, Join, Outer}
@@ -39,9 +41,13 @@ use Rattle.plan_algebra.specs.KeptPlans.{query_rows}
 abbrev pub Database : Type 0
 Database = TableName → List (List Value)
 
--- what is scanned: a table, or the kept view of a number
+-- what is scanned: a table, or a kept view, by how many rows it has in a state
 abbrev pub Occurrence : Type 0
-Occurrence = TableName ⊎ ℕ
+Occurrence = TableName ⊎ (State → ℕ)
+
+-- how many rows the kept view of a plan has in a state
+abbrev pub kept_count : KeptPlan → State → ℕ
+kept_count plan state = length (query_rows plan (table_rows state plan.table))
 
 -- each table's rows are of its kinds
 abbrev pub HasKinds : Database → Type 0
@@ -150,7 +156,7 @@ tree_step (Scan table) = record {
   rows = λ db d. scanned (db table);
 }
 tree_step (Kept number plan) = record {
-  scans = inr number ∷ [];
+  scans = inr (kept_count plan) ∷ [];
   domains = 0;
   width = length plan.list;
   rows = λ db d. query_rows plan (db plan.table);

@@ -1,8 +1,7 @@
 //! Tables as a run reads them.
-ghost use Rattle.std.specs.Prelude.{◌≡◌, ◌+◌, ◌≤◌, ℕ, List, length, IfOk, OnOk};
+ghost use Rattle.std.specs.Prelude.{◌≡◌, ◌+◌, ◌≤◌, List, length, IfOk, IfSome, OnOk};
 ghost use Rattle.base_columns.specs.Lists.{one_list};
 ghost use Rattle.base_row_laws.specs.Bags.{SameBag};
-ghost use Rattle.base_row_laws.specs.Ranked.{Ranked};
 ghost use Rattle.base_value.specs.declared.value.Value.{Value};
 ghost use Rattle.base_schema.specs.declared.table.TableName.{TableName};
 ghost use Rattle.plan_algebra.specs.KeptPlans.{query_rows};
@@ -16,12 +15,9 @@ use base_schema::TableName;
 use std::alloc::{AllocError, Global};
 use std::sync::ledger::Ledger;
 
-/// Tables and kept views whose reads are counted: a step for each row that is handed out.
+/// Tables whose reads are counted: a step for each row that a scan hands out; and kept views.
 pub trait Tables {
     ghost rows: { Self → TableName → List (List Value) };
-
-    /// The rows of the kept view of each number; none where there is none.
-    ghost views: { Self → ℕ → List (Ranked Value) };
 
     /// How many rows the table has. The rows of every table are of its kinds.
     fn count(&self, table: TableName) -> u64
@@ -40,19 +36,11 @@ pub trait Tables {
         ensures most { steps.new ≤ steps.old + length (rows self.now table) }
         ensures kinds { HasKinds (rows self.now) };
 
-    /// The rows of the kept view of a number, at their standings, in any order: those of this plan.
-    /// Out of memory also where there is no such view or its plan is another one, which no session
-    /// asks for; then no step is taken.
-    fn kept<L: Ledger>(
-        &self,
-        alloc: Global,
-        number: u32,
-        plan: &KeptPlan,
-        steps: &mut Steps<L>,
-    ) -> Result<Bag, AllocError>
-        ensures rows { IfOk result (λ bag.
-            SameBag bag.rows (query_rows plan.now (rows self.now plan.now.table))) }
-        ensures width { IfOk result (λ bag. bag.width ≡ length plan.now.list) }
-        ensures steps { OnOk result (steps.new ≡ steps.old + length (views self.now number)) }
-        ensures most { steps.new ≤ steps.old + length (views self.now number) };
+    /// The rows of this plan, at their standings, in any order, where a kept view of this number and
+    /// this plan is there; nothing where it isn't, so that they are computed from the table.
+    fn kept(&self, alloc: Global, number: u32, plan: &KeptPlan) -> Result<Option<Bag>, AllocError>
+        ensures rows { IfOk result (λ found. IfSome found (λ bag.
+            SameBag bag.rows (query_rows plan.now (rows self.now plan.now.table)))) }
+        ensures width { IfOk result (λ found. IfSome found (λ bag.
+            bag.width ≡ length plan.now.list)) };
 }

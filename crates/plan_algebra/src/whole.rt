@@ -111,12 +111,9 @@ fn whole_pieces(alloc: Global, segments: &[Segment]) -> Result<Vec<Piece>, Alloc
 }
 
 impl Tables for WholeTables {
-    ghost use Rattle.std.specs.Prelude.{[]};
     ghost use Rattle.base_schema.specs.State.{table_rows};
 
     ghost rows = { table_rows };
-
-    ghost views = { λ tables number. [] };
 
     fn count(&self, table: TableName) -> u64 {
         self.rows(table).len() as u64
@@ -135,14 +132,13 @@ impl Tables for WholeTables {
     }
 
     // There are no kept views.
-    fn kept<L: Ledger>(
+    fn kept(
         &self,
         _alloc: Global,
         _number: u32,
         _plan: &KeptPlan,
-        _steps: &mut Steps<L>,
-    ) -> Result<Bag, AllocError> {
-        Err(AllocError)
+    ) -> Result<Option<Bag>, AllocError> {
+        Ok(None)
     }
 }
 

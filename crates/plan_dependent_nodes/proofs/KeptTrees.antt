@@ -19,7 +19,7 @@ use Rattle.plan_algebra.specs.Trees.{Occurrence}
 use Rattle.base_schema.specs.State.{table_rows}
 use Rattle.sql_bound_query.specs.declared.query.BoundExpr.{BoundExpr}
 use Rattle.sql_bound_query.specs.Meaning.{Env, holds_for, expr_meaning}
-use Rattle.sql_bound_query.specs.Reads.{tables_of_expr}
+use Rattle.plan_kept_queries.specs.Scans.{tables_of_expr}
 use Rattle.plan_algebra.specs.declared.tree.DepTree.{DepTree}
 use Rattle.plan_algebra.specs.declared.tree.DepTree.TheVariants as t
 use Rattle.plan_algebra.specs.Trees.{listed}

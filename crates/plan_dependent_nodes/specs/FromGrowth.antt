@@ -11,7 +11,7 @@ use Rattle.plan_algebra.specs.Trees.{Occurrence}
 use Rattle.sql_bound_query.specs.declared.query.BoundExpr.{BoundExpr}
 use Rattle.sql_bound_query.specs.declared.query.BoundSource.{BoundSource}
 use Rattle.sql_bound_query.specs.Meaning.{Env, holds_for, source_meaning, expr_meaning}
-use Rattle.sql_bound_query.specs.Reads.{tables_of_source, tables_of_expr}
+use Rattle.plan_kept_queries.specs.Scans.{tables_of_source, tables_of_expr}
 use Rattle.plan_algebra.specs.declared.tree.DepTree.{DepTree}
 use Rattle.plan_algebra.specs.declared.tree.Side.{Side}
 use Rattle.plan_dependent_nodes.specs.declared.sight.OuterColumn.{OuterColumn}

@@ -1,6 +1,6 @@
 -- How the tree of a query grows: flat rows, what stands where in them, and what is attached.
 use Rattle.std.specs.Prelude.{◌≡◌, ℕ, ◌+◌, List, [], ◌∷◌, ◌++◌, map, length, slice_index_or, Option}
-use Rattle.std.specs.Prelude.{Some, None, true}
+use Rattle.std.specs.Prelude.{Some, None, true, false}
 use Rattle.base_row_laws.specs.Bags.{Each}
 use Rattle.base_row_laws.specs.JoinGroups.{Width}
 use Rattle.base_row_laws.specs.Ranked.{Ranked, ranked}
@@ -18,8 +18,8 @@ use Rattle.sql_bound_query.specs.declared.query.Input.{Input}
 use Rattle.sql_bound_query.specs.Meaning.{Env, RowsMeaning, FromMeaning}
 use Rattle.sql_bound_query.specs.Meaning.{column, aggregate_meaning, block_meaning}
 use Rattle.sql_bound_query.specs.Meaning.{source_meaning, input_meaning, expr_meaning}
-use Rattle.sql_bound_query.specs.Reads.{tables, tables_of_input, tables_of_expr}
-use Rattle.sql_bound_query.specs.Reads.{joined_tables}
+use Rattle.plan_kept_queries.specs.Scans.{tables, tables_of_input, tables_of_expr}
+use Rattle.plan_kept_queries.specs.Scans.{joined_tables}
 use Rattle.sql_bound_query.specs.Typing.{StateIsOf}
 use Rattle.plan_algebra.specs.declared.aggregate.Aggregate.{Aggregate}
 use Rattle.plan_algebra.specs.declared.kept_plan.KeptPlan.{KeptPlan}
@@ -30,6 +30,7 @@ use Rattle.plan_algebra.specs.declared.tree.Side.TheVariants.{Closed, Dependent}
 use Rattle.plan_algebra.specs.Aggregates.{argument_and_function}
 use Rattle.plan_algebra.specs.Trees.{Occurrence, tree_rows, scans_of, width_of, right_row}
 use Rattle.plan_dependent_nodes.specs.declared.sight.OuterColumn.{OuterColumn}
+use Rattle.plan_dependent_nodes.specs.declared.parts.Rows.{Rows}
 use Rattle.plan_dependent_nodes.specs.Dependence.{domain_row}
 use Rattle.plan_kept_queries.specs.Forms.{IsKeptPlan, is_kept_block}
 
@@ -199,13 +200,18 @@ block_of q state = block_meaning state q
 abbrev pub closed_of : BoundBlock → RowsOf
 closed_of q state env = block_meaning state q []
 
--- the tree of the kept view of a number, whose query this is
-pub record IsKeptTree (number : ℕ) (q : BoundBlock) (made : DepTree) (w : ℕ) : Type 0 where
+-- the leaf of the kept view of a number, whose query this is
+pub record IsLeaf (number : ℕ) (q : BoundBlock) (made : DepTree) (w : ℕ) : Type 0 where
   pub plan : KeptPlan
   pub is_kept : is_kept_block q ≡ true
   pub is_plan : IsKeptPlan q plan
   pub tree_is : made ≡ tree.Kept number plan
   pub width_is : w ≡ length plan.list
+
+-- the same, or nothing where the query's rows can't be kept
+abbrev pub IsKeptTree : ℕ → BoundBlock → Option Rows → Type 0
+IsKeptTree number q None = is_kept_block q ≡ false
+IsKeptTree number q (Some made) = IsLeaf number q made.tree made.width
 
 -- nothing, or the places of the inputs, none of which is a subquery
 abbrev pub ArePlain : List OuterColumn → ℕ → ℕ → List Input → Option (List ℕ) → Type 0

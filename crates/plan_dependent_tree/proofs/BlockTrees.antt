@@ -15,12 +15,12 @@ use Rattle.sql_bound_query.specs.declared.query.BoundSource.{BoundSource}
 use Rattle.sql_bound_query.specs.Meaning.{Env, AggregateMeaning, holds_for, groups}
 use Rattle.sql_bound_query.specs.Meaning.{expr_meaning, aggregate_meaning, block_meaning}
 use Rattle.sql_bound_query.specs.Meaning as query
-use Rattle.sql_bound_query.specs.Reads.{tables, tables_of_source, tables_of_expr}
-use Rattle.sql_bound_query.specs.Reads.{tables_of_aggregate}
-use Rattle.sql_bound_query.specs.Reads.{joined_tables}
+use Rattle.plan_kept_queries.specs.Scans.{tables, tables_of_source, tables_of_expr}
+use Rattle.plan_kept_queries.specs.Scans.{tables_of_aggregate}
+use Rattle.plan_kept_queries.specs.Scans.{joined_tables}
 use Rattle.sql_bound_query.proofs.Opened.{block_Plain_at}
 use Rattle.sql_bound_query.proofs.Opened.{block_Grouped_at, block_Distinct_at}
-use Rattle.sql_bound_query.proofs.TablesOpened.{of_Plain, of_Grouped, of_Distinct}
+use Rattle.plan_kept_queries.proofs.ScansOpened.{of_Plain, of_Grouped, of_Distinct}
 use Rattle.plan_algebra.specs.declared.aggregate.Aggregate.{Aggregate}
 use Rattle.plan_algebra.specs.declared.tree.DepTree.{DepTree}
 use Rattle.plan_algebra.specs.declared.tree.DepTree.TheVariants as t

@@ -1,6 +1,6 @@
 -- The trees of FROM's items.
 use Rattle.std.proofs.Common.{◌≡◌, ℕ, suc, ◌+◌, List, [], ◌∷◌, ◌++◌}
-use Rattle.std.proofs.Common.{refl, sym, ap, ◌∙◌, subst, arith, length, replicate, inl, inr}
+use Rattle.std.proofs.Common.{refl, sym, ap, ◌∙◌, subst, arith, length, replicate, inl, inr, false}
 use Rattle.std.specs.Prelude.{Option, Some, None, slice_index_or}
 use Rattle.std.specs.List.{All}
 use Rattle.std.proofs.lemmas.List.{append-nil, length-append, length-map, length-replicate}
@@ -27,14 +27,15 @@ use Rattle.sql_bound_query.specs.declared.query.BoundSource.{BoundSource}
 use Rattle.sql_bound_query.specs.declared.query.BoundSource.TheVariants as source
 use Rattle.sql_bound_query.specs.Meaning.{Env, FromMeaning, holds_for, cross_loop, expr_meaning}
 use Rattle.sql_bound_query.specs.Meaning.{block_meaning, source_meaning, rows}
-use Rattle.sql_bound_query.specs.Reads.{derived_tables, tables, tables_of_source, tables_of_expr}
+use Rattle.plan_kept_queries.specs.Scans.{Tables, derived_tables, row_count, tables, tables_of_source}
+use Rattle.plan_kept_queries.specs.Scans.{tables_of_expr}
 use Rattle.sql_bound_query.specs.Typing.{StateIsOf}
 use Rattle.sql_bound_query.proofs.KeptRows as kept
 use Rattle.sql_bound_query.proofs.Opened.{source_Table_at, source_Derived_at, source_Lateral_at}
 use Rattle.sql_bound_query.proofs.Opened.{source_Cross_at, source_Inner_at}
 use Rattle.sql_bound_query.proofs.StandingQueries.{cross_stands, source_stands}
-use Rattle.sql_bound_query.proofs.TablesOpened.{of_Table, of_Derived, of_Lateral, of_Cross}
-use Rattle.sql_bound_query.proofs.TablesOpened.{of_Inner}
+use Rattle.plan_kept_queries.proofs.ScansOpened.{of_Table, of_Derived, of_Lateral, of_Cross}
+use Rattle.plan_kept_queries.proofs.ScansOpened.{of_Inner}
 use Rattle.plan_algebra.specs.declared.kept_plan.KeptPlan.{KeptPlan}
 use Rattle.plan_algebra.specs.declared.tree.DepTree.{DepTree}
 use Rattle.plan_algebra.specs.declared.tree.DepTree.TheVariants as t
@@ -52,9 +53,11 @@ use Rattle.plan_dependent_nodes.specs.FromGrowth.{FromDomains, AreRightPlaces, I
 use Rattle.plan_dependent_nodes.specs.FromGrowth.{IsRightSource, lateral_columns}
 use Rattle.plan_dependent_nodes.specs.Growth.{IsDomain, DomainRows, RowsOf, IsTree, IsTreeIn}
 use Rattle.plan_dependent_nodes.specs.Growth.{IsRightIn}
-use Rattle.plan_dependent_nodes.specs.Growth.{IsKeptTree, IsSubquery, AreAt, from_of, block_of}
+use Rattle.plan_dependent_nodes.specs.Growth.{IsLeaf, IsSubquery, AreAt, from_of, block_of}
 use Rattle.plan_dependent_nodes.specs.Growth.{closed_of}
-use Rattle.plan_kept_queries.specs.Forms.{IsKeptPlan}
+use Rattle.std.proofs.Math.Path.{fun_ext}
+use Rattle.plan_kept_queries.specs.Forms.{IsKeptPlan, is_kept_block}
+use Rattle.plan_kept_queries.proofs.ScansOpened.{derived_plain, derived_view}
 use Rattle.plan_dependent_nodes.proofs.FromPlaces.{from_begins, from_shared, from_closed}
 use Rattle.plan_dependent_nodes.proofs.FromPlaces.{from_wanted}
 use Rattle.plan_dependent_nodes.proofs.FromPlaces.{lateral_sees, dependent_row}
@@ -134,7 +137,7 @@ closed_tree q start w tree is = record {
 -- the leaf of a kept view
 leaf_tree : (number : ℕ) (q : BoundBlock) (plan : KeptPlan) (start w : ℕ) → IsKeptPlan q plan
     → w ≡ length plan.list
-    → IsTree (inr number ∷ []) (closed_of q) [] start (t.Kept number plan) w
+    → IsTree (inr (row_count q) ∷ []) (closed_of q) [] start (t.Kept number plan) w
 unfolding rows
 leaf_tree number q plan start w k e = record {
   are_rows = record {
@@ -144,34 +147,47 @@ leaf_tree number q plan start w k e = record {
         (subst (λ xs. Width (length plan.list) xs) (k.rows state)
         (query_wide plan (table_rows state plan.table)));
   };
-  scans = scans_Kept number plan;
+  scans = scans_Kept number plan
+      ∙ ap (λ (count : State → ℕ). inr count ∷ []) (fun_ext (λ state. ap length (k.rows state)));
   width = width_Kept number plan ∙ sym e;
   rows = λ state ok env d i. rows_Kept number plan (table_rows state) d ∙ k.rows state;
 }
 
 -- a derived table that is no kept view, and one that is
-pub derived_alone : {kept : Option ℕ} (q : BoundBlock) {start w : ℕ} {tree : DepTree}
-    → kept ≡ None → IsTree (tables q) (block_of q) [] start tree w
-    → IsTree (derived_tables kept (tables q)) (closed_of q) [] start tree w
-derived_alone {kept} q {start} {w} {tree} e is =
-    subst (λ z. IsTree (derived_tables z (tables q)) (closed_of q) [] start tree w) (sym e)
-    (closed_tree q start w tree is)
+module _ {kept : Option ℕ} (q : BoundBlock) {start w : ℕ} {tree : DepTree} where
+  as_derived : (own others : Tables) → own ≡ others → IsTree own (closed_of q) [] start tree w
+      → IsTree others (closed_of q) [] start tree w
+  as_derived own others e is = subst (λ z. IsTree z (closed_of q) [] start tree w) e is
 
-pub derived_kept : {kept : Option ℕ} {number : ℕ} (q : BoundBlock) {start w : ℕ} {tree : DepTree}
-    → kept ≡ Some number → IsKeptTree number q tree w
-    → IsTree (derived_tables kept (tables q)) (closed_of q) [] start tree w
-derived_kept {kept} {number} q {start} {w} {tree} e is =
-    subst (λ z. IsTree (derived_tables z (tables q)) (closed_of q) [] start tree w) (sym e)
-    (subst (λ z. IsTree (inr number ∷ []) (closed_of q) [] start z w) (sym is.tree_is)
-    (leaf_tree number q is.plan start w is.is_plan is.width_is))
+  pub derived_alone : kept ≡ None → IsTree (tables q) (block_of q) [] start tree w
+      → IsTree (derived_tables kept q (tables q)) (closed_of q) [] start tree w
+  derived_alone e is =
+      as_derived (tables q) (derived_tables kept q (tables q))
+      (ap (λ z. derived_tables z q (tables q)) (sym e)) (closed_tree q start w tree is)
+
+  pub derived_unkept : {number : ℕ} → kept ≡ Some number → is_kept_block q ≡ false
+      → IsTree (tables q) (block_of q) [] start tree w
+      → IsTree (derived_tables kept q (tables q)) (closed_of q) [] start tree w
+  derived_unkept {number} e none is =
+      as_derived (tables q) (derived_tables kept q (tables q))
+      (sym (ap (λ z. derived_tables z q (tables q)) e ∙ derived_plain number q (tables q) none))
+      (closed_tree q start w tree is)
+
+  pub derived_kept : {number : ℕ} → kept ≡ Some number → IsLeaf number q tree w
+      → IsTree (derived_tables kept q (tables q)) (closed_of q) [] start tree w
+  derived_kept {number} e is =
+      as_derived (inr (row_count q) ∷ []) (derived_tables kept q (tables q))
+      (sym (ap (λ z. derived_tables z q (tables q)) e ∙ derived_view number q (tables q) is.is_kept))
+      (subst (λ z. IsTree (inr (row_count q) ∷ []) (closed_of q) [] start z w) (sym is.tree_is)
+      (leaf_tree number q is.plan start w is.is_plan is.width_is))
 
 pub derived_arm : (kept : Option ℕ) (q : BoundBlock) (outer : List OuterColumn) (so_far : List ℕ)
     (start : ℕ) (p : List Value) (w : ℕ) (tree : DepTree)
-    → IsTree (derived_tables kept (tables q)) (closed_of q) [] start tree w
+    → IsTree (derived_tables kept q (tables q)) (closed_of q) [] start tree w
     → IsTreeIn (FromDomains outer so_far start p) (tables_of_source (source.Derived kept q))
     (λ state. source_meaning state (source.Derived kept q) p) tree w
 derived_arm kept q outer so_far start p w tree is =
-    tree_as (FromDomains outer so_far start p) (derived_tables kept (tables q))
+    tree_as (FromDomains outer so_far start p) (derived_tables kept q (tables q))
     (tables_of_source (source.Derived kept q)) (closed_of q)
     (λ state. source_meaning state (source.Derived kept q) p) tree w
     (record {

@@ -25,11 +25,11 @@ use Rattle.sql_bound_query.specs.declared.query.BoundSource.{BoundSource}
 use Rattle.sql_bound_query.specs.declared.query.BoundSource.TheVariants as source
 use Rattle.sql_bound_query.specs.Meaning.{Env, FromMeaning, column, holds_for, expr_meaning}
 use Rattle.sql_bound_query.specs.Meaning.{source_meaning}
-use Rattle.sql_bound_query.specs.Reads.{tables_of_source, tables_of_expr}
+use Rattle.plan_kept_queries.specs.Scans.{tables_of_source, tables_of_expr}
 use Rattle.sql_bound_query.proofs.KeptRows as kept
 use Rattle.sql_bound_query.proofs.Opened.{source_Outer_at}
 use Rattle.sql_bound_query.proofs.StandingQueries.{source_stands}
-use Rattle.sql_bound_query.proofs.TablesOpened.{of_Outer}
+use Rattle.plan_kept_queries.proofs.ScansOpened.{of_Outer}
 use Rattle.plan_algebra.specs.declared.tree.DepTree.{DepTree}
 use Rattle.plan_algebra.specs.declared.tree.DepTree.TheVariants as t
 use Rattle.plan_algebra.specs.declared.tree.Side.{Side}

@@ -15,8 +15,8 @@ use Rattle.sql_bound_query.specs.declared.query.BoundSource.{BoundSource}
 use Rattle.sql_bound_query.specs.declared.query.Input.{Input}
 use Rattle.sql_bound_query.specs.declared.query.Input.TheVariants as input
 use Rattle.sql_bound_query.specs.declared.query.SetColumn.{SetColumn}
-use Rattle.sql_bound_query.specs.Reads.{tables, tables_of_source, tables_of_input, tables_of_expr}
-use Rattle.sql_bound_query.specs.Reads.{tables_of_aggregate, joined_tables}
+use Rattle.plan_kept_queries.specs.Scans.{tables, tables_of_source, tables_of_input, tables_of_expr}
+use Rattle.plan_kept_queries.specs.Scans.{tables_of_aggregate, joined_tables}
 use Rattle.plan_algebra.specs.declared.aggregate.Aggregate.{Aggregate}
 use Rattle.plan_algebra.specs.declared.tree.DepTree.{DepTree}
 use Rattle.plan_algebra.specs.declared.tree.DepTree.TheVariants as t

@@ -11,7 +11,7 @@ use Rattle.sql_bound_query.specs.declared.query.BoundBlock.{BoundBlock}
 use Rattle.sql_bound_query.specs.declared.query.BoundExpr.{BoundExpr}
 use Rattle.sql_bound_query.specs.declared.query.BoundSource.{BoundSource}
 use Rattle.sql_bound_query.specs.declared.query.BoundSource.TheVariants as source
-use Rattle.sql_bound_query.specs.Reads.{derived_tables, tables, tables_of_expr}
+use Rattle.plan_kept_queries.specs.Scans.{derived_tables, tables, tables_of_expr}
 use Rattle.plan_algebra.specs.declared.tree.DepTree.{DepTree}
 use Rattle.plan_algebra.specs.declared.tree.DepTree.TheVariants as t
 use Rattle.plan_algebra.specs.declared.tree.Side.{Side}
@@ -49,12 +49,12 @@ module _ (outer : List OuterColumn) (so_far : List ℕ) (n start : ℕ) where
 
   pub derived_seen : {s : BoundSource} {kept : Option ℕ} {q seen : BoundBlock} {tree : DepTree}
       {w : ℕ} → s ≡ source.Derived kept q → seen ≡ q
-      → IsTree (derived_tables kept (tables seen)) (closed_of seen) [] start tree w
+      → IsTree (derived_tables kept seen (tables seen)) (closed_of seen) [] start tree w
       → IsSourceTree s outer so_far n start tree w
   derived_seen {s} {kept} {q} {seen} {tree} {w} e f is =
       of_source e refl refl
       (λ p m. derived_arm kept q outer so_far start p w tree
-      (subst (λ z. IsTree (derived_tables kept (tables z)) (closed_of z) [] start tree w) f is))
+      (subst (λ z. IsTree (derived_tables kept z (tables z)) (closed_of z) [] start tree w) f is))
 
   pub lateral_seen : {s : BoundSource} {q seen : BoundBlock} {listed : List OuterColumn}
       {tree : DepTree} {w : ℕ} → s ≡ source.Lateral q → seen ≡ q

@@ -25,10 +25,10 @@ use Rattle.sql_bound_query.specs.declared.query.BoundBlock.{BoundBlock}
 use Rattle.sql_bound_query.specs.declared.query.BoundBlock.TheVariants as block
 use Rattle.sql_bound_query.specs.declared.query.SetColumn.{SetColumn}
 use Rattle.sql_bound_query.specs.Meaning.{Env, block_meaning, left_columns, right_columns}
-use Rattle.sql_bound_query.specs.Reads.{tables}
+use Rattle.plan_kept_queries.specs.Scans.{tables}
 use Rattle.sql_bound_query.proofs.KeptRows as kept
 use Rattle.sql_bound_query.proofs.Opened.{block_Set_at}
-use Rattle.sql_bound_query.proofs.TablesOpened.{of_Set}
+use Rattle.plan_kept_queries.proofs.ScansOpened.{of_Set}
 use Rattle.plan_algebra.specs.declared.tree.DepTree.{DepTree}
 use Rattle.plan_algebra.specs.declared.tree.DepTree.TheVariants as t
 use Rattle.plan_algebra.specs.Trees.{tree_rows, scans_of, width_of, listed}

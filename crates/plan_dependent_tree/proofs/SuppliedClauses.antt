@@ -34,7 +34,7 @@ use Rattle.plan_dependent_nodes.proofs.SeeksOpened.{seeks_Plain, seeks_Grouped, 
 use Rattle.plan_dependent_nodes.proofs.SeeksOpened.{seeks_Set}
 use Rattle.plan_algebra.specs.declared.tree.DepTree.{DepTree}
 use Rattle.plan_kept_queries.proofs.FormsOpened.{IsGrouped, grouped_of}
-use Rattle.plan_dependent_nodes.specs.Growth.{IsKeptTree}
+use Rattle.plan_dependent_nodes.specs.Growth.{IsLeaf}
 use Rattle.plan_dependent_nodes.proofs.TypedParts.{PlainTyped, plain_typed, GroupedTyped}
 use Rattle.plan_dependent_nodes.proofs.TypedParts.{grouped_typed, SetTyped, set_typed}
 use Rattle.plan_dependent_nodes.proofs.Within.{query_within}
@@ -271,7 +271,7 @@ grouped_width f c keys as' h exprs {q} {es} {list} {w} is same count wide = reco
 }
 
 -- a query that is kept has as many columns as its plan shows
-pub kept_width : {q : BoundBlock} {number w : ℕ} {tree : DepTree} → IsKeptTree number q tree w
+pub kept_width : {q : BoundBlock} {number w : ℕ} {tree : DepTree} → IsLeaf number q tree w
     → IsWidthOf (block_kinds q) w
 kept_width {q} {number} {w} {tree} made = record {
   is = λ around kinds e.

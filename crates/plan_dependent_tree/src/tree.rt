@@ -2,9 +2,9 @@
 ghost use Rattle.std.specs.Prelude.{◌≡◌, ◌+◌, List, [], length, map, IfOk};
 ghost use Rattle.expr_scalar.specs.declared.kind.Kind.{Kind};
 ghost use Rattle.sql_bound_query.specs.Typing.{IsWellTyped, block_kinds, from_kinds};
-ghost use Rattle.sql_bound_query.specs.Reads.{derived_tables, tables, tables_of_source};
-ghost use Rattle.sql_bound_query.specs.Reads.{tables_of_input};
-ghost use Rattle.sql_bound_query.specs.Reads.{tables_of_expr, tables_of_aggregate, joined_tables};
+ghost use Rattle.plan_kept_queries.specs.Scans.{derived_tables, tables, tables_of_source};
+ghost use Rattle.plan_kept_queries.specs.Scans.{tables_of_input};
+ghost use Rattle.plan_kept_queries.specs.Scans.{tables_of_expr, tables_of_aggregate, joined_tables};
 ghost use Rattle.plan_dependent_nodes.specs.Dependence.{IsTreeOf};
 ghost use Rattle.plan_dependent_nodes.specs.FromGrowth.{IsSourceTree, IsRightSource, IsKept};
 ghost use Rattle.plan_dependent_nodes.specs.FromGrowth.{KeepsRight};
@@ -216,7 +216,8 @@ fn source(alloc: Global, s: &BoundSource, sight: &SourceSight) -> Result<Rows, A
 #[cycle(depend)]
 fn derived(alloc: Global, kept: Option<u32>, q: &BoundBlock, start: u32) -> Result<Rows, AllocError>
     ensures tree { IfOk result (λ r. QueryIsSupplied q.now []
-        → IsTree (derived_tables kept (tables q.now)) (closed_of q.now) [] start r.tree r.width) }
+        → IsTree (derived_tables kept q.now (tables q.now)) (closed_of q.now) [] start r.tree
+        r.width) }
     ensures width { IfOk result (λ r. IsWidthOf (block_kinds q.now) r.width) }
 {
     match kept {
@@ -224,10 +225,13 @@ fn derived(alloc: Global, kept: Option<u32>, q: &BoundBlock, start: u32) -> Resu
             let rows = block(alloc, q, &[], start)?;
             Ok(rows)
         }
-        Some(number) => {
-            let rows = kept_rows(alloc, number, q)?;
-            Ok(rows)
-        }
+        Some(number) => match kept_rows(alloc, number, q)? {
+            Some(rows) => Ok(rows),
+            None => {
+                let rows = block(alloc, q, &[], start)?;
+                Ok(rows)
+            }
+        },
     }
 }
 

@@ -2,5 +2,6 @@
 #![tactic(auto)]
 
 mod form;
+pub mod laws;
 
 pub use form::{KeptPlanError, plan_of, plan_of_block};

@@ -22,7 +22,7 @@ use Rattle.plan_algebra.specs.declared.node.Node.TheVariants as node
 use Rattle.plan_algebra.specs.declared.tree.DepTree.TheOpen as t
 use Rattle.plan_algebra.specs.KeptPlans.{query_rows}
 use Rattle.plan_algebra.specs.Plans.{plan_rows, plan_width}
-use Rattle.plan_algebra.specs.Trees.{Database, TreeMeaning, tree_step}
+use Rattle.plan_algebra.specs.Trees.{Database, TreeMeaning, kept_count, tree_step}
 use Rattle.plan_algebra.proofs.KeptPlans.{query_stands}
 use Rattle.plan_unnested_nodes.specs.declared.domain.DomainRows.{DomainRows}
 use Rattle.plan_unnested_nodes.specs.declared.domain.DomainRows.TheVariants as domain
@@ -60,7 +60,7 @@ kept_alone before new number plan f id e within p =
 
 -- a kept view joined with a domain under a condition, where its rows are those of a meaning
 joined_kept : (before new : List Node) (number : ℕ) (plan : KeptPlan) (c : Expr) (k : TreeMeaning) (f : Footing) (d width id : ℕ) → f.rows ≡ AtNode d width → IsFooting before f.rows
-    → IsPut (before ++ node.Kept number plan ∷ []) new (node.Join d (length before) [] c) id → inr number ∷ [] ≡ k.scans → k.width ≡ length plan.list
+    → IsPut (before ++ node.Kept number plan ∷ []) new (node.Join d (length before) [] c) id → inr (kept_count plan) ∷ [] ≡ k.scans → k.width ≡ length plan.list
     → ((db : Database) (ds : List (Ranked Value)) → IsDomain same_value width ds
     → Answers same_value ds (inner_matched same_value Null [] (rank_of c) ds (query_rows plan (db plan.table))) (k.rows db))
     → Lowers before new k f f id
@@ -72,7 +72,7 @@ joined_kept before new number plan c k f d width id e within p scans wide over =
     let there : IsFooting before (AtNode d width) = subst (IsFooting before) e within in
     let dw : plan_width mid d ≡ width = kept_width d g there.0 ∙ there.1 in
     let sw = put_width q in
-    puts before mid new (inr number ∷ []) 0 k f f id (node.Join d (length before) [] c) g (same_footing f g within) p scans (omega arith)
+    puts before mid new (inr (kept_count plan) ∷ []) 0 k f f id (node.Join d (length before) [] c) g (same_footing f g within) p scans (omega arith)
     (let z = ap footing_width e in omega (arith, dw, sw, z, wide))
     (λ db h.
     let kept : plan_rows db mid d ≡ plan_rows db before d = kept_rows db d g there.0 in

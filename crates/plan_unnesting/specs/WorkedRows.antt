@@ -18,7 +18,7 @@ use Rattle.plan_algebra.specs.declared.tree.DepTree.{DepTree}
 use Rattle.plan_algebra.specs.declared.tree.DepTree.TheVariants as t
 use Rattle.plan_algebra.specs.declared.tree.Side.TheVariants.{Closed, Dependent}
 use Rattle.plan_algebra.specs.Trees.{Database, tree_rows, scans_of}
-use Rattle.plan_algebra.specs.Plans.{ViewRows, reads_of}
+use Rattle.plan_algebra.specs.Plans.{reads_of}
 
 -- two customers, of whom the first has two orders; five regions, and no nation
 abbrev pub worked_database : Database
@@ -101,10 +101,6 @@ customers_beside_regions =
     (t.Mark (t.Scan table.Customer) orders_beside_regions (Dependent (0 ∷ [])) (All []))
     (IsMarked (Column 1))) (Column 0 ∷ [])
 
--- there is no kept view
-abbrev pub no_views : ViewRows
-no_views number = []
-
 -- A customer without orders counts 0; a null key counts 0; a scalar subquery of two rows is
 -- TooManyRows; EXISTS of no rows is False.
 -- A subquery reads columns of the two queries around it.
@@ -112,13 +108,13 @@ no_views number = []
 pub record WorkedRows : Type 0 where
   pub customers : tree_rows counts_of_customers worked_database []
       ≡ true_row (whole 1 ∷ whole 2 ∷ []) ∷ true_row (whole 2 ∷ whole 0 ∷ []) ∷ []
-  pub customers_read : reads_of worked_database no_views (scans_of counts_of_customers) ≡ 4
+  pub customers_read : reads_of worked_database (scans_of counts_of_customers) ≡ 4
   pub keys : tree_rows counts_of_keys worked_database []
       ≡ true_row (whole 7 ∷ whole 1 ∷ []) ∷ true_row (whole 8 ∷ whole 1 ∷ [])
       ∷ true_row (Null ∷ whole 0 ∷ []) ∷ []
   pub orders : tree_rows orders_of_customers worked_database []
       ≡ ranked (whole 1 ∷ []) too_many_rows_rank ∷ []
   pub regions : tree_rows regions_with_nations worked_database [] ≡ []
-  pub regions_read : reads_of worked_database no_views (scans_of regions_with_nations) ≡ 5
+  pub regions_read : reads_of worked_database (scans_of regions_with_nations) ≡ 5
   pub nested : tree_rows customers_beside_regions worked_database [] ≡ true_row (whole 1 ∷ []) ∷ []
-  pub nested_read : reads_of worked_database no_views (scans_of customers_beside_regions) ≡ 9
+  pub nested_read : reads_of worked_database (scans_of customers_beside_regions) ≡ 9

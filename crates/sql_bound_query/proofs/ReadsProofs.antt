@@ -5,10 +5,4 @@ use Rattle.sql_bound_query.proofs.TablesOpened.{tables_opened}
 
 pub reading : Reading
 unfolding reads
-reading = (
-  simp tables_opened,
-  simp tables_opened,
-  simp tables_opened,
-  simp tables_opened,
-  simp tables_opened,
-)
+reading = (simp tables_opened, simp tables_opened, simp tables_opened)

@@ -1,7 +1,6 @@
 -- Queries worked out by hand over small tables.
-use Rattle.std.specs.Prelude.{◌≡◌, ℕ, ◌-◌, ◌^◌, ◌==◌, List, [], ◌∷◌, Option, Some, None, Ok, Err}
-use Rattle.std.specs.Prelude.{pos, codes, true, if◌then◌else◌}
-use Rattle.base_row_laws.specs.Ranked.{ranked, true_rank}
+use Rattle.std.specs.Prelude.{◌≡◌, ℕ, ◌-◌, ◌^◌, List, [], ◌∷◌, Option, Some, None, Ok, Err}
+use Rattle.std.specs.Prelude.{pos, codes, true}
 use Rattle.expr_aggregates.specs.declared.function.AggregateFunction.TheVariants.{Sum}
 use Rattle.base_order_limit.specs.declared.key.OrderKey.{OrderKey}
 use Rattle.expr_operators.specs.declared.operator.Arithmetic.TheVariants.{Add, Divide}
@@ -24,7 +23,7 @@ use Rattle.sql_bound_query.specs.declared.query.BoundSource.TheVariants.{Table, 
 use Rattle.sql_bound_query.specs.declared.query.Input.{Input}
 use Rattle.sql_bound_query.specs.declared.query.Input.TheVariants as input
 use Rattle.sql_bound_query.specs.Answer.{answer}
-use Rattle.sql_bound_query.specs.Reads.{ViewRows, reads}
+use Rattle.sql_bound_query.specs.Reads.{reads}
 
 -- a whole number
 abbrev pub whole : ℕ → Value
@@ -292,22 +291,7 @@ Finished = (answer (record { block = keys_where always; order = downwards ∷ []
     × (answer (record { block = keys_where (closed zero_divides); order = []; limit = Some 0 })
     small ≡ Err (Failed DivideByZero))
 
--- no kept view has a row
-abbrev pub no_views : ViewRows
-no_views number = []
-
--- the kept view of the number 1 has three rows
-abbrev pub three_for_one : ViewRows
-three_for_one number =
-    if number == 1
-    then ranked (whole 7 ∷ []) true_rank ∷ ranked (whole 8 ∷ []) true_rank
-    ∷ ranked (Null ∷ []) true_rank ∷ []
-    else []
-
--- Each table and each kept view that stands in a query is read once, in subqueries too. For a kept
--- view no table of its query is read.
+-- Each table that stands in a query is read once, in subqueries too.
 abbrev pub Reading : Type 0
-Reading = (reads two_levels small no_views ≡ 9) × (reads orders_of_each small no_views ≡ 4)
-    × (reads count_for_null small no_views ≡ 6)
-    × (reads (count_for_null_of (Some 1)) small three_for_one ≡ 5)
-    × (reads (count_for_null_of (Some 0)) small three_for_one ≡ 2)
+Reading = (reads two_levels small ≡ 9) × (reads orders_of_each small ≡ 4)
+    × (reads count_for_null small ≡ 6)

@@ -16,7 +16,6 @@ use Rattle.sql_bound_query.specs.declared.query.Input.TheVariants as input
 use Rattle.sql_bound_query.specs.Answer.{answer}
 use Rattle.sql_bound_query.specs.Examples.{whole, number, small, over, over_two, always, at}
 use Rattle.sql_bound_query.specs.Examples.{equal_inputs, statement, orders_counted, keys_of_orders}
-use Rattle.sql_bound_query.specs.Examples.{no_views}
 use Rattle.sql_bound_query.specs.Reads.{reads}
 use Rattle.sql_bound_query.specs.Typing.{EnvKinds, block_kinds, from_kinds}
 
@@ -89,4 +88,4 @@ LateralKinds = (q : BoundBlock) (js : List Kind) (ks : EnvKinds)
 
 -- A lateral item reads its tables once, however many rows stand to its left.
 abbrev pub LateralReads : Type 0
-LateralReads = reads counted_beside small no_views ≡ 4
+LateralReads = reads counted_beside small ≡ 4

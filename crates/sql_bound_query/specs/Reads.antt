@@ -1,10 +1,7 @@
--- How much a query reads: each table and each kept view that stands in it is read once.
-use Rattle.std.specs.Prelude.{ℕ, List, [], ◌∷◌, ◌++◌, length, Option, Some, None, ◌⊎◌}
+-- How much a query reads of tables, where no view is kept: each table that stands in it is read once.
+use Rattle.std.specs.Prelude.{ℕ, List, [], ◌∷◌, ◌++◌, length}
 use Rattle.std.specs.List.{flat_map}
-use Rattle.std.proofs.Common.{inl, inr}
 use Rattle.base_row_laws.specs.Bags.{weigh}
-use Rattle.base_row_laws.specs.Ranked.{Ranked}
-use Rattle.base_value.specs.declared.value.Value.{Value}
 use Rattle.base_schema.specs.declared.table.TableName.{TableName}
 use Rattle.base_schema.specs.State.{State, table_rows}
 use Rattle.sql_bound_query.specs.declared.query.BoundBlock.{BoundBlock}
@@ -19,13 +16,9 @@ use Rattle.sql_bound_query.specs.declared.query.BoundExpr.{BoundExpr}
 use Rattle.sql_bound_query.specs.declared.query.BoundSource.{BoundSource}
 use Rattle.sql_bound_query.specs.declared.query.Input.{Input}
 
--- what is read where it stands: a table, or the kept view of a number
-abbrev pub Occurrence : Type 0
-Occurrence = TableName ⊎ ℕ
-
--- the tables and kept views that stand in a part of a query
+-- the tables that stand in a part of a query
 abbrev pub Tables : Type 0
-Tables = List Occurrence
+Tables = List TableName
 
 -- those of parts one after another
 abbrev pub joined_tables : List Tables → Tables
@@ -47,15 +40,10 @@ abbrev pub aggregate_tables : node.BoundAggregate-F Tables Tables Tables Tables 
 aggregate_tables node.CountRows = []
 aggregate_tables (node.Of function scale argument) = argument
 
--- of a derived table that is the kept view of a number: that view, and none of its query's
-abbrev pub derived_tables : Option ℕ → Tables → Tables
-derived_tables None q = q
-derived_tables (Some number) q = inr number ∷ []
-
 -- of a source: its table, or those of its parts
 abbrev pub source_tables : node.BoundSource-F Tables Tables Tables Tables Tables → Tables
-source_tables (node.Table t) = inl t ∷ []
-source_tables (node.Derived kept q) = derived_tables kept q
+source_tables (node.Table t) = t ∷ []
+source_tables (node.Derived kept q) = q
 source_tables (node.Lateral q) = q
 source_tables (node.Cross a b) = a ++ b
 source_tables (node.Inner a b on) = a ++ b ++ on
@@ -69,42 +57,34 @@ block_tables (node.Grouped from condition keys aggregates having list) =
 block_tables (node.Distinct q) = q
 block_tables (node.Set a b columns operation) = a ++ b
 
--- the tables and kept views that stand in a query, its subqueries, derived tables, lateral items and
--- each use of a view that is not kept, each as often as it does
-unfoldable pub tables : BoundBlock → Tables
+-- the tables that stand in a query, its subqueries, derived tables, lateral items and each use of a
+-- view, each as
+-- often as it does
+unfoldable pub tables : BoundBlock → List TableName
 tables = fold-BoundBlock Tables Tables Tables Tables Tables aggregate_tables block_tables
     source_tables input_tables expr_tables
 
 -- those of a source
-unfoldable pub tables_of_source : BoundSource → Tables
+unfoldable pub tables_of_source : BoundSource → List TableName
 tables_of_source = fold-BoundSource Tables Tables Tables Tables Tables aggregate_tables block_tables
     source_tables input_tables expr_tables
 
 -- those of an input
-unfoldable pub tables_of_input : Input → Tables
+unfoldable pub tables_of_input : Input → List TableName
 tables_of_input = fold-Input Tables Tables Tables Tables Tables aggregate_tables block_tables
     source_tables input_tables expr_tables
 
 -- those of an expression
-unfoldable pub tables_of_expr : BoundExpr → Tables
+unfoldable pub tables_of_expr : BoundExpr → List TableName
 tables_of_expr = fold-BoundExpr Tables Tables Tables Tables Tables aggregate_tables block_tables
     source_tables input_tables expr_tables
 
 -- those of an aggregate
-unfoldable pub tables_of_aggregate : BoundAggregate → Tables
+unfoldable pub tables_of_aggregate : BoundAggregate → List TableName
 tables_of_aggregate = fold-BoundAggregate Tables Tables Tables Tables Tables aggregate_tables
     block_tables source_tables input_tables expr_tables
 
--- the rows of the kept view of each number
-abbrev pub ViewRows : Type 0
-ViewRows = ℕ → List (Ranked Value)
-
--- how many rows are read where a table or a kept view stands
-abbrev pub rows_read : State → ViewRows → Occurrence → ℕ
-rows_read state views (inl t) = length (table_rows state t)
-rows_read state views (inr number) = length (views number)
-
--- how many rows a query reads in a state: of each table and each kept view that stands in it all
--- rows, once for each time it does
-unfoldable pub reads : BoundBlock → State → ViewRows → ℕ
-reads q state views = weigh (rows_read state views) (tables q)
+-- how many rows a query reads in a state: of each table that stands in it all rows, once for each
+-- time it does
+unfoldable pub reads : BoundBlock → State → ℕ
+reads q state = weigh (λ t. length (table_rows state t)) (tables q)

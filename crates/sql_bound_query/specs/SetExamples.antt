@@ -17,7 +17,7 @@ use Rattle.sql_bound_query.specs.declared.query.Input.TheVariants as input
 use Rattle.sql_bound_query.specs.declared.query.SetColumn.{SetColumn}
 use Rattle.sql_bound_query.specs.Answer.{answer}
 use Rattle.sql_bound_query.specs.Examples.{number, small, over, always, at, statement, keys_where}
-use Rattle.sql_bound_query.specs.Examples.{wholes, is_order, no_views}
+use Rattle.sql_bound_query.specs.Examples.{wholes, is_order}
 use Rattle.sql_bound_query.specs.Reads.{reads}
 use Rattle.sql_bound_query.specs.Typing.{EnvKinds, block_kinds, where_some, set_kinds}
 
@@ -79,4 +79,4 @@ SetKinds = (a b : BoundBlock) (columns : List SetColumn) (operation : SetOperati
 
 -- The tables of both sides are read.
 abbrev pub SetReads : Type 0
-SetReads = reads (low_and_one Union) small no_views ≡ 10
+SetReads = reads (low_and_one Union) small ≡ 10

@@ -1,4 +1,4 @@
-use Rattle.std.proofs.Common.{subst, sym, ◌∙◌, ap}
+use Rattle.std.proofs.Common.{subst}
 use Rattle.plan_kept_queries.specs.Forms.{IsFound, IsKeptPlan, is_kept_block}
 use Rattle.plan_dependent_nodes.proofs.sources.kept_rows.Goals as goal
 
@@ -13,3 +13,8 @@ returns-in_ok-tree-in-Ok c =
       tree_is = search rules;
       width_is = search rules;
     }
+
+pub returns-in-NotKept : goal.returns-in-NotKept
+returns-in-NotKept c =
+    let q = c.args.q.now in
+    subst (IsFound (is_kept_block q) (IsKeptPlan q)) (search rules) c.plan_of_block.ensures
