@@ -13,6 +13,8 @@ use Rattle.expr_scalar.specs.declared.expr.Expr.TheVariants.{All}
 use Rattle.expr_scalar.specs.Meaning.{value, truth}
 use Rattle.expr_aggregates.specs.declared.function.AggregateFunction.TheVariants.{Count, Sum}
 use Rattle.expr_aggregates.specs.Values.{reading, aggregate_of}
+use Rattle.plan_algebra.specs.declared.aggregate.Aggregate.{Aggregate}
+use Rattle.plan_algebra.specs.declared.aggregate.Aggregate.TheVariants.{CountRows, Of}
 use Rattle.plan_algebra.specs.declared.kept_plan.KeptAggregate.{KeptAggregate}
 use Rattle.plan_algebra.specs.declared.kept_plan.KeptAggregate.TheVariants as kept
 use Rattle.plan_algebra.specs.declared.kept_plan.KeptPlan.{KeptPlan}
@@ -23,6 +25,12 @@ abbrev pub item_of : KeptAggregate → (List Value → Value) × (List Value →
 item_of kept.CountRows = (λ row. Null, count_rows (reading 0))
 item_of (kept.Count e) = (value e, aggregate_of Count 0)
 item_of (kept.Sum scale e) = (value e, aggregate_of Sum scale)
+
+-- an aggregate, as one of a plan's group
+abbrev pub plain_aggregate : KeptAggregate → Aggregate
+plain_aggregate kept.CountRows = CountRows
+plain_aggregate (kept.Count e) = Of Count 0 e
+plain_aggregate (kept.Sum scale e) = Of Sum scale e
 
 -- what the condition says of a row
 abbrev pub holds_for : KeptPlan → List Value → ℕ

@@ -1,9 +1,13 @@
 //! Grouped queries of one table whose rows are kept, as plain data.
-ghost use Rattle.std.specs.Prelude.{◌≡◌, IfOk, IsTrue};
+ghost use Rattle.std.specs.Prelude.{◌≡◌, IfOk, IsTrue, map};
+ghost use Rattle.expr_scalar.specs.declared.expr.Expr.TheVariants.{Column};
+ghost use Rattle.plan_algebra.specs.KeptPlans.{plain_aggregate};
 
+use crate::aggregate::Aggregate;
 use crate::copy::copy_expr;
 use base_decimal::Scale;
 use base_schema::TableName;
+use expr_aggregates::AggregateFunction;
 use expr_conditions::is_same;
 use expr_scalar::Expr;
 use sqlite_items::{Boxed, Items};
@@ -135,4 +139,47 @@ pub fn is_same_plan(a: &KeptPlan, b: &KeptPlan) -> bool
         && are_same_places(a.by.as_slice(), b.by.as_slice())
         && are_same_aggregates(a.aggregates.as_slice(), b.aggregates.as_slice())
         && are_same_places(a.list.as_slice(), b.list.as_slice())
+}
+
+// A kept aggregate as one of a plan's.
+fn plain(alloc: Global, aggregate: &KeptAggregate) -> Result<Aggregate, AllocError>
+    ensures { IfOk result (λ new. new ≡ plain_aggregate aggregate.now) }
+{
+    match aggregate {
+        KeptAggregate::CountRows => Ok(Aggregate::CountRows),
+        KeptAggregate::Count(e) => {
+            let e = copy_expr(alloc, e.get())?;
+            Ok(Aggregate::Of(AggregateFunction::Count, Scale::WHOLE, e))
+        }
+        KeptAggregate::Sum(scale, e) => {
+            let e = copy_expr(alloc, e.get())?;
+            Ok(Aggregate::Of(AggregateFunction::Sum, *scale, e))
+        }
+    }
+}
+
+/// Kept aggregates as those of a plan's group.
+pub fn plain_aggregates(
+    alloc: Global,
+    aggregates: &[KeptAggregate],
+) -> Result<Items<Aggregate>, AllocError>
+    ensures { IfOk result (λ all. all ≡ map plain_aggregate aggregates.now) }
+{
+    let mut all = Items::new(alloc);
+    for aggregate in aggregates {
+        let new = plain(alloc, aggregate)?;
+        all.push(new)?;
+    }
+    Ok(all)
+}
+
+/// The select list of columns at these places.
+pub fn shown_columns(alloc: Global, places: &[u32]) -> Result<Items<Expr>, AllocError>
+    ensures { IfOk result (λ all. all ≡ map Column places.now) }
+{
+    let mut all = Items::new(alloc);
+    for place in places {
+        all.push(Expr::Column(*place))?;
+    }
+    Ok(all)
 }

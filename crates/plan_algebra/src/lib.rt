@@ -15,7 +15,9 @@ mod whole;
 
 pub use aggregate::{Aggregate, values_of_none};
 pub use copy::{copy_aggregates, copy_expr, copy_exprs};
-pub use kept_plan::{KeptAggregate, KeptPlan, copy_kept_plan, is_same_plan};
+pub use kept_plan::{
+    KeptAggregate, KeptPlan, copy_kept_plan, is_same_plan, plain_aggregates, shown_columns,
+};
 pub use node::{Node, NodeId};
 pub use piece::Piece;
 pub use plan::{Builder, FlatPlan};

@@ -23,7 +23,8 @@ use Rattle.plan_algebra.specs.declared.kept_plan.KeptAggregate.TheVariants as ke
 use Rattle.plan_algebra.specs.declared.kept_plan.KeptPlan.{KeptPlan}
 use Rattle.plan_algebra.specs.declared.node.Node.{Node}
 use Rattle.plan_algebra.specs.declared.node.Node.TheVariants as n
-use Rattle.plan_spelling.specs.Plans.{aggregate_spelling, function_number, kept_aggregate, kept_numbers, node_spelling, operation_number, pair_numbers, plan_spelling, value_spelling}
+use Rattle.plan_algebra.specs.KeptPlans.{plain_aggregate}
+use Rattle.plan_spelling.specs.Plans.{aggregate_spelling, function_number, kept_numbers, node_spelling, operation_number, pair_numbers, plan_spelling, value_spelling}
 use Rattle.plan_spelling.specs.Exprs.{arithmetic_number, branch_spelling, comparison_number, expr_spelling, operation_spelling, part_number, spelled, value_numbers}
 use Rattle.plan_spelling.proofs.Opened.{spelling_Branch, spelling_Operation, spelling_Column, spelling_Literal, spelling_Negative, spelling_Arithmetic, spelling_Case, spelling_Extract, spelling_Substring, spelling_Compare, spelling_Between, spelling_Like, spelling_InList, spelling_IsNull, spelling_Not, spelling_All, spelling_Any, spelling_IsMarked}
 use Rattle.plan_spelling.proofs.NodeSteps.{spelled_Kept, spelled_Scan, spelled_Domain, spelled_Select, spelled_Project, spelled_Join, spelled_Outer, spelled_Mark, spelled_Single, spelled_Group, spelled_Fill, spelled_Distinct, spelled_Set}
@@ -367,7 +368,7 @@ table_back t.Customer = refl
 table_back t.Orders = refl
 table_back t.Lineitem = refl
 
-kept_back : (a : KeptAggregate) → kept_part (aggregate (kept_aggregate a)) ≡ Some a
+kept_back : (a : KeptAggregate) → kept_part (aggregate (plain_aggregate a)) ≡ Some a
 kept_back kept.CountRows = refl
 kept_back (kept.Count e) = refl
 kept_back (kept.Sum scale e) = refl
@@ -449,13 +450,13 @@ a_node (n.Set i j o) = record {
 }
 a_node (n.Kept number plan) = record {
   what = 33 ∷ number ∷ kept_numbers plan;
-  below = expr plan.condition ∷ map (λ a. aggregate (kept_aggregate a)) plan.aggregates;
+  below = expr plan.condition ∷ map (λ a. aggregate (plain_aggregate a)) plan.aggregates;
   is = spelled_Kept number plan
       ∙ ap (λ l. spelled (33 ∷ number ∷ kept_numbers plan) (expr_spelling plan.condition ∷ l))
-      (sym (all_spelled (λ a. aggregate_spelling (kept_aggregate a)) (λ a. aggregate (kept_aggregate a)) (λ a. refl) plan.aggregates));
-  back = kept_numbers_back number plan (map (λ a. aggregate (kept_aggregate a)) plan.aggregates)
+      (sym (all_spelled (λ a. aggregate_spelling (plain_aggregate a)) (λ a. aggregate (plain_aggregate a)) (λ a. refl) plan.aggregates));
+  back = kept_numbers_back number plan (map (λ a. aggregate (plain_aggregate a)) plan.aggregates)
       ∙ ap (kept_made number plan.by plan.list (Some plan.table) plan.condition)
-      (all_back kept_part (λ a. aggregate (kept_aggregate a)) kept_back plan.aggregates);
+      (all_back kept_part (λ a. aggregate (plain_aggregate a)) kept_back plan.aggregates);
 }
 
 pub described : (p : Part) → Described p

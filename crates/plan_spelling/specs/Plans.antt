@@ -14,10 +14,9 @@ use Rattle.expr_aggregates.specs.declared.function.AggregateFunction.TheVariants
 use Rattle.expr_aggregates.specs.declared.function.AggregateFunction.TheVariants.{Min, Max}
 use Rattle.plan_algebra.specs.declared.aggregate.Aggregate.{Aggregate}
 use Rattle.plan_algebra.specs.declared.aggregate.Aggregate.TheVariants.{CountRows, Of}
-use Rattle.plan_algebra.specs.declared.kept_plan.KeptAggregate.{KeptAggregate}
-use Rattle.plan_algebra.specs.declared.kept_plan.KeptAggregate.TheVariants as kept
 use Rattle.plan_algebra.specs.declared.kept_plan.KeptPlan.{KeptPlan}
 use Rattle.plan_algebra.specs.declared.node.Node.{Node}
+use Rattle.plan_algebra.specs.KeptPlans.{plain_aggregate}
 use Rattle.plan_algebra.specs.declared.node.Node.TheVariants as n
 use Rattle.plan_spelling.specs.Exprs.{expr_spelling, spelled, value_numbers}
 
@@ -53,12 +52,6 @@ abbrev pub pair_numbers : List (ℕ × ℕ) → List ℕ
 pair_numbers [] = []
 pair_numbers (pair ∷ pairs) = pair.0 ∷ pair.1 ∷ pair_numbers pairs
 
--- an aggregate that is kept, as the aggregate that it is
-abbrev pub kept_aggregate : KeptAggregate → Aggregate
-kept_aggregate kept.CountRows = CountRows
-kept_aggregate (kept.Count e) = Of Count 0 e
-kept_aggregate (kept.Sum scale e) = Of Sum scale e
-
 -- the numbers of a kept plan: how many GROUP BY columns and how many columns it shows, these, and
 -- its table
 abbrev pub kept_numbers : KeptPlan → List ℕ
@@ -68,7 +61,7 @@ kept_numbers plan = length plan.by ∷ length plan.list
 -- the parts of a kept plan: its condition and its aggregates
 abbrev pub kept_parts : KeptPlan → List (List ℕ)
 kept_parts plan = expr_spelling plan.condition
-    ∷ map (λ a. aggregate_spelling (kept_aggregate a)) plan.aggregates
+    ∷ map (λ a. aggregate_spelling (plain_aggregate a)) plan.aggregates
 
 -- a node of a plan
 unfoldable pub node_spelling : Node → List ℕ

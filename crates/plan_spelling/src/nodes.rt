@@ -1,9 +1,10 @@
 //! The numbers that spell a flat plan.
 ghost use Rattle.std.specs.Prelude.{◌≡◌, ◌++◌, IfOk, OnOk};
 ghost use Rattle.std.specs.List.{flat_map};
+ghost use Rattle.plan_algebra.specs.KeptPlans.{plain_aggregate};
 ghost use Rattle.plan_spelling.specs.Plans as spec;
 ghost use Rattle.plan_algebra.specs.declared.node.Node.TheVariants as node;
-ghost use Rattle.plan_spelling.specs.Plans.{aggregate_spelling, kept_aggregate, node_spelling};
+ghost use Rattle.plan_spelling.specs.Plans.{aggregate_spelling, node_spelling};
 ghost use Rattle.plan_spelling.specs.Plans.{value_spelling};
 
 use crate::exprs::{put_expr, put_exprs};
@@ -52,7 +53,7 @@ fn put_values(numbers: &mut Vec<u128>, values: &[Value]) -> Result<(), AllocErro
 #[tactic(auto, using(crate::proofs::Written::aggregate_written))]
 fn put_kept_aggregate(numbers: &mut Vec<u128>, aggregate: &KeptAggregate) -> Result<(), AllocError>
     ensures { OnOk result (numbers.new.items
-        ≡ numbers.old.items ++ aggregate_spelling (kept_aggregate aggregate.now)) }
+        ≡ numbers.old.items ++ aggregate_spelling (plain_aggregate aggregate.now)) }
 {
     match aggregate {
         KeptAggregate::CountRows => numbers.extend_from_slice(&[1, 18, 0]),
@@ -72,7 +73,7 @@ fn put_kept_aggregates(
     aggregates: &[KeptAggregate],
 ) -> Result<(), AllocError>
     ensures { OnOk result (numbers.new.items ≡ numbers.old.items
-        ++ flat_map (λ a. aggregate_spelling (kept_aggregate a)) aggregates.now) }
+        ++ flat_map (λ a. aggregate_spelling (plain_aggregate a)) aggregates.now) }
 {
     for aggregate in aggregates {
         put_kept_aggregate(numbers, aggregate)?;

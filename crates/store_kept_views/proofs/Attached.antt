@@ -5,12 +5,11 @@ use Rattle.std.specs.Prelude.{slice_get}
 use Rattle.base_refusals.specs.declared.refresh.Cause.{Cause}
 use Rattle.base_row_laws.specs.Bags.{SameBag}
 use Rattle.base_row_laws.specs.Ranked.{Ranked}
-use Rattle.base_row_laws.proofs.OfBags.{OfBag-length}
 use Rattle.base_schema.specs.State.{State, table_rows}
 use Rattle.base_value.specs.declared.value.Value.{Value}
 use Rattle.plan_algebra.specs.declared.kept_plan.KeptPlan.{KeptPlan}
 use Rattle.plan_algebra.specs.KeptPlans.{query_rows}
-use Rattle.store_kept_views.specs.Kept.{KeptRows, kept, rows_of_view, view_rows}
+use Rattle.store_kept_views.specs.Kept.{KeptRows, kept}
 use Rattle.store_state.specs.Moves.{AreMoved}
 use Rattle.store_state.specs.Refresh.{Change, after, cause_of, changed, unless_cause}
 
@@ -26,29 +25,6 @@ moved_to tables before added removed state change are leaves moved =
     (subst (AreMoved before added removed) (left_by (cause_of before change) (changed before change) state leaves) moved)
 
 -- the rows of a view whose plan is the one that is asked for
-module _ (held : KeptRows) (plans : List KeptPlan) (state : State) (number : ℕ) (own : KeptPlan)
-    (right : held ≡ kept plans state) (at : slice_get held.plans number ≡ Some own)
-    (bag : List (Ranked Value)) where
-  abbrev Shows : Type 0
-  Shows = (plan : KeptPlan) → slice_get held.plans number ≡ Some plan
-      → SameBag bag (query_rows plan (table_rows held.tables plan.table))
-
-  own_shown : Shows → SameBag bag (query_rows own (table_rows state own.table))
-  own_shown shows =
-      subst (λ s. SameBag bag (query_rows own (table_rows s own.table)))
-      (ap (λ (k : KeptRows). k.tables) right) (shows own at)
-
-  pub view_shown_by : (asked : KeptPlan) → own ≡ asked → Shows
-      → SameBag bag (query_rows asked (table_rows state asked.table))
-  view_shown_by asked same shows =
-      subst (λ p. SameBag bag (query_rows p (table_rows state p.table))) same (own_shown shows)
-
-  pub view_counted_by : Shows → length bag ≡ length (view_rows plans state number)
-  view_counted_by shows =
-      OfBag-length.alike bag (query_rows own (table_rows state own.table)) (own_shown shows)
-      ∙ ap length (sym (ap (λ o. rows_of_view o state)
-      (sym (ap (λ (k : KeptRows). slice_get k.plans number) right) ∙ at)))
-
 pub view_shown : (held : KeptRows) (plans : List KeptPlan) (state : State) (number : ℕ)
     (own asked : KeptPlan) → held ≡ kept plans state → slice_get held.plans number ≡ Some own
     → own ≡ asked → (bag : List (Ranked Value))
@@ -56,16 +32,9 @@ pub view_shown : (held : KeptRows) (plans : List KeptPlan) (state : State) (numb
     → SameBag bag (query_rows plan (table_rows held.tables plan.table)))
     → SameBag bag (query_rows asked (table_rows state asked.table))
 view_shown held plans state number own asked right at same bag shows =
-    view_shown_by held plans state number own right at bag asked same shows
-
-pub view_counted : (held : KeptRows) (plans : List KeptPlan) (state : State) (number : ℕ)
-    (own : KeptPlan) → held ≡ kept plans state → slice_get held.plans number ≡ Some own
-    → (bag : List (Ranked Value))
-    → ((plan : KeptPlan) → slice_get held.plans number ≡ Some plan
-    → SameBag bag (query_rows plan (table_rows held.tables plan.table)))
-    → length bag ≡ length (view_rows plans state number)
-view_counted held plans state number own right at bag shows =
-    view_counted_by held plans state number own right at bag shows
+    subst (λ p. SameBag bag (query_rows p (table_rows state p.table))) same
+    (subst (λ s. SameBag bag (query_rows own (table_rows s own.table)))
+    (ap (λ (k : KeptRows). k.tables) right) (shows own at))
 
 pub view_wide : (own asked : KeptPlan) → own ≡ asked → (width : ℕ) → width ≡ length own.list
     → width ≡ length asked.list

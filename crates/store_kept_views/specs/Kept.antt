@@ -1,10 +1,7 @@
 -- What kept views stand for.
-use Rattle.std.specs.Prelude.{ℕ, List, [], map, Option, Some, None, slice_get}
+use Rattle.std.specs.Prelude.{List, map}
 use Rattle.std.specs.List.{All}
-use Rattle.base_row_laws.specs.Ranked.{Ranked}
 use Rattle.base_schema.specs.State.{State, table_rows}
-use Rattle.base_value.specs.declared.value.Value.{Value}
-use Rattle.plan_algebra.specs.KeptPlans.{query_rows}
 use Rattle.store_state.specs.Moves.{AreMoved}
 use Rattle.plan_algebra.specs.declared.kept_plan.KeptPlan.{KeptPlan}
 use Rattle.store_groups.specs.Entries.{Entries}
@@ -28,15 +25,6 @@ AreKept tables views = All (IsKept tables) views
 
 abbrev pub plans_of : List (KeptPlan × Entries) → List KeptPlan
 plans_of views = map (λ v. v.0) views
-
--- the rows of a plan over a state; none of none
-abbrev pub rows_of_view : Option KeptPlan → State → List (Ranked Value)
-rows_of_view None state = []
-rows_of_view (Some plan) state = query_rows plan (table_rows state plan.table)
-
--- the rows of the plan of each number
-abbrev pub view_rows : List KeptPlan → State → ℕ → List (Ranked Value)
-view_rows plans state number = rows_of_view (slice_get plans number) state
 
 -- a view may be moved
 pub record CanMoveView (view : KeptPlan × Entries) (added removed rows : State) : Type 0 where

@@ -1,10 +1,10 @@
 //! Kept groups that a version carries along.
-ghost use Rattle.std.specs.Prelude.{◌≡◌, List, IfOk, length};
+ghost use Rattle.std.specs.Prelude.{◌≡◌, List, IfOk, IfSome, length};
 ghost use Rattle.base_row_laws.specs.Bags.{SameBag};
 ghost use Rattle.base_schema.specs.State.{table_rows};
 ghost use Rattle.plan_algebra.specs.KeptPlans.{query_rows};
 ghost use Rattle.plan_algebra.specs.declared.kept_plan.KeptPlan.{KeptPlan as Plan};
-ghost use Rattle.store_kept_views.specs.Kept.{kept, view_rows};
+ghost use Rattle.store_kept_views.specs.Kept.{kept};
 
 use crate::kept::Kept;
 use base_columns::Bag;
@@ -50,8 +50,6 @@ impl<P: Plans> KeptOf<P> {
 impl<P: Plans> Attachment for KeptOf<P> {
     ghost is_right = { λ a state. a.kept ≡ kept P.plans state };
 
-    ghost views = { λ state number. view_rows P.plans state number };
-
     fn share(&self) -> Result<KeptOf<P>, AllocError> {
         Ok(KeptOf::new(self.kept.share()?))
     }
@@ -74,15 +72,20 @@ impl<P: Plans> Attachment for KeptOf<P> {
         Ok(KeptOf::new(kept))
     }
 
-    fn view_rows(&self, _alloc: Global, number: u32, plan: &KeptPlan) -> Result<Bag, AllocError> {
+    fn view_rows(
+        &self,
+        _alloc: Global,
+        number: u32,
+        plan: &KeptPlan,
+    ) -> Result<Option<Bag>, AllocError> {
         let i = number as usize;
         if i >= self.kept.len() {
-            return Err(AllocError);
+            return Ok(None);
         }
         if !is_same_plan(self.kept.plan(i), plan) {
-            return Err(AllocError);
+            return Ok(None);
         }
         let bag = self.kept.rows(i)?;
-        Ok(bag)
+        Ok(Some(bag))
     }
 }

@@ -1,5 +1,5 @@
 //! A version that a session reads.
-ghost use Rattle.std.specs.Prelude.{◌≡◌, ◌+◌, ◌≤◌, length, IfOk, OnOk};
+ghost use Rattle.std.specs.Prelude.{◌≡◌, ◌+◌, ◌≤◌, length, IfOk, IfSome, OnOk};
 ghost use Rattle.std.specs.Arc.{arc_value};
 ghost use Rattle.base_columns.specs.Lists.{one_list};
 ghost use Rattle.base_row_laws.specs.Bags.{SameBag};
@@ -79,8 +79,6 @@ impl<A: Attachment> Snapshot<A> {
 impl<A: Attachment> Tables for Snapshot<A> {
     ghost rows = { λ snapshot table. table_rows (tables_of snapshot) table };
 
-    ghost views = { λ snapshot number. A.views (tables_of snapshot) number };
-
     fn count(&self, table: TableName) -> u64 {
         Tables::count(&*self.share, table)
     }
@@ -94,13 +92,7 @@ impl<A: Attachment> Tables for Snapshot<A> {
         self.share.scan(alloc, table, steps)
     }
 
-    fn kept<L: Ledger>(
-        &self,
-        alloc: Global,
-        number: u32,
-        plan: &KeptPlan,
-        steps: &mut Steps<L>,
-    ) -> Result<Bag, AllocError> {
-        self.share.kept(alloc, number, plan, steps)
+    fn kept(&self, alloc: Global, number: u32, plan: &KeptPlan) -> Result<Option<Bag>, AllocError> {
+        self.share.kept(alloc, number, plan)
     }
 }

@@ -1,10 +1,8 @@
 //! What a version carries along.
-ghost use Rattle.std.specs.Prelude.{◌≡◌, ℕ, List, IfOk, Ok, length};
+ghost use Rattle.std.specs.Prelude.{◌≡◌, IfOk, IfSome, Ok, length};
 ghost use Rattle.std.specs.Arc.{arc_value};
 ghost use Rattle.base_row_laws.specs.Bags.{SameBag};
-ghost use Rattle.base_row_laws.specs.Ranked.{Ranked};
 ghost use Rattle.base_schema.specs.State.{State as Tables, table_rows};
-ghost use Rattle.base_value.specs.declared.value.Value.{Value};
 ghost use Rattle.plan_algebra.specs.KeptPlans.{query_rows};
 ghost use Rattle.store_state.specs.Refresh.{after};
 
@@ -19,9 +17,6 @@ use store_state::{Refresh, State};
 pub trait Attachment: Drop {
     /// Whether it is right for a state.
     ghost is_right: { Self → Tables → Type 0 };
-
-    /// The rows of the kept view of each number over a state; none where there is no such view.
-    ghost views: { Tables → ℕ → List (Ranked Value) };
 
     /// A further share of it.
     fn share(&self) -> Result<Self, AllocError>
@@ -44,24 +39,24 @@ pub trait Attachment: Drop {
     fn anew(&self, alloc: Global, state: &Arc<State>) -> Result<Self, AllocError>
         ensures { IfOk result (λ a. is_right a (arc_value state.now)) };
 
-    /// The rows of the kept view of a number over the state that it is right for, at their
-    /// standings, in any order: those of this plan. Out of memory also where there is no such view,
-    /// or its plan is another one.
-    fn view_rows(&self, alloc: Global, number: u32, plan: &KeptPlan) -> Result<Bag, AllocError>
-        ensures rows { IfOk result (λ bag. (state : Tables) → is_right self.now state
-            → SameBag bag.rows (query_rows plan.now (table_rows state plan.now.table))) }
-        ensures count { IfOk result (λ bag. (state : Tables) → is_right self.now state
-            → length bag.rows ≡ length (views state number)) }
-        ensures width { IfOk result (λ bag. bag.width ≡ length plan.now.list) };
+    /// The rows of this plan over the state that it is right for, at their standings, in any order,
+    /// where a kept view of this number and this plan is there.
+    fn view_rows(
+        &self,
+        alloc: Global,
+        number: u32,
+        plan: &KeptPlan,
+    ) -> Result<Option<Bag>, AllocError>
+        ensures rows { IfOk result (λ found. IfSome found (λ bag.
+            (state : Tables) → is_right self.now state
+            → SameBag bag.rows (query_rows plan.now (table_rows state plan.now.table)))) }
+        ensures width { IfOk result (λ found. IfSome found (λ bag.
+            bag.width ≡ length plan.now.list)) };
 }
 
 /// Nothing, which is right for each state.
 impl Attachment for () {
-    ghost use Rattle.std.specs.Prelude.{[]};
-
     ghost is_right = { λ nothing state. Unit {0} };
-
-    ghost views = { λ state number. [] };
 
     fn share(&self) -> Result<(), AllocError> {
         Ok(())
@@ -81,8 +76,12 @@ impl Attachment for () {
         Ok(())
     }
 
-    // There are no kept views.
-    fn view_rows(&self, _alloc: Global, _number: u32, _plan: &KeptPlan) -> Result<Bag, AllocError> {
-        Err(AllocError)
+    fn view_rows(
+        &self,
+        _alloc: Global,
+        _number: u32,
+        _plan: &KeptPlan,
+    ) -> Result<Option<Bag>, AllocError> {
+        Ok(None)
     }
 }

@@ -1,5 +1,5 @@
 //! A version's tables as a run reads them.
-ghost use Rattle.std.specs.Prelude.{◌≡◌, ◌+◌, ◌≤◌, List, IfOk, OnOk, length};
+ghost use Rattle.std.specs.Prelude.{◌≡◌, ◌+◌, ◌≤◌, List, IfOk, IfSome, OnOk, length};
 ghost use Rattle.base_columns.specs.Lists.{one_list};
 ghost use Rattle.base_row_laws.specs.Bags.{SameBag};
 ghost use Rattle.plan_algebra.specs.KeptPlans.{query_rows};
@@ -42,8 +42,6 @@ fn pieces_of(alloc: Global, parts: &[Part]) -> Result<Vec<Piece>, AllocError>
 impl<A: Attachment> Tables for Directory<A> {
     ghost rows = { λ directory table. table_rows (tables_of directory) table };
 
-    ghost views = { λ directory number. A.views (tables_of directory) number };
-
     fn count(&self, table: TableName) -> u64 {
         Directory::count(self, table)
     }
@@ -60,15 +58,8 @@ impl<A: Attachment> Tables for Directory<A> {
         Ok(pieces)
     }
 
-    fn kept<L: Ledger>(
-        &self,
-        alloc: Global,
-        number: u32,
-        plan: &KeptPlan,
-        steps: &mut Steps<L>,
-    ) -> Result<Bag, AllocError> {
-        let bag = self.attachment().view_rows(alloc, number, plan)?;
-        steps.add(bag.len() as u64);
-        Ok(bag)
+    fn kept(&self, alloc: Global, number: u32, plan: &KeptPlan) -> Result<Option<Bag>, AllocError> {
+        let found = self.attachment().view_rows(alloc, number, plan)?;
+        Ok(found)
     }
 }
