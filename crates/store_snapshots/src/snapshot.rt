@@ -93,6 +93,6 @@ impl<A: Attachment> Tables for Snapshot<A> {
     }
 
     fn kept(&self, alloc: Global, number: u32, plan: &KeptPlan) -> Result<Option<Bag>, AllocError> {
-        self.share.kept(alloc, number, plan)
+        Tables::kept(&*self.share, alloc, number, plan)
     }
 }
