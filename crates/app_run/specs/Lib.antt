@@ -3,6 +3,7 @@ pub mod Turns
 pub mod NextVersions
 pub mod Journals
 pub mod JobInputs
+pub mod JobKeeps
 pub mod JobOrders
 pub mod JobMeaning
 pub mod Reaching
