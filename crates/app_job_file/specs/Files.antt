@@ -136,6 +136,7 @@ with_name parts number (Some name) file =
       keeps = parts.keeps ++ record { name = name; file = file; line = number } ∷ [];
     })
 
+-- the same of a line that has these words
 abbrev pub with_keep : JobParts → ℕ → List ℕ → List ℕ → Result JobParts JobRefusal
 with_keep parts number name file = with_name parts number (name_of name) file
 
