@@ -9,3 +9,4 @@ pub mod FormsOpened
 pub mod FormLists
 pub mod FormLoops
 pub mod PartLists
+pub mod Followed

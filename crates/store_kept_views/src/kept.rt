@@ -22,7 +22,7 @@ use store_state::State;
 pub struct Kept {
     alloc: Global,
     tables: Arc<State>,
-    views: Vec<View>,
+    views: Arc<Vec<View>>,
 }
 
 impl Model for Kept {
@@ -35,9 +35,9 @@ impl Model for Kept {
 
     ghost coded = { Prim.hlevel (codes, expr.the_row.coded) };
 
-    ghost view = { λ k. kept (plans_of k.views.items) (arc_value k.tables) };
+    ghost view = { λ k. kept (plans_of (arc_value k.views).items) (arc_value k.tables) };
 
-    ghost invariant = { λ k. AreKept (arc_value k.tables) k.views.items };
+    ghost invariant = { λ k. AreKept (arc_value k.tables) (arc_value k.views).items };
 }
 
 // The views of plans.
@@ -55,6 +55,19 @@ fn start_views(
         views.push(view)?;
     }
     Ok(views)
+}
+
+// The views of the same plans, made anew.
+fn renew_views(alloc: Global, views: &[View], tables: &State) -> Result<Vec<View>, AllocError>
+    ensures plans { IfOk result (λ vs. plans_of vs.items ≡ plans_of views.now) }
+    ensures kept { IfOk result (λ vs. AreKept tables.now vs.items) }
+{
+    let mut next = Vec::with_capacity(alloc, views.len())?;
+    for view in views {
+        let made = view.anew(alloc, tables)?;
+        next.push(made)?;
+    }
+    Ok(next)
 }
 
 // The views after some rows were removed and others added.
@@ -87,7 +100,7 @@ impl Kept {
         ensures { IfOk result (λ k. k
             ≡ kept (map (λ p. arc_value p) plans.now) (arc_value tables)) }
     {
-        let views = start_views(alloc, plans, &tables)?;
+        let views = Arc::new(alloc, start_views(alloc, plans, &tables)?)?;
         Ok(Kept {
             alloc,
             tables,
@@ -107,6 +120,33 @@ impl Kept {
         ensures { IfOk result (λ k. k ≡ kept self.now.plans (arc_value tables)) }
     {
         let views = move_views(self.alloc, self.views.as_slice(), added, removed, &tables)?;
+        let views = Arc::new(self.alloc, views)?;
+        Ok(Kept {
+            alloc: self.alloc,
+            tables,
+            views,
+        })
+    }
+
+    /// The same groups once more, of which nothing is copied.
+    pub fn share(&self) -> Result<Kept, AllocError>
+        ensures { IfOk result (λ k. k ≡ self.now) }
+    {
+        let tables = Arc::try_clone(&self.tables)?;
+        let views = Arc::try_clone(&self.views)?;
+        Ok(Kept {
+            alloc: self.alloc,
+            tables,
+            views,
+        })
+    }
+
+    /// The same plans over another state, made anew.
+    pub fn anew(&self, tables: Arc<State>) -> Result<Kept, AllocError>
+        ensures { IfOk result (λ k. k ≡ kept self.now.plans (arc_value tables)) }
+    {
+        let views = renew_views(self.alloc, self.views.as_slice(), &tables)?;
+        let views = Arc::new(self.alloc, views)?;
         Ok(Kept {
             alloc: self.alloc,
             tables,

@@ -2,6 +2,7 @@
 //! their tables.
 #![tactic(auto)]
 
+mod attached;
 mod bag;
 mod form;
 mod kept;
@@ -12,6 +13,7 @@ mod plan;
 mod reading;
 mod view;
 
+pub use attached::{KeptOf, Plans};
 pub use form::KeptPlanError;
 pub use kept::Kept;
 pub use plan::{KeptAggregate, KeptPlan};

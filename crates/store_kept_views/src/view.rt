@@ -53,6 +53,15 @@ impl View {
         Ok(View { plan, groups })
     }
 
+    /// The same plan's groups of the rows of another state, made anew.
+    pub(crate) fn anew(&self, alloc: Global, tables: &State) -> Result<View, AllocError>
+        ensures plan { IfOk result (λ v. v.0 ≡ self.now.0) }
+        ensures kept { IfOk result (IsKept tables.now) }
+    {
+        let view = View::start(alloc, &self.plan, tables)?;
+        Ok(view)
+    }
+
     /// The same plan's groups of the rows after some were removed and others added.
     pub(crate) fn moved(
         &self,

@@ -13,7 +13,7 @@ use store_kept_views::{Kept, KeptPlan, KeptPlanError};
 use store_state::State;
 
 // Eight tables without rows.
-fn no_rows(alloc: Global) -> Result<State, AllocError> {
+pub(crate) fn no_rows(alloc: Global) -> Result<State, AllocError> {
     let tables = vec![in alloc;
         Rows::new(alloc),
         Rows::new(alloc),
@@ -45,7 +45,7 @@ fn column(alloc: Global, place: u32) -> Result<BoundExpr, AllocError> {
 }
 
 // `select count(*), f(o_totalprice) from orders`
-fn totals(alloc: Global, f: AggregateFunction) -> Result<BoundQuery, AllocError> {
+pub(crate) fn totals(alloc: Global, f: AggregateFunction) -> Result<BoundQuery, AllocError> {
     let from = Boxed::new(alloc, BoundSource::Table(TableName::Orders))?;
     let mut aggregates = Items::new(alloc);
     aggregates.push(BoundAggregate::CountRows)?;

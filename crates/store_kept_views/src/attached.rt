@@ -1,0 +1,85 @@
+//! Kept groups that a version carries along.
+ghost use Rattle.std.specs.Prelude.{◌≡◌, ◌<◌, List, Some, IfOk, length, slice_get};
+ghost use Rattle.base_row_laws.specs.Bags.{SameBag};
+ghost use Rattle.base_schema.specs.State.{State as Tables, table_rows};
+ghost use Rattle.store_kept_views.specs.declared.plan.KeptPlan.{KeptPlan as Plan};
+ghost use Rattle.store_kept_views.specs.Kept.{kept};
+ghost use Rattle.store_kept_views.specs.Plans.{query_rows};
+
+use crate::kept::Kept;
+use base_columns::Bag;
+use std::alloc::{AllocError, Global};
+use std::marker::{Brand, PhantomData};
+use std::sync::Arc;
+use store_state::{Refresh, State, moves_of};
+use store_versions::Attachment;
+
+/// The plans of one run. A marker type stands for them, so that each of its versions has the same.
+pub trait Plans {
+    ghost plans: { List Plan };
+}
+
+/// The plans that a proof picks where a run begins.
+impl Plans for Brand {
+    ghost use Rattle.std.specs.Prelude.{[]};
+
+    ghost plans = { [] };
+}
+
+/// Groups of the plans of a run, attached to a version of its tables.
+#[derive(Drop)]
+pub struct KeptOf<P: Plans> {
+    /// The groups.
+    pub kept: Kept,
+    of: PhantomData<P>,
+}
+
+impl<P: Plans> KeptOf<P> {
+    /// These groups, whose plans are those of the run.
+    pub fn new(kept: Kept) -> KeptOf<P>
+        ensures { result.kept ≡ kept }
+    {
+        KeptOf {
+            kept,
+            of: PhantomData,
+        }
+    }
+
+    /// The rows of a plan: over each state that this is right for, those of its query, with their
+    /// standings, in any order.
+    pub fn rows(&self, i: usize) -> Result<Bag, AllocError>
+        requires { i < length self.now.kept.plans }
+        ensures { IfOk result (λ bag. (state : Tables) (plan : Plan)
+            → self.now.kept ≡ kept P.plans state → slice_get P.plans i ≡ Some plan
+            → SameBag bag.rows (query_rows plan (table_rows state plan.table))) }
+    {
+        let rows = self.kept.rows(i)?;
+        Ok(rows)
+    }
+}
+
+impl<P: Plans> Attachment for KeptOf<P> {
+    ghost is_right = { λ a state. a.kept ≡ kept P.plans state };
+
+    fn share(&self) -> Result<KeptOf<P>, AllocError> {
+        Ok(KeptOf::new(self.kept.share()?))
+    }
+
+    fn after_refresh(
+        &self,
+        alloc: Global,
+        before: &State,
+        refresh: &Refresh,
+        state: &Arc<State>,
+    ) -> Result<KeptOf<P>, AllocError> {
+        let moves = moves_of(alloc, before, refresh)?;
+        let state = Arc::try_clone(state)?;
+        let kept = self.kept.moved(&moves.added, &moves.removed, state)?;
+        Ok(KeptOf::new(kept))
+    }
+
+    fn anew(&self, _alloc: Global, state: &Arc<State>) -> Result<KeptOf<P>, AllocError> {
+        let kept = self.kept.anew(Arc::try_clone(state)?)?;
+        Ok(KeptOf::new(kept))
+    }
+}
