@@ -14,9 +14,9 @@ ghost use Rattle.app_jobs.specs.Opened.{CanPlay, IsFedText, OpensJob, PlaysKept}
 ghost use Rattle.app_jobs.specs.Opened.{PlaysOpen, StartsBehind};
 ghost use Rattle.app_jobs.specs.Reaching.{IsPlayFault, IsPlayed, PublishesKept};
 
+use crate::sources::JobSources;
 use crate::journal::{Reached, reach_journal};
 use crate::kept_senders::run_kept_sent;
-use crate::sources::JobSources;
 use app_inputs::InputFault;
 use app_sessions::{JobError, JobSetup, JobText, Session, is_compaction_due, run_feed_job};
 use base_disk::Disk;
@@ -235,7 +235,7 @@ pub fn open_job<R: Wait>(
         sources.2) }
 {
     let (sessions, base, before) = sources;
-    let (mut publisher, readers) = open(rt, alloc, base, list, sessions.len() as u32, most)?;
+    let (mut publisher, readers) = open(rt, alloc, base, (), list, sessions.len() as u32, most)?;
     match start_of(rt, kept, &mut publisher) {
         Ok(Ok(start)) => Ok(Ok(OpenJob {
             alloc,

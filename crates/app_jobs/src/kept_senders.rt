@@ -13,9 +13,9 @@ ghost use Rattle.app_jobs.specs.OpenedSent.{IsReceiveFault, IsReceivedOver, Play
 ghost use Rattle.app_jobs.specs.Reaching.{IsPlayFault};
 ghost use Rattle.app_jobs.specs.Receivers.{MaySendBoth};
 
+use crate::sources::JobSources;
 use crate::kept::{OpenJob, Played, open_job};
 use crate::senders::{MOST_MESSAGES, Senders, divide, send_both};
-use crate::sources::JobSources;
 use app_sessions::{JobError, JobSetup, run_feed_job};
 use base_disk::Disk;
 use base_io::Gate;

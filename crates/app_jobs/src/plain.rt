@@ -35,7 +35,7 @@ fn run_without_senders<R: Threads + Wait + Sync, G: Gate + Sync>(
         journal: _journal,
     } = sources;
     let most = list.len();
-    let (publisher, readers) = open(rt, alloc, base, list, sessions.len() as u32, most)?;
+    let (publisher, readers) = open(rt, alloc, base, (), list, sessions.len() as u32, most)?;
     run_list_job(rt, alloc, sessions, readers, publisher, before, gate)
 }
 

@@ -168,7 +168,7 @@ fn run_receiver<R: Threads + Wait + Sync, G: Gate + Sync>(
         feed,
     } = receiver;
     let before = list.len();
-    let (mut publisher, readers) = open(rt, alloc, base, list, sessions.len() as u32, most)?;
+    let (mut publisher, readers) = open(rt, alloc, base, (), list, sessions.len() as u32, most)?;
     let setup = JobSetup {
         sessions,
         readers,

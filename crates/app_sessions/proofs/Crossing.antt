@@ -1,6 +1,6 @@
 -- What the threads of a job work on may cross threads, from the lowest types up.
 use denote.RattleType.{RattleType}
-use denote.Param.Send.{IsSend, sendable}
+use denote.Param.Send.{IsSend, IsSync, sendable}
 use denote.Param.SendFields.{declared_send}
 use Rattle.std.proofs.Crossing.{crosses}
 use Rattle.base_text.specs.contracts.text.Text as Text
@@ -54,9 +54,9 @@ session_send =
     search (statement_send, views_send, block_send, text_send, sendable, crosses) depth 60
     fits 20000
 
-pub worker_send : (E N : RattleType) (g : Ghosts E.Denot N.Denot) → IsSend E → IsSend (Worker.the_row E N g)
-worker_send E N g s = declared_send (Worker.the_type E N g) (
-  reader_send E N g s,
+pub worker_send : (E N A : RattleType) (g : Ghosts E.Denot N.Denot A.Denot) → IsSend E → IsSend A → IsSync A → IsSend (Worker.the_row E N A g)
+worker_send E N A g s sent shared = declared_send (Worker.the_type E N A g) (
+  reader_send E N A g s sent shared,
   (
     search (session_send, sendable, crosses) depth 40 fits 20000,
     (search sendable depth 20, (search sendable depth 20, (search sendable depth 20, tt))),

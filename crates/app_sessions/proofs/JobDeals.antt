@@ -11,8 +11,8 @@ use Rattle.app_sessions.specs.Workers.{AreAssigned, IsNumber, IsPlaced, next_pla
 use Rattle.app_sessions.proofs.JobSets.{alike, apart, set-each}
 
 -- each worker has as many sessions as rounds are over, and those before the turn one more
-pub record IsFilled {E N : Type 0} (ws : List (Worker E N)) (p : ℕ × ℕ) : Type 0 where
-  pub each : (i : ℕ) (w : Worker E N) → i < length ws → length (sessions_of (slice_index_or ws i w)) ≡ p.1 + cond (nat_lt i p.0) 1 0
+pub record IsFilled {E N A : Type 0} (ws : List (Worker E N A)) (p : ℕ × ℕ) : Type 0 where
+  pub each : (i : ℕ) (w : Worker E N A) → i < length ws → length (sessions_of (slice_index_or ws i w)) ≡ p.1 + cond (nat_lt i p.0) 1 0
 
 fill-other : (n t r i len : ℕ) (b : Bool) → nat_lt (t + 1) n ≡ b → t < n → i < n → i ≢ t → len ≡ r + cond (nat_lt i t) 1 0 → len ≡ (cond {A = ℕ × ℕ} b (t + 1, r) (0, r + 1)).1 + cond (nat_lt i (cond {A = ℕ × ℕ} b (t + 1, r) (0, r + 1)).0) 1 0
 fill-other n t r i len true b within place not is = grind (arith, nat_tests)
@@ -22,7 +22,7 @@ fill-same : (n t r i len : ℕ) (b : Bool) → nat_lt (t + 1) n ≡ b → t < n 
 fill-same n t r i len true b within at is = grind (arith, nat_tests)
 fill-same n t r i len false b within at is = grind (arith, nat_tests)
 
-pub filled-more : {E N : Type 0} (ws : List (Worker E N)) (p : ℕ × ℕ) (x : Worker E N) (c : Session) → IsFilled ws p → p.0 < length ws → sessions_of x ≡ sessions_of (slice_index_or ws p.0 x) ++ c ∷ [] → IsFilled (slice_set ws p.0 x) (next_place (length ws) p)
+pub filled-more : {E N A : Type 0} (ws : List (Worker E N A)) (p : ℕ × ℕ) (x : Worker E N A) (c : Session) → IsFilled ws p → p.0 < length ws → sessions_of x ≡ sessions_of (slice_index_or ws p.0 x) ++ c ∷ [] → IsFilled (slice_set ws p.0 x) (next_place (length ws) p)
 filled-more ws p x c f within more =
     record {
       each = λ i w place.
@@ -34,7 +34,7 @@ filled-more ws p x c f within more =
     }
 
 -- a session that was placed stays
-pub placed-kept : {E N : Type 0} (ws : List (Worker E N)) (t : ℕ) (x : Worker E N) (c : Session) (q : ℕ × ℕ) (P : Session → Type 0) → sessions_of x ≡ sessions_of (slice_index_or ws t x) ++ c ∷ [] → IsPlaced sessions_of ws q P → IsPlaced sessions_of (slice_set ws t x) q P
+pub placed-kept : {E N A : Type 0} (ws : List (Worker E N A)) (t : ℕ) (x : Worker E N A) (c : Session) (q : ℕ × ℕ) (P : Session → Type 0) → sessions_of x ≡ sessions_of (slice_index_or ws t x) ++ c ∷ [] → IsPlaced sessions_of ws q P → IsPlaced sessions_of (slice_set ws t x) q P
 placed-kept ws t x c q P more h =
     let longer : q.0 ≡ t → q.1 < length (sessions_of (slice_index_or ws t x)) = λ at. subst (λ k. q.1 < length (sessions_of (slice_index_or ws k x))) at (h.round x) in
     record {
@@ -50,7 +50,7 @@ below-none : (t : ℕ) → cond {A = ℕ} (nat_lt t t) 1 0 ≡ 0
 below-none t = grind (arith, nat_tests)
 
 -- the new one stands at its place
-pub placed-new : {E N : Type 0} (ws : List (Worker E N)) (p : ℕ × ℕ) (x : Worker E N) (c : Session) (P : Session → Type 0) → IsFilled ws p → p.0 < length ws → sessions_of x ≡ sessions_of (slice_index_or ws p.0 x) ++ c ∷ [] → P c → IsPlaced sessions_of (slice_set ws p.0 x) p P
+pub placed-new : {E N A : Type 0} (ws : List (Worker E N A)) (p : ℕ × ℕ) (x : Worker E N A) (c : Session) (P : Session → Type 0) → IsFilled ws p → p.0 < length ws → sessions_of x ≡ sessions_of (slice_index_or ws p.0 x) ++ c ∷ [] → P c → IsPlaced sessions_of (slice_set ws p.0 x) p P
 placed-new ws p x c P f within more h =
     let full : length (sessions_of (slice_index_or ws p.0 x)) ≡ p.1 = let e = f.each p.0 x within in let z = below-none p.0 in omega (arith, e, z) in
     record {
@@ -73,16 +73,16 @@ place-more n k = ap (place_of n) (add-one k)
 below-more : (j k : ℕ) → j < k + 1 → j ≢ k → j < k
 below-more j k less not = omega arith
 
-placed-case : {E N : Type 0} (cs : List Session) (olds ws : List (Worker E N)) (k t : ℕ) (x : Worker E N) (s : Session) (j : ℕ) (b : Bool) → nat_eq j k ≡ b → j < k + 1 → sessions_of x ≡ sessions_of (slice_index_or ws t x) ++ s ∷ [] → AreAssigned cs olds ws k
+placed-case : {E N A : Type 0} (cs : List Session) (olds ws : List (Worker E N A)) (k t : ℕ) (x : Worker E N A) (s : Session) (j : ℕ) (b : Bool) → nat_eq j k ≡ b → j < k + 1 → sessions_of x ≡ sessions_of (slice_index_or ws t x) ++ s ∷ [] → AreAssigned cs olds ws k
     → IsPlaced sessions_of (slice_set ws t x) (place_of (length olds) k) (IsNumber (job_sessions cs) k) → IsPlaced sessions_of (slice_set ws t x) (place_of (length olds) j) (IsNumber (job_sessions cs) j)
 placed-case cs olds ws k t x s j true is less more h new = subst (λ i. IsPlaced sessions_of (slice_set ws t x) (place_of (length olds) i) (IsNumber (job_sessions cs) i)) (sym (alike j k is)) new
 placed-case cs olds ws k t x s j false is less more h new = placed-kept ws t x s (place_of (length olds) j) (IsNumber (job_sessions cs) j) more (h.placed j (below-more j k less (apart j k is)))
 
 -- one session more is assigned
-pub assigned-more : {E N : Type 0} (cs : List Session) (olds ws : List (Worker E N)) (k t : ℕ) (x : Worker E N) (s : Session) → AreAssigned cs olds ws k → IsFilled ws (place_of (length olds) k) → t ≡ (place_of (length olds) k).0 → t < length ws
+pub assigned-more : {E N A : Type 0} (cs : List Session) (olds ws : List (Worker E N A)) (k t : ℕ) (x : Worker E N A) (s : Session) → AreAssigned cs olds ws k → IsFilled ws (place_of (length olds) k) → t ≡ (place_of (length olds) k).0 → t < length ws
     → sessions_of x ≡ sessions_of (slice_index_or ws t x) ++ s ∷ [] → x.reader ≡ (slice_index_or ws t x).reader → x.is_lost ≡ (slice_index_or ws t x).is_lost → IsUnasked s → IsNumber (job_sessions cs) k s
     → AreAssigned cs olds (slice_set ws t x) (k + 1) × IsFilled (slice_set ws t x) (place_of (length olds) (k + 1))
-assigned-more {E} {N} cs olds ws k t x s h f at within more reader going none questions =
+assigned-more {E} {N} {A} cs olds ws k t x s h f at within more reader going none questions =
     let T : ℕ → Type 0 = λ i. i < length ws in
     let inside : (i : ℕ) → i < length olds → i < length ws = λ i l. subst (λ n. i < n) (sym h.len) l in
     let behind : (i : ℕ) → i < length ws → i < length olds = λ i l. subst (λ n. i < n) h.len l in
@@ -95,9 +95,9 @@ assigned-more {E} {N} cs olds ws k t x s h f at within more reader going none qu
       record {
         len = length-set ws t x ∙ h.len;
         reader = λ i w l. set-each (λ y. y.reader ≡ (slice_index_or olds i w).reader) ws t x i w (inside i l) (λ not. h.reader i w l)
-            (λ same. reader ∙ (ap (λ (y : Worker E N). y.reader) (get_or_default ws t x w within ∙ ap (λ j. slice_index_or ws j w) (sym same)) ∙ h.reader i w l));
+            (λ same. reader ∙ (ap (λ (y : Worker E N A). y.reader) (get_or_default ws t x w within ∙ ap (λ j. slice_index_or ws j w) (sym same)) ∙ h.reader i w l));
         going = λ i w l. set-each (λ y. y.is_lost ≡ (slice_index_or olds i w).is_lost) ws t x i w (inside i l) (λ not. h.going i w l)
-            (λ same. going ∙ (ap (λ (y : Worker E N). y.is_lost) (get_or_default ws t x w within ∙ ap (λ j. slice_index_or ws j w) (sym same)) ∙ h.going i w l));
+            (λ same. going ∙ (ap (λ (y : Worker E N A). y.is_lost) (get_or_default ws t x w within ∙ ap (λ j. slice_index_or ws j w) (sym same)) ∙ h.going i w l));
         unasked = λ i w l. set-each (λ y. AllUnasked (sessions_of y)) ws t x i w (inside i l) (λ not. h.unasked i w l)
             (λ same. subst AllUnasked (sym more) (unasked-more (sessions_of (slice_index_or ws t x)) s (h.unasked t x (behind t within)) none));
         placed = λ j l. placed-case cs olds ws k t x s j (nat_eq j k) refl l more h new;

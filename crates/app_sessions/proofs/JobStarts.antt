@@ -22,10 +22,10 @@ use Rattle.app_sessions.specs.declared.worker.Worker.{Worker}
 use Rattle.app_sessions.proofs.JobEnds.{whole_list}
 
 -- workers that were informed, once sessions are assigned to them
-pub prepared : {E N : Type 0} (opening : E → Opening) (fits : E → List Change → Type 0) (start after : Trials) (low : ℕ) (ss : List Session) (olds news : List (Worker E N))
+pub prepared : {E N A : Type 0} (opening : E → Opening) (fits : E → List Change → Type 0) (start after : Trials) (low : ℕ) (ss : List Session) (olds news : List (Worker E N A))
     → 0 < length olds → opening_at after ≡ opening_at start → AllInformed opening fits after low olds
     → AreAssigned ss olds news (length ss) → ArePrepared opening fits start low ss news
-prepared {E} {N} opening fits start after low ss olds news some same informed assigned = record {
+prepared {E} {N} {A} opening fits start after low ss olds news some same informed assigned = record {
   some = subst (λ n. 0 < n) (sym assigned.len) some;
   informed = λ i w less.
       let here = subst (λ n. i < n) assigned.len less in

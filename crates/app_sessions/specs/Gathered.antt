@@ -21,7 +21,7 @@ pub record IsSessionsText (o : State × List Change) (low high : ℕ) (all : Lis
 
 -- where the first n sessions stand at their places and each of their statements had its turn,
 -- this is their text
-abbrev pub Gathers : {E N : Type 0} → List (Worker E N) → ℕ → JobAnswer → Type 0
+abbrev pub Gathers : {E N A : Type 0} → List (Worker E N A) → ℕ → JobAnswer → Type 0
 Gathers workers count job =
     (o : State × List Change) (low high : ℕ) (all : List JobSession) → length all ≡ count
     → ((k : ℕ) → k < count
@@ -30,13 +30,13 @@ Gathers workers count job =
 
 -- workers whose readers have seen at least a version of that number, with these sessions, none of
 -- which was asked
-pub record ArePrepared {E N : Type 0} (opening : E → Opening) (fits : E → List Change → Type 0)
-    (start : Trials) (low : ℕ) (sessions : List Session) (workers : List (Worker E N))
+pub record ArePrepared {E N A : Type 0} (opening : E → Opening) (fits : E → List Change → Type 0)
+    (start : Trials) (low : ℕ) (sessions : List Session) (workers : List (Worker E N A))
     : Type 0 where
   pub some : 0 < length workers
   pub informed : AllInformed opening fits start low workers
   pub unasked :
-      (i : ℕ) (d : Worker E N) → i < length workers
+      (i : ℕ) (d : Worker E N A) → i < length workers
       → AllUnasked (sessions_of (slice_index_or workers i d))
   pub placed :
       (k : ℕ) → k < length sessions
@@ -44,12 +44,12 @@ pub record ArePrepared {E N : Type 0} (opening : E → Opening) (fits : E → Li
       (IsNumber (job_sessions sessions) k)
 
 -- each session has a place
-abbrev pub HavePlaces : {E N : Type 0} → List (Worker E N) → ℕ → Type 0
+abbrev pub HavePlaces : {E N A : Type 0} → List (Worker E N A) → ℕ → Type 0
 HavePlaces workers count =
     (k : ℕ) → k < count → IsPlaced sessions_of workers (place_of (length workers) k) (λ s. ⊤)
 
 -- memory ran out for no worker, and the whole text is that of the sessions and then the other lines
-pub record IsJoined {E N : Type 0} (workers : List (Worker E N)) (count : ℕ) (lines : List ℕ)
+pub record IsJoined {E N A : Type 0} (workers : List (Worker E N A)) (count : ℕ) (lines : List ℕ)
     (accepted : Bool) (job : JobAnswer) : Type 0 where
   pub none_lost : NoneIsLost workers
   pub sessions : JobAnswer

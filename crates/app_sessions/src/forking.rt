@@ -38,7 +38,7 @@ pub struct JobRun {
 
 /// What is done before the fork: the first refreshes of the list are tried by turns of a feed that
 /// tried none, the readers are told of them, and the sessions are assigned to them.
-pub fn prepare<F: Feed, R: Wait>(
+pub fn prepare<F: Feed<Attached = ()>, R: Wait>(
     rt: &R,
     alloc: Global,
     before: usize,
@@ -86,7 +86,12 @@ pub fn prepare<F: Feed, R: Wait>(
 
 /// Runs all workers, each in a thread of its own, and beside them the publisher, and waits for all
 /// of them.
-pub fn fork<E: Entry + Drop + Send, F: Feed + Send, G: Gate + Sync, R: Threads + Wait + Sync>(
+pub fn fork<
+    E: Entry<Attached = ()> + Drop + Send,
+    F: Feed<Attached = ()> + Send,
+    G: Gate + Sync,
+    R: Threads + Wait + Sync,
+>(
     rt: &R,
     gate: &G,
     publisher: &mut Publisher,

@@ -44,7 +44,7 @@ pub struct JobSetup {
 /// one after another. All threads are joined, whatever happens, and the publisher stays open. The
 /// text is that of the list of all that was tried, which no session knew when it was asked. Where
 /// the feed ended before the list had as many refreshes as it was to have, there is no text.
-pub fn run_job<F: Feed + Send, G: Gate + Sync, R: Threads + Wait + Sync>(
+pub fn run_job<F: Feed<Attached = ()> + Send, G: Gate + Sync, R: Threads + Wait + Sync>(
     rt: &R,
     alloc: Global,
     gate: &G,
@@ -89,7 +89,7 @@ pub fn run_job<F: Feed + Send, G: Gate + Sync, R: Threads + Wait + Sync>(
 }
 
 /// Runs a job's sessions beside the publisher of a feed's refreshes, and gives the job's text.
-pub(crate) fn run_beside<F: Feed + Send, G: Gate + Sync, R: Threads + Wait + Sync>(
+pub(crate) fn run_beside<F: Feed<Attached = ()> + Send, G: Gate + Sync, R: Threads + Wait + Sync>(
     rt: &R,
     alloc: Global,
     gate: &G,

@@ -23,7 +23,7 @@ use store_snapshots::{Feed, ListFeed, Publisher, Reader, RuledEntry};
 
 /// Runs sessions beside the publisher of a feed's refreshes, and gives their text. The feed has the
 /// refreshes before the sessions tried too.
-pub fn run_feed_job<F: Feed + Send, G: Gate + Sync, R: Threads + Wait + Sync>(
+pub fn run_feed_job<F: Feed<Attached = ()> + Send, G: Gate + Sync, R: Threads + Wait + Sync>(
     rt: &R,
     alloc: Global,
     gate: &G,

@@ -65,7 +65,7 @@ fn end_refresh<R: Wait>(
 /// Takes turns of the feed until one tries a refresh, puts the segments together where that is due,
 /// and tells of the refresh. While the feed is idle it yields. Whether a refresh was tried: none is
 /// where the feed has ended. After an error no turn is asked for.
-fn publish_one<F: Feed, R: Wait>(
+fn publish_one<F: Feed<Attached = ()>, R: Wait>(
     rt: &R,
     publisher: &mut Publisher,
     report: &mut Report,
@@ -101,7 +101,7 @@ fn publish_one<F: Feed, R: Wait>(
 
 /// Has `count` refreshes of the publisher's list tried by turns of a feed that tried none, and
 /// tells of them.
-pub fn publish_first<F: Feed, R: Wait>(
+pub fn publish_first<F: Feed<Attached = ()>, R: Wait>(
     rt: &R,
     count: usize,
     publisher: &mut Publisher,
@@ -134,7 +134,7 @@ pub fn publish_first<F: Feed, R: Wait>(
 
 /// Has the feed's refreshes tried until it ends, passes the gate before and after each, and tells
 /// of them. Before the feed's end it passes the gate once more.
-pub fn publish_rest<F: Feed, G: Gate, R: Wait>(
+pub fn publish_rest<F: Feed<Attached = ()>, G: Gate, R: Wait>(
     rt: &R,
     gate: &G,
     publisher: &mut Publisher,

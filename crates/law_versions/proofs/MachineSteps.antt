@@ -7,6 +7,7 @@ use Rattle.std.proofs.lemmas.List.{get_or-set_same, set-get_or}
 use Rattle.store_versions.specs.Older.{IsGone, IsRecent, IsUnknown}
 use Rattle.store_state.specs.Refresh.{Change}
 use Rattle.store_versions.specs.Trials.{Trials, offered, one_more, version_of}
+use Rattle.store_versions.specs.declared.attachment.Attachment.{Ghosts}
 use Rattle.store_versions.specs.declared.version_error.VersionError.TheVariants.{Unknown, Gone, OutOfMemory}
 use Rattle.store_snapshots.specs.declared.publisher.Given.TheVariants.{Published as GivenPublished, Refused as GivenRefused, OutOfMemory as GivenNoMemory}
 use Rattle.store_snapshots.specs.declared.publisher.Published.TheVariants.{Published, Refused, NoMore, OutOfMemory as NoMemory}
@@ -91,13 +92,13 @@ next_world old new sessions left is =
     let yes : nat_lt old.done (length old.list) ≡ true = grind (arith, nat_tests) in
     rw yes (ap (λ t. world_at t sessions) (sym is))
 
-pub publish_law : PublishLaw
-publish_law old new (Published note) sessions tries not_memory = next_world old new sessions tries.0 tries.1.0
-publish_law old new (Refused cause) sessions tries not_memory = next_world old new sessions tries.0 tries.1.0
-publish_law old new NoMore sessions tries not_memory =
+pub publish_law : {A : Type 0} (g : Ghosts A) → PublishLaw g
+publish_law g old new (Published note) sessions tries not_memory = next_world old new sessions tries.0 tries.1.0
+publish_law g old new (Refused cause) sessions tries not_memory = next_world old new sessions tries.0 tries.1.0
+publish_law g old new NoMore sessions tries not_memory =
     let no : nat_lt old.done (length old.list) ≡ false = let at = tries.0 in grind (arith, nat_tests, at) in
     rw no (ap (λ t. world_at t sessions) (sym tries.1))
-publish_law old new NoMemory sessions tries not_memory = absurd (not_memory refl)
+publish_law g old new NoMemory sessions tries not_memory = absurd (not_memory refl)
 
 pub offer_law : OfferLaw
 offer_law old change sessions = refl
@@ -105,12 +106,12 @@ offer_law old change sessions = refl
 one_longer : (old : Trials) (change : Change) → old.done ≡ length old.list → old.done < length (old.list ++ change ∷ [])
 one_longer old change done = let long = length-append old.list (change ∷ []) in omega (arith, done, long)
 
-pub give_law : GiveLaw
-give_law old new change (GivenPublished note) sessions done tries not_memory =
+pub give_law : {A : Type 0} (g : Ghosts A) → GiveLaw g
+give_law g old new change (GivenPublished note) sessions done tries not_memory =
     next_world (offered change old.version) new.version sessions (one_longer old.version change done) tries.after.0
-give_law old new change (GivenRefused cause) sessions done tries not_memory =
+give_law g old new change (GivenRefused cause) sessions done tries not_memory =
     next_world (offered change old.version) new.version sessions (one_longer old.version change done) tries.after.0
-give_law old new change GivenNoMemory sessions done tries not_memory = absurd (not_memory refl)
+give_law g old new change GivenNoMemory sessions done tries not_memory = absurd (not_memory refl)
 
 pub compact_law : CompactLaw
 compact_law old new sessions is = ap (λ t. world_at t sessions) (sym is)

@@ -4,6 +4,7 @@ use Rattle.std.specs.Prelude.{Ok, Err}
 use Rattle.store_versions.specs.Older.{GivesOlder}
 use Rattle.store_state.specs.Refresh.{Change}
 use Rattle.store_versions.specs.Trials.{Trials, offered, version_of}
+use Rattle.store_versions.specs.declared.attachment.Attachment.{Ghosts}
 use Rattle.store_versions.specs.declared.version_error.VersionError.{VersionError}
 use Rattle.store_versions.specs.declared.version_error.VersionError.TheVariants.{Unknown, Gone}
 use Rattle.store_versions.specs.declared.version_error.VersionError.TheVariants.{OutOfMemory}
@@ -74,16 +75,17 @@ OfferLaw = (old : Trials) (change : Change) (sessions : List SessionState)
     → happens (world_at old sessions) (Offer change) ≡ world_at (offered change old) sessions
 
 -- A publisher tries the next refresh of its list, or finds that each was tried: that is the step
--- Publish.
-abbrev pub PublishLaw : Type 0
-PublishLaw = (old new : Trials) (answer : Answer) (sessions : List SessionState)
+-- Publish, whatever is attached to its versions.
+abbrev pub PublishLaw : {A : Type 0} → Ghosts A → Type 0
+PublishLaw {A} g = (old new : Trials) (answer : Answer A g) (sessions : List SessionState)
     → Tries old new answer → (answer ≡ NoMemory → ⊥)
     → happens (world_at old sessions) Publish ≡ world_at new sessions
 
 -- A publisher whose whole list was tried is given a refresh, and tries it: these are the steps
 -- Offer and Publish.
-abbrev pub GiveLaw : Type 0
-GiveLaw = (old new : Edition) (change : Change) (answer : Given) (sessions : List SessionState)
+abbrev pub GiveLaw : {A : Type 0} → Ghosts A → Type 0
+GiveLaw {A} g = (old new : Edition) (change : Change) (answer : Given A g)
+    (sessions : List SessionState)
     → old.version.done ≡ length old.version.list
     → TriesNext (offered change old.version) old new answer → (answer ≡ GivenNoMemory → ⊥)
     → run (Offer change ∷ Publish ∷ []) (world_at old.version sessions)

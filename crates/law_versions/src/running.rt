@@ -8,12 +8,12 @@ ghost use Rattle.law_versions.specs.RunningSteps.{GiveLaw, OfferLaw, PublishLaw}
 /// `Publisher::publish_next` its Publish; of `Publisher::publish_given` its Offer and then its
 /// Publish; and of `Publisher::compact` its Compact. So what is proved of every list of the
 /// machine's steps speaks of running sessions.
-pub fn running_steps_are_the_machines()
+pub fn running_steps_are_the_machines<A: store_versions::Attachment>()
     ensures begin { BeginLaw }
     ensures back { BackLaw }
     ensures learn { LearnLaw }
     ensures offer { OfferLaw }
-    ensures publish { PublishLaw }
-    ensures give { GiveLaw }
+    ensures publish { PublishLaw A.Attachment }
+    ensures give { GiveLaw A.Attachment }
     ensures compact { CompactLaw }
 {}

@@ -1,4 +1,5 @@
 -- What a feed keeps from turn to turn.
+use Rattle.store_versions.specs.declared.attachment.Attachment.{Ghosts}
 use Rattle.std.proofs.Common.{◌≡◌, inl, inr, ℕ, zero, suc, ◌+◌, ◌^◌, ◌≤◌, ◌<◌, Bool, true, false, List, [], ◌∷◌, length, drop, sym, ap, subst, ◌∙◌, arith, Some, None}
 use Rattle.std.specs.Prelude.{slice_get}
 use Rattle.std.specs.List.{AllByRecursion}
@@ -52,7 +53,7 @@ module _ (version : Trials) (change : Change) (at : slice_get version.list versi
   same_trials : trials_with change version ≡ version
   same_trials = listed change version one_left
 
-  pub turned_accepts : (new : Edition) (note : Note) → AcceptsNext (trials_with change version) new note → AcceptsNext version new note
+  pub turned_accepts : {A : Type 0} {g : Ghosts A} (new : Edition) (note : Note A g) → AcceptsNext (trials_with change version) new note → AcceptsNext version new note
   turned_accepts new note accepts = subst (λ (t : Trials). AcceptsNext t new note) same_trials accepts
 
   pub turned_refuses : (cause : Cause) (before : Trials) (new : Edition) → RefusesNext (trials_with change version) cause before new → RefusesNext version cause before new

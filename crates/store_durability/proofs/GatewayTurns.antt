@@ -1,4 +1,5 @@
 -- A stored turn as one of a feed of the list and then of two senders.
+use Rattle.store_versions.specs.declared.attachment.Attachment.{Ghosts}
 use Rattle.std.proofs.Common.{◌≡◌, ◌⊎◌, ℕ, ◌+◌, ◌-◌, ◌^◌, ◌<◌, ◌≤◌, Bool, true, false, List, [], ◌∷◌, ◌++◌, None, Some, length, drop, refl, sym, ap, subst, ◌∙◌, arith, inl, inr, ⊎_elim, append_assoc, length-append}
 use Rattle.std.specs.Prelude.{slice_get}
 use Rattle.std.specs.List.{AllByRecursion}
@@ -93,7 +94,7 @@ module _ (start : Trials) (count : ℕ) (taker : Taking) (over : Trials → Type
       nobody (count + 1) ∙ next.2 ∙ ap (λ (c : Change). list_tried start count ++ (None, c) ∷ []) same
       ∙ ap (λ l. l ++ (None, change) ∷ []) (sym (nobody count))
 
-  pub takes_listed : (turn : FeedTurn) → TakesThis None change old new turn
+  pub takes_listed : {A : Type 0} {g : Ghosts A} (turn : FeedTurn A g) → TakesThis None change old new turn
       → TakesTurn (list_tried start count ++ gateway_tried taker) (list_tried start (count + 1) ++ gateway_tried taker) over old new turn
   takes_listed (Published sender note) takes =
       let same : trials_with change old.version ≡ old.version = listed change old.version left in (
@@ -127,7 +128,7 @@ module _ (start : Trials) (count : ℕ) (taker later : Taking) (over : Trials �
       ∙ ap (λ l. list_tried start count ++ l) (numbered-more taker.taken id change)
       ∙ sym (append_assoc (list_tried start count) (gateway_tried taker) ((Some (sender_number id), change) ∷ []))
 
-  pub takes_sent : (turn : FeedTurn) → TakesThis (Some (sender_number id)) change old new turn
+  pub takes_sent : {A : Type 0} {g : Ghosts A} (turn : FeedTurn A g) → TakesThis (Some (sender_number id)) change old new turn
       → TakesTurn (list_tried start count ++ gateway_tried taker) (list_tried start count ++ gateway_tried later) over old new turn
   takes_sent (Published sender note) takes =
       let same : trials_with change old.version ≡ offered change old.version = given change old.version (omega (arith, all)) in (
@@ -186,7 +187,7 @@ module _ {D : Type 0} (is_reached : D → Bool) (may_leave : D → List ℕ → 
         let done = parts.0.done in
         omega (arith, less, done)
 
-    pub left_takes : (over : Trials → Type 0) (old new : Edition) → old.version ≡ version → (turn : FeedTurn) → TakesThis None change old new turn
+    pub left_takes : {A : Type 0} {g : Ghosts A} (over : Trials → Type 0) (old new : Edition) → old.version ≡ version → (turn : FeedTurn A g) → TakesThis None change old new turn
         → TakesTurn (list_tried start count ++ gateway_tried taker) (list_tried start (count + 1) ++ gateway_tried taker) over old new turn
     left_takes over old new is turn takes =
         let parts = list_left start count taker version change at fits.turn in

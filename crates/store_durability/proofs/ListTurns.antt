@@ -1,4 +1,5 @@
 -- A stored turn as one of a feed of the list.
+use Rattle.store_versions.specs.declared.attachment.Attachment.{Ghosts}
 use Rattle.std.proofs.Common.{◌≡◌, ℕ, ◌+◌, ◌<◌, None, length, refl, ap, ◌∙◌, arith, inl}
 use Rattle.base_refusals.specs.declared.refresh.Cause.{Cause}
 use Rattle.store_versions.specs.Trials.{Trials, one_more}
@@ -8,15 +9,15 @@ use Rattle.store_snapshots.specs.declared.note.Note.{Note}
 use Rattle.store_snapshots.specs.declared.feed.FeedTurn.TheVariants as turn
 use Rattle.store_snapshots.proofs.FeedLaws.{next_tried}
 
-pub list_published : (start : Trials) (count : ℕ) (old new : Edition) (note : Note) → ListFits start count old.version → old.version.done < length old.version.list → AcceptsNext old.version new note
+pub list_published : {A : Type 0} {g : Ghosts A} (start : Trials) (count : ℕ) (old new : Edition) (note : Note A g) → ListFits start count old.version → old.version.done < length old.version.list → AcceptsNext old.version new note
     → TakesTurn (list_tried start count) (list_tried start (count + 1)) IsAllTried old new (turn.Published None note)
 list_published start count old new note fits less accepts =
     let next = next_tried start count old.version fits less in
     (next.0, old.version, next.2, inl (refl, less, next.1), accepts)
 
-pub list_refused : (start : Trials) (count : ℕ) (old new : Edition) (cause : Cause) → ListFits start count old.version → old.version.done < length old.version.list
+pub list_refused : {A : Type 0} {g : Ghosts A} (start : Trials) (count : ℕ) (old new : Edition) (cause : Cause) → ListFits start count old.version → old.version.done < length old.version.list
     → RefusesNext old.version cause old.shown new
-    → TakesTurn (list_tried start count) (list_tried start (count + 1)) IsAllTried old new (turn.Refused None cause)
+    → TakesTurn {A} {g} (list_tried start count) (list_tried start (count + 1)) IsAllTried old new (turn.Refused None cause)
 list_refused start count old new cause fits less refuses =
     let next = next_tried start count old.version fits less in
     (next.0, old.version, next.2, inl (refl, less, next.1), refuses)

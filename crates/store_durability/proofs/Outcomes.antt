@@ -1,4 +1,5 @@
 -- What comes of a refresh that is tried, by whether it is accepted.
+use Rattle.store_versions.specs.declared.attachment.Attachment.{Ghosts}
 use Rattle.std.proofs.Common.{◌≡◌, ◌↔◌, inl, inr, ℕ, ◌+◌, ◌<◌, ◌≤◌, Bool, true, false, not, cond, List, [], ◌∷◌, ◌++◌, length, refl, sym, ap, subst, ◌∙◌, Ok, Err}
 use Rattle.std.specs.Prelude.{IsTrue, is_ok}
 use Rattle.std.proofs.lemmas.Bool.{cases_lt}
@@ -23,21 +24,21 @@ use Rattle.store_durability.proofs.Accepted.{accepted_ok, given, has_next, liste
 
 -- a trial of the list's own next refresh
 
-pub listed_accepts : (old new : Edition) (note : Note) → Tries old.version new.version (answer.Published note) → Shows old new (answer.Published note) → AcceptsNext old.version new note
+pub listed_accepts : {A : Type 0} {g : Ghosts A} (old new : Edition) (note : Note A g) → Tries old.version new.version (answer.Published note) → Shows old new (answer.Published note) → AcceptsNext old.version new note
 listed_accepts old new note tries shows = record { after = tries.1; shown = shows; tells = tries.2 }
 
-pub listed_refuses : (old new : Edition) (cause : Cause) → Tries old.version new.version (answer.Refused cause) → Shows old new (answer.Refused cause) → RefusesNext old.version cause old.shown new
+pub listed_refuses : {A : Type 0} {g : Ghosts A} (old new : Edition) (cause : Cause) → Tries {A} {g} old.version new.version (answer.Refused cause) → Shows {A} {g} old new (answer.Refused cause) → RefusesNext old.version cause old.shown new
 listed_refuses old new cause tries shows = record { after = tries.1; shown = shows }
 
 pub ruleset listed_trials = (listed_accepts, listed_refuses)
 
 -- a trial of the list's next refresh, or of one at its end, is one of the trials that have it next
 
-pub left_tries : (change : Change) (old new : Edition) (told : Given) → old.version.done < length old.version.list → TriesNext old.version old new told
+pub left_tries : {A : Type 0} {g : Ghosts A} (change : Change) (old new : Edition) (told : Given A g) → old.version.done < length old.version.list → TriesNext old.version old new told
     → TriesNext (trials_with change old.version) old new told
 left_tries change old new told left tries = subst (λ (t : Trials). TriesNext t old new told) (sym (listed change old.version left)) tries
 
-pub end_tries : (change : Change) (old new : Edition) (told : Given) → length old.version.list ≤ old.version.done → TriesNext (offered change old.version) old new told
+pub end_tries : {A : Type 0} {g : Ghosts A} (change : Change) (old new : Edition) (told : Given A g) → length old.version.list ≤ old.version.done → TriesNext (offered change old.version) old new told
     → TriesNext (trials_with change old.version) old new told
 end_tries change old new told none tries = subst (λ (t : Trials). TriesNext t old new told) (sym (given change old.version none)) tries
 
@@ -53,7 +54,7 @@ pub ruleset either_trial = (left_tries, end_tries)
 module _ (change : Change) (old : Trials) (within : old.done ≤ length old.list) (next : IsNext change old) where
   -- an accepted refresh
 
-  pub accepted_payloads : (new : Edition) (note : Note) → is_accepted (tables_of old) change ≡ true → AcceptsNext (trials_with change old) new note
+  pub accepted_payloads : {A : Type 0} {g : Ghosts A} (new : Edition) (note : Note A g) → is_accepted (tables_of old) change ≡ true → AcceptsNext (trials_with change old) new note
       → payloads_of new.version ≡ payloads_of old ++ spelling_of change ∷ []
   accepted_payloads new note e accepts =
       let is : new.version ≡ one_more (trials_with change old) = accepts.after.0 in
@@ -76,7 +77,7 @@ module _ (change : Change) (old : Trials) (within : old.done ≤ length old.list
       let is : new.version ≡ one_more (trials_with change old) = refuses.after.0 in
       ap (λ (t : Trials). payloads_of t) is ∙ payloads_refused change old within next e
 
-  pub not_accepted : (new : Edition) (note : Note) → is_accepted (tables_of old) change ≡ false → AcceptsNext (trials_with change old) new note → ⊥
+  pub not_accepted : {A : Type 0} {g : Ghosts A} (new : Edition) (note : Note A g) → is_accepted (tables_of old) change ≡ false → AcceptsNext (trials_with change old) new note → ⊥
   not_accepted new note e accepts =
       let one = has_next change old within next in
       let made : after (tables_of old) change ≡ Ok (tables_of new.version) = ap (λ (s : State). after s change) (sym one.tables) ∙ accepts.after.3 change one.next in

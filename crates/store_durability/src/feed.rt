@@ -127,6 +127,8 @@ impl<D: Disk> StoredFeed<D> {
 }
 
 impl<D: Disk> Feed for StoredFeed<D> {
+    type Attached = ();
+
     ghost tried = { λ f. list_tried f.start f.count };
 
     ghost source = { λ f. [] };

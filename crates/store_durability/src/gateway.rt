@@ -145,6 +145,8 @@ impl<D: Disk> StoredGateway<D> {
 }
 
 impl<D: Disk> Feed for StoredGateway<D> {
+    type Attached = ();
+
     ghost tried = { λ f. list_tried f.start f.count ++ gateway_tried f.taker };
 
     ghost source = { λ f. both_named f.start f.taker };

@@ -36,6 +36,8 @@ impl GatewayFeed {
 }
 
 impl Feed for GatewayFeed {
+    type Attached = ();
+
     ghost tried = { λ f. gateway_tried f.taker };
 
     ghost source = { λ f. gateway_name f.taker.gateway };

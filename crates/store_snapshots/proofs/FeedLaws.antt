@@ -6,6 +6,7 @@ use Rattle.std.proofs.lemmas.Option.{get_or_from_slice_get, slice_get_cases}
 use Rattle.base_refusals.specs.declared.refresh.Cause.{Cause}
 use Rattle.store_state.specs.Refresh.{Change}
 use Rattle.store_versions.specs.Trials.{Trials}
+use Rattle.store_versions.specs.declared.attachment.Attachment.{Ghosts}
 use Rattle.store_snapshots.specs.Publishers.{Edition, Shows, Tries}
 use Rattle.store_snapshots.specs.Turns.{IsAllTried, ListFits, TakesTurn, from_nobody, list_tried}
 use Rattle.store_snapshots.specs.declared.note.Note.{Note}
@@ -39,14 +40,14 @@ next_tried start count version fits less =
     let there = subst (λ (y : ℕ × List Change). y.0 < length y.1) (λ i. (fits.done i, fits.list i)) less in
     (next.0, next.1, list_more start count next.0 there at)
 
-pub turn_published : (start : Trials) (count : ℕ) (old new : Edition) (note : Note) → ListFits start count old.version → Tries old.version new.version (answer.Published note) → Shows old new (answer.Published note)
+pub turn_published : {A : Type 0} {g : Ghosts A} (start : Trials) (count : ℕ) (old new : Edition) (note : Note A g) → ListFits start count old.version → Tries old.version new.version (answer.Published note) → Shows old new (answer.Published note)
     → TakesTurn (list_tried start count) (list_tried start (count + 1)) IsAllTried old new (turn.Published None note)
 turn_published start count old new note fits tries shows =
     let next = next_tried start count old.version fits tries.0 in
     (next.0, old.version, next.2, inl (refl, tries.0, next.1), record { after = tries.1; shown = shows; tells = tries.2 })
 
-pub turn_refused : (start : Trials) (count : ℕ) (old new : Edition) (cause : Cause) → ListFits start count old.version → Tries old.version new.version (answer.Refused cause) → Shows old new (answer.Refused cause)
-    → TakesTurn (list_tried start count) (list_tried start (count + 1)) IsAllTried old new (turn.Refused None cause)
+pub turn_refused : {A : Type 0} {g : Ghosts A} (start : Trials) (count : ℕ) (old new : Edition) (cause : Cause) → ListFits start count old.version → Tries {A = A} {g = g} old.version new.version (answer.Refused cause) → Shows {A = A} {g = g} old new (answer.Refused cause)
+    → TakesTurn {A = A} {g = g} (list_tried start count) (list_tried start (count + 1)) IsAllTried old new (turn.Refused None cause)
 turn_refused start count old new cause fits tries shows =
     let next = next_tried start count old.version fits tries.0 in
     (next.0, old.version, next.2, inl (refl, tries.0, next.1), record { after = tries.1; shown = shows })

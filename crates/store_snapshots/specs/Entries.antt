@@ -21,8 +21,8 @@ pub record IsEntered (opening : Opening) (fits new : List Change → Type 0) (ve
 -- before and after, and the refusals before and after: a share is entered and of the new number,
 -- and only the entries rose; of a refusal only the refusals rose; out of memory may have raised the
 -- number alone
-abbrev pub Enters : Opening → (List Change → Type 0) → (List Change → Type 0) → ℕ → ℕ → ℕ → ℕ → ℕ
-    → ℕ → Entered → Type 0
+abbrev pub Enters : {A : Type 0} → Opening → (List Change → Type 0) → (List Change → Type 0) → ℕ
+    → ℕ → ℕ → ℕ → ℕ → ℕ → Entered A → Type 0
 Enters opening fits narrow number new entries more refusals others (Share share) =
     IsEntered opening fits narrow (arc_value share) × (version_of (arc_value share) ≡ new)
     × (number ≤ new) × HasRisen entries more × (others ≡ refusals)
@@ -32,7 +32,7 @@ Enters opening fits narrow number new entries more refusals others OutOfMemory =
     (number ≤ new) × (more ≡ entries) × (others ≡ refusals)
 
 -- what one entry of a reader tells, with the list that it saw last before and after
-abbrev pub PassesUncounted : Opening → List Change → List Change → Entered → Type 0
+abbrev pub PassesUncounted : {A : Type 0} → Opening → List Change → List Change → Entered A → Type 0
 PassesUncounted opening old new (Share share) = IsOf opening (arc_value share)
     × IsPrefix old (arc_value share).list × (new ≡ (arc_value share).list)
 PassesUncounted opening old new Refused = new ≡ old

@@ -1,16 +1,20 @@
 -- What a hall makes.
 use Rattle.std.specs.Prelude.{◌≡◌, ◌⊎◌, ℕ, ◌<◌, ◌≤◌, List, length, slice_index_or}
+use Rattle.left_right.specs.declared.Absorb as absorb
 use Rattle.store_state.specs.Refresh.{Change}
 use Rattle.store_versions.specs.Trials.{Trials}
+use Rattle.store_versions.specs.declared.directory.Directory.{Directory}
 use Rattle.store_snapshots.specs.Openings.{AllBegin, Opening, HasRisen, opening_at}
 use Rattle.store_snapshots.specs.Rule.{on_shelf}
 use Rattle.store_snapshots.specs.Seen.{ReaderState}
 use Rattle.store_snapshots.specs.declared.hall.Another.{Another}
 use Rattle.store_snapshots.specs.declared.ruled_hall.RuledHall.{RuledHall}
+use Rattle.store_snapshots.specs.declared.shelf.Shelf.{Shelf}
 use Rattle.store_snapshots.specs.declared.hall.Another.TheVariants.{Made, Refused}
 
 -- the version that a hall shows
-abbrev pub shown_in : RuledHall → Trials
+abbrev pub shown_in : {A : Type 0} {k : absorb.Ghosts (Shelf A) (Shelf A) (Directory A)} → RuledHall A k
+    → Trials
 shown_in hall = on_shelf hall.writer.desk.shown.value
 
 -- by the openings, the lists that fit and the numbers of entries, of the version that is shown,

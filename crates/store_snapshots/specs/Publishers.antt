@@ -1,6 +1,7 @@
 -- What a publisher is seen as.
 use Rattle.std.specs.Prelude.{◌≡◌, ℕ, ◌<◌, List, Option, Some, None, Result, Ok, Err, is_ok, length}
 use Rattle.std.specs.Prelude.{true, ⊤}
+use Rattle.left_right.specs.declared.Absorb as absorb
 use Rattle.base_refusals.specs.declared.refresh.Cause.{Cause}
 use Rattle.base_schema.specs.State.{State}
 use Rattle.base_value.specs.declared.value.Value.{Value}
@@ -10,6 +11,8 @@ use Rattle.store_state.specs.declared.applied.RefreshError.TheVariants.{Refused 
 use Rattle.store_state.specs.declared.applied.RefreshError.TheVariants.{OutOfMemory as NoRoom}
 use Rattle.store_versions.specs.Segments.{IsCompacted}
 use Rattle.store_versions.specs.Trials.{IsAfter, Trials, version_of}
+use Rattle.store_versions.specs.declared.attachment.Attachment.{Ghosts}
+use Rattle.store_versions.specs.declared.directory.Directory.{Directory}
 use Rattle.store_snapshots.specs.Rule.{MayFollow, on_shelf}
 use Rattle.store_snapshots.specs.Ruled.{note_version}
 use Rattle.store_snapshots.specs.declared.latest.Latest.{Latest}
@@ -19,6 +22,7 @@ use Rattle.store_snapshots.specs.declared.publisher.Publisher.TheInside.{Inside}
 use Rattle.store_snapshots.specs.declared.publisher.Published.{Published as Answer}
 use Rattle.store_snapshots.specs.declared.publisher.Published.TheVariants.{Published, Refused}
 use Rattle.store_snapshots.specs.declared.publisher.Published.TheVariants.{NoMore, OutOfMemory}
+use Rattle.store_snapshots.specs.declared.shelf.Shelf.{Shelf}
 
 -- the segments of each table, in the schema's order of tables
 abbrev pub Cut : Type 0
@@ -33,12 +37,12 @@ pub record Edition : Type 0 where
   pub joined : Option Cut
 
 -- a publisher's version, however it is kept
-abbrev pub version_in : Latest → Trials
+abbrev pub version_in : {A : Type 0} → Latest A → Trials
 version_in (Tried version) = version
 version_in (Joined compaction) = compaction.version
 
 -- the segments that it is known to lie in
-abbrev pub joined_in : Latest → Option Cut
+abbrev pub joined_in : {A : Type 0} → Latest A → Option Cut
 joined_in (Tried version) = None
 joined_in (Joined compaction) = Some compaction.tables
 
@@ -50,19 +54,20 @@ LiesJoined version (Some tables) =
 
 -- The version that is shown has the number of the publisher's last one, whose list begins with its
 -- list. The last one has tried more where that was refused.
-pub record IsInStep (publisher : Inside) : Type 0 where
+pub record IsInStep {A : Type 0} {k : absorb.Ghosts (Shelf A) (Shelf A) (Directory A)}
+    (publisher : Inside A k) : Type 0 where
   pub follows : MayFollow (on_shelf publisher.writer.desk.shown.value) (version_in publisher.latest)
   pub number : version_of (on_shelf publisher.writer.desk.shown.value)
       ≡ version_of (version_in publisher.latest)
 
 -- a note tells of the version
-abbrev pub TellsVersion : Trials → Note → Type 0
+abbrev pub TellsVersion : {A : Type 0} {g : Ghosts A} → Trials → Note A g → Type 0
 TellsVersion version note = note_version note ≡ version
 
 -- a trial of the next refresh: an accepted one leaves the version after it, of which the note
 -- tells; of a refused one only the number of tried refreshes rises; with no more refreshes, or out
 -- of memory, all stays
-abbrev pub Tries : Trials → Trials → Answer → Type 0
+abbrev pub Tries : {A : Type 0} {g : Ghosts A} → Trials → Trials → Answer A g → Type 0
 Tries old new (Published note) = (old.done < length old.list) × IsAfter old old (Ok new)
     × TellsVersion new note
 Tries old new (Refused cause) = (old.done < length old.list)
@@ -71,7 +76,7 @@ Tries old new NoMore = (old.done ≡ length old.list) × (new ≡ old)
 Tries old new OutOfMemory = new ≡ old
 
 -- what is shown after it: the version after an accepted refresh, and else what was shown
-abbrev pub Shows : Edition → Edition → Answer → Type 0
+abbrev pub Shows : {A : Type 0} {g : Ghosts A} → Edition → Edition → Answer A g → Type 0
 Shows old new (Published note) = new.shown ≡ new.version
 Shows old new (Refused cause) = new.shown ≡ old.shown
 Shows old new NoMore = new.shown ≡ old.shown
@@ -79,7 +84,7 @@ Shows old new OutOfMemory = new.shown ≡ old.shown
 
 -- with no more refreshes, or out of memory, all stays: the segments that the version is known to
 -- lie in too
-abbrev pub StaysUntried : Edition → Edition → Answer → Type 0
+abbrev pub StaysUntried : {A : Type 0} {g : Ghosts A} → Edition → Edition → Answer A g → Type 0
 StaysUntried old new (Published note) = Unit {0}
 StaysUntried old new (Refused cause) = Unit {0}
 StaysUntried old new NoMore = new ≡ old
@@ -87,7 +92,8 @@ StaysUntried old new OutOfMemory = new ≡ old
 
 -- the next refresh of these trials is accepted: the version after it is shown, and the note tells
 -- of it
-pub record AcceptsNext (trials : Trials) (new : Edition) (note : Note) : Type 0 where
+pub record AcceptsNext {A : Type 0} {g : Ghosts A} (trials : Trials) (new : Edition)
+    (note : Note A g) : Type 0 where
   pub after : IsAfter trials trials (Ok new.version)
   pub shown : new.shown ≡ new.version
   pub tells : TellsVersion new.version note

@@ -10,7 +10,7 @@ use Rattle.store_snapshots.specs.declared.shelf.Shelf.{Shelf}
 use Rattle.store_snapshots.specs.declared.shelf.ShelfView.{ShelfView}
 
 -- the version on a shelf
-abbrev pub on_shelf : Shelf → Trials
+abbrev pub on_shelf : {A : Type 0} → Shelf A → Trials
 on_shelf shelf = arc_value shelf.directory
 
 -- what is known is true of the version: its list begins with the one that was seen last

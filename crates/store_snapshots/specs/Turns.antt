@@ -3,6 +3,7 @@ use Rattle.std.specs.Prelude.{◌≡◌, ◌⊎◌, ℕ, ◌+◌, ◌<◌, List,
 use Rattle.std.specs.Prelude.{drop, length, map, slice_get, take}
 use Rattle.store_state.specs.Refresh.{Change}
 use Rattle.store_versions.specs.Trials.{Trials, offered}
+use Rattle.store_versions.specs.declared.attachment.Attachment.{Ghosts}
 use Rattle.store_snapshots.specs.Publishers.{AcceptsNext, Edition, RefusesNext}
 use Rattle.store_snapshots.specs.declared.feed.FeedTurn.{FeedTurn}
 use Rattle.store_snapshots.specs.declared.feed.FeedTurn.TheVariants.{Published, Refused}
@@ -20,8 +21,8 @@ IsNextIn change version trials =
 -- whether its source then stands at its end, and by the publisher before and after: one refresh is
 -- tried, which is accepted or refused; or none, and the source doesn't stand at its end; or none,
 -- since it does, and all of the list is done.
-abbrev pub TakesTurn : List (Option ℕ × Change) → List (Option ℕ × Change) → (Trials → Type 0)
-    → Edition → Edition → FeedTurn → Type 0
+abbrev pub TakesTurn : {A : Type 0} {g : Ghosts A} → List (Option ℕ × Change)
+    → List (Option ℕ × Change) → (Trials → Type 0) → Edition → Edition → FeedTurn A g → Type 0
 TakesTurn tried more over old new (Published from note) = (change : Change) × (trials : Trials)
     × (more ≡ tried ++ (from, change) ∷ []) × IsNextIn change old.version trials
     × AcceptsNext trials new note

@@ -7,13 +7,13 @@ ghost use Rattle.store_snapshots.specs.Openings.{AllBegin, IsOf, Narrower, Openi
 ghost use Rattle.store_snapshots.specs.Entries.{Enters};
 
 use std::sync::Arc;
-use store_versions::Directory;
+use store_versions::{Attachment, Directory};
 
 /// What comes of an entry.
 #[derive(Drop)]
-pub enum Entered {
+pub enum Entered<A: Attachment = ()> {
     /// A share of the published version.
-    Share(Arc<Directory>),
+    Share(Arc<Directory<A>>),
     /// Nothing: the entry is refused.
     Refused,
     /// Nothing: memory ran out.
@@ -25,6 +25,9 @@ pub enum Entered {
 pub trait Entry {
     /// What tells it of a version.
     type Note;
+
+    /// What is attached to its versions.
+    type Attached: Attachment;
 
     /// The base of each version that it gives, the list with which that version's list begins, and
     /// how many refreshes the list will have in the end.
@@ -44,7 +47,7 @@ pub trait Entry {
     ghost note_version: { Self.Note → Trials };
 
     /// A share of the published version. Out of memory may have raised the number alone.
-    fn enter(&mut self) -> Entered
+    fn enter(&mut self) -> Entered<Self::Attached>
         ensures opening { opening self.new ≡ opening self.old }
         ensures more { Narrower (fits self.old) (fits self.new) }
         ensures entered { Enters (opening self.old) (fits self.old) (fits self.new)
@@ -52,7 +55,7 @@ pub trait Entry {
             (refusals self.old) (refusals self.new) result };
 
     /// The note's version, which its number is from now on at least. Nothing is counted.
-    fn learn(&mut self, note: Self::Note) -> Arc<Directory>
+    fn learn(&mut self, note: Self::Note) -> Arc<Directory<Self::Attached>>
         requires { IsOf (opening self.old) (note_version note) }
         ensures opening { opening self.new ≡ opening self.old }
         ensures more { Narrower (fits self.old) (fits self.new) }

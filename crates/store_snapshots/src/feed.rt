@@ -10,13 +10,14 @@ use crate::publisher::Publisher;
 use base_refusals::Cause;
 use std::alloc::AllocError;
 use std::sync::Wait;
+use store_versions::Attachment;
 
 /// What comes of a turn of a feed. A refresh is told of with the number of its sender, if it has
 /// one.
 #[derive(Drop)]
-pub enum FeedTurn {
+pub enum FeedTurn<A: Attachment = ()> {
     /// A refresh was accepted, and readers are shown the version after it. The note tells of it.
-    Published(Option<u64>, Note),
+    Published(Option<u64>, Note<A>),
     /// A refresh was refused.
     Refused(Option<u64>, Cause),
     /// Nothing: no refresh was there at a moment of the turn, and another may come.
@@ -46,6 +47,9 @@ impl From<AllocError> for FeedError {
 
 /// A source of refreshes for a publisher.
 pub trait Feed {
+    /// What is attached to the publisher's versions.
+    type Attached: Attachment;
+
     /// The refreshes that it tried, in this order, each with the number of its sender, if it has
     /// one.
     ghost tried: { Self → List (Option ℕ × Change) };
@@ -65,7 +69,11 @@ pub trait Feed {
     /// Has the publisher try one refresh, if there is one. It doesn't wait for one to come: whoever
     /// calls it again after `Idle` yields before. After an error no turn is to be asked for: a
     /// refresh of the source may be lost.
-    fn turn<R: Wait>(&mut self, rt: &R, publisher: &mut Publisher) -> Result<FeedTurn, FeedError>
+    fn turn<R: Wait>(
+        &mut self,
+        rt: &R,
+        publisher: &mut Publisher<Self::Attached>,
+    ) -> Result<FeedTurn<Self::Attached>, FeedError>
         requires { fits self.old publisher.old.version }
         ensures turn { IfOk result (TakesTurn (tried self.old) (tried self.new) (is_over self.new)
             publisher.old publisher.new) }

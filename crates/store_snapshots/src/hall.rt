@@ -39,7 +39,7 @@ pub trait Hall<E: Entry> {
 pub fn seat<E: Entry + Drop, H: Hall<E>>(
     alloc: Global,
     first: E,
-    start: &Arc<Directory>,
+    start: &Arc<Directory<E::Attached>>,
     hall: &mut H,
     want: usize,
 ) -> Result<Vec<Reader<E>>, AllocError>

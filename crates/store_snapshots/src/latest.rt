@@ -4,18 +4,18 @@ ghost use Rattle.store_versions.specs.Trials.{version_of};
 ghost use Rattle.store_snapshots.specs.Publishers.{version_in};
 
 use std::alloc::AllocError;
-use store_versions::{Compacted, Directory};
+use store_versions::{Attachment, Compacted, Directory};
 
 /// A publisher's last version.
 #[derive(Drop)]
-pub enum Latest {
+pub enum Latest<A: Attachment = ()> {
     /// As the refreshes left it.
-    Tried(Directory),
+    Tried(Directory<A>),
     /// In segments of which no row is deleted and no two neighbours fit in one.
-    Joined(Compacted),
+    Joined(Compacted<A>),
 }
 
-impl Latest {
+impl<A: Attachment> Latest<A> {
     /// How many refreshes were accepted.
     pub(crate) fn version(&self) -> u64
         ensures { result ≡ version_of (version_in self.now) }
@@ -50,7 +50,7 @@ impl Latest {
     }
 
     /// The version as a directory. It shares the rows and copies none.
-    pub(crate) fn directory(&self) -> Result<Directory, AllocError>
+    pub(crate) fn directory(&self) -> Result<Directory<A>, AllocError>
         ensures { IfOk result (λ directory. directory ≡ version_in self.now) }
     {
         match self {

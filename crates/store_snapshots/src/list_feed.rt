@@ -7,18 +7,19 @@ use crate::publisher::{Published, Publisher};
 use crate::snapshot::Snapshot;
 use std::alloc::AllocError;
 use std::sync::Wait;
+use store_versions::Attachment;
 
 /// The refreshes that a publisher's list has left, none of which has a sender. It keeps the version
 /// at which it began, so begin it at the opening's version, which each later one keeps too.
 #[derive(Drop)]
-pub struct ListFeed {
-    start: Snapshot,
+pub struct ListFeed<A: Attachment = ()> {
+    start: Snapshot<A>,
     count: usize,
 }
 
-impl ListFeed {
+impl<A: Attachment> ListFeed<A> {
     /// Those that this publisher has left.
-    pub fn new(publisher: &Publisher) -> Result<ListFeed, AllocError>
+    pub fn new(publisher: &Publisher<A>) -> Result<ListFeed<A>, AllocError>
         ensures { IfOk result (λ feed. (feed.start ≡ publisher.now.version) × (feed.count ≡ 0)) }
     {
         let start = publisher.snapshot()?;
@@ -26,7 +27,9 @@ impl ListFeed {
     }
 }
 
-impl Feed for ListFeed {
+impl<A: Attachment> Feed for ListFeed<A> {
+    type Attached = A;
+
     ghost tried = { λ f. list_tried f.start f.count };
 
     ghost source = { λ f. [] };
@@ -37,7 +40,11 @@ impl Feed for ListFeed {
 
     ghost faults = { λ f. 0 };
 
-    fn turn<R: Wait>(&mut self, rt: &R, publisher: &mut Publisher) -> Result<FeedTurn, FeedError> {
+    fn turn<R: Wait>(
+        &mut self,
+        rt: &R,
+        publisher: &mut Publisher<A>,
+    ) -> Result<FeedTurn<A>, FeedError> {
         let _listed = publisher.listed();
         match publisher.publish_next(rt) {
             Published::Published(note) => {

@@ -15,28 +15,36 @@ use crate::reader::Reader;
 use crate::rule::{ShelfWriter, publish, start};
 use crate::ruled::RuledEntry;
 use crate::ruled_hall::RuledHall;
+use crate::shelf::Shelf;
 use crate::snapshot::Snapshot;
 use base_refusals::Cause;
 use core::mem::replace_with;
+use left_right::Absorb;
 use std::alloc::{AllocError, Global};
 use std::marker::Model;
 use std::sync::{Arc, Wait};
 use store_state::{Refresh, RefreshError, State};
-use store_versions::Directory;
+use store_versions::{Attachment, Directory};
 
 /// Tries refreshes one after the other, those of its list and then those that are given, which come
 /// to the list's end, and shows readers the versions. It is seen as its last version and the one
 /// that readers are shown, with how often its hall refused an entry, and with the last version's
 /// segments from a compaction up to the next refresh that is tried. It is not dropped: `close` ends
 /// it.
-pub struct Publisher {
+pub struct Publisher<A: Attachment = ()>
+where
+    Shelf<A>: Absorb<Shelf<A>, State = Directory<A>>,
+{
     alloc: Global,
-    writer: ShelfWriter,
+    writer: ShelfWriter<A>,
     refused: u64,
-    latest: Latest,
+    latest: Latest<A>,
 }
 
-impl Model for Publisher {
+impl<A: Attachment> Model for Publisher<A>
+where
+    Shelf<A>: Absorb<Shelf<A>, State = Directory<A>>,
+{
     ghost use Rattle.store_snapshots.specs.Publishers.{Edition, IsInStep, joined_in, version_in};
     ghost use Rattle.store_snapshots.specs.Rule.{on_shelf};
 
@@ -54,9 +62,9 @@ impl Model for Publisher {
 
 /// What comes of a trial.
 #[derive(Drop)]
-pub enum Published {
+pub enum Published<A: Attachment = ()> {
     /// The refresh was accepted, and readers are shown the version after it. The note tells of it.
-    Published(Note),
+    Published(Note<A>),
     /// The refresh was refused.
     Refused(Cause),
     /// Each refresh was tried.
@@ -67,23 +75,23 @@ pub enum Published {
 
 /// What comes of a trial of a refresh that is given.
 #[derive(Drop)]
-pub enum Given {
+pub enum Given<A: Attachment = ()> {
     /// The refresh was accepted, and readers are shown the version after it. The note tells of it.
-    Published(Note),
+    Published(Note<A>),
     /// The refresh was refused.
     Refused(Cause),
     /// Memory ran out.
     OutOfMemory,
 }
 
-impl Publisher {
+impl<A: Attachment> Publisher<A> {
     ghost use Rattle.store_snapshots.specs.Given.{TriesNext};
     ghost use Rattle.store_snapshots.specs.Publishers.{Foretells, LiesJoined, Shows, StaysUntried};
     ghost use Rattle.store_snapshots.specs.Publishers.{TellsVersion, Tries};
 
     /// Tries the next refresh of the list. Where memory runs out all stays as it was. Where each
     /// refresh was tried, no memory is taken.
-    pub fn publish_next<R: Wait>(&mut self, rt: &R) -> Published
+    pub fn publish_next<R: Wait>(&mut self, rt: &R) -> Published<A>
         ensures tries { Tries self.old.version self.new.version result }
         ensures none { self.old.version.done ≡ length self.old.version.list
             → result ≡ Published.NoMore }
@@ -106,7 +114,7 @@ impl Publisher {
 
     /// Puts a refresh at the end of a list of which each one was tried, and tries it there. Where
     /// memory runs out all stays as it was, and the list too.
-    pub fn publish_given<R: Wait>(&mut self, rt: &R, refresh: Refresh) -> Given
+    pub fn publish_given<R: Wait>(&mut self, rt: &R, refresh: Refresh) -> Given<A>
         requires done { self.old.version.done ≡ length self.old.version.list }
         requires room { length self.old.version.list < self.old.version.most }
         ensures tries { TriesNext (offered refresh self.old.version) self.old self.new result }
@@ -122,7 +130,7 @@ impl Publisher {
     }
 
     /// Tries the next refresh of a version that is this one, but for a list that may be longer.
-    fn try_next<R: Wait>(&mut self, rt: &R, mut trials: Directory) -> Given
+    fn try_next<R: Wait>(&mut self, rt: &R, mut trials: Directory<A>) -> Given<A>
         requires left { trials.done < length trials.list }
         requires follows { MayFollow self.old.version trials }
         requires number { version_of trials ≡ version_of self.old.version }
@@ -146,8 +154,8 @@ impl Publisher {
     fn show<R: Wait>(
         &mut self,
         rt: &R,
-        share: Arc<Directory>,
-        latest: Latest,
+        share: Arc<Directory<A>>,
+        latest: Latest<A>,
     ) -> Result<(), AllocError>
         requires share { arc_value share ≡ version_in latest }
         requires follows { MayFollow self.old.version (version_in latest) }
@@ -159,13 +167,13 @@ impl Publisher {
         }) }
         ensures err { OnErr result (self.new ≡ self.old) }
     {
-        replace_with(&mut self.writer, (rt, share), publish::<R>)?;
+        replace_with(&mut self.writer, (rt, share), publish::<A, R>)?;
         self.latest = latest;
         Ok(())
     }
 
     /// Shows readers the next version, and tells of it.
-    fn show_next<R: Wait>(&mut self, rt: &R, next: Directory) -> Result<Note, AllocError>
+    fn show_next<R: Wait>(&mut self, rt: &R, next: Directory<A>) -> Result<Note<A>, AllocError>
         requires { MayFollow self.old.version next }
         ensures version { OnOk result ((self.new.version ≡ next) × (self.new.shown ≡ next)) }
         ensures refused { self.new.refused ≡ self.old.refused }
@@ -217,7 +225,7 @@ impl Publisher {
     }
 
     /// A snapshot of the last version. It shares the rows and copies none.
-    pub fn snapshot(&self) -> Result<Snapshot, AllocError>
+    pub fn snapshot(&self) -> Result<Snapshot<A>, AllocError>
         ensures { IfOk result (λ snapshot. snapshot ≡ self.now.version) }
     {
         let share = Arc::new(self.alloc, self.latest.directory()?)?;
@@ -241,7 +249,7 @@ impl Publisher {
     }
 
     /// A note of the version that is shown. Its number is the last version's.
-    pub fn tell(&self) -> Result<Note, AllocError>
+    pub fn tell(&self) -> Result<Note<A>, AllocError>
         ensures note { IfOk result (TellsVersion self.now.shown) }
         ensures number { version_of self.now.shown ≡ version_of self.now.version }
     {
@@ -279,15 +287,17 @@ impl Publisher {
 
 /// A publisher of a base with nothing tried, and as many readers of its versions as are wanted;
 /// fewer, but one, only where its hall refused an entry. Its list will have at most so many
-/// refreshes in the end.
-pub fn open<R: Wait>(
+/// refreshes in the end. The attachment is right for the base.
+pub fn open<A: Attachment, R: Wait>(
     rt: &R,
     alloc: Global,
     base: State,
+    attachment: A,
     list: Vec<Refresh>,
     want: u32,
     most: usize,
-) -> Result<(Publisher, Vec<Reader<RuledEntry>>), AllocError>
+) -> Result<(Publisher<A>, Vec<Reader<RuledEntry<A>>>), AllocError>
+    requires right { A.is_right attachment base }
     requires want { 1 ≤ want }
     requires most { length list.items ≤ most }
     ensures publisher { IfOk result (λ r. r.0.version
@@ -297,7 +307,7 @@ pub fn open<R: Wait>(
     ensures lists { IfOk result (λ r. HaveSeenLists list_fits r.1.items) }
     ensures enough { IfOk result (λ r. SeatsEnough want (length r.1.items) 0 r.0.refused) }
 {
-    let directory = Directory::new(alloc, base, (), list, most)?;
+    let directory = Directory::new(alloc, base, attachment, list, most)?;
     let share = Arc::new(alloc, directory.another()?)?;
     let shown = Arc::try_clone(&share)?;
     let Some(writer) = start(rt, alloc, shown, want as usize) else {
@@ -314,7 +324,11 @@ pub fn open<R: Wait>(
 }
 
 /// A publisher of the version that a hall shows.
-fn publisher_of(alloc: Global, hall: RuledHall, directory: Directory) -> Publisher
+fn publisher_of<A: Attachment>(
+    alloc: Global,
+    hall: RuledHall<A>,
+    directory: Directory<A>,
+) -> Publisher<A>
     requires { directory ≡ shown_in hall }
     ensures version { (result.version ≡ directory) × (result.shown ≡ directory) }
     ensures refused { result.refused ≡ hall.refusals }
@@ -332,12 +346,12 @@ fn publisher_of(alloc: Global, hall: RuledHall, directory: Directory) -> Publish
 }
 
 /// Seats readers in a hall that shows its opening's directory.
-fn seat_all(
+fn seat_all<A: Attachment>(
     alloc: Global,
-    start: &Arc<Directory>,
+    start: &Arc<Directory<A>>,
     want: usize,
-    hall: &mut RuledHall,
-) -> Result<Vec<Reader<RuledEntry>>, AllocError>
+    hall: &mut RuledHall<A>,
+) -> Result<Vec<Reader<RuledEntry<A>>>, AllocError>
     requires want { 1 ≤ want }
     requires start { arc_value start.now ≡ shown_in hall.old }
     requires fresh { version_of (arc_value start.now) ≡ 0 }

@@ -16,7 +16,7 @@ use store_versions::Directory;
 #[derive(Drop)]
 pub struct Reader<E: Entry + Drop> {
     entry: E,
-    seen: Arc<Directory>,
+    seen: Arc<Directory<E::Attached>>,
 }
 
 impl<E: Entry + Drop> Model for Reader<E> {
@@ -39,7 +39,7 @@ impl<E: Entry + Drop> Reader<E> {
     ghost use Rattle.store_snapshots.specs.Seen.{Began, ReaderState};
 
     /// A reader that has seen this version.
-    pub fn new(entry: E, seen: Arc<Directory>) -> Reader<E>
+    pub fn new(entry: E, seen: Arc<Directory<E::Attached>>) -> Reader<E>
         requires opening { IsOf (E.opening entry) (arc_value seen) }
         requires number { version_of (arc_value seen) ≤ E.number entry }
         requires list { AllBegin (E.fits entry) (arc_value seen).list }
@@ -50,7 +50,7 @@ impl<E: Entry + Drop> Reader<E> {
 
     /// The published version, or where the entry is refused the one that was seen. No publish waits
     /// for it. When memory runs out the version seen stays.
-    pub fn begin(&mut self) -> Result<Snapshot, AllocError>
+    pub fn begin(&mut self) -> Result<Snapshot<E::Attached>, AllocError>
         ensures opening { E.opening self.new.entry ≡ E.opening self.old.entry }
         ensures of_opening { IsOf (E.opening self.new.entry) self.new.seen }
         ensures more { Narrower (E.fits self.old.entry) (E.fits self.new.entry) }

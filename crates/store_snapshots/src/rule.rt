@@ -12,12 +12,12 @@ use left_right::reader::Reader;
 use left_right::writer::Writer;
 use std::alloc::{AllocError, Global};
 use std::sync::{Arc, Wait};
-use store_versions::Directory;
+use store_versions::{Attachment, Directory};
 
 /// The rule: what is known is true of the published version.
 pub struct Versions;
 
-impl Protocol<Shelf, ShelfView> for Versions {
+impl<A: Attachment> Protocol<Shelf<A>, ShelfView> for Versions {
     ghost holds = { λ s. AllFit (on_shelf s) };
 
     ghost first = { record { opening = None; list = []; number = 0 } };
@@ -26,21 +26,21 @@ impl Protocol<Shelf, ShelfView> for Versions {
 /// An entry sees the list and the number of the published version.
 pub struct Seeing;
 
-impl Outcome<Shelf, ShelfView> for Seeing {
+impl<A: Attachment> Outcome<Shelf<A>, ShelfView> for Seeing {
     ghost then = { λ v x y w. SeesVersion v (on_shelf y) w };
 }
 
 /// The writer names the opening of its first version.
 pub struct Naming;
 
-impl Outcome<Shelf, ShelfView> for Naming {
+impl<A: Attachment> Outcome<Shelf<A>, ShelfView> for Naming {
     ghost then = { λ v x y w. KnowsVersion (on_shelf y) w };
 }
 
 /// The writer shows a version.
 pub struct Showing;
 
-impl Outcome<Shelf, ShelfView> for Showing {
+impl<A: Attachment> Outcome<Shelf<A>, ShelfView> for Showing {
     ghost then = { λ v x y w. w ≡ entered v (on_shelf y) };
 }
 
@@ -62,23 +62,23 @@ impl Join<ShelfView> for Joining {
     ghost spent = { record { opening = None; list = []; number = 0 } };
 }
 
-pub(crate) type ShelfReader = Reader<Shelf, ShelfView, Versions>;
+pub(crate) type ShelfReader<A> = Reader<Shelf<A>, ShelfView, Versions>;
 
-pub(crate) type ShelfWriter = Writer<Shelf, Shelf, ShelfView, Versions>;
+pub(crate) type ShelfWriter<A> = Writer<Shelf<A>, Shelf<A>, ShelfView, Versions>;
 
 /// A writer of one version, which knows it.
-pub(crate) fn start<R: Wait>(
+pub(crate) fn start<A: Attachment, R: Wait>(
     rt: &R,
     alloc: Global,
-    directory: Arc<Directory>,
+    directory: Arc<Directory<A>>,
     readers: usize,
-) -> Option<ShelfWriter>
+) -> Option<ShelfWriter<A>>
     requires { (1 ≤ readers) × (readers < 2 ^ 32) }
     ensures { IfSome result (λ w. (on_shelf w.desk.shown.value ≡ arc_value directory)
         × (view w.desk.place ≡ own_view (arc_value directory))) }
 {
     let second = Arc::try_clone(&directory).ok()?;
-    let writer: ShelfWriter = Writer::new(
+    let writer: ShelfWriter<A> = Writer::new(
         alloc,
         Shelf { directory },
         Shelf { directory: second },
@@ -97,7 +97,9 @@ pub(crate) fn start<R: Wait>(
 
 /// A reader that knows the opening and the list of the writer's versions, but none of their
 /// numbers.
-pub(crate) fn joined(writer: &mut ShelfWriter) -> Result<ShelfReader, AllocError>
+pub(crate) fn joined<A: Attachment>(
+    writer: &mut ShelfWriter<A>,
+) -> Result<ShelfReader<A>, AllocError>
     ensures joined { IfOk result (λ r. view r.place ≡ named_only (view writer.old.desk.place)) }
     ensures kept { (view writer.new.desk.place ≡ view writer.old.desk.place)
         × (writer.new.desk.shown ≡ writer.old.desk.shown) }
@@ -108,10 +110,10 @@ pub(crate) fn joined(writer: &mut ShelfWriter) -> Result<ShelfReader, AllocError
 }
 
 /// Shows readers a version that may follow, whole or not at all.
-pub(crate) fn publish<R: Wait>(
-    mut writer: ShelfWriter,
-    next: (&R, Arc<Directory>),
-) -> (ShelfWriter, Result<(), AllocError>)
+pub(crate) fn publish<A: Attachment, R: Wait>(
+    mut writer: ShelfWriter<A>,
+    next: (&R, Arc<Directory<A>>),
+) -> (ShelfWriter<A>, Result<(), AllocError>)
     requires { MayFollow (on_shelf writer.desk.shown.value) (arc_value next.1) }
     ensures shown { OnOk result.1 ((on_shelf result.0.desk.shown.value ≡ arc_value next.entry.1)
         × (view result.0.desk.place ≡ entered (view writer.desk.place) (arc_value next.entry.1))) }

@@ -14,7 +14,7 @@ use crate::rule::{Seeing, ShelfReader};
 use core::mem::replace_with;
 use std::mem::replace;
 use std::sync::Arc;
-use store_versions::Directory;
+use store_versions::{Attachment, Directory};
 
 /// An entry by a reader of the shelf. Its number is that of the last version that it gave or was
 /// told of.
@@ -23,12 +23,12 @@ use store_versions::Directory;
 /// that the list of a version which is entered begins with the kept one's, so the two are compared,
 /// from the end of the opening's list on.
 #[derive(Drop)]
-pub struct RuledEntry {
-    reader: ShelfReader,
+pub struct RuledEntry<A: Attachment = ()> {
+    reader: ShelfReader<A>,
     /// How many refreshes the opening's list has.
     first: usize,
     number: u64,
-    told: Option<Arc<Directory>>,
+    told: Option<Arc<Directory<A>>>,
     /// Whether it was told of two lists of which neither begins with the other. Then each entry is
     /// refused from that moment on. No publisher tells so.
     is_stuck: bool,
@@ -38,9 +38,9 @@ pub struct RuledEntry {
     ghost opened: { ForSome told (λ t. HasOpening (view reader.place).opening (arc_value t)) },
 }
 
-impl RuledEntry {
+impl<A: Attachment> RuledEntry<A> {
     /// An entry of this reader that has given nothing and was told of nothing.
-    pub(crate) fn over(reader: ShelfReader, first: usize) -> RuledEntry
+    pub(crate) fn over(reader: ShelfReader<A>, first: usize) -> RuledEntry<A>
         requires { IsNamed (view reader.place).opening first }
         ensures reader { result.reader ≡ reader }
         ensures fresh { (result.number ≡ 0) × (result.told ≡ None) × (result.is_stuck ≡ false) }
@@ -58,7 +58,7 @@ impl RuledEntry {
 }
 
 /// One entry of a reader.
-fn enter_once(reader: ShelfReader, _nothing: ()) -> (ShelfReader, Entered)
+fn enter_once<A: Attachment>(reader: ShelfReader<A>, _nothing: ()) -> (ShelfReader<A>, Entered<A>)
     ensures opening { (view result.0.place).opening ≡ (view reader.place).opening }
     ensures entered { PassesUncounted (view reader.place).opening (view reader.place).list
         (view result.0.place).list result.1 }
@@ -77,7 +77,7 @@ fn enter_once(reader: ShelfReader, _nothing: ()) -> (ShelfReader, Entered)
 
 /// Whether a version's list is found to begin with that of another of the same opening, whose list
 /// has so many refreshes.
-fn is_longer(now: &Directory, before: &Directory, first: usize) -> bool
+fn is_longer<A: Attachment>(now: &Directory<A>, before: &Directory<A>, first: usize) -> bool
     requires { AreOfOne first before.now now.now }
     ensures { IsTrue result → IsPrefix before.now.list now.now.list }
 {
@@ -85,7 +85,11 @@ fn is_longer(now: &Directory, before: &Directory, first: usize) -> bool
 }
 
 /// Whether a version's list is found to begin with that of the version that was told of.
-fn is_after(told: &Option<Arc<Directory>>, now: &Directory, first: usize) -> bool
+fn is_after<A: Attachment>(
+    told: &Option<Arc<Directory<A>>>,
+    now: &Directory<A>,
+    first: usize,
+) -> bool
     requires { ForSome told.now (λ t. AreOfOne first (arc_value t) now.now) }
     ensures { IsTrue result → ForSome told.now (λ t. IsPrefix (arc_value t).list now.now.list) }
 {
@@ -97,7 +101,11 @@ fn is_after(told: &Option<Arc<Directory>>, now: &Directory, first: usize) -> boo
 
 /// The one of two versions that were told of whose list is found to begin with the other's, and
 /// whether neither was found to do so.
-fn longer_of(before: Arc<Directory>, now: Arc<Directory>, first: usize) -> (Arc<Directory>, bool)
+fn longer_of<A: Attachment>(
+    before: Arc<Directory<A>>,
+    now: Arc<Directory<A>>,
+    first: usize,
+) -> (Arc<Directory<A>>, bool)
     requires { AreOfOne first (arc_value before) (arc_value now) }
     ensures before { result.1 ≡ false → IsPrefix (arc_value before).list (arc_value result.0).list }
     ensures now { result.1 ≡ false → IsPrefix (arc_value now).list (arc_value result.0).list }
@@ -112,8 +120,10 @@ fn longer_of(before: Arc<Directory>, now: Arc<Directory>, first: usize) -> (Arc<
     }
 }
 
-impl Entry for RuledEntry {
-    type Note = Note;
+impl<A: Attachment> Entry for RuledEntry<A> {
+    type Note = Note<A>;
+
+    type Attached = A;
 
     ghost opening = { λ e. (view e.reader.place).opening };
 
@@ -128,7 +138,7 @@ impl Entry for RuledEntry {
 
     ghost note_version = { λ n. arc_value n.share };
 
-    fn enter(&mut self) -> Entered {
+    fn enter(&mut self) -> Entered<A> {
         match replace_with(&mut self.reader, (), enter_once) {
             Entered::Share(share) => {
                 // No version is published that is before one told of; the rule does not say so.
@@ -152,7 +162,7 @@ impl Entry for RuledEntry {
         }
     }
 
-    fn learn(&mut self, note: Note) -> Arc<Directory> {
+    fn learn(&mut self, note: Note<A>) -> Arc<Directory<A>> {
         let Note { share, kept } = note;
         self.number = self.number.max(share.version());
         match replace(&mut self.told, None) {

@@ -6,12 +6,12 @@ use std::alloc::AllocError;
 use std::collections::LinkedList;
 use std::sync::Arc;
 use store_state::{Refresh, State};
-use store_versions::Directory;
+use store_versions::{Attachment, Directory};
 
 /// A share of a version, where readers find it.
 #[derive(Drop)]
-pub struct Shelf {
-    pub(crate) directory: Arc<Directory>,
+pub struct Shelf<A: Attachment = ()> {
+    pub(crate) directory: Arc<Directory<A>>,
 }
 
 /// What is known of the shelf: the opening of its versions, once it is named, and of the version
@@ -22,19 +22,19 @@ pub struct ShelfView {
     pub number: u64,
 }
 
-impl Absorb<Shelf> for Shelf {
-    type State = Directory;
+impl<A: Attachment> Absorb<Shelf<A>> for Shelf<A> {
+    type State = Directory<A>;
 
     ghost state = { λ s. arc_value s.directory };
 
     ghost applied = { λ _ next. arc_value next.directory };
 
-    fn absorb_first(&mut self, operation: &Shelf, _other: &Shelf) -> Result<(), AllocError> {
+    fn absorb_first(&mut self, operation: &Shelf<A>, _other: &Shelf<A>) -> Result<(), AllocError> {
         self.directory = Arc::try_clone(&operation.directory)?;
         Ok(())
     }
 
-    fn absorb_second(&mut self, operation: Shelf, _other: &Shelf) -> Result<(), Shelf> {
+    fn absorb_second(&mut self, operation: Shelf<A>, _other: &Shelf<A>) -> Result<(), Shelf<A>> {
         let Shelf { directory } = operation;
         self.directory = directory;
         Ok(())

@@ -14,15 +14,15 @@ use std::alloc::{AllocError, Global};
 use std::marker::Model;
 use std::sync::Arc;
 use std::sync::ledger::Ledger;
-use store_versions::{Directory, VersionError};
+use store_versions::{Attachment, Directory, VersionError};
 
 /// A share of a version, seen as that version.
 #[derive(Drop)]
-pub struct Snapshot {
-    share: Arc<Directory>,
+pub struct Snapshot<A: Attachment = ()> {
+    share: Arc<Directory<A>>,
 }
 
-impl Model for Snapshot {
+impl<A: Attachment> Model for Snapshot<A> {
     ghost use Rattle.std.specs.Arc.{arc_value};
     ghost use Rattle.store_versions.specs.Trials.{Trials};
 
@@ -31,16 +31,16 @@ impl Model for Snapshot {
     ghost view = { λ s. arc_value s.share };
 }
 
-impl Snapshot {
+impl<A: Attachment> Snapshot<A> {
     /// A snapshot of the shared version.
-    pub(crate) fn over(share: Arc<Directory>) -> Snapshot
+    pub(crate) fn over(share: Arc<Directory<A>>) -> Snapshot<A>
         ensures { result ≡ arc_value share }
     {
         Snapshot { share }
     }
 
     /// A snapshot of this version. It shares the rows and copies none.
-    pub fn of(alloc: Global, directory: &Directory) -> Result<Snapshot, AllocError>
+    pub fn of(alloc: Global, directory: &Directory<A>) -> Result<Snapshot<A>, AllocError>
         ensures { IfOk result (λ snapshot. snapshot ≡ directory.now) }
     {
         let snapshot = Snapshot::owning(alloc, directory.another()?)?;
@@ -48,7 +48,7 @@ impl Snapshot {
     }
 
     /// A snapshot of this version.
-    fn owning(alloc: Global, directory: Directory) -> Result<Snapshot, AllocError>
+    fn owning(alloc: Global, directory: Directory<A>) -> Result<Snapshot<A>, AllocError>
         ensures { IfOk result (λ snapshot. snapshot ≡ directory) }
     {
         let share = Arc::new(alloc, directory)?;
@@ -64,7 +64,7 @@ impl Snapshot {
     }
 
     /// A snapshot of the version of a number, which is this one or one of the 63 before it.
-    pub fn at(&self, alloc: Global, version: u64) -> Result<Snapshot, VersionError>
+    pub fn at(&self, alloc: Global, version: u64) -> Result<Snapshot<A>, VersionError>
         ensures { GivesOlder self.now version result }
     {
         let older = self.share.older(version)?;
@@ -73,7 +73,7 @@ impl Snapshot {
     }
 }
 
-impl Tables for Snapshot {
+impl<A: Attachment> Tables for Snapshot<A> {
     ghost rows = { λ snapshot table. table_rows (tables_of snapshot) table };
 
     fn count(&self, table: TableName) -> u64 {

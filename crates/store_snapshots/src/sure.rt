@@ -10,25 +10,25 @@ use crate::entry::{Entered, Entry};
 use crate::note::Note;
 use std::alloc::AllocError;
 use std::sync::Arc;
-use store_versions::Directory;
+use store_versions::{Attachment, Directory};
 
 /// An entry that gives the versions of a list in turn, and then its last again. It gives none that
 /// is before one that it gave or was told of: in its place it gives that one. All of them have the
 /// opening's list, since that has all its refreshes from the first.
 #[derive(Drop)]
-pub struct SureEntry {
-    versions: Vec<Arc<Directory>>,
+pub struct SureEntry<A: Attachment = ()> {
+    versions: Vec<Arc<Directory<A>>>,
     next: usize,
-    last: Arc<Directory>,
+    last: Arc<Directory<A>>,
     entries: u64,
     ghost opened: { All (λ v. opening_at (arc_value v) ≡ opening_at (arc_value last))
         versions.items },
     ghost whole: { (arc_value last).most ≡ length (arc_value last).list },
 }
 
-impl SureEntry {
+impl<A: Attachment> SureEntry<A> {
     /// An entry that gives these versions, the first of which is of number 0.
-    pub fn new(first: Arc<Directory>, versions: Vec<Arc<Directory>>) -> SureEntry
+    pub fn new(first: Arc<Directory<A>>, versions: Vec<Arc<Directory<A>>>) -> SureEntry<A>
         requires opened { All (λ v. opening_at (arc_value v) ≡ opening_at (arc_value first))
             versions.items }
         requires whole { (arc_value first).most ≡ length (arc_value first).list }
@@ -45,7 +45,7 @@ impl SureEntry {
     }
 
     /// Goes on to a version of the opening, unless it is before the last one.
-    fn go_to(&mut self, version: Arc<Directory>)
+    fn go_to(&mut self, version: Arc<Directory<A>>)
         requires { opening_at (arc_value version) ≡ opening_at (arc_value self.old.last) }
         ensures given { (self.new.versions ≡ self.old.versions) × (self.new.next ≡ self.old.next) }
         ensures entries { self.new.entries ≡ self.old.entries }
@@ -76,8 +76,10 @@ impl SureEntry {
     }
 }
 
-impl Entry for SureEntry {
-    type Note = Note;
+impl<A: Attachment> Entry for SureEntry<A> {
+    type Note = Note<A>;
+
+    type Attached = A;
 
     ghost opening = { λ e. opening_at (arc_value e.last) };
 
@@ -91,7 +93,7 @@ impl Entry for SureEntry {
 
     ghost note_version = { λ n. arc_value n.share };
 
-    fn enter(&mut self) -> Entered {
+    fn enter(&mut self) -> Entered<A> {
         if self.advance().is_err() {
             return Entered::OutOfMemory;
         }
@@ -104,7 +106,7 @@ impl Entry for SureEntry {
         }
     }
 
-    fn learn(&mut self, note: Note) -> Arc<Directory> {
+    fn learn(&mut self, note: Note<A>) -> Arc<Directory<A>> {
         let Note { share, kept } = note;
         let _listed = kept.listed();
         self.go_to(kept);

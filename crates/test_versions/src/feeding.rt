@@ -84,7 +84,7 @@ fn feed_three<R: Threads + Wait + Sync>(
 #[test]
 fn two_senders_feed_a_publisher(rt: HostRuntime) -> Result<(), Fail> {
     let alloc = rt.alloc();
-    let (mut publisher, _readers) = open(&rt, alloc, no_rows(alloc)?, Vec::new(alloc), 1, 3)?;
+    let (mut publisher, _readers) = open(&rt, alloc, no_rows(alloc)?, (), Vec::new(alloc), 1, 3)?;
     let good = feed_three(&rt, alloc, &mut publisher);
     let version = publisher.version();
     publisher.close(&rt);

@@ -46,7 +46,7 @@ fn give_twice<R: Wait>(
 fn longer_lists_are_met(rt: HostRuntime) -> Result<(), Fail> {
     let alloc = rt.alloc();
     let base = state(alloc, &[ORDERS], &[])?;
-    let (mut publisher, mut readers) = open(&rt, alloc, base, Vec::new(alloc), 1, 2)?;
+    let (mut publisher, mut readers) = open(&rt, alloc, base, (), Vec::new(alloc), 1, 2)?;
     let good = give_twice(&rt, alloc, &mut publisher, &mut readers[0]);
     let listed = publisher.listed();
     let left = publisher.left();
@@ -62,7 +62,7 @@ fn the_next_refresh_is_lent(rt: HostRuntime) -> Result<(), Fail> {
     let alloc = rt.alloc();
     let base = state(alloc, &[ORDERS], &[])?;
     let list = vec![in alloc; insert(alloc, &[NINE], &[NINE_ONE])?]?;
-    let (mut publisher, _readers) = open(&rt, alloc, base, list, 1, 1)?;
+    let (mut publisher, _readers) = open(&rt, alloc, base, (), list, 1, 1)?;
     let before = publisher.next();
     publisher.publish_next(&rt);
     let after = publisher.next();

@@ -68,7 +68,7 @@ fn begins_at_the_published_version(rt: HostRuntime) -> Result<(), Fail> {
     let list = pairs(alloc, 1)?;
     let most = list.len();
     let base = state(alloc, &[ORDERS], &[])?;
-    let (mut publisher, mut readers) = open(&rt, alloc, base, list, 2, most)?;
+    let (mut publisher, mut readers) = open(&rt, alloc, base, (), list, 2, most)?;
     let good = begin_twice(&rt, &mut publisher, &mut readers);
     publisher.close(&rt);
     assert!(rt; good?);
@@ -108,7 +108,7 @@ fn holds_a_snapshot(rt: HostRuntime) -> Result<(), Fail> {
     let list = pairs(alloc, 10)?;
     let most = list.len();
     let base = state(alloc, &[ORDERS], &[])?;
-    let (mut publisher, mut readers) = open(&rt, alloc, base, list, 1, most)?;
+    let (mut publisher, mut readers) = open(&rt, alloc, base, (), list, 1, most)?;
     let good = hold(&rt, alloc, &mut publisher, &mut readers[0]);
     publisher.close(&rt);
     assert!(rt; good?);

@@ -10,13 +10,13 @@ use Rattle.store_snapshots.proofs.OneOpening.{of_opening}
 use Rattle.store_snapshots.proofs.ruled.RuledEntryEntry.enter.Goals as goal
 
 pub is_after-requires : goal.is_after-requires
-is_after-requires c told is =
+is_after-requires g c told is =
     let opening = (view c.args.self.now.reader.place).opening in
     let now : IsOf opening c.deref-else-version-self.result.now = search rules in
     (opening, c.args.self.now.named, of_opening opening (arc_value told) (c.args.self.now.opened told is), now)
 
 pub invariant_of-self : goal.invariant_of-self
-invariant_of-self c =
+invariant_of-self g c =
     let same : (view c.replace_with.new.dest.place).opening ≡ (view c.args.self.now.reader.place).opening = search rules in
     record {
       named = subst (λ o. IsNamed o c.args.self.now.first) (sym same) c.args.self.now.named;
@@ -24,7 +24,7 @@ invariant_of-self c =
     }
 
 pub invariant_of-self-in-Refused : goal.invariant_of-self-in-Refused
-invariant_of-self-in-Refused c =
+invariant_of-self-in-Refused g c =
     let same : (view c.replace_with.new.dest.place).opening ≡ (view c.args.self.now.reader.place).opening = search rules in
     record {
       named = subst (λ o. IsNamed o c.args.self.now.first) (sym same) c.args.self.now.named;
@@ -32,7 +32,7 @@ invariant_of-self-in-Refused c =
     }
 
 pub invariant_of-self-in-OutOfMemory : goal.invariant_of-self-in-OutOfMemory
-invariant_of-self-in-OutOfMemory c =
+invariant_of-self-in-OutOfMemory g c =
     let same : (view c.replace_with.new.dest.place).opening ≡ (view c.args.self.now.reader.place).opening = search rules in
     record {
       named = subst (λ o. IsNamed o c.args.self.now.first) (sym same) c.args.self.now.named;
@@ -40,7 +40,7 @@ invariant_of-self-in-OutOfMemory c =
     }
 
 pub returns-else-not-is_after-clause-more : goal.returns-else-not-is_after-clause-more
-returns-else-not-is_after-clause-more c list fits =
+returns-else-not-is_after-clause-more g c list fits =
     let old = c.args.self.now in
     let share = arc_value c.in-Share.share in
     let seen : IsPrefix (view old.reader.place).list share.list = search rules in
@@ -50,7 +50,7 @@ returns-else-not-is_after-clause-more c list fits =
     (prefix-trans (view old.reader.place).list share.list list seen long, λ told is. prefix-trans (arc_value told).list share.list list (begins told is) long, fits.2)
 
 pub returns-else-not-is_after-clause-entered : goal.returns-else-not-is_after-clause-entered
-returns-else-not-is_after-clause-entered c =
+returns-else-not-is_after-clause-entered g c =
     let old = c.args.self.now in
     let share = arc_value c.in-Share.share in
     let opened : IsOf (view old.reader.place).opening share = search rules in

@@ -10,7 +10,7 @@ use Rattle.store_snapshots.proofs.ruled.RuledEntryEntry.learn.Goals as goal
 use Rattle.store_snapshots.proofs.ruled.RuledEntryEntry.learn.Goals.{then-self, else-self}
 
 pub longer_of-longer-requires : goal.longer_of-longer-requires
-longer_of-longer-requires c =
+longer_of-longer-requires g c =
     let old = c.args.self.now in
     let opening = (view old.reader.place).opening in
     let told = sym c.replace.ensures.value ∙ c.in-Some.is in
@@ -18,7 +18,7 @@ longer_of-longer-requires c =
     (opening, old.named, of_opening opening (arc_value c.in-Some.before) (old.opened c.in-Some.before told), kept)
 
 pub invariant_of-self : goal.invariant_of-self
-invariant_of-self c =
+invariant_of-self g c =
     let old = c.args.self.now in
     let opening = (view old.reader.place).opening in
     let told = sym c.replace.ensures.value ∙ c.in-Some.is in
@@ -34,7 +34,7 @@ invariant_of-self c =
     }
 
 pub returns-after-self-clause-more : goal.returns-after-self-clause-more
-returns-after-self-clause-more c list fits =
+returns-after-self-clause-more g c list fits =
     let old = c.args.self.now in
     let told = sym c.replace.ensures.value ∙ c.in-Some.is in
     let longer = c.longer_of-longer.result.0 in
@@ -50,4 +50,4 @@ returns-after-self-clause-more c list fits =
     ]
 
 pub returns-in-None-clause-told : goal.returns-in-None-clause-told
-returns-in-None-clause-told c list fits = subst (λ (d : Trials). IsPrefix d.list list) c.args.note.same (fits.1 c.args.note.kept refl)
+returns-in-None-clause-told g c list fits = subst (λ (d : Trials). IsPrefix d.list list) c.args.note.same (fits.1 c.args.note.kept refl)
