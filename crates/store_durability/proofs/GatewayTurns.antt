@@ -1,5 +1,4 @@
 -- A stored turn as one of a feed of the list and then of two senders.
-use Rattle.store_versions.specs.declared.attachment.Attachment.{Ghosts}
 use Rattle.std.proofs.Common.{◌≡◌, ◌⊎◌, ℕ, ◌+◌, ◌-◌, ◌^◌, ◌<◌, ◌≤◌, Bool, true, false, List, [], ◌∷◌, ◌++◌, None, Some, length, drop, refl, sym, ap, subst, ◌∙◌, arith, inl, inr, ⊎_elim, append_assoc, length-append}
 use Rattle.std.specs.Prelude.{slice_get}
 use Rattle.std.specs.List.{AllByRecursion}
@@ -20,6 +19,7 @@ use Rattle.store_state.specs.Prefixes.{IsPrefix}
 use Rattle.store_state.specs.Refresh.{Change}
 use Rattle.store_state.proofs.Prefixes.{prefix-append, prefix-refl, prefix-trans}
 use Rattle.store_versions.specs.Trials.{Trials, offered, one_more}
+use Rattle.store_versions.specs.declared.attachment.Attachment.{Ghosts}
 use Rattle.store_durability.specs.Gateway.{BothFit, IsAtTurn, KeepsUp, TakesThis}
 use Rattle.store_durability.specs.Stored.{HasRoomForOne, Holds, IsNext, trials_with}
 use Rattle.store_durability.proofs.Accepted.{given, listed}

@@ -1,8 +1,8 @@
 -- A stored turn as one of a feed of the list.
-use Rattle.store_versions.specs.declared.attachment.Attachment.{Ghosts}
 use Rattle.std.proofs.Common.{◌≡◌, ℕ, ◌+◌, ◌<◌, None, length, refl, ap, ◌∙◌, arith, inl}
 use Rattle.base_refusals.specs.declared.refresh.Cause.{Cause}
 use Rattle.store_versions.specs.Trials.{Trials, one_more}
+use Rattle.store_versions.specs.declared.attachment.Attachment.{Ghosts}
 use Rattle.store_snapshots.specs.Publishers.{AcceptsNext, Edition, RefusesNext}
 use Rattle.store_snapshots.specs.Turns.{IsAllTried, ListFits, TakesTurn, list_tried}
 use Rattle.store_snapshots.specs.declared.note.Note.{Note}

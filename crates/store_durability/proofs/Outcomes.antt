@@ -1,5 +1,4 @@
 -- What comes of a refresh that is tried, by whether it is accepted.
-use Rattle.store_versions.specs.declared.attachment.Attachment.{Ghosts}
 use Rattle.std.proofs.Common.{◌≡◌, ◌↔◌, inl, inr, ℕ, ◌+◌, ◌<◌, ◌≤◌, Bool, true, false, not, cond, List, [], ◌∷◌, ◌++◌, length, refl, sym, ap, subst, ◌∙◌, Ok, Err}
 use Rattle.std.specs.Prelude.{IsTrue, is_ok}
 use Rattle.std.proofs.lemmas.Bool.{cases_lt}
@@ -19,6 +18,7 @@ use Rattle.store_snapshots.specs.declared.publisher.Published.TheVariants as ans
 use Rattle.store_state.specs.Refresh.{Change, after}
 use Rattle.store_state.specs.Versions.{is_accepted}
 use Rattle.store_versions.specs.Trials.{Trials, offered, one_more, tables_of}
+use Rattle.store_versions.specs.declared.attachment.Attachment.{Ghosts}
 use Rattle.store_durability.specs.Stored.{IsNext, payloads_of, trials_with}
 use Rattle.store_durability.proofs.Accepted.{accepted_ok, given, has_next, listed, not_both, payloads_accepted, payloads_refused, readable, refused_err}
 

@@ -1,5 +1,4 @@
 -- A publisher's list and then what two senders send, each of which is stored before it is published.
-use Rattle.store_versions.specs.declared.attachment.Attachment.{Ghosts}
 use Rattle.std.specs.Prelude.{◌≡◌, ◌⊎◌, ◌<◌, ◌≤◌, ◌+◌, ◌-◌, ◌*◌, ◌^◌, ℕ, Bool, true, false, List, [], ◌∷◌}
 use Rattle.std.specs.Prelude.{drop, length, Option}
 use Rattle.std.specs.List.{AllByRecursion}
@@ -14,6 +13,7 @@ use Rattle.store_snapshots.specs.declared.feed.FeedTurn.TheVariants.{Published, 
 use Rattle.store_state.specs.Prefixes.{IsPrefix}
 use Rattle.store_state.specs.Refresh.{Change}
 use Rattle.store_versions.specs.Trials.{Trials}
+use Rattle.store_versions.specs.declared.attachment.Attachment.{Ghosts}
 use Rattle.store_durability.specs.Stored.{Holds, trials_with}
 
 -- the list has refreshes left, of which a feed has tried so many since a version, and nothing was
@@ -50,7 +50,8 @@ pub record BothFit {D : Type 0} (is_reached : D → Bool) (may_leave : D → Lis
       ≤ version.most + length taker.taken
 
 -- this refresh, which came from that sender, was tried: the list's next one, or at the list's end
-abbrev pub TakesThis : {A : Type 0} {g : Ghosts A} → Option ℕ → Change → Edition → Edition → FeedTurn A g → Type 0
+abbrev pub TakesThis : {A : Type 0} {g : Ghosts A} → Option ℕ → Change → Edition → Edition
+    → FeedTurn A g → Type 0
 TakesThis from change old new (Published sender note) = (sender ≡ from)
     × AcceptsNext (trials_with change old.version) new note
 TakesThis from change old new (Refused sender cause) = (sender ≡ from)

@@ -46,8 +46,8 @@ turn_published start count old new note fits tries shows =
     let next = next_tried start count old.version fits tries.0 in
     (next.0, old.version, next.2, inl (refl, tries.0, next.1), record { after = tries.1; shown = shows; tells = tries.2 })
 
-pub turn_refused : {A : Type 0} {g : Ghosts A} (start : Trials) (count : ℕ) (old new : Edition) (cause : Cause) → ListFits start count old.version → Tries {A = A} {g = g} old.version new.version (answer.Refused cause) → Shows {A = A} {g = g} old new (answer.Refused cause)
+pub turn_refused : (A : Type 0) (g : Ghosts A) (start : Trials) (count : ℕ) (old new : Edition) (cause : Cause) → ListFits start count old.version → Tries {A = A} {g = g} old.version new.version (answer.Refused cause) → Shows {A = A} {g = g} old new (answer.Refused cause)
     → TakesTurn {A = A} {g = g} (list_tried start count) (list_tried start (count + 1)) IsAllTried old new (turn.Refused None cause)
-turn_refused start count old new cause fits tries shows =
+turn_refused A g start count old new cause fits tries shows =
     let next = next_tried start count old.version fits tries.0 in
     (next.0, old.version, next.2, inl (refl, tries.0, next.1), record { after = tries.1; shown = shows })

@@ -143,11 +143,22 @@ impl<A: Attachment> Publisher<A> {
                 Err(_) => Given::OutOfMemory,
             },
             Err(RefreshError::Refused(cause)) => {
-                self.latest = Latest::Tried(trials);
+                self.keep(trials);
                 Given::Refused(cause)
             }
             Err(RefreshError::OutOfMemory) => Given::OutOfMemory,
         }
+    }
+
+    /// Keeps a version that may follow and has the same number, and shows readers nothing new.
+    fn keep(&mut self, trials: Directory<A>)
+        requires follows { MayFollow self.old.version trials }
+        requires number { version_of trials ≡ version_of self.old.version }
+        ensures version { self.new.version ≡ trials }
+        ensures shown { self.new.shown ≡ self.old.shown }
+        ensures refused { self.new.refused ≡ self.old.refused }
+    {
+        self.latest = Latest::Tried(trials);
     }
 
     /// Shows readers a share of a version that may follow, and keeps that version.

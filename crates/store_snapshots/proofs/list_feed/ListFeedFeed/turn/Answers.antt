@@ -11,4 +11,4 @@ pub returns-in-Refused-clause-turn : goal.returns-in-Refused-clause-turn
 returns-in-Refused-clause-turn g c =
     let f = c.args.self.now in
     let t = c.in-Refused.ensures in
-    turn_refused {A = g.row.A.Denot} {g = g.A.Attachment} f.start f.count c.args.publisher.now c.publish_next.new.self c.in-Refused.cause c.requires t.tries t.shown
+    turn_refused g.row.A.Denot g.A.Attachment f.start f.count c.args.publisher.now c.publish_next.new.self c.in-Refused.cause c.requires t.tries t.shown

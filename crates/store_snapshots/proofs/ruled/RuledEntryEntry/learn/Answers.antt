@@ -51,3 +51,14 @@ returns-after-self-clause-more g c list fits =
 
 pub returns-in-None-clause-told : goal.returns-in-None-clause-told
 returns-in-None-clause-told g c list fits = subst (λ (d : Trials). IsPrefix d.list list) c.args.note.same (fits.1 c.args.note.kept refl)
+
+pub returns-after-self-clause-told : goal.returns-after-self-clause-told
+returns-after-self-clause-told g c list fits =
+    let longer = c.longer_of-longer.result.0 in
+    elim c.if-self.branch [
+      | then-self w ↦ absurd (let yes_is = w.self-is in let no = fits.2 in cc)
+      | else-self w ↦
+          let now = c.longer_of-longer.ensures.now (sym w.self-is ∙ fits.2) in
+          subst (λ (d : Trials). IsPrefix d.list list) c.args.note.same
+          (prefix-trans (arc_value c.args.note.kept).list (arc_value longer).list list now (fits.1 longer refl))
+    ]
