@@ -31,7 +31,7 @@ cut_whole (b ∷ rest) some none =
 
 -- a line was read, and lines are left
 pub read_on : (number : ℕ) (old new : JobParts) (text line rest : List ℕ) (whole : Result JobParts RefusedLine)
-    → cut_lines text ≡ line ∷ cut_lines rest → with_text old (line_text line) ≡ Ok new
+    → cut_lines text ≡ line ∷ cut_lines rest → with_text old number (line_text line) ≡ Ok new
     → with_lines number old (cut_lines text) ≡ whole → with_lines (number + 1) new (cut_lines rest) ≡ whole
 read_on number old new text line rest whole cut made same =
     sym (ap (λ r. after_line number r (λ p. with_lines (number + 1) p (cut_lines rest))) made)
@@ -39,7 +39,7 @@ read_on number old new text line rest whole cut made same =
 
 -- a line was refused
 pub read_refused : (number : ℕ) (old : JobParts) (text line rest : List ℕ) (whole : Result JobParts RefusedLine) (refused : RefusedLine)
-    → cut_lines text ≡ line ∷ cut_lines rest → with_text old (line_text line) ≡ Err refused.refusal → refused.line ≡ number
+    → cut_lines text ≡ line ∷ cut_lines rest → with_text old number (line_text line) ≡ Err refused.refusal → refused.line ≡ number
     → with_lines number old (cut_lines text) ≡ whole → whole ≡ Err refused
 read_refused number old text line rest whole refused cut made at same =
     sym same ∙ ap (with_lines number old) cut

@@ -1,21 +1,28 @@
 -- What a job's file asks for, and its first refusal.
 use Rattle.std.specs.Prelude.{◌≡◌, ⊤, ℕ, ◌<◌, ◌≤◌, ◌+◌, List, [], ◌∷◌, ◌++◌, codes, length, nat_lt}
-use Rattle.std.specs.Prelude.{◌==◌, Bool, is_some, nat_le, Option, None, Some, option_map}
+use Rattle.std.specs.Prelude.{◌==◌, ◌||◌, Bool, is_some, nat_le, Option, None, Some, option_map}
 use Rattle.std.specs.Prelude.{map, Result, Ok, Err, if◌then◌else◌}
+use Rattle.std.specs.List.{list_any}
+use Rattle.std.specs.Str.{bytes_eq}
 use Rattle.std.specs.String.{string_bytes}
+use Rattle.base_schema.specs.Tables.{table_of}
+use Rattle.sql_lexer.specs.Names.{name_of}
 use Rattle.store_file_reader.specs.File.{cut_lines}
 use Rattle.store_file_reader.specs.Line.{line_text}
 use Rattle.app_job_file.specs.Lines.{JobLine, line_of}
 use Rattle.app_job_file.specs.Lines.JobLine.{BeforeLine, BesideLine, JournalLine, ScriptLine}
+use Rattle.app_job_file.specs.Lines.JobLine.{KeepLine}
 use Rattle.app_job_file.specs.Lines.JobLine.{SendLine}
 use Rattle.app_job_file.specs.declared.job.Job.{Job}
+use Rattle.app_job_file.specs.declared.job.Keep.{Keep}
 use Rattle.app_job_file.specs.declared.job.Mention.{Mention}
 use Rattle.app_job_file.specs.declared.reading.JobFileError.{JobFileError}
 use Rattle.app_job_file.specs.declared.reading.JobFileError.TheVariants.{Refused, OutOfMemory}
 use Rattle.app_job_file.specs.declared.refusal.JobRefusal.{JobRefusal}
 use Rattle.app_job_file.specs.declared.refusal.JobRefusal.TheVariants.{BadLine, LateBefore, TooMany}
 use Rattle.app_job_file.specs.declared.refusal.JobRefusal.TheVariants.{NoSession, TooLong}
-use Rattle.app_job_file.specs.declared.refusal.JobRefusal.TheVariants.{MixedSenders}
+use Rattle.app_job_file.specs.declared.refusal.JobRefusal.TheVariants.{MixedSenders, BadKeep}
+use Rattle.app_job_file.specs.declared.refusal.JobRefusal.TheVariants.{KeepTwice}
 use Rattle.app_job_file.specs.declared.refusal.RefusedLine.{RefusedLine}
 use Rattle.store_gateway.specs.declared.message.SenderId.{SenderId}
 
@@ -27,6 +34,8 @@ job_refusal_number TooMany = 3
 job_refusal_number NoSession = 4
 job_refusal_number TooLong = 5
 job_refusal_number MixedSenders = 6
+job_refusal_number BadKeep = 7
+job_refusal_number KeepTwice = 8
 
 -- the name of a job's refusal
 abbrev pub job_refusal_name : JobRefusal → List ℕ
@@ -36,11 +45,25 @@ job_refusal_name TooMany = codes "TooMany"
 job_refusal_name NoSession = codes "NoSession"
 job_refusal_name TooLong = codes "TooLong"
 job_refusal_name MixedSenders = codes "MixedSenders"
+job_refusal_name BadKeep = codes "BadKeep"
+job_refusal_name KeepTwice = codes "KeepTwice"
 
--- What a job is made of: the names of the scripts of its sessions; its refreshes, in the order of
+-- A kept view of a job: its name, the name of the script that has its query, and its line.
+pub record KeepParts : Type 0 where
+  pub name : List ℕ
+  pub file : List ℕ
+  pub line : ℕ
+
+-- the parts of one that was read
+abbrev pub keep_parts : Keep → KeepParts
+keep_parts keep =
+    record { name = keep.name; file = string_bytes keep.file; line = keep.line }
+
+-- What a job is made of: its kept views; the names of the scripts of its sessions; its refreshes, in the order of
 -- its lines; how many of these are tried before the sessions; who sends each of the others, or
 -- nobody where they are tried in their order; and the name of the file of its journal, if it has one.
 pub record JobParts : Type 0 where
+  pub keeps : List KeepParts
   pub scripts : List (List ℕ)
   pub refreshes : List Mention
   pub before : ℕ
@@ -50,6 +73,7 @@ pub record JobParts : Type 0 where
 -- the parts of a job that was read
 abbrev pub parts_of : Job → JobParts
 parts_of job = record {
+  keeps = map keep_parts job.keeps.items;
   scripts = map string_bytes job.scripts.items;
   refreshes = job.refreshes.items;
   before = job.before;
@@ -65,13 +89,24 @@ most_sessions = 64
 abbrev pub most_refreshes : ℕ
 most_refreshes = 1024
 
+-- the most kept views
+abbrev pub most_keeps : ℕ
+most_keeps = 16
+
 -- the most bytes
 abbrev pub job_limit : ℕ
 job_limit = 1_048_576
 
 -- nothing yet
 abbrev pub no_parts : JobParts
-no_parts = record { scripts = []; refreshes = []; before = 0; senders = []; journal = None }
+no_parts = record {
+  keeps = [];
+  scripts = [];
+  refreshes = [];
+  before = 0;
+  senders = [];
+  journal = None;
+}
 
 -- one session more, but for the one that is too many
 abbrev pub with_script : JobParts → List ℕ → Result JobParts JobRefusal
@@ -84,6 +119,26 @@ with_script parts name =
 abbrev pub with_journal : JobParts → List ℕ → Result JobParts JobRefusal
 with_journal parts name =
     if is_some parts.journal then Err BadLine else Ok (record parts { journal = Some name })
+
+-- a name that a kept view can't have: a table's, or that of one before it
+abbrev pub is_taken : JobParts → List ℕ → Bool
+is_taken parts name =
+    is_some (table_of name) || list_any (λ keep. bytes_eq keep.name name) parts.keeps
+
+-- One kept view more, in a line of this number, unless its name is none, it is one too many, or its
+-- name is taken.
+abbrev pub with_name : JobParts → ℕ → Option (List ℕ) → List ℕ → Result JobParts JobRefusal
+with_name parts number None file = Err BadLine
+with_name parts number (Some name) file =
+    if nat_le most_keeps (length parts.keeps) then Err TooMany
+    else if is_taken parts name then Err KeepTwice
+    else Ok (record parts {
+      keeps = parts.keeps ++ record { name = name; file = file; line = number } ∷ [];
+    })
+
+-- the same of a line that has these words
+abbrev pub with_keep : JobParts → ℕ → List ℕ → List ℕ → Result JobParts JobRefusal
+with_keep parts number name file = with_name parts number (name_of name) file
 
 -- another refresh would be one too many
 abbrev pub is_full : JobParts → Bool
@@ -124,19 +179,20 @@ with_sent parts sender mention =
       senders = parts.senders ++ sender ∷ [];
     })
 
--- what one line more makes
-abbrev pub with_line : JobParts → Option JobLine → Result JobParts JobRefusal
-with_line parts None = Err BadLine
-with_line parts (Some (ScriptLine name)) = with_script parts name
-with_line parts (Some (JournalLine name)) = with_journal parts name
-with_line parts (Some (BeforeLine mention)) = with_before parts mention
-with_line parts (Some (BesideLine mention)) = with_beside parts mention
-with_line parts (Some (SendLine sender mention)) = with_sent parts sender mention
+-- what one line more makes, which has this number
+abbrev pub with_line : JobParts → ℕ → Option JobLine → Result JobParts JobRefusal
+with_line parts number None = Err BadLine
+with_line parts number (Some (ScriptLine name)) = with_script parts name
+with_line parts number (Some (JournalLine name)) = with_journal parts name
+with_line parts number (Some (KeepLine name file)) = with_keep parts number name file
+with_line parts number (Some (BeforeLine mention)) = with_before parts mention
+with_line parts number (Some (BesideLine mention)) = with_beside parts mention
+with_line parts number (Some (SendLine sender mention)) = with_sent parts sender mention
 
 -- the same for the text of a line; an empty one is skipped
-abbrev pub with_text : JobParts → List ℕ → Result JobParts JobRefusal
-with_text parts [] = Ok parts
-with_text parts (byte ∷ bytes) = with_line parts (line_of (byte ∷ bytes))
+abbrev pub with_text : JobParts → ℕ → List ℕ → Result JobParts JobRefusal
+with_text parts number [] = Ok parts
+with_text parts number (byte ∷ bytes) = with_line parts number (line_of (byte ∷ bytes))
 
 -- why a job is refused, and at which of its lines, from 1, or at line 0 for the whole of it
 abbrev pub refused_line : JobRefusal → ℕ → RefusedLine
@@ -152,7 +208,7 @@ after_line number (Err refusal) further = Err (refused_line refusal number)
 abbrev pub with_lines : ℕ → JobParts → List (List ℕ) → Result JobParts RefusedLine
 with_lines number parts [] = Ok parts
 with_lines number parts (line ∷ lines) =
-    after_line number (with_text parts (line_text line)) (λ p. with_lines (number + 1) p lines)
+    after_line number (with_text parts number (line_text line)) (λ p. with_lines (number + 1) p lines)
 
 -- a job has a session
 abbrev pub with_session : Result JobParts RefusedLine → Result JobParts RefusedLine
@@ -184,6 +240,7 @@ Puts number made new (Err OutOfMemory) = ⊤
 -- A job within its limits, with no more refreshes before the sessions than it has. Where some
 -- beside them are sent, all beside them are.
 pub record IsWithin (job : Job) : Type 0 where
+  pub views : length job.keeps.items ≤ most_keeps
   pub few : length job.scripts.items ≤ most_sessions
   pub refreshes : length job.refreshes.items ≤ most_refreshes
   pub places : job.before + length job.senders.items ≤ length job.refreshes.items

@@ -2,7 +2,7 @@
 ghost use Rattle.std.specs.Prelude.{◌≡◌, [], ◌++◌, ◌∷◌, OnOk, map};
 ghost use Rattle.std.specs.String.{string_bytes};
 
-use sql_ast::RefreshKind;
+use sql_ast::{Name, RefreshKind};
 use std::alloc::{AllocError, Global};
 use store_gateway::SenderId;
 
@@ -15,9 +15,22 @@ pub struct Mention {
     pub set: u32,
 }
 
+/// A kept view that a line names.
+#[derive(Drop)]
+pub struct Keep {
+    /// The view's name.
+    pub name: Name,
+    /// The name of the script that has its query.
+    pub file: String,
+    /// The line, counted from 1.
+    pub line: usize,
+}
+
 /// What a job's file asks for.
 #[derive(Drop)]
 pub struct Job {
+    /// Its kept views, in the order of its lines.
+    pub keeps: Vec<Keep>,
     /// The names of the scripts of its sessions, in order.
     pub scripts: Vec<String>,
     /// Its refreshes, in the order of its lines.
@@ -39,6 +52,7 @@ impl Job {
         ensures { parts_of result ≡ no_parts }
     {
         Job {
+            keeps: Vec::new(alloc),
             scripts: Vec::new(alloc),
             refreshes: Vec::new(alloc),
             before: 0,

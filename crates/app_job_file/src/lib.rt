@@ -1,5 +1,6 @@
 //! The file of a job: the scripts of its sessions, the refreshes that are tried before them and
-//! beside them, of which two senders may send some, and the journal that keeps the accepted ones.
+//! beside them, of which two senders may send some, the journal that keeps the accepted ones, and
+//! the kept views.
 #![tactic(auto)]
 
 mod job;
@@ -8,6 +9,6 @@ mod line;
 mod reading;
 mod refusal;
 
-pub use job::{Job, Mention};
+pub use job::{Job, Keep, Mention};
 pub use reading::{JobFileError, MAX_JOB, read_job};
 pub use refusal::{JobRefusal, RefusedLine};

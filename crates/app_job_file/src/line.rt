@@ -4,7 +4,7 @@ ghost use Rattle.std.specs.Char.{is_ascii_digit};
 ghost use Rattle.std.specs.List.{list_all};
 ghost use Rattle.app_job_file.specs.Lines.{is_visible, line_of, line_view, mention_after, mention_in};
 ghost use Rattle.app_job_file.specs.Lines.{refresh_after, rest_after, set_number, word_after};
-ghost use Rattle.app_job_file.specs.Lines.{word_of};
+ghost use Rattle.app_job_file.specs.Lines.{word_of, words_after, words_of};
 
 use crate::job::Mention;
 use sql_ast::RefreshKind;
@@ -17,6 +17,8 @@ pub enum Line<'a> {
     Session(&'a str),
     /// A journal in the file of this name.
     Journal(&'a str),
+    /// A kept view of this name, whose query is in the script of that name.
+    Keep(&'a str, &'a str),
     /// A refresh that is tried before the sessions.
     Before(Mention),
     /// A refresh that is tried beside them.
@@ -111,6 +113,24 @@ fn word_after<'a>(front: &[u8], line: &'a [u8]) -> Option<&'a str>
     word_of(rest_after(front, line)?)
 }
 
+/// The two words that bytes are, with a space between them.
+fn words_of(bytes: &[u8]) -> Option<(&str, &str)>
+    ensures { option_map (λ words. (words.0.now, words.1.now)) result ≡ words_of bytes.now }
+{
+    let space = bytes.iter().position(|byte| *byte == b' ')?;
+    let first = word_of(&bytes[..space])?;
+    let second = word_of(&bytes[space + 1..])?;
+    Some((first, second))
+}
+
+/// The two words that follow these bytes at a line's front.
+fn words_after<'a>(front: &[u8], line: &'a [u8]) -> Option<(&'a str, &'a str)>
+    ensures { option_map (λ words. (words.0.now, words.1.now)) result
+        ≡ words_after front.now line.now }
+{
+    words_of(rest_after(front, line)?)
+}
+
 /// What a line asks for, if it is of one of the forms.
 pub fn line_of(line: &[u8]) -> Option<Line<'_>>
     ensures { option_map line_view result ≡ line_of line.now }
@@ -120,6 +140,9 @@ pub fn line_of(line: &[u8]) -> Option<Line<'_>>
     }
     if let Some(name) = word_after(b"journal ", line) {
         return Some(Line::Journal(name));
+    }
+    if let Some((name, file)) = words_after(b"keep ", line) {
+        return Some(Line::Keep(name, file));
     }
     if let Some(mention) = refresh_after(b"before ", line) {
         return Some(Line::Before(mention));

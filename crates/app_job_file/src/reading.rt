@@ -5,13 +5,16 @@ ghost use Rattle.std.specs.List.{position};
 ghost use Rattle.store_file_reader.specs.File.{cut_lines};
 ghost use Rattle.store_file_reader.specs.Line.{line_text, without_end};
 ghost use Rattle.app_job_file.specs.Files.{IsReadable, IsWithin, Puts, Says, has_sent, has_unsent};
-ghost use Rattle.app_job_file.specs.Files.{is_full, job_of, no_parts, parts_of, with_before};
+ghost use Rattle.app_job_file.specs.Files.{is_full, is_taken, job_of, no_parts, parts_of};
+ghost use Rattle.app_job_file.specs.Files.{with_before, with_keep};
 ghost use Rattle.app_job_file.specs.Files.{with_beside, with_journal, with_lines, with_script};
 ghost use Rattle.app_job_file.specs.Files.{with_sent, with_text};
 
-use crate::job::{Job, Mention};
+use crate::job::{Job, Keep, Mention};
 use crate::line::{Line, line_of};
 use crate::refusal::{JobRefusal, RefusedLine};
+use base_schema::TableName;
+use sql_lexer::name_of;
 use std::alloc::{AllocError, AllocFailed, Global};
 use store_gateway::SenderId;
 
@@ -23,6 +26,9 @@ const MOST_SESSIONS: usize = 64;
 
 /// The most refreshes of a job.
 const MOST_REFRESHES: usize = 1024;
+
+/// The most kept views of a job.
+const MOST_KEEPS: usize = 16;
 
 /// Why a job is not read.
 #[derive(Clone, Copy, Debug, PartialEq, Eq)]
@@ -86,6 +92,41 @@ fn put_journal(alloc: Global, job: &mut Job, number: usize, name: &str) -> Resul
         return Err(refusal_at(JobRefusal::BadLine, number));
     }
     job.journal = Some(String::from_str(alloc, name)?);
+    Ok(())
+}
+
+/// Whether a kept view can't have this name: a table has it, or one before it.
+fn is_taken(job: &Job, name: &[u8]) -> bool
+    ensures { result ≡ is_taken (parts_of job.now) name.now }
+{
+    TableName::from_name(name).is_some() || job.keeps.iter().any(|keep| keep.name.bytes() == name)
+}
+
+/// Adds a kept view, unless its name is none, it is one too many, or its name is taken.
+fn put_keep(
+    alloc: Global,
+    job: &mut Job,
+    number: usize,
+    name: &str,
+    file: &str,
+) -> Result<(), JobFileError>
+    requires { IsWithin job.old }
+    ensures keep { Puts number (with_keep (parts_of job.old) number name.now file.now)
+        (parts_of job.new) result }
+    ensures within { OnOk result (IsWithin job.new) }
+{
+    let Some(name) = name_of(alloc, name.as_bytes())? else {
+        return Err(refusal_at(JobRefusal::BadLine, number));
+    };
+    if job.keeps.len() >= MOST_KEEPS {
+        return Err(refusal_at(JobRefusal::TooMany, number));
+    }
+    if is_taken(job, name.bytes()) {
+        return Err(refusal_at(JobRefusal::KeepTwice, number));
+    }
+    let file = String::from_str(alloc, file)?;
+    let line = number;
+    job.keeps.push(Keep { name, file, line })?;
     Ok(())
 }
 
@@ -173,7 +214,8 @@ fn put_sent(
 /// Adds what the text of a line asks for. An empty one is skipped.
 fn put_text(alloc: Global, job: &mut Job, number: usize, text: &[u8]) -> Result<(), JobFileError>
     requires { IsWithin job.old }
-    ensures text { Puts number (with_text (parts_of job.old) text.now) (parts_of job.new) result }
+    ensures text { Puts number (with_text (parts_of job.old) number text.now) (parts_of job.new)
+        result }
     ensures within { OnOk result (IsWithin job.new) }
 {
     if text.is_empty() {
@@ -182,6 +224,7 @@ fn put_text(alloc: Global, job: &mut Job, number: usize, text: &[u8]) -> Result<
     match line_of(text) {
         Some(Line::Session(name)) => put_script(alloc, job, number, name),
         Some(Line::Journal(name)) => put_journal(alloc, job, number, name),
+        Some(Line::Keep(name, file)) => put_keep(alloc, job, number, name, file),
         Some(Line::Before(mention)) => put_before(job, number, mention),
         Some(Line::Beside(mention)) => put_beside(job, number, mention),
         Some(Line::Send(sender, mention)) => put_sent(job, number, sender, mention),
@@ -245,8 +288,8 @@ fn read_lines(alloc: Global, bytes: &[u8]) -> Result<Job, JobFileError>
     Ok(job)
 }
 
-/// What a job's file asks for: its lines `session NAME`, at most one line `journal NAME`, and
-/// `before insert N`, `beside insert N`, `send1 insert N` and `send2 insert N`, or `delete N` in
+/// What a job's file asks for: its lines `session NAME`, at most one line `journal NAME`,
+/// lines `keep NAME FILE`, and `before insert N`, `beside insert N`, `send1 insert N` and `send2 insert N`, or `delete N` in
 /// place of `insert N`, N having one to nine digits. Empty lines are skipped.
 ///
 /// # Errors

@@ -5,7 +5,8 @@ use Rattle.base_set_rows.specs.declared.kind.ClassKind.TheVariants.{Intersect, E
 use Rattle.base_set_rows.specs.declared.kind.SetOperation.{SetOperation}
 use Rattle.base_set_rows.specs.declared.kind.SetOperation.TheVariants.{Union, Classes}
 use Rattle.plan_algebra.specs.declared.node.Node.{Node}
-use Rattle.plan_algebra.specs.declared.node.Node.TheVariants.{Scan, Domain, Select, Project, Join, Outer}
+use Rattle.plan_algebra.specs.declared.node.Node.TheVariants.{Scan, Kept, Domain, Select, Project, Join}
+use Rattle.plan_algebra.specs.declared.node.Node.TheVariants.{Outer}
 use Rattle.plan_algebra.specs.declared.node.Node.TheVariants.{Mark, Single, Group, Fill, Distinct, Set}
 use Rattle.plan_algebra.specs.Plans.{inputs_of}
 use Rattle.app_plan_text.specs.declared.line.PlanLine.{PlanLine}
@@ -57,6 +58,7 @@ operation_words (Classes Except true) = codes "except all"
 -- the word for a node's kind
 abbrev pub kind_word : Node → List ℕ
 kind_word (Scan table) = codes "scan"
+kind_word (Kept number plan) = codes "kept"
 kind_word (Domain i cs) = codes "domain"
 kind_word (Select i e) = codes "select"
 kind_word (Project i es) = codes "project"

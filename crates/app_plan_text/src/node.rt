@@ -4,10 +4,10 @@ ghost use Rattle.std.specs.Prelude.{◌≡◌};
 ghost use Rattle.app_plan_text.specs.Lines.{operation_words};
 
 use crate::expr::{push_aggregate, push_expr};
-use crate::names::{Names, computed, push_name, push_names};
+use crate::names::{Names, computed, push_name, push_names, push_number};
 use base_set_rows::{ClassKind, SetOperation};
 use expr_scalar::Expr;
-use plan_algebra::Aggregate;
+use plan_algebra::{Aggregate, KeptPlan};
 use std::alloc::{AllocError, Global};
 
 /// What a node does, and the names of its columns.
@@ -94,6 +94,26 @@ pub fn grouped(
         detail.extend_from_slice(b" = ")?;
         push_aggregate(&mut detail, names, aggregate)?;
         columns.push(column)?;
+    }
+    Ok(Done { detail, columns })
+}
+
+// The name of a column of the kept view of a number: `view0.1`.
+fn kept_name(alloc: Global, number: u32, place: usize) -> Result<Vec<u8>, AllocError> {
+    let mut name = Vec::from_slice(alloc, b"view")?;
+    push_number(&mut name, number as usize)?;
+    name.push(b'.')?;
+    push_number(&mut name, place)?;
+    Ok(name)
+}
+
+/// A kept view: its number, and the names of its columns.
+pub fn kept_view(alloc: Global, number: u32, plan: &KeptPlan) -> Result<Done, AllocError> {
+    let mut detail = Vec::from_slice(alloc, b"view")?;
+    push_number(&mut detail, number as usize)?;
+    let mut columns = Vec::new(alloc);
+    for place in 0..plan.list.len() {
+        columns.push(kept_name(alloc, number, place)?)?;
     }
     Ok(Done { detail, columns })
 }

@@ -6,7 +6,7 @@ ghost use Rattle.app_plan_text.specs.Lines.{AreLinesFrom, IsLineOf, kind_word};
 use crate::line::PlanLine;
 use crate::literal::push_literal;
 use crate::names::{Names, both, names_at, push_name, push_names, put_names, worded};
-use crate::node::{Done, condition, grouped, listed, operation_words, push_comma};
+use crate::node::{Done, condition, grouped, kept_view, listed, operation_words, push_comma};
 use crate::numbering::Numbering;
 use base_schema::TableName;
 use base_value::Value;
@@ -148,6 +148,7 @@ fn done(
 ) -> Result<Done, AllocError> {
     match node {
         Node::Scan(table) => scanned(alloc, numbering, *table),
+        Node::Kept(number, plan) => kept_view(alloc, *number, plan.get()),
         Node::Domain(i, cs) => {
             let columns = names_at(alloc, columns_of(lines, *i), cs.as_slice())?;
             let mut detail = Vec::new(alloc);
@@ -206,6 +207,7 @@ fn kind_word(node: &Node) -> &'static str
         Node::Fill(_, _, _) => "fill",
         Node::Distinct(_) => "distinct",
         Node::Set(_, _, operation) => operation_words(*operation),
+        Node::Kept(_, _) => "kept",
     }
 }
 
@@ -234,6 +236,7 @@ fn inputs_of(alloc: Global, node: &Node) -> Result<Vec<NodeId>, AllocError>
             inputs.push(*j)?;
             Ok(inputs)
         }
+        Node::Kept(_, _) => Ok(inputs),
     }
 }
 

@@ -238,7 +238,7 @@ fn put_source(
 ) -> Result<SourceText, AllocError> {
     match source {
         BoundSource::Table(table) => table_source(alloc, &mut page.numbering, *table),
-        BoundSource::Derived(q) => put_derived(alloc, page, &[], b"(", q),
+        BoundSource::Derived(_, q) => put_derived(alloc, page, &[], b"(", q),
         BoundSource::Lateral(q) => {
             let seen = with_row(alloc, sight, before)?;
             put_derived(alloc, page, seen.as_slice(), b"lateral (", q)

@@ -65,7 +65,7 @@ fn put_source_tables(tables: &mut Vec<TableName>, source: &BoundSource) -> Resul
             tables.push(*table)?;
             Ok(())
         }
-        BoundSource::Derived(q) | BoundSource::Lateral(q) => put_tables(tables, q.get()),
+        BoundSource::Derived(_, q) | BoundSource::Lateral(q) => put_tables(tables, q.get()),
         BoundSource::Cross(l, r) => {
             put_source_tables(tables, l.get())?;
             put_source_tables(tables, r.get())

@@ -8,6 +8,7 @@ mod check;
 mod commands;
 mod explain;
 mod job_input;
+mod job_keeps;
 mod job_sources;
 pub mod laws;
 mod output;

@@ -9,6 +9,7 @@ use Rattle.store_versions.specs.Trials.{Trials, version_of}
 use Rattle.sql_ast.specs.declared.statement.RefreshKind.{RefreshKind}
 use Rattle.sql_ast.specs.declared.statement.Statement.{Statement}
 use Rattle.sql_ast.specs.declared.statement.Statement.TheVariants.{Refresh}
+use Rattle.sql_binder_steps.specs.declared.view.View.{View}
 use Rattle.store_state.specs.Prefixes.{IsPrefix}
 use Rattle.store_state.specs.Refresh.{Change}
 use Rattle.store_state.specs.Versions.{accepted, version_state}
@@ -74,6 +75,7 @@ asked_more base list low high start old new d h b l (s, is, never, made) up =
       run = subst (IsRun low v) (sym vs) (run_more low high old.versions v h.run up);
       count = ap length vs ∙ length-append old.versions (v ∷ []) ∙ ap (λ n. n + 1) h.count ∙ sym many;
       steps = ap (λ (c : Course). c.steps) new_is ∙ h.steps;
+      first_views = ap (λ (c : Course). c.first_views) new_is ∙ h.first_views;
       shows = ap (λ (c : Course). c.shows_rows) new_is ∙ h.shows;
       within = omega (arith, within, same, many);
     }
@@ -86,6 +88,7 @@ asked_none opening fits low start f o is list fit = record {
   run = subst (IsRun low low) (sym f.versions) (le_refl low);
   count = ap length f.versions ∙ sym f.answered;
   steps = refl;
+  first_views = refl;
   shows = refl;
   within = let e = f.answered in omega (arith, e);
 }
@@ -98,7 +101,7 @@ version_most base list d b l =
     (le_trans (accepted-most d.base d.list d.done) (accepted-longer d.base d.list list l))
 
 fresh_text : (start : Course) (ms : List Moment) → IsFresh start
-    → (course_through start ms).text ≡ lines_of start.shows_rows 1 [] start.steps ms
+    → (course_through start ms).text ≡ lines_of start.shows_rows 1 start.first_views start.steps ms
 fresh_text start ms f =
     (sessions_text start ms).0
     ∙ ap (λ t. t ++ lines_of start.shows_rows (start.answered + 1) start.views (drop start.answered start.steps) ms) f.text
@@ -106,7 +109,7 @@ fresh_text start ms f =
     ∙ ap (λ vs. lines_of start.shows_rows 1 vs start.steps ms) f.views
 
 fresh_clean : (start : Course) (ms : List Moment) → IsFresh start
-    → (course_through start ms).is_clean ≡ are_clean [] start.steps ms
+    → (course_through start ms).is_clean ≡ are_clean start.first_views start.steps ms
 fresh_clean start ms f =
     (sessions_text start ms).1
     ∙ ap (λ b. b && are_clean start.views (drop start.answered start.steps) ms) f.is_clean
@@ -121,13 +124,16 @@ past_end course none = elim (slice_get_cases course.steps course.answered).1 [
 
 -- at its end
 over_at : (base : State) (list : List Change) (low high : ℕ) (start course : Course) → IsFresh start → IsAsked base list low high start course
-    → length course.steps ≤ course.answered → IsOver base list low high (record { steps = course.steps; shows_rows = course.shows_rows }) course
+    → length course.steps ≤ course.answered → IsOver base list low high (record { steps = course.steps; first_views = course.first_views; shows_rows = course.shows_rows }) course
 over_at base list low high start course f h past =
     let ms = moments_at base list course.versions in
     record {
       text = ap (λ (c : Course). c.text) h.made ∙ fresh_text start ms f
-          ∙ ap (λ b. lines_of b 1 [] start.steps ms) (sym h.shows) ∙ ap (λ s. lines_of course.shows_rows 1 [] s ms) (sym h.steps);
-      clean = ap (λ (c : Course). c.is_clean) h.made ∙ fresh_clean start ms f ∙ ap (λ s. are_clean [] s ms) (sym h.steps);
+          ∙ ap (λ b. lines_of b 1 start.first_views start.steps ms) (sym h.shows)
+          ∙ ap (λ s. lines_of course.shows_rows 1 start.first_views s ms) (sym h.steps)
+          ∙ ap (λ vs. lines_of course.shows_rows 1 vs course.steps ms) (sym h.first_views);
+      clean = ap (λ (c : Course). c.is_clean) h.made ∙ fresh_clean start ms f ∙ ap (λ s. are_clean start.first_views s ms) (sym h.steps)
+          ∙ ap (λ vs. are_clean vs course.steps ms) (sym h.first_views);
       run = h.run;
       all = let n = h.count in let w = h.within in let e = ap length h.steps in let p = past in omega (arith, n, w, e, p);
     }
@@ -164,12 +170,16 @@ over_wider opening opening' fits fits' low low' session h same fewer down = reco
 }
 
 -- it has the statements that it had
-abbrev of_parts : List Statement → Bool → JobSession
-of_parts steps shows = record { steps = steps; shows_rows = shows }
+abbrev of_parts : List Statement → List View → Bool → JobSession
+of_parts steps first shows = record { steps = steps; first_views = first; shows_rows = shows }
 
 pub same_session : (old new : Session) → (course_of new).steps ≡ (course_of old).steps
+    → (course_of new).first_views ≡ (course_of old).first_views
     → (course_of new).shows_rows ≡ (course_of old).shows_rows → job_session new ≡ job_session old
-same_session old new steps shows = ap (λ s. of_parts s new.shows_rows) steps ∙ ap (λ b. of_parts old.steps b) shows
+same_session old new steps first shows =
+    ap (λ s. of_parts s new.first_views new.shows_rows) steps
+    ∙ ap (λ vs. of_parts old.steps vs new.shows_rows) first
+    ∙ ap (λ b. of_parts old.steps old.first_views b) shows
 
 -- no refresh is asked for where none is among the statements
 pub not_asked : (steps : List Statement) (old new : Course) (version : ℕ) (tables : ℕ → State) (change : RefreshKind) (set : ℕ) → HaveNoRefresh steps → old.steps ≡ steps
@@ -187,10 +197,10 @@ not_ended old new version tables left took =
     let no : is_none (next_of old) ≡ true = ap is_none took.0 in cc
 
 -- a turn keeps the statements
-pub took_kept : (old new : Course) (version : ℕ) (tables : ℕ → State) → Takes old version tables new Answered → (new.steps ≡ old.steps) × (new.shows_rows ≡ old.shows_rows)
+pub took_kept : (old new : Course) (version : ℕ) (tables : ℕ → State) → Takes old version tables new Answered → (new.steps ≡ old.steps) × (new.first_views ≡ old.first_views) × (new.shows_rows ≡ old.shows_rows)
 took_kept old new version tables (s, is, never, made) =
     let new_is = made (Ok version) in
-    (ap (λ (c : Course). c.steps) new_is, ap (λ (c : Course). c.shows_rows) new_is)
+    (ap (λ (c : Course). c.steps) new_is, ap (λ (c : Course). c.first_views) new_is, ap (λ (c : Course). c.shows_rows) new_is)
 
 -- fewer statements are left after a turn
 pub took_less : (old new : Course) (version : ℕ) (tables : ℕ → State) → Takes old version tables new Answered → length new.steps - new.answered < length old.steps - old.answered

@@ -46,14 +46,14 @@ and_true false = refl
 
 clean_more : (base : State) (list : List Change) (low high : ℕ) (ss : List JobSession) (vss : List (List ℕ)) (s : JobSession) (vs : List ℕ) → ArePermitted low high ss vss
     → are_sessions_clean base list (ss ++ s ∷ []) (vss ++ vs ∷ [])
-    ≡ (are_sessions_clean base list ss vss && are_clean [] s.steps (moments_at base list vs))
-clean_more base list low high [] [] s vs p = and_true (are_clean [] s.steps (moments_at base list vs))
+    ≡ (are_sessions_clean base list ss vss && are_clean s.first_views s.steps (moments_at base list vs))
+clean_more base list low high [] [] s vs p = and_true (are_clean s.first_views s.steps (moments_at base list vs))
 clean_more base list low high [] (ws ∷ vss) s vs p = absurd p
 clean_more base list low high (r ∷ ss) [] s vs p = absurd p
 clean_more base list low high (r ∷ ss) (ws ∷ vss) s vs p =
-    let one = are_clean [] r.steps (moments_at base list ws) in
+    let one = are_clean r.first_views r.steps (moments_at base list ws) in
     ap (λ b. one && b) (clean_more base list low high ss vss s vs p.2)
-    ∙ sym (and_assoc one (are_sessions_clean base list ss vss) (are_clean [] s.steps (moments_at base list vs)))
+    ∙ sym (and_assoc one (are_sessions_clean base list ss vss) (are_clean s.first_views s.steps (moments_at base list vs)))
 
 -- one session more
 pub gathered_more : (o : State × List Change) (low high : ℕ) (all : List JobSession) (k n : ℕ) (old new : JobAnswer) (session : Session) → k < length all → n ≡ k + 1

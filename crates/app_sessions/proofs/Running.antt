@@ -15,7 +15,7 @@ use Rattle.base_row_laws.specs.Bags.{SameBag}
 use Rattle.base_row_laws.proofs.Tables.{sum_is}
 use Rattle.plan_algebra.specs.Plans.{plan_reads, plan_scans, reads_of, result_rows}
 use Rattle.plan_algebra.specs.declared.plan.FlatPlan.{FlatPlan}
-use Rattle.sql_bound_query.specs.Reads.{reads, tables}
+use Rattle.plan_kept_queries.specs.Scans.{reads, tables}
 use Rattle.sql_bound_query.specs.Typing.{StateIsOf}
 use Rattle.sql_bound_query.specs.declared.query.BoundQuery.{BoundQuery}
 use Rattle.base_schema.specs.State.{State, table_rows}

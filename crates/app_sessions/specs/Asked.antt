@@ -13,7 +13,11 @@ use Rattle.app_sessions.specs.declared.session.Session.{Session}
 
 -- a session as a job has it
 abbrev pub job_session : Session → JobSession
-job_session session = record { steps = session.steps; shows_rows = session.shows_rows }
+job_session session = record {
+  steps = session.steps;
+  first_views = session.first_views;
+  shows_rows = session.shows_rows;
+}
 
 -- all of them
 abbrev pub job_sessions : List Session → List JobSession
@@ -27,7 +31,7 @@ HaveNoRefresh steps = All (λ s. IsRefresh (Some s) → ⊥) steps
 pub record IsFresh (course : Course) : Type 0 where
   pub answered : course.answered ≡ 0
   pub versions : course.versions ≡ []
-  pub views : course.views ≡ []
+  pub views : course.views ≡ course.first_views
   pub text : course.text ≡ []
   pub is_clean : course.is_clean ≡ true
 
@@ -49,6 +53,7 @@ pub record IsAsked (base : State) (list : List Change) (low high : ℕ) (start c
   pub run : IsRun low high course.versions
   pub count : length course.versions ≡ course.answered
   pub steps : course.steps ≡ start.steps
+  pub first_views : course.first_views ≡ start.first_views
   pub shows : course.shows_rows ≡ start.shows_rows
   pub within : course.answered ≤ length start.steps
 
@@ -63,7 +68,9 @@ IsAskedOf opening fits low high start course =
 pub record IsOver (base : State) (list : List Change) (low high : ℕ) (session : JobSession)
     (course : Course) : Type 0 where
   pub text : course.text ≡ session_lines base list session course.versions
-  pub clean : course.is_clean ≡ are_clean [] session.steps (moments_at base list course.versions)
+  pub clean :
+      course.is_clean
+      ≡ are_clean session.first_views session.steps (moments_at base list course.versions)
   pub run : IsRun low high course.versions
   pub all : length course.versions ≡ length session.steps
 

@@ -4,6 +4,7 @@ use Rattle.std.specs.Prelude.{◌≡◌, ℕ, ◌+◌, ◌≤◌, ⊤, Bool, tru
 use Rattle.std.specs.Prelude.{decimal}
 use Rattle.std.specs.Prelude.{Ok, drop, length, map}
 use Rattle.sql_ast.specs.declared.statement.Statement.{Statement}
+use Rattle.sql_binder_steps.specs.declared.view.View.{View}
 use Rattle.store_snapshots.specs.Turns.{from_nobody}
 use Rattle.store_state.specs.Refresh.{Change}
 use Rattle.store_state.specs.Versions.{accepted, version_state}
@@ -14,10 +15,11 @@ use Rattle.app_sessions.specs.Outcomes.{Moment}
 use Rattle.app_sessions.specs.Reports.{are_accepted, report_text}
 use Rattle.app_sessions.specs.Sessions.{are_clean, lines_of}
 
--- A session of a job: the statements that its script stands for, none of which is a refresh, and
--- whether the rows of its answers are printed.
+-- A session of a job: the statements that its script stands for, none of which is a refresh, the
+-- views with which it begins, and whether the rows of its answers are printed.
 pub record JobSession : Type 0 where
   pub steps : List Statement
+  pub first_views : List View
   pub shows_rows : Bool
 
 -- the moment of a statement that begins over a version of a list; the statement tries no refresh
@@ -32,7 +34,7 @@ moments_at base list versions = map (moment_at base list) versions
 -- the text of a session whose statements began over these versions
 abbrev pub session_lines : State → List Change → JobSession → List ℕ → List ℕ
 session_lines base list session versions =
-    lines_of session.shows_rows 1 [] session.steps (moments_at base list versions)
+    lines_of session.shows_rows 1 session.first_views session.steps (moments_at base list versions)
 
 -- the line before a session's text
 abbrev pub session_head : ℕ → List ℕ
@@ -52,7 +54,7 @@ abbrev pub are_sessions_clean : State → List Change → List JobSession → Li
 are_sessions_clean base list [] lists = true
 are_sessions_clean base list (session ∷ sessions) [] = true
 are_sessions_clean base list (session ∷ sessions) (versions ∷ lists) =
-    are_clean [] session.steps (moments_at base list versions)
+    are_clean session.first_views session.steps (moments_at base list versions)
     && are_sessions_clean base list sessions lists
 
 -- versions that never fall, from one on and up to another

@@ -7,7 +7,7 @@ use Rattle.base_row_laws.specs.Bags.{SameBag}
 use Rattle.plan_algebra.specs.Plans.{plan_reads, result_rows}
 use Rattle.plan_algebra.specs.declared.plan.FlatPlan.{FlatPlan}
 use Rattle.sql_bound_query.specs.Meaning.{rows}
-use Rattle.sql_bound_query.specs.Reads.{reads}
+use Rattle.plan_kept_queries.specs.Scans.{reads}
 use Rattle.sql_bound_query.specs.Typing.{StateIsOf}
 use Rattle.sql_bound_query.specs.declared.query.BoundQuery.{BoundQuery}
 use Rattle.sql_ast.specs.declared.statement.Statement.{Statement}

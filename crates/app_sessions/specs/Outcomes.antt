@@ -2,7 +2,7 @@
 use Rattle.std.specs.Prelude.{ℕ, List, [], ◌++◌, length, Bool, true, false, Result, Ok, Err}
 use Rattle.std.specs.Prelude.{if◌then◌else◌, Option, None, Some}
 use Rattle.sql_bound_query.specs.Answer.{answer}
-use Rattle.sql_bound_query.specs.Reads.{reads}
+use Rattle.plan_kept_queries.specs.Scans.{reads}
 use Rattle.sql_bound_query.specs.declared.query.BoundQuery.{BoundQuery}
 use Rattle.sql_templates.specs.Templates.{filled_query}
 use Rattle.base_refusals.specs.declared.refresh.Cause.{Cause}

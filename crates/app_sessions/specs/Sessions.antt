@@ -35,12 +35,13 @@ are_clean views (statement ∷ statements) (moment ∷ moments) =
     && are_clean (views_after views statement) statements moments
 
 -- The course of a session: the statements that its script stands for, how many of them have their
--- lines, the versions over which these began, its views, its text, whether no line is a refusal,
--- whether rows are printed, and whether memory ran out.
+-- lines, the versions over which these began, the views that it began with, its views, its text,
+-- whether no line is a refusal, whether rows are printed, and whether memory ran out.
 pub record Course : Type 0 where
   pub steps : List Statement
   pub answered : ℕ
   pub versions : List ℕ
+  pub first_views : List View
   pub views : List View
   pub text : List ℕ
   pub is_clean : Bool
@@ -53,6 +54,7 @@ course_of session = record {
   steps = session.steps;
   answered = session.answered;
   versions = session.versions.items;
+  first_views = session.first_views;
   views = session.views;
   text = session.text.items;
   is_clean = session.is_clean;
@@ -60,12 +62,14 @@ course_of session = record {
   is_lost = session.is_lost;
 }
 
--- a session that begins with the statements that a script's stand for
-pub record Begins (statements : List Statement) (with_rows : Bool) (course : Course) : Type 0 where
+-- a session that begins with the statements that a script's stand for, and with these views
+pub record Begins (statements : List Statement) (with_rows : Bool) (given : List View)
+    (course : Course) : Type 0 where
   pub expanded : ExpandAll statements course.steps
   pub answered : course.answered ≡ 0
   pub versions : course.versions ≡ []
-  pub views : course.views ≡ []
+  pub first_views : course.first_views ≡ given
+  pub views : course.views ≡ given
   pub text : course.text ≡ []
   pub is_clean : course.is_clean ≡ true
   pub shows_rows : course.shows_rows ≡ with_rows

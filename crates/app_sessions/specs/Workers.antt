@@ -138,7 +138,7 @@ pub record IsPlaced {W : Type 0} (sessions : W → List Session) (workers : List
 
 -- no session
 abbrev pub no_session : JobSession
-no_session = record { steps = []; shows_rows = false }
+no_session = record { steps = []; first_views = []; shows_rows = false }
 
 -- it is the session of this number, from 0
 abbrev pub IsNumber : List JobSession → ℕ → Session → Type 0

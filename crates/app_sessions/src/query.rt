@@ -1,7 +1,7 @@
 //! The answer of a query.
 ghost use Rattle.std.specs.Prelude.{◌≡◌, ◌+◌, ◌<◌, [], IfOk, IsTrue, OnOk};
 ghost use Rattle.sql_bound_query.specs.Answer.{answer};
-ghost use Rattle.sql_bound_query.specs.Reads.{reads};
+ghost use Rattle.plan_kept_queries.specs.Scans.{reads};
 ghost use Rattle.sql_bound_query.specs.Typing.{StateIsOf};
 ghost use Rattle.base_order_limit.specs.Answers.{finished};
 ghost use Rattle.sql_bound_query.specs.declared.query.BoundQuery.{BoundQuery};

@@ -42,6 +42,7 @@ pub struct Session {
     steps: Items<Statement>,
     answered: usize,
     versions: Vec<u64>,
+    first_views: SessionViews,
     views: SessionViews,
     text: Vec<u8>,
     is_clean: bool,
@@ -93,22 +94,25 @@ impl Session {
     ghost use Rattle.app_sessions.specs.Sessions.{Begins, Goes, HandsIn, Takes, course_of};
     ghost use Rattle.app_sessions.specs.Sessions.{next_of, with_lines};
 
-    /// A session of these statements, with a run's in its place. Where `shows_rows` is false, its
-    /// text leaves out the rows of answers.
+    /// A session of these statements, with a run's in its place, that begins with these views. Where
+    /// `shows_rows` is false, its text leaves out the rows of answers.
     pub fn new(
         alloc: Global,
         statements: Items<Statement>,
         shows_rows: bool,
+        views: SessionViews,
     ) -> Result<Session, AllocError>
-        ensures { IfOk result (λ s. Begins statements shows_rows (course_of s)) }
+        ensures { IfOk result (λ s. Begins statements shows_rows views (course_of s)) }
     {
+        let first_views = views.copy(alloc)?;
         let steps = expand(alloc, statements)?;
         Ok(Session {
             alloc,
             steps,
             answered: 0,
             versions: Vec::new(alloc),
-            views: SessionViews::new(alloc),
+            first_views,
+            views,
             text: Vec::new(alloc),
             is_clean: true,
             shows_rows,

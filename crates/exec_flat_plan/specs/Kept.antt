@@ -8,8 +8,9 @@ use Rattle.base_row_laws.specs.Ranked.{Ranked, Relation}
 use Rattle.base_row_laws.specs.Bags.{SameBag, has}
 use Rattle.base_value.specs.declared.value.Value.{Value}
 use Rattle.plan_algebra.specs.declared.node.Node.{Node}
-use Rattle.plan_algebra.specs.declared.node.Node.TheVariants.{Scan, Join, Outer, Mark, Single, Fill}
-use Rattle.plan_algebra.specs.declared.node.Node.TheVariants.{Set}
+use Rattle.plan_algebra.specs.declared.node.Node.TheVariants.{Scan, Kept, Join, Outer, Mark, Single}
+use Rattle.plan_algebra.specs.declared.node.Node.TheVariants.{Fill, Set}
+use Rattle.plan_algebra.specs.KeptPlans.{query_rows}
 use Rattle.plan_algebra.specs.Trees.{Database}
 use Rattle.plan_algebra.specs.Plans.{plan_rows, plan_width, inputs_of, matches_first}
 
@@ -55,9 +56,10 @@ suits_widths widths (Fill i j empty) = slice_index widths i == slice_index width
 suits_widths widths (Set i j operation) = slice_index widths i == slice_index widths j
 suits_widths widths other = true
 
--- how many rows are read for a node: those of its table, if it scans one
+-- how many rows are read for a node: those of its table or its kept view, if it scans one
 abbrev pub node_reads : Database → Node → ℕ
 node_reads db (Scan table) = length (db table)
+node_reads db (Kept number plan) = length (query_rows plan (db plan.table))
 node_reads db other = 0
 
 -- the bag of the last node

@@ -55,6 +55,7 @@ fn reads_node(node: &Node, id: NodeId) -> bool
         | Node::Single(left, right, _, _)
         | Node::Fill(left, right, _)
         | Node::Set(left, right, _) => id == *left || id == *right,
+        Node::Kept(_, _) => false,
     }
 }
 
@@ -125,5 +126,6 @@ pub(crate) fn release_read(
             release(bags, *left, nodes, k);
             release(bags, *right, nodes, k);
         }
+        Node::Kept(_, _) => {}
     }
 }

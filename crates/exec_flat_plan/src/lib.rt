@@ -2,6 +2,7 @@
 #![tactic(auto)]
 
 mod kept;
+mod kept_view;
 mod lent;
 mod node;
 mod node_bags;

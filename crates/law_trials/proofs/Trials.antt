@@ -42,6 +42,7 @@ first_delete = record { change = refresh.Delete; set = 1 }
 -- the job of the trial
 abbrev parts : JobParts
 parts = record {
+  keeps = [];
   scripts = codes "queries" ∷ codes "queries" ∷ [];
   refreshes = first_insert ∷ first_delete ∷ [];
   before = 2;

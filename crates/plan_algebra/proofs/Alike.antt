@@ -18,8 +18,9 @@ use Rattle.expr_scalar.specs.Meaning.{values}
 use Rattle.expr_aggregates.specs.Values.{written, value_rank}
 use Rattle.expr_conditions.specs.Ranks.{rank_of}
 use Rattle.plan_algebra.specs.declared.aggregate.Aggregate.{Aggregate}
-use Rattle.plan_algebra.specs.declared.node.Node.TheVariants.{Scan, Domain, Select, Project, Join, Outer, Mark, Single, Group, Fill, Distinct, Set}
+use Rattle.plan_algebra.specs.declared.node.Node.TheVariants.{Scan, Kept, Domain, Select, Project, Join, Outer, Mark, Single, Group, Fill, Distinct, Set}
 use Rattle.plan_algebra.specs.Aggregates.{aggregates_of}
+use Rattle.plan_algebra.specs.KeptPlans.{query_rows}
 use Rattle.plan_algebra.specs.NodeLaws.{NodesAlike}
 use Rattle.plan_algebra.specs.Plans.{groups, rows_at}
 use Rattle.plan_algebra.proofs.NoRows.{aggregates_bag}
@@ -30,6 +31,7 @@ groups_alike (c ∷ cs) aggregates xs us e = group_alike same_value value_identi
 
 pub nodes_alike : NodesAlike
 nodes_alike db some others (Scan table) all = SameBag-refl (scanned (db table))
+nodes_alike db some others (Kept number plan) all = SameBag-refl (query_rows plan (db plan.table))
 nodes_alike db some others (Domain i cs) all = domain_alike same_value value_identity (columns Null cs) (rows_at some i) (rows_at others i) all.0
 nodes_alike db some others (Select i e) all = select_alike (rank_of e) (rows_at some i) (rows_at others i) all.0
 nodes_alike db some others (Project i es) all = project_alike (values es) (rows_at some i) (rows_at others i) all.0

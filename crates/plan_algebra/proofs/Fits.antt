@@ -14,6 +14,7 @@ use Rattle.base_value.proofs.Identity.{row_identity}
 use Rattle.expr_scalar.specs.declared.expr.Expr.{Expr}
 use Rattle.base_schema.specs.declared.table.TableName.{TableName}
 use Rattle.plan_algebra.specs.declared.aggregate.Aggregate.{Aggregate}
+use Rattle.plan_algebra.specs.declared.kept_plan.KeptPlan.{KeptPlan}
 use Rattle.plan_algebra.specs.declared.node.Node.TheVariants as node
 use Rattle.plan_algebra.specs.Aggregates.{aggregates_of}
 use Rattle.plan_algebra.specs.Plans.{fits, matches_first, groups_by_domain, plan_width, all_fit, is_formed}
@@ -70,6 +71,10 @@ first_matched width n matched e h =
 pub scan_fits : (before : List Node) (table : TableName) → IsTrue (fits before (node.Scan table))
 unfolding fits
 scan_fits before table = refl
+
+pub kept_fits : (before : List Node) (number : ℕ) (plan : KeptPlan) → IsTrue (fits before (node.Kept number plan))
+unfolding fits
+kept_fits before number plan = refl
 
 pub domain_fits : (before : List Node) (i : ℕ) (cs : List ℕ) → i < length before → IsTrue (fits before (node.Domain i cs))
 unfolding fits

@@ -1,5 +1,6 @@
 pub mod Alike
 pub mod Fits
+pub mod KeptPlans
 pub mod LiveRows
 pub mod Made
 pub mod NoRows

@@ -15,12 +15,14 @@ use Rattle.expr_scalar.specs.declared.expr.Expr.{Expr}
 use Rattle.base_schema.specs.declared.table.TableName.{TableName}
 use Rattle.base_schema.specs.Tables.{kinds_of}
 use Rattle.plan_algebra.specs.declared.aggregate.Aggregate.{Aggregate}
+use Rattle.plan_algebra.specs.declared.kept_plan.KeptPlan.{KeptPlan}
+use Rattle.plan_algebra.specs.KeptPlans.{query_rows}
 use Rattle.plan_algebra.specs.declared.tree.DepTree.{DepTree, DepTree-F, out-DepTree}
 use Rattle.plan_algebra.specs.declared.tree.DepTree.TheVariants as t
 use Rattle.plan_algebra.specs.declared.tree.DepTree.TheOpen as f
 use Rattle.plan_algebra.specs.declared.tree.DepTree.TheFolds.{fold_out-DepTree, map-DepTree}
 use Rattle.plan_algebra.specs.declared.tree.Side.{Side}
-use Rattle.plan_algebra.specs.Trees.{Database, TreeMeaning, together, combined, tree_step, tree_meaning, width_of, tree_rows, scans_of, right_row, listed, mark_under, scalar_at, groups_under}
+use Rattle.plan_algebra.specs.Trees.{Database, Occurrence, kept_count, TreeMeaning, together, combined, tree_step, tree_meaning, width_of, tree_rows, scans_of, right_row, listed, mark_under, scalar_at, groups_under}
 
 abbrev meaning_at : DepTree-F DepTree → TreeMeaning
 meaning_at x = tree_step (map-DepTree DepTree TreeMeaning tree_meaning x)
@@ -31,6 +33,9 @@ meaning_is = fold_out-DepTree TreeMeaning tree_step
 
 pub meaning_Scan : (table : TableName) → tree_meaning (t.Scan table) ≡ tree_step (f.Scan table)
 meaning_Scan table = meaning_is (t.Scan table) ∙ ap meaning_at (t.outs-Scan table)
+
+pub meaning_Kept : (number : ℕ) (plan : KeptPlan) → tree_meaning (t.Kept number plan) ≡ tree_step (f.Kept number plan)
+meaning_Kept number plan = meaning_is (t.Kept number plan) ∙ ap meaning_at (t.outs-Kept number plan)
 
 pub meaning_Select : (a : DepTree) (c : Expr) → tree_meaning (t.Select a c) ≡ tree_step (f.Select (tree_meaning a) c)
 meaning_Select a c = meaning_is (t.Select a c) ∙ ap meaning_at (t.outs-Select a c)
@@ -65,6 +70,10 @@ wide m = m.width
 pub width_Scan : (table : TableName) → width_of (t.Scan table) ≡ length (kinds_of table)
 unfolding width_of
 width_Scan table = ap wide (meaning_Scan table)
+
+pub width_Kept : (number : ℕ) (plan : KeptPlan) → width_of (t.Kept number plan) ≡ length plan.list
+unfolding width_of
+width_Kept number plan = ap wide (meaning_Kept number plan)
 
 pub width_Select : (a : DepTree) (c : Expr) → width_of (t.Select a c) ≡ width_of a
 unfolding width_of
@@ -108,16 +117,24 @@ width_Set l r operation = ap wide (meaning_Set l r operation) ∙ left_width ope
 abbrev rows_in : Database → List Value → TreeMeaning → List (Ranked Value)
 rows_in db d m = m.rows db d
 
-abbrev tables_in : TreeMeaning → List TableName
+abbrev tables_in : TreeMeaning → List Occurrence
 tables_in m = m.scans
 
 pub rows_Scan : (table : TableName) (db : Database) (d : List Value) → tree_rows (t.Scan table) db d ≡ scanned (db table)
 unfolding tree_rows width_of
 rows_Scan table db d = ap (rows_in db d) (meaning_Scan table)
 
-pub scans_Scan : (table : TableName) → scans_of (t.Scan table) ≡ table ∷ []
+pub scans_Scan : (table : TableName) → scans_of (t.Scan table) ≡ inl table ∷ []
 unfolding scans_of
 scans_Scan table = ap tables_in (meaning_Scan table)
+
+pub rows_Kept : (number : ℕ) (plan : KeptPlan) (db : Database) (d : List Value) → tree_rows (t.Kept number plan) db d ≡ query_rows plan (db plan.table)
+unfolding tree_rows width_of
+rows_Kept number plan db d = ap (rows_in db d) (meaning_Kept number plan)
+
+pub scans_Kept : (number : ℕ) (plan : KeptPlan) → scans_of (t.Kept number plan) ≡ inr (kept_count plan) ∷ []
+unfolding scans_of
+scans_Kept number plan = ap tables_in (meaning_Kept number plan)
 
 pub rows_Select : (a : DepTree) (c : Expr) (db : Database) (d : List Value) → tree_rows (t.Select a c) db d ≡ select (says c d) (tree_rows a db d)
 unfolding tree_rows width_of
@@ -216,9 +233,9 @@ pub scans_uneven : (l r : DepTree) (operation : SetOperation) → (width_of l ==
 unfolding scans_of
 scans_uneven l r operation e = ap tables_in (uneven_Set l r operation e)
 
-pub ruleset rows_opened = (rows_Scan, rows_Select, rows_Project, rows_Join, rows_Outer, rows_Mark, rows_Single, rows_Group, rows_Distinct)
+pub ruleset rows_opened = (rows_Scan, rows_Kept, rows_Select, rows_Project, rows_Join, rows_Outer, rows_Mark, rows_Single, rows_Group, rows_Distinct)
 
-pub ruleset scans_opened = (scans_Scan, scans_Select, scans_Project, scans_Join, scans_Outer, scans_Mark, scans_Single, scans_Group, scans_Distinct)
+pub ruleset scans_opened = (scans_Scan, scans_Kept, scans_Select, scans_Project, scans_Join, scans_Outer, scans_Mark, scans_Single, scans_Group, scans_Distinct)
 
 -- for the function that goes over the nodes
-pub ruleset widths_opened = (width_Scan, width_Select, width_Project, width_Join, width_Outer, width_Mark, width_Single, width_Group, width_Distinct, width_Set)
+pub ruleset widths_opened = (width_Scan, width_Kept, width_Select, width_Project, width_Join, width_Outer, width_Mark, width_Single, width_Group, width_Distinct, width_Set)

@@ -29,8 +29,11 @@ use Rattle.base_schema.proofs.Columns.{row_long}
 use Rattle.expr_aggregates.specs.Values.{written, value_rank}
 use Rattle.expr_conditions.specs.Ranks.{rank_of}
 use Rattle.plan_algebra.specs.declared.aggregate.Aggregate.{Aggregate}
+use Rattle.plan_algebra.specs.declared.kept_plan.KeptPlan.{KeptPlan}
+use Rattle.plan_algebra.specs.KeptPlans.{item_of, kept_groups, query_rows, selected}
+use Rattle.base_row_laws.specs.Aggregates.{aggregated}
 use Rattle.plan_algebra.specs.declared.node.Node.{Node}
-use Rattle.plan_algebra.specs.declared.node.Node.TheVariants.{Scan, Domain, Select, Project, Join, Outer, Mark, Single, Group, Fill, Distinct, Set}
+use Rattle.plan_algebra.specs.declared.node.Node.TheVariants.{Scan, Kept, Domain, Select, Project, Join, Outer, Mark, Single, Group, Fill, Distinct, Set}
 use Rattle.plan_algebra.specs.Aggregates.{aggregates_of}
 use Rattle.plan_algebra.specs.Trees.{Database, HasKinds}
 use Rattle.plan_algebra.specs.NodeLaws.{RowsAreWide}
@@ -170,6 +173,13 @@ scan_wide table rows h =
     Each-map (Has (length (kinds_of table))) (λ r. ranked r true_rank) rows
     (Each-weaker (RowIsOf table) (λ r. length r ≡ length (kinds_of table)) rows (λ r k. row_long table r k) (each_of_all (RowIsOf table) rows h))
 
+-- rows of a kept plan
+pub query_wide : (plan : KeptPlan) (rows : List (List Value)) → Each (Has (length plan.list)) (query_rows plan rows)
+unfolding query_rows
+query_wide plan rows =
+    project_wide (length plan.list) (columns Null plan.list)
+    (kept_groups plan.by (aggregated (map item_of plan.aggregates)) (selected plan rows)) (columns_long plan.list)
+
 -- the group that a fill reads
 pub record IsGroup (n : ℕ) (empty : List Value) (node : Option Node) : Type 0 where
   pub rows : ℕ
@@ -235,6 +245,7 @@ node_wide : (db : Database) (before : List Node) (node : Node) → HasKinds db �
     → Each (Has (node_width (made_from node_width [] before) node)) (node_rows db (made_from (node_rows db) [] before) node)
 unfolding plan_rows plan_width
 node_wide db before (Scan table) kinds s wide = scan_wide table (db table) (kinds table)
+node_wide db before (Kept number plan) kinds s wide = query_wide plan (db plan.table)
 node_wide db before (Domain i cs) kinds s wide = domain_wide cs (plan_rows db before i)
 node_wide db before (Select i e) kinds s wide = select_wide (plan_width before i) (rank_of e) (plan_rows db before i) (wide i)
 node_wide db before (Project i es) kinds s wide = project_wide (length es) (values es) (plan_rows db before i) (values_long es)

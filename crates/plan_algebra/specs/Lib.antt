@@ -1,4 +1,5 @@
 pub mod Aggregates
+pub mod KeptPlans
 pub mod NodeLaws
 pub mod Pieces
 pub mod Plans

@@ -4,6 +4,7 @@ use Rattle.std.specs.Prelude.{ℕ, ◌+◌, ◌-◌, ◌==◌, ◌&&◌, nat_lt,
 use Rattle.std.specs.Prelude.{List, [], ◌∷◌, ◌++◌, length, replicate, Option, Some}
 use Rattle.std.specs.Prelude.{slice_get, slice_index, slice_index_or}
 use Rattle.std.specs.List.{flat_map, list_all, range_with_len, sum_by}
+use Rattle.std.proofs.Common.{inl, inr}
 use Rattle.std.specs.Cmp.Lexicographic.{pointwise}
 use Rattle.base_row_laws.specs.Ranked.{Ranked}
 use Rattle.base_row_laws.specs.Rows.{columns, scanned}
@@ -20,14 +21,16 @@ use Rattle.base_schema.specs.declared.table.TableName.{TableName}
 use Rattle.base_schema.specs.Tables.{kinds_of}
 use Rattle.plan_algebra.specs.declared.aggregate.Aggregate.{Aggregate}
 use Rattle.plan_algebra.specs.declared.node.Node.{Node}
-use Rattle.plan_algebra.specs.declared.node.Node.TheVariants.{Scan, Domain, Select, Project, Join}
-use Rattle.plan_algebra.specs.declared.node.Node.TheVariants.{Outer}
+use Rattle.plan_algebra.specs.declared.node.Node.TheVariants.{Scan, Kept, Domain, Select, Project}
+use Rattle.plan_algebra.specs.declared.node.Node.TheVariants.{Join, Outer}
 use Rattle.plan_algebra.specs.declared.node.Node.TheVariants.{Mark, Single, Group, Fill, Distinct}
 use Rattle.plan_algebra.specs.declared.node.Node.TheVariants.{Set}
 use Rattle.expr_aggregates.specs.Values.{written, value_rank}
 use Rattle.expr_conditions.specs.Ranks.{rank_of}
 use Rattle.plan_algebra.specs.Aggregates.{aggregates_of}
-use Rattle.plan_algebra.specs.Trees.{Database}
+use Rattle.plan_algebra.specs.KeptPlans.{query_rows}
+use Rattle.plan_algebra.specs.States.{state_of}
+use Rattle.plan_algebra.specs.Trees.{Database, Occurrence, kept_count}
 
 -- GROUP BY these columns, with aggregates; without columns one group of all rows, also where there
 -- are none
@@ -43,6 +46,7 @@ rows_at before i = slice_index_or before i []
 -- a node's rows, from those of the nodes before it
 abbrev pub node_rows : Database → List (List (Ranked Value)) → Node → List (Ranked Value)
 node_rows db before (Scan table) = scanned (db table)
+node_rows db before (Kept number plan) = query_rows plan (db plan.table)
 node_rows db before (Domain i cs) = domain_node same_value (columns Null cs) (rows_at before i)
 node_rows db before (Select i e) = select (rank_of e) (rows_at before i)
 node_rows db before (Project i es) = project (values es) (rows_at before i)
@@ -78,6 +82,7 @@ result_rows db nodes = plan_rows db nodes (length nodes - 1)
 -- a node's number of columns, from those of the nodes before it
 abbrev pub node_width : List ℕ → Node → ℕ
 node_width before (Scan table) = length (kinds_of table)
+node_width before (Kept number plan) = length plan.list
 node_width before (Domain i cs) = length cs
 node_width before (Select i e) = slice_index before i
 node_width before (Project i es) = length es
@@ -99,13 +104,14 @@ plan_width nodes i = slice_index (made_from node_width [] nodes) i
 abbrev pub result_width : List Node → ℕ
 result_width nodes = plan_width nodes (length nodes - 1)
 
--- the table that a node scans
-abbrev pub scan_of : Node → List TableName
-scan_of (Scan table) = table ∷ []
+-- the table or kept view that a node scans
+abbrev pub scan_of : Node → List Occurrence
+scan_of (Scan table) = inl table ∷ []
+scan_of (Kept number plan) = inr (kept_count plan) ∷ []
 scan_of other = []
 
--- the tables that nodes scan, once for each scan
-abbrev pub plan_scans : List Node → List TableName
+-- the tables and kept views that nodes scan, once for each scan
+abbrev pub plan_scans : List Node → List Occurrence
 plan_scans nodes = flat_map scan_of nodes
 
 -- 1 for a domain
@@ -117,17 +123,24 @@ is_domain other = 0
 abbrev pub plan_domains : List Node → ℕ
 plan_domains nodes = sum_by is_domain nodes
 
--- how many rows are read to scan these tables, each as often as it stands there
-unfoldable pub reads_of : Database → List TableName → ℕ
-reads_of db tables = sum_by (λ table. length (db table)) tables
+-- how many rows a table or a kept view has
+abbrev pub rows_read : Database → Occurrence → ℕ
+rows_read db (inl table) = length (db table)
+rows_read db (inr count) = count (state_of db)
 
--- how many rows a plan reads: those of each table that it scans, once for each scan
+-- how many rows are read to scan these tables and kept views, each as often as it stands there
+unfoldable pub reads_of : Database → List Occurrence → ℕ
+reads_of db scans = sum_by (rows_read db) scans
+
+-- how many rows a plan reads: those of each table and each kept view that it scans, once for each
+-- scan
 abbrev pub plan_reads : Database → List Node → ℕ
 plan_reads db nodes = reads_of db (plan_scans nodes)
 
 -- the numbers of the nodes that a node reads, in its order
 abbrev pub inputs_of : Node → List ℕ
 inputs_of (Scan table) = []
+inputs_of (Kept number plan) = []
 inputs_of (Domain i cs) = i ∷ []
 inputs_of (Select i e) = i ∷ []
 inputs_of (Project i es) = i ∷ []

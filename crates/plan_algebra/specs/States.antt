@@ -21,6 +21,12 @@ of_tables region nation part supplier partsupp customer orders lineitem = record
   lineitem = lineitem;
 }
 
+-- the state of the rows of each table
+abbrev pub state_of : (TableName → List (List Value)) → State
+state_of rows =
+    of_tables (rows Region) (rows Nation) (rows Part) (rows Supplier) (rows Partsupp)
+    (rows Customer) (rows Orders) (rows Lineitem)
+
 -- no table has a row
 abbrev pub empty_state : State
 empty_state = of_tables [] [] [] [] [] [] [] []

@@ -1,6 +1,7 @@
 -- What a dependent tree means: its rows by nested loops. What it scans, how many columns its rows
 -- have, and how many right sides have a domain of their own are read off it too.
-use Rattle.std.specs.Prelude.{ℕ, ◌+◌, ◌==◌, if◌then◌else◌, List, [], ◌∷◌, ◌++◌, map}
+use Rattle.std.specs.Prelude.{ℕ, ◌+◌, ◌==◌, if◌then◌else◌, List, [], ◌∷◌, ◌++◌, map, ◌⊎◌}
+use Rattle.std.proofs.Common.{inl, inr}
 use Rattle.std.specs.Prelude.{length, replicate}
 use Rattle.base_row_laws.specs.Ranked.{Ranked}
 use Rattle.base_row_laws.specs.Rows.{after, columns, scanned}
@@ -20,11 +21,13 @@ use Rattle.expr_scalar.specs.declared.expr.Expr.{Expr}
 use Rattle.expr_scalar.specs.Meaning.{values}
 use Rattle.base_schema.specs.declared.table.TableName.{TableName}
 use Rattle.base_schema.specs.Kinds.{RowsAreOf}
+use Rattle.base_schema.specs.State.{State, table_rows}
 use Rattle.base_schema.specs.Tables.{kinds_of}
 use Rattle.plan_algebra.specs.declared.aggregate.Aggregate.{Aggregate}
+use Rattle.plan_algebra.specs.declared.kept_plan.KeptPlan.{KeptPlan}
 use Rattle.plan_algebra.specs.declared.tree.DepTree.{DepTree, DepTree-F}
 use Rattle.plan_algebra.specs.declared.tree.DepTree.TheFolds.{fold-DepTree}
-use Rattle.plan_algebra.specs.declared.tree.DepTree.TheOpen.{Scan, Select, Project, Join, Outer}
+use Rattle.plan_algebra.specs.declared.tree.DepTree.TheOpen.{Scan, Kept, Select, Project, Join, Outer}
 use Rattle.plan_algebra.specs.declared.tree.DepTree.TheOpen.{Mark}
 use Rattle.plan_algebra.specs.declared.tree.DepTree.TheOpen.{Single, Group, Distinct, Set}
 use Rattle.plan_algebra.specs.declared.tree.Side.{Side}
@@ -32,10 +35,19 @@ use Rattle.plan_algebra.specs.declared.tree.Side.TheVariants.{Closed, Shared, De
 use Rattle.expr_aggregates.specs.Values.{written, value_rank}
 use Rattle.expr_conditions.specs.Ranks.{rank_of, says}
 use Rattle.plan_algebra.specs.Aggregates.{aggregates_of}
+use Rattle.plan_algebra.specs.KeptPlans.{query_rows}
 
 -- the rows of each table
 abbrev pub Database : Type 0
 Database = TableName → List (List Value)
+
+-- what is scanned: a table, or a kept view, by how many rows it has in a state
+abbrev pub Occurrence : Type 0
+Occurrence = TableName ⊎ (State → ℕ)
+
+-- how many rows the kept view of a plan has in a state
+abbrev pub kept_count : KeptPlan → State → ℕ
+kept_count plan state = length (query_rows plan (table_rows state plan.table))
 
 -- each table's rows are of its kinds
 abbrev pub HasKinds : Database → Type 0
@@ -87,7 +99,7 @@ groups_under (c ∷ cs) aggregates d rows =
 
 -- what a tree is
 pub record TreeMeaning : Type 0 where
-  pub scans : List TableName
+  pub scans : List Occurrence
   pub domains : ℕ
   pub width : ℕ
   pub rows : Database → List Value → List (Ranked Value)
@@ -138,10 +150,16 @@ combined operation l r = if l.width == r.width then together operation l r else 
 -- a node, from the meanings of its parts
 abbrev pub tree_step : DepTree-F TreeMeaning → TreeMeaning
 tree_step (Scan table) = record {
-  scans = table ∷ [];
+  scans = inl table ∷ [];
   domains = 0;
   width = length (kinds_of table);
   rows = λ db d. scanned (db table);
+}
+tree_step (Kept number plan) = record {
+  scans = inr (kept_count plan) ∷ [];
+  domains = 0;
+  width = length plan.list;
+  rows = λ db d. query_rows plan (db plan.table);
 }
 tree_step (Select t c) = record t { rows = λ db d. select (says c d) (t.rows db d) }
 tree_step (Project t es) =
@@ -161,8 +179,8 @@ tree_step (Set l r operation) = combined operation l r
 unfoldable pub tree_meaning : DepTree → TreeMeaning
 tree_meaning = fold-DepTree TreeMeaning tree_step
 
--- the table occurrences of a tree, from left to right
-unfoldable pub scans_of : DepTree → List TableName
+-- the tables and kept views that a tree scans, from left to right
+unfoldable pub scans_of : DepTree → List Occurrence
 scans_of t = (tree_meaning t).scans
 
 -- how many right sides of a tree have a domain of their own

@@ -3,6 +3,7 @@
 
 mod aggregate;
 mod copy;
+mod kept_plan;
 pub mod laws;
 mod node;
 mod piece;
@@ -14,6 +15,9 @@ mod whole;
 
 pub use aggregate::{Aggregate, values_of_none};
 pub use copy::{copy_aggregates, copy_expr, copy_exprs};
+pub use kept_plan::{
+    KeptAggregate, KeptPlan, copy_kept_plan, is_same_plan, plain_aggregates, shown_columns,
+};
 pub use node::{Node, NodeId};
 pub use piece::Piece;
 pub use plan::{Builder, FlatPlan};

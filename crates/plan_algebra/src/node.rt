@@ -1,5 +1,6 @@
 //! The nodes of a flat plan.
 use crate::aggregate::Aggregate;
+use crate::kept_plan::KeptPlan;
 use base_schema::TableName;
 use base_set_rows::SetOperation;
 use base_value::Value;
@@ -19,6 +20,8 @@ pub type NodeId = usize;
 pub enum Node {
     /// The rows of a table.
     Scan(TableName),
+    /// The rows of the kept view of a number, which are those of its plan.
+    Kept(u32, Boxed<KeptPlan>),
     /// The values at these columns, identical ones once.
     Domain(NodeId, Items<u32>),
     /// The rows that the condition keeps.

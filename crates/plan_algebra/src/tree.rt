@@ -3,6 +3,7 @@ ghost use Rattle.std.specs.Prelude.{◌≡◌, IfOk};
 ghost use Rattle.plan_algebra.specs.Trees.{width_of};
 
 use crate::aggregate::Aggregate;
+use crate::kept_plan::KeptPlan;
 use base_schema::TableName;
 use base_set_rows::SetOperation;
 use expr_scalar::Expr;
@@ -28,6 +29,8 @@ pub enum Side {
 pub enum DepTree {
     /// The rows of a table.
     Scan(TableName),
+    /// The rows of the kept view of a number, which are those of its plan. It reads no domain.
+    Kept(u32, Boxed<KeptPlan>),
     /// WHERE, HAVING: the rows that the condition keeps.
     Select(Boxed<DepTree>, Boxed<Expr>),
     /// The select list.
@@ -59,6 +62,7 @@ pub fn width(tree: &DepTree) -> Result<u32, AllocError>
 {
     match tree {
         DepTree::Scan(table) => u32::try_from(table.kinds().len()).map_err(|_| AllocError),
+        DepTree::Kept(_, plan) => u32::try_from(plan.get().list.len()).map_err(|_| AllocError),
         DepTree::Select(t, _) | DepTree::Distinct(t) => width(t.get()),
         DepTree::Set(l, _, _) => width(l.get()),
         DepTree::Project(_, es) => u32::try_from(es.len()).map_err(|_| AllocError),

@@ -6,10 +6,11 @@ ghost use Rattle.base_schema.specs.State.{table_rows};
 ghost use Rattle.plan_algebra.specs.Trees.{HasKinds};
 ghost use Rattle.plan_algebra.specs.States.{empty_state, with_table};
 
+use crate::kept_plan::KeptPlan;
 use crate::piece::Piece;
 use crate::steps::Steps;
 use crate::tables::Tables;
-use base_columns::{Rows, Segment};
+use base_columns::{Bag, Rows, Segment};
 use base_schema::TableName;
 use base_value::Row;
 use std::alloc::{AllocError, Global};
@@ -128,6 +129,16 @@ impl Tables for WholeTables {
         let pieces = whole_pieces(alloc, rows.segments())?;
         steps.add(rows.len() as u64);
         Ok(pieces)
+    }
+
+    // There are no kept views.
+    fn kept(
+        &self,
+        _alloc: Global,
+        _number: u32,
+        _plan: &KeptPlan,
+    ) -> Result<Option<Bag>, AllocError> {
+        Ok(None)
     }
 }
 

@@ -10,7 +10,7 @@ use Rattle.base_row_laws.specs.Ranked.{Ranked, ranked}
 use Rattle.base_row_laws.proofs.Lists.{flat_map-single, Each-all}
 use Rattle.base_value.specs.declared.value.Value.{Value}
 use Rattle.base_value.specs.declared.value.Value.TheVariants.{Null}
-use Rattle.base_schema.specs.declared.table.TableName.{TableName}
+use Rattle.plan_algebra.specs.Trees.{Occurrence}
 use Rattle.base_schema.specs.State.{State, table_rows}
 use Rattle.sql_bound_query.specs.Meaning.{Env}
 use Rattle.sql_bound_query.specs.Typing.{StateIsOf}
@@ -48,7 +48,7 @@ module _ (outer : List OuterColumn) (start w : ℕ) where
   }
 
   -- the same of another fact, over another list of tables
-  pub attaches_as : (more others : List TableName) (P Q : Reading) (old : DepTree) (end : ℕ)
+  pub attaches_as : (more others : List Occurrence) (P Q : Reading) (old : DepTree) (end : ℕ)
       (new : DepTree) (last : ℕ) → Attaches outer start w more P old end new last
       → more ≡ others → ((state : State) (env : Env) (r flat : List Value) → P state env r flat
       → Q state env r flat) → Attaches outer start w others Q old end new last
@@ -74,7 +74,7 @@ module _ (outer : List OuterColumn) (start w : ℕ) where
       ∙ ap (λ n. n + length x) e ∙ f
 
   -- one after the other
-  pub attaches_then : (more others : List TableName) (P Q : Reading) (old : DepTree) (end : ℕ)
+  pub attaches_then : (more others : List Occurrence) (P Q : Reading) (old : DepTree) (end : ℕ)
       (mid : DepTree) (between : ℕ) (new : DepTree) (last : ℕ)
       → Attaches outer start w more P old end mid between
       → Attaches outer start w others Q mid between new last
@@ -108,7 +108,7 @@ module _ (outer : List OuterColumn) (start w : ℕ) where
       }
 
   -- one more column after what was attached: a value of the flat row so far, where P is so of it
-  pub attaches_column : (more others : List TableName) (P : Reading) (old : DepTree) (end : ℕ)
+  pub attaches_column : (more others : List Occurrence) (P : Reading) (old : DepTree) (end : ℕ)
       (mid : DepTree) (between : ℕ) (new : DepTree)
       (own : State → List Value → List Value → Value) (M : State → Env → List Value → Value)
       → Attaches outer start w more P old end mid between

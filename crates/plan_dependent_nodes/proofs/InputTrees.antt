@@ -21,7 +21,7 @@ use Rattle.expr_scalar.specs.Rename.{IsRenamed, gathered}
 use Rattle.expr_scalar.proofs.Opened.{value_Column, truth_Compare}
 use Rattle.expr_conditions.specs.Ranks.{rank_of}
 use Rattle.expr_conditions.proofs.Ranks.{rank_All}
-use Rattle.base_schema.specs.declared.table.TableName.{TableName}
+use Rattle.plan_algebra.specs.Trees.{Occurrence}
 use Rattle.base_schema.specs.State.{State, table_rows}
 use Rattle.sql_bound_query.specs.declared.query.BoundAggregate.{BoundAggregate}
 use Rattle.sql_bound_query.specs.declared.query.BoundAggregate.TheVariants as aggregate
@@ -32,15 +32,15 @@ use Rattle.sql_bound_query.specs.declared.query.Input.TheVariants as input
 use Rattle.sql_bound_query.specs.Meaning.{Env, InputMeaning, ExprMeaning}
 use Rattle.sql_bound_query.specs.Meaning.{input_meaning, expr_meaning, aggregate_meaning}
 use Rattle.sql_bound_query.specs.Meaning.{block_meaning, single_value}
-use Rattle.sql_bound_query.specs.Reads.{tables, tables_of_input, tables_of_expr}
-use Rattle.sql_bound_query.specs.Reads.{tables_of_aggregate}
-use Rattle.sql_bound_query.specs.Reads.{joined_tables}
+use Rattle.plan_kept_queries.specs.Scans.{tables, tables_of_input, tables_of_expr}
+use Rattle.plan_kept_queries.specs.Scans.{tables_of_aggregate}
+use Rattle.plan_kept_queries.specs.Scans.{joined_tables}
 use Rattle.sql_bound_query.proofs.Opened.{input_Column_at, input_Exists_at, input_Any_at}
 use Rattle.sql_bound_query.proofs.Opened.{input_Scalar_at, aggregate_CountRows_at, aggregate_Of_at}
 use Rattle.sql_bound_query.proofs.Opened.{expr_is}
-use Rattle.sql_bound_query.proofs.TablesOpened.{in_Column, in_Exists, in_Any, in_Scalar}
-use Rattle.sql_bound_query.proofs.TablesOpened.{in_CountRows}
-use Rattle.sql_bound_query.proofs.TablesOpened.{in_Of, expr_tables_is}
+use Rattle.plan_kept_queries.proofs.ScansOpened.{in_Column, in_Exists, in_Any, in_Scalar}
+use Rattle.plan_kept_queries.proofs.ScansOpened.{in_CountRows}
+use Rattle.plan_kept_queries.proofs.ScansOpened.{in_Of, expr_tables_is}
 use Rattle.plan_algebra.specs.declared.aggregate.Aggregate.{Aggregate}
 use Rattle.plan_algebra.specs.declared.aggregate.Aggregate.TheVariants as counted
 use Rattle.plan_algebra.specs.declared.tree.DepTree.{DepTree}
@@ -59,7 +59,7 @@ use Rattle.plan_dependent_nodes.proofs.Attachments.{attaches_column, attached_ro
 
 -- ---- lists, one element more
 
-pub joined_more : {X : Type 0} (f : X → List TableName) (xs : List X) (i : ℕ) (x : X)
+pub joined_more : {X : Type 0} (f : X → List Occurrence) (xs : List X) (i : ℕ) (x : X)
     → i < length xs → x ≡ get_or xs i x
     → joined_tables (map f (take i xs)) ++ f x ≡ joined_tables (map f (take (i + 1) xs))
 joined_more f xs i x h e =

@@ -15,11 +15,11 @@ use Rattle.expr_scalar.specs.Rename.{gathered}
 use Rattle.expr_scalar.proofs.Opened.{value_Column}
 use Rattle.expr_conditions.specs.Ranks.{columns_from}
 use Rattle.expr_conditions.proofs.Gather.{gather_at}
-use Rattle.base_schema.specs.declared.table.TableName.{TableName}
+use Rattle.plan_algebra.specs.Trees.{Occurrence}
 use Rattle.base_schema.specs.State.{table_rows}
 use Rattle.sql_bound_query.specs.declared.query.BoundExpr.{BoundExpr}
 use Rattle.sql_bound_query.specs.Meaning.{Env, holds_for, expr_meaning}
-use Rattle.sql_bound_query.specs.Reads.{tables_of_expr}
+use Rattle.plan_kept_queries.specs.Scans.{tables_of_expr}
 use Rattle.plan_algebra.specs.declared.tree.DepTree.{DepTree}
 use Rattle.plan_algebra.specs.declared.tree.DepTree.TheVariants as t
 use Rattle.plan_algebra.specs.Trees.{listed}
@@ -102,7 +102,7 @@ kept_arm on outer so_far start w tree begin grown last c new g at trim p occurs 
     let D : DomainRows = FromDomains outer so_far start p in
     let begins : (env : Env) (d : List Value) → D env d → IsDomain outer start env d =
     λ env d i. from_sees outer so_far start p env d i in
-    let all : List TableName = occurs ++ tables_of_expr on in
+    let all : List Occurrence = occurs ++ tables_of_expr on in
     let L : RowsOf = λ state env. select (holds_for (expr_meaning state on) env) (K state env) in
     stage_trimmed D outer start begins all L w Anything (t.Select grown c) last new
     (stage_select D outer start begins all K w on c grown last

@@ -1,6 +1,6 @@
 -- The columns that a lateral item's query sees, and those that FROM's items read of the row so far.
 use Rattle.std.proofs.Common.{◌≡◌, ℕ, suc, ◌+◌, ◌<◌, ◌≤◌, List, [], ◌∷◌, Bool, true, false, ◌&&◌}
-use Rattle.std.proofs.Common.{◌||◌}
+use Rattle.std.proofs.Common.{Option, ◌||◌}
 use Rattle.std.proofs.Common.{◌==◌, map, take, get_or, length, refl, sym, ap, ◌∙◌, subst}
 use Rattle.std.specs.Cmp.{first_so, second_so}
 use Rattle.std.proofs.Math.Bool.{or_assoc, or-false}
@@ -166,10 +166,10 @@ table_gathers {s} {t} old is =
     gathers_as s (source.Table t) (λ place. false) old old is (so_far_Table t)
     (gathers_none (λ place. false) old (λ place. refl))
 
-pub derived_gathers : {s : BoundSource} (q : BoundBlock) (old : List ℕ) → s ≡ source.Derived q
-    → Gathers (seeks_so_far s) old old
-derived_gathers {s} q old is =
-    gathers_as s (source.Derived q) (λ place. false) old old is (so_far_Derived q)
+pub derived_gathers : {s : BoundSource} (kept : Option ℕ) (q : BoundBlock) (old : List ℕ)
+    → s ≡ source.Derived kept q → Gathers (seeks_so_far s) old old
+derived_gathers {s} kept q old is =
+    gathers_as s (source.Derived kept q) (λ place. false) old old is (so_far_Derived kept q)
     (gathers_none (λ place. false) old (λ place. refl))
 
 pub lateral_gathers : {s : BoundSource} {q seen : BoundBlock} (old new : List ℕ)

@@ -14,9 +14,9 @@ use Rattle.sql_bound_query.specs.declared.query.BoundExpr.{BoundExpr}
 use Rattle.sql_bound_query.specs.declared.query.Input.{Input}
 use Rattle.sql_bound_query.specs.declared.query.Input.TheVariants as input
 use Rattle.sql_bound_query.specs.Meaning.{InputMeaning, ExprMeaning, column, input_meaning}
-use Rattle.sql_bound_query.specs.Reads.{tables_of_input}
+use Rattle.plan_kept_queries.specs.Scans.{tables_of_input}
 use Rattle.sql_bound_query.proofs.Opened.{input_Column_at, expr_is}
-use Rattle.sql_bound_query.proofs.TablesOpened.{in_Column, expr_tables_is}
+use Rattle.plan_kept_queries.proofs.ScansOpened.{in_Column, expr_tables_is}
 use Rattle.plan_dependent_nodes.specs.declared.sight.OuterColumn.{OuterColumn}
 use Rattle.plan_dependent_nodes.specs.Growth.{IsAt, AreAt, AreKeys, ArePlain, IsPlain, InputsAt}
 use Rattle.plan_dependent_nodes.specs.Growth.{ExprAt}

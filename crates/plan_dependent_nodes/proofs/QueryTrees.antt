@@ -21,7 +21,7 @@ use Rattle.base_value.proofs.Identity.{value_identity}
 use Rattle.expr_scalar.specs.declared.expr.Expr.{Expr}
 use Rattle.expr_scalar.specs.Meaning.{values}
 use Rattle.expr_conditions.specs.Ranks.{rank_of, says}
-use Rattle.base_schema.specs.declared.table.TableName.{TableName}
+use Rattle.plan_algebra.specs.Trees.{Occurrence}
 use Rattle.base_schema.specs.State.{State, table_rows}
 use Rattle.sql_bound_query.specs.declared.query.BoundAggregate.{BoundAggregate}
 use Rattle.sql_bound_query.specs.declared.query.BoundExpr.{BoundExpr}
@@ -52,7 +52,7 @@ use Rattle.plan_dependent_nodes.proofs.Widenings.{project_widened, total_widened
 use Rattle.plan_dependent_nodes.proofs.Widenings.{aggregates_alike}
 
 -- the rows K, which an expression sees, with columns after them, of which P is so
-pub record Stage (D : DomainRows) (occurs : List TableName) (K : RowsOf) (start w : ℕ)
+pub record Stage (D : DomainRows) (occurs : List Occurrence) (K : RowsOf) (start w : ℕ)
     (P : Reading) (tree : DepTree) (end : ℕ) : Type 0 where
   pub are_rows : AreRows K w
   pub scans : scans_of tree ≡ occurs
@@ -70,7 +70,7 @@ Anything state env r flat = Unit {0}
 
 module _ (D : DomainRows) (outer : List OuterColumn) (start : ℕ)
     (begins : (env : Env) (d : List Value) → D env d → IsDomain outer start env d)
-    (scans : List TableName) (K : RowsOf) (w : ℕ) where
+    (scans : List Occurrence) (K : RowsOf) (w : ℕ) where
   -- the rows as they are
   pub stage_begin : (tree : DepTree) (end : ℕ) → IsTreeIn D scans K tree w → end ≡ start + w
       → Stage D scans K start w Anything tree end
@@ -88,7 +88,7 @@ module _ (D : DomainRows) (outer : List OuterColumn) (start : ℕ)
   }
 
   -- more columns after them
-  pub stage_more : (more : List TableName) (P Q : Reading) (tree : DepTree) (end : ℕ)
+  pub stage_more : (more : List Occurrence) (P Q : Reading) (tree : DepTree) (end : ℕ)
       (new : DepTree) (last : ℕ) → Stage D scans K start w P tree end
       → Attaches outer start w more Q tree end new last
       → Stage D (scans ++ more) K start w Q new last

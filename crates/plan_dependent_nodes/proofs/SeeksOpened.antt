@@ -1,5 +1,5 @@
 -- What the parts of a query read of the rows around, at each node.
-use Rattle.std.proofs.Common.{◌≡◌, ℕ, suc, List, Bool, false, ◌||◌, map, ap, ◌∙◌}
+use Rattle.std.proofs.Common.{◌≡◌, ℕ, suc, List, Option, Bool, false, ◌||◌, map, ap, ◌∙◌}
 use Rattle.base_set_rows.specs.declared.kind.SetOperation.{SetOperation}
 use Rattle.expr_aggregates.specs.declared.function.AggregateFunction.{AggregateFunction}
 use Rattle.expr_operators.specs.declared.operator.Comparison.{Comparison}
@@ -132,10 +132,11 @@ in_Table : (t : TableName) → seeks_in_from (source.Table t) ≡ source_seeks (
 unfolding seeks_in_from_at
 in_Table t = seeks_in_from_is (source.Table t) ∙ ap seeks_in_from_at (source.outs-Table t)
 
-in_Derived : (q : BoundBlock)
-    → seeks_in_from (source.Derived q) ≡ source_seeks (node.Derived (seeks_of q))
+in_Derived : (kept : Option ℕ) (q : BoundBlock)
+    → seeks_in_from (source.Derived kept q) ≡ source_seeks (node.Derived kept (seeks_of q))
 unfolding seeks_in_from_at
-in_Derived q = seeks_in_from_is (source.Derived q) ∙ ap seeks_in_from_at (source.outs-Derived q)
+in_Derived kept q = seeks_in_from_is (source.Derived kept q)
+    ∙ ap seeks_in_from_at (source.outs-Derived kept q)
 
 in_Lateral : (q : BoundBlock)
     → seeks_in_from (source.Lateral q) ≡ source_seeks (node.Lateral (seeks_of q))
@@ -172,9 +173,10 @@ pub seeks_Table : (t : TableName) → seeks_of_source (source.Table t) ≡ (λ l
 unfolding seeks_of_source
 seeks_Table t = ap further (in_Table t)
 
-pub seeks_Derived : (q : BoundBlock) → seeks_of_source (source.Derived q) ≡ (λ level place. false)
+pub seeks_Derived : (kept : Option ℕ) (q : BoundBlock)
+    → seeks_of_source (source.Derived kept q) ≡ (λ level place. false)
 unfolding seeks_of_source
-seeks_Derived q = ap further (in_Derived q)
+seeks_Derived kept q = ap further (in_Derived kept q)
 
 pub seeks_Lateral : (q : BoundBlock)
     → seeks_of_source (source.Lateral q) ≡ (λ level place. seeks_of q (suc level) place)
@@ -211,9 +213,10 @@ pub so_far_Table : (t : TableName) → seeks_so_far (source.Table t) ≡ (λ pla
 unfolding seeks_so_far
 so_far_Table t = ap nearest (in_Table t)
 
-pub so_far_Derived : (q : BoundBlock) → seeks_so_far (source.Derived q) ≡ (λ place. false)
+pub so_far_Derived : (kept : Option ℕ) (q : BoundBlock)
+    → seeks_so_far (source.Derived kept q) ≡ (λ place. false)
 unfolding seeks_so_far
-so_far_Derived q = ap nearest (in_Derived q)
+so_far_Derived kept q = ap nearest (in_Derived kept q)
 
 pub so_far_Lateral : (q : BoundBlock)
     → seeks_so_far (source.Lateral q) ≡ (λ place. seeks_of q 0 place)

@@ -154,8 +154,9 @@ of_within function scale a ea kinds k e =
 table_within : (t : TableName) → S (source.Table t)
 table_within t js kinds ks e = subst (Within kinds) (sym (seeks_Table t)) (none_within kinds)
 
-derived_within : (q : BoundBlock) → B q → S (source.Derived q)
-derived_within q b js kinds ks e = subst (Within kinds) (sym (seeks_Derived q)) (none_within kinds)
+derived_within : (kept : Option ℕ) (q : BoundBlock) → B q → S (source.Derived kept q)
+derived_within kept q b js kinds ks e =
+    subst (Within kinds) (sym (seeks_Derived kept q)) (none_within kinds)
 
 lateral_within : (q : BoundBlock) → B q → S (source.Lateral q)
 lateral_within q b js kinds ks e =

@@ -4,7 +4,7 @@ use Rattle.base_value.specs.declared.value.Value.{Value}
 use Rattle.base_schema.specs.State.{State, table_rows}
 use Rattle.sql_bound_query.specs.declared.query.BoundBlock.{BoundBlock}
 use Rattle.sql_bound_query.specs.Meaning.{Env, column, rows}
-use Rattle.sql_bound_query.specs.Reads.{tables}
+use Rattle.plan_kept_queries.specs.Scans.{tables}
 use Rattle.sql_bound_query.specs.Typing.{StateIsOf}
 use Rattle.plan_algebra.specs.declared.tree.DepTree.{DepTree}
 use Rattle.plan_algebra.specs.Trees.{tree_rows, scans_of}

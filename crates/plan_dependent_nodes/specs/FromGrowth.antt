@@ -7,11 +7,11 @@ use Rattle.base_row_laws.specs.Rows.{columns}
 use Rattle.base_value.specs.declared.value.Value.{Value}
 use Rattle.base_value.specs.declared.value.Value.TheVariants.{Null}
 use Rattle.expr_conditions.specs.Ranks.{columns_from}
-use Rattle.base_schema.specs.declared.table.TableName.{TableName}
+use Rattle.plan_algebra.specs.Trees.{Occurrence}
 use Rattle.sql_bound_query.specs.declared.query.BoundExpr.{BoundExpr}
 use Rattle.sql_bound_query.specs.declared.query.BoundSource.{BoundSource}
 use Rattle.sql_bound_query.specs.Meaning.{Env, holds_for, source_meaning, expr_meaning}
-use Rattle.sql_bound_query.specs.Reads.{tables_of_source, tables_of_expr}
+use Rattle.plan_kept_queries.specs.Scans.{tables_of_source, tables_of_expr}
 use Rattle.plan_algebra.specs.declared.tree.DepTree.{DepTree}
 use Rattle.plan_algebra.specs.declared.tree.Side.{Side}
 use Rattle.plan_dependent_nodes.specs.declared.sight.OuterColumn.{OuterColumn}
@@ -78,7 +78,7 @@ IsKeptRight s on outer so_far n start a tree side w = (p : List Value) → lengt
 -- a tree of the rows that an ON condition keeps of those of another tree
 abbrev pub IsKept : BoundExpr → List OuterColumn → List ℕ → ℕ → DepTree → ℕ → DepTree → Type 0
 IsKept on outer so_far start tree w new =
-    (p : List Value) (occurs : List TableName) (K : RowsOf)
+    (p : List Value) (occurs : List Occurrence) (K : RowsOf)
     → IsTreeIn (FromDomains outer so_far start p) occurs K tree w
     → IsTreeIn (FromDomains outer so_far start p) (occurs ++ tables_of_expr on)
     (λ state env. select (holds_for (expr_meaning state on) env) (K state env)) new w

@@ -1,6 +1,6 @@
 -- How the tree of a query grows: flat rows, what stands where in them, and what is attached.
 use Rattle.std.specs.Prelude.{◌≡◌, ℕ, ◌+◌, List, [], ◌∷◌, ◌++◌, map, length, slice_index_or, Option}
-use Rattle.std.specs.Prelude.{Some, None}
+use Rattle.std.specs.Prelude.{Some, None, true, false}
 use Rattle.base_row_laws.specs.Bags.{Each}
 use Rattle.base_row_laws.specs.JoinGroups.{Width}
 use Rattle.base_row_laws.specs.Ranked.{Ranked, ranked}
@@ -9,7 +9,6 @@ use Rattle.base_value.specs.declared.value.Value.{Value}
 use Rattle.base_value.specs.declared.value.Value.TheVariants.{Null}
 use Rattle.expr_scalar.specs.declared.expr.Expr.{Expr}
 use Rattle.expr_scalar.specs.Meaning.{value, truth}
-use Rattle.base_schema.specs.declared.table.TableName.{TableName}
 use Rattle.base_schema.specs.State.{State, table_rows}
 use Rattle.sql_bound_query.specs.declared.query.BoundAggregate.{BoundAggregate}
 use Rattle.sql_bound_query.specs.declared.query.BoundBlock.{BoundBlock}
@@ -19,17 +18,21 @@ use Rattle.sql_bound_query.specs.declared.query.Input.{Input}
 use Rattle.sql_bound_query.specs.Meaning.{Env, RowsMeaning, FromMeaning}
 use Rattle.sql_bound_query.specs.Meaning.{column, aggregate_meaning, block_meaning}
 use Rattle.sql_bound_query.specs.Meaning.{source_meaning, input_meaning, expr_meaning}
-use Rattle.sql_bound_query.specs.Reads.{tables, tables_of_input, tables_of_expr}
-use Rattle.sql_bound_query.specs.Reads.{joined_tables}
+use Rattle.plan_kept_queries.specs.Scans.{tables, tables_of_input, tables_of_expr}
+use Rattle.plan_kept_queries.specs.Scans.{joined_tables}
 use Rattle.sql_bound_query.specs.Typing.{StateIsOf}
 use Rattle.plan_algebra.specs.declared.aggregate.Aggregate.{Aggregate}
+use Rattle.plan_algebra.specs.declared.kept_plan.KeptPlan.{KeptPlan}
 use Rattle.plan_algebra.specs.declared.tree.DepTree.{DepTree}
+use Rattle.plan_algebra.specs.declared.tree.DepTree.TheVariants as tree
 use Rattle.plan_algebra.specs.declared.tree.Side.{Side}
 use Rattle.plan_algebra.specs.declared.tree.Side.TheVariants.{Closed, Dependent}
 use Rattle.plan_algebra.specs.Aggregates.{argument_and_function}
-use Rattle.plan_algebra.specs.Trees.{tree_rows, scans_of, width_of, right_row}
+use Rattle.plan_algebra.specs.Trees.{Occurrence, tree_rows, scans_of, width_of, right_row}
 use Rattle.plan_dependent_nodes.specs.declared.sight.OuterColumn.{OuterColumn}
+use Rattle.plan_dependent_nodes.specs.declared.parts.Rows.{Rows}
 use Rattle.plan_dependent_nodes.specs.Dependence.{domain_row}
+use Rattle.plan_kept_queries.specs.Forms.{IsKeptPlan, is_kept_block}
 
 -- a domain row of `start` columns, which begins with these columns of the rows around
 pub record IsDomain (outer : List OuterColumn) (start : ℕ) (env : Env) (d : List Value) : Type 0
@@ -79,7 +82,7 @@ abbrev pub DomainRows : Type 1
 DomainRows = Env → List Value → Type 0
 
 -- a tree of just these rows, over every one of these domain rows
-pub record IsTreeIn (D : DomainRows) (occurs : List TableName) (K : RowsOf) (tree : DepTree)
+pub record IsTreeIn (D : DomainRows) (occurs : List Occurrence) (K : RowsOf) (tree : DepTree)
     (w : ℕ) : Type 0 where
   pub are_rows : AreRows K w
   pub scans : scans_of tree ≡ occurs
@@ -89,12 +92,12 @@ pub record IsTreeIn (D : DomainRows) (occurs : List TableName) (K : RowsOf) (tre
 
 -- a tree of just these rows, over every domain row that begins with these columns of the rows
 -- around
-abbrev pub IsTree : List TableName → RowsOf → List OuterColumn → ℕ → DepTree → ℕ → Type 0
+abbrev pub IsTree : List Occurrence → RowsOf → List OuterColumn → ℕ → DepTree → ℕ → Type 0
 IsTree occurs K outer start tree w =
     IsTreeIn (λ env d. IsDomain outer start env d) occurs K tree w
 
 -- a tree to the right of another, of just these rows under each left row of a columns
-pub record IsRightIn (D : DomainRows) (occurs : List TableName) (K : State → FromMeaning) (a : ℕ)
+pub record IsRightIn (D : DomainRows) (occurs : List Occurrence) (K : State → FromMeaning) (a : ℕ)
     (tree : DepTree) (side : Side) (w : ℕ) : Type 0 where
   pub stand : (state : State) (l : List Value) (env : Env) → Each Stands (K state l env)
   pub wide : (state : State) → StateIsOf state → (l : List Value) → length l ≡ a → (env : Env)
@@ -123,7 +126,7 @@ Reading = State → Env → List Value → List Value → Type 0
 
 -- A tree whose rows are those of the old tree with more columns: in the flat row, whatever stands
 -- after it, P is so.
-pub record Attaches (outer : List OuterColumn) (start w : ℕ) (more : List TableName) (P : Reading)
+pub record Attaches (outer : List OuterColumn) (start w : ℕ) (more : List Occurrence) (P : Reading)
     (old : DepTree) (end : ℕ) (new : DepTree) (last : ℕ) : Type 0 where
   pub scans : scans_of new ≡ scans_of old ++ more
   pub width : (n : ℕ) → width_of old + n ≡ end → width_of new + n ≡ last
@@ -192,6 +195,23 @@ from_of s state = source_meaning state s []
 -- the rows of a query
 abbrev pub block_of : BoundBlock → RowsOf
 block_of q state = block_meaning state q
+
+-- the rows of a query that sees no row around it, under any rows
+abbrev pub closed_of : BoundBlock → RowsOf
+closed_of q state env = block_meaning state q []
+
+-- the leaf of the kept view of a number, whose query this is
+pub record IsLeaf (number : ℕ) (q : BoundBlock) (made : DepTree) (w : ℕ) : Type 0 where
+  pub plan : KeptPlan
+  pub is_kept : is_kept_block q ≡ true
+  pub is_plan : IsKeptPlan q plan
+  pub tree_is : made ≡ tree.Kept number plan
+  pub width_is : w ≡ length plan.list
+
+-- the same, or nothing where the query's rows can't be kept
+abbrev pub IsKeptTree : ℕ → BoundBlock → Option Rows → Type 0
+IsKeptTree number q None = is_kept_block q ≡ false
+IsKeptTree number q (Some made) = IsLeaf number q made.tree made.width
 
 -- nothing, or the places of the inputs, none of which is a subquery
 abbrev pub ArePlain : List OuterColumn → ℕ → ℕ → List Input → Option (List ℕ) → Type 0

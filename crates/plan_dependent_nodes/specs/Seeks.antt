@@ -53,7 +53,7 @@ aggregate_seeks (node.Of function scale argument) level place = argument level p
 -- around.
 abbrev pub source_seeks : node.BoundSource-F Seeks Seeks Seeks Seeks Seeks → Seeks
 source_seeks (node.Table t) level place = false
-source_seeks (node.Derived q) level place = false
+source_seeks (node.Derived kept q) level place = false
 source_seeks (node.Lateral q) level place = q level place
 source_seeks (node.Cross a b) level place = a level place || b level place
 source_seeks (node.Inner a b on) zero place = a 0 place || b 0 place

@@ -14,4 +14,6 @@ pub use parts::{
 };
 pub use sight::{OuterColumn, Sight, place_of};
 pub use source_sight::{SourceSight, lateral_columns, right_places, with_left_row};
-pub use sources::{RightRows, crossed, depending, outer_condition, outer_joined, table_rows};
+pub use sources::{
+    RightRows, crossed, depending, kept_rows, outer_condition, outer_joined, table_rows,
+};

@@ -2,9 +2,9 @@
 ghost use Rattle.std.specs.Prelude.{◌≡◌, ◌+◌, [], length, IfOk};
 ghost use Rattle.expr_scalar.specs.declared.expr.Expr.TheVariants.{All as all_of};
 ghost use Rattle.base_schema.specs.Tables.{kinds_of};
-ghost use Rattle.sql_bound_query.specs.Reads.{tables_of_expr};
+ghost use Rattle.plan_kept_queries.specs.Scans.{tables_of_expr};
 ghost use Rattle.plan_algebra.specs.declared.tree.DepTree.TheVariants as node;
-ghost use Rattle.plan_dependent_nodes.specs.Growth.{IsPlain, ArePlain, DependsOn};
+ghost use Rattle.plan_dependent_nodes.specs.Growth.{IsPlain, ArePlain, DependsOn, IsKeptTree};
 ghost use Rattle.plan_dependent_nodes.specs.Supplied.{ExprIsSupplied, InputsAreSupplied};
 
 use crate::parts::{Right, Rows, always};
@@ -13,7 +13,8 @@ use crate::source_sight::SourceSight;
 use base_schema::TableName;
 use expr_scalar::{Expr, rename};
 use plan_algebra::{DepTree, Side};
-use sql_bound_query::{BoundExpr, Input};
+use plan_kept_queries::{KeptPlanError, plan_of_block};
+use sql_bound_query::{BoundBlock, BoundExpr, Input};
 use sqlite_items::{Boxed, Items};
 use std::alloc::{AllocError, Global};
 
@@ -33,6 +34,22 @@ pub fn table_rows(alloc: Global, table: TableName) -> Result<Rows, AllocError>
     let width = u32::try_from(table.kinds().len()).map_err(|_| AllocError)?;
     let tree = Boxed::new(alloc, DepTree::Scan(table))?;
     Ok(Rows { tree, width })
+}
+
+/// The rows of the kept view of a number, whose query this is; nothing where its rows can't be kept.
+pub fn kept_rows(alloc: Global, number: u32, q: &BoundBlock) -> Result<Option<Rows>, AllocError>
+    ensures { IfOk result (IsKeptTree number q.now) }
+{
+    match plan_of_block(alloc, q) {
+        Ok(plan) => {
+            let width = u32::try_from(plan.list.len()).map_err(|_| AllocError)?;
+            let plan = Boxed::new(alloc, plan)?;
+            let tree = Boxed::new(alloc, DepTree::Kept(number, plan))?;
+            Ok(Some(Rows { tree, width }))
+        }
+        Err(KeptPlanError::NotKept) => Ok(None),
+        Err(KeptPlanError::OutOfMemory) => Err(AllocError),
+    }
 }
 
 /// A right side over the domain of these columns.

@@ -6,7 +6,7 @@ use Rattle.base_row_laws.specs.Operators.{select, project, distinct}
 use Rattle.base_value.specs.declared.value.Value.{Value}
 use Rattle.base_value.specs.Value.{same_value}
 use Rattle.expr_scalar.specs.declared.expr.Expr.{Expr}
-use Rattle.base_schema.specs.declared.table.TableName.{TableName}
+use Rattle.plan_algebra.specs.Trees.{Occurrence}
 use Rattle.sql_bound_query.specs.declared.query.BoundAggregate.{BoundAggregate}
 use Rattle.sql_bound_query.specs.declared.query.BoundBlock.{BoundBlock}
 use Rattle.sql_bound_query.specs.declared.query.BoundBlock.TheVariants as block
@@ -15,12 +15,12 @@ use Rattle.sql_bound_query.specs.declared.query.BoundSource.{BoundSource}
 use Rattle.sql_bound_query.specs.Meaning.{Env, AggregateMeaning, holds_for, groups}
 use Rattle.sql_bound_query.specs.Meaning.{expr_meaning, aggregate_meaning, block_meaning}
 use Rattle.sql_bound_query.specs.Meaning as query
-use Rattle.sql_bound_query.specs.Reads.{tables, tables_of_source, tables_of_expr}
-use Rattle.sql_bound_query.specs.Reads.{tables_of_aggregate}
-use Rattle.sql_bound_query.specs.Reads.{joined_tables}
+use Rattle.plan_kept_queries.specs.Scans.{tables, tables_of_source, tables_of_expr}
+use Rattle.plan_kept_queries.specs.Scans.{tables_of_aggregate}
+use Rattle.plan_kept_queries.specs.Scans.{joined_tables}
 use Rattle.sql_bound_query.proofs.Opened.{block_Plain_at}
 use Rattle.sql_bound_query.proofs.Opened.{block_Grouped_at, block_Distinct_at}
-use Rattle.sql_bound_query.proofs.TablesOpened.{of_Plain, of_Grouped, of_Distinct}
+use Rattle.plan_kept_queries.proofs.ScansOpened.{of_Plain, of_Grouped, of_Distinct}
 use Rattle.plan_algebra.specs.declared.aggregate.Aggregate.{Aggregate}
 use Rattle.plan_algebra.specs.declared.tree.DepTree.{DepTree}
 use Rattle.plan_algebra.specs.declared.tree.DepTree.TheVariants as t
@@ -50,9 +50,9 @@ plain_arm outer start from condition list w n source end kept' between c grown l
     let D : DomainRows = λ env d. IsDomain outer start env d in
     let begins : (env : Env) (d : List Value) → D env d → IsDomain outer start env d = λ env d i. i
     in
-    let S : List TableName = tables_of_source from in
-    let C : List TableName = tables_of_expr condition in
-    let Ls : List TableName = joined_tables (map tables_of_expr list) in
+    let S : List Occurrence = tables_of_source from in
+    let C : List Occurrence = tables_of_expr condition in
+    let Ls : List Occurrence = joined_tables (map tables_of_expr list) in
     let K : RowsOf = from_of from in
     let L : RowsOf = λ state env.
     select (holds_for (expr_meaning state condition) env) (K state env) in
@@ -96,11 +96,11 @@ grouped_arm outer start from condition keys as' having list w v n source end kep
     let D : DomainRows = λ env d. IsDomain outer start env d in
     let begins : (env : Env) (d : List Value) → D env d → IsDomain outer start env d = λ env d i. i
     in
-    let S : List TableName = tables_of_source from in
-    let C : List TableName = tables_of_expr condition in
-    let As : List TableName = joined_tables (map tables_of_aggregate as') in
-    let H : List TableName = tables_of_expr having in
-    let Ls : List TableName = joined_tables (map tables_of_expr list) in
+    let S : List Occurrence = tables_of_source from in
+    let C : List Occurrence = tables_of_expr condition in
+    let As : List Occurrence = joined_tables (map tables_of_aggregate as') in
+    let H : List Occurrence = tables_of_expr having in
+    let Ls : List Occurrence = joined_tables (map tables_of_expr list) in
     let K : RowsOf = from_of from in
     let L : RowsOf = λ state env.
     select (holds_for (expr_meaning state condition) env) (K state env) in
@@ -117,7 +117,7 @@ grouped_arm outer start from condition keys as' having list w v n source end kep
     (stage_more D outer start begins S K w C Anything (ExprAt condition c) source end kept' between
     (stage_begin D outer start begins S K w source end is e) a)) b)
     k same u many in
-    let all : List TableName = (((S ++ C) ++ As) ++ H) ++ Ls in
+    let all : List Occurrence = (((S ++ C) ++ As) ++ H) ++ Ls in
     tree_as D all (tables (block.Grouped from condition keys as' having list))
     (λ state env. project (query.listed (map (expr_meaning state) list) env) (M state env))
     (block_of (block.Grouped from condition keys as' having list)) (t.Project grown xs) n

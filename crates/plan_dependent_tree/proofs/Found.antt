@@ -1,7 +1,7 @@
 -- How a list of columns grows by what the parts of a query read.
 use Rattle.std.proofs.Common.{◌≡◌, ℕ, suc, ◌+◌, ◌<◌, List, [], ◌∷◌, ◌++◌}
 use Rattle.std.proofs.Common.{false, ◌||◌, map, refl, sym, ap, ◌∙◌, subst, arith, length}
-use Rattle.std.proofs.Common.{take, get_or}
+use Rattle.std.proofs.Common.{take, get_or, Option}
 use Rattle.std.proofs.Math.Bool.{or_assoc, or-false}
 use Rattle.std.proofs.lemmas.List.{map-append, take_more}
 use Rattle.base_set_rows.specs.declared.kind.SetOperation.{SetOperation}
@@ -173,11 +173,12 @@ table_found {s} {t} {within} {old} is =
     (subst (λ (z : Seeks). Finds z within old old) (sym (seeks_Table t))
     (finds_none (λ level place. false) within old (λ level place. refl)))
 
-pub derived_found : {s : BoundSource} (q : BoundBlock) {within : ℕ} {old : List OuterColumn}
-    → s ≡ source.Derived q → Finds (seeks_of_source s) within old old
-derived_found {s} q {within} {old} is =
-    finds_as seeks_of_source within old old s (source.Derived q) is
-    (subst (λ (z : Seeks). Finds z within old old) (sym (seeks_Derived q))
+pub derived_found : {s : BoundSource} (kept : Option ℕ) (q : BoundBlock) {within : ℕ}
+    {old : List OuterColumn}
+    → s ≡ source.Derived kept q → Finds (seeks_of_source s) within old old
+derived_found {s} kept q {within} {old} is =
+    finds_as seeks_of_source within old old s (source.Derived kept q) is
+    (subst (λ (z : Seeks). Finds z within old old) (sym (seeks_Derived kept q))
     (finds_none (λ level place. false) within old (λ level place. refl)))
 
 pub lateral_found : {s : BoundSource} {q seen : BoundBlock} {within deeper : ℕ}

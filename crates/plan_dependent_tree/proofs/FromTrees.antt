@@ -1,7 +1,7 @@
 -- The trees of FROM's items.
 use Rattle.std.proofs.Common.{◌≡◌, ℕ, suc, ◌+◌, List, [], ◌∷◌, ◌++◌}
-use Rattle.std.proofs.Common.{refl, sym, ap, ◌∙◌, subst, arith, length, replicate}
-use Rattle.std.specs.Prelude.{slice_index_or}
+use Rattle.std.proofs.Common.{refl, sym, ap, ◌∙◌, subst, arith, length, replicate, inl, inr, false}
+use Rattle.std.specs.Prelude.{Option, Some, None, slice_index_or}
 use Rattle.std.specs.List.{All}
 use Rattle.std.proofs.lemmas.List.{append-nil, length-append, length-map, length-replicate}
 use Rattle.base_row_laws.specs.Bags.{Each}
@@ -26,30 +26,38 @@ use Rattle.sql_bound_query.specs.declared.query.BoundExpr.{BoundExpr}
 use Rattle.sql_bound_query.specs.declared.query.BoundSource.{BoundSource}
 use Rattle.sql_bound_query.specs.declared.query.BoundSource.TheVariants as source
 use Rattle.sql_bound_query.specs.Meaning.{Env, FromMeaning, holds_for, cross_loop, expr_meaning}
-use Rattle.sql_bound_query.specs.Meaning.{block_meaning, source_meaning}
-use Rattle.sql_bound_query.specs.Reads.{tables, tables_of_source, tables_of_expr}
+use Rattle.sql_bound_query.specs.Meaning.{block_meaning, source_meaning, rows}
+use Rattle.plan_kept_queries.specs.Scans.{Tables, derived_tables, row_count, tables, tables_of_source}
+use Rattle.plan_kept_queries.specs.Scans.{tables_of_expr}
 use Rattle.sql_bound_query.specs.Typing.{StateIsOf}
 use Rattle.sql_bound_query.proofs.KeptRows as kept
 use Rattle.sql_bound_query.proofs.Opened.{source_Table_at, source_Derived_at, source_Lateral_at}
 use Rattle.sql_bound_query.proofs.Opened.{source_Cross_at, source_Inner_at}
 use Rattle.sql_bound_query.proofs.StandingQueries.{cross_stands, source_stands}
-use Rattle.sql_bound_query.proofs.TablesOpened.{of_Table, of_Derived, of_Lateral, of_Cross}
-use Rattle.sql_bound_query.proofs.TablesOpened.{of_Inner}
+use Rattle.plan_kept_queries.proofs.ScansOpened.{of_Table, of_Derived, of_Lateral, of_Cross}
+use Rattle.plan_kept_queries.proofs.ScansOpened.{of_Inner}
+use Rattle.plan_algebra.specs.declared.kept_plan.KeptPlan.{KeptPlan}
 use Rattle.plan_algebra.specs.declared.tree.DepTree.{DepTree}
 use Rattle.plan_algebra.specs.declared.tree.DepTree.TheVariants as t
 use Rattle.plan_algebra.specs.declared.tree.Side.{Side}
 use Rattle.plan_algebra.specs.declared.tree.Side.TheVariants.{Closed, Shared, Dependent}
-use Rattle.plan_algebra.specs.Trees.{tree_rows, scans_of, width_of, right_row}
-use Rattle.plan_algebra.proofs.Opened.{rows_Scan, rows_Join}
-use Rattle.plan_algebra.proofs.Opened.{scans_Scan, scans_Join}
-use Rattle.plan_algebra.proofs.Opened.{width_Scan, width_Join}
+use Rattle.plan_algebra.specs.Trees.{Occurrence, tree_rows, scans_of, width_of, right_row}
+use Rattle.plan_algebra.proofs.KeptPlans.{query_stands}
+use Rattle.plan_algebra.proofs.Opened.{rows_Scan, rows_Kept, rows_Join}
+use Rattle.plan_algebra.proofs.Opened.{scans_Scan, scans_Kept, scans_Join}
+use Rattle.plan_algebra.proofs.Opened.{width_Scan, width_Kept, width_Join}
+use Rattle.plan_algebra.proofs.Widths.{query_wide}
 use Rattle.plan_dependent_nodes.specs.declared.sight.OuterColumn.{OuterColumn}
 use Rattle.plan_dependent_nodes.specs.Dependence.{domain_row}
 use Rattle.plan_dependent_nodes.specs.FromGrowth.{FromDomains, AreRightPlaces, IsSourceTree}
 use Rattle.plan_dependent_nodes.specs.FromGrowth.{IsRightSource, lateral_columns}
 use Rattle.plan_dependent_nodes.specs.Growth.{IsDomain, DomainRows, RowsOf, IsTree, IsTreeIn}
 use Rattle.plan_dependent_nodes.specs.Growth.{IsRightIn}
-use Rattle.plan_dependent_nodes.specs.Growth.{IsSubquery, AreAt, from_of, block_of}
+use Rattle.plan_dependent_nodes.specs.Growth.{IsLeaf, IsSubquery, AreAt, from_of, block_of}
+use Rattle.plan_dependent_nodes.specs.Growth.{closed_of}
+use Rattle.std.proofs.Math.Path.{fun_ext}
+use Rattle.plan_kept_queries.specs.Forms.{IsKeptPlan, is_kept_block}
+use Rattle.plan_kept_queries.proofs.ScansOpened.{derived_plain, derived_view}
 use Rattle.plan_dependent_nodes.proofs.FromPlaces.{from_begins, from_shared, from_closed}
 use Rattle.plan_dependent_nodes.proofs.FromPlaces.{from_wanted}
 use Rattle.plan_dependent_nodes.proofs.FromPlaces.{lateral_sees, dependent_row}
@@ -59,7 +67,7 @@ use Rattle.plan_dependent_nodes.proofs.Widenings.{join_is_select, join_crosses}
 
 -- ---- the same rows by another name
 
-pub tree_as : (D : DomainRows) (scans others : List TableName) (K L : RowsOf) (tree : DepTree)
+pub tree_as : (D : DomainRows) (scans others : List Occurrence) (K L : RowsOf) (tree : DepTree)
     (w : ℕ) → IsTreeIn D scans K tree w → scans ≡ others
     → ((state : State) (env : Env) → K state env ≡ L state env) → IsTreeIn D others L tree w
 tree_as D scans others K L tree w is e h = record {
@@ -97,7 +105,7 @@ pub table_arm : (D : DomainRows) (table : TableName) (p : List Value) (w : ℕ)
     → IsTreeIn D (tables_of_source (source.Table table))
     (λ state. source_meaning state (source.Table table) p) (t.Scan table) w
 table_arm D table p w e =
-    tree_as D (table ∷ []) (tables_of_source (source.Table table))
+    tree_as D (inl table ∷ []) (tables_of_source (source.Table table))
     (λ state env. scanned (table_rows state table))
     (λ state. source_meaning state (source.Table table) p) (t.Scan table) w
     (record {
@@ -112,24 +120,83 @@ table_arm D table p w e =
     })
     (sym (of_Table table)) (λ state env. sym (source_Table_at state table p env))
 
-pub derived_arm : (q : BoundBlock) (outer : List OuterColumn) (so_far : List ℕ) (start : ℕ)
-    (p : List Value) (w : ℕ) (tree : DepTree) → IsTree (tables q) (block_of q) [] start tree w
-    → IsTreeIn (FromDomains outer so_far start p) (tables_of_source (source.Derived q))
-    (λ state. source_meaning state (source.Derived q) p) tree w
-derived_arm q outer so_far start p w tree is =
-    tree_as (FromDomains outer so_far start p) (tables q) (tables_of_source (source.Derived q))
-    (λ state env. block_meaning state q []) (λ state. source_meaning state (source.Derived q) p)
-    tree w
+-- a query that sees no row around it
+closed_tree : (q : BoundBlock) (start w : ℕ) (tree : DepTree)
+    → IsTree (tables q) (block_of q) [] start tree w
+    → IsTree (tables q) (closed_of q) [] start tree w
+closed_tree q start w tree is = record {
+  are_rows = record {
+    stand = λ state env. is.are_rows.stand state [];
+    wide = λ state ok env. is.are_rows.wide state ok [];
+  };
+  scans = is.scans;
+  width = is.width;
+  rows = λ state ok env d i. is.rows state ok [] d (domain_none start [] d i.size);
+}
+
+-- the leaf of a kept view
+leaf_tree : (number : ℕ) (q : BoundBlock) (plan : KeptPlan) (start w : ℕ) → IsKeptPlan q plan
+    → w ≡ length plan.list
+    → IsTree (inr (row_count q) ∷ []) (closed_of q) [] start (t.Kept number plan) w
+unfolding rows
+leaf_tree number q plan start w k e = record {
+  are_rows = record {
+    stand = λ state env. subst (λ xs. Each Stands xs) (k.rows state)
+        (query_stands plan (table_rows state plan.table));
+    wide = λ state ok env. subst (λ n. Width n (block_meaning state q [])) (sym e)
+        (subst (λ xs. Width (length plan.list) xs) (k.rows state)
+        (query_wide plan (table_rows state plan.table)));
+  };
+  scans = scans_Kept number plan
+      ∙ ap (λ (count : State → ℕ). inr count ∷ []) (fun_ext (λ state. ap length (k.rows state)));
+  width = width_Kept number plan ∙ sym e;
+  rows = λ state ok env d i. rows_Kept number plan (table_rows state) d ∙ k.rows state;
+}
+
+-- a derived table that is no kept view, and one that is
+module _ {kept : Option ℕ} (q : BoundBlock) {start w : ℕ} {tree : DepTree} where
+  as_derived : (own others : Tables) → own ≡ others → IsTree own (closed_of q) [] start tree w
+      → IsTree others (closed_of q) [] start tree w
+  as_derived own others e is = subst (λ z. IsTree z (closed_of q) [] start tree w) e is
+
+  pub derived_alone : kept ≡ None → IsTree (tables q) (block_of q) [] start tree w
+      → IsTree (derived_tables kept q (tables q)) (closed_of q) [] start tree w
+  derived_alone e is =
+      as_derived (tables q) (derived_tables kept q (tables q))
+      (ap (λ z. derived_tables z q (tables q)) (sym e)) (closed_tree q start w tree is)
+
+  pub derived_unkept : {number : ℕ} → kept ≡ Some number → is_kept_block q ≡ false
+      → IsTree (tables q) (block_of q) [] start tree w
+      → IsTree (derived_tables kept q (tables q)) (closed_of q) [] start tree w
+  derived_unkept {number} e none is =
+      as_derived (tables q) (derived_tables kept q (tables q))
+      (sym (ap (λ z. derived_tables z q (tables q)) e ∙ derived_plain number q (tables q) none))
+      (closed_tree q start w tree is)
+
+  pub derived_kept : {number : ℕ} → kept ≡ Some number → IsLeaf number q tree w
+      → IsTree (derived_tables kept q (tables q)) (closed_of q) [] start tree w
+  derived_kept {number} e is =
+      as_derived (inr (row_count q) ∷ []) (derived_tables kept q (tables q))
+      (sym (ap (λ z. derived_tables z q (tables q)) e ∙ derived_view number q (tables q) is.is_kept))
+      (subst (λ z. IsTree (inr (row_count q) ∷ []) (closed_of q) [] start z w) (sym is.tree_is)
+      (leaf_tree number q is.plan start w is.is_plan is.width_is))
+
+pub derived_arm : (kept : Option ℕ) (q : BoundBlock) (outer : List OuterColumn) (so_far : List ℕ)
+    (start : ℕ) (p : List Value) (w : ℕ) (tree : DepTree)
+    → IsTree (derived_tables kept q (tables q)) (closed_of q) [] start tree w
+    → IsTreeIn (FromDomains outer so_far start p) (tables_of_source (source.Derived kept q))
+    (λ state. source_meaning state (source.Derived kept q) p) tree w
+derived_arm kept q outer so_far start p w tree is =
+    tree_as (FromDomains outer so_far start p) (derived_tables kept q (tables q))
+    (tables_of_source (source.Derived kept q)) (closed_of q)
+    (λ state. source_meaning state (source.Derived kept q) p) tree w
     (record {
-      are_rows = record {
-        stand = λ state env. is.are_rows.stand state [];
-        wide = λ state ok env. is.are_rows.wide state ok [];
-      };
+      are_rows = is.are_rows;
       scans = is.scans;
       width = is.width;
-      rows = λ state ok env d i. is.rows state ok [] d (domain_none start [] d i.size);
+      rows = λ state ok env d i. is.rows state ok env d (domain_none start env d i.size);
     })
-    (sym (of_Derived q)) (λ state env. sym (source_Derived_at state q p env))
+    (sym (of_Derived kept q)) (λ state env. sym (source_Derived_at state kept q p env))
 
 -- its query sees the row so far before the rows around
 pub lateral_arm : (q : BoundBlock) (outer : List OuterColumn) (so_far : List ℕ) (start : ℕ)
@@ -271,7 +338,7 @@ unfolding says
 always_holds d r = rank_All [] (d ++ r)
 
 module _ (D : DomainRows) where
-  pub cross_tree : (as' bs : List TableName) (A : RowsOf) (B : State → FromMeaning)
+  pub cross_tree : (as' bs : List Occurrence) (A : RowsOf) (B : State → FromMeaning)
       (left right : DepTree) (side : Side) (a b n : ℕ) → IsTreeIn D as' A left a
       → IsRightIn D bs B a right side b → n ≡ a + b
       → IsTreeIn D (as' ++ bs) (λ state env. cross_loop (A state env) (λ l. B state l env))
@@ -323,15 +390,15 @@ module _ (D : DomainRows) where
       → IsTreeIn D (tables_of_source x) (λ state. source_meaning state x p) left a
       → IsRightIn D (tables_of_source y) (λ state l. source_meaning state y (p ++ l)) a right side b
       → n ≡ a + b
-      → ((occurs : List TableName) (K : RowsOf)
+      → ((occurs : List Occurrence) (K : RowsOf)
       → IsTreeIn D occurs K (t.Join left right side (all_of [])) n
       → IsTreeIn D (occurs ++ tables_of_expr on)
       (λ state env. select (holds_for (expr_meaning state on) env) (K state env)) new n)
       → IsTreeIn D (tables_of_source (source.Inner x y on))
       (λ state. source_meaning state (source.Inner x y on) p) new n
   inner_arm x y on p left right side a b n new l r e keeps =
-      let As : List TableName = tables_of_source x in
-      let Bs : List TableName = tables_of_source y in
+      let As : List Occurrence = tables_of_source x in
+      let Bs : List Occurrence = tables_of_source y in
       let K : RowsOf = λ state env. cross_loop (source_meaning state x p env)
       (λ l. source_meaning state y (p ++ l) env) in
       tree_as D ((As ++ Bs) ++ tables_of_expr on) (tables_of_source (source.Inner x y on))

@@ -18,18 +18,18 @@ use Rattle.expr_scalar.specs.declared.expr.Expr.TheVariants.{All as all_of}
 use Rattle.expr_scalar.specs.Rename.{gathered}
 use Rattle.expr_conditions.specs.Ranks.{rank_of, says, columns_from}
 use Rattle.expr_conditions.proofs.Gather.{gather_at}
-use Rattle.base_schema.specs.declared.table.TableName.{TableName}
+use Rattle.plan_algebra.specs.Trees.{Occurrence}
 use Rattle.base_schema.specs.State.{State, table_rows}
 use Rattle.sql_bound_query.specs.declared.query.BoundExpr.{BoundExpr}
 use Rattle.sql_bound_query.specs.declared.query.BoundSource.{BoundSource}
 use Rattle.sql_bound_query.specs.declared.query.BoundSource.TheVariants as source
 use Rattle.sql_bound_query.specs.Meaning.{Env, FromMeaning, column, holds_for, expr_meaning}
 use Rattle.sql_bound_query.specs.Meaning.{source_meaning}
-use Rattle.sql_bound_query.specs.Reads.{tables_of_source, tables_of_expr}
+use Rattle.plan_kept_queries.specs.Scans.{tables_of_source, tables_of_expr}
 use Rattle.sql_bound_query.proofs.KeptRows as kept
 use Rattle.sql_bound_query.proofs.Opened.{source_Outer_at}
 use Rattle.sql_bound_query.proofs.StandingQueries.{source_stands}
-use Rattle.sql_bound_query.proofs.TablesOpened.{of_Outer}
+use Rattle.plan_kept_queries.proofs.ScansOpened.{of_Outer}
 use Rattle.plan_algebra.specs.declared.tree.DepTree.{DepTree}
 use Rattle.plan_algebra.specs.declared.tree.DepTree.TheVariants as t
 use Rattle.plan_algebra.specs.declared.tree.Side.{Side}
@@ -77,7 +77,7 @@ module _ (outer : List OuterColumn) (so_far : List ℕ) (start : ℕ) (p : List 
       (λ l. B state l env)
 
   -- the join by another name
-  outer_named : (bs : List TableName) (tree : DepTree)
+  outer_named : (bs : List Occurrence) (tree : DepTree)
       → IsTreeIn D (tables_of_source x ++ bs) K tree n → bs ≡ tables_of_source y ++ tables_of_expr on
       → IsTreeIn D (tables_of_source (source.Outer x y b on))
       (λ state. source_meaning state (source.Outer x y b on) p) tree n
@@ -144,7 +144,7 @@ module _ (outer : List OuterColumn) (so_far : List ℕ) (start : ℕ) (p : List 
       (λ state. source_meaning state (source.Outer x y b on) p)
       (t.Outer left right side (all_of [])) n
   kept_outer_arm left right side l r =
-      let bs : List TableName = tables_of_source y ++ tables_of_expr on in
+      let bs : List Occurrence = tables_of_source y ++ tables_of_expr on in
       let P : Ranked Value → Type 0 = λ u. length u.values ≡ a in
       outer_named bs (t.Outer left right side (all_of []))
       (record {

@@ -6,7 +6,7 @@ use Rattle.expr_scalar.specs.declared.expr.Expr.{Expr}
 use Rattle.expr_scalar.specs.declared.expr.Expr.TheVariants.{Column, All, Compare}
 use Rattle.expr_scalar.specs.Rename.{IsRenamed}
 use Rattle.expr_operators.specs.declared.operator.Comparison.{Comparison}
-use Rattle.base_schema.specs.declared.table.TableName.{TableName}
+use Rattle.plan_algebra.specs.Trees.{Occurrence}
 use Rattle.sql_bound_query.specs.declared.query.BoundAggregate.{BoundAggregate}
 use Rattle.sql_bound_query.specs.declared.query.BoundBlock.{BoundBlock}
 use Rattle.sql_bound_query.specs.declared.query.BoundBlock.TheVariants as block
@@ -15,8 +15,8 @@ use Rattle.sql_bound_query.specs.declared.query.BoundSource.{BoundSource}
 use Rattle.sql_bound_query.specs.declared.query.Input.{Input}
 use Rattle.sql_bound_query.specs.declared.query.Input.TheVariants as input
 use Rattle.sql_bound_query.specs.declared.query.SetColumn.{SetColumn}
-use Rattle.sql_bound_query.specs.Reads.{tables, tables_of_source, tables_of_input, tables_of_expr}
-use Rattle.sql_bound_query.specs.Reads.{tables_of_aggregate, joined_tables}
+use Rattle.plan_kept_queries.specs.Scans.{tables, tables_of_source, tables_of_input, tables_of_expr}
+use Rattle.plan_kept_queries.specs.Scans.{tables_of_aggregate, joined_tables}
 use Rattle.plan_algebra.specs.declared.aggregate.Aggregate.{Aggregate}
 use Rattle.plan_algebra.specs.declared.tree.DepTree.{DepTree}
 use Rattle.plan_algebra.specs.declared.tree.DepTree.TheVariants as t
@@ -35,7 +35,7 @@ use Rattle.plan_dependent_tree.proofs.FromTrees.{subquery_dependent, subquery_cl
 use Rattle.plan_dependent_tree.proofs.SetTrees.{set_arm}
 
 -- a tree by another name
-named : {occurs : List TableName} {K : RowsOf} {outer : List OuterColumn} {start w n : ℕ}
+named : {occurs : List Occurrence} {K : RowsOf} {outer : List OuterColumn} {start w n : ℕ}
     {tree new : DepTree} → new ≡ tree → n ≡ w → IsTree occurs K outer start tree w
     → IsTree occurs K outer start new n
 named {occurs} {K} {outer} {start} {w} {n} {tree} {new} e f is =
@@ -56,7 +56,7 @@ of_block {x} {y} {outer} {start} {w} {n} {tree} {new} e f g is =
     subst (λ z. IsTree (tables z) (block_of z) outer start new n) (sym e) (named f g is)
 
 -- what was attached to a tree by another name
-pub attached_to : {outer : List OuterColumn} {start w end from last : ℕ} {more : List TableName}
+pub attached_to : {outer : List OuterColumn} {start w end from last : ℕ} {more : List Occurrence}
     {P : Reading} {old tree new : DepTree} → old ≡ tree → end ≡ from
     → Attaches outer start w more P old end new last
     → Attaches outer start w more P tree from new last
@@ -65,7 +65,7 @@ attached_to {outer} {start} {w} {end} {from} {last} {more} {P} {old} {tree} {new
     (subst (λ k. Attaches outer start w more P old k new last) f a)
 
 -- what was attached, as another tree
-pub attached_as : {outer : List OuterColumn} {start w end now last : ℕ} {more : List TableName}
+pub attached_as : {outer : List OuterColumn} {start w end now last : ℕ} {more : List Occurrence}
     {P : Reading} {old new tree : DepTree} → tree ≡ new → now ≡ last
     → Attaches outer start w more P old end new last
     → Attaches outer start w more P old end tree now

@@ -1,7 +1,7 @@
 -- The arms of the code for FROM's items: one variable for each value that the code reads.
 use Rattle.std.proofs.Common.{◌≡◌, ℕ, suc, ◌+◌, ◌<◌, List, [], ◌++◌, true, ◌||◌, refl, sym, ap}
 use Rattle.std.proofs.Common.{◌∙◌, subst, length}
-use Rattle.std.specs.Prelude.{Some}
+use Rattle.std.specs.Prelude.{Option, Some}
 use Rattle.expr_scalar.specs.declared.expr.Expr.{Expr}
 use Rattle.expr_scalar.specs.declared.expr.Expr.TheVariants.{All}
 use Rattle.expr_conditions.specs.Ranks.{columns_from}
@@ -11,7 +11,7 @@ use Rattle.sql_bound_query.specs.declared.query.BoundBlock.{BoundBlock}
 use Rattle.sql_bound_query.specs.declared.query.BoundExpr.{BoundExpr}
 use Rattle.sql_bound_query.specs.declared.query.BoundSource.{BoundSource}
 use Rattle.sql_bound_query.specs.declared.query.BoundSource.TheVariants as source
-use Rattle.sql_bound_query.specs.Reads.{tables, tables_of_expr}
+use Rattle.plan_kept_queries.specs.Scans.{derived_tables, tables, tables_of_expr}
 use Rattle.plan_algebra.specs.declared.tree.DepTree.{DepTree}
 use Rattle.plan_algebra.specs.declared.tree.DepTree.TheVariants as t
 use Rattle.plan_algebra.specs.declared.tree.Side.{Side}
@@ -22,7 +22,7 @@ use Rattle.plan_dependent_nodes.specs.FromGrowth.{IsRightSource, IsKeptRight, Is
 use Rattle.plan_dependent_nodes.specs.FromGrowth.{lateral_columns}
 use Rattle.plan_dependent_nodes.specs.FromGrowth.{IsKeptDomain, KeepsRight}
 use Rattle.plan_dependent_nodes.specs.Growth.{IsTree, IsTreeIn, IsTrimmed, Attaches, IsPlain}
-use Rattle.plan_dependent_nodes.specs.Growth.{ExprAt, block_of}
+use Rattle.plan_dependent_nodes.specs.Growth.{ExprAt, block_of, closed_of}
 use Rattle.plan_dependent_nodes.specs.Seeks.{has, has_place, seeks_of_source, seeks_so_far}
 use Rattle.plan_dependent_nodes.specs.Seeks.{seeks_of_expr}
 use Rattle.plan_dependent_tree.proofs.FromTrees.{table_arm, derived_arm, lateral_arm, cross_arm}
@@ -47,13 +47,14 @@ module _ (outer : List OuterColumn) (so_far : List ℕ) (n start : ℕ) where
       of_source e is.0 refl
       (λ p m. table_arm (FromDomains outer so_far start p) table p w is.1)
 
-  pub derived_seen : {s : BoundSource} {q seen : BoundBlock} {tree : DepTree} {w : ℕ}
-      → s ≡ source.Derived q → seen ≡ q → IsTree (tables seen) (block_of seen) [] start tree w
+  pub derived_seen : {s : BoundSource} {kept : Option ℕ} {q seen : BoundBlock} {tree : DepTree}
+      {w : ℕ} → s ≡ source.Derived kept q → seen ≡ q
+      → IsTree (derived_tables kept seen (tables seen)) (closed_of seen) [] start tree w
       → IsSourceTree s outer so_far n start tree w
-  derived_seen {s} {q} {seen} {tree} {w} e f is =
+  derived_seen {s} {kept} {q} {seen} {tree} {w} e f is =
       of_source e refl refl
-      (λ p m. derived_arm q outer so_far start p w tree
-      (subst (λ z. IsTree (tables z) (block_of z) [] start tree w) f is))
+      (λ p m. derived_arm kept q outer so_far start p w tree
+      (subst (λ z. IsTree (derived_tables kept z (tables z)) (closed_of z) [] start tree w) f is))
 
   pub lateral_seen : {s : BoundSource} {q seen : BoundBlock} {listed : List OuterColumn}
       {tree : DepTree} {w : ℕ} → s ≡ source.Lateral q → seen ≡ q

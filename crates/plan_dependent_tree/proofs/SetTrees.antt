@@ -19,16 +19,16 @@ use Rattle.expr_scalar.specs.Meaning.{values, value}
 use Rattle.expr_scalar.specs.Rename.{IsRenamed, gathered}
 use Rattle.expr_conditions.specs.Ranks.{columns_from}
 use Rattle.expr_conditions.proofs.Gather.{gather_at}
-use Rattle.base_schema.specs.declared.table.TableName.{TableName}
+use Rattle.plan_algebra.specs.Trees.{Occurrence}
 use Rattle.base_schema.specs.State.{table_rows}
 use Rattle.sql_bound_query.specs.declared.query.BoundBlock.{BoundBlock}
 use Rattle.sql_bound_query.specs.declared.query.BoundBlock.TheVariants as block
 use Rattle.sql_bound_query.specs.declared.query.SetColumn.{SetColumn}
 use Rattle.sql_bound_query.specs.Meaning.{Env, block_meaning, left_columns, right_columns}
-use Rattle.sql_bound_query.specs.Reads.{tables}
+use Rattle.plan_kept_queries.specs.Scans.{tables}
 use Rattle.sql_bound_query.proofs.KeptRows as kept
 use Rattle.sql_bound_query.proofs.Opened.{block_Set_at}
-use Rattle.sql_bound_query.proofs.TablesOpened.{of_Set}
+use Rattle.plan_kept_queries.proofs.ScansOpened.{of_Set}
 use Rattle.plan_algebra.specs.declared.tree.DepTree.{DepTree}
 use Rattle.plan_algebra.specs.declared.tree.DepTree.TheVariants as t
 use Rattle.plan_algebra.specs.Trees.{tree_rows, scans_of, width_of, listed}
@@ -92,7 +92,7 @@ count_of places side columns exprs is =
 
 module _ (D : DomainRows) (start : ℕ)
     (size : (env : Env) (d : List Value) → D env d → length d ≡ start) where
-  pub side_tree : (side : SetColumn → Expr) (columns : List SetColumn) (occurs : List TableName)
+  pub side_tree : (side : SetColumn → Expr) (columns : List SetColumn) (occurs : List Occurrence)
       (K : RowsOf) (w : ℕ) (tree : DepTree) (exprs : List Expr) → IsTreeIn D occurs K tree w
       → ReadsOf (columns_from start w) (λ r. map (λ (c : SetColumn). value (side c) r) columns)
       exprs
@@ -122,7 +122,7 @@ module _ (D : DomainRows) (start : ℕ)
             (λ x m. reads_own start w h exprs d x.values read (size env d i) m);
       }
 
-  pub set_tree : (l r : DepTree) (n : ℕ) (operation : SetOperation) (S R : List TableName)
+  pub set_tree : (l r : DepTree) (n : ℕ) (operation : SetOperation) (S R : List Occurrence)
       (K L : RowsOf) → IsTreeIn D S K l n → IsTreeIn D R L r n
       → IsTreeIn D (S ++ R)
       (λ state env. set_rows same_value operation (K state env) (L state env))

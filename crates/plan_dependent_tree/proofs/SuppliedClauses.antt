@@ -32,6 +32,9 @@ use Rattle.plan_dependent_nodes.specs.Supplied.{AggregatesAreSupplied}
 use Rattle.plan_dependent_nodes.specs.Supplied.{IsWidthOf}
 use Rattle.plan_dependent_nodes.proofs.SeeksOpened.{seeks_Plain, seeks_Grouped, seeks_Distinct}
 use Rattle.plan_dependent_nodes.proofs.SeeksOpened.{seeks_Set}
+use Rattle.plan_algebra.specs.declared.tree.DepTree.{DepTree}
+use Rattle.plan_kept_queries.proofs.FormsOpened.{IsGrouped, grouped_of}
+use Rattle.plan_dependent_nodes.specs.Growth.{IsLeaf}
 use Rattle.plan_dependent_nodes.proofs.TypedParts.{PlainTyped, plain_typed, GroupedTyped}
 use Rattle.plan_dependent_nodes.proofs.TypedParts.{grouped_typed, SetTyped, set_typed}
 use Rattle.plan_dependent_nodes.proofs.Within.{query_within}
@@ -265,6 +268,19 @@ grouped_width f c keys as' h exprs {q} {es} {list} {w} is same count wide = reco
       (sym (ap (λ z. block_kinds z around) is) ∙ e) in
       wide ∙ count ∙ ap length same
       ∙ sym (length_listed es ((t.js ++ t.ms) ∷ around) kinds t.list);
+}
+
+-- a query that is kept has as many columns as its plan shows
+pub kept_width : {q : BoundBlock} {number w : ℕ} {tree : DepTree} → IsLeaf number q tree w
+    → IsWidthOf (block_kinds q) w
+kept_width {q} {number} {w} {tree} made = record {
+  is = λ around kinds e.
+      let g : IsGrouped q = grouped_of q made.is_kept in
+      let t : GroupedTyped g.from g.condition g.by g.aggregates g.having g.list around kinds =
+      grouped_typed g.from g.condition g.by g.aggregates g.having g.list around kinds
+      (sym (ap (λ z. block_kinds z around) g.is) ∙ e) in
+      made.width_is ∙ made.is_plan.columns ∙ g.columns
+      ∙ sym (length_listed g.list ((t.js ++ t.ms) ∷ around) kinds t.list);
 }
 
 pub distinct_supplied : (outer : List OuterColumn) {q x seen : BoundBlock}

@@ -1,7 +1,7 @@
 -- What stands in FROM is supplied where its FROM is.
 use Rattle.std.proofs.Common.{◌≡◌, ℕ, zero, suc, ◌+◌, ◌<◌, List, [], ◌∷◌, ◌++◌, Bool, true}
 use Rattle.std.proofs.Common.{◌||◌, length, refl, sym, ap, ◌∙◌, subst, arith}
-use Rattle.std.specs.Prelude.{Some}
+use Rattle.std.specs.Prelude.{Option, Some}
 use Rattle.std.proofs.lemmas.List.{length-append, length-map}
 use Rattle.expr_scalar.specs.declared.kind.Kind.{Kind}
 use Rattle.base_schema.specs.declared.table.TableName.{TableName}
@@ -60,11 +60,11 @@ table_width {s} {table} {w} is wide = record {
 module _ (outer : List OuterColumn) (so_far : List ℕ) (n : ℕ) {s : BoundSource}
     (supplied : SourceIsSupplied s outer so_far n n) where
   -- a derived table reads nothing of any row around
-  pub derived_supplied : {q seen : BoundBlock} → s ≡ source.Derived q → seen ≡ q
-      → QueryIsSupplied seen []
-  derived_supplied {q} {seen} is get =
+  pub derived_supplied : {kept : Option ℕ} {q seen : BoundBlock} → s ≡ source.Derived kept q
+      → seen ≡ q → QueryIsSupplied seen []
+  derived_supplied {kept} {q} {seen} is get =
       let t : block_kinds q [] ≡ Some supplied.kinds =
-      sym (ap (λ (m : FromKinds). m supplied.before supplied.around) (kinds_Derived q))
+      sym (ap (λ (m : FromKinds). m supplied.before supplied.around) (kinds_Derived kept q))
       ∙ sym (ap (λ z. from_kinds z supplied.before supplied.around) is) ∙ supplied.typed in
       subst (λ z. QueryIsSupplied z []) (sym get) (record {
         around = [];
@@ -111,13 +111,13 @@ module _ (outer : List OuterColumn) (so_far : List ℕ) (n : ℕ) {s : BoundSour
         there = lateral_there q is;
       }))
 
-pub derived_width : {s : BoundSource} {q seen : BoundBlock} {w : ℕ} → s ≡ source.Derived q
-    → seen ≡ q → IsWidthOf (block_kinds seen) w → IsSourceWidth s w
-derived_width {s} {q} {seen} {w} is get width = record {
+pub derived_width : {s : BoundSource} {kept : Option ℕ} {q seen : BoundBlock} {w : ℕ}
+    → s ≡ source.Derived kept q → seen ≡ q → IsWidthOf (block_kinds seen) w → IsSourceWidth s w
+derived_width {s} {kept} {q} {seen} {w} is get width = record {
   is = λ before around kinds e.
       width.is [] kinds
       (ap (λ z. block_kinds z []) get
-      ∙ sym (ap (λ (m : FromKinds). m before around) (kinds_Derived q))
+      ∙ sym (ap (λ (m : FromKinds). m before around) (kinds_Derived kept q))
       ∙ sym (ap (λ z. from_kinds z before around) is) ∙ e);
 }
 

@@ -176,7 +176,7 @@ fn source(s: &BoundSource, within: u32, found: &mut Items<OuterColumn>) -> Resul
 {
     match s {
         BoundSource::Table(_) => Ok(()),
-        BoundSource::Derived(_) => Ok(()),
+        BoundSource::Derived(_, _) => Ok(()),
         BoundSource::Lateral(q) => {
             let deeper = within.checked_add(1).ok_or(AllocError)?;
             block(q.get(), deeper, found)?;

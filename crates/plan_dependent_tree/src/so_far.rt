@@ -51,7 +51,7 @@ fn source(alloc: Global, s: &BoundSource, found: &mut Items<u32>) -> Result<(), 
 {
     match s {
         BoundSource::Table(_) => Ok(()),
-        BoundSource::Derived(_) => Ok(()),
+        BoundSource::Derived(_, _) => Ok(()),
         BoundSource::Lateral(q) => {
             nearest(alloc, q.get(), found)?;
             Ok(())

@@ -2,12 +2,14 @@
 ghost use Rattle.std.specs.Prelude.{◌≡◌, ◌+◌, List, [], length, map, IfOk};
 ghost use Rattle.expr_scalar.specs.declared.kind.Kind.{Kind};
 ghost use Rattle.sql_bound_query.specs.Typing.{IsWellTyped, block_kinds, from_kinds};
-ghost use Rattle.sql_bound_query.specs.Reads.{tables, tables_of_source, tables_of_input};
-ghost use Rattle.sql_bound_query.specs.Reads.{tables_of_expr, tables_of_aggregate, joined_tables};
+ghost use Rattle.plan_kept_queries.specs.Scans.{derived_tables, tables, tables_of_source};
+ghost use Rattle.plan_kept_queries.specs.Scans.{tables_of_input};
+ghost use Rattle.plan_kept_queries.specs.Scans.{tables_of_expr, tables_of_aggregate, joined_tables};
 ghost use Rattle.plan_dependent_nodes.specs.Dependence.{IsTreeOf};
 ghost use Rattle.plan_dependent_nodes.specs.FromGrowth.{IsSourceTree, IsRightSource, IsKept};
 ghost use Rattle.plan_dependent_nodes.specs.FromGrowth.{KeepsRight};
-ghost use Rattle.plan_dependent_nodes.specs.Growth.{from_of, block_of, IsTree, IsSubquery};
+ghost use Rattle.plan_dependent_nodes.specs.Growth.{from_of, block_of, closed_of, IsTree};
+ghost use Rattle.plan_dependent_nodes.specs.Growth.{IsSubquery};
 ghost use Rattle.plan_dependent_nodes.specs.Growth.{Attaches, InputAt, InputsAt, ExprAt, ListAt};
 ghost use Rattle.plan_dependent_nodes.specs.Growth.{AggregateAt, AggregatesAt, SameFunction};
 ghost use Rattle.plan_dependent_nodes.specs.Growth.{SameFunctions};
@@ -26,8 +28,9 @@ use plan_algebra::{Aggregate, DepTree, Side};
 use plan_dependent_nodes::{
     Attached, Counted, Grown, Listed, OuterColumn, Placed, Read, Right, RightRows, Rows, Sight,
     SourceSight, Summed, always, applied, contained, crossed, depending, distinct, existing,
-    grouped, grown_from, key_places, lateral_columns, outer_condition, outer_joined, outer_places,
-    over_places, place_of, projected, right_places, selected, table_rows, trimmed, valued,
+    grouped, grown_from, kept_rows, key_places, lateral_columns, outer_condition, outer_joined,
+    outer_places, over_places, place_of, projected, right_places, selected, table_rows, trimmed,
+    valued,
 };
 use sql_bound_query::{BoundAggregate, BoundBlock, BoundExpr, BoundQuery, BoundSource, Input};
 use sqlite_items::{Boxed, Items};
@@ -166,8 +169,8 @@ fn source(alloc: Global, s: &BoundSource, sight: &SourceSight) -> Result<Rows, A
             let rows = table_rows(alloc, *table)?;
             Ok(rows)
         }
-        BoundSource::Derived(q) => {
-            let rows = block(alloc, q.get(), &[], sight.start)?;
+        BoundSource::Derived(kept, q) => {
+            let rows = derived(alloc, *kept, q.get(), sight.start)?;
             Ok(rows)
         }
         BoundSource::Lateral(q) => {
@@ -206,6 +209,29 @@ fn source(alloc: Global, s: &BoundSource, sight: &SourceSight) -> Result<Rows, A
                 }
             }
         }
+    }
+}
+
+// A derived table, which is the kept view of a number or none.
+#[cycle(depend)]
+fn derived(alloc: Global, kept: Option<u32>, q: &BoundBlock, start: u32) -> Result<Rows, AllocError>
+    ensures tree { IfOk result (λ r. QueryIsSupplied q.now []
+        → IsTree (derived_tables kept q.now (tables q.now)) (closed_of q.now) [] start r.tree
+        r.width) }
+    ensures width { IfOk result (λ r. IsWidthOf (block_kinds q.now) r.width) }
+{
+    match kept {
+        None => {
+            let rows = block(alloc, q, &[], start)?;
+            Ok(rows)
+        }
+        Some(number) => match kept_rows(alloc, number, q)? {
+            Some(rows) => Ok(rows),
+            None => {
+                let rows = block(alloc, q, &[], start)?;
+                Ok(rows)
+            }
+        },
     }
 }
 

@@ -5,7 +5,7 @@
 use base_schema::{ColumnKind, TableName};
 use base_set_rows::SetOperation;
 use expr_scalar::{Comparison, Expr};
-use plan_algebra::{DepTree, Side, width};
+use plan_algebra::{DepTree, KeptPlan, Side, width};
 use sqlite_items::{Boxed, at};
 
 // How many values a column is taken to have of which nothing is known.
@@ -129,6 +129,28 @@ fn lineitem_values(column: u32) -> u64 {
     }
 }
 
+// The column of a table that a kept view shows unchanged at a place: one of its GROUP BY columns.
+fn kept_source(plan: &KeptPlan, place: u32) -> Option<Source> {
+    let shown = *at(plan.list.as_slice(), place as usize)?;
+    let column = *at(plan.by.as_slice(), shown as usize)?;
+    Some(Source {
+        table: plan.table,
+        column,
+    })
+}
+
+// How many rows a kept view has.
+fn rows_of_kept(plan: &KeptPlan) -> u64 {
+    let mut groups: u64 = 1;
+    for column in plan.by.as_slice() {
+        groups = groups.saturating_mul(values_of(Source {
+            table: plan.table,
+            column: *column,
+        }));
+    }
+    groups.min(rows_of_table(plan.table))
+}
+
 // The column of a table that a tree, over a domain row of n columns, shows unchanged at a place.
 fn source_of(tree: &DepTree, n: u32, place: u32) -> Option<Source> {
     match tree {
@@ -141,6 +163,7 @@ fn source_of(tree: &DepTree, n: u32, place: u32) -> Option<Source> {
         | DepTree::Mark(t, _, _, _)
         | DepTree::Single(t, _, _, _) => source_of(t.get(), n, place),
         DepTree::Set(_, _, _) => None,
+        DepTree::Kept(_, plan) => kept_source(plan.get(), place),
         DepTree::Project(t, es) => {
             let place = own_place(column_of(at(es.as_slice(), place as usize)?)?, n)?;
             source_of(t.get(), n, place)
@@ -376,6 +399,7 @@ fn groups_of(rows: u64, by: &[u32], sight: &Sight) -> u64 {
 pub fn rows_of(tree: &DepTree, n: u32) -> u64 {
     match tree {
         DepTree::Scan(table) => rows_of_table(*table),
+        DepTree::Kept(_, plan) => rows_of_kept(plan.get()),
         DepTree::Select(t, c) => {
             let rows = rows_of(t.get(), n);
             kept_of(rows, c.get(), &Sight::Tree(n, t.get())).max(1)

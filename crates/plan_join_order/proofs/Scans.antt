@@ -3,7 +3,7 @@ use Rattle.std.proofs.Common.{◌≡◌, ℕ, ◌+◌, List, [], ◌∷◌, ◌+
 use Rattle.std.specs.List.{flat_map}
 use Rattle.base_row_laws.specs.Bags.{weigh, SameBag}
 use Rattle.base_row_laws.proofs.Bags.{weigh-append}
-use Rattle.base_schema.specs.declared.table.TableName.{TableName}
+use Rattle.plan_algebra.specs.Trees.{Occurrence}
 use Rattle.plan_algebra.specs.declared.tree.DepTree.{DepTree}
 use Rattle.plan_algebra.specs.Trees.{scans_of}
 use Rattle.plan_join_order.specs.Groups.{scans_in}
@@ -12,7 +12,7 @@ pub scans_none : scans_in [] ≡ []
 unfolding scans_in
 scans_none = refl
 
-pub weigh-scans : (h : TableName → ℕ) (B C : List DepTree)
+pub weigh-scans : (h : Occurrence → ℕ) (B C : List DepTree)
     → weigh h (scans_in (B ++ C)) ≡ weigh h (scans_in B) + weigh h (scans_in C)
 unfolding scans_in
 weigh-scans h [] C = none (weigh h (flat_map scans_of C))
@@ -25,17 +25,17 @@ weigh-scans h (x ∷ B) C =
     let b = weigh-append h (scans_of x) (flat_map scans_of B) in
     omega (arith, ih, a, b)
 
-pub weigh-scan : (h : TableName → ℕ) (x : DepTree) (C : List DepTree)
+pub weigh-scan : (h : Occurrence → ℕ) (x : DepTree) (C : List DepTree)
     → weigh h (scans_in (x ∷ C)) ≡ weigh h (scans_of x) + weigh h (scans_in C)
 unfolding scans_in
 weigh-scan h x C = weigh-append h (scans_of x) (flat_map scans_of C)
 
-pub weigh-none : (h : TableName → ℕ) → weigh h (scans_in []) ≡ 0
+pub weigh-none : (h : Occurrence → ℕ) → weigh h (scans_in []) ≡ 0
 unfolding scans_in
 weigh-none h = refl
 
 -- one input put after the others
-pub scans_pushed : (inputs : List DepTree) (new : DepTree) (s : List TableName)
+pub scans_pushed : (inputs : List DepTree) (new : DepTree) (s : List Occurrence)
     → SameBag s (scans_of new) → SameBag (scans_in inputs ++ s) (scans_in (inputs ++ new ∷ []))
 scans_pushed inputs new s b = record {
   weighs = λ h. let w = b.weighs h in let l = weigh-append h (scans_in inputs) s in
@@ -44,7 +44,7 @@ scans_pushed inputs new s b = record {
 }
 
 -- two sides, one after the other
-pub scans_joined : (i l r some more : List TableName) → SameBag (i ++ l) some
+pub scans_joined : (i l r some more : List Occurrence) → SameBag (i ++ l) some
     → SameBag (some ++ r) more → SameBag (i ++ (l ++ r)) more
 scans_joined i l r some more a b = record {
   weighs = λ h.
@@ -55,7 +55,7 @@ scans_joined i l r some more a b = record {
 }
 
 -- an input moved to the first
-pub scans_moved : (f x j : List TableName) (B C : List DepTree) (input : DepTree)
+pub scans_moved : (f x j : List Occurrence) (B C : List DepTree) (input : DepTree)
     → x ≡ scans_of input → SameBag (f ++ x) j
     → SameBag (f ++ scans_in (B ++ input ∷ C)) (j ++ scans_in (B ++ C))
 scans_moved f x j B C input is s = record {

@@ -1,6 +1,6 @@
 -- The views of a session stay well typed.
 use Rattle.std.proofs.Common.{◌≡◌, ℕ, zero, suc, List, [], ◌∷◌, ◌++◌, subst, sym, take, drop}
-use Rattle.std.specs.Prelude.{Result, Ok, Err, remove}
+use Rattle.std.specs.Prelude.{Result, Ok, Err, Some, remove}
 use Rattle.base_row_laws.specs.Bags.{Each}
 use Rattle.base_row_laws.proofs.Lists.{Each-append}
 use Rattle.expr_scalar.specs.declared.kind.Kind.{Kind}
@@ -22,6 +22,16 @@ typed_with views now name names q v typed is e =
     subst ViewsAreTyped (sym e)
     (Each-append (λ (x : View). IsWellTyped x.block (header_kinds x.columns)) views (v ∷ []) typed
     (view_is_well_typed name names q views v typed is, tt))
+
+-- one view more, of which a number is said too
+pub typed_kept : (views now : List View) (number : ℕ) (name : Name) (q : Block) (v : View)
+    → ViewsAreTyped views → bound_view name [] q [] ≡ Ok v
+    → now ≡ views ++ record v { kept = Some number } ∷ [] → ViewsAreTyped now
+typed_kept views now number name q v typed is e =
+    subst ViewsAreTyped (sym e)
+    (Each-append (λ (x : View). IsWellTyped x.block (header_kinds x.columns)) views
+    (record v { kept = Some number } ∷ []) typed
+    (view_is_well_typed name [] q [] v tt is, tt))
 
 module _ {X : Type 0} (P : X → Type 0) where
   first_each : (n : ℕ) (xs : List X) → Each P xs → Each P (take n xs)

@@ -4,8 +4,8 @@ use Rattle.std.specs.Prelude.{decimal}
 use Rattle.std.specs.List.{flat_map}
 use Rattle.base_schema.specs.Tables.{table_name}
 use Rattle.plan_algebra.specs.declared.node.Node.{Node}
-use Rattle.plan_algebra.specs.declared.node.Node.TheVariants.{Scan, Domain, Select, Project, Join}
-use Rattle.plan_algebra.specs.declared.node.Node.TheVariants.{Outer}
+use Rattle.plan_algebra.specs.declared.node.Node.TheVariants.{Scan, Kept, Domain, Select, Project}
+use Rattle.plan_algebra.specs.declared.node.Node.TheVariants.{Join, Outer}
 use Rattle.plan_algebra.specs.declared.node.Node.TheVariants.{Mark, Single, Group, Fill, Distinct}
 use Rattle.plan_algebra.specs.declared.node.Node.TheVariants.{Set}
 use Rattle.base_set_rows.specs.declared.kind.ClassKind.TheVariants.{Intersect, Except}
@@ -22,6 +22,7 @@ operation_name (Classes Except all) = codes "except"
 -- the name of a node's kind
 abbrev pub kind_name : Node → List ℕ
 kind_name (Scan table) = codes "scan"
+kind_name (Kept number plan) = codes "kept"
 kind_name (Domain i cs) = codes "domain"
 kind_name (Select i e) = codes "select"
 kind_name (Project i es) = codes "project"
@@ -34,18 +35,21 @@ kind_name (Fill i j empty) = codes "fill"
 kind_name (Distinct i) = codes "distinct"
 kind_name (Set i j operation) = operation_name operation
 
--- whether a node is a scan
+-- whether a node is a scan, of a table or of a kept view
 abbrev pub is_scan : Node → Bool
 is_scan (Scan table) = true
+is_scan (Kept number plan) = true
 is_scan node = false
 
 -- a number after a space
 abbrev pub spaced : ℕ → List ℕ
 spaced n = codes " " ++ decimal n
 
--- what a node reads: its table by its name, or its inputs by their numbers, in the node's order
+-- what a node reads: its table by its name, its kept view by its number, or its inputs by their
+-- numbers, in the node's order
 abbrev pub reads_text : Node → List ℕ
 reads_text (Scan table) = codes " " ++ table_name table
+reads_text (Kept number plan) = spaced number
 reads_text node = flat_map spaced (inputs_of node)
 
 -- the line of a node by its number

@@ -4,7 +4,7 @@ use Rattle.base_row_laws.specs.Bags.{SameBag}
 use Rattle.base_schema.specs.State.{State, table_rows}
 use Rattle.sql_bound_query.specs.declared.query.BoundQuery.{BoundQuery}
 use Rattle.sql_bound_query.specs.Meaning.{rows}
-use Rattle.sql_bound_query.specs.Reads.{tables}
+use Rattle.plan_kept_queries.specs.Scans.{tables}
 use Rattle.sql_bound_query.specs.Typing.{StateIsOf}
 use Rattle.sql_binder_steps.specs.declared.fault.BindFault.{BindFault}
 use Rattle.sql_binder_steps.specs.Steps.{Checked, Gives}

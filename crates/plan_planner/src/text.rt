@@ -11,7 +11,7 @@ use std::alloc::{AllocError, Global};
 
 /// The text of a plan: a line `plan nodes N reads R` with the numbers of its nodes and of its
 /// scans; and for each node, in the plan's order, a line with its number, its kind, and the numbers
-/// of its inputs, or a scan's table.
+/// of its inputs, a scan's table, or a kept view's number.
 pub fn plan_text(alloc: Global, plan: &FlatPlan) -> Result<Vec<u8>, AllocError>
     ensures { IfOk result (λ text. text.items ≡ text_of_plan plan.now.nodes) }
 {
@@ -33,7 +33,7 @@ fn nodes_text(alloc: Global, nodes: &[Node]) -> Result<Vec<u8>, AllocError>
 fn is_scan(node: &Node) -> bool
     ensures { result ≡ is_scan node.now }
 {
-    matches!(node, Node::Scan(_))
+    matches!(node, Node::Scan(_) | Node::Kept(_, _))
 }
 
 // How many of the nodes are scans.
@@ -90,6 +90,7 @@ fn kind_name(node: &Node) -> &'static str
         Node::Fill(_, _, _) => "fill",
         Node::Distinct(_) => "distinct",
         Node::Set(_, _, operation) => operation_name(*operation),
+        Node::Kept(_, _) => "kept",
     }
 }
 
@@ -129,6 +130,10 @@ fn push_reads(text: &mut Vec<u8>, node: &Node) -> Result<(), AllocError>
         | Node::Set(i, j, _) => {
             push_spaced(text, *i)?;
             push_spaced(text, *j)?;
+            Ok(())
+        }
+        Node::Kept(number, _) => {
+            push_spaced(text, *number as usize)?;
             Ok(())
         }
     }

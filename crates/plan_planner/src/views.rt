@@ -1,12 +1,12 @@
 //! The views of a session, from which its queries are planned.
 ghost use Rattle.sql_binder.specs.Binding.{bound_view};
-ghost use Rattle.plan_planner.specs.Made.{Makes};
+ghost use Rattle.plan_planner.specs.Made.{Makes, kept_view};
 
 use sql_ast::{Block, Name};
 use sql_binder::bind_view;
-use sql_binder_steps::{BindFault, View, Views};
+use sql_binder_steps::{BindFault, View, Views, copy_views};
 use sqlite_items::Items;
-use std::alloc::Global;
+use std::alloc::{AllocError, Global};
 use std::marker::Model;
 
 /// The views of a session in the order in which they were made. Each was bound over those that
@@ -34,7 +34,7 @@ impl Model for SessionViews {
 }
 
 impl SessionViews {
-    ghost use Rattle.std.specs.Prelude.{◌≡◌, ◌<◌, [], length, remove};
+    ghost use Rattle.std.specs.Prelude.{◌≡◌, ◌<◌, [], length, remove, IfOk};
 
     /// No view.
     pub fn new(alloc: Global) -> SessionViews
@@ -71,6 +71,45 @@ impl SessionViews {
         let view = bind_view(alloc, name, names, query, &self.views)?;
         self.views.all.push(view)?;
         Ok(())
+    }
+
+    /// Makes a view of a bound query whose rows are kept under this number. It is bound over no
+    /// other view.
+    ///
+    /// # Errors
+    ///
+    /// `Refused` exactly as `bind_view` is; `OutOfMemory`. The views then stay as they are.
+    pub fn keep(
+        &mut self,
+        alloc: Global,
+        number: u32,
+        name: &Name,
+        query: &Block,
+    ) -> Result<(), BindFault>
+        ensures { Makes (kept_view number name.now query.now) self.old self.new result }
+    {
+        let none = Views {
+            all: Items::new(alloc),
+        };
+        let view = bind_view(alloc, name, &[], query, &none)?;
+        let view = View {
+            name: view.name,
+            columns: view.columns,
+            block: view.block,
+            items: view.items,
+            kept: Some(number),
+        };
+        self.views.all.push(view)?;
+        Ok(())
+    }
+
+    /// The same views once more.
+    pub fn copy(&self, alloc: Global) -> Result<SessionViews, AllocError>
+        ensures { IfOk result (λ views. views ≡ self.now) }
+    {
+        let all = copy_views(alloc, self.views.all.as_slice())?;
+        let views = Views { all };
+        Ok(SessionViews { views })
     }
 
     /// Drops the view at a place.

@@ -21,6 +21,7 @@ use Rattle.base_value.specs.Truth.{truth_rank}
 use Rattle.base_value.specs.declared.value.Value.{Value}
 use Rattle.base_value.specs.declared.value.Value.TheVariants.{Null}
 use Rattle.base_schema.specs.declared.table.TableName.{TableName}
+use Rattle.plan_algebra.specs.declared.kept_plan.KeptPlan.{KeptPlan}
 use Rattle.expr_scalar.specs.declared.expr.Expr.{Expr}
 use Rattle.expr_scalar.specs.declared.expr.Expr.TheVariants as e
 use Rattle.expr_scalar.specs.Rename.{gathered, IsRenamed}
@@ -35,7 +36,7 @@ use Rattle.plan_algebra.specs.declared.tree.Side.{Side}
 use Rattle.plan_algebra.specs.declared.tree.Side.TheVariants.{Shared}
 use Rattle.plan_algebra.specs.Trees.{Database, width_of, tree_rows, scans_of, right_row}
 use Rattle.plan_algebra.proofs.Opened.{width_Join, rows_Join, width_Select, rows_Select, scans_Select}
-use Rattle.plan_algebra.proofs.Opened.{scans_Join, rows_Scan}
+use Rattle.plan_algebra.proofs.Opened.{scans_Join, rows_Scan, rows_Kept}
 use Rattle.plan_predicate_sinking.specs.Arranged.{SameRows}
 use Rattle.plan_predicate_sinking.specs.Own.{own_side, own_row, other_row, own_width, SideServes, ReadsOwn}
 use Rattle.plan_predicate_sinking.specs.Own.{own_places, IsApart, PutApart}
@@ -338,6 +339,14 @@ serves_scan n input table is =
     record {
       rows = λ db d ld. ap (λ y. tree_rows y db []) is ∙ rows_Scan table db []
           ∙ sym (ap (λ y. tree_rows y db d) is ∙ rows_Scan table db d);
+    }
+
+pub serves_kept : (n : ℕ) (input : DepTree) (number : ℕ) (plan : KeptPlan)
+    → input ≡ t.Kept number plan → SideServes n input true
+serves_kept n input number plan is =
+    record {
+      rows = λ db d ld. ap (λ y. tree_rows y db []) is ∙ rows_Kept number plan db []
+          ∙ sym (ap (λ y. tree_rows y db d) is ∙ rows_Kept number plan db d);
     }
 
 pub serves_open : (n : ℕ) (input : DepTree) → SideServes n input false

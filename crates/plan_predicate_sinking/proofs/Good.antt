@@ -36,8 +36,12 @@ use Rattle.plan_algebra.specs.declared.tree.DepTree.TheFolds.{ind-DepTree, map-D
 use Rattle.plan_algebra.specs.Trees.{Database, HasKinds, width_of, tree_rows, listed, right_row}
 use Rattle.plan_algebra.specs.Trees.{mark_under, scalar_at, keys_under, aggregates_under, groups_under}
 use Rattle.plan_algebra.proofs.NoRows.{length-aggregates_of}
-use Rattle.plan_algebra.proofs.Opened.{width_Scan, width_Select, width_Project, width_Join, width_Outer}
+use Rattle.plan_algebra.proofs.Opened.{width_Scan, width_Kept, width_Select, width_Project, width_Join, width_Outer}
 use Rattle.plan_algebra.proofs.Opened.{width_Mark, width_Single, width_Group, width_Distinct, rows_Scan}
+use Rattle.plan_algebra.proofs.Opened.{rows_Kept}
+use Rattle.plan_algebra.proofs.KeptPlans.{query_stands}
+use Rattle.plan_algebra.proofs.Widths.{query_wide}
+use Rattle.plan_algebra.specs.KeptPlans.{query_rows}
 use Rattle.plan_algebra.proofs.Opened.{rows_Select, rows_Project, rows_Join, rows_Outer, rows_Mark}
 use Rattle.plan_algebra.proofs.Opened.{rows_Single, rows_Group, rows_Distinct, width_Set, rows_Set}
 use Rattle.plan_algebra.proofs.Opened.{rows_uneven}
@@ -199,6 +203,10 @@ node : (y : f.DepTree-F ((x : DepTree) × Goods x))
 node (f.Scan table) = subst Goods (sym (t.rolls-Scan table)) (λ db d k.
     good (t.Scan table) db d (length (kinds_of table)) (scanned (db table)) (width_Scan table)
     (rows_Scan table db d) (scanned_wide table (db table) (k table)) (scanned_stands (db table)))
+node (f.Kept number plan) = subst Goods (sym (t.rolls-Kept number plan)) (λ db d k.
+    good (t.Kept number plan) db d (length plan.list) (query_rows plan (db plan.table))
+    (width_Kept number plan) (rows_Kept number plan db d) (query_wide plan (db plan.table))
+    (query_stands plan (db plan.table)))
 node (f.Select a c) = subst Goods (sym (t.rolls-Select a.0 c)) (λ db d k.
     let g = a.1 db d k in
     good (t.Select a.0 c) db d (width_of a.0) (select (says c d) (tree_rows a.0 db d))

@@ -117,8 +117,8 @@ pub fn selected(
     Ok(new)
 }
 
-// Whether an input has the same rows under the domain row of no columns: a table, and where there
-// are no other domain rows any input. So a table is not read together with a domain.
+// Whether an input has the same rows under the domain row of no columns: a table, a kept view, and
+// where there are no other domain rows any input. So a table is not read together with a domain.
 fn may_be_closed(n: u32, input: &DepTree) -> bool
     ensures { SideServes n input.now result }
 {
@@ -127,6 +127,7 @@ fn may_be_closed(n: u32, input: &DepTree) -> bool
     }
     match input {
         DepTree::Scan(_) => true,
+        DepTree::Kept(_, _) => true,
         _ => false,
     }
 }

@@ -12,6 +12,6 @@ pub use copy::copy_tree;
 pub use domain::{put_at, side_columns};
 pub use joined::{join_first, reads_own, selected};
 pub use nodes::{
-    copied_side, group_of, join_of, mark_of, outer_of, project_of, select_of, single_of,
+    copied_side, group_of, join_of, kept_of, mark_of, outer_of, project_of, select_of, single_of,
 };
 pub use sink::sunk;

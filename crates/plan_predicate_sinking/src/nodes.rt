@@ -1,11 +1,13 @@
 //! Nodes over new inputs.
 ghost use Rattle.std.specs.Prelude.{◌≡◌, IfOk};
 ghost use Rattle.plan_algebra.specs.declared.tree.DepTree.TheVariants.{Select, Project, Join};
-ghost use Rattle.plan_algebra.specs.declared.tree.DepTree.TheVariants.{Outer};
+ghost use Rattle.plan_algebra.specs.declared.tree.DepTree.TheVariants.{Kept, Outer};
 ghost use Rattle.plan_algebra.specs.declared.tree.DepTree.TheVariants.{Mark, Single, Group};
 
 use expr_scalar::Expr;
-use plan_algebra::{Aggregate, DepTree, Side, copy_aggregates, copy_expr, copy_exprs};
+use plan_algebra::{
+    Aggregate, DepTree, KeptPlan, Side, copy_aggregates, copy_expr, copy_exprs, copy_kept_plan,
+};
 use sqlite_items::{Boxed, Items};
 use std::alloc::{AllocError, Global};
 
@@ -21,6 +23,19 @@ pub fn copied_side(alloc: Global, side: &Side) -> Result<Side, AllocError>
             Ok(Side::Dependent(columns))
         }
     }
+}
+
+/// A kept view.
+pub fn kept_of(
+    alloc: Global,
+    number: u32,
+    plan: &Boxed<KeptPlan>,
+) -> Result<Boxed<DepTree>, AllocError>
+    ensures { IfOk result (λ new. new ≡ Kept number plan.now) }
+{
+    let plan = copy_kept_plan(alloc, plan.get())?;
+    let new = Boxed::new(alloc, DepTree::Kept(number, plan))?;
+    Ok(new)
 }
 
 /// A selection of an input.

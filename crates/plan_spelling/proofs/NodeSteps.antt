@@ -6,9 +6,10 @@ use Rattle.base_set_rows.specs.declared.kind.SetOperation.{SetOperation}
 use Rattle.base_value.specs.declared.value.Value.{Value}
 use Rattle.expr_scalar.specs.declared.expr.Expr.{Expr}
 use Rattle.plan_algebra.specs.declared.aggregate.Aggregate.{Aggregate}
+use Rattle.plan_algebra.specs.declared.kept_plan.KeptPlan.{KeptPlan}
 use Rattle.plan_algebra.specs.declared.node.Node.TheVariants as n
 use Rattle.plan_spelling.specs.Exprs.{expr_spelling, spelled}
-use Rattle.plan_spelling.specs.Plans.{aggregate_spelling, node_spelling, operation_number, pair_numbers, value_spelling}
+use Rattle.plan_spelling.specs.Plans.{aggregate_spelling, kept_numbers, kept_parts, node_spelling, operation_number, pair_numbers, value_spelling}
 
 pub spelled_Scan : (t : TableName) → node_spelling (n.Scan t) ≡ spelled (21 ∷ table_name t) []
 unfolding node_spelling
@@ -57,3 +58,7 @@ spelled_Distinct i = refl
 pub spelled_Set : (i j : ℕ) (o : SetOperation) → node_spelling (n.Set i j o) ≡ spelled (32 ∷ i ∷ j ∷ operation_number o ∷ []) []
 unfolding node_spelling
 spelled_Set i j o = refl
+
+pub spelled_Kept : (number : ℕ) (plan : KeptPlan) → node_spelling (n.Kept number plan) ≡ spelled (33 ∷ number ∷ kept_numbers plan) (kept_parts plan)
+unfolding node_spelling
+spelled_Kept number plan = refl

@@ -1,5 +1,6 @@
 -- Expressions, branches and operations from their spellings.
-use Rattle.std.proofs.Common.{◌≡◌, ℕ, List, [], ◌∷◌, ◌++◌, map, refl, ap, sym, ◌∙◌, unwrap_or}
+use Rattle.std.proofs.Common.{◌≡◌, ℕ, List, [], ◌∷◌, ◌++◌, map, refl, ap, sym, ◌∙◌, unwrap_or, take, drop, length}
+use Rattle.std.proofs.lemmas.List.{take_at, drop_at}
 use Rattle.std.specs.Prelude.{◌==◌, if◌then◌else◌, Option, None, Some, option_map}
 use Rattle.base_row_laws.specs.Bags.{Each}
 use Rattle.base_value.specs.declared.value.Value.{Value}
@@ -16,12 +17,17 @@ use Rattle.base_schema.specs.declared.table.TableName.{TableName}
 use Rattle.base_schema.specs.declared.table.TableName.TheVariants as t
 use Rattle.plan_algebra.specs.declared.aggregate.Aggregate.{Aggregate}
 use Rattle.plan_algebra.specs.declared.aggregate.Aggregate.TheVariants.{CountRows, Of}
+use Rattle.expr_aggregates.specs.declared.function.AggregateFunction.TheVariants.{Count, Sum}
+use Rattle.plan_algebra.specs.declared.kept_plan.KeptAggregate.{KeptAggregate}
+use Rattle.plan_algebra.specs.declared.kept_plan.KeptAggregate.TheVariants as kept
+use Rattle.plan_algebra.specs.declared.kept_plan.KeptPlan.{KeptPlan}
 use Rattle.plan_algebra.specs.declared.node.Node.{Node}
 use Rattle.plan_algebra.specs.declared.node.Node.TheVariants as n
-use Rattle.plan_spelling.specs.Plans.{aggregate_spelling, function_number, node_spelling, operation_number, pair_numbers, plan_spelling, value_spelling}
+use Rattle.plan_algebra.specs.KeptPlans.{plain_aggregate}
+use Rattle.plan_spelling.specs.Plans.{aggregate_spelling, function_number, kept_numbers, node_spelling, operation_number, pair_numbers, plan_spelling, value_spelling}
 use Rattle.plan_spelling.specs.Exprs.{arithmetic_number, branch_spelling, comparison_number, expr_spelling, operation_spelling, part_number, spelled, value_numbers}
 use Rattle.plan_spelling.proofs.Opened.{spelling_Branch, spelling_Operation, spelling_Column, spelling_Literal, spelling_Negative, spelling_Arithmetic, spelling_Case, spelling_Extract, spelling_Substring, spelling_Compare, spelling_Between, spelling_Like, spelling_InList, spelling_IsNull, spelling_Not, spelling_All, spelling_Any, spelling_IsMarked}
-use Rattle.plan_spelling.proofs.NodeSteps.{spelled_Scan, spelled_Domain, spelled_Select, spelled_Project, spelled_Join, spelled_Outer, spelled_Mark, spelled_Single, spelled_Group, spelled_Fill, spelled_Distinct, spelled_Set}
+use Rattle.plan_spelling.proofs.NodeSteps.{spelled_Kept, spelled_Scan, spelled_Domain, spelled_Select, spelled_Project, spelled_Join, spelled_Outer, spelled_Mark, spelled_Single, spelled_Group, spelled_Fill, spelled_Distinct, spelled_Set}
 use Rattle.plan_spelling.proofs.Readback.{arithmetic_of, arithmetic_back, comparison_of, comparison_back, part_of, part_back, value_of, value_back, function_of, function_back, set_operation_of, set_operation_back, pairs_of, pairs_back}
 
 pub data Part : Type 0 where
@@ -171,9 +177,29 @@ abbrev nodes : ℕ → List ℕ → List Part → Option Part
 nodes tag ns ps =
     if tag == 18 then leaf (aggregate CountRows) ps else (if tag == 19 then summed ns ps else (if tag == 20 then constant (value_of ns) ps else (if tag == 21 then scanned (table_of ns) ps else (if tag == 22 then over_one (λ i cs. leaf (node (n.Domain i cs))) ns ps else (if tag == 23 then over_one (λ i rest. one (λ a. node (n.Select i a))) ns ps else (if tag == 24 then over_one (λ i rest ps. option_map (λ us. node (n.Project i us)) (exprs_of ps)) ns ps else None))))))
 
+-- a kept aggregate, of an aggregate
+abbrev kept_of : Aggregate → Option KeptAggregate
+kept_of CountRows = Some kept.CountRows
+kept_of (Of Count scale a) = Some (kept.Count a)
+kept_of (Of Sum scale a) = Some (kept.Sum scale a)
+kept_of other = None
+
+abbrev kept_part : Part → Option KeptAggregate
+kept_part (aggregate a) = kept_of a
+kept_part other = None
+
+abbrev kept_made : ℕ → List ℕ → List ℕ → Option TableName → Expr → Option (List KeptAggregate) → Option Part
+kept_made number by list (Some t) c (Some us) = Some (node (n.Kept number (record { table = t; condition = c; by = by; aggregates = us; list = list })))
+kept_made number by list t c us = None
+
+abbrev kept_read : ℕ → ℕ → ℕ → List ℕ → List Part → Option Part
+kept_read number m k ns (expr c ∷ ps) =
+    kept_made number (take m ns) (take k (drop m ns)) (table_of (drop k (drop m ns))) c (all_of kept_part ps)
+kept_read number m k ns ps = None
+
 abbrev joins : ℕ → List ℕ → List Part → Option Part
 joins tag ns ps =
-    if tag == 25 then over_two (λ i j rest. one (λ a. node (n.Join i j (pairs_of rest) a))) ns ps else (if tag == 26 then over_three (λ i j k rest. one (λ a. node (n.Outer i j (pairs_of rest) k a))) ns ps else (if tag == 27 then over_two (λ i j rest. one (λ a. node (n.Mark i j (pairs_of rest) a))) ns ps else (if tag == 28 then over_three (λ i j k rest. leaf (node (n.Single i j (pairs_of rest) k))) ns ps else (if tag == 29 then over_one (λ i by ps. option_map (λ us. node (n.Group i by us)) (all_of aggregate_of ps)) ns ps else (if tag == 30 then over_two (λ i j rest ps. option_map (λ xs. node (n.Fill i j xs)) (all_of value_part ps)) ns ps else (if tag == 31 then over_one (λ i rest. leaf (node (n.Distinct i))) ns ps else (if tag == 32 then over_three (λ i j k rest. leaf (node (n.Set i j (set_operation_of k)))) ns ps else None)))))))
+    if tag == 25 then over_two (λ i j rest. one (λ a. node (n.Join i j (pairs_of rest) a))) ns ps else (if tag == 26 then over_three (λ i j k rest. one (λ a. node (n.Outer i j (pairs_of rest) k a))) ns ps else (if tag == 27 then over_two (λ i j rest. one (λ a. node (n.Mark i j (pairs_of rest) a))) ns ps else (if tag == 28 then over_three (λ i j k rest. leaf (node (n.Single i j (pairs_of rest) k))) ns ps else (if tag == 29 then over_one (λ i by ps. option_map (λ us. node (n.Group i by us)) (all_of aggregate_of ps)) ns ps else (if tag == 30 then over_two (λ i j rest ps. option_map (λ xs. node (n.Fill i j xs)) (all_of value_part ps)) ns ps else (if tag == 31 then over_one (λ i rest. leaf (node (n.Distinct i))) ns ps else (if tag == 32 then over_three (λ i j k rest. leaf (node (n.Set i j (set_operation_of k)))) ns ps else (if tag == 33 then over_three kept_read ns ps else None))))))))
 
 abbrev or_else : Option Part → Option Part → Option Part
 or_else (Some p) other = Some p
@@ -342,6 +368,28 @@ table_back t.Customer = refl
 table_back t.Orders = refl
 table_back t.Lineitem = refl
 
+kept_back : (a : KeptAggregate) → kept_part (aggregate (plain_aggregate a)) ≡ Some a
+kept_back kept.CountRows = refl
+kept_back (kept.Count e) = refl
+kept_back (kept.Sum scale e) = refl
+
+-- the numbers of a kept plan, read back
+kept_numbers_back : (number : ℕ) (plan : KeptPlan) (ps : List Part)
+    → kept_read number (length plan.by) (length plan.list) (plan.by ++ (plan.list ++ table_name plan.table)) (expr plan.condition ∷ ps)
+    ≡ kept_made number plan.by plan.list (Some plan.table) plan.condition (all_of kept_part ps)
+kept_numbers_back number plan ps =
+    let name = table_name plan.table in let rest = plan.list ++ name in let us = all_of kept_part ps in
+    let m = length plan.by in let k = length plan.list in
+    let first : take m (plan.by ++ rest) ≡ plan.by = take_at plan.by rest m refl in
+    let after : drop m (plan.by ++ rest) ≡ rest = drop_at plan.by rest m refl in
+    let shown : take k rest ≡ plan.list = take_at plan.list name k refl in
+    let last : drop k rest ≡ name = drop_at plan.list name k refl in
+    ap (λ y. kept_made number y (take k (drop m (plan.by ++ rest))) (table_of (drop k (drop m (plan.by ++ rest)))) plan.condition us) first
+    ∙ ap (λ y. kept_made number plan.by (take k y) (table_of (drop k y)) plan.condition us) after
+    ∙ ap (λ y. kept_made number plan.by y (table_of (drop k rest)) plan.condition us) shown
+    ∙ ap (λ y. kept_made number plan.by plan.list (table_of y) plan.condition us) last
+    ∙ ap (λ t. kept_made number plan.by plan.list t plan.condition us) (table_back plan.table)
+
 abbrev pub a_node : (x : Node) → Described (node x)
 a_node (n.Scan table) = record {
   what = 21 ∷ table_name table;
@@ -399,6 +447,16 @@ a_node (n.Set i j o) = record {
   below = [];
   is = spelled_Set i j o;
   back = ap (λ k. Some (node (n.Set i j k))) (set_operation_back o);
+}
+a_node (n.Kept number plan) = record {
+  what = 33 ∷ number ∷ kept_numbers plan;
+  below = expr plan.condition ∷ map (λ a. aggregate (plain_aggregate a)) plan.aggregates;
+  is = spelled_Kept number plan
+      ∙ ap (λ l. spelled (33 ∷ number ∷ kept_numbers plan) (expr_spelling plan.condition ∷ l))
+      (sym (all_spelled (λ a. aggregate_spelling (plain_aggregate a)) (λ a. aggregate (plain_aggregate a)) (λ a. refl) plan.aggregates));
+  back = kept_numbers_back number plan (map (λ a. aggregate (plain_aggregate a)) plan.aggregates)
+      ∙ ap (kept_made number plan.by plan.list (Some plan.table) plan.condition)
+      (all_back kept_part (λ a. aggregate (plain_aggregate a)) kept_back plan.aggregates);
 }
 
 pub described : (p : Part) → Described p

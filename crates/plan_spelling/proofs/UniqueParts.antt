@@ -19,7 +19,8 @@ use Rattle.plan_algebra.specs.declared.aggregate.Aggregate.TheVariants.{CountRow
 use Rattle.plan_algebra.specs.declared.node.Node.{Node}
 use Rattle.plan_algebra.specs.declared.node.Node.TheVariants as n
 use Rattle.plan_spelling.specs.Laws.{SpellingIsUnique}
-use Rattle.plan_spelling.specs.Plans.{aggregate_spelling, function_number, node_spelling, pair_numbers, plan_spelling, value_spelling}
+use Rattle.plan_algebra.specs.KeptPlans.{plain_aggregate}
+use Rattle.plan_spelling.specs.Plans.{aggregate_spelling, function_number, kept_numbers, node_spelling, pair_numbers, plan_spelling, value_spelling}
 use Rattle.plan_spelling.specs.Exprs.{arithmetic_number, branch_spelling, comparison_number, expr_spelling, operation_spelling, part_number, spelled, value_numbers}
 use Rattle.plan_spelling.proofs.Lists.{Unique, spelled_unique}
 use Rattle.plan_spelling.proofs.Parts.{Part, expr, branch, operation, aggregate, value, node, part_spelling, rebuilt, Described, a_column, a_literal, a_negative, a_chain, a_case, an_extract, a_substring, a_comparison, a_between, a_like, a_list, a_null_test, a_not, an_all, an_any, a_mark_test, a_branch, an_operation, an_aggregate, a_value, a_node, described}
@@ -96,6 +97,8 @@ unique_node (n.Group i by us) = unique_part _ (a_node (n.Group i by us)) (each_m
 unique_node (n.Fill i j xs) = unique_part _ (a_node (n.Fill i j xs)) (each_map value unique_value xs)
 unique_node (n.Distinct i) = unique_part _ (a_node (n.Distinct i)) tt
 unique_node (n.Set i j o) = unique_part _ (a_node (n.Set i j o)) tt
+unique_node (n.Kept number plan) = unique_part _ (a_node (n.Kept number plan))
+    (unique_expr plan.condition, each_map (λ a. aggregate (plain_aggregate a)) (λ a. unique_aggregate (plain_aggregate a)) plan.aggregates)
 
 abbrev node_or : Node → Part → Node
 node_or x (node y) = y

@@ -1,19 +1,22 @@
 -- Spellings as they are appended, piece by piece.
 use Rattle.std.proofs.Common.{◌≡◌, ℕ, suc, ◌+◌, ◌*◌, List, [], ◌∷◌, ◌++◌, map, length, refl, ap, sym, ◌∙◌, append_assoc, append-nil, arith}
 use Rattle.std.specs.List.{flat_map}
+use Rattle.std.proofs.lemmas.List.{length-append}
 use Rattle.base_value.specs.declared.value.Value.{Value}
 use Rattle.expr_scalar.specs.declared.expr.Branch.{Branch}
 use Rattle.expr_scalar.specs.declared.expr.Expr.{Expr}
 use Rattle.expr_scalar.specs.declared.expr.Expr.TheVariants as e
 use Rattle.expr_scalar.specs.declared.expr.Operation.{Operation}
 use Rattle.plan_algebra.specs.declared.aggregate.Aggregate.{Aggregate}
+use Rattle.plan_algebra.specs.declared.kept_plan.KeptPlan.{KeptPlan}
 use Rattle.plan_algebra.specs.declared.node.Node.{Node}
 use Rattle.plan_algebra.specs.declared.node.Node.TheVariants as n
 use Rattle.base_schema.specs.Tables.{table_name}
 use Rattle.base_schema.specs.declared.table.TableName.{TableName}
-use Rattle.plan_spelling.proofs.NodeSteps.{spelled_Scan, spelled_Domain, spelled_Select, spelled_Project, spelled_Join, spelled_Outer, spelled_Mark, spelled_Single, spelled_Group, spelled_Fill, spelled_Distinct, spelled_Set}
+use Rattle.plan_spelling.proofs.NodeSteps.{spelled_Kept, spelled_Scan, spelled_Domain, spelled_Select, spelled_Project, spelled_Join, spelled_Outer, spelled_Mark, spelled_Single, spelled_Group, spelled_Fill, spelled_Distinct, spelled_Set}
 use Rattle.plan_spelling.specs.Exprs.{branch_spelling, expr_spelling, operation_spelling, parts, spelled}
-use Rattle.plan_spelling.specs.Plans.{aggregate_spelling, node_spelling, pair_numbers, plan_spelling, value_spelling}
+use Rattle.plan_algebra.specs.KeptPlans.{plain_aggregate}
+use Rattle.plan_spelling.specs.Plans.{aggregate_spelling, kept_parts, node_spelling, pair_numbers, plan_spelling, value_spelling}
 use Rattle.plan_spelling.proofs.Lists.{parts_of}
 use Rattle.plan_spelling.proofs.Opened.{spelling_Branch, spelling_Operation, spelling_Column, spelling_Literal, spelling_Negative, spelling_Arithmetic, spelling_Case, spelling_Extract, spelling_Substring, spelling_Compare, spelling_Between, spelling_Like, spelling_InList, spelling_IsNull, spelling_Not, spelling_All, spelling_Any, spelling_IsMarked}
 
@@ -98,6 +101,26 @@ written_Group i by us =
 
 pub written_Fill : (i j : ℕ) (xs : List Value) → node_spelling (n.Fill i j xs) ≡ 3 ∷ 30 ∷ i ∷ j ∷ length xs ∷ flat_map value_spelling xs
 written_Fill i j xs = spelled_Fill i j xs ∙ ap (λ l. 3 ∷ 30 ∷ i ∷ j ∷ l) (parts_of value_spelling xs)
+
+-- a kept plan, piece by piece
+pub written_Kept : (number : ℕ) (plan : KeptPlan) → node_spelling (n.Kept number plan)
+    ≡ (length plan.by + length plan.list + length (table_name plan.table) + 4) ∷ 33 ∷ number ∷ length plan.by ∷ length plan.list
+    ∷ (plan.by ++ (plan.list ++ (table_name plan.table ++ (length plan.aggregates + 1)
+    ∷ (expr_spelling plan.condition ++ flat_map (λ a. aggregate_spelling (plain_aggregate a)) plan.aggregates))))
+written_Kept number plan =
+    let name = table_name plan.table in
+    let l = length-append plan.by (plan.list ++ name) in let k = length-append plan.list name in
+    let count : suc (suc (suc (suc (length (plan.by ++ (plan.list ++ name)))))) ≡ length plan.by + length plan.list + length name + 4 = omega (arith, l, k) in
+    let below = parts (kept_parts plan) in
+    let run : (plan.by ++ (plan.list ++ name)) ++ below ≡ plan.by ++ (plan.list ++ (name ++ below)) =
+    append_assoc plan.by (plan.list ++ name) below ∙ ap (λ y. plan.by ++ y) (append_assoc plan.list name below) in
+    spelled_Kept number plan
+    ∙ ap (λ m. m ∷ 33 ∷ number ∷ length plan.by ∷ length plan.list ∷ ((plan.by ++ (plan.list ++ name)) ++ below)) count
+    ∙ ap (λ y. (length plan.by + length plan.list + length name + 4) ∷ 33 ∷ number ∷ length plan.by ∷ length plan.list ∷ y) run
+    ∙ ap (λ y. (length plan.by + length plan.list + length name + 4) ∷ 33 ∷ number ∷ length plan.by ∷ length plan.list ∷ (plan.by ++ (plan.list ++ (name ++ y))))
+    (first_parts (λ a. aggregate_spelling (plain_aggregate a)) (expr_spelling plan.condition) plan.aggregates)
+
+pub ruleset kept_written = (append_assoc, append-nil, written_Kept)
 
 pub ruleset node_written = (append_assoc, append-nil, written_Scan, written_Domain, spelled_Select, written_Project, written_Join, written_Outer, written_Mark, written_Single, written_Group, written_Fill, spelled_Distinct, spelled_Set)
 

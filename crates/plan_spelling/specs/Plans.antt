@@ -1,6 +1,6 @@
 -- The numbers that spell a flat plan, and how they are printed.
 use Rattle.std.specs.Prelude.{◌≡◌, ℕ, ◌<◌, ◌^◌, List, [], ◌∷◌, ◌++◌, map, codes, decimal}
-use Rattle.std.specs.Prelude.{true, false}
+use Rattle.std.specs.Prelude.{true, false, length}
 use Rattle.std.specs.List.{flat_map}
 use Rattle.base_row_laws.specs.Bags.{Each}
 use Rattle.base_schema.specs.Tables.{table_name}
@@ -14,7 +14,9 @@ use Rattle.expr_aggregates.specs.declared.function.AggregateFunction.TheVariants
 use Rattle.expr_aggregates.specs.declared.function.AggregateFunction.TheVariants.{Min, Max}
 use Rattle.plan_algebra.specs.declared.aggregate.Aggregate.{Aggregate}
 use Rattle.plan_algebra.specs.declared.aggregate.Aggregate.TheVariants.{CountRows, Of}
+use Rattle.plan_algebra.specs.declared.kept_plan.KeptPlan.{KeptPlan}
 use Rattle.plan_algebra.specs.declared.node.Node.{Node}
+use Rattle.plan_algebra.specs.KeptPlans.{plain_aggregate}
 use Rattle.plan_algebra.specs.declared.node.Node.TheVariants as n
 use Rattle.plan_spelling.specs.Exprs.{expr_spelling, spelled, value_numbers}
 
@@ -50,6 +52,17 @@ abbrev pub pair_numbers : List (ℕ × ℕ) → List ℕ
 pair_numbers [] = []
 pair_numbers (pair ∷ pairs) = pair.0 ∷ pair.1 ∷ pair_numbers pairs
 
+-- the numbers of a kept plan: how many GROUP BY columns and how many columns it shows, these, and
+-- its table
+abbrev pub kept_numbers : KeptPlan → List ℕ
+kept_numbers plan = length plan.by ∷ length plan.list
+    ∷ (plan.by ++ (plan.list ++ table_name plan.table))
+
+-- the parts of a kept plan: its condition and its aggregates
+abbrev pub kept_parts : KeptPlan → List (List ℕ)
+kept_parts plan = expr_spelling plan.condition
+    ∷ map (λ a. aggregate_spelling (plain_aggregate a)) plan.aggregates
+
 -- a node of a plan
 unfoldable pub node_spelling : Node → List ℕ
 node_spelling (n.Scan table) = spelled (21 ∷ table_name table) []
@@ -67,6 +80,7 @@ node_spelling (n.Group i by aggregates) = spelled (29 ∷ i ∷ by) (map aggrega
 node_spelling (n.Fill i j empty) = spelled (30 ∷ i ∷ j ∷ []) (map value_spelling empty)
 node_spelling (n.Distinct i) = spelled (31 ∷ i ∷ []) []
 node_spelling (n.Set i j operation) = spelled (32 ∷ i ∷ j ∷ operation_number operation ∷ []) []
+node_spelling (n.Kept number plan) = spelled (33 ∷ number ∷ kept_numbers plan) (kept_parts plan)
 
 -- the nodes of a plan, in their order
 unfoldable pub plan_spelling : List Node → List ℕ

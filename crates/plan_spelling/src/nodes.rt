@@ -1,15 +1,18 @@
 //! The numbers that spell a flat plan.
 ghost use Rattle.std.specs.Prelude.{◌≡◌, ◌++◌, IfOk, OnOk};
 ghost use Rattle.std.specs.List.{flat_map};
+ghost use Rattle.plan_algebra.specs.KeptPlans.{plain_aggregate};
 ghost use Rattle.plan_spelling.specs.Plans as spec;
-ghost use Rattle.plan_spelling.specs.Plans.{aggregate_spelling, node_spelling, value_spelling};
+ghost use Rattle.plan_algebra.specs.declared.node.Node.TheVariants as node;
+ghost use Rattle.plan_spelling.specs.Plans.{aggregate_spelling, node_spelling};
+ghost use Rattle.plan_spelling.specs.Plans.{value_spelling};
 
 use crate::exprs::{put_expr, put_exprs};
 use crate::values::{
     aggregate_number, operation_number, put_bytes, put_pairs, put_places, put_value,
 };
 use base_value::Value;
-use plan_algebra::{Aggregate, Node};
+use plan_algebra::{Aggregate, KeptAggregate, KeptPlan, Node};
 use std::alloc::{AllocError, Global};
 
 #[tactic(auto, using(crate::proofs::Written::aggregate_written))]
@@ -45,6 +48,61 @@ fn put_values(numbers: &mut Vec<u128>, values: &[Value]) -> Result<(), AllocErro
         put_value(numbers, 20, value)?;
     }
     Ok(())
+}
+
+#[tactic(auto, using(crate::proofs::Written::aggregate_written))]
+fn put_kept_aggregate(numbers: &mut Vec<u128>, aggregate: &KeptAggregate) -> Result<(), AllocError>
+    ensures { OnOk result (numbers.new.items
+        ≡ numbers.old.items ++ aggregate_spelling (plain_aggregate aggregate.now)) }
+{
+    match aggregate {
+        KeptAggregate::CountRows => numbers.extend_from_slice(&[1, 18, 0]),
+        KeptAggregate::Count(argument) => {
+            numbers.extend_from_slice(&[3, 19, 0, 0, 1])?;
+            put_expr(numbers, argument.get())
+        }
+        KeptAggregate::Sum(scale, argument) => {
+            numbers.extend_from_slice(&[3, 19, 2, scale.places() as u128, 1])?;
+            put_expr(numbers, argument.get())
+        }
+    }
+}
+
+fn put_kept_aggregates(
+    numbers: &mut Vec<u128>,
+    aggregates: &[KeptAggregate],
+) -> Result<(), AllocError>
+    ensures { OnOk result (numbers.new.items ≡ numbers.old.items
+        ++ flat_map (λ a. aggregate_spelling (plain_aggregate a)) aggregates.now) }
+{
+    for aggregate in aggregates {
+        put_kept_aggregate(numbers, aggregate)?;
+    }
+    Ok(())
+}
+
+#[tactic(auto, using(crate::proofs::Written::kept_written))]
+fn put_kept(numbers: &mut Vec<u128>, number: u32, plan: &KeptPlan) -> Result<(), AllocError>
+    ensures { OnOk result (numbers.new.items
+        ≡ numbers.old.items ++ node_spelling (node.Kept number plan.now)) }
+{
+    let name = plan.table.name().as_bytes();
+    let (by, list) = (plan.by.as_slice(), plan.list.as_slice());
+    let count = by.len() as u128 + list.len() as u128 + name.len() as u128 + 4;
+    let sizes = [
+        count,
+        33,
+        number as u128,
+        by.len() as u128,
+        list.len() as u128,
+    ];
+    numbers.extend_from_slice(&sizes)?;
+    put_places(numbers, by)?;
+    put_places(numbers, list)?;
+    put_bytes(numbers, name)?;
+    numbers.push(plan.aggregates.len() as u128 + 1)?;
+    put_expr(numbers, plan.condition.get())?;
+    put_kept_aggregates(numbers, plan.aggregates.as_slice())
 }
 
 #[tactic(auto, using(crate::proofs::Written::node_written))]
@@ -114,6 +172,7 @@ fn put_node(numbers: &mut Vec<u128>, node: &Node) -> Result<(), AllocError>
             let operation = operation_number(*operation);
             numbers.extend_from_slice(&[4, 32, *i as u128, *j as u128, operation, 0])
         }
+        Node::Kept(number, plan) => put_kept(numbers, *number, plan.get()),
     }
 }
 

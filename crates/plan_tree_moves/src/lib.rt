@@ -14,8 +14,8 @@ pub use narrow::{
     select_list,
 };
 pub use plan_predicate_sinking::{
-    group_of, join_first, join_of, mark_of, outer_of, project_of, put_at, reads_own, select_of,
-    selected, side_columns, single_of, sunk,
+    group_of, join_first, join_of, kept_of, mark_of, outer_of, project_of, put_at, reads_own,
+    select_of, selected, side_columns, single_of, sunk,
 };
 pub use prune::pruned;
 pub use regroup::{moved_aggregates, moved_keys, put_aggregated};

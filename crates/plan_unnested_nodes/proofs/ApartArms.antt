@@ -19,6 +19,7 @@ use Rattle.base_value.specs.declared.value.Value.TheVariants.{Null}
 use Rattle.base_value.specs.Value.{same_value}
 use Rattle.base_value.proofs.Identity.{value_identity}
 use Rattle.base_schema.specs.declared.table.TableName.{TableName}
+use Rattle.plan_algebra.specs.declared.kept_plan.KeptPlan.{KeptPlan}
 use Rattle.expr_scalar.specs.declared.expr.Expr.{Expr}
 use Rattle.expr_scalar.specs.declared.expr.Expr.TheVariants as e
 use Rattle.expr_conditions.specs.Ranks.{rank_of, all_rank, says}
@@ -32,7 +33,7 @@ use Rattle.plan_algebra.specs.declared.tree.Side.{Side}
 use Rattle.plan_algebra.specs.declared.tree.Side.TheVariants.{Closed}
 use Rattle.plan_algebra.specs.Trees.{Database, HasKinds, TreeMeaning, tree_step, tree_meaning, width_of, side_of, right_row}
 use Rattle.plan_algebra.specs.Plans.{plan_rows, plan_width, is_formed}
-use Rattle.plan_algebra.proofs.Opened.{meaning_Scan, meaning_Select, meaning_Project, meaning_Join, meaning_Outer}
+use Rattle.plan_algebra.proofs.Opened.{meaning_Scan, meaning_Kept, meaning_Select, meaning_Project, meaning_Join, meaning_Outer}
 use Rattle.plan_unnested_nodes.specs.declared.domain.DomainRows.{DomainRows}
 use Rattle.plan_unnested_nodes.specs.declared.domain.DomainRows.TheVariants as domain
 use Rattle.plan_unnested_nodes.specs.declared.domain.Origin.{Origin}
@@ -153,6 +154,11 @@ gives_as {before = before} {after = after} {n = n} {a = a} e g = subst (λ k. Gi
 pub scan_part : {before new : List Node} {tree : DepTree} {table : TableName} {a : Apart} (f : Footing) → tree ≡ t.Scan table → ((n : ℕ) → GivesApart before new (tree_step (o.Scan table)) n a)
     → IsPart before new (tree_meaning tree) f f (part.Apart a)
 scan_part {table = table} f is g = (refl, gives_as (ap tree_meaning is ∙ meaning_Scan table) (g (footing_width f.rows)))
+
+-- a kept view
+pub kept_part : {before new : List Node} {tree : DepTree} {number : ℕ} {plan : KeptPlan} {a : Apart} (f : Footing) → tree ≡ t.Kept number plan
+    → ((n : ℕ) → GivesApart before new (tree_step (o.Kept number plan)) n a) → IsPart before new (tree_meaning tree) f f (part.Apart a)
+kept_part {number = number} {plan = plan} f is g = (refl, gives_as (ap tree_meaning is ∙ meaning_Kept number plan) (g (footing_width f.rows)))
 
 -- columns of a table
 pub list_part : {before new : List Node} {tree input seen : DepTree} {table : TableName}

@@ -36,7 +36,7 @@ use Rattle.plan_unnested_nodes.specs.FromRows.{GivesApart, AreOwn, IsGrown, AreO
 use Rattle.plan_unnested_nodes.proofs.Grown.{same_plan, put_more, put_rows, put_width, put_last}
 use Rattle.plan_unnested_nodes.proofs.Owned.{rank_within}
 
-same_list : {X : Type 0} {xs ys : List X} → xs ≡ ys → SameBag xs ys
+pub same_list : {X : Type 0} {xs ys : List X} → xs ≡ ys → SameBag xs ys
 same_list {xs = xs} e = subst (λ l. SameBag xs l) e (SameBag-refl xs)
 
 -- each row of a node is as wide as the node

@@ -1,5 +1,5 @@
 -- Each kind of tree: the node that is put for it answers its loops, where its inputs answer theirs.
-use Rattle.std.proofs.Common.{◌≡◌, ℕ, ◌+◌, ◌≤◌, List, [], ◌∷◌, ◌++◌, map, refl, sym, ◌∙◌, ap, subst, arith, length}
+use Rattle.std.proofs.Common.{◌≡◌, ℕ, ◌+◌, ◌≤◌, List, [], ◌∷◌, ◌++◌, map, refl, sym, ◌∙◌, ap, subst, arith, inl, length}
 use Rattle.std.specs.Prelude.{min}
 use Rattle.std.specs.List.{range_with_len, flat_map}
 use Rattle.std.proofs.lemmas.List.{append-nil, length-append, length-map}
@@ -22,6 +22,7 @@ use Rattle.expr_scalar.specs.declared.expr.Expr.TheVariants.{Column, All}
 use Rattle.expr_scalar.specs.Meaning.{truths, values}
 use Rattle.expr_scalar.proofs.Opened.{truth_All}
 use Rattle.base_schema.specs.declared.table.TableName.{TableName}
+use Rattle.plan_algebra.specs.Trees.{Occurrence}
 use Rattle.base_schema.specs.Tables.{kinds_of}
 use Rattle.base_value.specs.Truth.{truth_rank}
 use Rattle.plan_algebra.specs.declared.node.Node.{Node}
@@ -43,7 +44,7 @@ use Rattle.plan_unnested_nodes.proofs.Owned.{rank_within}
 use Rattle.plan_unnested_nodes.proofs.Wide.{over_wide, projected_wide}
 
 -- one node more
-pub puts : (before old new : List Node) (tables : List TableName) (most : ℕ) (k : TreeMeaning) (f g : Footing) (id : ℕ) (n : Node)
+pub puts : (before old new : List Node) (tables : List Occurrence) (most : ℕ) (k : TreeMeaning) (f g : Footing) (id : ℕ) (n : Node)
     → Grows before old tables most → SameFooting before old f g → IsPut old new n id → tables ++ scan_of n ≡ k.scans
     → most + is_domain n + is_due g.rows ≤ k.domains + is_due f.rows
     → node_width (made_from node_width [] old) n ≡ footing_width f.rows + k.width
@@ -87,7 +88,7 @@ project_lowers before old new m f g rows id es l p =
     (project_step same_value value_identity (values es) n ds xs (m.rows db) h.is_domain (l.answers db h)))
 
 -- A table under each row of a domain.
-always : (row : List Value) → rank_of (All []) row ≡ 5
+pub always : (row : List Value) → rank_of (All []) row ≡ 5
 unfolding rank_of truths
 always row = ap truth_rank (truth_All [] row)
 
@@ -140,7 +141,7 @@ selection_over n ds xs c dom =
 
 -- a table joined with a domain under a condition, where its rows are those of a meaning
 joined_scan : (before new : List Node) (table : TableName) (c : Expr) (k : TreeMeaning) (f : Footing) (d width id : ℕ) → f.rows ≡ AtNode d width → IsFooting before f.rows
-    → IsPut (before ++ node.Scan table ∷ []) new (node.Join d (length before) [] c) id → table ∷ [] ≡ k.scans → k.width ≡ length (kinds_of table)
+    → IsPut (before ++ node.Scan table ∷ []) new (node.Join d (length before) [] c) id → inl table ∷ [] ≡ k.scans → k.width ≡ length (kinds_of table)
     → ((db : Database) (ds : List (Ranked Value)) → IsDomain same_value width ds
     → Answers same_value ds (inner_matched same_value Null [] (rank_of c) ds (scanned (db table))) (k.rows db))
     → Lowers before new k f f id
@@ -152,7 +153,7 @@ joined_scan before new table c k f d width id e within p scans wide over =
     let there : IsFooting before (AtNode d width) = subst (IsFooting before) e within in
     let dw : plan_width mid d ≡ width = kept_width d g there.0 ∙ there.1 in
     let sw = put_width q in
-    puts before mid new (table ∷ []) 0 k f f id (node.Join d (length before) [] c) g (same_footing f g within) p scans (omega arith)
+    puts before mid new (inl table ∷ []) 0 k f f id (node.Join d (length before) [] c) g (same_footing f g within) p scans (omega arith)
     (let z = ap footing_width e in omega (arith, dw, sw, z, wide))
     (λ db h.
     let kept : plan_rows db mid d ≡ plan_rows db before d = kept_rows db d g there.0 in

@@ -5,7 +5,7 @@ use Rattle.base_row_laws.specs.Operators.{domain_node}
 use Rattle.base_row_laws.specs.Domains.{IsDomain, Answers}
 use Rattle.base_value.specs.declared.value.Value.TheVariants.{Null}
 use Rattle.base_value.specs.Value.{same_value}
-use Rattle.base_schema.specs.declared.table.TableName.{TableName}
+use Rattle.plan_algebra.specs.Trees.{Occurrence}
 use Rattle.plan_algebra.specs.declared.node.Node.{Node}
 use Rattle.plan_algebra.specs.declared.node.Node.TheVariants as node
 use Rattle.plan_algebra.specs.Trees.{Database, TreeMeaning}
@@ -22,19 +22,19 @@ use Rattle.plan_unnested_nodes.specs.Lowerings.{Lowers}
 use Rattle.plan_unnested_nodes.proofs.Grown.{kept_rows, kept_width, grown_length, same_plan, put_more, put_rows, put_width, put_last, both_more}
 
 -- the rows of a footing stay as the plan grows
-pub kept_footing : {before after : List Node} {tables : List TableName} {most : ℕ} (db : Database) (r : FootingRows) → Grows before after tables most → IsFooting before r
+pub kept_footing : {before after : List Node} {tables : List Occurrence} {most : ℕ} (db : Database) (r : FootingRows) → Grows before after tables most → IsFooting before r
     → footing_rows db after r ≡ footing_rows db before r
 kept_footing db One g w = refl
 kept_footing db (AtNode d width) g w = kept_rows db d g w.0
 kept_footing db (Due outer cs) g w = ap (domain_node same_value (columns Null cs)) (kept_rows db outer g w)
 
-pub kept_in_plan : {before after : List Node} {tables : List TableName} {most : ℕ} (r : FootingRows) → Grows before after tables most → IsFooting before r → IsFooting after r
+pub kept_in_plan : {before after : List Node} {tables : List Occurrence} {most : ℕ} (r : FootingRows) → Grows before after tables most → IsFooting before r → IsFooting after r
 kept_in_plan One g w = tt
 kept_in_plan (AtNode d width) g w = (let l = grown_length g in let h = w.0 in omega arith, kept_width d g w.0 ∙ w.1)
 kept_in_plan (Due outer cs) g w = let l = grown_length g in omega (arith, w, l)
 
 -- a footing that was not touched
-pub same_footing : {before after : List Node} {tables : List TableName} {most : ℕ} (f : Footing) → Grows before after tables most → IsFooting before f.rows → SameFooting before after f f
+pub same_footing : {before after : List Node} {tables : List Occurrence} {most : ℕ} (f : Footing) → Grows before after tables most → IsFooting before f.rows → SameFooting before after f f
 same_footing f g w = record {
   in_plan = kept_in_plan f.rows g w;
   width = refl;
@@ -52,7 +52,7 @@ both_same s t = record {
 }
 
 -- and while the plan grew on
-pub same_later : {a b c : List Node} {f g : Footing} {tables : List TableName} {most : ℕ} → SameFooting a b f g → Grows b c tables most → SameFooting a c f g
+pub same_later : {a b c : List Node} {f g : Footing} {tables : List Occurrence} {most : ℕ} → SameFooting a b f g → Grows b c tables most → SameFooting a c f g
 same_later {g = g} s more = both_same s (same_footing g more s.in_plan)
 
 -- what holds of a footing holds of it later

@@ -16,6 +16,8 @@ use Rattle.expr_scalar.specs.declared.expr.Expr.{Expr}
 use Rattle.expr_conditions.specs.Ranks.{rank_of}
 use Rattle.expr_aggregates.specs.Values.{written, value_rank}
 use Rattle.base_schema.specs.declared.table.TableName.{TableName}
+use Rattle.plan_algebra.specs.declared.kept_plan.KeptPlan.{KeptPlan}
+use Rattle.plan_algebra.specs.KeptPlans.{query_rows}
 use Rattle.base_schema.specs.Kinds.{RowIsOf}
 use Rattle.base_schema.proofs.Columns.{columns_count}
 use Rattle.base_schema.specs.Tables.{columns_of}
@@ -145,6 +147,12 @@ module _ (nodes : List Node) (i : ℕ) (formed : IsTrue (is_formed nodes)) (with
       (λ db k.
       Each-map (Fit (map known_as (columns_of table))) (λ r. ranked r 5) (db table)
       (Each-weaker (RowIsOf table) (λ r. FitsKinds (map known_as (columns_of table)) r) (db table) (λ r h. kinds_fit (columns_of table) r h) (each_of_all (RowIsOf table) (db table) (k table))))
+
+  -- of a kept view no kind is known
+  pub kept_kinds : (number : ℕ) (plan : KeptPlan) → node.Kept number plan ≡ get_or nodes i (node.Kept number plan) → AreKindsOf nodes i (replicate (length plan.list) None)
+  kept_kinds number plan at =
+      gives nodes i (node.Kept number plan) formed within at (replicate (length plan.list) None) (length-unknown (length plan.list))
+      (λ db k. all_unknown (length plan.list) (query_rows plan (db plan.table)))
 
   module _ (j : ℕ) (ks : ColumnKinds) (a : AreKindsOf nodes j ks) where
     pub select_kinds : (e : Expr) → node.Select j e ≡ get_or nodes i (node.Select j e) → AreKindsOf nodes i ks
@@ -293,6 +301,7 @@ module _ (nodes : List Node) (i : ℕ) (kinds : List ColumnKinds) (formed : IsTr
   -- and the right one the columns that are matched
   pub matched_there : (n : Node) → n ≡ get_or nodes i n → IsTrue (has_matched kinds n)
   matched_there (node.Scan table) at = refl
+  matched_there (node.Kept number plan) at = refl
   matched_there (node.Domain j cs) at = refl
   matched_there (node.Select j e) at = refl
   matched_there (node.Project j es) at = refl
@@ -314,6 +323,7 @@ module _ (nodes : List Node) (i : ℕ) (kinds : List ColumnKinds) (formed : IsTr
   -- the kinds of a node, as they are made
   pub made_kinds : (n : Node) (new : ColumnKinds) → n ≡ get_or nodes i n → AreMade kinds n new → AreKindsOf nodes i new
   made_kinds (node.Scan table) new at m = subst (AreKindsOf nodes i) (sym m) (scan_kinds nodes i formed within table at)
+  made_kinds (node.Kept number plan) new at m = subst (AreKindsOf nodes i) (sym m) (kept_kinds nodes i formed within number plan at)
   made_kinds (node.Domain j cs) new at m =
       let h = (before_at (node.Domain j cs) at).0 in
       subst (AreKindsOf nodes i) (sym m) (domain_kinds nodes i formed within j (kinds_at kinds j) (a.each j h) cs at)

@@ -8,6 +8,7 @@ pub mod Fills
 pub mod FitKinds
 pub mod Grown
 pub mod Kept
+pub mod KeptArms
 pub mod KindNodes
 pub mod Turns
 pub mod OwnNodes

@@ -23,6 +23,7 @@ use Rattle.plan_algebra.specs.declared.node.Node.{Node}
 use Rattle.plan_algebra.specs.declared.node.Node.TheVariants as node
 use Rattle.plan_algebra.specs.Aggregates.{aggregates_of}
 use Rattle.plan_algebra.specs.Trees.{Database}
+use Rattle.plan_algebra.proofs.KeptPlans.{query_stands}
 use Rattle.plan_algebra.specs.Plans.{groups, rows_at, node_rows, made_from, plan_rows}
 
 -- the rows of each of these nodes stand so
@@ -40,6 +41,7 @@ groups_stand (c ∷ cs) aggregates xs all = group_stands same_value (columns Nul
 
 node_stands : (db : Database) (before : List (List (Ranked Value))) (n : Node) → AllStand before → Each Stands (node_rows db before n)
 node_stands db before (node.Scan table) all = scanned_stands (db table)
+node_stands db before (node.Kept number plan) all = query_stands plan (db plan.table)
 node_stands db before (node.Domain i cs) all = domain_node_stands same_value (columns Null cs) (rows_at before i)
 node_stands db before (node.Select i e) all = select_stands (rank_of e) (rows_at before i) (all i)
 node_stands db before (node.Project i es) all = project_stands (values es) (rows_at before i) (all i)

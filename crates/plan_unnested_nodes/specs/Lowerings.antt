@@ -11,13 +11,14 @@ use Rattle.base_value.specs.declared.value.Value.{Value}
 use Rattle.base_value.specs.declared.value.Value.TheVariants.{Null}
 use Rattle.base_value.specs.Value.{same_value}
 use Rattle.base_schema.specs.declared.table.TableName.{TableName}
+use Rattle.plan_algebra.specs.declared.kept_plan.KeptPlan.{KeptPlan}
 use Rattle.base_schema.specs.Tables.{kinds_of}
 use Rattle.expr_scalar.specs.declared.expr.Expr.{Expr}
 use Rattle.expr_scalar.specs.declared.expr.Expr.TheVariants.{All, Column}
 use Rattle.expr_conditions.specs.Ranks.{columns_from}
 use Rattle.plan_algebra.specs.declared.aggregate.Aggregate.{Aggregate}
 use Rattle.plan_algebra.specs.declared.node.Node.{Node}
-use Rattle.plan_algebra.specs.declared.node.Node.TheVariants.{Scan, Select, Project, Join, Group}
+use Rattle.plan_algebra.specs.declared.node.Node.TheVariants.{Scan, Kept, Select, Project, Join, Group}
 use Rattle.plan_algebra.specs.declared.node.Node.TheVariants.{Fill}
 use Rattle.plan_algebra.specs.Aggregates.{aggregates_of}
 use Rattle.plan_algebra.specs.declared.tree.DepTree.{DepTree}
@@ -128,6 +129,12 @@ abbrev pub IsScanned : (old new : List Node) → TableName → DomainRows → �
 IsScanned old new table One id = IsPut old new (Scan table) id
 IsScanned old new table (AtNode d width) id =
     IsPut (old ++ Scan table ∷ []) new (Join d (length old) [] (All [])) id
+
+-- the same of the kept view of a number
+abbrev pub IsKeptScanned : (old new : List Node) → ℕ → KeptPlan → DomainRows → ℕ → Type 0
+IsKeptScanned old new number plan One id = IsPut old new (Kept number plan) id
+IsKeptScanned old new number plan (AtNode d width) id =
+    IsPut (old ++ Kept number plan ∷ []) new (Join d (length old) [] (All [])) id
 
 -- The plan grew by a scan of a table, and by the rows of it that a condition keeps: where the
 -- domain is a node, by the combinations of its rows with the table's that the condition keeps.

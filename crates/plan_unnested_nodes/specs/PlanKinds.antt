@@ -75,6 +75,7 @@ has_matched kinds other = true
 -- the kinds of a node's columns, as far as they are known from those of the nodes before it
 abbrev pub AreMade : List ColumnKinds → Node → ColumnKinds → Type 0
 AreMade kinds (node.Scan table) new = new ≡ map known_as (columns_of table)
+AreMade kinds (node.Kept number plan) new = new ≡ replicate (length plan.list) None
 AreMade kinds (node.Domain i cs) new = new ≡ picked (kinds_at kinds i) cs
 AreMade kinds (node.Select i e) new = new ≡ kinds_at kinds i
 AreMade kinds (node.Project i es) new = AreListed (kinds_at kinds i) es new

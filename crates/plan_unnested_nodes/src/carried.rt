@@ -44,9 +44,9 @@ fn is_of_table(tree: &DepTree) -> bool {
     }
 }
 
-// Whether a tree is a table.
+// Whether a tree is a table or a kept view.
 fn is_table(tree: &DepTree) -> bool {
-    matches!(tree, DepTree::Scan(_))
+    matches!(tree, DepTree::Scan(_) | DepTree::Kept(_, _))
 }
 
 // The input whose rows come first in those of a part of FROM.

@@ -33,7 +33,9 @@ use crate::put::{put_combinations, put_outer, put_select};
 use base_schema::TableName;
 use expr_conditions::{Parted, in_parts, put_condition, put_run};
 use expr_scalar::Expr;
-use plan_algebra::{Builder, DepTree, Node, NodeId, Side, copy_expr, width};
+use plan_algebra::{
+    Builder, DepTree, KeptPlan, Node, NodeId, Side, copy_expr, copy_kept_plan, width,
+};
 use sqlite_items::{Boxed, Items};
 use std::alloc::{AllocError, Global};
 
@@ -70,6 +72,29 @@ pub fn put_apart_table(
 {
     let width = u32::try_from(table.kinds().len()).map_err(|_| AllocError)?;
     let rows = builder.put(Node::Scan(table))?;
+    let conditions = Items::new(alloc);
+    Ok(Apart {
+        rows,
+        width,
+        conditions,
+    })
+}
+
+/// A kept view's rows.
+#[tactic(auto, using(plan_algebra::proofs::Fits::kept_fits))]
+pub fn put_apart_kept(
+    alloc: Global,
+    builder: &mut Builder,
+    number: u32,
+    plan: &Boxed<KeptPlan>,
+) -> Result<Apart, AllocError>
+    ensures { IfOk result (λ part. (n : ℕ)
+        → GivesApart builder.old.nodes builder.new.nodes (tree_step (tree.Kept number plan.now)) n
+        part) }
+{
+    let plan = copy_kept_plan(alloc, plan.get())?;
+    let width = u32::try_from(plan.get().list.len()).map_err(|_| AllocError)?;
+    let rows = builder.put(Node::Kept(number, plan))?;
     let conditions = Items::new(alloc);
     Ok(Apart {
         rows,

@@ -18,12 +18,12 @@ pub use carried::is_carried;
 pub use domain::{Domain, DomainRows, Origin};
 pub use footing::{Footing, FootingRows};
 pub use from_rows::{
-    Apart, Part, own_list, own_on, put_apart_join, put_apart_list, put_apart_outer,
+    Apart, Part, own_list, own_on, put_apart_join, put_apart_kept, put_apart_list, put_apart_outer,
     put_apart_select, put_apart_table, put_whole,
 };
 pub use grouped::put_groups;
 pub use kept_domain::keeps_domain;
 pub use put::{
-    own_footing, put_distinct, put_join, put_mark, put_outer, put_project, put_scan, put_select,
-    put_selection, put_set, put_single, put_total,
+    own_footing, put_distinct, put_join, put_kept, put_mark, put_outer, put_project, put_scan,
+    put_select, put_selection, put_set, put_single, put_total,
 };

@@ -190,6 +190,10 @@ fn node_kinds(
             let own = padded_kinds(alloc, filled.as_slice(), empty.len())?;
             Ok(own)
         }
+        Node::Kept(_, plan) => {
+            let own = unknown_kinds(alloc, plan.get().list.len())?;
+            Ok(own)
+        }
     }
 }
 

@@ -15,6 +15,7 @@ ghost use Rattle.plan_unnested_nodes.specs.Growth.{IsPut};
 ghost use Rattle.plan_unnested_nodes.specs.PlanKinds.{AreOrigins};
 ghost use Rattle.plan_unnested_nodes.specs.Lowerings.{
   IsScanned,
+  IsKeptScanned,
   IsSelection,
   IsFilled,
   IsTotal,
@@ -32,7 +33,8 @@ use base_schema::TableName;
 use base_set_rows::SetOperation;
 use expr_scalar::Expr;
 use plan_algebra::{
-    Aggregate, Builder, Node, NodeId, Side, copy_aggregates, copy_expr, values_of_none,
+    Aggregate, Builder, KeptPlan, Node, NodeId, Side, copy_aggregates, copy_expr, copy_kept_plan,
+    values_of_none,
 };
 use sqlite_items::{Boxed, Items};
 use std::alloc::{AllocError, Global};
@@ -103,6 +105,49 @@ fn put_table(
     ensures { IfOk result (IsScanned builder.old.nodes builder.new.nodes table domain) }
 {
     let rows = builder.put(Node::Scan(table))?;
+    match domain {
+        DomainRows::One => Ok(rows),
+        DomainRows::Node(id, _) => {
+            let id = put_cross(alloc, builder, id, rows)?;
+            Ok(id)
+        }
+    }
+}
+
+/// A kept view's rows under each row that a tree is lowered over.
+#[tactic(auto, using(crate::proofs::Kept::settled_in_plan, crate::proofs::KeptArms::kept_put))]
+pub fn put_kept(
+    alloc: Global,
+    builder: &mut Builder,
+    number: u32,
+    plan: &Boxed<KeptPlan>,
+    footing: &mut Footing,
+) -> Result<NodeId, AllocError>
+    requires { IsFooting builder.old.nodes footing.old.rows }
+    ensures { IfOk result
+        (Lowers builder.old.nodes builder.new.nodes (tree_step (tree.Kept number plan.now))
+        footing.old footing.new) }
+{
+    let domain = footing.settled(alloc, builder)?;
+    let id = put_view(alloc, builder, number, plan, domain)?;
+    Ok(id)
+}
+
+// A kept view's rows under each row of a domain.
+#[tactic(auto, using(plan_algebra::proofs::Fits::kept_fits))]
+fn put_view(
+    alloc: Global,
+    builder: &mut Builder,
+    number: u32,
+    plan: &Boxed<KeptPlan>,
+    domain: DomainRows,
+) -> Result<NodeId, AllocError>
+    requires { IsInPlan builder.old.nodes domain }
+    ensures { IfOk result
+        (IsKeptScanned builder.old.nodes builder.new.nodes number plan.now domain) }
+{
+    let plan = copy_kept_plan(alloc, plan.get())?;
+    let rows = builder.put(Node::Kept(number, plan))?;
     match domain {
         DomainRows::One => Ok(rows),
         DomainRows::Node(id, _) => {

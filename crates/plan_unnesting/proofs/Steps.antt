@@ -7,6 +7,7 @@ use Rattle.expr_scalar.specs.declared.expr.Expr.{Expr}
 use Rattle.expr_scalar.specs.declared.expr.Expr.TheVariants.{Column}
 use Rattle.base_set_rows.specs.declared.kind.SetOperation.{SetOperation}
 use Rattle.base_schema.specs.declared.table.TableName.{TableName}
+use Rattle.plan_algebra.specs.declared.kept_plan.KeptPlan.{KeptPlan}
 use Rattle.plan_algebra.specs.declared.aggregate.Aggregate.{Aggregate}
 use Rattle.plan_algebra.specs.declared.node.Node.{Node}
 use Rattle.plan_algebra.specs.declared.node.Node.TheVariants as node
@@ -18,7 +19,7 @@ use Rattle.plan_algebra.specs.declared.tree.Side.TheVariants.{Closed, Shared, De
 use Rattle.plan_algebra.specs.Trees.{TreeMeaning, tree_step, tree_meaning, width_of, side_of, combined}
 use Rattle.std.proofs.lemmas.Bool.{ne_eqb}
 use Rattle.plan_algebra.specs.Plans.{plan_width}
-use Rattle.plan_algebra.proofs.Opened.{meaning_Scan, meaning_Select, meaning_Project, meaning_Join, meaning_Outer, meaning_Mark, meaning_Single, meaning_Group, meaning_Distinct, meaning_Set, left_is}
+use Rattle.plan_algebra.proofs.Opened.{meaning_Scan, meaning_Kept, meaning_Select, meaning_Project, meaning_Join, meaning_Outer, meaning_Mark, meaning_Single, meaning_Group, meaning_Distinct, meaning_Set, left_is}
 use Rattle.plan_unnested_nodes.specs.declared.footing.Footing.{Footing}
 use Rattle.plan_unnested_nodes.specs.declared.footing.FootingRows.TheVariants.{One}
 use Rattle.plan_unnested_nodes.specs.declared.domain.DomainRows.{DomainRows}
@@ -43,6 +44,10 @@ read_right {before = before} {new = new} {side = side} {f = f} {g = g} {outer = 
 pub scan_arm : {before new : List Node} {tree : DepTree} {table : TableName} {f g : Footing} {id : ℕ} → tree ≡ t.Scan table
     → Lowers before new (tree_step (o.Scan table)) f g id → Lowers before new (tree_meaning tree) f g id
 scan_arm {table = table} is l = means (ap tree_meaning is ∙ meaning_Scan table) l
+
+pub kept_arm : {before new : List Node} {tree : DepTree} {number : ℕ} {plan : KeptPlan} {f g : Footing} {id : ℕ} → tree ≡ t.Kept number plan
+    → Lowers before new (tree_step (o.Kept number plan)) f g id → Lowers before new (tree_meaning tree) f g id
+kept_arm {number = number} {plan = plan} is l = means (ap tree_meaning is ∙ meaning_Kept number plan) l
 
 pub select_arm : {before old new : List Node} {tree input seen : DepTree} {condition read : Expr} {f g : Footing} {rows id : ℕ} → tree ≡ t.Select input condition → seen ≡ input
     → Lowers before old (tree_meaning seen) f g rows → read ≡ condition → IsPut old new (node.Select rows read) id → Lowers before new (tree_meaning tree) f g id

@@ -11,9 +11,9 @@ ghost use Rattle.plan_unnested_nodes.specs.Lowerings.{LowersRight};
 use plan_algebra::{Builder, DepTree, NodeId, Side, width};
 use plan_unnested_nodes::{
     Domain, Footing, Part, is_carried, keeps_domain, own_footing, own_list, own_on, put_apart_join,
-    put_apart_list, put_apart_outer, put_apart_select, put_apart_table, put_distinct, put_groups,
-    put_join, put_mark, put_outer, put_project, put_scan, put_select, put_selection, put_set,
-    put_single, put_total, put_whole,
+    put_apart_kept, put_apart_list, put_apart_outer, put_apart_select, put_apart_table,
+    put_distinct, put_groups, put_join, put_kept, put_mark, put_outer, put_project, put_scan,
+    put_select, put_selection, put_set, put_single, put_total, put_whole,
 };
 use sqlite_items::Boxed;
 use std::alloc::{AllocError, Global};
@@ -146,6 +146,10 @@ fn lowered_part(
         DepTree::Project(_, _) => {
             let part = lowered_list(alloc, builder, tree, footing)?;
             Ok(part)
+        }
+        DepTree::Kept(number, plan) => {
+            let part = put_apart_kept(alloc, builder, *number, plan)?;
+            Ok(Part::Apart(part))
         }
         _ => {
             let id = lowered_node(alloc, builder, tree, footing)?;
@@ -313,6 +317,10 @@ fn lowered_node(
             }
             let rows = lowered(alloc, builder, right.get(), footing)?;
             let id = put_set(builder, outer, rows, *operation)?;
+            Ok(id)
+        }
+        DepTree::Kept(number, plan) => {
+            let id = put_kept(alloc, builder, *number, plan, footing)?;
             Ok(id)
         }
     }

@@ -1,6 +1,6 @@
 -- The queries of WITH, computed.
 use Rattle.std.proofs.Common.{◌≡◌, ◌∙◌, ℕ, List, [], ◌∷◌, ◌++◌, refl, ap}
-use Rattle.std.specs.Prelude.{Ok, Err, codes}
+use Rattle.std.specs.Prelude.{None, Ok, Err, codes}
 use Rattle.base_refusals.specs.declared.bind.BindRefusal.{BindRefusal}
 use Rattle.base_refusals.specs.declared.bind.BindRefusal.TheVariants.{UnknownTable, UnknownColumn}
 use Rattle.base_refusals.specs.declared.bind.BindRefusal.TheVariants.{DuplicateAlias, SubqueryColumns}
@@ -91,6 +91,7 @@ text_view name column block items = record {
   columns = record { name = column; kind = kind.Text } ∷ [];
   block = block;
   items = items;
+  kept = None;
 }
 
 -- the names of the regions under a name
@@ -117,11 +118,13 @@ names_of_with =
     let view_a : bound_view a [] region [] ≡ Ok (names_view a) = simp computed in
     let view_n : bound_view n [] region [] ≡ Ok (names_view n) = simp computed in
     let view_v : bound_view v [] region (view_of 32 ∷ []) ≡ Ok (names_view v) = simp computed in
-    let second = text_view b (codes "r_name") (first_column (source.Derived bound_names)) 2 in
+    let second =
+    text_view b (codes "r_name") (first_column (source.Derived None bound_names)) 2 in
     let view_b : bound_view b [] (names_from a) (names_view a ∷ []) ≡ Ok second = simp computed in
     let listed = text_view a (codes "n") bound_names 1 in
     let view_l : bound_view a (codes "n" ∷ []) region [] ≡ Ok listed = simp computed in
-    let wide = text_view a (codes "r_name") (first_column (source.Derived (view_of 31).block)) 32 in
+    let wide =
+    text_view a (codes "r_name") (first_column (source.Derived None (view_of 31).block)) 32 in
     let view_w : bound_view a [] (names_from v) (view_of 31 ∷ []) ≡ Ok wide = simp computed in (
       over (under (with_named a region ∷ with_named b (names_from a) ∷ []) (names_from b)) []
           (names_view a ∷ second ∷ []) _
@@ -164,7 +167,8 @@ refusals_of_with =
     let two = codes "m" ∷ codes "n" ∷ [] in
     let view_a : bound_view a [] region [] ≡ Ok (names_view a) = simp computed in
     let view_n : bound_view n [] region [] ≡ Ok (names_view n) = simp computed in
-    let wide = text_view a (codes "r_name") (first_column (source.Derived (view_of 31).block)) 32 in
+    let wide =
+    text_view a (codes "r_name") (first_column (source.Derived None (view_of 31).block)) 32 in
     let view_w : bound_view a [] (names_from v) (view_of 31 ∷ []) ≡ Ok wide = simp computed in (
       refused (under (with_named a (names_from b) ∷ with_named b region ∷ []) (names_from a)) []
           UnknownTable (refused_view [] (with_named a (names_from b)) (with_named b region ∷ []) []

@@ -1,6 +1,6 @@
 -- What it is to bind a whole tree: a fold of the steps of its nodes. A statement and a view are
 -- bound so.
-use Rattle.std.specs.Prelude.{ℕ, Bool, List, [], ◌∷◌, ◌++◌, map, Ok}
+use Rattle.std.specs.Prelude.{ℕ, Bool, List, [], ◌∷◌, ◌++◌, map, None, Ok}
 use Rattle.sql_bound_query.specs.declared.query.BoundQuery.{BoundQuery}
 use Rattle.sql_ast.specs.declared.statement.Query.{Query}
 use Rattle.sql_ast.specs.declared.statement.WithQuery.{WithQuery}
@@ -163,7 +163,13 @@ bound_view name names q views =
     and_then (distinct_names names)
     (λ distinct. and_then (counted_table q views)
     (λ r. and_then (renamed_headers names r.0.headers)
-    (λ headers. Ok (record { name = name; columns = headers; block = r.0.block; items = r.1 }))))
+    (λ headers. Ok (record {
+      name = name;
+      columns = headers;
+      block = r.0.block;
+      items = r.1;
+      kept = None;
+    }))))
 
 -- queries of WITH after those that are bound, from left to right: its name, then all that a view of
 -- it is bound to, where those before stand in front of the session's views

@@ -123,6 +123,7 @@ ViewOfNames = bound_view (codes "v") [] (from_region (item r_name ∷ [])) []
       block = bound.Plain (source.Table table.Region) (closed (scalar.All []))
           (record { inputs = input.Column 0 1 ∷ []; expr = scalar.Column 0 } ∷ []);
       items = 1;
+      kept = None;
     })
 
 -- intervals: an interval before a date and one by itself are refused; a date moved twice is a date

@@ -165,6 +165,7 @@ view_of items = record {
   columns = record { name = codes "r_name"; kind = kind.Text } ∷ [];
   block = bound.Plain (source.Table table.Region) (record { inputs = []; expr = scalar.All [] }) [];
   items = items;
+  kept = None;
 }
 
 -- aggregates over outer columns, derived tables, subqueries, scales, dates, places, numbers of

@@ -66,17 +66,18 @@ plainly q = record { block = q; order = []; limit = None }
 abbrev pub NamesOfWith : Type 0
 NamesOfWith = (bound_query (under (with_named (codes "a") (names_from (codes "region"))
     ∷ with_named (codes "b") (names_from (codes "a")) ∷ []) (names_from (codes "b"))) []
-    ≡ Ok (plainly (first_column (source.Derived (first_column (source.Derived bound_names))))))
+    ≡ Ok (plainly (first_column (source.Derived None
+    (first_column (source.Derived None bound_names))))))
     × (bound_query (under (with_named (codes "nation") (names_from (codes "region")) ∷ [])
     (names_from (codes "nation"))) []
-    ≡ Ok (plainly (first_column (source.Derived bound_names))))
+    ≡ Ok (plainly (first_column (source.Derived None bound_names))))
     × (bound_query (under (with_named (codes "v") (names_from (codes "region")) ∷ [])
     (names_from (codes "v"))) (view_of 32 ∷ [])
-    ≡ Ok (plainly (first_column (source.Derived bound_names))))
+    ≡ Ok (plainly (first_column (source.Derived None bound_names))))
     × (bound_query (under
     (with_listed (codes "a") (codes "n" ∷ []) (names_from (codes "region")) ∷ [])
     (select_from (item (named (codes "n")) ∷ []) (from_table (codes "a") ∷ []))) []
-    ≡ Ok (plainly (first_column (source.Derived bound_names))))
+    ≡ Ok (plainly (first_column (source.Derived None bound_names))))
     × (bound_query (under (with_named (codes "a") (names_from (codes "v")) ∷ [])
     (names_from (codes "region"))) (view_of 31 ∷ [])
     ≡ Ok (plainly bound_names))

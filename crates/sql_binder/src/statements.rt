@@ -57,6 +57,7 @@ fn named_view(
         columns,
         block: t.block,
         items,
+        kept: None,
     })
 }
 

@@ -181,9 +181,9 @@ table_is : (t : TableName) (js : List Kind) (env : EnvKinds)
     → from_kinds (source.Table t) js env ≡ Some (header_kinds (table_headers t))
 table_is t js env = ap (λ (m : FromKinds). m js env) (kinds_Table t) ∙ ap Some (table_kinds t)
 
-derived_is : (q : BoundBlock) (ks js : List Kind) (env : EnvKinds) → block_kinds q [] ≡ Some ks
-    → from_kinds (source.Derived q) js env ≡ Some ks
-derived_is q ks js env h = ap (λ (m : FromKinds). m js env) (kinds_Derived q) ∙ h
+derived_is : (kept : Option ℕ) (q : BoundBlock) (ks js : List Kind) (env : EnvKinds)
+    → block_kinds q [] ≡ Some ks → from_kinds (source.Derived kept q) js env ≡ Some ks
+derived_is kept q ks js env h = ap (λ (m : FromKinds). m js env) (kinds_Derived kept q) ∙ h
 
 lateral_is : (q : BoundBlock) (ks js : List Kind) (env : EnvKinds)
     → block_kinds q (js ∷ env) ≡ Some ks → from_kinds (source.Lateral q) js env ≡ Some ks
@@ -192,19 +192,19 @@ lateral_is q ks js env h = ap (λ (m : FromKinds). m js env) (kinds_Lateral q) �
 view_step : (b : Bool) (v : View) (r : Option NamedItem) (i : NamedItem)
     → (let x : Option NamedItem =
     if b then Some (record {
-      source = source.Derived v.block;
+      source = source.Derived v.kept v.block;
       headers = v.columns;
       items = v.items + 1;
     }) else r in x ≡ Some i)
     → block_kinds v.block [] ≡ Some (header_kinds v.columns) → (r ≡ Some i → ItemIs i) → ItemIs i
 view_step true v r i h is other =
     let made : NamedItem = record {
-      source = source.Derived v.block;
+      source = source.Derived v.kept v.block;
       headers = v.columns;
       items = v.items + 1;
     } in
     subst ItemIs (some_is made i h)
-    (λ js env. derived_is v.block (header_kinds v.columns) js env is)
+    (λ js env. derived_is v.kept v.block (header_kinds v.columns) js env is)
 view_step false v r i h is other = other h
 
 view_is : (name : Name) (views : List View) (i : NamedItem) → ViewsAreTyped views
@@ -328,10 +328,10 @@ query_rows_is inner made placed q alias names is sight left s ready f t h =
 pub derived_rows_is : (q : BlockMeaning) (alias : Name) (names : List Name) → BlockMeaningIs q
     → FromItemMeaningIs (λ sight left.
     counted 1 >>= (λ u. q (hiding sight left) >>= (λ t. lift (derived_rows t alias names left))))
-derived_rows_is = query_rows_is hiding source.Derived (record {
+derived_rows_is = query_rows_is hiding (source.Derived None) (record {
   ready = ready_hidden;
   kinds = λ sight left b ks is env fits.
-      derived_is b ks (row_kinds left) env (is [] (fits_hidden sight left));
+      derived_is None b ks (row_kinds left) env (is [] (fits_hidden sight left));
 })
 
 -- a lateral item

@@ -453,6 +453,7 @@ view_is_well_typed name names q views v typed is =
       columns = h.it;
       block = w.it.0.block;
       items = w.it.1;
+      kept = None;
     } in
     let e : made ≡ v = ok_is made v h.gives in
     let kinds = renamed_kinds names w.it.0.headers h.it h.is in

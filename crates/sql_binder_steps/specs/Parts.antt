@@ -217,7 +217,11 @@ table_item t = record { source = source.Table t; headers = table_headers t; item
 
 -- a view: itself and the items of its query
 abbrev pub view_item : View → NamedItem
-view_item v = record { source = source.Derived v.block; headers = v.columns; items = v.items + 1 }
+view_item v = record {
+  source = source.Derived v.kept v.block;
+  headers = v.columns;
+  items = v.items + 1;
+}
 
 -- the first view of that name
 abbrev pub view_named : Name → List View → Option NamedItem
@@ -308,7 +312,8 @@ named_rows s headers alias names left =
 
 -- a derived table
 abbrev pub derived_rows : BoundTable → Name → List Name → List ScopeColumn → Checked FromRows
-derived_rows t alias names left = named_rows (source.Derived t.block) t.headers alias names left
+derived_rows t alias names left =
+    named_rows (source.Derived None t.block) t.headers alias names left
 
 -- a lateral item
 abbrev pub lateral_rows : BoundTable → Name → List Name → List ScopeColumn → Checked FromRows

@@ -53,7 +53,7 @@ fn view_item(alloc: Global, v: &View) -> Result<NamedItem, AllocError>
     let block = copy_block(alloc, v.block.get())?;
     let block = Boxed::new(alloc, block)?;
     Ok(NamedItem {
-        source: Boxed::new(alloc, BoundSource::Derived(block))?,
+        source: Boxed::new(alloc, BoundSource::Derived(v.kept, block))?,
         headers,
         items: v.items as u64 + 1,
     })
@@ -168,7 +168,7 @@ pub fn derived_rows(
 ) -> Result<FromRows, BindFault>
     ensures { Gives (spec.derived_rows t alias.now names.now left.now) result }
 {
-    let source = Boxed::new(alloc, BoundSource::Derived(t.block))?;
+    let source = Boxed::new(alloc, BoundSource::Derived(None, t.block))?;
     named_rows(alloc, source, t.headers, alias, names, left)
 }
 

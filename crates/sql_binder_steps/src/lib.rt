@@ -16,4 +16,4 @@ pub mod values;
 mod view;
 
 pub use fault::BindFault;
-pub use view::{Header, StatementViews, View, Views};
+pub use view::{Header, StatementViews, View, Views, copy_views};

@@ -3,7 +3,7 @@ ghost use Rattle.std.specs.Prelude.{◌≡◌, IfOk};
 
 use expr_scalar::Kind;
 use sql_ast::Name;
-use sql_bound_query::BoundBlock;
+use sql_bound_query::{BoundBlock, copy_block};
 use sqlite_items::{Boxed, Items};
 use std::alloc::{AllocError, Global};
 
@@ -28,6 +28,8 @@ pub struct View {
     pub block: Boxed<BoundBlock>,
     /// How many FROM items its query has, all those in it counted.
     pub items: u32,
+    /// The number of the kept view that it is, where its rows are kept.
+    pub kept: Option<u32>,
 }
 
 /// The views of a session.
@@ -61,6 +63,35 @@ pub fn copy_headers(alloc: Global, all: &[Header]) -> Result<Items<Header>, Allo
     for h in all {
         let h = copy_header(h)?;
         copies.push(h)?;
+    }
+    Ok(copies)
+}
+
+// A copy of a view.
+fn copy_view(alloc: Global, v: &View) -> Result<View, AllocError>
+    ensures { IfOk result (λ c. c ≡ v.now) }
+{
+    let name = v.name.clone()?;
+    let columns = copy_headers(alloc, v.columns.as_slice())?;
+    let block = copy_block(alloc, v.block.get())?;
+    let block = Boxed::new(alloc, block)?;
+    Ok(View {
+        name,
+        columns,
+        block,
+        items: v.items,
+        kept: v.kept,
+    })
+}
+
+/// Copies of views.
+pub fn copy_views(alloc: Global, all: &[View]) -> Result<Items<View>, AllocError>
+    ensures { IfOk result (λ c. c ≡ all.now) }
+{
+    let mut copies = Items::new(alloc);
+    for v in all {
+        let v = copy_view(alloc, v)?;
+        copies.push(v)?;
     }
     Ok(copies)
 }

@@ -20,7 +20,7 @@ sums_at_the_end = (simp computed, simp computed, simp computed)
 
 pub counts : Counts
 unfolding answer rows operated values truths chosen rescaled sum_of quotient_of
-counts = (simp computed, simp computed)
+counts = (simp computed, simp computed, simp computed)
 
 pub not_in : NotIn
 unfolding answer rows operated values truths chosen rescaled sum_of quotient_of

@@ -1,5 +1,5 @@
 -- Induction over bound queries: one step for each node.
-use Rattle.std.proofs.Common.{ℕ, List, map, sym, subst}
+use Rattle.std.proofs.Common.{ℕ, List, map, Option, sym, subst}
 use Rattle.expr_aggregates.specs.declared.function.AggregateFunction.{AggregateFunction}
 use Rattle.expr_scalar.specs.declared.expr.Expr.{Expr}
 use Rattle.base_set_rows.specs.declared.kind.SetOperation.{SetOperation}
@@ -52,7 +52,7 @@ module _ (A : BoundAggregate → Type 0) (B : BoundBlock → Type 0) (S : BoundS
     pub set : (a : BoundBlock) → B a → (b : BoundBlock) → B b → (columns : List SetColumn)
         → (operation : SetOperation) → B (block.Set a b columns operation)
     pub table : (t : TableName) → S (source.Table t)
-    pub derived : (q : BoundBlock) → B q → S (source.Derived q)
+    pub derived : (kept : Option ℕ) (q : BoundBlock) → B q → S (source.Derived kept q)
     pub lateral : (q : BoundBlock) → B q → S (source.Lateral q)
     pub cross : (a : BoundSource) → S a → (b : BoundSource) → S b → S (source.Cross a b)
     pub inner : (a : BoundSource) → S a → (b : BoundSource) → S b → (on : BoundExpr) → E on
@@ -100,7 +100,8 @@ module _ (A : BoundAggregate → Type 0) (B : BoundBlock → Type 0) (S : BoundS
       (With BoundSource S) (With Input I) (With BoundExpr E) BoundAggregate BoundBlock BoundSource
       Input BoundExpr (λ x. x.0) (λ x. x.0) (λ x. x.0) (λ x. x.0) (λ x. x.0) y))
   source_node s (f.Table t) = subst S (sym (source.rolls-Table t)) (s.table t)
-  source_node s (f.Derived q) = subst S (sym (source.rolls-Derived q.0)) (s.derived q.0 q.1)
+  source_node s (f.Derived kept q) =
+      subst S (sym (source.rolls-Derived kept q.0)) (s.derived kept q.0 q.1)
   source_node s (f.Lateral q) = subst S (sym (source.rolls-Lateral q.0)) (s.lateral q.0 q.1)
   source_node s (f.Cross a b) = subst S (sym (source.rolls-Cross a.0 b.0)) (s.cross a.0 a.1 b.0 b.1)
   source_node s (f.Inner a b on) =

@@ -217,11 +217,11 @@ module _ (state : State)
       (subst (λ z. Each (Rows z) (scanned (table_rows state t))) (some_is (column_kinds t) ks f)
       (tables t))
 
-  derived_kept : (q : BoundBlock) → B q → S (source.Derived q)
-  derived_kept q b js kinds p env ks so h e =
+  derived_kept : (kept : Option ℕ) (q : BoundBlock) → B q → S (source.Derived kept q)
+  derived_kept kept q b js kinds p env ks so h e =
       let f : block_kinds q [] ≡ Some ks =
-      sym (ap (λ (m : FromKinds). m js kinds) (kinds_Derived q)) ∙ e in
-      subst (λ (m : FromMeaning). Each (Rows ks) (m p env)) (sym (source_Derived state q))
+      sym (ap (λ (m : FromKinds). m js kinds) (kinds_Derived kept q)) ∙ e in
+      subst (λ (m : FromMeaning). Each (Rows ks) (m p env)) (sym (source_Derived state kept q))
       (b [] [] ks refl f)
 
   lateral_kept : (q : BoundBlock) → B q → S (source.Lateral q)

@@ -1,5 +1,5 @@
 -- The worked queries with lateral items, computed.
-use Rattle.std.proofs.Common.{ap}
+use Rattle.std.proofs.Common.{ap, None}
 use Rattle.base_decimal.specs.Decimal.{rescaled, sum_of, quotient_of}
 use Rattle.expr_scalar.specs.Meaning.{operated, values, truths, chosen}
 use Rattle.sql_bound_query.specs.Meaning.{rows}
@@ -18,7 +18,7 @@ lateral_items = (simp computed, simp computed, simp computed, simp computed)
 pub lateral_kinds : LateralKinds
 lateral_kinds q js ks = (
   ap (λ (m : FromKinds). m js ks) (kinds_Lateral q),
-  ap (λ (m : FromKinds). m js ks) (kinds_Derived q),
+  ap (λ (m : FromKinds). m js ks) (kinds_Derived None q),
 )
 
 pub lateral_reads : LateralReads

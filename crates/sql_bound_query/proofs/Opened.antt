@@ -1,5 +1,5 @@
 -- The meanings of a bound query at each node.
-use Rattle.std.proofs.Common.{◌≡◌, ℕ, List, map, ap, ◌∙◌}
+use Rattle.std.proofs.Common.{◌≡◌, ℕ, List, map, Option, ap, ◌∙◌}
 use Rattle.base_set_rows.specs.declared.kind.SetOperation.{SetOperation}
 use Rattle.expr_operators.specs.declared.operator.Comparison.{Comparison}
 use Rattle.expr_aggregates.specs.declared.function.AggregateFunction.{AggregateFunction}
@@ -147,12 +147,12 @@ unfolding source_meaning_at
 source_Table state t = source_meaning_is state (source.Table t)
     ∙ ap (source_meaning_at state) (source.outs-Table t)
 
-pub source_Derived : (state : State) (q : BoundBlock)
-    → source_meaning state (source.Derived q)
-    ≡ source_step state (node.Derived (block_meaning state q))
+pub source_Derived : (state : State) (kept : Option ℕ) (q : BoundBlock)
+    → source_meaning state (source.Derived kept q)
+    ≡ source_step state (node.Derived kept (block_meaning state q))
 unfolding source_meaning_at
-source_Derived state q = source_meaning_is state (source.Derived q)
-    ∙ ap (source_meaning_at state) (source.outs-Derived q)
+source_Derived state kept q = source_meaning_is state (source.Derived kept q)
+    ∙ ap (source_meaning_at state) (source.outs-Derived kept q)
 
 pub source_Lateral : (state : State) (q : BoundBlock)
     → source_meaning state (source.Lateral q)
@@ -260,10 +260,12 @@ pub source_Table_at : (state : State) (t : TableName) (p : List Value) (env : En
     → source_meaning state (source.Table t) p env ≡ source_step state (node.Table t) p env
 source_Table_at state t p env = ap (λ (m : FromMeaning). m p env) (source_Table state t)
 
-pub source_Derived_at : (state : State) (q : BoundBlock) (p : List Value) (env : Env)
-    → source_meaning state (source.Derived q) p env
-    ≡ source_step state (node.Derived (block_meaning state q)) p env
-source_Derived_at state q p env = ap (λ (m : FromMeaning). m p env) (source_Derived state q)
+pub source_Derived_at : (state : State) (kept : Option ℕ) (q : BoundBlock) (p : List Value)
+    (env : Env)
+    → source_meaning state (source.Derived kept q) p env
+    ≡ source_step state (node.Derived kept (block_meaning state q)) p env
+source_Derived_at state kept q p env =
+    ap (λ (m : FromMeaning). m p env) (source_Derived state kept q)
 
 pub source_Lateral_at : (state : State) (q : BoundBlock) (p : List Value) (env : Env)
     → source_meaning state (source.Lateral q) p env

@@ -109,8 +109,8 @@ module _ (state : State) where
         (stands.project_stands (right_columns columns) rs (sb env)));
     table = λ t p env. subst (λ (m : FromMeaning). Each Stands (m p env))
         (sym (source_Table state t)) (scanned_stand (table_rows state t));
-    derived = λ q b p env. subst (λ (m : FromMeaning). Each Stands (m p env))
-        (sym (source_Derived state q)) (b []);
+    derived = λ kept q b p env. subst (λ (m : FromMeaning). Each Stands (m p env))
+        (sym (source_Derived state kept q)) (b []);
     lateral = λ q b p env. subst (λ (m : FromMeaning). Each Stands (m p env))
         (sym (source_Lateral state q)) (b (p ∷ env));
     cross = λ a sa b sb p env.

@@ -1,5 +1,5 @@
 -- The tables of a bound query at each node.
-use Rattle.std.proofs.Common.{◌≡◌, ℕ, List, map, ap, ◌∙◌}
+use Rattle.std.proofs.Common.{◌≡◌, ℕ, List, map, Option, ap, ◌∙◌}
 use Rattle.expr_aggregates.specs.declared.function.AggregateFunction.{AggregateFunction}
 use Rattle.base_set_rows.specs.declared.kind.SetOperation.{SetOperation}
 use Rattle.expr_operators.specs.declared.operator.Comparison.{Comparison}
@@ -128,11 +128,11 @@ pub of_Table : (t : TableName) → tables_of_source (source.Table t) ≡ source_
 unfolding tables_of_source_at
 of_Table t = tables_of_source_is (source.Table t) ∙ ap tables_of_source_at (source.outs-Table t)
 
-pub of_Derived : (q : BoundBlock)
-    → tables_of_source (source.Derived q) ≡ source_tables (node.Derived (tables q))
+pub of_Derived : (kept : Option ℕ) (q : BoundBlock)
+    → tables_of_source (source.Derived kept q) ≡ source_tables (node.Derived kept (tables q))
 unfolding tables_of_source_at
-of_Derived q = tables_of_source_is (source.Derived q)
-    ∙ ap tables_of_source_at (source.outs-Derived q)
+of_Derived kept q = tables_of_source_is (source.Derived kept q)
+    ∙ ap tables_of_source_at (source.outs-Derived kept q)
 
 pub of_Lateral : (q : BoundBlock)
     → tables_of_source (source.Lateral q) ≡ source_tables (node.Lateral (tables q))

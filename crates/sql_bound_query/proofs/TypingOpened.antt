@@ -1,5 +1,5 @@
 -- The typing of a bound query at each node.
-use Rattle.std.proofs.Common.{◌≡◌, ℕ, List, map, ap, ◌∙◌}
+use Rattle.std.proofs.Common.{◌≡◌, ℕ, List, map, Option, ap, ◌∙◌}
 use Rattle.expr_aggregates.specs.declared.function.AggregateFunction.{AggregateFunction}
 use Rattle.base_set_rows.specs.declared.kind.SetOperation.{SetOperation}
 use Rattle.expr_operators.specs.declared.operator.Comparison.{Comparison}
@@ -127,10 +127,11 @@ pub kinds_Table : (t : TableName) → from_kinds (source.Table t) ≡ source_kin
 unfolding from_kinds_at
 kinds_Table t = from_kinds_is (source.Table t) ∙ ap from_kinds_at (source.outs-Table t)
 
-pub kinds_Derived : (q : BoundBlock)
-    → from_kinds (source.Derived q) ≡ source_kinds (node.Derived (block_kinds q))
+pub kinds_Derived : (kept : Option ℕ) (q : BoundBlock)
+    → from_kinds (source.Derived kept q) ≡ source_kinds (node.Derived kept (block_kinds q))
 unfolding from_kinds_at
-kinds_Derived q = from_kinds_is (source.Derived q) ∙ ap from_kinds_at (source.outs-Derived q)
+kinds_Derived kept q =
+    from_kinds_is (source.Derived kept q) ∙ ap from_kinds_at (source.outs-Derived kept q)
 
 pub kinds_Lateral : (q : BoundBlock)
     → from_kinds (source.Lateral q) ≡ source_kinds (node.Lateral (block_kinds q))

@@ -1,5 +1,5 @@
 -- Queries worked out by hand over small tables.
-use Rattle.std.specs.Prelude.{◌≡◌, ℕ, ◌-◌, ◌^◌, List, [], ◌∷◌, Some, None, Ok, Err}
+use Rattle.std.specs.Prelude.{◌≡◌, ℕ, ◌-◌, ◌^◌, List, [], ◌∷◌, Option, Some, None, Ok, Err}
 use Rattle.std.specs.Prelude.{pos, codes, true}
 use Rattle.expr_aggregates.specs.declared.function.AggregateFunction.TheVariants.{Sum}
 use Rattle.base_order_limit.specs.declared.key.OrderKey.{OrderKey}
@@ -181,16 +181,23 @@ customers_and_orders =
     Plain (Outer (Table Customer) (Table Orders) 9
     (over_two (input.Column 0 9) (input.Column 0 0) equal_inputs)) always (at 0 ∷ at 8 ∷ [])
 
--- select k, (select count(*) from orders where o_orderkey = k) from (..) as t
-abbrev pub count_for_null : BoundBlock
-count_for_null = Plain (Derived customers_and_orders) always
+-- select k, (select count(*) from orders where o_orderkey = k) from (..) as t, where (..) is the
+-- kept view of a number or none
+abbrev pub count_for_null_of : Option ℕ → BoundBlock
+count_for_null_of kept = Plain (Derived kept customers_and_orders) always
     (at 1 ∷ over (input.Scalar (orders_counted 0 1)) (e.Column 0) ∷ [])
 
--- A count over no rows is 0, and a null outer value meets no row.
+abbrev pub count_for_null : BoundBlock
+count_for_null = count_for_null_of None
+
+-- A count over no rows is 0, and a null outer value meets no row. A kept view means what its query
+-- does.
 abbrev pub Counts : Type 0
 Counts = (answer (statement orders_of_each) small
     ≡ Ok ((whole 1 ∷ whole 2 ∷ []) ∷ (whole 2 ∷ whole 0 ∷ []) ∷ []))
     × (answer (statement count_for_null) small
+    ≡ Ok ((whole 7 ∷ whole 1 ∷ []) ∷ (whole 8 ∷ whole 1 ∷ []) ∷ (Null ∷ whole 0 ∷ []) ∷ []))
+    × (answer (statement (count_for_null_of (Some 1))) small
     ≡ Ok ((whole 7 ∷ whole 1 ∷ []) ∷ (whole 8 ∷ whole 1 ∷ []) ∷ (Null ∷ whole 0 ∷ []) ∷ []))
 
 -- select case when o_orderkey = 7 then 9 end from orders where ..

@@ -1,5 +1,5 @@
 -- Queries with lateral items worked out by hand over the small tables.
-use Rattle.std.specs.Prelude.{◌≡◌, List, [], ◌∷◌, Ok}
+use Rattle.std.specs.Prelude.{◌≡◌, List, [], ◌∷◌, None, Ok}
 use Rattle.expr_operators.specs.declared.operator.Arithmetic.TheVariants.{Add}
 use Rattle.expr_operators.specs.declared.operator.Comparison.TheVariants.{Equal, Greater}
 use Rattle.expr_scalar.specs.declared.expr.Expr.TheVariants as e
@@ -84,7 +84,7 @@ LateralItems = (answer (statement counted_beside) small
 abbrev pub LateralKinds : Type 0
 LateralKinds = (q : BoundBlock) (js : List Kind) (ks : EnvKinds)
     → (from_kinds (Lateral q) js ks ≡ block_kinds q (js ∷ ks))
-    × (from_kinds (Derived q) js ks ≡ block_kinds q [])
+    × (from_kinds (Derived None q) js ks ≡ block_kinds q [])
 
 -- A lateral item reads its tables once, however many rows stand to its left.
 abbrev pub LateralReads : Type 0

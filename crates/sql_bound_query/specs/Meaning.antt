@@ -135,7 +135,7 @@ abbrev pub source_step : State
     → node.BoundSource-F AggregateMeaning RowsMeaning FromMeaning InputMeaning ExprMeaning
     → FromMeaning
 source_step state (node.Table t) p env = scanned (table_rows state t)
-source_step state (node.Derived q) p env = q []
+source_step state (node.Derived kept q) p env = q []
 source_step state (node.Lateral q) p env = q (p ∷ env)
 source_step state (node.Cross a b) p env = cross_loop (a p env) (λ l. b (p ++ l) env)
 source_step state (node.Inner a b on) p env =

@@ -1,4 +1,4 @@
--- How much a query reads: each table that stands in it is read once.
+-- How much a query reads of tables, where no view is kept: each table that stands in it is read once.
 use Rattle.std.specs.Prelude.{ℕ, List, [], ◌∷◌, ◌++◌, length}
 use Rattle.std.specs.List.{flat_map}
 use Rattle.base_row_laws.specs.Bags.{weigh}
@@ -43,7 +43,7 @@ aggregate_tables (node.Of function scale argument) = argument
 -- of a source: its table, or those of its parts
 abbrev pub source_tables : node.BoundSource-F Tables Tables Tables Tables Tables → Tables
 source_tables (node.Table t) = t ∷ []
-source_tables (node.Derived q) = q
+source_tables (node.Derived kept q) = q
 source_tables (node.Lateral q) = q
 source_tables (node.Cross a b) = a ++ b
 source_tables (node.Inner a b on) = a ++ b ++ on

@@ -149,7 +149,7 @@ joined_kinds on ks ls rs = where_true (on.is_condition ((ls ++ rs) ∷ ks)) (ls 
 abbrev pub source_kinds : node.BoundSource-F KindMeaning KindsMeaning FromKinds KindMeaning
     ExprTyping → FromKinds
 source_kinds (node.Table t) js ks = Some (column_kinds t)
-source_kinds (node.Derived q) js ks = q []
+source_kinds (node.Derived kept q) js ks = q []
 source_kinds (node.Lateral q) js ks = q (js ∷ ks)
 source_kinds (node.Cross a b) js ks =
     where_some (a js ks) (λ ls. where_some (b (js ++ ls) ks) (λ rs. Some (ls ++ rs)))

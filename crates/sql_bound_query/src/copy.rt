@@ -117,7 +117,10 @@ fn source(alloc: Global, s: &BoundSource) -> Result<BoundSource, AllocError>
 {
     match s {
         BoundSource::Table(table) => Ok(BoundSource::Table(*table)),
-        BoundSource::Derived(q) => Ok(BoundSource::Derived(boxed_block(alloc, q)?)),
+        BoundSource::Derived(kept, q) => {
+            let q = boxed_block(alloc, q)?;
+            Ok(BoundSource::Derived(*kept, q))
+        }
         BoundSource::Lateral(q) => Ok(BoundSource::Lateral(boxed_block(alloc, q)?)),
         BoundSource::Cross(a, b) => {
             let left = boxed_source(alloc, a)?;

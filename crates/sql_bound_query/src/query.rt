@@ -52,8 +52,10 @@ pub enum BoundAggregate {
 pub enum BoundSource {
     /// A table.
     Table(TableName),
-    /// A derived table or a view: its own query, which sees no row around it.
-    Derived(Boxed<BoundBlock>),
+    /// A derived table or a view: its own query, which sees no row around it. The number is that of
+    /// the kept view that it is, where it is one: then its rows are kept, and no table is read for
+    /// them.
+    Derived(Option<u32>, Boxed<BoundBlock>),
     /// A lateral item: its own query, whose nearest row around is the row so far, that of all items
     /// to its left in the same FROM.
     Lateral(Boxed<BoundBlock>),

@@ -4,4 +4,5 @@ pub mod Forms
 pub mod Lexing
 pub mod Fronts
 pub mod Making
+pub mod Names
 pub mod Kinds

@@ -57,7 +57,7 @@ fn number(bytes: &[u8], at: usize) -> Result<(Kind, Content), LexFault>
 }
 
 /// A reserved word or a name.
-fn word(alloc: Global, bytes: &[u8]) -> Result<(Kind, Content), AllocError>
+pub(crate) fn word(alloc: Global, bytes: &[u8]) -> Result<(Kind, Content), AllocError>
     requires { forms.all_are byte.is_word bytes.now ≡ true }
     ensures { IfOk result (λ made. made
         ≡ forms.word_made (reserved_kind (map to_ascii_lowercase bytes.now))

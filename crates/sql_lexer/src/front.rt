@@ -29,7 +29,7 @@ pub(crate) fn is_letter(b: u8) -> bool
     b.is_ascii_alphabetic() || b == b'_'
 }
 
-fn is_word(b: u8) -> bool
+pub(crate) fn is_word(b: u8) -> bool
     ensures { result ≡ byte.is_word b }
 {
     is_letter(b) || b.is_ascii_digit()

@@ -16,9 +16,9 @@ use Rattle.base_row_laws.proofs.OfBags.{bottom_most, OfBag-bottom, OfBag-weigh, 
 use Rattle.base_value.specs.declared.value.Value.{Value}
 use Rattle.base_value.specs.declared.value.Value.TheVariants.{Null, Fault, Number, Text, Date}
 use Rattle.expr_aggregates.specs.Values.{written, value_rank, is_null, above, below, reading, number_or_fault}
-use Rattle.store_kept_views.specs.declared.plan.KeptAggregate.{KeptAggregate}
-use Rattle.store_kept_views.specs.declared.plan.KeptAggregate.TheVariants as kept
-use Rattle.store_kept_views.specs.Plans.{item_of}
+use Rattle.plan_algebra.specs.declared.kept_plan.KeptAggregate.{KeptAggregate}
+use Rattle.plan_algebra.specs.declared.kept_plan.KeptAggregate.TheVariants as kept
+use Rattle.plan_algebra.specs.KeptPlans.{item_of}
 use Rattle.store_groups.specs.Groups.{Cell, cell, Group, group, no_rows, cell_of, term_of, with_value, without_value, with_values, without_values, with_row, without_row}
 use Rattle.store_kept_views.specs.RowGroups.{arguments, cells_of, group_of}
 use Rattle.store_groups.specs.Groups.{is_plain, are_plain, is_faultless, HasValue, HaveValues, HasRow}

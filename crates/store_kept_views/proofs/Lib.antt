@@ -5,8 +5,5 @@ pub mod Passing
 pub mod Shows
 pub mod ReadingLists
 pub mod ViewLists
-pub mod FormsOpened
-pub mod FormLists
-pub mod FormLoops
 pub mod PartLists
 pub mod Followed

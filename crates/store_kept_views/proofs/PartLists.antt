@@ -6,8 +6,8 @@ use Rattle.std.proofs.lemmas.List.{append_assoc, append-nil}
 use Rattle.base_columns.specs.Lists.{one_list}
 use Rattle.base_row_laws.specs.Ranked.{Ranked}
 use Rattle.base_value.specs.declared.value.Value.{Value}
-use Rattle.store_kept_views.specs.declared.plan.KeptPlan.{KeptPlan}
-use Rattle.store_kept_views.specs.Plans.{selected}
+use Rattle.plan_algebra.specs.declared.kept_plan.KeptPlan.{KeptPlan}
+use Rattle.plan_algebra.specs.KeptPlans.{selected}
 use Rattle.store_groups.specs.Entries.{Entries}
 use Rattle.store_kept_views.specs.Standing.{StandsBy}
 use Rattle.store_kept_views.proofs.Made.{selected_append}

@@ -11,8 +11,8 @@ use Rattle.base_value.specs.declared.value.Value.TheVariants.{Null}
 use Rattle.expr_scalar.specs.declared.expr.Expr.TheVariants as e
 use Rattle.expr_scalar.specs.Meaning.{value}
 use Rattle.expr_scalar.proofs.Opened.{value_Column}
-use Rattle.store_kept_views.specs.declared.plan.KeptAggregate.{KeptAggregate}
-use Rattle.store_kept_views.specs.Plans.{item_of}
+use Rattle.plan_algebra.specs.declared.kept_plan.KeptAggregate.{KeptAggregate}
+use Rattle.plan_algebra.specs.KeptPlans.{item_of}
 use Rattle.store_kept_views.specs.Readings.{argument_columns, key_columns}
 use Rattle.store_kept_views.specs.Standing.{arguments_in}
 

@@ -20,11 +20,11 @@ use Rattle.base_value.specs.declared.value.Value.{Value}
 use Rattle.base_value.specs.declared.value.Value.TheVariants.{Null}
 use Rattle.base_value.specs.Value.{same_value}
 use Rattle.store_groups.specs.declared.cell.Cell.{Cell as Stored}
-use Rattle.store_kept_views.specs.declared.plan.KeptPlan.{KeptPlan}
-use Rattle.store_kept_views.specs.declared.plan.KeptAggregate.{KeptAggregate}
+use Rattle.plan_algebra.specs.declared.kept_plan.KeptPlan.{KeptPlan}
+use Rattle.plan_algebra.specs.declared.kept_plan.KeptAggregate.{KeptAggregate}
 use Rattle.store_groups.specs.Stored.{cell_in}
-use Rattle.sql_bound_query.specs.Meaning.{groups}
-use Rattle.store_kept_views.specs.Plans.{item_of, selected, key_of, query_rows}
+use Rattle.plan_algebra.specs.KeptPlans.{kept_groups as groups}
+use Rattle.plan_algebra.specs.KeptPlans.{item_of, selected, key_of, query_rows}
 use Rattle.store_groups.specs.Groups.{Group, Cell, no_rows}
 use Rattle.store_kept_views.specs.RowGroups.{group_of, shown, all_shown, row_of}
 use Rattle.store_groups.specs.Entries.{Entries, same_key, group_at}

@@ -8,8 +8,8 @@ use Rattle.base_row_laws.specs.Ranked.{Ranked, ranked}
 use Rattle.base_row_laws.specs.Bags.{SameBag, has, IsIdentity}
 use Rattle.base_row_laws.proofs.Bags.{SameBag-append_comm, SameBag-trans, SameBag-append, SameBag-refl, SameBag-sym}
 use Rattle.base_value.specs.declared.value.Value.{Value}
-use Rattle.store_kept_views.specs.declared.plan.KeptPlan.{KeptPlan}
-use Rattle.store_kept_views.specs.Plans.{holds_for, selected, key_of}
+use Rattle.plan_algebra.specs.declared.kept_plan.KeptPlan.{KeptPlan}
+use Rattle.plan_algebra.specs.KeptPlans.{holds_for, selected, key_of}
 use Rattle.store_groups.specs.Groups.{Group, with_row, without_row, is_faultless, HasRow, no_rows}
 use Rattle.store_kept_views.specs.RowGroups.{group_of}
 use Rattle.store_groups.specs.Entries.{Entries, same_key, group_at}

@@ -3,7 +3,7 @@ use Rattle.std.proofs.Common.{◌≡◌, ℕ, ◌+◌, ◌<◌, List, [], ◌∷
 use Rattle.std.specs.Prelude.{map, take}
 use lib.ListN.{get_or}
 use Rattle.std.proofs.lemmas.List.{map-append}
-use Rattle.store_kept_views.specs.declared.plan.KeptPlan.{KeptPlan}
+use Rattle.plan_algebra.specs.declared.kept_plan.KeptPlan.{KeptPlan}
 use Rattle.base_schema.specs.State.{State, table_rows}
 use Rattle.base_value.specs.declared.value.Value.{Value}
 use Rattle.store_groups.specs.Entries.{Entries}

@@ -7,7 +7,7 @@ use Rattle.base_value.specs.declared.value.Value.TheVariants.{Null, Number, Faul
 use Rattle.expr_scalar.specs.declared.expr.Expr.{Expr}
 use Rattle.store_groups.specs.Cases.{amount, faulty, three}
 use Rattle.store_groups.specs.Groups.{cell, cell_of}
-use Rattle.store_kept_views.specs.declared.plan.KeptAggregate.TheVariants as kept
+use Rattle.plan_algebra.specs.declared.kept_plan.KeptAggregate.TheVariants as kept
 use Rattle.store_kept_views.specs.RowGroups.{shown}
 
 -- the value of an aggregate: a sum and a count, of nothing but nulls, with a fault, and past the

@@ -3,7 +3,7 @@ use Rattle.std.specs.Prelude.{List, map}
 use Rattle.std.specs.List.{All}
 use Rattle.base_schema.specs.State.{State, table_rows}
 use Rattle.store_state.specs.Moves.{AreMoved}
-use Rattle.store_kept_views.specs.declared.plan.KeptPlan.{KeptPlan}
+use Rattle.plan_algebra.specs.declared.kept_plan.KeptPlan.{KeptPlan}
 use Rattle.store_groups.specs.Entries.{Entries}
 use Rattle.store_kept_views.specs.Standing.{StandsFor}
 

@@ -1,5 +1,3 @@
-pub mod Plans
-pub mod Forms
 pub mod RowGroups
 pub mod Standing
 pub mod Readings

@@ -4,7 +4,7 @@ use Rattle.base_row_laws.specs.Ranked.{Ranked, ranked}
 use Rattle.base_row_laws.specs.Rows.{columns}
 use Rattle.base_value.specs.declared.value.Value.{Value}
 use Rattle.base_value.specs.declared.value.Value.TheVariants.{Null}
-use Rattle.store_kept_views.specs.declared.plan.KeptPlan.{KeptPlan}
+use Rattle.plan_algebra.specs.declared.kept_plan.KeptPlan.{KeptPlan}
 use Rattle.store_groups.specs.Groups.{Group, no_rows}
 use Rattle.store_kept_views.specs.RowGroups.{row_of}
 use Rattle.store_groups.specs.Entries.{Entries}

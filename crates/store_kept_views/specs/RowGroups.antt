@@ -8,9 +8,9 @@ use Rattle.base_value.specs.declared.value.Value.{Value}
 use Rattle.base_value.specs.declared.value.Value.TheVariants.{Null, Number}
 use Rattle.expr_aggregates.specs.Values.{written, number_or_fault}
 use Rattle.store_groups.specs.Groups.{Cell, Group, cell_of, group}
-use Rattle.store_kept_views.specs.declared.plan.KeptAggregate.{KeptAggregate}
-use Rattle.store_kept_views.specs.declared.plan.KeptAggregate.TheVariants as kept
-use Rattle.store_kept_views.specs.Plans.{item_of}
+use Rattle.plan_algebra.specs.declared.kept_plan.KeptAggregate.{KeptAggregate}
+use Rattle.plan_algebra.specs.declared.kept_plan.KeptAggregate.TheVariants as kept
+use Rattle.plan_algebra.specs.KeptPlans.{item_of}
 
 -- the values of an aggregate's argument in rows
 abbrev pub arguments : KeptAggregate → List (Ranked Value) → List Value

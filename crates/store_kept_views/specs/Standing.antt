@@ -6,9 +6,9 @@ use Rattle.std.specs.Option.{is_some}
 use Rattle.base_row_laws.specs.Ranked.{Ranked}
 use Rattle.base_row_laws.specs.Bags.{has}
 use Rattle.base_value.specs.declared.value.Value.{Value}
-use Rattle.store_kept_views.specs.declared.plan.KeptAggregate.{KeptAggregate}
-use Rattle.store_kept_views.specs.declared.plan.KeptPlan.{KeptPlan}
-use Rattle.store_kept_views.specs.Plans.{item_of, selected, key_of}
+use Rattle.plan_algebra.specs.declared.kept_plan.KeptAggregate.{KeptAggregate}
+use Rattle.plan_algebra.specs.declared.kept_plan.KeptPlan.{KeptPlan}
+use Rattle.plan_algebra.specs.KeptPlans.{item_of, selected, key_of}
 use Rattle.store_groups.specs.Entries.{Entries, group_at, same_key}
 use Rattle.store_groups.specs.Groups.{Group}
 use Rattle.store_state.specs.Moves.{IsMoved}

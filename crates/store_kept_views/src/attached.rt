@@ -1,13 +1,14 @@
 //! Kept groups that a version carries along.
-ghost use Rattle.std.specs.Prelude.{◌≡◌, ◌<◌, List, Some, IfOk, length, slice_get};
+ghost use Rattle.std.specs.Prelude.{◌≡◌, ◌<◌, List, Some, IfOk, IfSome, length, slice_get};
 ghost use Rattle.base_row_laws.specs.Bags.{SameBag};
 ghost use Rattle.base_schema.specs.State.{State as Tables, table_rows};
-ghost use Rattle.store_kept_views.specs.declared.plan.KeptPlan.{KeptPlan as Plan};
+ghost use Rattle.plan_algebra.specs.KeptPlans.{query_rows};
+ghost use Rattle.plan_algebra.specs.declared.kept_plan.KeptPlan.{KeptPlan as Plan};
 ghost use Rattle.store_kept_views.specs.Kept.{kept};
-ghost use Rattle.store_kept_views.specs.Plans.{query_rows};
 
 use crate::kept::Kept;
 use base_columns::Bag;
+use plan_algebra::{KeptPlan, is_same_plan};
 use std::alloc::{AllocError, Global};
 use std::marker::{Brand, PhantomData};
 use std::sync::Arc;
@@ -81,5 +82,22 @@ impl<P: Plans> Attachment for KeptOf<P> {
     fn anew(&self, _alloc: Global, state: &Arc<State>) -> Result<KeptOf<P>, AllocError> {
         let kept = self.kept.anew(Arc::try_clone(state)?)?;
         Ok(KeptOf::new(kept))
+    }
+
+    fn view_rows(
+        &self,
+        _alloc: Global,
+        number: u32,
+        plan: &KeptPlan,
+    ) -> Result<Option<Bag>, AllocError> {
+        let i = number as usize;
+        if i >= self.kept.len() {
+            return Ok(None);
+        }
+        if !is_same_plan(self.kept.plan(i), plan) {
+            return Ok(None);
+        }
+        let bag = self.kept.rows(i)?;
+        Ok(Some(bag))
     }
 }

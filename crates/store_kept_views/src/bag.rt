@@ -49,7 +49,8 @@ fn put_rows(
 /// Rows of that width as a bag.
 pub(crate) fn bag_of(alloc: Global, width: usize, rows: &[OutputRow]) -> Result<Bag, AllocError>
     requires { All (λ r. length r.values ≡ width) rows.now }
-    ensures { IfOk result (λ bag. bag.rows ≡ rows.now) }
+    ensures rows { IfOk result (λ bag. bag.rows ≡ rows.now) }
+    ensures width { IfOk result (λ bag. bag.width ≡ width) }
 {
     let mut bag = Bag::new(alloc, width);
     let Some(first) = rows.first() else {

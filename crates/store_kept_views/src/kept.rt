@@ -4,13 +4,13 @@ ghost use Rattle.std.specs.Arc.{arc_value};
 ghost use Rattle.base_row_laws.specs.Bags.{SameBag};
 ghost use Rattle.base_schema.specs.State.{table_rows};
 ghost use Rattle.store_state.specs.Moves.{AreMoved};
-ghost use Rattle.store_kept_views.specs.declared.plan.KeptPlan.{KeptPlan as Plan};
-ghost use Rattle.store_kept_views.specs.Plans.{query_rows};
+ghost use Rattle.plan_algebra.specs.declared.kept_plan.KeptPlan.{KeptPlan as Plan};
+ghost use Rattle.plan_algebra.specs.KeptPlans.{query_rows};
 ghost use Rattle.store_kept_views.specs.Kept.{AreKept, CanMoveViews, kept, plans_of};
 
-use crate::plan::KeptPlan;
 use crate::view::View;
 use base_columns::Bag;
+use plan_algebra::KeptPlan;
 use std::alloc::{AllocError, Global};
 use std::marker::Model;
 use std::sync::Arc;
@@ -161,11 +161,21 @@ impl Kept {
         self.views.len()
     }
 
+    /// A plan.
+    pub fn plan(&self, i: usize) -> &KeptPlan
+        requires { i < length self.now.plans }
+        ensures { slice_get self.now.plans i ≡ Some result.now }
+    {
+        self.views[i].plan()
+    }
+
     /// The rows of a plan: those of its query over the state, with their standings, in any order.
     pub fn rows(&self, i: usize) -> Result<Bag, AllocError>
         requires { i < length self.now.plans }
-        ensures { IfOk result (λ bag. (plan : Plan) → slice_get self.now.plans i ≡ Some plan
+        ensures rows { IfOk result (λ bag. (plan : Plan) → slice_get self.now.plans i ≡ Some plan
             → SameBag bag.rows (query_rows plan (table_rows self.now.tables plan.table))) }
+        ensures width { IfOk result (λ bag. (plan : Plan) → slice_get self.now.plans i ≡ Some plan
+            → bag.width ≡ length plan.list) }
     {
         self.views[i].rows(self.alloc)
     }

@@ -4,16 +4,12 @@
 
 mod attached;
 mod bag;
-mod form;
 mod kept;
 pub mod laws;
 mod moving;
 mod output;
-mod plan;
 mod reading;
 mod view;
 
 pub use attached::{KeptOf, Plans};
-pub use form::KeptPlanError;
 pub use kept::Kept;
-pub use plan::{KeptAggregate, KeptPlan};

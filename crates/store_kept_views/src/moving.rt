@@ -7,16 +7,15 @@ ghost use Rattle.base_value.specs.Truth.{standing_rank};
 ghost use Rattle.base_value.specs.declared.value.Value.{Value as Datum};
 ghost use Rattle.store_groups.specs.Entries.{CanTake, HasLong};
 ghost use Rattle.store_kept_views.specs.Moving.{IsPut, IsTakenOut};
-ghost use Rattle.store_kept_views.specs.Plans.{selected};
+ghost use Rattle.plan_algebra.specs.KeptPlans.{selected};
 ghost use Rattle.store_kept_views.specs.Standing.{CanAdd, CanMove, CanTakeAll, StandsBy};
 ghost use Rattle.store_groups.specs.Entries.{group_at};
 ghost use Rattle.store_kept_views.specs.Standing.{StandsFor};
 
-use crate::plan::KeptPlan;
 use crate::reading::Reading;
 use base_columns::Batch;
 use base_value::{Standing, Value};
-use plan_algebra::Piece;
+use plan_algebra::{KeptPlan, Piece};
 use sqlite_items::Items;
 use std::alloc::{AllocError, Global};
 use store_groups::{Groups, Taken};

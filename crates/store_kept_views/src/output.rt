@@ -5,7 +5,7 @@ ghost use Rattle.base_row_laws.specs.Rows.{columns};
 ghost use Rattle.base_value.specs.declared.value.Value.TheVariants.{Null};
 ghost use Rattle.base_row_laws.specs.Bags.{SameBag};
 ghost use Rattle.base_value.specs.declared.value.Value.{Value as Datum};
-ghost use Rattle.store_kept_views.specs.Plans.{query_rows};
+ghost use Rattle.plan_algebra.specs.KeptPlans.{query_rows};
 ghost use Rattle.store_kept_views.specs.Standing.{StandsFor};
 ghost use Rattle.std.specs.Prelude.{◌≡◌, ◌++◌, ◌∷◌, [], IfOk, List, OnOk, length, map};
 ghost use Rattle.std.specs.Prelude.{slice_index_or};
@@ -17,9 +17,9 @@ ghost use Rattle.store_kept_views.specs.RowGroups.{all_shown, shown, unless_rank
 ghost use Rattle.store_groups.specs.Stored.{cell_in};
 ghost use Rattle.store_kept_views.specs.Output.{output_row, output_rows};
 
-use crate::plan::{KeptAggregate, KeptPlan};
 use base_decimal::{NumberFault, Scale};
 use base_value::{Fault, Row, Standing, Value};
+use plan_algebra::{KeptAggregate, KeptPlan};
 use std::alloc::{AllocError, Global};
 use std::marker::Model;
 use store_groups::{Cell, Entry, Group, Groups, Page};

@@ -5,15 +5,15 @@ ghost use Rattle.base_row_laws.specs.Operators.{select};
 ghost use Rattle.base_value.specs.Truth.{standing_rank};
 ghost use Rattle.base_value.specs.declared.value.Value.TheVariants.{Null};
 ghost use Rattle.base_columns.specs.Batches.{cells, row_at};
-ghost use Rattle.store_kept_views.specs.Plans.{holds_for, item_of, key_of};
+ghost use Rattle.plan_algebra.specs.KeptPlans.{holds_for, item_of, key_of};
 ghost use Rattle.store_kept_views.specs.Readings.{argument_columns, key_columns};
 ghost use Rattle.store_kept_views.specs.Standing.{arguments_in};
 
-use crate::plan::{KeptAggregate, KeptPlan};
 use base_columns::{Batch, Column};
 use base_value::{Standing, Value};
 use exec_column_expr::{selected, values_of};
 use expr_scalar::Expr;
+use plan_algebra::{KeptAggregate, KeptPlan};
 use std::alloc::{AllocError, Global};
 use std::marker::Model;
 

@@ -1,16 +1,16 @@
 //! A plan with the groups of its table's rows.
-ghost use Rattle.std.specs.Prelude.{◌≡◌, IfOk};
+ghost use Rattle.std.specs.Prelude.{◌≡◌, IfOk, length};
 ghost use Rattle.std.specs.Arc.{arc_value};
 ghost use Rattle.base_row_laws.specs.Bags.{SameBag};
 ghost use Rattle.base_schema.specs.State.{State as Tables, table_rows};
-ghost use Rattle.store_kept_views.specs.Plans.{query_rows};
+ghost use Rattle.plan_algebra.specs.KeptPlans.{query_rows};
 ghost use Rattle.store_kept_views.specs.Kept.{CanMoveView, IsKept};
 
 use crate::bag::bag_of;
 use crate::moving::{groups_after, groups_of};
 use crate::output::shown_rows;
-use crate::plan::KeptPlan;
 use base_columns::Bag;
+use plan_algebra::KeptPlan;
 use std::alloc::{AllocError, Global};
 use std::marker::Model;
 use std::sync::Arc;
@@ -26,7 +26,7 @@ pub(crate) struct View {
 
 impl Model for View {
     ghost use Rattle.std.specs.Arc.{arc_value};
-    ghost use Rattle.store_kept_views.specs.declared.plan.KeptPlan.{KeptPlan as Plan};
+    ghost use Rattle.plan_algebra.specs.declared.kept_plan.KeptPlan.{KeptPlan as Plan};
     ghost use Rattle.store_groups.specs.Entries.{Entries};
     ghost use Rattle.std.specs.Coded.{codes};
     ghost use Rattle.expr_scalar.specs.contracts.expr.Expr as expr;
@@ -87,10 +87,18 @@ impl View {
         Ok(View { plan, groups })
     }
 
+    /// Its plan.
+    pub(crate) fn plan(&self) -> &KeptPlan
+        ensures { result.now ≡ self.now.0 }
+    {
+        &self.plan
+    }
+
     /// The rows that it shows: those of its query over each state that it stands for.
     pub(crate) fn rows(&self, alloc: Global) -> Result<Bag, AllocError>
-        ensures { IfOk result (λ bag. (tables : Tables) → IsKept tables self.now
+        ensures rows { IfOk result (λ bag. (tables : Tables) → IsKept tables self.now
             → SameBag bag.rows (query_rows self.now.0 (table_rows tables self.now.0.table))) }
+        ensures width { IfOk result (λ bag. bag.width ≡ length self.now.0.list) }
     {
         let rows = shown_rows(alloc, &self.plan, &self.groups)?;
         let bag = bag_of(alloc, self.plan.list.len(), &rows)?;

@@ -1,15 +1,18 @@
 //! A version that a session reads.
-ghost use Rattle.std.specs.Prelude.{◌≡◌, ◌+◌, ◌≤◌, length, IfOk, OnOk};
+ghost use Rattle.std.specs.Prelude.{◌≡◌, ◌+◌, ◌≤◌, length, IfOk, IfSome, OnOk};
 ghost use Rattle.std.specs.Arc.{arc_value};
 ghost use Rattle.base_columns.specs.Lists.{one_list};
+ghost use Rattle.base_row_laws.specs.Bags.{SameBag};
+ghost use Rattle.plan_algebra.specs.KeptPlans.{query_rows};
 ghost use Rattle.plan_algebra.specs.Trees.{HasKinds};
 ghost use Rattle.base_schema.specs.State.{table_rows};
 ghost use Rattle.store_state.specs.Versions.{accepted};
 ghost use Rattle.store_versions.specs.Older.{GivesOlder};
 ghost use Rattle.store_versions.specs.Trials.{tables_of, version_of};
 
+use base_columns::Bag;
 use base_schema::TableName;
-use plan_algebra::{Piece, Steps, Tables};
+use plan_algebra::{KeptPlan, Piece, Steps, Tables};
 use std::alloc::{AllocError, Global};
 use std::marker::Model;
 use std::sync::Arc;
@@ -87,5 +90,9 @@ impl<A: Attachment> Tables for Snapshot<A> {
         steps: &mut Steps<L>,
     ) -> Result<Vec<Piece>, AllocError> {
         self.share.scan(alloc, table, steps)
+    }
+
+    fn kept(&self, alloc: Global, number: u32, plan: &KeptPlan) -> Result<Option<Bag>, AllocError> {
+        Tables::kept(&*self.share, alloc, number, plan)
     }
 }

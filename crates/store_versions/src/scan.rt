@@ -1,14 +1,17 @@
 //! A version's tables as a run reads them.
-ghost use Rattle.std.specs.Prelude.{◌≡◌, ◌+◌, ◌≤◌, List, IfOk, OnOk, length};
+ghost use Rattle.std.specs.Prelude.{◌≡◌, ◌+◌, ◌≤◌, List, IfOk, IfSome, OnOk, length};
 ghost use Rattle.base_columns.specs.Lists.{one_list};
+ghost use Rattle.base_row_laws.specs.Bags.{SameBag};
+ghost use Rattle.plan_algebra.specs.KeptPlans.{query_rows};
 ghost use Rattle.plan_algebra.specs.Trees.{HasKinds};
 ghost use Rattle.base_schema.specs.State.{table_rows};
 ghost use Rattle.store_versions.specs.Trials.{tables_of};
 
 use crate::attachment::Attachment;
 use crate::directory::Directory;
+use base_columns::Bag;
 use base_schema::TableName;
-use plan_algebra::{Piece, Steps, Tables};
+use plan_algebra::{KeptPlan, Piece, Steps, Tables};
 use sqlite_items::Items;
 use std::alloc::{AllocError, Global};
 use std::sync::ledger::Ledger;
@@ -53,5 +56,10 @@ impl<A: Attachment> Tables for Directory<A> {
         let pieces = pieces_of(alloc, self.parts(table))?;
         steps.add(count);
         Ok(pieces)
+    }
+
+    fn kept(&self, alloc: Global, number: u32, plan: &KeptPlan) -> Result<Option<Bag>, AllocError> {
+        let found = self.attachment().view_rows(alloc, number, plan)?;
+        Ok(found)
     }
 }

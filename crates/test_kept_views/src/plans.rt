@@ -4,12 +4,13 @@ use base_decimal::Scale;
 use base_schema::TableName;
 use expr_aggregates::AggregateFunction;
 use expr_scalar::Expr;
+use plan_kept_queries::{KeptPlanError, plan_of};
 use sql_bound_query::{BoundAggregate, BoundBlock, BoundExpr, BoundQuery, BoundSource, Input};
 use sqlite_items::{Boxed, Items};
 use std::alloc::{AllocError, Global};
 use std::sync::Arc;
 use std::test::Fail;
-use store_kept_views::{Kept, KeptPlan, KeptPlanError};
+use store_kept_views::Kept;
 use store_state::State;
 
 // Eight tables without rows.
@@ -67,7 +68,7 @@ pub(crate) fn totals(alloc: Global, f: AggregateFunction) -> Result<BoundQuery, 
 fn a_sum_of_no_rows_has_its_group(rt: HostRuntime) -> Result<(), Fail> {
     let alloc = rt.alloc();
     let query = totals(alloc, AggregateFunction::Sum)?;
-    let plan = KeptPlan::new(alloc, &query).expect(&rt, "a plan");
+    let plan = plan_of(alloc, &query).expect(&rt, "a plan");
     let plans = vec![in alloc; Arc::new(alloc, plan)?]?;
     let tables = Arc::new(alloc, no_rows(alloc)?)?;
     let kept = Kept::start(alloc, &plans, tables)?;
@@ -80,7 +81,7 @@ fn a_sum_of_no_rows_has_its_group(rt: HostRuntime) -> Result<(), Fail> {
 fn an_average_is_not_kept(rt: HostRuntime) -> Result<(), Fail> {
     let alloc = rt.alloc();
     let query = totals(alloc, AggregateFunction::Avg)?;
-    let made = KeptPlan::new(alloc, &query);
+    let made = plan_of(alloc, &query);
     assert!(rt; matches!(made, Err(KeptPlanError::NotKept)));
     Ok(())
 }

@@ -26,7 +26,8 @@ asking-preserved g c =
       more = λ list fit. i.more list (b.more list fit);
       later = le_trans i.later b.later;
       steps = kept.0 ∙ i.steps;
-      shows = kept.1 ∙ i.shows;
+      first_views = kept.1 ∙ i.first_views;
+      shows = kept.2 ∙ i.shows;
       asked = λ x is list fit. let d = b.snapshot.0 x (i.opening ∙ is) in
           subst (λ n. IsAsked x.0 list (version_of c.args.reader.now.seen) n (course_of c.args.session.now) new) b.snapshot.1
           (asked_more x.0 list _ _ (course_of c.args.session.now) old new v (i.asked x is list (b.more list fit)) d.0 (b.list list fit) took up);
@@ -41,7 +42,7 @@ asking-smaller g c =
     took_less old new (version_of v) (states_of v) took
 
 pub returns-clause-same : goal.returns-clause-same
-returns-clause-same g c = same_session c.args.session.now c.asking.session c.asking.invariant.steps c.asking.invariant.shows
+returns-clause-same g c = same_session c.args.session.now c.asking.session c.asking.invariant.steps c.asking.invariant.first_views c.asking.invariant.shows
 
 pub returns-clause-over : goal.returns-clause-over
 returns-clause-over g c =

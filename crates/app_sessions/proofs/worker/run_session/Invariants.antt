@@ -14,6 +14,7 @@ invariant-asking g l =
       more : Narrower (g.E.Entry.fits l.fn.reader.entry) (g.E.Entry.fits l.reader.entry);
       later : version_of l.fn.reader.seen ≤ version_of l.reader.seen;
       steps : (course_of l.session).steps ≡ (course_of l.fn.session).steps;
+      first_views : (course_of l.session).first_views ≡ (course_of l.fn.session).first_views;
       shows : (course_of l.session).shows_rows ≡ (course_of l.fn.session).shows_rows;
       asked : IsAskedOf (g.E.Entry.opening l.fn.reader.entry) (g.E.Entry.fits l.reader.entry) (version_of l.fn.reader.seen) (version_of l.reader.seen) (course_of l.fn.session) (course_of l.session);
     }

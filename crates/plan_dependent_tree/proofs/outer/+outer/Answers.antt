@@ -66,7 +66,7 @@ pub source-returns-in-Table : goal.source-returns-in-Table
 source-returns-in-Table t c = table_found c.in-Table.is
 
 pub source-returns-in-Derived : goal.source-returns-in-Derived
-source-returns-in-Derived t c = derived_found _ c.in-Derived.is
+source-returns-in-Derived t c = derived_found _ _ c.in-Derived.is
 
 pub source-returns-in_ok-block-in-Lateral : goal.source-returns-in_ok-block-in-Lateral
 source-returns-in_ok-block-in-Lateral t c =

@@ -7,7 +7,7 @@ pub returns-in-Table : goal.returns-in-Table
 returns-in-Table t c = (table_gathers _ c.in-Table.is).grows
 
 pub returns-in-Derived : goal.returns-in-Derived
-returns-in-Derived t c = (derived_gathers _ _ c.in-Derived.is).grows
+returns-in-Derived t c = (derived_gathers _ _ _ c.in-Derived.is).grows
 
 pub returns-in_ok-nearest-in-Lateral : goal.returns-in_ok-nearest-in-Lateral
 returns-in_ok-nearest-in-Lateral t c =

@@ -1,8 +1,8 @@
 use Rattle.std.proofs.Common.{◌≡◌, length, refl, rules, sym, ap, ◌∙◌, arith, ◌+◌, subst, ◌++◌, ◌∷◌}
 use Rattle.std.proofs.Common.{[], map, take}
 use Rattle.std.proofs.lemmas.List.{take_all}
-use Rattle.sql_bound_query.specs.Reads.{tables_of_input, tables_of_expr, tables_of_aggregate}
-use Rattle.sql_bound_query.specs.Reads.{joined_tables}
+use Rattle.plan_kept_queries.specs.Scans.{tables_of_input, tables_of_expr, tables_of_aggregate}
+use Rattle.plan_kept_queries.specs.Scans.{joined_tables}
 use Rattle.plan_dependent_nodes.specs.Growth.{Attaches, InputsAt, ListAt, AggregatesAt}
 use Rattle.plan_dependent_nodes.proofs.PlaceLists.{length_put}
 use Rattle.plan_dependent_nodes.specs.FromGrowth.{IsSourceTree}
@@ -16,7 +16,9 @@ use Rattle.plan_dependent_tree.proofs.SeenSources.{kept_seen}
 use Rattle.plan_dependent_tree.proofs.SeenSources.{dependent_seen}
 use Rattle.plan_dependent_tree.proofs.SeenSources.{keeps_right_seen}
 use Rattle.plan_dependent_tree.proofs.FromTrees.{from_arm, right_shared, right_closed}
+use Rattle.plan_dependent_tree.proofs.FromTrees.{derived_alone, derived_kept, derived_unkept}
 use Rattle.plan_dependent_tree.proofs.SuppliedClauses.{plain_width, grouped_width, distinct_width}
+use Rattle.plan_dependent_tree.proofs.SuppliedClauses.{kept_width}
 use Rattle.plan_dependent_tree.proofs.SuppliedClauses.{set_width}
 use Rattle.plan_dependent_tree.proofs.SuppliedSources.{from_supplied, from_width}
 use Rattle.plan_dependent_tree.proofs.SuppliedSources.{table_width}
@@ -216,6 +218,26 @@ from_rows-returns-clause-tree t c =
 
 pub from_rows-returns-clause-width : goal.from_rows-returns-clause-width
 from_rows-returns-clause-width t c = from_width c.args.s.now c.in_ok-rows.ensures.width
+
+-- kept, and what comes of kept_rows: names to be seen
+pub derived-returns-in_ok-rows-in-None-clause-tree :
+    goal.derived-returns-in_ok-rows-in-None-clause-tree
+derived-returns-in_ok-rows-in-None-clause-tree t c =
+    λ p. derived_alone c.args.q.now c.in-None.is (c.in_ok-rows-in-None.ensures.tree p)
+
+pub derived-returns-in-Some-in_ok-clause-tree : goal.derived-returns-in-Some-in_ok-clause-tree
+derived-returns-in-Some-in_ok-clause-tree t c =
+    λ p. derived_kept c.args.q.now c.in-Some.is (rw c.in-Some-in_ok.is at c.in_ok.ensures)
+
+pub derived-returns-in-Some-in_ok-clause-width : goal.derived-returns-in-Some-in_ok-clause-width
+derived-returns-in-Some-in_ok-clause-width t c =
+    kept_width (rw c.in-Some-in_ok.is at c.in_ok.ensures)
+
+pub derived-returns-in_ok-rows-in-None-in_ok-clause-tree :
+    goal.derived-returns-in_ok-rows-in-None-in_ok-clause-tree
+derived-returns-in_ok-rows-in-None-in_ok-clause-tree t c =
+    λ p. derived_unkept c.args.q.now c.in-Some.is (rw c.in-None-in_ok.is at c.in_ok.ensures)
+    (c.in_ok-rows-in-None-in_ok.ensures.tree p)
 
 pub source-returns-in_ok-rows-in-Table-clause-tree :
     goal.source-returns-in_ok-rows-in-Table-clause-tree

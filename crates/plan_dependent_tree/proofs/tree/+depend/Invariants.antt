@@ -1,6 +1,6 @@
 use Rattle.std.proofs.Common.{◌≡◌, length, map, take}
-use Rattle.sql_bound_query.specs.Reads.{tables_of_input, tables_of_expr, tables_of_aggregate}
-use Rattle.sql_bound_query.specs.Reads.{joined_tables}
+use Rattle.plan_kept_queries.specs.Scans.{tables_of_input, tables_of_expr, tables_of_aggregate}
+use Rattle.plan_kept_queries.specs.Scans.{joined_tables}
 use Rattle.plan_dependent_nodes.specs.Growth.{Attaches, InputsAt, ListAt, AggregatesAt}
 use Rattle.plan_dependent_nodes.specs.Growth.{SameFunctions}
 use Rattle.plan_dependent_nodes.specs.Supplied.{AggregatesAreSupplied, InputsAreSupplied}

@@ -4,4 +4,4 @@ use Rattle.plan_planner.proofs.laws.examples_hold.Goals as goal
 
 pub returns : goal.returns
 unfolding digits
-returns c = record { scan = refl; inputs = refl; sets = refl }
+returns c = record { kept = refl; scan = refl; inputs = refl; sets = refl }

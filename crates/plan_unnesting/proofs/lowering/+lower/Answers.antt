@@ -3,8 +3,8 @@ use Rattle.plan_algebra.specs.declared.tree.DepTree.TheVariants as tree
 use Rattle.plan_unnested_nodes.proofs.Kept.{settled_in_plan}
 use Rattle.plan_unnesting.proofs.Groups.{total_in_plan}
 use Rattle.plan_unnested_nodes.proofs.Sides.{none_of, some_of}
-use Rattle.plan_unnested_nodes.proofs.ApartArms.{read_whole, scan_part, list_part, select_part, join_part, whole_part, part_footing, part_last, part_within, part_wide, later_within, later_wide, right_long, outer_part, closed_long, found_own, found_closed}
-use Rattle.plan_unnesting.proofs.Steps.{scan_arm, selection_arm, select_arm, project_arm, distinct_arm, group_arm, total_arm, join_arm, outer_arm, mark_arm, single_arm, outer_wide, right_wide, shared_arm, closed_arm, own_arm, set_arm, set_put, set_even, set_left}
+use Rattle.plan_unnested_nodes.proofs.ApartArms.{read_whole, scan_part, kept_part, list_part, select_part, join_part, whole_part, part_footing, part_last, part_within, part_wide, later_within, later_wide, right_long, outer_part, closed_long, found_own, found_closed}
+use Rattle.plan_unnesting.proofs.Steps.{scan_arm, kept_arm, selection_arm, select_arm, project_arm, distinct_arm, group_arm, total_arm, join_arm, outer_arm, mark_arm, single_arm, outer_wide, right_wide, shared_arm, closed_arm, own_arm, set_arm, set_put, set_even, set_left}
 use Rattle.plan_unnesting.proofs.lowering.+lower.Goals as goal
 
 pub lowered_node-put_total-requires-clause-domain : goal.lowered_node-put_total-requires-clause-domain
@@ -25,6 +25,9 @@ lowered_node-put_outer-requires-clause-width t c =
 
 pub lowered_node-returns-in_ok-id-in-Scan : goal.lowered_node-returns-in_ok-id-in-Scan
 lowered_node-returns-in_ok-id-in-Scan t c = scan_arm c.in-Scan.is c.in_ok-id-in-Scan.ensures
+
+pub lowered_node-returns-in_ok-id-in-Kept : goal.lowered_node-returns-in_ok-id-in-Kept
+lowered_node-returns-in_ok-id-in-Kept t c = kept_arm c.in-Kept.is c.in_ok-id-in-Kept.ensures
 
 pub lowered_node-returns-in-Scan-get : goal.lowered_node-returns-in-Scan-get
 lowered_node-returns-in-Scan-get t c = selection_arm c.in-Select.is c.get.ensures c.in-Scan-get.is c.get-in-Scan-get.ensures c.in_ok-id-in-Select.ensures
@@ -117,6 +120,9 @@ lowered_part-put_apart_join-requires-clause-more t c =
 
 pub lowered_part-returns-in-Scan : goal.lowered_part-returns-in-Scan
 lowered_part-returns-in-Scan t c = scan_part c.args.footing.now c.in-Scan.is c.in_ok-part-in-Scan.ensures
+
+pub lowered_part-returns-in-Kept : goal.lowered_part-returns-in-Kept
+lowered_part-returns-in-Kept t c = kept_part c.args.footing.now c.in-Kept.is c.in_ok-part-in-Kept.ensures
 
 pub lowered_part-returns-in-Whole : goal.lowered_part-returns-in-Whole
 lowered_part-returns-in-Whole t c =

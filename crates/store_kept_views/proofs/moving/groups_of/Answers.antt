@@ -7,7 +7,7 @@ use Rattle.base_row_laws.specs.Rows.{columns}
 use Rattle.base_value.specs.declared.value.Value.{Value}
 use Rattle.base_value.specs.declared.value.Value.TheVariants.{Null}
 use Rattle.base_value.specs.Truth.{standing_rank}
-use Rattle.store_kept_views.specs.Plans.{selected, key_of}
+use Rattle.plan_algebra.specs.KeptPlans.{selected, key_of}
 use Rattle.store_kept_views.specs.Standing.{StandsBy}
 use Rattle.store_kept_views.specs.Standing.{CanAdd, StandsFor}
 use Rattle.store_kept_views.proofs.Stages.{nothing_stands, put_first}

@@ -1,6 +1,6 @@
 use Rattle.base_columns.specs.Lists.{one_list}
 use Rattle.std.proofs.Common.{[]}
-use Rattle.store_kept_views.specs.Plans.{selected}
+use Rattle.plan_algebra.specs.KeptPlans.{selected}
 use Rattle.store_kept_views.proofs.Stages.{settled_stands}
 use Rattle.store_kept_views.proofs.moving.make_anew.Goals as goal
 

@@ -3,7 +3,7 @@ use Rattle.std.specs.Prelude.{take}
 use Rattle.base_columns.specs.Lists.{one_list}
 use Rattle.base_row_laws.specs.Ranked.{Ranked}
 use Rattle.base_value.specs.declared.value.Value.{Value}
-use Rattle.store_kept_views.specs.Plans.{selected}
+use Rattle.plan_algebra.specs.KeptPlans.{selected}
 use Rattle.store_kept_views.specs.Standing.{StandsBy}
 use Rattle.store_kept_views.proofs.moving.put_parts.Given as goal
 

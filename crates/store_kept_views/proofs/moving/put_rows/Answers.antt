@@ -4,7 +4,7 @@ use lib.ListN.{drop}
 use Rattle.base_columns.specs.Lists.{one_list}
 use Rattle.base_row_laws.specs.Ranked.{Ranked}
 use Rattle.base_value.specs.declared.value.Value.{Value}
-use Rattle.store_kept_views.specs.Plans.{selected}
+use Rattle.plan_algebra.specs.KeptPlans.{selected}
 use Rattle.store_kept_views.specs.Standing.{StandsBy, StandsFor}
 use Rattle.std.proofs.Common.{refl}
 use Rattle.base_columns.specs.Batches.{row_at}

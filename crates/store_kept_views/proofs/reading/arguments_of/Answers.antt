@@ -1,8 +1,8 @@
 use Rattle.std.proofs.Common.{List, map, ap, ◌∙◌}
 use Rattle.base_row_laws.specs.Ranked.{Ranked}
 use Rattle.base_value.specs.declared.value.Value.{Value}
-use Rattle.store_kept_views.specs.declared.plan.KeptAggregate.{KeptAggregate}
-use Rattle.store_kept_views.specs.Plans.{item_of}
+use Rattle.plan_algebra.specs.declared.kept_plan.KeptAggregate.{KeptAggregate}
+use Rattle.plan_algebra.specs.KeptPlans.{item_of}
 use Rattle.store_kept_views.proofs.ReadingLists.{map_more}
 use Rattle.store_kept_views.proofs.reading.arguments_of.Goals as goal
 
