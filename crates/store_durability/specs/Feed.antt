@@ -8,6 +8,7 @@ use Rattle.store_journal.specs.declared.journal.Journal.{Journal}
 use Rattle.store_refresh_entries.specs.Change.{HasFewBytes, IsSpelled, IsStorable, spelling_of}
 use Rattle.store_state.specs.Refresh.{Change}
 use Rattle.store_versions.specs.Trials.{Trials}
+use Rattle.store_versions.specs.declared.attachment.Attachment.{Ghosts}
 use Rattle.store_snapshots.specs.Publishers.{AcceptsNext, Edition, RefusesNext}
 use Rattle.store_durability.specs.Stored.{Holds, payloads_of}
 use Rattle.store_durability.specs.declared.feed.StoredTurn.{StoredTurn}
@@ -29,7 +30,7 @@ pub record StoredFits {D : Type 0} (is_reached : D → Bool) (may_leave : D → 
 
 -- What a turn does: the list's next refresh is accepted or refused; or nothing, where the disk failed
 -- or each refresh was tried.
-abbrev pub TakesStoredTurn : Edition → Edition → StoredTurn → Type 0
+abbrev pub TakesStoredTurn : {A : Type 0} {g : Ghosts A} → Edition → Edition → StoredTurn A g → Type 0
 TakesStoredTurn old new (Published note) = (old.version.done < length old.version.list)
     × AcceptsNext old.version new note
 TakesStoredTurn old new (Refused cause) = (old.version.done < length old.version.list)

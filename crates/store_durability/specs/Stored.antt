@@ -7,6 +7,7 @@ use Rattle.store_refresh_entries.specs.Change.{IsSpelled, spelling_of}
 use Rattle.store_state.specs.Refresh.{Change, after}
 use Rattle.store_state.specs.Versions.{is_accepted, taken}
 use Rattle.store_versions.specs.Trials.{Trials, offered, tables_of}
+use Rattle.store_versions.specs.declared.attachment.Attachment.{Ghosts}
 use Rattle.store_snapshots.specs.Publishers.{AcceptsNext, Edition, RefusesNext}
 use Rattle.store_durability.specs.declared.stored.StoredAnswer.{StoredAnswer}
 use Rattle.store_durability.specs.declared.stored.StoredAnswer.TheVariants.{Published, Refused, Failed}
@@ -44,7 +45,8 @@ trials_with change trials =
 -- What comes of a refresh, by whether the journal was shut before. It is refused exactly for its
 -- first cause in the last version; of an accepted one that the journal is shut to, exactly, is told
 -- so. Only a published or refused one is tried.
-abbrev pub Stores : Change → Bool → Edition → Edition → StoredAnswer → Type 0
+abbrev pub Stores : {A : Type 0} {g : Ghosts A} → Change → Bool → Edition → Edition
+    → StoredAnswer A g → Type 0
 Stores change shut old new (Published note) = (is_accepted (tables_of old.version) change ≡ true)
     × (shut ≡ false) × AcceptsNext (trials_with change old.version) new note
 Stores change shut old new (Refused cause) = (after (tables_of old.version) change ≡ Err cause)
@@ -56,7 +58,8 @@ Stores change shut old new Shut = (is_accepted (tables_of old.version) change �
 
 -- what comes of the journal: it takes more behind the entry of a published refresh, is as it was where
 -- nothing was stored, and is shut where the disk failed
-abbrev pub LeavesJournal : Change → Journal → Journal → StoredAnswer → Type 0
+abbrev pub LeavesJournal : {A : Type 0} {g : Ghosts A} → Change → Journal → Journal
+    → StoredAnswer A g → Type 0
 LeavesJournal change old new (Published note) = (new.is_shut ≡ false)
     × (new.end ≡ old.end + (9 + length (spelling_of change)))
 LeavesJournal change old new (Refused cause) = new ≡ old

@@ -14,12 +14,13 @@ use std::sync::Wait;
 use store_journal::Journal;
 use store_snapshots::{Feed, FeedError, FeedTurn, Note, Publisher, Snapshot};
 use store_state::Refresh;
+use store_versions::Attachment;
 
 /// What comes of a turn.
 #[derive(Drop)]
-pub enum StoredTurn {
+pub enum StoredTurn<A: Attachment = ()> {
     /// A refresh was stored, and readers are shown the version after it. The note tells of it.
-    Published(Note),
+    Published(Note<A>),
     /// A refresh was refused.
     Refused(Cause),
     /// The disk failed. No turn is to be asked for any more.
@@ -31,17 +32,17 @@ pub enum StoredTurn {
 /// The refreshes that a publisher's list has left, each of which is stored on the disk before it is
 /// published, while the journal holds just the accepted ones.
 #[derive(Drop)]
-pub struct StoredFeed<D: Disk> {
+pub struct StoredFeed<D: Disk, A: Attachment = ()> {
     pub alloc: Global,
     pub journal: Journal,
     pub disk: D,
-    start: Snapshot,
+    start: Snapshot<A>,
     count: usize,
 }
 
-impl<D: Disk> StoredFeed<D> {
+impl<D: Disk, A: Attachment> StoredFeed<D, A> {
     /// Those that a publisher of this version has left.
-    pub fn new(alloc: Global, journal: Journal, disk: D, start: Snapshot) -> StoredFeed<D>
+    pub fn new(alloc: Global, journal: Journal, disk: D, start: Snapshot<A>) -> StoredFeed<D, A>
         ensures start { (result.start ≡ start) × (result.count ≡ 0) }
         ensures parts { (result.journal ≡ journal) × (result.disk ≡ disk) }
     {
@@ -67,8 +68,8 @@ impl<D: Disk> StoredFeed<D> {
     pub fn try_next<R: Wait>(
         &mut self,
         rt: &R,
-        publisher: &mut Publisher,
-    ) -> Result<StoredTurn, AllocError>
+        publisher: &mut Publisher<A>,
+    ) -> Result<StoredTurn<A>, AllocError>
         requires { StoredFits D.is_reached D.may_leave self.old.journal self.old.disk
             publisher.old.version }
         ensures turn { IfOk result (TakesStoredTurn publisher.old publisher.new) }
@@ -97,9 +98,9 @@ impl<D: Disk> StoredFeed<D> {
     fn try_listed<R: Wait>(
         &mut self,
         rt: &R,
-        publisher: &mut Publisher,
+        publisher: &mut Publisher<A>,
         refresh: Refresh,
-    ) -> Result<StoredTurn, AllocError>
+    ) -> Result<StoredTurn<A>, AllocError>
         requires fits { StoredFits D.is_reached D.may_leave self.old.journal self.old.disk
             publisher.old.version }
         requires next { slice_get publisher.old.version.list publisher.old.version.done
@@ -126,8 +127,8 @@ impl<D: Disk> StoredFeed<D> {
     }
 }
 
-impl<D: Disk> Feed for StoredFeed<D> {
-    type Attached = ();
+impl<D: Disk, A: Attachment> Feed for StoredFeed<D, A> {
+    type Attached = A;
 
     ghost tried = { λ f. list_tried f.start f.count };
 
@@ -142,7 +143,11 @@ impl<D: Disk> Feed for StoredFeed<D> {
     ghost faults = { λ f. D.faults f.disk };
 
     #[tactic(auto, using(crate::proofs::ListTurns::list_turns))]
-    fn turn<R: Wait>(&mut self, rt: &R, publisher: &mut Publisher) -> Result<FeedTurn, FeedError> {
+    fn turn<R: Wait>(
+        &mut self,
+        rt: &R,
+        publisher: &mut Publisher<A>,
+    ) -> Result<FeedTurn<A>, FeedError> {
         let _listed = publisher.listed();
         match self.try_next(rt, publisher)? {
             StoredTurn::Published(note) => {

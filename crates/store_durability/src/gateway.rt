@@ -16,28 +16,29 @@ use store_gateway::{Taker, Took};
 use store_journal::Journal;
 use store_snapshots::{Feed, FeedError, FeedTurn, Publisher, Snapshot};
 use store_state::Refresh;
+use store_versions::Attachment;
 
 /// The refreshes that a publisher's list has left, and then those of two senders. Each is stored on
 /// the disk before it is published, while the journal holds just the accepted ones.
 #[derive(Drop)]
-pub struct StoredGateway<D: Disk> {
+pub struct StoredGateway<D: Disk, A: Attachment = ()> {
     pub alloc: Global,
     pub journal: Journal,
     pub disk: D,
-    start: Snapshot,
+    start: Snapshot<A>,
     count: usize,
     taker: Taker,
 }
 
-impl<D: Disk> StoredGateway<D> {
+impl<D: Disk, A: Attachment> StoredGateway<D, A> {
     /// Those that a publisher of this version has left, and all that is sent.
     pub fn new(
         alloc: Global,
         journal: Journal,
         disk: D,
-        start: Snapshot,
+        start: Snapshot<A>,
         taker: Taker,
-    ) -> StoredGateway<D>
+    ) -> StoredGateway<D, A>
         ensures start { (result.start ≡ start) × (result.count ≡ 0) }
         ensures parts { (result.journal ≡ journal) × (result.disk ≡ disk)
             × (result.taker ≡ taker) }
@@ -74,9 +75,9 @@ impl<D: Disk> StoredGateway<D> {
         &mut self,
         rt: &R,
         from: Option<u64>,
-        publisher: &mut Publisher,
+        publisher: &mut Publisher<A>,
         refresh: Refresh,
-    ) -> Result<FeedTurn, FeedError>
+    ) -> Result<FeedTurn<A>, FeedError>
         requires keeps { KeepsUp D.is_reached D.may_leave self.old.journal self.old.disk
             publisher.old.version }
         requires more { publisher.old.version.done < publisher.old.version.most }
@@ -109,8 +110,8 @@ impl<D: Disk> StoredGateway<D> {
     fn try_sent<R: Wait>(
         &mut self,
         rt: &R,
-        publisher: &mut Publisher,
-    ) -> Result<FeedTurn, FeedError>
+        publisher: &mut Publisher<A>,
+    ) -> Result<FeedTurn<A>, FeedError>
         requires fits { BothFit D.is_reached D.may_leave self.old.journal self.old.disk
             self.old.start self.old.count self.old.taker publisher.old.version }
         requires none { publisher.old.version.done ≡ length publisher.old.version.list }
@@ -144,8 +145,8 @@ impl<D: Disk> StoredGateway<D> {
     }
 }
 
-impl<D: Disk> Feed for StoredGateway<D> {
-    type Attached = ();
+impl<D: Disk, A: Attachment> Feed for StoredGateway<D, A> {
+    type Attached = A;
 
     ghost tried = { λ f. list_tried f.start f.count ++ gateway_tried f.taker };
 
@@ -159,7 +160,11 @@ impl<D: Disk> Feed for StoredGateway<D> {
     ghost faults = { λ f. D.faults f.disk };
 
     #[tactic(auto, using(crate::proofs::GatewayTurns::listing))]
-    fn turn<R: Wait>(&mut self, rt: &R, publisher: &mut Publisher) -> Result<FeedTurn, FeedError> {
+    fn turn<R: Wait>(
+        &mut self,
+        rt: &R,
+        publisher: &mut Publisher<A>,
+    ) -> Result<FeedTurn<A>, FeedError> {
         let _listed = publisher.listed();
         match publisher.next()? {
             Some(refresh) => {

@@ -19,12 +19,13 @@ use store_journal::{Appended, Journal};
 use store_refresh_entries::RefreshPayload;
 use store_snapshots::{Note, Publisher};
 use store_state::{Refresh, RefreshError};
+use store_versions::Attachment;
 
 /// What comes of a refresh that is to be stored and published.
 #[derive(Drop)]
-pub enum StoredAnswer {
+pub enum StoredAnswer<A: Attachment = ()> {
     /// The refresh is on the disk, and readers are shown the version after it. The note tells of it.
-    Published(Note),
+    Published(Note<A>),
     /// The refresh was refused, and the disk wasn't touched.
     Refused(Cause),
     /// The disk failed, and nothing is published.
@@ -38,14 +39,14 @@ pub enum StoredAnswer {
 /// where it does so behind the store, the journal has one refresh more than the publisher, and is
 /// shut from then on.
 #[tactic(auto, using(crate::proofs::Outcomes::outcomes))]
-pub fn publish_stored<R: Wait, D: Disk>(
+pub fn publish_stored<A: Attachment, R: Wait, D: Disk>(
     rt: &R,
     alloc: Global,
-    publisher: &mut Publisher,
+    publisher: &mut Publisher<A>,
     journal: &mut Journal,
     disk: &mut D,
     refresh: Refresh,
-) -> Result<StoredAnswer, AllocError>
+) -> Result<StoredAnswer<A>, AllocError>
     requires reached { D.is_reached disk.old ≡ true }
     requires next { IsNext refresh publisher.old.version }
     requires list_room { HasRoomForOne publisher.old.version }
@@ -95,14 +96,14 @@ pub fn publish_stored<R: Wait, D: Disk>(
 
 /// Stores an accepted refresh in a journal that takes more, and then publishes it.
 #[tactic(auto, using(crate::proofs::Outcomes::outcomes))]
-fn store<R: Wait, D: Disk>(
+fn store<A: Attachment, R: Wait, D: Disk>(
     rt: &R,
     alloc: Global,
-    publisher: &mut Publisher,
+    publisher: &mut Publisher<A>,
     journal: &mut Journal,
     disk: &mut D,
     refresh: Refresh,
-) -> Result<StoredAnswer, AllocError>
+) -> Result<StoredAnswer<A>, AllocError>
     requires reached { D.is_reached disk.old ≡ true }
     requires next { IsNext refresh publisher.old.version }
     requires list_room { HasRoomForOne publisher.old.version }

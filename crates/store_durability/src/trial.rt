@@ -14,10 +14,11 @@ use std::alloc::AllocError;
 use std::sync::Wait;
 use store_snapshots::{Given, Note, Published, Publisher};
 use store_state::Refresh;
+use store_versions::Attachment;
 
 /// Tries the list's next refresh, where one is left.
 #[tactic(auto, using(crate::proofs::Outcomes::listed_trials))]
-fn try_listed<R: Wait>(rt: &R, publisher: &mut Publisher) -> Given
+fn try_listed<A: Attachment, R: Wait>(rt: &R, publisher: &mut Publisher<A>) -> Given<A>
     requires { publisher.old.version.done < length publisher.old.version.list }
     ensures tries { TriesNext publisher.old.version publisher.old publisher.new result }
     ensures refused { publisher.new.refused ≡ publisher.old.refused }
@@ -32,7 +33,11 @@ fn try_listed<R: Wait>(rt: &R, publisher: &mut Publisher) -> Given
 
 /// Tries a refresh: the list's next one or, where none is left, one that comes to the list's end.
 #[tactic(auto, using(crate::proofs::Outcomes::either_trial))]
-fn try_refresh<R: Wait>(rt: &R, publisher: &mut Publisher, refresh: Refresh) -> Given
+fn try_refresh<A: Attachment, R: Wait>(
+    rt: &R,
+    publisher: &mut Publisher<A>,
+    refresh: Refresh,
+) -> Given<A>
     requires next { IsNext refresh publisher.old.version }
     requires room { HasRoomForOne publisher.old.version }
     ensures tries { TriesNext (trials_with refresh publisher.old.version)
@@ -48,11 +53,11 @@ fn try_refresh<R: Wait>(rt: &R, publisher: &mut Publisher, refresh: Refresh) -> 
 
 /// Tries a refresh that the last version accepts.
 #[tactic(auto, using(crate::proofs::Outcomes::accepted_trial))]
-pub(crate) fn accept<R: Wait>(
+pub(crate) fn accept<A: Attachment, R: Wait>(
     rt: &R,
-    publisher: &mut Publisher,
+    publisher: &mut Publisher<A>,
     refresh: Refresh,
-) -> Result<Note, AllocError>
+) -> Result<Note<A>, AllocError>
     requires next { IsNext refresh publisher.old.version }
     requires room { HasRoomForOne publisher.old.version }
     requires accepted { is_accepted (tables_of publisher.old.version) refresh ≡ true }
@@ -72,9 +77,9 @@ pub(crate) fn accept<R: Wait>(
 
 /// Tries a refresh that the last version refuses, and gives its first cause.
 #[tactic(auto, using(crate::proofs::Outcomes::refused_trial))]
-pub(crate) fn refuse<R: Wait>(
+pub(crate) fn refuse<A: Attachment, R: Wait>(
     rt: &R,
-    publisher: &mut Publisher,
+    publisher: &mut Publisher<A>,
     refresh: Refresh,
 ) -> Result<Cause, AllocError>
     requires next { IsNext refresh publisher.old.version }

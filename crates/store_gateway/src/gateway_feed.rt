@@ -8,16 +8,29 @@ ghost use Rattle.store_gateway.specs.declared.message.SenderId.TheVariants.{Firs
 use crate::ended::Ended;
 use crate::order::Order;
 use crate::taker::{Taker, Took};
+use std::marker::PhantomData;
 use std::sync::Wait;
 use store_snapshots::{Feed, FeedError, FeedTurn, Given, Publisher};
+use store_versions::Attachment;
 
-/// The refreshes of two senders.
+/// The refreshes of two senders, for a publisher with this attachment.
 #[derive(Drop)]
-pub struct GatewayFeed {
+pub struct GatewayFeed<A: Attachment = ()> {
     pub taker: Taker,
+    of: PhantomData<A>,
 }
 
-impl GatewayFeed {
+impl<A: Attachment> GatewayFeed<A> {
+    /// What this takes.
+    pub fn new(taker: Taker) -> GatewayFeed<A>
+        ensures { result.taker ≡ taker }
+    {
+        GatewayFeed {
+            taker,
+            of: PhantomData,
+        }
+    }
+
     /// The order in which all was tried: the refreshes from each sender are what it sent, in its
     /// order, and there are no others. No memory is taken.
     pub fn close(self, first: Ended, second: Ended) -> Order
@@ -30,13 +43,13 @@ impl GatewayFeed {
         ensures second { sent_from 2 (gateway_tried self.taker) ≡ second.sent }
         ensures others { All IsFromEither (gateway_tried self.taker) }
     {
-        let GatewayFeed { taker } = self;
+        let GatewayFeed { taker, of: _of } = self;
         taker.close(first, second)
     }
 }
 
-impl Feed for GatewayFeed {
-    type Attached = ();
+impl<A: Attachment> Feed for GatewayFeed<A> {
+    type Attached = A;
 
     ghost tried = { λ f. gateway_tried f.taker };
 
@@ -48,7 +61,11 @@ impl Feed for GatewayFeed {
 
     ghost faults = { λ f. 0 };
 
-    fn turn<R: Wait>(&mut self, rt: &R, publisher: &mut Publisher) -> Result<FeedTurn, FeedError> {
+    fn turn<R: Wait>(
+        &mut self,
+        rt: &R,
+        publisher: &mut Publisher<A>,
+    ) -> Result<FeedTurn<A>, FeedError> {
         // An end is no turn of its own. There are two at most.
         'taking: for _ in rt.forever() {
             if self.taker.is_ended() {

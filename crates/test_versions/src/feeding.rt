@@ -73,7 +73,7 @@ fn feed_three<R: Threads + Wait + Sync>(
     let twos = vec![in alloc; nothing(alloc)?]?;
     let (first, second, taker) = open_gateway(alloc, 5, 2, 1)?;
     let (first, second) = send_both(rt, first, second, ones, twos);
-    let mut feed = GatewayFeed { taker };
+    let mut feed = GatewayFeed::new(taker);
     let Ok((accepted, refused)) = take_turns(rt, &mut feed, publisher) else {
         return Err("a turn had nothing tried".into());
     };

@@ -26,5 +26,5 @@ returns-in-Refused-clause-turn g c =
     let cause = c.in-Refused.cause in
     let takes = rw c.in-Refused.is at c.in_ok-note.ensures.turn in
     let same = c.in_ok-note.ensures.count in
-    subst (λ (y : Trials × ℕ). TakesTurn (list_tried start count) (list_tried y.0 (y.1 + 1)) IsAllTried old new (turn.Refused None cause)) (λ i. (sym same.1 i, sym same.0 i))
+    subst (λ (y : Trials × ℕ). TakesTurn {A = g.row.A.Denot} {g = g.A.Attachment} (list_tried start count) (list_tried y.0 (y.1 + 1)) IsAllTried old new (turn.Refused None cause)) (λ i. (sym same.1 i, sym same.0 i))
     (list_refused start count old new cause c.requires.1 takes.0 takes.1)

@@ -5,13 +5,13 @@ use Rattle.store_gateway.proofs.Numbers.{all_from_either, one_gateway, sent_from
 use Rattle.store_gateway.proofs.gateway_feed.GatewayFeed.close.Goals as goal
 
 pub close-requires-clause-gateway : goal.close-requires-clause-gateway
-close-requires-clause-gateway c = (one_gateway _ _ c.requires.first, one_gateway _ _ c.requires.second)
+close-requires-clause-gateway g c = (one_gateway _ _ c.requires.first, one_gateway _ _ c.requires.second)
 
 pub returns-clause-first : goal.returns-clause-first
-returns-clause-first c = sent_from-numbered First c.args.self.taker.taken ∙ ap (λ es. sent_by First es) (sym c.close.ensures.taken) ∙ c.close.ensures.first
+returns-clause-first g c = sent_from-numbered First c.args.self.taker.taken ∙ ap (λ es. sent_by First es) (sym c.close.ensures.taken) ∙ c.close.ensures.first
 
 pub returns-clause-second : goal.returns-clause-second
-returns-clause-second c = sent_from-numbered Second c.args.self.taker.taken ∙ ap (λ es. sent_by Second es) (sym c.close.ensures.taken) ∙ c.close.ensures.second
+returns-clause-second g c = sent_from-numbered Second c.args.self.taker.taken ∙ ap (λ es. sent_by Second es) (sym c.close.ensures.taken) ∙ c.close.ensures.second
 
 pub returns-clause-others : goal.returns-clause-others
-returns-clause-others c = all_from_either c.args.self.taker.taken
+returns-clause-others g c = all_from_either c.args.self.taker.taken
