@@ -3,6 +3,7 @@ use Rattle.std.specs.Prelude.{◌≡◌, ℕ, ◌+◌, ◌≤◌, List, ◌++◌
 use Rattle.store_snapshots.specs.Publishers.{Edition}
 use Rattle.store_snapshots.specs.Ruled.{list_fits, opening_of}
 use Rattle.store_versions.specs.Trials.{Trials}
+use Rattle.store_versions.specs.declared.attachment.Attachment.{Ghosts}
 use Rattle.store_state.specs.Versions.{accepted}
 use Rattle.app_sessions.specs.Gathered.{ArePrepared}
 use Rattle.app_sessions.specs.Orders.{RefreshOrder}
@@ -12,7 +13,8 @@ use Rattle.app_sessions.specs.declared.session.Session.{Session}
 
 -- The run began at a version with these sessions, whose readers were told of `before` refreshes
 -- more. Its publisher tried these refreshes since: the first ones, and those that its feed tried.
-pub record HasStarted (run : JobRun) (publisher : Edition) (tried : RefreshOrder) : Type 0 where
+pub record HasStarted {A : Type 0} {g : Ghosts A} (run : JobRun A g) (publisher : Edition)
+    (tried : RefreshOrder) : Type 0 where
   pub start : Trials
   pub before : ℕ
   pub sessions : List Session

@@ -13,12 +13,13 @@ use itoa::Buffer;
 use std::alloc::{AllocError, Global};
 use std::sync::Wait;
 use store_snapshots::{Entry, Publisher, Snapshot};
+use store_versions::Attachment;
 
 /// Shows readers the last version with its whole list, where that has more refreshes than `listed`.
-pub fn show_list<R: Wait>(
+pub fn show_list<A: Attachment, R: Wait>(
     rt: &R,
     listed: usize,
-    publisher: &mut Publisher,
+    publisher: &mut Publisher<A>,
 ) -> Result<(), AllocError>
     ensures version { publisher.new.version ≡ publisher.old.version }
     ensures same { length publisher.old.version.list ≤ listed → publisher.new ≡ publisher.old }
@@ -43,7 +44,7 @@ fn push_closing_line(text: &mut Vec<u8>, version: u64) -> Result<(), AllocError>
 }
 
 /// Appends the line of a closing version, and those of the rows that its tables have.
-fn push_closing(text: &mut Vec<u8>, snapshot: &Snapshot) -> Result<(), AllocError>
+fn push_closing<A: Attachment>(text: &mut Vec<u8>, snapshot: &Snapshot<A>) -> Result<(), AllocError>
     ensures { OnOk result (text.new.items ≡ text.old.items
         ++ closing_text snapshot.now.base snapshot.now.list (version_of snapshot.now)) }
 {
@@ -53,7 +54,10 @@ fn push_closing(text: &mut Vec<u8>, snapshot: &Snapshot) -> Result<(), AllocErro
 }
 
 /// Appends the lines of the publisher's last version to a report.
-pub fn close_report(publisher: &Publisher, report: &mut Report) -> Result<(), AllocError>
+pub fn close_report<A: Attachment>(
+    publisher: &Publisher<A>,
+    report: &mut Report,
+) -> Result<(), AllocError>
     ensures text { OnOk result (report.new.text.items ≡ report.old.text.items
         ++ closing_text publisher.now.version.base publisher.now.version.list
         (version_of publisher.now.version)) }

@@ -9,9 +9,14 @@ use itoa::Buffer;
 use plan_algebra::Tables;
 use std::alloc::AllocError;
 use store_snapshots::Snapshot;
+use store_versions::Attachment;
 
 /// Appends the line of a table.
-fn push_count(text: &mut Vec<u8>, snapshot: &Snapshot, table: TableName) -> Result<(), AllocError>
+fn push_count<A: Attachment>(
+    text: &mut Vec<u8>,
+    snapshot: &Snapshot<A>,
+    table: TableName,
+) -> Result<(), AllocError>
     ensures { OnOk result (text.new.items
         ≡ text.old.items ++ count_line (tables_of snapshot.now) table) }
 {
@@ -24,9 +29,9 @@ fn push_count(text: &mut Vec<u8>, snapshot: &Snapshot, table: TableName) -> Resu
 }
 
 /// Appends the lines of these tables.
-fn push_lines(
+fn push_lines<A: Attachment>(
     text: &mut Vec<u8>,
-    snapshot: &Snapshot,
+    snapshot: &Snapshot<A>,
     tables: &[TableName],
 ) -> Result<(), AllocError>
     ensures { OnOk result (text.new.items
@@ -39,7 +44,10 @@ fn push_lines(
 }
 
 /// Appends a line for each table of the version: its name, and how many rows it has.
-pub fn push_counts(text: &mut Vec<u8>, snapshot: &Snapshot) -> Result<(), AllocError>
+pub fn push_counts<A: Attachment>(
+    text: &mut Vec<u8>,
+    snapshot: &Snapshot<A>,
+) -> Result<(), AllocError>
     ensures { OnOk result (text.new.items
         ≡ text.old.items ++ counts_text (tables_of snapshot.now)) }
 {

@@ -22,12 +22,13 @@ use std::alloc::Global;
 use std::sync::Wait;
 use std::thread::{Threads, join_mut};
 use store_snapshots::{Entry, Feed, FeedError, Publisher, Reader, RuledEntry};
+use store_versions::Attachment;
 
 /// A job on its way.
 #[derive(Drop)]
-pub struct JobRun {
+pub struct JobRun<A: Attachment = ()> {
     /// What runs its sessions.
-    pub workers: Vec<Worker<RuledEntry>>,
+    pub workers: Vec<Worker<RuledEntry<A>>>,
     /// How many sessions it has.
     pub count: usize,
     /// What is told of its refreshes so far.
@@ -38,15 +39,15 @@ pub struct JobRun {
 
 /// What is done before the fork: the first refreshes of the list are tried by turns of a feed that
 /// tried none, the readers are told of them, and the sessions are assigned to them.
-pub fn prepare<F: Feed<Attached = ()>, R: Wait>(
+pub fn prepare<A: Attachment, F: Feed<Attached = A>, R: Wait>(
     rt: &R,
     alloc: Global,
     before: usize,
     sessions: Vec<Session>,
-    readers: Vec<Reader<RuledEntry>>,
-    publisher: &mut Publisher,
+    readers: Vec<Reader<RuledEntry<A>>>,
+    publisher: &mut Publisher<A>,
     feed: &mut F,
-) -> Result<JobRun, FeedError>
+) -> Result<JobRun<A>, FeedError>
     requires unasked { AllUnasked sessions.items }
     requires readers { 0 < vec_len readers }
     requires opened { AreOfOpening opening_of publisher.old.version readers.items }
@@ -87,14 +88,15 @@ pub fn prepare<F: Feed<Attached = ()>, R: Wait>(
 /// Runs all workers, each in a thread of its own, and beside them the publisher, and waits for all
 /// of them.
 pub fn fork<
-    E: Entry<Attached = ()> + Drop + Send,
-    F: Feed<Attached = ()> + Send,
+    A: Attachment + Send + Sync,
+    E: Entry<Attached = A> + Drop + Send,
+    F: Feed<Attached = A> + Send,
     G: Gate + Sync,
     R: Threads + Wait + Sync,
 >(
     rt: &R,
     gate: &G,
-    publisher: &mut Publisher,
+    publisher: &mut Publisher<A>,
     report: &mut Report,
     feed: &mut F,
     workers: &mut [Worker<E>],

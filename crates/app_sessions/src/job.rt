@@ -22,14 +22,15 @@ use std::alloc::Global;
 use std::sync::Wait;
 use std::thread::Threads;
 use store_snapshots::{Feed, ListFeed, Publisher, Reader, RuledEntry};
+use store_versions::Attachment;
 
 /// What a job runs.
 #[derive(Drop)]
-pub struct JobSetup {
+pub struct JobSetup<A: Attachment = ()> {
     /// Its sessions.
     pub sessions: Vec<Session>,
     /// What they read by.
-    pub readers: Vec<Reader<RuledEntry>>,
+    pub readers: Vec<Reader<RuledEntry<A>>>,
     /// How many refreshes are tried before the sessions begin.
     pub before: usize,
     /// How many refreshes the publisher's list has in the end.
@@ -44,12 +45,17 @@ pub struct JobSetup {
 /// one after another. All threads are joined, whatever happens, and the publisher stays open. The
 /// text is that of the list of all that was tried, which no session knew when it was asked. Where
 /// the feed ended before the list had as many refreshes as it was to have, there is no text.
-pub fn run_job<F: Feed<Attached = ()> + Send, G: Gate + Sync, R: Threads + Wait + Sync>(
+pub fn run_job<
+    A: Attachment + Send + Sync,
+    F: Feed<Attached = A> + Send,
+    G: Gate + Sync,
+    R: Threads + Wait + Sync,
+>(
     rt: &R,
     alloc: Global,
     gate: &G,
-    setup: JobSetup,
-    publisher: &mut Publisher,
+    setup: JobSetup<A>,
+    publisher: &mut Publisher<A>,
     feed: &mut F,
 ) -> Result<JobText, JobError>
     requires sessions { (0 < vec_len setup.sessions) × (vec_len setup.sessions < 2 ^ 32) }
@@ -89,13 +95,18 @@ pub fn run_job<F: Feed<Attached = ()> + Send, G: Gate + Sync, R: Threads + Wait 
 }
 
 /// Runs a job's sessions beside the publisher of a feed's refreshes, and gives the job's text.
-pub(crate) fn run_beside<F: Feed<Attached = ()> + Send, G: Gate + Sync, R: Threads + Wait + Sync>(
+pub(crate) fn run_beside<
+    A: Attachment + Send + Sync,
+    F: Feed<Attached = A> + Send,
+    G: Gate + Sync,
+    R: Threads + Wait + Sync,
+>(
     rt: &R,
     alloc: Global,
     gate: &G,
     most: usize,
-    run: JobRun,
-    publisher: &mut Publisher,
+    run: JobRun<A>,
+    publisher: &mut Publisher<A>,
     feed: &mut F,
 ) -> Result<JobText, JobError>
     requires started { HasStarted run publisher.old (F.tried feed.old) }

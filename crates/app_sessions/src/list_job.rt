@@ -20,15 +20,21 @@ use std::alloc::{AllocError, Global};
 use std::sync::Wait;
 use std::thread::Threads;
 use store_snapshots::{Feed, ListFeed, Publisher, Reader, RuledEntry};
+use store_versions::Attachment;
 
 /// Runs sessions beside the publisher of a feed's refreshes, and gives their text. The feed has the
 /// refreshes before the sessions tried too.
-pub fn run_feed_job<F: Feed<Attached = ()> + Send, G: Gate + Sync, R: Threads + Wait + Sync>(
+pub fn run_feed_job<
+    A: Attachment + Send + Sync,
+    F: Feed<Attached = A> + Send,
+    G: Gate + Sync,
+    R: Threads + Wait + Sync,
+>(
     rt: &R,
     alloc: Global,
     gate: &G,
-    setup: JobSetup,
-    publisher: &mut Publisher,
+    setup: JobSetup<A>,
+    publisher: &mut Publisher<A>,
     feed: &mut F,
 ) -> Result<JobText, JobError>
     requires sessions { (0 < vec_len setup.sessions) × (vec_len setup.sessions < 2 ^ 32) }
@@ -67,12 +73,12 @@ pub fn run_feed_job<F: Feed<Attached = ()> + Send, G: Gate + Sync, R: Threads + 
 
 /// Runs sessions beside the publisher of its list's refreshes, of which none is done. The publisher
 /// is closed, whatever happens. The only error is that memory ran out.
-pub fn run_list_job<G: Gate + Sync, R: Threads + Wait + Sync>(
+pub fn run_list_job<A: Attachment + Send + Sync, G: Gate + Sync, R: Threads + Wait + Sync>(
     rt: &R,
     alloc: Global,
     sessions: Vec<Session>,
-    readers: Vec<Reader<RuledEntry>>,
-    mut publisher: Publisher,
+    readers: Vec<Reader<RuledEntry<A>>>,
+    mut publisher: Publisher<A>,
     before: usize,
     gate: &G,
 ) -> Result<JobText, AllocError>
@@ -93,14 +99,14 @@ pub fn run_list_job<G: Gate + Sync, R: Threads + Wait + Sync>(
 }
 
 /// The same with a publisher that stays open.
-fn run_list<G: Gate + Sync, R: Threads + Wait + Sync>(
+fn run_list<A: Attachment + Send + Sync, G: Gate + Sync, R: Threads + Wait + Sync>(
     rt: &R,
     alloc: Global,
     before: usize,
     gate: &G,
     sessions: Vec<Session>,
-    readers: Vec<Reader<RuledEntry>>,
-    publisher: &mut Publisher,
+    readers: Vec<Reader<RuledEntry<A>>>,
+    publisher: &mut Publisher<A>,
 ) -> Result<JobText, AllocError>
     requires sessions { (0 < vec_len sessions) × (vec_len sessions < 2 ^ 32) }
     requires unasked { AllUnasked sessions.items }

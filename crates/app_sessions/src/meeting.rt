@@ -7,14 +7,15 @@ use crate::worker::Worker;
 use std::alloc::AllocError;
 use std::sync::Wait;
 use store_snapshots::{Publisher, RuledEntry};
+use store_versions::Attachment;
 
 /// Has a worker's reader enter the version that is shown, whose list it is told of. So that list
 /// begins with each one that the reader saw. It isn't longer than the list may get, so it is just
 /// the one that is shown.
-fn meet_worker<R: Wait>(
+fn meet_worker<A: Attachment, R: Wait>(
     rt: &R,
-    publisher: &Publisher,
-    worker: &mut Worker<RuledEntry>,
+    publisher: &Publisher<A>,
+    worker: &mut Worker<RuledEntry<A>>,
 ) -> Result<(), AllocError>
     requires opened { MayMeet opening_of publisher.now.shown worker.old }
     requires whole { length publisher.now.shown.list ≡ publisher.now.shown.most }
@@ -25,10 +26,10 @@ fn meet_worker<R: Wait>(
 }
 
 /// Has the readers of all workers enter the version that is shown.
-pub fn meet_workers<R: Wait>(
+pub fn meet_workers<A: Attachment, R: Wait>(
     rt: &R,
-    publisher: &Publisher,
-    workers: &mut [Worker<RuledEntry>],
+    publisher: &Publisher<A>,
+    workers: &mut [Worker<RuledEntry<A>>],
 ) -> Result<(), AllocError>
     requires opened { AllMayMeet opening_of publisher.now.shown workers.old }
     requires whole { length publisher.now.shown.list ≡ publisher.now.shown.most }

@@ -16,12 +16,13 @@ use std::alloc::AllocError;
 use std::sync::Wait;
 use std::thread;
 use store_snapshots::{Feed, FeedError, FeedTurn, Publisher};
+use store_versions::Attachment;
 
 /// Puts the segments together where that is due after a refresh.
-fn compact_if_due<R: Wait>(
+fn compact_if_due<A: Attachment, R: Wait>(
     rt: &R,
     tried: Result<u64, Cause>,
-    publisher: &mut Publisher,
+    publisher: &mut Publisher<A>,
 ) -> Result<(), AllocError>
     ensures version { publisher.new.version ≡ publisher.old.version }
     ensures shown { OnOk result ((publisher.new.shown ≡ publisher.old.shown)
@@ -36,11 +37,11 @@ fn compact_if_due<R: Wait>(
 }
 
 /// Puts the segments together where that is due after a refresh, and tells of it.
-fn end_refresh<R: Wait>(
+fn end_refresh<A: Attachment, R: Wait>(
     rt: &R,
     sender: Option<u64>,
     tried: Result<u64, Cause>,
-    publisher: &mut Publisher,
+    publisher: &mut Publisher<A>,
     report: &mut Report,
 ) -> Result<(), AllocError>
     requires room { report.old.count < publisher.old.version.done }
@@ -65,9 +66,9 @@ fn end_refresh<R: Wait>(
 /// Takes turns of the feed until one tries a refresh, puts the segments together where that is due,
 /// and tells of the refresh. While the feed is idle it yields. Whether a refresh was tried: none is
 /// where the feed has ended. After an error no turn is asked for.
-fn publish_one<F: Feed<Attached = ()>, R: Wait>(
+fn publish_one<A: Attachment, F: Feed<Attached = A>, R: Wait>(
     rt: &R,
-    publisher: &mut Publisher,
+    publisher: &mut Publisher<A>,
     report: &mut Report,
     feed: &mut F,
 ) -> Result<bool, FeedError>
@@ -101,10 +102,10 @@ fn publish_one<F: Feed<Attached = ()>, R: Wait>(
 
 /// Has `count` refreshes of the publisher's list tried by turns of a feed that tried none, and
 /// tells of them.
-pub fn publish_first<F: Feed<Attached = ()>, R: Wait>(
+pub fn publish_first<A: Attachment, F: Feed<Attached = A>, R: Wait>(
     rt: &R,
     count: usize,
-    publisher: &mut Publisher,
+    publisher: &mut Publisher<A>,
     report: &mut Report,
     feed: &mut F,
 ) -> Result<(), FeedError>
@@ -134,10 +135,10 @@ pub fn publish_first<F: Feed<Attached = ()>, R: Wait>(
 
 /// Has the feed's refreshes tried until it ends, passes the gate before and after each, and tells
 /// of them. Before the feed's end it passes the gate once more.
-pub fn publish_rest<F: Feed<Attached = ()>, G: Gate, R: Wait>(
+pub fn publish_rest<A: Attachment, F: Feed<Attached = A>, G: Gate, R: Wait>(
     rt: &R,
     gate: &G,
-    publisher: &mut Publisher,
+    publisher: &mut Publisher<A>,
     report: &mut Report,
     feed: &mut F,
 ) -> Result<(), FeedError>

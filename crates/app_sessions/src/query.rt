@@ -29,7 +29,7 @@ use std::marker::Brand;
 use std::sync::ledger::{Blank, Ledger};
 use std::thread::Threads;
 use store_snapshots::Snapshot;
-use store_versions::VersionError;
+use store_versions::{Attachment, VersionError};
 
 /// The rows of a plan in its order up to its limit, or their least fault.
 fn finished_outcome(alloc: Global, plan: &FlatPlan, bag: &Bag) -> Result<Outcome, AllocError>
@@ -44,18 +44,18 @@ fn finished_outcome(alloc: Global, plan: &FlatPlan, bag: &Bag) -> Result<Outcome
 }
 
 /// The rows of a version's tables are of their kinds: `Tables` says so.
-fn has_kinds(snapshot: &Snapshot)
+fn has_kinds<A: Attachment>(snapshot: &Snapshot<A>)
     ensures { StateIsOf (tables_of snapshot.now) }
 {
     let _count = snapshot.count(TableName::Region);
 }
 
 /// The answer of the query of a plan over a version's tables. Each row that is read is a step.
-fn plan_outcome<R: Threads + Sync, L: Ledger>(
+fn plan_outcome<R: Threads + Sync, A: Attachment, L: Ledger>(
     rt: &R,
     alloc: Global,
     plan: &FlatPlan,
-    snapshot: &Snapshot,
+    snapshot: &Snapshot<A>,
     steps: &mut Steps<L>,
 ) -> Result<Outcome, AllocError>
     ensures outcome { (q : BoundQuery) → IsPlanOf q plan.now
@@ -72,11 +72,11 @@ fn plan_outcome<R: Threads + Sync, L: Ledger>(
 
 /// The answer of the query of a plan over the version that it names, or why it is not asked over
 /// that. Then no row is read.
-fn named_outcome<R: Threads + Sync, L: Ledger>(
+fn named_outcome<R: Threads + Sync, A: Attachment, L: Ledger>(
     rt: &R,
     alloc: Global,
     plan: &FlatPlan,
-    snapshot: &Snapshot,
+    snapshot: &Snapshot<A>,
     named: u64,
     steps: &mut Steps<L>,
 ) -> Result<Outcome, AllocError>
@@ -97,11 +97,11 @@ fn named_outcome<R: Threads + Sync, L: Ledger>(
 }
 
 /// What comes of the query of a plan that begins over a version and names one or none.
-fn bound_outcome<R: Threads + Sync, L: Ledger>(
+fn bound_outcome<R: Threads + Sync, A: Attachment, L: Ledger>(
     rt: &R,
     alloc: Global,
     plan: &FlatPlan,
-    snapshot: &Snapshot,
+    snapshot: &Snapshot<A>,
     named: Option<u32>,
     steps: &mut Steps<L>,
 ) -> Result<Outcome, AllocError>
@@ -118,11 +118,11 @@ fn bound_outcome<R: Threads + Sync, L: Ledger>(
 }
 
 /// `bound_outcome` with steps that have a ledger of their own.
-fn counted_outcome<R: Threads + Sync, L: Ledger>(
+fn counted_outcome<R: Threads + Sync, A: Attachment, L: Ledger>(
     rt: &R,
     alloc: Global,
     plan: &FlatPlan,
-    snapshot: &Snapshot,
+    snapshot: &Snapshot<A>,
     named: Option<u32>,
     blank: Blank,
 ) -> Result<Outcome, AllocError>
@@ -140,12 +140,12 @@ fn counted_outcome<R: Threads + Sync, L: Ledger>(
 
 /// What comes of a query that begins over a version: its answer over that one or over the one that
 /// it names, or why it is refused.
-pub(crate) fn query_outcome<R: Threads + Sync>(
+pub(crate) fn query_outcome<R: Threads + Sync, A: Attachment>(
     rt: &R,
     alloc: Global,
     query: &Query,
     views: &SessionViews,
-    snapshot: &Snapshot,
+    snapshot: &Snapshot<A>,
 ) -> Result<Outcome, AllocError>
     ensures outcome { IfOk result (λ o. o
         ≡ query_outcome (version_of snapshot.now) (states_of snapshot.now) query.now.version
@@ -156,7 +156,7 @@ pub(crate) fn query_outcome<R: Threads + Sync>(
         Ok(plan) => {
             let named = query.version;
             let blank = Blank::new(1);
-            let outcome = counted_outcome::<R, Brand>(rt, alloc, &plan, snapshot, named, blank)?;
+            let outcome = counted_outcome::<R, A, Brand>(rt, alloc, &plan, snapshot, named, blank)?;
             Ok(outcome)
         }
         Err(BindFault::Refused(why)) => Ok(Outcome::Refused(Refusal::Bind(why))),

@@ -22,6 +22,7 @@ use sqlite_items::Items;
 use std::alloc::{AllocError, Global};
 use std::thread::Threads;
 use store_snapshots::Snapshot;
+use store_versions::Attachment;
 
 /// What a turn of a session gave.
 #[derive(Clone, Copy, Debug, PartialEq, Eq)]
@@ -51,12 +52,12 @@ pub struct Session {
 }
 
 /// What comes of a statement that is no refresh, and what it does to the views.
-fn outcome_of<R: Threads + Sync>(
+fn outcome_of<R: Threads + Sync, A: Attachment>(
     rt: &R,
     alloc: Global,
     statement: &Statement,
     views: &mut SessionViews,
-    snapshot: &Snapshot,
+    snapshot: &Snapshot<A>,
 ) -> Result<Outcome, AllocError>
     requires { IsRefresh (Some statement.now) → ⊥ }
     ensures outcome { IfOk result (λ o. (tried : Result ℕ Cause) → o
@@ -180,10 +181,10 @@ impl Session {
     }
 
     /// Takes the next turn over a version.
-    fn take_turn<R: Threads + Sync>(
+    fn take_turn<R: Threads + Sync, A: Attachment>(
         &mut self,
         rt: &R,
-        snapshot: &Snapshot,
+        snapshot: &Snapshot<A>,
     ) -> Result<Turn, AllocError>
         ensures { IfOk result (Takes (course_of self.old) (version_of snapshot.now)
             (states_of snapshot.now) (course_of self.new)) }
@@ -202,10 +203,10 @@ impl Session {
 
     /// Answers the next statement over a version, or over an earlier one that it names, or asks for
     /// the refresh that it is.
-    pub fn run_next<R: Threads + Sync>(
+    pub fn run_next<R: Threads + Sync, A: Attachment>(
         &mut self,
         rt: &R,
-        snapshot: &Snapshot,
+        snapshot: &Snapshot<A>,
     ) -> Result<Turn, AllocError>
         ensures { Goes (course_of self.old) (version_of snapshot.now) (states_of snapshot.now)
             (course_of self.new) result }

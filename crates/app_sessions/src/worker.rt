@@ -11,6 +11,7 @@ use base_io::Gate;
 use std::alloc::AllocError;
 use std::thread::{Threads, for_each_mut};
 use store_snapshots::{Entry, Reader};
+use store_versions::Attachment;
 
 /// A reader and the sessions that it serves.
 #[derive(Drop)]
@@ -29,7 +30,7 @@ pub struct Worker<E: Entry + Drop> {
 
 /// Runs a session to its end, and takes the published version anew for each statement. Before and
 /// after each statement it passes the gate.
-fn run_session<E: Entry<Attached = ()> + Drop, G: Gate, R: Threads + Sync>(
+fn run_session<E: Entry + Drop, G: Gate, R: Threads + Sync>(
     rt: &R,
     gate: &G,
     who: u32,
@@ -63,7 +64,7 @@ fn run_session<E: Entry<Attached = ()> + Drop, G: Gate, R: Threads + Sync>(
 }
 
 /// Runs the sessions of a worker, one after another. Where memory runs out it stops and says so.
-pub fn run_worker<E: Entry<Attached = ()> + Drop, G: Gate, R: Threads + Sync>(
+pub fn run_worker<E: Entry + Drop, G: Gate, R: Threads + Sync>(
     rt: &R,
     gate: &G,
     worker: &mut Worker<E>,
@@ -82,11 +83,12 @@ pub fn run_worker<E: Entry<Attached = ()> + Drop, G: Gate, R: Threads + Sync>(
 }
 
 /// Runs each worker in a thread of its own, and waits for all of them.
-pub fn run_workers<E: Entry<Attached = ()> + Drop + Send, G: Gate + Sync, R: Threads + Sync>(
-    rt: &R,
-    gate: &G,
-    workers: &mut [Worker<E>],
-)
+pub fn run_workers<
+    A: Attachment + Send + Sync,
+    E: Entry<Attached = A> + Drop + Send,
+    G: Gate + Sync,
+    R: Threads + Sync,
+>(rt: &R, gate: &G, workers: &mut [Worker<E>])
     requires { AllReady E.opening E.fits workers.old }
     ensures { AllHaveRun E.opening E.fits workers.old workers.new }
 {

@@ -12,15 +12,16 @@ use crate::session::Session;
 use crate::worker::Worker;
 use std::alloc::{AllocError, Global};
 use store_snapshots::{Entry, Publisher, Reader, RuledEntry};
+use store_versions::Attachment;
 
 /// The worker of a reader that is told of the last version.
-fn make_worker(
+fn make_worker<A: Attachment>(
     alloc: Global,
     first: u32,
     step: u32,
-    mut reader: Reader<RuledEntry>,
-    publisher: &Publisher,
-) -> Result<Worker<RuledEntry>, AllocError>
+    mut reader: Reader<RuledEntry<A>>,
+    publisher: &Publisher<A>,
+) -> Result<Worker<RuledEntry<A>>, AllocError>
     requires opened { opening_of reader.entry ≡ opening_at publisher.now.version }
     requires shown { IsOf (opening_at publisher.now.version) publisher.now.shown }
     ensures informed { IfOk result (IsInformed opening_of list_fits publisher.now.version
@@ -38,11 +39,11 @@ fn make_worker(
 }
 
 /// A worker for each reader, which is told of the last version.
-pub fn make_workers(
+pub fn make_workers<A: Attachment>(
     alloc: Global,
-    mut readers: Vec<Reader<RuledEntry>>,
-    publisher: &Publisher,
-) -> Result<Vec<Worker<RuledEntry>>, AllocError>
+    mut readers: Vec<Reader<RuledEntry<A>>>,
+    publisher: &Publisher<A>,
+) -> Result<Vec<Worker<RuledEntry<A>>>, AllocError>
     requires opened { AreOfOpening opening_of publisher.now.version readers.items }
     requires shown { IsOf (opening_at publisher.now.version) publisher.now.shown }
     ensures len { IfOk result (λ workers. vec_len workers ≡ vec_len readers) }

@@ -5,7 +5,7 @@ use Rattle.app_sessions.specs.Jobs.{closing_line}
 use Rattle.app_sessions.proofs.closing.push_closing.Goals as goal
 
 pub returns : goal.returns
-returns c =
+returns g c =
     let s = c.args.snapshot.now in
     let before = c.args.text.now.items in
     c.in_ok-push_counts.ensures

@@ -8,7 +8,7 @@ use Rattle.app_sessions.proofs.JobSets.{each-front, each-more}
 use Rattle.app_sessions.proofs.workers.make_workers.Goals as goal
 
 pub making-preserved : goal.making-preserved
-making-preserved c =
+making-preserved g c =
     let v = c.args.publisher.now.version in
     let i = c.making.invariant in
     let e : c.push.new.self.items ≡ c.making.workers.items ++ c.in_ok-make_worker.field-0 ∷ [] = search rules in

@@ -5,7 +5,7 @@ use Rattle.app_sessions.specs.Workers.{AllInformed, AllIdle, AreOfOpening}
 use Rattle.app_sessions.proofs.workers.make_workers.Given as goal
 
 abbrev pub invariant-making : goal.invariant-making
-invariant-making l =
+invariant-making g l =
     record {
       readers : AreOfOpening opening_of l.publisher.version l.readers.items;
       len : length l.workers.items + length l.readers.items ≡ length l.fn.readers.items;
@@ -14,4 +14,4 @@ invariant-making l =
     }
 
 abbrev pub decreases-making : goal.decreases-making
-decreases-making l = length l.readers.items
+decreases-making g l = length l.readers.items
