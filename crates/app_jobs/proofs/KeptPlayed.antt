@@ -1,5 +1,5 @@
 -- What a job over its journal gives, from what its parts give.
-use Rattle.std.proofs.Common.{◌≡◌, ◌∙◌, ◌+◌, ◌<◌, ◌≤◌, ◌^◌, ℕ, Bool, true, false, List, [], ◌++◌, Option, None, Some, ap, arith, length, length-append, map, refl, subst, sym, vec_len}
+use Rattle.std.proofs.Common.{◌≡◌, ◌∙◌, ◌+◌, ◌<◌, ◌≤◌, ◌^◌, ℕ, Bool, true, false, List, [], ◌++◌, Option, None, Some, ap, arith, length, length-append, map, refl, subst, sym, take, vec_len}
 use Rattle.std.specs.List.{AllByRecursion}
 use Rattle.std.specs.declared.result.Result.TheVariants.{Ok, Err}
 use Rattle.base_disk.specs.Disk.{Tells, file_named}
@@ -68,7 +68,7 @@ refused_over name None reads work sessions why refused = (refl, untold work.base
 refused_over name (Some files) reads work sessions why refused = (refl, refused.1 work.base)
 
 -- an open job whose refreshes nobody sends can be played
-pub can_play : {D : Type 0} (is_reached : D → Bool) (may_leave : D → List ℕ → Type 0) (disk : D) (journal : Journal) (kept list : List Change) (sessions : List Session) (base : State) (before : ℕ) (job : OpenJob)
+pub can_play : {D A : Type 0} (is_reached : D → Bool) (may_leave : D → List ℕ → Type 0) (disk : D) (journal : Journal) (kept list : List Change) (sessions : List Session) (base : State) (before : ℕ) (job : OpenJob A)
     → OpensJob (length kept) (length (kept ++ list)) journal (kept ++ list) sessions base before (Ok job) → 0 < vec_len job.sessions → vec_len job.sessions < 2 ^ 32 → AllUnasked sessions
     → before ≤ length list → is_reached disk ≡ true → journal.is_shut ≡ false → journal.end ≤ 2 ^ 61 → Stands IsSpelled (may_leave disk) (map spelling_of kept) journal.end
     → AllByRecursion MayBeStored list → length list ≤ 1024 → CanPlay is_reached may_leave job disk
@@ -94,7 +94,7 @@ can_play is_reached may_leave disk journal kept list sessions base before job op
     }
 
 -- what it then gives
-pub plays_kept : {D : Type 0} (may_leave : D → List ℕ → Type 0) (reads : Option (List ℕ)) (disk : D) (journal : Journal) (kept : List Change) (work : JobWork) (sessions : List Session) (job : OpenJob)
+pub plays_kept : {D A : Type 0} (may_leave : D → List ℕ → Type 0) (reads : Option (List ℕ)) (disk : D) (journal : Journal) (kept : List Change) (work : JobWork) (sessions : List Session) (job : OpenJob A)
     (result : Played) → work.senders ≡ [] → OpensJob (length kept) (length (kept ++ work.list)) journal (kept ++ work.list) sessions work.base work.before (Ok job)
     → ((f : List ℕ) → reads ≡ Some f → may_leave disk f) → PlaysOpen may_leave job disk result → PlaysKept kept reads work (job_sessions sessions) result
 plays_kept may_leave reads disk journal kept work sessions job (played.Text answer) none opens image plays =
@@ -107,7 +107,7 @@ plays_kept may_leave reads disk journal kept work sessions job (played.Refused w
 plays_kept may_leave reads disk journal kept work sessions job played.DiskFault none opens image plays = tt
 
 -- an entry that is refused when it is opened
-pub opening_refused : (journal : Journal) (kept list : List Change) (most : ℕ) (reads : Option (List ℕ)) (work : JobWork) (sessions : List Session) (before : ℕ) (others : List JobSession) (why : InputFault)
-    → OpensJob (length kept) most journal (kept ++ list) sessions work.base before (Err why) → PlaysKept kept reads work others (played.Refused why)
-opening_refused journal kept list most reads work sessions before others why (number, cause, is, first) =
+pub opening_refused : (kept list : List Change) (most : ℕ) (reads : Option (List ℕ)) (work : JobWork) (others : List JobSession) (why : InputFault)
+    → (number : ℕ) × (cause : Cause) × (why ≡ fault.RefusedEntry number cause) × IsFirstRefusedEntry work.base (take (length kept) (kept ++ list)) number cause → PlaysKept kept reads work others (played.Refused why)
+opening_refused kept list most reads work others why (number, cause, is, first) =
     (number, cause, is, subst (λ (l : List Change). IsFirstRefusedEntry work.base l number cause) (front work.base kept list most) first)

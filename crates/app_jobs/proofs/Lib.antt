@@ -11,3 +11,4 @@ mod Reached
 mod NextVersions
 pub mod KeptOnce
 mod NextRun
+mod OwnPlans

@@ -52,8 +52,8 @@ IsFedText may_leave version before sessions disk (played.Refused why) = ⊥
 IsFedText may_leave version before sessions disk played.DiskFault = ⊤
 
 -- an open job that can be played over its disk
-pub record CanPlay {D : Type 0} (is_reached : D → Bool) (may_leave : D → List ℕ → Type 0)
-    (job : OpenJob) (disk : D) : Type 0 where
+pub record CanPlay {D A : Type 0} (is_reached : D → Bool) (may_leave : D → List ℕ → Type 0)
+    (job : OpenJob A) (disk : D) : Type 0 where
   pub some : 0 < vec_len job.sessions
   pub few : vec_len job.sessions < 2 ^ 32
   pub unasked : AllUnasked job.sessions.items
@@ -66,7 +66,7 @@ pub record CanPlay {D : Type 0} (is_reached : D → Bool) (may_leave : D → Lis
   pub fits : StoredFits is_reached may_leave job.journal disk job.publisher.version
 
 -- what it gives
-abbrev pub PlaysOpen : {D : Type 0} → (D → List ℕ → Type 0) → OpenJob → D → Played → Type 0
+abbrev pub PlaysOpen : {D A : Type 0} → (D → List ℕ → Type 0) → OpenJob A → D → Played → Type 0
 PlaysOpen may_leave job disk result =
     IsFedText may_leave job.publisher.version job.before (job_sessions job.sessions.items) disk result
 
@@ -81,8 +81,8 @@ PlaysKept kept journal_then work sessions played.DiskFault = ⊤
 
 -- A job is opened over a list whose first refreshes a journal keeps: a publisher of the list has
 -- published these, and is to have so many in the end; or one of these is refused.
-abbrev pub OpensJob : ℕ → ℕ → Journal → List Change → List Session → State → ℕ
-    → Result OpenJob InputFault → Type 0
+abbrev pub OpensJob : {A : Type 0} → ℕ → ℕ → Journal → List Change → List Session → State → ℕ
+    → Result (OpenJob A) InputFault → Type 0
 OpensJob kept most journal list sessions base before (Ok job) = (job.sessions.items ≡ sessions)
     × (job.journal ≡ journal) × (job.before ≡ before) × (job.start ≡ job.publisher.version)
     × (job.publisher.version

@@ -17,6 +17,7 @@ steps_of session = session.steps
 -- what a job works on
 abbrev pub work_view : JobSources → JobWork
 work_view sources = record {
+  keeps = sources.keeps.views;
   scripts = map steps_of sources.sessions.items;
   base = sources.base;
   list = sources.list.items;

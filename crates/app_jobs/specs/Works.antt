@@ -1,6 +1,7 @@
 -- What a session and a job work on.
 use Rattle.std.specs.Prelude.{ℕ, List, Option, Some}
 use Rattle.sql_ast.specs.declared.statement.Statement.{Statement}
+use Rattle.sql_binder_steps.specs.declared.view.View.{View}
 use Rattle.store_gateway.specs.declared.message.SenderId.{SenderId}
 use Rattle.store_state.specs.Refresh.{Change}
 use Rattle.base_schema.specs.State.{State}
@@ -11,11 +12,13 @@ pub record Work : Type 0 where
   pub base : State
   pub list : List Change
 
--- What a job works on: the statements that the scripts of its sessions stand for; the tables; its
--- refreshes, in the order of its lines; how many of these are tried before the sessions; who sends
--- each of the others, or nobody where they are tried in their order; the name of its journal's file,
--- if it has one; and what that keeps, which is done before the job begins.
+-- What a job works on: its kept views, with which each of its sessions begins; the statements that
+-- the scripts of its sessions stand for; the tables; its refreshes, in the order of its lines; how
+-- many of these are tried before the sessions; who sends each of the others, or nobody where they
+-- are tried in their order; the name of its journal's file, if it has one; and what that keeps,
+-- which is done before the job begins.
 pub record JobWork : Type 0 where
+  pub keeps : List View
   pub scripts : List (List Statement)
   pub base : State
   pub list : List Change

@@ -5,6 +5,7 @@ ghost use denote.Param.Send.{IsSync};
 ghost use Rattle.base_io.specs.Outside.{Rose};
 ghost use Rattle.store_durability.specs.Feed.{StoredFits};
 ghost use Rattle.store_journal.specs.Journal.{Stands};
+ghost use Rattle.store_kept_views.specs.Kept.{kept as kept_rows};
 ghost use Rattle.store_refresh_entries.specs.Change.{IsSpelled, spelling_of};
 ghost use Rattle.store_snapshots.specs.Ruled.{opening_of};
 ghost use Rattle.app_sessions.specs.Asked.{AllUnasked, job_sessions};
@@ -14,9 +15,10 @@ ghost use Rattle.app_jobs.specs.Opened.{CanPlay, IsFedText, OpensJob, PlaysKept}
 ghost use Rattle.app_jobs.specs.Opened.{PlaysOpen, StartsBehind};
 ghost use Rattle.app_jobs.specs.Reaching.{IsPlayFault, IsPlayed, PublishesKept};
 
-use crate::sources::JobSources;
 use crate::journal::{Reached, reach_journal};
+use crate::keeping::groups_of;
 use crate::kept_senders::run_kept_sent;
+use crate::sources::JobSources;
 use app_inputs::InputFault;
 use app_sessions::{JobError, JobSetup, JobText, Session, is_compaction_due, run_feed_job};
 use base_disk::Disk;
@@ -24,12 +26,15 @@ use base_io::Gate;
 use base_refusals::Cause;
 use core::mem::replace_with;
 use std::alloc::{AllocError, Global};
+use std::marker::Brand;
 use std::sync::Wait;
 use std::thread::Threads;
 use store_durability::StoredFeed;
 use store_journal::Journal;
+use store_kept_views::{Kept, KeptOf, Plans};
 use store_snapshots::{Published, Publisher, Reader, RuledEntry, Snapshot, open};
 use store_state::{Refresh, State};
+use store_versions::Attachment;
 
 /// What comes of a job with a journal.
 #[derive(Drop)]
@@ -43,22 +48,22 @@ pub enum Played {
 }
 
 /// A job whose journal is open, with a publisher that has published what the journal keeps.
-pub struct OpenJob {
+pub struct OpenJob<A: Attachment = ()> {
     pub alloc: Global,
     pub sessions: Vec<Session>,
-    pub readers: Vec<Reader<RuledEntry>>,
-    pub publisher: Publisher,
+    pub readers: Vec<Reader<RuledEntry<A>>>,
+    pub publisher: Publisher<A>,
     pub journal: Journal,
     /// What the publisher has left begins behind this version.
-    pub start: Snapshot,
+    pub start: Snapshot<A>,
     pub before: usize,
 }
 
 /// Puts the segments together where that is due at a version.
-fn compact_when_due<R: Wait>(
+fn compact_when_due<A: Attachment, R: Wait>(
     rt: &R,
     version: u64,
-    publisher: &mut Publisher,
+    publisher: &mut Publisher<A>,
 ) -> Result<(), AllocError>
     requires { publisher.old.shown ≡ publisher.old.version }
     ensures version { publisher.new.version ≡ publisher.old.version }
@@ -74,10 +79,10 @@ fn compact_when_due<R: Wait>(
 /// Publishes the first refreshes of the list, which a journal keeps. Answers the first that is
 /// refused, counted from 1, and why.
 #[tactic(auto, using(crate::proofs::KeptRun::publishing))]
-fn publish_kept<R: Wait>(
+fn publish_kept<A: Attachment, R: Wait>(
     rt: &R,
     kept: usize,
-    publisher: &mut Publisher,
+    publisher: &mut Publisher<A>,
 ) -> Result<Option<(usize, Cause)>, AllocError>
     requires fresh { publisher.old.version.done ≡ 0 }
     requires shown { publisher.old.shown ≡ publisher.old.version }
@@ -97,15 +102,20 @@ fn publish_kept<R: Wait>(
 }
 
 /// Runs the sessions beside the publisher, which stays open.
-fn play_beside<R: Threads + Wait + Sync, D: Disk + Send, G: Gate + Sync>(
+fn play_beside<
+    A: Attachment + Send + Sync,
+    R: Threads + Wait + Sync,
+    D: Disk + Send,
+    G: Gate + Sync,
+>(
     rt: &R,
     alloc: Global,
     gate: &G,
     before: usize,
     sessions: Vec<Session>,
-    readers: Vec<Reader<RuledEntry>>,
-    publisher: &mut Publisher,
-    feed: &mut StoredFeed<D>,
+    readers: Vec<Reader<RuledEntry<A>>>,
+    publisher: &mut Publisher<A>,
+    feed: &mut StoredFeed<D, A>,
 ) -> Result<Played, AllocError>
     requires sessions { (0 < vec_len sessions) × (vec_len sessions < 2 ^ 32) }
     requires unasked { AllUnasked sessions.items }
@@ -138,11 +148,11 @@ fn play_beside<R: Threads + Wait + Sync, D: Disk + Send, G: Gate + Sync>(
 }
 
 /// Runs an open job over its disk, and gives the disk back.
-fn play<R: Threads + Wait + Sync, D: Disk + Send, G: Gate + Sync>(
+fn play<A: Attachment + Send + Sync, R: Threads + Wait + Sync, D: Disk + Send, G: Gate + Sync>(
     rt: &R,
     gate: &G,
     disk: D,
-    job: OpenJob,
+    job: OpenJob<A>,
 ) -> (D, Result<Played, AllocError>)
     requires { CanPlay D.is_reached D.may_leave job disk }
     ensures played { IfOk result.1 (PlaysOpen D.may_leave job result.0) }
@@ -175,11 +185,11 @@ fn play<R: Threads + Wait + Sync, D: Disk + Send, G: Gate + Sync>(
 }
 
 /// `play` over a disk that stays where it is.
-fn play_over<R: Threads + Wait + Sync, D: Disk + Send, G: Gate + Sync>(
+fn play_over<A: Attachment + Send + Sync, R: Threads + Wait + Sync, D: Disk + Send, G: Gate + Sync>(
     rt: &R,
     gate: &G,
     disk: &mut D,
-    job: OpenJob,
+    job: OpenJob<A>,
 ) -> Result<Played, AllocError>
     requires playable { CanPlay D.is_reached D.may_leave job disk.old }
     ensures played { IfOk result (PlaysOpen D.may_leave job disk.new) }
@@ -187,7 +197,7 @@ fn play_over<R: Threads + Wait + Sync, D: Disk + Send, G: Gate + Sync>(
         → Rose (D.faults disk.old) (D.faults disk.new)) }
     ensures later { D.faults disk.old ≤ D.faults disk.new }
 {
-    let playing = |disk: D, job: OpenJob| -> (D, Result<Played, AllocError>)
+    let playing = |disk: D, job: OpenJob<A>| -> (D, Result<Played, AllocError>)
         requires { IsSync R.row × IsSync G.row × CanPlay D.is_reached D.may_leave job disk }
         ensures played { IfOk result.1 (PlaysOpen D.may_leave job result.0) }
         ensures failed { IfOk result.1 (λ played. IsPlayFault played
@@ -199,11 +209,11 @@ fn play_over<R: Threads + Wait + Sync, D: Disk + Send, G: Gate + Sync>(
 
 /// The version behind which the publisher has refreshes left, or the first refresh that is kept and
 /// refused.
-fn start_of<R: Wait>(
+fn start_of<A: Attachment, R: Wait>(
     rt: &R,
     kept: usize,
-    publisher: &mut Publisher,
-) -> Result<Result<Snapshot, InputFault>, AllocError>
+    publisher: &mut Publisher<A>,
+) -> Result<Result<Snapshot<A>, InputFault>, AllocError>
     requires fresh { publisher.old.version.done ≡ 0 }
     requires shown { publisher.old.shown ≡ publisher.old.version }
     requires within { kept ≤ length publisher.old.version.list }
@@ -219,15 +229,17 @@ fn start_of<R: Wait>(
 
 /// Opens a job over a list whose first refreshes the journal keeps, and publishes these; or answers
 /// which of them is refused.
-pub fn open_job<R: Wait>(
+pub fn open_job<A: Attachment, R: Wait>(
     rt: &R,
     alloc: Global,
     kept: usize,
     most: usize,
     journal: Journal,
     list: Vec<Refresh>,
+    attachment: A,
     sources: (Vec<Session>, State, usize),
-) -> Result<Result<OpenJob, InputFault>, AllocError>
+) -> Result<Result<OpenJob<A>, InputFault>, AllocError>
+    requires right { A.is_right attachment sources.1 }
     requires sessions { (0 < vec_len sources.0) × (vec_len sources.0 < 2 ^ 32) }
     requires kept { kept ≤ length list.items }
     requires most { length list.items ≤ most }
@@ -235,7 +247,8 @@ pub fn open_job<R: Wait>(
         sources.2) }
 {
     let (sessions, base, before) = sources;
-    let (mut publisher, readers) = open(rt, alloc, base, (), list, sessions.len() as u32, most)?;
+    let count = sessions.len() as u32;
+    let (mut publisher, readers) = open(rt, alloc, base, attachment, list, count, most)?;
     match start_of(rt, kept, &mut publisher) {
         Ok(Ok(start)) => Ok(Ok(OpenJob {
             alloc,
@@ -259,15 +272,17 @@ pub fn open_job<R: Wait>(
 
 /// Runs the sessions beside a publisher of what the journal keeps and of the job's refreshes, which
 /// nobody sends.
-fn run_kept<R: Threads + Wait + Sync, D: Disk + Send, G: Gate + Sync>(
+fn run_kept<A: Attachment + Send + Sync, R: Threads + Wait + Sync, D: Disk + Send, G: Gate + Sync>(
     rt: &R,
     alloc: Global,
     gate: &G,
     disk: &mut D,
     journal: Journal,
     kept: Vec<Refresh>,
+    attachment: A,
     sources: JobSources,
 ) -> Result<Played, AllocError>
+    requires right { A.is_right attachment sources.base }
     requires runnable { IsRunnable sources }
     requires unsent { sources.senders.items ≡ [] }
     requires keepable { IsKeepable sources }
@@ -283,6 +298,7 @@ fn run_kept<R: Threads + Wait + Sync, D: Disk + Send, G: Gate + Sync>(
     ensures later { D.faults disk.old ≤ D.faults disk.new }
 {
     let JobSources {
+        keeps: _keeps,
         sessions,
         base,
         mut list,
@@ -301,11 +317,110 @@ fn run_kept<R: Threads + Wait + Sync, D: Disk + Send, G: Gate + Sync>(
         most,
         journal,
         all,
+        attachment,
         (sessions, base, before),
     )? {
         Ok(job) => play_over(rt, gate, disk, job),
         Err(fault) => Ok(Played::Refused(fault)),
     }
+}
+
+/// Runs the sessions beside a publisher of what the journal keeps and of the job's refreshes, some of
+/// which may be sent. Each version carries what is attached to the base.
+fn run_attached<
+    A: Attachment + Send + Sync,
+    R: Threads + Wait + Sync,
+    D: Disk + Send,
+    G: Gate + Sync,
+>(
+    rt: &R,
+    alloc: Global,
+    gate: &G,
+    disk: &mut D,
+    journal: Journal,
+    kept: Vec<Refresh>,
+    attachment: A,
+    sources: JobSources,
+) -> Result<Played, AllocError>
+    requires right { A.is_right attachment sources.base }
+    requires runnable { IsRunnable sources }
+    requires keepable { IsKeepable sources }
+    requires reached { D.is_reached disk.old ≡ true }
+    requires working { journal.is_shut ≡ false }
+    requires short { journal.end ≤ 2 ^ 61 }
+    requires stands { Stands IsSpelled (D.may_leave disk.old) (map spelling_of kept.items)
+        journal.end }
+    ensures played { IfOk result (PlaysKept kept.items (D.reads disk.new) (work_view sources)
+        (job_sessions sources.sessions.items)) }
+    ensures failed { IfOk result (λ played. IsPlayFault played
+        → Rose (D.faults disk.old) (D.faults disk.new)) }
+    ensures later { D.faults disk.old ≤ D.faults disk.new }
+{
+    if sources.senders.is_empty() {
+        run_kept(rt, alloc, gate, disk, journal, kept, attachment, sources)
+    } else {
+        run_kept_sent(rt, alloc, gate, disk, journal, kept, attachment, sources)
+    }
+}
+
+/// The same with the groups of a run's plans.
+fn run_grouped<P: Plans + Send + Sync, R: Threads + Wait + Sync, D: Disk + Send, G: Gate + Sync>(
+    rt: &R,
+    alloc: Global,
+    gate: &G,
+    disk: &mut D,
+    journal: Journal,
+    kept: Vec<Refresh>,
+    groups: Kept,
+    sources: JobSources,
+) -> Result<Played, AllocError>
+    requires groups { groups ≡ kept_rows P.plans sources.base }
+    requires runnable { IsRunnable sources }
+    requires keepable { IsKeepable sources }
+    requires reached { D.is_reached disk.old ≡ true }
+    requires working { journal.is_shut ≡ false }
+    requires short { journal.end ≤ 2 ^ 61 }
+    requires stands { Stands IsSpelled (D.may_leave disk.old) (map spelling_of kept.items)
+        journal.end }
+    ensures played { IfOk result (PlaysKept kept.items (D.reads disk.new) (work_view sources)
+        (job_sessions sources.sessions.items)) }
+    ensures failed { IfOk result (λ played. IsPlayFault played
+        → Rose (D.faults disk.old) (D.faults disk.new)) }
+    ensures later { D.faults disk.old ≤ D.faults disk.new }
+{
+    let attached: KeptOf<P> = KeptOf::new(groups);
+    run_attached(rt, alloc, gate, disk, journal, kept, attached, sources)
+}
+
+/// Runs the sessions beside a publisher of what the journal keeps and of the job's refreshes. The
+/// rows of the job's kept views are kept at each version; where it has none, nothing is.
+fn run_reached<R: Threads + Wait + Sync, D: Disk + Send, G: Gate + Sync>(
+    rt: &R,
+    alloc: Global,
+    gate: &G,
+    disk: &mut D,
+    journal: Journal,
+    kept: Vec<Refresh>,
+    sources: JobSources,
+) -> Result<Played, AllocError>
+    requires runnable { IsRunnable sources }
+    requires keepable { IsKeepable sources }
+    requires reached { D.is_reached disk.old ≡ true }
+    requires working { journal.is_shut ≡ false }
+    requires short { journal.end ≤ 2 ^ 61 }
+    requires stands { Stands IsSpelled (D.may_leave disk.old) (map spelling_of kept.items)
+        journal.end }
+    ensures played { IfOk result (PlaysKept kept.items (D.reads disk.new) (work_view sources)
+        (job_sessions sources.sessions.items)) }
+    ensures failed { IfOk result (λ played. IsPlayFault played
+        → Rose (D.faults disk.old) (D.faults disk.new)) }
+    ensures later { D.faults disk.old ≤ D.faults disk.new }
+{
+    if sources.keeps.plans.is_empty() {
+        return run_attached(rt, alloc, gate, disk, journal, kept, (), sources);
+    }
+    let groups = groups_of(alloc, sources.keeps.plans.as_slice(), &sources.base)?;
+    run_grouped::<Brand, R, D, G>(rt, alloc, gate, disk, journal, kept, groups, sources)
 }
 
 /// Runs the sessions of a job that keeps its accepted refreshes in the journal of that name.
@@ -327,11 +442,7 @@ pub fn play_kept<R: Threads + Wait + Sync, D: Disk + Send, G: Gate + Sync>(
 {
     match reach_journal(alloc, disk, name)? {
         Reached::Journal(journal, kept) => {
-            if sources.senders.is_empty() {
-                run_kept(rt, alloc, gate, disk, journal, kept, sources)
-            } else {
-                run_kept_sent(rt, alloc, gate, disk, journal, kept, sources)
-            }
+            run_reached(rt, alloc, gate, disk, journal, kept, sources)
         }
         Reached::Refused(fault) => Ok(Played::Refused(fault)),
         Reached::DiskFault => Ok(Played::DiskFault),

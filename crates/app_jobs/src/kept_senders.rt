@@ -13,9 +13,9 @@ ghost use Rattle.app_jobs.specs.OpenedSent.{IsReceiveFault, IsReceivedOver, Play
 ghost use Rattle.app_jobs.specs.Reaching.{IsPlayFault};
 ghost use Rattle.app_jobs.specs.Receivers.{MaySendBoth};
 
-use crate::sources::JobSources;
 use crate::kept::{OpenJob, Played, open_job};
 use crate::senders::{MOST_MESSAGES, Senders, divide, send_both};
+use crate::sources::JobSources;
 use app_sessions::{JobError, JobSetup, run_feed_job};
 use base_disk::Disk;
 use base_io::Gate;
@@ -28,11 +28,12 @@ use store_gateway::{Ended, Taker, open_gateway};
 use store_journal::Journal;
 use store_snapshots::Publisher;
 use store_state::Refresh;
+use store_versions::Attachment;
 
 /// An open job, its senders, and the one that takes what they send.
-pub struct SentJob {
+pub struct SentJob<A: Attachment = ()> {
     /// The job, with a publisher of what nobody sends.
-    pub opened: OpenJob,
+    pub opened: OpenJob<A>,
     /// Its senders.
     pub senders: Senders,
     /// What takes the refreshes that they send.
@@ -43,13 +44,18 @@ pub struct SentJob {
 
 /// Runs the sessions beside the publisher, which stays open. There is no text where too few
 /// refreshes came.
-fn play_received<R: Threads + Wait + Sync, D: Disk + Send, G: Gate + Sync>(
+fn play_received<
+    A: Attachment + Send + Sync,
+    R: Threads + Wait + Sync,
+    D: Disk + Send,
+    G: Gate + Sync,
+>(
     rt: &R,
     alloc: Global,
     gate: &G,
-    setup: JobSetup,
-    publisher: &mut Publisher,
-    feed: &mut StoredGateway<D>,
+    setup: JobSetup<A>,
+    publisher: &mut Publisher<A>,
+    feed: &mut StoredGateway<D, A>,
 ) -> Result<Option<Played>, AllocError>
     requires { CanReceiveOver D.is_reached D.may_leave publisher.old.version publisher.old.shown
         feed.old.journal feed.old.disk feed.old.start feed.old.count feed.old.taker setup }
@@ -70,13 +76,18 @@ fn play_received<R: Threads + Wait + Sync, D: Disk + Send, G: Gate + Sync>(
 }
 
 /// `play_received` with sessions that wait for it.
-fn play_waiting<R: Threads + Wait + Sync, D: Disk + Send, G: Gate + Sync>(
+fn play_waiting<
+    A: Attachment + Send + Sync,
+    R: Threads + Wait + Sync,
+    D: Disk + Send,
+    G: Gate + Sync,
+>(
     rt: &R,
     alloc: Global,
     gate: &G,
-    waiting: &mut Option<JobSetup>,
-    publisher: &mut Publisher,
-    feed: &mut StoredGateway<D>,
+    waiting: &mut Option<JobSetup<A>>,
+    publisher: &mut Publisher<A>,
+    feed: &mut StoredGateway<D, A>,
 ) -> Result<Option<Played>, AllocError>
     requires { Waits waiting.old (CanReceiveOver D.is_reached D.may_leave publisher.old.version
         publisher.old.shown feed.old.journal feed.old.disk feed.old.start feed.old.count
@@ -110,14 +121,19 @@ fn send_waiting<R: Threads + Wait + Sync>(
 }
 
 /// Runs senders in threads of their own, and the sessions beside the publisher, which stays open.
-fn play_joined<R: Threads + Wait + Sync, D: Disk + Send, G: Gate + Sync>(
+fn play_joined<
+    A: Attachment + Send + Sync,
+    R: Threads + Wait + Sync,
+    D: Disk + Send,
+    G: Gate + Sync,
+>(
     rt: &R,
     alloc: Global,
     gate: &G,
     senders: &mut Option<Senders>,
-    setup: &mut Option<JobSetup>,
-    publisher: &mut Publisher,
-    feed: &mut StoredGateway<D>,
+    setup: &mut Option<JobSetup<A>>,
+    publisher: &mut Publisher<A>,
+    feed: &mut StoredGateway<D, A>,
 ) -> (Option<(Ended, Ended)>, Result<Option<Played>, AllocError>)
     requires senders { Waits senders.old MaySendBoth }
     requires setup { Waits setup.old (CanReceiveOver D.is_reached D.may_leave
@@ -161,12 +177,12 @@ type SentOutcome<D> = (
 );
 
 /// Runs an open job beside its senders over its disk.
-fn play_beside_senders<R: Threads + Wait + Sync, D: Disk + Send, G: Gate + Sync>(
-    rt: &R,
-    gate: &G,
-    disk: D,
-    job: SentJob,
-) -> SentOutcome<D>
+fn play_beside_senders<
+    A: Attachment + Send + Sync,
+    R: Threads + Wait + Sync,
+    D: Disk + Send,
+    G: Gate + Sync,
+>(rt: &R, gate: &G, disk: D, job: SentJob<A>) -> SentOutcome<D>
     requires { CanPlaySent D.is_reached D.may_leave job disk }
     ensures ended { HaveEnded (Some job.senders) result.2 }
     ensures received { IfOk result.3 (IsReceivedOver D.may_leave job.opened.publisher.version
@@ -215,11 +231,11 @@ fn play_beside_senders<R: Threads + Wait + Sync, D: Disk + Send, G: Gate + Sync>
 
 /// Runs the senders of an open job in threads of their own, and the sessions over the disk, which is
 /// given back.
-fn play_sent<R: Threads + Wait + Sync, D: Disk + Send, G: Gate + Sync>(
+fn play_sent<A: Attachment + Send + Sync, R: Threads + Wait + Sync, D: Disk + Send, G: Gate + Sync>(
     rt: &R,
     gate: &G,
     disk: D,
-    job: SentJob,
+    job: SentJob<A>,
 ) -> (D, Result<Played, AllocError>)
     requires { CanPlaySent D.is_reached D.may_leave job disk }
     ensures played { IfOk result.1 (PlaysSent D.may_leave job result.0) }
@@ -246,19 +262,19 @@ fn play_sent<R: Threads + Wait + Sync, D: Disk + Send, G: Gate + Sync>(
 }
 
 /// `play_sent` over a disk that stays where it is.
-fn play_sent_over<R: Threads + Wait + Sync, D: Disk + Send, G: Gate + Sync>(
-    rt: &R,
-    gate: &G,
-    disk: &mut D,
-    job: SentJob,
-) -> Result<Played, AllocError>
+fn play_sent_over<
+    A: Attachment + Send + Sync,
+    R: Threads + Wait + Sync,
+    D: Disk + Send,
+    G: Gate + Sync,
+>(rt: &R, gate: &G, disk: &mut D, job: SentJob<A>) -> Result<Played, AllocError>
     requires playable { CanPlaySent D.is_reached D.may_leave job disk.old }
     ensures played { IfOk result (PlaysSent D.may_leave job disk.new) }
     ensures failed { IfOk result (λ played. IsPlayFault played
         → Rose (D.faults disk.old) (D.faults disk.new)) }
     ensures later { D.faults disk.old ≤ D.faults disk.new }
 {
-    let playing = |disk: D, job: SentJob| -> (D, Result<Played, AllocError>)
+    let playing = |disk: D, job: SentJob<A>| -> (D, Result<Played, AllocError>)
         requires { IsSync R.row × IsSync G.row × CanPlaySent D.is_reached D.may_leave job disk }
         ensures played { IfOk result.1 (PlaysSent D.may_leave job result.0) }
         ensures failed { IfOk result.1 (λ played. IsPlayFault played
@@ -270,15 +286,22 @@ fn play_sent_over<R: Threads + Wait + Sync, D: Disk + Send, G: Gate + Sync>(
 
 /// Runs the sessions beside a publisher of what the journal keeps and of the job's refreshes, some of
 /// which two senders send.
-pub fn run_kept_sent<R: Threads + Wait + Sync, D: Disk + Send, G: Gate + Sync>(
+pub fn run_kept_sent<
+    A: Attachment + Send + Sync,
+    R: Threads + Wait + Sync,
+    D: Disk + Send,
+    G: Gate + Sync,
+>(
     rt: &R,
     alloc: Global,
     gate: &G,
     disk: &mut D,
     journal: Journal,
     kept: Vec<Refresh>,
+    attachment: A,
     sources: JobSources,
 ) -> Result<Played, AllocError>
+    requires right { A.is_right attachment sources.base }
     requires runnable { IsRunnable sources }
     requires sent { 0 < length sources.senders.items }
     requires keepable { IsKeepable sources }
@@ -294,6 +317,7 @@ pub fn run_kept_sent<R: Threads + Wait + Sync, D: Disk + Send, G: Gate + Sync>(
     ensures later { D.faults disk.old ≤ D.faults disk.new }
 {
     let JobSources {
+        keeps: _keeps,
         sessions,
         base,
         mut list,
@@ -322,6 +346,7 @@ pub fn run_kept_sent<R: Threads + Wait + Sync, D: Disk + Send, G: Gate + Sync>(
         most,
         journal,
         all,
+        attachment,
         (sessions, base, before),
     )? {
         Ok(opened) => {

@@ -3,6 +3,7 @@
 #![tactic(auto)]
 
 mod journal;
+mod keeping;
 mod kept;
 mod kept_senders;
 pub mod laws;
@@ -13,5 +14,5 @@ mod turns;
 
 pub use kept::{Played, play_kept};
 pub use plain::run_sources;
-pub use sources::JobSources;
+pub use sources::{JobKeeps, JobSources};
 pub use turns::take_turns;

@@ -19,11 +19,13 @@ use crate::sources::JobSources;
 use app_sessions::{JobError, JobSetup, JobText, Session, run_job};
 use base_io::Gate;
 use std::alloc::{AllocError, Global};
+use std::marker::PhantomData;
 use std::sync::Wait;
 use std::thread::{Threads, join};
 use store_gateway::{Ended, GatewayFeed, Sender, SenderId, open_gateway, send_all};
 use store_snapshots::{Publisher, open};
 use store_state::{Refresh, State};
+use store_versions::Attachment;
 
 /// How many messages the queue of the senders holds at most: as many as a job has refreshes, and
 /// the ends of both senders. So it is never full.
@@ -105,29 +107,31 @@ pub(crate) fn send_both<R: Threads + Wait + Sync>(rt: &R, senders: Senders) -> (
 
 /// What runs beside the senders.
 #[derive(Drop)]
-pub struct Receiver {
+pub struct Receiver<A: Attachment = ()> {
     /// The sessions, at their beginning.
     sessions: Vec<Session>,
     /// The tables.
     base: State,
+    /// What is attached to them.
+    attachment: A,
     /// The refreshes that are tried before the sessions.
     list: Vec<Refresh>,
     /// How many refreshes there are in all.
     most: usize,
     /// What is sent.
-    feed: GatewayFeed,
+    feed: GatewayFeed<A>,
 }
 
 /// Runs the sessions beside a publisher of its list and of what is sent. There is no text where too
 /// few refreshes came.
-fn run_open<R: Threads + Wait + Sync, G: Gate + Sync>(
+fn run_open<A: Attachment + Send + Sync, R: Threads + Wait + Sync, G: Gate + Sync>(
     rt: &R,
     alloc: Global,
     gate: &G,
-    setup: JobSetup,
-    mut feed: GatewayFeed,
-    publisher: &mut Publisher,
-) -> Result<(Option<JobText>, GatewayFeed), AllocError>
+    setup: JobSetup<A>,
+    mut feed: GatewayFeed<A>,
+    publisher: &mut Publisher<A>,
+) -> Result<(Option<JobText>, GatewayFeed<A>), AllocError>
     requires sessions { (0 < vec_len setup.sessions) × (vec_len setup.sessions < 2 ^ 32) }
     requires unasked { AllUnasked setup.sessions.items }
     requires readers { 0 < vec_len setup.readers }
@@ -151,24 +155,26 @@ fn run_open<R: Threads + Wait + Sync, G: Gate + Sync>(
 }
 
 /// `run_open` with a publisher that is opened for it, and closed.
-fn run_receiver<R: Threads + Wait + Sync, G: Gate + Sync>(
+fn run_receiver<A: Attachment + Send + Sync, R: Threads + Wait + Sync, G: Gate + Sync>(
     rt: &R,
     alloc: Global,
     gate: &G,
-    receiver: Receiver,
-) -> Result<(Option<JobText>, GatewayFeed), AllocError>
-    requires { CanReceive receiver }
+    receiver: Receiver<A>,
+) -> Result<(Option<JobText>, GatewayFeed<A>), AllocError>
+    requires { CanReceive A.is_right receiver }
     ensures { IfOk result (λ received. HasReceived receiver received.0 received.1) }
 {
     let Receiver {
         sessions,
         base,
+        attachment,
         list,
         most,
         feed,
     } = receiver;
     let before = list.len();
-    let (mut publisher, readers) = open(rt, alloc, base, (), list, sessions.len() as u32, most)?;
+    let count = sessions.len() as u32;
+    let (mut publisher, readers) = open(rt, alloc, base, attachment, list, count, most)?;
     let setup = JobSetup {
         sessions,
         readers,
@@ -181,15 +187,15 @@ fn run_receiver<R: Threads + Wait + Sync, G: Gate + Sync>(
 }
 
 /// Runs the senders in threads of their own, and the sessions beside a publisher of what they send.
-fn run_joined<R: Threads + Wait + Sync, G: Gate + Sync>(
+fn run_joined<A: Attachment + Send + Sync, R: Threads + Wait + Sync, G: Gate + Sync>(
     rt: &R,
     alloc: Global,
     gate: &G,
     senders: Senders,
-    receiver: Receiver,
+    receiver: Receiver<A>,
 ) -> Result<JobText, AllocError>
     requires senders { MaySendBoth senders }
-    requires receiver { CanReceive receiver }
+    requires receiver { CanReceive A.is_right receiver }
     requires both { AreOfOneGateway senders receiver }
     ensures { IfOk result (IsSentText receiver.base receiver.list.items
         senders.firsts.items senders.seconds.items (job_sessions receiver.sessions.items)) }
@@ -201,7 +207,7 @@ fn run_joined<R: Threads + Wait + Sync, G: Gate + Sync>(
             ensures { BothEnd senders result }
         { send_both(rt, senders) },
         move ||
-            requires { IsSync R.row × IsSync G.row × CanReceive receiver }
+            requires { IsSync R.row × IsSync G.row × CanReceive A.is_right receiver }
             ensures { IfOk result (λ received. HasReceived receiver received.0 received.1) }
         { run_receiver(rt, alloc, gate, receiver) },
     );
@@ -215,12 +221,14 @@ fn run_joined<R: Threads + Wait + Sync, G: Gate + Sync>(
 
 /// Runs the sessions beside a publisher of the refreshes, of which two senders send those that are
 /// not tried before the sessions.
-pub fn run_with_senders<R: Threads + Wait + Sync, G: Gate + Sync>(
+pub fn run_with_senders<A: Attachment + Send + Sync, R: Threads + Wait + Sync, G: Gate + Sync>(
     rt: &R,
     alloc: Global,
     gate: &G,
+    attachment: A,
     sources: JobSources,
 ) -> Result<JobText, AllocError>
+    requires right { A.is_right attachment sources.base }
     requires runnable { IsRunnable sources }
     requires sent { 0 < length sources.senders.items }
     requires keepable { IsKeepable sources }
@@ -229,6 +237,7 @@ pub fn run_with_senders<R: Threads + Wait + Sync, G: Gate + Sync>(
         (job_sessions sources.sessions.items)) }
 {
     let JobSources {
+        keeps: _keeps,
         sessions,
         base,
         mut list,
@@ -254,9 +263,13 @@ pub fn run_with_senders<R: Threads + Wait + Sync, G: Gate + Sync>(
     let receiver = Receiver {
         sessions,
         base,
+        attachment,
         list,
         most,
-        feed: GatewayFeed { taker },
+        feed: GatewayFeed {
+            taker,
+            of: PhantomData,
+        },
     };
     run_joined(rt, alloc, gate, senders, receiver)
 }

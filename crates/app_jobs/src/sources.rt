@@ -1,11 +1,25 @@
 //! What a job works on.
 use app_sessions::Session;
+use plan_algebra::KeptPlan;
+use plan_planner::SessionViews;
+use std::sync::Arc;
 use store_gateway::SenderId;
 use store_state::{Refresh, State};
+
+/// The kept views of a job, and the plans of their queries.
+#[derive(Drop)]
+pub struct JobKeeps {
+    /// The views under their numbers, with which each session begins.
+    pub views: SessionViews,
+    /// The plan of each. A version's rows are kept by it.
+    pub plans: Vec<Arc<KeptPlan>>,
+}
 
 /// What a job works on.
 #[derive(Drop)]
 pub struct JobSources {
+    /// Its kept views.
+    pub keeps: JobKeeps,
     /// Its sessions, at their beginning.
     pub sessions: Vec<Session>,
     /// The tables.

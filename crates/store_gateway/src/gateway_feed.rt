@@ -17,20 +17,11 @@ use store_versions::Attachment;
 #[derive(Drop)]
 pub struct GatewayFeed<A: Attachment = ()> {
     pub taker: Taker,
-    of: PhantomData<A>,
+    /// What is attached to the publisher's versions.
+    pub of: PhantomData<A>,
 }
 
 impl<A: Attachment> GatewayFeed<A> {
-    /// What this takes.
-    pub fn new(taker: Taker) -> GatewayFeed<A>
-        ensures { result.taker ≡ taker }
-    {
-        GatewayFeed {
-            taker,
-            of: PhantomData,
-        }
-    }
-
     /// The order in which all was tried: the refreshes from each sender are what it sent, in its
     /// order, and there are no others. No memory is taken.
     pub fn close(self, first: Ended, second: Ended) -> Order

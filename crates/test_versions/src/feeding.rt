@@ -6,6 +6,7 @@ ghost use Rattle.store_gateway.specs.Feeds.{GatewayFits, gateway_name};
 use crate::one_place::{numbered, send_both};
 use base_columns::Rows;
 use std::alloc::{AllocError, Global};
+use std::marker::PhantomData;
 use std::sync::Wait;
 use std::test::Fail;
 use std::thread;
@@ -73,7 +74,10 @@ fn feed_three<R: Threads + Wait + Sync>(
     let twos = vec![in alloc; nothing(alloc)?]?;
     let (first, second, taker) = open_gateway(alloc, 5, 2, 1)?;
     let (first, second) = send_both(rt, first, second, ones, twos);
-    let mut feed = GatewayFeed::new(taker);
+    let mut feed = GatewayFeed {
+        taker,
+        of: PhantomData,
+    };
     let Ok((accepted, refused)) = take_turns(rt, &mut feed, publisher) else {
         return Err("a turn had nothing tried".into());
     };

@@ -20,7 +20,7 @@ play_sent_over-requires-clause-playable g c κs within =
     let s = c.args.sources in
     let kept = c.args.kept.items in
     let front = take s.before s.list.items in
-    let job : SentJob = record {
+    let job : SentJob g.row.A.Denot = record {
       opened = c.in-Ok.opened;
       senders = record { first = c.in_ok-first.first; second = c.in_ok-first.second; firsts = c.in_ok-firsts.firsts; seconds = c.in_ok-firsts.seconds };
       taker = c.in_ok-first.taker;
@@ -79,7 +79,7 @@ returns-in-Ok-clause-played g c =
     let s = c.args.sources in
     let kept = c.args.kept.items in
     let front = take s.before s.list.items in
-    let job : SentJob = record {
+    let job : SentJob g.row.A.Denot = record {
       opened = c.in-Ok.opened;
       senders = record { first = c.in_ok-first.first; second = c.in_ok-first.second; firsts = c.in_ok-firsts.firsts; seconds = c.in_ok-firsts.seconds };
       taker = c.in_ok-first.taker;

@@ -48,6 +48,7 @@ run_joined-requires-clause-receiver g c κs within =
     let r : c.in_ok-first.taker.quotas.1 ≡ length c.in_ok-firsts.seconds.items = search rules in
     let most : c.len-most.result ≡ length s.list.items = search rules in
     record {
+      right = c.requires.right;
       some = runnable.some;
       few = runnable.few;
       unasked = runnable.unasked;
