@@ -1,14 +1,16 @@
 -- The inputs of a job are one, but for which refusal of a script they name.
-use Rattle.std.proofs.Common.{◌≡◌, ◌≢◌, ◌∙◌, ◌⊎◌, ℕ, Bool, true, false, List, [], ◌∷◌, None, Some, ap, inl, inr, refl, subst, sym}
+use Rattle.std.proofs.Common.{◌≡◌, ◌≢◌, ◌∙◌, ◌⊎◌, ◌+◌, ℕ, Bool, true, false, List, [], ◌∷◌, None, Some, ap, inl, inr, refl, subst, sym}
 use Rattle.std.specs.List.{list_any}
 use Rattle.std.specs.declared.result.Result.{Result}
 use Rattle.std.specs.declared.result.Result.TheVariants.{Ok, Err}
-use Rattle.app_job_file.specs.Files.{JobParts}
+use Rattle.app_job_file.specs.Files.{JobParts, KeepParts}
 use Rattle.sql_ast.specs.declared.statement.Statement.{Statement}
+use Rattle.sql_binder_steps.specs.declared.view.View.{View}
 use Rattle.base_io.specs.Outside.{Folder, file_of}
 use Rattle.app_run.specs.SessionInputs.{AreSteps}
 use Rattle.app_inputs.specs.Inputs.{BadInput, and_then, file_bytes, script_limit}
-use Rattle.app_run.specs.JobInputs.{AreJobFiles, AreJobInputs, AreJobScripts, Follows, HasNoRefresh, IsJobScript, IsPlain, IsWorkOver, is_refresh, job_base, job_work}
+use Rattle.app_run.specs.JobKeeps.{AreKeeps, Follows, IsKeep, kept_or_refused, view_of_keep}
+use Rattle.app_run.specs.JobInputs.{AreFilesBehind, AreJobFiles, AreJobInputs, AreJobScripts, HasNoRefresh, IsJobScript, IsPlain, IsWorkOver, is_refresh, job_base, job_work}
 use Rattle.app_jobs.specs.Works.{JobWork, with_kept}
 use Rattle.app_run.specs.JobMeaning.{IsDiskTold, NamesNoJournal, NeedsNoDisk}
 use Rattle.app_jobs.specs.Journals.{IsKept, IsToldFor, Named}
@@ -17,7 +19,7 @@ use Rattle.base_schema.specs.State.{State}
 use Rattle.store_state.specs.Refresh.{Change}
 use Rattle.app_inputs.specs.JobFile.{job_in}
 use Rattle.app_inputs.specs.declared.input_error.InputFault.TheVariants as fault
-use Rattle.app_run.proofs.OneWork.{AreAlike, script_steps_alike}
+use Rattle.app_run.proofs.OneWork.{AreAlike, script_steps_alike, scripts_alike as read_alike}
 
 not_absent : (refused : BadInput) (name : List ℕ) (place : ℕ) → refused ≡ record { name = name; fault = fault.RefreshHere place } → refused.fault ≢ fault.Absent
 not_absent refused name place is = λ e. let wrong : fault.RefreshHere place ≡ fault.Absent = sym (ap (λ (b : BadInput). b.fault) is) ∙ e in cc
@@ -82,38 +84,68 @@ all_scripts_alike folder (name ∷ names) a b (first, is, then) (first', is', th
         let alike = further_alike (λ others. Ok (steps ∷ others)) more more' (rest more more' are are') in
         subst (λ x. AreAlike x b) (sym made) (subst (λ y. AreAlike (and_then more (λ others. Ok (steps ∷ others))) y) (sym made') alike)
 
+-- kept views, each read after those before it
+keep_alike : (job : List ℕ) (folder : Folder) (number : ℕ) (keep : KeepParts) (a b : Result View BadInput) → IsKeep job folder number keep a → IsKeep job folder number keep b → AreAlike a b
+keep_alike job folder number keep a b (script, is, made) (script', is', made') =
+    let further = λ (statements : List Statement). kept_or_refused job keep.line (view_of_keep number keep.name statements) in
+    let alike = further_alike further script script' (read_alike keep.file (file_bytes script_limit folder keep.file) script script' is is') in
+    subst (λ x. AreAlike x b) (sym made) (subst (λ y. AreAlike (and_then script further) y) (sym made') alike)
+
+all_keeps_alike : (job : List ℕ) (folder : Folder) (number : ℕ) (keeps : List KeepParts) (a b : Result (List View) BadInput) → AreKeeps job folder number keeps a → AreKeeps job folder number keeps b → AreAlike a b
+all_keeps_alike job folder number [] a b x y = inl (x ∙ sym y)
+all_keeps_alike job folder number (keep ∷ keeps) a b (first, is, then) (first', is', then') =
+    follows_alike _ (each (λ more more' are are'. all_keeps_alike job folder (number + 1) keeps more more' are are')) first first' a b (keep_alike job folder number keep first first' is is') then then'
+  where
+    each : ((more more' : Result (List View) BadInput) → AreKeeps job folder (number + 1) keeps more → AreKeeps job folder (number + 1) keeps more' → AreAlike more more')
+        → (v : View) (a b : Result (List View) BadInput)
+        → ((more : Result (List View) BadInput) × AreKeeps job folder (number + 1) keeps more × (a ≡ and_then more (λ others. Ok (v ∷ others))))
+        → ((more : Result (List View) BadInput) × AreKeeps job folder (number + 1) keeps more × (b ≡ and_then more (λ others. Ok (v ∷ others))))
+        → AreAlike a b
+    each rest v a b (more, are, made) (more', are', made') =
+        let alike = further_alike (λ others. Ok (v ∷ others)) more more' (rest more more' are are') in
+        subst (λ x. AreAlike x b) (sym made) (subst (λ y. AreAlike (and_then more (λ others. Ok (v ∷ others))) y) (sym made') alike)
+
+-- the files behind them
+behind_alike : (dir : List ℕ) (folder : Folder) (parts : JobParts) (keeps : List View) (a b : Result JobWork BadInput) → AreFilesBehind dir folder parts keeps a → AreFilesBehind dir folder parts keeps b → AreAlike a b
+behind_alike dir folder parts keeps a b (scripts, are, made) (scripts', are', made') =
+    let alike = further_alike (job_work dir folder parts keeps) scripts scripts' (all_scripts_alike folder parts.scripts scripts scripts' are are') in
+    subst (λ x. AreAlike x b) (sym made) (subst (λ y. AreAlike (and_then scripts (job_work dir folder parts keeps)) y) (sym made') alike)
+
 -- a job's files are alike
 pub job_files_alike : (dir job : List ℕ) (folder : Folder) (a b : Result JobWork BadInput) → AreJobFiles dir job folder a → AreJobFiles dir job folder b → AreAlike a b
 job_files_alike dir job folder a b x y = follows_alike _ each (job_in job (file_of folder job)) (job_in job (file_of folder job)) a b (inl refl) x y
   where
     each : (parts : JobParts) (a b : Result JobWork BadInput)
-        → ((scripts : Result (List (List Statement)) BadInput) × AreJobScripts folder parts.scripts scripts × (a ≡ and_then scripts (job_work dir folder parts)))
-        → ((scripts : Result (List (List Statement)) BadInput) × AreJobScripts folder parts.scripts scripts × (b ≡ and_then scripts (job_work dir folder parts)))
+        → ((keeps : Result (List View) BadInput) × AreKeeps job folder 0 parts.keeps keeps × Follows keeps (AreFilesBehind dir folder parts) a)
+        → ((keeps : Result (List View) BadInput) × AreKeeps job folder 0 parts.keeps keeps × Follows keeps (AreFilesBehind dir folder parts) b)
         → AreAlike a b
-    each parts a b (scripts, are, made) (scripts', are', made') =
-        let alike = further_alike (job_work dir folder parts) scripts scripts' (all_scripts_alike folder parts.scripts scripts scripts' are are') in
-        subst (λ x. AreAlike x b) (sym made) (subst (λ y. AreAlike (and_then scripts (job_work dir folder parts)) y) (sym made') alike)
+    each parts a b (keeps, are, then) (keeps', are', then') =
+        follows_alike (AreFilesBehind dir folder parts) (behind_alike dir folder parts) keeps keeps' a b (all_keeps_alike job folder 0 parts.keeps keeps keeps' are are') then then'
 
 -- the work of a job's files has the journal that the job's file names
 pub names_journal : (dir job : List ℕ) (folder : Folder) (work : JobWork) → AreJobFiles dir job folder (Ok work)
     → (parts : JobParts) × (job_in job (file_of folder job) ≡ Ok parts) × (work.journal ≡ parts.journal)
 names_journal dir job folder work x = at (job_in job (file_of folder job)) refl x
   where
-    made : (parts : JobParts) (scripts : Result (List (List Statement)) BadInput) → Ok work ≡ and_then scripts (job_work dir folder parts) → work.journal ≡ parts.journal
-    made parts (Err refused) is = absurd (cc)
-    made parts (Ok scripts) is = based (job_base dir parts.refreshes folder) is
+    made : (parts : JobParts) (keeps : List View) (scripts : Result (List (List Statement)) BadInput) → Ok work ≡ and_then scripts (job_work dir folder parts keeps) → work.journal ≡ parts.journal
+    made parts keeps (Err refused) is = absurd (cc)
+    made parts keeps (Ok scripts) is = based (job_base dir parts.refreshes folder) is
       where
         based : (base : Result (State × List Change) BadInput)
-            → Ok work ≡ and_then base (λ r. Ok (record { scripts = scripts; base = r.0; list = r.1; before = parts.before; senders = parts.senders; journal = parts.journal; kept = [] }))
+            → Ok work ≡ and_then base (λ r. Ok (record { keeps = keeps; scripts = scripts; base = r.0; list = r.1; before = parts.before; senders = parts.senders; journal = parts.journal; kept = [] }))
             → work.journal ≡ parts.journal
         based (Err refused) e = absurd (cc)
-        based (Ok r) e = let same : work ≡ record { scripts = scripts; base = r.0; list = r.1; before = parts.before; senders = parts.senders; journal = parts.journal; kept = [] } = cc in ap (λ (w : JobWork). w.journal) same
+        based (Ok r) e = let same : work ≡ record { keeps = keeps; scripts = scripts; base = r.0; list = r.1; before = parts.before; senders = parts.senders; journal = parts.journal; kept = [] } = cc in ap (λ (w : JobWork). w.journal) same
+
+    behind : (parts : JobParts) (keeps : Result (List View) BadInput) → Follows keeps (AreFilesBehind dir folder parts) (Ok work) → work.journal ≡ parts.journal
+    behind parts (Err refused) follows = absurd (cc)
+    behind parts (Ok keeps) (scripts, are, e) = made parts keeps scripts e
 
     at : (read : Result JobParts BadInput) → job_in job (file_of folder job) ≡ read
-        → Follows read (λ parts result. (scripts : Result (List (List Statement)) BadInput) × AreJobScripts folder parts.scripts scripts × (result ≡ and_then scripts (job_work dir folder parts))) (Ok work)
+        → Follows read (λ parts result. (keeps : Result (List View) BadInput) × AreKeeps job folder 0 parts.keeps keeps × Follows keeps (AreFilesBehind dir folder parts) result) (Ok work)
         → (parts : JobParts) × (job_in job (file_of folder job) ≡ Ok parts) × (work.journal ≡ parts.journal)
     at (Err refused) is follows = absurd (cc)
-    at (Ok parts) is (scripts, are, e) = (parts, is, made parts scripts e)
+    at (Ok parts) is (keeps, are, follows) = (parts, is, behind parts keeps follows)
 
 -- a job that names no journal needs no disk
 pub needs_no_disk : (dir job : List ℕ) (folder : Folder) → NamesNoJournal job (Some folder) → NeedsNoDisk dir job (Some folder)

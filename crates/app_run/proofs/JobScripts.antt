@@ -3,11 +3,12 @@ use Rattle.std.proofs.Common.{◌≡◌, ◌∙◌, ℕ, ◌+◌, ◌<◌, ◌�
 use Rattle.std.proofs.lemmas.List.{drop_all, map-append}
 use Rattle.app_sessions.specs.Asked.{AllUnasked, IsUnasked}
 use Rattle.app_sessions.specs.declared.session.Session.{Session}
-use Rattle.app_run.specs.JobViews.{ShowRows}
+use Rattle.app_run.specs.JobViews.{BeginWith}
 use Rattle.app_jobs.specs.Sources.{steps_of}
 use Rattle.std.specs.declared.result.Result.{Result}
 use Rattle.std.specs.declared.result.Result.TheVariants.{Ok, Err}
 use Rattle.sql_ast.specs.declared.statement.Statement.{Statement}
+use Rattle.sql_binder_steps.specs.declared.view.View.{View}
 use Rattle.base_io.specs.Outside.{Folder}
 use Rattle.app_inputs.specs.Inputs.{BadInput, and_then}
 use Rattle.app_run.specs.JobInputs.{AreJobScripts, IsJobScript}
@@ -98,8 +99,9 @@ each_more P [] x all this (suc i) d less = absurd (omega arith)
 each_more P (y ∷ ys) x all this zero d less = all 0 d (omega arith)
 each_more P (y ∷ ys) x all this (suc i) d less = each_more P ys x (λ j e l. all (suc j) e (omega arith)) this i d (omega arith)
 
-pub rows_more : (shows : Bool) (before after : List Session) (s : Session) → after ≡ before ++ s ∷ [] → ShowRows shows before → s.shows_rows ≡ shows → ShowRows shows after
-rows_more shows before after s e all this = subst (ShowRows shows) (sym e) (each_more (λ x. x.shows_rows ≡ shows) before s all this)
+pub begins_more : (shows : Bool) (first : List View) (before after : List Session) (s : Session) → after ≡ before ++ s ∷ [] → BeginWith shows first before → s.shows_rows ≡ shows → s.first_views ≡ first → BeginWith shows first after
+begins_more shows first before after s e all rows views =
+    subst (BeginWith shows first) (sym e) (each_more (λ x. (x.shows_rows ≡ shows) × (x.first_views ≡ first)) before s all (rows, views))
 
 pub unasked_more : (before after : List Session) (s : Session) → after ≡ before ++ s ∷ [] → AllUnasked before → IsUnasked s → AllUnasked after
 unasked_more before after s e all this = subst AllUnasked (sym e) (each_more IsUnasked before s all this)
@@ -111,8 +113,8 @@ named_at bytes (n ∷ names) zero name less is = ap bytes is
 named_at bytes (n ∷ names) (suc i) name less is = named_at bytes names i name (omega (arith, less)) is
 
 -- none was read yet
-pub none_shown : (shows : Bool) → ShowRows shows []
-none_shown shows i d less = absurd (omega (arith, less))
+pub none_begun : (shows : Bool) (first : List View) → BeginWith shows first []
+none_begun shows first i d less = absurd (omega (arith, less))
 
 pub none_asked : AllUnasked []
 none_asked i d less = absurd (omega (arith, less))

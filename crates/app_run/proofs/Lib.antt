@@ -7,6 +7,7 @@ mod OneWork
 mod Works
 mod OneText
 mod JobScripts
+mod KeepScripts
 mod KeptAlike
 mod JobAlike
 mod JobPlayed

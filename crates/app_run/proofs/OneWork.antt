@@ -29,7 +29,7 @@ AreAlike {A} a b = (a ≡ b) ⊎ ((first : BadInput) × (second : BadInput) × (
 no_absence : (refused : BadInput) (name : List ℕ) (r : _) (place : ℕ) → refused ≡ record { name = name; fault = fault.Byte r place } → refused.fault ≢ fault.Absent
 no_absence refused name r place is = λ e. let wrong : fault.Byte r place ≡ fault.Absent = sym (ap (λ (b : BadInput). b.fault) is) ∙ e in cc
 
-scripts_alike : (name : List ℕ) (bytes : Result (List ℕ) BadInput) (a b : Result (List Statement) BadInput) → IsScriptOf name bytes a → IsScriptOf name bytes b → AreAlike a b
+pub scripts_alike : (name : List ℕ) (bytes : Result (List ℕ) BadInput) (a b : Result (List Statement) BadInput) → IsScriptOf name bytes a → IsScriptOf name bytes b → AreAlike a b
 scripts_alike name (Err refused) a b x y = inl (x ∙ sym y)
 scripts_alike name (Ok bytes) (Ok a) (Ok b) x y = inl (ap Ok (bytes_once bytes a b x y))
 scripts_alike name (Ok bytes) (Ok a) (Err b) x (r, place, refuses, is) = absurd (read_or_refused bytes a r place x refuses)

@@ -76,6 +76,7 @@ bad_nation_line =
 -- a job of two refreshes beside its sessions, which these send
 abbrev pub sent_both : SenderId → SenderId → Change → Change → JobWork
 sent_both sender other one two = record {
+  keeps = [];
   scripts = [];
   base = regions_only;
   list = one ∷ two ∷ [];

@@ -8,6 +8,7 @@ use Rattle.app_job_file.specs.Files.{JobParts}
 use Rattle.app_job_file.specs.declared.job.Mention.{Mention}
 use Rattle.sql_ast.specs.declared.statement.Statement.{Statement}
 use Rattle.sql_ast.specs.declared.statement.Statement.TheVariants.{Refresh}
+use Rattle.sql_binder_steps.specs.declared.view.View.{View}
 use Rattle.sql_lexer.specs.Kinds.{is}
 use Rattle.sql_lexer.specs.Lexing.{Lexes}
 use Rattle.sql_lexer.specs.declared.kind.Kind.TheVariants as kind
@@ -17,6 +18,7 @@ use Rattle.base_io.specs.Outside.{Folder, file_of}
 use Rattle.base_schema.specs.State.{State}
 use Rattle.app_jobs.specs.Journals.{IsKept, Named}
 use Rattle.app_run.specs.SessionInputs.{AreSteps}
+use Rattle.app_run.specs.JobKeeps.{AreKeeps, Follows}
 pub use Rattle.app_jobs.specs.Works.{JobWork}
 use Rattle.app_jobs.specs.Works.{with_kept}
 use Rattle.app_inputs.specs.Inputs.{BadInput, and_then, changes_in, file_bytes}
@@ -62,12 +64,6 @@ abbrev pub IsJobScript : Folder → List ℕ → Result (List Statement) BadInpu
 IsJobScript folder name script = (steps : Result (List Statement) BadInput)
     × AreSteps folder name steps × IsPlain name (file_bytes script_limit folder name) steps script
 
--- what follows where an input is not refused
-abbrev pub Follows : {A B : Type 0} → Result A BadInput → (A → Result B BadInput → Type 0)
-    → Result B BadInput → Type 0
-Follows (Ok read) Further result = Further read result
-Follows (Err refused) Further result = result ≡ Err refused
-
 -- the statements of scripts, read one after another; the first refused one counts
 abbrev pub AreJobScripts : Folder → List (List ℕ) → Result (List (List Statement)) BadInput → Type 0
 AreJobScripts folder [] scripts = scripts ≡ Ok []
@@ -82,10 +78,12 @@ abbrev pub job_base : List ℕ → List Mention → Folder → Result (State × 
 job_base dir refreshes folder = and_then (state_in dir folder)
     (λ base. and_then (changes_in dir refreshes folder) (λ list. Ok (base, list)))
 
--- what a job works on, once its scripts are read, but for its journal
-abbrev pub job_work : List ℕ → Folder → JobParts → List (List Statement) → Result JobWork BadInput
-job_work dir folder parts scripts = and_then (job_base dir parts.refreshes folder) (λ r.
+-- what a job works on, once its kept views and its scripts are read, but for its journal
+abbrev pub job_work : List ℕ → Folder → JobParts → List View → List (List Statement)
+    → Result JobWork BadInput
+job_work dir folder parts keeps scripts = and_then (job_base dir parts.refreshes folder) (λ r.
     Ok (record {
+      keeps = keeps;
       scripts = scripts;
       base = r.0;
       list = r.1;
@@ -101,14 +99,20 @@ IsWorkOver named work inputs = (kept : Result (List Change) BadInput)
     × IsKept work.journal work.base named kept
     × (inputs ≡ and_then kept (λ changes. Ok (with_kept work changes)))
 
--- the inputs of a job in files, in their reading order: the job, its scripts, the tables, the refresh
--- files
+-- the inputs of a job in files, once its kept views are read, in their reading order: the scripts of
+-- its sessions, the tables, the refresh files
+abbrev pub AreFilesBehind : List ℕ → Folder → JobParts → List View → Result JobWork BadInput → Type 0
+AreFilesBehind dir folder parts keeps inputs = (scripts : Result (List (List Statement)) BadInput)
+    × AreJobScripts folder parts.scripts scripts
+    × (inputs ≡ and_then scripts (job_work dir folder parts keeps))
+
+-- the inputs of a job in files, in their reading order: the job, the scripts of its kept views, and
+-- those behind them
 abbrev pub AreJobFiles : List ℕ → List ℕ → Folder → Result JobWork BadInput → Type 0
 AreJobFiles dir job folder inputs =
     Follows (job_in job (file_of folder job)) (λ parts result.
-    (scripts : Result (List (List Statement)) BadInput)
-    × AreJobScripts folder parts.scripts scripts
-    × (result ≡ and_then scripts (job_work dir folder parts))) inputs
+    (keeps : Result (List View) BadInput) × AreKeeps job folder 0 parts.keeps keeps
+    × Follows keeps (AreFilesBehind dir folder parts) result) inputs
 
 -- the inputs of a job in their reading order: its files, and then its journal
 abbrev pub AreJobInputs : List ℕ → List ℕ → Folder → Named → Result JobWork BadInput → Type 0

@@ -1,6 +1,6 @@
 -- The kept views of a job: what their files hold, and which of them is refused first.
-use Rattle.std.specs.Prelude.{◌≡◌, ℕ, Bool, ◌+◌, ◌==◌, ◌&&◌, not, List, [], ◌∷◌, length, is_some}
-use Rattle.std.specs.Prelude.{Option, None, Some, if◌then◌else◌}
+use Rattle.std.specs.Prelude.{◌≡◌, ℕ, Bool, true, false, ◌+◌, ◌==◌, ◌&&◌, not, List, [], ◌∷◌, ◌++◌}
+use Rattle.std.specs.Prelude.{Option, None, Some, if◌then◌else◌, is_some, length}
 use Rattle.std.specs.Option.{option_and_then}
 use Rattle.std.specs.declared.result.Result.{Result}
 use Rattle.std.specs.declared.result.Result.TheVariants.{Ok, Err}
@@ -16,8 +16,13 @@ use Rattle.sql_ast.specs.declared.tree.Block.{Block}
 use Rattle.sql_binder_steps.specs.Steps.{Checked}
 use Rattle.sql_binder_steps.specs.declared.view.View.{View}
 use Rattle.app_inputs.specs.Inputs.{BadInput, IsScriptOf, and_then, file_bytes, script_limit}
-use Rattle.app_run.specs.JobInputs.{Follows}
 use Rattle.app_inputs.specs.declared.input_error.InputFault.TheVariants as fault
+
+-- what follows where an input is not refused
+abbrev pub Follows : {A B : Type 0} → Result A BadInput → (A → Result B BadInput → Type 0)
+    → Result B BadInput → Type 0
+Follows (Ok read) Further result = Further read result
+Follows (Err refused) Further result = result ≡ Err refused
 
 -- a query is without WITH, ORDER BY, row limit and version
 abbrev pub is_bare : Query → Bool
@@ -45,6 +50,11 @@ abbrev pub kept_or_refused : List ℕ → ℕ → Option View → Result View Ba
 kept_or_refused job line (Some v) = Ok v
 kept_or_refused job line None =
     Err (record { name = job; fault = fault.JobLine (refused_line BadKeep line) })
+
+-- one view more behind others, where there is one; and whether there is
+abbrev pub PutsKeep : List View → List View → Option View → Bool → Type 0
+PutsKeep old new (Some v) is_kept = (is_kept ≡ true) × (new ≡ old ++ v ∷ [])
+PutsKeep old new None is_kept = is_kept ≡ false
 
 -- The kept view of a line: the refusal of its script, else that of the line, else the view.
 abbrev pub IsKeep : List ℕ → Folder → ℕ → KeepParts → Result View BadInput → Type 0

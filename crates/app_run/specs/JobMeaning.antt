@@ -6,6 +6,7 @@ use Rattle.std.specs.declared.result.Result.{Result}
 use Rattle.std.specs.declared.result.Result.TheVariants.{Ok}
 use Rattle.app_sessions.specs.Jobs.{JobAnswer, JobSession}
 use Rattle.sql_ast.specs.declared.statement.Statement.{Statement}
+use Rattle.sql_binder_steps.specs.declared.view.View.{View}
 use Rattle.base_io.specs.Outside.{Folder, file_of}
 use Rattle.app_inputs.specs.Inputs.{BadInput}
 use Rattle.app_inputs.specs.JobFile.{job_in}
@@ -18,9 +19,10 @@ use Rattle.app_inputs.specs.Printing.{PrintsOf}
 use Rattle.app_inputs.specs.declared.status.Status.{Status}
 use Rattle.app_inputs.specs.declared.status.Status.TheVariants.{Done, SomeRefused}
 
--- a session of a job with rows or without
-abbrev pub session_with : Bool → List Statement → JobSession
-session_with shows_rows steps = record { steps = steps; shows_rows = shows_rows }
+-- a session of a job with rows or without, which begins with these views
+abbrev pub session_with : Bool → List View → List Statement → JobSession
+session_with shows_rows first steps =
+    record { steps = steps; first_views = first; shows_rows = shows_rows }
 
 -- What is told of a disk: what a read of each name gave before the run, and what a read of the file
 -- reached gives after it.
@@ -32,10 +34,11 @@ pub record DiskTold : Type 0 where
 abbrev pub disk_told : Named → Option (List ℕ) → DiskTold
 disk_told named reads = record { named = named; reads = reads }
 
--- the text of a job, and whether a line of it is a refusal
+-- the text of a job, each of whose sessions begins with its kept views, and whether a line of it is a
+-- refusal
 abbrev pub MeansJob : Bool → Option (List ℕ) → JobWork → List ℕ → Status → Type 0
 MeansJob shows_rows journal_then work text s = (job : JobAnswer)
-    × IsTextInOrder work journal_then (map (session_with shows_rows) work.scripts) job
+    × IsTextInOrder work journal_then (map (session_with shows_rows work.keeps) work.scripts) job
     × (text ≡ job.text) × (s ≡ (if job.is_clean then Done else SomeRefused))
 
 -- what a job of a file prints

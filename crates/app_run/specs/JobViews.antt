@@ -1,5 +1,5 @@
 -- What the code's values of a job stand for.
-use Rattle.std.specs.Prelude.{◌≡◌, ◌≢◌, ⊤, ℕ, ◌<◌, Bool, false, List, length}
+use Rattle.std.specs.Prelude.{◌≡◌, ◌≢◌, ⊤, ℕ, ◌<◌, ◌++◌, ◌∷◌, [], Bool, false, List, length}
 use Rattle.std.specs.Prelude.{slice_index_or}
 use Rattle.std.specs.Prelude.{Option, Some}
 use Rattle.std.specs.Global.{Vec}
@@ -9,12 +9,15 @@ use Rattle.std.specs.declared.result.Result.TheVariants.{Ok, Err}
 use Rattle.app_sessions.specs.Expansion.{ExpandAll}
 use Rattle.app_sessions.specs.declared.session.Session.{Session}
 use Rattle.sql_ast.specs.declared.statement.Statement.{Statement}
+use Rattle.sql_binder_steps.specs.declared.view.View.{View}
 use Rattle.store_state.specs.Refresh.{Change}
 use Rattle.base_io.specs.Outside.{Folder}
 use Rattle.base_schema.specs.State.{State}
 use Rattle.app_inputs.specs.Inputs.{BadInput, IsRead}
 use Rattle.app_run.specs.SessionInputs.{ExpandsTo}
 use Rattle.app_run.specs.JobInputs.{HasNoRefresh, IsPlain, is_refresh}
+use Rattle.app_run.specs.JobKeeps.{IsKeep}
+use Rattle.app_job_file.specs.Files.{KeepParts}
 use Rattle.app_jobs.specs.Works.{JobWork, kept_under}
 use Rattle.app_jobs.specs.Journals.{IsKept, Named}
 use Rattle.app_run.specs.JobMeaning.{DiskTold, IsFirstOfJob, MeansJob, PrintsJob}
@@ -30,11 +33,12 @@ use Rattle.app_inputs.specs.declared.status.Status.{Status}
 use Rattle.app_jobs.specs.Sources.{IsKeepable, IsRunnable}
 use Rattle.app_jobs.specs.declared.sources.JobSources.{JobSources}
 
--- each session prints rows, or none does
-abbrev pub ShowRows : Bool → List Session → Type 0
-ShowRows shows_rows sessions =
+-- each session prints rows, or none does, and each begins with these views
+abbrev pub BeginWith : Bool → List View → List Session → Type 0
+BeginWith shows_rows first sessions =
     (i : ℕ) (d : Session) → i < length sessions
-    → (slice_index_or sessions i d).shows_rows ≡ shows_rows
+    → ((slice_index_or sessions i d).shows_rows ≡ shows_rows)
+    × ((slice_index_or sessions i d).first_views ≡ first)
 
 -- a session of the statements of a script, or its refusal, where a refresh is among those that they
 -- stand for
@@ -67,15 +71,26 @@ IsSessionOfBytes name bytes (Err (error.Refused refusal)) =
     (steps : Result (List Statement) BadInput) × IsStepsOf name bytes steps
     × IsPlain name (Ok bytes) steps (Err (refused_view refusal))
 
+-- the kept view of a line of a job comes behind those before it, under the next number, or the error
+-- explains why there is none
+abbrev pub AddsKeep : Option Folder → List ℕ → KeepParts → List View → List View
+    → Result (Unit {0}) InputError → Type 0
+AddsKeep held job keep old new (Ok done) = (v : View) × (new ≡ old ++ v ∷ [])
+    × IfKnown held (λ folder. IsKeep job folder (length old) keep (Ok v))
+AddsKeep held job keep old new (Err (error.Unread unread)) = ⊤
+AddsKeep held job keep old new (Err (error.Refused refusal)) =
+    IfKnown held (λ folder. IsKeep job folder (length old) keep (Err (refused_view refusal)))
+
 -- tables and refreshes
 abbrev pub base_view : State × Vec Change → State × List Change
 base_view read = (read.0, read.1.items)
 
--- the same, and each session prints rows, or none does
+-- a job that can be run and kept, each of whose sessions begins with its kept views, and prints rows,
+-- or none does
 pub record IsPlayable (shows_rows : Bool) (sources : JobSources) : Type 0 where
   pub runnable : IsRunnable sources
   pub keepable : IsKeepable sources
-  pub rows : ShowRows shows_rows sources.sessions.items
+  pub begins : BeginWith shows_rows sources.keeps.views sources.sessions.items
 
 -- the text and its status are the job's, or the error explains why it has none; a fault of the disk
 -- says nothing

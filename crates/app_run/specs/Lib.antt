@@ -1,7 +1,7 @@
 pub use Rattle.app_jobs.specs.Journals
 pub mod SessionInputs
-pub mod JobInputs
 pub mod JobKeeps
+pub mod JobInputs
 pub mod JobMeaning
 pub mod ScriptPlans
 pub mod Trial

@@ -10,14 +10,14 @@ ghost use Rattle.base_io.specs.Outside.{file_of};
 ghost use Rattle.app_inputs.specs.FilesAfter.{FilesAfterInput};
 ghost use Rattle.app_run.specs.JobInputs.{AreJobScripts, IsJobScript, IsRefreshByte, is_refresh};
 ghost use Rattle.app_run.specs.JobInputs.{refresh_start};
-ghost use Rattle.app_run.specs.JobViews.{IsOfBytes, IsSessionOf, IsSessionOfBytes};
-ghost use Rattle.app_run.specs.JobViews.{ShowRows};
+ghost use Rattle.app_run.specs.JobViews.{BeginWith, IsOfBytes, IsSessionOf, IsSessionOfBytes};
 ghost use Rattle.app_jobs.specs.Sources.{steps_of};
 ghost use Rattle.app_inputs.specs.Views.{Finds};
 
 use app_inputs::{InputError, InputFault, ReadError, read_file, refusal_of};
 use app_sessions::Session;
 use base_io::Files;
+use plan_planner::SessionViews;
 use sql_ast::Statement;
 use sql_lexer::{Kind, LexFault, Token, lex, one_answer};
 use sql_parser::{MAX_SCRIPT, ScriptFault, read_script};
@@ -66,6 +66,7 @@ fn plain_session(
     alloc: Global,
     name: &str,
     shows_rows: bool,
+    views: &SessionViews,
     bytes: &[u8],
     statements: Items<Statement>,
 ) -> Result<Session, InputError>
@@ -73,9 +74,11 @@ fn plain_session(
     ensures session { IsSessionOf name.now bytes.now statements result }
     ensures unasked { IfOk result IsUnasked }
     ensures rows { IfOk result (λ s. s.shows_rows ≡ shows_rows) }
+    ensures views { IfOk result (λ s. s.first_views ≡ views.now) }
     ensures error { IfErr result IsOfBytes }
 {
-    let session = Session::new(alloc, statements, shows_rows)?;
+    let own = views.copy(alloc)?;
+    let session = Session::new(alloc, statements, shows_rows, own)?;
     if has_refresh(session.steps()) {
         let place = refresh_byte(alloc, bytes)?;
         return Err(refusal_of(alloc, name, InputFault::RefreshHere(place)));
@@ -88,15 +91,17 @@ fn session_of_bytes(
     alloc: Global,
     name: &str,
     shows_rows: bool,
+    views: &SessionViews,
     bytes: &[u8],
 ) -> Result<Session, InputError>
     ensures session { IsSessionOfBytes name.now bytes.now result }
     ensures unasked { IfOk result IsUnasked }
     ensures rows { IfOk result (λ s. s.shows_rows ≡ shows_rows) }
+    ensures views { IfOk result (λ s. s.first_views ≡ views.now) }
     ensures error { IfErr result IsOfBytes }
 {
     match read_script(alloc, bytes) {
-        Ok(statements) => plain_session(alloc, name, shows_rows, bytes, statements),
+        Ok(statements) => plain_session(alloc, name, shows_rows, views, bytes, statements),
         Err(ScriptFault::Refused(refusal, place)) => {
             Err(refusal_of(alloc, name, InputFault::Byte(refusal, place)))
         }
@@ -110,35 +115,38 @@ fn read_session<F: Files>(
     files: &mut F,
     name: &str,
     shows_rows: bool,
+    views: &SessionViews,
 ) -> Result<Session, InputError>
     ensures input { Finds steps_of (F.held files.old)
         (λ folder. IsJobScript folder name.now) result }
     ensures unasked { IfOk result IsUnasked }
     ensures rows { IfOk result (λ s. s.shows_rows ≡ shows_rows) }
+    ensures views { IfOk result (λ s. s.first_views ≡ views.now) }
     ensures files { FilesAfterInput F.held F.faults F.misses result files.old files.new }
 {
     let bytes = read_file(alloc, files, name, MAX_SCRIPT)?;
-    let session = session_of_bytes(alloc, name, shows_rows, &bytes)?;
+    let session = session_of_bytes(alloc, name, shows_rows, views, &bytes)?;
     Ok(session)
 }
 
-/// Sessions of the scripts of these names, at their beginning.
+/// Sessions of the scripts of these names, at their beginning, each with these views.
 pub fn read_sessions<F: Files>(
     alloc: Global,
     files: &mut F,
     names: &[String],
     shows_rows: bool,
+    views: &SessionViews,
 ) -> Result<Vec<Session>, InputError>
     ensures input { Finds (λ v. map steps_of v.items) (F.held files.old)
         (λ folder. AreJobScripts folder (map string_bytes names.now)) result }
     ensures length { IfOk result (λ v. length v.items ≡ length names.now) }
     ensures unasked { IfOk result (λ v. AllUnasked v.items) }
-    ensures rows { IfOk result (λ v. ShowRows shows_rows v.items) }
+    ensures begins { IfOk result (λ v. BeginWith shows_rows views.now v.items) }
     ensures files { FilesAfterInput F.held F.faults F.misses result files.old files.new }
 {
     let mut sessions = Vec::new(alloc);
     'reading: for name in names {
-        let session = read_session(alloc, files, name.as_str(), shows_rows)?;
+        let session = read_session(alloc, files, name.as_str(), shows_rows, views)?;
         sessions.push(session)?;
     }
     Ok(sessions)

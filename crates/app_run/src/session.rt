@@ -15,12 +15,13 @@ use app_inputs::{InputError, Status, mentions_of, read_refreshes, read_state, re
 use app_jobs::take_turns;
 use app_sessions::Session;
 use base_io::Files;
+use plan_planner::SessionViews;
 use sql_ast::Statement;
 use std::alloc::{AllocError, Global};
 use std::thread::Threads;
 use store_versions::Directory;
 
-/// A session of the script of that name, at its beginning.
+/// A session of the script of that name, at its beginning, which has no view.
 fn begin<F: Files>(alloc: Global, files: &mut F, script: &str) -> Result<Session, InputError>
     ensures input { Finds (λ s. (course_of s).steps) (F.held files.old)
         (λ folder. AreSteps folder script.now) result }
@@ -28,7 +29,7 @@ fn begin<F: Files>(alloc: Global, files: &mut F, script: &str) -> Result<Session
     ensures files { FilesAfterInput F.held F.faults F.misses result files.old files.new }
 {
     let statements = read_statements(alloc, files, script)?;
-    let session = Session::new(alloc, statements, true)?;
+    let session = Session::new(alloc, statements, true, SessionViews::new(alloc))?;
     Ok(session)
 }
 

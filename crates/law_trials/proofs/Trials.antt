@@ -10,6 +10,7 @@ use Rattle.app_job_file.specs.Files.{JobParts, job_of}
 use Rattle.app_job_file.specs.declared.job.Mention.{Mention}
 use Rattle.sql_ast.specs.declared.statement.RefreshKind.TheVariants as refresh
 use Rattle.sql_ast.specs.declared.statement.Statement.{Statement}
+use Rattle.sql_binder_steps.specs.declared.view.View.{View}
 use Rattle.base_value.specs.declared.value.Value.{Value}
 use Rattle.store_state.specs.Lists.{state_of}
 use Rattle.store_state.specs.Refresh.{Change}
@@ -23,7 +24,8 @@ use Rattle.app_sample_data.specs.Texts.{lasting, made, ordered, refresh_set}
 use Rattle.law_made_tables.specs.Laws.{file_name}
 use Rattle.law_made_tables.proofs.Files.{made_tables_give_rows}
 use Rattle.app_inputs.specs.Inputs.{BadInput, IsScriptOf, and_then, changes_in, file_bytes, lists_in, rows_in, script_limit, state_in, table_file, table_in}
-use Rattle.app_run.specs.JobInputs.{AreJobInputs, AreJobScripts, Follows, HasNoRefresh, IsJobScript, IsPlain, JobWork, is_refresh, job_base, job_work}
+use Rattle.app_run.specs.JobKeeps.{AreKeeps, Follows}
+use Rattle.app_run.specs.JobInputs.{AreFilesBehind, AreJobInputs, AreJobScripts, HasNoRefresh, IsJobScript, IsPlain, JobWork, is_refresh, job_base, job_work}
 use Rattle.app_inputs.specs.JobFile.{job_in, job_or_refusal}
 use Rattle.app_run.specs.Trial.{IsTrialAccepted, in_made, trial_files, trial_job, trial_queries}
 use Rattle.app_run.specs.Meaning.{IsAccepted}
@@ -162,9 +164,9 @@ base_read number some few =
     }
 
 abbrev work_of : (scripts : List (List Statement)) → State × List Change → JobWork
-work_of scripts r = record { scripts = scripts; base = r.0; list = r.1; before = 2; senders = []; journal = None; kept = [] }
+work_of scripts r = record { keeps = []; scripts = scripts; base = r.0; list = r.1; before = 2; senders = []; journal = None; kept = [] }
 
-work_read : (number : ℕ) (scripts : List (List Statement)) (b : HasBase number) → job_work (codes "made") (trial_files number) parts scripts ≡ Ok (work_of scripts (b.base, b.list))
+work_read : (number : ℕ) (scripts : List (List Statement)) (b : HasBase number) → job_work (codes "made") (trial_files number) parts [] scripts ≡ Ok (work_of scripts (b.base, b.list))
 work_read number scripts b = ap (λ r. and_then r (λ pair. Ok (work_of scripts pair))) b.is
 
 trial_accepted : (number : ℕ) → 1 ≤ number → number ≤ 1000 → IsTrialAccepted number
@@ -174,9 +176,9 @@ trial_accepted number some few =
     let base = base_read number some few in
     let work : Result JobWork BadInput = Ok (work_of scripts (base.base, base.list)) in
     let Further : JobParts → Result JobWork BadInput → Type 0 =
-    λ (p : JobParts) (result : Result JobWork BadInput). (all : Result (List (List Statement)) BadInput) × AreJobScripts (trial_files number) p.scripts all
-    × (result ≡ and_then all (job_work (codes "made") (trial_files number) p)) in
-    let inputs : Further parts work = (Ok scripts, scripts_read number script, sym (work_read number scripts base)) in
+    λ (p : JobParts) (result : Result JobWork BadInput). (keeps : Result (List View) BadInput) × AreKeeps (codes "job") (trial_files number) 0 p.keeps keeps
+    × Follows keeps (AreFilesBehind (codes "made") (trial_files number) p) result in
+    let inputs : Further parts work = (Ok [], refl, (Ok scripts, scripts_read number script, sym (work_read number scripts base))) in
     (work, (work, subst (λ r. Follows r Further work) (sym (job_held number)) inputs, (Ok [], refl, refl)), refl)
 
 pub trials_are_accepted : TrialsAreAccepted

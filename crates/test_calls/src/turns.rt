@@ -2,6 +2,7 @@
 use app_sessions::{Session, Turn};
 use base_columns::Rows;
 use base_refusals::Cause;
+use plan_planner::SessionViews;
 use sql_parser::read_script;
 use std::alloc::{AllocError, Global};
 use std::test::Fail;
@@ -35,7 +36,7 @@ fn turns_are_taken(rt: HostRuntime) -> Result<(), Fail> {
         assert!(rt; false, "a script");
         return Ok(());
     };
-    let mut session = Session::new(alloc, statements, true)?;
+    let mut session = Session::new(alloc, statements, true, SessionViews::new(alloc))?;
     let directory = Directory::new(alloc, no_rows(alloc)?, (), Vec::new(alloc), 0)?;
     let snapshot = Snapshot::of(alloc, &directory)?;
     assert!(rt; matches!(session.run_next(&rt, &snapshot)?, Turn::Answered));

@@ -7,7 +7,7 @@ use Rattle.app_sessions.specs.declared.session.Session.{Session}
 use Rattle.sql_ast.specs.declared.statement.Statement.{Statement}
 use Rattle.app_jobs.specs.Sources.{steps_of}
 use Rattle.app_inputs.specs.Views.{IfKnown}
-use Rattle.app_run.proofs.JobScripts.{Continues, counted_more, named_at, rows_more, sessions_more, sessions_read, sessions_refused, steps_more, unasked_more}
+use Rattle.app_run.proofs.JobScripts.{Continues, begins_more, counted_more, named_at, sessions_more, sessions_read, sessions_refused, steps_more, unasked_more}
 use Rattle.app_run.proofs.job_input.read_sessions.Goals as goal
 
 pub returns-in_err-session-clause-input : goal.returns-in_err-session-clause-input
@@ -40,7 +40,7 @@ reading-preserved g c =
       read = subst (λ (l : List (List Statement)). IfKnown held (Continues bs (drop (i + 1) bs) l)) (sym (steps_more before c.push.new.self.items session e)) told;
       count = counted_more before c.push.new.self.items session i e inv.count;
       unasked = unasked_more before c.push.new.self.items session e inv.unasked c.in_ok-session.ensures.unasked;
-      rows = rows_more c.args.shows_rows before c.push.new.self.items session e inv.rows c.in_ok-session.ensures.rows;
+      begins = begins_more c.args.shows_rows c.args.views.now before c.push.new.self.items session e inv.begins c.in_ok-session.ensures.rows c.in_ok-session.ensures.views;
       held = c.read_session.ensures.files.held ∙ inv.held;
       faults = le_trans inv.faults c.read_session.ensures.files.faults;
       misses = le_trans inv.misses c.read_session.ensures.files.misses;
