@@ -9,12 +9,14 @@ use base_refusals::RefreshFile;
 use base_schema::TableName;
 use base_value::Value;
 use expr_aggregates::AggregateFunction;
+use plan_algebra::KeptPlan;
+use plan_kept_queries::plan_of;
 use std::alloc::{AllocError, Global};
 use std::marker::Brand;
 use std::sync::Arc;
 use std::test::Fail;
 use store_file_reader::RefreshReader;
-use store_kept_views::{Kept, KeptOf, KeptPlan, Plans};
+use store_kept_views::{Kept, KeptOf, Plans};
 use store_state::{Refresh, State};
 use store_versions::{Attachment, Directory};
 
@@ -134,9 +136,17 @@ fn counts(alloc: Global, plan: KeptPlan) -> Result<Vec<Option<i128>>, Fail> {
 fn groups_follow_refreshes(rt: HostRuntime) -> Result<(), Fail> {
     let alloc = rt.alloc();
     let query = totals(alloc, AggregateFunction::Sum)?;
-    let plan = KeptPlan::new(alloc, &query).expect(&rt, "a plan");
+    let plan = plan_of(alloc, &query).expect(&rt, "a plan");
     let counts = counts(alloc, plan)?;
-    let wanted = [Some(0), Some(1), Some(1), Some(0), Some(0), Some(0), Some(0)];
+    let wanted = [
+        Some(0),
+        Some(1),
+        Some(1),
+        Some(0),
+        Some(0),
+        Some(0),
+        Some(0),
+    ];
     assert_eq!(rt; counts.as_slice(), wanted.as_slice());
     Ok(())
 }
