@@ -198,7 +198,8 @@ fn play_over<A: Attachment + Send + Sync, R: Threads + Wait + Sync, D: Disk + Se
     ensures later { D.faults disk.old ≤ D.faults disk.new }
 {
     let playing = |disk: D, job: OpenJob<A>| -> (D, Result<Played, AllocError>)
-        requires { IsSync R.row × IsSync G.row × CanPlay D.is_reached D.may_leave job disk }
+        requires { IsSync R.row × IsSync G.row × IsSync A.row
+            × CanPlay D.is_reached D.may_leave job disk }
         ensures played { IfOk result.1 (PlaysOpen D.may_leave job result.0) }
         ensures failed { IfOk result.1 (λ played. IsPlayFault played
             → Rose (D.faults disk) (D.faults result.0)) }

@@ -153,7 +153,7 @@ fn play_joined<
         ensures { HaveEnded senders.entry.now result }
     { send_waiting(rt, senders) };
     let mut back = || -> Result<Option<Played>, AllocError>
-        requires { IsSync R.row × IsSync G.row × Waits setup.now (CanReceiveOver D.is_reached
+        requires { IsSync R.row × IsSync G.row × IsSync A.row × Waits setup.now (CanReceiveOver D.is_reached
             D.may_leave publisher.now.version publisher.now.shown feed.now.journal feed.now.disk
             feed.now.start feed.now.count feed.now.taker) }
         ensures received { IfOk result (HasReceivedOver D.may_leave publisher.entry.now.version
@@ -275,7 +275,8 @@ fn play_sent_over<
     ensures later { D.faults disk.old ≤ D.faults disk.new }
 {
     let playing = |disk: D, job: SentJob<A>| -> (D, Result<Played, AllocError>)
-        requires { IsSync R.row × IsSync G.row × CanPlaySent D.is_reached D.may_leave job disk }
+        requires { IsSync R.row × IsSync G.row × IsSync A.row
+            × CanPlaySent D.is_reached D.may_leave job disk }
         ensures played { IfOk result.1 (PlaysSent D.may_leave job result.0) }
         ensures failed { IfOk result.1 (λ played. IsPlayFault played
             → Rose (D.faults disk) (D.faults result.0)) }

@@ -207,7 +207,8 @@ fn run_joined<A: Attachment + Send + Sync, R: Threads + Wait + Sync, G: Gate + S
             ensures { BothEnd senders result }
         { send_both(rt, senders) },
         move ||
-            requires { IsSync R.row × IsSync G.row × CanReceive A.is_right receiver }
+            requires { IsSync R.row × IsSync G.row × IsSync A.row
+                × CanReceive A.is_right receiver }
             ensures { IfOk result (λ received. HasReceived receiver received.0 received.1) }
         { run_receiver(rt, alloc, gate, receiver) },
     );

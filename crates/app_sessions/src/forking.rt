@@ -120,7 +120,8 @@ pub fn fork<
         (F.faults feed.old) (F.faults feed.new) }
 {
     let mut front = ||
-        requires { IsSync R.row × IsSync G.row × AllReady E.opening E.fits workers.now }
+        requires { IsSync R.row × IsSync G.row × IsSync A.row
+            × AllReady E.opening E.fits workers.now }
         ensures { AllHaveRun E.opening E.fits workers.entry.now workers.exit.now }
     { run_workers(rt, gate, workers) };
     let mut back = || -> Result<(), FeedError>
