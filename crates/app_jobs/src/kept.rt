@@ -326,8 +326,8 @@ fn run_kept<A: Attachment + Send + Sync, R: Threads + Wait + Sync, D: Disk + Sen
     }
 }
 
-/// Runs the sessions beside a publisher of what the journal keeps and of the job's refreshes, some of
-/// which may be sent. Each version carries what is attached to the base.
+/// Runs the sessions beside a publisher of what the journal keeps and of the job's refreshes, some
+/// of which may be sent. Each version carries what is attached to the base.
 fn run_attached<
     A: Attachment + Send + Sync,
     R: Threads + Wait + Sync,

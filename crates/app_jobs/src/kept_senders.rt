@@ -153,8 +153,9 @@ fn play_joined<
         ensures { HaveEnded senders.entry.now result }
     { send_waiting(rt, senders) };
     let mut back = || -> Result<Option<Played>, AllocError>
-        requires { IsSync R.row × IsSync G.row × IsSync A.row × Waits setup.now (CanReceiveOver D.is_reached
-            D.may_leave publisher.now.version publisher.now.shown feed.now.journal feed.now.disk
+        requires { IsSync R.row × IsSync G.row × IsSync A.row
+            × Waits setup.now (CanReceiveOver D.is_reached D.may_leave
+            publisher.now.version publisher.now.shown feed.now.journal feed.now.disk
             feed.now.start feed.now.count feed.now.taker) }
         ensures received { IfOk result (HasReceivedOver D.may_leave publisher.entry.now.version
             setup.entry.now feed.exit.now.disk feed.exit.now.taker) }

@@ -90,8 +90,8 @@ fn run_grouped<P: Plans + Send + Sync, R: Threads + Wait + Sync, G: Gate + Sync>
     run_attached(rt, alloc, gate, attached, sources)
 }
 
-/// Runs the sessions beside a publisher of the refreshes, some of which may be sent. The rows of the
-/// job's kept views are kept at each version; where it has none, nothing is.
+/// Runs the sessions beside a publisher of the refreshes, some of which may be sent. The rows of
+/// the job's kept views are kept at each version; where it has none, nothing is.
 pub fn run_sources<R: Threads + Wait + Sync, G: Gate + Sync>(
     rt: &R,
     alloc: Global,

@@ -153,7 +153,8 @@ fn read_keep<F: Files>(
     Err(refusal_of(alloc, job, InputFault::JobLine(line)))
 }
 
-/// The kept views of these lines of a job, in their order. Each script is read after those before it.
+/// The kept views of these lines of a job, in their order. Each script is read after those before
+/// it.
 pub fn read_keeps<F: Files>(
     alloc: Global,
     files: &mut F,
