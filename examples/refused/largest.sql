@@ -1,0 +1,1 @@
+select o_custkey, max(o_totalprice) as largest from orders group by o_custkey;
