@@ -96,9 +96,9 @@ kept_lowers before new number plan f domain.One id e w q = kept_alone before new
 kept_lowers before new number plan f (domain.Node d width) id e w q = kept_joined before new number plan f d width id e w q
 
 -- a kept view under each row that was settled
-pub kept_put : {before mid new : List Node} {number : ℕ} {plan : KeptPlan} {f g : Footing} {r : DomainRows} {id : ℕ} → Settles before mid f g r → IsKeptScanned mid new number plan r id
+pub kept_put : {before mid new : List Node} (number : ℕ) (plan : KeptPlan) {f g : Footing} {r : DomainRows} {id : ℕ} → Settles before mid f g r → IsKeptScanned mid new number plan r id
     → Lowers before new (tree_step (t.Kept number plan)) f g id
-kept_put {mid = mid} {new = new} {number = number} {plan = plan} {g = g} {r = r} {id = id} s p = settled_first s (kept_lowers mid new number plan g r id s.settled s.same.in_plan p)
+kept_put {mid = mid} {new = new} number plan {g = g} {r = r} {id = id} s p = settled_first s (kept_lowers mid new number plan g r id s.settled s.same.in_plan p)
 
 -- a kept view without a domain
 pub kept_apart : {before new : List Node} {number : ℕ} {plan : KeptPlan} (part : Apart) (n : ℕ) → IsPut before new (node.Kept number plan) part.rows → part.width ≡ length plan.list

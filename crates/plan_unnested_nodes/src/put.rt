@@ -115,7 +115,7 @@ fn put_table(
 }
 
 /// A kept view's rows under each row that a tree is lowered over.
-#[tactic(auto, using(crate::proofs::Kept::settled_in_plan, crate::proofs::KeptArms::kept_put))]
+#[tactic(auto, using(crate::proofs::Kept::settled_in_plan))]
 pub fn put_kept(
     alloc: Global,
     builder: &mut Builder,
