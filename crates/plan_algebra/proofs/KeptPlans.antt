@@ -29,7 +29,7 @@ ruleset computed = (values_opened, truths_opened)
 
 pub kept_cases : KeptCases
 unfolding query_rows selected values truths
-kept_cases = (simp computed, simp computed, simp computed, simp computed)
+kept_cases = (refl, simp computed, refl, simp computed)
 
 -- each row stands at True or at a fault
 groups_stand : (by : List ℕ) (aggregates : List (Ranked Value) → List Value)

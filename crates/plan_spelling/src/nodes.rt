@@ -2,10 +2,9 @@
 ghost use Rattle.std.specs.Prelude.{◌≡◌, ◌++◌, IfOk, OnOk};
 ghost use Rattle.std.specs.List.{flat_map};
 ghost use Rattle.plan_algebra.specs.KeptPlans.{plain_aggregate};
+ghost use Rattle.plan_algebra.specs.declared.node.Node.TheVariants.{Kept};
 ghost use Rattle.plan_spelling.specs.Plans as spec;
-ghost use Rattle.plan_algebra.specs.declared.node.Node.TheVariants as node;
-ghost use Rattle.plan_spelling.specs.Plans.{aggregate_spelling, node_spelling};
-ghost use Rattle.plan_spelling.specs.Plans.{value_spelling};
+ghost use Rattle.plan_spelling.specs.Plans.{aggregate_spelling, node_spelling, value_spelling};
 
 use crate::exprs::{put_expr, put_exprs};
 use crate::values::{
@@ -84,7 +83,7 @@ fn put_kept_aggregates(
 #[tactic(auto, using(crate::proofs::Written::kept_written))]
 fn put_kept(numbers: &mut Vec<u128>, number: u32, plan: &KeptPlan) -> Result<(), AllocError>
     ensures { OnOk result (numbers.new.items
-        ≡ numbers.old.items ++ node_spelling (node.Kept number plan.now)) }
+        ≡ numbers.old.items ++ node_spelling (Kept number plan.now)) }
 {
     let name = plan.table.name().as_bytes();
     let (by, list) = (plan.by.as_slice(), plan.list.as_slice());

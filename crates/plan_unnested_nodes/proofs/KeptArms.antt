@@ -44,7 +44,7 @@ kept_over : (n : ℕ) (ds xs : List (Ranked Value)) → Each Stands xs → IsDom
 kept_over n ds xs stand dom =
     let asked : List Value → List Value → ℕ = λ d t. rank_of (All []) (d ++ t) in
     let holds : (d : List Value) → asked d ≡ (λ t. true_rank) = λ d. fun_ext (λ t. always (d ++ t)) in
-    let same : (λ (d : List Value). select (asked d) xs) ≡ (λ d. xs) =
+    let same : ◌≡◌ {A = List Value → List (Ranked Value)} (λ d. select (asked d) xs) (λ d. xs) =
     fun_ext (λ d. ap (λ h. select h xs) (holds d) ∙ select_true xs stand) in
     subst (λ (M : List Value → List (Ranked Value)). Answers same_value ds (inner_matched same_value Null [] (rank_of (All [])) ds xs) M) same
     (selection_over n ds xs (All []) dom)
@@ -96,9 +96,9 @@ kept_lowers before new number plan f domain.One id e w q = kept_alone before new
 kept_lowers before new number plan f (domain.Node d width) id e w q = kept_joined before new number plan f d width id e w q
 
 -- a kept view under each row that was settled
-pub kept_put : {before mid new : List Node} {number : ℕ} {plan : KeptPlan} {f g : Footing} {r : DomainRows} {id : ℕ} → Settles before mid f g r → IsKeptScanned mid new number plan r id
+pub kept_put : {before mid new : List Node} (number : ℕ) (plan : KeptPlan) {f g : Footing} {r : DomainRows} {id : ℕ} → Settles before mid f g r → IsKeptScanned mid new number plan r id
     → Lowers before new (tree_step (t.Kept number plan)) f g id
-kept_put {mid = mid} {new = new} {number = number} {plan = plan} {g = g} {r = r} {id = id} s p = settled_first s (kept_lowers mid new number plan g r id s.settled s.same.in_plan p)
+kept_put {mid = mid} {new = new} number plan {g = g} {r = r} {id = id} s p = settled_first s (kept_lowers mid new number plan g r id s.settled s.same.in_plan p)
 
 -- a kept view without a domain
 pub kept_apart : {before new : List Node} {number : ℕ} {plan : KeptPlan} (part : Apart) (n : ℕ) → IsPut before new (node.Kept number plan) part.rows → part.width ≡ length plan.list
@@ -113,7 +113,7 @@ kept_apart {before = before} {new = new} {number = number} {plan = plan} part n 
   width = w;
   rows = λ db k d ld.
       let own = query_rows plan (db plan.table) in
-      let trues : (λ (t : List Value). all_rank part.conditions (d ++ t)) ≡ (λ t. true_rank) =
+      let trues : ◌≡◌ {A = List Value → ℕ} (λ t. all_rank part.conditions (d ++ t)) (λ t. true_rank) =
       fun_ext (λ t. ap (λ es. all_rank es (d ++ t)) none) in
       same_list (ap (select (λ t. all_rank part.conditions (d ++ t))) (put_rows db p)
       ∙ ap (λ h. select h own) trues ∙ select_true own (query_stands plan (db plan.table)));

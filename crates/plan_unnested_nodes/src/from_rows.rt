@@ -29,13 +29,11 @@ use crate::footing::Footing;
 use crate::origins::column_kinds;
 use crate::own_columns::own_columns;
 use crate::own_rows::put_own;
-use crate::put::{put_combinations, put_outer, put_select};
+use crate::put::{put_combinations, put_kept_rows, put_outer, put_select};
 use base_schema::TableName;
 use expr_conditions::{Parted, in_parts, put_condition, put_run};
 use expr_scalar::Expr;
-use plan_algebra::{
-    Builder, DepTree, KeptPlan, Node, NodeId, Side, copy_expr, copy_kept_plan, width,
-};
+use plan_algebra::{Builder, DepTree, KeptPlan, Node, NodeId, Side, copy_expr, width};
 use sqlite_items::{Boxed, Items};
 use std::alloc::{AllocError, Global};
 
@@ -80,8 +78,14 @@ pub fn put_apart_table(
     })
 }
 
+// How many columns a kept view has.
+fn columns_of(plan: &Boxed<KeptPlan>) -> Result<u32, AllocError>
+    ensures { IfOk result (λ width. width ≡ length plan.now.list) }
+{
+    u32::try_from(plan.get().list.len()).map_err(|_| AllocError)
+}
+
 /// A kept view's rows.
-#[tactic(auto, using(plan_algebra::proofs::Fits::kept_fits))]
 pub fn put_apart_kept(
     alloc: Global,
     builder: &mut Builder,
@@ -92,9 +96,8 @@ pub fn put_apart_kept(
         → GivesApart builder.old.nodes builder.new.nodes (tree_step (tree.Kept number plan.now)) n
         part) }
 {
-    let plan = copy_kept_plan(alloc, plan.get())?;
-    let width = u32::try_from(plan.get().list.len()).map_err(|_| AllocError)?;
-    let rows = builder.put(Node::Kept(number, plan))?;
+    let width = columns_of(plan)?;
+    let rows = put_kept_rows(alloc, builder, number, plan)?;
     let conditions = Items::new(alloc);
     Ok(Apart {
         rows,

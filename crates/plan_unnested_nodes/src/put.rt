@@ -115,7 +115,7 @@ fn put_table(
 }
 
 /// A kept view's rows under each row that a tree is lowered over.
-#[tactic(auto, using(crate::proofs::Kept::settled_in_plan, crate::proofs::KeptArms::kept_put))]
+#[tactic(auto, using(crate::proofs::Kept::settled_in_plan))]
 pub fn put_kept(
     alloc: Global,
     builder: &mut Builder,
@@ -134,7 +134,6 @@ pub fn put_kept(
 }
 
 // A kept view's rows under each row of a domain.
-#[tactic(auto, using(plan_algebra::proofs::Fits::kept_fits))]
 fn put_view(
     alloc: Global,
     builder: &mut Builder,
@@ -146,8 +145,7 @@ fn put_view(
     ensures { IfOk result
         (IsKeptScanned builder.old.nodes builder.new.nodes number plan.now domain) }
 {
-    let plan = copy_kept_plan(alloc, plan.get())?;
-    let rows = builder.put(Node::Kept(number, plan))?;
+    let rows = put_kept_rows(alloc, builder, number, plan)?;
     match domain {
         DomainRows::One => Ok(rows),
         DomainRows::Node(id, _) => {
@@ -155,6 +153,22 @@ fn put_view(
             Ok(id)
         }
     }
+}
+
+/// A kept view's rows.
+#[tactic(auto, using(plan_algebra::proofs::Fits::kept_fits))]
+pub(crate) fn put_kept_rows(
+    alloc: Global,
+    builder: &mut Builder,
+    number: u32,
+    plan: &Boxed<KeptPlan>,
+) -> Result<NodeId, AllocError>
+    ensures { IfOk result
+        (IsPut builder.old.nodes builder.new.nodes (node.Kept number plan.now)) }
+{
+    let plan = copy_kept_plan(alloc, plan.get())?;
+    let id = builder.put(Node::Kept(number, plan))?;
+    Ok(id)
 }
 
 /// A table's rows that a condition keeps, under each row that a tree is lowered over. Where columns
