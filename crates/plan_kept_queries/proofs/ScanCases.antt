@@ -16,9 +16,4 @@ ruleset nodes_opened = (outs-All, outs-Column, outs-CountRows, outs-Grouped, out
 
 pub read_cases : ReadCases
 unfolding reads rows operated values truths chosen rescaled sum_of quotient_of is_kept_block is_table is_over_row is_kept_aggregate holds_always own_place shown_place
-read_cases = (
-  simp (tables_opened, nodes_opened, computed),
-  simp (tables_opened, nodes_opened, computed),
-  simp (tables_opened, nodes_opened, computed),
-  simp (tables_opened, nodes_opened, computed),
-)
+read_cases = (simp tables_opened, simp (tables_opened, nodes_opened), simp tables_opened, simp (tables_opened, nodes_opened, computed))
