@@ -189,9 +189,9 @@ pub leaf_found : {number : ℕ} {q : BoundBlock} {found : Option Rows} {made : R
     → found ≡ Some made → IsKeptTree number q found → IsLeaf number q made.tree made.width
 leaf_found {number} {q} is kept = subst (IsKeptTree number q) is kept
 
-pub leaf_missed : {number : ℕ} {q : BoundBlock} {found : Option Rows} → found ≡ None
+pub leaf_missed : (number : ℕ) (q : BoundBlock) {found : Option Rows} → found ≡ None
     → IsKeptTree number q found → is_kept_block q ≡ false
-leaf_missed {number} {q} is kept = subst (IsKeptTree number q) is kept
+leaf_missed number q is kept = subst (IsKeptTree number q) is kept
 
 pub derived_arm : (kept : Option ℕ) (q : BoundBlock) (outer : List OuterColumn) (so_far : List ℕ)
     (start : ℕ) (p : List Value) (w : ℕ) (tree : DepTree)

@@ -239,7 +239,7 @@ pub derived-returns-in_ok-rows-in-None-2-clause-tree :
     goal.derived-returns-in_ok-rows-in-None-2-clause-tree
 derived-returns-in_ok-rows-in-None-2-clause-tree t c =
     λ p. derived_unkept c.args.q.now c.in-Some.is
-    (leaf_missed c.in-None-2.is c.in_ok-rows-in-Some.ensures)
+    (leaf_missed c.in-Some.number c.args.q.now c.in-None-2.is c.in_ok-rows-in-Some.ensures)
     (c.in_ok-rows-in-None-2.ensures.tree p)
 
 pub source-returns-in_ok-rows-in-Table-clause-tree :
