@@ -53,7 +53,9 @@ use Rattle.plan_dependent_nodes.specs.FromGrowth.{FromDomains, AreRightPlaces, I
 use Rattle.plan_dependent_nodes.specs.FromGrowth.{IsRightSource, lateral_columns}
 use Rattle.plan_dependent_nodes.specs.Growth.{IsDomain, DomainRows, RowsOf, IsTree, IsTreeIn}
 use Rattle.plan_dependent_nodes.specs.Growth.{IsRightIn}
-use Rattle.plan_dependent_nodes.specs.Growth.{IsLeaf, IsSubquery, AreAt, from_of, block_of}
+use Rattle.plan_dependent_nodes.specs.declared.parts.Rows.{Rows}
+use Rattle.plan_dependent_nodes.specs.Growth.{IsKeptTree, IsLeaf, IsSubquery, AreAt, from_of}
+use Rattle.plan_dependent_nodes.specs.Growth.{block_of}
 use Rattle.plan_dependent_nodes.specs.Growth.{closed_of}
 use Rattle.std.proofs.Math.Path.{fun_ext}
 use Rattle.plan_kept_queries.specs.Forms.{IsKeptPlan, is_kept_block}
@@ -153,33 +155,43 @@ leaf_tree number q plan start w k e = record {
   rows = λ state ok env d i. rows_Kept number plan (table_rows state) d ∙ k.rows state;
 }
 
+as_derived : (q : BoundBlock) (start w : ℕ) (tree : DepTree) (own others : Tables) → own ≡ others
+    → IsTree own (closed_of q) [] start tree w → IsTree others (closed_of q) [] start tree w
+as_derived q start w tree own others e is =
+    subst (λ z. IsTree z (closed_of q) [] start tree w) e is
+
 -- a derived table that is no kept view, and one that is
 module _ {kept : Option ℕ} (q : BoundBlock) {start w : ℕ} {tree : DepTree} where
-  as_derived : (own others : Tables) → own ≡ others → IsTree own (closed_of q) [] start tree w
-      → IsTree others (closed_of q) [] start tree w
-  as_derived own others e is = subst (λ z. IsTree z (closed_of q) [] start tree w) e is
-
   pub derived_alone : kept ≡ None → IsTree (tables q) (block_of q) [] start tree w
       → IsTree (derived_tables kept q (tables q)) (closed_of q) [] start tree w
   derived_alone e is =
-      as_derived (tables q) (derived_tables kept q (tables q))
+      as_derived q start w tree (tables q) (derived_tables kept q (tables q))
       (ap (λ z. derived_tables z q (tables q)) (sym e)) (closed_tree q start w tree is)
 
   pub derived_unkept : {number : ℕ} → kept ≡ Some number → is_kept_block q ≡ false
       → IsTree (tables q) (block_of q) [] start tree w
       → IsTree (derived_tables kept q (tables q)) (closed_of q) [] start tree w
   derived_unkept {number} e none is =
-      as_derived (tables q) (derived_tables kept q (tables q))
+      as_derived q start w tree (tables q) (derived_tables kept q (tables q))
       (sym (ap (λ z. derived_tables z q (tables q)) e ∙ derived_plain number q (tables q) none))
       (closed_tree q start w tree is)
 
   pub derived_kept : {number : ℕ} → kept ≡ Some number → IsLeaf number q tree w
       → IsTree (derived_tables kept q (tables q)) (closed_of q) [] start tree w
   derived_kept {number} e is =
-      as_derived (inr (row_count q) ∷ []) (derived_tables kept q (tables q))
+      as_derived q start w tree (inr (row_count q) ∷ []) (derived_tables kept q (tables q))
       (sym (ap (λ z. derived_tables z q (tables q)) e ∙ derived_view number q (tables q) is.is_kept))
       (subst (λ z. IsTree (inr (row_count q) ∷ []) (closed_of q) [] start z w) (sym is.tree_is)
       (leaf_tree number q is.plan start w is.is_plan is.width_is))
+
+-- what was found for the kept view of a number
+pub leaf_found : {number : ℕ} {q : BoundBlock} {found : Option Rows} {made : Rows}
+    → found ≡ Some made → IsKeptTree number q found → IsLeaf number q made.tree made.width
+leaf_found {number} {q} is kept = subst (IsKeptTree number q) is kept
+
+pub leaf_missed : (number : ℕ) (q : BoundBlock) {found : Option Rows} → found ≡ None
+    → IsKeptTree number q found → is_kept_block q ≡ false
+leaf_missed number q is kept = subst (IsKeptTree number q) is kept
 
 pub derived_arm : (kept : Option ℕ) (q : BoundBlock) (outer : List OuterColumn) (so_far : List ℕ)
     (start : ℕ) (p : List Value) (w : ℕ) (tree : DepTree)

@@ -1,5 +1,5 @@
 -- The parts of a plan mean what those of its query do.
-use Rattle.std.proofs.Common.{◌≡◌, ℕ, arith, zero, suc, List, [], ◌∷◌, map, Bool, true, false, Option, Some, None, refl, sym, ◌∙◌, ap, subst, inl, inr}
+use Rattle.std.proofs.Common.{◌≡◌, ℕ, arith, zero, suc, List, [], ◌∷◌, map, true, Some, None, refl, sym, ◌∙◌, ap, subst, inl, inr}
 use Rattle.std.specs.Prelude.{slice_index_or, slice_get, option_and_then, ◌==◌, is_some, length, Result}
 use Rattle.std.proofs.Math.Path.{fun_ext}
 use Rattle.std.proofs.lemmas.Bool.{cases_Bool, eqb-true, true≢false}

@@ -1,5 +1,5 @@
 -- What the tests of a query's form say of each node.
-use Rattle.std.proofs.Common.{◌≡◌, ℕ, List, Bool, true, false, ◌&&◌, cond, Option, Some, None, refl, sym, ◌∙◌, ap, inl, inr, arith, ◌<◌, ◌≤◌}
+use Rattle.std.proofs.Common.{◌≡◌, ℕ, List, Bool, true, false, ◌&&◌, cond, Some, None, refl, sym, ◌∙◌, ap, inl, inr, arith, ◌<◌, ◌≤◌}
 use Rattle.std.specs.Prelude.{◌==◌, length, not, is_some, option_and_then, slice_get}
 use Rattle.std.specs.List.{list_all}
 use Rattle.std.proofs.lemmas.Bool.{true≢false, cases_Bool, eqb-true}

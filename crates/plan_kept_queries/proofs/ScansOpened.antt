@@ -1,5 +1,5 @@
 -- What each node of a bound query reads.
-use Rattle.std.proofs.Common.{◌≡◌, ℕ, List, [], ◌∷◌, ◌++◌, map, Option, Some, None, true, false, refl, ap, ◌∙◌, inl, inr}
+use Rattle.std.proofs.Common.{◌≡◌, ℕ, List, [], ◌∷◌, ◌++◌, map, Option, Some, true, false, refl, ap, ◌∙◌, inl, inr}
 use Rattle.std.specs.Prelude.{if◌then◌else◌}
 use Rattle.base_schema.specs.declared.table.TableName.{TableName}
 use Rattle.base_set_rows.specs.declared.kind.SetOperation.{SetOperation}

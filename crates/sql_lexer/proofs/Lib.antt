@@ -6,3 +6,4 @@ pub mod Printable
 pub mod Steps
 pub mod OneKind
 pub mod Answered
+pub mod Names

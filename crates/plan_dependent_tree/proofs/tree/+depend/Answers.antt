@@ -17,6 +17,7 @@ use Rattle.plan_dependent_tree.proofs.SeenSources.{dependent_seen}
 use Rattle.plan_dependent_tree.proofs.SeenSources.{keeps_right_seen}
 use Rattle.plan_dependent_tree.proofs.FromTrees.{from_arm, right_shared, right_closed}
 use Rattle.plan_dependent_tree.proofs.FromTrees.{derived_alone, derived_kept, derived_unkept}
+use Rattle.plan_dependent_tree.proofs.FromTrees.{leaf_found, leaf_missed}
 use Rattle.plan_dependent_tree.proofs.SuppliedClauses.{plain_width, grouped_width, distinct_width}
 use Rattle.plan_dependent_tree.proofs.SuppliedClauses.{kept_width}
 use Rattle.plan_dependent_tree.proofs.SuppliedClauses.{set_width}
@@ -219,25 +220,27 @@ from_rows-returns-clause-tree t c =
 pub from_rows-returns-clause-width : goal.from_rows-returns-clause-width
 from_rows-returns-clause-width t c = from_width c.args.s.now c.in_ok-rows.ensures.width
 
--- kept, and what comes of kept_rows: names to be seen
+-- no number; a number and a leaf; a number of what can't be kept
 pub derived-returns-in_ok-rows-in-None-clause-tree :
     goal.derived-returns-in_ok-rows-in-None-clause-tree
 derived-returns-in_ok-rows-in-None-clause-tree t c =
     λ p. derived_alone c.args.q.now c.in-None.is (c.in_ok-rows-in-None.ensures.tree p)
 
-pub derived-returns-in-Some-in_ok-clause-tree : goal.derived-returns-in-Some-in_ok-clause-tree
-derived-returns-in-Some-in_ok-clause-tree t c =
-    λ p. derived_kept c.args.q.now c.in-Some.is (rw c.in-Some-in_ok.is at c.in_ok.ensures)
+pub derived-returns-in-Some-2-clause-tree : goal.derived-returns-in-Some-2-clause-tree
+derived-returns-in-Some-2-clause-tree t c =
+    λ p. derived_kept c.args.q.now c.in-Some.is
+    (leaf_found c.in-Some-2.is c.in_ok-rows-in-Some.ensures)
 
-pub derived-returns-in-Some-in_ok-clause-width : goal.derived-returns-in-Some-in_ok-clause-width
-derived-returns-in-Some-in_ok-clause-width t c =
-    kept_width (rw c.in-Some-in_ok.is at c.in_ok.ensures)
+pub derived-returns-in-Some-2-clause-width : goal.derived-returns-in-Some-2-clause-width
+derived-returns-in-Some-2-clause-width t c =
+    kept_width (leaf_found c.in-Some-2.is c.in_ok-rows-in-Some.ensures)
 
-pub derived-returns-in_ok-rows-in-None-in_ok-clause-tree :
-    goal.derived-returns-in_ok-rows-in-None-in_ok-clause-tree
-derived-returns-in_ok-rows-in-None-in_ok-clause-tree t c =
-    λ p. derived_unkept c.args.q.now c.in-Some.is (rw c.in-None-in_ok.is at c.in_ok.ensures)
-    (c.in_ok-rows-in-None-in_ok.ensures.tree p)
+pub derived-returns-in_ok-rows-in-None-2-clause-tree :
+    goal.derived-returns-in_ok-rows-in-None-2-clause-tree
+derived-returns-in_ok-rows-in-None-2-clause-tree t c =
+    λ p. derived_unkept c.args.q.now c.in-Some.is
+    (leaf_missed c.in-Some.number c.args.q.now c.in-None-2.is c.in_ok-rows-in-Some.ensures)
+    (c.in_ok-rows-in-None-2.ensures.tree p)
 
 pub source-returns-in_ok-rows-in-Table-clause-tree :
     goal.source-returns-in_ok-rows-in-Table-clause-tree

@@ -1,4 +1,4 @@
-use Rattle.std.proofs.Common.{List, ℕ, map, ap, sym, ◌∙◌, ◌≡◌, Some}
+use Rattle.std.proofs.Common.{List, ℕ, map, sym, ◌∙◌, ◌≡◌, Some}
 use Rattle.std.specs.Prelude.{is_some}
 use Rattle.std.specs.List.{list_all}
 use Rattle.plan_kept_queries.specs.Forms.{IsOver, is_over_row, own_place}

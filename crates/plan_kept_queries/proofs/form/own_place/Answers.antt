@@ -1,4 +1,4 @@
-use Rattle.std.proofs.Common.{ap, sym, ◌∙◌, Some}
+use Rattle.std.proofs.Common.{ap, ◌∙◌}
 use Rattle.std.specs.Prelude.{is_some}
 use Rattle.plan_kept_queries.specs.Forms.{own_place}
 use Rattle.plan_kept_queries.proofs.FormsOpened.{no_input, own_far, own_here}
