@@ -13,8 +13,8 @@ pub record Work : Type 0 where
 
 -- What a job works on: the statements that the scripts of its sessions stand for; the tables; its
 -- refreshes, in the order of its lines; how many of these are tried before the sessions; who sends
--- each of the others, or nobody where they are tried in their order; the name of its journal's file,
--- if it has one; and what that keeps, which is done before the job begins.
+-- each of the others, or nobody where they are tried in their order; the name of its journal's
+-- file, if it has one; and what that keeps, which is done before the job begins.
 pub record JobWork : Type 0 where
   pub scripts : List (List Statement)
   pub base : State

@@ -14,9 +14,9 @@ ghost use Rattle.app_jobs.specs.Opened.{CanPlay, IsFedText, OpensJob, PlaysKept}
 ghost use Rattle.app_jobs.specs.Opened.{PlaysOpen, StartsBehind};
 ghost use Rattle.app_jobs.specs.Reaching.{IsPlayFault, IsPlayed, PublishesKept};
 
-use crate::sources::JobSources;
 use crate::journal::{Reached, reach_journal};
 use crate::kept_senders::run_kept_sent;
+use crate::sources::JobSources;
 use app_inputs::InputFault;
 use app_sessions::{JobError, JobSetup, JobText, Session, is_compaction_due, run_feed_job};
 use base_disk::Disk;
@@ -46,11 +46,13 @@ pub enum Played {
 pub struct OpenJob {
     pub alloc: Global,
     pub sessions: Vec<Session>,
+    /// A reader for each session.
     pub readers: Vec<Reader<RuledEntry>>,
     pub publisher: Publisher,
     pub journal: Journal,
-    /// What the publisher has left begins behind this version.
+    /// The version with just the journal's refreshes: what the publisher has left comes after it.
     pub start: Snapshot,
+    /// How many of the refreshes that are left come before the sessions.
     pub before: usize,
 }
 
@@ -308,7 +310,10 @@ fn run_kept<R: Threads + Wait + Sync, D: Disk + Send, G: Gate + Sync>(
     }
 }
 
-/// Runs the sessions of a job that keeps its accepted refreshes in the journal of that name.
+/// Plays a job that keeps its accepted refreshes in the journal of that name: reaches its file,
+/// publishes what it keeps, and runs the sessions beside the refreshes of the job.
+///
+/// Answers the text of the job, the fault of the journal, or that the disk failed.
 pub fn play_kept<R: Threads + Wait + Sync, D: Disk + Send, G: Gate + Sync>(
     rt: &R,
     alloc: Global,

@@ -13,9 +13,9 @@ ghost use Rattle.app_jobs.specs.OpenedSent.{IsReceiveFault, IsReceivedOver, Play
 ghost use Rattle.app_jobs.specs.Reaching.{IsPlayFault};
 ghost use Rattle.app_jobs.specs.Receivers.{MaySendBoth};
 
-use crate::sources::JobSources;
 use crate::kept::{OpenJob, Played, open_job};
 use crate::senders::{MOST_MESSAGES, Senders, divide, send_both};
+use crate::sources::JobSources;
 use app_sessions::{JobError, JobSetup, run_feed_job};
 use base_disk::Disk;
 use base_io::Gate;
@@ -213,8 +213,8 @@ fn play_beside_senders<R: Threads + Wait + Sync, D: Disk + Send, G: Gate + Sync>
     (disk, taker, ended, played)
 }
 
-/// Runs the senders of an open job in threads of their own, and the sessions over the disk, which is
-/// given back.
+/// Runs the senders of an open job in threads of their own, and the sessions over the disk, which
+/// is given back.
 fn play_sent<R: Threads + Wait + Sync, D: Disk + Send, G: Gate + Sync>(
     rt: &R,
     gate: &G,
@@ -268,8 +268,8 @@ fn play_sent_over<R: Threads + Wait + Sync, D: Disk + Send, G: Gate + Sync>(
     replace_with(disk, job, playing)
 }
 
-/// Runs the sessions beside a publisher of what the journal keeps and of the job's refreshes, some of
-/// which two senders send.
+/// Runs the sessions beside a publisher of what the journal keeps and of the job's refreshes, some
+/// of which two senders send.
 pub fn run_kept_sent<R: Threads + Wait + Sync, D: Disk + Send, G: Gate + Sync>(
     rt: &R,
     alloc: Global,

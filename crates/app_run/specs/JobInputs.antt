@@ -101,8 +101,8 @@ IsWorkOver named work inputs = (kept : Result (List Change) BadInput)
     × IsKept work.journal work.base named kept
     × (inputs ≡ and_then kept (λ changes. Ok (with_kept work changes)))
 
--- the inputs of a job in files, in their reading order: the job, its scripts, the tables, the refresh
--- files
+-- the inputs of a job in files, in their reading order: the job, its scripts, the tables, the
+-- refresh files
 abbrev pub AreJobFiles : List ℕ → List ℕ → Folder → Result JobWork BadInput → Type 0
 AreJobFiles dir job folder inputs =
     Follows (job_in job (file_of folder job)) (λ parts result.
