@@ -1,10 +1,11 @@
 -- A stored turn as one of a feed of the list.
-use Rattle.std.proofs.Common.{◌≡◌, ℕ, ◌+◌, ◌<◌, None, length, refl, ap, ◌∙◌, arith, inl}
+use Rattle.std.proofs.Common.{◌≡◌, ℕ, ◌+◌, ◌<◌, ◌++◌, ◌∷◌, [], None, length, refl, ap, ◌∙◌, arith, inl}
 use Rattle.base_refusals.specs.declared.refresh.Cause.{Cause}
+use Rattle.store_state.specs.Refresh.{Change}
 use Rattle.store_versions.specs.Trials.{Trials, one_more}
 use Rattle.store_versions.specs.declared.attachment.Attachment.{Ghosts}
 use Rattle.store_snapshots.specs.Publishers.{AcceptsNext, Edition, RefusesNext}
-use Rattle.store_snapshots.specs.Turns.{IsAllTried, ListFits, TakesTurn, list_tried}
+use Rattle.store_snapshots.specs.Turns.{IsAllTried, IsNextIn, ListFits, TakesTurn, list_tried}
 use Rattle.store_snapshots.specs.declared.note.Note.{Note}
 use Rattle.store_snapshots.specs.declared.feed.FeedTurn.TheVariants as turn
 use Rattle.store_snapshots.proofs.FeedLaws.{next_tried}
@@ -15,9 +16,10 @@ list_published start count old new note fits less accepts =
     let next = next_tried start count old.version fits less in
     (next.0, old.version, next.2, inl (refl, less, next.1), accepts)
 
-pub list_refused : {A : Type 0} {g : Ghosts A} (start : Trials) (count : ℕ) (old new : Edition) (cause : Cause) → ListFits start count old.version → old.version.done < length old.version.list
+-- what `TakesTurn` says of a refused one
+pub list_refused : (start : Trials) (count : ℕ) (old new : Edition) (cause : Cause) → ListFits start count old.version → old.version.done < length old.version.list
     → RefusesNext old.version cause old.shown new
-    → TakesTurn {A} {g} (list_tried start count) (list_tried start (count + 1)) IsAllTried old new (turn.Refused None cause)
+    → (change : Change) × (trials : Trials) × (list_tried start (count + 1) ≡ list_tried start count ++ (None, change) ∷ []) × IsNextIn change old.version trials × RefusesNext trials cause old.shown new
 list_refused start count old new cause fits less refuses =
     let next = next_tried start count old.version fits less in
     (next.0, old.version, next.2, inl (refl, less, next.1), refuses)

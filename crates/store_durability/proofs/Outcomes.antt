@@ -17,7 +17,8 @@ use Rattle.store_snapshots.specs.declared.publisher.Given.{Given}
 use Rattle.store_snapshots.specs.declared.publisher.Published.TheVariants as answer
 use Rattle.store_state.specs.Refresh.{Change, after}
 use Rattle.store_state.specs.Versions.{is_accepted}
-use Rattle.store_versions.specs.Trials.{Trials, offered, one_more, tables_of}
+use Rattle.store_state.specs.declared.applied.RefreshError.TheVariants.{Refused as RefusedBy}
+use Rattle.store_versions.specs.Trials.{IsAfter, Trials, offered, one_more, tables_of}
 use Rattle.store_versions.specs.declared.attachment.Attachment.{Ghosts}
 use Rattle.store_durability.specs.Stored.{IsNext, payloads_of, trials_with}
 use Rattle.store_durability.proofs.Accepted.{accepted_ok, given, has_next, listed, not_both, payloads_accepted, payloads_refused, readable, refused_err}
@@ -27,7 +28,7 @@ use Rattle.store_durability.proofs.Accepted.{accepted_ok, given, has_next, liste
 pub listed_accepts : {A : Type 0} {g : Ghosts A} (old new : Edition) (note : Note A g) → Tries old.version new.version (answer.Published note) → Shows old new (answer.Published note) → AcceptsNext old.version new note
 listed_accepts old new note tries shows = record { after = tries.1; shown = shows; tells = tries.2 }
 
-pub listed_refuses : {A : Type 0} {g : Ghosts A} (old new : Edition) (cause : Cause) → Tries {A} {g} old.version new.version (answer.Refused cause) → Shows {A} {g} old new (answer.Refused cause) → RefusesNext old.version cause old.shown new
+pub listed_refuses : (old new : Edition) (cause : Cause) → (old.version.done < length old.version.list) × IsAfter old.version new.version (Err (RefusedBy cause)) → new.shown ≡ old.shown → RefusesNext old.version cause old.shown new
 listed_refuses old new cause tries shows = record { after = tries.1; shown = shows }
 
 pub ruleset listed_trials = (listed_accepts, listed_refuses)
