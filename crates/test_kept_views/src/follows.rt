@@ -136,7 +136,15 @@ fn groups_follow_refreshes(rt: HostRuntime) -> Result<(), Fail> {
     let query = totals(alloc, AggregateFunction::Sum)?;
     let plan = KeptPlan::new(alloc, &query).expect(&rt, "a plan");
     let counts = counts(alloc, plan)?;
-    let wanted = [Some(0), Some(1), Some(1), Some(0), Some(0), Some(0), Some(0)];
+    let wanted = [
+        Some(0),
+        Some(1),
+        Some(1),
+        Some(0),
+        Some(0),
+        Some(0),
+        Some(0),
+    ];
     assert_eq!(rt; counts.as_slice(), wanted.as_slice());
     Ok(())
 }
