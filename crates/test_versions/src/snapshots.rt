@@ -1,7 +1,5 @@
 //! Readers of two orders and of what refreshes make of them.
 ghost use Rattle.std.specs.Prelude.{◌≡◌, IfOk, OnOk, length};
-ghost use Rattle.std.specs.List.{All};
-ghost use Rattle.std.specs.Arc.{arc_value};
 ghost use Rattle.store_snapshots.specs.Openings.{opening_at};
 ghost use Rattle.store_snapshots.specs.Ruled.{opening_of};
 
@@ -152,50 +150,20 @@ fn has_orders(
     Ok(directory.version() == version && keys.as_slice() == wanted)
 }
 
-/// Shares of the first version, and of two others of its opening.
-fn shares(
-    alloc: Global,
-    first: &Arc<Directory>,
-    one: Directory,
-    two: Directory,
-) -> Result<Vec<Arc<Directory>>, AllocError>
-    requires one { opening_at one ≡ opening_at (arc_value first.now) }
-    requires two { opening_at two ≡ opening_at (arc_value first.now) }
-    ensures { IfOk result (λ versions. All
-        (λ v. opening_at (arc_value v) ≡ opening_at (arc_value first.now)) versions.items) }
-{
-    let first = Arc::try_clone(first)?;
-    let one = Arc::new(alloc, one)?;
-    let two = Arc::new(alloc, two)?;
-    let versions = vec![in alloc; first, one, two]?;
-    Ok(versions)
-}
-
-/// A reader of three versions.
-fn reader_of(
-    alloc: Global,
-    zero: Directory,
-    one: Directory,
-    two: Directory,
-) -> Result<Reader<SureEntry>, AllocError>
-    requires whole { zero.most ≡ length zero.list }
-    requires one { opening_at one ≡ opening_at zero }
-    requires two { opening_at two ≡ opening_at zero }
-{
-    let first = Arc::new(alloc, zero)?;
-    let versions = shares(alloc, &first, one, two)?;
-    let entry = SureEntry::new(Arc::try_clone(&first)?, versions);
-    Ok(Reader::new(entry, first))
-}
-
 /// A reader of the versions 0, 1 and 2.
 fn sure_reader(alloc: Global) -> Result<Reader<SureEntry>, Fail> {
     let list = pairs(alloc, 1)?;
     let mut zero = base(alloc, list)?;
     let mut one = next(&mut zero)?;
     let two = next(&mut one)?;
-    let reader = reader_of(alloc, zero, one, two)?;
-    Ok(reader)
+    let first = Arc::new(alloc, zero)?;
+    let versions = vec![in alloc;
+        Arc::try_clone(&first)?,
+        Arc::new(alloc, one)?,
+        Arc::new(alloc, two)?,
+    ]?;
+    let entry = SureEntry::new(Arc::try_clone(&first)?, versions);
+    Ok(Reader::new(entry, first))
 }
 
 #[test]
