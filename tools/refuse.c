@@ -1,7 +1,7 @@
 // A library for LD_PRELOAD that makes one call of a program fail, for tools/hostile. The environment says which:
 // REFUSE_GROWTH=N the Nth call that asks for memory, REFUSE_CALL=N the Nth open, read or write, REFUSE_SYNC=N the Nth sync of a
 // file or a folder, each counted from 1.
-// REFUSE_SHORT=1 has each read and write move one byte. REFUSE_COUNTS=FILE gets the first two counts when the program ends.
+// REFUSE_SHORT=1 has each read and write move one byte. REFUSE_COUNTS=FILE gets the three counts when the program ends.
 // A call that is to fail is asked of no other library, so the program sees what a full machine or a broken disk gives.
 #define _GNU_SOURCE
 #include <dlfcn.h>
@@ -36,8 +36,8 @@ __attribute__((constructor)) static void begin(void) {
 __attribute__((destructor)) static void end(void) {
     is_ready = 0;
     if (counts) {
-        char text[64];
-        int length = snprintf(text, sizeof text, "%lu %lu\n", growths, calls);
+        char text[96];
+        int length = snprintf(text, sizeof text, "%lu %lu %lu\n", growths, calls, syncs);
         int file = open(counts, O_WRONLY | O_CREAT | O_TRUNC, 0644);
         if (file >= 0 && write(file, text, length) == length)
             close(file);

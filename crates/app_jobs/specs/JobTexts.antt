@@ -14,8 +14,8 @@ abbrev pub whole_list : JobWork → RefreshOrder → List Change
 whole_list work order = work.kept ++ changes_of order
 
 -- The text of these sessions beside the refreshes of a job, for the order of the refreshes and the
--- versions that the run chose. Those that its journal keeps are done before, and in the end it holds
--- all accepted ones.
+-- versions that the run chose. Those that its journal keeps are done before, and in the end it
+-- holds all accepted ones.
 pub record IsTextInOrder (work : JobWork) (journal_then : Option (List ℕ))
     (sessions : List JobSession) (job : JobAnswer) : Type 0 where
   pub order : RefreshOrder

@@ -10,9 +10,9 @@ use Rattle.store_state.specs.Versions.{taken}
 use Rattle.app_inputs.specs.Inputs.{BadInput}
 use Rattle.app_jobs.specs.Journals.{HoldsThen, IsKept, most_journal_bytes}
 
--- Where a journal's file in the end holds the accepted ones of refreshes that may come to be stored,
--- and has not too many bytes, the next run over the same base reads it as just these refreshes, and
--- doesn't refuse it.
+-- Where a journal's file in the end holds the accepted ones of refreshes that may come to be
+-- stored, and has not too many bytes, the next run over the same base reads it as just these
+-- refreshes, and doesn't refuse it.
 abbrev pub NextRunLaw : Type 0
 NextRunLaw = (name file : List ℕ) (base : State) (list : List Change) (files : List ℕ → List ℕ)
     (kept : Result (List Change) BadInput) → AllByRecursion IsStorable list

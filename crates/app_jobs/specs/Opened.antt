@@ -40,8 +40,8 @@ abbrev pub StartsBehind : ℕ → Trials → Trials → Trials → Result Trials
 StartsBehind kept old new shown (Ok start) = (start ≡ new) × PublishesKept kept old new shown None
 StartsBehind kept old new shown (Err why) = IsEntryRefused old kept why
 
--- what is played beside a publisher of a version whose list is stored as it is tried: in the end each
--- image that a crash may leave of the disk holds all accepted ones
+-- what is played beside a publisher of a version whose list is stored as it is tried: in the end
+-- each image that a crash may leave of the disk holds all accepted ones
 abbrev pub IsFedText : {D : Type 0} → (D → List ℕ → Type 0) → Trials → ℕ → List JobSession → D
     → Played → Type 0
 IsFedText may_leave version before sessions disk (played.Text job) =
@@ -68,10 +68,11 @@ pub record CanPlay {D A : Type 0} (is_reached : D → Bool) (may_leave : D → L
 -- what it gives
 abbrev pub PlaysOpen : {D A : Type 0} → (D → List ℕ → Type 0) → OpenJob A → D → Played → Type 0
 PlaysOpen may_leave job disk result =
-    IsFedText may_leave job.publisher.version job.before (job_sessions job.sessions.items) disk result
+    IsFedText may_leave job.publisher.version job.before (job_sessions job.sessions.items)
+    disk result
 
--- what a job gives over the refreshes that its journal keeps, whatever its name: its text, where each
--- of them is accepted; or which of them is refused first
+-- what a job gives over the refreshes that its journal keeps, whatever its name: its text, where
+-- each of them is accepted; or which of them is refused first
 abbrev pub PlaysKept : List Change → Option (List ℕ) → JobWork → List JobSession → Played → Type 0
 PlaysKept kept journal_then work sessions (played.Text job) = (taken work.base kept ≡ kept)
     × ((name : List ℕ) → IsTextInOrder (kept_under work name kept) journal_then sessions job)

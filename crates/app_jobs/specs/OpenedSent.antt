@@ -31,8 +31,8 @@ abbrev pub Waits : {A : Type 0} → Option A → (A → Type 0) → Type 0
 Waits None P = ⊥
 Waits (Some x) P = P x
 
--- a job that can be played over its disk beside a publisher and what a taker takes: it tries its whole
--- list before the sessions, and has so many refreshes in the end
+-- a job that can be played over its disk beside a publisher and what a taker takes: it tries its
+-- whole list before the sessions, and has so many refreshes in the end
 pub record CanReceiveOver {D A : Type 0} (is_reached : D → Bool) (may_leave : D → List ℕ → Type 0)
     (version shown : Trials) (journal : Journal) (disk : D) (start : Trials) (count : ℕ)
     (taker : Taking) (setup : JobSetup A) : Type 0 where
@@ -48,21 +48,22 @@ pub record CanReceiveOver {D A : Type 0} (is_reached : D → Bool) (may_leave : 
   pub begins : (start ≡ version) × (count ≡ 0)
   pub fresh : taker.taken ≡ []
 
--- each image that a crash may leave of a disk holds the accepted ones of a list, and then of what was
--- taken
+-- each image that a crash may leave of a disk holds the accepted ones of a list, and then of what
+-- was taken
 abbrev pub HoldsSent : (List ℕ → Type 0) → State → List Change → List (SenderId × Change) → Type 0
 HoldsSent may_leave base list sent = (c : List ℕ) → may_leave c → StandsFor IsSpelled c
     (map spelling_of (taken base (changes_of (order_sent list sent))))
 
--- what is played beside a publisher of a version and a taker that took both ends: the text stands over
--- the order in which it took what was sent; or it took too few refreshes, and there is none
+-- what is played beside a publisher of a version and a taker that took both ends: the text stands
+-- over the order in which it took what was sent; or it took too few refreshes, and there is none
 abbrev pub IsReceivedOver : {D : Type 0} → (D → List ℕ → Type 0) → Trials → ℕ → List JobSession → D
     → Taking → Option Played → Type 0
 IsReceivedOver may_leave version before sessions disk taker None = (taker.ended ≡ (true, true))
     × (length (order_sent version.list taker.taken) < version.most)
 IsReceivedOver may_leave version before sessions disk taker (Some (played.Text job)) =
     (taker.ended ≡ (true, true))
-    × IsOrderText version.base (order_sent version.list taker.taken) version.done before sessions job
+    × IsOrderText version.base (order_sent version.list taker.taken) version.done before
+    sessions job
     × HoldsSent (may_leave disk) version.base version.list taker.taken
 IsReceivedOver may_leave version before sessions disk taker (Some (played.Refused why)) = ⊥
 IsReceivedOver may_leave version before sessions disk taker (Some played.DiskFault) = ⊤
@@ -101,21 +102,23 @@ pub record CanPlaySent {D A : Type 0} (is_reached : D → Bool) (may_leave : D �
   pub whole : length job.opened.publisher.version.list
       + (length job.senders.firsts.items + length job.senders.seconds.items) ≡ job.most
 
--- the text of a job beside two senders that sent these refreshes after a version's list, in some order
--- that keeps each sender's own; in the end the disk holds all accepted ones
+-- the text of a job beside two senders that sent these refreshes after a version's list, in some
+-- order that keeps each sender's own; in the end the disk holds all accepted ones
 pub record IsKeptSentText (may_leave : List ℕ → Type 0) (version : Trials) (before : ℕ)
     (firsts seconds : List Change) (sessions : List JobSession) (job : JobAnswer) : Type 0 where
   pub sent : List (SenderId × Change)
   pub first : sent_by First sent ≡ firsts
   pub second : sent_by Second sent ≡ seconds
-  pub text : IsOrderText version.base (order_sent version.list sent) version.done before sessions job
+  pub text :
+      IsOrderText version.base (order_sent version.list sent) version.done before sessions job
   pub holds : HoldsSent may_leave version.base version.list sent
 
 -- what an open job gives beside its senders
 abbrev pub PlaysSent : {D A : Type 0} → (D → List ℕ → Type 0) → SentJob A → D → Played → Type 0
 PlaysSent may_leave job disk (played.Text answer) =
     IsKeptSentText (may_leave disk) job.opened.publisher.version job.opened.before
-    job.senders.firsts.items job.senders.seconds.items (job_sessions job.opened.sessions.items) answer
+    job.senders.firsts.items job.senders.seconds.items
+    (job_sessions job.opened.sessions.items) answer
 PlaysSent may_leave job disk (played.Refused why) = ⊥
 PlaysSent may_leave job disk played.DiskFault = ⊤
 

@@ -63,16 +63,16 @@ IsReached is_reached may_leave file disk (reached.Journal journal kept) =
 IsReached is_reached may_leave file disk (reached.Refused why) = IsRefusedFile file why
 IsReached is_reached may_leave file disk reached.DiskFault = ⊤
 
--- the first refreshes of a list are published again: each is accepted, or the first one that isn't is
--- told
+-- the first refreshes of a list are published again: each is accepted, or the first one that isn't
+-- is told
 abbrev pub PublishesKept : ℕ → Trials → Trials → Trials → Option (ℕ × Cause) → Type 0
 PublishesKept kept old new shown None = (new ≡ later_by kept old) × (shown ≡ new)
     × (taken old.base (take kept old.list) ≡ take kept old.list)
 PublishesKept kept old new shown (Some (number, cause)) =
     IsFirstRefusedEntry old.base (take kept old.list) number cause
 
--- What comes of a job with a journal of that name: its text, over what the journal keeps; or why its
--- file is refused.
+-- What comes of a job with a journal of that name: its text, over what the journal keeps; or why
+-- its file is refused.
 abbrev pub IsPlayed : List ℕ → Named → Option (List ℕ) → JobWork → List JobSession → Played → Type 0
 IsPlayed name named journal_then work sessions (played.Text job) = (kept : List Change)
     × IsKept (Some name) work.base named (Ok kept)

@@ -14,8 +14,8 @@ use Rattle.store_state.specs.Refresh.{Change}
 use Rattle.app_sessions.specs.Jobs.{IsOrderText, JobAnswer, JobSession}
 use Rattle.app_sessions.specs.Orders.{RefreshOrder}
 
--- a sender that sent nothing yet, and whose quota lets it send these refreshes, which may come to be
--- stored
+-- a sender that sent nothing yet, and whose quota lets it send these refreshes, which may come to
+-- be stored
 pub record MaySend (sender : Sending) (refreshes : List Change) : Type 0 where
   pub fresh : sender.sent ≡ []
   pub quota : length refreshes ≤ pick sender.id sender.quotas

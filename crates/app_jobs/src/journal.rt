@@ -88,7 +88,7 @@ fn journal_of_file<D: Disk>(alloc: Global, disk: &mut D) -> Result<Reached, Allo
     }
 }
 
-/// The same of the file of that name.
+/// Reaches the file of that name, makes its journal where it is empty, and reads what it keeps.
 pub fn reach_journal<D: Disk>(
     alloc: Global,
     disk: &mut D,

@@ -51,11 +51,13 @@ pub enum Played {
 pub struct OpenJob<A: Attachment = ()> {
     pub alloc: Global,
     pub sessions: Vec<Session>,
+    /// A reader for each session.
     pub readers: Vec<Reader<RuledEntry<A>>>,
     pub publisher: Publisher<A>,
     pub journal: Journal,
-    /// What the publisher has left begins behind this version.
+    /// The version with just the journal's refreshes: what the publisher has left comes after it.
     pub start: Snapshot<A>,
+    /// How many of the refreshes that are left come before the sessions.
     pub before: usize,
 }
 
@@ -424,7 +426,10 @@ fn run_reached<R: Threads + Wait + Sync, D: Disk + Send, G: Gate + Sync>(
     run_grouped::<Brand, R, D, G>(rt, alloc, gate, disk, journal, kept, groups, sources)
 }
 
-/// Runs the sessions of a job that keeps its accepted refreshes in the journal of that name.
+/// Plays a job that keeps its accepted refreshes in the journal of that name: reaches its file,
+/// publishes what it keeps, and runs the sessions beside the refreshes of the job.
+///
+/// Answers the text of the job, the fault of the journal, or that the disk failed.
 pub fn play_kept<R: Threads + Wait + Sync, D: Disk + Send, G: Gate + Sync>(
     rt: &R,
     alloc: Global,

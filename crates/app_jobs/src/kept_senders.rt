@@ -230,8 +230,8 @@ fn play_beside_senders<
     (disk, taker, ended, played)
 }
 
-/// Runs the senders of an open job in threads of their own, and the sessions over the disk, which is
-/// given back.
+/// Runs the senders of an open job in threads of their own, and the sessions over the disk, which
+/// is given back.
 fn play_sent<A: Attachment + Send + Sync, R: Threads + Wait + Sync, D: Disk + Send, G: Gate + Sync>(
     rt: &R,
     gate: &G,
@@ -286,8 +286,8 @@ fn play_sent_over<
     replace_with(disk, job, playing)
 }
 
-/// Runs the sessions beside a publisher of what the journal keeps and of the job's refreshes, some of
-/// which two senders send.
+/// Runs the sessions beside a publisher of what the journal keeps and of the job's refreshes, some
+/// of which two senders send.
 pub fn run_kept_sent<
     A: Attachment + Send + Sync,
     R: Threads + Wait + Sync,

@@ -103,8 +103,8 @@ IsOutputOfJob shows_rows dir job held disk (Err (error.Unread unread)) = ⊤
 IsOutputOfJob shows_rows dir job held disk (Err (error.Refused refusal)) =
     IfKnown held (λ folder. IsFirstOfJob dir job folder disk.named (Some (refused_view refusal)))
 
--- what a job gives of which its files are read, over a disk: its text, over what its journal of that
--- name keeps, or why that is refused
+-- what a job gives of which its files are read, over a disk: its text, over what its journal of
+-- that name keeps, or why that is refused
 abbrev pub IsOutputOver : Bool → List ℕ → Named → Option (List ℕ) → JobWork
     → Result Output InputError → Type 0
 IsOutputOver shows_rows name named journal_then work (Ok (output.Text text s)) =

@@ -112,15 +112,16 @@ TellsJournal (explain script) folder named = ⊤
 TellsJournal (check dir) folder named = ⊤
 TellsJournal (trial number) folder named = ⊤
 
--- the words are a command, and the contents of each file that it names are known, the journal's too,
--- and each is there and of its form
+-- the words are a command, and the contents of each file that it names are known, the journal's
+-- too, and each is there and of its form
 abbrev pub IsAccepted : Option Command → Option Folder → Named → Type 0
 IsAccepted None known named = ⊥
 IsAccepted (Some command) None named = IsAcceptedUntold command
 IsAccepted (Some command) (Some folder) named =
     IsFirstRefused command folder named None × TellsJournal command folder named
 
--- the command has no job, or one that names no journal or of which an input before it is refused
+-- no command, or one without a job, or a job that names no journal or whose inputs are refused
+-- before its journal is read
 abbrev pub LeavesDisk : Option Command → Option Folder → Type 0
 LeavesDisk None known = ⊤
 LeavesDisk (Some (session dir script)) known = ⊤

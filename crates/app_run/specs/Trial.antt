@@ -45,8 +45,8 @@ abbrev pub trial_files : ℕ → Folder
 trial_files number =
     (codes "job", trial_job) ∷ (codes "queries", trial_queries) ∷ map in_made (made number)
 
--- what the trial prints: its job's text over these files, without the rows of answers; the job names
--- no journal, so any disk will do
+-- what the trial prints: its job's text over these files, without the rows of answers; the job
+-- names no journal, so any disk will do
 abbrev pub PrintsTrial : ℕ → List ℕ → Status → Type 0
 PrintsTrial number text s = (disk : DiskTold)
     × PrintsJob false (codes "made") (codes "job") (trial_files number) disk text s

@@ -16,6 +16,7 @@ use Rattle.sql_ast.specs.contracts.statement.Statement as Statement
 use Rattle.sql_ast.specs.contracts.tree.Block as Tree
 use Rattle.store_snapshots.proofs.reader.Reader.TheSendSync.{the_send as reader_send}
 use Rattle.store_snapshots.specs.declared.entry.Entry.{Ghosts}
+use Rattle.store_versions.specs.declared.attachment.Attachment.{Ghosts as Attached}
 use Rattle.plan_planner.specs.contracts.views.SessionViews as Views
 use Rattle.app_sessions.specs.contracts.session.Session as Session
 use Rattle.app_sessions.specs.contracts.worker.Worker as Worker
@@ -54,9 +55,9 @@ session_send =
     search (statement_send, views_send, block_send, text_send, sendable, crosses) depth 60
     fits 20000
 
-pub worker_send : (E N A : RattleType) (g : Ghosts E.Denot N.Denot A.Denot) → IsSend E → IsSend A → IsSync A → IsSend (Worker.the_row E N A g)
-worker_send E N A g s sent shared = declared_send (Worker.the_type E N A g) (
-  reader_send E N A g s sent shared,
+pub worker_send : (E N A : RattleType) (g : Ghosts E.Denot N.Denot A.Denot) (h : Attached A.Denot) → IsSend E → IsSend A → IsSync A → IsSend (Worker.the_row E N A g h)
+worker_send E N A g h s sent shared = declared_send (Worker.the_type E N A g h) (
+  reader_send E N A g h s sent shared,
   (
     search (session_send, sendable, crosses) depth 40 fits 20000,
     (search sendable depth 20, (search sendable depth 20, (search sendable depth 20, tt))),

@@ -1,5 +1,6 @@
 -- A stored turn as one of a feed of the list.
-use Rattle.std.proofs.Common.{◌≡◌, ℕ, ◌+◌, ◌<◌, ◌++◌, ◌∷◌, [], None, length, refl, ap, ◌∙◌, arith, inl}
+use Rattle.std.proofs.Common.{◌≡◌, ℕ, ◌+◌, ◌<◌, List, ◌++◌, ◌∷◌, [], None, length, refl, ap, ◌∙◌, arith, inl}
+use Rattle.std.specs.Prelude.{Option}
 use Rattle.base_refusals.specs.declared.refresh.Cause.{Cause}
 use Rattle.store_state.specs.Refresh.{Change}
 use Rattle.store_versions.specs.Trials.{Trials, one_more}
@@ -16,10 +17,13 @@ list_published start count old new note fits less accepts =
     let next = next_tried start count old.version fits less in
     (next.0, old.version, next.2, inl (refl, less, next.1), accepts)
 
--- what `TakesTurn` says of a refused one
+-- what `TakesTurn` says of a refused one, whatever is attached
+abbrev pub TakesRefused : List (Option ℕ × Change) → List (Option ℕ × Change) → Cause → Edition → Edition → Type 0
+TakesRefused tried more cause old new = (change : Change) × (trials : Trials) × (more ≡ tried ++ (None, change) ∷ []) × IsNextIn change old.version trials × RefusesNext trials cause old.shown new
+
 pub list_refused : (start : Trials) (count : ℕ) (old new : Edition) (cause : Cause) → ListFits start count old.version → old.version.done < length old.version.list
     → RefusesNext old.version cause old.shown new
-    → (change : Change) × (trials : Trials) × (list_tried start (count + 1) ≡ list_tried start count ++ (None, change) ∷ []) × IsNextIn change old.version trials × RefusesNext trials cause old.shown new
+    → TakesRefused (list_tried start count) (list_tried start (count + 1)) cause old new
 list_refused start count old new cause fits less refuses =
     let next = next_tried start count old.version fits less in
     (next.0, old.version, next.2, inl (refl, less, next.1), refuses)

@@ -10,7 +10,7 @@ use crate::kept::Kept;
 use base_columns::Bag;
 use plan_algebra::{KeptPlan, is_same_plan};
 use std::alloc::{AllocError, Global};
-use std::marker::{Brand, PhantomData};
+use std::marker::{Brand, Model, PhantomData};
 use std::sync::Arc;
 use store_state::{Refresh, State, moves_of};
 use store_versions::Attachment;
@@ -27,18 +27,34 @@ impl Plans for Brand {
     ghost plans = { [] };
 }
 
-/// Groups of the plans of a run, attached to a version of its tables.
+/// Groups of the plans of a run, attached to a version of its tables. It is seen as these plans and
+/// the state of whose rows the groups are made.
 #[derive(Drop)]
 pub struct KeptOf<P: Plans> {
-    /// The groups.
-    pub kept: Kept,
+    kept: Kept,
     of: PhantomData<P>,
+}
+
+impl<P: Plans> Model for KeptOf<P> {
+    ghost use Rattle.std.specs.Prelude.{◌≡◌};
+    ghost use Rattle.std.specs.Coded.{codes};
+    ghost use Rattle.expr_scalar.specs.contracts.expr.Expr as expr;
+    ghost use Rattle.store_kept_views.specs.Kept.{KeptRows};
+
+    ghost Value = { KeptRows };
+
+    ghost coded = { Prim.hlevel (codes, expr.the_row.coded) };
+
+    ghost view = { λ k. k.kept };
+
+    ghost invariant = { λ k. k.kept.plans ≡ P.plans };
 }
 
 impl<P: Plans> KeptOf<P> {
     /// These groups, whose plans are those of the run.
     pub fn new(kept: Kept) -> KeptOf<P>
-        ensures { result.kept ≡ kept }
+        requires { kept.plans ≡ P.plans }
+        ensures { result ≡ kept }
     {
         KeptOf {
             kept,
@@ -46,12 +62,19 @@ impl<P: Plans> KeptOf<P> {
         }
     }
 
+    /// How many plans there are.
+    pub fn len(&self) -> usize
+        ensures { result ≡ length self.now.plans }
+    {
+        self.kept.len()
+    }
+
     /// The rows of a plan: over each state that this is right for, those of its query, with their
     /// standings, in any order.
     pub fn rows(&self, i: usize) -> Result<Bag, AllocError>
-        requires { i < length self.now.kept.plans }
+        requires { i < length self.now.plans }
         ensures { IfOk result (λ bag. (state : Tables) (plan : Plan)
-            → self.now.kept ≡ kept P.plans state → slice_get P.plans i ≡ Some plan
+            → self.now ≡ kept P.plans state → slice_get P.plans i ≡ Some plan
             → SameBag bag.rows (query_rows plan (table_rows state plan.table))) }
     {
         let rows = self.kept.rows(i)?;
@@ -60,7 +83,7 @@ impl<P: Plans> KeptOf<P> {
 }
 
 impl<P: Plans> Attachment for KeptOf<P> {
-    ghost is_right = { λ a state. a.kept ≡ kept P.plans state };
+    ghost is_right = { λ a state. a ≡ kept P.plans state };
 
     fn share(&self) -> Result<KeptOf<P>, AllocError> {
         Ok(KeptOf::new(self.kept.share()?))

@@ -35,7 +35,7 @@ pub trait Attachment: Drop {
         requires leaves { after before.now refresh.now ≡ Ok (arc_value state.now) }
         ensures { IfOk result (λ a. is_right a (arc_value state.now)) };
 
-    /// What is right for a state that is made anew.
+    /// One for a state, made of that state alone.
     fn anew(&self, alloc: Global, state: &Arc<State>) -> Result<Self, AllocError>
         ensures { IfOk result (λ a. is_right a (arc_value state.now)) };
 

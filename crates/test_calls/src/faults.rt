@@ -1,10 +1,9 @@
 //! Which calls files get, and calls of files and sink that fail.
 use crate::disks::SureDisk;
-use crate::runs::{FIRST_SET, REGIONS, SCRIPT, expect_run, folder_of, sink, words_of};
-use app_main::{Status, tpch};
+use crate::runs::{FIRST_SET, REGIONS, SCRIPT, expect_run, folder_of, run, sink};
+use app_main::Status;
 use base_io::{MemFiles, MemSink, OpenGate};
 use std::alloc::{AllocError, Global};
-use std::process::Abort;
 use std::sync::Wait;
 use std::test::Fail;
 use std::thread::Threads;
@@ -28,27 +27,24 @@ fn ends_at_a_reading_fault(rt: HostRuntime) -> Result<(), Fail> {
     Ok(())
 }
 
-/// Runs the words over the files, and compares how many calls these got.
-fn expect_calls<R: Threads + Wait + Sync + Abort>(
+/// Runs the words over the files, and gives how many calls these got.
+fn calls_of<R: Threads + Wait + Sync>(
     rt: &R,
     alloc: Global,
     words: &[&str],
     mut files: MemFiles,
-    calls: u64,
-) -> Result<(), AllocError> {
-    let words = words_of(alloc, words)?;
+) -> Result<u64, AllocError> {
     let mut out = sink(alloc);
-    let _status = tpch(
+    let _status = run(
         rt,
         alloc,
-        &words,
+        words,
         &mut files,
         &mut out,
         &mut SureDisk,
         &OpenGate,
-    );
-    assert_eq!(rt; files.calls, calls);
-    Ok(())
+    )?;
+    Ok(files.calls)
 }
 
 const CALLS: [(&[&str], &str, &str, u64); 6] = [
@@ -69,7 +65,7 @@ fn opens_no_other_file(rt: HostRuntime) -> Result<(), Fail> {
     let alloc = rt.alloc();
     for (words, script, regions, calls) in &CALLS {
         let files = folder_of(alloc, script, &[("d/region.tbl", regions)], &[])?;
-        expect_calls(&rt, alloc, words, files, *calls)?;
+        assert_eq!(rt; calls_of(&rt, alloc, words, files)?, *calls);
     }
     Ok(())
 }
@@ -110,35 +106,24 @@ fn ends_at_a_writing_fault(rt: HostRuntime) -> Result<(), Fail> {
     Ok(())
 }
 
-/// Runs a session, and gives how many calls its files got.
-fn calls_of<R: Threads + Wait + Sync + Abort>(
+/// Runs a session over the first set's folder, and gives how many calls its files got.
+fn session_calls<R: Threads + Wait + Sync>(
     rt: &R,
     alloc: Global,
     script: &str,
 ) -> Result<u64, AllocError> {
-    let words = words_of(alloc, &["session", "d", "s"])?;
-    let mut files = folder_of(alloc, script, &FIRST_SET, &[])?;
-    let mut out = sink(alloc);
-    let _status = tpch(
-        rt,
-        alloc,
-        &words,
-        &mut files,
-        &mut out,
-        &mut SureDisk,
-        &OpenGate,
-    );
-    Ok(files.calls)
+    let files = folder_of(alloc, script, &FIRST_SET, &[])?;
+    calls_of(rt, alloc, &SESSION, files)
 }
 
 // A refresh file is read where it is first named: each of them with three calls.
 #[test]
 fn files_are_read_once(rt: HostRuntime) -> Result<(), Fail> {
     let alloc = rt.alloc();
-    let none = calls_of(&rt, alloc, "select count(*) from orders;")?;
-    let insert = calls_of(&rt, alloc, "refresh insert 1;")?;
-    let both = calls_of(&rt, alloc, "refresh insert 1; refresh delete 1;")?;
-    let again = calls_of(
+    let none = session_calls(&rt, alloc, "select count(*) from orders;")?;
+    let insert = session_calls(&rt, alloc, "refresh insert 1;")?;
+    let both = session_calls(&rt, alloc, "refresh insert 1; refresh delete 1;")?;
+    let again = session_calls(
         &rt,
         alloc,
         "refresh insert 1; refresh delete 1; refresh insert 1; refresh delete 1;",

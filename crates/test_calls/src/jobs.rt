@@ -2,8 +2,8 @@
 //! its files that fail.
 use crate::disks::SureDisk;
 use crate::gates::MeetGate;
-use crate::runs::{FIRST_SET, folder_of, sink, words_of};
-use app_main::{Status, tpch};
+use crate::runs::{job_folder, run_job};
+use app_main::Status;
 use base_io::{Gate, OpenGate};
 use std::alloc::{AllocError, Global};
 use std::sync::Wait;
@@ -42,27 +42,21 @@ lineitem rows 1
 ";
 
 /// Runs the job over the first set's folder, of which these calls fail. The status, and the text.
-fn run_job<R: Threads + Wait + Sync, G: Gate + Sync>(
+fn run_two<R: Threads + Wait + Sync, G: Gate + Sync>(
     rt: &R,
     alloc: Global,
     failing: &[u64],
     gate: &G,
 ) -> Result<(Status, Vec<u8>), AllocError> {
-    let mut files = vec![in alloc; ("j", JOB), ("a", COUNTS), ("b", COUNTS)]?;
-    for file in FIRST_SET {
-        files.push(file)?;
-    }
-    let mut files = folder_of(alloc, "", &files, failing)?;
-    let words = words_of(alloc, &["throughput", "d", "j"])?;
-    let mut out = sink(alloc);
-    let status = tpch(rt, alloc, &words, &mut files, &mut out, &mut SureDisk, gate);
-    Ok((status, out.bytes))
+    let scripts = [("j", JOB), ("a", COUNTS), ("b", COUNTS)];
+    let mut files = job_folder(alloc, &scripts, failing)?;
+    run_job(rt, alloc, &mut files, &mut SureDisk, gate)
 }
 
 #[test]
 fn two_sessions_meet_the_publisher(rt: HostRuntime) -> Result<(), Fail> {
     let gate = MeetGate::new(&rt);
-    let (status, text) = run_job(&rt, rt.alloc(), &[], &gate)?;
+    let (status, text) = run_two(&rt, rt.alloc(), &[], &gate)?;
     assert_eq!(rt; status, Status::Done);
     assert_eq!(rt; text.as_slice(), MET.as_bytes());
     assert_eq!(rt; gate.misses(), 0);
@@ -75,11 +69,11 @@ fn two_sessions_meet_the_publisher(rt: HostRuntime) -> Result<(), Fail> {
 fn a_job_ends_at_a_reading_fault(rt: HostRuntime) -> Result<(), Fail> {
     let alloc = rt.alloc();
     for call in 1..38 {
-        let (status, text) = run_job(&rt, alloc, &[call], &OpenGate)?;
+        let (status, text) = run_two(&rt, alloc, &[call], &OpenGate)?;
         assert_eq!(rt; status, Status::ReadFault);
         assert!(rt; text.is_empty());
     }
-    let (status, _) = run_job(&rt, alloc, &[38], &OpenGate)?;
+    let (status, _) = run_two(&rt, alloc, &[38], &OpenGate)?;
     assert_eq!(rt; status, Status::Done);
     Ok(())
 }

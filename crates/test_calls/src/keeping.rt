@@ -1,6 +1,6 @@
 //! A job that keeps its refreshes in a journal, over a disk whose calls fail.
-use crate::runs::{FIRST_SET, folder_of, sink, words_of};
-use app_main::{Status, tpch};
+use crate::runs::{job_folder, run_job};
+use app_main::Status;
 use base_disk::MemDisk;
 use base_io::OpenGate;
 use std::alloc::{AllocError, Global};
@@ -91,21 +91,15 @@ fn disk_of(alloc: Global, bytes: Vec<u8>, failing: &[u64]) -> Result<MemDisk, Al
 }
 
 /// Runs the job over the first set's folder and this disk. The status, and the text.
-fn run_job<R: Threads + Wait + Sync>(
+fn run_kept<R: Threads + Wait + Sync>(
     rt: &R,
     alloc: Global,
     job: &str,
     disk: &mut MemDisk,
 ) -> Result<(Status, Vec<u8>), AllocError> {
-    let mut files = vec![in alloc; ("j", job), ("a", "select count(*) from orders;")]?;
-    for file in FIRST_SET {
-        files.push(file)?;
-    }
-    let mut files = folder_of(alloc, "", &files, &[])?;
-    let words = words_of(alloc, &["throughput", "d", "j"])?;
-    let mut out = sink(alloc);
-    let status = tpch(rt, alloc, &words, &mut files, &mut out, disk, &OpenGate);
-    Ok((status, out.bytes))
+    let scripts = [("j", job), ("a", "select count(*) from orders;")];
+    let mut files = job_folder(alloc, &scripts, &[])?;
+    run_job(rt, alloc, &mut files, disk, &OpenGate)
 }
 
 /// The next run begins where the last one ended.
@@ -113,10 +107,10 @@ fn run_job<R: Threads + Wait + Sync>(
 fn a_journal_is_read_again(rt: HostRuntime) -> Result<(), Fail> {
     let alloc = rt.alloc();
     let mut disk = disk_of(alloc, Vec::new(alloc), &[])?;
-    let (status, text) = run_job(&rt, alloc, JOB, &mut disk)?;
+    let (status, text) = run_kept(&rt, alloc, JOB, &mut disk)?;
     assert_eq!(rt; status, Status::Done);
     assert_eq!(rt; text.as_slice(), FIRST.as_bytes());
-    let (status, text) = run_job(&rt, alloc, JOB, &mut disk)?;
+    let (status, text) = run_kept(&rt, alloc, JOB, &mut disk)?;
     assert_eq!(rt; status, Status::SomeRefused);
     assert_eq!(rt; text.as_slice(), SECOND.as_bytes());
     Ok(())
@@ -132,7 +126,7 @@ fn expect_status<R: Threads + Wait + Sync + Abort>(
     status: Status,
 ) -> Result<(), AllocError> {
     let mut disk = disk_of(alloc, Vec::new(alloc), &[call])?;
-    let (answer, text) = run_job(rt, alloc, job, &mut disk)?;
+    let (answer, text) = run_kept(rt, alloc, job, &mut disk)?;
     assert_eq!(rt; answer, status);
     assert_eq!(rt; text.is_empty(), status == Status::DiskFault);
     Ok(())
@@ -167,13 +161,13 @@ fn a_disk_that_fails_ends_a_job_of_senders(rt: HostRuntime) -> Result<(), Fail> 
 fn each_crash_leaves_a_journal(rt: HostRuntime) -> Result<(), Fail> {
     let alloc = rt.alloc();
     let mut disk = disk_of(alloc, Vec::new(alloc), &[])?;
-    let _first = run_job(&rt, alloc, JOB, &mut disk)?;
+    let _first = run_kept(&rt, alloc, JOB, &mut disk)?;
     // The journal is made by a write and a sync, and the entry put by two of each.
     for count in 2..=6usize {
         for fill in [0u8, 1, 7, 255] {
             let image = disk.image(alloc, count, fill)?.ok_or("an image")?;
             let mut left = disk_of(alloc, image, &[])?;
-            let (status, text) = run_job(&rt, alloc, READING, &mut left)?;
+            let (status, text) = run_kept(&rt, alloc, READING, &mut left)?;
             assert_eq!(rt; status, Status::Done);
             let is_kept = text.as_slice() == KEPT.as_bytes();
             assert!(rt; is_kept || (count < 6 && text.as_slice() == EMPTY.as_bytes()));

@@ -1,7 +1,8 @@
 //! Runs over files and a sink in memory.
 use crate::disks::SureDisk;
 use app_main::{Status, tpch};
-use base_io::{MemFile, MemFiles, MemSink, OpenGate};
+use base_disk::Disk;
+use base_io::{Files, Gate, MemFile, MemFiles, MemSink, OpenGate, Sink};
 use std::alloc::{AllocError, Global};
 use std::process::Abort;
 use std::sync::Wait;
@@ -69,6 +70,34 @@ pub(crate) fn files_of(
     Ok(MemFiles::new(held, Vec::from_slice(alloc, failing)?))
 }
 
+/// Runs words over files, a sink, a disk and a gate.
+pub(crate) fn run<R: Threads + Wait + Sync, F: Files, S: Sink, D: Disk + Send, G: Gate + Sync>(
+    rt: &R,
+    alloc: Global,
+    words: &[&str],
+    files: &mut F,
+    out: &mut S,
+    disk: &mut D,
+    gate: &G,
+) -> Result<Status, AllocError> {
+    let words = words_of(alloc, words)?;
+    Ok(tpch(rt, alloc, &words, files, out, disk, gate))
+}
+
+/// Runs the job `j` over files. The status, and the text.
+pub(crate) fn run_job<R: Threads + Wait + Sync, D: Disk + Send, G: Gate + Sync>(
+    rt: &R,
+    alloc: Global,
+    files: &mut MemFiles,
+    disk: &mut D,
+    gate: &G,
+) -> Result<(Status, Vec<u8>), AllocError> {
+    let mut out = sink(alloc);
+    let words = ["throughput", "d", "j"];
+    let status = run(rt, alloc, &words, files, &mut out, disk, gate)?;
+    Ok((status, out.bytes))
+}
+
 /// Runs the words over the files, with a sink of which these calls fail, and compares the status
 /// and the text.
 pub(crate) fn expect_run<R: Threads + Wait + Sync + Abort>(
@@ -80,16 +109,15 @@ pub(crate) fn expect_run<R: Threads + Wait + Sync + Abort>(
     status: Status,
     text: &str,
 ) -> Result<(), AllocError> {
-    let words = words_of(alloc, words)?;
-    let answer = tpch(
+    let answer = run(
         rt,
         alloc,
-        &words,
+        words,
         &mut files,
         &mut out,
         &mut SureDisk,
         &OpenGate,
-    );
+    )?;
     assert_eq!(rt; answer, status, "with {text}");
     assert_eq!(rt; out.bytes.as_slice(), text.as_bytes());
     Ok(())
@@ -98,6 +126,17 @@ pub(crate) fn expect_run<R: Threads + Wait + Sync + Abort>(
 /// A sink that takes all that it is given.
 pub(crate) fn sink(alloc: Global) -> MemSink {
     MemSink::new(Vec::new(alloc), usize::MAX, Vec::new(alloc))
+}
+
+/// The folder of the first set, with a job and its scripts, of which these calls fail.
+pub(crate) fn job_folder<'a>(
+    alloc: Global,
+    scripts: &[(&'a str, &'a str)],
+    failing: &[u64],
+) -> Result<MemFiles, AllocError> {
+    let mut files = Vec::from_slice(alloc, scripts)?;
+    files.extend_from_slice(&FIRST_SET)?;
+    folder_of(alloc, "", &files, failing)
 }
 
 /// The files of a folder `d` that has the eight tables, all of them empty but for those given, and

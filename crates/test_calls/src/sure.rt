@@ -6,7 +6,7 @@ ghost use Rattle.app_main.specs.Words.{command_of};
 ghost use Rattle.base_io.specs.Memory.{folder_of};
 
 use crate::disks::SureDisk;
-use crate::runs::{REGIONS, SCRIPT, folder_of, sink, words_of};
+use crate::runs::{REGIONS, SCRIPT, folder_of, run, sink, words_of};
 use app_main::{Status, tpch};
 use base_io::{Files, MemSink, OpenGate, Sink, SureFiles, SureSink};
 use std::alloc::{AllocError, Global};
@@ -71,8 +71,8 @@ fn expect_status<R: Threads + Wait + Sync + Abort, F: Files, S: Sink>(
     out: &mut S,
     status: Status,
 ) -> Result<(), AllocError> {
-    let words = words_of(alloc, &["session", "d", "s"])?;
-    let answer = tpch(rt, alloc, &words, files, out, &mut SureDisk, &OpenGate);
+    let words = ["session", "d", "s"];
+    let answer = run(rt, alloc, &words, files, out, &mut SureDisk, &OpenGate)?;
     assert_eq!(rt; answer, status);
     Ok(())
 }

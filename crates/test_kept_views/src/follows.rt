@@ -73,7 +73,7 @@ fn first_number(alloc: Global, bag: &Bag) -> Result<Option<i128>, AllocError> {
 
 /// The number of orders that the first plan counts.
 fn counted<P: Plans>(alloc: Global, groups: &KeptOf<P>) -> Result<Option<i128>, AllocError> {
-    if groups.kept.len() == 0 {
+    if groups.len() == 0 {
         return Ok(None);
     }
     let bag = groups.rows(0)?;

@@ -3,8 +3,8 @@ ghost use Rattle.std.specs.Prelude.{◌≡◌, ◌+◌, ◌≤◌, true, length,
 ghost use Rattle.store_refresh_entries.specs.Change.{MayBeStored};
 ghost use Rattle.store_gateway.specs.Feeds.{GatewayFits, gateway_name};
 
+use crate::files::no_rows;
 use crate::one_place::{numbered, send_both};
-use base_columns::Rows;
 use std::alloc::{AllocError, Global};
 use std::marker::PhantomData;
 use std::sync::Wait;
@@ -13,22 +13,7 @@ use std::thread;
 use std::thread::Threads;
 use store_gateway::{GatewayFeed, open_gateway};
 use store_snapshots::{Feed, FeedError, FeedTurn, Publisher, open};
-use store_state::{Refresh, State};
-
-/// Eight tables without rows.
-fn no_rows(alloc: Global) -> Result<State, AllocError> {
-    let tables = vec![in alloc;
-        Rows::new(alloc),
-        Rows::new(alloc),
-        Rows::new(alloc),
-        Rows::new(alloc),
-        Rows::new(alloc),
-        Rows::new(alloc),
-        Rows::new(alloc),
-        Rows::new(alloc),
-    ]?;
-    State::new(alloc, tables)
-}
+use store_state::Refresh;
 
 /// Takes turns up to the feed's end. How many refreshes were accepted, and how many refused.
 fn take_turns<R: Wait>(

@@ -1,12 +1,12 @@
 //! Refreshes that are read from their files, and states of such rows.
-ghost use Rattle.std.specs.Prelude.{◌≡◌, ◌<◌, IfOk};
+ghost use Rattle.std.specs.Prelude.{◌≡◌, ◌<◌, IfOk, length};
 ghost use Rattle.base_schema.specs.Kinds.{RowsAreOf};
 
-use base_columns::Rows;
+use base_columns::{Batch, Rows};
 use base_refusals::RefreshFile;
 use base_schema::TableName;
 use base_value::{Row, Value};
-use plan_algebra::{Steps, Tables};
+use plan_algebra::{Piece, Steps, Tables};
 use std::alloc::{AllocError, Global};
 use std::sync::ledger::{Blank, Ledger};
 use std::test::Fail;
@@ -24,7 +24,7 @@ pub(crate) const NINE_ONE: &[u8] =
     b"9|1|1|1|1.00|5.00|0.00|0.00|N|O|1996-02-01|1996-02-02|1996-02-03|NONE|MAIL|w|\n";
 
 /// Eight tables without rows.
-fn no_rows(alloc: Global) -> Result<State, AllocError> {
+pub(crate) fn no_rows(alloc: Global) -> Result<State, AllocError> {
     let tables = vec![in alloc;
         Rows::new(alloc),
         Rows::new(alloc),
@@ -105,6 +105,35 @@ pub(crate) fn keys(alloc: Global, rows: &[Row]) -> Result<Vec<i128>, Fail> {
     Ok(keys)
 }
 
+/// The number in the first column of a row of a batch, after others.
+fn push_key(alloc: Global, batch: &Batch, i: usize, keys: &mut Vec<i128>) -> Result<(), AllocError>
+    requires { i < length batch.now.rows }
+{
+    let row = batch.row(alloc, i)?;
+    if let [Value::Number(_, key), ..] = row.as_slice() {
+        keys.push(*key)?;
+    }
+    Ok(())
+}
+
+/// The keys of a piece, after others.
+fn push_keys(alloc: Global, piece: &Piece, keys: &mut Vec<i128>) -> Result<(), AllocError> {
+    let batch = piece.batch(alloc)?;
+    for i in 0..batch.len() {
+        push_key(alloc, &batch, i, keys)?;
+    }
+    Ok(())
+}
+
+/// The keys of pieces.
+fn keys_of(alloc: Global, pieces: &[Piece]) -> Result<Vec<i128>, AllocError> {
+    let mut keys = Vec::new(alloc);
+    for piece in pieces {
+        push_keys(alloc, piece, &mut keys)?;
+    }
+    Ok(keys)
+}
+
 /// The keys of a table's rows, piece by piece as a scan hands them out, and how many pieces it has.
 pub(crate) fn scanned<T: Tables, L: Ledger>(
     alloc: Global,
@@ -118,15 +147,6 @@ pub(crate) fn scanned<T: Tables, L: Ledger>(
 {
     let mut steps = Steps::<L>::new(blank);
     let pieces = tables.scan(alloc, table, &mut steps)?;
-    let mut keys = Vec::new(alloc);
-    for piece in &pieces {
-        let batch = piece.batch(alloc)?;
-        for i in 0..batch.len() {
-            let row = batch.row(alloc, i)?;
-            if let [Value::Number(_, key), ..] = row.as_slice() {
-                keys.push(*key)?;
-            }
-        }
-    }
+    let keys = keys_of(alloc, pieces.as_slice())?;
     Ok((keys, pieces.len()))
 }

@@ -5,8 +5,9 @@ ghost use Rattle.store_snapshots.specs.Ruled.{opening_of};
 
 use crate::files::{NINE, NINE_ONE, ORDERS, delete, insert, keys, scanned, state};
 use base_schema::TableName;
-use std::alloc::Global;
+use std::alloc::{AllocError, Global};
 use std::marker::Brand;
+use std::process::Abort;
 use std::sync::ledger::Blank;
 use std::sync::{Arc, Wait};
 use std::test::Fail;
@@ -120,7 +121,8 @@ fn base(alloc: Global, list: Vec<Refresh>) -> Result<Directory, Fail>
     ensures { IfOk result (λ d. d.most ≡ length d.list) }
 {
     let most = list.len();
-    let directory = Directory::new(alloc, state(alloc, &[ORDERS], &[])?, (), list, most)?;
+    let state = state(alloc, &[ORDERS], &[])?;
+    let directory = Directory::new(alloc, state, (), list, most)?;
     Ok(directory)
 }
 
@@ -136,14 +138,24 @@ fn next(directory: &mut Directory) -> Result<Directory, Fail>
     Ok(after)
 }
 
+/// Whether a version has this number, and orders of these keys.
+fn has_orders(
+    alloc: Global,
+    directory: &Directory,
+    version: u64,
+    wanted: &[i128],
+) -> Result<bool, Fail> {
+    let rows = directory.rows(TableName::Orders)?;
+    let keys = keys(alloc, rows.as_slice())?;
+    Ok(directory.version() == version && keys.as_slice() == wanted)
+}
+
 /// A reader of the versions 0, 1 and 2.
 fn sure_reader(alloc: Global) -> Result<Reader<SureEntry>, Fail> {
-    let mut zero = base(alloc, pairs(alloc, 1)?)?;
+    let list = pairs(alloc, 1)?;
+    let mut zero = base(alloc, list)?;
     let mut one = next(&mut zero)?;
     let two = next(&mut one)?;
-    if keys(alloc, &two.rows(TableName::Orders)?)?.as_slice() != [7, 8].as_slice() {
-        return Err("version 2 has other orders".into());
-    }
     let first = Arc::new(alloc, zero)?;
     let versions = vec![in alloc;
         Arc::try_clone(&first)?,
@@ -171,35 +183,65 @@ fn after(mut directory: Directory, count: usize) -> Result<Directory, Fail> {
     Ok(directory)
 }
 
-/// Whether a version has this number, and orders of these keys.
-fn has_orders(
+/// The version after so many pairs of refreshes.
+fn after_pairs(alloc: Global, count: usize) -> Result<Directory, Fail> {
+    let list = pairs(alloc, count)?;
+    let base = base(alloc, list)?;
+    after(base, count.saturating_mul(2))
+}
+
+#[test]
+fn pairs_leave_the_orders(rt: HostRuntime) -> Result<(), Fail> {
+    let second = after_pairs(rt.alloc(), 1)?;
+    assert!(rt; has_orders(rt.alloc(), &second, 2, &[7, 8])?);
+    Ok(())
+}
+
+/// Whether the earlier version of this number has orders of these keys.
+fn gives(alloc: Global, last: &Directory, version: u64, wanted: &[i128]) -> Result<bool, Fail> {
+    let earlier = last.older(version)?;
+    has_orders(alloc, &earlier, version, wanted)
+}
+
+/// Whether it has them where it is asked for after a compaction.
+fn gives_compacted(
     alloc: Global,
-    directory: &Directory,
+    last: &Directory,
     version: u64,
     wanted: &[i128],
 ) -> Result<bool, Fail> {
-    let keys = keys(alloc, &directory.rows(TableName::Orders)?)?;
-    Ok(directory.version() == version && keys.as_slice() == wanted)
+    let compacted = last.compacted()?;
+    let directory = compacted.directory()?;
+    gives(alloc, &directory, version, wanted)
+}
+
+fn is_gone(last: &Directory, version: u64) -> bool {
+    matches!(last.older(version), Err(VersionError::Gone))
+}
+
+fn is_unknown(last: &Directory, version: u64) -> bool {
+    matches!(last.older(version), Err(VersionError::Unknown))
+}
+
+/// Expects of a version of number 66 and of its third what they give.
+fn expect_earlier<R: Abort>(
+    rt: &R,
+    alloc: Global,
+    last: &Directory,
+    third: &Directory,
+) -> Result<(), Fail> {
+    assert!(rt; has_orders(alloc, third, 3, &[7, 8, 9])?);
+    assert!(rt; gives_compacted(alloc, last, 64, &[7, 8])?);
+    assert!(rt; is_gone(last, 2));
+    assert!(rt; is_unknown(third, 4));
+    // Not kept any more, so it is made anew.
+    assert!(rt; gives(alloc, third, 1, &[7, 8, 9])?);
+    Ok(())
 }
 
 #[test]
 fn gives_earlier_versions(rt: HostRuntime) -> Result<(), Fail> {
-    let alloc = rt.alloc();
-    let base = base(alloc, pairs(alloc, 33)?)?;
-    let last = after(base, 66)?;
+    let last = after_pairs(rt.alloc(), 33)?;
     let third = last.older(3)?;
-    assert!(rt; has_orders(alloc, &third, 3, &[7, 8, 9])?);
-    assert!(rt;
-        has_orders(
-            alloc,
-            &last.compacted()?.directory()?.older(64)?,
-            64,
-            &[7, 8]
-        )?
-    );
-    assert!(rt; matches!(last.older(2), Err(VersionError::Gone)));
-    assert!(rt; matches!(third.older(4), Err(VersionError::Unknown)));
-    // Not kept any more, so it is made anew.
-    assert!(rt; has_orders(alloc, &third.older(1)?, 1, &[7, 8, 9])?);
-    Ok(())
+    expect_earlier(&rt, rt.alloc(), &last, &third)
 }

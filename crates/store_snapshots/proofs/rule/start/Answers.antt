@@ -1,5 +1,8 @@
-use Rattle.std.proofs.Common.{◌≡◌, ◌∙◌, [], ap, rules, drop}
+use Rattle.std.proofs.Common.{◌≡◌, ◌∙◌, [], ap, rules, drop, subst}
 use Rattle.std.specs.Arc.{arc_value}
+use Rattle.std.specs.Prelude.{OnOk}
+use Rattle.left_right.specs.Sides.{view}
+use Rattle.store_snapshots.proofs.Results.{of_value, on_both}
 use Rattle.store_snapshots.proofs.Steps.{admitted, fits_nobody, names_it, nowhere}
 use Rattle.store_snapshots.specs.Rule.{on_shelf, own_view}
 use Rattle.store_snapshots.proofs.rule.start.Goals as goal
@@ -18,8 +21,13 @@ new-requires-clause-rule g c =
 pub returns-in-Ok : goal.returns-in-Ok
 returns-in-Ok g c =
     let writer = c.in_ok-writer.writer in
-    let none : drop writer.behind writer.log.items ≡ [] = c.in_ok-writer.ensures.1 in
-    let given = c.in-Ok.ensures.values.0 in
-    let same : on_shelf c.publish_as-writer.result.0.desk.shown.value ≡ on_shelf writer.desk.shown.value = simp none at given in
-    let first : on_shelf writer.desk.shown.value ≡ arc_value c.args.directory = ap (λ s. on_shelf s) c.in_ok-writer.ensures.0 in
-    (same ∙ first, c.in-Ok.ensures.rule ∙ ap own_view (same ∙ first))
+    let after = c.publish_as-writer.result.0.desk in
+    let made = of_value _ c.new.result writer c.in_ok-writer.ensures.value c.new.ensures in
+    let none : drop writer.behind writer.log.items ≡ [] = made.1 in
+    let first : on_shelf writer.desk.shown.value ≡ arc_value c.args.directory = ap (λ s. on_shelf s) made.0 in
+    subst (λ r. OnOk r ((on_shelf after.shown.value ≡ arc_value c.args.directory) × (view after.place ≡ own_view (arc_value c.args.directory)))) c.in-Ok.is
+    (on_both _ _ c.publish_as-writer.result.1 c.publish_as-writer.ensures.values c.publish_as-writer.ensures.rule
+    (λ t values rule.
+    let given = values.0 in
+    let same : on_shelf after.shown.value ≡ on_shelf writer.desk.shown.value = simp none at given in
+    (same ∙ first, rule ∙ ap own_view (same ∙ first))))

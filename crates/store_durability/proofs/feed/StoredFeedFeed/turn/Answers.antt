@@ -2,7 +2,7 @@ use Rattle.std.proofs.Common.{◌+◌, ℕ, None, subst, sym}
 use Rattle.store_snapshots.specs.Turns.{IsAllTried, TakesTurn, list_tried}
 use Rattle.store_snapshots.specs.declared.feed.FeedTurn.TheVariants as turn
 use Rattle.store_versions.specs.Trials.{Trials}
-use Rattle.store_durability.proofs.ListTurns.{list_published, list_refused}
+use Rattle.store_durability.proofs.ListTurns.{TakesRefused, list_published, list_refused}
 use Rattle.store_durability.proofs.feed.StoredFeedFeed.turn.Goals as goal
 
 pub returns-in-Published-clause-turn : goal.returns-in-Published-clause-turn
@@ -26,5 +26,5 @@ returns-in-Refused-clause-turn g c =
     let cause = c.in-Refused.cause in
     let takes = rw c.in-Refused.is at c.in_ok-note.ensures.turn in
     let same = c.in_ok-note.ensures.count in
-    subst (λ (y : Trials × ℕ). TakesTurn {A = g.row.A.Denot} {g = g.A.Attachment} (list_tried start count) (list_tried y.0 (y.1 + 1)) IsAllTried old new (turn.Refused None cause)) (λ i. (sym same.1 i, sym same.0 i))
+    subst (λ (y : Trials × ℕ). TakesRefused (list_tried start count) (list_tried y.0 (y.1 + 1)) cause old new) (λ i. (sym same.1 i, sym same.0 i))
     (list_refused start count old new cause c.requires.1 takes.0 takes.1)
