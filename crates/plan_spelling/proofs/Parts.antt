@@ -368,13 +368,13 @@ table_back t.Customer = refl
 table_back t.Orders = refl
 table_back t.Lineitem = refl
 
-kept_back : (a : KeptAggregate) → kept_part (aggregate (plain_aggregate a)) ≡ Some a
+pub kept_back : (a : KeptAggregate) → kept_part (aggregate (plain_aggregate a)) ≡ Some a
 kept_back kept.CountRows = refl
 kept_back (kept.Count e) = refl
 kept_back (kept.Sum scale e) = refl
 
 -- the numbers of a kept plan, read back
-kept_numbers_back : (number : ℕ) (plan : KeptPlan) (ps : List Part)
+pub kept_numbers_back : (number : ℕ) (plan : KeptPlan) (ps : List Part)
     → kept_read number (length plan.by) (length plan.list) (plan.by ++ (plan.list ++ table_name plan.table)) (expr plan.condition ∷ ps)
     ≡ kept_made number plan.by plan.list (Some plan.table) plan.condition (all_of kept_part ps)
 kept_numbers_back number plan ps =
