@@ -66,8 +66,8 @@ MayBeJournalFault base (fault.RefusedEntry number cause) = (changes : List Chang
 MayBeJournalFault base fault.JournalTooLong = ⊤
 MayBeJournalFault base other = ⊥
 
--- what such a file may keep: refreshes each of which is read back, and accepted after those before
--- it
+-- what such a file may keep: refreshes each of which is read back,
+-- and accepted after those before it
 abbrev pub MayBeJournal : List ℕ → State → Result (List Change) BadInput → Type 0
 MayBeJournal name base (Ok changes) =
     AllByRecursion IsReadable changes × (taken base changes ≡ changes)

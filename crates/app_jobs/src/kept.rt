@@ -51,7 +51,7 @@ pub enum Played {
 pub struct OpenJob<A: Attachment = ()> {
     pub alloc: Global,
     pub sessions: Vec<Session>,
-    /// A reader for each session.
+    /// What they read by: one for each session, or fewer where entries were refused.
     pub readers: Vec<Reader<RuledEntry<A>>>,
     pub publisher: Publisher<A>,
     pub journal: Journal,

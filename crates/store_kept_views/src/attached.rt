@@ -20,7 +20,7 @@ pub trait Plans {
     ghost plans: { List Plan };
 }
 
-/// The plans that a proof picks where a run begins.
+/// For a run whose plans the proof of a call picks; the list here stands for none of them.
 impl Plans for Brand {
     ghost use Rattle.std.specs.Prelude.{[]};
 

@@ -13,8 +13,8 @@ use Rattle.store_snapshots.specs.declared.shelf.Shelf.{Shelf}
 use Rattle.store_snapshots.specs.declared.hall.Another.TheVariants.{Made, Refused}
 
 -- the version that a hall shows
-abbrev pub shown_in : {A : Type 0} {k : absorb.Ghosts (Shelf A) (Shelf A) (Directory A)} → RuledHall A k
-    → Trials
+abbrev pub shown_in : {A : Type 0} {k : absorb.Ghosts (Shelf A) (Shelf A) (Directory A)}
+    → RuledHall A k → Trials
 shown_in hall = on_shelf hall.writer.desk.shown.value
 
 -- by the openings, the lists that fit and the numbers of entries, of the version that is shown,

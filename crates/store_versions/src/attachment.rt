@@ -35,7 +35,7 @@ pub trait Attachment: Drop {
         requires leaves { after before.now refresh.now ≡ Ok (arc_value state.now) }
         ensures { IfOk result (λ a. is_right a (arc_value state.now)) };
 
-    /// One for a state, made of that state alone.
+    /// One for a state, whatever state this one is right for.
     fn anew(&self, alloc: Global, state: &Arc<State>) -> Result<Self, AllocError>
         ensures { IfOk result (λ a. is_right a (arc_value state.now)) };
 

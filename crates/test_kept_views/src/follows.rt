@@ -92,8 +92,8 @@ fn shared_and_anew<A: Attachment>(
     Ok((share, anew))
 }
 
-/// What the first plan counts at the base; after each of the refreshes; and there once more, in a
-/// share and made anew over the base.
+/// What the first plan counts: at the base; then after each refresh three times, in the version's
+/// groups, in a share of them, and in groups made anew over the base.
 fn followed<P: Plans>(
     alloc: Global,
     base: State,

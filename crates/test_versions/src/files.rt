@@ -105,7 +105,7 @@ pub(crate) fn keys(alloc: Global, rows: &[Row]) -> Result<Vec<i128>, Fail> {
     Ok(keys)
 }
 
-/// The number in the first column of a row of a batch, after others.
+/// Puts the number in the first column of a row of a batch behind others.
 fn push_key(alloc: Global, batch: &Batch, i: usize, keys: &mut Vec<i128>) -> Result<(), AllocError>
     requires { i < length batch.now.rows }
 {
@@ -116,7 +116,7 @@ fn push_key(alloc: Global, batch: &Batch, i: usize, keys: &mut Vec<i128>) -> Res
     Ok(())
 }
 
-/// The keys of a piece, after others.
+/// Puts the keys of a piece behind others.
 fn push_keys(alloc: Global, piece: &Piece, keys: &mut Vec<i128>) -> Result<(), AllocError> {
     let batch = piece.batch(alloc)?;
     for i in 0..batch.len() {

@@ -110,7 +110,7 @@ enum Act {
     HasThree,
 }
 
-/// Lets it happen. Whether the scan has what it says.
+/// Lets it happen; or, for one of the last four, whether the scan has what it says.
 fn happens(alloc: Global, machine: &mut Machine, next: &Act) -> Result<bool, Fail> {
     match next {
         Act::Publish => takes(machine, Step::Publish),
