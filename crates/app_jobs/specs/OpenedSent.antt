@@ -20,7 +20,6 @@ use Rattle.app_sessions.specs.Workers.{AreOfOpening}
 use Rattle.app_sessions.specs.declared.job.JobSetup.{JobSetup}
 use Rattle.app_jobs.specs.Receivers.{BothEnd, MaySendBoth}
 use Rattle.app_jobs.specs.Senders.{order_sent}
-use Rattle.app_jobs.specs.declared.kept.OpenJob.{OpenJob}
 use Rattle.app_jobs.specs.declared.kept.Played.{Played}
 use Rattle.app_jobs.specs.declared.kept.Played.TheVariants as played
 use Rattle.app_jobs.specs.declared.kept_senders.SentJob.{SentJob}

@@ -52,8 +52,8 @@ IsTakenText base list most sessions taker (Some job) =
 
 -- the text of a job beside two senders that sent these refreshes after a list, in some order that
 -- keeps each sender's own
-pub record IsSentText (base : State) (list firsts seconds : List Change) (sessions : List JobSession)
-    (job : JobAnswer) : Type 0 where
+pub record IsSentText (base : State) (list firsts seconds : List Change)
+    (sessions : List JobSession) (job : JobAnswer) : Type 0 where
   pub sent : List (SenderId × Change)
   pub first : sent_by First sent ≡ firsts
   pub second : sent_by Second sent ≡ seconds

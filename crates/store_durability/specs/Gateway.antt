@@ -1,4 +1,4 @@
--- A publisher's list and then what two senders send, each of which is stored before it is published.
+-- A publisher's list and then what two senders send: each is stored before it is published.
 use Rattle.std.specs.Prelude.{◌≡◌, ◌⊎◌, ◌<◌, ◌≤◌, ◌+◌, ◌-◌, ◌*◌, ◌^◌, ℕ, Bool, true, false, List, [], ◌∷◌}
 use Rattle.std.specs.Prelude.{drop, length, Option}
 use Rattle.std.specs.List.{AllByRecursion}
@@ -39,8 +39,8 @@ pub record KeepsUp {D : Type 0} (is_reached : D → Bool) (may_leave : D → Lis
 abbrev pub both_named : Trials → Taking → List ℕ
 both_named start taker = start.done ∷ length start.list ∷ gateway_name taker.gateway
 
--- A publisher of the version fits the journal, its disk and the taker: the journal keeps up, and the
--- list may get longer by all that may still be taken.
+-- A publisher of the version fits the journal, its disk and the taker: the journal keeps up, and
+-- the list may get longer by all that may still be taken.
 pub record BothFit {D : Type 0} (is_reached : D → Bool) (may_leave : D → List ℕ → Type 0)
     (journal : Journal) (disk : D) (start : Trials) (count : ℕ) (taker : Taking)
     (version : Trials) : Type 0 where

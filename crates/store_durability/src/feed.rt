@@ -62,8 +62,8 @@ impl<D: Disk, A: Attachment> StoredFeed<D, A> {
         self.disk
     }
 
-    /// Has the publisher try its list's next refresh. After an error, or after Failed, no turn is to
-    /// be asked for: the disk may hold one refresh more than the publisher.
+    /// Has the publisher try its list's next refresh. After an error, or after Failed, no turn is
+    /// to be asked for: the disk may hold one refresh more than the publisher.
     #[tactic(auto, using(crate::proofs::Feeding::feeding))]
     pub fn try_next<R: Wait>(
         &mut self,

@@ -1,4 +1,4 @@
-//! A publisher's list and then what two senders send, each of which is stored before it is published.
+//! A publisher's list and then what two senders send: each is stored before it is published.
 ghost use Rattle.std.specs.Prelude.{◌≡◌, ◌<◌, ◌++◌, length, IfOk, IsErrOf, OnErr, OnOk};
 ghost use Rattle.base_io.specs.Outside.{Counts};
 ghost use Rattle.store_gateway.specs.Feeds.{GatewayIsOver, gateway_tried};
@@ -68,8 +68,8 @@ impl<D: Disk, A: Attachment> StoredGateway<D, A> {
         (disk, taker)
     }
 
-    /// Has the publisher try this refresh, which is the list's next one or, where none is left, comes
-    /// to its end.
+    /// Has the publisher try this refresh, which is the list's next one or, where none is left,
+    /// comes to its end.
     #[tactic(auto, using(crate::proofs::GatewayTurns::trying))]
     fn try_this<R: Wait>(
         &mut self,

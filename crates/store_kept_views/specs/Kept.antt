@@ -12,6 +12,7 @@ pub record KeptRows : Type 0 where
   pub plans : List KeptPlan
   pub tables : State
 
+-- those plans over those tables
 abbrev pub kept : List KeptPlan → State → KeptRows
 kept plans tables = record { plans = plans; tables = tables }
 
@@ -23,6 +24,7 @@ IsKept tables v = StandsFor v.0 v.1 (table_rows tables v.0.table)
 abbrev pub AreKept : State → List (KeptPlan × Entries) → Type 0
 AreKept tables views = All (IsKept tables) views
 
+-- the plans that they are kept for
 abbrev pub plans_of : List (KeptPlan × Entries) → List KeptPlan
 plans_of views = map (λ v. v.0) views
 
