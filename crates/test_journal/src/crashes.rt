@@ -1,11 +1,11 @@
 //! The journal on a disk in memory that fails or crashes.
 ghost use Rattle.std.specs.Prelude.{◌≡◌, ◌<◌, ◌^◌, true};
 
-use crate::plain::{ONE, Plain, SEVEN, disk_of, seven};
+use crate::plain::{Plain, SEVEN, disk_of, seven};
 use base_disk::{Disk, Reach};
 use std::alloc::{AllocError, Global};
 use std::test::Fail;
-use store_journal::{Appended, Journal, JournalFault, make, reopen};
+use store_journal::{Appended, Journal, make, reopen};
 
 /// How many entries a disk's journal has, where each of them is the one.
 fn count_sevens<D: Disk>(alloc: Global, disk: &mut D) -> Result<Option<usize>, AllocError> {
@@ -57,33 +57,8 @@ fn add_two<D: Disk>(
     }
 }
 
-#[test]
-fn an_entry_is_read(rt: HostRuntime) -> Result<(), Fail> {
-    let alloc = rt.alloc();
-    let mut disk = disk_of(alloc, &ONE, &[])?;
-    assert_eq!(rt; disk.reach("j"), Reach::Reached);
-    let (journal, values) = reopen::<_, Plain>(alloc, &mut disk)
-        .ok()
-        .ok_or("a journal")?;
-    assert_eq!(rt; journal.end, 12);
-    assert_eq!(rt; values.len(), 1);
-    assert_eq!(rt; sevens(alloc, &ONE)?, Some(1));
-    Ok(())
-}
-
-#[test]
-fn a_missing_gate_is_bad(rt: HostRuntime) -> Result<(), Fail> {
-    let alloc = rt.alloc();
-    let mut disk = disk_of(alloc, &ONE[..12], &[])?;
-    assert_eq!(rt; disk.reach("j"), Reach::Reached);
-    let answer = reopen::<_, Plain>(alloc, &mut disk);
-    assert!(rt; matches!(answer, Err(JournalFault::BadEntry(12))));
-    Ok(())
-}
-
 /// Each image of a journal that two entries are added to, from `make` on, has as many as were
-/// stored
-/// or one more.
+/// stored or one more.
 #[test]
 fn each_image_is_read(rt: HostRuntime) -> Result<(), Fail> {
     let alloc = rt.alloc();
@@ -121,59 +96,8 @@ fn each_failing_call_is_told(rt: HostRuntime) -> Result<(), Fail> {
     Ok(())
 }
 
-#[test]
-fn two_are_added(rt: HostRuntime) -> Result<(), Fail> {
-    let alloc = rt.alloc();
-    let mut disk = disk_of(alloc, &[], &[])?;
-    assert_eq!(rt;
-        add_two(alloc, &mut disk)?,
-        Some((Appended::Stored, Appended::Stored))
-    );
-    assert_eq!(rt; sevens(alloc, &disk.bytes)?, Some(2));
-    Ok(())
-}
-
-/// A journal of one entry that is cut at one of its bytes is bad: at the entry's gate or, where
-/// only
-/// the closed gate is missing, behind the entry.
-#[test]
-fn a_cut_journal_is_bad(rt: HostRuntime) -> Result<(), Fail> {
-    let alloc = rt.alloc();
-    for len in 0..ONE.len() {
-        let mut disk = disk_of(alloc, &ONE[..len], &[])?;
-        assert_eq!(rt; disk.reach("j"), Reach::Reached);
-        let place = if len == 12 { 12 } else { 0 };
-        let answer = reopen::<_, Plain>(alloc, &mut disk);
-        assert!(rt; matches!(answer, Err(JournalFault::BadEntry(found)) if found == place));
-    }
-    Ok(())
-}
-
-/// Each byte of a journal of one entry, changed to each other one: a closed gate in front hides the
-/// entry, the closed gate behind it may be any byte but 1, and no other change leaves the entry.
-#[test]
-fn a_changed_byte_counts(rt: HostRuntime) -> Result<(), Fail> {
-    let alloc = rt.alloc();
-    for place in 0..ONE.len() {
-        for value in 0..=255u8 {
-            let mut bytes = ONE;
-            bytes[place] = value;
-            let expected = if value == ONE[place] || (place == 12 && value != 1) {
-                Some(1)
-            } else if place == 0 {
-                Some(0)
-            } else {
-                None
-            };
-            assert_eq!(rt; sevens(alloc, &bytes)?, expected);
-        }
-    }
-    Ok(())
-}
-
 /// Forty entries over a disk that fails at one call: those that were stored are read, and at most
-/// the
-/// one that was being added.
+/// the one that was being added.
 #[test]
 fn forty_are_added(rt: HostRuntime) -> Result<(), Fail> {
     let alloc = rt.alloc();

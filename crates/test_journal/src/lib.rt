@@ -7,5 +7,3 @@ mod crashes;
 mod plain;
 #[cfg(test)]
 mod real_file;
-#[cfg(test)]
-mod spellings;

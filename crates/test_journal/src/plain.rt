@@ -5,10 +5,7 @@ use base_disk::MemDisk;
 use std::alloc::{AllocError, Global};
 use store_journal::Payload;
 
-/// One entry of the bytes 2, 55 and 10, and the closed gate.
-pub const ONE: [u8; 13] = [1, 0, 0, 0, 0, 0, 0, 0, 3, 2, 55, 10, 0];
-
-/// The payload of that entry.
+/// The payload of an entry.
 pub const SEVEN: [u8; 3] = [2, 55, 10];
 
 /// Bytes as they are.
