@@ -1,3 +1,4 @@
+pub mod KeptRows
 pub mod LateRows
 pub mod Next
 pub mod PlanReads

@@ -13,7 +13,6 @@ use std::sync::ledger::{Blank, Ledger};
 use std::thread::Threads;
 
 // The rows of a kept plan, computed from its table. What is read for them has steps of its own.
-#[tactic(auto, using(plan_algebra::proofs::KeptPlans::query_staged))]
 fn computed<R: Threads + Sync, T: Tables, L: Ledger>(
     rt: &R,
     alloc: Global,
