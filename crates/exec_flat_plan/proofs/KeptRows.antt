@@ -30,7 +30,7 @@ rows_in_steps plan rows scan kept group bag condition by aggregates columns scan
     ∙ ap (λ b. project (values (map Column plan.list)) (groups b aggregates kept)) by_is
     ∙ ap (λ a. project (values (map Column plan.list)) (groups plan.by a kept)) aggregates_is
     ∙ ap (λ k. project (values (map Column plan.list))
-        (groups plan.by (map plain_aggregate plan.aggregates) k))
-        (kept_is ∙ ap (λ s. select (rank_of condition) s) scan_is
-        ∙ ap (λ e. select (rank_of e) (scanned rows)) condition_is)
+    (groups plan.by (map plain_aggregate plan.aggregates) k))
+    (kept_is ∙ ap (λ s. select (rank_of condition) s) scan_is
+    ∙ ap (λ e. select (rank_of e) (scanned rows)) condition_is)
     ∙ query_staged plan rows
