@@ -6,4 +6,4 @@ pub mod Shows
 pub mod ReadingLists
 pub mod ViewLists
 pub mod PartLists
-pub mod Followed
+pub mod RefreshMoves

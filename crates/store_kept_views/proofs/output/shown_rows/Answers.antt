@@ -1,7 +1,7 @@
 use Rattle.std.proofs.Common.{◌≡◌, subst, sym, length}
 use Rattle.std.specs.List.{All}
 use Rattle.base_row_laws.specs.Bags.{SameBag}
-use Rattle.store_kept_views.specs.Plans.{query_rows}
+use Rattle.plan_algebra.specs.KeptPlans.{query_rows}
 use Rattle.store_kept_views.proofs.Shows.{rows_shown, rows_wide}
 use Rattle.store_kept_views.proofs.output.shown_rows.Goals as goal
 

@@ -2,7 +2,7 @@ use Rattle.std.proofs.Common.{◌≡◌, ◌∙◌, Ok, ap, subst, sym}
 use Rattle.std.specs.Arc.{arc_value}
 use Rattle.store_state.specs.Refresh.{after}
 use Rattle.store_kept_views.specs.Kept.{KeptRows}
-use Rattle.store_kept_views.proofs.Followed.{moved_to}
+use Rattle.store_kept_views.proofs.RefreshMoves.{moved_to}
 use Rattle.store_kept_views.proofs.attached.KeptOfAttachment.after_refresh.Goals as goal
 
 pub moved-requires : goal.moved-requires

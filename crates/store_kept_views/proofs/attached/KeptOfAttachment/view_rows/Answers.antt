@@ -1,5 +1,5 @@
 use Rattle.std.proofs.Common.{◌∙◌}
-use Rattle.store_kept_views.proofs.Attached.{view_shown, view_wide}
+use Rattle.store_kept_views.proofs.RefreshMoves.{view_shown, view_wide}
 use Rattle.store_kept_views.proofs.attached.KeptOfAttachment.view_rows.Goals as goal
 
 pub returns-clause-rows : goal.returns-clause-rows
