@@ -11,7 +11,7 @@ invariant_of-self-2 c =
     typed_kept c.self.inside.views.all c.push.new.self c.args.number c.args.name.now
     c.args.query.now c.in_ok-view.view c.self.invariant
     (ap (λ vs. bound_view c.args.name.now [] c.args.query.now vs) (sym c.new.ensures)
-        ∙ c.in_ok-view.ensures)
+    ∙ c.in_ok-view.ensures)
     c.in_ok-push.ensures.ok
 
 pub returns : goal.returns
@@ -19,7 +19,7 @@ returns c = (
   record c.in_ok-view.view { kept = Some c.args.number },
   ap (λ made. and_then made (λ (v : View). Ok (record v { kept = Some c.args.number })))
       (ap (λ vs. bound_view c.args.name.now [] c.args.query.now vs) (sym c.new.ensures)
-          ∙ c.in_ok-view.ensures),
+      ∙ c.in_ok-view.ensures),
   c.in_ok-push.ensures.ok
       ∙ ap (λ vs. vs ++ record c.in_ok-view.view { kept = Some c.args.number } ∷ []) c.self.view_is,
 )
