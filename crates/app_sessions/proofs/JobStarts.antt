@@ -8,8 +8,8 @@ use Rattle.store_state.proofs.Prefixes.{length-prefix, prefix-whole}
 use Rattle.store_snapshots.specs.Openings.{IsOf, Opening, opening_at}
 use Rattle.store_snapshots.specs.Publishers.{Edition}
 use Rattle.store_snapshots.specs.Ruled.{list_fits, opening_of}
+use Rattle.store_snapshots.specs.declared.ruled.RuledEntry.{RuledEntry}
 use Rattle.store_versions.specs.Trials.{Trials, version_of}
-use Rattle.store_versions.specs.declared.attachment.Attachment.{Ghosts}
 use Rattle.store_state.specs.Refresh.{Change}
 use Rattle.app_sessions.specs.Asked.{job_sessions}
 use Rattle.app_sessions.specs.Gathered.{ArePrepared}
@@ -44,7 +44,7 @@ prepared {E} {N} {A} opening fits start after low ss olds news some same informe
 }
 
 -- what is tried at first, before a feed tried anything
-abbrev pub started : {A : Type 0} {g : Ghosts A} (run : JobRun A g) (publisher : Edition) (start : Trials) (before : ℕ) (sessions : List Session) (first tried : RefreshOrder)
+abbrev pub started : {A N B : Type 0} (run : JobRun (RuledEntry A) N B) (publisher : Edition) (start : Trials) (before : ℕ) (sessions : List Session) (first tried : RefreshOrder)
     → start.done + before ≤ length start.list
     → ArePrepared opening_of list_fits start (accepted start.base start.list (start.done + before)) sessions run.workers.items
     → HasTried start publisher first → IsTold start first run.report → run.listed ≡ length start.list → run.count ≡ length sessions

@@ -1,5 +1,6 @@
 -- The plan of a query, run, gives its rows and reads as much.
-use Rattle.std.proofs.Common.{◌≡◌, ◌∙◌, ℕ, List, [], ap, length, map}
+use Rattle.std.proofs.Common.{◌≡◌, ◌∙◌, ℕ, List, [], ap, inl, inr, length, map, refl}
+use Rattle.std.proofs.Math.Path.{fun_ext}
 use Rattle.std.specs.Prelude.{Option, nat_lt, Ok, Err, if◌then◌else◌}
 use Rattle.base_row_laws.specs.Ranked.{Ranked, true_rank}
 use Rattle.base_row_laws.proofs.Bags.{SameBag-map, SameBag-trans}
@@ -11,20 +12,27 @@ use Rattle.base_order_limit.specs.declared.key.OrderKey.{OrderKey}
 use Rattle.base_order_limit.proofs.Sorted.{in_order_alike}
 use Rattle.sql_bound_query.specs.Answer.{answer}
 use Rattle.sql_bound_query.specs.Meaning.{rows}
-use Rattle.base_row_laws.specs.Bags.{SameBag}
+use Rattle.base_row_laws.specs.Bags.{SameBag, weigh}
 use Rattle.base_row_laws.proofs.Tables.{sum_is}
-use Rattle.plan_algebra.specs.Plans.{plan_reads, plan_scans, reads_of, result_rows}
+use Rattle.plan_algebra.specs.Plans.{plan_reads, plan_scans, reads_of, result_rows, rows_read}
 use Rattle.plan_algebra.specs.declared.plan.FlatPlan.{FlatPlan}
-use Rattle.plan_kept_queries.specs.Scans.{reads, tables}
+use Rattle.plan_algebra.specs.Trees.{Occurrence}
+use Rattle.plan_kept_queries.specs.Scans.{reads, rows_in, tables}
 use Rattle.sql_bound_query.specs.Typing.{StateIsOf}
 use Rattle.sql_bound_query.specs.declared.query.BoundQuery.{BoundQuery}
 use Rattle.base_schema.specs.State.{State, table_rows}
 use Rattle.app_sessions.specs.Laws.{PlansRun}
 use Rattle.plan_planner.specs.Planned.{IsPlanOf}
 
+-- a table and a kept view have as many rows over the tables of a state as in it
+same_weights : (state : State) (o : Occurrence) → rows_read (table_rows state) o ≡ rows_in state o
+same_weights state (inl table) = refl
+same_weights state (inr count) = refl
+
 pub same_reads : (q : BoundQuery) (plan : FlatPlan) (state : State) → SameBag (plan_scans plan.nodes) (tables q.block) → plan_reads (table_rows state) plan.nodes ≡ reads q.block state
 unfolding reads_of reads
-same_reads q plan state same = sum_is (λ t. length (table_rows state t)) (plan_scans plan.nodes) ∙ same.weighs (λ t. length (table_rows state t))
+same_reads q plan state same = sum_is (rows_read (table_rows state)) (plan_scans plan.nodes) ∙ same.weighs (rows_read (table_rows state))
+    ∙ ap (λ (f : Occurrence → ℕ). weigh f (tables q.block)) (fun_ext (same_weights state))
 
 pub plans_run : PlansRun
 plans_run q plan state ok is = (is.rows state ok, same_reads q plan state is.scans)

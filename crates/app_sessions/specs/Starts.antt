@@ -2,8 +2,8 @@
 use Rattle.std.specs.Prelude.{◌≡◌, ℕ, ◌+◌, ◌≤◌, List, ◌++◌, length}
 use Rattle.store_snapshots.specs.Publishers.{Edition}
 use Rattle.store_snapshots.specs.Ruled.{list_fits, opening_of}
+use Rattle.store_snapshots.specs.declared.ruled.RuledEntry.{RuledEntry}
 use Rattle.store_versions.specs.Trials.{Trials}
-use Rattle.store_versions.specs.declared.attachment.Attachment.{Ghosts}
 use Rattle.store_state.specs.Versions.{accepted}
 use Rattle.app_sessions.specs.Gathered.{ArePrepared}
 use Rattle.app_sessions.specs.Orders.{RefreshOrder}
@@ -13,7 +13,7 @@ use Rattle.app_sessions.specs.declared.session.Session.{Session}
 
 -- The run began at a version with these sessions, whose readers were told of `before` refreshes
 -- more. Its publisher tried these refreshes since: the first ones, and those that its feed tried.
-pub record HasStarted {A : Type 0} {g : Ghosts A} (run : JobRun A g) (publisher : Edition)
+pub record HasStarted {A N B : Type 0} (run : JobRun (RuledEntry A) N B) (publisher : Edition)
     (tried : RefreshOrder) : Type 0 where
   pub start : Trials
   pub before : ℕ

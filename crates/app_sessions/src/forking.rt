@@ -26,9 +26,9 @@ use store_versions::Attachment;
 
 /// A job on its way.
 #[derive(Drop)]
-pub struct JobRun<A: Attachment = ()> {
+pub struct JobRun<E: Entry + Drop> {
     /// What runs its sessions.
-    pub workers: Vec<Worker<RuledEntry<A>>>,
+    pub workers: Vec<Worker<E>>,
     /// How many sessions it has.
     pub count: usize,
     /// What is told of its refreshes so far.
@@ -47,7 +47,7 @@ pub fn prepare<A: Attachment, F: Feed<Attached = A>, R: Wait>(
     readers: Vec<Reader<RuledEntry<A>>>,
     publisher: &mut Publisher<A>,
     feed: &mut F,
-) -> Result<JobRun<A>, FeedError>
+) -> Result<JobRun<RuledEntry<A>>, FeedError>
     requires unasked { AllUnasked sessions.items }
     requires readers { 0 < vec_len readers }
     requires opened { AreOfOpening opening_of publisher.old.version readers.items }
@@ -89,7 +89,6 @@ pub fn prepare<A: Attachment, F: Feed<Attached = A>, R: Wait>(
 /// of them.
 pub fn fork<
     A: Attachment + Send + Sync,
-    E: Entry<Attached = A> + Drop + Send,
     F: Feed<Attached = A> + Send,
     G: Gate + Sync,
     R: Threads + Wait + Sync,
@@ -99,12 +98,12 @@ pub fn fork<
     publisher: &mut Publisher<A>,
     report: &mut Report,
     feed: &mut F,
-    workers: &mut [Worker<E>],
+    workers: &mut [Worker<RuledEntry<A>>],
 ) -> Result<(), FeedError>
-    requires ready { AllReady E.opening E.fits workers.old }
+    requires ready { AllReady opening_of list_fits workers.old }
     requires fits { F.fits feed.old publisher.old.version }
     requires room { report.old.count ≤ publisher.old.version.done }
-    ensures workers { AllHaveRun E.opening E.fits workers.old workers.new }
+    ensures workers { AllHaveRun opening_of list_fits workers.old workers.new }
     ensures fits { OnOk result (F.fits feed.new publisher.new.version) }
     ensures over { OnOk result (F.is_over feed.new publisher.new.version) }
     ensures done { OnOk result (publisher.new.version.done ≡ length publisher.new.version.list) }
@@ -121,8 +120,8 @@ pub fn fork<
 {
     let mut front = ||
         requires { IsSync R.row × IsSync G.row × IsSync A.row
-            × AllReady E.opening E.fits workers.now }
-        ensures { AllHaveRun E.opening E.fits workers.entry.now workers.exit.now }
+            × AllReady opening_of list_fits workers.now }
+        ensures { AllHaveRun opening_of list_fits workers.entry.now workers.exit.now }
     { run_workers(rt, gate, workers) };
     let mut back = || -> Result<(), FeedError>
         requires { F.fits feed.now publisher.now.version

@@ -21,16 +21,16 @@ use base_io::Gate;
 use std::alloc::Global;
 use std::sync::Wait;
 use std::thread::Threads;
-use store_snapshots::{Feed, ListFeed, Publisher, Reader, RuledEntry};
+use store_snapshots::{Entry, Feed, ListFeed, Publisher, Reader, RuledEntry};
 use store_versions::Attachment;
 
 /// What a job runs.
 #[derive(Drop)]
-pub struct JobSetup<A: Attachment = ()> {
+pub struct JobSetup<E: Entry + Drop> {
     /// Its sessions.
     pub sessions: Vec<Session>,
     /// What they read by.
-    pub readers: Vec<Reader<RuledEntry<A>>>,
+    pub readers: Vec<Reader<E>>,
     /// How many refreshes are tried before the sessions begin.
     pub before: usize,
     /// How many refreshes the publisher's list has in the end.
@@ -54,7 +54,7 @@ pub fn run_job<
     rt: &R,
     alloc: Global,
     gate: &G,
-    setup: JobSetup<A>,
+    setup: JobSetup<RuledEntry<A>>,
     publisher: &mut Publisher<A>,
     feed: &mut F,
 ) -> Result<JobText, JobError>
@@ -105,7 +105,7 @@ pub(crate) fn run_beside<
     alloc: Global,
     gate: &G,
     most: usize,
-    run: JobRun<A>,
+    run: JobRun<RuledEntry<A>>,
     publisher: &mut Publisher<A>,
     feed: &mut F,
 ) -> Result<JobText, JobError>

@@ -33,7 +33,7 @@ pub fn run_feed_job<
     rt: &R,
     alloc: Global,
     gate: &G,
-    setup: JobSetup<A>,
+    setup: JobSetup<RuledEntry<A>>,
     publisher: &mut Publisher<A>,
     feed: &mut F,
 ) -> Result<JobText, JobError>

@@ -5,12 +5,13 @@ ghost use Rattle.store_versions.specs.Trials.{version_of};
 ghost use Rattle.store_snapshots.specs.Openings.{AllBegin, IsOf, Narrower};
 ghost use Rattle.app_sessions.specs.Asked.{IsOverOf, IsUnasked, job_session};
 ghost use Rattle.app_sessions.specs.Workers.{AllHaveRun, AllReady, HasRun, IsReady};
+ghost use Rattle.store_snapshots.specs.Ruled.{list_fits, opening_of};
 
 use crate::session::{Session, Turn};
 use base_io::Gate;
 use std::alloc::AllocError;
 use std::thread::{Threads, for_each_mut};
-use store_snapshots::{Entry, Reader};
+use store_snapshots::{Entry, Reader, RuledEntry};
 use store_versions::Attachment;
 
 /// A reader and the sessions that it serves.
@@ -83,23 +84,22 @@ pub fn run_worker<E: Entry + Drop, G: Gate, R: Threads + Sync>(
 }
 
 /// Runs each worker in a thread of its own, and waits for all of them.
-pub fn run_workers<
-    A: Attachment + Send + Sync,
-    E: Entry<Attached = A> + Drop + Send,
-    G: Gate + Sync,
-    R: Threads + Sync,
->(rt: &R, gate: &G, workers: &mut [Worker<E>])
-    requires { AllReady E.opening E.fits workers.old }
-    ensures { AllHaveRun E.opening E.fits workers.old workers.new }
+pub fn run_workers<A: Attachment + Send + Sync, G: Gate + Sync, R: Threads + Sync>(
+    rt: &R,
+    gate: &G,
+    workers: &mut [Worker<RuledEntry<A>>],
+)
+    requires { AllReady opening_of list_fits workers.old }
+    ensures { AllHaveRun opening_of list_fits workers.old workers.new }
 {
     let count = workers.len().max(1);
     for_each_mut(
         rt,
         workers,
         count,
-        &|_: usize, worker: &mut Worker<E>|
-            requires { IsSync R.row × IsReady E.opening E.fits worker.old }
-            ensures { HasRun E.opening E.fits worker.old worker.new }
+        &|_: usize, worker: &mut Worker<RuledEntry<A>>|
+            requires { IsSync R.row × IsReady opening_of list_fits worker.old }
+            ensures { HasRun opening_of list_fits worker.old worker.new }
         { run_worker(rt, gate, worker) },
     );
 }
