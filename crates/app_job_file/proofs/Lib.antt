@@ -1,3 +1,4 @@
+mod KeepNames
 mod LineSteps
 mod Digits
 mod WorkedExamples

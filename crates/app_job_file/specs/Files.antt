@@ -125,12 +125,16 @@ abbrev pub is_taken : JobParts → List ℕ → Bool
 is_taken parts name =
     is_some (table_of name) || list_any (λ keep. bytes_eq keep.name name) parts.keeps
 
+-- another kept view would be one too many
+abbrev pub has_most_keeps : JobParts → Bool
+has_most_keeps parts = nat_le most_keeps (length parts.keeps)
+
 -- One kept view more, in a line of this number, unless its name is none, it is one too many, or its
 -- name is taken.
 abbrev pub with_name : JobParts → ℕ → Option (List ℕ) → List ℕ → Result JobParts JobRefusal
 with_name parts number None file = Err BadLine
 with_name parts number (Some name) file =
-    if nat_le most_keeps (length parts.keeps) then Err TooMany
+    if has_most_keeps parts then Err TooMany
     else if is_taken parts name then Err KeepTwice
     else Ok (record parts {
       keeps = parts.keeps ++ record { name = name; file = file; line = number } ∷ [];

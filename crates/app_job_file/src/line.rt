@@ -1,7 +1,7 @@
 //! The forms of lines.
-ghost use Rattle.std.specs.Prelude.{◌≡◌, option_map};
+ghost use Rattle.std.specs.Prelude.{◌≡◌, ◌==◌, option_map};
 ghost use Rattle.std.specs.Char.{is_ascii_digit};
-ghost use Rattle.std.specs.List.{list_all};
+ghost use Rattle.std.specs.List.{list_all, position};
 ghost use Rattle.app_job_file.specs.Lines.{is_visible, line_of, line_view, mention_after, mention_in};
 ghost use Rattle.app_job_file.specs.Lines.{refresh_after, rest_after, set_number, word_after};
 ghost use Rattle.app_job_file.specs.Lines.{word_of, words_after, words_of};
@@ -113,11 +113,18 @@ fn word_after<'a>(front: &[u8], line: &'a [u8]) -> Option<&'a str>
     word_of(rest_after(front, line)?)
 }
 
+/// The place of the first space.
+fn space_in(bytes: &[u8]) -> Option<usize>
+    ensures { result ≡ position (λ byte. byte == 32) bytes.now }
+{
+    bytes.iter().position(|byte| *byte == b' ')
+}
+
 /// The two words that bytes are, with a space between them.
 fn words_of(bytes: &[u8]) -> Option<(&str, &str)>
     ensures { option_map (λ words. (words.0.now, words.1.now)) result ≡ words_of bytes.now }
 {
-    let space = bytes.iter().position(|byte| *byte == b' ')?;
+    let space = space_in(bytes)?;
     let first = word_of(&bytes[..space])?;
     let second = word_of(&bytes[space + 1..])?;
     Some((first, second))

@@ -1,11 +1,12 @@
 //! Reading a job's file.
 ghost use Rattle.std.specs.Prelude.{◌≡◌, ◌+◌, ◌<◌, ◌≤◌, ◌^◌, ◌∷◌, ◌==◌, IfOk, OnOk, drop, length};
 ghost use Rattle.std.specs.Prelude.{take};
-ghost use Rattle.std.specs.List.{position};
+ghost use Rattle.std.specs.List.{list_any, position};
+ghost use Rattle.std.specs.Str.{bytes_eq};
 ghost use Rattle.store_file_reader.specs.File.{cut_lines};
 ghost use Rattle.store_file_reader.specs.Line.{line_text, without_end};
 ghost use Rattle.app_job_file.specs.Files.{IsReadable, IsWithin, Puts, Says, has_sent, has_unsent};
-ghost use Rattle.app_job_file.specs.Files.{is_full, is_taken, job_of, no_parts, parts_of};
+ghost use Rattle.app_job_file.specs.Files.{has_most_keeps, is_full, is_taken, job_of, no_parts, parts_of};
 ghost use Rattle.app_job_file.specs.Files.{with_before, with_keep};
 ghost use Rattle.app_job_file.specs.Files.{with_beside, with_journal, with_lines, with_script};
 ghost use Rattle.app_job_file.specs.Files.{with_sent, with_text};
@@ -95,11 +96,26 @@ fn put_journal(alloc: Global, job: &mut Job, number: usize, name: &str) -> Resul
     Ok(())
 }
 
+/// Whether one of these kept views has this name.
+fn has_name(keeps: &[Keep], name: &[u8]) -> bool
+    ensures { result ≡ list_any (λ keep. bytes_eq keep.name name.now) keeps.now }
+{
+    keeps.iter().any(|keep| keep.name.bytes() == name)
+}
+
 /// Whether a kept view can't have this name: a table has it, or one before it.
+#[tactic(auto, using(crate::proofs::KeepNames::taken))]
 fn is_taken(job: &Job, name: &[u8]) -> bool
     ensures { result ≡ is_taken (parts_of job.now) name.now }
 {
-    TableName::from_name(name).is_some() || job.keeps.iter().any(|keep| keep.name.bytes() == name)
+    TableName::from_name(name).is_some() || has_name(job.keeps.as_slice(), name)
+}
+
+/// Whether another kept view would be one too many.
+fn has_most_keeps(job: &Job) -> bool
+    ensures { result ≡ has_most_keeps (parts_of job.now) }
+{
+    job.keeps.len() >= MOST_KEEPS
 }
 
 /// Adds a kept view, unless its name is none, it is one too many, or its name is taken.
@@ -118,7 +134,7 @@ fn put_keep(
     let Some(name) = name_of(alloc, name.as_bytes())? else {
         return Err(refusal_at(JobRefusal::BadLine, number));
     };
-    if job.keeps.len() >= MOST_KEEPS {
+    if has_most_keeps(job) {
         return Err(refusal_at(JobRefusal::TooMany, number));
     }
     if is_taken(job, name.bytes()) {
