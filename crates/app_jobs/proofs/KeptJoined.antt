@@ -11,6 +11,7 @@ use Rattle.store_gateway.specs.declared.message.SenderId.TheVariants.{First, Sec
 use Rattle.store_journal.specs.Journal.{Stands}
 use Rattle.store_journal.specs.declared.journal.Journal.{Journal}
 use Rattle.store_refresh_entries.specs.Change.{IsSpelled, MayBeStored, spelling_of}
+use Rattle.store_snapshots.specs.declared.ruled.RuledEntry.{RuledEntry}
 use Rattle.store_snapshots.specs.Turns.{from_nobody}
 use Rattle.store_state.specs.Refresh.{Change}
 use Rattle.store_state.specs.Versions.{taken}
@@ -57,8 +58,8 @@ module _ (base : State) (kept front : List Change) (most sent : ℕ) (whole : le
       }
 
 -- an open job can be played beside its senders
-pub can_receive : {D A : Type 0} (is_reached : D → Bool) (may_leave : D → List ℕ → Type 0) (disk : D) (journal : Journal) (kept front : List Change) (most sent : ℕ) (sessions : List Session) (base : State)
-    (before : ℕ) (job : SentJob A) → OpensJob (length kept) most journal (kept ++ front) sessions base before (Ok job.opened) → 0 < vec_len job.opened.sessions → vec_len job.opened.sessions < 2 ^ 32
+pub can_receive : {D A N B : Type 0} (is_reached : D → Bool) (may_leave : D → List ℕ → Type 0) (disk : D) (journal : Journal) (kept front : List Change) (most sent : ℕ) (sessions : List Session) (base : State)
+    (before : ℕ) (job : SentJob A (RuledEntry A) N B) → OpensJob (length kept) most journal (kept ++ front) sessions base before (Ok job.opened) → 0 < vec_len job.opened.sessions → vec_len job.opened.sessions < 2 ^ 32
     → AllUnasked sessions → length front ≡ before → length (kept ++ front) + sent ≡ most → job.most ≡ most → length front + sent ≤ 1024 → is_reached disk ≡ true → journal.is_shut ≡ false
     → journal.end ≤ 2 ^ 61 → Stands IsSpelled (may_leave disk) (map spelling_of kept) journal.end → job.taker.taken ≡ [] → job.taker.quotas.0 + job.taker.quotas.1 ≡ sent
     → AllByRecursion MayBeStored front
@@ -86,8 +87,8 @@ can_receive {D} is_reached may_leave disk journal kept front most sent sessions 
     }
 
 -- what it then gives
-pub plays_sent : {D A : Type 0} (may_leave : D → List ℕ → Type 0) (reads : Option (List ℕ)) (disk : D) (journal : Journal) (kept : List Change) (most : ℕ) (work : JobWork) (sessions : List Session)
-    (job : SentJob A) (result : Played) → work.before + length work.senders ≡ length work.list
+pub plays_sent : {D A N B : Type 0} (may_leave : D → List ℕ → Type 0) (reads : Option (List ℕ)) (disk : D) (journal : Journal) (kept : List Change) (most : ℕ) (work : JobWork) (sessions : List Session)
+    (job : SentJob A (RuledEntry A) N B) (result : Played) → work.before + length work.senders ≡ length work.list
     → OpensJob (length kept) most journal (kept ++ take work.before work.list) sessions work.base work.before (Ok job.opened)
     → job.senders.firsts.items ≡ sent_by First (zip work.senders (drop work.before work.list)) → job.senders.seconds.items ≡ sent_by Second (zip work.senders (drop work.before work.list))
     → ((f : List ℕ) → reads ≡ Some f → may_leave disk f) → PlaysSent may_leave job disk result → PlaysKept kept reads work (job_sessions sessions) result

@@ -10,6 +10,7 @@ use Rattle.store_journal.specs.Format.{StandsFor}
 use Rattle.store_journal.specs.Journal.{Stands}
 use Rattle.store_journal.specs.declared.journal.Journal.{Journal}
 use Rattle.store_refresh_entries.specs.Change.{IsReadable, IsSpelled, MayBeStored, spelling_of}
+use Rattle.store_snapshots.specs.declared.ruled.RuledEntry.{RuledEntry}
 use Rattle.store_snapshots.specs.Turns.{from_nobody}
 use Rattle.store_state.specs.Refresh.{Change}
 use Rattle.store_state.specs.Versions.{taken}
@@ -68,7 +69,7 @@ refused_over name None reads work sessions why refused = (refl, untold work.base
 refused_over name (Some files) reads work sessions why refused = (refl, refused.1 work.base)
 
 -- an open job whose refreshes nobody sends can be played
-pub can_play : {D A : Type 0} (is_reached : D → Bool) (may_leave : D → List ℕ → Type 0) (disk : D) (journal : Journal) (kept list : List Change) (sessions : List Session) (base : State) (before : ℕ) (job : OpenJob A)
+pub can_play : {D A N B : Type 0} (is_reached : D → Bool) (may_leave : D → List ℕ → Type 0) (disk : D) (journal : Journal) (kept list : List Change) (sessions : List Session) (base : State) (before : ℕ) (job : OpenJob A (RuledEntry A) N B)
     → OpensJob (length kept) (length (kept ++ list)) journal (kept ++ list) sessions base before (Ok job) → 0 < vec_len job.sessions → vec_len job.sessions < 2 ^ 32 → AllUnasked sessions
     → before ≤ length list → is_reached disk ≡ true → journal.is_shut ≡ false → journal.end ≤ 2 ^ 61 → Stands IsSpelled (may_leave disk) (map spelling_of kept) journal.end
     → AllByRecursion MayBeStored list → length list ≤ 1024 → CanPlay is_reached may_leave job disk
@@ -94,7 +95,7 @@ can_play is_reached may_leave disk journal kept list sessions base before job op
     }
 
 -- what it then gives
-pub plays_kept : {D A : Type 0} (may_leave : D → List ℕ → Type 0) (reads : Option (List ℕ)) (disk : D) (journal : Journal) (kept : List Change) (work : JobWork) (sessions : List Session) (job : OpenJob A)
+pub plays_kept : {D A N B : Type 0} (may_leave : D → List ℕ → Type 0) (reads : Option (List ℕ)) (disk : D) (journal : Journal) (kept : List Change) (work : JobWork) (sessions : List Session) (job : OpenJob A (RuledEntry A) N B)
     (result : Played) → work.senders ≡ [] → OpensJob (length kept) (length (kept ++ work.list)) journal (kept ++ work.list) sessions work.base work.before (Ok job)
     → ((f : List ℕ) → reads ≡ Some f → may_leave disk f) → PlaysOpen may_leave job disk result → PlaysKept kept reads work (job_sessions sessions) result
 plays_kept may_leave reads disk journal kept work sessions job (played.Text answer) none opens image plays =

@@ -10,6 +10,7 @@ use Rattle.app_sessions.specs.declared.session.Session.{Session}
 use Rattle.store_journal.specs.Format.{StandsFor}
 use Rattle.store_journal.specs.declared.journal.Journal.{Journal}
 use Rattle.store_refresh_entries.specs.Change.{IsSpelled, spelling_of}
+use Rattle.store_snapshots.specs.declared.ruled.RuledEntry.{RuledEntry}
 use Rattle.store_snapshots.specs.Ruled.{opening_of}
 use Rattle.store_snapshots.specs.Turns.{from_nobody}
 use Rattle.store_state.specs.Refresh.{Change}
@@ -52,8 +53,8 @@ IsFedText may_leave version before sessions disk (played.Refused why) = ⊥
 IsFedText may_leave version before sessions disk played.DiskFault = ⊤
 
 -- an open job that can be played over its disk
-pub record CanPlay {D A : Type 0} (is_reached : D → Bool) (may_leave : D → List ℕ → Type 0)
-    (job : OpenJob A) (disk : D) : Type 0 where
+pub record CanPlay {D A N B : Type 0} (is_reached : D → Bool) (may_leave : D → List ℕ → Type 0)
+    (job : OpenJob A (RuledEntry A) N B) (disk : D) : Type 0 where
   pub some : 0 < vec_len job.sessions
   pub few : vec_len job.sessions < 2 ^ 32
   pub unasked : AllUnasked job.sessions.items
@@ -66,7 +67,8 @@ pub record CanPlay {D A : Type 0} (is_reached : D → Bool) (may_leave : D → L
   pub fits : StoredFits is_reached may_leave job.journal disk job.publisher.version
 
 -- what it gives
-abbrev pub PlaysOpen : {D A : Type 0} → (D → List ℕ → Type 0) → OpenJob A → D → Played → Type 0
+abbrev pub PlaysOpen : {D A N B : Type 0} → (D → List ℕ → Type 0) → OpenJob A (RuledEntry A) N B
+    → D → Played → Type 0
 PlaysOpen may_leave job disk result =
     IsFedText may_leave job.publisher.version job.before (job_sessions job.sessions.items)
     disk result
@@ -82,8 +84,8 @@ PlaysKept kept journal_then work sessions played.DiskFault = ⊤
 
 -- A job is opened over a list whose first refreshes a journal keeps: a publisher of the list has
 -- published these, and is to have so many in the end; or one of these is refused.
-abbrev pub OpensJob : {A : Type 0} → ℕ → ℕ → Journal → List Change → List Session → State → ℕ
-    → Result (OpenJob A) InputFault → Type 0
+abbrev pub OpensJob : {A N B : Type 0} → ℕ → ℕ → Journal → List Change → List Session → State → ℕ
+    → Result (OpenJob A (RuledEntry A) N B) InputFault → Type 0
 OpensJob kept most journal list sessions base before (Ok job) = (job.sessions.items ≡ sessions)
     × (job.journal ≡ journal) × (job.before ≡ before) × (job.start ≡ job.publisher.version)
     × (job.publisher.version

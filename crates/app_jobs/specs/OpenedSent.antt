@@ -9,6 +9,7 @@ use Rattle.store_gateway.specs.declared.message.SenderId.TheVariants.{First, Sec
 use Rattle.store_journal.specs.Format.{StandsFor}
 use Rattle.store_journal.specs.declared.journal.Journal.{Journal}
 use Rattle.store_refresh_entries.specs.Change.{IsSpelled, spelling_of}
+use Rattle.store_snapshots.specs.declared.ruled.RuledEntry.{RuledEntry}
 use Rattle.store_snapshots.specs.Ruled.{opening_of}
 use Rattle.store_state.specs.Refresh.{Change}
 use Rattle.store_state.specs.Versions.{taken}
@@ -32,9 +33,9 @@ Waits (Some x) P = P x
 
 -- a job that can be played over its disk beside a publisher and what a taker takes: it tries its
 -- whole list before the sessions, and has so many refreshes in the end
-pub record CanReceiveOver {D A : Type 0} (is_reached : D → Bool) (may_leave : D → List ℕ → Type 0)
+pub record CanReceiveOver {D A N B : Type 0} (is_reached : D → Bool) (may_leave : D → List ℕ → Type 0)
     (version shown : Trials) (journal : Journal) (disk : D) (start : Trials) (count : ℕ)
-    (taker : Taking) (setup : JobSetup A) : Type 0 where
+    (taker : Taking) (setup : JobSetup (RuledEntry A) N B) : Type 0 where
   pub some : 0 < vec_len setup.sessions
   pub few : vec_len setup.sessions < 2 ^ 32
   pub unasked : AllUnasked setup.sessions.items
@@ -68,8 +69,8 @@ IsReceivedOver may_leave version before sessions disk taker (Some (played.Refuse
 IsReceivedOver may_leave version before sessions disk taker (Some played.DiskFault) = ⊤
 
 -- the same of sessions that waited
-abbrev pub HasReceivedOver : {D A : Type 0} → (D → List ℕ → Type 0) → Trials
-    → Option (JobSetup A) → D → Taking → Option Played → Type 0
+abbrev pub HasReceivedOver : {D A N B : Type 0} → (D → List ℕ → Type 0) → Trials
+    → Option (JobSetup (RuledEntry A) N B) → D → Taking → Option Played → Type 0
 HasReceivedOver may_leave version None disk taker result = ⊥
 HasReceivedOver may_leave version (Some setup) disk taker result = IsReceivedOver may_leave version
     setup.before (job_sessions setup.sessions.items) disk taker result
@@ -81,7 +82,7 @@ HaveEnded (Some senders) None = ⊥
 HaveEnded (Some senders) (Some ended) = BothEnd senders ended
 
 -- the sessions of an open job
-abbrev pub setup_of : {A : Type 0} → SentJob A → JobSetup A
+abbrev pub setup_of : {A N B : Type 0} → SentJob A (RuledEntry A) N B → JobSetup (RuledEntry A) N B
 setup_of job = record {
   sessions = job.opened.sessions;
   readers = job.opened.readers;
@@ -90,8 +91,8 @@ setup_of job = record {
 }
 
 -- an open job with its senders, which are the taker's and send all that its list has not
-pub record CanPlaySent {D A : Type 0} (is_reached : D → Bool) (may_leave : D → List ℕ → Type 0)
-    (job : SentJob A) (disk : D) : Type 0 where
+pub record CanPlaySent {D A N B : Type 0} (is_reached : D → Bool) (may_leave : D → List ℕ → Type 0)
+    (job : SentJob A (RuledEntry A) N B) (disk : D) : Type 0 where
   pub receives : CanReceiveOver is_reached may_leave job.opened.publisher.version
       job.opened.publisher.shown job.opened.journal disk job.opened.start 0 job.taker (setup_of job)
   pub senders : MaySendBoth job.senders
@@ -113,7 +114,8 @@ pub record IsKeptSentText (may_leave : List ℕ → Type 0) (version : Trials) (
   pub holds : HoldsSent may_leave version.base version.list sent
 
 -- what an open job gives beside its senders
-abbrev pub PlaysSent : {D A : Type 0} → (D → List ℕ → Type 0) → SentJob A → D → Played → Type 0
+abbrev pub PlaysSent : {D A N B : Type 0} → (D → List ℕ → Type 0) → SentJob A (RuledEntry A) N B
+    → D → Played → Type 0
 PlaysSent may_leave job disk (played.Text answer) =
     IsKeptSentText (may_leave disk) job.opened.publisher.version job.opened.before
     job.senders.firsts.items job.senders.seconds.items

@@ -32,7 +32,7 @@ use std::thread::Threads;
 use store_durability::StoredFeed;
 use store_journal::Journal;
 use store_kept_views::{Kept, KeptOf, Plans};
-use store_snapshots::{Published, Publisher, Reader, RuledEntry, Snapshot, open};
+use store_snapshots::{Entry, Published, Publisher, Reader, RuledEntry, Snapshot, open};
 use store_state::{Refresh, State};
 use store_versions::Attachment;
 
@@ -48,11 +48,11 @@ pub enum Played {
 }
 
 /// A job whose journal is open, with a publisher that has published what the journal keeps.
-pub struct OpenJob<A: Attachment = ()> {
+pub struct OpenJob<A: Attachment, E: Entry + Drop> {
     pub alloc: Global,
     pub sessions: Vec<Session>,
     /// What they read by: one for each session, or fewer where entries were refused.
-    pub readers: Vec<Reader<RuledEntry<A>>>,
+    pub readers: Vec<Reader<E>>,
     pub publisher: Publisher<A>,
     pub journal: Journal,
     /// The version with just the journal's refreshes: what the publisher has left comes after it.
@@ -154,7 +154,7 @@ fn play<A: Attachment + Send + Sync, R: Threads + Wait + Sync, D: Disk + Send, G
     rt: &R,
     gate: &G,
     disk: D,
-    job: OpenJob<A>,
+    job: OpenJob<A, RuledEntry<A>>,
 ) -> (D, Result<Played, AllocError>)
     requires { CanPlay D.is_reached D.may_leave job disk }
     ensures played { IfOk result.1 (PlaysOpen D.may_leave job result.0) }
@@ -191,7 +191,7 @@ fn play_over<A: Attachment + Send + Sync, R: Threads + Wait + Sync, D: Disk + Se
     rt: &R,
     gate: &G,
     disk: &mut D,
-    job: OpenJob<A>,
+    job: OpenJob<A, RuledEntry<A>>,
 ) -> Result<Played, AllocError>
     requires playable { CanPlay D.is_reached D.may_leave job disk.old }
     ensures played { IfOk result (PlaysOpen D.may_leave job disk.new) }
@@ -199,7 +199,7 @@ fn play_over<A: Attachment + Send + Sync, R: Threads + Wait + Sync, D: Disk + Se
         → Rose (D.faults disk.old) (D.faults disk.new)) }
     ensures later { D.faults disk.old ≤ D.faults disk.new }
 {
-    let playing = |disk: D, job: OpenJob<A>| -> (D, Result<Played, AllocError>)
+    let playing = |disk: D, job: OpenJob<A, RuledEntry<A>>| -> (D, Result<Played, AllocError>)
         requires { IsSync R.row × IsSync G.row × IsSync A.row
             × CanPlay D.is_reached D.may_leave job disk }
         ensures played { IfOk result.1 (PlaysOpen D.may_leave job result.0) }
@@ -241,7 +241,7 @@ pub fn open_job<A: Attachment, R: Wait>(
     list: Vec<Refresh>,
     attachment: A,
     sources: (Vec<Session>, State, usize),
-) -> Result<Result<OpenJob<A>, InputFault>, AllocError>
+) -> Result<Result<OpenJob<A, RuledEntry<A>>, InputFault>, AllocError>
     requires right { A.is_right attachment sources.1 }
     requires sessions { (0 < vec_len sources.0) × (vec_len sources.0 < 2 ^ 32) }
     requires kept { kept ≤ length list.items }

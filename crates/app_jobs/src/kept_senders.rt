@@ -26,14 +26,14 @@ use std::thread::{Threads, join_mut};
 use store_durability::StoredGateway;
 use store_gateway::{Ended, Taker, open_gateway};
 use store_journal::Journal;
-use store_snapshots::Publisher;
+use store_snapshots::{Entry, Publisher, RuledEntry};
 use store_state::Refresh;
 use store_versions::Attachment;
 
 /// An open job, its senders, and the one that takes what they send.
-pub struct SentJob<A: Attachment = ()> {
+pub struct SentJob<A: Attachment, E: Entry + Drop> {
     /// The job, with a publisher of what nobody sends.
-    pub opened: OpenJob<A>,
+    pub opened: OpenJob<A, E>,
     /// Its senders.
     pub senders: Senders,
     /// What takes the refreshes that they send.
@@ -53,7 +53,7 @@ fn play_received<
     rt: &R,
     alloc: Global,
     gate: &G,
-    setup: JobSetup<A>,
+    setup: JobSetup<RuledEntry<A>>,
     publisher: &mut Publisher<A>,
     feed: &mut StoredGateway<D, A>,
 ) -> Result<Option<Played>, AllocError>
@@ -85,7 +85,7 @@ fn play_waiting<
     rt: &R,
     alloc: Global,
     gate: &G,
-    waiting: &mut Option<JobSetup<A>>,
+    waiting: &mut Option<JobSetup<RuledEntry<A>>>,
     publisher: &mut Publisher<A>,
     feed: &mut StoredGateway<D, A>,
 ) -> Result<Option<Played>, AllocError>
@@ -131,7 +131,7 @@ fn play_joined<
     alloc: Global,
     gate: &G,
     senders: &mut Option<Senders>,
-    setup: &mut Option<JobSetup<A>>,
+    setup: &mut Option<JobSetup<RuledEntry<A>>>,
     publisher: &mut Publisher<A>,
     feed: &mut StoredGateway<D, A>,
 ) -> (Option<(Ended, Ended)>, Result<Option<Played>, AllocError>)
@@ -183,7 +183,7 @@ fn play_beside_senders<
     R: Threads + Wait + Sync,
     D: Disk + Send,
     G: Gate + Sync,
->(rt: &R, gate: &G, disk: D, job: SentJob<A>) -> SentOutcome<D>
+>(rt: &R, gate: &G, disk: D, job: SentJob<A, RuledEntry<A>>) -> SentOutcome<D>
     requires { CanPlaySent D.is_reached D.may_leave job disk }
     ensures ended { HaveEnded (Some job.senders) result.2 }
     ensures received { IfOk result.3 (IsReceivedOver D.may_leave job.opened.publisher.version
@@ -236,7 +236,7 @@ fn play_sent<A: Attachment + Send + Sync, R: Threads + Wait + Sync, D: Disk + Se
     rt: &R,
     gate: &G,
     disk: D,
-    job: SentJob<A>,
+    job: SentJob<A, RuledEntry<A>>,
 ) -> (D, Result<Played, AllocError>)
     requires { CanPlaySent D.is_reached D.may_leave job disk }
     ensures played { IfOk result.1 (PlaysSent D.may_leave job result.0) }
@@ -268,14 +268,14 @@ fn play_sent_over<
     R: Threads + Wait + Sync,
     D: Disk + Send,
     G: Gate + Sync,
->(rt: &R, gate: &G, disk: &mut D, job: SentJob<A>) -> Result<Played, AllocError>
+>(rt: &R, gate: &G, disk: &mut D, job: SentJob<A, RuledEntry<A>>) -> Result<Played, AllocError>
     requires playable { CanPlaySent D.is_reached D.may_leave job disk.old }
     ensures played { IfOk result (PlaysSent D.may_leave job disk.new) }
     ensures failed { IfOk result (λ played. IsPlayFault played
         → Rose (D.faults disk.old) (D.faults disk.new)) }
     ensures later { D.faults disk.old ≤ D.faults disk.new }
 {
-    let playing = |disk: D, job: SentJob<A>| -> (D, Result<Played, AllocError>)
+    let playing = |disk: D, job: SentJob<A, RuledEntry<A>>| -> (D, Result<Played, AllocError>)
         requires { IsSync R.row × IsSync G.row × IsSync A.row
             × CanPlaySent D.is_reached D.may_leave job disk }
         ensures played { IfOk result.1 (PlaysSent D.may_leave job result.0) }

@@ -23,7 +23,7 @@ use std::marker::PhantomData;
 use std::sync::Wait;
 use std::thread::{Threads, join};
 use store_gateway::{Ended, GatewayFeed, Sender, SenderId, open_gateway, send_all};
-use store_snapshots::{Publisher, open};
+use store_snapshots::{Publisher, RuledEntry, open};
 use store_state::{Refresh, State};
 use store_versions::Attachment;
 
@@ -128,7 +128,7 @@ fn run_open<A: Attachment + Send + Sync, R: Threads + Wait + Sync, G: Gate + Syn
     rt: &R,
     alloc: Global,
     gate: &G,
-    setup: JobSetup<A>,
+    setup: JobSetup<RuledEntry<A>>,
     mut feed: GatewayFeed<A>,
     publisher: &mut Publisher<A>,
 ) -> Result<(Option<JobText>, GatewayFeed<A>), AllocError>

@@ -8,6 +8,7 @@ use Rattle.store_gateway.specs.declared.message.SenderId.TheVariants.{First, Sec
 use Rattle.store_refresh_entries.specs.Change.{MayBeStored}
 use Rattle.store_state.specs.Refresh.{Change}
 use Rattle.store_versions.specs.Trials.{Trials}
+use Rattle.store_snapshots.specs.declared.ruled.RuledEntry.{RuledEntry}
 use Rattle.app_jobs.specs.Sources.{work_view}
 use Rattle.app_jobs.specs.Opened.{OpensJob}
 use Rattle.app_jobs.specs.declared.kept_senders.SentJob.{SentJob}
@@ -20,7 +21,7 @@ play_sent_over-requires-clause-playable g c κs within =
     let s = c.args.sources in
     let kept = c.args.kept.items in
     let front = take s.before s.list.items in
-    let job : SentJob g.row.A.Denot = record {
+    let job : SentJob g.row.A.Denot (RuledEntry g.row.A.Denot) _ _ = record {
       opened = c.in-Ok.opened;
       senders = record { first = c.in_ok-first.first; second = c.in_ok-first.second; firsts = c.in_ok-firsts.firsts; seconds = c.in_ok-firsts.seconds };
       taker = c.in_ok-first.taker;
@@ -79,7 +80,7 @@ returns-in-Ok-clause-played g c =
     let s = c.args.sources in
     let kept = c.args.kept.items in
     let front = take s.before s.list.items in
-    let job : SentJob g.row.A.Denot = record {
+    let job : SentJob g.row.A.Denot (RuledEntry g.row.A.Denot) _ _ = record {
       opened = c.in-Ok.opened;
       senders = record { first = c.in_ok-first.first; second = c.in_ok-first.second; firsts = c.in_ok-firsts.firsts; seconds = c.in_ok-firsts.seconds };
       taker = c.in_ok-first.taker;

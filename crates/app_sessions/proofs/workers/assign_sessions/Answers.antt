@@ -36,3 +36,16 @@ assigning-preserved g c =
       filled = d.1;
       assigned = d.0;
     }
+
+pub offset_bounds-workers-turn : goal.offset_bounds-workers-turn
+offset_bounds-workers-turn g c = search rules depth 60 fits 100000
+
+pub push_session-requires : goal.push_session-requires
+push_session-requires g c =
+    let i = c.assigning.invariant in
+    let k = c.assigning._k in
+    let ss = c.args.sessions.items in
+    let s = c.remove-session.result in
+    let less : k < length ss = search rules in
+    let is : s ≡ slice_index_or ss k s = c.remove-session.ensures.value ∙ (ap (λ l. slice_index_or l 0 s) i.rest ∙ (get_or-drop k ss 0 s ∙ ap (λ n. slice_index_or ss n s) (let e : k + 0 ≡ k = omega arith in e))) in
+    subst IsUnasked (sym is) (c.requires.unasked k s less)
