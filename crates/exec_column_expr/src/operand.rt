@@ -16,9 +16,18 @@ pub(crate) enum Kept<'a> {
 }
 
 /// The values of an expression: one for all rows, or one for each.
-#[derive(Drop)]
 pub(crate) struct Operand<'a> {
     kept: Kept<'a>,
+}
+
+// By hand, so that each place that drops one has a call in its proof, and no match over all forms
+// of a column.
+impl<'a> Drop for Operand<'a> {
+    #[inline]
+    fn drop(self) {
+        let Operand { kept } = self;
+        drop(kept);
+    }
 }
 
 impl<'a> Model for Operand<'a> {
@@ -80,7 +89,8 @@ impl<'a> Operand<'a> {
     pub(crate) fn into_column(self, alloc: Global, n: usize) -> Result<Column, AllocError>
         ensures { IfOk result (λ c. c ≡ over n self.entry) }
     {
-        match self.kept {
+        let Operand { kept } = self;
+        match kept {
             Kept::One(value) => Column::repeated(alloc, &value, n),
             Kept::Lent(column) => column.share(alloc),
             Kept::Made(column) => Ok(column),

@@ -5,8 +5,14 @@ use Rattle.expr_operators.specs.Operators.{computed, compared}
 use Rattle.exec_column_operators.specs.Choices.{choice}
 use Rattle.exec_column_operators.proofs.Zips.{zip_long, three_long}
 use Rattle.exec_column_expr.specs.Lanes.{over}
+use Rattle.exec_column_expr.proofs.Nodes.{values_Substring}
 use Rattle.exec_column_expr.proofs.Steps.{operated_more, operated_end, chosen_more, chosen_start, least_more, least_end, greatest_more, greatest_end, equal_more, equal_end}
 use Rattle.exec_column_expr.proofs.evaluate.+evaluate.Goals as goal
+
+pub node-returns-in_ok-x-in-Substring : goal.node-returns-in_ok-x-in-Substring
+node-returns-in_ok-x-in-Substring t c =
+    let made = rw (c.shape-in-Substring.ensures, c.in_ok-x-in-Substring.ensures.values, c.get-in-Substring.ensures) at c.part_operand.ensures in
+    rw (c.in-Substring.is, values_Substring) made
 
 pub operated-loop-operation-preserved : goal.operated-loop-operation-preserved
 operated-loop-operation-preserved t c =
