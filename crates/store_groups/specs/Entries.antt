@@ -13,9 +13,13 @@ use Rattle.store_groups.specs.Groups.{Group, HasRow, is_faultless, no_rows}
 abbrev pub same_key : List Value → List Value → Bool
 same_key = same_row same_value
 
--- a number is the hash of a key that is fed to a hasher
+-- the hash of a key that is fed to a hasher
+abbrev pub hash_in : {K : Type 0} → (K → List (List ℕ)) → K → ℕ
+hash_in fed key = finish (fold write initial (fed key))
+
+-- a number is that hash
 pub record IsHash (fed : List Value → List (List ℕ)) (hash : ℕ) (key : List Value) : Type 0 where
-  pub is : hash ≡ finish (fold write initial (fed key))
+  pub is : hash ≡ hash_in fed key
 
 -- keys with their groups
 abbrev pub Entries : Type 0

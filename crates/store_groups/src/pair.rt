@@ -2,7 +2,7 @@
 ghost use Rattle.std.specs.Prelude.{◌≡◌, IfOk, OnOk, length};
 ghost use Rattle.base_value.specs.Truth.{standing_rank};
 ghost use Rattle.store_groups.specs.Groups.{HasRow, no_rows, with_row, without_row};
-ghost use Rattle.store_groups.specs.Entries.{IsHash, same_key};
+ghost use Rattle.store_groups.specs.Entries.{IsHash, hash_in, same_key};
 
 use crate::group::Group;
 use base_value::{Row, RowKey, Standing, Value};
@@ -31,13 +31,20 @@ impl Model for Pair {
     ghost invariant = { λ p. IsHash ⟦<Row as Hash>⟧.hash_input p.hash p.key };
 }
 
-/// The hash of a key.
-pub(crate) fn hash_of(key: &[Value]) -> u64
-    ensures { IsHash ⟦<Row as Hash>⟧.hash_input result key.now }
+// The hash of a key.
+fn hashed(key: &[Value]) -> u64
+    ensures { result ≡ hash_in ⟦<Row as Hash>⟧.hash_input key.now }
 {
     let mut state = FoldHasher::default();
     key.hash(&mut state);
     state.finish()
+}
+
+/// The hash of a key.
+pub(crate) fn hash_of(key: &[Value]) -> u64
+    ensures { IsHash ⟦<Row as Hash>⟧.hash_input result key.now }
+{
+    hashed(key)
 }
 
 impl Pair {
