@@ -1,6 +1,7 @@
 -- Entries of other keys, and one more.
-use Rattle.std.proofs.Common.{◌≡◌, ℕ, ◌+◌, List, [], ◌∷◌, ◌++◌, true, false, cond, refl, sym, ◌∙◌, ap, subst, arith, inl, inr, Some, None, Option, ◌<◌, zero, suc}
+use Rattle.std.proofs.Common.{◌≡◌, ℕ, ◌+◌, List, [], ◌∷◌, ◌++◌, true, false, cond, refl, sym, ◌∙◌, ap, subst, arith, inl, inr, Some, None, Option, Result, Ok, Err, ◌<◌, zero, suc}
 use Rattle.std.specs.Prelude.{map, MatchOption}
+use Rattle.std.specs.Result.{OnErr}
 use Rattle.std.specs.Hash.FoldHasher.{initial, write, finish}
 use Rattle.std.specs.List.{fold, remove, IsDistinct, AllByRecursion}
 use Rattle.std.specs.Option.{is_some}
@@ -59,6 +60,11 @@ hash_same {fed} {hash} is h = subst (λ y. IsHash fed hash y) is h
 -- the hash of an entry's key
 pub hash_seen : {fed : List Value → List (List ℕ)} {hash : ℕ} {e x : List Value × Group} → e ≡ x → IsHash fed hash e.0 → IsHash fed hash x.0
 hash_seen {fed} {hash} is h = subst (λ (y : List Value × Group). IsHash fed hash y.0) is h
+
+-- what holds holds of an error
+pub on_err : {T E P : Type 0} (r : Result T E) → P → OnErr r P
+on_err (Ok x) p = tt {0}
+on_err (Err e) p = p
 
 some_none : (g : Group) → Some g ≡ None → ⊥
 some_none g e = true≢false (ap (λ o. is_some o) e)

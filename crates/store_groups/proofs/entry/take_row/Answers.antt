@@ -1,6 +1,6 @@
 use Rattle.std.proofs.Common.{sym, ap, ◌∙◌}
 use Rattle.store_groups.specs.Entries.{group_at, with_group}
-use Rattle.store_groups.proofs.EntryLists.{absent_there, left_there, none_absent, none_faulty, none_gone, removed_there}
+use Rattle.store_groups.proofs.EntryLists.{absent_there, left_there, none_absent, none_faulty, none_gone, on_err, removed_there}
 use Rattle.store_groups.proofs.entry.take_row.Goals as goal
 
 pub returns-in_default-clause-ok : goal.returns-in_default-clause-ok
@@ -18,8 +18,9 @@ returns-then-not-is_faultless-clause-ok c =
 
 pub returns-in_err-remove-clause-err : goal.returns-in_err-remove-clause-err
 returns-in_err-remove-clause-err c =
-    removed_there c.as_slice.result.now c.args.entries.now.items c.args.key.now c.as_slice.ensures.value c.in-Some.i c.requires.distinct c.in-Some.ensures
-    c.remove-entry.new.self.items c.remove-entry.ensures.items
+    on_err c.from_residual.result
+    (removed_there c.as_slice.result.now c.args.entries.now.items c.args.key.now c.as_slice.ensures.value c.in-Some.i c.requires.distinct c.in-Some.ensures
+    c.remove-entry.new.self.items c.remove-entry.ensures.items)
 
 pub returns-then-len-eq0-clause-ok : goal.returns-then-len-eq0-clause-ok
 returns-then-len-eq0-clause-ok c =
