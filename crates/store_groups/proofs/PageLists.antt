@@ -11,7 +11,7 @@ use Rattle.std.specs.Hash.FoldHasher.{initial, write, finish}
 use Rattle.store_groups.specs.Pages.{entries_of}
 use Rattle.base_value.specs.declared.value.Value.{Value}
 use Rattle.store_groups.specs.Groups.{Group}
-use Rattle.store_groups.specs.Entries.{Entries, same_key, group_at}
+use Rattle.store_groups.specs.Entries.{IsHash, Entries, same_key, group_at}
 use Rattle.store_groups.specs.Entries.{with_group, without_key}
 use Rattle.store_groups.specs.Taken.{IsSet}
 use Rattle.store_groups.specs.Pages.{ArePlaced, IsTable, first_of, page_in}
