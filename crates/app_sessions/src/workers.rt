@@ -94,8 +94,9 @@ pub fn assign_sessions<E: Entry + Drop>(
 {
     let mut turn = 0;
     'assigning: for _k in 0..sessions.len() {
+        let worker = &mut workers[turn];
         let session = sessions.remove(0);
-        push_session(&mut workers[turn], session)?;
+        push_session(worker, session)?;
         turn = next_turn(turn, workers.len());
     }
     Ok(())

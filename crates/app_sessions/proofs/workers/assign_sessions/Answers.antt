@@ -37,9 +37,6 @@ assigning-preserved g c =
       assigned = d.0;
     }
 
-pub offset_bounds-workers-turn : goal.offset_bounds-workers-turn
-offset_bounds-workers-turn g c = search rules depth 60 fits 100000
-
 pub push_session-requires : goal.push_session-requires
 push_session-requires g c =
     let i = c.assigning.invariant in
