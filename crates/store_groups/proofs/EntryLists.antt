@@ -1,7 +1,9 @@
 -- Entries of other keys, and one more.
-use Rattle.std.proofs.Common.{◌≡◌, ℕ, ◌+◌, List, [], ◌∷◌, ◌++◌, true, false, cond, refl, sym, ◌∙◌, ap, subst, arith, inl, inr, Some, None, Option, ◌<◌, zero, suc}
+use Rattle.std.proofs.Common.{◌≡◌, ℕ, ◌+◌, List, [], ◌∷◌, ◌++◌, true, false, cond, refl, sym, ◌∙◌, ap, subst, arith, inl, inr, Some, None, Option, Result, Ok, Err, ◌<◌, zero, suc}
 use Rattle.std.specs.Prelude.{map, MatchOption}
-use Rattle.std.specs.List.{remove, IsDistinct, AllByRecursion}
+use Rattle.std.specs.Result.{OnErr}
+use Rattle.std.specs.Hash.FoldHasher.{initial, write, finish}
+use Rattle.std.specs.List.{fold, remove, IsDistinct, AllByRecursion}
 use Rattle.std.specs.Option.{is_some}
 use lib.ListN.{get_or, drop, length}
 use Rattle.std.proofs.lemmas.Bool.{cases_Bool, true≢false}
@@ -15,7 +17,7 @@ use Rattle.base_value.proofs.Identity.{value_identity}
 use Rattle.store_groups.specs.Groups.{Group, no_rows, without_row}
 use Rattle.store_groups.specs.declared.entry.Taken.TheVariants.{Absent, Left, Gone, Faulty}
 use Rattle.store_groups.specs.Taken.{left_of}
-use Rattle.store_groups.specs.Entries.{Entries, same_key, group_at}
+use Rattle.store_groups.specs.Entries.{Entries, IsHash, same_key, group_at}
 use Rattle.store_groups.specs.Entries.{IsPlace, or_empty, with_group, without_key}
 
 pub key_identity : IsIdentity same_key
@@ -43,6 +45,26 @@ group_without k (e ∷ es) q =
         | inr v ↦ rw (g, v) ih
       ]
     ]
+
+-- keys of two hashes are two keys
+pub other_hash : {fed : List Value → List (List ℕ)} {hash own : ℕ} {k x : List Value} → IsHash fed hash k → IsHash fed own x → (own ≡ hash → ⊥) → same_key k x ≡ false
+other_hash {fed} {hash} {own} {k} {x} is mine other = elim (cases_Bool (same_key k x)) [
+  | inl t ↦ absurd (other (mine.is ∙ ap (λ y. finish (fold write initial (fed y))) (sym (key_identity.tells k x t)) ∙ sym is.is))
+  | inr f ↦ f
+]
+
+-- the hash of the same key
+pub hash_same : {fed : List Value → List (List ℕ)} {hash : ℕ} {k x : List Value} → k ≡ x → IsHash fed hash k → IsHash fed hash x
+hash_same {fed} {hash} is h = subst (λ y. IsHash fed hash y) is h
+
+-- the hash of an entry's key
+pub hash_seen : {fed : List Value → List (List ℕ)} {hash : ℕ} {e x : List Value × Group} → e ≡ x → IsHash fed hash e.0 → IsHash fed hash x.0
+hash_seen {fed} {hash} is h = subst (λ (y : List Value × Group). IsHash fed hash y.0) is h
+
+-- what holds holds of an error
+pub on_err : {T E P : Type 0} (r : Result T E) → P → OnErr r P
+on_err (Ok x) p = tt {0}
+on_err (Err e) p = p
 
 some_none : (g : Group) → Some g ≡ None → ⊥
 some_none g e = true≢false (ap (λ o. is_some o) e)

@@ -1,5 +1,5 @@
 -- Entries on the pages that their keys' hashes lead to.
-use Rattle.std.proofs.Common.{◌≡◌, ℕ, ◌+◌, ◌<◌, ◌≤◌, List, [], ◌∷◌, ◌++◌, false, cond, refl, sym, ◌∙◌, ap, subst, arith, inl, inr, Some, None, Option, zero, suc, set}
+use Rattle.std.proofs.Common.{◌≡◌, ℕ, ◌+◌, ◌%◌, ◌<◌, ◌≤◌, List, [], ◌∷◌, ◌++◌, false, cond, refl, sym, ◌∙◌, ap, subst, arith, inl, inr, Some, None, Option, zero, suc, set}
 use Rattle.std.specs.Prelude.{replicate, take, ◌⊎◌}
 use Rattle.std.specs.List.{fold, IsDistinct, AllByRecursion}
 use lib.ListN.{get_or, length}
@@ -11,7 +11,7 @@ use Rattle.std.specs.Hash.FoldHasher.{initial, write, finish}
 use Rattle.store_groups.specs.Pages.{entries_of}
 use Rattle.base_value.specs.declared.value.Value.{Value}
 use Rattle.store_groups.specs.Groups.{Group}
-use Rattle.store_groups.specs.Entries.{Entries, same_key, group_at}
+use Rattle.store_groups.specs.Entries.{IsHash, Entries, same_key, group_at}
 use Rattle.store_groups.specs.Entries.{with_group, without_key}
 use Rattle.store_groups.specs.Taken.{IsSet}
 use Rattle.store_groups.specs.Pages.{ArePlaced, IsTable, first_of, page_in}
@@ -199,9 +199,9 @@ default_any (x ∷ ps) (suc i) d e less = default_any ps i d e (omega arith)
 within : (fed : List Value → List (List ℕ)) (n : ℕ) → 0 < n → (q : List Value) → page_in fed n q < n
 within fed n some q = mod_below (finish (fold write initial (fed q))) n some
 
--- the page of a key that is another key
-pub page_alike : {fed : List Value → List (List ℕ)} {ps : List Entries} → IsTable fed ps → (n at : ℕ) (k j : List Value) → at ≡ page_in fed n k → k ≡ j → at ≡ page_in fed n j
-page_alike {fed} table n at k j is same = is ∙ ap (λ k. page_in fed n k) same
+-- the page of a key by its hash
+pub at_page : {fed : List Value → List (List ℕ)} {hash : ℕ} {k : List Value} → IsHash fed hash k → (n at : ℕ) → at ≡ hash % n → at ≡ page_in fed n k
+at_page h n at is = is ∙ ap (λ x. x % n) h.is
 
 module _ {fed : List Value → List (List ℕ)} {ps : List Entries} (table : IsTable fed ps) (n at : ℕ) (here : Entries) (k : List Value)
     (many : n ≡ length ps) (is : at ≡ page_in fed n k) (on : here ≡ get_or ps at here) where

@@ -1,7 +1,8 @@
 -- Keys with their groups, and how one key's group changes.
 use Rattle.std.specs.Prelude.{◌≡◌, ℕ, ◌<◌, List, [], ◌∷◌, ◌++◌, Bool, not, true, length, get_or}
 use Rattle.std.specs.Prelude.{Option, Some, None}
-use Rattle.std.specs.List.{filter}
+use Rattle.std.specs.List.{filter, fold}
+use Rattle.std.specs.Hash.FoldHasher.{initial, write, finish}
 use Rattle.std.specs.Map.{lookup}
 use Rattle.base_row_laws.specs.Rows.{same_row}
 use Rattle.base_value.specs.declared.value.Value.{Value}
@@ -11,6 +12,14 @@ use Rattle.store_groups.specs.Groups.{Group, HasRow, is_faultless, no_rows}
 -- whether two keys are identical
 abbrev pub same_key : List Value → List Value → Bool
 same_key = same_row same_value
+
+-- the hash of a key that is fed to a hasher
+abbrev pub hash_in : {K : Type 0} → (K → List (List ℕ)) → K → ℕ
+hash_in fed key = finish (fold write initial (fed key))
+
+-- a number is that hash
+pub record IsHash (fed : List Value → List (List ℕ)) (hash : ℕ) (key : List Value) : Type 0 where
+  pub is : hash ≡ hash_in fed key
 
 -- keys with their groups
 abbrev pub Entries : Type 0

@@ -1,5 +1,5 @@
 //! A table of groups by the hashes of their keys.
-ghost use Rattle.std.specs.Prelude.{◌≡◌, ◌<◌, [], Some, List, IfOk, OnOk, is_some, map, length};
+ghost use Rattle.std.specs.Prelude.{◌≡◌, ◌<◌, ◌%◌, [], Some, List, IfOk, OnOk, is_some, map, length};
 ghost use Rattle.std.specs.Prelude.{replicate, IsTrue};
 ghost use Rattle.std.specs.List.{IsDistinct};
 ghost use Rattle.store_groups.specs.Pages.{entries_of};
@@ -7,15 +7,16 @@ ghost use Rattle.base_value.specs.Truth.{standing_rank};
 ghost use Rattle.base_value.specs.declared.value.Value.{Value as Datum};
 ghost use Rattle.store_groups.specs.Entries.{CanTake, HasLong, or_empty};
 ghost use Rattle.store_groups.specs.Groups.{no_rows, with_row};
-ghost use Rattle.store_groups.specs.Pages.{first_of, page_in};
+ghost use Rattle.store_groups.specs.Pages.{first_of};
 ghost use Rattle.store_groups.specs.Entries.{group_at, same_key};
 ghost use Rattle.store_groups.specs.Taken.{IsSet, IsTaken, left_of};
 
-use crate::entry::{Entry, Taken, copies};
+use crate::entry::{Entry, Taken, shares};
 use crate::page::Page;
+use crate::pair::hash_of;
 use base_value::{Row, Standing, Value};
 use std::alloc::{AllocError, Global};
-use std::hash::{FoldHasher, Hash, Hasher};
+use std::hash::Hash;
 use std::marker::Model;
 
 /// How many groups a page has on average at most.
@@ -43,15 +44,13 @@ impl Model for Groups {
     ghost invariant = { λ t. IsTable ⟦<Row as Hash>⟧.hash_input t.pages.items };
 }
 
-/// The page of a key among `count`.
-fn page_of(key: &[Value], count: usize) -> usize
+/// The page of a key of this hash among `count`.
+fn page_of(hash: u64, count: usize) -> usize
     requires { 0 < count }
-    ensures value { result ≡ page_in ⟦<Row as Hash>⟧.hash_input count key.now }
+    ensures value { result ≡ hash % count }
     ensures within { result < count }
 {
-    let mut state = FoldHasher::default();
-    key.hash(&mut state);
-    (state.finish() % count as u64) as usize
+    (hash % count as u64) as usize
 }
 
 /// So many pages without entries.
@@ -76,13 +75,13 @@ fn page_shares(alloc: Global, pages: &[Page]) -> Result<Vec<Page>, AllocError>
     Ok(all)
 }
 
-/// Copies of the entries of pages.
+/// Further shares of the entries of pages.
 fn page_entries(alloc: Global, pages: &[Page]) -> Result<Vec<Entry>, AllocError>
     ensures { IfOk result (λ all. all.items ≡ entries_of pages.now) }
 {
     let mut all = Vec::new(alloc);
     for page in pages {
-        let mut entries = copies(alloc, page.entries())?;
+        let mut entries = shares(alloc, page.entries())?;
         all.append(&mut entries)?;
     }
     Ok(all)
@@ -152,15 +151,19 @@ impl Groups {
     pub fn contains(&self, key: &[Value]) -> bool
         ensures { result ≡ is_some (group_at self.now key.now) }
     {
-        let at = page_of(key, self.pages.len());
-        self.pages[at].contains(key)
+        if self.is_empty() {
+            return false;
+        }
+        let hash = hash_of(key);
+        let at = page_of(hash, self.pages.len());
+        self.pages[at].contains(hash, key)
     }
 
     /// Puts an entry in the place of its key's.
     fn put_entry(&mut self, entry: Entry) -> Result<(), AllocError>
         ensures { OnOk result (IsSet entry.0 (Some entry.1) self.old self.new) }
     {
-        let at = page_of(entry.key(), self.pages.len());
+        let at = page_of(entry.hash(), self.pages.len());
         let before = self.pages[at].len();
         self.pages[at].put(self.alloc, entry)?;
         let after = self.pages[at].len();
@@ -207,7 +210,7 @@ impl Groups {
     pub fn put_key(&mut self, key: &[Value]) -> Result<(), AllocError>
         ensures { OnOk result (IsSet key.now (Some (no_rows 0)) self.old self.new) }
     {
-        let entry = Entry::none(self.alloc, key, 0)?;
+        let entry = Entry::none(self.alloc, hash_of(key), key, 0)?;
         self.make_room()?;
         self.put_entry(entry)?;
         Ok(())
@@ -225,9 +228,10 @@ impl Groups {
             (or_empty (length arguments.now) (group_at self.old key.now))
             arguments.now (standing_rank standing))) self.old self.new) }
     {
-        let at = page_of(key, self.pages.len());
+        let hash = hash_of(key);
+        let at = page_of(hash, self.pages.len());
         let before = self.pages[at].len();
-        self.pages[at].put_row(self.alloc, key, arguments, standing)?;
+        self.pages[at].put_row(self.alloc, hash, key, arguments, standing)?;
         let after = self.pages[at].len();
         self.count = self.count.saturating_add(after).saturating_sub(before);
         Ok(())
@@ -258,9 +262,10 @@ impl Groups {
         ensures set { IfOk result (λ t. IsSet key.now
             (left_of arguments.now (group_at self.old key.now) t) self.old self.new) }
     {
-        let at = page_of(key, self.pages.len());
+        let hash = hash_of(key);
+        let at = page_of(hash, self.pages.len());
         let before = self.pages[at].len();
-        let taken = self.pages[at].take_row(self.alloc, key, arguments)?;
+        let taken = self.pages[at].take_row(self.alloc, hash, key, arguments)?;
         let after = self.pages[at].len();
         self.count = self.count.saturating_add(after).saturating_sub(before);
         Ok(taken)

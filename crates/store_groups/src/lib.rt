@@ -9,6 +9,7 @@ mod group;
 mod groups;
 pub mod laws;
 mod page;
+mod pair;
 
 pub use cell::Cell;
 pub use entry::{Entry, Taken};

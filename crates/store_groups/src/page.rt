@@ -5,17 +5,18 @@ ghost use Rattle.base_value.specs.Truth.{standing_rank};
 ghost use Rattle.store_groups.specs.Entries.{CanTake, HasLong, or_empty, with_group};
 ghost use Rattle.store_groups.specs.Entries.{without_key};
 ghost use Rattle.store_groups.specs.Groups.{with_row};
-ghost use Rattle.store_groups.specs.Entries.{group_at, same_key};
+ghost use Rattle.store_groups.specs.Entries.{IsHash, group_at, same_key};
 ghost use Rattle.store_groups.specs.Taken.{IsTaken, left_of};
 
-use crate::entry::{Entry, Taken, copies, has_key, put_entry, put_row, take_row};
-use base_value::{Standing, Value};
+use crate::entry::{Entry, Taken, has_key, put_entry, put_row, shares, take_row};
+use base_value::{Row, Standing, Value};
 use std::alloc::{AllocError, Global};
+use std::hash::Hash;
 use std::marker::Model;
 use std::sync::Arc;
 
-/// A share of some entries, seen as their list. A change makes copies of them first where there are
-/// other shares.
+/// A share of some entries, seen as their list. A change makes shares of each entry first where there
+/// are other shares of the list.
 #[derive(Drop)]
 pub struct Page {
     entries: Arc<Vec<Entry>>,
@@ -62,10 +63,11 @@ impl Page {
     }
 
     /// Whether a key has an entry.
-    pub(crate) fn contains(&self, key: &[Value]) -> bool
+    pub(crate) fn contains(&self, hash: u64, key: &[Value]) -> bool
+        requires { IsHash ⟦<Row as Hash>⟧.hash_input hash key.now }
         ensures { result ≡ is_some (group_at self.now key.now) }
     {
-        has_key(self.entries(), key)
+        has_key(self.entries(), hash, key)
     }
 
     /// Puts a row into the group of a key, or into one of no rows. Want of memory may lose the
@@ -73,10 +75,12 @@ impl Page {
     pub(crate) fn put_row(
         &mut self,
         alloc: Global,
+        hash: u64,
         key: &[Value],
         arguments: &[Value],
         standing: Standing,
     ) -> Result<(), AllocError>
+        requires hash { IsHash ⟦<Row as Hash>⟧.hash_input hash key.now }
         requires distinct { IsDistinct same_key (map (λ e. e.0) self.old) }
         requires long { HasLong (length arguments.now) (group_at self.old key.now) }
         ensures ok { OnOk result (self.new ≡ with_group key.now (Some (with_row
@@ -86,11 +90,11 @@ impl Page {
             ((self.new ≡ self.old) ⊎ (self.new ≡ without_key key.now self.old)) }
     {
         if let Some(entries) = Arc::get_mut(&mut self.entries) {
-            put_row(alloc, entries, key, arguments, standing)?;
+            put_row(alloc, entries, hash, key, arguments, standing)?;
             return Ok(());
         }
-        let mut entries = copies(alloc, self.entries())?;
-        put_row(alloc, &mut entries, key, arguments, standing)?;
+        let mut entries = shares(alloc, self.entries())?;
+        put_row(alloc, &mut entries, hash, key, arguments, standing)?;
         self.entries = Arc::new(alloc, entries)?;
         Ok(())
     }
@@ -99,9 +103,11 @@ impl Page {
     pub(crate) fn take_row(
         &mut self,
         alloc: Global,
+        hash: u64,
         key: &[Value],
         arguments: &[Value],
     ) -> Result<Taken, AllocError>
+        requires hash { IsHash ⟦<Row as Hash>⟧.hash_input hash key.now }
         requires distinct { IsDistinct same_key (map (λ e. e.0) self.old) }
         requires can { CanTake arguments.now (group_at self.old key.now) }
         ensures taken { IfOk result (IsTaken arguments.now (group_at self.old key.now)) }
@@ -111,11 +117,11 @@ impl Page {
             ((self.new ≡ self.old) ⊎ (self.new ≡ without_key key.now self.old)) }
     {
         if let Some(entries) = Arc::get_mut(&mut self.entries) {
-            let taken = take_row(entries, key, arguments)?;
+            let taken = take_row(alloc, entries, hash, key, arguments)?;
             return Ok(taken);
         }
-        let mut entries = copies(alloc, self.entries())?;
-        let taken = take_row(&mut entries, key, arguments)?;
+        let mut entries = shares(alloc, self.entries())?;
+        let taken = take_row(alloc, &mut entries, hash, key, arguments)?;
         self.entries = Arc::new(alloc, entries)?;
         Ok(taken)
     }
@@ -131,7 +137,7 @@ impl Page {
             put_entry(entries, entry)?;
             return Ok(());
         }
-        let mut entries = copies(alloc, self.entries())?;
+        let mut entries = shares(alloc, self.entries())?;
         put_entry(&mut entries, entry)?;
         self.entries = Arc::new(alloc, entries)?;
         Ok(())
