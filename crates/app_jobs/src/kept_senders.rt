@@ -75,6 +75,16 @@ fn play_received<
     }
 }
 
+/// A job that is played beside its senders.
+struct SentPlay<A: Attachment, E: Entry + Drop, D: Disk> {
+    /// Its sessions, until they begin.
+    waiting: Option<JobSetup<E>>,
+    /// The publisher of its refreshes.
+    publisher: Publisher<A>,
+    /// What takes them, and stores those that are accepted.
+    feed: StoredGateway<D, A>,
+}
+
 /// `play_received` with sessions that wait for it.
 fn play_waiting<
     A: Attachment + Send + Sync,
@@ -85,23 +95,23 @@ fn play_waiting<
     rt: &R,
     alloc: Global,
     gate: &G,
-    waiting: &mut Option<JobSetup<RuledEntry<A>>>,
-    publisher: &mut Publisher<A>,
-    feed: &mut StoredGateway<D, A>,
+    play: &mut SentPlay<A, RuledEntry<A>, D>,
 ) -> Result<Option<Played>, AllocError>
-    requires { Waits waiting.old (CanReceiveOver D.is_reached D.may_leave publisher.old.version
-        publisher.old.shown feed.old.journal feed.old.disk feed.old.start feed.old.count
-        feed.old.taker) }
-    ensures received { IfOk result (HasReceivedOver D.may_leave publisher.old.version waiting.old
-        feed.new.disk feed.new.taker) }
-    ensures gateway { gateway_name feed.new.taker.gateway
-        ≡ gateway_name feed.old.taker.gateway }
+    requires { Waits play.old.waiting (CanReceiveOver D.is_reached D.may_leave
+        play.old.publisher.version play.old.publisher.shown play.old.feed.journal
+        play.old.feed.disk play.old.feed.start play.old.feed.count play.old.feed.taker) }
+    ensures received { IfOk result (HasReceivedOver D.may_leave play.old.publisher.version
+        play.old.waiting play.new.feed.disk play.new.feed.taker) }
+    ensures gateway { gateway_name play.new.feed.taker.gateway
+        ≡ gateway_name play.old.feed.taker.gateway }
     ensures failed { IfOk result (λ played. IsReceiveFault played
-        → Rose (D.faults feed.old.disk) (D.faults feed.new.disk)) }
-    ensures later { D.faults feed.old.disk ≤ D.faults feed.new.disk }
+        → Rose (D.faults play.old.feed.disk) (D.faults play.new.feed.disk)) }
+    ensures later { D.faults play.old.feed.disk ≤ D.faults play.new.feed.disk }
 {
-    match waiting.take() {
-        Some(setup) => play_received(rt, alloc, gate, setup, publisher, feed),
+    match play.waiting.take() {
+        Some(setup) => {
+            play_received(rt, alloc, gate, setup, &mut play.publisher, &mut play.feed)
+        }
         None => unreachable!(),
     }
 }
@@ -121,6 +131,7 @@ fn send_waiting<R: Threads + Wait + Sync>(
 }
 
 /// Runs senders in threads of their own, and the sessions beside the publisher, which stays open.
+// What the publisher attaches is in one argument, so that the two closures borrow it once.
 fn play_joined<
     A: Attachment + Send + Sync,
     R: Threads + Wait + Sync,
@@ -131,22 +142,20 @@ fn play_joined<
     alloc: Global,
     gate: &G,
     senders: &mut Option<Senders>,
-    setup: &mut Option<JobSetup<RuledEntry<A>>>,
-    publisher: &mut Publisher<A>,
-    feed: &mut StoredGateway<D, A>,
+    play: &mut SentPlay<A, RuledEntry<A>, D>,
 ) -> (Option<(Ended, Ended)>, Result<Option<Played>, AllocError>)
     requires senders { Waits senders.old MaySendBoth }
-    requires setup { Waits setup.old (CanReceiveOver D.is_reached D.may_leave
-        publisher.old.version publisher.old.shown feed.old.journal feed.old.disk feed.old.start
-        feed.old.count feed.old.taker) }
+    requires play { Waits play.old.waiting (CanReceiveOver D.is_reached D.may_leave
+        play.old.publisher.version play.old.publisher.shown play.old.feed.journal
+        play.old.feed.disk play.old.feed.start play.old.feed.count play.old.feed.taker) }
     ensures ended { HaveEnded senders.old result.0 }
-    ensures received { IfOk result.1 (HasReceivedOver D.may_leave publisher.old.version setup.old
-        feed.new.disk feed.new.taker) }
-    ensures gateway { gateway_name feed.new.taker.gateway
-        ≡ gateway_name feed.old.taker.gateway }
+    ensures received { IfOk result.1 (HasReceivedOver D.may_leave play.old.publisher.version
+        play.old.waiting play.new.feed.disk play.new.feed.taker) }
+    ensures gateway { gateway_name play.new.feed.taker.gateway
+        ≡ gateway_name play.old.feed.taker.gateway }
     ensures failed { IfOk result.1 (λ played. IsReceiveFault played
-        → Rose (D.faults feed.old.disk) (D.faults feed.new.disk)) }
-    ensures later { D.faults feed.old.disk ≤ D.faults feed.new.disk }
+        → Rose (D.faults play.old.feed.disk) (D.faults play.new.feed.disk)) }
+    ensures later { D.faults play.old.feed.disk ≤ D.faults play.new.feed.disk }
 {
     let mut front = || -> Option<(Ended, Ended)>
         requires { IsSync R.row × Waits senders.now MaySendBoth }
@@ -154,17 +163,18 @@ fn play_joined<
     { send_waiting(rt, senders) };
     let mut back = || -> Result<Option<Played>, AllocError>
         requires { IsSync R.row × IsSync G.row × IsSync A.row
-            × Waits setup.now (CanReceiveOver D.is_reached D.may_leave
-            publisher.now.version publisher.now.shown feed.now.journal feed.now.disk
-            feed.now.start feed.now.count feed.now.taker) }
-        ensures received { IfOk result (HasReceivedOver D.may_leave publisher.entry.now.version
-            setup.entry.now feed.exit.now.disk feed.exit.now.taker) }
-        ensures gateway { gateway_name feed.exit.now.taker.gateway
-            ≡ gateway_name feed.entry.now.taker.gateway }
+            × Waits play.now.waiting (CanReceiveOver D.is_reached D.may_leave
+            play.now.publisher.version play.now.publisher.shown play.now.feed.journal
+            play.now.feed.disk play.now.feed.start play.now.feed.count play.now.feed.taker) }
+        ensures received { IfOk result (HasReceivedOver D.may_leave
+            play.entry.now.publisher.version play.entry.now.waiting play.exit.now.feed.disk
+            play.exit.now.feed.taker) }
+        ensures gateway { gateway_name play.exit.now.feed.taker.gateway
+            ≡ gateway_name play.entry.now.feed.taker.gateway }
         ensures failed { IfOk result (λ played. IsReceiveFault played
-            → Rose (D.faults feed.entry.now.disk) (D.faults feed.exit.now.disk)) }
-        ensures later { D.faults feed.entry.now.disk ≤ D.faults feed.exit.now.disk }
-    { play_waiting(rt, alloc, gate, setup, publisher, feed) };
+            → Rose (D.faults play.entry.now.feed.disk) (D.faults play.exit.now.feed.disk)) }
+        ensures later { D.faults play.entry.now.feed.disk ≤ D.faults play.exit.now.feed.disk }
+    { play_waiting(rt, alloc, gate, play) };
     join_mut(rt, &mut front, &mut back)
 }
 
@@ -203,28 +213,30 @@ fn play_beside_senders<
         alloc,
         sessions,
         readers,
-        mut publisher,
+        publisher,
         journal,
         start,
         before,
     } = opened;
-    let mut feed = StoredGateway::new(alloc, journal, disk, start, taker);
-    let mut senders = Some(senders);
-    let mut setup = Some(JobSetup {
+    let feed = StoredGateway::new(alloc, journal, disk, start, taker);
+    let setup = JobSetup {
         sessions,
         readers,
         before,
         most,
-    });
-    let (ended, played) = play_joined(
-        rt,
-        alloc,
-        gate,
-        &mut senders,
-        &mut setup,
-        &mut publisher,
-        &mut feed,
-    );
+    };
+    let mut senders = Some(senders);
+    let mut play = SentPlay {
+        waiting: Some(setup),
+        publisher,
+        feed,
+    };
+    let (ended, played) = play_joined(rt, alloc, gate, &mut senders, &mut play);
+    let SentPlay {
+        waiting: _waiting,
+        mut publisher,
+        feed,
+    } = play;
     publisher.close(rt);
     let (disk, taker) = feed.into_parts();
     (disk, taker, ended, played)
