@@ -12,3 +12,4 @@ mod NextVersions
 pub mod KeptOnce
 mod NextRun
 mod OwnPlans
+mod Crossing

@@ -101,14 +101,24 @@ text_sent base list firsts seconds taken sessions job first second text =
     record { sent = taken; first = of_sender First taken firsts first; second = of_sender Second taken seconds second; text = text }
 
 -- the order of all that is done is the whole list and then what was taken, where the list was done before
+whole_taken : (version : Trials) (before : ℕ) (taken : List (SenderId × Change)) → version.done ≡ 0 → before ≡ length version.list
+    → whole_order (later_by before version) (numbered taken) ≡ order_sent version.list taken
+whole_taken version before taken fresh all =
+    let done : version.done + before ≡ length version.list = omega (arith, fresh, all) in
+    let first : take (version.done + before) version.list ≡ version.list = ap (λ n. take n version.list) done ∙ take-length version.list in
+    ap (λ l. from_nobody l ++ numbered taken) first
+
+-- so a text stands over that order
 pub text_taken : (version : Trials) (before : ℕ) (taken : List (SenderId × Change)) (sessions : List JobSession) (job : JobAnswer) → version.done ≡ 0 → before ≡ length version.list
     → IsOrderText version.base (whole_order (later_by before version) (numbered taken)) version.done before sessions job
     → IsOrderText version.base (order_sent version.list taken) 0 (length version.list) sessions job
 text_taken version before taken sessions job fresh all text =
-    let done : version.done + before ≡ length version.list = omega (arith, fresh, all) in
-    let first : take (version.done + before) version.list ≡ version.list = ap (λ n. take n version.list) done ∙ take-length version.list in
-    let whole : whole_order (later_by before version) (numbered taken) ≡ order_sent version.list taken = ap (λ l. from_nobody l ++ numbered taken) first in
     let A : RefreshOrder → Type 0 = λ o. IsOrderText version.base o version.done before sessions job in
     let B : ℕ → Type 0 = λ n. IsOrderText version.base (order_sent version.list taken) n before sessions job in
     let C : ℕ → Type 0 = λ n. IsOrderText version.base (order_sent version.list taken) 0 n sessions job in
-    subst C all (subst B fresh (subst A whole text))
+    subst C all (subst B fresh (subst A (whole_taken version before taken fresh all) text))
+
+-- and too few refreshes are too few in that order
+pub few_taken : (version : Trials) (before : ℕ) (taken : List (SenderId × Change)) → version.done ≡ 0 → before ≡ length version.list
+    → length (whole_order (later_by before version) (numbered taken)) < version.most → length (order_sent version.list taken) < version.most
+few_taken version before taken fresh all few = subst (λ (o : RefreshOrder). length o < version.most) (whole_taken version before taken fresh all) few
