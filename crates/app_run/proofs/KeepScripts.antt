@@ -59,8 +59,8 @@ keep_refused (Some folder) job number keep old new statements (error.Refused ref
     (Ok statements, found, ap Err refuses ∙ ap (λ o. kept_or_refused job keep.line o) (sym none))
   where
     nothing : (o : Option View) → PutsKeep old new o false → o ≡ None
-    nothing (Some v) (yes, put) = absurd (cc)
-    nothing None no = refl
+    nothing (Some v) (is_put, put) = absurd (cc)
+    nothing None is_put = refl
 
 -- one that has such a query
 pub keep_added : (held : Option Folder) (job : List ℕ) (number : ℕ) (keep : KeepParts) (old new : List View) (statements : List Statement) → number ≡ length old
@@ -76,8 +76,8 @@ keep_added held job number keep old new statements count found puts = at (view_o
         (Ok statements, found, ap (λ o. kept_or_refused job keep.line o) (sym is) ∙ ap (λ n. kept_or_refused job keep.line (view_of_keep n keep.name statements)) count)
 
     at : (o : Option View) → view_of_keep number keep.name statements ≡ o → PutsKeep old new o true → AddsKeep held job keep old new (Ok tt)
-    at (Some v) is (yes, put) = (v, put, told v is held found)
-    at None is no = absurd (cc)
+    at (Some v) is (is_put, put) = (v, put, told v is held found)
+    at None is is_put = absurd (cc)
 
 -- those of all lines
 

@@ -1,4 +1,4 @@
-use Rattle.std.proofs.Common.{rules, ◌≡◌, Bool, List, Ok, false, subst, true}
+use Rattle.std.proofs.Common.{rules, ◌≡◌, Bool, Err, List, Ok, false, subst, true}
 use Rattle.std.proofs.lemmas.Result.{err_from_is_err_and}
 use Rattle.app_job_file.specs.Files.{keep_parts, refused_line}
 use Rattle.app_job_file.specs.declared.refusal.JobRefusal.TheVariants.{BadKeep}
@@ -17,8 +17,9 @@ returns-in_err-statements-clause-input g c =
     let keep = keep_parts c.args.keep.now in
     let name : c.as_str.result.now ≡ keep.file = search rules in
     let p = err_from_is_err_and c.from_residual.result c.from_residual.ensures.1 in
-    let found = subst (λ n. Finds (λ (s : List Statement). s) held (λ folder. IsScriptOf n (file_bytes script_limit folder n)) _) name c.in_err-statements.ensures.input in
-    rw (p.1, p.2) (keep_unread (λ (s : List Statement). s) held c.args.job.now keep c.args.all.now.views _ _ found)
+    let made = c.in_err-statements.field-0.0 in
+    let found = subst (λ n. Finds (λ (s : List Statement). s) held (λ folder. IsScriptOf n (file_bytes script_limit folder n)) (Err made)) name c.in_err-statements.ensures.input in
+    rw (p.1, p.2) (keep_unread (λ (s : List Statement). s) held c.args.job.now keep c.args.all.now.views c.args.all.now.views made found)
 
 pub returns-then-is_kept-clause-input : goal.returns-then-is_kept-clause-input
 returns-then-is_kept-clause-input g c =

@@ -15,7 +15,7 @@ returns-in_err-read_keep-clause-input g c =
     let i = c.reading.keep-index in
     let same : slice_index_or keeps i c.keep-item.result ≡ c.keep-item.result = search rules in
     let p = err_from_is_err_and c.from_residual.result c.from_residual.ensures.1 in
-    rw (p.1, p.2) (keeps_refused (λ (all : JobKeeps). all.views) (g.F.Files.held c.args.files.now) (g.F.Files.held c.reading.files) c.args.job.now keeps i c.keep-item.result c.reading.all.views _ _
+    rw (p.1, p.2) (keeps_refused (λ (all : JobKeeps). all.views) (g.F.Files.held c.args.files.now) (g.F.Files.held c.reading.files) c.args.job.now keeps i c.keep-item.result c.reading.all.views c.reading.all.views _
     c.reading.invariant.held c.reading-test.true same c.reading.invariant.read c.in_err-read_keep.ensures.input)
 
 pub reading-preserved : goal.reading-preserved
