@@ -33,6 +33,11 @@ impl TextWriter {
         self.bytes.is_empty()
     }
 
+    /// Whether this was put so far.
+    pub fn is(&self, bytes: &[u8]) -> bool {
+        self.bytes.as_slice() == bytes
+    }
+
     /// Appends bytes.
     pub fn put(&mut self, bytes: &[u8]) {
         if !self.is_cut {
