@@ -9,7 +9,7 @@ use crate::subquery::{
     Page, ShownQuery, aggregate_name, computed, end_distinct, end_grouped, end_plain, end_set,
     push_clause, push_query_name, read_rows,
 };
-use crate::tables::put_tables;
+use crate::tables::{TableList, put_tables};
 use crate::writer::TextWriter;
 use base_order_limit::OrderKey;
 use expr_scalar::{Comparison, Expr};
@@ -301,9 +301,9 @@ fn put_block(alloc: Global, page: &mut Page, sight: &[Names], q: &BoundBlock) ->
 /// The lines of a bound query, a line a clause, and of the queries in it; then its order and its
 /// limit.
 pub fn query_lines(alloc: Global, query: &BoundQuery) -> Result<Vec<PlanLine>, AllocError> {
-    let mut tables = Vec::new(alloc);
-    put_tables(&mut tables, query.block.get())?;
-    let mut page = Page::new(alloc, tables);
+    let mut tables = TableList::new(alloc);
+    put_tables(&mut tables, query.block.get());
+    let mut page = Page::new(alloc, tables.finish()?);
     let shown = put_block(alloc, &mut page, &[], query.block.get());
     let mut order = TextWriter::new(alloc);
     push_order(&mut order, shown.columns.as_slice(), query.order.as_slice());

@@ -201,7 +201,7 @@ impl Clauses {
 
     /// Appends a condition, unless it always holds.
     fn put_condition(&mut self, alloc: Global, kind: &[u8], detail: TextWriter) {
-        if !detail.is(b"true") {
+        if !detail.equals(b"true") {
             self.put(alloc, kind, detail);
         }
     }

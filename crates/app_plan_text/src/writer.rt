@@ -34,7 +34,7 @@ impl TextWriter {
     }
 
     /// Whether this was put so far.
-    pub fn is(&self, bytes: &[u8]) -> bool {
+    pub fn equals(&self, bytes: &[u8]) -> bool {
         self.bytes.as_slice() == bytes
     }
 
@@ -70,6 +70,12 @@ impl TextWriter {
         if !self.is_cut {
             self.is_cut = push_decimal(&mut self.bytes, coefficient, scale).is_err();
         }
+    }
+
+    /// Appends the text to another.
+    pub fn append_to(self, text: &mut Vec<u8>) -> Result<(), AllocError> {
+        let mut bytes = self.finish()?;
+        text.append(&mut bytes)
     }
 
     /// The text.
