@@ -15,24 +15,6 @@ use plan_algebra::Node;
 use plan_spelling::push_plan;
 use std::alloc::{AllocError, Global};
 
-/// A statement's number, a word, and the statement's text.
-fn head_text(
-    alloc: Global,
-    number: usize,
-    word: &[u8],
-    written: &[u8],
-) -> Result<Vec<u8>, AllocError> {
-    let mut out = TextWriter::new(alloc);
-    out.put_byte(b'[');
-    out.put_number(number);
-    out.put(b"] ");
-    out.put(word);
-    out.put_byte(b'\n');
-    out.put(written);
-    out.put_byte(b'\n');
-    out.finish()
-}
-
 /// Appends a statement's number, a word, and the statement's text.
 fn push_head(
     alloc: Global,
@@ -41,8 +23,15 @@ fn push_head(
     word: &[u8],
     written: &[u8],
 ) -> Result<(), AllocError> {
-    let head = head_text(alloc, number, word, written)?;
-    text.extend_from_slice(head.as_slice())
+    let mut head = TextWriter::new(alloc);
+    head.put_byte(b'[');
+    head.put_number(number);
+    head.put(b"] ");
+    head.put(word);
+    head.put_byte(b'\n');
+    head.put(written);
+    head.put_byte(b'\n');
+    head.append_to(text)
 }
 
 /// Appends the title of a form and its lines.
@@ -102,14 +91,11 @@ fn put_node_figures(out: &mut TextWriter, number: usize, figures: NodeFigures) {
     out.put_byte(b'\n');
 }
 
-/// What each node of a plan gives, under a title.
-fn figures_text(alloc: Global, figures: &[NodeFigures]) -> Result<Vec<u8>, AllocError> {
-    let mut out = TextWriter::new(alloc);
-    out.put(b"figures of the nodes, each with the time from the first one on\n");
+/// Writes what each node of a plan gives.
+fn put_figures(out: &mut TextWriter, figures: &[NodeFigures]) {
     for (number, figures) in figures.iter().enumerate() {
-        put_node_figures(&mut out, number, *figures);
+        put_node_figures(out, number, *figures);
     }
-    out.finish()
 }
 
 /// Appends what each node of a plan gives, where there are tables.
@@ -121,8 +107,10 @@ fn push_figures(
     if figures.is_empty() {
         return Ok(());
     }
-    let shown = figures_text(alloc, figures)?;
-    text.extend_from_slice(shown.as_slice())
+    let mut out = TextWriter::new(alloc);
+    out.put(b"figures of the nodes, each with the time from the first one on\n");
+    put_figures(&mut out, figures);
+    out.append_to(text)
 }
 
 /// Appends forms, one after the other.

@@ -176,18 +176,6 @@ fn put_object(
     Ok(())
 }
 
-/// A statement's object, on a line of its own.
-fn object_text(
-    alloc: Global,
-    number: usize,
-    written: &[u8],
-    plan: &StatementPlan,
-) -> Result<Vec<u8>, AllocError> {
-    let mut out = TextWriter::new(alloc);
-    put_object(alloc, &mut out, number, written, plan)?;
-    out.finish()
-}
-
 /// Appends what is shown of a statement of this number, as an object on a line of its own.
 pub fn push_statement_object(
     alloc: Global,
@@ -196,6 +184,7 @@ pub fn push_statement_object(
     written: &[u8],
     plan: &StatementPlan,
 ) -> Result<(), AllocError> {
-    let object = object_text(alloc, number, written, plan)?;
-    text.extend_from_slice(object.as_slice())
+    let mut object = TextWriter::new(alloc);
+    put_object(alloc, &mut object, number, written, plan)?;
+    object.append_to(text)
 }
