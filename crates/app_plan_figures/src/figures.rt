@@ -4,6 +4,7 @@ ghost use Rattle.std.specs.Prelude.{◌≡◌, ◌<◌};
 use crate::ways::{JoinWay, way_of_join, way_of_single};
 use base_columns::{Bag, Batch, Column, ColumnForm};
 use exec_flat_plan::run;
+use expr_scalar::Expr;
 use plan_algebra::{FlatPlan, Node, Steps, Tables};
 use std::alloc::{AllocError, Global};
 use std::marker::Brand;
@@ -25,10 +26,18 @@ pub struct NodeFigures {
 }
 
 /// The rows of a node, and how many microseconds the run up to it took.
-#[derive(Drop)]
 struct NodeRun {
     bag: Bag,
     micros: u64,
+}
+
+// By hand, so that each place that drops one has a call in its proof.
+impl Drop for NodeRun {
+    #[inline]
+    fn drop(self) {
+        let NodeRun { bag, micros: _ } = self;
+        drop(bag);
+    }
 }
 
 /// The numbers of rows alone.
@@ -117,26 +126,23 @@ fn micros_since<R: Clock>(clock: &R, start: Option<Instant>) -> u64 {
     }
 }
 
-/// The rows of a plan, and how long its run took.
-fn last_run<R: Threads + Sync + Clock, T: Tables, L: Ledger>(
+/// The rows of a plan.
+fn last_run<R: Threads + Sync, T: Tables, L: Ledger>(
     rt: &R,
     alloc: Global,
     plan: &FlatPlan,
     tables: &T,
     blank: Blank,
-) -> Result<NodeRun, AllocError>
+) -> Result<Bag, AllocError>
     requires name { blank.name ≡ L.name }
     requires parts { blank.parts ≡ L.parts }
     requires some { 0 < blank.parts }
 {
     let mut steps: Steps<L> = Steps::new(blank);
-    let start = time_now(rt);
-    let bag = run(rt, alloc, plan, tables, &mut steps)?;
-    let micros = micros_since(rt, start);
-    Ok(NodeRun { bag, micros })
+    run(rt, alloc, plan, tables, &mut steps)
 }
 
-/// The same where the steps have a ledger of their own.
+/// The rows of a plan by steps with a ledger of their own, and how long that took.
 fn own_run<R: Threads + Sync + Clock, T: Tables>(
     rt: &R,
     alloc: Global,
@@ -144,8 +150,10 @@ fn own_run<R: Threads + Sync + Clock, T: Tables>(
     tables: &T,
 ) -> Result<NodeRun, AllocError> {
     let blank = Blank::new(1);
-    let run = last_run::<R, T, Brand>(rt, alloc, plan, tables, blank)?;
-    Ok(run)
+    let start = time_now(rt);
+    let bag = last_run::<R, T, Brand>(rt, alloc, plan, tables, blank)?;
+    let micros = micros_since(rt, start);
+    Ok(NodeRun { bag, micros })
 }
 
 /// The plan without its last node.
@@ -164,22 +172,76 @@ fn without_last(plan: FlatPlan) -> FlatPlan {
     }
 }
 
-/// The rows of each node of a plan. The plan is run for each of its nodes, as if that were the last
-/// one.
+/// Appends the rows of a plan.
+fn put_run<R: Threads + Sync + Clock, T: Tables>(
+    rt: &R,
+    alloc: Global,
+    runs: &mut Vec<NodeRun>,
+    plan: &FlatPlan,
+    tables: &T,
+) -> Result<(), AllocError> {
+    let run = own_run(rt, alloc, plan, tables)?;
+    runs.push(run)?;
+    Ok(())
+}
+
+/// Appends the rows of each node of a plan, the last one first. The plan is run for each of its
+/// nodes, as if that were the last one.
+fn put_runs<R: Threads + Sync + Clock, T: Tables>(
+    rt: &R,
+    alloc: Global,
+    runs: &mut Vec<NodeRun>,
+    plan: FlatPlan,
+    tables: &T,
+) -> Result<(), AllocError> {
+    let mut left = plan;
+    for _ in 0..left.nodes.len() {
+        put_run(rt, alloc, runs, &left, tables)?;
+        left = without_last(left);
+    }
+    Ok(())
+}
+
+/// The rows of each node of a plan.
 fn node_runs<R: Threads + Sync + Clock, T: Tables>(
     rt: &R,
     alloc: Global,
     plan: FlatPlan,
     tables: &T,
 ) -> Result<Vec<NodeRun>, AllocError> {
-    let mut left = plan;
     let mut runs = Vec::new(alloc);
-    for _ in 0..left.nodes.len() {
-        runs.push(own_run(rt, alloc, &left, tables)?)?;
-        left = without_last(left);
-    }
+    put_runs(rt, alloc, &mut runs, plan, tables)?;
     runs.reverse();
     Ok(runs)
+}
+
+/// How nodes of these rows find their pairs under a condition.
+fn way_of_sides(
+    alloc: Global,
+    left: Option<&NodeRun>,
+    right: Option<&NodeRun>,
+    matched: &[(u32, u32)],
+    on: &Expr,
+) -> Result<Option<JoinWay>, AllocError> {
+    let (Some(left), Some(right)) = (left, right) else {
+        return Ok(None);
+    };
+    let way = way_of_join(alloc, &left.bag, &right.bag, matched, on)?;
+    Ok(Some(way))
+}
+
+/// How rows of the left one of these nodes find their partners for a scalar subquery.
+fn way_of_partners(
+    alloc: Global,
+    left: Option<&NodeRun>,
+    right: Option<&NodeRun>,
+    matched: &[(u32, u32)],
+) -> Result<Option<JoinWay>, AllocError> {
+    let (Some(left), Some(right)) = (left, right) else {
+        return Ok(None);
+    };
+    let way = way_of_single(alloc, &left.bag, &right.bag, matched)?;
+    Ok(Some(way))
 }
 
 /// How a node finds its pairs, where it is a join of nodes of these runs.
@@ -188,22 +250,44 @@ fn way_of(alloc: Global, node: &Node, runs: &[NodeRun]) -> Result<Option<JoinWay
         Node::Join(i, j, matched, on)
         | Node::Outer(i, j, matched, _, on)
         | Node::Mark(i, j, matched, on) => {
-            let (Some(left), Some(right)) = (runs.get(*i), runs.get(*j)) else {
-                return Ok(None);
-            };
-            let matched = matched.as_slice();
-            let way = way_of_join(alloc, &left.bag, &right.bag, matched, on.get())?;
-            Ok(Some(way))
+            let (left, right) = (runs.get(*i), runs.get(*j));
+            way_of_sides(alloc, left, right, matched.as_slice(), on.get())
         }
         Node::Single(i, j, matched, _) => {
-            let (Some(left), Some(right)) = (runs.get(*i), runs.get(*j)) else {
-                return Ok(None);
-            };
-            let way = way_of_single(alloc, &left.bag, &right.bag, matched.as_slice())?;
-            Ok(Some(way))
+            let (left, right) = (runs.get(*i), runs.get(*j));
+            way_of_partners(alloc, left, right, matched.as_slice())
         }
         _ => Ok(None),
     }
+}
+
+/// What a node gives, which has one of these runs.
+fn figures_of(
+    alloc: Global,
+    node: &Node,
+    run: &NodeRun,
+    runs: &[NodeRun],
+) -> Result<NodeFigures, AllocError> {
+    let way = way_of(alloc, node, runs)?;
+    Ok(NodeFigures {
+        rows: run.bag.len(),
+        bytes: bag_bytes(&run.bag),
+        micros: run.micros,
+        way,
+    })
+}
+
+/// What nodes of these runs give.
+fn figures_of_runs(
+    alloc: Global,
+    nodes: &[Node],
+    runs: &[NodeRun],
+) -> Result<Vec<NodeFigures>, AllocError> {
+    let mut figures = Vec::new(alloc);
+    for (node, run) in nodes.iter().zip(runs.iter()) {
+        figures.push(figures_of(alloc, node, run, runs)?)?;
+    }
+    Ok(figures)
 }
 
 /// What each node of these gives over tables. They are those of the plan, which is taken apart. All
@@ -216,14 +300,5 @@ pub fn node_figures<R: Threads + Sync + Clock, T: Tables>(
     tables: &T,
 ) -> Result<Vec<NodeFigures>, AllocError> {
     let runs = node_runs(rt, alloc, plan, tables)?;
-    let mut figures = Vec::new(alloc);
-    for (node, run) in nodes.iter().zip(runs.iter()) {
-        figures.push(NodeFigures {
-            rows: run.bag.len(),
-            bytes: bag_bytes(&run.bag),
-            micros: run.micros,
-            way: way_of(alloc, node, runs.as_slice())?,
-        })?;
-    }
-    Ok(figures)
+    figures_of_runs(alloc, nodes, runs.as_slice())
 }

@@ -1,10 +1,10 @@
 //! Expressions as SQL writes them, over the names of their columns.
 use crate::literal::{push_literal, push_quoted};
-use crate::names::{push_name, push_number};
+use crate::names::name_at;
+use crate::writer::TextWriter;
 use expr_aggregates::AggregateFunction;
 use expr_scalar::{Arithmetic, Branch, Comparison, DatePart, Expr, Operation};
 use plan_algebra::Aggregate;
-use std::alloc::AllocError;
 
 /// How tightly an operator binds. A looser expression in its place stands in parentheses.
 type Level = u8;
@@ -95,158 +95,166 @@ fn part_word(part: DatePart) -> &'static str {
 }
 
 /// Appends an expression.
-pub fn push_expr(text: &mut Vec<u8>, names: &[Vec<u8>], e: &Expr) -> Result<(), AllocError> {
-    put(text, names, OR, e)
+pub fn push_expr(text: &mut TextWriter, names: &[Vec<u8>], e: &Expr) {
+    put(text, names, OR, e);
+}
+
+/// Appends the start of a function's call, or a word before an expression.
+fn put_word(text: &mut TextWriter, e: &Expr) {
+    match e {
+        Expr::Negative(_) => text.put_byte(b'-'),
+        Expr::Not(_) => text.put(b"not "),
+        Expr::Case(_, _, _) => text.put(b"case"),
+        Expr::Substring(_, _, _) => text.put(b"substring("),
+        Expr::Extract(part, _) => {
+            text.put(b"extract(");
+            text.put(part_word(*part).as_bytes());
+            text.put(b" from ");
+        }
+        _ => {}
+    }
+}
+
+/// Appends what stands before the parts of an expression, or all of one that has none.
+fn put_start(text: &mut TextWriter, names: &[Vec<u8>], e: &Expr) {
+    match e {
+        Expr::Column(place) => text.put(name_at(names, *place)),
+        Expr::Literal(value) => push_literal(text, value),
+        Expr::All(es) => text.put(empty_word(es.as_slice(), b"true")),
+        Expr::Any(es) => text.put(empty_word(es.as_slice(), b"false")),
+        _ => put_word(text, e),
+    }
+}
+
+/// Appends what stands behind the parts of an expression.
+fn put_end(text: &mut TextWriter, e: &Expr) {
+    match e {
+        Expr::Case(_, _, _) => text.put(b" end"),
+        Expr::Extract(_, _) | Expr::InList(_, _) => text.put_byte(b')'),
+        Expr::Substring(_, from, count) => push_part(text, *from, *count),
+        Expr::Like(_, pattern) => push_pattern(text, pattern.bytes()),
+        Expr::IsNull(_) => text.put(b" is null"),
+        _ => {}
+    }
+}
+
+/// How tightly the one part of an expression has to bind.
+fn part_level(e: &Expr) -> Level {
+    match e {
+        Expr::Negative(_) | Expr::IsMarked(_) => ATOM,
+        Expr::Not(_) => TEST,
+        Expr::Extract(_, _) | Expr::Substring(_, _, _) => OR,
+        _ => SUM,
+    }
 }
 
 /// Appends an expression, in parentheses where it binds more loosely than its place asks for.
 #[cycle(expr_text)]
-fn put(text: &mut Vec<u8>, names: &[Vec<u8>], least: Level, e: &Expr) -> Result<(), AllocError> {
+fn put(text: &mut TextWriter, names: &[Vec<u8>], least: Level, e: &Expr) {
     let is_looser = level(e) < least;
     if is_looser {
-        text.push(b'(')?;
+        text.put_byte(b'(');
     }
+    put_start(text, names, e);
+    put_parts(text, names, e);
+    put_end(text, e);
+    if is_looser {
+        text.put_byte(b')');
+    }
+}
+
+/// Appends the parts of an expression, with what stands between them.
+#[cycle(expr_text)]
+fn put_parts(text: &mut TextWriter, names: &[Vec<u8>], e: &Expr) {
     match e {
-        Expr::Column(place) => push_name(text, names, *place)?,
-        Expr::Literal(value) => push_literal(text, value)?,
-        Expr::Negative(e) => {
-            text.push(b'-')?;
-            put(text, names, ATOM, e.get())?;
-        }
+        Expr::Column(_) | Expr::Literal(_) => {}
+        Expr::Negative(part)
+        | Expr::Not(part)
+        | Expr::IsMarked(part)
+        | Expr::IsNull(part)
+        | Expr::Like(part, _)
+        | Expr::Extract(_, part)
+        | Expr::Substring(part, _, _) => put(text, names, part_level(e), part.get()),
         Expr::Arithmetic(first, operations) => {
-            put(text, names, SIGN, first.get())?;
-            put_operations(text, names, operations.as_slice())?;
+            put(text, names, SIGN, first.get());
+            put_operations(text, names, operations.as_slice());
         }
         Expr::Case(_, branches, other) => {
-            text.extend_from_slice(b"case")?;
-            put_branches(text, names, branches.as_slice())?;
-            text.extend_from_slice(b" else ")?;
-            put(text, names, OR, other.get())?;
-            text.extend_from_slice(b" end")?;
-        }
-        Expr::Extract(part, e) => {
-            text.extend_from_slice(b"extract(")?;
-            text.extend_from_slice(part_word(*part).as_bytes())?;
-            text.extend_from_slice(b" from ")?;
-            put(text, names, OR, e.get())?;
-            text.push(b')')?;
-        }
-        Expr::Substring(e, from, count) => {
-            text.extend_from_slice(b"substring(")?;
-            put(text, names, OR, e.get())?;
-            push_part(text, *from, *count)?;
+            put_branches(text, names, branches.as_slice());
+            text.put(b" else ");
+            put(text, names, OR, other.get());
         }
         Expr::Compare(comparison, a, b) => {
-            put(text, names, SUM, a.get())?;
-            text.extend_from_slice(comparison_sign(*comparison).as_bytes())?;
-            put(text, names, SUM, b.get())?;
+            put(text, names, SUM, a.get());
+            text.put(comparison_sign(*comparison).as_bytes());
+            put(text, names, SUM, b.get());
         }
         Expr::Between(e, low, high) => {
-            put(text, names, SUM, e.get())?;
-            text.extend_from_slice(b" between ")?;
-            put(text, names, SUM, low.get())?;
-            text.extend_from_slice(b" and ")?;
-            put(text, names, SUM, high.get())?;
-        }
-        Expr::Like(e, pattern) => {
-            put(text, names, SUM, e.get())?;
-            text.extend_from_slice(b" like ")?;
-            push_quoted(text, pattern.bytes())?;
+            put(text, names, SUM, e.get());
+            text.put(b" between ");
+            put(text, names, SUM, low.get());
+            text.put(b" and ");
+            put(text, names, SUM, high.get());
         }
         Expr::InList(e, es) => {
-            put(text, names, SUM, e.get())?;
-            text.extend_from_slice(b" in (")?;
-            put_all(text, names, es.as_slice(), b", ", SUM)?;
-            text.push(b')')?;
+            put(text, names, SUM, e.get());
+            text.put(b" in (");
+            put_all(text, names, es.as_slice(), b", ", SUM);
         }
-        Expr::IsNull(e) => {
-            put(text, names, SUM, e.get())?;
-            text.extend_from_slice(b" is null")?;
-        }
-        Expr::Not(e) => {
-            text.extend_from_slice(b"not ")?;
-            put(text, names, TEST, e.get())?;
-        }
-        Expr::All(es) => {
-            push_empty(text, es.as_slice(), b"true")?;
-            put_all(text, names, es.as_slice(), b" and ", NOT)?;
-        }
-        Expr::Any(es) => {
-            push_empty(text, es.as_slice(), b"false")?;
-            put_all(text, names, es.as_slice(), b" or ", AND)?;
-        }
-        Expr::IsMarked(e) => put(text, names, ATOM, e.get())?,
+        Expr::All(es) => put_all(text, names, es.as_slice(), b" and ", NOT),
+        Expr::Any(es) => put_all(text, names, es.as_slice(), b" or ", AND),
     }
-    if is_looser {
-        text.push(b')')?;
-    }
-    Ok(())
 }
 
 /// Appends the place and the length of a part of a text.
-fn push_part(text: &mut Vec<u8>, from: u32, count: u32) -> Result<(), AllocError> {
-    text.extend_from_slice(b" from ")?;
-    push_number(text, from as usize)?;
-    text.extend_from_slice(b" for ")?;
-    push_number(text, count as usize)?;
-    text.push(b')')?;
-    Ok(())
+fn push_part(text: &mut TextWriter, from: u32, count: u32) {
+    text.put(b" from ");
+    text.put_number(from as usize);
+    text.put(b" for ");
+    text.put_number(count as usize);
+    text.put_byte(b')');
 }
 
-/// Appends what an empty list of conditions is.
-fn push_empty(text: &mut Vec<u8>, es: &[Expr], word: &[u8]) -> Result<(), AllocError> {
-    if es.is_empty() {
-        text.extend_from_slice(word)?;
-    }
-    Ok(())
+/// Appends a pattern of LIKE.
+fn push_pattern(text: &mut TextWriter, pattern: &[u8]) {
+    text.put(b" like ");
+    push_quoted(text, pattern);
+}
+
+/// What an empty list of conditions is.
+fn empty_word<'a>(es: &[Expr], word: &'a [u8]) -> &'a [u8] {
+    if es.is_empty() { word } else { &[] }
 }
 
 /// Appends expressions with a word between two.
 #[cycle(expr_text)]
-fn put_all(
-    text: &mut Vec<u8>,
-    names: &[Vec<u8>],
-    es: &[Expr],
-    between: &[u8],
-    least: Level,
-) -> Result<(), AllocError> {
+fn put_all(text: &mut TextWriter, names: &[Vec<u8>], es: &[Expr], between: &[u8], least: Level) {
     for (place, e) in es.iter().enumerate() {
         if place > 0 {
-            text.extend_from_slice(between)?;
+            text.put(between);
         }
-        put(text, names, least, e)?;
+        put(text, names, least, e);
     }
-    Ok(())
 }
 
 /// Appends the operations of a chain.
 #[cycle(expr_text)]
-fn put_operations(
-    text: &mut Vec<u8>,
-    names: &[Vec<u8>],
-    operations: &[Operation],
-) -> Result<(), AllocError> {
+fn put_operations(text: &mut TextWriter, names: &[Vec<u8>], operations: &[Operation]) {
     for operation in operations {
-        text.extend_from_slice(arithmetic_sign(operation.operator).as_bytes())?;
-        put(text, names, SIGN, &operation.operand)?;
+        text.put(arithmetic_sign(operation.operator).as_bytes());
+        put(text, names, SIGN, &operation.operand);
     }
-    Ok(())
 }
 
 /// Appends the branches of a CASE.
 #[cycle(expr_text)]
-fn put_branches(
-    text: &mut Vec<u8>,
-    names: &[Vec<u8>],
-    branches: &[Branch],
-) -> Result<(), AllocError> {
+fn put_branches(text: &mut TextWriter, names: &[Vec<u8>], branches: &[Branch]) {
     for branch in branches {
-        text.extend_from_slice(b" when ")?;
-        put(text, names, OR, &branch.when)?;
-        text.extend_from_slice(b" then ")?;
-        put(text, names, OR, &branch.gives)?;
+        text.put(b" when ");
+        put(text, names, OR, &branch.when);
+        text.put(b" then ");
+        put(text, names, OR, &branch.gives);
     }
-    Ok(())
 }
 
 /// The start of an aggregate, up to its argument.
@@ -263,27 +271,22 @@ fn function_start(function: AggregateFunction) -> &'static str {
 
 /// Appends an aggregate of this function and argument.
 pub fn push_function(
-    text: &mut Vec<u8>,
+    text: &mut TextWriter,
     names: &[Vec<u8>],
     function: AggregateFunction,
     argument: &Expr,
-) -> Result<(), AllocError> {
-    text.extend_from_slice(function_start(function).as_bytes())?;
-    push_expr(text, names, argument)?;
-    text.push(b')')?;
-    Ok(())
+) {
+    text.put(function_start(function).as_bytes());
+    push_expr(text, names, argument);
+    text.put_byte(b')');
 }
 
 /// Appends an aggregate.
-pub fn push_aggregate(
-    text: &mut Vec<u8>,
-    names: &[Vec<u8>],
-    aggregate: &Aggregate,
-) -> Result<(), AllocError> {
+pub fn push_aggregate(text: &mut TextWriter, names: &[Vec<u8>], aggregate: &Aggregate) {
     match aggregate {
-        Aggregate::CountRows => text.extend_from_slice(b"count(*)"),
+        Aggregate::CountRows => text.put(b"count(*)"),
         Aggregate::Of(function, _, argument) => {
-            push_function(text, names, *function, argument.get())
+            push_function(text, names, *function, argument.get());
         }
     }
 }

@@ -15,6 +15,7 @@ mod source;
 mod subquery;
 mod tables;
 mod tree;
+mod writer;
 
 pub use json::{push_json_lines, push_json_text};
 pub use line::{PlanLine, push_lines};
@@ -22,3 +23,4 @@ pub use names::push_number;
 pub use plan::plan_lines;
 pub use query::query_lines;
 pub use tree::tree_lines;
+pub use writer::TextWriter;

@@ -7,7 +7,6 @@ use itoa::Buffer;
 use std::alloc::AllocError;
 
 /// A line of a bound query, a tree or a plan.
-#[derive(Drop)]
 pub struct PlanLine {
     /// The node's number.
     pub number: usize,
@@ -23,6 +22,38 @@ pub struct PlanLine {
     pub columns: Vec<Vec<u8>>,
     /// How many rows it has, where they were counted.
     pub rows: Option<usize>,
+}
+
+// By hand, so that each place that drops one makes one call.
+impl Drop for PlanLine {
+    #[inline]
+    fn drop(self) {
+        let PlanLine {
+            number: _,
+            depth: _,
+            kind,
+            inputs,
+            detail,
+            columns,
+            rows: _,
+        } = self;
+        drop(kind);
+        drop(inputs);
+        drop(detail);
+        drop(columns);
+    }
+}
+
+/// Puts lines before those that stand from a place on.
+pub fn put_before(
+    lines: &mut Vec<PlanLine>,
+    place: usize,
+    own: Vec<PlanLine>,
+) -> Result<(), AllocError> {
+    let mut own = own;
+    let mut below = lines.split_off(place.min(lines.len()))?;
+    lines.append(&mut own)?;
+    lines.append(&mut below)
 }
 
 /// As many spaces as the deepest line has before it.

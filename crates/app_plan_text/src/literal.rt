@@ -1,29 +1,29 @@
 //! Written values as SQL writes them.
+use crate::writer::TextWriter;
 use base_date::CivilDate;
-use base_decimal::{push_decimal, push_last_digits};
 use base_value::{Fault, Value};
-use std::alloc::AllocError;
 
 /// Appends a text between quotes, each quote in it twice.
-pub fn push_quoted(text: &mut Vec<u8>, plain: &[u8]) -> Result<(), AllocError> {
-    text.push(b'\'')?;
+pub fn push_quoted(text: &mut TextWriter, plain: &[u8]) {
+    text.put_byte(b'\'');
     for byte in plain {
         if *byte == b'\'' {
-            text.push(b'\'')?;
+            text.put_byte(b'\'');
         }
-        text.push(*byte)?;
+        text.put_byte(*byte);
     }
-    text.push(b'\'')?;
-    Ok(())
+    text.put_byte(b'\'');
 }
 
-/// Appends a date as YYYY-MM-DD.
-fn push_date(text: &mut Vec<u8>, date: CivilDate) -> Result<(), AllocError> {
-    push_last_digits(text, date.year() as u64, 4)?;
-    text.push(b'-')?;
-    push_last_digits(text, date.month() as u64, 2)?;
-    text.push(b'-')?;
-    push_last_digits(text, date.day() as u64, 2)
+/// Appends a date as YYYY-MM-DD, between quotes and after its word.
+fn push_date(text: &mut TextWriter, date: CivilDate) {
+    text.put(b"date '");
+    text.put_last_digits(date.year() as u64, 4);
+    text.put_byte(b'-');
+    text.put_last_digits(date.month() as u64, 2);
+    text.put_byte(b'-');
+    text.put_last_digits(date.day() as u64, 2);
+    text.put_byte(b'\'');
 }
 
 /// The name of a fault, which no script can write.
@@ -36,17 +36,12 @@ fn fault_name(fault: Fault) -> &'static str {
 }
 
 /// Appends a value.
-pub fn push_literal(text: &mut Vec<u8>, value: &Value) -> Result<(), AllocError> {
+pub fn push_literal(text: &mut TextWriter, value: &Value) {
     match value {
-        Value::Fault(fault) => text.extend_from_slice(fault_name(*fault).as_bytes()),
-        Value::Number(scale, coefficient) => push_decimal(text, *coefficient, *scale),
+        Value::Fault(fault) => text.put(fault_name(*fault).as_bytes()),
+        Value::Number(scale, coefficient) => text.put_decimal(*coefficient, *scale),
         Value::Text(plain) => push_quoted(text, plain.bytes()),
-        Value::Date(date) => {
-            text.extend_from_slice(b"date '")?;
-            push_date(text, *date)?;
-            text.push(b'\'')?;
-            Ok(())
-        }
-        Value::Null => text.extend_from_slice(b"null"),
+        Value::Date(date) => push_date(text, *date),
+        Value::Null => text.put(b"null"),
     }
 }

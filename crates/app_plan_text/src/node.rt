@@ -4,7 +4,8 @@ ghost use Rattle.std.specs.Prelude.{◌≡◌};
 ghost use Rattle.app_plan_text.specs.Lines.{operation_words};
 
 use crate::expr::{push_aggregate, push_expr};
-use crate::names::{Names, computed, push_name, push_names, push_number};
+use crate::names::{NameList, Names, both, computed, name_at};
+use crate::writer::TextWriter;
 use base_set_rows::{ClassKind, SetOperation};
 use expr_scalar::Expr;
 use plan_algebra::{Aggregate, KeptPlan};
@@ -17,6 +18,60 @@ pub struct Done {
     pub detail: Vec<u8>,
     /// The names of its columns.
     pub columns: Names,
+}
+
+/// A text about rows, and the names of their columns, while they are written.
+#[derive(Drop)]
+pub struct RowWriter {
+    /// The text.
+    pub detail: TextWriter,
+    /// The names of the columns.
+    pub columns: NameList,
+}
+
+impl RowWriter {
+    /// No text and no columns.
+    pub fn new(alloc: Global) -> RowWriter {
+        RowWriter {
+            detail: TextWriter::new(alloc),
+            columns: NameList::new(alloc),
+        }
+    }
+
+    /// Appends a column of this name, and writes the name.
+    pub fn put_name(&mut self, alloc: Global, name: &[u8]) {
+        self.detail.put(name);
+        self.columns.put(alloc, name);
+    }
+
+    /// Appends a column whose name was made, and writes the name.
+    pub fn give_name(&mut self, name: Result<Vec<u8>, AllocError>) {
+        match name {
+            Ok(name) => {
+                self.detail.put(name.as_slice());
+                self.columns.give(Ok(name));
+            }
+            Err(error) => self.columns.give(Err(error)),
+        }
+    }
+
+    /// Appends the columns at these places of a row, and writes their names: these words before the
+    /// first, commas between them.
+    pub fn put_places(&mut self, alloc: Global, names: &[Vec<u8>], places: &[u32], first: &[u8]) {
+        for (count, place) in places.iter().enumerate() {
+            self.detail
+                .put(if count == 0 { first } else { b", ".as_slice() });
+            self.put_name(alloc, name_at(names, *place));
+        }
+    }
+
+    /// What was written.
+    pub fn finish(self) -> Result<Done, AllocError> {
+        let RowWriter { detail, columns } = self;
+        let detail = detail.finish()?;
+        let columns = columns.finish()?;
+        Ok(Done { detail, columns })
+    }
 }
 
 /// The words for a set operation.
@@ -33,18 +88,30 @@ pub fn operation_words(operation: SetOperation) -> &'static str
 }
 
 /// Appends a comma, unless the text is empty.
-pub fn push_comma(text: &mut Vec<u8>) -> Result<(), AllocError> {
+pub fn push_comma(text: &mut TextWriter) {
     if !text.is_empty() {
-        text.extend_from_slice(b", ")?;
+        text.put(b", ");
     }
-    Ok(())
 }
 
-/// A condition over a row of these names.
-pub fn condition(alloc: Global, names: &[Vec<u8>], e: &Expr) -> Result<Vec<u8>, AllocError> {
-    let mut detail = Vec::new(alloc);
-    push_expr(&mut detail, names, e)?;
-    Ok(detail)
+/// Appends an item of a select list: a column keeps its name, and anything else is named after the
+/// node.
+fn put_item(
+    alloc: Global,
+    done: &mut RowWriter,
+    number: usize,
+    place: usize,
+    names: &[Vec<u8>],
+    e: &Expr,
+) {
+    push_comma(&mut done.detail);
+    if let Expr::Column(at) = e {
+        done.put_name(alloc, name_at(names, *at));
+    } else {
+        done.give_name(computed(alloc, number, place));
+        done.detail.put(b" = ");
+        push_expr(&mut done.detail, names, e);
+    }
 }
 
 /// A select list: a column keeps its name, and anything else is named after the node.
@@ -54,66 +121,63 @@ pub fn listed(
     names: &[Vec<u8>],
     es: &[Expr],
 ) -> Result<Done, AllocError> {
-    let mut detail = Vec::new(alloc);
-    let mut columns = Vec::new(alloc);
+    let mut done = RowWriter::new(alloc);
     for (place, e) in es.iter().enumerate() {
-        push_comma(&mut detail)?;
-        let mut column = Vec::new(alloc);
-        if let Expr::Column(at) = e {
-            push_name(&mut column, names, *at)?;
-            detail.extend_from_slice(column.as_slice())?;
-        } else {
-            column = computed(alloc, number, place)?;
-            detail.extend_from_slice(column.as_slice())?;
-            detail.extend_from_slice(b" = ")?;
-            push_expr(&mut detail, names, e)?;
-        }
-        columns.push(column)?;
+        put_item(alloc, &mut done, number, place, names, e);
     }
-    Ok(Done { detail, columns })
+    done.finish()
 }
 
-/// Groups by columns of these names, with aggregates over rows of the names.
+/// Groups by the columns at these places of a row of these names, with aggregates over such rows.
 pub fn grouped(
     alloc: Global,
     number: usize,
     names: &[Vec<u8>],
-    by: Names,
+    by: &[u32],
     aggregates: &[Aggregate],
 ) -> Result<Done, AllocError> {
-    let mut detail = Vec::new(alloc);
-    let mut columns = by;
-    if !columns.is_empty() {
-        detail.extend_from_slice(b"by ")?;
-        push_names(&mut detail, columns.as_slice())?;
-    }
+    let mut done = RowWriter::new(alloc);
+    done.put_places(alloc, names, by, b"by ");
     for aggregate in aggregates {
-        push_comma(&mut detail)?;
-        let column = computed(alloc, number, columns.len())?;
-        detail.extend_from_slice(column.as_slice())?;
-        detail.extend_from_slice(b" = ")?;
-        push_aggregate(&mut detail, names, aggregate)?;
-        columns.push(column)?;
+        let place = done.columns.names().len();
+        push_comma(&mut done.detail);
+        done.give_name(computed(alloc, number, place));
+        done.detail.put(b" = ");
+        push_aggregate(&mut done.detail, names, aggregate);
     }
-    Ok(Done { detail, columns })
+    done.finish()
 }
 
-// The name of a column of the kept view of a number: `view0.1`.
+/// A node that only passes on the columns of its input.
+pub fn passed(alloc: Global, columns: &[Vec<u8>]) -> Result<Done, AllocError> {
+    let columns = both(alloc, columns, &[])?;
+    Ok(Done {
+        detail: Vec::new(alloc),
+        columns,
+    })
+}
+
+/// Appends the name of the kept view of a number: `view0`.
+fn push_view(text: &mut TextWriter, number: u32) {
+    text.put(b"view");
+    text.put_number(number as usize);
+}
+
+/// The name of a column of the kept view of a number: `view0.1`.
 fn kept_name(alloc: Global, number: u32, place: usize) -> Result<Vec<u8>, AllocError> {
-    let mut name = Vec::from_slice(alloc, b"view")?;
-    push_number(&mut name, number as usize)?;
-    name.push(b'.')?;
-    push_number(&mut name, place)?;
-    Ok(name)
+    let mut name = TextWriter::new(alloc);
+    push_view(&mut name, number);
+    name.put_byte(b'.');
+    name.put_number(place);
+    name.finish()
 }
 
 /// A kept view: its number, and the names of its columns.
 pub fn kept_view(alloc: Global, number: u32, plan: &KeptPlan) -> Result<Done, AllocError> {
-    let mut detail = Vec::from_slice(alloc, b"view")?;
-    push_number(&mut detail, number as usize)?;
-    let mut columns = Vec::new(alloc);
+    let mut done = RowWriter::new(alloc);
+    push_view(&mut done.detail, number);
     for place in 0..plan.list.len() {
-        columns.push(kept_name(alloc, number, place)?)?;
+        done.columns.give(kept_name(alloc, number, place));
     }
-    Ok(Done { detail, columns })
+    done.finish()
 }

@@ -1,10 +1,11 @@
 //! Numbers of nodes, and names of the columns of tables that are scanned more than once.
-use crate::names::{Names, push_number};
+use crate::names::NameList;
+use crate::node::Done;
+use crate::writer::TextWriter;
 use base_schema::TableName;
 use std::alloc::{AllocError, Global};
 
 /// What a tree, a plan or a query has been given numbers and names for.
-#[derive(Drop)]
 pub struct Numbering {
     // The tables of all scans.
     scans: Vec<TableName>,
@@ -14,9 +15,34 @@ pub struct Numbering {
     next: usize,
 }
 
+// By hand, so that each place that drops one makes one call.
+impl Drop for Numbering {
+    #[inline]
+    fn drop(self) {
+        let Numbering {
+            scans,
+            named,
+            next: _,
+        } = self;
+        drop(scans);
+        drop(named);
+    }
+}
+
 /// How often a table stands in a list.
 fn count_of(tables: &[TableName], table: TableName) -> usize {
     tables.iter().filter(|other| **other == table).count()
+}
+
+/// The name of a column of the scan of this name, if one is given.
+fn column_name(alloc: Global, scan: &[u8], column: &[u8]) -> Result<Vec<u8>, AllocError> {
+    let mut name = TextWriter::new(alloc);
+    if !scan.is_empty() {
+        name.put(scan);
+        name.put_byte(b'.');
+    }
+    name.put(column);
+    name.finish()
 }
 
 impl Numbering {
@@ -36,36 +62,38 @@ impl Numbering {
         number
     }
 
+    /// Whether a table is scanned no more than once.
+    fn is_only(&self, table: TableName) -> bool {
+        count_of(self.scans.as_slice(), table) <= 1
+    }
+
     /// The name of the next scan of a table: the table's, and which scan of it this is where there
     /// are others.
     pub fn scan_name(&mut self, alloc: Global, table: TableName) -> Result<Vec<u8>, AllocError> {
-        let mut name = Vec::from_slice(alloc, table.name().as_bytes())?;
         self.named.push(table)?;
-        if count_of(self.scans.as_slice(), table) > 1 {
-            push_number(&mut name, count_of(self.named.as_slice(), table))?;
+        let mut name = TextWriter::new(alloc);
+        name.put(table.name().as_bytes());
+        if !self.is_only(table) {
+            name.put_number(count_of(self.named.as_slice(), table));
         }
-        Ok(name)
+        name.finish()
     }
 
-    /// The names of a table's columns in a scan of this name: `n_name`, or `nation2.n_name` where
-    /// the table is scanned more than once.
-    pub fn columns(
-        &self,
-        alloc: Global,
-        table: TableName,
-        scan: &[u8],
-    ) -> Result<Names, AllocError> {
-        let is_only = count_of(self.scans.as_slice(), table) <= 1;
-        let mut all = Vec::new(alloc);
+    /// Appends the names of a table's columns in a scan of this name: `n_name`, or
+    /// `nation2.n_name` where the table is scanned more than once.
+    pub fn put_columns(&self, alloc: Global, all: &mut NameList, table: TableName, scan: &[u8]) {
+        let before: &[u8] = if self.is_only(table) { &[] } else { scan };
         for column in table.column_names() {
-            let mut name = Vec::new(alloc);
-            if !is_only {
-                name.extend_from_slice(scan)?;
-                name.push(b'.')?;
-            }
-            name.extend_from_slice(column.as_bytes())?;
-            all.push(name)?;
+            all.give(column_name(alloc, before, column.as_bytes()));
         }
-        Ok(all)
+    }
+
+    /// The next scan of a table: its name, and those of its columns.
+    pub fn scan(&mut self, alloc: Global, table: TableName) -> Result<Done, AllocError> {
+        let detail = self.scan_name(alloc, table)?;
+        let mut columns = NameList::new(alloc);
+        self.put_columns(alloc, &mut columns, table, detail.as_slice());
+        let columns = columns.finish()?;
+        Ok(Done { detail, columns })
     }
 }

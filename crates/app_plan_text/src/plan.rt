@@ -3,11 +3,13 @@ ghost use Rattle.std.specs.Prelude.{◌≡◌, IfOk};
 ghost use Rattle.plan_algebra.specs.Plans.{inputs_of};
 ghost use Rattle.app_plan_text.specs.Lines.{AreLinesFrom, IsLineOf, kind_word};
 
+use crate::expr::push_expr;
 use crate::line::PlanLine;
 use crate::literal::push_literal;
-use crate::names::{Names, both, names_at, push_name, push_names, put_names, worded};
-use crate::node::{Done, condition, grouped, kept_view, listed, operation_words, push_comma};
+use crate::names::{Names, both, name_at, push_names, rest_from, worded};
+use crate::node::{Done, RowWriter, grouped, kept_view, listed, operation_words, passed};
 use crate::numbering::Numbering;
+use crate::writer::TextWriter;
 use base_schema::TableName;
 use base_value::Value;
 use expr_scalar::Expr;
@@ -22,32 +24,25 @@ fn columns_of(lines: &[PlanLine], node: NodeId) -> &[Vec<u8>] {
     }
 }
 
-/// The names that are left of a right node's when its matched columns, which stand first, are
-/// dropped.
-fn rest_of(alloc: Global, names: &[Vec<u8>], matched: usize) -> Result<Names, AllocError> {
-    let mut rest = Vec::new(alloc);
-    for (place, name) in names.iter().enumerate() {
-        if place >= matched {
-            rest.push(Vec::from_slice(alloc, name.as_slice())?)?;
-        }
+/// Appends the pairs of matched columns.
+fn push_matched(text: &mut TextWriter, left: &[Vec<u8>], right: &[Vec<u8>], pairs: &[(u32, u32)]) {
+    for (place, pair) in pairs.iter().enumerate() {
+        text.put(if place == 0 { b" matching " } else { b", " });
+        text.put(name_at(left, pair.0));
+        text.put(b" is ");
+        text.put(name_at(right, pair.1));
     }
-    Ok(rest)
 }
 
-/// Appends the pairs of matched columns.
-fn push_matched(
-    text: &mut Vec<u8>,
+/// The combined row of a join. Of the right row the matched columns, which stand first, are
+/// dropped.
+fn combined(
+    alloc: Global,
     left: &[Vec<u8>],
     right: &[Vec<u8>],
     pairs: &[(u32, u32)],
-) -> Result<(), AllocError> {
-    for (place, pair) in pairs.iter().enumerate() {
-        text.extend_from_slice(if place == 0 { b" matching " } else { b", " })?;
-        push_name(text, left, pair.0)?;
-        text.extend_from_slice(b" is ")?;
-        push_name(text, right, pair.1)?;
-    }
-    Ok(())
+) -> Result<Names, AllocError> {
+    both(alloc, left, rest_from(right, pairs.len()))
 }
 
 /// A join: its condition over the combined row, and its pairs of matched columns.
@@ -58,11 +53,12 @@ fn joined(
     pairs: &[(u32, u32)],
     c: &Expr,
 ) -> Result<Done, AllocError> {
-    let rest = rest_of(alloc, right, pairs.len())?;
-    let columns = both(alloc, left, rest.as_slice())?;
-    let mut detail = Vec::from_slice(alloc, b"on ")?;
-    detail.append(&mut condition(alloc, columns.as_slice(), c)?)?;
-    push_matched(&mut detail, left, right, pairs)?;
+    let columns = combined(alloc, left, right, pairs)?;
+    let mut text = TextWriter::new(alloc);
+    text.put(b"on ");
+    push_expr(&mut text, columns.as_slice(), c);
+    push_matched(&mut text, left, right, pairs);
+    let detail = text.finish()?;
     Ok(Done { detail, columns })
 }
 
@@ -75,16 +71,14 @@ fn marked(
     pairs: &[(u32, u32)],
     c: &Expr,
 ) -> Result<Done, AllocError> {
-    let rest = rest_of(alloc, right, pairs.len())?;
-    let row = both(alloc, left, rest.as_slice())?;
-    let mut columns = both(alloc, left, &[])?;
-    let name = worded(alloc, number, b"mark")?;
-    let mut detail = Vec::from_slice(alloc, name.as_slice())?;
-    columns.push(name)?;
-    detail.extend_from_slice(b" = some row with ")?;
-    detail.append(&mut condition(alloc, row.as_slice(), c)?)?;
-    push_matched(&mut detail, left, right, pairs)?;
-    Ok(Done { detail, columns })
+    let row = combined(alloc, left, right, pairs)?;
+    let mut done = RowWriter::new(alloc);
+    done.columns.put_all(alloc, left);
+    done.give_name(worded(alloc, number, b"mark"));
+    done.detail.put(b" = some row with ");
+    push_expr(&mut done.detail, row.as_slice(), c);
+    push_matched(&mut done.detail, left, right, pairs);
+    done.finish()
 }
 
 /// A scalar subquery: the name of its column, what it takes, and its pairs of matched columns.
@@ -96,15 +90,24 @@ fn valued(
     pairs: &[(u32, u32)],
     column: u32,
 ) -> Result<Done, AllocError> {
-    let rest = rest_of(alloc, right, pairs.len())?;
-    let mut columns = both(alloc, left, &[])?;
-    let name = worded(alloc, number, b"value")?;
-    let mut detail = Vec::from_slice(alloc, name.as_slice())?;
-    columns.push(name)?;
-    detail.extend_from_slice(b" = the one ")?;
-    push_name(&mut detail, rest.as_slice(), column)?;
-    push_matched(&mut detail, left, right, pairs)?;
-    Ok(Done { detail, columns })
+    let mut done = RowWriter::new(alloc);
+    done.columns.put_all(alloc, left);
+    done.give_name(worded(alloc, number, b"value"));
+    done.detail.put(b" = the one ");
+    done.detail
+        .put(name_at(rest_from(right, pairs.len()), column));
+    push_matched(&mut done.detail, left, right, pairs);
+    done.finish()
+}
+
+/// Appends values with commas between them.
+fn push_values(text: &mut TextWriter, values: &[Value]) {
+    for (place, value) in values.iter().enumerate() {
+        if place > 0 {
+            text.put(b", ");
+        }
+        push_literal(text, value);
+    }
 }
 
 /// The groups of a domain: its columns, and the aggregates of no rows.
@@ -114,28 +117,74 @@ fn filled(
     domain: &[Vec<u8>],
     empty: &[Value],
 ) -> Result<Done, AllocError> {
-    let rest = rest_of(alloc, groups, domain.len())?;
-    let columns = both(alloc, domain, rest.as_slice())?;
-    let mut values = Vec::new(alloc);
-    for value in empty {
-        push_comma(&mut values)?;
-        push_literal(&mut values, value)?;
-    }
-    let mut detail = Vec::from_slice(alloc, b"(")?;
-    push_names(&mut detail, rest.as_slice())?;
-    detail.extend_from_slice(b") = (")?;
-    detail.append(&mut values)?;
-    detail.extend_from_slice(b") where (")?;
-    push_names(&mut detail, domain)?;
-    detail.extend_from_slice(b") has no group")?;
+    let rest = rest_from(groups, domain.len());
+    let columns = both(alloc, domain, rest)?;
+    let mut text = TextWriter::new(alloc);
+    text.put(b"(");
+    push_names(&mut text, rest);
+    text.put(b") = (");
+    push_values(&mut text, empty);
+    text.put(b") where (");
+    push_names(&mut text, domain);
+    text.put(b") has no group");
+    let detail = text.finish()?;
     Ok(Done { detail, columns })
 }
 
-/// A scan.
-fn scanned(alloc: Global, numbering: &mut Numbering, table: TableName) -> Result<Done, AllocError> {
-    let detail = numbering.scan_name(alloc, table)?;
-    let columns = numbering.columns(alloc, table, detail.as_slice())?;
-    Ok(Done { detail, columns })
+/// A domain: the columns at these places of a row.
+fn domain(alloc: Global, names: &[Vec<u8>], places: &[u32]) -> Result<Done, AllocError> {
+    let mut done = RowWriter::new(alloc);
+    done.put_places(alloc, names, places, b"");
+    done.finish()
+}
+
+/// A selection: its condition over a row of these names.
+fn selected(alloc: Global, names: &[Vec<u8>], c: &Expr) -> Result<Done, AllocError> {
+    let mut done = RowWriter::new(alloc);
+    done.columns.put_all(alloc, names);
+    push_expr(&mut done.detail, names, c);
+    done.finish()
+}
+
+/// What a node that reads two others does, by the names of their columns.
+fn done_of_two(
+    alloc: Global,
+    number: NodeId,
+    left: &[Vec<u8>],
+    right: &[Vec<u8>],
+    node: &Node,
+) -> Result<Done, AllocError> {
+    match node {
+        Node::Join(_, _, pairs, c) | Node::Outer(_, _, pairs, _, c) => {
+            joined(alloc, left, right, pairs.as_slice(), c.get())
+        }
+        Node::Mark(_, _, pairs, c) => {
+            marked(alloc, number, left, right, pairs.as_slice(), c.get())
+        }
+        Node::Single(_, _, pairs, column) => {
+            valued(alloc, number, left, right, pairs.as_slice(), *column)
+        }
+        Node::Fill(_, _, empty) => filled(alloc, left, right, empty.as_slice()),
+        _ => passed(alloc, left),
+    }
+}
+
+/// What a node that reads one other does, by the names of its columns.
+fn done_of_one(
+    alloc: Global,
+    number: NodeId,
+    names: &[Vec<u8>],
+    node: &Node,
+) -> Result<Done, AllocError> {
+    match node {
+        Node::Domain(_, places) => domain(alloc, names, places.as_slice()),
+        Node::Select(_, c) => selected(alloc, names, c.get()),
+        Node::Project(_, es) => listed(alloc, number, names, es.as_slice()),
+        Node::Group(_, by, aggregates) => {
+            grouped(alloc, number, names, by.as_slice(), aggregates.as_slice())
+        }
+        _ => passed(alloc, names),
+    }
 }
 
 /// What the node of this number does, after the lines of those before it.
@@ -147,45 +196,21 @@ fn done(
     node: &Node,
 ) -> Result<Done, AllocError> {
     match node {
-        Node::Scan(table) => scanned(alloc, numbering, *table),
-        Node::Kept(number, plan) => kept_view(alloc, *number, plan.get()),
-        Node::Domain(i, cs) => {
-            let columns = names_at(alloc, columns_of(lines, *i), cs.as_slice())?;
-            let mut detail = Vec::new(alloc);
-            push_names(&mut detail, columns.as_slice())?;
-            Ok(Done { detail, columns })
-        }
-        Node::Select(i, c) => {
-            let columns = both(alloc, columns_of(lines, *i), &[])?;
-            let detail = condition(alloc, columns.as_slice(), c.get())?;
-            Ok(Done { detail, columns })
-        }
-        Node::Project(i, es) => listed(alloc, number, columns_of(lines, *i), es.as_slice()),
-        Node::Join(i, j, pairs, c) | Node::Outer(i, j, pairs, _, c) => {
+        Node::Scan(table) => numbering.scan(alloc, *table),
+        Node::Kept(view, plan) => kept_view(alloc, *view, plan.get()),
+        Node::Domain(i, _)
+        | Node::Select(i, _)
+        | Node::Project(i, _)
+        | Node::Group(i, _, _)
+        | Node::Distinct(i) => done_of_one(alloc, number, columns_of(lines, *i), node),
+        Node::Join(i, j, _, _)
+        | Node::Outer(i, j, _, _, _)
+        | Node::Mark(i, j, _, _)
+        | Node::Single(i, j, _, _)
+        | Node::Fill(i, j, _)
+        | Node::Set(i, j, _) => {
             let (left, right) = (columns_of(lines, *i), columns_of(lines, *j));
-            joined(alloc, left, right, pairs.as_slice(), c.get())
-        }
-        Node::Mark(i, j, pairs, c) => {
-            let (left, right) = (columns_of(lines, *i), columns_of(lines, *j));
-            marked(alloc, number, left, right, pairs.as_slice(), c.get())
-        }
-        Node::Single(i, j, pairs, column) => {
-            let (left, right) = (columns_of(lines, *i), columns_of(lines, *j));
-            valued(alloc, number, left, right, pairs.as_slice(), *column)
-        }
-        Node::Group(i, by, aggregates) => {
-            let names = columns_of(lines, *i);
-            let by = names_at(alloc, names, by.as_slice())?;
-            grouped(alloc, number, names, by, aggregates.as_slice())
-        }
-        Node::Fill(i, j, empty) => {
-            let (groups, domain) = (columns_of(lines, *i), columns_of(lines, *j));
-            filled(alloc, groups, domain, empty.as_slice())
-        }
-        Node::Distinct(i) | Node::Set(i, _, _) => {
-            let columns = both(alloc, columns_of(lines, *i), &[])?;
-            let detail = Vec::new(alloc);
-            Ok(Done { detail, columns })
+            done_of_two(alloc, number, left, right, node)
         }
     }
 }
@@ -252,9 +277,9 @@ fn line_of(
 ) -> Result<PlanLine, AllocError>
     ensures { IfOk result (IsLineOf number node.now) }
 {
-    let Done { detail, columns } = done(alloc, numbering, lines, number, node)?;
-    let kind = Vec::from_slice(alloc, kind_word(node).as_bytes())?;
     let inputs = inputs_of(alloc, node)?;
+    let kind = Vec::from_slice(alloc, kind_word(node).as_bytes())?;
+    let Done { detail, columns } = done(alloc, numbering, lines, number, node)?;
     Ok(PlanLine {
         number,
         depth: 0,

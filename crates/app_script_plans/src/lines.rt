@@ -8,7 +8,7 @@ ghost use Rattle.app_script_plans.specs.Shown.{EndsWithItsPlan};
 use crate::query_plan::{FormLines, QueryPlan};
 use crate::statement_plan::StatementPlan;
 use app_plan_figures::{JoinWay, NodeFigures, rows_of};
-use app_plan_text::{PlanLine, plan_lines, push_lines, push_number};
+use app_plan_text::{PlanLine, TextWriter, plan_lines, push_lines};
 use app_result_text::push_refusal;
 use base_refusals::Refusal;
 use plan_algebra::Node;
@@ -17,19 +17,21 @@ use std::alloc::{AllocError, Global};
 
 /// Appends a statement's number, a word, and the statement's text.
 fn push_head(
+    alloc: Global,
     text: &mut Vec<u8>,
     number: usize,
     word: &[u8],
     written: &[u8],
 ) -> Result<(), AllocError> {
-    text.push(b'[')?;
-    push_number(text, number)?;
-    text.extend_from_slice(b"] ")?;
-    text.extend_from_slice(word)?;
-    text.push(b'\n')?;
-    text.extend_from_slice(written)?;
-    text.push(b'\n')?;
-    Ok(())
+    let mut head = TextWriter::new(alloc);
+    head.put_byte(b'[');
+    head.put_number(number);
+    head.put(b"] ");
+    head.put(word);
+    head.put_byte(b'\n');
+    head.put(written);
+    head.put_byte(b'\n');
+    head.append_to(text)
 }
 
 /// Appends the title of a form and its lines.
@@ -64,46 +66,51 @@ fn push_flat_plan(
     Ok(())
 }
 
-/// Appends a word, a number before it.
-fn push_counted(text: &mut Vec<u8>, number: usize, word: &[u8]) -> Result<(), AllocError> {
-    push_number(text, number)?;
-    text.extend_from_slice(word)
+/// Writes a number, and a word after it.
+fn put_counted(out: &mut TextWriter, number: usize, word: &[u8]) {
+    out.put_number(number);
+    out.put(word);
 }
 
-/// Appends how a join finds its pairs.
-fn push_way(text: &mut Vec<u8>, way: JoinWay) -> Result<(), AllocError> {
-    text.extend_from_slice(b", by ")?;
-    text.extend_from_slice(way.words().as_bytes())
+/// Writes how a join finds its pairs.
+fn put_way(out: &mut TextWriter, way: JoinWay) {
+    out.put(b", by ");
+    out.put(way.words().as_bytes());
 }
 
-/// Appends what the node of this number gives, and how it finds its pairs where it is a join.
-fn push_node_figures(
-    text: &mut Vec<u8>,
-    number: usize,
-    figures: NodeFigures,
-) -> Result<(), AllocError> {
-    text.extend_from_slice(b"  ")?;
-    push_counted(text, number, b": ")?;
-    push_counted(text, figures.rows, b" rows, ")?;
-    push_counted(text, figures.bytes, b" bytes, ")?;
-    push_counted(text, figures.micros as usize, b" microseconds")?;
+/// Writes what the node of this number gives, and how it finds its pairs where it is a join.
+fn put_node_figures(out: &mut TextWriter, number: usize, figures: NodeFigures) {
+    out.put(b"  ");
+    put_counted(out, number, b": ");
+    put_counted(out, figures.rows, b" rows, ");
+    put_counted(out, figures.bytes, b" bytes, ");
+    put_counted(out, figures.micros as usize, b" microseconds");
     if let Some(way) = figures.way {
-        push_way(text, way)?;
+        put_way(out, way);
     }
-    text.push(b'\n')?;
-    Ok(())
+    out.put_byte(b'\n');
+}
+
+/// Writes what each node of a plan gives.
+fn put_figures(out: &mut TextWriter, figures: &[NodeFigures]) {
+    for (number, figures) in figures.iter().enumerate() {
+        put_node_figures(out, number, *figures);
+    }
 }
 
 /// Appends what each node of a plan gives, where there are tables.
-fn push_figures(text: &mut Vec<u8>, figures: &[NodeFigures]) -> Result<(), AllocError> {
+fn push_figures(
+    alloc: Global,
+    text: &mut Vec<u8>,
+    figures: &[NodeFigures],
+) -> Result<(), AllocError> {
     if figures.is_empty() {
         return Ok(());
     }
-    text.extend_from_slice(b"figures of the nodes, each with the time from the first one on\n")?;
-    for (number, figures) in figures.iter().enumerate() {
-        push_node_figures(text, number, *figures)?;
-    }
-    Ok(())
+    let mut out = TextWriter::new(alloc);
+    out.put(b"figures of the nodes, each with the time from the first one on\n");
+    put_figures(&mut out, figures);
+    out.append_to(text)
 }
 
 /// Appends forms, one after the other.
@@ -124,21 +131,29 @@ fn push_counted_plan(
     push_flat_plan(alloc, text, plan.plan.nodes.as_slice(), rows.as_slice())
 }
 
-/// What is shown of a query before the spelling of its plan.
-fn query_text(alloc: Global, plan: &QueryPlan) -> Result<Vec<u8>, AllocError> {
-    let mut text = Vec::new(alloc);
-    push_forms(&mut text, plan.forms.as_slice())?;
-    push_counted_plan(alloc, &mut text, plan)?;
-    push_figures(&mut text, plan.figures.as_slice())?;
-    Ok(text)
+/// Appends what is shown of a query before the spelling of its plan.
+fn push_forms_and_plan(
+    alloc: Global,
+    text: &mut Vec<u8>,
+    plan: &QueryPlan,
+) -> Result<(), AllocError> {
+    push_forms(text, plan.forms.as_slice())?;
+    push_counted_plan(alloc, text, plan)?;
+    push_figures(alloc, text, plan.figures.as_slice())
 }
 
 /// Appends what is shown of a query; at the end the spelling of its plan, which no other plan has.
-fn push_query(alloc: Global, text: &mut Vec<u8>, plan: &QueryPlan) -> Result<(), AllocError>
+fn push_query(
+    alloc: Global,
+    text: &mut Vec<u8>,
+    number: usize,
+    written: &[u8],
+    plan: &QueryPlan,
+) -> Result<(), AllocError>
     ensures { OnOk result (EndsWithPlan plan.now.plan.nodes text.new.items) }
 {
-    let shown = query_text(alloc, plan)?;
-    text.extend_from_slice(shown.as_slice())?;
+    push_head(alloc, text, number, b"query", written)?;
+    push_forms_and_plan(alloc, text, plan)?;
     push_plan(alloc, text, plan.plan.nodes.as_slice())
 }
 
@@ -152,7 +167,7 @@ fn push_refused(
 ) -> Result<(), AllocError> {
     let mut refusal = Vec::new(alloc);
     push_refusal(&mut refusal, why)?;
-    push_head(text, number, refusal.as_slice(), written)
+    push_head(alloc, text, number, refusal.as_slice(), written)
 }
 
 /// Appends what is shown of a statement of this number, as lines; of a query the spelling of its
@@ -167,12 +182,9 @@ pub fn push_statement_lines(
     ensures { OnOk result (EndsWithItsPlan plan.now text.new.items) }
 {
     match plan {
-        StatementPlan::Query(plan) => {
-            push_head(text, number, b"query", written)?;
-            push_query(alloc, text, plan)
-        }
-        StatementPlan::Done => push_head(text, number, b"done", written),
-        StatementPlan::Refresh => push_head(text, number, b"refresh", written),
+        StatementPlan::Query(plan) => push_query(alloc, text, number, written, plan),
+        StatementPlan::Done => push_head(alloc, text, number, b"done", written),
+        StatementPlan::Refresh => push_head(alloc, text, number, b"refresh", written),
         StatementPlan::Refused(why) => push_refused(alloc, text, number, written, why),
     }
 }

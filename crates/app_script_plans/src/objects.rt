@@ -2,141 +2,178 @@
 use crate::query_plan::{FormLines, QueryPlan};
 use crate::statement_plan::StatementPlan;
 use app_plan_figures::{NodeFigures, rows_of};
-use app_plan_text::{plan_lines, push_json_lines, push_json_text, push_number};
+use app_plan_text::{PlanLine, TextWriter, plan_lines, push_json_lines, push_json_text};
 use base_refusals::Refusal;
 use itoa::Buffer;
 use plan_algebra::Node;
 use plan_spelling::plan_spelling;
 use std::alloc::{AllocError, Global};
 
-/// Appends a comma, and a field's name.
-fn push_key(text: &mut Vec<u8>, key: &[u8]) -> Result<(), AllocError> {
-    text.push(b',')?;
-    push_json_text(text, key)?;
-    text.push(b':')?;
+/// Writes what stands before a number, and the number.
+fn put_numbered(out: &mut TextWriter, before: &[u8], number: usize) {
+    out.put(before);
+    out.put_number(number);
+}
+
+/// Writes what stands before a word, the quote that begins it too, and the word, which has no byte
+/// to be escaped, with the quote that ends it.
+fn put_word(out: &mut TextWriter, before: &[u8], word: &[u8]) {
+    out.put(before);
+    out.put(word);
+    out.put_byte(b'"');
+}
+
+/// Writes a comma before all but the first of a list.
+fn put_comma(out: &mut TextWriter, place: usize) {
+    if place > 0 {
+        out.put_byte(b',');
+    }
+}
+
+/// Writes the list of lines.
+fn put_lines(alloc: Global, out: &mut TextWriter, lines: &[PlanLine]) -> Result<(), AllocError> {
+    let mut text = Vec::new(alloc);
+    push_json_lines(&mut text, lines)?;
+    out.put(text.as_slice());
     Ok(())
 }
 
-/// Appends a comma, a field's name and its number.
-fn push_number_field(text: &mut Vec<u8>, key: &[u8], number: usize) -> Result<(), AllocError> {
-    push_key(text, key)?;
-    push_number(text, number)
-}
-
-/// Appends a comma, a field's name and its text.
-fn push_text_field(text: &mut Vec<u8>, key: &[u8], plain: &[u8]) -> Result<(), AllocError> {
-    push_key(text, key)?;
-    push_json_text(text, plain)
-}
-
-/// Appends the object of a form.
-fn push_form(text: &mut Vec<u8>, form: &FormLines) -> Result<(), AllocError> {
-    text.extend_from_slice(b"{\"form\":")?;
-    push_json_text(text, form.form.title().as_bytes())?;
-    push_key(text, b"lines")?;
-    push_json_lines(text, form.lines.as_slice())?;
-    text.push(b'}')?;
+/// Writes the object of a form.
+fn put_form(alloc: Global, out: &mut TextWriter, form: &FormLines) -> Result<(), AllocError> {
+    put_word(out, b"{\"form\":\"", form.form.title().as_bytes());
+    out.put(b",\"lines\":");
+    put_lines(alloc, out, form.lines.as_slice())?;
+    out.put_byte(b'}');
     Ok(())
 }
 
-/// Appends the list of forms.
-fn push_forms(text: &mut Vec<u8>, forms: &[FormLines]) -> Result<(), AllocError> {
-    text.push(b'[')?;
+/// Writes the objects of forms, with commas between them.
+fn put_forms(alloc: Global, out: &mut TextWriter, forms: &[FormLines]) -> Result<(), AllocError> {
     for (place, form) in forms.iter().enumerate() {
-        if place > 0 {
-            text.push(b',')?;
-        }
-        push_form(text, form)?;
+        put_comma(out, place);
+        put_form(alloc, out, form)?;
     }
-    text.push(b']')?;
     Ok(())
 }
 
-/// Appends the fields of a query.
-fn push_query(alloc: Global, text: &mut Vec<u8>, plan: &QueryPlan) -> Result<(), AllocError> {
-    push_text_field(text, b"answer", b"query")?;
-    push_key(text, b"forms")?;
-    push_forms(text, plan.forms.as_slice())?;
-    push_plan(alloc, text, plan)
-}
-
-/// Appends the list of a flat plan's lines, with the rows of its nodes where there are tables.
-fn push_counted_plan(
-    alloc: Global,
-    text: &mut Vec<u8>,
-    plan: &QueryPlan,
-) -> Result<(), AllocError> {
+/// The lines of a query's flat plan, with the rows of its nodes where there are tables.
+fn counted_lines(alloc: Global, plan: &QueryPlan) -> Result<Vec<PlanLine>, AllocError> {
     let rows = rows_of(alloc, plan.figures.as_slice())?;
-    let lines = plan_lines(alloc, plan.plan.nodes.as_slice(), rows.as_slice())?;
-    push_json_lines(text, lines.as_slice())
+    plan_lines(alloc, plan.plan.nodes.as_slice(), rows.as_slice())
 }
 
-/// Appends the spelling of a flat plan.
-fn push_spelling(alloc: Global, text: &mut Vec<u8>, nodes: &[Node]) -> Result<(), AllocError> {
-    let numbers = plan_spelling(alloc, nodes)?;
-    push_list(text, numbers.as_slice())
+/// Writes the list of a flat plan's lines.
+fn put_plan(alloc: Global, out: &mut TextWriter, plan: &QueryPlan) -> Result<(), AllocError> {
+    let lines = counted_lines(alloc, plan)?;
+    put_lines(alloc, out, lines.as_slice())
 }
 
-/// Appends the fields of a flat plan: its lines, what its nodes give, and its spelling.
-fn push_plan(alloc: Global, text: &mut Vec<u8>, plan: &QueryPlan) -> Result<(), AllocError> {
-    push_key(text, b"plan")?;
-    push_counted_plan(alloc, text, plan)?;
-    push_key(text, b"figures")?;
-    push_figures(text, plan.figures.as_slice())?;
-    push_key(text, b"spelling")?;
-    push_spelling(alloc, text, plan.plan.nodes.as_slice())
-}
-
-/// Appends the object of what the node of this number gives.
-fn push_node_figures(
-    text: &mut Vec<u8>,
-    number: usize,
-    figures: NodeFigures,
-) -> Result<(), AllocError> {
-    text.extend_from_slice(b"{\"node\":")?;
-    push_number(text, number)?;
-    push_number_field(text, b"rows", figures.rows)?;
-    push_number_field(text, b"bytes", figures.bytes)?;
-    push_number_field(text, b"microseconds", figures.micros as usize)?;
+/// Writes the object of what the node of this number gives.
+fn put_node_figures(out: &mut TextWriter, number: usize, figures: NodeFigures) {
+    put_numbered(out, b"{\"node\":", number);
+    put_numbered(out, b",\"rows\":", figures.rows);
+    put_numbered(out, b",\"bytes\":", figures.bytes);
+    put_numbered(out, b",\"microseconds\":", figures.micros as usize);
     if let Some(way) = figures.way {
-        push_text_field(text, b"way", way.words().as_bytes())?;
+        put_word(out, b",\"way\":\"", way.words().as_bytes());
     }
-    text.push(b'}')?;
-    Ok(())
+    out.put_byte(b'}');
 }
 
-/// Appends the list of what each node gives.
-fn push_figures(text: &mut Vec<u8>, figures: &[NodeFigures]) -> Result<(), AllocError> {
-    text.push(b'[')?;
+/// Writes the list of what each node gives.
+fn put_figures(out: &mut TextWriter, figures: &[NodeFigures]) {
+    out.put(b",\"figures\":[");
     for (number, figures) in figures.iter().enumerate() {
-        if number > 0 {
-            text.push(b',')?;
-        }
-        push_node_figures(text, number, *figures)?;
+        put_comma(out, number);
+        put_node_figures(out, number, *figures);
     }
-    text.push(b']')?;
-    Ok(())
+    out.put_byte(b']');
 }
 
-/// Appends a list of numbers.
-fn push_list(text: &mut Vec<u8>, numbers: &[u128]) -> Result<(), AllocError> {
-    text.push(b'[')?;
+/// Writes a number of up to 128 bits.
+fn put_long(out: &mut TextWriter, number: u128) {
+    let mut buffer = Buffer::new();
+    out.put(buffer.format(number).as_bytes());
+}
+
+/// Writes the list of the numbers that spell a plan.
+fn put_numbers(out: &mut TextWriter, numbers: &[u128]) {
+    out.put(b",\"spelling\":[");
     for (place, number) in numbers.iter().enumerate() {
-        if place > 0 {
-            text.push(b',')?;
-        }
-        let mut buffer = Buffer::new();
-        text.extend_from_slice(buffer.format(*number).as_bytes())?;
+        put_comma(out, place);
+        put_long(out, *number);
     }
-    text.push(b']')?;
+    out.put_byte(b']');
+}
+
+/// Writes the spelling of a flat plan.
+fn put_spelling(alloc: Global, out: &mut TextWriter, nodes: &[Node]) -> Result<(), AllocError> {
+    let numbers = plan_spelling(alloc, nodes)?;
+    put_numbers(out, numbers.as_slice());
     Ok(())
 }
 
-/// Appends the fields of a refused statement.
-fn push_refused(text: &mut Vec<u8>, why: &Refusal) -> Result<(), AllocError> {
-    push_text_field(text, b"answer", b"refused")?;
-    push_number_field(text, b"number", why.number() as usize)?;
-    push_text_field(text, b"name", why.name().as_bytes())
+/// Writes the fields of a query: its forms, its flat plan, what the nodes of that give, and its
+/// spelling.
+fn put_query(alloc: Global, out: &mut TextWriter, plan: &QueryPlan) -> Result<(), AllocError> {
+    out.put(b",\"answer\":\"query\",\"forms\":[");
+    put_forms(alloc, out, plan.forms.as_slice())?;
+    out.put(b"],\"plan\":");
+    put_plan(alloc, out, plan)?;
+    put_figures(out, plan.figures.as_slice());
+    put_spelling(alloc, out, plan.plan.nodes.as_slice())
+}
+
+/// Writes the fields of a refused statement.
+fn put_refused(out: &mut TextWriter, why: &Refusal) {
+    let number = why.number() as usize;
+    put_numbered(out, b",\"answer\":\"refused\",\"number\":", number);
+    put_word(out, b",\"name\":\"", why.name().as_bytes());
+}
+
+/// Writes the fields of a statement of which there is only a word to be said.
+fn put_answer(out: &mut TextWriter, word: &[u8]) {
+    put_word(out, b",\"answer\":\"", word);
+}
+
+/// Writes what becomes of a statement, as fields.
+fn put_fields(alloc: Global, out: &mut TextWriter, plan: &StatementPlan) -> Result<(), AllocError> {
+    match plan {
+        StatementPlan::Query(plan) => return put_query(alloc, out, plan),
+        StatementPlan::Done => put_answer(out, b"done"),
+        StatementPlan::Refresh => put_answer(out, b"refresh"),
+        StatementPlan::Refused(why) => put_refused(out, why),
+    }
+    Ok(())
+}
+
+/// Writes the number and the text of a statement, as the first fields of an object.
+fn put_start(
+    alloc: Global,
+    out: &mut TextWriter,
+    number: usize,
+    written: &[u8],
+) -> Result<(), AllocError> {
+    let mut text = Vec::new(alloc);
+    push_json_text(&mut text, written)?;
+    put_numbered(out, b"{\"statement\":", number);
+    out.put(b",\"text\":");
+    out.put(text.as_slice());
+    Ok(())
+}
+
+/// Writes a statement's object, on a line of its own.
+fn put_object(
+    alloc: Global,
+    out: &mut TextWriter,
+    number: usize,
+    written: &[u8],
+    plan: &StatementPlan,
+) -> Result<(), AllocError> {
+    put_start(alloc, out, number, written)?;
+    put_fields(alloc, out, plan)?;
+    out.put(b"}\n");
+    Ok(())
 }
 
 /// Appends what is shown of a statement of this number, as an object on a line of its own.
@@ -147,14 +184,7 @@ pub fn push_statement_object(
     written: &[u8],
     plan: &StatementPlan,
 ) -> Result<(), AllocError> {
-    text.extend_from_slice(b"{\"statement\":")?;
-    push_number(text, number)?;
-    push_text_field(text, b"text", written)?;
-    match plan {
-        StatementPlan::Query(plan) => push_query(alloc, text, plan)?,
-        StatementPlan::Done => push_text_field(text, b"answer", b"done")?,
-        StatementPlan::Refresh => push_text_field(text, b"answer", b"refresh")?,
-        StatementPlan::Refused(why) => push_refused(text, why)?,
-    }
-    text.extend_from_slice(b"}\n")
+    let mut object = TextWriter::new(alloc);
+    put_object(alloc, &mut object, number, written, plan)?;
+    object.append_to(text)
 }

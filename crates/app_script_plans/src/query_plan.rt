@@ -54,7 +54,6 @@ impl QueryForm {
 }
 
 /// A form of a query, as lines.
-#[derive(Drop)]
 pub struct FormLines {
     /// Which form it is.
     pub form: QueryForm,
@@ -62,8 +61,16 @@ pub struct FormLines {
     pub lines: Vec<PlanLine>,
 }
 
+// By hand, as that of `QueryPlan`.
+impl Drop for FormLines {
+    #[inline]
+    fn drop(self) {
+        let FormLines { form: _, lines } = self;
+        drop(lines);
+    }
+}
+
 /// A query's forms and its flat plan.
-#[derive(Drop)]
 pub struct QueryPlan {
     /// The forms before the flat plan, in their order.
     pub forms: Vec<FormLines>,
@@ -71,6 +78,22 @@ pub struct QueryPlan {
     pub plan: FlatPlan,
     /// What each node gives; nothing where there are no tables.
     pub figures: Vec<NodeFigures>,
+}
+
+// By hand, so that each place that drops one has a call in its proof, and not the drops of all
+// fields.
+impl Drop for QueryPlan {
+    #[inline]
+    fn drop(self) {
+        let QueryPlan {
+            forms,
+            plan,
+            figures,
+        } = self;
+        drop(forms);
+        drop(plan);
+        drop(figures);
+    }
 }
 
 /// Appends a form.
@@ -139,13 +162,25 @@ fn put_trees(
     put_arranged(alloc, forms, tree.get())
 }
 
-/// The forms of a bound query, by the calls with which its flat plan is made.
+/// Appends a bound query's forms, by the calls with which its flat plan is made.
+fn put_forms(
+    alloc: Global,
+    forms: &mut Vec<FormLines>,
+    query: &BoundQuery,
+) -> Result<(), AllocError>
+    requires { (kinds : List Kind) × IsWellTyped query.now.block kinds }
+{
+    let lines = query_lines(alloc, query)?;
+    put_form(forms, QueryForm::Bound, lines)?;
+    put_trees(alloc, forms, query)
+}
+
+/// A bound query's forms.
 fn bound_forms(alloc: Global, query: &BoundQuery) -> Result<Vec<FormLines>, AllocError>
     requires { (kinds : List Kind) × IsWellTyped query.now.block kinds }
 {
     let mut forms = Vec::new(alloc);
-    put_form(&mut forms, QueryForm::Bound, query_lines(alloc, query)?)?;
-    put_trees(alloc, &mut forms, query)?;
+    put_forms(alloc, &mut forms, query)?;
     Ok(forms)
 }
 
@@ -184,6 +219,26 @@ fn figures_of_nodes<R: Threads + Sync + Clock, T: Tables>(
     }
 }
 
+/// A query's flat plan over these views, and what its nodes give, beside its forms.
+fn with_plan<R: Threads + Sync + Clock, T: Tables>(
+    rt: &R,
+    alloc: Global,
+    query: &Query,
+    views: &SessionViews,
+    tables: Option<&T>,
+    forms: Vec<FormLines>,
+) -> Result<QueryPlan, BindFault>
+    ensures { PlansQuery (bound_query query.now views.now) result }
+{
+    let plan = plan(alloc, query, views)?;
+    let figures = figures_of_nodes(rt, alloc, query, views, plan.nodes.as_slice(), tables)?;
+    Ok(QueryPlan {
+        forms,
+        plan,
+        figures,
+    })
+}
+
 /// A query's forms and its flat plan over these views, by the call with which a session plans it:
 /// refused exactly as binding is.
 pub fn query_plan<R: Threads + Sync + Clock, T: Tables>(
@@ -196,11 +251,5 @@ pub fn query_plan<R: Threads + Sync + Clock, T: Tables>(
     ensures { PlansQuery (bound_query query.now views.now) result }
 {
     let forms = query_forms(alloc, query, views)?;
-    let plan = plan(alloc, query, views)?;
-    let figures = figures_of_nodes(rt, alloc, query, views, plan.nodes.as_slice(), tables)?;
-    Ok(QueryPlan {
-        forms,
-        plan,
-        figures,
-    })
+    with_plan(rt, alloc, query, views, tables, forms)
 }

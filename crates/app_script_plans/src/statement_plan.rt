@@ -17,7 +17,6 @@ use std::thread::Threads;
 use std::time::Clock;
 
 /// What is shown of a statement.
-#[derive(Drop)]
 pub enum StatementPlan {
     /// A query, with its forms and its plan.
     Query(QueryPlan),
@@ -27,6 +26,19 @@ pub enum StatementPlan {
     Refresh,
     /// The statement is refused.
     Refused(Refusal),
+}
+
+// By hand, as that of `QueryPlan`.
+impl Drop for StatementPlan {
+    #[inline]
+    fn drop(self) {
+        match self {
+            StatementPlan::Query(plan) => drop(plan),
+            StatementPlan::Done => {}
+            StatementPlan::Refresh => {}
+            StatementPlan::Refused(_) => {}
+        }
+    }
 }
 
 impl StatementPlan {

@@ -37,23 +37,43 @@ fn tokens_of(alloc: Global, script: &[u8]) -> Result<Vec<Token>, AllocError> {
     }
 }
 
-/// Where the statements of a script stand, each from its first token to its semicolon.
+/// The span of a statement up to a token: the one so far, if there is one, with the token too.
+fn with_token(begun: Option<Span>, token: &Token) -> Span {
+    let end = end_of(token);
+    match begun {
+        Some(span) => Span {
+            start: span.start,
+            end,
+            is_run: span.is_run,
+        },
+        None => Span {
+            start: token.start,
+            end,
+            is_run: token.kind == Kind::Run,
+        },
+    }
+}
+
+/// Appends where the statements of these tokens stand, each from its first token to its semicolon.
+fn put_spans(spans: &mut Vec<Span>, tokens: &[Token]) -> Result<(), AllocError> {
+    let mut begun = None;
+    for token in tokens {
+        let span = with_token(begun, token);
+        if token.kind == Kind::Semicolon {
+            spans.push(span)?;
+            begun = None;
+        } else {
+            begun = Some(span);
+        }
+    }
+    Ok(())
+}
+
+/// Where the statements of a script stand.
 fn spans_of(alloc: Global, script: &[u8]) -> Result<Vec<Span>, AllocError> {
     let tokens = tokens_of(alloc, script)?;
     let mut spans = Vec::new(alloc);
-    let mut first: Option<(usize, bool)> = None;
-    for token in tokens.as_slice() {
-        let (start, is_run) = match first {
-            Some(begun) => begun,
-            None => (token.start, token.kind == Kind::Run),
-        };
-        first = Some((start, is_run));
-        if token.kind == Kind::Semicolon {
-            let end = end_of(token);
-            spans.push(Span { start, end, is_run })?;
-            first = None;
-        }
-    }
+    put_spans(&mut spans, tokens.as_slice())?;
     Ok(spans)
 }
 
@@ -66,10 +86,9 @@ fn statements_of(alloc: Global, text: &[u8]) -> Result<Items<Statement>, AllocEr
     }
 }
 
-/// The text that a run stands for, where its template is filled.
-fn filled_text(alloc: Global, run: &[u8]) -> Result<Option<Vec<u8>>, AllocError> {
-    let statements = statements_of(alloc, run)?;
-    let [Statement::Run(number, values)] = statements.as_slice() else {
+/// The text that statements stand for, where they are one run, and its template is filled.
+fn run_text(alloc: Global, statements: &[Statement]) -> Result<Option<Vec<u8>>, AllocError> {
+    let [Statement::Run(number, values)] = statements else {
         return Ok(None);
     };
     match fill(alloc, *number as u64, values.as_slice()) {
@@ -79,39 +98,68 @@ fn filled_text(alloc: Global, run: &[u8]) -> Result<Option<Vec<u8>>, AllocError>
     }
 }
 
-/// Appends the statements of a run's text.
-fn put_filled(alloc: Global, all: &mut Vec<Vec<u8>>, text: &[u8]) -> Result<(), AllocError> {
-    let spans = spans_of(alloc, text)?;
-    for span in spans.as_slice() {
-        let own = bytes_between(text, span.start, span.end);
-        all.push(Vec::from_slice(alloc, own)?)?;
+/// The text that a run stands for, where its template is filled.
+fn filled_text(alloc: Global, run: &[u8]) -> Result<Option<Vec<u8>>, AllocError> {
+    let statements = statements_of(alloc, run)?;
+    run_text(alloc, statements.as_slice())
+}
+
+/// Appends a text.
+fn put_text(alloc: Global, all: &mut Vec<Vec<u8>>, text: &[u8]) -> Result<(), AllocError> {
+    let text = Vec::from_slice(alloc, text)?;
+    all.push(text)?;
+    Ok(())
+}
+
+/// Appends the parts of a text that stand at these spans.
+fn put_parts(
+    alloc: Global,
+    all: &mut Vec<Vec<u8>>,
+    text: &[u8],
+    spans: &[Span],
+) -> Result<(), AllocError> {
+    for span in spans {
+        put_text(alloc, all, bytes_between(text, span.start, span.end))?;
     }
     Ok(())
 }
 
-/// Appends a statement of a script, or those that it stands for.
-fn put_statement(
+/// Appends the statements of a run's text.
+fn put_filled(alloc: Global, all: &mut Vec<Vec<u8>>, text: &[u8]) -> Result<(), AllocError> {
+    let spans = spans_of(alloc, text)?;
+    put_parts(alloc, all, text, spans.as_slice())
+}
+
+/// Appends the statements that a run stands for, or the run itself where it stands for none.
+fn put_run(alloc: Global, all: &mut Vec<Vec<u8>>, run: &[u8]) -> Result<(), AllocError> {
+    match filled_text(alloc, run)? {
+        Some(filled) => put_filled(alloc, all, filled.as_slice()),
+        None => put_text(alloc, all, run),
+    }
+}
+
+/// Appends the statements of a script that stand at these spans, or those that they stand for.
+fn put_statements(
     alloc: Global,
     all: &mut Vec<Vec<u8>>,
     script: &[u8],
-    span: Span,
+    spans: &[Span],
 ) -> Result<(), AllocError> {
-    let text = bytes_between(script, span.start, span.end);
-    if span.is_run {
-        if let Some(filled) = filled_text(alloc, text)? {
-            return put_filled(alloc, all, filled.as_slice());
+    for span in spans {
+        let text = bytes_between(script, span.start, span.end);
+        if span.is_run {
+            put_run(alloc, all, text)?;
+        } else {
+            put_text(alloc, all, text)?;
         }
     }
-    all.push(Vec::from_slice(alloc, text)?)?;
     Ok(())
 }
 
 /// The texts of the statements that a script's stand for, each with its semicolon.
 pub fn written_statements(alloc: Global, script: &[u8]) -> Result<Vec<Vec<u8>>, AllocError> {
-    let mut all = Vec::new(alloc);
     let spans = spans_of(alloc, script)?;
-    for span in spans.as_slice() {
-        put_statement(alloc, &mut all, script, *span)?;
-    }
+    let mut all = Vec::new(alloc);
+    put_statements(alloc, &mut all, script, spans.as_slice())?;
     Ok(all)
 }

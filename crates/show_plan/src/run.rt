@@ -7,6 +7,7 @@ ghost use Rattle.sql_parser.specs.Script.{IsRefusedScript};
 ghost use Rattle.app_inputs.specs.FilesAfter.{FilesAfterInput, FilesAfterRead};
 ghost use Rattle.app_inputs.specs.Printing.{IsAnswer};
 ghost use Rattle.app_inputs.specs.Views.{Reads};
+ghost use Rattle.app_script_plans.specs.Shown.{ShowsScript};
 ghost use Rattle.show_plan.specs.Asked.{asked, asked_view};
 ghost use Rattle.show_plan.specs.Printed.{IsTextOf, MeansShown, Prints, PrintsRefusal, tables_in};
 
@@ -23,21 +24,23 @@ use sqlite_items::Items;
 use std::alloc::{AllocError, Global};
 use std::thread::Threads;
 use std::time::Clock;
-use store_snapshots::Snapshot;
 use store_versions::Directory;
 
 /// The line for words of another form.
 static USAGE: &[u8] = b"usage: show_plan [--json] SCRIPT [DIR]\n";
 
 /// The tables of a folder.
-fn read_tables<F: Files>(alloc: Global, files: &mut F, folder: &str) -> Result<Snapshot, InputError>
+fn read_tables<F: Files>(
+    alloc: Global,
+    files: &mut F,
+    folder: &str,
+) -> Result<Directory, InputError>
     ensures input { Reads (λ tables. tt) (F.held files.old) (tables_in (Some folder.now)) result }
     ensures files { FilesAfterInput F.held F.faults F.misses result files.old files.new }
 {
     let state = read_state(alloc, files, folder)?;
     let directory = Directory::new(alloc, state, (), Vec::new(alloc), 0)?;
-    let snapshot = Snapshot::of(alloc, &directory)?;
-    Ok(snapshot)
+    Ok(directory)
 }
 
 /// The tables of a folder where one is named.
@@ -45,18 +48,32 @@ fn tables_of<F: Files>(
     alloc: Global,
     files: &mut F,
     folder: Option<&str>,
-) -> Result<Option<Snapshot>, InputError>
+) -> Result<Option<Directory>, InputError>
     ensures input { Reads (λ tables. tt) (F.held files.old)
         (tables_in (option_map (λ f. f.now) folder.entry)) result }
     ensures files { FilesAfterInput F.held F.faults F.misses result files.old files.new }
 {
     match folder {
         Some(folder) => {
-            let snapshot = read_tables(alloc, files, folder)?;
-            Ok(Some(snapshot))
+            let directory = read_tables(alloc, files, folder)?;
+            Ok(Some(directory))
         }
         None => Ok(None),
     }
+}
+
+/// What is shown of a script's statements, over these tables, and whether none is refused.
+fn plans_over<R: Threads + Sync + Clock>(
+    rt: &R,
+    alloc: Global,
+    script: &[u8],
+    statements: Items<Statement>,
+    form: PlanForm,
+    tables: Option<Directory>,
+) -> Result<ScriptPlans, AllocError>
+    ensures { IfOk result (λ all. ShowsScript form statements all.text.items all.is_clean) }
+{
+    script_plans(rt, alloc, script, statements, form, tables.as_ref())
 }
 
 /// What is shown of a script's statements, and its status.
@@ -66,23 +83,24 @@ fn plans_text<R: Threads + Sync + Clock>(
     script: &[u8],
     statements: Items<Statement>,
     form: PlanForm,
-    tables: &Option<Snapshot>,
+    tables: Option<Directory>,
 ) -> Result<(Vec<u8>, Status), AllocError>
     ensures { IfOk result (λ printed. MeansShown form statements tt printed.0.items printed.1) }
 {
-    let ScriptPlans { text, is_clean } = script_plans(
-        rt,
-        alloc,
-        script,
-        statements,
-        form,
-        tables.as_ref(),
-    )?;
+    let ScriptPlans { text, is_clean } = plans_over(rt, alloc, script, statements, form, tables)?;
     if is_clean {
         Ok((text, Status::Done))
     } else {
         Ok((text, Status::SomeRefused))
     }
+}
+
+/// The line and the column of a byte of a script, on a line of their own.
+fn place_line(alloc: Global, script: &[u8], place: usize) -> Result<Vec<u8>, AllocError> {
+    let mut line = Vec::new(alloc);
+    push_place(&mut line, script, place)?;
+    line.push(b'\n')?;
+    Ok(line)
 }
 
 /// The lines of a script that is none: its refusal with its byte, and the line and the column of
@@ -101,9 +119,7 @@ fn refused_script(
     let name = String::from_str(alloc, name)?;
     let fault = InputFault::Byte(refusal, place);
     let mut text = line_of_refusal(alloc, &RefusedInput { name, fault })?;
-    let mut more = Vec::new(alloc);
-    push_place(&mut more, script, place)?;
-    more.push(b'\n')?;
+    let more = place_line(alloc, script, place)?;
     text.extend_from_slice(more.as_slice())?;
     Ok(text)
 }
@@ -122,7 +138,7 @@ fn request_text<R: Threads + Sync + Clock, F: Files>(
     match read_script(alloc, &script) {
         Ok(statements) => {
             let tables = tables_of(alloc, files, request.folder)?;
-            let printed = plans_text(rt, alloc, &script, statements, request.form, &tables)?;
+            let printed = plans_text(rt, alloc, &script, statements, request.form, tables)?;
             Ok(printed)
         }
         Err(ScriptFault::Refused(refusal, place)) => {
