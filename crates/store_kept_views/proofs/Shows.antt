@@ -3,11 +3,11 @@ use Rattle.std.proofs.Common.{◌≡◌, ℕ, ◌+◌, ◌<◌, ◌≤◌, ◌-�
 use Rattle.std.specs.Prelude.{map, take}
 use Rattle.std.specs.List.{filter, IsDistinct, slice_get}
 use Rattle.std.specs.Map.{lookup}
-use Rattle.std.specs.Option.{is_some}
+use Rattle.std.specs.Option.{is_some, option_map}
 use Rattle.std.specs.Prelude.{not}
 use Rattle.std.proofs.lemmas.Bool.{true≢false}
 use lib.ListN.{get_or}
-use Rattle.std.proofs.lemmas.List.{get_or_append_left, get_or-append_right, get_or_read}
+use Rattle.std.proofs.lemmas.List.{append_assoc, map-append, get_or_append_left, get_or-append_right, get_or_read}
 use Rattle.base_row_laws.specs.Ranked.{Ranked, ranked}
 use Rattle.base_row_laws.specs.Bags.{SameBag, has, IsIdentity, classes, each_once}
 use Rattle.base_row_laws.specs.Rows.{columns, same_row}
@@ -82,6 +82,22 @@ some_more (p ∷ ps) zero es e less is before here = some_here p (entries_of ps)
 some_more ([] ∷ ps) (suc i) es e less is before here = some_more ps i es e (omega arith) is before here
 some_more ((x ∷ p) ∷ ps) (suc i) es e less is before here = absurd (omega (arith, ap length before))
 
+pub some_found : {X : Type 0} (now : X → List Value × Group) (o : Option X) (ps : List Entries) (i : ℕ) (es : Entries) → i < length ps → es ≡ get_or ps i es → entries_of (take i ps) ≡ [] → option_map now o ≡ slice_get es 0 → is_some o ≡ true → option_map now o ≡ slice_get (entries_of ps) 0
+some_found now None ps i es less is before here some = absurd (true≢false (sym some))
+some_found now (Some x) ps i es less is before here some = sym (some_more ps i es (now x) less is before (sym here))
+
+pub none_found : {X : Type 0} (now : X → List Value × Group) (o : Option X) (ps : List Entries) (i : ℕ) (es : Entries) → i < length ps → es ≡ get_or ps i es → entries_of (take i ps) ≡ [] → option_map now o ≡ slice_get es 0 → is_some o ≡ false → entries_of (take (i + 1) ps) ≡ []
+none_found now None ps i es less is before here none = none_more ps i es less is before (sym here)
+none_found now (Some x) ps i es less is before here none = absurd (true≢false none)
+
+-- the rows of one more page
+pub rows_more : (f : List Value × Group → Ranked Value) (first old new : List (Ranked Value)) (ps : List Entries) (i : ℕ) (es here : Entries) → i < length ps → es ≡ get_or ps i es → here ≡ es
+    → old ≡ first ++ map f (entries_of (take i ps)) → new ≡ old ++ map f here → new ≡ first ++ map f (entries_of (take (i + 1) ps))
+rows_more f first old new ps i es here less is same before more =
+    more ∙ ap (λ l. l ++ map f here) before ∙ append_assoc first (map f (entries_of (take i ps))) (map f here)
+    ∙ ap (λ l. first ++ (map f (entries_of (take i ps)) ++ map f l)) same
+    ∙ ap (λ l. first ++ l) (sym (map-append f (entries_of (take i ps)) es) ∙ ap (map f) (sym (entries_more ps i es less is)))
+
 -- what is shown where there are entries, and where there is none
 some_by : (p : KeptPlan) (by : List ℕ) (es : Entries) (e : List Value × Group) → slice_get es 0 ≡ Some e → map (λ e. output_row p e.0 e.1) es ≡ output_by p by es
 some_by p by [] e is = absurd (true≢false (sym (ap (λ o. is_some o) is)))
@@ -91,21 +107,13 @@ some_by p (k ∷ ks) (x ∷ es) e is = refl
 pub some_shown : (p : KeptPlan) (es : Entries) (e : List Value × Group) → slice_get es 0 ≡ Some e → map (λ e. output_row p e.0 e.1) es ≡ output_rows p es
 some_shown p es e is = some_by p p.by es e is
 
-one_of : (p : KeptPlan) (by : List ℕ) (es : Entries) → length by ≡ 0 → slice_get es 0 ≡ None → output_row p [] (no_rows (length p.aggregates)) ∷ [] ≡ output_by p by es
-one_of p [] [] nil none = refl
-one_of p [] (x ∷ es) nil none = absurd (true≢false (ap (λ o. is_some o) none))
-one_of p (k ∷ ks) es nil none = absurd (omega arith)
+none_by : (p : KeptPlan) (by : List ℕ) (es : Entries) → (by ≡ [] → ⊥) → slice_get es 0 ≡ None → [] ≡ output_by p by es
+none_by p [] es some none = absurd (some refl)
+none_by p (k ∷ ks) [] some none = refl
+none_by p (k ∷ ks) (x ∷ es) some none = absurd (true≢false (ap (λ o. is_some o) none))
 
-pub one_shown : (p : KeptPlan) (es : Entries) → length p.by ≡ 0 → slice_get es 0 ≡ None → output_row p [] (no_rows (length p.aggregates)) ∷ [] ≡ output_rows p es
-one_shown p es nil none = one_of p p.by es nil none
-
-none_by : (p : KeptPlan) (by : List ℕ) (es : Entries) → 0 < length by → slice_get es 0 ≡ None → [] ≡ output_by p by es
-none_by p [] es less none = absurd (omega arith)
-none_by p (k ∷ ks) [] less none = refl
-none_by p (k ∷ ks) (x ∷ es) less none = absurd (true≢false (ap (λ o. is_some o) none))
-
-pub none_shown : (p : KeptPlan) (es : Entries) → 0 < length p.by → slice_get es 0 ≡ None → [] ≡ output_rows p es
-none_shown p es less none = none_by p p.by es less none
+pub none_shown : (p : KeptPlan) (es : Entries) → (p.by ≡ [] → ⊥) → slice_get es 0 ≡ None → [] ≡ output_rows p es
+none_shown p es some none = none_by p p.by es some none
 
 -- the select list over a group's row
 abbrev listed : KeptPlan → Ranked Value → Ranked Value

@@ -67,7 +67,10 @@ fn shown_at(aggregates: &[KeptAggregate], rows: u64, cells: &[Cell], place: usiz
     ensures { result
         ≡ slice_index_or (all_shown aggregates.now rows (map cell_in cells.now)) place Null }
 {
-    if place >= aggregates.len() || place >= cells.len() {
+    if place >= aggregates.len() {
+        return Value::Null;
+    }
+    if place >= cells.len() {
         return Value::Null;
     }
     shown(&aggregates[place], rows, &cells[place])

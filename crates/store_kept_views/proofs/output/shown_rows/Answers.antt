@@ -5,5 +5,5 @@ use Rattle.store_kept_views.proofs.Shows.{rows_shown}
 use Rattle.store_kept_views.proofs.output.shown_rows.Goals as goal
 
 pub returns-clause-rows : goal.returns-clause-rows
-returns-clause-rows c = λ table stands. subst (λ l. SameBag l (query_rows c.args.plan.now table)) (sym c.in_ok-output_rows.ensures.rows)
+returns-clause-rows c = λ table stands. subst (λ l. SameBag l (query_rows c.args.plan.now table)) (sym c.in_ok-bag.ensures.rows)
     (rows_shown c.args.plan.now c.args.groups.now table c.pages-pages.ensures.distinct stands)
