@@ -1,5 +1,5 @@
 -- What groups show.
-use Rattle.std.proofs.Common.{◌≡◌, ℕ, ◌+◌, ◌<◌, ◌≤◌, ◌-◌, List, [], ◌∷◌, ◌++◌, Bool, true, false, cond, refl, sym, ◌∙◌, ap, subst, arith, inl, inr, Some, None, Option, length, zero, suc}
+use Rattle.std.proofs.Common.{◌≡◌, ℕ, ◌+◌, ◌<◌, ◌≤◌, List, [], ◌∷◌, ◌++◌, Bool, true, false, cond, refl, sym, ◌∙◌, ap, subst, arith, inl, inr, Some, None, Option, length, zero, suc}
 use Rattle.std.specs.Prelude.{map, take}
 use Rattle.std.specs.List.{filter, IsDistinct, slice_get}
 use Rattle.std.specs.Map.{lookup}
@@ -7,7 +7,7 @@ use Rattle.std.specs.Option.{is_some, option_map}
 use Rattle.std.specs.Prelude.{not}
 use Rattle.std.proofs.lemmas.Bool.{true≢false}
 use lib.ListN.{get_or}
-use Rattle.std.proofs.lemmas.List.{append_assoc, map-append, get_or_append_left, get_or-append_right, get_or_read}
+use Rattle.std.proofs.lemmas.List.{append_assoc, map-append}
 use Rattle.base_row_laws.specs.Ranked.{Ranked, ranked}
 use Rattle.base_row_laws.specs.Bags.{SameBag, has, IsIdentity, classes, each_once}
 use Rattle.base_row_laws.specs.Rows.{columns, same_row}
@@ -57,13 +57,6 @@ cells_past (x ∷ ags) n [] i le = refl
 cells_past (x ∷ ags) n (y ∷ cs) zero le = absurd (omega arith)
 cells_past (x ∷ ags) n (y ∷ cs) (suc i) le = cells_past ags n cs i (omega arith)
 
--- a value of a group's row: of the key, or of an aggregate
-pub in_key : (ags : List KeptAggregate) (k : List Value) (g : Group) (i : ℕ) (v : Value) → i < length k → v ≡ get_or k i v → v ≡ get_or (row_of ags k g).values i Null
-in_key ags k g i v less is = get_or_read k i v less is Null ∙ sym (get_or_append_left k (all_shown ags g.rows g.cells) Null i less)
-
-pub past_key : (ags : List KeptAggregate) (k : List Value) (g : Group) (i : ℕ) → length k ≤ i → get_or (all_shown ags g.rows g.cells) (i - length k) Null ≡ get_or (row_of ags k g).values i Null
-past_key ags k g i le = sym (get_or-append_right k (all_shown ags g.rows g.cells) (length k) i Null refl le)
-
 -- the first entry of pages
 none_here : (es : Entries) → slice_get es 0 ≡ None → es ≡ []
 none_here [] is = refl
@@ -98,15 +91,7 @@ rows_more f first old new ps i es here less is same before more =
     ∙ ap (λ l. first ++ (map f (entries_of (take i ps)) ++ map f l)) same
     ∙ ap (λ l. first ++ l) (sym (map-append f (entries_of (take i ps)) es) ∙ ap (map f) (sym (entries_more ps i es less is)))
 
--- what is shown where there are entries, and where there is none
-some_by : (p : KeptPlan) (by : List ℕ) (es : Entries) (e : List Value × Group) → slice_get es 0 ≡ Some e → map (λ e. output_row p e.0 e.1) es ≡ output_by p by es
-some_by p by [] e is = absurd (true≢false (sym (ap (λ o. is_some o) is)))
-some_by p [] (x ∷ es) e is = refl
-some_by p (k ∷ ks) (x ∷ es) e is = refl
-
-pub some_shown : (p : KeptPlan) (es : Entries) (e : List Value × Group) → slice_get es 0 ≡ Some e → map (λ e. output_row p e.0 e.1) es ≡ output_rows p es
-some_shown p es e is = some_by p p.by es e is
-
+-- what is shown where there is no entry and no one group
 none_by : (p : KeptPlan) (by : List ℕ) (es : Entries) → (by ≡ [] → ⊥) → slice_get es 0 ≡ None → [] ≡ output_by p by es
 none_by p [] es some none = absurd (some refl)
 none_by p (k ∷ ks) [] some none = refl
