@@ -1,13 +1,13 @@
 -- What groups show.
 use Rattle.std.proofs.Common.{◌≡◌, ℕ, ◌+◌, ◌<◌, ◌≤◌, List, [], ◌∷◌, ◌++◌, Bool, true, false, cond, refl, sym, ◌∙◌, ap, subst, arith, inl, inr, Some, None, Option, length, zero, suc}
 use Rattle.std.specs.Prelude.{map, take}
-use Rattle.std.specs.List.{All, filter, IsDistinct}
+use Rattle.std.specs.List.{filter, IsDistinct, slice_get}
 use Rattle.std.specs.Map.{lookup}
-use Rattle.std.specs.Option.{is_some}
+use Rattle.std.specs.Option.{is_some, option_map}
 use Rattle.std.specs.Prelude.{not}
 use Rattle.std.proofs.lemmas.Bool.{true≢false}
 use lib.ListN.{get_or}
-use Rattle.std.proofs.lemmas.List.{append_assoc, append-nil, map-append, length-map}
+use Rattle.std.proofs.lemmas.List.{append_assoc, map-append}
 use Rattle.base_row_laws.specs.Ranked.{Ranked, ranked}
 use Rattle.base_row_laws.specs.Bags.{SameBag, has, IsIdentity, classes, each_once}
 use Rattle.base_row_laws.specs.Rows.{columns, same_row}
@@ -32,34 +32,73 @@ use Rattle.store_kept_views.specs.Standing.{rows_at, made_at, StandsFor}
 use Rattle.store_kept_views.specs.Output.{output_row, output_by, output_rows}
 use Rattle.store_kept_views.proofs.GroupLists.{row_is, group_none}
 use Rattle.store_groups.proofs.EntryLists.{key_identity}
+use Rattle.store_groups.proofs.PageLists.{entries_more}
+use Rattle.store_groups.specs.Pages.{entries_of}
 use Rattle.store_kept_views.proofs.Made.{key, made_here, made_none}
 
--- place by place
-more_suc : (ags : List KeptAggregate) (n : ℕ) (cs : List Stored) (i : ℕ) (a : KeptAggregate) (c : Stored) → i < length ags → i < length cs → a ≡ get_or ags i a → c ≡ get_or cs i c
-    → all_shown (take (suc i) ags) n (map cell_in (take (suc i) cs)) ≡ all_shown (take i ags) n (map cell_in (take i cs)) ++ shown a n (cell_in c) ∷ []
-more_suc [] n cs i a c la lc ia ic = absurd (omega arith)
-more_suc (x ∷ ags) n [] i a c la lc ia ic = absurd (omega arith)
-more_suc (x ∷ ags) n (y ∷ cs) zero a c la lc ia ic = rw (ia, ic)
-more_suc (x ∷ ags) n (y ∷ cs) (suc i) a c la lc ia ic = ap (λ l. shown x n (cell_in y) ∷ l) (more_suc ags n cs i a c (omega arith) (omega arith) ia ic)
+-- the value of the aggregate at a place
+pub shown_in : (ags : List KeptAggregate) (n : ℕ) (cs : List Stored) (i : ℕ) (a : KeptAggregate) (c : Stored) → i < length ags → i < length cs → a ≡ get_or ags i a → c ≡ get_or cs i c
+    → shown a n (cell_in c) ≡ get_or (all_shown ags n (map cell_in cs)) i Null
+shown_in [] n cs i a c la lc ia ic = absurd (omega arith)
+shown_in (x ∷ ags) n [] i a c la lc ia ic = absurd (omega arith)
+shown_in (x ∷ ags) n (y ∷ cs) zero a c la lc ia ic = rw (ia, ic)
+shown_in (x ∷ ags) n (y ∷ cs) (suc i) a c la lc ia ic = shown_in ags n cs i a c (omega arith) (omega arith) ia ic
 
-pub more_shown : (ags : List KeptAggregate) (n : ℕ) (cs : List Stored) (i : ℕ) (a : KeptAggregate) (c : Stored) → i < length ags → i < length cs → a ≡ get_or ags i a → c ≡ get_or cs i c
-    → all_shown (take (i + 1) ags) n (map cell_in (take (i + 1) cs)) ≡ all_shown (take i ags) n (map cell_in (take i cs)) ++ shown a n (cell_in c) ∷ []
-more_shown ags n cs i a c la lc ia ic = let s : i + 1 ≡ suc i = omega arith in rw s (more_suc ags n cs i a c la lc ia ic)
+-- past the last aggregate, or the last cell
+pub ags_past : (ags : List KeptAggregate) (n : ℕ) (cs : List Stored) (i : ℕ) → length ags ≤ i → Null ≡ get_or (all_shown ags n (map cell_in cs)) i Null
+ags_past [] n cs i le = refl
+ags_past (x ∷ ags) n [] i le = refl
+ags_past (x ∷ ags) n (y ∷ cs) zero le = absurd (omega arith)
+ags_past (x ∷ ags) n (y ∷ cs) (suc i) le = ags_past ags n cs i (omega arith)
 
-pub cells_end : (ags : List KeptAggregate) (n : ℕ) (cs : List Stored) (i : ℕ) → length cs ≤ i → all_shown (take i ags) n (map cell_in (take i cs)) ≡ all_shown ags n (map cell_in cs)
-cells_end [] n cs zero le = refl
-cells_end [] n cs (suc i) le = refl
-cells_end (x ∷ ags) n [] zero le = refl
-cells_end (x ∷ ags) n [] (suc i) le = refl
-cells_end (x ∷ ags) n (y ∷ cs) zero le = absurd (omega arith)
-cells_end (x ∷ ags) n (y ∷ cs) (suc i) le = ap (λ l. shown x n (cell_in y) ∷ l) (cells_end ags n cs i (omega arith))
+pub cells_past : (ags : List KeptAggregate) (n : ℕ) (cs : List Stored) (i : ℕ) → length cs ≤ i → Null ≡ get_or (all_shown ags n (map cell_in cs)) i Null
+cells_past [] n cs i le = refl
+cells_past (x ∷ ags) n [] i le = refl
+cells_past (x ∷ ags) n (y ∷ cs) zero le = absurd (omega arith)
+cells_past (x ∷ ags) n (y ∷ cs) (suc i) le = cells_past ags n cs i (omega arith)
 
-pub ags_end : (ags : List KeptAggregate) (n : ℕ) (cs : List Stored) (i : ℕ) → length ags ≤ i → all_shown (take i ags) n (map cell_in (take i cs)) ≡ all_shown ags n (map cell_in cs)
-ags_end [] n cs zero le = refl
-ags_end [] n cs (suc i) le = refl
-ags_end (x ∷ ags) n cs zero le = absurd (omega arith)
-ags_end (x ∷ ags) n [] (suc i) le = refl
-ags_end (x ∷ ags) n (y ∷ cs) (suc i) le = ap (λ l. shown x n (cell_in y) ∷ l) (ags_end ags n cs i (omega arith))
+-- the first entry of pages
+none_here : (es : Entries) → slice_get es 0 ≡ None → es ≡ []
+none_here [] is = refl
+none_here (e ∷ es) is = absurd (true≢false (ap (λ o. is_some o) is))
+
+some_here : (es more : Entries) (e : List Value × Group) → slice_get es 0 ≡ Some e → slice_get (es ++ more) 0 ≡ Some e
+some_here [] more e is = absurd (true≢false (sym (ap (λ o. is_some o) is)))
+some_here (x ∷ es) more e is = is
+
+pub none_more : (ps : List Entries) (i : ℕ) (es : Entries) → i < length ps → es ≡ get_or ps i es → entries_of (take i ps) ≡ [] → slice_get es 0 ≡ None → entries_of (take (i + 1) ps) ≡ []
+none_more ps i es less is before here = entries_more ps i es less is ∙ ap (λ l. l ++ es) before ∙ none_here es here
+
+pub some_more : (ps : List Entries) (i : ℕ) (es : Entries) (e : List Value × Group) → i < length ps → es ≡ get_or ps i es → entries_of (take i ps) ≡ [] → slice_get es 0 ≡ Some e → slice_get (entries_of ps) 0 ≡ Some e
+some_more [] i es e less is before here = absurd (omega arith)
+some_more (p ∷ ps) zero es e less is before here = some_here p (entries_of ps) e (ap (λ l. slice_get l 0) (sym is) ∙ here)
+some_more ([] ∷ ps) (suc i) es e less is before here = some_more ps i es e (omega arith) is before here
+some_more ((x ∷ p) ∷ ps) (suc i) es e less is before here = absurd (omega (arith, ap length before))
+
+pub some_found : {X : Type 0} (now : X → List Value × Group) (o : Option X) (ps : List Entries) (i : ℕ) (es : Entries) → i < length ps → es ≡ get_or ps i es → entries_of (take i ps) ≡ [] → option_map now o ≡ slice_get es 0 → is_some o ≡ true → option_map now o ≡ slice_get (entries_of ps) 0
+some_found now None ps i es less is before here some = absurd (true≢false (sym some))
+some_found now (Some x) ps i es less is before here some = sym (some_more ps i es (now x) less is before (sym here))
+
+pub none_found : {X : Type 0} (now : X → List Value × Group) (o : Option X) (ps : List Entries) (i : ℕ) (es : Entries) → i < length ps → es ≡ get_or ps i es → entries_of (take i ps) ≡ [] → option_map now o ≡ slice_get es 0 → is_some o ≡ false → entries_of (take (i + 1) ps) ≡ []
+none_found now None ps i es less is before here none = none_more ps i es less is before (sym here)
+none_found now (Some x) ps i es less is before here none = absurd (true≢false none)
+
+-- the rows of one more page
+pub rows_more : (f : List Value × Group → Ranked Value) (first old new : List (Ranked Value)) (ps : List Entries) (i : ℕ) (es here : Entries) → i < length ps → es ≡ get_or ps i es → here ≡ es
+    → old ≡ first ++ map f (entries_of (take i ps)) → new ≡ old ++ map f here → new ≡ first ++ map f (entries_of (take (i + 1) ps))
+rows_more f first old new ps i es here less is same before more =
+    more ∙ ap (λ l. l ++ map f here) before ∙ append_assoc first (map f (entries_of (take i ps))) (map f here)
+    ∙ ap (λ l. first ++ (map f (entries_of (take i ps)) ++ map f l)) same
+    ∙ ap (λ l. first ++ l) (sym (map-append f (entries_of (take i ps)) es) ∙ ap (map f) (sym (entries_more ps i es less is)))
+
+-- what is shown where there is no entry and no one group
+none_by : (p : KeptPlan) (by : List ℕ) (es : Entries) → (by ≡ [] → ⊥) → slice_get es 0 ≡ None → [] ≡ output_by p by es
+none_by p [] es some none = absurd (some refl)
+none_by p (k ∷ ks) [] some none = refl
+none_by p (k ∷ ks) (x ∷ es) some none = absurd (true≢false (ap (λ o. is_some o) none))
+
+pub none_shown : (p : KeptPlan) (es : Entries) → (p.by ≡ [] → ⊥) → slice_get es 0 ≡ None → [] ≡ output_rows p es
+none_shown p es some none = none_by p p.by es some none
 
 -- the select list over a group's row
 abbrev listed : KeptPlan → Ranked Value → Ranked Value
@@ -134,18 +173,3 @@ shown_by p (k ∷ ks) es ys is distinct stands =
 pub rows_shown : (p : KeptPlan) (es : Entries) (rows : List (List Value)) → IsDistinct same_key (map (λ e. e.0) es) → StandsFor p es rows → SameBag (output_rows p es) (query_rows p rows)
 unfolding query_rows
 rows_shown p es rows distinct stands = shown_by p p.by es (selected p rows) refl distinct stands
-
--- each row has as many values as are shown
-wide_map : (p : KeptPlan) (es : Entries) → All (λ (r : Ranked Value). length r.values ≡ length p.list) (map (λ e. output_row p e.0 e.1) es)
-wide_map p [] i d less = absurd (omega arith)
-wide_map p (e ∷ es) zero d less = length-map p.list _
-wide_map p (e ∷ es) (suc i) d less = wide_map p es i d (omega arith)
-
-wide_by : (p : KeptPlan) (by : List ℕ) (es : Entries) → All (λ (r : Ranked Value). length r.values ≡ length p.list) (output_by p by es)
-wide_by p [] [] zero d less = length-map p.list _
-wide_by p [] [] (suc i) d less = absurd (omega arith)
-wide_by p [] (e ∷ es) i d less = wide_map p (e ∷ es) i d less
-wide_by p (k ∷ ks) es i d less = wide_map p es i d less
-
-pub rows_wide : (p : KeptPlan) (es : Entries) → All (λ (r : Ranked Value). length r.values ≡ length p.list) (output_rows p es)
-rows_wide p es = wide_by p p.by es

@@ -1,8 +1,6 @@
-//! The rows of groups as a bag.
-ghost use Rattle.std.specs.Prelude.{◌≡◌, ◌++◌, length, IfOk, OnOk};
-ghost use Rattle.std.specs.List.{All};
+//! Rows that are put together into a bag.
+ghost use Rattle.std.specs.Prelude.{◌≡◌, [], length, IfOk};
 
-use crate::output::OutputRow;
 use base_columns::{Bag, BatchBuilder, ColumnForm};
 use base_value::Value;
 use std::alloc::{AllocError, Global};
@@ -28,38 +26,23 @@ fn forms_of(alloc: Global, values: &[Value]) -> Result<Vec<ColumnForm>, AllocErr
     Ok(forms)
 }
 
-// Rows of that width, one by one.
-fn put_rows(
-    alloc: Global,
-    width: usize,
-    rows: &[OutputRow],
-    builder: &mut BatchBuilder,
-) -> Result<(), AllocError>
-    requires wide { All (λ r. length r.values ≡ width) rows.now }
-    requires width { builder.old.width ≡ width }
-    ensures width { builder.new.width ≡ width }
-    ensures rows { OnOk result (builder.new.rows ≡ builder.old.rows ++ rows.now) }
+/// No rows yet, in columns that are expected to hold what they do in this row.
+pub(crate) fn builder_like(alloc: Global, values: &[Value]) -> Result<BatchBuilder, AllocError>
+    ensures width { IfOk result (λ b. b.width ≡ length values.now) }
+    ensures rows { IfOk result (λ b. b.rows ≡ []) }
 {
-    for row in rows {
-        builder.push_row(alloc, row.values.values(), row.standing)?;
-    }
-    Ok(())
+    let forms = forms_of(alloc, values)?;
+    let builder = BatchBuilder::new(alloc, forms.as_slice())?;
+    Ok(builder)
 }
 
-/// Rows of that width as a bag.
-pub(crate) fn bag_of(alloc: Global, width: usize, rows: &[OutputRow]) -> Result<Bag, AllocError>
-    requires { All (λ r. length r.values ≡ width) rows.now }
-    ensures rows { IfOk result (λ bag. bag.rows ≡ rows.now) }
-    ensures width { IfOk result (λ bag. bag.width ≡ width) }
+/// The rows that are put together as a bag.
+pub(crate) fn bag_of(alloc: Global, builder: &BatchBuilder) -> Result<Bag, AllocError>
+    ensures rows { IfOk result (λ bag. bag.rows ≡ builder.now.rows) }
+    ensures width { IfOk result (λ bag. bag.width ≡ builder.now.width) }
 {
-    let mut bag = Bag::new(alloc, width);
-    let Some(first) = rows.first() else {
-        return Ok(bag);
-    };
-    let forms = forms_of(alloc, first.values.values())?;
-    let mut builder = BatchBuilder::new(alloc, forms.as_slice())?;
-    put_rows(alloc, width, rows, &mut builder)?;
     let batch = builder.finish(alloc)?;
+    let mut bag = Bag::new(alloc, builder.width());
     bag.push(batch)?;
     Ok(bag)
 }

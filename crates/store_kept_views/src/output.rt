@@ -1,45 +1,26 @@
 //! The rows of groups.
-ghost use Rattle.std.specs.List.{All};
 ghost use Rattle.store_groups.specs.Pages.{entries_of};
-ghost use Rattle.base_row_laws.specs.Rows.{columns};
 ghost use Rattle.base_value.specs.declared.value.Value.TheVariants.{Null};
 ghost use Rattle.base_row_laws.specs.Bags.{SameBag};
 ghost use Rattle.base_value.specs.declared.value.Value.{Value as Datum};
 ghost use Rattle.plan_algebra.specs.KeptPlans.{query_rows};
 ghost use Rattle.store_kept_views.specs.Standing.{StandsFor};
 ghost use Rattle.std.specs.Prelude.{◌≡◌, ◌++◌, ◌∷◌, [], IfOk, List, OnOk, length, map};
-ghost use Rattle.std.specs.Prelude.{slice_index_or};
-ghost use Rattle.base_row_laws.specs.Ranked.{ranked};
+ghost use Rattle.std.specs.Prelude.{option_map, slice_get, slice_index_or};
 ghost use Rattle.base_value.specs.Truth.{standing_rank};
 ghost use Rattle.expr_aggregates.specs.Values.{number_or_fault};
 ghost use Rattle.store_groups.specs.Groups.{no_rows};
-ghost use Rattle.store_kept_views.specs.RowGroups.{all_shown, shown, unless_rank};
+ghost use Rattle.store_kept_views.specs.RowGroups.{all_shown, row_of, shown, unless_rank};
 ghost use Rattle.store_groups.specs.Stored.{cell_in};
 ghost use Rattle.store_kept_views.specs.Output.{output_row, output_rows};
 
+use crate::bag::{bag_of, builder_like};
+use base_columns::{Bag, BatchBuilder};
 use base_decimal::{NumberFault, Scale};
-use base_value::{Fault, Row, Standing, Value};
+use base_value::{Fault, Standing, Value};
 use plan_algebra::{KeptAggregate, KeptPlan};
 use std::alloc::{AllocError, Global};
-use std::marker::Model;
 use store_groups::{Cell, Entry, Group, Groups, Page};
-
-/// A row with its standing.
-#[derive(Drop)]
-pub(crate) struct OutputRow {
-    pub(crate) values: Row,
-    pub(crate) standing: Standing,
-}
-
-impl Model for OutputRow {
-    ghost use Rattle.base_row_laws.specs.Ranked.{Ranked, ranked};
-    ghost use Rattle.base_value.specs.Truth.{standing_rank};
-    ghost use Rattle.base_value.specs.declared.value.Value.{Value as Datum};
-
-    ghost Value = { Ranked Datum };
-
-    ghost view = { λ r. ranked r.values (standing_rank r.standing) };
-}
 
 // The value, or the fault where a fault is the least standing.
 fn unless_fault(least: Standing, value: Value) -> Value
@@ -81,78 +62,74 @@ fn shown(aggregate: &KeptAggregate, rows: u64, cell: &Cell) -> Value
     }
 }
 
-// Puts the values of aggregates after others.
-fn put_shown(
+// The value of an aggregate of a group, null where it is not there.
+fn shown_at(aggregates: &[KeptAggregate], rows: u64, cells: &[Cell], place: usize) -> Value
+    ensures { result
+        ≡ slice_index_or (all_shown aggregates.now rows (map cell_in cells.now)) place Null }
+{
+    if place >= aggregates.len() {
+        return Value::Null;
+    }
+    if place >= cells.len() {
+        return Value::Null;
+    }
+    shown(&aggregates[place], rows, &cells[place])
+}
+
+// A value of a group's row, of its key or of an aggregate, null where it is not there.
+fn value_at(
     aggregates: &[KeptAggregate],
-    rows: u64,
-    cells: &[Cell],
+    key: &[Value],
+    group: &Group,
+    place: usize,
+) -> Result<Value, AllocError>
+    ensures { IfOk result (λ v. v
+        ≡ slice_index_or (row_of aggregates.now key.now group.now).values place Null) }
+{
+    if place < key.len() {
+        return key[place].clone();
+    }
+    let value = shown_at(aggregates, group.len(), group.cells(), place - key.len());
+    Ok(value)
+}
+
+// Puts a group's row in the place of other values: those of its key's values and its aggregates
+// that the plan shows.
+fn put_values(
+    plan: &KeptPlan,
+    key: &[Value],
+    group: &Group,
     values: &mut Vec<Value>,
 ) -> Result<(), AllocError>
-    ensures { OnOk result (values.new.items ≡ values.old.items
-        ++ all_shown aggregates.now rows (map cell_in cells.now)) }
+    ensures row { OnOk result (values.new.items ≡ (output_row plan.now key.now group.now).values) }
+    ensures long { OnOk result (length values.new.items ≡ length plan.now.list) }
 {
-    for i in 0..aggregates.len() {
-        if i >= cells.len() {
-            return Ok(());
-        }
-        values.push(shown(&aggregates[i], rows, &cells[i]))?;
-    }
-    Ok(())
-}
-
-// Puts copies of values after others.
-fn put_clones(more: &[Value], values: &mut Vec<Value>) -> Result<(), AllocError>
-    ensures { OnOk result (values.new.items ≡ values.old.items ++ more.now) }
-{
-    for value in more {
-        values.push(value.clone()?)?;
-    }
-    Ok(())
-}
-
-// A value of a row, null where it is not there.
-fn value_at(values: &[Value], place: u32) -> Result<Value, AllocError>
-    ensures { IfOk result (λ v. v ≡ slice_index_or values.now place Null) }
-{
-    match values.get(place as usize) {
-        Some(value) => value.clone(),
-        None => Ok(Value::Null),
-    }
-}
-
-// The values of a row at these places.
-fn values_at(alloc: Global, values: &[Value], places: &[u32]) -> Result<Row, AllocError>
-    ensures { IfOk result (λ r. r ≡ columns Null places.now values.now) }
-{
-    let mut all = Vec::with_capacity(alloc, places.len())?;
+    let aggregates = plan.aggregates.as_slice();
+    let places = plan.list.as_slice();
+    values.clear();
     for place in places {
-        all.push(value_at(values, *place)?)?;
+        values.push(value_at(aggregates, key, group, *place as usize)?)?;
     }
-    Row::new(all)
+    Ok(())
 }
 
-// A group's row: those of its key's values and its aggregates that the plan shows.
-fn output_row(
+// Puts a group's row after others, through values that serve for one row after the other.
+fn put_row(
     alloc: Global,
     plan: &KeptPlan,
     key: &[Value],
     group: &Group,
-) -> Result<OutputRow, AllocError>
-    ensures { IfOk result (λ r. r ≡ output_row plan.now key.now group.now) }
+    values: &mut Vec<Value>,
+    builder: &mut BatchBuilder,
+) -> Result<(), AllocError>
+    requires { builder.old.width ≡ length plan.now.list }
+    ensures width { builder.new.width ≡ builder.old.width }
+    ensures row { OnOk result (builder.new.rows
+        ≡ builder.old.rows ++ output_row plan.now key.now group.now ∷ []) }
 {
-    let mut values = Vec::new(alloc);
-    put_clones(key, &mut values)?;
-    put_shown(
-        plan.aggregates.as_slice(),
-        group.len(),
-        group.cells(),
-        &mut values,
-    )?;
-    let values = values_at(alloc, values.as_slice(), plan.list.as_slice())?;
-    Ok(OutputRow {
-        values,
-        standing: group.standing(),
-    })
+    put_values(plan, key, group, values)?;
+    builder.push_row(alloc, values.as_slice(), group.standing())?;
+    Ok(())
 }
 
 // Puts the rows of entries after others.
@@ -160,70 +137,112 @@ fn put_rows(
     alloc: Global,
     plan: &KeptPlan,
     entries: &[Entry],
-    rows: &mut Vec<OutputRow>,
+    values: &mut Vec<Value>,
+    builder: &mut BatchBuilder,
 ) -> Result<(), AllocError>
-    ensures { OnOk result (rows.new.items ≡ rows.old.items
+    requires { builder.old.width ≡ length plan.now.list }
+    ensures width { builder.new.width ≡ builder.old.width }
+    ensures rows { OnOk result (builder.new.rows ≡ builder.old.rows
         ++ map (λ e. output_row plan.now e.0 e.1) entries.now) }
 {
     for entry in entries {
-        rows.push(output_row(alloc, plan, entry.key(), entry.group())?)?;
+        put_row(alloc, plan, entry.key(), entry.group(), values, builder)?;
     }
     Ok(())
 }
 
-// The rows of the entries of pages.
-fn page_rows(alloc: Global, plan: &KeptPlan, pages: &[Page]) -> Result<Vec<OutputRow>, AllocError>
-    ensures { IfOk result (λ rows. rows.items
-        ≡ map (λ e. output_row plan.now e.0 e.1) (entries_of pages.now)) }
+// Puts the rows of the entries of pages after others.
+fn put_pages(
+    alloc: Global,
+    plan: &KeptPlan,
+    pages: &[Page],
+    values: &mut Vec<Value>,
+    builder: &mut BatchBuilder,
+) -> Result<(), AllocError>
+    requires { builder.old.width ≡ length plan.now.list }
+    ensures width { builder.new.width ≡ builder.old.width }
+    ensures rows { OnOk result (builder.new.rows ≡ builder.old.rows
+        ++ map (λ e. output_row plan.now e.0 e.1) (entries_of pages.now)) }
 {
-    let mut rows = Vec::new(alloc);
     for page in pages {
-        put_rows(alloc, plan, page.entries(), &mut rows)?;
+        put_rows(alloc, plan, page.entries(), values, builder)?;
     }
-    Ok(rows)
+    Ok(())
+}
+
+// The first entry of pages, if there is one.
+fn first_entry(pages: &[Page]) -> Option<&Entry>
+    ensures { option_map (λ e. e.now) result ≡ slice_get (entries_of pages.now) 0 }
+{
+    for page in pages {
+        let first = page.entries().first();
+        if first.is_some() {
+            return first;
+        }
+    }
+    None
+}
+
+// The rows of the entries of pages, the first of which is given.
+fn page_rows(
+    alloc: Global,
+    plan: &KeptPlan,
+    first: &Entry,
+    pages: &[Page],
+) -> Result<Bag, AllocError>
+    ensures rows { IfOk result (λ bag. bag.rows
+        ≡ map (λ e. output_row plan.now e.0 e.1) (entries_of pages.now)) }
+    ensures width { IfOk result (λ bag. bag.width ≡ length plan.now.list) }
+{
+    let mut values = Vec::with_capacity(alloc, plan.list.len())?;
+    put_values(plan, first.key(), first.group(), &mut values)?;
+    let mut builder = builder_like(alloc, values.as_slice())?;
+    put_pages(alloc, plan, pages, &mut values, &mut builder)?;
+    let bag = bag_of(alloc, &builder)?;
+    Ok(bag)
 }
 
 // The row of the one group of no rows.
-fn empty_row(alloc: Global, plan: &KeptPlan) -> Result<Vec<OutputRow>, AllocError>
-    ensures { IfOk result (λ rows. rows.items
+fn empty_row(alloc: Global, plan: &KeptPlan) -> Result<Bag, AllocError>
+    ensures rows { IfOk result (λ bag. bag.rows
         ≡ output_row plan.now [] (no_rows (length plan.now.aggregates)) ∷ []) }
+    ensures width { IfOk result (λ bag. bag.width ≡ length plan.now.list) }
 {
     let none = Group::none(alloc, plan.aggregates.len())?;
-    let mut rows = Vec::new(alloc);
-    rows.push(output_row(alloc, plan, &[], &none)?)?;
-    Ok(rows)
+    let mut values = Vec::with_capacity(alloc, plan.list.len())?;
+    put_values(plan, &[], &none, &mut values)?;
+    let mut builder = builder_like(alloc, values.as_slice())?;
+    builder.push_row(alloc, values.as_slice(), none.standing())?;
+    let bag = bag_of(alloc, &builder)?;
+    Ok(bag)
 }
 
 // The rows of groups. Without GROUP BY the one group is there also where it has no row.
-fn output_rows(
-    alloc: Global,
-    plan: &KeptPlan,
-    groups: &Groups,
-) -> Result<Vec<OutputRow>, AllocError>
-    ensures { IfOk result (λ rows. rows.items ≡ output_rows plan.now groups.now) }
+fn output_rows(alloc: Global, plan: &KeptPlan, groups: &Groups) -> Result<Bag, AllocError>
+    ensures rows { IfOk result (λ bag. bag.rows ≡ output_rows plan.now groups.now) }
+    ensures width { IfOk result (λ bag. bag.width ≡ length plan.now.list) }
 {
-    let rows = page_rows(alloc, plan, groups.pages())?;
-    if plan.by.is_empty() && rows.is_empty() {
-        let rows = empty_row(alloc, plan)?;
-        return Ok(rows);
+    let pages = groups.pages();
+    if let Some(first) = first_entry(pages) {
+        let bag = page_rows(alloc, plan, first, pages)?;
+        return Ok(bag);
     }
-    Ok(rows)
+    if plan.by.is_empty() {
+        let bag = empty_row(alloc, plan)?;
+        return Ok(bag);
+    }
+    Ok(Bag::new(alloc, plan.list.len()))
 }
 
 /// The rows of groups: as a bag, those of the query over the table's rows that the groups stand
 /// for.
-pub(crate) fn shown_rows(
-    alloc: Global,
-    plan: &KeptPlan,
-    groups: &Groups,
-) -> Result<Vec<OutputRow>, AllocError>
-    ensures wide { IfOk result
-        (λ rows. All (λ r. length r.values ≡ length plan.now.list) rows.items) }
-    ensures rows { IfOk result (λ rows. (table : List (List Datum))
-        → StandsFor plan.now groups.now table → SameBag rows.items (query_rows plan.now table)) }
+pub(crate) fn shown_rows(alloc: Global, plan: &KeptPlan, groups: &Groups) -> Result<Bag, AllocError>
+    ensures width { IfOk result (λ bag. bag.width ≡ length plan.now.list) }
+    ensures rows { IfOk result (λ bag. (table : List (List Datum))
+        → StandsFor plan.now groups.now table → SameBag bag.rows (query_rows plan.now table)) }
 {
     // The pages' contract says that no two keys are the same.
     let _pages = groups.pages();
-    let rows = output_rows(alloc, plan, groups)?;
-    Ok(rows)
+    let bag = output_rows(alloc, plan, groups)?;
+    Ok(bag)
 }

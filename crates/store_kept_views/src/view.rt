@@ -6,7 +6,6 @@ ghost use Rattle.base_schema.specs.State.{State as Tables, table_rows};
 ghost use Rattle.plan_algebra.specs.KeptPlans.{query_rows};
 ghost use Rattle.store_kept_views.specs.Kept.{CanMoveView, IsKept};
 
-use crate::bag::bag_of;
 use crate::moving::{groups_after, groups_of};
 use crate::output::shown_rows;
 use base_columns::Bag;
@@ -100,8 +99,7 @@ impl View {
             → SameBag bag.rows (query_rows self.now.0 (table_rows tables self.now.0.table))) }
         ensures width { IfOk result (λ bag. bag.width ≡ length self.now.0.list) }
     {
-        let rows = shown_rows(alloc, &self.plan, &self.groups)?;
-        let bag = bag_of(alloc, self.plan.list.len(), &rows)?;
+        let bag = shown_rows(alloc, &self.plan, &self.groups)?;
         Ok(bag)
     }
 }

@@ -1,8 +1,0 @@
-use Rattle.std.proofs.Common.{◌≡◌}
-use Rattle.std.specs.Prelude.{take}
-use Rattle.base_row_laws.specs.Rows.{columns}
-use Rattle.base_value.specs.declared.value.Value.TheVariants.{Null}
-use Rattle.store_kept_views.proofs.output.values_at.Given as goal
-
-abbrev pub invariant-loop-place : goal.invariant-loop-place
-invariant-loop-place l = l.all.items ≡ columns Null (take l.place-index l.places) l.values
