@@ -277,6 +277,20 @@ fn figures_of(
     })
 }
 
+/// Appends what nodes of these runs give.
+fn put_figures(
+    alloc: Global,
+    figures: &mut Vec<NodeFigures>,
+    nodes: &[Node],
+    runs: &[NodeRun],
+) -> Result<(), AllocError> {
+    for (node, run) in nodes.iter().zip(runs.iter()) {
+        let own = figures_of(alloc, node, run, runs)?;
+        figures.push(own)?;
+    }
+    Ok(())
+}
+
 /// What nodes of these runs give.
 fn figures_of_runs(
     alloc: Global,
@@ -284,9 +298,7 @@ fn figures_of_runs(
     runs: &[NodeRun],
 ) -> Result<Vec<NodeFigures>, AllocError> {
     let mut figures = Vec::new(alloc);
-    for (node, run) in nodes.iter().zip(runs.iter()) {
-        figures.push(figures_of(alloc, node, run, runs)?)?;
-    }
+    put_figures(alloc, &mut figures, nodes, runs)?;
     Ok(figures)
 }
 
