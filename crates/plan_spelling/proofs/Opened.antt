@@ -1,6 +1,5 @@
 -- The spelling of an expression, node by node.
-use Rattle.std.proofs.Common.{◌≡◌, ℕ, List, [], ◌∷◌, ◌++◌, map, length, refl, ap, sym, ◌∙◌, append_assoc, append-nil}
-use Rattle.std.specs.List.{flat_map}
+use Rattle.std.proofs.Common.{◌≡◌, ℕ, List, [], ◌∷◌, map, ap, ◌∙◌}
 use Rattle.base_value.specs.declared.value.Value.{Value}
 use Rattle.expr_operators.specs.declared.operator.Comparison.{Comparison}
 use Rattle.expr_operators.specs.declared.operator.DatePart.{DatePart}

@@ -1,17 +1,15 @@
 -- Expressions, branches and operations from their spellings.
-use Rattle.std.proofs.Common.{◌≡◌, ℕ, List, [], ◌∷◌, ◌++◌, map, refl, ap, sym, ◌∙◌, unwrap_or, take, drop, length}
+use Rattle.std.proofs.Common.{◌≡◌, ℕ, List, [], ◌∷◌, ◌++◌, map, refl, ap, sym, ◌∙◌, take, drop, length}
 use Rattle.std.proofs.lemmas.List.{take_at, drop_at}
 use Rattle.std.specs.Prelude.{◌==◌, if◌then◌else◌, Option, None, Some, option_map}
-use Rattle.base_row_laws.specs.Bags.{Each}
 use Rattle.base_value.specs.declared.value.Value.{Value}
-use Rattle.expr_operators.specs.declared.operator.Arithmetic.{Arithmetic}
 use Rattle.expr_operators.specs.declared.operator.Comparison.{Comparison}
 use Rattle.expr_operators.specs.declared.operator.DatePart.{DatePart}
 use Rattle.expr_scalar.specs.declared.expr.Branch.{Branch}
 use Rattle.expr_scalar.specs.declared.expr.Expr.{Expr}
 use Rattle.expr_scalar.specs.declared.expr.Expr.TheVariants as e
 use Rattle.expr_scalar.specs.declared.expr.Operation.{Operation}
-use Rattle.expr_scalar.proofs.Induction.{Exprs, Branches, Operations, exprs, branches, operations, induction}
+use Rattle.expr_scalar.proofs.Induction.{exprs, branches, operations, induction}
 use Rattle.base_schema.specs.Tables.{table_name, table_of}
 use Rattle.base_schema.specs.declared.table.TableName.{TableName}
 use Rattle.base_schema.specs.declared.table.TableName.TheVariants as t
@@ -24,7 +22,7 @@ use Rattle.plan_algebra.specs.declared.kept_plan.KeptPlan.{KeptPlan}
 use Rattle.plan_algebra.specs.declared.node.Node.{Node}
 use Rattle.plan_algebra.specs.declared.node.Node.TheVariants as n
 use Rattle.plan_algebra.specs.KeptPlans.{plain_aggregate}
-use Rattle.plan_spelling.specs.Plans.{aggregate_spelling, function_number, kept_numbers, node_spelling, operation_number, pair_numbers, plan_spelling, value_spelling}
+use Rattle.plan_spelling.specs.Plans.{aggregate_spelling, function_number, kept_numbers, node_spelling, operation_number, pair_numbers, value_spelling}
 use Rattle.plan_spelling.specs.Exprs.{arithmetic_number, branch_spelling, comparison_number, expr_spelling, operation_spelling, part_number, spelled, value_numbers}
 use Rattle.plan_spelling.proofs.Opened.{spelling_Branch, spelling_Operation, spelling_Column, spelling_Literal, spelling_Negative, spelling_Arithmetic, spelling_Case, spelling_Extract, spelling_Substring, spelling_Compare, spelling_Between, spelling_Like, spelling_InList, spelling_IsNull, spelling_Not, spelling_All, spelling_Any, spelling_IsMarked}
 use Rattle.plan_spelling.proofs.NodeSteps.{spelled_Kept, spelled_Scan, spelled_Domain, spelled_Select, spelled_Project, spelled_Join, spelled_Outer, spelled_Mark, spelled_Single, spelled_Group, spelled_Fill, spelled_Distinct, spelled_Set}

@@ -1,6 +1,6 @@
 -- Values and operators from their numbers.
-use Rattle.std.proofs.Common.{◌≡◌, ℕ, zero, suc, List, [], ◌∷◌, ◌++◌, refl, ap, sym, ◌∙◌, unwrap_or}
-use Rattle.std.specs.Prelude.{◌==◌, if◌then◌else◌, Option, None, Some, ℤ, pos, negsuc, option_map, true, false}
+use Rattle.std.proofs.Common.{◌≡◌, ℕ, zero, suc, List, [], ◌∷◌, refl, ap}
+use Rattle.std.specs.Prelude.{◌==◌, if◌then◌else◌, Option, None, Some, ℤ, pos, negsuc, true, false}
 use Rattle.base_set_rows.specs.declared.kind.ClassKind.TheVariants.{Intersect, Except}
 use Rattle.base_set_rows.specs.declared.kind.SetOperation.{SetOperation}
 use Rattle.base_set_rows.specs.declared.kind.SetOperation.TheVariants.{Union, Classes}
@@ -17,7 +17,7 @@ use Rattle.expr_operators.specs.declared.operator.DatePart.TheVariants.{Year, Mo
 use Rattle.expr_aggregates.specs.declared.function.AggregateFunction.{AggregateFunction}
 use Rattle.expr_aggregates.specs.declared.function.AggregateFunction.TheVariants.{Count, CountDistinct, Sum, Avg, Min, Max}
 use Rattle.plan_spelling.specs.Plans.{function_number, operation_number, pair_numbers}
-use Rattle.plan_spelling.specs.Exprs.{arithmetic_number, comparison_number, fault_number, part_number, sign_number, value_numbers}
+use Rattle.plan_spelling.specs.Exprs.{arithmetic_number, comparison_number, fault_number, part_number, value_numbers}
 
 abbrev pub arithmetic_of : ℕ → Arithmetic
 arithmetic_of n = if n == 0 then Add else (if n == 1 then Subtract else (if n == 2 then Multiply else Divide))

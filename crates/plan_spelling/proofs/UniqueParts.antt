@@ -1,27 +1,17 @@
 -- No other part is spelled as a part is, whatever stands behind.
-use Rattle.std.proofs.Common.{◌≡◌, ℕ, List, [], ◌∷◌, ◌++◌, map, refl, ap, sym, ◌∙◌, unwrap_or}
-use Rattle.std.specs.Prelude.{◌==◌, if◌then◌else◌, Option, None, Some, option_map}
+use Rattle.std.proofs.Common.{◌≡◌, List, [], ◌∷◌, ◌++◌, map, ap, sym, ◌∙◌, unwrap_or}
 use Rattle.base_row_laws.specs.Bags.{Each}
 use Rattle.base_value.specs.declared.value.Value.{Value}
-use Rattle.expr_operators.specs.declared.operator.Arithmetic.{Arithmetic}
-use Rattle.expr_operators.specs.declared.operator.Comparison.{Comparison}
-use Rattle.expr_operators.specs.declared.operator.DatePart.{DatePart}
-use Rattle.expr_scalar.specs.declared.expr.Branch.{Branch}
 use Rattle.expr_scalar.specs.declared.expr.Expr.{Expr}
-use Rattle.expr_scalar.specs.declared.expr.Expr.TheVariants as e
-use Rattle.expr_scalar.specs.declared.expr.Operation.{Operation}
 use Rattle.expr_scalar.proofs.Induction.{Exprs, Branches, Operations, exprs, branches, operations, induction}
-use Rattle.base_schema.specs.Tables.{table_name, table_of}
-use Rattle.base_schema.specs.declared.table.TableName.{TableName}
-use Rattle.base_schema.specs.declared.table.TableName.TheVariants as t
 use Rattle.plan_algebra.specs.declared.aggregate.Aggregate.{Aggregate}
 use Rattle.plan_algebra.specs.declared.aggregate.Aggregate.TheVariants.{CountRows, Of}
 use Rattle.plan_algebra.specs.declared.node.Node.{Node}
 use Rattle.plan_algebra.specs.declared.node.Node.TheVariants as n
 use Rattle.plan_spelling.specs.Laws.{SpellingIsUnique}
 use Rattle.plan_algebra.specs.KeptPlans.{plain_aggregate}
-use Rattle.plan_spelling.specs.Plans.{aggregate_spelling, function_number, kept_numbers, node_spelling, pair_numbers, plan_spelling, value_spelling}
-use Rattle.plan_spelling.specs.Exprs.{arithmetic_number, branch_spelling, comparison_number, expr_spelling, operation_spelling, part_number, spelled, value_numbers}
+use Rattle.plan_spelling.specs.Plans.{node_spelling, plan_spelling}
+use Rattle.plan_spelling.specs.Exprs.{spelled}
 use Rattle.plan_spelling.proofs.Lists.{Unique, spelled_unique}
 use Rattle.plan_spelling.proofs.Parts.{Part, expr, branch, operation, aggregate, value, node, part_spelling, rebuilt, Described, a_column, a_literal, a_negative, a_chain, a_case, an_extract, a_substring, a_comparison, a_between, a_like, a_list, a_null_test, a_not, an_all, an_any, a_mark_test, a_branch, an_operation, an_aggregate, a_value, a_node, described}
 

@@ -14,7 +14,7 @@ use Rattle.plan_algebra.specs.declared.node.Node.TheVariants as n
 use Rattle.base_schema.specs.Tables.{table_name}
 use Rattle.base_schema.specs.declared.table.TableName.{TableName}
 use Rattle.plan_spelling.proofs.NodeSteps.{spelled_Kept, spelled_Scan, spelled_Domain, spelled_Select, spelled_Project, spelled_Join, spelled_Outer, spelled_Mark, spelled_Single, spelled_Group, spelled_Fill, spelled_Distinct, spelled_Set}
-use Rattle.plan_spelling.specs.Exprs.{branch_spelling, expr_spelling, operation_spelling, parts, spelled}
+use Rattle.plan_spelling.specs.Exprs.{branch_spelling, expr_spelling, operation_spelling, parts}
 use Rattle.plan_algebra.specs.KeptPlans.{plain_aggregate}
 use Rattle.plan_spelling.specs.Plans.{aggregate_spelling, kept_parts, node_spelling, pair_numbers, plan_spelling, value_spelling}
 use Rattle.plan_spelling.proofs.Lists.{parts_of}

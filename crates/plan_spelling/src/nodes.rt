@@ -1,16 +1,20 @@
 //! The numbers that spell a flat plan.
-ghost use Rattle.std.specs.Prelude.{◌≡◌, ◌++◌, IfOk, OnOk};
+ghost use Rattle.std.specs.Prelude.{◌≡◌, ◌++◌, ◌∷◌, ◌+◌, ◌*◌, length, IfOk, OnOk};
 ghost use Rattle.std.specs.List.{flat_map};
 ghost use Rattle.plan_algebra.specs.KeptPlans.{plain_aggregate};
-ghost use Rattle.plan_algebra.specs.declared.node.Node.TheVariants.{Kept};
+ghost use Rattle.plan_algebra.specs.declared.node.Node.TheVariants.{Domain, Fill, Group, Kept, Scan};
+ghost use Rattle.plan_spelling.specs.Exprs.{expr_spelling};
 ghost use Rattle.plan_spelling.specs.Plans as spec;
-ghost use Rattle.plan_spelling.specs.Plans.{aggregate_spelling, node_spelling, value_spelling};
+ghost use Rattle.plan_spelling.specs.Plans.{aggregate_spelling, node_spelling, pair_numbers};
+ghost use Rattle.plan_spelling.specs.Plans.{value_spelling};
 
 use crate::exprs::{put_expr, put_exprs};
 use crate::values::{
     aggregate_number, operation_number, put_bytes, put_pairs, put_places, put_value,
 };
+use base_schema::TableName;
 use base_value::Value;
+use expr_scalar::Expr;
 use plan_algebra::{Aggregate, KeptAggregate, KeptPlan, Node};
 use std::alloc::{AllocError, Global};
 
@@ -105,21 +109,93 @@ fn put_kept(numbers: &mut Vec<u128>, number: u32, plan: &KeptPlan) -> Result<(),
 }
 
 #[tactic(auto, using(crate::proofs::Written::node_written))]
+fn put_scan(numbers: &mut Vec<u128>, table: TableName) -> Result<(), AllocError>
+    ensures { OnOk result (numbers.new.items ≡ numbers.old.items ++ node_spelling (Scan table)) }
+{
+    let name = table.name().as_bytes();
+    numbers.extend_from_slice(&[name.len() as u128 + 1, 21])?;
+    put_bytes(numbers, name)?;
+    numbers.extend_from_slice(&[0])
+}
+
+#[tactic(auto, using(crate::proofs::Written::node_written))]
+fn put_domain(numbers: &mut Vec<u128>, i: usize, places: &[u32]) -> Result<(), AllocError>
+    ensures { OnOk result (numbers.new.items
+        ≡ numbers.old.items ++ node_spelling (Domain i places.now)) }
+{
+    numbers.extend_from_slice(&[places.len() as u128 + 2, 22, i as u128])?;
+    put_places(numbers, places)?;
+    numbers.extend_from_slice(&[0])
+}
+
+/// Appends what spells a join or a mark, by the number of its kind.
+fn put_pairing(
+    numbers: &mut Vec<u128>,
+    kind: u128,
+    i: usize,
+    j: usize,
+    matched: &[(u32, u32)],
+    e: &Expr,
+) -> Result<(), AllocError>
+    ensures { OnOk result (numbers.new.items ≡ numbers.old.items ++ (length matched.now * 2 + 3)
+        ∷ kind ∷ i ∷ j ∷ (pair_numbers matched.now ++ 1 ∷ expr_spelling e.now)) }
+{
+    let count = matched.len() as u128 * 2 + 3;
+    numbers.extend_from_slice(&[count, kind, i as u128, j as u128])?;
+    put_pairs(numbers, matched)?;
+    numbers.push(1)?;
+    put_expr(numbers, e)
+}
+
+/// Appends what spells a join whose pairs have one number more, by the number of its kind.
+fn put_matched(
+    numbers: &mut Vec<u128>,
+    kind: u128,
+    i: usize,
+    j: usize,
+    matched: &[(u32, u32)],
+    more: u32,
+) -> Result<(), AllocError>
+    ensures { OnOk result (numbers.new.items ≡ numbers.old.items ++ (length matched.now * 2 + 4)
+        ∷ kind ∷ i ∷ j ∷ more ∷ pair_numbers matched.now) }
+{
+    let count = matched.len() as u128 * 2 + 4;
+    numbers.extend_from_slice(&[count, kind, i as u128, j as u128, more as u128])?;
+    put_pairs(numbers, matched)
+}
+
+#[tactic(auto, using(crate::proofs::Written::node_written))]
+fn put_group(
+    numbers: &mut Vec<u128>,
+    i: usize,
+    by: &[u32],
+    aggregates: &[Aggregate],
+) -> Result<(), AllocError>
+    ensures { OnOk result (numbers.new.items
+        ≡ numbers.old.items ++ node_spelling (Group i by.now aggregates.now)) }
+{
+    numbers.extend_from_slice(&[by.len() as u128 + 2, 29, i as u128])?;
+    put_places(numbers, by)?;
+    numbers.push(aggregates.len() as u128)?;
+    put_aggregates(numbers, aggregates)
+}
+
+#[tactic(auto, using(crate::proofs::Written::node_written))]
+fn put_fill(numbers: &mut Vec<u128>, i: usize, j: usize, empty: &[Value]) -> Result<(), AllocError>
+    ensures { OnOk result (numbers.new.items
+        ≡ numbers.old.items ++ node_spelling (Fill i j empty.now)) }
+{
+    numbers.extend_from_slice(&[3, 30, i as u128, j as u128, empty.len() as u128])?;
+    put_values(numbers, empty)
+}
+
+#[tactic(auto, using(crate::proofs::Written::node_written))]
 fn put_node(numbers: &mut Vec<u128>, node: &Node) -> Result<(), AllocError>
     ensures { OnOk result (numbers.new.items ≡ numbers.old.items ++ node_spelling node.now) }
 {
     match node {
-        Node::Scan(table) => {
-            let name = table.name().as_bytes();
-            numbers.extend_from_slice(&[name.len() as u128 + 1, 21])?;
-            put_bytes(numbers, name)?;
-            numbers.extend_from_slice(&[0])
-        }
-        Node::Domain(i, cs) => {
-            numbers.extend_from_slice(&[cs.len() as u128 + 2, 22, *i as u128])?;
-            put_places(numbers, cs.as_slice())?;
-            numbers.extend_from_slice(&[0])
-        }
+        Node::Scan(table) => put_scan(numbers, *table),
+        Node::Domain(i, places) => put_domain(numbers, *i, places.as_slice()),
         Node::Select(i, e) => {
             numbers.extend_from_slice(&[2, 23, *i as u128, 1])?;
             put_expr(numbers, e.get())
@@ -129,43 +205,24 @@ fn put_node(numbers: &mut Vec<u128>, node: &Node) -> Result<(), AllocError>
             put_exprs(numbers, es.as_slice())
         }
         Node::Join(i, j, matched, e) => {
-            let count = matched.len() as u128 * 2 + 3;
-            numbers.extend_from_slice(&[count, 25, *i as u128, *j as u128])?;
-            put_pairs(numbers, matched.as_slice())?;
-            numbers.push(1)?;
-            put_expr(numbers, e.get())
+            put_pairing(numbers, 25, *i, *j, matched.as_slice(), e.get())
         }
         Node::Outer(i, j, matched, nulls, e) => {
-            let count = matched.len() as u128 * 2 + 4;
-            numbers.extend_from_slice(&[count, 26, *i as u128, *j as u128, *nulls as u128])?;
-            put_pairs(numbers, matched.as_slice())?;
+            put_matched(numbers, 26, *i, *j, matched.as_slice(), *nulls)?;
             numbers.push(1)?;
             put_expr(numbers, e.get())
         }
         Node::Mark(i, j, matched, e) => {
-            let count = matched.len() as u128 * 2 + 3;
-            numbers.extend_from_slice(&[count, 27, *i as u128, *j as u128])?;
-            put_pairs(numbers, matched.as_slice())?;
-            numbers.push(1)?;
-            put_expr(numbers, e.get())
+            put_pairing(numbers, 27, *i, *j, matched.as_slice(), e.get())
         }
         Node::Single(i, j, matched, column) => {
-            let count = matched.len() as u128 * 2 + 4;
-            numbers.extend_from_slice(&[count, 28, *i as u128, *j as u128, *column as u128])?;
-            put_pairs(numbers, matched.as_slice())?;
+            put_matched(numbers, 28, *i, *j, matched.as_slice(), *column)?;
             numbers.extend_from_slice(&[0])
         }
         Node::Group(i, by, aggregates) => {
-            numbers.extend_from_slice(&[by.len() as u128 + 2, 29, *i as u128])?;
-            put_places(numbers, by.as_slice())?;
-            numbers.push(aggregates.len() as u128)?;
-            put_aggregates(numbers, aggregates.as_slice())
+            put_group(numbers, *i, by.as_slice(), aggregates.as_slice())
         }
-        Node::Fill(i, j, empty) => {
-            let count = empty.len() as u128;
-            numbers.extend_from_slice(&[3, 30, *i as u128, *j as u128, count])?;
-            put_values(numbers, empty.as_slice())
-        }
+        Node::Fill(i, j, empty) => put_fill(numbers, *i, *j, empty.as_slice()),
         Node::Distinct(i) => numbers.extend_from_slice(&[2, 31, *i as u128, 0]),
         Node::Set(i, j, operation) => {
             let operation = operation_number(*operation);
