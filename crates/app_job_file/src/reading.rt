@@ -305,8 +305,9 @@ fn read_lines(alloc: Global, bytes: &[u8]) -> Result<Job, JobFileError>
 }
 
 /// What a job's file asks for: its lines `session NAME`, at most one line `journal NAME`,
-/// lines `keep NAME FILE`, and `before insert N`, `beside insert N`, `send1 insert N` and `send2 insert N`, or `delete N` in
-/// place of `insert N`, N having one to nine digits. Empty lines are skipped.
+/// lines `keep NAME FILE`, and `before insert N`, `beside insert N`, `send1 insert N` and
+/// `send2 insert N`, or `delete N` in place of `insert N`, N having one to nine digits. Empty lines
+/// are skipped.
 ///
 /// # Errors
 ///

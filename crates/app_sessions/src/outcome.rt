@@ -8,7 +8,6 @@ use base_value::{Fault, Row};
 use sqlite_items::Items;
 
 /// What comes of a statement.
-#[derive(Drop)]
 pub enum Outcome {
     /// The rows of an answer, in order.
     Rows(Items<Row>),
@@ -20,6 +19,19 @@ pub enum Outcome {
     Refused(Refusal),
     /// It is refused for the version that it names.
     VersionRefused(VersionRefusal),
+}
+
+impl Drop for Outcome {
+    #[inline]
+    fn drop(self) {
+        match self {
+            Outcome::Rows(kept) => drop(kept),
+            Outcome::Done => {}
+            Outcome::Accepted(_) => {}
+            Outcome::Refused(kept) => drop(kept),
+            Outcome::VersionRefused(kept) => drop(kept),
+        }
+    }
 }
 
 impl Outcome {

@@ -37,7 +37,6 @@ pub enum Turn {
 
 /// The statements of a script in their order, with views of their own, and the text so far. After
 /// memory ran out, each turn answers that again.
-#[derive(Drop)]
 pub struct Session {
     alloc: Global,
     steps: Items<Statement>,
@@ -49,6 +48,29 @@ pub struct Session {
     is_clean: bool,
     shows_rows: bool,
     is_lost: bool,
+}
+
+impl Drop for Session {
+    #[inline]
+    fn drop(self) {
+        let Session {
+            alloc: _,
+            steps,
+            answered: _,
+            versions,
+            first_views,
+            views,
+            text,
+            is_clean: _,
+            shows_rows: _,
+            is_lost: _,
+        } = self;
+        drop(steps);
+        drop(versions);
+        drop(first_views);
+        drop(views);
+        drop(text);
+    }
 }
 
 /// What comes of a statement that is no refresh, and what it does to the views.

@@ -30,9 +30,16 @@ pub(crate) enum Kept {
 
 /// Values, seen as their list. Numbers of one scale and 64 bits, dates, and texts are kept in
 /// little room, and nulls among them as marks.
-#[derive(Drop)]
 pub struct Column {
     pub(crate) kept: Kept,
+}
+
+impl Drop for Column {
+    #[inline]
+    fn drop(self) {
+        let Column { kept } = self;
+        drop(kept);
+    }
 }
 
 impl Model for Column {

@@ -30,9 +30,16 @@ pub enum ColumnForm {
 
 /// Values, seen as their list. The first value that is not null and doesn't fit the column's form
 /// gives it a wider one. A push that fails leaves it as before.
-#[derive(Drop)]
 pub struct ColumnBuilder {
     values: MarkedForm,
+}
+
+impl Drop for ColumnBuilder {
+    #[inline]
+    fn drop(self) {
+        let ColumnBuilder { values } = self;
+        drop(values);
+    }
 }
 
 impl Model for ColumnBuilder {

@@ -20,13 +20,25 @@ use base_value::Value;
 use std::alloc::{AllocError, Global};
 
 // The typed forms hold neither null nor fault, and numbers of one scale and 64 bits.
-#[derive(Drop)]
 pub(crate) enum Form {
     Numbers(Scale, Vec<i64>),
     Dates(Vec<CivilDate>),
     Texts(Texts),
     Coded(Codes),
     Values(Vec<Value>),
+}
+
+impl Drop for Form {
+    #[inline]
+    fn drop(self) {
+        match self {
+            Form::Numbers(_, kept) => drop(kept),
+            Form::Dates(kept) => drop(kept),
+            Form::Texts(kept) => drop(kept),
+            Form::Coded(kept) => drop(kept),
+            Form::Values(kept) => drop(kept),
+        }
+    }
 }
 
 /// How many values there are.

@@ -26,10 +26,18 @@ use std::marker::Model;
 
 /// Values, seen as their list. A value is null where its place is marked, whatever the form has
 /// there. Marks past the end mean nothing.
-#[derive(Drop)]
 pub(crate) struct MarkedForm {
     pub(crate) form: Form,
     pub(crate) marks: Marks,
+}
+
+impl Drop for MarkedForm {
+    #[inline]
+    fn drop(self) {
+        let MarkedForm { form, marks } = self;
+        drop(form);
+        drop(marks);
+    }
 }
 
 impl Model for MarkedForm {

@@ -12,10 +12,19 @@ use std::alloc::{AllocError, Global};
 use std::marker::Model;
 
 // Standings that are counted where all are True.
-#[derive(Drop)]
 pub(crate) enum Counted {
     AllTrue(usize),
     Each(Vec<Standing>),
+}
+
+impl Drop for Counted {
+    #[inline]
+    fn drop(self) {
+        match self {
+            Counted::AllTrue(_) => {}
+            Counted::Each(kept) => drop(kept),
+        }
+    }
 }
 
 /// Standings, seen as their list.

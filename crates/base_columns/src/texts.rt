@@ -10,10 +10,19 @@ use std::alloc::{AllocError, Global};
 use std::marker::Model;
 
 // The bytes of texts: a vector that grows, or a text that shares of single ones are taken from.
-#[derive(Drop)]
 pub(crate) enum Buffer {
     Own(Vec<u8>),
     Shared(Text),
+}
+
+impl Drop for Buffer {
+    #[inline]
+    fn drop(self) {
+        match self {
+            Buffer::Own(kept) => drop(kept),
+            Buffer::Shared(kept) => drop(kept),
+        }
+    }
 }
 
 /// Texts, seen as the list of them. A push that fails leaves it as before.

@@ -12,7 +12,7 @@ use std::cmp::Ordering;
 /// A value of a row. The derived comparisons are those of identity: null is identical to null, and
 /// a fault to the same fault. The derived order is the ascending one of ORDER BY within a column,
 /// null last.
-#[derive(PartialEq, Eq, PartialOrd, Ord, Hash, Drop)]
+#[derive(PartialEq, Eq, PartialOrd, Ord, Hash)]
 pub enum Value {
     Fault(Fault),
     /// A coefficient c at a scale s, which stand for c / 10^s.
@@ -20,6 +20,19 @@ pub enum Value {
     Text(Text),
     Date(CivilDate),
     Null,
+}
+
+impl Drop for Value {
+    #[inline]
+    fn drop(self) {
+        match self {
+            Value::Fault(_) => {}
+            Value::Number(_, _) => {}
+            Value::Text(kept) => drop(kept),
+            Value::Date(_) => {}
+            Value::Null => {}
+        }
+    }
 }
 
 // A bag holds its values side by side, so their size is what a row costs.

@@ -8,7 +8,6 @@ use sqlite_items::{Boxed, Items};
 /// An expression. Each has a value and a truth: a condition's value is null, and any other one's
 /// truth is Unknown.
 #[cycle(expr)]
-#[derive(Drop)]
 pub enum Expr {
     /// The value at a place of the row; null where the row has no such place.
     Column(u32),
@@ -45,6 +44,50 @@ pub enum Expr {
     Any(Items<Expr>),
     /// The truth that a mark stands for: 1 for True, 0 for False, null for Unknown, and a fault.
     IsMarked(Boxed<Expr>),
+}
+
+impl Drop for Expr {
+    #[cycle(drop)]
+    #[inline]
+    fn drop(self) {
+        match self {
+            Expr::Column(_) => {}
+            Expr::Literal(kept) => drop(kept),
+            Expr::Negative(kept) => drop(kept),
+            Expr::Arithmetic(first, second) => {
+                drop(first);
+                drop(second);
+            }
+            Expr::Case(_, first, second) => {
+                drop(first);
+                drop(second);
+            }
+            Expr::Extract(_, kept) => drop(kept),
+            Expr::Substring(kept, _, _) => drop(kept),
+            Expr::Compare(_, first, second) => {
+                drop(first);
+                drop(second);
+            }
+            Expr::Between(first, second, third) => {
+                drop(first);
+                drop(second);
+                drop(third);
+            }
+            Expr::Like(first, second) => {
+                drop(first);
+                drop(second);
+            }
+            Expr::InList(first, second) => {
+                drop(first);
+                drop(second);
+            }
+            Expr::IsNull(kept) => drop(kept),
+            Expr::Not(kept) => drop(kept),
+            Expr::All(kept) => drop(kept),
+            Expr::Any(kept) => drop(kept),
+            Expr::IsMarked(kept) => drop(kept),
+        }
+    }
 }
 
 /// A branch of a CASE.

@@ -10,13 +10,22 @@ use sqlite_items::{Boxed, Items};
 use std::alloc::{AllocError, Global};
 
 /// An aggregate of a group's rows.
-#[derive(Drop)]
 pub enum Aggregate {
     /// How many rows there are.
     CountRows,
     /// The function, the scale of its argument's numbers (0 where it has none), and the argument,
     /// read from each row.
     Of(AggregateFunction, Scale, Boxed<Expr>),
+}
+
+impl Drop for Aggregate {
+    #[inline]
+    fn drop(self) {
+        match self {
+            Aggregate::CountRows => {}
+            Aggregate::Of(_, _, kept) => drop(kept),
+        }
+    }
 }
 
 impl Aggregate {

@@ -14,7 +14,6 @@ use sqlite_items::{Boxed, Items};
 use std::alloc::{AllocError, Global};
 
 /// An aggregate that is kept.
-#[derive(Drop)]
 pub enum KeptAggregate {
     /// `count(*)`.
     CountRows,
@@ -24,9 +23,19 @@ pub enum KeptAggregate {
     Sum(Scale, Boxed<Expr>),
 }
 
+impl Drop for KeptAggregate {
+    #[inline]
+    fn drop(self) {
+        match self {
+            KeptAggregate::CountRows => {}
+            KeptAggregate::Count(kept) => drop(kept),
+            KeptAggregate::Sum(_, kept) => drop(kept),
+        }
+    }
+}
+
 /// A query of one table: WHERE, the GROUP BY columns, the aggregates, and which columns of a
 /// group's row, which are the GROUP BY columns and then the aggregates, it shows.
-#[derive(Drop)]
 pub struct KeptPlan {
     /// The table.
     pub table: TableName,
@@ -38,6 +47,23 @@ pub struct KeptPlan {
     pub aggregates: Items<KeptAggregate>,
     /// The places of the columns shown in a group's row.
     pub list: Items<u32>,
+}
+
+impl Drop for KeptPlan {
+    #[inline]
+    fn drop(self) {
+        let KeptPlan {
+            table: _,
+            condition,
+            by,
+            aggregates,
+            list,
+        } = self;
+        drop(condition);
+        drop(by);
+        drop(aggregates);
+        drop(list);
+    }
 }
 
 fn copied_aggregate(alloc: Global, aggregate: &KeptAggregate) -> Result<KeptAggregate, AllocError>

@@ -16,7 +16,6 @@ pub type NodeId = usize;
 /// Pairs match a column of the left node with one of the right node: a left row's partners are the
 /// right rows whose matched columns are identical to its own. The matched columns of the right row
 /// are dropped from the result.
-#[derive(Drop)]
 pub enum Node {
     /// The rows of a table.
     Scan(TableName),
@@ -47,4 +46,37 @@ pub enum Node {
     Distinct(NodeId),
     /// A set operation of the left and the right node.
     Set(NodeId, NodeId, SetOperation),
+}
+
+impl Drop for Node {
+    #[inline]
+    fn drop(self) {
+        match self {
+            Node::Scan(_) => {}
+            Node::Kept(_, kept) => drop(kept),
+            Node::Domain(_, kept) => drop(kept),
+            Node::Select(_, kept) => drop(kept),
+            Node::Project(_, kept) => drop(kept),
+            Node::Join(_, _, first, second) => {
+                drop(first);
+                drop(second);
+            }
+            Node::Outer(_, _, first, _, second) => {
+                drop(first);
+                drop(second);
+            }
+            Node::Mark(_, _, first, second) => {
+                drop(first);
+                drop(second);
+            }
+            Node::Single(_, _, kept, _) => drop(kept),
+            Node::Group(_, first, second) => {
+                drop(first);
+                drop(second);
+            }
+            Node::Fill(_, _, kept) => drop(kept),
+            Node::Distinct(_) => {}
+            Node::Set(_, _, _) => {}
+        }
+    }
 }

@@ -10,12 +10,21 @@ use std::alloc::{AllocError, Global};
 use std::marker::Model;
 
 // Which rows of a segment are there.
-#[derive(Drop)]
 enum Live {
     // Each of them.
     Whole,
     // Those at these places, in this order.
     At(Items<u32>),
+}
+
+impl Drop for Live {
+    #[inline]
+    fn drop(self) {
+        match self {
+            Live::Whole => {}
+            Live::At(kept) => drop(kept),
+        }
+    }
 }
 
 /// A part of a table: a share of a stored segment, and which of its rows are there. It is seen as

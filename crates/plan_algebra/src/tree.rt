@@ -11,7 +11,6 @@ use sqlite_items::{Boxed, Items};
 use std::alloc::AllocError;
 
 /// What a right side reads of what stands to its left.
-#[derive(Drop)]
 pub enum Side {
     /// Nothing: its own tree is over a domain row of no columns.
     Closed,
@@ -19,6 +18,17 @@ pub enum Side {
     Shared,
     /// These columns of the domain row and the left row, which are its own domain row.
     Dependent(Items<u32>),
+}
+
+impl Drop for Side {
+    #[inline]
+    fn drop(self) {
+        match self {
+            Side::Closed => {}
+            Side::Shared => {}
+            Side::Dependent(kept) => drop(kept),
+        }
+    }
 }
 
 /// A tree over a domain row d. Its rows are its own columns; its expressions read the columns of d,

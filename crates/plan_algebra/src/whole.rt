@@ -19,7 +19,6 @@ use std::sync::ledger::Ledger;
 
 /// The rows of the eight tables, each of its table's kinds. A scan hands out shares of their
 /// segments.
-#[derive(Drop)]
 pub struct WholeTables {
     region: Rows,
     nation: Rows,
@@ -29,6 +28,30 @@ pub struct WholeTables {
     customer: Rows,
     orders: Rows,
     lineitem: Rows,
+}
+
+impl Drop for WholeTables {
+    #[inline]
+    fn drop(self) {
+        let WholeTables {
+            region,
+            nation,
+            part,
+            supplier,
+            partsupp,
+            customer,
+            orders,
+            lineitem,
+        } = self;
+        drop(region);
+        drop(nation);
+        drop(part);
+        drop(supplier);
+        drop(partsupp);
+        drop(customer);
+        drop(orders);
+        drop(lineitem);
+    }
 }
 
 impl Model for WholeTables {

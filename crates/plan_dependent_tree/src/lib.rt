@@ -4,9 +4,10 @@
 
 mod kept_domain;
 mod outer;
+mod query;
 mod sets;
 mod so_far;
 mod tree;
 
 pub use plan_dependent_nodes::OuterColumn;
-pub use tree::{depend, depend_under};
+pub use query::{depend, depend_under};

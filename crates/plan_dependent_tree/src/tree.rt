@@ -1,11 +1,9 @@
 //! The tree of each part of a query.
-ghost use Rattle.std.specs.Prelude.{◌≡◌, ◌+◌, List, [], length, map, IfOk};
-ghost use Rattle.expr_scalar.specs.declared.kind.Kind.{Kind};
-ghost use Rattle.sql_bound_query.specs.Typing.{IsWellTyped, block_kinds, from_kinds};
+ghost use Rattle.std.specs.Prelude.{◌≡◌, ◌+◌, [], length, map, IfOk};
+ghost use Rattle.sql_bound_query.specs.Typing.{block_kinds, from_kinds};
 ghost use Rattle.plan_kept_queries.specs.Scans.{derived_tables, tables, tables_of_source};
 ghost use Rattle.plan_kept_queries.specs.Scans.{tables_of_input};
 ghost use Rattle.plan_kept_queries.specs.Scans.{tables_of_expr, tables_of_aggregate, joined_tables};
-ghost use Rattle.plan_dependent_nodes.specs.Dependence.{IsTreeOf};
 ghost use Rattle.plan_dependent_nodes.specs.FromGrowth.{IsSourceTree, IsRightSource, IsKept};
 ghost use Rattle.plan_dependent_nodes.specs.FromGrowth.{KeepsRight};
 ghost use Rattle.plan_dependent_nodes.specs.Growth.{from_of, block_of, closed_of, IsTree};
@@ -32,41 +30,13 @@ use plan_dependent_nodes::{
     outer_places, over_places, place_of, projected, right_places, selected, table_rows, trimmed,
     valued,
 };
-use sql_bound_query::{BoundAggregate, BoundBlock, BoundExpr, BoundQuery, BoundSource, Input};
+use sql_bound_query::{BoundAggregate, BoundBlock, BoundExpr, BoundSource, Input};
 use sqlite_items::{Boxed, Items};
 use std::alloc::{AllocError, Global};
 
-/// The dependent tree of a query.
-///
-/// EXISTS, IN and ANY become marks and scalar subqueries single values, attached to the rows of
-/// FROM one after the other; an expression is then read from the flat row of the domain's columns,
-/// the row's own and these. A subquery's domain row has just the columns of the rows around that it
-/// reads.
-pub fn depend(alloc: Global, query: &BoundQuery) -> Result<Boxed<DepTree>, AllocError>
-    requires { (kinds : List Kind) × IsWellTyped query.now.block kinds }
-    ensures { IfOk result (IsTreeOf query.now.block []) }
-{
-    let tree = depend_under(alloc, query.block.get(), &[])?;
-    Ok(tree)
-}
-
-/// The dependent tree of a query inside others, over the domain row of these columns of the rows
-/// around.
-pub fn depend_under(
-    alloc: Global,
-    q: &BoundBlock,
-    outer: &[OuterColumn],
-) -> Result<Boxed<DepTree>, AllocError>
-    requires { QueryIsSupplied q.now outer.now }
-    ensures { IfOk result (IsTreeOf q.now outer.now) }
-{
-    let start = u32::try_from(outer.len()).map_err(|_| AllocError)?;
-    let rows = block(alloc, q, outer, start)?;
-    Ok(rows.tree)
-}
-
+// The rows of a query's block under the rows around it.
 #[cycle(depend)]
-fn block(
+pub(crate) fn block(
     alloc: Global,
     q: &BoundBlock,
     outer: &[OuterColumn],

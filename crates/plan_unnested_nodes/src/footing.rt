@@ -11,7 +11,6 @@ use sqlite_items::Items;
 use std::alloc::{AllocError, Global};
 
 /// Where the rows are that a tree is lowered over.
-#[derive(Drop)]
 pub enum FootingRows {
     /// The one row of no columns, for which no node stands.
     One,
@@ -20,6 +19,17 @@ pub enum FootingRows {
     /// The values of this node at these columns, identical ones once. Their node is put once another
     /// node reads it.
     Due(NodeId, Items<u32>),
+}
+
+impl Drop for FootingRows {
+    #[inline]
+    fn drop(self) {
+        match self {
+            FootingRows::One => {}
+            FootingRows::Node(_, _) => {}
+            FootingRows::Due(_, kept) => drop(kept),
+        }
+    }
 }
 
 /// The rows that a tree is lowered over, a domain, and which of their columns come unchanged from a

@@ -478,9 +478,8 @@ fn notes_of_domain(
     Ok(notes)
 }
 
-/// The rows of a right side that depends on these columns of its left side, with notes of those that
-/// come unchanged from a table, unless the domain is to be kept. One that depends on no columns is
-/// closed.
+/// The rows of a right side that depends on these columns of its left side, with notes of those
+/// that come unchanged from a table, unless the domain is to be kept. One of no columns is closed.
 pub fn own_footing(
     alloc: Global,
     builder: &Builder,

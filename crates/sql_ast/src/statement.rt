@@ -15,7 +15,6 @@ pub struct NamedKey {
 }
 
 /// A query of WITH, which its statement knows by a name.
-#[derive(Drop)]
 pub struct WithQuery {
     /// Its name.
     pub name: Name,
@@ -25,9 +24,22 @@ pub struct WithQuery {
     pub block: Block,
 }
 
+impl Drop for WithQuery {
+    #[inline]
+    fn drop(self) {
+        let WithQuery {
+            name,
+            columns,
+            block,
+        } = self;
+        drop(name);
+        drop(columns);
+        drop(block);
+    }
+}
+
 /// A query that is a statement: with the queries of WITH, order, row limit and version, none of
 /// which an inner query has.
-#[derive(Drop)]
 pub struct Query {
     /// The queries of WITH from left to right; none where it is absent.
     pub with_queries: Items<WithQuery>,
@@ -40,6 +52,22 @@ pub struct Query {
     pub limit: Option<u32>,
     /// The number of the version that is asked, at most 999999999; nothing where none is named.
     pub version: Option<u32>,
+}
+
+impl Drop for Query {
+    #[inline]
+    fn drop(self) {
+        let Query {
+            with_queries,
+            block,
+            order,
+            limit: _,
+            version: _,
+        } = self;
+        drop(with_queries);
+        drop(block);
+        drop(order);
+    }
 }
 
 /// What a refresh does.
@@ -61,7 +89,6 @@ pub enum TemplateValue {
 }
 
 /// A statement of a script.
-#[derive(Drop)]
 pub enum Statement {
     /// A query with its order and row limit.
     Query(Query),
@@ -73,4 +100,21 @@ pub enum Statement {
     Refresh(RefreshKind, u32),
     /// `run`: the number of a template, at most 999999999, and the values for its places.
     Run(u32, Items<TemplateValue>),
+}
+
+impl Drop for Statement {
+    #[inline]
+    fn drop(self) {
+        match self {
+            Statement::Query(kept) => drop(kept),
+            Statement::CreateView(first, second, third) => {
+                drop(first);
+                drop(second);
+                drop(third);
+            }
+            Statement::DropView(kept) => drop(kept),
+            Statement::Refresh(_, _) => {}
+            Statement::Run(_, kept) => drop(kept),
+        }
+    }
 }

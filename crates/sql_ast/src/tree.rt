@@ -9,7 +9,6 @@ use sqlite_items::{Boxed, Items};
 
 /// A value or a condition; which of the two is told when names are bound.
 #[cycle(tree)]
-#[derive(Drop)]
 pub enum Expr {
     /// A number's coefficient and how many of its digits stand after the point.
     Number(i128, Scale),
@@ -70,6 +69,80 @@ pub enum Expr {
     Aggregate(Aggregate, Boxed<Expr>),
 }
 
+impl Drop for Expr {
+    #[cycle(drop)]
+    #[inline]
+    fn drop(self) {
+        match self {
+            Expr::Number(_, _) => {}
+            Expr::Text(kept) => drop(kept),
+            Expr::Date(kept) => drop(kept),
+            Expr::Interval(kept, _) => drop(kept),
+            Expr::Column(kept) => drop(kept),
+            Expr::Negative(kept) => drop(kept),
+            Expr::Sum(first, second) => {
+                drop(first);
+                drop(second);
+            }
+            Expr::Product(first, second) => {
+                drop(first);
+                drop(second);
+            }
+            Expr::Compare(_, first, second) => {
+                drop(first);
+                drop(second);
+            }
+            Expr::CompareQuery(_, _, first, second) => {
+                drop(first);
+                drop(second);
+            }
+            Expr::IsNull(kept) => drop(kept),
+            Expr::Between(first, second, third) => {
+                drop(first);
+                drop(second);
+                drop(third);
+            }
+            Expr::Like(first, second) => {
+                drop(first);
+                drop(second);
+            }
+            Expr::InList(first, second) => {
+                drop(first);
+                drop(second);
+            }
+            Expr::InQuery(first, second) => {
+                drop(first);
+                drop(second);
+            }
+            Expr::Exists(kept) => drop(kept),
+            Expr::Scalar(kept) => drop(kept),
+            Expr::Not(kept) => drop(kept),
+            Expr::And(first, second) => {
+                drop(first);
+                drop(second);
+            }
+            Expr::Or(first, second) => {
+                drop(first);
+                drop(second);
+            }
+            Expr::Case(kept) => drop(kept),
+            Expr::CaseElse(first, second) => {
+                drop(first);
+                drop(second);
+            }
+            Expr::Extract(_, kept) => drop(kept),
+            Expr::Substring(kept, _, _) => drop(kept),
+            Expr::CountRows => {}
+            Expr::Count(kept) => drop(kept),
+            Expr::CountDistinct(kept) => drop(kept),
+            Expr::Aggregate(first, second) => {
+                drop(first);
+                drop(second);
+            }
+        }
+    }
+}
+
 /// A term of a sum after its first one.
 #[cycle(tree)]
 #[derive(Drop)]
@@ -102,7 +175,6 @@ pub struct Arm {
 
 /// A column of an answer: its value, and its alias where it has one.
 #[cycle(tree)]
-#[derive(Drop)]
 pub struct Item {
     /// The expression.
     pub value: Expr,
@@ -110,9 +182,18 @@ pub struct Item {
     pub alias: Option<Name>,
 }
 
+impl Drop for Item {
+    #[cycle(drop)]
+    #[inline]
+    fn drop(self) {
+        let Item { value, alias } = self;
+        drop(value);
+        drop(alias);
+    }
+}
+
 /// What a query selects.
 #[cycle(tree)]
-#[derive(Drop)]
 pub enum Selected {
     /// `*`.
     All,
@@ -120,9 +201,19 @@ pub enum Selected {
     Items(Items<Item>),
 }
 
+impl Drop for Selected {
+    #[cycle(drop)]
+    #[inline]
+    fn drop(self) {
+        match self {
+            Selected::All => {}
+            Selected::Items(kept) => drop(kept),
+        }
+    }
+}
+
 /// An item of FROM.
 #[cycle(tree)]
-#[derive(Drop)]
 pub enum FromItem {
     /// A table or a view by its name, and its alias where it has one.
     Table(Name, Option<Name>),
@@ -130,6 +221,29 @@ pub enum FromItem {
     Derived(Boxed<Block>, Name, Items<Name>),
     /// The same after `lateral`: its query may read the items to its left.
     Lateral(Boxed<Block>, Name, Items<Name>),
+}
+
+impl Drop for FromItem {
+    #[cycle(drop)]
+    #[inline]
+    fn drop(self) {
+        match self {
+            FromItem::Table(first, second) => {
+                drop(first);
+                drop(second);
+            }
+            FromItem::Derived(first, second, third) => {
+                drop(first);
+                drop(second);
+                drop(third);
+            }
+            FromItem::Lateral(first, second, third) => {
+                drop(first);
+                drop(second);
+                drop(third);
+            }
+        }
+    }
 }
 
 /// An item that is joined to those before it.
@@ -156,7 +270,6 @@ pub struct Joined {
 
 /// WHERE or HAVING.
 #[cycle(tree)]
-#[derive(Drop)]
 pub enum Clause {
     /// There is none.
     Absent,
@@ -164,9 +277,19 @@ pub enum Clause {
     Condition(Boxed<Expr>),
 }
 
+impl Drop for Clause {
+    #[cycle(drop)]
+    #[inline]
+    fn drop(self) {
+        match self {
+            Clause::Absent => {}
+            Clause::Condition(kept) => drop(kept),
+        }
+    }
+}
+
 /// A query from SELECT to HAVING.
 #[cycle(tree)]
-#[derive(Drop)]
 pub struct Select {
     /// Whether DISTINCT stands after SELECT.
     pub is_distinct: bool,
@@ -182,14 +305,47 @@ pub struct Select {
     pub having: Clause,
 }
 
+impl Drop for Select {
+    #[cycle(drop)]
+    #[inline]
+    fn drop(self) {
+        let Select {
+            is_distinct: _,
+            selected,
+            from,
+            condition,
+            group,
+            having,
+        } = self;
+        drop(selected);
+        drop(from);
+        drop(condition);
+        drop(group);
+        drop(having);
+    }
+}
+
 /// A query, as it stands also in other queries and in views.
 #[cycle(tree)]
-#[derive(Drop)]
 pub enum Block {
     /// One SELECT with its clauses.
     Select(Select),
     /// The first query, and at least one that a set operation joins to those before it.
     Combined(Boxed<Block>, Items<SetPart>),
+}
+
+impl Drop for Block {
+    #[cycle(drop)]
+    #[inline]
+    fn drop(self) {
+        match self {
+            Block::Select(kept) => drop(kept),
+            Block::Combined(first, second) => {
+                drop(first);
+                drop(second);
+            }
+        }
+    }
 }
 
 /// A query after its first part, with what joins it to those before it.

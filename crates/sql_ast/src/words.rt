@@ -5,12 +5,20 @@ use base_text::Text;
 pub type Name = Text;
 
 /// A column's name, and the name of its FROM item where one stands before it.
-#[derive(Drop)]
 pub struct Column {
     /// The FROM item's name or alias.
     pub item: Option<Name>,
     /// The column's name.
     pub name: Name,
+}
+
+impl Drop for Column {
+    #[inline]
+    fn drop(self) {
+        let Column { item, name } = self;
+        drop(item);
+        drop(name);
+    }
 }
 
 /// How two values are compared.

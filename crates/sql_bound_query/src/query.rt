@@ -10,7 +10,6 @@ use sqlite_items::{Boxed, Items};
 
 /// What an expression reads.
 #[cycle(query)]
-#[derive(Drop)]
 pub enum Input {
     /// The column at a place of the row this many levels out, 0 being the innermost query's row.
     /// Both count from 0.
@@ -24,10 +23,25 @@ pub enum Input {
     Scalar(Boxed<BoundBlock>),
 }
 
+impl Drop for Input {
+    #[cycle(drop)]
+    #[inline]
+    fn drop(self) {
+        match self {
+            Input::Column(_, _) => {}
+            Input::Exists(kept) => drop(kept),
+            Input::Any(_, first, second) => {
+                drop(first);
+                drop(second);
+            }
+            Input::Scalar(kept) => drop(kept),
+        }
+    }
+}
+
 /// An expression of a query: a scalar expression over the row of its inputs, so that its column i
 /// is the input i.
 #[cycle(query)]
-#[derive(Drop)]
 pub struct BoundExpr {
     /// The inputs from left to right.
     pub inputs: Items<Input>,
@@ -35,9 +49,18 @@ pub struct BoundExpr {
     pub expr: Boxed<Expr>,
 }
 
+impl Drop for BoundExpr {
+    #[cycle(drop)]
+    #[inline]
+    fn drop(self) {
+        let BoundExpr { inputs, expr } = self;
+        drop(inputs);
+        drop(expr);
+    }
+}
+
 /// An aggregate of a group's rows.
 #[cycle(query)]
-#[derive(Drop)]
 pub enum BoundAggregate {
     /// `count(*)`.
     CountRows,
@@ -46,9 +69,19 @@ pub enum BoundAggregate {
     Of(AggregateFunction, Scale, BoundExpr),
 }
 
+impl Drop for BoundAggregate {
+    #[cycle(drop)]
+    #[inline]
+    fn drop(self) {
+        match self {
+            BoundAggregate::CountRows => {}
+            BoundAggregate::Of(_, _, kept) => drop(kept),
+        }
+    }
+}
+
 /// Rows that a query is about.
 #[cycle(query)]
-#[derive(Drop)]
 pub enum BoundSource {
     /// A table.
     Table(TableName),
@@ -69,6 +102,32 @@ pub enum BoundSource {
     Outer(Boxed<BoundSource>, Boxed<BoundSource>, u32, BoundExpr),
 }
 
+impl Drop for BoundSource {
+    #[cycle(drop)]
+    #[inline]
+    fn drop(self) {
+        match self {
+            BoundSource::Table(_) => {}
+            BoundSource::Derived(_, kept) => drop(kept),
+            BoundSource::Lateral(kept) => drop(kept),
+            BoundSource::Cross(first, second) => {
+                drop(first);
+                drop(second);
+            }
+            BoundSource::Inner(first, second, third) => {
+                drop(first);
+                drop(second);
+                drop(third);
+            }
+            BoundSource::Outer(first, second, _, third) => {
+                drop(first);
+                drop(second);
+                drop(third);
+            }
+        }
+    }
+}
+
 /// A column of a set operation: what it is of a row of each side.
 #[derive(Drop)]
 pub struct SetColumn {
@@ -80,7 +139,6 @@ pub struct SetColumn {
 
 /// A query from its first SELECT on. No condition is the condition that always holds.
 #[cycle(query)]
-#[derive(Drop)]
 pub enum BoundBlock {
     /// FROM, WHERE, and the select list over the rows kept.
     Plain(Boxed<BoundSource>, BoundExpr, Items<BoundExpr>),
@@ -99,6 +157,34 @@ pub enum BoundBlock {
     Distinct(Boxed<BoundBlock>),
     /// A set operation of the rows that its columns are of those of two queries.
     Set(Boxed<BoundBlock>, Boxed<BoundBlock>, Items<SetColumn>, SetOperation),
+}
+
+impl Drop for BoundBlock {
+    #[cycle(drop)]
+    #[inline]
+    fn drop(self) {
+        match self {
+            BoundBlock::Plain(first, second, third) => {
+                drop(first);
+                drop(second);
+                drop(third);
+            }
+            BoundBlock::Grouped(first, second, third, fourth, fifth, sixth) => {
+                drop(first);
+                drop(second);
+                drop(third);
+                drop(fourth);
+                drop(fifth);
+                drop(sixth);
+            }
+            BoundBlock::Distinct(kept) => drop(kept),
+            BoundBlock::Set(first, second, third, _) => {
+                drop(first);
+                drop(second);
+                drop(third);
+            }
+        }
+    }
 }
 
 /// A query that is a statement, with its order and row limit.

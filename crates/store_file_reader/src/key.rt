@@ -106,7 +106,6 @@ fn number_at(rows: &RowsBuilder, i: usize, places: &[usize], k: usize) -> i64
 }
 
 /// What is kept of the keys of the rows so far.
-#[derive(Drop)]
 pub enum Keys {
     /// The last key, if there is one; each key was above the one before it.
     Ascending(Option<Key>),
@@ -114,6 +113,17 @@ pub enum Keys {
     Hashed(KeySet<Key>),
     /// Nothing, since memory ran out when a row was to be added.
     Lost,
+}
+
+impl Drop for Keys {
+    #[inline]
+    fn drop(self) {
+        match self {
+            Keys::Ascending(kept) => drop(kept),
+            Keys::Hashed(kept) => drop(kept),
+            Keys::Lost => {}
+        }
+    }
 }
 
 // Puts a key after the others, if none of them is the same; whether it was put there.

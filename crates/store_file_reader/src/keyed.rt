@@ -14,13 +14,29 @@ use std::alloc::{AllocError, Global};
 use std::marker::Model;
 
 /// A file's rows in order, with what is kept of their keys.
-#[derive(Drop)]
 pub struct KeyedRows {
     alloc: Global,
     file: DataFile,
     columns: Vec<LineColumn>,
     rows: RowsBuilder,
     keys: Keys,
+}
+
+impl Drop for KeyedRows {
+    #[inline]
+    fn drop(self) {
+        let KeyedRows {
+            alloc: _,
+            file,
+            columns,
+            rows,
+            keys,
+        } = self;
+        drop(file);
+        drop(columns);
+        drop(rows);
+        drop(keys);
+    }
 }
 
 impl Model for KeyedRows {

@@ -117,11 +117,20 @@ fn last_rows(mut lines: Lines, rest: &[u8]) -> Result<Rows, TableError>
 /// A reader of a file, which is fed the file's pieces in order, however they are cut. It keeps the
 /// rows of the lines that have ended and the bytes of the line that has not. Once it has refused a
 /// line, or memory ran out, it answers that again.
-#[derive(Drop)]
 pub struct FileReader {
     lines: Lines,
     rest: Vec<u8>,
     error: Option<TableError>,
+}
+
+impl Drop for FileReader {
+    #[inline]
+    fn drop(self) {
+        let FileReader { lines, rest, error } = self;
+        drop(lines);
+        drop(rest);
+        drop(error);
+    }
 }
 
 impl Model for FileReader {

@@ -26,7 +26,6 @@ pub(crate) struct Sales {
 }
 
 /// What a refresh is to do, with the rows or keys of its files.
-#[derive(Drop)]
 pub(crate) enum Form {
     /// Adds these orders and lineitems.
     Insert(Arc<Sales>),
@@ -34,6 +33,20 @@ pub(crate) enum Form {
     Delete(Arc<Vec<i64>>),
     /// Nothing, since a file of the set of this number has a bad line.
     Malformed(RefreshFile, u32, LineRefusal),
+}
+
+impl Drop for Form {
+    #[inline]
+    fn drop(self) {
+        match self {
+            Form::Insert(kept) => drop(kept),
+            Form::Delete(kept) => drop(kept),
+            Form::Malformed(first, _, second) => {
+                drop(first);
+                drop(second);
+            }
+        }
+    }
 }
 
 /// A refresh, read from its files. Rows are of their tables' kinds, and keys from 0 to 2^63 - 1. A

@@ -1,6 +1,6 @@
 use Rattle.std.proofs.Common.{◌≡◌, length, rules}
 use Rattle.plan_dependent_tree.proofs.BlockTrees.{whole}
-use Rattle.plan_dependent_tree.proofs.tree.depend_under.Goals as goal
+use Rattle.plan_dependent_tree.proofs.query.depend_under.Goals as goal
 
 pub returns : goal.returns
 returns c =

@@ -1,7 +1,7 @@
 use Rattle.std.proofs.Common.{[], subst, sym}
 use Rattle.plan_dependent_nodes.specs.Supplied.{QueryIsSupplied}
 use Rattle.plan_dependent_tree.proofs.SuppliedClauses.{whole_supplied}
-use Rattle.plan_dependent_tree.proofs.tree.depend.Goals as goal
+use Rattle.plan_dependent_tree.proofs.query.depend.Goals as goal
 
 pub depend_under-requires : goal.depend_under-requires
 depend_under-requires c =
