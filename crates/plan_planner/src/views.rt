@@ -11,10 +11,17 @@ use std::marker::Model;
 
 /// The views of a session in the order in which they were made. Each was bound over those that
 /// stood then, so its query is well typed.
-#[derive(Drop)]
 pub struct SessionViews {
     /// The views.
     pub(crate) views: Views,
+}
+
+impl Drop for SessionViews {
+    #[inline]
+    fn drop(self) {
+        let SessionViews { views } = self;
+        drop(views);
+    }
 }
 
 impl Model for SessionViews {

@@ -17,13 +17,28 @@ use std::sync::{Arc, Wait};
 use store_state::Refresh;
 
 /// Takes refreshes and ends, one by one.
-#[derive(Drop)]
 pub struct Taker {
     pub(crate) queue: Arc<MessageQueue>,
     pub(crate) pass: QueuePass,
     pub(crate) senders: Vec<SenderId>,
     pub(crate) first_ended: bool,
     pub(crate) second_ended: bool,
+}
+
+impl Drop for Taker {
+    #[inline]
+    fn drop(self) {
+        let Taker {
+            queue,
+            pass,
+            senders,
+            first_ended: _,
+            second_ended: _,
+        } = self;
+        drop(queue);
+        drop(pass);
+        drop(senders);
+    }
 }
 
 impl Model for Taker {

@@ -26,7 +26,6 @@ use store_state::{Refresh, RefreshError, State, apply};
 
 /// A base, a list of refreshes of which the first ones were tried and which may get longer, and
 /// sessions that begin and scan beside them.
-#[derive(Drop)]
 pub struct Machine {
     alloc: Global,
     base: State,
@@ -35,6 +34,24 @@ pub struct Machine {
     /// The state of each version so far, the base first.
     versions: Vec<State>,
     sessions: Vec<Session>,
+}
+
+impl Drop for Machine {
+    #[inline]
+    fn drop(self) {
+        let Machine {
+            alloc: _,
+            base,
+            list,
+            done: _,
+            versions,
+            sessions,
+        } = self;
+        drop(base);
+        drop(list);
+        drop(versions);
+        drop(sessions);
+    }
 }
 
 impl Model for Machine {

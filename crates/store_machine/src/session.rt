@@ -29,12 +29,25 @@ impl Model for Piece {
 }
 
 /// What a session has seen, pins and scanned.
-#[derive(Drop)]
 pub(crate) struct Session {
     seen: u64,
     pin: Option<u64>,
     cuts: Cuts,
     pieces: Vec<Piece>,
+}
+
+impl Drop for Session {
+    #[inline]
+    fn drop(self) {
+        let Session {
+            seen: _,
+            pin: _,
+            cuts,
+            pieces,
+        } = self;
+        drop(cuts);
+        drop(pieces);
+    }
 }
 
 impl Model for Session {

@@ -7,12 +7,21 @@ use std::alloc::AllocError;
 use store_versions::{Attachment, Compacted, Directory};
 
 /// A publisher's last version.
-#[derive(Drop)]
 pub enum Latest<A: Attachment = ()> {
     /// As the refreshes left it.
     Tried(Directory<A>),
     /// In segments of which no row is deleted and no two neighbours fit in one.
     Joined(Compacted<A>),
+}
+
+impl<A: Attachment> Drop for Latest<A> {
+    #[inline]
+    fn drop(self) {
+        match self {
+            Latest::Tried(kept) => drop(kept),
+            Latest::Joined(kept) => drop(kept),
+        }
+    }
 }
 
 impl<A: Attachment> Latest<A> {

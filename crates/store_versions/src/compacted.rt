@@ -21,7 +21,6 @@ use store_state::{Refresh, State};
 
 /// A version whose tables lie in segments of which no row is deleted and no two neighbours fit in
 /// one. It is seen as that version with the segments of each table.
-#[derive(Drop)]
 pub struct Compacted<A: Attachment = ()> {
     pub(crate) alloc: Global,
     pub(crate) base: Arc<State>,
@@ -36,6 +35,28 @@ pub struct Compacted<A: Attachment = ()> {
     pub(crate) earlier: Arc<Vec<KeptVersion<A>>>,
     /// What is attached to the tables.
     pub(crate) attachment: A,
+}
+
+impl<A: Attachment> Drop for Compacted<A> {
+    #[inline]
+    fn drop(self) {
+        let Compacted {
+            alloc: _,
+            base,
+            list,
+            most: _,
+            done: _,
+            accepted: _,
+            tables,
+            earlier,
+            attachment,
+        } = self;
+        drop(base);
+        drop(list);
+        drop(tables);
+        drop(earlier);
+        drop(attachment);
+    }
 }
 
 impl<A: Attachment> Model for Compacted<A> {

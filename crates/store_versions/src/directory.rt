@@ -23,7 +23,6 @@ use store_state::{Part, Refresh, RefreshError, State, apply, cause_of};
 
 /// The first refreshes of a list that were tried on a base, with the tables that they leave and
 /// what is attached to these.
-#[derive(Drop)]
 pub struct Directory<A: Attachment = ()> {
     pub(crate) alloc: Global,
     base: Arc<State>,
@@ -36,6 +35,28 @@ pub struct Directory<A: Attachment = ()> {
     /// Of the 63 versions before it those that are kept, in shared segments.
     earlier: Arc<Vec<KeptVersion<A>>>,
     attachment: A,
+}
+
+impl<A: Attachment> Drop for Directory<A> {
+    #[inline]
+    fn drop(self) {
+        let Directory {
+            alloc: _,
+            base,
+            list,
+            most: _,
+            done: _,
+            accepted: _,
+            state,
+            earlier,
+            attachment,
+        } = self;
+        drop(base);
+        drop(list);
+        drop(state);
+        drop(earlier);
+        drop(attachment);
+    }
 }
 
 impl<A: Attachment> Model for Directory<A> {
