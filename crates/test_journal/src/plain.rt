@@ -1,8 +1,9 @@
 //! Any bytes as a payload, and disks to try them on.
-ghost use Rattle.std.specs.Prelude.{◌≡◌, ⊤, length, IfOk};
+ghost use Rattle.std.specs.Prelude.{◌≡◌, ⊤, length};
 
 use base_disk::MemDisk;
 use std::alloc::{AllocError, Global};
+use std::process::Abort;
 use store_journal::Payload;
 
 /// The payload of an entry.
@@ -31,17 +32,16 @@ impl Payload for Plain {
 }
 
 /// The payload of the one entry.
-pub fn seven(alloc: Global) -> Result<Vec<u8>, AllocError>
-    ensures { IfOk result (λ bytes. length bytes.items ≡ 3) }
+pub fn seven<R: Abort>(rt: &R, alloc: Global) -> Vec<u8>
+    ensures { length result.items ≡ 3 }
 {
-    let bytes = Vec::from_slice(alloc, &SEVEN)?;
-    Ok(bytes)
+    Vec::from_slice(alloc, &SEVEN).expect(rt, "memory")
 }
 
 /// A disk whose file `j` has these bytes, all of them synced; the listed calls fail.
-pub fn disk_of(alloc: Global, bytes: &[u8], failing: &[u64]) -> Result<MemDisk, AllocError> {
-    let name = String::from_str(alloc, "j")?;
-    let bytes = Vec::from_slice(alloc, bytes)?;
-    let failing = Vec::from_slice(alloc, failing)?;
-    MemDisk::new(alloc, name, bytes, failing, 4096)
+pub fn disk_of<R: Abort>(rt: &R, alloc: Global, bytes: &[u8], failing: &[u64]) -> MemDisk {
+    let name = String::from_str(alloc, "j").expect(rt, "memory");
+    let bytes = Vec::from_slice(alloc, bytes).expect(rt, "memory");
+    let failing = Vec::from_slice(alloc, failing).expect(rt, "memory");
+    MemDisk::new(alloc, name, bytes, failing, 4096).expect(rt, "memory")
 }

@@ -5,43 +5,38 @@ use crate::plain::{Plain, seven};
 use base_disk::{Disk, Reach, RealDisk};
 use std::alloc::Global;
 use std::fs;
-use std::test::Fail;
+use std::process::Abort;
 use store_journal::{Appended, make, reopen};
 
+const NAME: &str = "journal_of_a_test";
+
 /// Makes a journal on a disk, and appends a value.
-fn append_one<D: Disk>(alloc: Global, disk: &mut D) -> Result<Appended, Fail>
+fn append_one<R: Abort, D: Disk>(rt: &R, alloc: Global, disk: &mut D) -> Appended
     requires { D.is_reached disk.old ≡ true }
     ensures { D.is_reached disk.new ≡ true }
 {
-    let value = seven(alloc)?;
-    let Ok(mut journal) = make::<_, Plain>(disk) else {
-        return Err("no journal is made".into());
-    };
-    let appended = journal.append::<_, Plain>(alloc, disk, &value)?;
-    Ok(appended)
+    let value = seven(rt, alloc);
+    let mut journal = make::<_, Plain>(disk).expect(rt, "a journal");
+    let appended = journal.append::<_, Plain>(alloc, disk, &value);
+    appended.expect(rt, "memory")
 }
 
 /// Where the journal on a disk ends, and how many values it has.
-fn read_again<D: Disk>(alloc: Global, disk: &mut D) -> Result<(u64, usize), Fail>
+fn read_again<R: Abort, D: Disk>(rt: &R, alloc: Global, disk: &mut D) -> (u64, usize)
     requires { D.is_reached disk.old ≡ true }
 {
-    match reopen::<_, Plain>(alloc, disk) {
-        Ok((journal, values)) => Ok((journal.end, values.len())),
-        Err(_) => Err("no journal is read".into()),
-    }
+    let (journal, values) = reopen::<_, Plain>(alloc, disk).expect(rt, "a journal");
+    (journal.end, values.len())
 }
 
 /// The file is locked as long as it is reached, and holds what was appended.
 #[test]
-fn a_real_file(rt: HostRuntime) -> Result<(), Fail> {
-    let alloc = rt.alloc();
+fn a_real_file(rt: HostRuntime) {
     let mut disk = RealDisk::new(&rt);
-    assert_eq!(rt; disk.reach("journal_of_a_test"), Reach::Reached);
+    assert!(rt; disk.reach(NAME) == Reach::Reached);
     let mut other = RealDisk::new(&rt);
-    assert_eq!(rt; other.reach("journal_of_a_test"), Reach::Failed);
-    assert_eq!(rt; append_one(alloc, &mut disk)?, Appended::Stored);
-    assert_eq!(rt; read_again(alloc, &mut disk)?, (12, 1));
-    let removed = fs::remove_file(&rt, "journal_of_a_test");
-    assert!(rt; removed.is_ok(), "removed");
-    Ok(())
+    assert!(rt; other.reach(NAME) == Reach::Failed);
+    assert!(rt; append_one(&rt, rt.alloc(), &mut disk) == Appended::Stored);
+    assert!(rt; read_again(&rt, rt.alloc(), &mut disk) == (12, 1));
+    assert!(rt; fs::remove_file(&rt, NAME).is_ok());
 }

@@ -1,2 +1,1 @@
-mod GivenTwice
 mod Storable

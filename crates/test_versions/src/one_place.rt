@@ -10,10 +10,9 @@ ghost use Rattle.test_versions.specs.Sendings.{Fits, HasSent};
 
 use base_refusals::{LineFault, LineRefusal, RefreshFile};
 use std::sync::Wait;
-use std::test::Fail;
 use std::thread;
 use std::thread::{Threads, join};
-use store_gateway::{Ended, Order, Sender, SenderId, Taker, open_gateway, send_all};
+use store_gateway::{Ended, Order, Sender, Taker, open_gateway, send_all};
 use store_state::Refresh;
 
 /// Takes until the ends of both senders were taken.
@@ -33,7 +32,7 @@ fn take_all<R: Wait>(rt: &R, mut taker: Taker) -> Taker
 }
 
 /// Sends all that two senders send, each in a thread of its own.
-pub(crate) fn send_both<R: Threads + Wait + Sync>(
+fn send_both<R: Threads + Wait + Sync>(
     rt: &R,
     first: Sender,
     second: Sender,
@@ -91,7 +90,7 @@ fn order_of<R: Threads + Wait + Sync>(
 
 /// A refresh with this number, which does nothing.
 #[tactic(auto, using(crate::proofs::Storable::malformed_stored))]
-pub(crate) fn numbered(set: u32) -> Refresh
+fn numbered(set: u32) -> Refresh
     ensures { MayBeStored result }
 {
     let refusal = LineRefusal {
@@ -102,15 +101,11 @@ pub(crate) fn numbered(set: u32) -> Refresh
 }
 
 #[test]
-fn two_senders_through_one_place(rt: HostRuntime) -> Result<(), Fail> {
+fn two_senders_through_one_place(rt: HostRuntime) {
     let alloc = rt.alloc();
-    let ones = vec![in alloc; numbered(1), numbered(2), numbered(3)]?;
-    let twos = vec![in alloc; numbered(4), numbered(5)]?;
-    let (first, second, taker) = open_gateway(alloc, 1, 3, 2)?;
+    let ones = vec![in alloc; numbered(1), numbered(2), numbered(3)].expect(&rt, "memory");
+    let twos = vec![in alloc; numbered(4), numbered(5)].expect(&rt, "memory");
+    let (first, second, taker) = open_gateway(alloc, 1, 3, 2).expect(&rt, "memory");
     let order = order_of(&rt, first, second, taker, ones, twos);
-    let senders = order.senders();
-    assert_eq!(rt; senders.len(), 5);
-    let firsts = senders.iter().filter(|id| **id == SenderId::First).count();
-    assert_eq!(rt; firsts, 3);
-    Ok(())
+    assert!(rt; order.senders().len() == 5);
 }

@@ -1,34 +1,28 @@
 //! Readers of two orders and of what refreshes make of them.
-ghost use Rattle.std.specs.Prelude.{◌≡◌, IfOk, OnOk, length};
+ghost use Rattle.std.specs.Prelude.{◌≡◌, ◌<◌, length};
 ghost use Rattle.store_snapshots.specs.Openings.{opening_at};
 ghost use Rattle.store_snapshots.specs.Ruled.{opening_of};
 
-use crate::files::{NINE, NINE_ONE, ORDERS, delete, insert, keys, scanned, state};
+use crate::files::{delete_nine, have_keys, insert_nine, key_of, two_orders};
 use base_schema::TableName;
-use std::alloc::{AllocError, Global};
+use plan_algebra::{Piece, Steps, Tables};
+use std::alloc::Global;
 use std::marker::Brand;
 use std::process::Abort;
-use std::sync::ledger::Blank;
+use std::sync::ledger::{Blank, Ledger};
 use std::sync::{Arc, Wait};
-use std::test::Fail;
 use store_snapshots::{Published, Publisher, Reader, RuledEntry, Snapshot, SureEntry, open};
 use store_state::Refresh;
-use store_versions::{Directory, VersionError};
+use store_versions::Directory;
 
 /// An insert of an order and a delete of the same, `count` times.
-fn pairs(alloc: Global, count: usize) -> Result<Vec<Refresh>, Fail> {
+fn pairs<R: Abort>(rt: &R, alloc: Global, count: usize) -> Vec<Refresh> {
     let mut list = Vec::new(alloc);
     for _pair in 0..count {
-        list.push(insert(alloc, &[NINE], &[NINE_ONE])?)?;
-        list.push(delete(alloc, &[b"9"])?)?;
+        list.push(insert_nine(rt, alloc)).expect(rt, "memory");
+        list.push(delete_nine(rt, alloc)).expect(rt, "memory");
     }
-    Ok(list)
-}
-
-/// The number of the version that a reader begins at.
-fn version_begun(reader: &mut Reader<RuledEntry>) -> Result<u64, Fail> {
-    let snapshot = reader.begin()?;
-    Ok(snapshot.version())
+    list
 }
 
 /// Publishes `count` refreshes. Returns how many of the list were accepted.
@@ -46,202 +40,124 @@ fn publish<R: Wait>(rt: &R, publisher: &mut Publisher, count: usize) -> u64
     accepted
 }
 
-/// Both readers begin at the base, and after one refresh at the version after it.
-fn begin_twice<R: Wait>(
+/// The pieces of a snapshot's orders.
+fn scanned<R: Abort, L: Ledger>(
     rt: &R,
-    publisher: &mut Publisher,
-    readers: &mut [Reader<RuledEntry>],
-) -> Result<bool, Fail> {
-    let mut good = readers.len() == 2;
-    for reader in readers.iter_mut() {
-        good &= version_begun(reader)? == 0;
-    }
-    good &= publish(rt, publisher, 1) == 1;
-    for reader in readers.iter_mut() {
-        good &= version_begun(reader)? == 1;
-    }
-    Ok(good)
+    alloc: Global,
+    snapshot: &Snapshot,
+    blank: Blank,
+) -> Vec<Piece>
+    requires name { blank.name ≡ L.name }
+    requires parts { blank.parts ≡ L.parts }
+    requires some { 0 < blank.parts }
+{
+    let mut steps = Steps::<L>::new(blank);
+    let pieces = snapshot.scan(alloc, TableName::Orders, &mut steps);
+    pieces.expect(rt, "memory")
 }
 
-#[test]
-fn begins_at_the_published_version(rt: HostRuntime) -> Result<(), Fail> {
-    let alloc = rt.alloc();
-    let list = pairs(alloc, 1)?;
-    let most = list.len();
-    let base = state(alloc, &[ORDERS], &[])?;
-    let (mut publisher, mut readers) = open(&rt, alloc, base, (), list, 2, most)?;
-    let good = begin_twice(&rt, &mut publisher, &mut readers);
-    publisher.close(&rt);
-    assert!(rt; good?);
-    Ok(())
-}
-
-/// Whether a snapshot of this version has the two orders of the base, in one piece.
-fn has_base(alloc: Global, snapshot: &Snapshot, version: u64) -> Result<bool, Fail> {
-    let scan = scanned::<Snapshot, Brand>(alloc, snapshot, TableName::Orders, Blank::new(1))?;
-    let (keys, pieces) = scan;
-    Ok(snapshot.version() == version && keys.as_slice() == [7, 8].as_slice() && pieces == 1)
+/// Expects of a snapshot that it is of this version, and has the two orders of the base in one
+/// piece.
+fn expect_base<R: Abort>(rt: &R, alloc: Global, snapshot: &Snapshot, version: u64) {
+    let pieces = scanned::<R, Brand>(rt, alloc, snapshot, Blank::new(1));
+    assert!(rt; snapshot.version() == version && pieces.len() == 1);
+    let batch = pieces[0].batch(alloc).expect(rt, "memory");
+    assert!(rt; batch.len() == 2);
+    for (i, key) in [(0, 7), (1, 8)] {
+        assert!(rt; i < batch.len());
+        let row = batch.row(alloc, i).expect(rt, "memory");
+        assert!(rt; key_of(&row) == Some(key));
+    }
 }
 
 /// A snapshot of the base keeps its rows while twenty refreshes and a compaction are published. The
 /// reader, once it has learnt the last note, begins at the last version, whose rows are joined.
-fn hold<R: Wait>(
+fn hold<R: Wait + Abort>(
     rt: &R,
     alloc: Global,
     publisher: &mut Publisher,
     reader: &mut Reader<RuledEntry>,
-) -> Result<bool, Fail>
+)
     requires { opening_of reader.old.entry ≡ opening_at publisher.old.version }
 {
-    let held = reader.begin()?;
-    let mut good = has_base(alloc, &held, 0)?;
-    good &= publish(rt, publisher, 20) == 20;
-    publisher.compact(rt)?;
-    reader.learn(publisher.tell()?);
-    good &= has_base(alloc, &reader.begin()?, 20)?;
-    good &= has_base(alloc, &held, 0)?;
-    Ok(good)
+    let held = reader.begin().expect(rt, "memory");
+    expect_base(rt, alloc, &held, 0);
+    assert!(rt; publish(rt, publisher, 20) == 20);
+    publisher.compact(rt).expect(rt, "memory");
+    reader.learn(publisher.tell().expect(rt, "memory"));
+    let last = reader.begin().expect(rt, "memory");
+    expect_base(rt, alloc, &last, 20);
+    expect_base(rt, alloc, &held, 0);
 }
 
 #[test]
-fn holds_a_snapshot(rt: HostRuntime) -> Result<(), Fail> {
+fn holds_a_snapshot(rt: HostRuntime) {
     let alloc = rt.alloc();
-    let list = pairs(alloc, 10)?;
+    let list = pairs(&rt, alloc, 10);
     let most = list.len();
-    let base = state(alloc, &[ORDERS], &[])?;
-    let (mut publisher, mut readers) = open(&rt, alloc, base, (), list, 1, most)?;
-    let good = hold(&rt, alloc, &mut publisher, &mut readers[0]);
+    let opened = open(&rt, alloc, two_orders(&rt, alloc), (), list, 1, most);
+    let (mut publisher, mut readers) = opened.expect(&rt, "memory");
+    hold(&rt, alloc, &mut publisher, &mut readers[0]);
     publisher.close(&rt);
-    assert!(rt; good?);
-    Ok(())
 }
 
-/// Two orders and this list, with nothing tried.
-fn base(alloc: Global, list: Vec<Refresh>) -> Result<Directory, Fail>
-    ensures { IfOk result (λ d. d.most ≡ length d.list) }
+/// Two orders and so many pairs of refreshes, with nothing tried.
+fn base<R: Abort>(rt: &R, alloc: Global, count: usize) -> Directory
+    ensures { result.most ≡ length result.list }
 {
+    let list = pairs(rt, alloc, count);
     let most = list.len();
-    let state = state(alloc, &[ORDERS], &[])?;
-    let directory = Directory::new(alloc, state, (), list, most)?;
-    Ok(directory)
+    Directory::new(alloc, two_orders(rt, alloc), (), list, most).expect(rt, "memory")
 }
 
 /// The version after the next refresh, which is accepted.
-fn next(directory: &mut Directory) -> Result<Directory, Fail>
-    ensures opening { IfOk result (λ d. opening_at d ≡ opening_at directory.old) }
-    ensures same { OnOk result (directory.new ≡ directory.old) }
+fn next<R: Abort>(rt: &R, directory: &mut Directory) -> Directory
+    ensures opening { opening_at result ≡ opening_at directory.old }
+    ensures same { directory.new ≡ directory.old }
 {
-    if directory.is_done() {
-        return Err("no refresh is left".into());
-    }
-    let after = directory.after_next()?;
-    Ok(after)
-}
-
-/// Whether a version has this number, and orders of these keys.
-fn has_orders(
-    alloc: Global,
-    directory: &Directory,
-    version: u64,
-    wanted: &[i128],
-) -> Result<bool, Fail> {
-    let rows = directory.rows(TableName::Orders)?;
-    let keys = keys(alloc, rows.as_slice())?;
-    Ok(directory.version() == version && keys.as_slice() == wanted)
+    assert!(rt; !directory.is_done());
+    directory.after_next().expect(rt, "an accepted one")
 }
 
 /// A reader of the versions 0, 1 and 2.
-fn sure_reader(alloc: Global) -> Result<Reader<SureEntry>, Fail> {
-    let list = pairs(alloc, 1)?;
-    let mut zero = base(alloc, list)?;
-    let mut one = next(&mut zero)?;
-    let two = next(&mut one)?;
-    let first = Arc::new(alloc, zero)?;
+fn sure_reader<R: Abort>(rt: &R, alloc: Global) -> Reader<SureEntry> {
+    let mut zero = base(rt, alloc, 1);
+    let mut one = next(rt, &mut zero);
+    let two = next(rt, &mut one);
+    let first = Arc::new(alloc, zero).expect(rt, "memory");
     let versions = vec![in alloc;
-        Arc::try_clone(&first)?,
-        Arc::new(alloc, one)?,
-        Arc::new(alloc, two)?,
-    ]?;
-    let entry = SureEntry::new(Arc::try_clone(&first)?, versions);
-    Ok(Reader::new(entry, first))
+        Arc::try_clone(&first).expect(rt, "a share"),
+        Arc::new(alloc, one).expect(rt, "memory"),
+        Arc::new(alloc, two).expect(rt, "memory"),
+    ];
+    let share = Arc::try_clone(&first).expect(rt, "a share");
+    let entry = SureEntry::new(share, versions.expect(rt, "memory"));
+    Reader::new(entry, first)
 }
 
 #[test]
-fn begins_at_each_version_in_turn(rt: HostRuntime) -> Result<(), Fail> {
-    let mut reader = sure_reader(rt.alloc())?;
+fn begins_at_each_version_in_turn(rt: HostRuntime) {
+    let mut reader = sure_reader(&rt, rt.alloc());
     for version in [0, 1, 2, 2] {
-        assert_eq!(rt; reader.begin()?.version(), version);
+        assert!(rt; reader.begin().expect(&rt, "memory").version() == version);
     }
-    Ok(())
 }
 
-/// The version after `count` refreshes, each of which is accepted.
-fn after(mut directory: Directory, count: usize) -> Result<Directory, Fail> {
-    for _refresh in 0..count {
-        directory = next(&mut directory)?;
+/// The last of 66 versions after the base.
+fn last_version<R: Abort>(rt: &R, alloc: Global) -> Directory {
+    let mut directory = base(rt, alloc, 33);
+    for _refresh in 0..66 {
+        directory = next(rt, &mut directory);
     }
-    Ok(directory)
+    directory
 }
 
-/// The version after so many pairs of refreshes.
-fn after_pairs(alloc: Global, count: usize) -> Result<Directory, Fail> {
-    let list = pairs(alloc, count)?;
-    let base = base(alloc, list)?;
-    after(base, count.saturating_mul(2))
-}
-
+/// The third version comes with none before it, so that the first is made anew of it.
 #[test]
-fn pairs_leave_the_orders(rt: HostRuntime) -> Result<(), Fail> {
-    let second = after_pairs(rt.alloc(), 1)?;
-    assert!(rt; has_orders(rt.alloc(), &second, 2, &[7, 8])?);
-    Ok(())
-}
-
-/// Whether the earlier version of this number has orders of these keys.
-fn gives(alloc: Global, last: &Directory, version: u64, wanted: &[i128]) -> Result<bool, Fail> {
-    let earlier = last.older(version)?;
-    has_orders(alloc, &earlier, version, wanted)
-}
-
-/// Whether it has them where it is asked for after a compaction.
-fn gives_compacted(
-    alloc: Global,
-    last: &Directory,
-    version: u64,
-    wanted: &[i128],
-) -> Result<bool, Fail> {
-    let compacted = last.compacted()?;
-    let directory = compacted.directory()?;
-    gives(alloc, &directory, version, wanted)
-}
-
-fn is_gone(last: &Directory, version: u64) -> bool {
-    matches!(last.older(version), Err(VersionError::Gone))
-}
-
-fn is_unknown(last: &Directory, version: u64) -> bool {
-    matches!(last.older(version), Err(VersionError::Unknown))
-}
-
-/// Expects of a version of number 66 and of its third what they give.
-fn expect_earlier<R: Abort>(
-    rt: &R,
-    alloc: Global,
-    last: &Directory,
-    third: &Directory,
-) -> Result<(), Fail> {
-    assert!(rt; has_orders(alloc, third, 3, &[7, 8, 9])?);
-    assert!(rt; gives_compacted(alloc, last, 64, &[7, 8])?);
-    assert!(rt; is_gone(last, 2));
-    assert!(rt; is_unknown(third, 4));
-    // Not kept any more, so it is made anew.
-    assert!(rt; gives(alloc, third, 1, &[7, 8, 9])?);
-    Ok(())
-}
-
-#[test]
-fn gives_earlier_versions(rt: HostRuntime) -> Result<(), Fail> {
-    let last = after_pairs(rt.alloc(), 33)?;
-    let third = last.older(3)?;
-    expect_earlier(&rt, rt.alloc(), &last, &third)
+fn makes_a_version_anew(rt: HostRuntime) {
+    let last = last_version(&rt, rt.alloc());
+    let third = last.older(3).expect(&rt, "the third");
+    let first = third.older(1).expect(&rt, "the first");
+    let rows = first.rows(TableName::Orders).expect(&rt, "memory");
+    assert!(rt; first.version() == 1 && have_keys(&rows, &[7, 8, 9]));
 }
