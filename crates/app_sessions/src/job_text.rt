@@ -16,23 +16,11 @@ use store_snapshots::Entry;
 
 /// The text of a job, the versions over which the statements of each session began, and whether no
 /// line is a refusal.
+#[derive(Drop)]
 pub struct JobText {
     text: Vec<u8>,
     versions: Vec<Vec<u64>>,
     is_clean: bool,
-}
-
-impl Drop for JobText {
-    #[inline]
-    fn drop(self) {
-        let JobText {
-            text,
-            versions,
-            is_clean: _,
-        } = self;
-        drop(text);
-        drop(versions);
-    }
 }
 
 impl Model for JobText {

@@ -29,20 +29,12 @@ pub struct Origin {
 }
 
 /// The rows that a tree is lowered over, and what is known of their columns.
+#[derive(Drop)]
 pub struct Domain {
     /// The rows.
     pub rows: DomainRows,
     /// The columns that come unchanged from a table, as far as they are noted.
     pub unchanged: Items<Origin>,
-}
-
-impl Drop for Domain {
-    #[inline]
-    fn drop(self) {
-        let Domain { rows, unchanged } = self;
-        drop(rows);
-        drop(unchanged);
-    }
 }
 
 impl DomainRows {

@@ -34,20 +34,12 @@ impl Drop for FootingRows {
 
 /// The rows that a tree is lowered over, a domain, and which of their columns come unchanged from a
 /// table.
+#[derive(Drop)]
 pub struct Footing {
     /// The rows.
     pub rows: FootingRows,
     /// The columns that come unchanged from a table, as far as they are noted.
     pub unchanged: Items<Origin>,
-}
-
-impl Drop for Footing {
-    #[inline]
-    fn drop(self) {
-        let Footing { rows, unchanged } = self;
-        drop(rows);
-        drop(unchanged);
-    }
 }
 
 impl Footing {

@@ -38,6 +38,7 @@ use sqlite_items::{Boxed, Items};
 use std::alloc::{AllocError, Global};
 
 /// Rows that are still without a domain.
+#[derive(Drop)]
 pub struct Apart {
     /// The node that has them.
     pub rows: NodeId,
@@ -46,18 +47,6 @@ pub struct Apart {
     /// The conditions that they are still under, on the domain's columns and, after these, their
     /// own.
     pub conditions: Items<Expr>,
-}
-
-impl Drop for Apart {
-    #[inline]
-    fn drop(self) {
-        let Apart {
-            rows: _,
-            width: _,
-            conditions,
-        } = self;
-        drop(conditions);
-    }
 }
 
 /// The rows of a part of FROM.

@@ -33,36 +33,18 @@ pub struct Collected {
 
 /// An expression over the inputs of its clause; and its date, where it is a date literal with its
 /// intervals.
+#[derive(Drop)]
 pub struct Typed {
     pub value: Boxed<Expr>,
     pub kind: BoundKind,
     pub date: Option<CivilDate>,
 }
 
-impl Drop for Typed {
-    #[inline]
-    fn drop(self) {
-        let Typed {
-            value,
-            kind: _,
-            date: _,
-        } = self;
-        drop(value);
-    }
-}
-
 /// An expression with inputs of its own, and what it is.
+#[derive(Drop)]
 pub struct Part {
     pub expr: BoundExpr,
     pub kind: BoundKind,
-}
-
-impl Drop for Part {
-    #[inline]
-    fn drop(self) {
-        let Part { expr, kind: _ } = self;
-        drop(expr);
-    }
 }
 
 /// A chain of operations so far: its first operand, the operations on it, what it is, and its date,
