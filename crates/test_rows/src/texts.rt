@@ -39,39 +39,33 @@ fn put_digits(bytes: &mut Vec<u8>, digits: &str) -> Result<(), AllocError> {
     Ok(())
 }
 
-/// Puts bytes and, where others follow, a number and those.
-fn put_numbered(
-    bytes: &mut Vec<u8>,
-    number: u32,
-    before: &str,
-    after: Option<&str>,
-) -> Result<(), AllocError> {
-    put_digits(bytes, before)?;
-    let Some(after) = after else {
-        return Ok(());
-    };
-    let mut buffer = Buffer::new();
-    bytes.extend_from_slice(buffer.format(number).as_bytes())?;
-    put_digits(bytes, after)
-}
-
-/// The word before the first blank, and the others, if there are any.
-fn split_word(words: &str) -> (&str, Option<&str>) {
-    match words.split_once(' ') {
-        Some((word, rest)) => (word, Some(rest)),
-        None => (words, None),
+/// Puts the bytes that words say, with a number between them.
+fn put_numbered(bytes: &mut Vec<u8>, number: u32, words: &str) -> Result<(), AllocError> {
+    let mut is_first = true;
+    for digits in words.split(' ') {
+        if !is_first {
+            let mut buffer = Buffer::new();
+            bytes.extend_from_slice(buffer.format(number).as_bytes())?;
+        }
+        put_digits(bytes, digits)?;
+        is_first = false;
     }
+    Ok(())
 }
 
-/// Puts what a line `FIRST LAST DIGITS` or `FIRST LAST DIGITS DIGITS` says, once for each number.
+/// The word before the first blank, and the others.
+fn split_word(words: &str) -> (&str, &str) {
+    words.split_once(' ').unwrap_or((words, ""))
+}
+
+/// Puts what a line `FIRST LAST WORDS` says, once for each number.
 fn put_repeated(bytes: &mut Vec<u8>, line: &str) -> Result<(), AllocError> {
     let (first, rest) = split_word(line);
-    let (last, rest) = split_word(rest.unwrap_or(""));
-    let (before, after) = split_word(rest.unwrap_or(""));
+    let (last, words) = split_word(rest);
     let first = first.parse::<u32>().unwrap_or(0);
     let last = last.parse::<u32>().unwrap_or(0);
     for number in first..last.saturating_add(1) {
-        put_numbered(bytes, number, before, after)?;
+        put_numbered(bytes, number, words)?;
     }
     Ok(())
 }
