@@ -1,6 +1,7 @@
 //! Which calls files get, and calls that fail.
-use crate::runs::{FIRST_SET, Given, ONE_QUERY, REGIONS, SCRIPT, SESSION, THROUGHPUT};
-use crate::runs::{failing, files_of, run, sink};
+use crate::runs::{
+    FIRST_SET, Given, ONE_QUERY, REGIONS, SCRIPT, SESSION, THROUGHPUT, failing, files_of, run, sink,
+};
 use app_main::Status;
 use std::alloc::Global;
 use std::process::Abort;
@@ -8,12 +9,7 @@ use std::sync::Wait;
 use std::thread::Threads;
 
 /// Words, files, those of a set, and how many calls the files get.
-type Case = (
-    &'static [&'static str],
-    Given,
-    Given,
-    u64,
-);
+type Case = (&'static [&'static str], Given, Given, u64);
 
 const CHECK: &[&str] = &["check", "d"];
 
@@ -23,7 +19,10 @@ const TWICE: &str = "refresh insert 1; refresh delete 1; refresh insert 1; refre
 
 /// A job of two sessions, a refresh before them and one beside them.
 const JOB: Given = &[
-    ("j", "session a\nsession b\nbefore insert 1\nbeside delete 1\n"),
+    (
+        "j",
+        "session a\nsession b\nbefore insert 1\nbeside delete 1\n",
+    ),
     ("a", COUNT),
     ("b", COUNT),
 ];
@@ -34,7 +33,12 @@ const JOB: Given = &[
 const CASES: &[Case] = &[
     // The script, the regions and seven empty tables.
     (SESSION, ONE_QUERY, &[], 20),
-    (SESSION, &[("s", "select"), ("d/region.tbl", REGIONS)], &[], 3),
+    (
+        SESSION,
+        &[("s", "select"), ("d/region.tbl", REGIONS)],
+        &[],
+        3,
+    ),
     (SESSION, &[("s", SCRIPT), ("d/region.tbl", "0")], &[], 6),
     (CHECK, ONE_QUERY, &[], 17),
     (CHECK, &[("d/region.tbl", "0")], &[], 3),
@@ -42,7 +46,12 @@ const CASES: &[Case] = &[
     // The script, three tables with bytes and five empty ones; then the refresh files, each once.
     (SESSION, &[("s", COUNT)], FIRST_SET, 22),
     (SESSION, &[("s", "refresh insert 1;")], FIRST_SET, 28),
-    (SESSION, &[("s", "refresh insert 1; refresh delete 1;")], FIRST_SET, 31),
+    (
+        SESSION,
+        &[("s", "refresh insert 1; refresh delete 1;")],
+        FIRST_SET,
+        31,
+    ),
     (SESSION, &[("s", TWICE)], FIRST_SET, 31),
     (THROUGHPUT, JOB, FIRST_SET, 37),
 ];

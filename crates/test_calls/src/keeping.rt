@@ -11,14 +11,20 @@ use std::thread::Threads;
 const COUNT: &str = "select count(*) from orders;";
 
 /// A session, and a refresh before it that a journal keeps.
-const JOB: Given = &[("j", "session a\njournal k\nbefore insert 1\n"), ("a", COUNT)];
+const JOB: Given = &[
+    ("j", "session a\njournal k\nbefore insert 1\n"),
+    ("a", COUNT),
+];
 
 /// A session, and a journal that it only begins with.
 const READING: Given = &[("j", "session a\njournal k\n"), ("a", COUNT)];
 
 /// A session beside two senders, whose refreshes a journal keeps.
 const SENDING: Given = &[
-    ("j", "session a\njournal k\nsend1 delete 1\nsend2 insert 1\n"),
+    (
+        "j",
+        "session a\njournal k\nsend1 delete 1\nsend2 insert 1\n",
+    ),
     ("a", COUNT),
 ];
 

@@ -9,7 +9,10 @@ const COUNTS: &str = "select count(*) from orders; select count(*) from orders;"
 
 /// A job of two sessions, a refresh before them and one beside them.
 const JOB: Given = &[
-    ("j", "session a\nsession b\nbefore insert 1\nbeside delete 1\n"),
+    (
+        "j",
+        "session a\nsession b\nbefore insert 1\nbeside delete 1\n",
+    ),
     ("a", COUNTS),
     ("b", COUNTS),
 ];

@@ -99,17 +99,42 @@ fn of_kind<R: Abort>(rt: &R, alloc: Global, kind: u32) -> Expr {
 fn push<R: Abort>(rt: &R, alloc: Global, rows: &mut BatchBuilder, key: Value, text: Value) {
     let row = [key, text];
     assert!(rt; rows.width() == row.len());
-    rows.push_row(alloc, &row, Standing::AtTrue).expect(rt, "memory");
+    rows.push_row(alloc, &row, Standing::AtTrue)
+        .expect(rt, "memory");
 }
 
 // A number and a text, zero and a text, a null and a text, and a fault and a null.
 fn rows<R: Abort>(rt: &R, alloc: Global) -> Batch {
     let forms = [ColumnForm::Values, ColumnForm::Texts];
     let mut rows = BatchBuilder::new(alloc, &forms).expect(rt, "memory");
-    push(rt, alloc, &mut rows, whole(3), Value::Text(text(rt, alloc, b"MAIL")));
-    push(rt, alloc, &mut rows, whole(0), Value::Text(text(rt, alloc, b"AIR")));
-    push(rt, alloc, &mut rows, Value::Null, Value::Text(text(rt, alloc, b"MAIL")));
-    push(rt, alloc, &mut rows, Value::Fault(Fault::TooManyRows), Value::Null);
+    push(
+        rt,
+        alloc,
+        &mut rows,
+        whole(3),
+        Value::Text(text(rt, alloc, b"MAIL")),
+    );
+    push(
+        rt,
+        alloc,
+        &mut rows,
+        whole(0),
+        Value::Text(text(rt, alloc, b"AIR")),
+    );
+    push(
+        rt,
+        alloc,
+        &mut rows,
+        Value::Null,
+        Value::Text(text(rt, alloc, b"MAIL")),
+    );
+    push(
+        rt,
+        alloc,
+        &mut rows,
+        Value::Fault(Fault::TooManyRows),
+        Value::Null,
+    );
     rows.finish(alloc).expect(rt, "memory")
 }
 
@@ -184,7 +209,13 @@ fn decided<R: Abort>(rt: &R, alloc: Global, a: Expr) -> Truth {
 fn computes_over_a_row(rt: HostRuntime) {
     let quotient = Value::Number(Scale::new(6), 666_667);
     expect_value(&rt, rt.alloc(), 2, Arithmetic::Divide, quotient);
-    expect_value(&rt, rt.alloc(), MOST, Arithmetic::Add, Value::Fault(Fault::NumberRange));
+    expect_value(
+        &rt,
+        rt.alloc(),
+        MOST,
+        Arithmetic::Add,
+        Value::Fault(Fault::NumberRange),
+    );
     let fault = Truth::Stands(Standing::AtFault(Fault::DivideByZero));
     assert!(rt; decided(&rt, rt.alloc(), key()) == fault);
     assert!(rt; decided(&rt, rt.alloc(), number(4)) == Truth::False);

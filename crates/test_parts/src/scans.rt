@@ -28,7 +28,10 @@ const FOURTH: &[u8] =
     b"3|1|1|2|50.00|5.00|0.00|0.00|A|F|1996-02-01|1996-02-02|1996-02-03|NONE|MAIL|w|\n";
 
 // The lineitems as one file, and as four.
-const WAYS: [&[&[&[u8]]]; 2] = [&[&[FIRST, SECOND, THIRD, FOURTH]], &[&[FIRST], &[SECOND], &[THIRD], &[FOURTH]]];
+const WAYS: [&[&[&[u8]]]; 2] = [
+    &[&[FIRST, SECOND, THIRD, FOURTH]],
+    &[&[FIRST], &[SECOND], &[THIRD], &[FOURTH]],
+];
 
 // A piece for each file.
 fn pieces_of<R: Abort>(rt: &R, alloc: Global, files: &[&[&[u8]]]) -> Vec<Piece> {
@@ -80,12 +83,7 @@ fn aggregates<R: Abort>(rt: &R, alloc: Global) -> Vec<Aggregate> {
 }
 
 // Their groups by these columns.
-fn grouped<R: Threads + Sync + Abort>(
-    rt: &R,
-    alloc: Global,
-    pieces: &[Piece],
-    by: &[Expr],
-) -> Bag {
+fn grouped<R: Threads + Sync + Abort>(rt: &R, alloc: Global, pieces: &[Piece], by: &[Expr]) -> Bag {
     let condition = more_than_20(rt, alloc);
     let aggregates = aggregates(rt, alloc);
     let groups = scan_groups(rt, alloc, pieces, &condition, by, &aggregates);

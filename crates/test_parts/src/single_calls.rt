@@ -31,7 +31,9 @@ fn bag_len<R: Abort>(rt: &R, alloc: Global, values: Vec<Value>) -> usize {
     let width = values.len();
     let row = Row::new(values).expect(rt, "memory");
     let rows = stored_rows(alloc, &[row]).expect(rt, "memory");
-    Bag::from_rows(alloc, width, &rows).expect(rt, "memory").len()
+    Bag::from_rows(alloc, width, &rows)
+        .expect(rt, "memory")
+        .len()
 }
 
 #[test]

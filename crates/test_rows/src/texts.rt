@@ -72,20 +72,20 @@ fn put_repeated(bytes: &mut Vec<u8>, line: &str) -> Result<(), AllocError> {
 
 /// Puts the bytes that a line stands for.
 fn put_bytes(bytes: &mut Vec<u8>, line: &str) -> Result<(), AllocError> {
-    match line.strip_prefix("+") {
-        Some(text) => {
-            bytes.extend_from_slice(text.as_bytes())?;
-            bytes.push(b'\n')
-        }
-        None => put_repeated(bytes, line),
-    }
+    let Some(text) = line.strip_prefix("+") else {
+        return put_repeated(bytes, line);
+    };
+    bytes.extend_from_slice(text.as_bytes())?;
+    bytes.push(b'\n')?;
+    Ok(())
 }
 
 /// Puts a text that begins with this header.
 fn put_text(alloc: Global, case: &mut Vec<Text>, header: &str) -> Result<(), AllocError> {
     let header = String::from_str(alloc, header)?;
     let bytes = Vec::new(alloc);
-    case.push(Text { header, bytes })
+    case.push(Text { header, bytes })?;
+    Ok(())
 }
 
 /// Puts the next line of a case.

@@ -6,7 +6,7 @@ ghost use Rattle.store_refresh_entries.specs.Change.{MayBeStored};
 ghost use Rattle.store_gateway.specs.Queue.{pick};
 ghost use Rattle.store_gateway.specs.Roles.{new_sender, sent_by};
 ghost use Rattle.store_gateway.specs.declared.message.SenderId.TheVariants.{First, Second};
-ghost use Rattle.test_versions.specs.Sendings.{Fits, HasSent};
+ghost use Rattle.test_store.specs.Sendings.{Fits, HasSent};
 
 use base_refusals::{LineFault, LineRefusal, RefreshFile};
 use std::sync::Wait;

@@ -17,7 +17,12 @@ fn finds_the_same(rt: HostRuntime) {
     let alloc = rt.alloc();
     let insertion = insert_nine(&rt, alloc);
     expect_same(&rt, &insertion, insert_nine(&rt, alloc), true);
-    expect_same(&rt, &insertion, insertion.clone().expect(&rt, "memory"), true);
+    expect_same(
+        &rt,
+        &insertion,
+        insertion.clone().expect(&rt, "memory"),
+        true,
+    );
     expect_same(&rt, &insertion, insert(&rt, alloc, NINE, NINE_TWO), false);
     expect_same(&rt, &insertion, delete_nine(&rt, alloc), false);
     expect_same(&rt, &delete_nine(&rt, alloc), delete_nine(&rt, alloc), true);

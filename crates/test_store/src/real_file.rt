@@ -29,6 +29,13 @@ fn read_again<R: Abort, D: Disk>(rt: &R, alloc: Global, disk: &mut D) -> (u64, u
     (journal.end, values.len())
 }
 
+/// Whether what a disk's file holds is what was appended to it.
+fn holds_one<R: Abort, D: Disk>(rt: &R, alloc: Global, disk: &mut D) -> bool
+    requires { D.is_reached disk.old ≡ true }
+{
+    append_one(rt, alloc, disk) == Appended::Stored && read_again(rt, alloc, disk) == (12, 1)
+}
+
 /// The file is locked as long as it is reached, and holds what was appended.
 #[test]
 fn a_real_file(rt: HostRuntime) {
@@ -36,7 +43,6 @@ fn a_real_file(rt: HostRuntime) {
     assert!(rt; disk.reach(NAME) == Reach::Reached);
     let mut other = RealDisk::new(&rt);
     assert!(rt; other.reach(NAME) == Reach::Failed);
-    assert!(rt; append_one(&rt, rt.alloc(), &mut disk) == Appended::Stored);
-    assert!(rt; read_again(&rt, rt.alloc(), &mut disk) == (12, 1));
+    assert!(rt; holds_one(&rt, rt.alloc(), &mut disk));
     assert!(rt; fs::remove_file(&rt, NAME).is_ok());
 }

@@ -5,14 +5,27 @@ use std::alloc::Global;
 use std::process::Abort;
 use store_journal::{Appended, Journal, make, reopen};
 
+/// The entries of a disk's journal.
+fn entries<R: Abort>(rt: &R, alloc: Global, disk: &mut MemDisk) -> Vec<Vec<u8>> {
+    assert!(rt; disk.reach("j") == Reach::Reached);
+    let (_, values) = reopen::<_, Plain>(alloc, disk).expect(rt, "a journal");
+    values
+}
+
+/// Whether each value is the one entry.
+fn are_sevens(values: &[Vec<u8>]) -> bool {
+    let mut good = true;
+    for value in values {
+        good &= value.as_slice() == SEVEN.as_slice();
+    }
+    good
+}
+
 /// How many entries the journal of these bytes has, each of which is the one.
 fn sevens<R: Abort>(rt: &R, alloc: Global, bytes: &[u8]) -> usize {
     let mut disk = disk_of(rt, alloc, bytes, &[]);
-    assert!(rt; disk.reach("j") == Reach::Reached);
-    let (_, values) = reopen::<_, Plain>(alloc, &mut disk).expect(rt, "a journal");
-    for value in &values {
-        assert!(rt; value.as_slice() == SEVEN.as_slice());
-    }
+    let values = entries(rt, alloc, &mut disk);
+    assert!(rt; are_sevens(&values));
     values.len()
 }
 

@@ -1,5 +1,5 @@
 use Rattle.std.proofs.Common.{◌≡◌}
-use Rattle.test_versions.proofs.snapshots.publish.Given as goal
+use Rattle.test_store.proofs.snapshots.publish.Given as goal
 
 abbrev pub invariant-publishing : goal.invariant-publishing
 invariant-publishing g l =

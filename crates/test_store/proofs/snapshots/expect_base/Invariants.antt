@@ -1,4 +1,4 @@
-use Rattle.test_versions.proofs.snapshots.expect_base.Given as goal
+use Rattle.test_store.proofs.snapshots.expect_base.Given as goal
 
 abbrev pub ghosts-scanned : goal.ghosts-scanned
 ghosts-scanned a = record { name = a.blank.name; parts = a.blank.parts }
