@@ -27,18 +27,13 @@ const THIRD: &[u8] =
 const FOURTH: &[u8] =
     b"3|1|1|2|50.00|5.00|0.00|0.00|A|F|1996-02-01|1996-02-02|1996-02-03|NONE|MAIL|w|\n";
 
-// The lineitems as one file, and as four.
-const WAYS: [&[&[&[u8]]]; 2] = [
-    &[&[FIRST, SECOND, THIRD, FOURTH]],
-    &[&[FIRST], &[SECOND], &[THIRD], &[FOURTH]],
-];
-
 // A piece for each file.
 fn pieces_of<R: Abort>(rt: &R, alloc: Global, files: &[&[&[u8]]]) -> Vec<Piece> {
     let mut pieces = Vec::new(alloc);
     for lines in files {
         let rows = read_pieces(alloc, DataFile::Table(TableName::Lineitem), lines);
-        for segment in rows.expect(rt, "rows").segments() {
+        let rows = rows.expect(rt, "rows");
+        for segment in rows.segments() {
             let segment = segment.clone().expect(rt, "a share");
             pieces.push(Piece::whole(segment)).expect(rt, "memory");
         }
@@ -125,16 +120,20 @@ const BY_FLAG: &[&[i128]] = &[
 
 const AS_ONE: &[&[i128]] = &[&[3, 12050, 40_166_667, 3000, 5000, 2]];
 
+// Expects what the lineitems of these files give, a piece for each.
+fn expect_scans<R: Threads + Sync + Abort>(rt: &R, alloc: Global, files: &[&[&[u8]]]) {
+    let pieces = pieces_of(rt, alloc, files);
+    expect_rows(rt, alloc, &scanned(rt, alloc, &pieces), ROWS);
+    let by_flag = grouped(rt, alloc, &pieces, &[Expr::Column(8)]);
+    expect_rows(rt, alloc, &by_flag, BY_FLAG);
+    expect_rows(rt, alloc, &grouped(rt, alloc, &pieces, &[]), AS_ONE);
+}
+
+// As one file, and as four.
 #[test]
 fn cut_into_pieces(rt: HostRuntime) {
-    let alloc = rt.alloc();
-    for files in WAYS {
-        let pieces = pieces_of(&rt, alloc, files);
-        expect_rows(&rt, alloc, &scanned(&rt, alloc, &pieces), ROWS);
-        let by_flag = grouped(&rt, alloc, &pieces, &[Expr::Column(8)]);
-        expect_rows(&rt, alloc, &by_flag, BY_FLAG);
-        expect_rows(&rt, alloc, &grouped(&rt, alloc, &pieces, &[]), AS_ONE);
-    }
+    expect_scans(&rt, rt.alloc(), &[&[FIRST, SECOND, THIRD, FOURTH]]);
+    expect_scans(&rt, rt.alloc(), &[&[FIRST], &[SECOND], &[THIRD], &[FOURTH]]);
 }
 
 #[test]

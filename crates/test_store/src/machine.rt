@@ -59,10 +59,12 @@ fn step_of<R: Abort>(rt: &R, alloc: Global, act: &Act) -> Option<Step> {
 /// Whether the session's finished scan of the orders has what an act says; true for other acts.
 fn has_scanned<R: Abort>(rt: &R, machine: &Machine, act: &Act) -> bool {
     let scanned = machine.scanned(1, TableName::Orders).expect(rt, "memory");
-    match (act, scanned) {
-        (Act::HasNone, rows) => rows.is_none(),
-        (Act::Has(keys), Some(rows)) => have_keys(&rows, keys),
-        (Act::Has(_), None) => false,
+    match act {
+        Act::HasNone => scanned.is_none(),
+        Act::Has(keys) => match &scanned {
+            Some(rows) => have_keys(rows, keys),
+            None => false,
+        },
         _ => true,
     }
 }
