@@ -90,6 +90,16 @@ pub fn put_clause(
     block.next = block.next.saturating_add(1);
 }
 
+/// Ends a query: the line of SELECT before the other clauses.
+pub fn end_select(alloc: Global, page: &mut Page, block: Block, list: RowWriter) -> ShownQuery {
+    let RowWriter { detail, columns } = list;
+    put_clause(alloc, page, &mut block.at_first(), b"select", detail);
+    ShownQuery {
+        number: block.number,
+        columns: page.names(alloc, columns.finish()),
+    }
+}
+
 /// Appends a copy of a row's names.
 fn push_row(alloc: Global, rows: &mut Sight, row: &[Vec<u8>]) -> Result<(), AllocError> {
     let mut copy = NameList::new(alloc);
@@ -110,7 +120,7 @@ fn rows_with(alloc: Global, sight: &[Names], row: &[Vec<u8>]) -> Result<Sight, A
 
 /// The names in sight, and those of one row more; none where memory ran out.
 pub fn with_row(alloc: Global, page: &mut Page, sight: &[Names], row: &[Vec<u8>]) -> Sight {
-    page.kept(rows_with(alloc, sight, row), Vec::new(alloc))
+    page.rows(alloc, rows_with(alloc, sight, row))
 }
 
 /// The names of the row this many levels out.
@@ -200,6 +210,6 @@ pub fn end_set(
     let columns = set_names(alloc, block.number, left.columns.as_slice(), all);
     ShownQuery {
         number: block.number,
-        columns: page.kept(columns.finish(), Vec::new(alloc)),
+        columns: page.names(alloc, columns.finish()),
     }
 }

@@ -249,7 +249,7 @@ fn put_branches(text: &mut TextWriter, row: &Row<'_>, branches: &[Branch]) {
 }
 
 /// The start of an aggregate, up to its argument.
-fn function_start(function: AggregateFunction) -> &'static str {
+pub fn function_start(function: AggregateFunction) -> &'static str {
     match function {
         AggregateFunction::Count => "count(",
         AggregateFunction::CountDistinct => "count(distinct ",
@@ -260,24 +260,14 @@ fn function_start(function: AggregateFunction) -> &'static str {
     }
 }
 
-/// Appends an aggregate of this function and argument.
-pub fn push_function(
-    text: &mut TextWriter,
-    row: &Row<'_>,
-    function: AggregateFunction,
-    argument: &Expr,
-) {
-    text.put(function_start(function).as_bytes());
-    push_expr(text, row, argument);
-    text.put_byte(b')');
-}
-
 /// Appends an aggregate.
 pub fn push_aggregate(text: &mut TextWriter, row: &Row<'_>, aggregate: &Aggregate) {
     match aggregate {
         Aggregate::CountRows => text.put(b"count(*)"),
         Aggregate::Of(function, _, argument) => {
-            push_function(text, row, *function, argument.get());
+            text.put(function_start(*function).as_bytes());
+            push_expr(text, row, argument.get());
+            text.put_byte(b')');
         }
     }
 }

@@ -20,13 +20,18 @@ impl Scans {
     /// Counts a scan of a table, and answers which of its scans this is, from 1.
     pub fn count(&mut self, table: TableName) -> usize {
         let next = self.of(table).saturating_add(1);
-        self.counts[table as usize] = next;
+        if let Some(count) = self.counts.get_mut(table as usize) {
+            *count = next;
+        }
         next
     }
 
     /// How often a table is scanned.
     fn of(&self, table: TableName) -> usize {
-        self.counts[table as usize]
+        match self.counts.get(table as usize) {
+            Some(count) => *count,
+            None => 0,
+        }
     }
 }
 

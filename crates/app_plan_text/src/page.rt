@@ -1,5 +1,6 @@
 //! Where a query or a tree is shown.
 use crate::line::PlanLine;
+use crate::names::Names;
 use crate::numbering::{Numbering, Scans};
 use std::alloc::{AllocError, Global};
 
@@ -71,13 +72,24 @@ impl Page {
         }
     }
 
-    /// What was made; this where memory ran out.
-    pub fn kept<T: Drop>(&mut self, made: Result<T, AllocError>, otherwise: T) -> T {
+    /// Names that were made; none where memory ran out.
+    pub fn names(&mut self, alloc: Global, made: Result<Names, AllocError>) -> Names {
         match made {
-            Ok(made) => made,
+            Ok(names) => names,
             Err(_) => {
                 self.is_cut = true;
-                otherwise
+                Vec::new(alloc)
+            }
+        }
+    }
+
+    /// Names of rows that were made; none where memory ran out.
+    pub fn rows(&mut self, alloc: Global, made: Result<Vec<Names>, AllocError>) -> Vec<Names> {
+        match made {
+            Ok(rows) => rows,
+            Err(_) => {
+                self.is_cut = true;
+                Vec::new(alloc)
             }
         }
     }

@@ -94,13 +94,7 @@ fn put_fill(
 }
 
 /// Puts a node that reads two others.
-fn put_of_two(
-    alloc: Global,
-    to: &mut RowWriter,
-    lines: &[PlanLine],
-    number: NodeId,
-    node: &Node,
-) {
+fn put_of_two(alloc: Global, to: &mut RowWriter, lines: &[PlanLine], number: NodeId, node: &Node) {
     match node {
         Node::Join(i, j, pairs, c) | Node::Outer(i, j, pairs, _, c) => {
             let pairs = pairs.as_slice();
@@ -191,13 +185,19 @@ fn inputs_of(alloc: Global, node: &Node) -> Result<Vec<NodeId>, AllocError>
         | Node::Select(i, _)
         | Node::Project(i, _)
         | Node::Group(i, _, _)
-        | Node::Distinct(i) => Vec::from_slice(alloc, &[*i]),
+        | Node::Distinct(i) => {
+            let inputs = Vec::from_slice(alloc, &[*i])?;
+            Ok(inputs)
+        }
         Node::Join(i, j, _, _)
         | Node::Outer(i, j, _, _, _)
         | Node::Mark(i, j, _, _)
         | Node::Single(i, j, _, _)
         | Node::Fill(i, j, _)
-        | Node::Set(i, j, _) => Vec::from_slice(alloc, &[*i, *j]),
+        | Node::Set(i, j, _) => {
+            let inputs = Vec::from_slice(alloc, &[*i, *j])?;
+            Ok(inputs)
+        }
     }
 }
 
@@ -216,7 +216,8 @@ fn line_of(
     let inputs = inputs_of(alloc, node)?;
     let mut row = RowWriter::new(alloc);
     put_node(alloc, &mut row, numbering, lines, number, node);
-    row.line(alloc, number, 0, kind_word(node).as_bytes(), inputs, rows)
+    let line = row.line(alloc, number, 0, kind_word(node).as_bytes(), inputs, rows)?;
+    Ok(line)
 }
 
 /// The scans of a plan.

@@ -1,14 +1,14 @@
 //! Bound queries, a line a clause. Each query in another has a number, and its lines stand after
 //! those of the query around it.
 use crate::block::{
-    Block, ShownQuery, Sight, end_set, put_clause, put_table, row_at, seen_at, with_row,
+    Block, ShownQuery, Sight, end_select, end_set, put_clause, put_table, row_at, seen_at, with_row,
 };
-use crate::expr::{comparison_sign, push_expr, push_function};
+use crate::expr::{comparison_sign, function_start, push_expr};
 use crate::line::PlanLine;
 use crate::names::{NameList, Names, Row, rest_from};
+use crate::numbering::Scans;
 use crate::page::Page;
 use crate::row_writer::RowWriter;
-use crate::numbering::Scans;
 use crate::scans::count_scans;
 use crate::writer::{Piece, TextWriter};
 use base_order_limit::OrderKey;
@@ -84,23 +84,25 @@ fn put_input(
     }
 }
 
-/// What the inputs of an expression read, each as it is written.
-#[cycle(query_lines)]
-fn put_inputs(alloc: Global, page: &mut Page, sight: &[Names], inputs: &[Input]) -> Names {
-    let mut all = NameList::new(alloc);
-    for input in inputs {
-        let mut text = TextWriter::new(alloc);
-        put_input(alloc, page, &mut text, sight, input);
-        all.give(text.finish());
-    }
-    page.kept(all.finish(), Vec::new(alloc))
-}
-
-/// Appends an expression over the rows in sight.
+/// Appends an expression over the rows in sight, once what its inputs read is shown.
 #[cycle(query_lines)]
 fn put_expr(alloc: Global, page: &mut Page, text: &mut TextWriter, sight: &[Names], e: &BoundExpr) {
-    let inputs = put_inputs(alloc, page, sight, e.inputs.as_slice());
+    let mut inputs = NameList::new(alloc);
+    for input in e.inputs.as_slice() {
+        let mut written = TextWriter::new(alloc);
+        put_input(alloc, page, &mut written, sight, input);
+        inputs.give(written.finish());
+    }
+    let inputs = page.names(alloc, inputs.finish());
     push_expr(text, &Row::of(inputs.as_slice()), e.expr.get());
+}
+
+/// The word between the sides of a join.
+fn join_word(source: &BoundSource) -> &'static str {
+    match source {
+        BoundSource::Outer(_, _, _, _) => " left join ",
+        _ => " join ",
+    }
 }
 
 /// The name of the column that an expression is, where it is one.
@@ -109,52 +111,6 @@ fn plain_name<'a>(sight: &'a [Names], e: &BoundExpr) -> &'a [u8] {
         return seen_at(sight, *level, *place);
     }
     &[]
-}
-
-/// Appends a select list: a column keeps its name, and anything else is named after the query.
-#[cycle(query_lines)]
-fn put_list(
-    alloc: Global,
-    page: &mut Page,
-    list: &mut RowWriter,
-    number: usize,
-    sight: &[Names],
-    es: &[BoundExpr],
-) {
-    for (place, e) in es.iter().enumerate() {
-        list.put_comma();
-        let name = plain_name(sight, e);
-        if name.is_empty() {
-            list.put_computed(alloc, b"q", number, b".c", place);
-            put_expr(alloc, page, &mut list.detail, sight, e);
-        } else {
-            list.put_name(alloc, name);
-        }
-    }
-}
-
-/// Appends aggregates to the columns that groups are by.
-#[cycle(query_lines)]
-fn put_aggregates(
-    alloc: Global,
-    page: &mut Page,
-    groups: &mut RowWriter,
-    number: usize,
-    sight: &[Names],
-    aggregates: &[BoundAggregate],
-) {
-    for (place, aggregate) in aggregates.iter().enumerate() {
-        groups.put_comma();
-        groups.put_computed(alloc, b"q", number, b".a", place);
-        match aggregate {
-            BoundAggregate::CountRows => groups.detail.put(b"count(*)"),
-            BoundAggregate::Of(function, _, argument) => {
-                let inputs = put_inputs(alloc, page, sight, argument.inputs.as_slice());
-                let row = Row::of(inputs.as_slice());
-                push_function(&mut groups.detail, &row, *function, argument.expr.get());
-            }
-        }
-    }
 }
 
 /// Appends an item of FROM, behind the columns of the row so far.
@@ -166,6 +122,7 @@ fn put_source(
     sight: &[Names],
     source: &BoundSource,
 ) {
+    let place = from.columns.names().len();
     match source {
         BoundSource::Table(table) => put_table(alloc, &mut page.numbering, from, *table),
         BoundSource::Derived(_, q) => {
@@ -183,31 +140,26 @@ fn put_source(
             from.detail.put(b", ");
             put_source(alloc, page, from, sight, r.get());
         }
-        BoundSource::Inner(l, r, c) => {
-            put_joined(alloc, page, from, sight, l.get(), b" join ", r.get(), c);
-        }
-        BoundSource::Outer(l, r, _, c) => {
-            put_joined(alloc, page, from, sight, l.get(), b" left join ", r.get(), c);
+        BoundSource::Inner(l, r, c) | BoundSource::Outer(l, r, _, c) => {
+            put_source(alloc, page, from, sight, l.get());
+            from.detail.put(join_word(source).as_bytes());
+            put_source(alloc, page, from, sight, r.get());
+            put_on(alloc, page, from, sight, place, c);
         }
     }
 }
 
-/// Appends a join by its word, and its condition.
+/// Appends the condition of a join, after the word ON. The columns of its sides are those from a
+/// place on.
 #[cycle(query_lines)]
-fn put_joined(
+fn put_on(
     alloc: Global,
     page: &mut Page,
     from: &mut RowWriter,
     sight: &[Names],
-    left: &BoundSource,
-    word: &[u8],
-    right: &BoundSource,
+    place: usize,
     c: &BoundExpr,
 ) {
-    let place = from.columns.names().len();
-    put_source(alloc, page, from, sight, left);
-    from.detail.put(word);
-    put_source(alloc, page, from, sight, right);
     let seen = with_row(alloc, page, sight, rest_from(from.columns.names(), place));
     from.detail.put(b" on ");
     put_expr(alloc, page, &mut from.detail, seen.as_slice(), c);
@@ -237,15 +189,18 @@ fn put_rows(
     page: &mut Page,
     block: &mut Block,
     sight: &[Names],
-    source: &BoundSource,
-    condition: &BoundExpr,
+    q: &BoundBlock,
 ) -> Sight {
     let mut from = RowWriter::new(alloc);
-    put_source(alloc, page, &mut from, sight, source);
+    if let BoundBlock::Plain(source, _, _) | BoundBlock::Grouped(source, _, _, _, _, _) = q {
+        put_source(alloc, page, &mut from, sight, source.get());
+    }
     let RowWriter { detail, columns } = from;
     put_clause(alloc, page, block, b"from", detail);
     let seen = with_row(alloc, page, sight, columns.names());
-    put_condition(alloc, page, block, b"where", seen.as_slice(), condition);
+    if let BoundBlock::Plain(_, c, _) | BoundBlock::Grouped(_, c, _, _, _, _) = q {
+        put_condition(alloc, page, block, b"where", seen.as_slice(), c);
+    }
     seen
 }
 
@@ -262,13 +217,37 @@ fn put_groups(
 ) -> Sight {
     let mut groups = RowWriter::new(alloc);
     groups.put_places(alloc, &Row::of(row_at(seen, 0)), by, b"");
-    put_aggregates(alloc, page, &mut groups, block.number, seen, aggregates);
+    for (place, aggregate) in aggregates.iter().enumerate() {
+        groups.put_comma();
+        groups.put_computed(alloc, b"q", block.number, b".a", place);
+        put_aggregate(alloc, page, &mut groups.detail, seen, aggregate);
+    }
     let RowWriter { detail, columns } = groups;
     put_clause(alloc, page, block, b"group by", detail);
     with_row(alloc, page, sight, columns.names())
 }
 
-/// Puts SELECT before the other clauses, which ends the query.
+/// Appends an aggregate.
+#[cycle(query_lines)]
+fn put_aggregate(
+    alloc: Global,
+    page: &mut Page,
+    text: &mut TextWriter,
+    sight: &[Names],
+    aggregate: &BoundAggregate,
+) {
+    match aggregate {
+        BoundAggregate::CountRows => text.put(b"count(*)"),
+        BoundAggregate::Of(function, _, argument) => {
+            text.put(function_start(*function).as_bytes());
+            put_expr(alloc, page, text, sight, argument);
+            text.put_byte(b')');
+        }
+    }
+}
+
+/// Puts SELECT before the other clauses, which ends the query: a column keeps its name, and
+/// anything else is named after the query.
 #[cycle(query_lines)]
 fn put_select(
     alloc: Global,
@@ -278,27 +257,31 @@ fn put_select(
     es: &[BoundExpr],
 ) -> ShownQuery {
     let mut list = RowWriter::new(alloc);
-    put_list(alloc, page, &mut list, block.number, sight, es);
-    let RowWriter { detail, columns } = list;
-    put_clause(alloc, page, &mut block.at_first(), b"select", detail);
-    ShownQuery {
-        number: block.number,
-        columns: page.kept(columns.finish(), Vec::new(alloc)),
+    for (place, e) in es.iter().enumerate() {
+        list.put_comma();
+        let name = plain_name(sight, e);
+        if name.is_empty() {
+            list.put_computed(alloc, b"q", block.number, b".c", place);
+            put_expr(alloc, page, &mut list.detail, sight, e);
+        } else {
+            list.put_name(alloc, name);
+        }
     }
+    end_select(alloc, page, block, list)
 }
 
 /// A query, and after its lines those of the queries in it.
 #[cycle(query_lines)]
 fn put_block(alloc: Global, page: &mut Page, sight: &[Names], q: &BoundBlock) -> ShownQuery {
     match q {
-        BoundBlock::Plain(source, condition, es) => {
+        BoundBlock::Plain(_, _, es) => {
             let mut block = Block::begun(page);
-            let seen = put_rows(alloc, page, &mut block, sight, source.get(), condition);
+            let seen = put_rows(alloc, page, &mut block, sight, q);
             put_select(alloc, page, block, seen.as_slice(), es.as_slice())
         }
-        BoundBlock::Grouped(source, condition, by, aggregates, having, es) => {
+        BoundBlock::Grouped(_, _, by, aggregates, having, es) => {
             let mut block = Block::begun(page);
-            let rows = put_rows(alloc, page, &mut block, sight, source.get(), condition);
+            let rows = put_rows(alloc, page, &mut block, sight, q);
             let (rows, by, all) = (rows.as_slice(), by.as_slice(), aggregates.as_slice());
             let seen = put_groups(alloc, page, &mut block, sight, rows, by, all);
             put_condition(alloc, page, &mut block, b"having", seen.as_slice(), having);
@@ -315,7 +298,15 @@ fn put_block(alloc: Global, page: &mut Page, sight: &[Names], q: &BoundBlock) ->
             let block = Block::begun(page);
             let left = put_deeper(alloc, page, sight, a.get());
             let right = put_deeper(alloc, page, sight, b.get());
-            end_set(alloc, page, block, left, right, columns.as_slice(), *operation)
+            end_set(
+                alloc,
+                page,
+                block,
+                left,
+                right,
+                columns.as_slice(),
+                *operation,
+            )
         }
     }
 }

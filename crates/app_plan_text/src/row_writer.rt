@@ -1,5 +1,5 @@
 //! A line while it is written: its text and the names of its columns.
-ghost use Rattle.std.specs.Prelude.{◌≡◌, ◌×◌, IfOk};
+ghost use Rattle.std.specs.Prelude.{◌≡◌, IfOk};
 
 use crate::line::PlanLine;
 use crate::names::{NameList, Row};
@@ -52,12 +52,12 @@ impl RowWriter {
 
     /// Appends the column of this place that a node or a query of this number computes, and writes
     /// its name and a sign behind it: `n7.c2 = `.
-    pub fn put_computed(
+    pub fn put_computed<'x>(
         &mut self,
         alloc: Global,
-        before: &[u8],
+        before: &'x [u8],
         number: usize,
-        word: &[u8],
+        word: &'x [u8],
         place: usize,
     ) {
         let name = [

@@ -37,13 +37,19 @@ fn count_list(scans: &mut Scans, list: &[BoundExpr]) {
 #[cycle(scans)]
 fn count_in(scans: &mut Scans, e: &BoundExpr) {
     for input in e.inputs.as_slice() {
-        match input {
-            Input::Column(_, _) => {}
-            Input::Exists(q) | Input::Scalar(q) => count_scans(scans, q.get()),
-            Input::Any(_, e, q) => {
-                count_in(scans, e.get());
-                count_scans(scans, q.get());
-            }
+        count_input(scans, input);
+    }
+}
+
+/// Counts the tables of the queries in an input.
+#[cycle(scans)]
+fn count_input(scans: &mut Scans, input: &Input) {
+    match input {
+        Input::Column(_, _) => {}
+        Input::Exists(q) | Input::Scalar(q) => count_scans(scans, q.get()),
+        Input::Any(_, e, q) => {
+            count_in(scans, e.get());
+            count_scans(scans, q.get());
         }
     }
 }

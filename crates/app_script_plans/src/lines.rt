@@ -16,12 +16,12 @@ use plan_spelling::push_plan;
 use std::alloc::{AllocError, Global};
 
 /// Appends a statement's number, a word, and the statement's text.
-fn push_head(
+fn push_head<'x>(
     alloc: Global,
     text: &mut Vec<u8>,
     number: usize,
-    word: &[u8],
-    written: &[u8],
+    word: &'x [u8],
+    written: &'x [u8],
 ) -> Result<(), AllocError> {
     let mut head = TextWriter::new(alloc);
     head.put_all(&[
