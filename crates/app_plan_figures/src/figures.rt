@@ -215,32 +215,22 @@ fn node_runs<R: Threads + Sync + Clock, T: Tables>(
     Ok(runs)
 }
 
-/// How nodes of these rows find their pairs under a condition.
+/// How nodes of these rows find their pairs under a condition. Without one these are the partners
+/// for a scalar subquery.
 fn way_of_sides(
     alloc: Global,
     left: Option<&NodeRun>,
     right: Option<&NodeRun>,
     matched: &[(u32, u32)],
-    on: &Expr,
+    on: Option<&Expr>,
 ) -> Result<Option<JoinWay>, AllocError> {
     let (Some(left), Some(right)) = (left, right) else {
         return Ok(None);
     };
-    let way = way_of_join(alloc, &left.bag, &right.bag, matched, on)?;
-    Ok(Some(way))
-}
-
-/// How rows of the left one of these nodes find their partners for a scalar subquery.
-fn way_of_partners(
-    alloc: Global,
-    left: Option<&NodeRun>,
-    right: Option<&NodeRun>,
-    matched: &[(u32, u32)],
-) -> Result<Option<JoinWay>, AllocError> {
-    let (Some(left), Some(right)) = (left, right) else {
-        return Ok(None);
+    let way = match on {
+        Some(on) => way_of_join(alloc, &left.bag, &right.bag, matched, on)?,
+        None => way_of_single(alloc, &left.bag, &right.bag, matched)?,
     };
-    let way = way_of_single(alloc, &left.bag, &right.bag, matched)?;
     Ok(Some(way))
 }
 
@@ -251,11 +241,11 @@ fn way_of(alloc: Global, node: &Node, runs: &[NodeRun]) -> Result<Option<JoinWay
         | Node::Outer(i, j, matched, _, on)
         | Node::Mark(i, j, matched, on) => {
             let (left, right) = (runs.get(*i), runs.get(*j));
-            way_of_sides(alloc, left, right, matched.as_slice(), on.get())
+            way_of_sides(alloc, left, right, matched.as_slice(), Some(on.get()))
         }
         Node::Single(i, j, matched, _) => {
             let (left, right) = (runs.get(*i), runs.get(*j));
-            way_of_partners(alloc, left, right, matched.as_slice())
+            way_of_sides(alloc, left, right, matched.as_slice(), None)
         }
         _ => Ok(None),
     }
@@ -277,20 +267,6 @@ fn figures_of(
     })
 }
 
-/// Appends what nodes of these runs give.
-fn put_figures(
-    alloc: Global,
-    figures: &mut Vec<NodeFigures>,
-    nodes: &[Node],
-    runs: &[NodeRun],
-) -> Result<(), AllocError> {
-    for (node, run) in nodes.iter().zip(runs.iter()) {
-        let own = figures_of(alloc, node, run, runs)?;
-        figures.push(own)?;
-    }
-    Ok(())
-}
-
 /// What nodes of these runs give.
 fn figures_of_runs(
     alloc: Global,
@@ -298,7 +274,10 @@ fn figures_of_runs(
     runs: &[NodeRun],
 ) -> Result<Vec<NodeFigures>, AllocError> {
     let mut figures = Vec::new(alloc);
-    put_figures(alloc, &mut figures, nodes, runs)?;
+    for (node, run) in nodes.iter().zip(runs.iter()) {
+        let own = figures_of(alloc, node, run, runs)?;
+        figures.push(own)?;
+    }
     Ok(figures)
 }
 

@@ -10,7 +10,7 @@ use expr_scalar::Expr;
 use std::alloc::{AllocError, Global};
 
 /// How a join finds the pairs of its rows.
-#[derive(Clone, Copy, Debug, PartialEq, Eq)]
+#[derive(Clone, Copy)]
 pub enum JoinWay {
     /// By columns whose values are numbers of a narrow range: a list by number.
     DenseKeys,

@@ -1,7 +1,7 @@
 //! Expressions as SQL writes them, over the names of their columns.
 use crate::literal::{push_literal, push_quoted};
-use crate::names::name_at;
-use crate::writer::TextWriter;
+use crate::names::Row;
+use crate::writer::{Piece, TextWriter};
 use expr_aggregates::AggregateFunction;
 use expr_scalar::{Arithmetic, Branch, Comparison, DatePart, Expr, Operation};
 use plan_algebra::Aggregate;
@@ -85,44 +85,33 @@ pub fn comparison_sign(comparison: Comparison) -> &'static str {
     }
 }
 
-/// The word of a date's part.
-fn part_word(part: DatePart) -> &'static str {
+/// The start of an EXTRACT, up to the date.
+fn extract_start(part: DatePart) -> &'static str {
     match part {
-        DatePart::Year => "year",
-        DatePart::Month => "month",
-        DatePart::Day => "day",
+        DatePart::Year => "extract(year from ",
+        DatePart::Month => "extract(month from ",
+        DatePart::Day => "extract(day from ",
     }
 }
 
 /// Appends an expression.
-pub fn push_expr(text: &mut TextWriter, names: &[Vec<u8>], e: &Expr) {
-    put(text, names, OR, e);
+pub fn push_expr(text: &mut TextWriter, row: &Row<'_>, e: &Expr) {
+    put(text, row, OR, e);
 }
 
-/// Appends the start of a function's call, or a word before an expression.
-fn put_word(text: &mut TextWriter, e: &Expr) {
+/// Appends what stands before the parts of an expression, or all of one that has none.
+fn put_start(text: &mut TextWriter, row: &Row<'_>, e: &Expr) {
     match e {
+        Expr::Column(place) => text.put(row.name(*place)),
+        Expr::Literal(value) => push_literal(text, value),
+        Expr::All(es) => text.put(empty_word(es.as_slice(), b"true")),
+        Expr::Any(es) => text.put(empty_word(es.as_slice(), b"false")),
         Expr::Negative(_) => text.put_byte(b'-'),
         Expr::Not(_) => text.put(b"not "),
         Expr::Case(_, _, _) => text.put(b"case"),
         Expr::Substring(_, _, _) => text.put(b"substring("),
-        Expr::Extract(part, _) => {
-            text.put(b"extract(");
-            text.put(part_word(*part).as_bytes());
-            text.put(b" from ");
-        }
+        Expr::Extract(part, _) => text.put(extract_start(*part).as_bytes()),
         _ => {}
-    }
-}
-
-/// Appends what stands before the parts of an expression, or all of one that has none.
-fn put_start(text: &mut TextWriter, names: &[Vec<u8>], e: &Expr) {
-    match e {
-        Expr::Column(place) => text.put(name_at(names, *place)),
-        Expr::Literal(value) => push_literal(text, value),
-        Expr::All(es) => text.put(empty_word(es.as_slice(), b"true")),
-        Expr::Any(es) => text.put(empty_word(es.as_slice(), b"false")),
-        _ => put_word(text, e),
     }
 }
 
@@ -150,13 +139,13 @@ fn part_level(e: &Expr) -> Level {
 
 /// Appends an expression, in parentheses where it binds more loosely than its place asks for.
 #[cycle(expr_text)]
-fn put(text: &mut TextWriter, names: &[Vec<u8>], least: Level, e: &Expr) {
+fn put(text: &mut TextWriter, row: &Row<'_>, least: Level, e: &Expr) {
     let is_looser = level(e) < least;
     if is_looser {
         text.put_byte(b'(');
     }
-    put_start(text, names, e);
-    put_parts(text, names, e);
+    put_start(text, row, e);
+    put_parts(text, row, e);
     put_end(text, e);
     if is_looser {
         text.put_byte(b')');
@@ -165,7 +154,7 @@ fn put(text: &mut TextWriter, names: &[Vec<u8>], least: Level, e: &Expr) {
 
 /// Appends the parts of an expression, with what stands between them.
 #[cycle(expr_text)]
-fn put_parts(text: &mut TextWriter, names: &[Vec<u8>], e: &Expr) {
+fn put_parts(text: &mut TextWriter, row: &Row<'_>, e: &Expr) {
     match e {
         Expr::Column(_) | Expr::Literal(_) => {}
         Expr::Negative(part)
@@ -174,45 +163,47 @@ fn put_parts(text: &mut TextWriter, names: &[Vec<u8>], e: &Expr) {
         | Expr::IsNull(part)
         | Expr::Like(part, _)
         | Expr::Extract(_, part)
-        | Expr::Substring(part, _, _) => put(text, names, part_level(e), part.get()),
+        | Expr::Substring(part, _, _) => put(text, row, part_level(e), part.get()),
         Expr::Arithmetic(first, operations) => {
-            put(text, names, SIGN, first.get());
-            put_operations(text, names, operations.as_slice());
+            put(text, row, SIGN, first.get());
+            put_operations(text, row, operations.as_slice());
         }
         Expr::Case(_, branches, other) => {
-            put_branches(text, names, branches.as_slice());
+            put_branches(text, row, branches.as_slice());
             text.put(b" else ");
-            put(text, names, OR, other.get());
+            put(text, row, OR, other.get());
         }
         Expr::Compare(comparison, a, b) => {
-            put(text, names, SUM, a.get());
+            put(text, row, SUM, a.get());
             text.put(comparison_sign(*comparison).as_bytes());
-            put(text, names, SUM, b.get());
+            put(text, row, SUM, b.get());
         }
         Expr::Between(e, low, high) => {
-            put(text, names, SUM, e.get());
+            put(text, row, SUM, e.get());
             text.put(b" between ");
-            put(text, names, SUM, low.get());
+            put(text, row, SUM, low.get());
             text.put(b" and ");
-            put(text, names, SUM, high.get());
+            put(text, row, SUM, high.get());
         }
         Expr::InList(e, es) => {
-            put(text, names, SUM, e.get());
+            put(text, row, SUM, e.get());
             text.put(b" in (");
-            put_all(text, names, es.as_slice(), b", ", SUM);
+            put_all(text, row, es.as_slice(), b", ", SUM);
         }
-        Expr::All(es) => put_all(text, names, es.as_slice(), b" and ", NOT),
-        Expr::Any(es) => put_all(text, names, es.as_slice(), b" or ", AND),
+        Expr::All(es) => put_all(text, row, es.as_slice(), b" and ", NOT),
+        Expr::Any(es) => put_all(text, row, es.as_slice(), b" or ", AND),
     }
 }
 
 /// Appends the place and the length of a part of a text.
 fn push_part(text: &mut TextWriter, from: u32, count: u32) {
-    text.put(b" from ");
-    text.put_number(from as usize);
-    text.put(b" for ");
-    text.put_number(count as usize);
-    text.put_byte(b')');
+    text.put_all(&[
+        Piece::Text(b" from "),
+        Piece::Number(from as usize),
+        Piece::Text(b" for "),
+        Piece::Number(count as usize),
+        Piece::Text(b")"),
+    ]);
 }
 
 /// Appends a pattern of LIKE.
@@ -228,37 +219,37 @@ fn empty_word<'a>(es: &[Expr], word: &'a [u8]) -> &'a [u8] {
 
 /// Appends expressions with a word between two.
 #[cycle(expr_text)]
-fn put_all(text: &mut TextWriter, names: &[Vec<u8>], es: &[Expr], between: &[u8], least: Level) {
+fn put_all(text: &mut TextWriter, row: &Row<'_>, es: &[Expr], between: &[u8], least: Level) {
     for (place, e) in es.iter().enumerate() {
         if place > 0 {
             text.put(between);
         }
-        put(text, names, least, e);
+        put(text, row, least, e);
     }
 }
 
 /// Appends the operations of a chain.
 #[cycle(expr_text)]
-fn put_operations(text: &mut TextWriter, names: &[Vec<u8>], operations: &[Operation]) {
+fn put_operations(text: &mut TextWriter, row: &Row<'_>, operations: &[Operation]) {
     for operation in operations {
         text.put(arithmetic_sign(operation.operator).as_bytes());
-        put(text, names, SIGN, &operation.operand);
+        put(text, row, SIGN, &operation.operand);
     }
 }
 
 /// Appends the branches of a CASE.
 #[cycle(expr_text)]
-fn put_branches(text: &mut TextWriter, names: &[Vec<u8>], branches: &[Branch]) {
+fn put_branches(text: &mut TextWriter, row: &Row<'_>, branches: &[Branch]) {
     for branch in branches {
         text.put(b" when ");
-        put(text, names, OR, &branch.when);
+        put(text, row, OR, &branch.when);
         text.put(b" then ");
-        put(text, names, OR, &branch.gives);
+        put(text, row, OR, &branch.gives);
     }
 }
 
 /// The start of an aggregate, up to its argument.
-fn function_start(function: AggregateFunction) -> &'static str {
+pub fn function_start(function: AggregateFunction) -> &'static str {
     match function {
         AggregateFunction::Count => "count(",
         AggregateFunction::CountDistinct => "count(distinct ",
@@ -269,24 +260,14 @@ fn function_start(function: AggregateFunction) -> &'static str {
     }
 }
 
-/// Appends an aggregate of this function and argument.
-pub fn push_function(
-    text: &mut TextWriter,
-    names: &[Vec<u8>],
-    function: AggregateFunction,
-    argument: &Expr,
-) {
-    text.put(function_start(function).as_bytes());
-    push_expr(text, names, argument);
-    text.put_byte(b')');
-}
-
 /// Appends an aggregate.
-pub fn push_aggregate(text: &mut TextWriter, names: &[Vec<u8>], aggregate: &Aggregate) {
+pub fn push_aggregate(text: &mut TextWriter, row: &Row<'_>, aggregate: &Aggregate) {
     match aggregate {
         Aggregate::CountRows => text.put(b"count(*)"),
         Aggregate::Of(function, _, argument) => {
-            push_function(text, names, *function, argument.get());
+            text.put(function_start(*function).as_bytes());
+            push_expr(text, row, argument.get());
+            text.put_byte(b')');
         }
     }
 }

@@ -2,6 +2,7 @@
 //! stand as SQL writes them.
 #![tactic(auto)]
 
+mod block;
 mod expr;
 mod json;
 mod line;
@@ -9,18 +10,17 @@ mod literal;
 mod names;
 mod node;
 mod numbering;
+mod page;
 mod plan;
 mod query;
-mod source;
-mod subquery;
-mod tables;
+mod row_writer;
+mod scans;
 mod tree;
 mod writer;
 
 pub use json::{push_json_lines, push_json_text};
 pub use line::{PlanLine, push_lines};
-pub use names::push_number;
 pub use plan::plan_lines;
 pub use query::query_lines;
 pub use tree::tree_lines;
-pub use writer::TextWriter;
+pub use writer::{Piece, TextWriter};

@@ -44,18 +44,6 @@ impl Drop for PlanLine {
     }
 }
 
-/// Puts lines before those that stand from a place on.
-pub fn put_before(
-    lines: &mut Vec<PlanLine>,
-    place: usize,
-    own: Vec<PlanLine>,
-) -> Result<(), AllocError> {
-    let mut own = own;
-    let mut below = lines.split_off(place.min(lines.len()))?;
-    lines.append(&mut own)?;
-    lines.append(&mut below)
-}
-
 /// As many spaces as the deepest line has before it.
 const BLANKS: &[u8; 64] = b"                                                                ";
 

@@ -1,16 +1,9 @@
 //! Names of columns, and lists of them.
-use crate::writer::TextWriter;
-use itoa::Buffer;
+use crate::writer::{Piece, TextWriter};
 use std::alloc::{AllocError, Global};
 
 /// The names of a row's columns, in their order.
 pub type Names = Vec<Vec<u8>>;
-
-/// Appends a number in decimal digits.
-pub fn push_number(text: &mut Vec<u8>, number: usize) -> Result<(), AllocError> {
-    let mut buffer = Buffer::new();
-    text.extend_from_slice(buffer.format(number).as_bytes())
-}
 
 /// Names so far. An append says nothing of memory: where it ran out, `finish` answers so.
 pub struct NameList {
@@ -63,6 +56,13 @@ impl NameList {
         }
     }
 
+    /// Appends a name of these pieces.
+    pub fn put_made(&mut self, alloc: Global, pieces: &[Piece<'_>]) {
+        let mut name = TextWriter::new(alloc);
+        name.put_all(pieces);
+        self.give(name.finish());
+    }
+
     /// Appends a copy of a name.
     pub fn put(&mut self, alloc: Global, name: &[u8]) {
         self.give(Vec::from_slice(alloc, name));
@@ -85,56 +85,47 @@ impl NameList {
     }
 }
 
-/// The names of two rows side by side.
-pub fn both(alloc: Global, left: &[Vec<u8>], right: &[Vec<u8>]) -> Result<Names, AllocError> {
-    let mut all = NameList::new(alloc);
-    all.put_all(alloc, left);
-    all.put_all(alloc, right);
-    all.finish()
+/// The names of the columns that an expression reads: those of a domain row, behind them those of a
+/// left row, and behind these those of a right one.
+#[derive(Clone, Copy)]
+pub struct Row<'n> {
+    /// The names of the domain row.
+    pub domain: &'n [Vec<u8>],
+    /// Those of the left row, or of the only one.
+    pub left: &'n [Vec<u8>],
+    /// Those of the right row.
+    pub right: &'n [Vec<u8>],
+}
+
+impl<'n> Row<'n> {
+    /// One row of these names.
+    pub fn of(names: &'n [Vec<u8>]) -> Row<'n> {
+        Row {
+            domain: &[],
+            left: names,
+            right: &[],
+        }
+    }
+
+    /// The name at a place; `?` where there is no such place.
+    pub fn name(&self, place: u32) -> &'n [u8] {
+        let place = place as usize;
+        let (first, second) = (self.domain.len(), self.left.len());
+        let name = if place < first {
+            self.domain.get(place)
+        } else if place - first < second {
+            self.left.get(place - first)
+        } else {
+            self.right.get(place - first - second)
+        };
+        match name {
+            Some(name) => name.as_slice(),
+            None => b"?".as_slice(),
+        }
+    }
 }
 
 /// The names from a place on.
 pub fn rest_from(names: &[Vec<u8>], start: usize) -> &[Vec<u8>] {
     &names[start.min(names.len())..]
-}
-
-/// The name at a place of a row; `?` where the row has no such place.
-pub fn name_at(names: &[Vec<u8>], place: u32) -> &[u8] {
-    match names.get(place as usize) {
-        Some(name) => name.as_slice(),
-        None => b"?".as_slice(),
-    }
-}
-
-/// Appends names with commas between them.
-pub fn push_names(text: &mut TextWriter, names: &[Vec<u8>]) {
-    for (place, name) in names.iter().enumerate() {
-        if place > 0 {
-            text.put(b", ");
-        }
-        text.put(name.as_slice());
-    }
-}
-
-/// Appends the name of what a node computes, by a word: `n7.mark`.
-fn push_worded(text: &mut TextWriter, number: usize, word: &[u8]) {
-    text.put_byte(b'n');
-    text.put_number(number);
-    text.put_byte(b'.');
-    text.put(word);
-}
-
-/// The name of a column that a node computes: `n7.c2` for its column 2.
-pub fn computed(alloc: Global, number: usize, column: usize) -> Result<Vec<u8>, AllocError> {
-    let mut name = TextWriter::new(alloc);
-    push_worded(&mut name, number, b"c");
-    name.put_number(column);
-    name.finish()
-}
-
-/// The name of the one column that a node computes, by a word: `n7.mark`.
-pub fn worded(alloc: Global, number: usize, word: &[u8]) -> Result<Vec<u8>, AllocError> {
-    let mut name = TextWriter::new(alloc);
-    push_worded(&mut name, number, word);
-    name.finish()
 }

@@ -1,78 +1,17 @@
-//! What the nodes of trees and of flat plans have in common: lists of expressions, groups, pairs of
-//! matched columns.
+//! What the nodes of trees and of flat plans have in common: lists of expressions, groups, joins.
 ghost use Rattle.std.specs.Prelude.{◌≡◌};
 ghost use Rattle.app_plan_text.specs.Lines.{operation_words};
 
 use crate::expr::{push_aggregate, push_expr};
-use crate::names::{NameList, Names, both, computed, name_at};
-use crate::writer::TextWriter;
+use crate::names::Row;
+use crate::numbering::{Numbering, put_columns};
+use crate::row_writer::RowWriter;
+use crate::writer::Piece;
+use base_schema::TableName;
 use base_set_rows::{ClassKind, SetOperation};
 use expr_scalar::Expr;
 use plan_algebra::{Aggregate, KeptPlan};
-use std::alloc::{AllocError, Global};
-
-/// What a node does, and the names of its columns.
-#[derive(Drop)]
-pub struct Done {
-    /// What it does.
-    pub detail: Vec<u8>,
-    /// The names of its columns.
-    pub columns: Names,
-}
-
-/// A text about rows, and the names of their columns, while they are written.
-#[derive(Drop)]
-pub struct RowWriter {
-    /// The text.
-    pub detail: TextWriter,
-    /// The names of the columns.
-    pub columns: NameList,
-}
-
-impl RowWriter {
-    /// No text and no columns.
-    pub fn new(alloc: Global) -> RowWriter {
-        RowWriter {
-            detail: TextWriter::new(alloc),
-            columns: NameList::new(alloc),
-        }
-    }
-
-    /// Appends a column of this name, and writes the name.
-    pub fn put_name(&mut self, alloc: Global, name: &[u8]) {
-        self.detail.put(name);
-        self.columns.put(alloc, name);
-    }
-
-    /// Appends a column whose name was made, and writes the name.
-    pub fn give_name(&mut self, name: Result<Vec<u8>, AllocError>) {
-        match name {
-            Ok(name) => {
-                self.detail.put(name.as_slice());
-                self.columns.give(Ok(name));
-            }
-            Err(error) => self.columns.give(Err(error)),
-        }
-    }
-
-    /// Appends the columns at these places of a row, and writes their names: these words before the
-    /// first, commas between them.
-    pub fn put_places(&mut self, alloc: Global, names: &[Vec<u8>], places: &[u32], first: &[u8]) {
-        for (count, place) in places.iter().enumerate() {
-            self.detail
-                .put(if count == 0 { first } else { b", ".as_slice() });
-            self.put_name(alloc, name_at(names, *place));
-        }
-    }
-
-    /// What was written.
-    pub fn finish(self) -> Result<Done, AllocError> {
-        let RowWriter { detail, columns } = self;
-        let detail = detail.finish()?;
-        let columns = columns.finish()?;
-        Ok(Done { detail, columns })
-    }
-}
+use std::alloc::Global;
 
 /// The words for a set operation.
 pub fn operation_words(operation: SetOperation) -> &'static str
@@ -87,97 +26,85 @@ pub fn operation_words(operation: SetOperation) -> &'static str
     }
 }
 
-/// Appends a comma, unless the text is empty.
-pub fn push_comma(text: &mut TextWriter) {
-    if !text.is_empty() {
-        text.put(b", ");
+/// Puts the next scan of a table: its name, with its number where there are others, and its
+/// columns.
+pub fn put_scan(alloc: Global, to: &mut RowWriter, numbering: &mut Numbering, table: TableName) {
+    let scan = numbering.scan(table);
+    to.detail.put(table.name().as_bytes());
+    if let Some(number) = scan {
+        to.detail.put_number(number);
+    }
+    put_columns(alloc, &mut to.columns, table, scan);
+}
+
+/// Puts a kept view: its number, and the names of its columns: `view0.1`.
+pub fn put_kept(alloc: Global, to: &mut RowWriter, number: u32, plan: &KeptPlan) {
+    let number = number as usize;
+    let view = [Piece::Text(b"view"), Piece::Number(number)];
+    to.detail.put_all(&view);
+    for place in 0..plan.list.len() {
+        let [first, second] = view;
+        let name = [first, second, Piece::Text(b"."), Piece::Number(place)];
+        to.columns.put_made(alloc, &name);
     }
 }
 
-/// Appends an item of a select list: a column keeps its name, and anything else is named after the
-/// node.
-fn put_item(
-    alloc: Global,
-    done: &mut RowWriter,
-    number: usize,
-    place: usize,
-    names: &[Vec<u8>],
-    e: &Expr,
-) {
-    push_comma(&mut done.detail);
-    if let Expr::Column(at) = e {
-        done.put_name(alloc, name_at(names, *at));
-    } else {
-        done.give_name(computed(alloc, number, place));
-        done.detail.put(b" = ");
-        push_expr(&mut done.detail, names, e);
-    }
+/// Puts the columns of a row, and a condition over it.
+pub fn put_selection(alloc: Global, to: &mut RowWriter, row: &Row<'_>, c: &Expr) {
+    to.columns.put_all(alloc, row.left);
+    push_expr(&mut to.detail, row, c);
 }
 
-/// A select list: a column keeps its name, and anything else is named after the node.
-pub fn listed(
-    alloc: Global,
-    number: usize,
-    names: &[Vec<u8>],
-    es: &[Expr],
-) -> Result<Done, AllocError> {
-    let mut done = RowWriter::new(alloc);
+/// Puts a select list: a column keeps its name, and anything else is named after the node.
+pub fn put_list(alloc: Global, to: &mut RowWriter, number: usize, row: &Row<'_>, es: &[Expr]) {
     for (place, e) in es.iter().enumerate() {
-        put_item(alloc, &mut done, number, place, names, e);
+        to.put_comma();
+        if let Expr::Column(at) = e {
+            to.put_name(alloc, row.name(*at));
+        } else {
+            to.put_computed(alloc, b"n", number, b".c", place);
+            push_expr(&mut to.detail, row, e);
+        }
     }
-    done.finish()
 }
 
-/// Groups by the columns at these places of a row of these names, with aggregates over such rows.
-pub fn grouped(
+/// Puts groups by the columns at these places of a row, with aggregates over such rows.
+pub fn put_groups(
     alloc: Global,
+    to: &mut RowWriter,
     number: usize,
-    names: &[Vec<u8>],
+    row: &Row<'_>,
     by: &[u32],
     aggregates: &[Aggregate],
-) -> Result<Done, AllocError> {
-    let mut done = RowWriter::new(alloc);
-    done.put_places(alloc, names, by, b"by ");
-    for aggregate in aggregates {
-        let place = done.columns.names().len();
-        push_comma(&mut done.detail);
-        done.give_name(computed(alloc, number, place));
-        done.detail.put(b" = ");
-        push_aggregate(&mut done.detail, names, aggregate);
+) {
+    to.put_places(alloc, row, by, b"by ");
+    for (place, aggregate) in aggregates.iter().enumerate() {
+        to.put_comma();
+        to.put_computed(alloc, b"n", number, b".c", by.len().saturating_add(place));
+        push_aggregate(&mut to.detail, row, aggregate);
     }
-    done.finish()
 }
 
-/// A node that only passes on the columns of its input.
-pub fn passed(alloc: Global, columns: &[Vec<u8>]) -> Result<Done, AllocError> {
-    let columns = both(alloc, columns, &[])?;
-    Ok(Done {
-        detail: Vec::new(alloc),
-        columns,
-    })
+/// Puts a join: the columns of both sides, and its condition over the row.
+pub fn put_join(alloc: Global, to: &mut RowWriter, row: &Row<'_>, c: &Expr) {
+    to.columns.put_all(alloc, row.left);
+    to.columns.put_all(alloc, row.right);
+    to.detail.put(b"on ");
+    push_expr(&mut to.detail, row, c);
 }
 
-/// Appends the name of the kept view of a number: `view0`.
-fn push_view(text: &mut TextWriter, number: u32) {
-    text.put(b"view");
-    text.put_number(number as usize);
+/// Puts a mark: the columns of the left side, its own one, and its condition over the row.
+pub fn put_mark(alloc: Global, to: &mut RowWriter, number: usize, row: &Row<'_>, c: &Expr) {
+    to.columns.put_all(alloc, row.left);
+    to.put_worded(alloc, number, b".mark");
+    to.detail.put(b" = some row with ");
+    push_expr(&mut to.detail, row, c);
 }
 
-/// The name of a column of the kept view of a number: `view0.1`.
-fn kept_name(alloc: Global, number: u32, place: usize) -> Result<Vec<u8>, AllocError> {
-    let mut name = TextWriter::new(alloc);
-    push_view(&mut name, number);
-    name.put_byte(b'.');
-    name.put_number(place);
-    name.finish()
-}
-
-/// A kept view: its number, and the names of its columns.
-pub fn kept_view(alloc: Global, number: u32, plan: &KeptPlan) -> Result<Done, AllocError> {
-    let mut done = RowWriter::new(alloc);
-    push_view(&mut done.detail, number);
-    for place in 0..plan.list.len() {
-        done.columns.give(kept_name(alloc, number, place));
-    }
-    done.finish()
+/// Puts a scalar subquery: the columns of the left side, its own one, and what that takes.
+pub fn put_single(alloc: Global, to: &mut RowWriter, number: usize, row: &Row<'_>, column: u32) {
+    to.columns.put_all(alloc, row.left);
+    to.put_worded(alloc, number, b".value");
+    to.detail.put(b" = the one ");
+    to.detail.put(Row::of(row.right).name(column));
 }

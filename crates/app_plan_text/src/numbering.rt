@@ -1,56 +1,57 @@
 //! Numbers of nodes, and names of the columns of tables that are scanned more than once.
 use crate::names::NameList;
-use crate::node::Done;
-use crate::writer::TextWriter;
+use crate::writer::Piece;
 use base_schema::TableName;
-use std::alloc::{AllocError, Global};
+use std::alloc::Global;
+
+/// How often each table is scanned.
+#[derive(Clone, Copy)]
+pub struct Scans {
+    // By the tables' numbers.
+    counts: [usize; 8],
+}
+
+impl Scans {
+    /// No scan.
+    pub fn none() -> Scans {
+        Scans { counts: [0; 8] }
+    }
+
+    /// Counts a scan of a table, and answers which of its scans this is, from 1.
+    pub fn count(&mut self, table: TableName) -> usize {
+        let next = self.of(table).saturating_add(1);
+        if let Some(count) = self.counts.get_mut(table as usize) {
+            *count = next;
+        }
+        next
+    }
+
+    /// How often a table is scanned.
+    fn of(&self, table: TableName) -> usize {
+        match self.counts.get(table as usize) {
+            Some(count) => *count,
+            None => 0,
+        }
+    }
+}
 
 /// What a tree, a plan or a query has been given numbers and names for.
+#[derive(Clone, Copy)]
 pub struct Numbering {
-    // The tables of all scans.
-    scans: Vec<TableName>,
-    // Those of the scans so far.
-    named: Vec<TableName>,
+    // All scans.
+    scans: Scans,
+    // The scans so far.
+    named: Scans,
     // The number of the next node.
     next: usize,
 }
 
-// By hand, so that each place that drops one makes one call.
-impl Drop for Numbering {
-    #[inline]
-    fn drop(self) {
-        let Numbering {
-            scans,
-            named,
-            next: _,
-        } = self;
-        drop(scans);
-        drop(named);
-    }
-}
-
-/// How often a table stands in a list.
-fn count_of(tables: &[TableName], table: TableName) -> usize {
-    tables.iter().filter(|other| **other == table).count()
-}
-
-/// The name of a column of the scan of this name, if one is given.
-fn column_name(alloc: Global, scan: &[u8], column: &[u8]) -> Result<Vec<u8>, AllocError> {
-    let mut name = TextWriter::new(alloc);
-    if !scan.is_empty() {
-        name.put(scan);
-        name.put_byte(b'.');
-    }
-    name.put(column);
-    name.finish()
-}
-
 impl Numbering {
     /// No number yet, for these scans.
-    pub fn new(alloc: Global, scans: Vec<TableName>, first: usize) -> Numbering {
+    pub fn new(scans: Scans, first: usize) -> Numbering {
         Numbering {
             scans,
-            named: Vec::new(alloc),
+            named: Scans::none(),
             next: first,
         }
     }
@@ -62,38 +63,32 @@ impl Numbering {
         number
     }
 
-    /// Whether a table is scanned no more than once.
-    fn is_only(&self, table: TableName) -> bool {
-        count_of(self.scans.as_slice(), table) <= 1
-    }
-
-    /// The name of the next scan of a table: the table's, and which scan of it this is where there
-    /// are others.
-    pub fn scan_name(&mut self, alloc: Global, table: TableName) -> Result<Vec<u8>, AllocError> {
-        self.named.push(table)?;
-        let mut name = TextWriter::new(alloc);
-        name.put(table.name().as_bytes());
-        if !self.is_only(table) {
-            name.put_number(count_of(self.named.as_slice(), table));
-        }
-        name.finish()
-    }
-
-    /// Appends the names of a table's columns in a scan of this name: `n_name`, or
-    /// `nation2.n_name` where the table is scanned more than once.
-    pub fn put_columns(&self, alloc: Global, all: &mut NameList, table: TableName, scan: &[u8]) {
-        let before: &[u8] = if self.is_only(table) { &[] } else { scan };
-        for column in table.column_names() {
-            all.give(column_name(alloc, before, column.as_bytes()));
+    /// Which scan of a table the next one is, where there are others.
+    pub fn scan(&mut self, table: TableName) -> Option<usize> {
+        let number = self.named.count(table);
+        if self.scans.of(table) > 1 {
+            Some(number)
+        } else {
+            None
         }
     }
+}
 
-    /// The next scan of a table: its name, and those of its columns.
-    pub fn scan(&mut self, alloc: Global, table: TableName) -> Result<Done, AllocError> {
-        let detail = self.scan_name(alloc, table)?;
-        let mut columns = NameList::new(alloc);
-        self.put_columns(alloc, &mut columns, table, detail.as_slice());
-        let columns = columns.finish()?;
-        Ok(Done { detail, columns })
+/// Appends the names of a table's columns in a scan: `n_name`, or `nation2.n_name` in the second
+/// one of several.
+pub fn put_columns(alloc: Global, all: &mut NameList, table: TableName, scan: Option<usize>) {
+    for column in table.column_names() {
+        match scan {
+            None => all.put(alloc, column.as_bytes()),
+            Some(number) => all.put_made(
+                alloc,
+                &[
+                    Piece::Text(table.name().as_bytes()),
+                    Piece::Number(number),
+                    Piece::Text(b"."),
+                    Piece::Text(column.as_bytes()),
+                ],
+            ),
+        }
     }
 }

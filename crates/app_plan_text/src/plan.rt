@@ -3,16 +3,17 @@ ghost use Rattle.std.specs.Prelude.{◌≡◌, IfOk};
 ghost use Rattle.plan_algebra.specs.Plans.{inputs_of};
 ghost use Rattle.app_plan_text.specs.Lines.{AreLinesFrom, IsLineOf, kind_word};
 
-use crate::expr::push_expr;
 use crate::line::PlanLine;
 use crate::literal::push_literal;
-use crate::names::{Names, both, name_at, push_names, rest_from, worded};
-use crate::node::{Done, RowWriter, grouped, kept_view, listed, operation_words, passed};
-use crate::numbering::Numbering;
+use crate::names::{Row, rest_from};
+use crate::node::{
+    operation_words, put_groups, put_join, put_kept, put_list, put_mark, put_scan, put_selection,
+    put_single,
+};
+use crate::numbering::{Numbering, Scans};
+use crate::row_writer::RowWriter;
 use crate::writer::TextWriter;
-use base_schema::TableName;
 use base_value::Value;
-use expr_scalar::Expr;
 use plan_algebra::{Node, NodeId};
 use std::alloc::{AllocError, Global};
 
@@ -24,80 +25,42 @@ fn columns_of(lines: &[PlanLine], node: NodeId) -> &[Vec<u8>] {
     }
 }
 
-/// Appends the pairs of matched columns.
-fn push_matched(text: &mut TextWriter, left: &[Vec<u8>], right: &[Vec<u8>], pairs: &[(u32, u32)]) {
-    for (place, pair) in pairs.iter().enumerate() {
-        text.put(if place == 0 { b" matching " } else { b", " });
-        text.put(name_at(left, pair.0));
-        text.put(b" is ");
-        text.put(name_at(right, pair.1));
+/// The row of a join of these nodes. Of the right row the matched columns, which stand first, are
+/// dropped.
+fn row_of<'n>(lines: &'n [PlanLine], i: NodeId, j: NodeId, pairs: &[(u32, u32)]) -> Row<'n> {
+    Row {
+        domain: &[],
+        left: columns_of(lines, i),
+        right: rest_from(columns_of(lines, j), pairs.len()),
     }
 }
 
-/// The combined row of a join. Of the right row the matched columns, which stand first, are
-/// dropped.
-fn combined(
-    alloc: Global,
-    left: &[Vec<u8>],
-    right: &[Vec<u8>],
+/// Appends the pairs of matched columns of these nodes.
+fn push_matched(
+    text: &mut TextWriter,
+    lines: &[PlanLine],
+    i: NodeId,
+    j: NodeId,
     pairs: &[(u32, u32)],
-) -> Result<Names, AllocError> {
-    both(alloc, left, rest_from(right, pairs.len()))
+) {
+    let left = Row::of(columns_of(lines, i));
+    let right = Row::of(columns_of(lines, j));
+    for (place, pair) in pairs.iter().enumerate() {
+        text.put(if place == 0 { b" matching " } else { b", " });
+        text.put(left.name(pair.0));
+        text.put(b" is ");
+        text.put(right.name(pair.1));
+    }
 }
 
-/// A join: its condition over the combined row, and its pairs of matched columns.
-fn joined(
-    alloc: Global,
-    left: &[Vec<u8>],
-    right: &[Vec<u8>],
-    pairs: &[(u32, u32)],
-    c: &Expr,
-) -> Result<Done, AllocError> {
-    let columns = combined(alloc, left, right, pairs)?;
-    let mut text = TextWriter::new(alloc);
-    text.put(b"on ");
-    push_expr(&mut text, columns.as_slice(), c);
-    push_matched(&mut text, left, right, pairs);
-    let detail = text.finish()?;
-    Ok(Done { detail, columns })
-}
-
-/// A mark: the name of its column, its condition, and its pairs of matched columns.
-fn marked(
-    alloc: Global,
-    number: NodeId,
-    left: &[Vec<u8>],
-    right: &[Vec<u8>],
-    pairs: &[(u32, u32)],
-    c: &Expr,
-) -> Result<Done, AllocError> {
-    let row = combined(alloc, left, right, pairs)?;
-    let mut done = RowWriter::new(alloc);
-    done.columns.put_all(alloc, left);
-    done.give_name(worded(alloc, number, b"mark"));
-    done.detail.put(b" = some row with ");
-    push_expr(&mut done.detail, row.as_slice(), c);
-    push_matched(&mut done.detail, left, right, pairs);
-    done.finish()
-}
-
-/// A scalar subquery: the name of its column, what it takes, and its pairs of matched columns.
-fn valued(
-    alloc: Global,
-    number: NodeId,
-    left: &[Vec<u8>],
-    right: &[Vec<u8>],
-    pairs: &[(u32, u32)],
-    column: u32,
-) -> Result<Done, AllocError> {
-    let mut done = RowWriter::new(alloc);
-    done.columns.put_all(alloc, left);
-    done.give_name(worded(alloc, number, b"value"));
-    done.detail.put(b" = the one ");
-    done.detail
-        .put(name_at(rest_from(right, pairs.len()), column));
-    push_matched(&mut done.detail, left, right, pairs);
-    done.finish()
+/// Appends names with commas between them.
+fn push_names(text: &mut TextWriter, names: &[Vec<u8>]) {
+    for (place, name) in names.iter().enumerate() {
+        if place > 0 {
+            text.put(b", ");
+        }
+        text.put(name.as_slice());
+    }
 }
 
 /// Appends values with commas between them.
@@ -110,108 +73,84 @@ fn push_values(text: &mut TextWriter, values: &[Value]) {
     }
 }
 
-/// The groups of a domain: its columns, and the aggregates of no rows.
-fn filled(
+/// Puts the groups of a domain: its columns, and the aggregates of no rows.
+fn put_fill(
     alloc: Global,
+    to: &mut RowWriter,
     groups: &[Vec<u8>],
     domain: &[Vec<u8>],
     empty: &[Value],
-) -> Result<Done, AllocError> {
+) {
     let rest = rest_from(groups, domain.len());
-    let columns = both(alloc, domain, rest)?;
-    let mut text = TextWriter::new(alloc);
-    text.put(b"(");
-    push_names(&mut text, rest);
-    text.put(b") = (");
-    push_values(&mut text, empty);
-    text.put(b") where (");
-    push_names(&mut text, domain);
-    text.put(b") has no group");
-    let detail = text.finish()?;
-    Ok(Done { detail, columns })
+    to.columns.put_all(alloc, domain);
+    to.columns.put_all(alloc, rest);
+    to.detail.put(b"(");
+    push_names(&mut to.detail, rest);
+    to.detail.put(b") = (");
+    push_values(&mut to.detail, empty);
+    to.detail.put(b") where (");
+    push_names(&mut to.detail, domain);
+    to.detail.put(b") has no group");
 }
 
-/// A domain: the columns at these places of a row.
-fn domain(alloc: Global, names: &[Vec<u8>], places: &[u32]) -> Result<Done, AllocError> {
-    let mut done = RowWriter::new(alloc);
-    done.put_places(alloc, names, places, b"");
-    done.finish()
-}
-
-/// A selection: its condition over a row of these names.
-fn selected(alloc: Global, names: &[Vec<u8>], c: &Expr) -> Result<Done, AllocError> {
-    let mut done = RowWriter::new(alloc);
-    done.columns.put_all(alloc, names);
-    push_expr(&mut done.detail, names, c);
-    done.finish()
-}
-
-/// What a node that reads two others does, by the names of their columns.
-fn done_of_two(
-    alloc: Global,
-    number: NodeId,
-    left: &[Vec<u8>],
-    right: &[Vec<u8>],
-    node: &Node,
-) -> Result<Done, AllocError> {
+/// Puts a node that reads two others.
+fn put_of_two(alloc: Global, to: &mut RowWriter, lines: &[PlanLine], number: NodeId, node: &Node) {
     match node {
-        Node::Join(_, _, pairs, c) | Node::Outer(_, _, pairs, _, c) => {
-            joined(alloc, left, right, pairs.as_slice(), c.get())
+        Node::Join(i, j, pairs, c) | Node::Outer(i, j, pairs, _, c) => {
+            let pairs = pairs.as_slice();
+            put_join(alloc, to, &row_of(lines, *i, *j, pairs), c.get());
+            push_matched(&mut to.detail, lines, *i, *j, pairs);
         }
-        Node::Mark(_, _, pairs, c) => {
-            marked(alloc, number, left, right, pairs.as_slice(), c.get())
+        Node::Mark(i, j, pairs, c) => {
+            let pairs = pairs.as_slice();
+            put_mark(alloc, to, number, &row_of(lines, *i, *j, pairs), c.get());
+            push_matched(&mut to.detail, lines, *i, *j, pairs);
         }
-        Node::Single(_, _, pairs, column) => {
-            valued(alloc, number, left, right, pairs.as_slice(), *column)
+        Node::Single(i, j, pairs, column) => {
+            let pairs = pairs.as_slice();
+            put_single(alloc, to, number, &row_of(lines, *i, *j, pairs), *column);
+            push_matched(&mut to.detail, lines, *i, *j, pairs);
         }
-        Node::Fill(_, _, empty) => filled(alloc, left, right, empty.as_slice()),
-        _ => passed(alloc, left),
+        _ => {}
     }
 }
 
-/// What a node that reads one other does, by the names of its columns.
-fn done_of_one(
+/// Puts the node of this number, after the lines of those before it.
+fn put_node(
     alloc: Global,
-    number: NodeId,
-    names: &[Vec<u8>],
-    node: &Node,
-) -> Result<Done, AllocError> {
-    match node {
-        Node::Domain(_, places) => domain(alloc, names, places.as_slice()),
-        Node::Select(_, c) => selected(alloc, names, c.get()),
-        Node::Project(_, es) => listed(alloc, number, names, es.as_slice()),
-        Node::Group(_, by, aggregates) => {
-            grouped(alloc, number, names, by.as_slice(), aggregates.as_slice())
-        }
-        _ => passed(alloc, names),
-    }
-}
-
-/// What the node of this number does, after the lines of those before it.
-fn done(
-    alloc: Global,
+    to: &mut RowWriter,
     numbering: &mut Numbering,
     lines: &[PlanLine],
     number: NodeId,
     node: &Node,
-) -> Result<Done, AllocError> {
+) {
     match node {
-        Node::Scan(table) => numbering.scan(alloc, *table),
-        Node::Kept(view, plan) => kept_view(alloc, *view, plan.get()),
-        Node::Domain(i, _)
-        | Node::Select(i, _)
-        | Node::Project(i, _)
-        | Node::Group(i, _, _)
-        | Node::Distinct(i) => done_of_one(alloc, number, columns_of(lines, *i), node),
-        Node::Join(i, j, _, _)
-        | Node::Outer(i, j, _, _, _)
-        | Node::Mark(i, j, _, _)
-        | Node::Single(i, j, _, _)
-        | Node::Fill(i, j, _)
-        | Node::Set(i, j, _) => {
-            let (left, right) = (columns_of(lines, *i), columns_of(lines, *j));
-            done_of_two(alloc, number, left, right, node)
+        Node::Scan(table) => put_scan(alloc, to, numbering, *table),
+        Node::Kept(view, plan) => put_kept(alloc, to, *view, plan.get()),
+        Node::Domain(i, places) => {
+            let row = Row::of(columns_of(lines, *i));
+            to.put_places(alloc, &row, places.as_slice(), b"");
         }
+        Node::Select(i, c) => {
+            put_selection(alloc, to, &Row::of(columns_of(lines, *i)), c.get());
+        }
+        Node::Project(i, es) => {
+            let row = Row::of(columns_of(lines, *i));
+            put_list(alloc, to, number, &row, es.as_slice());
+        }
+        Node::Group(i, by, aggregates) => {
+            let row = Row::of(columns_of(lines, *i));
+            let aggregates = aggregates.as_slice();
+            put_groups(alloc, to, number, &row, by.as_slice(), aggregates);
+        }
+        Node::Distinct(i) | Node::Set(i, _, _) => {
+            to.columns.put_all(alloc, columns_of(lines, *i));
+        }
+        Node::Fill(i, j, empty) => {
+            let (groups, domain) = (columns_of(lines, *i), columns_of(lines, *j));
+            put_fill(alloc, to, groups, domain, empty.as_slice());
+        }
+        _ => put_of_two(alloc, to, lines, number, node),
     }
 }
 
@@ -240,15 +179,14 @@ fn kind_word(node: &Node) -> &'static str
 fn inputs_of(alloc: Global, node: &Node) -> Result<Vec<NodeId>, AllocError>
     ensures { IfOk result (λ inputs. inputs.items ≡ inputs_of node.now) }
 {
-    let mut inputs = Vec::new(alloc);
     match node {
-        Node::Scan(_) => Ok(inputs),
+        Node::Scan(_) | Node::Kept(_, _) => Ok(Vec::new(alloc)),
         Node::Domain(i, _)
         | Node::Select(i, _)
         | Node::Project(i, _)
         | Node::Group(i, _, _)
         | Node::Distinct(i) => {
-            inputs.push(*i)?;
+            let inputs = Vec::from_slice(alloc, &[*i])?;
             Ok(inputs)
         }
         Node::Join(i, j, _, _)
@@ -257,11 +195,9 @@ fn inputs_of(alloc: Global, node: &Node) -> Result<Vec<NodeId>, AllocError>
         | Node::Single(i, j, _, _)
         | Node::Fill(i, j, _)
         | Node::Set(i, j, _) => {
-            inputs.push(*i)?;
-            inputs.push(*j)?;
+            let inputs = Vec::from_slice(alloc, &[*i, *j])?;
             Ok(inputs)
         }
-        Node::Kept(_, _) => Ok(inputs),
     }
 }
 
@@ -278,28 +214,21 @@ fn line_of(
     ensures { IfOk result (IsLineOf number node.now) }
 {
     let inputs = inputs_of(alloc, node)?;
-    let kind = Vec::from_slice(alloc, kind_word(node).as_bytes())?;
-    let Done { detail, columns } = done(alloc, numbering, lines, number, node)?;
-    Ok(PlanLine {
-        number,
-        depth: 0,
-        kind,
-        inputs,
-        detail,
-        columns,
-        rows,
-    })
+    let mut row = RowWriter::new(alloc);
+    put_node(alloc, &mut row, numbering, lines, number, node);
+    let line = row.line(alloc, number, 0, kind_word(node).as_bytes(), inputs, rows)?;
+    Ok(line)
 }
 
-/// The tables of scans.
-fn scans_of(alloc: Global, nodes: &[Node]) -> Result<Vec<TableName>, AllocError> {
-    let mut scans = Vec::new(alloc);
+/// The scans of a plan.
+fn scans_of(nodes: &[Node]) -> Scans {
+    let mut scans = Scans::none();
     for node in nodes {
         if let Node::Scan(table) = node {
-            scans.push(*table)?;
+            let _number = scans.count(*table);
         }
     }
-    Ok(scans)
+    scans
 }
 
 /// The lines of a plan: one for each node, in the plan's order, with its number, its kind and the
@@ -311,7 +240,7 @@ pub fn plan_lines(
 ) -> Result<Vec<PlanLine>, AllocError>
     ensures { IfOk result (λ lines. AreLinesFrom 0 nodes.now lines.items) }
 {
-    let mut numbering = Numbering::new(alloc, scans_of(alloc, nodes)?, 0);
+    let mut numbering = Numbering::new(scans_of(nodes), 0);
     let mut lines: Vec<PlanLine> = Vec::new(alloc);
     for (number, node) in nodes.iter().enumerate() {
         let rows = counts.get(number).copied();

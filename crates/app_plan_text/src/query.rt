@@ -1,39 +1,20 @@
 //! Bound queries, a line a clause. Each query in another has a number, and its lines stand after
 //! those of the query around it.
-use crate::expr::{comparison_sign, push_expr, push_function};
-use crate::line::PlanLine;
-use crate::names::{NameList, Names, name_at, rest_from};
-use crate::node::{RowWriter, push_comma};
-use crate::source::{put_shown, put_table, words_between};
-use crate::subquery::{
-    Page, ShownQuery, aggregate_name, computed, end_distinct, end_grouped, end_plain, end_set,
-    push_clause, push_query_name, read_rows,
+use crate::block::{
+    Block, ShownQuery, Sight, end_select, end_set, put_clause, put_table, row_at, seen_at, with_row,
 };
-use crate::tables::{TableList, put_tables};
-use crate::writer::TextWriter;
+use crate::expr::{comparison_sign, function_start, push_expr};
+use crate::line::PlanLine;
+use crate::names::{NameList, Names, Row, rest_from};
+use crate::numbering::Scans;
+use crate::page::Page;
+use crate::row_writer::RowWriter;
+use crate::scans::count_scans;
+use crate::writer::{Piece, TextWriter};
 use base_order_limit::OrderKey;
 use expr_scalar::{Comparison, Expr};
 use sql_bound_query::{BoundAggregate, BoundBlock, BoundExpr, BoundQuery, BoundSource, Input};
 use std::alloc::{AllocError, Global};
-
-/// The name of the column at a place of the row this many levels out.
-fn seen_at(sight: &[Names], level: u32, place: u32) -> &[u8] {
-    let last = sight.len().saturating_sub(1);
-    let Some(row) = last.checked_sub(level as usize) else {
-        return b"?".as_slice();
-    };
-    match sight.get(row) {
-        Some(names) => name_at(names.as_slice(), place),
-        None => b"?".as_slice(),
-    }
-}
-
-/// Appends a query by its number, between these words.
-fn push_query(text: &mut TextWriter, before: &[u8], shown: ShownQuery, after: &[u8]) {
-    text.put(before);
-    push_query_name(text, shown.number);
-    text.put(after);
-}
 
 /// Appends what stands between a value and the query whose any value it is compared with.
 fn push_any(text: &mut TextWriter, comparison: Comparison) {
@@ -55,6 +36,27 @@ fn put_deeper(alloc: Global, page: &mut Page, sight: &[Names], q: &BoundBlock) -
     shown
 }
 
+/// Shows a query in another one, and appends it by its number, between these words and a
+/// parenthesis.
+#[cycle(query_lines)]
+fn put_query(
+    alloc: Global,
+    page: &mut Page,
+    text: &mut TextWriter,
+    sight: &[Names],
+    before: &[u8],
+    q: &BoundBlock,
+) -> ShownQuery {
+    let shown = put_deeper(alloc, page, sight, q);
+    text.put_all(&[
+        Piece::Text(before),
+        Piece::Text(b"q"),
+        Piece::Number(shown.number),
+        Piece::Text(b")"),
+    ]);
+    shown
+}
+
 /// Appends what an input reads. A query in it is written by its number.
 #[cycle(query_lines)]
 fn put_input(
@@ -67,40 +69,40 @@ fn put_input(
     match input {
         Input::Column(level, place) => text.put(seen_at(sight, *level, *place)),
         Input::Exists(q) => {
-            let shown = put_deeper(alloc, page, sight, q.get());
-            push_query(text, b"exists (", shown, b")");
+            let _shown = put_query(alloc, page, text, sight, b"exists (", q.get());
         }
         Input::Any(comparison, e, q) => {
             text.put_byte(b'(');
             put_expr(alloc, page, text, sight, e.get());
             push_any(text, *comparison);
-            let shown = put_deeper(alloc, page, sight, q.get());
-            push_query(text, b"", shown, b"))");
+            let _shown = put_query(alloc, page, text, sight, b"", q.get());
+            text.put_byte(b')');
         }
         Input::Scalar(q) => {
-            let shown = put_deeper(alloc, page, sight, q.get());
-            push_query(text, b"(", shown, b")");
+            let _shown = put_query(alloc, page, text, sight, b"(", q.get());
         }
     }
 }
 
-/// What the inputs of an expression read, each as it is written.
-#[cycle(query_lines)]
-fn put_inputs(alloc: Global, page: &mut Page, sight: &[Names], inputs: &[Input]) -> Names {
-    let mut all = NameList::new(alloc);
-    for input in inputs {
-        let mut text = TextWriter::new(alloc);
-        put_input(alloc, page, &mut text, sight, input);
-        all.give(text.finish());
-    }
-    page.names(alloc, all)
-}
-
-/// Appends an expression over the rows in sight.
+/// Appends an expression over the rows in sight, once what its inputs read is shown.
 #[cycle(query_lines)]
 fn put_expr(alloc: Global, page: &mut Page, text: &mut TextWriter, sight: &[Names], e: &BoundExpr) {
-    let inputs = put_inputs(alloc, page, sight, e.inputs.as_slice());
-    push_expr(text, inputs.as_slice(), e.expr.get());
+    let mut inputs = NameList::new(alloc);
+    for input in e.inputs.as_slice() {
+        let mut written = TextWriter::new(alloc);
+        put_input(alloc, page, &mut written, sight, input);
+        inputs.give(written.finish());
+    }
+    let inputs = page.names(alloc, inputs.finish());
+    push_expr(text, &Row::of(inputs.as_slice()), e.expr.get());
+}
+
+/// The word between the sides of a join.
+fn join_word(source: &BoundSource) -> &'static str {
+    match source {
+        BoundSource::Outer(_, _, _, _) => " left join ",
+        _ => " join ",
+    }
 }
 
 /// The name of the column that an expression is, where it is one.
@@ -109,58 +111,6 @@ fn plain_name<'a>(sight: &'a [Names], e: &BoundExpr) -> &'a [u8] {
         return seen_at(sight, *level, *place);
     }
     &[]
-}
-
-/// Appends a select list: a column keeps its name, and anything else is named after the query.
-#[cycle(query_lines)]
-fn put_list(
-    alloc: Global,
-    page: &mut Page,
-    list: &mut RowWriter,
-    number: usize,
-    sight: &[Names],
-    es: &[BoundExpr],
-) {
-    for (place, e) in es.iter().enumerate() {
-        push_comma(&mut list.detail);
-        let name = plain_name(sight, e);
-        if name.is_empty() {
-            list.give_name(computed(alloc, number, place));
-            list.detail.put(b" = ");
-            put_expr(alloc, page, &mut list.detail, sight, e);
-        } else {
-            list.put_name(alloc, name);
-        }
-    }
-}
-
-/// Appends aggregates to the columns that groups are by.
-#[cycle(query_lines)]
-fn put_aggregates(
-    alloc: Global,
-    page: &mut Page,
-    groups: &mut RowWriter,
-    number: usize,
-    sight: &[Names],
-    aggregates: &[BoundAggregate],
-) {
-    for (place, aggregate) in aggregates.iter().enumerate() {
-        push_comma(&mut groups.detail);
-        groups.give_name(aggregate_name(alloc, number, place));
-        groups.detail.put(b" = ");
-        match aggregate {
-            BoundAggregate::CountRows => groups.detail.put(b"count(*)"),
-            BoundAggregate::Of(function, _, argument) => {
-                let inputs = put_inputs(alloc, page, sight, argument.inputs.as_slice());
-                push_function(
-                    &mut groups.detail,
-                    inputs.as_slice(),
-                    *function,
-                    argument.expr.get(),
-                );
-            }
-        }
-    }
 }
 
 /// Appends an item of FROM, behind the columns of the row so far.
@@ -174,15 +124,16 @@ fn put_source(
 ) {
     let place = from.columns.names().len();
     match source {
-        BoundSource::Table(table) => put_table(alloc, page, from, *table),
+        BoundSource::Table(table) => put_table(alloc, &mut page.numbering, from, *table),
         BoundSource::Derived(_, q) => {
-            let shown = put_deeper(alloc, page, &[], q.get());
-            put_shown(from, b"(", shown);
+            let shown = put_query(alloc, page, &mut from.detail, &[], b"(", q.get());
+            shown.give_columns(&mut from.columns);
         }
         BoundSource::Lateral(q) => {
-            let seen = page.seen(alloc, sight, from.columns.names());
-            let shown = put_deeper(alloc, page, seen.as_slice(), q.get());
-            put_shown(from, b"lateral (", shown);
+            let seen = with_row(alloc, page, sight, from.columns.names());
+            let text = &mut from.detail;
+            let shown = put_query(alloc, page, text, seen.as_slice(), b"lateral (", q.get());
+            shown.give_columns(&mut from.columns);
         }
         BoundSource::Cross(l, r) => {
             put_source(alloc, page, from, sight, l.get());
@@ -191,7 +142,7 @@ fn put_source(
         }
         BoundSource::Inner(l, r, c) | BoundSource::Outer(l, r, _, c) => {
             put_source(alloc, page, from, sight, l.get());
-            from.detail.put(words_between(source).as_bytes());
+            from.detail.put(join_word(source).as_bytes());
             put_source(alloc, page, from, sight, r.get());
             put_on(alloc, page, from, sight, place, c);
         }
@@ -209,91 +160,153 @@ fn put_on(
     place: usize,
     c: &BoundExpr,
 ) {
-    let seen = page.seen(alloc, sight, rest_from(from.columns.names(), place));
+    let seen = with_row(alloc, page, sight, rest_from(from.columns.names(), place));
     from.detail.put(b" on ");
     put_expr(alloc, page, &mut from.detail, seen.as_slice(), c);
 }
 
-/// A query without groups.
+/// Puts the clause of a condition, unless it always holds.
 #[cycle(query_lines)]
-fn put_plain(alloc: Global, page: &mut Page, sight: &[Names], q: &BoundBlock) -> ShownQuery {
-    let place = page.lines.len();
-    let number = page.numbering.number();
-    let mut from = RowWriter::new(alloc);
-    let mut condition = TextWriter::new(alloc);
-    let mut list = RowWriter::new(alloc);
-    if let BoundBlock::Plain(source, kept, es) = q {
-        put_source(alloc, page, &mut from, sight, source.get());
-        let seen = page.seen(alloc, sight, from.columns.names());
-        put_expr(alloc, page, &mut condition, seen.as_slice(), kept);
-        put_list(
-            alloc,
-            page,
-            &mut list,
-            number,
-            seen.as_slice(),
-            es.as_slice(),
-        );
+fn put_condition(
+    alloc: Global,
+    page: &mut Page,
+    block: &mut Block,
+    kind: &[u8],
+    sight: &[Names],
+    c: &BoundExpr,
+) {
+    let mut text = TextWriter::new(alloc);
+    put_expr(alloc, page, &mut text, sight, c);
+    if !text.equals(b"true") {
+        put_clause(alloc, page, block, kind, text);
     }
-    end_plain(alloc, page, place, number, read_rows(from, condition), list)
 }
 
-/// A query with groups.
+/// Puts FROM, and WHERE where a condition stands there; the names in sight behind them.
 #[cycle(query_lines)]
-fn put_grouped(alloc: Global, page: &mut Page, sight: &[Names], q: &BoundBlock) -> ShownQuery {
-    let place = page.lines.len();
-    let number = page.numbering.number();
+fn put_rows(
+    alloc: Global,
+    page: &mut Page,
+    block: &mut Block,
+    sight: &[Names],
+    q: &BoundBlock,
+) -> Sight {
     let mut from = RowWriter::new(alloc);
-    let mut condition = TextWriter::new(alloc);
-    let mut groups = RowWriter::new(alloc);
-    let mut having = TextWriter::new(alloc);
-    let mut list = RowWriter::new(alloc);
-    if let BoundBlock::Grouped(source, kept, by, aggregates, kept_groups, es) = q {
+    if let BoundBlock::Plain(source, _, _) | BoundBlock::Grouped(source, _, _, _, _, _) = q {
         put_source(alloc, page, &mut from, sight, source.get());
-        let seen = page.seen(alloc, sight, from.columns.names());
-        put_expr(alloc, page, &mut condition, seen.as_slice(), kept);
-        groups.put_places(alloc, from.columns.names(), by.as_slice(), b"");
-        let aggregates = aggregates.as_slice();
-        put_aggregates(
-            alloc,
-            page,
-            &mut groups,
-            number,
-            seen.as_slice(),
-            aggregates,
-        );
-        let seen = page.seen(alloc, sight, groups.columns.names());
-        put_expr(alloc, page, &mut having, seen.as_slice(), kept_groups);
-        put_list(
-            alloc,
-            page,
-            &mut list,
-            number,
-            seen.as_slice(),
-            es.as_slice(),
-        );
     }
-    let read = read_rows(from, condition);
-    end_grouped(alloc, page, place, number, read, groups, having, list)
+    let RowWriter { detail, columns } = from;
+    put_clause(alloc, page, block, b"from", detail);
+    let seen = with_row(alloc, page, sight, columns.names());
+    if let BoundBlock::Plain(_, c, _) | BoundBlock::Grouped(_, c, _, _, _, _) = q {
+        put_condition(alloc, page, block, b"where", seen.as_slice(), c);
+    }
+    seen
+}
+
+/// Puts what groups are by and their aggregates; the names in sight behind them.
+#[cycle(query_lines)]
+fn put_groups(
+    alloc: Global,
+    page: &mut Page,
+    block: &mut Block,
+    sight: &[Names],
+    seen: &[Names],
+    by: &[u32],
+    aggregates: &[BoundAggregate],
+) -> Sight {
+    let mut groups = RowWriter::new(alloc);
+    groups.put_places(alloc, &Row::of(row_at(seen, 0)), by, b"");
+    for (place, aggregate) in aggregates.iter().enumerate() {
+        groups.put_comma();
+        groups.put_computed(alloc, b"q", block.number, b".a", place);
+        put_aggregate(alloc, page, &mut groups.detail, seen, aggregate);
+    }
+    let RowWriter { detail, columns } = groups;
+    put_clause(alloc, page, block, b"group by", detail);
+    with_row(alloc, page, sight, columns.names())
+}
+
+/// Appends an aggregate.
+#[cycle(query_lines)]
+fn put_aggregate(
+    alloc: Global,
+    page: &mut Page,
+    text: &mut TextWriter,
+    sight: &[Names],
+    aggregate: &BoundAggregate,
+) {
+    match aggregate {
+        BoundAggregate::CountRows => text.put(b"count(*)"),
+        BoundAggregate::Of(function, _, argument) => {
+            text.put(function_start(*function).as_bytes());
+            put_expr(alloc, page, text, sight, argument);
+            text.put_byte(b')');
+        }
+    }
+}
+
+/// Puts SELECT before the other clauses, which ends the query: a column keeps its name, and
+/// anything else is named after the query.
+#[cycle(query_lines)]
+fn put_select(
+    alloc: Global,
+    page: &mut Page,
+    block: Block,
+    sight: &[Names],
+    es: &[BoundExpr],
+) -> ShownQuery {
+    let mut list = RowWriter::new(alloc);
+    for (place, e) in es.iter().enumerate() {
+        list.put_comma();
+        let name = plain_name(sight, e);
+        if name.is_empty() {
+            list.put_computed(alloc, b"q", block.number, b".c", place);
+            put_expr(alloc, page, &mut list.detail, sight, e);
+        } else {
+            list.put_name(alloc, name);
+        }
+    }
+    end_select(alloc, page, block, list)
 }
 
 /// A query, and after its lines those of the queries in it.
 #[cycle(query_lines)]
 fn put_block(alloc: Global, page: &mut Page, sight: &[Names], q: &BoundBlock) -> ShownQuery {
-    let place = page.lines.len();
     match q {
-        BoundBlock::Plain(_, _, _) => put_plain(alloc, page, sight, q),
-        BoundBlock::Grouped(_, _, _, _, _, _) => put_grouped(alloc, page, sight, q),
+        BoundBlock::Plain(_, _, es) => {
+            let mut block = Block::begun(page);
+            let seen = put_rows(alloc, page, &mut block, sight, q);
+            put_select(alloc, page, block, seen.as_slice(), es.as_slice())
+        }
+        BoundBlock::Grouped(_, _, by, aggregates, having, es) => {
+            let mut block = Block::begun(page);
+            let rows = put_rows(alloc, page, &mut block, sight, q);
+            let (rows, by, all) = (rows.as_slice(), by.as_slice(), aggregates.as_slice());
+            let seen = put_groups(alloc, page, &mut block, sight, rows, by, all);
+            put_condition(alloc, page, &mut block, b"having", seen.as_slice(), having);
+            put_select(alloc, page, block, seen.as_slice(), es.as_slice())
+        }
         BoundBlock::Distinct(q) => {
+            let place = page.end();
             let shown = put_block(alloc, page, sight, q.get());
-            end_distinct(alloc, page, place, shown)
+            let mut block = Block::of(shown.number, place);
+            put_clause(alloc, page, &mut block, b"distinct", TextWriter::new(alloc));
+            shown
         }
         BoundBlock::Set(a, b, columns, operation) => {
-            let number = page.numbering.number();
+            let block = Block::begun(page);
             let left = put_deeper(alloc, page, sight, a.get());
             let right = put_deeper(alloc, page, sight, b.get());
-            let columns = columns.as_slice();
-            end_set(alloc, page, place, number, left, right, columns, *operation)
+            end_set(
+                alloc,
+                page,
+                block,
+                left,
+                right,
+                columns.as_slice(),
+                *operation,
+            )
         }
     }
 }
@@ -301,25 +314,28 @@ fn put_block(alloc: Global, page: &mut Page, sight: &[Names], q: &BoundBlock) ->
 /// The lines of a bound query, a line a clause, and of the queries in it; then its order and its
 /// limit.
 pub fn query_lines(alloc: Global, query: &BoundQuery) -> Result<Vec<PlanLine>, AllocError> {
-    let mut tables = TableList::new(alloc);
-    put_tables(&mut tables, query.block.get());
-    let mut page = Page::new(alloc, tables.finish()?);
+    let mut scans = Scans::none();
+    count_scans(&mut scans, query.block.get());
+    let mut page = Page::new(alloc, scans, 1);
     let shown = put_block(alloc, &mut page, &[], query.block.get());
     let mut order = TextWriter::new(alloc);
     push_order(&mut order, shown.columns.as_slice(), query.order.as_slice());
     push_limit(&mut order, query.limit);
     if !order.is_empty() {
-        let done = push_clause(alloc, &mut page.lines, shown.number, 0, b"order", order);
-        page.keep(done);
+        let mut last = Block::of(shown.number, page.end());
+        put_clause(alloc, &mut page, &mut last, b"order", order);
     }
     page.finish()
 }
 
 /// Appends the keys of an order by the names of their columns.
 fn push_order(text: &mut TextWriter, names: &[Vec<u8>], order: &[OrderKey]) {
-    for key in order {
-        push_comma(text);
-        text.put(name_at(names, key.column));
+    let row = Row::of(names);
+    for (place, key) in order.iter().enumerate() {
+        if place > 0 {
+            text.put(b", ");
+        }
+        text.put(row.name(key.column));
         if key.is_descending {
             text.put(b" desc");
         }
@@ -329,7 +345,9 @@ fn push_order(text: &mut TextWriter, names: &[Vec<u8>], order: &[OrderKey]) {
 /// Appends a limit.
 fn push_limit(text: &mut TextWriter, limit: Option<u32>) {
     if let Some(most) = limit {
-        push_comma(text);
+        if !text.is_empty() {
+            text.put(b", ");
+        }
         text.put(b"limit ");
         text.put_number(most as usize);
     }

@@ -3,6 +3,15 @@ use base_decimal::{Scale, push_decimal, push_last_digits};
 use itoa::Buffer;
 use std::alloc::{AllocError, Global};
 
+/// A part of a text.
+#[derive(Clone, Copy)]
+pub enum Piece<'p> {
+    /// Bytes as they are.
+    Text(&'p [u8]),
+    /// A number in decimal digits.
+    Number(usize),
+}
+
 /// A text so far. An append says nothing of memory: where it ran out, `finish` answers so.
 pub struct TextWriter {
     bytes: Vec<u8>,
@@ -56,6 +65,16 @@ impl TextWriter {
     pub fn put_number(&mut self, number: usize) {
         let mut buffer = Buffer::new();
         self.put(buffer.format(number).as_bytes());
+    }
+
+    /// Appends pieces, one after the other.
+    pub fn put_all(&mut self, pieces: &[Piece<'_>]) {
+        for piece in pieces {
+            match piece {
+                Piece::Text(bytes) => self.put(bytes),
+                Piece::Number(number) => self.put_number(*number),
+            }
+        }
     }
 
     /// Appends the last places of a number, with zeros before it where it has fewer.

@@ -10,5 +10,5 @@ mod script;
 mod statement_plan;
 mod written;
 
-pub use place::push_place;
+pub use place::place_line;
 pub use script::{PlanForm, ScriptPlans, script_plans};

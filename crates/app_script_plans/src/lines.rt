@@ -7,8 +7,8 @@ ghost use Rattle.app_script_plans.specs.Shown.{EndsWithItsPlan};
 
 use crate::query_plan::{FormLines, QueryPlan};
 use crate::statement_plan::StatementPlan;
-use app_plan_figures::{JoinWay, NodeFigures, rows_of};
-use app_plan_text::{PlanLine, TextWriter, plan_lines, push_lines};
+use app_plan_figures::{NodeFigures, rows_of};
+use app_plan_text::{Piece, PlanLine, TextWriter, plan_lines, push_lines};
 use app_result_text::push_refusal;
 use base_refusals::Refusal;
 use plan_algebra::Node;
@@ -16,29 +16,34 @@ use plan_spelling::push_plan;
 use std::alloc::{AllocError, Global};
 
 /// Appends a statement's number, a word, and the statement's text.
-fn push_head(
+fn push_head<'x>(
     alloc: Global,
     text: &mut Vec<u8>,
     number: usize,
-    word: &[u8],
-    written: &[u8],
+    word: &'x [u8],
+    written: &'x [u8],
 ) -> Result<(), AllocError> {
     let mut head = TextWriter::new(alloc);
-    head.put_byte(b'[');
-    head.put_number(number);
-    head.put(b"] ");
-    head.put(word);
-    head.put_byte(b'\n');
-    head.put(written);
-    head.put_byte(b'\n');
+    head.put_all(&[
+        Piece::Text(b"["),
+        Piece::Number(number),
+        Piece::Text(b"] "),
+        Piece::Text(word),
+        Piece::Text(b"\n"),
+        Piece::Text(written),
+        Piece::Text(b"\n"),
+    ]);
     head.append_to(text)
 }
 
-/// Appends the title of a form and its lines.
-fn push_form(text: &mut Vec<u8>, form: &FormLines) -> Result<(), AllocError> {
-    text.extend_from_slice(form.form.title().as_bytes())?;
-    text.push(b'\n')?;
-    push_lines(text, form.lines.as_slice())
+/// Appends forms, one after the other: of each its title and its lines.
+fn push_forms(text: &mut Vec<u8>, forms: &[FormLines]) -> Result<(), AllocError> {
+    for form in forms {
+        text.extend_from_slice(form.form.title().as_bytes())?;
+        text.push(b'\n')?;
+        push_lines(text, form.lines.as_slice())?;
+    }
+    Ok(())
 }
 
 /// Appends the title of a flat plan and its lines.
@@ -66,35 +71,25 @@ fn push_flat_plan(
     Ok(())
 }
 
-/// Writes a number, and a word after it.
-fn put_counted(out: &mut TextWriter, number: usize, word: &[u8]) {
-    out.put_number(number);
-    out.put(word);
-}
-
-/// Writes how a join finds its pairs.
-fn put_way(out: &mut TextWriter, way: JoinWay) {
-    out.put(b", by ");
-    out.put(way.words().as_bytes());
-}
-
-/// Writes what the node of this number gives, and how it finds its pairs where it is a join.
-fn put_node_figures(out: &mut TextWriter, number: usize, figures: NodeFigures) {
-    out.put(b"  ");
-    put_counted(out, number, b": ");
-    put_counted(out, figures.rows, b" rows, ");
-    put_counted(out, figures.bytes, b" bytes, ");
-    put_counted(out, figures.micros as usize, b" microseconds");
-    if let Some(way) = figures.way {
-        put_way(out, way);
-    }
-    out.put_byte(b'\n');
-}
-
-/// Writes what each node of a plan gives.
+/// Writes what each node of a plan gives, and how it finds its pairs where it is a join.
 fn put_figures(out: &mut TextWriter, figures: &[NodeFigures]) {
-    for (number, figures) in figures.iter().enumerate() {
-        put_node_figures(out, number, *figures);
+    for (number, node) in figures.iter().enumerate() {
+        out.put_all(&[
+            Piece::Text(b"  "),
+            Piece::Number(number),
+            Piece::Text(b": "),
+            Piece::Number(node.rows),
+            Piece::Text(b" rows, "),
+            Piece::Number(node.bytes),
+            Piece::Text(b" bytes, "),
+            Piece::Number(node.micros as usize),
+            Piece::Text(b" microseconds"),
+        ]);
+        if let Some(way) = node.way {
+            out.put(b", by ");
+            out.put(way.words().as_bytes());
+        }
+        out.put_byte(b'\n');
     }
 }
 
@@ -113,24 +108,6 @@ fn push_figures(
     out.append_to(text)
 }
 
-/// Appends forms, one after the other.
-fn push_forms(text: &mut Vec<u8>, forms: &[FormLines]) -> Result<(), AllocError> {
-    for form in forms {
-        push_form(text, form)?;
-    }
-    Ok(())
-}
-
-/// Appends the flat plan of a query, with the rows of its nodes where there are tables.
-fn push_counted_plan(
-    alloc: Global,
-    text: &mut Vec<u8>,
-    plan: &QueryPlan,
-) -> Result<(), AllocError> {
-    let rows = rows_of(alloc, plan.figures.as_slice())?;
-    push_flat_plan(alloc, text, plan.plan.nodes.as_slice(), rows.as_slice())
-}
-
 /// Appends what is shown of a query before the spelling of its plan.
 fn push_forms_and_plan(
     alloc: Global,
@@ -138,7 +115,8 @@ fn push_forms_and_plan(
     plan: &QueryPlan,
 ) -> Result<(), AllocError> {
     push_forms(text, plan.forms.as_slice())?;
-    push_counted_plan(alloc, text, plan)?;
+    let rows = rows_of(alloc, plan.figures.as_slice())?;
+    push_flat_plan(alloc, text, plan.plan.nodes.as_slice(), rows.as_slice())?;
     push_figures(alloc, text, plan.figures.as_slice())
 }
 

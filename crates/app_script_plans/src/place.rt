@@ -1,9 +1,9 @@
 //! Lines and columns of a script.
-use app_plan_text::push_number;
-use std::alloc::AllocError;
+use app_plan_text::{Piece, TextWriter};
+use std::alloc::{AllocError, Global};
 
 /// The line of a byte and its place in the line, both counted from 1.
-pub fn line_and_column(text: &[u8], byte: usize) -> (usize, usize) {
+fn line_and_column(text: &[u8], byte: usize) -> (usize, usize) {
     let mut line: usize = 1;
     let mut column: usize = 1;
     for (place, other) in text.iter().enumerate() {
@@ -18,11 +18,16 @@ pub fn line_and_column(text: &[u8], byte: usize) -> (usize, usize) {
     (line, column)
 }
 
-/// Appends the line and the column of a byte: `line 2 column 8`.
-pub fn push_place(text: &mut Vec<u8>, script: &[u8], byte: usize) -> Result<(), AllocError> {
+/// The line and the column of a byte, on a line of their own: `line 2 column 8`.
+pub fn place_line(alloc: Global, script: &[u8], byte: usize) -> Result<Vec<u8>, AllocError> {
     let (line, column) = line_and_column(script, byte);
-    text.extend_from_slice(b"line ")?;
-    push_number(text, line)?;
-    text.extend_from_slice(b" column ")?;
-    push_number(text, column)
+    let mut text = TextWriter::new(alloc);
+    text.put_all(&[
+        Piece::Text(b"line "),
+        Piece::Number(line),
+        Piece::Text(b" column "),
+        Piece::Number(column),
+        Piece::Text(b"\n"),
+    ]);
+    text.finish()
 }

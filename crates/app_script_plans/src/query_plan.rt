@@ -23,7 +23,7 @@ use std::thread::Threads;
 use std::time::Clock;
 
 /// A form of a query before its flat plan.
-#[derive(Clone, Copy, Debug, PartialEq, Eq)]
+#[derive(Clone, Copy)]
 pub enum QueryForm {
     /// The query with its names bound.
     Bound,

@@ -17,7 +17,7 @@ use std::thread::Threads;
 use std::time::Clock;
 
 /// How plans are written.
-#[derive(Clone, Copy, Debug, PartialEq, Eq)]
+#[derive(Clone, Copy)]
 pub enum PlanForm {
     /// As lines for readers.
     Lines,

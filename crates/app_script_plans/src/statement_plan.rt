@@ -75,9 +75,9 @@ fn shown_outcome(outcome: Outcome) -> StatementPlan
     requires { IsOfView outcome }
     ensures { ShowsOutcome outcome result }
 {
-    match outcome {
+    match &outcome {
         Outcome::Done => StatementPlan::Done,
-        Outcome::Refused(why) => StatementPlan::Refused(why),
+        Outcome::Refused(why) => StatementPlan::Refused(*why),
         Outcome::Rows(_) | Outcome::Accepted(_) | Outcome::VersionRefused(_) => unreachable!(),
     }
 }

@@ -23,11 +23,6 @@ fn bytes_between(bytes: &[u8], start: usize, end: usize) -> &[u8] {
     }
 }
 
-/// The place after a token's last byte.
-fn end_of(token: &Token) -> usize {
-    token.start.saturating_add(token.len)
-}
-
 /// The tokens of a script; none where it has none.
 fn tokens_of(alloc: Global, script: &[u8]) -> Result<Vec<Token>, AllocError> {
     match lex(alloc, script) {
@@ -37,34 +32,22 @@ fn tokens_of(alloc: Global, script: &[u8]) -> Result<Vec<Token>, AllocError> {
     }
 }
 
-/// The span of a statement up to a token: the one so far, if there is one, with the token too.
-fn with_token(begun: Option<Span>, token: &Token) -> Span {
-    let end = end_of(token);
-    match begun {
-        Some(span) => Span {
-            start: span.start,
-            end,
-            is_run: span.is_run,
-        },
-        None => Span {
-            start: token.start,
-            end,
-            is_run: token.kind == Kind::Run,
-        },
-    }
-}
-
 /// Appends where the statements of these tokens stand, each from its first token to its semicolon.
 fn put_spans(spans: &mut Vec<Span>, tokens: &[Token]) -> Result<(), AllocError> {
-    let mut begun = None;
+    let mut is_begun = false;
+    let mut start = 0;
+    let mut is_run = false;
     for token in tokens {
-        let span = with_token(begun, token);
-        if token.kind == Kind::Semicolon {
-            spans.push(span)?;
-            begun = None;
-        } else {
-            begun = Some(span);
+        if !is_begun {
+            start = token.start;
+            is_run = token.kind == Kind::Run;
         }
+        let is_end = token.kind == Kind::Semicolon;
+        if is_end {
+            let end = token.start.saturating_add(token.len);
+            spans.push(Span { start, end, is_run })?;
+        }
+        is_begun = !is_end;
     }
     Ok(())
 }
@@ -111,23 +94,13 @@ fn put_text(alloc: Global, all: &mut Vec<Vec<u8>>, text: &[u8]) -> Result<(), Al
     Ok(())
 }
 
-/// Appends the parts of a text that stand at these spans.
-fn put_parts(
-    alloc: Global,
-    all: &mut Vec<Vec<u8>>,
-    text: &[u8],
-    spans: &[Span],
-) -> Result<(), AllocError> {
-    for span in spans {
-        put_text(alloc, all, bytes_between(text, span.start, span.end))?;
-    }
-    Ok(())
-}
-
 /// Appends the statements of a run's text.
 fn put_filled(alloc: Global, all: &mut Vec<Vec<u8>>, text: &[u8]) -> Result<(), AllocError> {
     let spans = spans_of(alloc, text)?;
-    put_parts(alloc, all, text, spans.as_slice())
+    for span in spans.as_slice() {
+        put_text(alloc, all, bytes_between(text, span.start, span.end))?;
+    }
+    Ok(())
 }
 
 /// Appends the statements that a run stands for, or the run itself where it stands for none.

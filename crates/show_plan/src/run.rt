@@ -16,7 +16,7 @@ use app_inputs::{
     InputError, InputFault, ReadError, RefusedInput, Status, line_of_refusal, read_file,
     read_state, write_text,
 };
-use app_script_plans::{PlanForm, ScriptPlans, push_place, script_plans};
+use app_script_plans::{PlanForm, ScriptPlans, place_line, script_plans};
 use base_io::{Files, Sink};
 use sql_ast::Statement;
 use sql_parser::{MAX_SCRIPT, ScriptFault, ScriptRefusal, read_script};
@@ -93,14 +93,6 @@ fn plans_text<R: Threads + Sync + Clock>(
     } else {
         Ok((text, Status::SomeRefused))
     }
-}
-
-/// The line and the column of a byte of a script, on a line of their own.
-fn place_line(alloc: Global, script: &[u8], place: usize) -> Result<Vec<u8>, AllocError> {
-    let mut line = Vec::new(alloc);
-    push_place(&mut line, script, place)?;
-    line.push(b'\n')?;
-    Ok(line)
 }
 
 /// The lines of a script that is none: its refusal with its byte, and the line and the column of
