@@ -1,11 +1,10 @@
 -- Entries of other keys, and one more.
-use Rattle.std.proofs.Common.{◌≡◌, ℕ, ◌+◌, List, [], ◌∷◌, ◌++◌, true, false, cond, refl, sym, ◌∙◌, ap, subst, arith, inl, inr, Some, None, Option, Result, Ok, Err, ◌<◌, zero, suc}
-use Rattle.std.specs.Prelude.{map, MatchOption}
-use Rattle.std.specs.Result.{OnErr}
+use Rattle.std.proofs.Common.{◌≡◌, ℕ, ◌+◌, List, [], ◌∷◌, ◌++◌, true, false, cond, refl, sym, ◌∙◌, ap, subst, arith, inl, inr, Some, None, Option, ◌<◌, zero, suc}
+use Rattle.std.specs.Prelude.{map}
 use Rattle.std.specs.Hash.FoldHasher.{initial, write, finish}
 use Rattle.std.specs.List.{fold, remove, IsDistinct, AllByRecursion}
 use Rattle.std.specs.Option.{is_some}
-use lib.ListN.{get_or, drop, length}
+use lib.ListN.{get_or, length}
 use Rattle.std.proofs.lemmas.Bool.{cases_Bool, true≢false}
 use Rattle.std.proofs.lemmas.Map.Keys.{IsDistinct-head, IsDistinct-tail, IsDistinct-cons}
 use Rattle.base_row_laws.specs.Bags.{IsIdentity}
@@ -14,11 +13,11 @@ use Rattle.base_row_laws.proofs.Rows.{same_row_is}
 use Rattle.base_value.specs.declared.value.Value.{Value}
 use Rattle.base_value.specs.Value.{same_value, same_row as told_row}
 use Rattle.base_value.proofs.Identity.{value_identity}
-use Rattle.store_groups.specs.Groups.{Group, no_rows, without_row}
-use Rattle.store_groups.specs.declared.entry.Taken.TheVariants.{Absent, Left, Gone, Faulty}
+use Rattle.store_groups.specs.Groups.{Group}
+use Rattle.store_groups.specs.declared.entry.Taken.TheVariants.{Absent, Gone, Faulty}
 use Rattle.store_groups.specs.Taken.{left_of}
-use Rattle.store_groups.specs.Entries.{Entries, IsHash, same_key, group_at}
-use Rattle.store_groups.specs.Entries.{IsPlace, or_empty, with_group, without_key}
+use Rattle.store_groups.specs.Entries.{Entries, IsHash, keys_of, same_key, group_at}
+use Rattle.store_groups.specs.Entries.{with_group, without_key}
 
 pub key_identity : IsIdentity same_key
 key_identity = same_row_is same_value value_identity
