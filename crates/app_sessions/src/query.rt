@@ -15,7 +15,7 @@ ghost use Rattle.plan_planner.specs.Planned.{IsPlanOf};
 use crate::outcome::{Outcome, kind_of_fault};
 use app_result_text::VersionRefusal;
 use base_columns::Bag;
-use base_order_limit::finish;
+use exec_ordered_rows::finish;
 use base_refusals::Refusal;
 use base_schema::TableName;
 use exec_flat_plan::run;

@@ -1,5 +1,2 @@
-pub mod Bags
 pub mod Orders
 pub mod Sorted
-pub mod Faults
-pub mod Limits

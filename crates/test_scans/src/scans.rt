@@ -4,7 +4,7 @@ ghost use Rattle.app_sample_data.specs.Numbers.{IsDataNumber};
 use app_sample_data::make;
 use base_columns::{Bag, Rows};
 use base_decimal::Scale;
-use base_order_limit::finish;
+use exec_ordered_rows::finish;
 use base_schema::{DataFile, TableName};
 use base_value::{Row, Value};
 use exec_parallel_scan::{scan_groups, scan_rows};

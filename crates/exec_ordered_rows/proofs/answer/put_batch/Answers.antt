@@ -2,8 +2,8 @@ use Rattle.std.proofs.Common.{◌≡◌, ◌<◌, [], ◌∷◌, ◌++◌, ◌�
 use Rattle.base_value.specs.Truth.{standing_rank}
 use Rattle.base_row_laws.specs.Ranked.{ranked}
 use Rattle.base_order_limit.specs.Answers.{row_rank}
-use Rattle.base_order_limit.proofs.Bags.{put_more}
-use Rattle.base_order_limit.proofs.answer.put_batch.Goals as goal
+use Rattle.exec_ordered_rows.proofs.Bags.{put_more}
+use Rattle.exec_ordered_rows.proofs.answer.put_batch.Goals as goal
 
 pub loop-i-preserved : goal.loop-i-preserved
 loop-i-preserved c =

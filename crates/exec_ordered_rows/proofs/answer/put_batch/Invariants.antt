@@ -1,7 +1,7 @@
 use Rattle.std.proofs.Common.{take}
 use Rattle.base_value.specs.Truth.{standing_rank}
-use Rattle.base_order_limit.proofs.Bags.{Put}
-use Rattle.base_order_limit.proofs.answer.put_batch.Given as goal
+use Rattle.exec_ordered_rows.proofs.Bags.{Put}
+use Rattle.exec_ordered_rows.proofs.answer.put_batch.Given as goal
 
 abbrev pub invariant-loop-i : goal.invariant-loop-i
 invariant-loop-i l =

@@ -15,7 +15,7 @@ use Rattle.base_value.proofs.Identity.{row_identity}
 use Rattle.base_order_limit.specs.declared.key.OrderKey.{OrderKey}
 use Rattle.base_order_limit.specs.Answers.{comes_before, inserted, in_order, limited, row_values}
 use Rattle.base_order_limit.specs.Answers.{least_rank, finished}
-use Rattle.base_order_limit.specs.Limits.{AreEnough}
+use Rattle.exec_ordered_rows.specs.Limits.{AreEnough}
 use Rattle.base_order_limit.proofs.Orders.{answer_is_order}
 use Rattle.base_order_limit.proofs.Sorted.{in_order_is, in_order_bag, in_order_alike}
 

@@ -1,6 +1,6 @@
 use Rattle.base_value.specs.Truth.{standing_rank}
-use Rattle.base_order_limit.proofs.Faults.{fault_more, fault_end}
-use Rattle.base_order_limit.proofs.fault.least_of_row.Goals as goal
+use Rattle.exec_ordered_rows.proofs.Faults.{fault_more, fault_end}
+use Rattle.exec_ordered_rows.proofs.fault.least_of_row.Goals as goal
 
 pub loop-value-preserved : goal.loop-value-preserved
 loop-value-preserved c =

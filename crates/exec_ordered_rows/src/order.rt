@@ -3,7 +3,7 @@ ghost use Rattle.std.specs.Prelude.{◌≡◌, IfOk, slice_index_or};
 ghost use Rattle.base_order_limit.specs.Answers.{key_order, answer_order, comes_before, in_order};
 ghost use Rattle.base_order_limit.specs.Answers.{limited};
 
-use crate::key::OrderKey;
+use base_order_limit::OrderKey;
 use base_value::{Row, Value, compare_rows};
 use std::alloc::AllocError;
 use std::cmp::Ordering;

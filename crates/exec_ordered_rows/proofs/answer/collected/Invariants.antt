@@ -1,8 +1,8 @@
 use Rattle.std.proofs.Common.{[], take}
 use Rattle.base_value.specs.Truth.{standing_rank}
 use Rattle.base_columns.specs.Bags.{bag_rows}
-use Rattle.base_order_limit.proofs.Bags.{Put}
-use Rattle.base_order_limit.proofs.answer.collected.Given as goal
+use Rattle.exec_ordered_rows.proofs.Bags.{Put}
+use Rattle.exec_ordered_rows.proofs.answer.collected.Given as goal
 
 abbrev pub invariant-loop-batch : goal.invariant-loop-batch
 invariant-loop-batch l =

@@ -5,7 +5,7 @@ use Rattle.base_row_laws.proofs.Tables.{from_permutation}
 use Rattle.base_order_limit.specs.Answers.{answer_order}
 use Rattle.base_order_limit.proofs.Orders.{answer_rank}
 use Rattle.base_order_limit.proofs.Sorted.{sorted_is}
-use Rattle.base_order_limit.proofs.order.sorted.Goals as goal
+use Rattle.exec_ordered_rows.proofs.order.sorted.Goals as goal
 
 pub returns : goal.returns
 returns c =

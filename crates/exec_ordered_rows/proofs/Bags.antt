@@ -12,8 +12,8 @@ use Rattle.base_columns.proofs.BagLists.{bag_rows-push}
 use Rattle.expr_aggregates.specs.Values.{value_rank}
 use Rattle.base_order_limit.specs.declared.key.OrderKey.{OrderKey}
 use Rattle.base_order_limit.specs.Answers.{row_rank, least_rank, row_values}
-use Rattle.base_order_limit.specs.Limits.{AreEnough}
-use Rattle.base_order_limit.proofs.Limits.{enough_more}
+use Rattle.exec_ordered_rows.specs.Limits.{AreEnough}
+use Rattle.exec_ordered_rows.proofs.Limits.{enough_more}
 
 -- rows that stand for a start and the values of others, and the least of a rank and their faults
 pub record Put (keys : List OrderKey) (limit : Option ℕ) (start : List (List Value)) (s : ℕ)

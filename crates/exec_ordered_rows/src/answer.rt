@@ -5,10 +5,10 @@ ghost use Rattle.base_value.specs.declared.value.Value.{Value as Datum};
 ghost use Rattle.base_value.specs.declared.value.Value.TheVariants.{Fault as Failed};
 ghost use Rattle.base_value.specs.Truth.{standing_rank};
 ghost use Rattle.base_order_limit.specs.Answers.{least_rank, finished, row_values};
-ghost use Rattle.base_order_limit.specs.Limits.{AreEnough};
+ghost use Rattle.exec_ordered_rows.specs.Limits.{AreEnough};
 
 use crate::fault::least_of_row;
-use crate::key::OrderKey;
+use base_order_limit::OrderKey;
 use crate::order::ordered;
 use base_columns::{Bag, Batch};
 use base_value::{Fault, Row, Standing};

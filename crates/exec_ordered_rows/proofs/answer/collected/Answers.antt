@@ -1,7 +1,7 @@
 use Rattle.std.proofs.Common.{[]}
 use Rattle.base_value.specs.Truth.{standing_rank}
-use Rattle.base_order_limit.proofs.Bags.{put_batch, put_end, least_end}
-use Rattle.base_order_limit.proofs.answer.collected.Goals as goal
+use Rattle.exec_ordered_rows.proofs.Bags.{put_batch, put_end, least_end}
+use Rattle.exec_ordered_rows.proofs.answer.collected.Goals as goal
 
 pub loop-batch-preserved : goal.loop-batch-preserved
 loop-batch-preserved c =

@@ -1,7 +1,7 @@
 use Rattle.std.proofs.Common.{ap}
 use Rattle.base_value.specs.Truth.{standing_rank}
-use Rattle.base_order_limit.proofs.Limits.{enough_is_finished}
-use Rattle.base_order_limit.proofs.answer.finish.Goals as goal
+use Rattle.exec_ordered_rows.proofs.Limits.{enough_is_finished}
+use Rattle.exec_ordered_rows.proofs.answer.finish.Goals as goal
 
 pub returns-in_ok-rows-in-AtTrue : goal.returns-in_ok-rows-in-AtTrue
 returns-in_ok-rows-in-AtTrue c =

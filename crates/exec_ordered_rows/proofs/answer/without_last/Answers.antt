@@ -1,6 +1,6 @@
 use Rattle.std.specs.Prelude.{Some}
-use Rattle.base_order_limit.proofs.Limits.{cut_is_enough}
-use Rattle.base_order_limit.proofs.answer.without_last.Goals as goal
+use Rattle.exec_ordered_rows.proofs.Limits.{cut_is_enough}
+use Rattle.exec_ordered_rows.proofs.answer.without_last.Goals as goal
 
 pub returns-in_ok-rows-in-Some : goal.returns-in_ok-rows-in-Some
 returns-in_ok-rows-in-Some c =
