@@ -8,9 +8,9 @@ ghost use Rattle.base_order_limit.specs.Answers.{least_rank, finished, row_value
 ghost use Rattle.exec_ordered_rows.specs.Limits.{AreEnough};
 
 use crate::fault::least_of_row;
-use base_order_limit::OrderKey;
 use crate::order::ordered;
 use base_columns::{Bag, Batch};
+use base_order_limit::OrderKey;
 use base_value::{Fault, Row, Standing};
 use std::alloc::{AllocError, Global};
 
