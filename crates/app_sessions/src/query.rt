@@ -23,7 +23,6 @@ use plan_algebra::{FlatPlan, Steps, Tables};
 use plan_planner::{SessionViews, plan};
 use sql_ast::Query;
 use sql_binder_steps::BindFault;
-use sqlite_items::Items;
 use std::alloc::{AllocError, Global};
 use std::marker::Brand;
 use std::sync::ledger::{Blank, Ledger};
@@ -38,7 +37,7 @@ fn finished_outcome(alloc: Global, plan: &FlatPlan, bag: &Bag) -> Result<Outcome
     ensures printable { IfOk result (λ o. IsTrue (is_printable o)) }
 {
     match finish(alloc, bag, plan.order.as_slice(), plan.limit)? {
-        Ok(rows) => Ok(Outcome::Rows(Items::from_vec(rows))),
+        Ok(rows) => Ok(Outcome::Rows(rows)),
         Err(fault) => Ok(Outcome::Refused(Refusal::Fault(kind_of_fault(fault)))),
     }
 }
