@@ -1,6 +1,9 @@
 //! The texts that the program prints: the lines of statements, and an answer's rows.
 #![tactic(auto)]
 
+mod cells;
+mod decimal;
+mod escaped;
 mod head;
 pub mod laws;
 mod refusal;
