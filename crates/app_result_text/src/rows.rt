@@ -1,13 +1,12 @@
 //! The rows of an answer.
-ghost use Rattle.std.specs.Prelude.{◌≡◌, ◌<◌, ◌++◌, IfOk, OnOk, IsTrue, drop, length};
+ghost use Rattle.std.specs.Prelude.{◌≡◌, ◌<◌, ◌++◌, OnOk, IsTrue, drop, length};
 ghost use Rattle.base_columns.specs.Batches.{row_at};
-ghost use Rattle.app_result_text.specs.Answer.{answer_text, barred, columns_written};
-ghost use Rattle.app_result_text.specs.Answer.{has_no_fault, row_written, rows_have_no_fault};
+ghost use Rattle.app_result_text.specs.Answer.{barred, columns_written, has_no_fault};
+ghost use Rattle.app_result_text.specs.Answer.{row_written};
 
-use crate::cells::{push_cell, push_value};
+use crate::cells::push_cell;
 use base_columns::Batch;
-use base_value::{Row, Value};
-use std::alloc::{AllocError, Global};
+use std::alloc::AllocError;
 
 /// Appends the values of a row but the first, with a bar before each.
 fn push_others(text: &mut Vec<u8>, batch: &Batch, i: usize) -> Result<(), AllocError>
@@ -49,50 +48,4 @@ pub fn push_row(text: &mut Vec<u8>, batch: &Batch, i: usize) -> Result<(), Alloc
     push_cells(text, batch, i)?;
     text.push(b'\n')?;
     Ok(())
-}
-
-/// Appends values with a bar before each.
-fn push_barred(text: &mut Vec<u8>, values: &[Value]) -> Result<(), AllocError>
-    requires { IsTrue (has_no_fault values.now) }
-    ensures { OnOk result (text.new.items ≡ text.old.items ++ barred values.now) }
-{
-    for value in values {
-        text.push(b'|')?;
-        push_value(text, value)?;
-    }
-    Ok(())
-}
-
-/// Appends the values of a row with a bar between two.
-fn push_columns(text: &mut Vec<u8>, values: &[Value]) -> Result<(), AllocError>
-    requires { IsTrue (has_no_fault values.now) }
-    ensures { OnOk result (text.new.items ≡ text.old.items ++ columns_written values.now) }
-{
-    let [first, others @ ..] = values else {
-        return Ok(());
-    };
-    push_value(text, first)?;
-    push_barred(text, others)
-}
-
-/// Appends a row of an answer, as far as memory goes.
-fn put_row(text: &mut Vec<u8>, values: &[Value]) -> Result<(), AllocError>
-    requires { IsTrue (has_no_fault values.now) }
-    ensures { OnOk result (text.new.items ≡ text.old.items ++ row_written values.now) }
-{
-    push_columns(text, values)?;
-    text.push(b'\n')?;
-    Ok(())
-}
-
-/// The rows of an answer, in order, each as `push_row` appends it.
-pub fn answer_text(alloc: Global, rows: &[Row]) -> Result<Vec<u8>, AllocError>
-    requires { IsTrue (rows_have_no_fault rows.now) }
-    ensures { IfOk result (λ text. text.items ≡ answer_text rows.now) }
-{
-    let mut text = Vec::new(alloc);
-    for row in rows {
-        put_row(&mut text, row.values())?;
-    }
-    Ok(text)
 }

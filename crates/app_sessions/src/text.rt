@@ -11,15 +11,14 @@ use exec_ordered_rows::OrderedRows;
 use std::alloc::{AllocError, Global};
 
 /// Appends the rows of an answer, in order.
+#[tactic(auto, using(crate::proofs::RowTexts::answers))]
 fn push_rows(text: &mut Vec<u8>, rows: &OrderedRows) -> Result<(), AllocError>
     requires { IsTrue (rows_have_no_fault rows.now) }
     ensures { OnOk result (text.new.items ≡ text.old.items ++ answer_text rows.now) }
 {
     for i in 0..rows.len() {
         let (batch, place) = rows.at(i);
-        let alloc = *text.allocator();
-        let values = batch.row(alloc, place)?;
-        push_row(text, values.as_slice())?;
+        push_row(text, batch, place)?;
     }
     Ok(())
 }
