@@ -19,3 +19,4 @@ mod JobStarts
 mod JobMeets
 mod Crossing
 mod Compacting
+mod RowTexts

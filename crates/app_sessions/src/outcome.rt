@@ -4,13 +4,13 @@ ghost use Rattle.app_sessions.specs.Outcomes.{is_refusal, kind_of_fault};
 
 use app_result_text::VersionRefusal;
 use base_refusals::{FaultKind, Refusal};
-use base_value::{Fault, Row};
-use sqlite_items::Items;
+use base_value::Fault;
+use exec_ordered_rows::OrderedRows;
 
 /// What comes of a statement.
 pub enum Outcome {
     /// The rows of an answer, in order.
-    Rows(Items<Row>),
+    Rows(OrderedRows),
     /// A view was made or dropped.
     Done,
     /// A refresh was accepted and made the version of this number.

@@ -15,15 +15,14 @@ ghost use Rattle.plan_planner.specs.Planned.{IsPlanOf};
 use crate::outcome::{Outcome, kind_of_fault};
 use app_result_text::VersionRefusal;
 use base_columns::Bag;
-use exec_ordered_rows::finish;
 use base_refusals::Refusal;
 use base_schema::TableName;
 use exec_flat_plan::run;
+use exec_ordered_rows::finish;
 use plan_algebra::{FlatPlan, Steps, Tables};
 use plan_planner::{SessionViews, plan};
 use sql_ast::Query;
 use sql_binder_steps::BindFault;
-use sqlite_items::Items;
 use std::alloc::{AllocError, Global};
 use std::marker::Brand;
 use std::sync::ledger::{Blank, Ledger};
@@ -38,7 +37,7 @@ fn finished_outcome(alloc: Global, plan: &FlatPlan, bag: &Bag) -> Result<Outcome
     ensures printable { IfOk result (λ o. IsTrue (is_printable o)) }
 {
     match finish(alloc, bag, plan.order.as_slice(), plan.limit)? {
-        Ok(rows) => Ok(Outcome::Rows(Items::from_vec(rows))),
+        Ok(rows) => Ok(Outcome::Rows(rows)),
         Err(fault) => Ok(Outcome::Refused(Refusal::Fault(kind_of_fault(fault)))),
     }
 }

@@ -1,1 +1,4 @@
+pub mod Cells
 pub mod Limits
+pub mod Places
+pub mod Sketches

@@ -2,9 +2,15 @@
 #![tactic(auto)]
 
 mod answer;
+mod batch_cells;
+mod cell;
+mod column_cells;
 mod fault;
 mod order;
+mod ordered_rows;
+mod place;
+mod row_cells;
+mod sketch;
 
 pub use answer::finish;
-pub use fault::least_of_row;
-pub use order::ordered;
+pub use ordered_rows::OrderedRows;

@@ -4,9 +4,9 @@ ghost use Rattle.app_sample_data.specs.Numbers.{IsDataNumber};
 use app_sample_data::make;
 use base_columns::{Bag, Rows};
 use base_decimal::Scale;
-use exec_ordered_rows::finish;
 use base_schema::{DataFile, TableName};
 use base_value::{Row, Value};
+use exec_ordered_rows::finish;
 use exec_parallel_scan::{scan_groups, scan_rows};
 use expr_aggregates::AggregateFunction;
 use expr_operators::Comparison;
@@ -127,10 +127,15 @@ fn grouped<R: Threads + Sync>(
 
 // The rows of a bag, in its order.
 fn rows_of(alloc: Global, bag: &Bag) -> Result<Vec<Row>, Fail> {
-    match finish(alloc, bag, &[], None)? {
-        Ok(rows) => Ok(rows),
-        Err(_) => Ok(Vec::new(alloc)),
+    let mut found = Vec::new(alloc);
+    if let Ok(rows) = finish(alloc, bag, &[], None)? {
+        for i in 0..rows.len() {
+            let (batch, place) = rows.at(i);
+            let row = Row::new(batch.row(alloc, place)?)?;
+            found.push(row)?;
+        }
     }
+    Ok(found)
 }
 
 fn are_same(left: &[Row], right: &[Row]) -> bool {
